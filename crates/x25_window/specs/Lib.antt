@@ -1,4 +1,5 @@
 pub mod Modulo
+pub mod Window
 pub mod Sending
 pub mod Held
 pub mod Receiving

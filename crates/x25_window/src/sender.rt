@@ -123,6 +123,7 @@ impl<T> Sender<T> {
     pub fn next(&mut self) -> Option<(Seq, &T)>
         ensures value { (w : Sending T) → Fits self.old w → MatchOption result (w.place ≡ length w.given)
             (λ r. (w.place < length w.given) × (r.0.number ≡ w.place % 8) × (slice_get w.given w.place ≡ Some r.1.now)) }
+        ensures held { MatchOption result (self.old.before ≡ length self.old.items) (λ _. self.old.before < length self.old.items) }
         ensures* after { sem 𝓛 (EndsFitting T.row self.entry) }
     {
         let number = self.advance()?;
@@ -136,7 +137,7 @@ impl<T> Sender<T> {
         ensures step { (w : Sending T) → Fits self.old w → OnSome result (Fits self.new (moved_on w)) }
         ensures held { self.new ≡ advanced self.old }
         ensures some { IfSome result (λ _. (self.new.before ≡ self.old.before + 1) × (self.new.before ≤ length self.new.items)) }
-        ensures none { IfNone result (self.new ≡ self.old) }
+        ensures none { IfNone result ((self.old.before ≡ length self.old.items) × (self.new ≡ self.old)) }
     {
         if self.before == self.unacked() {
             return None;

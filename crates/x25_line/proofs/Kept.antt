@@ -1,0 +1,267 @@
+-- What each move of the window machine keeps, and so each list of moves.
+use Rattle.std.proofs.Common.{◌≡◌, ℕ, ◌+◌, ◌%◌, ◌<◌, ◌≤◌, List, [], ◌∷◌, ◌++◌, length, take, drop, max, Option, Some, None, Bool, true, false, arith, refl, ◌∙◌, sym, ap}
+use Rattle.std.specs.List.{slice_get}
+use Rattle.std.proofs.lemmas.Grind.{common_steps}
+use Rattle.std.proofs.lemmas.List.{take-append-drop, take_all, take_more, length_push, append-nil}
+use Rattle.std.proofs.lemmas.Option.{slice_get_within, get_or_from_slice_get}
+use Rattle.x25_window.specs.Modulo.{resolved}
+use Rattle.x25_window.specs.Window.{End, Frame, Numbered, Allows, after, numbered}
+use Rattle.x25_window.specs.Window.Step.{HandDown, Send, Hear}
+use Rattle.x25_line.specs.Line.{Line, Move, MayTake, FrontMayBeTaken, AllowsMove, AllowsAll, fresh_line, swapped, takes_item, front_arrived, moved, all_moved}
+use Rattle.x25_line.specs.Line.Move.{HandsDown, Sends, Tells, Arrives, Loses}
+use Rattle.x25_line.specs.InWindow.{IsSentInWindow, IsNear, AllInWindow, Rising, WayInWindow, InWindow}
+use Rattle.x25_line.proofs.Frames.{Carries, Tops, Acks, slice_get-is, Tops-le, Tops-weaken, Tops-higher, Tops-grow, Tops-push, Tops-remove, Acks-le, Acks-higher, Acks-push, Acks-remove}
+
+-- the number stands for itself
+pub resolved_is : (a n : ℕ) → a ≤ n → n < a + 8 → resolved a (n % 8) ≡ n
+resolved_is a n low high = omega arith
+
+-- in the window only the wanted number has the wanted residue
+same_in_window : (r n : ℕ) → n % 8 ≡ r % 8 → r ≤ n + 7 → n < r + 8 → n ≡ r
+same_in_window r n e low high = omega arith
+
+module _ {T : Type 0} where
+  -- one direction: the end that gives, what the other has taken, the line there and the line back
+  pub record Way (g : End T) (taken : List T) (there back : List (Frame T)) : Type 0 where
+    pub low : 1 ≤ g.window
+    pub high : g.window ≤ 7
+    pub room : g.sent ≤ g.acked + g.window
+    pub held : g.sent ≤ length g.given
+    pub acks : Acks g.acked back (length taken)
+    pub tops : Tops g.given (length taken) there g.sent
+    pub begins : taken ≡ take (length taken) g.given
+
+  pub record Kept (w : Line T) : Type 0 where
+    pub from_near : Way w.near w.far.taken w.out w.back
+    pub from_far : Way w.far w.near.taken w.back w.out
+
+  pub Kept-start : (k : ℕ) → 1 ≤ k → k ≤ 7 → Kept (fresh_line k)
+  Kept-start k low high =
+      record {
+        from_near = record { low = low; high = high; room = omega arith; held = omega arith; acks = omega arith; tops = omega arith; begins = refl };
+        from_far = record { low = low; high = high; room = omega arith; held = omega arith; acks = omega arith; tops = omega arith; begins = refl };
+      }
+
+  pub Kept-swapped : (w : Line T) → Kept w → Kept (swapped w)
+  Kept-swapped w h = record { from_near = h.from_far; from_far = h.from_near }
+
+  -- a beginning stays one where the list grows
+  take-grown : (n : ℕ) (xs ys : List T) → n ≤ length xs → take n (xs ++ ys) ≡ take n xs
+  take-grown n xs ys le = grind (arith, common_steps)
+
+  -- the next item is the one at the end of the beginning
+  take-next : (xs : List T) (n : ℕ) (x : T) → slice_get xs n ≡ Some x → take (n + 1) xs ≡ take n xs ++ x ∷ []
+  take-next xs n x e =
+      take_more xs n x (slice_get_within xs n x e) ∙ ap (λ y. take n xs ++ y ∷ []) (get_or_from_slice_get xs n x x e)
+
+  Way-hand : (g : End T) (taken : List T) (there back : List (Frame T)) (x : T) → Way g taken there back → Way (after g (HandDown x)) taken there back
+  Way-hand g taken there back x h =
+      let le = Tops-le g.given (length taken) there g.sent h.tops in
+      let n = length_push g.given x in
+      record {
+        low = h.low;
+        high = h.high;
+        room = h.room;
+        held = omega arith;
+        acks = h.acks;
+        tops = Tops-grow g.given (x ∷ []) (length taken) there g.sent h.held h.tops;
+        begins = h.begins ∙ sym (take-grown (length taken) g.given (x ∷ []) (omega arith));
+      }
+
+  -- the giver sends an item
+  Carries-numbered : (g : End T) (n : ℕ) → Allows g (Send n) → g.window ≤ 7 → g.sent ≤ g.acked + g.window → Carries g.given (max g.sent (n + 1)) (numbered n (slice_get g.given n))
+  Carries-numbered g n ok high room =
+      let item = slice_get-is g.given n ok.3 in
+      rw item.1 (omega arith, omega arith, item.1)
+
+  Way-send : (g : End T) (taken : List T) (there back : List (Frame T)) (n : ℕ) (ack : ℕ) → Allows g (Send n) → Way g taken there back
+      → Way (after g (Send n)) taken (there ++ record { carried = numbered n (slice_get g.given n); ack = ack; top = max g.sent (n + 1) } ∷ []) back
+  Way-send g taken there back n ack ok h =
+      record {
+        low = h.low;
+        high = h.high;
+        room = omega arith;
+        held = omega arith;
+        acks = h.acks;
+        tops = Tops-push g.given (length taken) there (record { carried = numbered n (slice_get g.given n); ack = ack; top = max g.sent (n + 1) })
+            (Carries-numbered g n ok h.high h.room) (Tops-higher g.given (length taken) there g.sent (max g.sent (n + 1)) (omega arith) h.tops);
+        begins = h.begins;
+      }
+
+  Way-tell : (g : End T) (taken : List T) (there back : List (Frame T)) (ack : ℕ) → Way g taken there back → Way g taken (there ++ record { carried = None; ack = ack; top = g.sent } ∷ []) back
+  Way-tell g taken there back ack h =
+      record {
+        low = h.low;
+        high = h.high;
+        room = h.room;
+        held = h.held;
+        acks = h.acks;
+        tops = Tops-push g.given (length taken) there (record { carried = None; ack = ack; top = g.sent }) tt h.tops;
+        begins = h.begins;
+      }
+
+  -- the taker sends a frame
+  Way-told : (g : End T) (taken : List T) (there back : List (Frame T)) (c : Option (Numbered T)) (top : ℕ) → Way g taken there back
+      → Way g taken there (back ++ record { carried = c; ack = length taken; top = top } ∷ [])
+  Way-told g taken there back c top h =
+      record {
+        low = h.low;
+        high = h.high;
+        room = h.room;
+        held = h.held;
+        acks = Acks-push g.acked back (record { carried = c; ack = length taken; top = top }) h.acks;
+        tops = h.tops;
+        begins = h.begins;
+      }
+
+  -- an N(R) that arrives stands for the number that it carries
+  pub hears_valid : (g : End T) (taken : List T) (there back : List (Frame T)) (f : Frame T) → Way g taken there (f ∷ back)
+      → (resolved g.acked (f.ack % 8) ≡ f.ack) × (g.acked ≤ f.ack) × (f.ack ≤ g.sent)
+  hears_valid g taken there back f h =
+      let ack_le = Acks-le f.ack back (length taken) h.acks.1 in
+      let sent_le = Tops-le g.given (length taken) there g.sent h.tops in
+      let low = h.acks.0 in
+      let room = h.room in
+      let high = h.high in
+      (resolved_is g.acked f.ack low (omega arith), low, omega arith)
+
+  Way-hears : (g : End T) (taken : List T) (there back : List (Frame T)) (f : Frame T) → Way g taken there (f ∷ back) → Way (after g (Hear (f.ack % 8))) taken there back
+  Way-hears g taken there back f h =
+      let valid = hears_valid g taken there back f h in
+      rw valid.0 (record { low = h.low; high = h.high; room = omega arith; held = h.held; acks = h.acks.1; tops = h.tops; begins = h.begins })
+
+  -- a frame is passed over
+  Way-passes : (g : End T) (taken : List T) (there back : List (Frame T)) (f : Frame T) → Way g taken (f ∷ there) back → Way g taken there back
+  Way-passes g taken there back f h =
+      record {
+        low = h.low;
+        high = h.high;
+        room = h.room;
+        held = h.held;
+        acks = h.acks;
+        tops = Tops-weaken g.given (length taken) f.top there g.sent h.tops.0 h.tops.2;
+        begins = h.begins;
+      }
+
+  -- an item is taken: it is the next
+  Way-takes : (g : End T) (taken : List T) (there back : List (Frame T)) (f : Frame T) (c : Numbered T) → Carries g.given f.top (Some c) → c.number % 8 ≡ length taken % 8
+      → Way g taken (f ∷ there) back → Way g (taken ++ c.item ∷ []) there back
+  Way-takes g taken there back f c good same h =
+      let n = length_push taken c.item in
+      let low = h.tops.0 in
+      let room = h.room in
+      let high = h.high in
+      let acked_le = Acks-le g.acked back (length taken) h.acks in
+      let top_le = Tops-le g.given f.top there g.sent h.tops.2 in
+      let is : c.number ≡ length taken = same_in_window (length taken) c.number same (omega arith) (omega arith) in
+      let next = take-next g.given (length taken) c.item (rw is at good.2) in
+      record {
+        low = h.low;
+        high = h.high;
+        room = h.room;
+        held = h.held;
+        acks = Acks-higher g.acked back (length taken) (length (taken ++ c.item ∷ [])) (omega arith) h.acks;
+        tops = Tops-weaken g.given (length (taken ++ c.item ∷ [])) f.top there g.sent (omega arith) h.tops.2;
+        begins = rw n (ap (λ xs. xs ++ c.item ∷ []) h.begins ∙ sym next);
+      }
+
+  -- what arrives is taken only where it is the next
+  Way-arrives : (g e : End T) (f : Frame T) (there back : List (Frame T)) (takes : Bool) → MayTake takes (length e.taken) f.carried
+      → Way g e.taken (f ∷ there) back → Way g (takes_item takes f.carried e).taken there back
+  Way-arrives g e f there back takes ok h = go takes f.carried ok h.tops.1
+    where
+      go : (b : Bool) (c : Option (Numbered T)) → MayTake b (length e.taken) c → Carries g.given f.top c → Way g (takes_item b c e).taken there back
+      go true (Some c) same good = Way-takes g e.taken there back f c good same h
+      go true None same good = Way-passes g e.taken there back f h
+      go false c same good = Way-passes g e.taken there back f h
+
+  -- what an end takes changes nothing of what it gives
+  Way-giver : (takes : Bool) (c : Option (Numbered T)) (g : End T) (taken : List T) (there back : List (Frame T)) → Way g taken there back → Way (takes_item takes c g) taken there back
+  Way-giver true (Some c) g taken there back h = record { low = h.low; high = h.high; room = h.room; held = h.held; acks = h.acks; tops = h.tops; begins = h.begins }
+  Way-giver true None g taken there back h = h
+  Way-giver false c g taken there back h = h
+
+  Kept-arrives : (near far : End T) (out bs : List (Frame T)) (takes : Bool) → FrontMayBeTaken takes (length near.taken) bs
+      → Kept (record { near = near; far = far; out = out; back = bs }) → Kept (front_arrived takes bs (record { near = near; far = far; out = out; back = bs }))
+  Kept-arrives near far out [] takes ok h = h
+  Kept-arrives near far out (f ∷ fs) takes ok h =
+      record {
+        from_near = Way-giver takes f.carried (after near (Hear (f.ack % 8))) far.taken out fs (Way-hears near far.taken out fs f h.from_near);
+        from_far = Way-arrives far (after near (Hear (f.ack % 8))) f fs out takes ok h.from_far;
+      }
+
+  pub Kept-moved : (m : Move T) (w : Line T) → AllowsMove w m → Kept w → Kept (moved m w)
+  Kept-moved (HandsDown x) w ok h =
+      rw (append-nil w.out) (record { from_near = Way-hand w.near w.far.taken w.out w.back x h.from_near; from_far = h.from_far })
+  Kept-moved (Sends n) w ok h =
+      record {
+        from_near = Way-send w.near w.far.taken w.out w.back n (length w.near.taken) ok h.from_near;
+        from_far = Way-told w.far w.near.taken w.back w.out (numbered n (slice_get w.near.given n)) (max w.near.sent (n + 1)) h.from_far;
+      }
+  Kept-moved Tells w ok h =
+      record {
+        from_near = Way-tell w.near w.far.taken w.out w.back (length w.near.taken) h.from_near;
+        from_far = Way-told w.far w.near.taken w.back w.out None w.near.sent h.from_far;
+      }
+  Kept-moved (Arrives takes) w ok h = Kept-arrives w.near w.far w.out w.back takes ok h
+  Kept-moved (Loses i) w ok h =
+      let n = h.from_near in
+      let f = h.from_far in
+      record {
+        from_near = record { low = n.low; high = n.high; room = n.room; held = n.held; acks = Acks-remove w.near.acked w.back (length w.far.taken) i n.acks; tops = n.tops; begins = n.begins };
+        from_far = record { low = f.low; high = f.high; room = f.room; held = f.held; acks = f.acks; tops = Tops-remove w.far.given (length w.near.taken) w.back i w.far.sent f.tops; begins = f.begins };
+      }
+
+  pub Kept-all_moved : (ms : List (Move T)) (w : Line T) → AllowsAll w ms → Kept w → Kept (all_moved ms w)
+  Kept-all_moved [] w ok h = h
+  Kept-all_moved (m ∷ ms) w ok h = Kept-all_moved ms (moved m w) ok.1 (Kept-moved m w ok.0 h)
+
+  -- ---- what is kept says that the window holds
+
+  pub Way-acked : (g : End T) (taken : List T) (there back : List (Frame T)) → Way g taken there back → (g.acked ≤ length taken) × (length taken ≤ g.sent)
+  Way-acked g taken there back h = (Acks-le g.acked back (length taken) h.acks, Tops-le g.given (length taken) there g.sent h.tops)
+
+  Rising-from_Acks : (low : ℕ) (fs : List (Frame T)) (high m : ℕ) → high ≤ m → Acks low fs high → Rising low fs m
+  Rising-from_Acks low [] high m le h = omega arith
+  Rising-from_Acks low (f ∷ fs) high m le h = (h.0, Rising-from_Acks f.ack fs high m le h.1)
+
+  IsSentInWindow-from_Carries : (xs : List T) (top : ℕ) (c : Option (Numbered T)) → Carries xs top c → IsSentInWindow top c
+  IsSentInWindow-from_Carries xs top None h = tt
+  IsSentInWindow-from_Carries xs top (Some c) h = (h.0, h.1)
+
+  IsNear-from_Carries : (xs : List T) (r top sent : ℕ) (c : Option (Numbered T)) → r ≤ top → top ≤ sent → sent ≤ r + 7 → Carries xs top c → IsNear r c
+  IsNear-from_Carries xs r top sent None _ _ _ h = tt
+  IsNear-from_Carries xs r top sent (Some c) low high room h = (omega arith, omega arith, λ same. same_in_window r c.number same (omega arith) (omega arith))
+
+  AllInWindow-from_Tops : (xs : List T) (r low : ℕ) (fs : List (Frame T)) (sent : ℕ) → r ≤ low → sent ≤ r + 7 → Tops xs low fs sent → AllInWindow r fs
+  AllInWindow-from_Tops xs r low [] sent le room h = tt
+  AllInWindow-from_Tops xs r low (f ∷ fs) sent le room h =
+      let above : r ≤ f.top = omega arith in (
+        IsSentInWindow-from_Carries xs f.top f.carried h.1,
+        above,
+        IsNear-from_Carries xs r f.top sent f.carried above (Tops-le xs f.top fs sent h.2) room h.1,
+        AllInWindow-from_Tops xs r f.top fs sent above room h.2,
+      )
+
+  WayInWindow-from_Way : (g t : End T) (there back : List (Frame T)) → Way g t.taken there back → WayInWindow g t there back
+  WayInWindow-from_Way g t there back h =
+      let bounds = Way-acked g t.taken there back h in
+      let room = h.room in
+      let high = h.high in
+      let held = h.held in
+      record {
+        acked = bounds.0;
+        taken = bounds.1;
+        room = h.room;
+        frames = AllInWindow-from_Tops g.given (length t.taken) (length t.taken) there g.sent (omega arith) (omega arith) h.tops;
+        acks = Rising-from_Acks g.acked back (length t.taken) g.sent bounds.1 h.acks;
+        begins = (drop (length t.taken) g.given, grind (arith, h.begins, take-append-drop (length t.taken) g.given));
+        all = λ e. h.begins ∙ take_all (length t.taken) g.given (omega arith);
+      }
+
+  pub InWindow-from_Kept : (w : Line T) → Kept w → InWindow w
+  InWindow-from_Kept w h =
+      record {
+        there = WayInWindow-from_Way w.near w.far w.out w.back h.from_near;
+        back = WayInWindow-from_Way w.far w.near w.back w.out h.from_far;
+      }

@@ -1,0 +1,8 @@
+use Rattle.std.proofs.Common.{take}
+use Rattle.x25_line.specs.RawMachine.{RawState, run}
+use Rattle.x25_line.specs.RawFitting.{FitsWorld}
+use Rattle.x25_line.proofs.raw_world.RawWorld.run.Given as goal
+
+-- the events before this one have happened
+abbrev pub invariant-loop-index : goal.invariant-loop-index
+invariant-loop-index l = (s : RawState) → FitsWorld l.initial.self s → FitsWorld l.self (run (take l.index l.events) s)

@@ -1,0 +1,19 @@
+//! Two ends and a line between them that keeps order and may lose any frame.
+#![tactic(auto)]
+
+mod direction;
+mod raw_end;
+mod raw_error;
+mod raw_event;
+mod raw_frame;
+mod raw_world;
+
+pub use direction::Direction;
+pub use raw_error::{RawError, RawRefused};
+pub use raw_event::RawEvent;
+pub use raw_frame::{RawCarried, RawFrame};
+pub use raw_world::RawWorld;
+pub use x25_bits::Role;
+
+#[cfg(test)]
+mod tests;
