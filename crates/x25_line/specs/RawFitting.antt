@@ -115,6 +115,7 @@ pub record RunInWindow (v : ShownWorld) : Type 0 where
   pub run : Run v
   pub window : InWindow (run_of run).line
 
+-- xs are the first items of ys
 abbrev pub IsBeginning : List ℕ → List ℕ → Type 0
 IsBeginning xs ys = xs ≡ take (length xs) ys
 

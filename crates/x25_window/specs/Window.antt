@@ -1,5 +1,6 @@
 -- The window machine of one end, on whole lists and unbounded numbers: what the end may do, and what that makes of it.
--- When to send, and whether to take an item that may be taken, is free.
+-- When to send, and whether to take an item that may be taken, is free. A sender and a receiver hold its two halves:
+-- `Sending` is what an end has sent, with V(S) beside it, and `FitsTaken` counts what it has taken.
 -- ITU-T X.25 (10/96), sections 2.3.2, 2.4.5 and 2.4.8.6.
 use Rattle.std.specs.Prelude.{ℕ, ◌≡◌, ◌+◌, ◌%◌, ◌<◌, ◌≤◌, List, [], ◌∷◌, ◌++◌, length, slice_get, max, Option, Some, None}
 use Rattle.x25_window.specs.Modulo.{resolved}
