@@ -162,7 +162,7 @@ tail_is r (a ∷ b ∷ c ∷ d ∷ e ∷ []) h k x = absurd (omega arith)
 tail_is r (a ∷ b ∷ c ∷ d ∷ e ∷ f ∷ []) h k x = absurd (omega arith)
 tail_is r (a ∷ b ∷ c ∷ d ∷ e ∷ f ∷ g ∷ y ∷ tail) h k x = absurd (omega arith)
 
-ends_so : (text : List Bool) → (ups 7 text == 6) ≡ true → (pre : List Bool) × (text ≡ pre ++ flag_start)
+pub ends_so : (text : List Bool) → (ups 7 text == 6) ≡ true → (pre : List Bool) × (text ≡ pre ++ flag_start)
 ends_so text x = elim (cases_lt (length text) 7) [
   | inl low ↦ let no : (not false && ups 7 text == 6) ≡ false = not_six 0 false text low (ups_bound 7 0 text (omega arith) (inl refl)) in let bad : true ≡ false = sym x ∙ no in cc
   | inr high ↦
@@ -175,7 +175,7 @@ ends_so text x = elim (cases_lt (length text) 7) [
       (take (length text - 7) text, sym cut ∙ ap (λ l. take (length text - 7) text ++ l) tail)
 ]
 
-closed_span : (span : List Bool) (b : Bool) → closed ((false ∷ span ++ flag_start) ++ b ∷ []) ≡ span
+pub closed_span : (span : List Bool) (b : Bool) → closed ((false ∷ span ++ flag_start) ++ b ∷ []) ≡ span
 closed_span span b =
     let size : length ((span ++ flag_start) ++ b ∷ []) ≡ length span + 8 = rw (length-append, length-append) (omega arith) in
     let count : suc (length ((span ++ flag_start) ++ b ∷ [])) - 9 ≡ length span = omega arith in

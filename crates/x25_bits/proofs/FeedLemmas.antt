@@ -18,7 +18,7 @@ pub seen_more : (v : Seen) (place : ℕ) (bits : List Bool) (b : Bool) → place
 unfolding seen_from
 seen_more v place bits b h e = rw e (ap (seen_from v) (take_more bits place false h) ∙ seen-append v (take place bits) (get_or bits place false ∷ []))
 
-found-append : (v : Seen) (a b : List Bool) → found_from v (a ++ b) ≡ found_from v a ++ found_from (seen_from v a) b
+pub found-append : (v : Seen) (a b : List Bool) → found_from v (a ++ b) ≡ found_from v a ++ found_from (seen_from v a) b
 unfolding found_from seen_from
 found-append v [] b = refl
 found-append v (x ∷ a) b = ap (λ l. seen_found v x ++ l) (found-append (seen_next v x) a b) ∙ sym (append_assoc (seen_found v x) (found_from (seen_next v x) a) (found_from (seen_from (seen_next v x) a) b))

@@ -39,7 +39,7 @@ same_ends s v b m = flags_held s.text b ∙ ap (λ (w : Seen). ends w b) (sym m.
 matches_next : (s : State) (v : Seen) (b : Bool) → Matches s v → Matches (stepped s b) (seen_next v b)
 matches_next s v b m = next_so s v b (ends v b) (same_ends s v b m) refl m
 
-right_true : (a b : Bool) → (a && b) ≡ true → b ≡ true
+pub right_true : (a b : Bool) → (a && b) ≡ true → b ≡ true
 right_true true b e = e
 right_true false b e = let bad : false ≡ true = e in cc
 

@@ -48,7 +48,7 @@ opened : (more : List Bool) → found_from none_seen (flag ++ more) ≡ found_fr
 unfolding found_from
 opened more = refl
 
-found_at_start : (bits : List Bool) → found_of bits ≡ found_from none_seen bits
+pub found_at_start : (bits : List Bool) → found_of bits ≡ found_from none_seen bits
 unfolding seen_from places_below between
 found_at_start bits = found_more [] bits
 

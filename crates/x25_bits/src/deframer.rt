@@ -13,6 +13,9 @@ use crate::scan::Scan;
 use std::alloc::Global;
 use std::mem;
 
+#[cfg(test)]
+mod tests;
+
 /// The fewest and the most bits of a content.
 const FEWEST: usize = 32;
 

@@ -5,7 +5,7 @@ use crate::no_memory::NoMemory;
 use std::alloc::Global;
 
 /// What a span between two flags is.
-#[derive(Debug, Drop)]
+#[derive(Debug, PartialEq, Eq, Drop)]
 pub enum Found {
     /// 4 to 4,103 octets.
     Content(Vec<u8>),
