@@ -1,5 +1,5 @@
 -- A list that begins another one.
-use Rattle.std.proofs.Common.{◌≡◌, ◌∙◌, Bool, List, [], ◌++◌, ap, sym, append_assoc, Option, Some, None, unwrap_or}
+use Rattle.std.proofs.Common.{◌∙◌, Bool, List, [], ◌++◌, ap, sym, append_assoc, Option, Some, None, unwrap_or}
 use Rattle.std.proofs.lemmas.List.{append-nil}
 use Rattle.x25_bits.specs.Begins.{Begins}
 

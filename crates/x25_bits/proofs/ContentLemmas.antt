@@ -1,12 +1,12 @@
 -- The content of a span, stuffed again, is the span.
-use Rattle.std.proofs.Common.{ℕ, zero, suc, ◌+◌, ◌-◌, ◌*◌, ◌/◌, ◌%◌, ◌≤◌, ◌≡◌, ◌∙◌, Bool, true, false, not, ◌&&◌, ◌||◌, ◌==◌, List, [], ◌∷◌, ◌++◌, length, take, drop, refl, ap, sym, subst, arith, append_assoc, get_or, length-append, length-drop, ◌<◌}
+use Rattle.std.proofs.Common.{ℕ, zero, suc, ◌+◌, ◌*◌, ◌/◌, ◌%◌, ◌≤◌, ◌≡◌, ◌∙◌, Bool, true, false, not, ◌&&◌, ◌||◌, ◌==◌, List, [], ◌∷◌, ◌++◌, length, take, drop, refl, ap, sym, subst, arith, append_assoc, get_or, length-drop, ◌<◌}
 use Rattle.std.specs.Prelude.{All, nat_lt, if◌then◌else◌}
 use Rattle.std.proofs.lemmas.Bool.{eqb-true}
 use Rattle.std.proofs.lemmas.List.{append-nil, take-append-drop, length-take-le}
 use Rattle.std.proofs.lemmas.List.Elements.{All-append}
 use Rattle.x25_bits.specs.Fcs.{bits_of, low_bits, number_of}
 use Rattle.x25_bits.specs.Spans.{flag_places, spans_of, places_below, between}
-use Rattle.x25_bits.specs.SpanClass.{Class, Content, Abort, Short, Long, Ragged, seven_from, run_from, octets_by, octets_of, class_by, class_of}
+use Rattle.x25_bits.specs.SpanClass.{Content, Abort, Short, Long, Ragged, seven_from, run_from, octets_by, octets_of, class_by, class_of}
 use Rattle.x25_bits.specs.Stuffing.{stuffed_from, stuff, unstuffed_from, unstuff}
 use Rattle.x25_bits.specs.Held.{up}
 use Rattle.x25_bits.proofs.SpanSteps.{State, start, FitsAt, stepped, found, closed, ends_flag}

@@ -1,12 +1,9 @@
 -- Feeding bit by bit.
-use Rattle.std.proofs.Common.{ℕ, ◌+◌, ◌<◌, ◌≤◌, ◌≡◌, ◌∙◌, Bool, true, false, ◌||◌, ◌==◌, List, [], ◌∷◌, ◌++◌, length, take, drop, refl, ap, sym, subst, append_assoc, add-one, get_or}
-use Rattle.std.specs.Prelude.{if◌then◌else◌}
+use Rattle.std.proofs.Common.{ℕ, ◌+◌, ◌<◌, ◌≡◌, ◌∙◌, Bool, true, false, ◌||◌, List, [], ◌∷◌, ◌++◌, length, take, drop, refl, ap, sym, append_assoc, get_or}
 use Rattle.std.proofs.lemmas.List.{append-nil, take_more}
 use Rattle.std.proofs.Math.Seq.{drop-append_seam}
-use Rattle.x25_bits.specs.SpanClass.{Class, found_of}
-use Rattle.x25_bits.specs.Held.{Held, Seen, seen_next, seen_found, seen_from, found_from, seen_of}
-use Rattle.x25_bits.specs.Plain.{plain, plains}
-use Rattle.x25_bits.specs.declared.found.Found.{Found}
+use Rattle.x25_bits.specs.SpanClass.{found_of}
+use Rattle.x25_bits.specs.Held.{Seen, seen_next, seen_found, seen_from, found_from, seen_of}
 use Rattle.x25_bits.proofs.FoundLemmas.{found_more, seen-append}
 
 pub or_first : (a b : Bool) → (a || b) ≡ false → a ≡ false

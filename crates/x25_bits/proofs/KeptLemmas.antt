@@ -1,9 +1,9 @@
 -- What a flag finds, by the unstuffed bits that are held.
-use Rattle.std.proofs.Common.{ℕ, zero, suc, ◌+◌, ◌-◌, ◌*◌, ◌/◌, ◌%◌, ◌<◌, ◌≤◌, ◌≡◌, ◌≢◌, ◌∙◌, Bool, true, false, ◌==◌, List, [], ◌∷◌, ◌++◌, length, take, refl, ap, sym, arith, length-append, eq-eqb}
+use Rattle.std.proofs.Common.{ℕ, ◌-◌, ◌/◌, ◌%◌, ◌<◌, ◌≤◌, ◌≡◌, ◌≢◌, ◌∙◌, Bool, true, false, ◌==◌, List, [], ◌∷◌, ◌++◌, length, take, refl, ap, sym, arith, length-append, eq-eqb}
 use Rattle.std.specs.Prelude.{nat_lt, if◌then◌else◌}
 use Rattle.std.proofs.lemmas.List.{length-take, take-append-le, take_all}
 use Rattle.std.proofs.lemmas.Bool.Decides.{nat_tests}
-use Rattle.x25_bits.specs.SpanClass.{Class, Content, Short, Long, Ragged, octets_by, octets_of, class_by}
+use Rattle.x25_bits.specs.SpanClass.{Content, Short, Long, Ragged, octets_by, octets_of, class_by}
 use Rattle.x25_bits.specs.Held.{kept_found}
 use Rattle.x25_bits.proofs.OctetLemmas.{octets_by-take}
 

@@ -1,5 +1,5 @@
 -- What is found in bits that are parted, by cuts or by a flag.
-use Rattle.std.proofs.Common.{◌≡◌, ◌∙◌, ℕ, ◌<◌, ◌≤◌, Bool, true, false, List, [], ◌∷◌, ◌++◌, length, drop, refl, ap, sym, append_assoc, get_or}
+use Rattle.std.proofs.Common.{◌≡◌, ◌∙◌, ℕ, ◌<◌, ◌≤◌, Bool, true, false, List, [], ◌∷◌, ◌++◌, length, refl, ap, sym, append_assoc, get_or}
 use Rattle.std.proofs.lemmas.List.{append-nil}
 use Rattle.std.specs.List.{flat_map}
 use Rattle.x25_bits.specs.Begins.{Begins}
@@ -8,7 +8,7 @@ use Rattle.x25_bits.specs.SpanClass.{Content, found_of}
 use Rattle.x25_bits.specs.Spans.{flag, places_below, between}
 use Rattle.x25_bits.specs.Stuffing.{framed, stuff}
 use Rattle.x25_bits.specs.Fcs.{bits_of}
-use Rattle.x25_bits.specs.Held.{Seen, fresh, none_seen, ends, seen_next, seen_from, found_from, seen_of}
+use Rattle.x25_bits.specs.Held.{Seen, fresh, none_seen, ends, seen_from, found_from, seen_of}
 use Rattle.x25_bits.proofs.FoundLemmas.{found_more}
 use Rattle.x25_bits.proofs.FeedLemmas.{seen_all, found_all}
 use Rattle.x25_bits.proofs.PutLemmas.{found_at_start, put_found}
@@ -16,7 +16,7 @@ use Rattle.x25_bits.proofs.PutLemmas.{found_at_start, put_found}
 pub found_begins : (before more : List Bool) → Begins (found_of before) (found_of (before ++ more))
 found_begins before more = (found_from (seen_of before) more, found_more before more)
 
-cuts_all : (before : List Bool) (cuts : List (List Bool)) → found_of before ++ found_by_cuts before cuts ≡ found_of (before ++ flat_map (λ cut. cut) cuts)
+pub cuts_all : (before : List Bool) (cuts : List (List Bool)) → found_of before ++ found_by_cuts before cuts ≡ found_of (before ++ flat_map (λ cut. cut) cuts)
 unfolding found_by_cuts
 cuts_all before [] = append-nil (found_of before) ∙ ap found_of (sym (append-nil before))
 cuts_all before (cut ∷ cuts) =
@@ -60,7 +60,7 @@ pub flag_cuts : (before more : List Bool) → found_of (before ++ flag ++ more) 
 flag_cuts before more =
     let before_it : seen_of (before ++ flag) ≡ behind_flag = sym (seen_all before flag) ∙ flag_ends (seen_of before) in
     let alone : found_of (flag ++ more) ≡ found_from behind_flag more =
-      found_more flag more ∙ ap (λ l. l ++ found_from (seen_of flag) more) nothing_yet ∙ ap (λ v. found_from v more) (flag_ends none_seen) in
+    found_more flag more ∙ ap (λ l. l ++ found_from (seen_of flag) more) nothing_yet ∙ ap (λ v. found_from v more) (flag_ends none_seen) in
     found_more (before ++ flag) more ∙ ap (λ v. found_of (before ++ flag) ++ found_from v more) before_it ∙ ap (λ l. found_of (before ++ flag) ++ l) (sym alone)
 
 pub put_found_behind : (before : List Bool) (octets : List ℕ) → ((k : ℕ) → get_or octets k 0 < 256) → 4 ≤ length octets → length octets ≤ 4103

@@ -5,7 +5,7 @@ use Rattle.std.proofs.Math.Seq.{drop-append_seam}
 use Rattle.std.proofs.lemmas.List.{take-append-drop}
 use Rattle.x25_bits.specs.Spans.{is_flag_at}
 use Rattle.x25_bits.proofs.SpanSteps.{ends_flag}
-use Rattle.x25_bits.proofs.SpanLemmas.{flag_behind, flag_short}
+use Rattle.x25_bits.proofs.SpanLemmas.{begins_by, flag_behind, flag_short}
 use Rattle.x25_bits.specs.Held.{Held, none_held, up, held_next, held_from, held_of}
 
 abbrev pub ups : ℕ → List Bool → ℕ
@@ -93,7 +93,7 @@ seven_last (suc (suc (suc (suc (suc (suc (suc (suc n)))))))) true true true true
 
 tail_tells : (r : ℕ) (tail : List Bool) (x : Bool) → r ≤ 7 → length tail ≡ 7 → is_flag_at (tail ++ x ∷ []) 0 ≡ (not x && ups r tail == 6)
 unfolding is_flag_at
-tail_tells r (a ∷ b ∷ c ∷ d ∷ e ∷ f ∷ g ∷ []) x h k = seven_last r a b c d e f g x h
+tail_tells r (a ∷ b ∷ c ∷ d ∷ e ∷ f ∷ g ∷ []) x h k = begins_by a b c d e f g x [] ∙ seven_last r a b c d e f g x h
 tail_tells r [] x h k = absurd (omega arith)
 tail_tells r (a ∷ []) x h k = absurd (omega arith)
 tail_tells r (a ∷ b ∷ []) x h k = absurd (omega arith)
@@ -108,10 +108,9 @@ split_tells : (pre tail : List Bool) (x : Bool) → length tail ≡ 7 → ends_f
 split_tells pre tail x k =
     let size : length ((pre ++ tail) ++ x ∷ []) ≡ length pre + 8 = rw (length-append, length-append) (omega arith) in
     let place : length ((pre ++ tail) ++ x ∷ []) - 8 ≡ length pre + 0 = omega arith in
-    let inside : length pre ≤ length ((pre ++ tail) ++ x ∷ []) = omega arith in
     let behind : drop (length pre) ((pre ++ tail) ++ x ∷ []) ≡ tail ++ x ∷ [] = rw append_assoc (drop-append_seam pre (tail ++ x ∷ [])) in
     ap (is_flag_at ((pre ++ tail) ++ x ∷ [])) place
-    ∙ sym (flag_behind ((pre ++ tail) ++ x ∷ []) (length pre) 0 inside)
+    ∙ sym (flag_behind ((pre ++ tail) ++ x ∷ []) (length pre) 0)
     ∙ ap (λ l. is_flag_at l 0) behind
     ∙ tail_tells (ups 7 pre) tail x (ups_small 7 pre (omega arith)) k
     ∙ ap (λ r. not x && r == 6) (sym (ups-append 7 pre tail))

@@ -1,38 +1,82 @@
 -- One more bit closes at most one span.
-use Rattle.std.proofs.Common.{ℕ, zero, suc, ◌+◌, ◌-◌, ◌<◌, ◌≤◌, ◌≡◌, ◌∙◌, ◌⊎◌, inl, inr, Bool, true, false, not, ◌&&◌, List, [], ◌∷◌, ◌++◌, length, get_or, take, drop, refl, ap, sym, subst, arith, length-append, length-drop, append_assoc, le-leb, rules}
-use Rattle.std.specs.Prelude.{nat_le, if◌then◌else◌, cond}
-use Rattle.std.proofs.lemmas.Bool.{lt-leb, leb-true, cases_lt}
-use Rattle.std.proofs.Math.Seq.{get_or-append_seam, drop-append_seam}
-use Rattle.std.proofs.lemmas.List.{get_or-drop, take-append-le, append-nil, drop-drop, drop-append-le}
-use Rattle.x25_bits.specs.Spans.{bit_of, is_flag_at, places_below, flag_places, between, spans_of}
+use Rattle.std.proofs.Common.{ℕ, zero, suc, ◌+◌, ◌-◌, ◌<◌, ◌≤◌, ◌≡◌, ◌∙◌, ◌⊎◌, inl, inr, Bool, true, false, not, ◌&&◌, List, [], ◌∷◌, ◌++◌, length, take, drop, refl, ap, sym, arith, length-append, length-drop}
+use Rattle.std.specs.Prelude.{if◌then◌else◌}
+use Rattle.std.proofs.lemmas.Bool.{cases_lt}
+use Rattle.std.proofs.lemmas.List.{take-append-le, append-nil, drop-drop, drop-append-le, nil_from_length}
+use Rattle.x25_bits.specs.Spans.{flag, begins_with_flag, is_flag_at, places_below, flag_places, between, spans_of}
 use Rattle.x25_bits.proofs.SpanSteps.{State, FitsAt, stepped, found, closed, ends_flag, last_or}
 
-bit_kept : (bits : List Bool) (b : Bool) (i : ℕ) → i < length bits → bit_of (bits ++ b ∷ []) i ≡ bit_of bits i
-bit_kept [] b i h = absurd (omega arith)
-bit_kept (x ∷ bits) b zero h = refl
-bit_kept (x ∷ bits) b (suc i) h = bit_kept bits b i (omega arith)
+-- ---- flags
+
+-- the first eight bits tell
+pub begins_by : (a b c d e f g x : Bool) (rest : List Bool)
+    → begins_with_flag (a ∷ b ∷ c ∷ d ∷ e ∷ f ∷ g ∷ x ∷ rest) ≡ (not a && (b && (c && (d && (e && (f && (g && not x)))))))
+unfolding begins_with_flag
+begins_by true b c d e f g x rest = refl
+begins_by false false c d e f g x rest = refl
+begins_by false true false d e f g x rest = refl
+begins_by false true true false e f g x rest = refl
+begins_by false true true true false f g x rest = refl
+begins_by false true true true true false g x rest = refl
+begins_by false true true true true true false x rest = refl
+begins_by false true true true true true true true rest = refl
+begins_by false true true true true true true false rest = refl
+
+begins_kept : (bits more : List Bool) → 8 ≤ length bits → begins_with_flag (bits ++ more) ≡ begins_with_flag bits
+begins_kept (a ∷ b ∷ c ∷ d ∷ e ∷ f ∷ g ∷ x ∷ bits) more h = begins_by a b c d e f g x (bits ++ more) ∙ sym (begins_by a b c d e f g x bits)
+begins_kept [] more h = absurd (omega arith)
+begins_kept (a ∷ []) more h = absurd (omega arith)
+begins_kept (a ∷ b ∷ []) more h = absurd (omega arith)
+begins_kept (a ∷ b ∷ c ∷ []) more h = absurd (omega arith)
+begins_kept (a ∷ b ∷ c ∷ d ∷ []) more h = absurd (omega arith)
+begins_kept (a ∷ b ∷ c ∷ d ∷ e ∷ []) more h = absurd (omega arith)
+begins_kept (a ∷ b ∷ c ∷ d ∷ e ∷ f ∷ []) more h = absurd (omega arith)
+begins_kept (a ∷ b ∷ c ∷ d ∷ e ∷ f ∷ g ∷ []) more h = absurd (omega arith)
+
+-- bits that begin with a flag are it and a rest
+flag_first : (bits : List Bool) → begins_with_flag bits ≡ true → (rest : List Bool) × (bits ≡ flag ++ rest)
+unfolding begins_with_flag
+flag_first [] e = let bad : false ≡ true = e in cc
+flag_first (true ∷ bits) e = let bad : false ≡ true = e in cc
+flag_first (false ∷ []) e = let bad : false ≡ true = e in cc
+flag_first (false ∷ false ∷ bits) e = let bad : false ≡ true = e in cc
+flag_first (false ∷ true ∷ []) e = let bad : false ≡ true = e in cc
+flag_first (false ∷ true ∷ false ∷ bits) e = let bad : false ≡ true = e in cc
+flag_first (false ∷ true ∷ true ∷ []) e = let bad : false ≡ true = e in cc
+flag_first (false ∷ true ∷ true ∷ false ∷ bits) e = let bad : false ≡ true = e in cc
+flag_first (false ∷ true ∷ true ∷ true ∷ []) e = let bad : false ≡ true = e in cc
+flag_first (false ∷ true ∷ true ∷ true ∷ false ∷ bits) e = let bad : false ≡ true = e in cc
+flag_first (false ∷ true ∷ true ∷ true ∷ true ∷ []) e = let bad : false ≡ true = e in cc
+flag_first (false ∷ true ∷ true ∷ true ∷ true ∷ false ∷ bits) e = let bad : false ≡ true = e in cc
+flag_first (false ∷ true ∷ true ∷ true ∷ true ∷ true ∷ []) e = let bad : false ≡ true = e in cc
+flag_first (false ∷ true ∷ true ∷ true ∷ true ∷ true ∷ false ∷ bits) e = let bad : false ≡ true = e in cc
+flag_first (false ∷ true ∷ true ∷ true ∷ true ∷ true ∷ true ∷ []) e = let bad : false ≡ true = e in cc
+flag_first (false ∷ true ∷ true ∷ true ∷ true ∷ true ∷ true ∷ true ∷ bits) e = let bad : false ≡ true = e in cc
+flag_first (false ∷ true ∷ true ∷ true ∷ true ∷ true ∷ true ∷ false ∷ bits) e = (bits, refl)
+
+flag_at : (bits : List Bool) (i : ℕ) → is_flag_at bits i ≡ true → (rest : List Bool) × (drop i bits ≡ flag ++ rest)
+unfolding is_flag_at
+flag_at bits i e = flag_first (drop i bits) e
+
+pub flag_fits : (bits : List Bool) (i : ℕ) → is_flag_at bits i ≡ true → i + 8 ≤ length bits
+flag_fits bits i e =
+    let r = flag_at bits i e in
+    let size : length (drop i bits) ≡ 8 + length r.0 = ap length r.1 ∙ length-append flag r.0 in
+    let less = length-drop i bits in
+    omega arith
+
+pub flag_short : (bits : List Bool) (i : ℕ) → length bits < i + 8 → is_flag_at bits i ≡ false
+flag_short bits i h = go (is_flag_at bits i) refl
+  where
+    go : (t : Bool) → is_flag_at bits i ≡ t → is_flag_at bits i ≡ false
+    go true e = let fits = flag_fits bits i e in absurd (omega arith)
+    go false e = e
 
 pub flag_kept : (bits : List Bool) (b : Bool) (i : ℕ) → i + 8 ≤ length bits → is_flag_at (bits ++ b ∷ []) i ≡ is_flag_at bits i
 unfolding is_flag_at
 flag_kept bits b i h =
-    let long : nat_le (i + 8) (length bits) ≡ true = le-leb _ _ h in
-    let more : nat_le (i + 8) (length (bits ++ b ∷ [])) ≡ true = le-leb _ _ (rw length-append (omega arith)) in
-    rw (
-      long,
-      more,
-      bit_kept bits b i (omega arith),
-      bit_kept bits b (i + 1) (omega arith),
-      bit_kept bits b (i + 2) (omega arith),
-      bit_kept bits b (i + 3) (omega arith),
-      bit_kept bits b (i + 4) (omega arith),
-      bit_kept bits b (i + 5) (omega arith),
-      bit_kept bits b (i + 6) (omega arith),
-      bit_kept bits b (i + 7) (omega arith),
-    ) refl
-
-pub flag_short : (bits : List Bool) (i : ℕ) → length bits < i + 8 → is_flag_at bits i ≡ false
-unfolding is_flag_at
-flag_short bits i h = let short : nat_le (i + 8) (length bits) ≡ false = lt-leb _ _ h in rw short refl
+    let size : 8 ≤ length (drop i bits) = rw length-drop (omega arith) in
+    ap begins_with_flag (drop-append-le i bits (b ∷ []) (omega arith)) ∙ begins_kept (drop i bits) (b ∷ []) size
 
 places_kept : (bits : List Bool) (b : Bool) (n : ℕ) → n + 7 ≤ length bits → places_below n (bits ++ b ∷ []) ≡ places_below n bits
 unfolding places_below
@@ -92,88 +136,32 @@ pub last_is : (bits : List Bool) (i : ℕ) (places : List ℕ) → is_flag_at bi
 last_is bits i [] h k = h
 last_is bits i (j ∷ places) h k = last_is bits j places k.0 k.1
 
-and_true : (a b : Bool) → (a && b) ≡ true → (a ≡ true) × (b ≡ true)
-and_true true b e = (refl, e)
-and_true false b e = let bad : false ≡ true = e in cc
-
-pub flag_fits : (bits : List Bool) (i : ℕ) → is_flag_at bits i ≡ true → i + 8 ≤ length bits
-unfolding is_flag_at
-flag_fits bits i h = leb-true _ _ (and_true _ _ h).0
-
-right_of : (a b : Bool) → (a && b) ≡ true → b ≡ true
-right_of true b e = e
-right_of false b e = let bad : false ≡ true = e in cc
-
-last_of_all : (t a b c d e f g h : Bool) → (t && (a && (b && (c && (d && (e && (f && (g && h)))))))) ≡ true → h ≡ true
-last_of_all t a b c d e f g h x =
-    right_of g h (right_of f (g && h) (right_of e (f && (g && h)) (right_of d (e && (f && (g && h))) (right_of c (d && (e && (f && (g && h))))
-    (right_of b (c && (d && (e && (f && (g && h))))) (right_of a (b && (c && (d && (e && (f && (g && h)))))) (right_of t (a && (b && (c && (d && (e && (f && (g && h))))))) x)))))))
-
-flag_last : (bits : List Bool) (i : ℕ) → is_flag_at bits i ≡ true → bit_of bits (i + 7) ≡ false
-unfolding is_flag_at
-flag_last bits i h = is_false (bit_of bits (i + 7)) (last_of_all (nat_le (i + 8) (length bits)) (not (bit_of bits i)) (bit_of bits (i + 1)) (bit_of bits (i + 2))
-    (bit_of bits (i + 3)) (bit_of bits (i + 4)) (bit_of bits (i + 5)) (bit_of bits (i + 6)) (not (bit_of bits (i + 7))) h)
-  where
-    is_false : (b : Bool) → not b ≡ true → b ≡ false
-    is_false true h = let bad : false ≡ true = h in cc
-    is_false false h = refl
+within_flag : (d : ℕ) (rest : List Bool) → 0 < d → d < 7 → begins_with_flag (drop d (flag ++ rest)) ≡ false
+unfolding begins_with_flag
+within_flag zero rest h k = absurd (omega arith)
+within_flag (suc zero) rest h k = refl
+within_flag (suc (suc zero)) rest h k = refl
+within_flag (suc (suc (suc zero))) rest h k = refl
+within_flag (suc (suc (suc (suc zero)))) rest h k = refl
+within_flag (suc (suc (suc (suc (suc zero))))) rest h k = refl
+within_flag (suc (suc (suc (suc (suc (suc zero)))))) rest h k = refl
+within_flag (suc (suc (suc (suc (suc (suc (suc n))))))) rest h k = absurd (omega arith)
 
 -- a flag cannot begin within the six 1 bits of another
 apart : (bits : List Bool) (i j : ℕ) → is_flag_at bits i ≡ true → i < j → j < i + 7 → is_flag_at bits j ≡ false
 unfolding is_flag_at
 apart bits i j h low high =
-    let a = and_true _ _ (and_true _ _ h).1 in
-    let one = and_true _ _ a.1 in
-    let two = and_true _ _ one.1 in
-    let three = and_true _ _ two.1 in
-    let four = and_true _ _ three.1 in
-    let five = and_true _ _ four.1 in
-    let six = and_true _ _ five.1 in
-    zero_there (nat_le (j + 8) (length bits)) _ (at (j - i) (omega arith) (omega arith, omega arith) one.0 two.0 three.0 four.0 five.0 six.0)
-  where
-    zero_there : (t rest : Bool) → bit_of bits j ≡ true → (t && (not (bit_of bits j) && rest)) ≡ false
-    zero_there true rest e = rw e refl
-    zero_there false rest e = refl
-
-    same : (k : ℕ) → i + k ≡ j → bit_of bits (i + k) ≡ true → bit_of bits j ≡ true
-    same k e h = rw (← e) h
-
-    at : (d : ℕ) → i + d ≡ j → (0 < d) × (d < 7) → bit_of bits (i + 1) ≡ true → bit_of bits (i + 2) ≡ true → bit_of bits (i + 3) ≡ true
-        → bit_of bits (i + 4) ≡ true → bit_of bits (i + 5) ≡ true → bit_of bits (i + 6) ≡ true → bit_of bits j ≡ true
-    at zero e r a b c d f g = absurd (omega arith)
-    at (suc zero) e r a b c d f g = same 1 e a
-    at (suc (suc zero)) e r a b c d f g = same 2 e b
-    at (suc (suc (suc zero))) e r a b c d f g = same 3 e c
-    at (suc (suc (suc (suc zero)))) e r a b c d f g = same 4 e d
-    at (suc (suc (suc (suc (suc zero))))) e r a b c d f g = same 5 e f
-    at (suc (suc (suc (suc (suc (suc zero)))))) e r a b c d f g = same 6 e g
-    at (suc (suc (suc (suc (suc (suc (suc n))))))) e r a b c d f g = absurd (omega arith)
-
-le_shift : (i k n : ℕ) → k ≤ n → nat_le (i + 8) (n - k) ≡ nat_le (k + i + 8) n
-le_shift i k n h = elim (cases_lt n (k + i + 8)) [
-  | inl low ↦ lt-leb (i + 8) (n - k) (omega arith) ∙ sym (lt-leb (k + i + 8) n (omega arith))
-  | inr high ↦ le-leb (i + 8) (n - k) (omega arith) ∙ sym (le-leb (k + i + 8) n (omega arith))
-]
-
-behind_bit : (bits : List Bool) (k i d : ℕ) → bit_of (drop k bits) (i + d) ≡ bit_of bits (k + i + d)
-behind_bit bits k i d = get_or-drop k bits (i + d) false ∙ ap (bit_of bits) (let e : k + (i + d) ≡ k + i + d = omega arith in e)
+    let r = flag_at bits i h in
+    let at : i + (j - i) ≡ j = omega arith in
+    ap (λ n. begins_with_flag (drop n bits)) (sym at)
+    ∙ ap begins_with_flag (sym (drop-drop (j - i) i bits))
+    ∙ ap (λ l. begins_with_flag (drop (j - i) l)) r.1
+    ∙ within_flag (j - i) r.0 (omega arith) (omega arith)
 
 -- a flag seen in what is behind place k
-pub flag_behind : (bits : List Bool) (k i : ℕ) → k ≤ length bits → is_flag_at (drop k bits) i ≡ is_flag_at bits (k + i)
+pub flag_behind : (bits : List Bool) (k i : ℕ) → is_flag_at (drop k bits) i ≡ is_flag_at bits (k + i)
 unfolding is_flag_at
-flag_behind bits k i h =
-    rw (
-      length-drop k bits,
-      le_shift i k (length bits) h,
-      get_or-drop k bits i false,
-      behind_bit bits k i 1,
-      behind_bit bits k i 2,
-      behind_bit bits k i 3,
-      behind_bit bits k i 4,
-      behind_bit bits k i 5,
-      behind_bit bits k i 6,
-      behind_bit bits k i 7,
-    ) refl
+flag_behind bits k i = ap begins_with_flag (drop-drop i k bits)
 
 -- the end of the text tells what the end of all bits tells
 same_end : (bits : List Bool) (b : Bool) (l : ℕ) → is_flag_at bits l ≡ true
@@ -197,7 +185,7 @@ same_end bits b l flag =
         ∙ sym (apart (bits ++ b ∷ []) l (length (bits ++ b ∷ []) - 8) flag_all (omega arith) (omega arith))
     go (inr high) size text_size fits =
         let place : (l + 7) + (length (drop (l + 7) (bits ++ b ∷ [])) - 8) ≡ length (bits ++ b ∷ []) - 8 = omega arith in
-        flag_behind (bits ++ b ∷ []) (l + 7) (length (drop (l + 7) (bits ++ b ∷ [])) - 8) (omega arith) ∙ ap (is_flag_at (bits ++ b ∷ [])) place
+        flag_behind (bits ++ b ∷ []) (l + 7) (length (drop (l + 7) (bits ++ b ∷ [])) - 8) ∙ ap (is_flag_at (bits ++ b ∷ [])) place
 
 -- the same in every state that fits
 pub ends_same : (s : State) (bits : List Bool) (b : Bool) (places : List ℕ) → AreFlags bits places → FitsAt s bits places
@@ -222,13 +210,16 @@ between_one bits other j = refl
 -- behind a flag at the end is its last 0
 closing_flag : (bits : List Bool) (b : Bool) → ends_flag (bits ++ b ∷ []) ≡ true → drop (length bits - 7 + 7) (bits ++ b ∷ []) ≡ false ∷ []
 closing_flag bits b e =
+    let all = bits ++ b ∷ [] in
+    let place = length (bits ++ b ∷ []) - 8 in
     let size : length (bits ++ b ∷ []) ≡ length bits + 1 = length-append bits (b ∷ []) in
     let inside = flag_fits (bits ++ b ∷ []) (length (bits ++ b ∷ []) - 8) e in
-    let at : length bits - 7 + 7 ≡ length bits = omega arith in
-    let last : bit_of (bits ++ b ∷ []) (length bits) ≡ b = get_or-append_seam bits b [] false in
-    let place : length (bits ++ b ∷ []) - 8 + 7 ≡ length bits = omega arith in
-    let zero_last : b ≡ false = sym last ∙ ap (bit_of (bits ++ b ∷ [])) (sym place) ∙ flag_last (bits ++ b ∷ []) (length (bits ++ b ∷ []) - 8) e in
-    ap (λ n. drop n (bits ++ b ∷ [])) at ∙ drop-append_seam bits (b ∷ []) ∙ ap (λ x. x ∷ []) zero_last
+    let r = flag_at all place e in
+    let less = length-drop place all in
+    let eight : length (drop place all) ≡ 8 + length r.0 = ap length r.1 ∙ length-append flag r.0 in
+    let none : r.0 ≡ [] = nil_from_length r.0 (omega arith) in
+    let at : length bits - 7 + 7 ≡ place + 7 = omega arith in
+    ap (λ n. drop n all) at ∙ sym (drop-drop 7 place all) ∙ ap (drop 7) r.1 ∙ ap (λ (l : List Bool). false ∷ l) none
 
 -- the state after one more bit
 pub fits_next : (s : State) (bits : List Bool) (b : Bool) (places : List ℕ) → AreFlags bits places → FitsAt s bits places

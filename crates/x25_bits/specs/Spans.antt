@@ -1,18 +1,19 @@
 -- Flags and spans of a whole list of bits. ITU-T X.25 (10/96), section 2.2.2; that two flags may share the 0
 -- between them is profile.
-use Rattle.std.specs.Prelude.{ℕ, zero, suc, ◌+◌, ◌-◌, ◌&&◌, nat_le, Bool, true, false, not, if◌then◌else◌, List, [], ◌∷◌, ◌++◌, length, take, drop, slice_index_or}
+use Rattle.std.specs.Prelude.{ℕ, zero, suc, ◌+◌, ◌-◌, Bool, true, false, if◌then◌else◌, List, [], ◌∷◌, ◌++◌, length, take, drop}
 
 -- the flag sequence: a 0, six 1 bits and a 0
 abbrev pub flag : List Bool
 flag = false ∷ true ∷ true ∷ true ∷ true ∷ true ∷ true ∷ false ∷ []
 
-abbrev pub bit_of : List Bool → ℕ → Bool
-bit_of bits i = slice_index_or bits i false
+-- the bits begin with a flag
+unfoldable pub begins_with_flag : List Bool → Bool
+begins_with_flag (false ∷ true ∷ true ∷ true ∷ true ∷ true ∷ true ∷ false ∷ bits) = true
+begins_with_flag bits = false
 
--- the eight bits from place i on are a flag
+-- a flag stands at place i
 unfoldable pub is_flag_at : List Bool → ℕ → Bool
-is_flag_at bits i = nat_le (i + 8) (length bits) && (not (bit_of bits i) && (bit_of bits (i + 1) && (bit_of bits (i + 2)
-    && (bit_of bits (i + 3) && (bit_of bits (i + 4) && (bit_of bits (i + 5) && (bit_of bits (i + 6) && not (bit_of bits (i + 7)))))))))
+is_flag_at bits i = begins_with_flag (drop i bits)
 
 -- the places below n where a flag stands, in order
 unfoldable pub places_below : ℕ → List Bool → List ℕ

@@ -4,7 +4,9 @@ use std::test::Fail;
 
 /// The content of a SABM from the DTE, and the 34 bits that it stuffs to.
 const SABM: [u8; 4] = [0x01, 0x3F, 0xEB, 0xDF];
+
 const STUFFED: &str = "1000000011111010011010111110111011";
+
 const FLAG: &str = "01111110";
 
 fn push_text(text: &str, bits: &mut Bits) -> Result<(), NoMemory> {
@@ -82,8 +84,14 @@ fn classes_spans(rt: HostRuntime) -> Result<(), Fail> {
         (&[FLAG, "11111110", FLAG], Some(Found::Abort)),
         (&[FLAG, "1111111", FLAG], Some(Found::Abort)),
         (&[FLAG, "00011111", FLAG], Some(Found::Ragged)),
-        (&[FLAG, "000000000000000000000000", FLAG], Some(Found::Short)),
-        (&[FLAG, "000000000000000000000000000000000", FLAG], Some(Found::Ragged)),
+        (
+            &[FLAG, "000000000000000000000000", FLAG],
+            Some(Found::Short),
+        ),
+        (
+            &[FLAG, "000000000000000000000000000000000", FLAG],
+            Some(Found::Ragged),
+        ),
     ];
     for (texts, wanted) in &rows {
         let found = found_in_pieces(alloc, &bits_of(alloc, texts)?, 8)?;
@@ -102,14 +110,24 @@ fn bounds_a_content(rt: HostRuntime) -> Result<(), Fail> {
         line.push(false)?;
     }
     push_text(FLAG, &mut line)?;
-    assert!(rt; is_content(found_in_pieces(alloc, &line, line.len())?.as_slice(), &zeros));
+    assert!(rt;
+        is_content(
+            found_in_pieces(alloc, &line, line.len())?.as_slice(),
+            &zeros
+        )
+    );
 
     let mut longer = bits_of(alloc, &[FLAG])?;
     for _ in 0..32_832u16 {
         longer.push(false)?;
     }
     push_text(FLAG, &mut longer)?;
-    assert!(rt; matches!(found_in_pieces(alloc, &longer, longer.len())?.as_slice(), [Found::Long]));
+    assert!(rt;
+        matches!(
+            found_in_pieces(alloc, &longer, longer.len())?.as_slice(),
+            [Found::Long]
+        )
+    );
     Ok(())
 }
 
@@ -133,7 +151,12 @@ fn finds_in_each_cut(rt: HostRuntime) -> Result<(), Fail> {
     let mut line = Bits::new(alloc);
     put(octets.as_slice(), &mut line)?;
     for cut in 1..line.len() {
-        assert!(rt; is_content(found_in_pieces(alloc, &line, cut)?.as_slice(), octets.as_slice()));
+        assert!(rt;
+            is_content(
+                found_in_pieces(alloc, &line, cut)?.as_slice(),
+                octets.as_slice()
+            )
+        );
         let mut found = Vec::new(alloc);
         let mut deframer = Deframer::new(alloc);
         let mut first = Bits::new(alloc);
@@ -154,11 +177,23 @@ fn finds_in_each_cut(rt: HostRuntime) -> Result<(), Fail> {
 fn finds_each_length(rt: HostRuntime) -> Result<(), Fail> {
     let alloc = rt.alloc();
     for step in 0..12usize {
-        let octets = some_octets(alloc, if step < 11 { 4 + step * step * 33 } else { 4103 })?;
+        let octets = some_octets(
+            alloc,
+            if step < 11 {
+                4 + step * step * 33
+            } else {
+                4103
+            },
+        )?;
         let mut line = Bits::new(alloc);
         put(octets.as_slice(), &mut line)?;
         for size in [1, 7, 8, 9, 64, 1000, line.len()] {
-            assert!(rt; is_content(found_in_pieces(alloc, &line, size)?.as_slice(), octets.as_slice()));
+            assert!(rt;
+                is_content(
+                    found_in_pieces(alloc, &line, size)?.as_slice(),
+                    octets.as_slice()
+                )
+            );
         }
     }
     Ok(())

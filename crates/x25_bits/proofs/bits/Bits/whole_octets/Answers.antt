@@ -1,4 +1,4 @@
-use Rattle.std.proofs.Common.{◌∙◌, ◌/◌, ap, length, take}
+use Rattle.std.proofs.Common.{◌∙◌, ◌/◌, ap, take}
 use Rattle.x25_bits.specs.Fcs.{bits_of}
 use Rattle.x25_bits.specs.SpanClass.{octets_by}
 use Rattle.x25_bits.proofs.OctetLemmas.{count_is}

@@ -1,4 +1,4 @@
-use Rattle.std.proofs.Common.{◌≡◌, ◌++◌, List, take, unwrap_or}
+use Rattle.std.proofs.Common.{◌≡◌, ◌++◌, take, unwrap_or}
 use Rattle.x25_bits.specs.Begins.{Begins}
 use Rattle.x25_bits.specs.Held.{Seen, seen_from, found_from}
 use Rattle.x25_bits.specs.Plain.{plains}
