@@ -14,13 +14,13 @@ abbrev pub flag_start : List Bool
 flag_start = false ∷ true ∷ true ∷ true ∷ true ∷ true ∷ true ∷ []
 
 -- what a run counts for the bits that are left out
-abbrev u : ℕ → ℕ
+abbrev pub u : ℕ → ℕ
 u r = if r == 6 then 0 else r
 
-abbrev holding : ℕ → Bool → List Bool → Held
+abbrev pub holding : ℕ → Bool → List Bool → Held
 holding r i k = record { run = r; is_aborted = false; is_inserted = i; kept = k }
 
-abbrev Sync : Held → Bool → List Bool → ℕ → Type 0
+abbrev pub Sync : Held → Bool → List Bool → ℕ → Type 0
 Sync h seven kept run = ((h.is_aborted ≡ true) × (seven ≡ true))
     ⊎ ((h.is_aborted ≡ false) × (seven ≡ false) × (h.run ≤ 6) × (h.kept ≡ kept) × (run ≡ u h.run))
 
@@ -40,7 +40,7 @@ on : (r : ℕ) (i : Bool) (k : List Bool) (b : Bool) (span : List Bool)
     → Sync (held_from (holding r i (k ++ b ∷ [])) span) (seven_from r span) (k ++ b ∷ unstuffed_from (u r) span) (run_from (u r) span)
 on r i k b span y = moved (held_from (holding r i (k ++ b ∷ [])) span) (seven_from r span) k b (unstuffed_from (u r) span) (run_from (u r) span) y
 
-sync : (r : ℕ) (i : Bool) (k span : List Bool) → r ≤ 6
+pub sync : (r : ℕ) (i : Bool) (k span : List Bool) → r ≤ 6
     → Sync (held_from (holding r i k) span) (seven_from r span) (k ++ unstuffed_from (u r) span) (run_from (u r) span)
 unfolding held_from seven_from unstuffed_from run_from
 sync r i k [] h = inr (refl, refl, h, sym (append-nil k), refl)

@@ -11,12 +11,13 @@ use Rattle.x25_bits.proofs.RunLemmas.{flags_held, held-append}
 use Rattle.x25_bits.proofs.ClosingLemmas.{closes_held}
 
 -- behind a flag the text begins with the flag's last 0
-abbrev Begins : State → Type 0
-Begins s = s.is_open ≡ true → (rest : List Bool) × (s.text ≡ false ∷ rest)
+abbrev pub BehindFlag : State → Type 0
+BehindFlag s = s.is_open ≡ true → (rest : List Bool) × (s.text ≡ false ∷ rest)
 
-record Matches (s : State) (v : Seen) : Type 0 where
-  same : v ≡ record { is_open = s.is_open; held = held_of s.text }
-  begins : Begins s
+-- what is seen bit by bit is what is held of the text
+pub record Matches (s : State) (v : Seen) : Type 0 where
+  pub same : v ≡ record { is_open = s.is_open; held = held_of s.text }
+  pub begins : BehindFlag s
 
 held_snoc : (text : List Bool) (b : Bool) → held_of (text ++ b ∷ []) ≡ held_next (held_of text) b
 unfolding held_from
@@ -26,7 +27,7 @@ held_fresh : fresh ≡ held_of (false ∷ [])
 unfolding held_from
 held_fresh = refl
 
-begins_more : (s : State) (b : Bool) → Begins s → Begins (record s { text = s.text ++ b ∷ [] })
+begins_more : (s : State) (b : Bool) → BehindFlag s → BehindFlag (record s { text = s.text ++ b ∷ [] })
 begins_more s b h o = let r = h o in (r.0 ++ b ∷ [], ap (λ l. l ++ b ∷ []) r.1)
 
 next_so : (s : State) (v : Seen) (b t : Bool) → ends_flag (s.text ++ b ∷ []) ≡ t → ends v b ≡ t → Matches s v → Matches (stepped s b) (seen_next v b)
@@ -99,8 +100,12 @@ start_fits : FitsAt start [] (flag_places [])
 unfolding places_below
 start_fits = refl
 
+-- what is seen of all bits
+pub seen_state : (bits : List Bool) → (t : State) × (FitsAt t bits (flag_places bits) × Matches t (seen_of bits))
+seen_state bits = reaches start none_seen [] bits start_fits start_matches
+
 pub found_more : (bits more : List Bool) → found_of (bits ++ more) ≡ found_of bits ++ found_from (seen_of bits) more
-found_more bits more = let t = reaches start none_seen [] bits start_fits start_matches in grown t.0 (seen_of bits) bits more t.1.0 t.1.1
+found_more bits more = let t = seen_state bits in grown t.0 (seen_of bits) bits more t.1.0 t.1.1
 
 pub seen-append : (v : Seen) (a b : List Bool) → seen_from v (a ++ b) ≡ seen_from (seen_from v a) b
 unfolding seen_from

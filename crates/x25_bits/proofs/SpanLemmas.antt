@@ -197,7 +197,7 @@ last_or-snoc : (i j : ℕ) (places : List ℕ) → last_or i (places ++ j ∷ []
 last_or-snoc i j [] = refl
 last_or-snoc i j (k ∷ places) = last_or-snoc k j places
 
-drop_one : (n : ℕ) (bits : List Bool) → drop 1 (drop n bits) ≡ drop (suc n) bits
+pub drop_one : (n : ℕ) (bits : List Bool) → drop 1 (drop n bits) ≡ drop (suc n) bits
 drop_one zero [] = refl
 drop_one zero (x ∷ bits) = refl
 drop_one (suc n) [] = refl

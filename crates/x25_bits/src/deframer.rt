@@ -4,7 +4,8 @@ ghost use Rattle.x25_bits.specs.Begins.{Begins};
 ghost use Rattle.x25_bits.specs.SpanClass.{found_of};
 ghost use Rattle.x25_bits.specs.Held.{Seen, seen_next, seen_found, seen_from, found_from, ends, closing, keeps, kept_next, kept_found};
 ghost use Rattle.x25_bits.specs.Plain.{plains, listed_span};
-ghost use Rattle.x25_bits.specs.Fits.{Fits, FitsSeen};
+ghost use Rattle.x25_bits.specs.Fits.{Fits};
+ghost use Rattle.x25_bits.specs.FitsSeen.{FitsSeen};
 
 use crate::bits::Bits;
 use crate::found::{Found, Span};

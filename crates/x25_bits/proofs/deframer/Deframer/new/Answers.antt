@@ -1,7 +1,8 @@
 use Rattle.std.proofs.Common.{◌≡◌, refl, true, false}
-use Rattle.x25_bits.specs.Held.{seen_from}
+use Rattle.x25_bits.specs.Fits.{ones_from, behind_last}
+use Rattle.x25_bits.specs.Spans.{places_below}
 use Rattle.x25_bits.proofs.deframer.Deframer.new.Goals as goal
 
 pub returns : goal.returns
-unfolding seen_from
-returns c = record { is_open = refl; run = refl; aborted = refl; inserted = refl; kept = λ o a. let bad : false ≡ true = o in cc }
+unfolding ones_from behind_last places_below
+returns c = record { run = refl; span = refl }

@@ -2,7 +2,7 @@ use Rattle.std.proofs.Common.{◌≡◌, ◌∙◌, ◌++◌, ◌<◌, length, a
 use Rattle.std.proofs.lemmas.List.{append-nil, take_all}
 use Rattle.x25_bits.specs.Held.{seen_from, found_from, seen_found}
 use Rattle.x25_bits.specs.Plain.{plains}
-use Rattle.x25_bits.specs.Fits.{FitsSeen}
+use Rattle.x25_bits.specs.FitsSeen.{FitsSeen}
 use Rattle.x25_bits.proofs.BeginsLemmas.{begins_none, begins_more}
 use Rattle.x25_bits.proofs.FeedLemmas.{seen_more, found_later}
 use Rattle.x25_bits.proofs.deframer.Deframer.take_all.Goals as goal

@@ -2,7 +2,7 @@ use Rattle.std.proofs.Common.{◌≡◌, ◌++◌, take, unwrap_or}
 use Rattle.x25_bits.specs.Begins.{Begins}
 use Rattle.x25_bits.specs.Held.{Seen, seen_from, found_from}
 use Rattle.x25_bits.specs.Plain.{plains}
-use Rattle.x25_bits.specs.Fits.{FitsSeen}
+use Rattle.x25_bits.specs.FitsSeen.{FitsSeen}
 use Rattle.x25_bits.proofs.deframer.Deframer.take_all.Given as goal
 
 abbrev pub invariant-loop-place : goal.invariant-loop-place
