@@ -1,10 +1,10 @@
 -- What is held bit by bit is what the whole list of bits says.
-use Rattle.std.proofs.Common.{ℕ, zero, suc, ◌+◌, ◌≤◌, ◌≡◌, ◌∙◌, ◌⊎◌, inl, inr, Bool, true, false, not, ◌&&◌, ◌==◌, Option, Some, None, List, [], ◌∷◌, ◌++◌, drop, take, refl, ap, sym, subst, arith}
+use Rattle.std.proofs.Common.{ℕ, zero, suc, ◌+◌, ◌≤◌, ◌≡◌, ◌∙◌, inl, inr, Bool, true, false, Option, Some, None, List, [], ◌∷◌, ◌++◌, drop, take, refl, ap, sym, subst, arith}
 use Rattle.x25_bits.specs.Spans.{flag_places}
 use Rattle.x25_bits.specs.Stuffing.{unstuff}
 use Rattle.x25_bits.specs.SpanClass.{seven_from, run_from}
-use Rattle.x25_bits.specs.Held.{Held, fresh, up, held_from, held_of, Seen, ends, seen_next, seen_from, seen_of, none_seen}
-use Rattle.x25_bits.specs.Fits.{Fits, HoldsSpan, HoldsOpen, ones_from, inserted_from, behind_last, open_span}
+use Rattle.x25_bits.specs.Held.{fresh, up, held_from, held_of, Seen, ends, seen_next, seen_from, seen_of, none_seen}
+use Rattle.x25_bits.specs.Fits.{Fits, HoldsOpen, ones_from, inserted_from, behind_last, open_span}
 use Rattle.x25_bits.specs.FitsSeen.{FitsSeen}
 use Rattle.x25_bits.specs.declared.deframer.Deframer.{Deframer}
 use Rattle.x25_bits.proofs.SpanSteps.{State, FitsAt, last_or}
@@ -81,8 +81,8 @@ sees s v bits (i ∷ places) fits m =
     let next : suc (last_or i places + 7) ≡ last_or i places + 8 = omega arith in
     let span : drop 1 s.text ≡ drop (last_or i places + 8) bits = ap (drop 1) text ∙ drop_one (last_or i places + 7) bits ∙ ap (λ n. drop n bits) next in
     let whole : v ≡ record { is_open = true; held = held_from fresh (drop (last_or i places + 8) bits) } =
-      m.same ∙ ap (λ o. record { is_open = o; held = held_of s.text }) open_now
-      ∙ ap (λ h. record { is_open = true; held = h }) (span_of_text s.text r.0 r.1 ∙ ap (held_from fresh) span) in
+    m.same ∙ ap (λ o. record { is_open = o; held = held_of s.text }) open_now
+    ∙ ap (λ h. record { is_open = true; held = h }) (span_of_text s.text r.0 r.1 ∙ ap (held_from fresh) span) in
     subst (Sees v) (sym (behind_is bits i places)) whole
 
 sees_all : (bits : List Bool) → Sees (seen_of bits) (open_span bits)

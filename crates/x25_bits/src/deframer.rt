@@ -17,9 +17,10 @@ use std::mem;
 #[cfg(test)]
 mod tests;
 
-/// The fewest and the most bits of a content.
+/// The fewest bits of a content: 4 octets.
 const FEWEST: usize = 32;
 
+/// The most bits of a content: 4,103 octets.
 const MOST: usize = 32_824;
 
 /// The most unstuffed bits that are held: one more than the longest content and the first six bits of a flag.
@@ -29,7 +30,7 @@ const HELD: usize = 32_831;
 #[derive(Debug, Drop)]
 pub struct Deframer {
     scan: Scan,
-    /// The unstuffed bits behind the last flag.
+    /// The unstuffed bits behind the last flag, as long as they can be content.
     kept: Bits,
     alloc: Global,
 }
@@ -166,7 +167,7 @@ impl Deframer {
         span_in(&self.kept)
     }
 
-    /// Begins behind a flag, with the bits of the span that it closed put aside, where none are there.
+    /// Begins behind a flag. The first bits that a call gives up are put aside, so that they can be put back.
     fn reopen(&mut self, aside: &mut Option<Bits>)
         ensures fits { (v : Seen) (b : Bool) → FitsSeen self.old v → ends v b ≡ true → FitsSeen self.new (seen_next v b) }
         ensures undo { unwrap_or aside.new self.new.kept ≡ unwrap_or aside.old self.old.kept }
@@ -181,7 +182,7 @@ impl Deframer {
         *aside = Some(closed);
     }
 
-    /// Puts back what was held before the call: so many of the bits put aside, or else of those that are kept.
+    /// Puts back what was held before a call: so many of the bits put aside, or else of those that are kept.
     fn restore(&mut self, scan: Scan, held: usize, aside: Option<Bits>)
         requires { held ≤ length (unwrap_or aside self.old.kept) }
         ensures scan { self.new.scan ≡ scan }

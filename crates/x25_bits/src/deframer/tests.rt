@@ -176,15 +176,9 @@ fn finds_in_each_cut(rt: HostRuntime) -> Result<(), Fail> {
 #[test]
 fn finds_each_length(rt: HostRuntime) -> Result<(), Fail> {
     let alloc = rt.alloc();
-    for step in 0..12usize {
-        let octets = some_octets(
-            alloc,
-            if step < 11 {
-                4 + step * step * 33
-            } else {
-                4103
-            },
-        )?;
+    for step in 0..93usize {
+        let length = usize::min(4 + 45 * step, 4103);
+        let octets = some_octets(alloc, length)?;
         let mut line = Bits::new(alloc);
         put(octets.as_slice(), &mut line)?;
         for size in [1, 7, 8, 9, 64, 1000, line.len()] {
