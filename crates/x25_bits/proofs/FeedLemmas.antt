@@ -1,14 +1,10 @@
 -- Feeding bit by bit.
-use Rattle.std.proofs.Common.{ℕ, ◌+◌, ◌<◌, ◌≡◌, ◌∙◌, Bool, true, false, ◌||◌, List, [], ◌∷◌, ◌++◌, length, take, drop, refl, ap, sym, append_assoc, get_or}
+use Rattle.std.proofs.Common.{ℕ, ◌+◌, ◌<◌, ◌≡◌, ◌∙◌, Bool, false, List, [], ◌∷◌, ◌++◌, length, take, drop, refl, ap, sym, append_assoc, get_or}
 use Rattle.std.proofs.lemmas.List.{append-nil, take_more}
 use Rattle.std.proofs.Math.Seq.{drop-append_seam}
 use Rattle.x25_bits.specs.SpanClass.{found_of}
 use Rattle.x25_bits.specs.Held.{Seen, seen_next, seen_found, seen_from, found_from, seen_of}
 use Rattle.x25_bits.proofs.FoundLemmas.{found_more, seen-append}
-
-pub or_first : (a b : Bool) → (a || b) ≡ false → a ≡ false
-or_first true b e = e
-or_first false b e = refl
 
 pub seen_more : (v : Seen) (place : ℕ) (bits : List Bool) (b : Bool) → place < length bits → b ≡ get_or bits place false
     → seen_from v (take (place + 1) bits) ≡ seen_next (seen_from v (take place bits)) b

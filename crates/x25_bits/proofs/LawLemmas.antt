@@ -36,16 +36,9 @@ cuts_from_start cuts = cuts_all [] cuts
 behind_flag : Seen
 behind_flag = record { is_open = true; held = fresh }
 
-rest_of_flag : List Bool
-rest_of_flag = true ∷ true ∷ true ∷ true ∷ true ∷ true ∷ false ∷ []
-
-closed_by_rest : (o a i : Bool) (k : List Bool) → seen_from (record { is_open = o; held = record { run = 0; is_aborted = a; is_inserted = i; kept = k } }) rest_of_flag ≡ behind_flag
-unfolding seen_from rest_of_flag behind_flag
-closed_by_rest o a i k = refl
-
 -- any bits and a flag
 flag_ends : (v : Seen) → seen_from v flag ≡ behind_flag
-unfolding seen_from rest_of_flag behind_flag
+unfolding seen_from behind_flag
 flag_ends v = go (ends v false) refl
   where
     go : (t : Bool) → ends v false ≡ t → seen_from v flag ≡ behind_flag

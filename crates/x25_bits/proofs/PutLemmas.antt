@@ -1,5 +1,5 @@
 -- What is put is found.
-use Rattle.std.proofs.Common.{ℕ, zero, suc, ◌+◌, ◌-◌, ◌*◌, ◌/◌, ◌%◌, ◌<◌, ◌≤◌, ◌≡◌, ◌∙◌, Bool, true, false, ◌==◌, nat_eq, bit_and, List, [], ◌∷◌, ◌++◌, length, get_or, drop, refl, ap, sym, arith, append_assoc, add-one, drop-cons}
+use Rattle.std.proofs.Common.{ℕ, zero, suc, ◌+◌, ◌-◌, ◌*◌, ◌/◌, ◌%◌, ◌<◌, ◌≤◌, ◌≡◌, ◌∙◌, Bool, true, false, ◌==◌, nat_eq, bit_and, List, [], ◌∷◌, ◌++◌, length, get_or, refl, ap, sym, arith, append_assoc}
 use Rattle.std.specs.Prelude.{nat_lt}
 use Rattle.std.proofs.lemmas.List.{append-nil, take_all}
 use Rattle.std.proofs.lemmas.Bool.Decides.{nat_tests}
@@ -92,6 +92,3 @@ pub left_bits : (k left : ℕ) (rest : List Bool) → k < 8 → low_bits (8 - k)
 left_bits k left rest h =
     let at : 8 - k ≡ suc (8 - (k + 1)) = omega arith in
     rw (at, low_bits-suc (8 - (k + 1)) left, and_one left) refl
-
-pub left_octets : (i : ℕ) (octets : List ℕ) → i < length octets → bits_of (drop i octets) ≡ low_bits 8 (get_or octets i 0) ++ bits_of (drop (i + 1) octets)
-left_octets i octets h = rw (add-one, drop-cons octets i 0) refl
