@@ -1,12 +1,23 @@
-//! What lies below the frames of X.25: numbers modulo 8 and the frame check sequence.
+//! What lies below the frames of X.25: bits, flags and stuffing, the frame check sequence, and numbers modulo 8.
 #![tactic(auto)]
 
+mod bits;
+mod deframer;
+mod found;
 mod frame_check;
+mod laws;
 mod no_memory;
 mod role;
+mod scan;
 mod seq;
+mod stuffing;
 
+pub use bits::Bits;
+pub use deframer::Deframer;
+pub use found::Found;
 pub use frame_check::{check, fcs, seal};
+pub use laws::{content_stuffs_again, cuts_agree, flag_parts, put_is_found, stuffing_is_undone};
 pub use no_memory::NoMemory;
 pub use role::Role;
 pub use seq::Seq;
+pub use stuffing::put;

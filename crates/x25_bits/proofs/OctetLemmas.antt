@@ -1,0 +1,193 @@
+-- The bits of octets.
+use Rattle.std.proofs.Common.{ℕ, zero, suc, ◌+◌, ◌-◌, ◌*◌, ◌/◌, ◌%◌, ◌^◌, ◌<◌, ◌≤◌, ◌≡◌, ◌∙◌, ◌⊎◌, inl, inr, Bool, true, false, ◌==◌, nat_eq, bit_and, List, [], ◌∷◌, ◌++◌, length, take, drop, get_or, refl, ap, sym, arith, length-append, append_assoc, add-one}
+use Rattle.std.specs.Prelude.{if◌then◌else◌}
+use Rattle.std.specs.Int.{from_bool}
+use Rattle.std.proofs.lemmas.Nat.{one_shl, field_of, mod_below, pow_pos, shr-shr}
+use Rattle.std.proofs.Math.Pow.{mod-mod-pow}
+use Rattle.std.proofs.Math.Nat.{div-one}
+use Rattle.std.proofs.Math.Seq.{take-append-add, take-nil}
+use Rattle.std.proofs.lemmas.List.{take-append-le, get_or-append-add, take_all, length-take-le}
+use Rattle.std.proofs.lemmas.Bool.Decides.{nat_tests}
+use Rattle.std.proofs.Math.ListN.{get_or-append, set}
+use Rattle.x25_bits.specs.Fcs.{bits_of, low_bits, number_of}
+use Rattle.x25_bits.proofs.FcsLemmas.{length-low_bits, and_one}
+use Rattle.x25_bits.specs.SpanClass.{octets_by}
+
+low_bits-snoc : (k n : ℕ) (b : Bool) → n < 2 ^ k → low_bits (suc k) (n + (if b then 2 ^ k else 0)) ≡ low_bits k n ++ b ∷ []
+unfolding low_bits
+low_bits-snoc zero n true h = let none : n ≡ 0 = omega arith in rw none refl
+low_bits-snoc zero n false h = let none : n ≡ 0 = omega arith in rw none refl
+low_bits-snoc (suc k) n true h =
+    let low : (n + 2 ^ suc k) % 2 ≡ n % 2 = omega arith in
+    let high : (n + 2 ^ suc k) / 2 ≡ n / 2 + 2 ^ k = omega arith in
+    rw (low, high) (ap (λ (bits : List Bool). (n % 2 == 1) ∷ bits) (low_bits-snoc k (n / 2) true (omega arith)))
+low_bits-snoc (suc k) n false h =
+    let same : n + 0 ≡ n = omega arith in
+    let again : n / 2 + 0 ≡ n / 2 = omega arith in
+    rw same (ap (λ (bits : List Bool). (n % 2 == 1) ∷ bits) (ap (low_bits (suc k)) (sym again) ∙ low_bits-snoc k (n / 2) false (omega arith)))
+
+low_bits-mod : (k n : ℕ) → low_bits k (n % 2 ^ k) ≡ low_bits k n
+unfolding low_bits
+low_bits-mod zero n = refl
+low_bits-mod (suc k) n =
+    let low : n % 2 ^ suc k % 2 ≡ n % 2 = rw (← add-one k) (mod-mod-pow n k 1) in
+    let high : n % 2 ^ suc k / 2 ≡ n / 2 % 2 ^ k = rw (← add-one k) (field_of n k 1) in
+    rw (low, high) (ap (λ (bits : List Bool). (n % 2 == 1) ∷ bits) (low_bits-mod k (n / 2)))
+
+-- a bit written behind the lowest ones
+bit_written : (k n r : ℕ) (b : Bool) → r ≡ n % 2 ^ k + (if b then 2 ^ k else 0) → low_bits (k + 1) r ≡ low_bits k n ++ b ∷ []
+bit_written k n r b e = rw (add-one, e) (low_bits-snoc k (n % 2 ^ k) b (mod_below n (2 ^ k) (pow_pos k)) ∙ ap (λ bits. bits ++ b ∷ []) (low_bits-mod k n))
+
+pub bit_set : (k n w r : ℕ) (b : Bool) → k < 8 → b ≡ true → w ≡ (1 * 2 ^ k) % 256 → r ≡ n % w + w → low_bits (k + 1) r ≡ low_bits k n ++ b ∷ []
+bit_set k n w r b h t e f = let weight : w ≡ 2 ^ k = e ∙ one_shl k 8 h in rw t (bit_written k n r true (f ∙ ap (λ x. n % x + x) weight))
+
+pub bit_clear : (k n w r : ℕ) (b : Bool) → k < 8 → b ≡ false → w ≡ (1 * 2 ^ k) % 256 → r ≡ n % w → low_bits (k + 1) r ≡ low_bits k n ++ b ∷ []
+bit_clear k n w r b h t e f = let weight : w ≡ 2 ^ k = e ∙ one_shl k 8 h in let same : n % 2 ^ k ≡ n % 2 ^ k + 0 = omega arith in rw t (bit_written k n r false (f ∙ ap (λ x. n % x) weight ∙ same))
+
+take_low : (j k n : ℕ) → j ≤ k → take j (low_bits k n) ≡ low_bits j n
+unfolding low_bits
+take_low zero k n h = refl
+take_low (suc j) zero n h = absurd (omega arith)
+take_low (suc j) (suc k) n h = ap (λ (bits : List Bool). (n % 2 == 1) ∷ bits) (take_low j k (n / 2) (omega arith))
+
+take_first : (j o : ℕ) (rest : List Bool) → j ≤ 8 → take j (low_bits 8 o ++ rest) ≡ low_bits j o
+take_first j o rest h =
+    let size = length-low_bits 8 o in
+    take-append-le j (low_bits 8 o) rest (omega arith) ∙ take_low j 8 o h
+
+take_behind : (n o : ℕ) (rest : List Bool) → take (8 + n) (low_bits 8 o ++ rest) ≡ low_bits 8 o ++ take n rest
+take_behind n o rest = ap (λ k. take (k + n) (low_bits 8 o ++ rest)) (sym (length-low_bits 8 o)) ∙ take-append-add (low_bits 8 o) rest n
+
+pub length-bits_of : (octets : List ℕ) → length (bits_of octets) ≡ 8 * length octets
+length-bits_of [] = refl
+length-bits_of (o ∷ octets) = length-append (low_bits 8 o) (bits_of octets) ∙ (let a = length-low_bits 8 o in let b = length-bits_of octets in omega arith)
+
+-- the bits before a bit that is written into an octet, and that bit
+pub bits_written : (i k y : ℕ) (b : Bool) (octets : List ℕ) → i < length octets → k < 8 → low_bits (k + 1) y ≡ low_bits k (get_or octets i 0) ++ b ∷ []
+    → take (8 * i + k + 1) (bits_of (set octets i y)) ≡ take (8 * i + k) (bits_of octets) ++ b ∷ []
+bits_written i k y b [] h s e = absurd (omega arith)
+bits_written zero k y b (o ∷ octets) h s e =
+    let here : 8 * 0 + k ≡ k = omega arith in
+    rw (here, take_first (k + 1) y (bits_of octets) (omega arith), take_first k o (bits_of octets) (omega arith)) e
+bits_written (suc i) k y b (o ∷ octets) h s e =
+    let new : 8 * suc i + k + 1 ≡ 8 + (8 * i + k + 1) = omega arith in
+    let old : 8 * suc i + k ≡ 8 + (8 * i + k) = omega arith in
+    rw (new, old, take_behind (8 * i + k + 1) o (bits_of (set octets i y)), take_behind (8 * i + k) o (bits_of octets), bits_written i k y b octets (omega arith) s e)
+    (sym (append_assoc (low_bits 8 o) (take (8 * i + k) (bits_of octets)) (b ∷ [])))
+
+one_more : (j : ℕ) → 1 + j ≡ suc j
+one_more j = omega arith
+
+bits_of-append : (a b : List ℕ) → bits_of (a ++ b) ≡ bits_of a ++ bits_of b
+bits_of-append [] b = refl
+bits_of-append (o ∷ a) b = ap (λ l. low_bits 8 o ++ l) (bits_of-append a b) ∙ sym (append_assoc (low_bits 8 o) (bits_of a) (bits_of b))
+
+pub place_written : (place y : ℕ) (b : Bool) (octets : List ℕ) → place / 8 < length octets → low_bits (place % 8 + 1) y ≡ low_bits (place % 8) (get_or octets (place / 8) 0) ++ b ∷ []
+    → take (place + 1) (bits_of (set octets (place / 8) y)) ≡ take place (bits_of octets) ++ b ∷ []
+place_written place y b octets h e =
+    let at : 8 * (place / 8) + place % 8 ≡ place = omega arith in
+    let small : place % 8 < 8 = omega arith in
+    ap (λ n. take (n + 1) (bits_of (set octets (place / 8) y))) (sym at) ∙ bits_written (place / 8) (place % 8) y b octets h small e
+    ∙ ap (λ n. take n (bits_of octets) ++ b ∷ []) at
+
+pub place_pushed : (place v : ℕ) (b : Bool) (octets after : List ℕ) → place ≡ 8 * length octets → (v % 2 == 1) ≡ b → after ≡ octets ++ v ∷ []
+    → take (place + 1) (bits_of after) ≡ take place (bits_of octets) ++ b ∷ []
+unfolding low_bits
+place_pushed place v b octets after h e a =
+    let size : place ≡ length (bits_of octets) = h ∙ sym (length-bits_of octets) in
+    rw (a, bits_of-append octets (v ∷ [])) (ap (λ n. take (n + 1) (bits_of octets ++ bits_of (v ∷ []))) size
+    ∙ take-append-add (bits_of octets) (bits_of (v ∷ [])) 1
+    ∙ ap (λ l. bits_of octets ++ l) (take_first 1 v [] (omega arith) ∙ ap (λ x. x ∷ []) e)
+    ∙ ap (λ l. l ++ b ∷ []) (sym (take_all place (bits_of octets) (omega arith))))
+
+pub one_bit : (b : Bool) (v : ℕ) → v ≡ from_bool b → (v % 2 == 1) ≡ b
+one_bit true v e = rw e refl
+one_bit false v e = rw e refl
+
+low_bits_at : (j k n : ℕ) → j < k → get_or (low_bits k n) j false ≡ (n / 2 ^ j % 2 == 1)
+unfolding low_bits
+low_bits_at j zero n h = absurd (omega arith)
+low_bits_at zero (suc k) n h = let same : n / 1 ≡ n = div-one n in rw same refl
+low_bits_at (suc j) (suc k) n h =
+    let next : n / 2 / 2 ^ j ≡ n / 2 ^ suc j = shr-shr n 1 j ∙ ap (λ k. n / 2 ^ k) (one_more j) in
+    low_bits_at j k (n / 2) (omega arith) ∙ ap (λ q. q % 2 == 1) next
+
+-- the bit at a place of the octets
+pub bit_at_place : (i j : ℕ) (octets : List ℕ) → i < length octets → j < 8 → get_or (bits_of octets) (8 * i + j) false ≡ (get_or octets i 0 / 2 ^ j % 2 == 1)
+bit_at_place i j [] h s = absurd (omega arith)
+bit_at_place zero j (o ∷ octets) h s =
+    let here : 8 * 0 + j ≡ j = omega arith in
+    let size = length-low_bits 8 o in
+    ap (λ n. get_or (low_bits 8 o ++ bits_of octets) n false) here ∙ get_or-append (low_bits 8 o) (bits_of octets) false j (omega arith) ∙ low_bits_at j 8 o s
+bit_at_place (suc i) j (o ∷ octets) h s =
+    let size = length-low_bits 8 o in
+    let there : 8 * suc i + j ≡ length (low_bits 8 o) + (8 * i + j) = omega arith in
+    ap (λ n. get_or (low_bits 8 o ++ bits_of octets) n false) there ∙ get_or-append-add (low_bits 8 o) (bits_of octets) (8 * i + j) false ∙ bit_at_place i j octets (omega arith) s
+
+-- the bit at a place, as the code reads it
+pub bit_read : (place : ℕ) (octets : List ℕ) → place < 8 * length octets
+    → nat_eq (bit_and (get_or octets (place / 8) 0 / 2 ^ (place % 8)) 1) 1 ≡ get_or (bits_of octets) place false
+bit_read place octets h =
+    let at : 8 * (place / 8) + place % 8 ≡ place = omega arith in
+    ap (λ n. nat_eq n 1) (and_one (get_or octets (place / 8) 0 / 2 ^ (place % 8)))
+    ∙ sym (bit_at_place (place / 8) (place % 8) octets (omega arith) (omega arith))
+    ∙ ap (λ n. get_or (bits_of octets) n false) at
+
+parity : (a : ℕ) → (a % 2 ≡ 0) ⊎ (a % 2 ≡ 1)
+parity a = grind arith
+
+number_of-low_bits : (k n : ℕ) → n < 2 ^ k → number_of (low_bits k n) ≡ n
+unfolding low_bits number_of
+number_of-low_bits zero n h = omega arith
+number_of-low_bits (suc k) n h =
+    let rest = number_of-low_bits k (n / 2) (omega arith) in
+    elim (parity n) [
+      | inl x ↦ rw (x, rest) (omega arith)
+      | inr x ↦ rw (x, rest) (omega arith)
+    ]
+
+-- the octets of octets' bits
+pub octets_by-bits_of : (n : ℕ) (octets : List ℕ) → ((k : ℕ) → get_or octets k 0 < 256) → n ≤ length octets → octets_by n (bits_of octets) ≡ take n octets
+unfolding octets_by low_bits
+octets_by-bits_of zero octets h s = refl
+octets_by-bits_of (suc n) [] h s = absurd (omega arith)
+octets_by-bits_of (suc n) (o ∷ octets) h s =
+    let first : number_of (low_bits 8 o) ≡ o = number_of-low_bits 8 o (h 0) in
+    let rest = octets_by-bits_of n octets (λ k. h (suc k)) (omega arith) in
+    rw rest (ap (λ x. x ∷ take n octets) first)
+
+take_both : (i k : ℕ) (bits : List Bool) → i ≤ k → take i (take k bits) ≡ take i bits
+take_both zero k bits h = refl
+take_both (suc i) zero bits h = absurd (omega arith)
+take_both (suc i) (suc k) [] h = refl
+take_both (suc i) (suc k) (b ∷ bits) h = ap (λ (l : List Bool). b ∷ l) (take_both i k bits (omega arith))
+
+drop_taken : (i k : ℕ) (bits : List Bool) → drop i (take (i + k) bits) ≡ take k (drop i bits)
+drop_taken zero k bits = let same : 0 + k ≡ k = omega arith in ap (λ n. take n bits) same
+drop_taken (suc i) k [] = rw (take-nil (suc i + k), take-nil k) refl
+drop_taken (suc i) k (b ∷ bits) = let more : suc i + k ≡ suc (i + k) = omega arith in rw more (drop_taken i k bits)
+
+-- whole octets want no bits behind them
+pub octets_by-take : (m n : ℕ) (bits : List Bool) → 8 * m ≤ n → octets_by m (take n bits) ≡ octets_by m bits
+unfolding octets_by
+octets_by-take zero n bits h = refl
+octets_by-take (suc m) n bits h =
+    let split : n ≡ 8 + (n - 8) = omega arith in
+    let first : take 8 (take n bits) ≡ take 8 bits = take_both 8 n bits (omega arith) in
+    let rest : drop 8 (take n bits) ≡ take (n - 8) (drop 8 bits) = ap (λ k. drop 8 (take k bits)) split ∙ drop_taken 8 (n - 8) bits in
+    rw (first, rest, octets_by-take m (n - 8) (drop 8 bits) (omega arith)) refl
+
+-- the octets that the first bits fill
+pub octets_filled : (count : ℕ) (octets : List ℕ) → ((k : ℕ) → get_or octets k 0 < 256) → count ≤ 8 * length octets → take (count / 8) octets ≡ octets_by (count / 8) (take count (bits_of octets))
+octets_filled count octets h s = sym (octets_by-take (count / 8) count (bits_of octets) (omega arith) ∙ octets_by-bits_of (count / 8) octets h (omega arith))
+
+-- as many bits as are seen
+pub count_is : (count : ℕ) (octets : List ℕ) (bits : List Bool) → count ≤ 8 * length octets → take count (bits_of octets) ≡ bits → count ≡ length bits
+count_is count octets bits h e = let all = length-bits_of octets in let size = length-take-le count (bits_of octets) (omega arith) in sym size ∙ ap length e
+
+pub none_seen : (count : ℕ) (bits : List Bool) → count ≡ length bits → (count == 0) ≡ true → bits ≡ []
+none_seen count [] e h = refl
+none_seen count (b ∷ bits) e h = absurd (grind (arith, nat_tests))
+
+pub zero_seen : (count : ℕ) (bits : List Bool) → count ≡ length bits → bits ≡ [] → (count == 0) ≡ true
+zero_seen count bits e h = rw (e, h) refl

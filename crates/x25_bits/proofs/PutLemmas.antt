@@ -1,0 +1,94 @@
+-- What is put is found.
+use Rattle.std.proofs.Common.{ℕ, zero, suc, ◌+◌, ◌-◌, ◌*◌, ◌/◌, ◌%◌, ◌<◌, ◌≤◌, ◌≡◌, ◌∙◌, Bool, true, false, ◌==◌, nat_eq, bit_and, List, [], ◌∷◌, ◌++◌, length, get_or, refl, ap, sym, arith, append_assoc}
+use Rattle.std.specs.Prelude.{nat_lt}
+use Rattle.std.proofs.lemmas.List.{append-nil, take_all}
+use Rattle.std.proofs.lemmas.Bool.Decides.{nat_tests}
+use Rattle.x25_bits.specs.Spans.{places_below, between, flag}
+use Rattle.x25_bits.specs.Fcs.{bits_of, low_bits}
+use Rattle.x25_bits.proofs.FcsLemmas.{and_one, low_bits-suc}
+use Rattle.x25_bits.specs.SpanClass.{Content, class_by, found_of, octets_by}
+use Rattle.x25_bits.specs.Stuffing.{stuffed_from, framed}
+use Rattle.x25_bits.specs.Held.{kept_found, Seen, none_seen, closing, seen_from, found_from}
+use Rattle.x25_bits.proofs.FoundLemmas.{found_more}
+use Rattle.x25_bits.proofs.ClosingLemmas.{by_kept, kept_six}
+use Rattle.x25_bits.proofs.OctetLemmas.{length-bits_of, octets_by-bits_of}
+
+abbrev opening : ℕ → Bool → List Bool → Seen
+opening r i k = record { is_open = true; held = record { run = r; is_aborted = false; is_inserted = i; kept = k } }
+
+closed_by_flag : (r : ℕ) (i : Bool) (k : List Bool) → r ≤ 4 → found_from (opening r i k) flag ≡ by_kept k
+unfolding found_from closing kept_found
+closed_by_flag zero i k h = append-nil _ ∙ kept_six k
+closed_by_flag (suc zero) i k h = append-nil _ ∙ kept_six k
+closed_by_flag (suc (suc zero)) i k h = append-nil _ ∙ kept_six k
+closed_by_flag (suc (suc (suc zero))) i k h = append-nil _ ∙ kept_six k
+closed_by_flag (suc (suc (suc (suc zero)))) i k h = append-nil _ ∙ kept_six k
+closed_by_flag (suc (suc (suc (suc (suc n))))) i k h = absurd (omega arith)
+
+kept_so : (k : List Bool) (b : Bool) (p : List Bool) → by_kept ((k ++ b ∷ []) ++ p) ≡ by_kept (k ++ b ∷ p)
+kept_so k b p = ap by_kept (append_assoc k (b ∷ []) p)
+
+stuffed_found : (r : ℕ) (i : Bool) (k p : List Bool) → r ≤ 4 → found_from (opening r i k) (stuffed_from r p ++ flag) ≡ by_kept (k ++ p)
+unfolding found_from stuffed_from
+stuffed_found r i k [] h = closed_by_flag r i k h ∙ ap by_kept (sym (append-nil k))
+stuffed_found zero i k (false ∷ p) h = stuffed_found 0 false (k ++ false ∷ []) p (omega arith) ∙ kept_so k false p
+stuffed_found (suc zero) i k (false ∷ p) h = stuffed_found 0 false (k ++ false ∷ []) p (omega arith) ∙ kept_so k false p
+stuffed_found (suc (suc zero)) i k (false ∷ p) h = stuffed_found 0 false (k ++ false ∷ []) p (omega arith) ∙ kept_so k false p
+stuffed_found (suc (suc (suc zero))) i k (false ∷ p) h = stuffed_found 0 false (k ++ false ∷ []) p (omega arith) ∙ kept_so k false p
+stuffed_found (suc (suc (suc (suc zero)))) i k (false ∷ p) h = stuffed_found 0 false (k ++ false ∷ []) p (omega arith) ∙ kept_so k false p
+stuffed_found (suc (suc (suc (suc (suc n))))) i k (false ∷ p) h = absurd (omega arith)
+stuffed_found zero i k (true ∷ p) h = stuffed_found 1 i (k ++ true ∷ []) p (omega arith) ∙ kept_so k true p
+stuffed_found (suc zero) i k (true ∷ p) h = stuffed_found 2 i (k ++ true ∷ []) p (omega arith) ∙ kept_so k true p
+stuffed_found (suc (suc zero)) i k (true ∷ p) h = stuffed_found 3 i (k ++ true ∷ []) p (omega arith) ∙ kept_so k true p
+stuffed_found (suc (suc (suc zero))) i k (true ∷ p) h = stuffed_found 4 i (k ++ true ∷ []) p (omega arith) ∙ kept_so k true p
+stuffed_found (suc (suc (suc (suc zero)))) i k (true ∷ p) h = stuffed_found 0 true (k ++ true ∷ []) p (omega arith) ∙ kept_so k true p
+stuffed_found (suc (suc (suc (suc (suc n))))) i k (true ∷ p) h = absurd (omega arith)
+
+opened : (more : List Bool) → found_from none_seen (flag ++ more) ≡ found_from (opening 0 false []) more
+unfolding found_from
+opened more = refl
+
+pub found_at_start : (bits : List Bool) → found_of bits ≡ found_from none_seen bits
+unfolding seen_from places_below between
+found_at_start bits = found_more [] bits
+
+class_content : (octets : List ℕ) → ((k : ℕ) → get_or octets k 0 < 256) → 4 ≤ length octets → length octets ≤ 4103 → by_kept (bits_of octets) ≡ Content octets ∷ []
+unfolding class_by
+class_content octets small low high =
+    let n = length octets in
+    let size = length-bits_of octets in
+    let a : nat_lt 0 (8 * n) ≡ true = grind (arith, nat_tests) in
+    let b : nat_lt (8 * n) 32 ≡ false = grind (arith, nat_tests) in
+    let d : nat_lt 32824 (8 * n) ≡ false = grind (arith, nat_tests) in
+    let e : 8 * n % 8 ≡ 0 = omega arith in
+    let f : 8 * n / 8 ≡ n = omega arith in
+    let all : octets_by n (bits_of octets) ≡ octets = octets_by-bits_of n octets small (omega arith) ∙ take_all n octets (omega arith) in
+    rw (size, a, b, d, e, f, all) refl
+
+pub put_found : (octets : List ℕ) → ((k : ℕ) → get_or octets k 0 < 256) → 4 ≤ length octets → length octets ≤ 4103 → found_of (framed octets) ≡ Content octets ∷ []
+put_found octets small low high =
+    found_at_start (framed octets)
+    ∙ ap (found_from none_seen) (append_assoc flag (stuffed_from 0 (bits_of octets)) flag)
+    ∙ opened (stuffed_from 0 (bits_of octets) ++ flag)
+    ∙ stuffed_found 0 false [] (bits_of octets) (omega arith)
+    ∙ class_content octets small low high
+
+-- ---- steps of the code
+
+pub stuffs_zero : (run : ℕ) (old new rest : List Bool) → new ≡ old ++ false ∷ [] → new ++ stuffed_from 0 rest ≡ old ++ stuffed_from run (false ∷ rest)
+unfolding stuffed_from
+stuffs_zero run old new rest e = rw e (append_assoc old (false ∷ []) (stuffed_from 0 rest))
+
+pub stuffs_one : (run : ℕ) (old new rest : List Bool) → run < 4 → new ≡ old ++ true ∷ [] → new ++ stuffed_from (run + 1) rest ≡ old ++ stuffed_from run (true ∷ rest)
+unfolding stuffed_from
+stuffs_one run old new rest h e = let t : (run == 4) ≡ false = grind (arith, nat_tests) in rw (e, t) (append_assoc old (true ∷ []) (stuffed_from (run + 1) rest))
+
+pub stuffs_five : (run : ℕ) (old mid new rest : List Bool) → run ≡ 4 → mid ≡ old ++ true ∷ [] → new ≡ mid ++ false ∷ []
+    → new ++ stuffed_from 0 rest ≡ old ++ stuffed_from run (true ∷ rest)
+unfolding stuffed_from
+stuffs_five run old mid new rest h e f = rw (f, e, h) (append_assoc (old ++ true ∷ []) (false ∷ []) (stuffed_from 0 rest) ∙ append_assoc old (true ∷ []) (false ∷ stuffed_from 0 rest))
+
+pub left_bits : (k left : ℕ) (rest : List Bool) → k < 8 → low_bits (8 - k) left ++ rest ≡ nat_eq (bit_and left 1) 1 ∷ (low_bits (8 - (k + 1)) (left / 2) ++ rest)
+left_bits k left rest h =
+    let at : 8 - k ≡ suc (8 - (k + 1)) = omega arith in
+    rw (at, low_bits-suc (8 - (k + 1)) left, and_one left) refl

@@ -1,0 +1,13 @@
+use Rattle.std.proofs.Common.{◌∙◌, ◌/◌, ap, take}
+use Rattle.x25_bits.specs.Fcs.{bits_of}
+use Rattle.x25_bits.specs.SpanClass.{octets_by}
+use Rattle.x25_bits.proofs.OctetLemmas.{count_is}
+use Rattle.x25_bits.proofs.bits.Bits.whole_octets.Goals as goal
+
+pub returns : goal.returns
+returns c =
+    let size = count_is c.self.inside.count c.self.inside.octets.items c.args.self.now c.self.invariant c.self.view_is in
+    c.whole_octets.ensures
+    ∙ ap (λ octets. octets_by (c.self.inside.count / 8) (take c.self.inside.count (bits_of octets))) c.as_slice.ensures.value
+    ∙ ap (octets_by (c.self.inside.count / 8)) c.self.view_is
+    ∙ ap (λ n. octets_by (n / 8) c.args.self.now) size

@@ -1,0 +1,139 @@
+ghost use Rattle.std.specs.Prelude.{ℕ, ◌≡◌, ◌+◌, ◌*◌, ◌/◌, ◌%◌, ◌<◌, ◌≤◌, ◌++◌, ◌∷◌, [], ◌==◌, ◌↔◌, Bool, List, false, length, take, IsTrue, OnOk, OnErr, slice_get, slice_index, slice_index_or};
+ghost use Rattle.x25_bits.specs.Fcs.{bits_of, low_bits};
+ghost use Rattle.x25_bits.specs.SpanClass.{octets_by, octets_of};
+
+use crate::no_memory::NoMemory;
+use std::alloc::Global;
+use std::marker::Model;
+
+/// A list of bits, kept eight in an octet.
+#[derive(Debug, Drop)]
+pub struct Bits {
+    octets: Vec<u8>,
+    count: usize,
+}
+
+impl Model for Bits {
+    ghost use Rattle.std.specs.Prelude.{◌≤◌, ◌*◌, Bool, List, length, take};
+    ghost use Rattle.x25_bits.specs.Fcs.{bits_of};
+
+    ghost Value = { List Bool };
+
+    ghost view = { λ b. take b.count (bits_of b.octets.items) };
+
+    ghost invariant = { λ b. b.count ≤ 8 * length b.octets.items };
+}
+
+impl Bits {
+    /// No bits.
+    pub fn new(alloc: Global) -> Bits
+        ensures { result ≡ [] }
+    {
+        Bits {
+            octets: Vec::new(alloc),
+            count: 0,
+        }
+    }
+
+    /// Appends a bit. Error 70 where there is no memory for it, or as many as `usize::MAX` bits are there.
+    pub fn push(&mut self, bit: bool) -> Result<(), NoMemory>
+        ensures ok { OnOk result (self.new ≡ self.old ++ bit ∷ []) }
+        ensures err { OnErr result (self.new ≡ self.old) }
+    {
+        let Some(count) = self.count.checked_add(1) else {
+            return Err(NoMemory);
+        };
+        write_bit(&mut self.octets, self.count, bit)?;
+        self.count = count;
+        Ok(())
+    }
+
+    /// The number of bits.
+    pub fn len(&self) -> usize
+        ensures { result ≡ length self.now }
+    {
+        self.count
+    }
+
+    pub fn is_empty(&self) -> bool
+        ensures { IsTrue result ↔ (self.now ≡ []) }
+    {
+        self.count == 0
+    }
+
+    /// The bit at a place, counted from 0, where there is one.
+    pub fn get(&self, place: usize) -> Option<bool>
+        ensures { result ≡ slice_get self.now place }
+    {
+        if place < self.len() {
+            Some(self.bit(place))
+        } else {
+            None
+        }
+    }
+
+    /// The bit at a place.
+    pub(crate) fn bit(&self, place: usize) -> bool
+        requires { place < length self.now }
+        ensures { result ≡ slice_index_or self.now place false }
+    {
+        read_bit(self.octets.as_slice(), place)
+    }
+
+    /// Drops all bits but the first `count`.
+    pub(crate) fn truncate(&mut self, count: usize)
+        requires { count ≤ length self.old }
+        ensures { self.new ≡ take count self.old }
+    {
+        self.count = count;
+    }
+
+    /// The whole octets of the bits, each lowest bit first.
+    pub(crate) fn whole_octets(&self) -> &[u8]
+        ensures { result.now ≡ octets_of self.now }
+    {
+        whole_octets(self.octets.as_slice(), self.count)
+    }
+}
+
+/// The octet whose lowest `size` bits are those of this one, with a bit behind them.
+fn with_bit(octet: u8, size: usize, bit: bool) -> u8
+    requires { size < 8 }
+    ensures { low_bits (size + 1) result ≡ low_bits size octet ++ bit ∷ [] }
+{
+    let weight = 1u8 << size;
+    let below = octet % weight;
+    if bit { below + weight } else { below }
+}
+
+/// Writes a bit behind the first `place` bits of the octets, which grow where all of their bits come before.
+fn write_bit(octets: &mut Vec<u8>, place: usize, bit: bool) -> Result<(), NoMemory>
+    requires { place ≤ 8 * length octets.old.items }
+    ensures ok { OnOk result (take (place + 1) (bits_of octets.new.items) ≡ take place (bits_of octets.old.items) ++ bit ∷ []) }
+    ensures room { OnOk result (place + 1 ≤ 8 * length octets.new.items) }
+    ensures err { OnErr result (octets.new.items ≡ octets.old.items) }
+{
+    let at = place / 8;
+    if at == octets.len() {
+        octets.push(u8::from(bit))?;
+        return Ok(());
+    }
+    octets[at] = with_bit(octets[at], place % 8, bit);
+    Ok(())
+}
+
+/// The bit at a place of the octets' bits.
+fn read_bit(octets: &[u8], place: usize) -> bool
+    requires { place < 8 * length octets.now }
+    ensures { result ≡ slice_index_or (bits_of octets.now) place false }
+{
+    octets[place / 8] >> (place % 8) & 1 == 1
+}
+
+/// The octets that the first `count` bits fill.
+fn whole_octets(octets: &[u8], count: usize) -> &[u8]
+    requires { count ≤ 8 * length octets.now }
+    ensures { result.now ≡ octets_by (count / 8) (take count (bits_of octets.now)) }
+{
+    &octets[..count / 8]
+}

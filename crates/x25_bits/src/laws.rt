@@ -1,0 +1,37 @@
+//! Laws of flags, spans and stuffing. Each is the contract of a function that does nothing.
+ghost use Rattle.std.specs.Prelude.{ℕ, ◌≡◌, ◌<◌, ◌≤◌, ◌++◌, ◌∷◌, [], All, Bool, List, length};
+ghost use Rattle.std.specs.List.{flat_map};
+ghost use Rattle.x25_bits.specs.Begins.{Begins};
+ghost use Rattle.x25_bits.specs.Cuts.{found_by_cuts};
+ghost use Rattle.x25_bits.specs.Fcs.{bits_of};
+ghost use Rattle.x25_bits.specs.SpanClass.{Content, class_of, found_of};
+ghost use Rattle.x25_bits.specs.Spans.{flag, spans_of};
+ghost use Rattle.x25_bits.specs.Stuffing.{framed, stuff, unstuff};
+
+/// What is found in the bits so far stays found, and any cuts together find what their bits do as a whole.
+pub fn cuts_agree()
+    ensures begins { (before more : List Bool) → Begins (found_of before) (found_of (before ++ more)) }
+    ensures cuts { (cuts : List (List Bool)) → found_by_cuts [] cuts ≡ found_of (flat_map (λ cut. cut) cuts) }
+    ensures later { (before : List Bool) (cuts : List (List Bool)) → found_of before ++ found_by_cuts before cuts ≡ found_of (before ++ flat_map (λ cut. cut) cuts) }
+{}
+
+/// A flag parts the bits: what is found before it and behind it is found in all.
+pub fn flag_parts()
+    ensures { (before more : List Bool) → found_of (before ++ flag ++ more) ≡ found_of (before ++ flag) ++ found_of (flag ++ more) }
+{}
+
+/// Unstuffing gives the bits that were stuffed.
+pub fn stuffing_is_undone()
+    ensures { (bits : List Bool) → unstuff (stuff bits) ≡ bits }
+{}
+
+/// The content of a span, stuffed again, is the span.
+pub fn content_stuffs_again()
+    ensures { (bits : List Bool) → All (λ span. (octets : List ℕ) → class_of span ≡ Content octets → stuff (bits_of octets) ≡ span) (spans_of bits) }
+{}
+
+/// What is put is found, behind any bits: the one content between its flags is that of the octets.
+pub fn put_is_found()
+    ensures { (before : List Bool) (octets : List ℕ) → All (λ octet. octet < 256) octets → 4 ≤ length octets → length octets ≤ 4103
+        → found_of (before ++ framed octets) ≡ found_of (before ++ flag) ++ Content octets ∷ [] }
+{}
