@@ -1,0 +1,5 @@
+pub mod Text
+pub mod Lines
+pub mod Decoded
+pub mod Written
+pub mod Stream

@@ -1,0 +1,13 @@
+//! X.25 on lines of text.
+#![tactic(auto)]
+
+mod answer;
+mod decode_lines;
+mod decoder;
+mod device;
+mod fault;
+mod frame_text;
+mod lines;
+mod text;
+
+fn main() {}
