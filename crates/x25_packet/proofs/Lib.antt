@@ -1,0 +1,4 @@
+pub mod DigitLemmas
+pub mod FacilityLaws
+pub mod AddressLaws
+pub mod PacketLaws
