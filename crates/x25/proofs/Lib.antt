@@ -1,3 +1,4 @@
+pub mod FacilityLength
 pub mod DigitLemmas
 pub mod ResultLemmas
 pub mod KnownLemmas

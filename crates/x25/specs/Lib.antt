@@ -1,3 +1,5 @@
+pub mod OctetText
+pub mod PacketText
 pub mod Text
 pub mod Lines
 pub mod Decoded

@@ -4,13 +4,15 @@ ghost use Rattle.std.specs.List.{flat_map};
 ghost use Rattle.x25_frame.specs.PlainFrame.{plain};
 ghost use Rattle.x25_frame.specs.Spelling.{IsWithin, bit, information_of};
 ghost use Rattle.x25_frame.specs.Text.{fault_text, octet_text, supervisory_text, why_text};
-ghost use Rattle.x25.specs.Text.{information_text, whole_text};
+ghost use Rattle.x25.specs.PacketText.{information_text};
+ghost use Rattle.x25.specs.Text.{whole_text};
 
+use crate::packet_text::push_information;
 use crate::text::Text;
 use x25_frame::{Frame, FrameError, Seq};
 
 /// Appends a label and then a bit.
-fn push_bit(label: &[u8], is_set: bool, text: &mut Text)
+pub fn push_bit(label: &[u8], is_set: bool, text: &mut Text)
     requires room { length text.old + (length label.now + 1) ≤ 65536 }
     ensures text { text.new ≡ text.old ++ (label.now ++ decimal (bit is_set)) }
     ensures size { length text.new ≡ length text.old + (length label.now + 1) }
@@ -20,7 +22,7 @@ fn push_bit(label: &[u8], is_set: bool, text: &mut Text)
 }
 
 /// Appends a label and then a sequence number.
-fn push_number(label: &[u8], number: Seq, text: &mut Text)
+pub fn push_number(label: &[u8], number: Seq, text: &mut Text)
     requires room { length text.old + (length label.now + 1) ≤ 65536 }
     ensures text { text.new ≡ text.old ++ (label.now ++ decimal number.number) }
     ensures size { length text.new ≡ length text.old + (length label.now + 1) }
@@ -55,18 +57,8 @@ fn push_labelled(label: &[u8], octets: &[u8], text: &mut Text)
     text.push_hexadecimal(octets);
 }
 
-/// Appends the information of an I frame.
-fn push_information(information: &[u8], text: &mut Text)
-    requires few { length information.now ≤ 4103 }
-    requires room { length text.old + (2 * length information.now + 1) ≤ 65536 }
-    ensures text { text.new ≡ text.old ++ information_text information.now }
-    ensures size { length text.new ≤ length text.old + (2 * length information.now + 1) }
-{
-    text.push_octets(information);
-}
-
 fn push_info(ns: Seq, nr: Seq, p: bool, information: &[u8], text: &mut Text)
-    requires few { length information.now ≤ 4103 }
+    requires few { length information.now ≤ 4099 }
     requires room { length text.old + 8300 ≤ 65536 }
     ensures text { text.new ≡ text.old ++ (codes "I cmd P=" ++ decimal (bit p) ++ codes " S=" ++ decimal ns.number
         ++ codes " R=" ++ decimal nr.number ++ codes " | " ++ information_text information.now) }

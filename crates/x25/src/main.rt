@@ -8,6 +8,7 @@ mod device;
 mod fault;
 mod frame_text;
 mod lines;
+mod packet_text;
 mod text;
 
 fn main() {}

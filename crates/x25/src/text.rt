@@ -2,8 +2,9 @@
 ghost use Rattle.std.specs.Prelude.{◌≡◌, ◌↔◌, ◌+◌, ◌*◌, ◌≤◌, ◌<◌, ◌++◌, [], ℕ, List, IfOk, IsTrue, length, decimal, vec_capacity};
 ghost use Rattle.std.specs.List.{flat_map};
 ghost use Rattle.x25_frame.specs.Text.{octet_text};
-ghost use Rattle.x25.specs.Text.{octets_text};
+ghost use Rattle.x25.specs.OctetText.{octets_text};
 
+use itoa::Buffer;
 use std::alloc::{AllocError, Global};
 use std::marker::Model;
 
@@ -78,6 +79,16 @@ impl Text {
         ensures size { length self.new ≡ length self.old + 1 }
     {
         self.push(&[b'0' + number]);
+    }
+
+    /// Appends a number in decimal.
+    pub fn push_decimal(&mut self, number: u16)
+        requires room { length self.old + 5 ≤ 65536 }
+        ensures text { self.new ≡ self.old ++ decimal number }
+        ensures size { length self.new ≤ length self.old + 5 }
+    {
+        let mut buffer = Buffer::new();
+        self.push(buffer.format(number).as_bytes());
     }
 
     /// Appends the octets as hexadecimal digits, two for each.
