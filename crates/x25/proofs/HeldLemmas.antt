@@ -84,9 +84,10 @@ hold_fits n begun line part long e l small = go (nat_lt n (length begun)) refl
         let whole : line ≡ begun = short_of n begun line long e l (l ∙ is) in
         let sizes : length line ≡ length begun = ap length whole in
         let fits : length begun ≤ n = ltb-false n (length begun) is in
-        let sum : length (begun ++ part) ≡ length begun + length part = sum_length begun part in
-        (ap (λ x. x ++ part) whole ∙ sym (take_fits n begun part (omega (arith, sizes, small, fits))),
-         l ∙ is ∙ sym (le-ltb n (length (begun ++ part)) (omega (arith, sizes, small, fits, sum))))
+        let sum : length (begun ++ part) ≡ length begun + length part = sum_length begun part in (
+          ap (λ x. x ++ part) whole ∙ sym (take_fits n begun part (omega (arith, sizes, small, fits))),
+          l ∙ is ∙ sym (le-ltb n (length (begun ++ part)) (omega (arith, sizes, small, fits, sum))),
+        )
 
 pub hold_over : (n : ℕ) (begun line part : List ℕ) (long : Bool) → line ≡ take n begun → long ≡ nat_lt n (length begun) → n - length line < length part
     → (line ++ take (n - length line) part ≡ take n (begun ++ part)) × (true ≡ nat_lt n (length (begun ++ part)))
@@ -101,13 +102,14 @@ hold_over n begun line part long e l big = go (nat_lt n (length begun)) refl
     go : (b : Bool) → nat_lt n (length begun) ≡ b → (line ++ take (n - length line) part ≡ take n (begun ++ part)) × (true ≡ nat_lt n (length (begun ++ part)))
     go true is =
         let more : n < length begun = ltb-true n (length begun) is in
-        let full : n - length line ≡ 0 = omega (arith, size, more, long_take n begun (under n (length begun) is)) in
-        (ap (λ k. line ++ take k part) full ∙ append-nil line ∙ e ∙ sym (take-append-le n begun part (under n (length begun) is)),
-         sym (lt-ltb n (length (begun ++ part)) (omega (arith, more, sum))))
+        let full : n - length line ≡ 0 = omega (arith, size, more, long_take n begun (under n (length begun) is)) in (
+          ap (λ k. line ++ take k part) full ∙ append-nil line ∙ e ∙ sym (take-append-le n begun part (under n (length begun) is)),
+          sym (lt-ltb n (length (begun ++ part)) (omega (arith, more, sum))),
+        )
     go false is =
         let whole : line ≡ begun = short_of n begun line long e l (l ∙ is) in
         let sizes : length line ≡ length begun = ap length whole in
-        let fits : length begun ≤ n = ltb-false n (length begun) is in
-        (ap (λ x. x ++ take (n - length x) part) whole ∙ sym (take_seam n begun part fits),
-         sym (lt-ltb n (length (begun ++ part)) (omega (arith, sizes, big, fits, sum))))
-
+        let fits : length begun ≤ n = ltb-false n (length begun) is in (
+          ap (λ x. x ++ take (n - length x) part) whole ∙ sym (take_seam n begun part fits),
+          sym (lt-ltb n (length (begun ++ part)) (omega (arith, sizes, big, fits, sum))),
+        )

@@ -6,3 +6,4 @@ pub mod LineLemmas
 pub mod StreamLemmas
 pub mod HeldLemmas
 pub mod ReadLemmas
+pub mod ProgramLemmas

@@ -94,9 +94,9 @@ module _ (old : Option (List ℕ)) where
     written = h.written;
     appends = h.appends;
     same = ap (λ t. h.written ++ t ++ output_of ((h.begun ++ part) ++ rest)) texts
-      ∙ ap (λ b. h.written ++ text ++ output_of b) (append_assoc h.begun part rest) ∙ h.same;
+        ∙ ap (λ b. h.written ++ text ++ output_of b) (append_assoc h.begun part rest) ∙ h.same;
     status = ap (λ b. b || has_refused ((h.begun ++ part) ++ rest)) refusals
-      ∙ ap (λ b. refused || has_refused b) (append_assoc h.begun part rest) ∙ h.status;
+        ∙ ap (λ b. refused || has_refused b) (append_assoc h.begun part rest) ∙ h.status;
   }
 
   pub answered : (w : Option (List ℕ)) (line line2 : List ℕ) (long long2 : Bool) (text text2 : List ℕ) (refused refused2 : Bool) (rest all : List ℕ) (any : Bool)
@@ -111,10 +111,10 @@ module _ (old : Option (List ℕ)) where
     written = h.written;
     appends = h.appends;
     same = ap (λ t. h.written ++ t ++ output_of rest) (texts h.begun h.holds)
-      ∙ regroup h.written text (answer_to h.begun) (output_of rest) ∙ ap (λ t. h.written ++ text ++ t) (sym (output_line h.begun rest h.is_open))
-      ∙ h.same;
+        ∙ regroup h.written text (answer_to h.begun) (output_of rest) ∙ ap (λ t. h.written ++ text ++ t) (sym (output_line h.begun rest h.is_open))
+        ∙ h.same;
     status = ap (λ b. b || has_refused rest) (refusals h.begun h.holds) ∙ or_assoc refused (is_refused h.begun) (has_refused rest)
-      ∙ ap (λ b. refused || b) (sym (refuses_line h.begun rest h.is_open)) ∙ h.status;
+        ∙ ap (λ b. refused || b) (sym (refuses_line h.begun rest h.is_open)) ∙ h.status;
   }
 
   -- nothing is held
@@ -127,32 +127,32 @@ module _ (old : Option (List ℕ)) where
       → text2 ≡ text ++ answer_to tail → refused2 ≡ (refused || is_refused tail)
       → Leads old w line long text2 refused2 rest all any
   direct w line long text text2 refused refused2 tail rest all any h none size texts refusals =
-    let empty : h.begun ≡ [] = nothing h.begun line long h.holds size in
-    let same : h.written ++ text ++ output_of (tail ++ 10 ∷ rest) ≡ all = ap (λ b. h.written ++ text ++ output_of (b ++ (tail ++ 10 ∷ rest))) (sym empty) ∙ h.same in
-    let status : (refused || has_refused (tail ++ 10 ∷ rest)) ≡ any = ap (λ b. refused || has_refused (b ++ (tail ++ 10 ∷ rest))) (sym empty) ∙ h.status in
-    record {
-      begun = [];
-      is_open = tt;
-      holds = subst (λ b. HoldsLine b line long) empty h.holds;
-      written = h.written;
-      appends = h.appends;
-      same = ap (λ t. h.written ++ t ++ output_of rest) texts
-        ∙ regroup h.written text (answer_to tail) (output_of rest) ∙ ap (λ t. h.written ++ text ++ t) (sym (output_line tail rest none))
-        ∙ same;
-      status = ap (λ b. b || has_refused rest) refusals ∙ or_assoc refused (is_refused tail) (has_refused rest)
-        ∙ ap (λ b. refused || b) (sym (refuses_line tail rest none)) ∙ status;
-    }
+      let empty : h.begun ≡ [] = nothing h.begun line long h.holds size in
+      let same : h.written ++ text ++ output_of (tail ++ 10 ∷ rest) ≡ all = ap (λ b. h.written ++ text ++ output_of (b ++ (tail ++ 10 ∷ rest))) (sym empty) ∙ h.same in
+      let status : (refused || has_refused (tail ++ 10 ∷ rest)) ≡ any = ap (λ b. refused || has_refused (b ++ (tail ++ 10 ∷ rest))) (sym empty) ∙ h.status in
+      record {
+        begun = [];
+        is_open = tt;
+        holds = subst (λ b. HoldsLine b line long) empty h.holds;
+        written = h.written;
+        appends = h.appends;
+        same = ap (λ t. h.written ++ t ++ output_of rest) texts
+            ∙ regroup h.written text (answer_to tail) (output_of rest) ∙ ap (λ t. h.written ++ text ++ t) (sym (output_line tail rest none))
+            ∙ same;
+        status = ap (λ b. b || has_refused rest) refusals ∙ or_assoc refused (is_refused tail) (has_refused rest)
+            ∙ ap (λ b. refused || b) (sym (refuses_line tail rest none)) ∙ status;
+      }
 
   -- the end
   ended : (w v : Option (List ℕ)) (line : List ℕ) (long : Bool) (text : List ℕ) (refused : Bool) (all : List ℕ) (any : Bool)
       → Leads old w line long text refused [] all any → length line ≡ 0 → Appends w v text
       → Appends old v all × (refused ≡ any)
   ended w v line long text refused all any h size a =
-    let empty : h.begun ≡ [] = nothing h.begun line long h.holds size in
-    let same : h.written ++ text ++ output_of [] ≡ all = ap (λ b. h.written ++ text ++ output_of (b ++ [])) (sym empty) ∙ h.same in
-    let status : (refused || has_refused []) ≡ any = ap (λ b. refused || has_refused (b ++ [])) (sym empty) ∙ h.status in
-    let whole : h.written ++ text ≡ all = sym (append-nil (h.written ++ text)) ∙ ap (λ o. h.written ++ text ++ o) (sym nil_output) ∙ same in
-    (subst (Appends old v) whole (appends_more old w v h.written text h.appends a), sym (or_false refused) ∙ ap (λ o. refused || o) (sym nil_refuses) ∙ status)
+      let empty : h.begun ≡ [] = nothing h.begun line long h.holds size in
+      let same : h.written ++ text ++ output_of [] ≡ all = ap (λ b. h.written ++ text ++ output_of (b ++ [])) (sym empty) ∙ h.same in
+      let status : (refused || has_refused []) ≡ any = ap (λ b. refused || has_refused (b ++ [])) (sym empty) ∙ h.status in
+      let whole : h.written ++ text ≡ all = sym (append-nil (h.written ++ text)) ∙ ap (λ o. h.written ++ text ++ o) (sym nil_output) ∙ same in
+      (subst (Appends old v) whole (appends_more old w v h.written text h.appends a), sym (or_false refused) ∙ ap (λ o. refused || o) (sym nil_refuses) ∙ status)
     where
       nil_output : output_of [] ≡ []
       nil_output = nil_out
@@ -165,7 +165,7 @@ module _ (old : Option (List ℕ)) where
       → Leads old w line long text refused [] all any → length line ≡ 0 → refused2 ≡ refused
       → MatchResult r (λ _. Appends old v all × (refused2 ≡ any)) (λ _. AppendsBeginning old v all)
   ended_by (Ok x) w v line long text refused refused2 all any ok err h size same =
-    let end = ended w v line long text refused all any h size ok in (end.0, same ∙ end.1)
+      let end = ended w v line long text refused all any h size ok in (end.0, same ∙ end.1)
   ended_by (Err e) w v line long text refused refused2 all any ok err h size same = flush_err w v line long text refused [] all any h err
 
   pub last : (w : Option (List ℕ)) (line line2 : List ℕ) (long long2 : Bool) (text text2 : List ℕ) (refused refused2 : Bool) (all : List ℕ) (any : Bool)
@@ -180,9 +180,9 @@ module _ (old : Option (List ℕ)) where
     written = h.written;
     appends = h.appends;
     same = ap (λ t. h.written ++ t ++ output_of []) (texts h.begun h.holds)
-      ∙ regroup h.written text (answer_to h.begun) (output_of []) ∙ ap (λ t. h.written ++ text ++ t) (sym (last_output h.begun h.is_open (nonempty h.begun h.holds))) ∙ h.same;
+        ∙ regroup h.written text (answer_to h.begun) (output_of []) ∙ ap (λ t. h.written ++ text ++ t) (sym (last_output h.begun h.is_open (nonempty h.begun h.holds))) ∙ h.same;
     status = ap (λ b. b || has_refused []) (refusals h.begun h.holds) ∙ or_assoc refused (is_refused h.begun) (has_refused [])
-      ∙ ap (λ b. refused || b) (sym (last_refuses h.begun h.is_open (nonempty h.begun h.holds))) ∙ h.status;
+        ∙ ap (λ b. refused || b) (sym (last_refuses h.begun h.is_open (nonempty h.begun h.holds))) ∙ h.status;
   }
     where
       nonempty : (begun : List ℕ) → HoldsLine begun line long → 0 < length begun

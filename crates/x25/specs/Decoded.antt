@@ -7,7 +7,7 @@ use Rattle.x25_bits.specs.declared.role.Role.{Role}
 use Rattle.x25_bits.specs.declared.role.Role.TheVariants.{Dte, Dce}
 use Rattle.x25_frame.specs.Reading.{frame_of}
 use Rattle.x25.specs.Lines.{lines_of}
-use Rattle.x25.specs.Text.{reading_text}
+use Rattle.x25.specs.FrameText.{reading_text}
 
 -- `>` marks what the DTE sent, `<` what the DCE sent
 abbrev pub sender_of : ℕ → Option Role

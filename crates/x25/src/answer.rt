@@ -2,7 +2,7 @@
 ghost use Rattle.std.specs.Prelude.{◌≡◌, ◌+◌, ◌≤◌, ◌++◌, Some, None, length, take, MatchOption};
 ghost use Rattle.x25_frame.specs.Reading.{frame_of};
 ghost use Rattle.x25.specs.Decoded.{answer_to, is_refused, n1, octets_in, sender_of, sent_in};
-ghost use Rattle.x25.specs.Text.{reading_text};
+ghost use Rattle.x25.specs.FrameText.{reading_text};
 
 use crate::frame_text::{push_fault, push_frame};
 use crate::text::Text;

@@ -27,7 +27,7 @@ fn decode_pieces<R: Source, W: Sink>(
         → length input < 2 ^ 64 - 1
         → LeadsFrom old (W.contents writer.old) decoder.old input all any
         → MatchResult result (λ status. Appends old (W.contents writer.new) all × (status ≡ (if any then 1 else 0)))
-            (λ _. AppendsBeginning old (W.contents writer.new) all) }
+        (λ _. AppendsBeginning old (W.contents writer.new) all) }
     ensures memory { IsErrOf result Fault.NoMemory → ⊥ }
     ensures read { IsErrOf result Fault.Read → R.is_marked reader.new ≡ true }
     ensures write { IsErrOf result Fault.Write → W.is_marked writer.new ≡ true }
@@ -78,3 +78,6 @@ pub fn decode_lines<R: Source, W: Sink>(
     };
     decode_pieces(&mut decoder, piece.as_mut_slice(), reader, writer)
 }
+
+#[cfg(test)]
+mod tests;

@@ -107,7 +107,7 @@ impl Decoder {
         ensures leads { (old : Option (List ℕ)) (rest all : List ℕ) (any : Bool)
             → LeadsFrom old (W.contents writer.old) self.old rest all any
             → MatchResult result (λ _. LeadsFrom old (W.contents writer.new) self.new rest all any)
-                (λ _. AppendsBeginning old (W.contents writer.new) all) }
+            (λ _. AppendsBeginning old (W.contents writer.new) all) }
         ensures marked { OnErr result (W.is_marked writer.new ≡ true) }
         ensures line { self.new.line ≡ self.old.line }
     {
@@ -126,7 +126,7 @@ impl Decoder {
         ensures leads { (old : Option (List ℕ)) (rest all : List ℕ) (any : Bool)
             → LeadsFrom old (W.contents writer.old) self.old (tail.now ++ 10 ∷ rest) all any
             → MatchResult result (λ _. LeadsFrom old (W.contents writer.new) self.new rest all any)
-                (λ _. AppendsBeginning old (W.contents writer.new) all) }
+            (λ _. AppendsBeginning old (W.contents writer.new) all) }
         ensures marked { OnErr result (W.is_marked writer.new ≡ true) }
     {
         if let Err(failed) = self.make_room(writer) {
@@ -147,7 +147,7 @@ impl Decoder {
         ensures leads { (old : Option (List ℕ)) (rest all : List ℕ) (any : Bool)
             → LeadsFrom old (W.contents writer.old) self.old (piece.now ++ rest) all any
             → MatchResult result (λ _. LeadsFrom old (W.contents writer.new) self.new rest all any)
-                (λ _. AppendsBeginning old (W.contents writer.new) all) }
+            (λ _. AppendsBeginning old (W.contents writer.new) all) }
         ensures marked { OnErr result (W.is_marked writer.new ≡ true) }
     {
         let mut left = piece;
@@ -166,7 +166,7 @@ impl Decoder {
         ensures text { (old : Option (List ℕ)) (all : List ℕ) (any : Bool)
             → LeadsFrom old (W.contents writer.old) self.old [] all any
             → MatchResult result (λ _. Appends old (W.contents writer.new) all × (self.new.is_refused ≡ any))
-                (λ _. AppendsBeginning old (W.contents writer.new) all) }
+            (λ _. AppendsBeginning old (W.contents writer.new) all) }
         ensures marked { OnErr result (W.is_marked writer.new ≡ true) }
     {
         if self.line.is_empty() {
@@ -184,7 +184,7 @@ impl Decoder {
         ensures text { (old : Option (List ℕ)) (all : List ℕ) (any : Bool)
             → LeadsFrom old (W.contents writer.old) self.old [] all any
             → MatchResult result (λ status. Appends old (W.contents writer.new) all × (status ≡ (if any then 1 else 0)))
-                (λ _. AppendsBeginning old (W.contents writer.new) all) }
+            (λ _. AppendsBeginning old (W.contents writer.new) all) }
         ensures write { IfErr result (λ fault. fault ≡ Fault.Write) }
         ensures marked { OnErr result (W.is_marked writer.new ≡ true) }
     {

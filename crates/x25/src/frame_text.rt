@@ -2,34 +2,14 @@
 ghost use Rattle.std.specs.Prelude.{◌≡◌, ◌+◌, ◌*◌, ◌≤◌, ◌++◌, codes, decimal, length};
 ghost use Rattle.std.specs.List.{flat_map};
 ghost use Rattle.x25_frame.specs.PlainFrame.{plain};
-ghost use Rattle.x25_frame.specs.Spelling.{IsWithin, bit, information_of};
-ghost use Rattle.x25_frame.specs.Text.{fault_text, octet_text, supervisory_text, why_text};
+ghost use Rattle.x25_frame.specs.Spelling.{bit};
+ghost use Rattle.x25.specs.OctetText.{octet_text};
 ghost use Rattle.x25.specs.PacketText.{information_text};
-ghost use Rattle.x25.specs.Text.{whole_text};
+ghost use Rattle.x25.specs.FrameText.{fault_text, frame_text, supervisory_text, why_text};
 
 use crate::packet_text::push_information;
 use crate::text::Text;
 use x25_frame::{Frame, FrameError, Seq};
-
-/// Appends a label and then a bit.
-pub fn push_bit(label: &[u8], is_set: bool, text: &mut Text)
-    requires room { length text.old + (length label.now + 1) ≤ 65536 }
-    ensures text { text.new ≡ text.old ++ (label.now ++ decimal (bit is_set)) }
-    ensures size { length text.new ≡ length text.old + (length label.now + 1) }
-{
-    text.push(label);
-    text.push_digit(u8::from(is_set));
-}
-
-/// Appends a label and then a sequence number.
-pub fn push_number(label: &[u8], number: Seq, text: &mut Text)
-    requires room { length text.old + (length label.now + 1) ≤ 65536 }
-    ensures text { text.new ≡ text.old ++ (label.now ++ decimal number.number) }
-    ensures size { length text.new ≡ length text.old + (length label.now + 1) }
-{
-    text.push(label);
-    text.push_digit(number.get());
-}
 
 fn push_supervisory(label: &[u8], command: bool, pf: bool, nr: Seq, text: &mut Text)
     requires room { length text.old + (length label.now + 11) ≤ 65536 }
@@ -38,11 +18,11 @@ fn push_supervisory(label: &[u8], command: bool, pf: bool, nr: Seq, text: &mut T
 {
     text.push(label);
     if command {
-        push_bit(b"cmd P=", pf, text);
-        push_number(b" R=", nr, text);
+        text.push_bit(b"cmd P=", pf);
+        text.push_seq(b" R=", nr);
     } else {
-        push_bit(b"rsp F=", pf, text);
-        push_number(b" R=", nr, text);
+        text.push_bit(b"rsp F=", pf);
+        text.push_seq(b" R=", nr);
     }
 }
 
@@ -58,15 +38,14 @@ fn push_labelled(label: &[u8], octets: &[u8], text: &mut Text)
 }
 
 fn push_info(ns: Seq, nr: Seq, p: bool, information: &[u8], text: &mut Text)
-    requires few { length information.now ≤ 4099 }
-    requires room { length text.old + 8300 ≤ 65536 }
+    requires { length text.old + 8300 ≤ 65536 }
     ensures text { text.new ≡ text.old ++ (codes "I cmd P=" ++ decimal (bit p) ++ codes " S=" ++ decimal ns.number
         ++ codes " R=" ++ decimal nr.number ++ codes " | " ++ information_text information.now) }
     ensures size { length text.new ≤ length text.old + 8300 }
 {
-    push_bit(b"I cmd P=", p, text);
-    push_number(b" S=", ns, text);
-    push_number(b" R=", nr, text);
+    text.push_bit(b"I cmd P=", p);
+    text.push_seq(b" S=", ns);
+    text.push_seq(b" R=", nr);
     text.push(b" | ");
     push_information(information, text);
 }
@@ -76,17 +55,14 @@ fn push_frame_reject(f: bool, why: [u8; 3], text: &mut Text)
     ensures text { text.new ≡ text.old ++ (codes "FRMR rsp F=" ++ decimal (bit f) ++ (codes " why=" ++ why_text why)) }
     ensures size { length text.new ≤ length text.old + 32 }
 {
-    push_bit(b"FRMR rsp F=", f, text);
+    text.push_bit(b"FRMR rsp F=", f);
     push_labelled(b" why=", &[why[0], why[1], why[2]], text);
 }
 
 /// Appends a frame on one line.
-///
-/// An I frame has at most 4,099 octets of information.
 pub fn push_frame(frame: &Frame, text: &mut Text)
-    requires few { IsWithin 4099 (plain frame.now) (information_of (plain frame.now)) }
-    requires room { length text.old + 8300 ≤ 65536 }
-    ensures text { text.new ≡ text.old ++ whole_text (plain frame.now) }
+    requires { length text.old + 8300 ≤ 65536 }
+    ensures text { text.new ≡ text.old ++ frame_text (plain frame.now) }
     ensures size { length text.new ≤ length text.old + 8300 }
 {
     match frame {
@@ -94,10 +70,10 @@ pub fn push_frame(frame: &Frame, text: &mut Text)
         Frame::Rr { command, nr, pf } => push_supervisory(b"RR ", *command, *pf, *nr, text),
         Frame::Rnr { command, nr, pf } => push_supervisory(b"RNR ", *command, *pf, *nr, text),
         Frame::Rej { command, nr, pf } => push_supervisory(b"REJ ", *command, *pf, *nr, text),
-        Frame::Sabm { p } => push_bit(b"SABM cmd P=", *p, text),
-        Frame::Disc { p } => push_bit(b"DISC cmd P=", *p, text),
-        Frame::Ua { f } => push_bit(b"UA rsp F=", *f, text),
-        Frame::Dm { f } => push_bit(b"DM rsp F=", *f, text),
+        Frame::Sabm { p } => text.push_bit(b"SABM cmd P=", *p),
+        Frame::Disc { p } => text.push_bit(b"DISC cmd P=", *p),
+        Frame::Ua { f } => text.push_bit(b"UA rsp F=", *f),
+        Frame::Dm { f } => text.push_bit(b"DM rsp F=", *f),
         Frame::Frmr { f, why } => push_frame_reject(*f, *why, text),
     }
 }
@@ -112,8 +88,16 @@ pub fn push_fault(error: FrameError, text: &mut Text)
         FrameError::Short => text.push(b"fault 1 short"),
         FrameError::BadFcs => text.push(b"fault 2 fcs"),
         FrameError::BadAddress => text.push(b"fault 3 address"),
-        FrameError::Undefined { control } => push_labelled(b"fault 4 undefined ctl=", &[control], text),
-        FrameError::NoInfoAllowed { control } => push_labelled(b"fault 5 info ctl=", &[control], text),
+        FrameError::Undefined { control } => push_labelled(
+            b"fault 4 undefined ctl=",
+            &[control],
+            text,
+        ),
+        FrameError::NoInfoAllowed { control } => push_labelled(
+            b"fault 5 info ctl=",
+            &[control],
+            text,
+        ),
         FrameError::TooLong => text.push(b"fault 6 long"),
     }
 }

@@ -5,7 +5,6 @@ ghost use Rattle.x25_packet.specs.Spelling.{IsInRange};
 ghost use Rattle.x25.specs.OctetText.{octets_text};
 ghost use Rattle.x25.specs.PacketText.{addresses_text, digits_text, fields_text, information_text, marks_text, numbers_text, packet_fault_text, packet_text, reason_text};
 
-use crate::frame_text::{push_bit, push_number};
 use crate::text::Text;
 use x25_frame::Seq;
 use x25_packet::{Digits, Packet, PacketError, decode};
@@ -48,7 +47,7 @@ fn push_address(label: &[u8], digits: &Digits, text: &mut Text)
     ensures size { length text.new ≤ length text.old + (length label.now + 16) }
 {
     text.push(label);
-    if digits.is_empty() {
+    if digits.len() == 0 {
         text.push(b"-");
     } else {
         push_digits(digits, text);
@@ -90,8 +89,8 @@ fn push_marks(m: bool, q: bool, text: &mut Text)
     ensures text { text.new ≡ text.old ++ marks_text m q }
     ensures size { length text.new ≡ length text.old + 8 }
 {
-    push_bit(b" M=", m, text);
-    push_bit(b" Q=", q, text);
+    text.push_bit(b" M=", m);
+    text.push_bit(b" Q=", q);
 }
 
 fn push_numbers(ps: Seq, pr: Seq, text: &mut Text)
@@ -99,8 +98,8 @@ fn push_numbers(ps: Seq, pr: Seq, text: &mut Text)
     ensures text { text.new ≡ text.old ++ numbers_text ps.number pr.number }
     ensures size { length text.new ≡ length text.old + 8 }
 {
-    push_number(b" S=", ps, text);
-    push_number(b" R=", pr, text);
+    text.push_seq(b" S=", ps);
+    text.push_seq(b" R=", pr);
 }
 
 /// Appends a packet on one line. A CALL has at most 16 octets of user data.
@@ -154,11 +153,11 @@ pub fn push_packet(packet: &Packet, text: &mut Text)
         }
         Packet::Rr { channel, pr } => {
             push_decimal(b"RR ch=", *channel, text);
-            push_number(b" R=", *pr, text);
+            text.push_seq(b" R=", *pr);
         }
         Packet::Rnr { channel, pr } => {
             push_decimal(b"RNR ch=", *channel, text);
-            push_number(b" R=", *pr, text);
+            text.push_seq(b" R=", *pr);
         }
         Packet::Interrupt { channel, user } => {
             push_decimal(b"INT ch=", *channel, text);

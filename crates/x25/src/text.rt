@@ -1,12 +1,13 @@
 //! A text that waits to be written.
 ghost use Rattle.std.specs.Prelude.{◌≡◌, ◌↔◌, ◌+◌, ◌*◌, ◌≤◌, ◌<◌, ◌++◌, [], ℕ, List, IfOk, IsTrue, length, decimal, vec_capacity};
 ghost use Rattle.std.specs.List.{flat_map};
-ghost use Rattle.x25_frame.specs.Text.{octet_text};
-ghost use Rattle.x25.specs.OctetText.{octets_text};
+ghost use Rattle.x25_frame.specs.Spelling.{bit};
+ghost use Rattle.x25.specs.OctetText.{octet_text, octets_text};
 
 use itoa::Buffer;
 use std::alloc::{AllocError, Global};
 use std::marker::Model;
+use x25_frame::Seq;
 
 /// The characters that a text has room for.
 pub const ROOM: usize = 65_536;
@@ -79,6 +80,26 @@ impl Text {
         ensures size { length self.new ≡ length self.old + 1 }
     {
         self.push(&[b'0' + number]);
+    }
+
+    /// Appends a label and then a bit.
+    pub fn push_bit(&mut self, label: &[u8], is_set: bool)
+        requires room { length self.old + (length label.now + 1) ≤ 65536 }
+        ensures text { self.new ≡ self.old ++ (label.now ++ decimal (bit is_set)) }
+        ensures size { length self.new ≡ length self.old + (length label.now + 1) }
+    {
+        self.push(label);
+        self.push_digit(u8::from(is_set));
+    }
+
+    /// Appends a label and then a sequence number.
+    pub fn push_seq(&mut self, label: &[u8], number: Seq)
+        requires room { length self.old + (length label.now + 1) ≤ 65536 }
+        ensures text { self.new ≡ self.old ++ (label.now ++ decimal number.number) }
+        ensures size { length self.new ≡ length self.old + (length label.now + 1) }
+    {
+        self.push(label);
+        self.push_digit(number.get());
     }
 
     /// Appends a number in decimal.

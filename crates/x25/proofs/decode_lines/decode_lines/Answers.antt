@@ -18,7 +18,7 @@ returns-clause-text g c =
     told_text (g.R.Source.remaining c.args.reader.now) c.decode_pieces.result IsFew
     (λ input. Appends written now (output_of input)) (λ input. AppendsBeginning written now (output_of input)) status_of
     (λ input is few. c.decode_pieces.ensures.text written input (output_of input) (has_refused input) is few
-      (start written _ _ _ _ input c.in-Ok-new.ensures.line.0 c.in-Ok-new.ensures.line.1 c.in-Ok-new.ensures.text.0 c.in-Ok-new.ensures.text.1))
+    (start written _ _ _ _ input c.in-Ok-new.ensures.line.0 c.in-Ok-new.ensures.line.1 c.in-Ok-new.ensures.text.0 c.in-Ok-new.ensures.text.1))
 
 pub returns-clause-status : goal.returns-clause-status
 returns-clause-status g c =
@@ -27,7 +27,7 @@ returns-clause-status g c =
     told_status (g.R.Source.remaining c.args.reader.now) c.decode_pieces.result IsFew
     (λ input. Appends written now (output_of input)) (λ input. AppendsBeginning written now (output_of input)) status_of
     (λ input is few. c.decode_pieces.ensures.text written input (output_of input) (has_refused input) is few
-      (start written _ _ _ _ input c.in-Ok-new.ensures.line.0 c.in-Ok-new.ensures.line.1 c.in-Ok-new.ensures.text.0 c.in-Ok-new.ensures.text.1))
+    (start written _ _ _ _ input c.in-Ok-new.ensures.line.0 c.in-Ok-new.ensures.line.1 c.in-Ok-new.ensures.text.0 c.in-Ok-new.ensures.text.1))
 
 pub returns-clause-fault : goal.returns-clause-fault
 returns-clause-fault g c =
@@ -36,4 +36,4 @@ returns-clause-fault g c =
     told_fault (g.R.Source.remaining c.args.reader.now) c.decode_pieces.result IsFew
     (λ input. Appends written now (output_of input)) (λ input. AppendsBeginning written now (output_of input)) status_of
     (λ input is few. c.decode_pieces.ensures.text written input (output_of input) (has_refused input) is few
-      (start written _ _ _ _ input c.in-Ok-new.ensures.line.0 c.in-Ok-new.ensures.line.1 c.in-Ok-new.ensures.text.0 c.in-Ok-new.ensures.text.1))
+    (start written _ _ _ _ input c.in-Ok-new.ensures.line.0 c.in-Ok-new.ensures.line.1 c.in-Ok-new.ensures.text.0 c.in-Ok-new.ensures.text.1))

@@ -22,6 +22,9 @@ returns-in-Err-clause-text g c = λ old input all any is few h.
 pub loop-preserved : goal.loop-preserved
 loop-preserved g c = λ old input all any is h.
     let at = c.loop.invariant old input all any is h in
-    let left = consumed _ _ at.0 _ at.1 c.in-Ok.ensures.octets.0 in
-    (left.0, left.1, fewer c.loop.counter c.in-Ok.count at.0 c.read.new.buffer left.0 input left.2 c.in-Ok.ensures.bound c.if-count-eq0.false at.2,
-     c.in_default-take_piece.ensures.leads old left.0 all any (subst (λ rest. LeadsFrom old (g.W.Sink.contents c.loop.writer) c.loop.decoder rest all any) left.2 at.3))
+    let left = consumed _ _ at.0 _ at.1 c.in-Ok.ensures.octets.0 in (
+      left.0,
+      left.1,
+      fewer c.loop.counter c.in-Ok.count at.0 c.read.new.buffer left.0 input left.2 c.in-Ok.ensures.bound c.if-count-eq0.false at.2,
+      c.in_default-take_piece.ensures.leads old left.0 all any (subst (λ rest. LeadsFrom old (g.W.Sink.contents c.loop.writer) c.loop.decoder rest all any) left.2 at.3),
+    )

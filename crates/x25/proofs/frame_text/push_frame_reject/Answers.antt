@@ -1,6 +1,6 @@
 use Rattle.std.proofs.Common.{◌∙◌, ◌++◌, ap, append_assoc, codes, decimal}
 use Rattle.x25_frame.specs.Spelling.{bit}
-use Rattle.x25_frame.specs.Text.{why_text}
+use Rattle.x25.specs.FrameText.{why_text}
 use Rattle.x25.proofs.frame_text.push_frame_reject.Goals as goal
 
 pub returns-clause-text : goal.returns-clause-text

@@ -14,5 +14,5 @@ returns-then-is_empty-clause-leads g c = λ old rest all any h.
 pub returns-clause-leads : goal.returns-clause-leads
 returns-clause-leads g c = λ old rest all any h.
     let more = held old _ _ _ _ _ _ _ _ _ c.args.tail.now (10 ∷ rest) all any (c.in_default.ensures.leads old (c.args.tail.now ++ 10 ∷ rest) all any h)
-        c.requires c.hold.ensures.line c.hold.ensures.text c.hold.ensures.is_refused in
+    c.requires c.hold.ensures.line c.hold.ensures.text c.hold.ensures.is_refused in
     answered old _ _ _ _ _ _ _ _ _ rest all any more c.answer_held.ensures.text c.answer_held.ensures.refused c.answer_held.ensures.line c.answer_held.ensures.is_long
