@@ -2,3 +2,4 @@ pub mod DigitLemmas
 pub mod FacilityLaws
 pub mod AddressLaws
 pub mod PacketLaws
+pub mod FaultLaws

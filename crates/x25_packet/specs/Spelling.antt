@@ -70,9 +70,13 @@ body_of (reset channel cause diagnostic) = cause ∷ diagnostic ∷ []
 body_of (restart cause diagnostic) = cause ∷ diagnostic ∷ []
 body_of _ = []
 
+-- the first three octets: format and channel group, channel number, type
+abbrev pub header_of : PlainPacket → List ℕ
+header_of v = (16 * format_of v + channel_of v / 256) ∷ (channel_of v % 256) ∷ type_of v ∷ []
+
 -- all octets of the packet
 abbrev pub spelling_of : PlainPacket → List ℕ
-spelling_of v = (16 * format_of v + channel_of v / 256) ∷ (channel_of v % 256) ∷ type_of v ∷ body_of v
+spelling_of v = header_of v ++ body_of v
 
 abbrev pub IsChannel : ℕ → Type 0
 IsChannel channel = (1 ≤ channel) × (channel ≤ 4095)
