@@ -29,10 +29,14 @@ pub record AreInRange (code : ℕ) (values : Directions) : Type 0 where
 
 -- behind facilities that are allowed stands a code that isn't, one with too few octets, or one with octets out of range
 pub data FieldError : List ℕ → PacketError → Type 0 where
-  wrong_code : (before : Facilities) (code : ℕ) (rest : List ℕ) → AreAllowed before → ¬ MayFollow before code → FieldError (field_of before ++ code ∷ rest) BadFacility
-  cut_off : (before : Facilities) (code : ℕ) (rest : List ℕ) → AreAllowed before → MayFollow before code → length rest < 2
+  wrong_code : (before : Facilities) (code : ℕ) (rest : List ℕ)
+      → AreAllowed before → ¬ MayFollow before code
+      → FieldError (field_of before ++ code ∷ rest) BadFacility
+  cut_off : (before : Facilities) (code : ℕ) (rest : List ℕ)
+      → AreAllowed before → MayFollow before code → length rest < 2
       → FieldError (field_of before ++ code ∷ rest) BadParameter
-  out_of_range : (before : Facilities) (code : ℕ) (values : Directions) (rest : List ℕ) → AreAllowed before → MayFollow before code → ¬ AreInRange code values
+  out_of_range : (before : Facilities) (code : ℕ) (values : Directions) (rest : List ℕ)
+      → AreAllowed before → MayFollow before code → ¬ AreInRange code values
       → FieldError (field_of before ++ code ∷ values.called ∷ values.calling ∷ rest) BadParameter
 
 -- ---- in a body
@@ -41,27 +45,37 @@ pub data FieldError : List ℕ → PacketError → Type 0 where
 pub data BehindError (most : ℕ) : List ℕ → PacketError → Type 0 where
   no_size : BehindError most [] TooShort
   field_missing : (size : ℕ) (rest : List ℕ) → length rest < size → BehindError most (size ∷ rest) TooShort
-  in_field : (field user : List ℕ) (e : PacketError) → FieldError field e → BehindError most (length field ∷ field ++ user) e
-  user_long : (field user : List ℕ) → IsFacilityField field → most < length user → BehindError most (length field ∷ field ++ user) TooLong
+  in_field : (field user : List ℕ) (e : PacketError) → FieldError field e
+      → BehindError most (length field ∷ field ++ user) e
+  user_long : (field user : List ℕ) → IsFacilityField field → most < length user
+      → BehindError most (length field ∷ field ++ user) TooLong
 
--- how many digits the address lengths announce
+-- how many digits the address lengths announce, and in how many octets
 abbrev pub digits_of : ℕ → ℕ
 digits_of lengths = lengths % 16 + lengths / 16
 
+abbrev pub block_of : ℕ → ℕ
+block_of lengths = (digits_of lengths + 1) / 2
+
 pub data CallError (most : ℕ) : List ℕ → PacketError → Type 0 where
   no_lengths : CallError most [] TooShort
-  digits_missing : (lengths : ℕ) (octets : List ℕ) → length octets < (digits_of lengths + 1) / 2 → CallError most (lengths ∷ octets) TooShort
-  wrong_digit : (lengths : ℕ) (block rest : List ℕ) → length block ≡ (digits_of lengths + 1) / 2 → hold_digits (digits_of lengths) block ≡ false
+  digits_missing : (lengths : ℕ) (octets : List ℕ) → length octets < block_of lengths
+      → CallError most (lengths ∷ octets) TooShort
+  wrong_digit : (lengths : ℕ) (block rest : List ℕ)
+      → length block ≡ block_of lengths → hold_digits (digits_of lengths) block ≡ false
       → CallError most (lengths ∷ block ++ rest) BadDigit
-  behind_digits : (lengths : ℕ) (block rest : List ℕ) (e : PacketError) → length block ≡ (digits_of lengths + 1) / 2 → hold_digits (digits_of lengths) block ≡ true
-      → BehindError most rest e → CallError most (lengths ∷ block ++ rest) e
+  behind_digits : (lengths : ℕ) (block rest : List ℕ) (e : PacketError)
+      → length block ≡ block_of lengths → hold_digits (digits_of lengths) block ≡ true → BehindError most rest e
+      → CallError most (lengths ∷ block ++ rest) e
 
 -- an ACCEPT has no digits, no empty facility field and no user data
 pub data AcceptError : List ℕ → PacketError → Type 0 where
   some_lengths : (lengths : ℕ) (rest : List ℕ) → lengths ≢ 0 → AcceptError (lengths ∷ rest) BadDigit
   no_field : AcceptError (0 ∷ []) TooShort
   zero_size : (rest : List ℕ) → AcceptError (0 ∷ 0 ∷ rest) BadParameter
-  behind_lengths : (size : ℕ) (rest : List ℕ) (e : PacketError) → size ≢ 0 → BehindError 0 (size ∷ rest) e → AcceptError (0 ∷ size ∷ rest) e
+  behind_lengths : (size : ℕ) (rest : List ℕ) (e : PacketError)
+      → size ≢ 0 → BehindError 0 (size ∷ rest) e
+      → AcceptError (0 ∷ size ∷ rest) e
 
 -- fewer octets than the least, or more than the most
 abbrev pub IsLengthError : ℕ → ℕ → List ℕ → PacketError → Type 0
@@ -87,9 +101,13 @@ HasFormat first kind = (first / 16 ≡ 1) ⊎ ((first / 16 ≡ 9) × (kind % 2 �
 
 pub data IsFirstError (most : ℕ) : List ℕ → PacketError → Type 0 where
   no_header : (octets : List ℕ) → length octets < 3 → IsFirstError most octets TooShort
-  wrong_format : (first second kind : ℕ) (body : List ℕ) → ¬ HasFormat first kind → IsFirstError most (first ∷ second ∷ kind ∷ body) BadFormat
-  -- no packet has these three octets
-  no_packet : (first second kind : ℕ) (body : List ℕ) → HasFormat first kind → ((v : PlainPacket) → IsInRange most v → header_of v ≢ first ∷ second ∷ kind ∷ [])
+  wrong_format : (first second kind : ℕ) (body : List ℕ) → ¬ HasFormat first kind
+      → IsFirstError most (first ∷ second ∷ kind ∷ body) BadFormat
+  -- no packet begins with these three octets
+  no_packet : (first second kind : ℕ) (body : List ℕ)
+      → HasFormat first kind → ((v : PlainPacket) → IsInRange most v → header_of v ≢ first ∷ second ∷ kind ∷ [])
       → IsFirstError most (first ∷ second ∷ kind ∷ body) Unidentified
-  -- the packet has, and the body is at fault
-  in_body : (v : PlainPacket) (body : List ℕ) (e : PacketError) → IsInRange most v → IsBodyError most v body e → IsFirstError most (header_of v ++ body) e
+  -- a packet does, and what follows is no body of its type
+  in_body : (v : PlainPacket) (body : List ℕ) (e : PacketError)
+      → IsInRange most v → IsBodyError most v body e
+      → IsFirstError most (header_of v ++ body) e

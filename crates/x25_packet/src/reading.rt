@@ -10,7 +10,7 @@ use crate::error::PacketError;
 use crate::packet::Packet;
 use x25_bits::Seq;
 
-/// The most octets of user data in a CALL, section 5.2.1.1.5.
+/// The most octets of user data in a CALL, section 5.2.1.
 pub const CALL_OCTETS: usize = 16;
 
 /// The most octets of user data in a data packet.
