@@ -22,7 +22,7 @@ last_found : {A : Type 0} (value v : A) (rest : List ℕ) → last value rest �
 last_found value v [] e = (refl, ok_same e)
 last_found value v (code ∷ rest) e = absurd (ok_err e)
 
-within : (least most called calling : ℕ) → (is_within least most called && is_within least most calling) ≡ true
+pub within : (least most called calling : ℕ) → (is_within least most called && is_within least most calling) ≡ true
     → AreWithin least most (record { called = called; calling = calling })
 within least most called calling h =
     let parts = and_parts (is_within least most called) (is_within least most calling) h in
@@ -38,18 +38,18 @@ within least most called calling h =
 is_within_when : (least most value : ℕ) → least ≤ value → value ≤ most → is_within least most value ≡ true
 is_within_when least most value low high = and_from _ _ (le-leb _ _ low) (le-leb _ _ high)
 
-both_within : (least most : ℕ) (values : Directions) → AreWithin least most values → (is_within least most values.called && is_within least most values.calling) ≡ true
+pub both_within : (least most : ℕ) (values : Directions) → AreWithin least most values → (is_within least most values.called && is_within least most values.calling) ≡ true
 both_within least most values h =
     and_from _ _ (is_within_when least most values.called h.called_least h.called_most) (is_within_when least most values.calling h.calling_least h.calling_most)
 
 -- ---- what is read is spelled so
 
 -- the windows that a field is read as
-record Windows (field : List ℕ) (windows : Option Directions) : Type 0 where
+pub record Windows (field : List ℕ) (windows : Option Directions) : Type 0 where
   pub allowed : IfGiven windows (AreWithin 1 7)
   pub spelling : field ≡ facility 67 windows
 
-windows_found : (field : List ℕ) (w : Option Directions) → windows_of field ≡ Ok w → Windows field w
+pub windows_found : (field : List ℕ) (w : Option Directions) → windows_of field ≡ Ok w → Windows field w
 windows_found [] w e = subst (Windows []) (ok_same e) (record { allowed = tt; spelling = refl })
 windows_found (code ∷ []) w e = elim (chosen (nat_eq code 67) _ _ _ e) [
   | inl p ↦ absurd (ok_err p.1)

@@ -2,3 +2,5 @@ pub mod DigitLemmas
 pub mod FacilityLaws
 pub mod AddressLaws
 pub mod PacketLaws
+pub mod FacilityFaults
+pub mod FaultLaws

@@ -50,7 +50,7 @@ interrupt_found most channel (octet ∷ rest) v on e = elim (chosen (nat_le (len
   | inr p ↦ absurd (ok_err p.1)
 ]
 
-bit_eq : (n : ℕ) → n < 2 → bit (nat_eq n 1) ≡ n
+pub bit_eq : (n : ℕ) → n < 2 → bit (nat_eq n 1) ≡ n
 bit_eq zero h = refl
 bit_eq (suc zero) h = refl
 bit_eq (suc (suc n)) h = absurd (omega arith)
@@ -71,7 +71,7 @@ data_found most channel q kind body v on small even e = elim (chosen (nat_le (le
 ]
 
 -- the facility field and what follows it
-record Field (size : ℕ) (octets : List ℕ) (parts : List ℕ × List ℕ) : Type 0 where
+pub record Field (size : ℕ) (octets : List ℕ) (parts : List ℕ × List ℕ) : Type 0 where
   pub is_field : IsFacilityField parts.0
   pub size_is : length parts.0 ≡ size
   pub joined : parts.0 ++ parts.1 ≡ octets
@@ -81,7 +81,7 @@ with_field_ok : (field rest : List ℕ) (r : Result Facilities PacketError) (par
 with_field_ok field rest (Ok f) parts e = (f, refl, ok_same e)
 with_field_ok field rest (Err x) parts e = absurd (ok_err e)
 
-field_found : (size : ℕ) (octets : List ℕ) (parts : List ℕ × List ℕ) → field_after size octets ≡ Ok parts → Field size octets parts
+pub field_found : (size : ℕ) (octets : List ℕ) (parts : List ℕ × List ℕ) → field_after size octets ≡ Ok parts → Field size octets parts
 field_found size octets parts e = elim (chosen (nat_le size (length octets)) _ _ _ e) [
   | inl p ↦
       let read = with_field_ok (take size octets) (drop size octets) _ parts p.1 in
@@ -317,7 +317,7 @@ kind_found most channel false kind body v few small first even e = elim (chosen 
 ]
 
 -- the format that a packet's first octet has
-format_cases : (first kind : ℕ) → has_format first kind ≡ true → (first / 16 ≡ 1) ⊎ ((first / 16 ≡ 9) × (kind % 2 ≡ 0))
+pub format_cases : (first kind : ℕ) → has_format first kind ≡ true → (first / 16 ≡ 1) ⊎ ((first / 16 ≡ 9) × (kind % 2 ≡ 0))
 format_cases first kind h = elim (chosen (nat_eq (first / 16) 1) true _ _ (split (nat_eq (first / 16) 1) _ h)) [
   | inl p ↦ inl (eqb-true _ _ p.0)
   | inr p ↦ let parts = and_parts (nat_eq (first / 16) 9) (nat_eq (kind % 2) 0) p.1 in inr (eqb-true _ _ parts.0, eqb-true _ _ parts.1)
@@ -327,7 +327,7 @@ format_cases first kind h = elim (chosen (nat_eq (first / 16) 1) true _ _ (split
     split true b e = refl
     split false b e = e
 
-differ : false ≡ true → ⊥
+pub differ : false ≡ true → ⊥
 differ h = cc
 
 abbrev pub IsOctets : List ℕ → Type 0
@@ -415,14 +415,14 @@ accept_again channel (octet ∷ field) f =
     nothing (x ∷ xs) = ap (λ (ys : List ℕ). x ∷ ys) (nothing xs)
 
 -- a channel other than 0
-on_channel : (channel : ℕ) → IsChannel channel → nat_eq channel 0 ≡ false
+pub on_channel : (channel : ℕ) → IsChannel channel → nat_eq channel 0 ≡ false
 on_channel channel on = ne_eqb _ _ (λ h. absurd (omega arith))
 
 interrupt_again : (channel : ℕ) (user : List ℕ) → 1 ≤ length user → length user ≤ 32 → interrupt_of channel user ≡ Ok (interrupt channel user)
 interrupt_again channel [] some few = absurd (omega arith)
 interrupt_again channel (octet ∷ rest) some few = let room : nat_le (length (octet ∷ rest)) 32 ≡ true = le-leb _ _ few in rw room refl
 
-bit_lt : (b : Bool) → bit b < 2
+pub bit_lt : (b : Bool) → bit b < 2
 bit_lt true = omega arith
 bit_lt false = omega arith
 
@@ -430,7 +430,7 @@ bit_back : (b : Bool) → nat_eq (bit b) 1 ≡ b
 bit_back true = refl
 bit_back false = refl
 
-nine_bit : (q : Bool) → nat_eq (1 + 8 * bit q) 9 ≡ q
+pub nine_bit : (q : Bool) → nat_eq (1 + 8 * bit q) 9 ≡ q
 nine_bit true = refl
 nine_bit false = refl
 
@@ -446,11 +446,11 @@ data_again most channel q m ps pr user on h k few =
     rw (on_channel channel on, even, more, sent, received, room, bit_back m, nine_bit q) refl
 
 -- an RR or RNR
-numbered : (low pr : ℕ) → low < 32 → low % 2 ≡ 1 → pr < 8 → ((low + 32 * pr) % 2 ≡ 1) × ((low + 32 * pr) % 32 ≡ low) × ((low + 32 * pr) / 32 ≡ pr)
+pub numbered : (low pr : ℕ) → low < 32 → low % 2 ≡ 1 → pr < 8 → ((low + 32 * pr) % 2 ≡ 1) × ((low + 32 * pr) % 32 ≡ low) × ((low + 32 * pr) / 32 ≡ pr)
 numbered low pr h odd k = (omega arith, omega arith, omega arith)
 
 -- no type of its own
-other : (low pr known : ℕ) → low < 32 → pr < 8 → known % 32 ≢ low → nat_eq (low + 32 * pr) known ≡ false
+pub other : (low pr known : ℕ) → low < 32 → pr < 8 → known % 32 ≢ low → nat_eq (low + 32 * pr) known ≡ false
 other low pr known h k differs = ne_eqb _ _ (λ e. differs (omega arith))
 
 rr_again : (most channel pr : ℕ) → IsChannel channel → pr < 8 → kind_of most channel false (1 + 32 * pr) [] ≡ Ok (rr channel pr)
@@ -505,7 +505,7 @@ kind_again most (reset_conf channel) fits = rw (on_channel channel fits) refl
 kind_again most (restart cause diagnostic) fits = refl
 kind_again most restart_conf fits = refl
 
-channel_few : (most : ℕ) (v : PlainPacket) → IsInRange most v → channel_of v ≤ 4095
+pub channel_few : (most : ℕ) (v : PlainPacket) → IsInRange most v → channel_of v ≤ 4095
 channel_few most (call channel called calling facilities user) fits = fits.0.1
 channel_few most (accept channel facilities) fits = fits.0.1
 channel_few most (clear channel cause diagnostic) fits = fits.1
@@ -521,7 +521,7 @@ channel_few most (restart cause diagnostic) fits = omega arith
 channel_few most restart_conf fits = omega arith
 
 -- the general format identifier is that of the type
-format_again : (v : PlainPacket) → (nat_eq (format_of v) 1 || (nat_eq (format_of v) 9 && nat_eq (type_of v % 2) 0)) ≡ true
+pub format_again : (v : PlainPacket) → (nat_eq (format_of v) 1 || (nat_eq (format_of v) 9 && nat_eq (type_of v % 2) 0)) ≡ true
 format_again (call channel called calling facilities user) = refl
 format_again (accept channel facilities) = refl
 format_again (clear channel cause diagnostic) = refl
@@ -547,3 +547,9 @@ read_again most v fits =
 
 pub only_found : (most : ℕ) (octets : List ℕ) (v : PlainPacket) → Spells most v octets → packet_of most octets ≡ Ok v
 only_found most octets v spells = ap (packet_of most) spells.spelling ∙ read_again most v spells.in_range
+
+-- what is appended reads as the packet
+pub appended_again : (most : ℕ) (v : PlainPacket) (before after : List ℕ) → IsInRange most v → after ≡ before ++ spelling_of v
+    → packet_of most (drop (length before) after) ≡ Ok v
+appended_again most v before after fits e =
+    ap (λ (o : List ℕ). packet_of most (drop (length before) o)) e ∙ ap (packet_of most) (drop_first before (spelling_of v)) ∙ read_again most v fits

@@ -1,4 +1,4 @@
--- The digits of addresses, in half octets or in a text. ITU-T X.25 (10/96), section 5.2.1.1.1.
+-- The digits of addresses, in half octets or in a text. ITU-T X.25 (10/96), section 5.2.1.
 use Rattle.std.specs.Prelude.{ℕ, ◌/◌, ◌%◌, ◌-◌, ◌+◌, ◌*◌, ◌≤◌, ◌≡◌, ◌==◌, Bool, true, false, ◌&&◌, nat_le, List, [], ◌∷◌, take, drop, length, map}
 use Rattle.std.specs.List.{list_all}
 
@@ -26,7 +26,8 @@ is_pair octet = is_digit (octet / 16) && is_digit (octet % 16)
 
 -- each half octet is a digit, and those behind this many are 0
 abbrev pub hold_digits : ℕ → List ℕ → Bool
-hold_digits count octets = list_all is_digit (halves_of octets) && list_all (λ half. half == 0) (drop count (halves_of octets))
+hold_digits count octets =
+    list_all is_digit (halves_of octets) && list_all (λ half. half == 0) (drop count (halves_of octets))
 
 -- an address: at most 15 digits
 pub record IsAddress (digits : List ℕ) : Type 0 where
@@ -48,4 +49,5 @@ digits_in false octets start len = halves_at octets start len
 -- there lie digits of an address
 abbrev pub NamesDigits : Bool → List ℕ → ℕ → ℕ → Type 0
 NamesDigits true octets start len = (len ≤ 15) × (len ≡ length octets) × (list_all is_figure octets ≡ true)
-NamesDigits false octets start len = (len ≤ 15) × (start + len ≤ 2 * length octets) × (list_all is_digit (halves_at octets start len) ≡ true)
+NamesDigits false octets start len = (len ≤ 15) × (start + len ≤ 2 * length octets)
+    × (list_all is_digit (halves_at octets start len) ≡ true)

@@ -4,4 +4,5 @@ pub mod Facilities
 pub mod Spelling
 pub mod PacketError
 pub mod Reading
+pub mod FirstError
 pub mod Text

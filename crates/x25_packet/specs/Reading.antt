@@ -28,7 +28,8 @@ caused v (Err e) = Err e
 -- an INTERRUPT: one to 32 octets
 abbrev pub interrupt_of : ℕ → List ℕ → Result PlainPacket PacketError
 interrupt_of channel [] = Err TooShort
-interrupt_of channel (octet ∷ rest) = if nat_le (length (octet ∷ rest)) 32 then Ok (interrupt channel (octet ∷ rest)) else Err TooLong
+interrupt_of channel (octet ∷ rest) =
+    if nat_le (length (octet ∷ rest)) 32 then Ok (interrupt channel (octet ∷ rest)) else Err TooLong
 
 -- a DATA: at most 4,096 octets
 abbrev pub data_of : ℕ → Bool → ℕ → List ℕ → Result PlainPacket PacketError
@@ -46,13 +47,15 @@ field_after size octets = if nat_le size (length octets)
     then with_field (take size octets) (drop size octets) (facilities_of (take size octets))
     else Err TooShort
 
-abbrev pub GivesField : Result (Bor (List ℕ) × Bor (List ℕ)) PacketError → Result (List ℕ × List ℕ) PacketError → Type 0
+abbrev pub GivesField : Result (Bor (List ℕ) × Bor (List ℕ)) PacketError
+    → Result (List ℕ × List ℕ) PacketError → Type 0
 GivesField (Ok p) read = read ≡ Ok (p.0.now, p.1.now)
 GivesField (Err e) read = read ≡ Err e
 
 -- the user data of a CALL, behind its facility field
 abbrev pub called_with : ℕ → ℕ → List ℕ → List ℕ → Result (List ℕ × List ℕ) PacketError → Result PlainPacket PacketError
-called_with most channel called calling (Ok (field, user)) = if nat_le (length user) most then Ok (call channel called calling field user) else Err TooLong
+called_with most channel called calling (Ok (field, user)) =
+    if nat_le (length user) most then Ok (call channel called calling field user) else Err TooLong
 called_with most channel called calling (Err e) = Err e
 
 -- a CALL behind its digits

@@ -46,7 +46,7 @@ type_of (restart cause diagnostic) = 251
 type_of restart_conf = 255
 
 -- The address block of a CALL: the lengths, the calling one in the high half, and the digits, the called ones first.
--- Section 5.2.1.1.1.
+-- Section 5.2.1.
 abbrev pub addresses : List ℕ → List ℕ → List ℕ
 addresses called calling = (16 * length calling + length called) ∷ packed (called ++ calling)
 
@@ -70,16 +70,21 @@ body_of (reset channel cause diagnostic) = cause ∷ diagnostic ∷ []
 body_of (restart cause diagnostic) = cause ∷ diagnostic ∷ []
 body_of _ = []
 
+-- the first three octets: format and channel group, channel number, type
+abbrev pub header_of : PlainPacket → List ℕ
+header_of v = (16 * format_of v + channel_of v / 256) ∷ (channel_of v % 256) ∷ type_of v ∷ []
+
 -- all octets of the packet
 abbrev pub spelling_of : PlainPacket → List ℕ
-spelling_of v = (16 * format_of v + channel_of v / 256) ∷ (channel_of v % 256) ∷ type_of v ∷ body_of v
+spelling_of v = header_of v ++ body_of v
 
 abbrev pub IsChannel : ℕ → Type 0
 IsChannel channel = (1 ≤ channel) × (channel ≤ 4095)
 
--- The fields are in their ranges, with at most `most` octets of user data in a CALL (section 5.2.1.1.5: 16).
+-- The fields are in their ranges, with at most `most` octets of user data in a CALL (section 5.2.1: 16).
 abbrev pub IsInRange : ℕ → PlainPacket → Type 0
-IsInRange most (call channel called calling facilities user) = IsChannel channel × IsAddress called × IsAddress calling × IsFacilityField facilities × (length user ≤ most)
+IsInRange most (call channel called calling facilities user) = IsChannel channel × IsAddress called × IsAddress calling
+    × IsFacilityField facilities × (length user ≤ most)
 IsInRange most (accept channel facilities) = IsChannel channel × IsFacilityField facilities
 IsInRange most (clear channel cause diagnostic) = IsChannel channel
 IsInRange most (clear_conf channel) = IsChannel channel

@@ -27,18 +27,22 @@ abbrev pub marks_text : Bool → Bool → List ℕ
 marks_text m q = codes "M=" ++ decimal (bit m) ++ codes " Q=" ++ decimal (bit q)
 
 abbrev pub packet_text : PlainPacket → List ℕ
-packet_text (call channel called calling facilities user) = codes "CALL ch=" ++ decimal channel ++ codes " called=" ++ digits_text called
+packet_text (call channel called calling facilities user) =
+    codes "CALL ch=" ++ decimal channel ++ codes " called=" ++ digits_text called
     ++ codes " calling=" ++ digits_text calling ++ codes " fac=" ++ octets_text facilities ++ codes " data=" ++ octets_text user
 packet_text (accept channel facilities) = codes "ACCEPT ch=" ++ decimal channel ++ codes " fac=" ++ octets_text facilities
-packet_text (clear channel cause diagnostic) = codes "CLEAR ch=" ++ decimal channel ++ codes " cause=" ++ decimal cause ++ codes " diag=" ++ decimal diagnostic
+packet_text (clear channel cause diagnostic) =
+    codes "CLEAR ch=" ++ decimal channel ++ codes " cause=" ++ decimal cause ++ codes " diag=" ++ decimal diagnostic
 packet_text (clear_conf channel) = codes "CLEARCONF ch=" ++ decimal channel
-packet_text (user_data channel q m ps pr user) = codes "DATA ch=" ++ decimal channel ++ codes " S=" ++ decimal ps ++ codes " R=" ++ decimal pr
+packet_text (user_data channel q m ps pr user) =
+    codes "DATA ch=" ++ decimal channel ++ codes " S=" ++ decimal ps ++ codes " R=" ++ decimal pr
     ++ codes " " ++ marks_text m q ++ codes " data=" ++ octets_text user
 packet_text (rr channel pr) = codes "RR ch=" ++ decimal channel ++ codes " R=" ++ decimal pr
 packet_text (rnr channel pr) = codes "RNR ch=" ++ decimal channel ++ codes " R=" ++ decimal pr
 packet_text (interrupt channel user) = codes "INT ch=" ++ decimal channel ++ codes " data=" ++ octets_text user
 packet_text (interrupt_conf channel) = codes "INTCONF ch=" ++ decimal channel
-packet_text (reset channel cause diagnostic) = codes "RESET ch=" ++ decimal channel ++ codes " cause=" ++ decimal cause ++ codes " diag=" ++ decimal diagnostic
+packet_text (reset channel cause diagnostic) =
+    codes "RESET ch=" ++ decimal channel ++ codes " cause=" ++ decimal cause ++ codes " diag=" ++ decimal diagnostic
 packet_text (reset_conf channel) = codes "RESETCONF ch=" ++ decimal channel
 packet_text (restart cause diagnostic) = codes "RESTART cause=" ++ decimal cause ++ codes " diag=" ++ decimal diagnostic
 packet_text restart_conf = codes "RESTARTCONF"

@@ -1,4 +1,4 @@
-//! The digits of an address, ITU-T X.25 (10/96), section 5.2.1.1.1.
+//! The digits of an address, ITU-T X.25 (10/96), section 5.2.1.
 ghost use Rattle.std.specs.Prelude.{◌≡◌, ◌==◌, ◌<◌, ◌≤◌, ◌+◌, ◌*◌, ◌/◌, List, ℕ, length, IfSome, IsSome, IsTrue, ◌↔◌, slice_index, true, Some};
 ghost use Rattle.std.specs.List.{list_all};
 ghost use Rattle.x25_packet.specs.Digits.{NamesDigits, digits_in, digits_of_text, halves_at, halves_of, hold_digits, is_digit, is_figure, is_pair, IsAddress};
@@ -17,7 +17,7 @@ fn are_figures(text: &[u8]) -> bool
 }
 
 /// The digits of an address, at most 15, in half octets of a packet or in a text. Contracts see the list of them.
-#[derive(Drop)]
+#[derive(Debug, Drop)]
 pub struct Digits<'a> {
     octets: &'a [u8],
     start: usize,

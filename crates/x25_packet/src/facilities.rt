@@ -1,6 +1,7 @@
 //! The facility field of a CALL or ACCEPT packet, ITU-T X.25 (10/96), sections 7.1 and 7.2.2.1.
-ghost use Rattle.std.specs.Prelude.{◌≡◌, IfOk, Ok};
+ghost use Rattle.std.specs.Prelude.{◌≡◌, IfOk, IfErr, Ok};
 ghost use Rattle.x25_packet.specs.Facilities.{AreAllowed, facilities_of, field_of, is_within, windows_of};
+ghost use Rattle.x25_packet.specs.FirstError.{FieldError};
 ghost use Rattle.x25_packet.specs.declared.facilities.Facilities.{Facilities};
 
 use crate::error::PacketError;
@@ -56,6 +57,8 @@ impl Facilities {
     /// 25: a code other than 0x42 and then 0x43, each once. 26: fewer than two octets behind a code, or one out of range.
     pub fn of(field: &[u8]) -> Result<Facilities, PacketError>
         ensures exact { result ≡ facilities_of field.now }
+        // The first error, from the left.
+        ensures fault { IfErr result (FieldError field.now) }
         ensures found { IfOk result (λ facilities. AreAllowed facilities × (field.now ≡ field_of facilities)) }
         ensures only { (facilities : Facilities) → AreAllowed facilities → field.now ≡ field_of facilities → result ≡ Ok facilities }
     {

@@ -9,7 +9,7 @@ use x25_bits::Seq;
 ///
 /// `channel` is the logical channel, group and number together: 1 to 4,095. `ps` is P(S), `pr` is P(R), `m` the more data
 /// mark and `q` the qualifier. `facilities` is the facility field as octets; `Facilities::of` reads it.
-#[derive(Drop)]
+#[derive(Debug, Drop)]
 pub enum Packet<'a> {
     Call {
         channel: u16,

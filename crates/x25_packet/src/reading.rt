@@ -1,5 +1,6 @@
 //! Packets read from their octets.
-ghost use Rattle.std.specs.Prelude.{◌≡◌, IfOk, IsOkAnd};
+ghost use Rattle.std.specs.Prelude.{◌≡◌, IfErr, IfOk, IsOkAnd};
+ghost use Rattle.x25_packet.specs.FirstError.{IsFirstError};
 ghost use Rattle.x25_packet.specs.Reading.{Gives, bare, channel_in, data_of, has_format, interrupt_of, channelled, flow_control_of, packet_of, reason_of, unchannelled};
 ghost use Rattle.x25_packet.specs.PlainPacket.{PlainPacket, plain};
 ghost use Rattle.x25_packet.specs.Spelling.{Spells};
@@ -9,7 +10,7 @@ use crate::error::PacketError;
 use crate::packet::Packet;
 use x25_bits::Seq;
 
-/// The most octets of user data in a CALL, section 5.2.1.1.5.
+/// The most octets of user data in a CALL, section 5.2.1.
 pub const CALL_OCTETS: usize = 16;
 
 /// The most octets of user data in a data packet.
@@ -172,6 +173,8 @@ fn read<'a>(most: usize, octets: &'a [u8]) -> Result<Packet<'a>, PacketError>
 /// digits (24), facilities (25 and 26), octets left over (23).
 pub fn decode<'a>(octets: &'a [u8]) -> Result<Packet<'a>, PacketError>
     ensures exact { Gives result (packet_of CALL_OCTETS octets.now) }
+    // The first error, from the front.
+    ensures fault { IfErr result (IsFirstError CALL_OCTETS octets.now) }
     // What is read is spelled so.
     ensures found { IfOk result (λ v. Spells CALL_OCTETS (plain v) octets.now) }
     // What is spelled so is read.

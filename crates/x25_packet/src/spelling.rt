@@ -1,8 +1,9 @@
 //! From a packet to the octets that spell it.
-ghost use Rattle.std.specs.Prelude.{◌≡◌, ◌+◌, ◌*◌, ◌≤◌, ◌++◌, OnOk, OnErr, IsOk, length, slice_index, vec_len, vec_capacity};
+ghost use Rattle.std.specs.Prelude.{◌≡◌, ◌+◌, ◌*◌, ◌≤◌, ◌++◌, Ok, OnOk, OnErr, IsOk, drop, length, slice_index, vec_len, vec_capacity};
 ghost use Rattle.std.specs.Vec.{VecUnchanged};
 ghost use Rattle.x25_packet.specs.Digits.{IsAddress, packed};
 ghost use Rattle.x25_packet.specs.PlainPacket.{plain};
+ghost use Rattle.x25_packet.specs.Reading.{packet_of};
 ghost use Rattle.x25_packet.specs.Spelling.{IsInRange, accept_body, bit, body_of, call_body, channel_of, format_of, spelling_of, type_of};
 
 use crate::digits::Digits;
@@ -206,11 +207,7 @@ fn append_body(packet: &Packet, octets: &mut Vec<u8>)
     }
 }
 
-/// Appends the octets that spell the packet: header, type and body. Each packet has this one spelling.
-///
-/// The packet's fields are in their ranges, with at most 16 octets of user data in a CALL. It takes no memory where the
-/// capacity has room for the octets. ITU-T X.25 (10/96), section 5.
-pub fn encode(packet: &Packet, octets: &mut Vec<u8>) -> Result<(), NoMemory>
+fn append_packet(packet: &Packet, octets: &mut Vec<u8>) -> Result<(), NoMemory>
     requires { IsInRange CALL_OCTETS (plain packet.now) }
     ensures ok { OnOk result (octets.new.items ≡ octets.old.items ++ spelling_of (plain packet.now)) }
     ensures err { OnErr result (VecUnchanged octets.old octets.new) }
@@ -222,4 +219,20 @@ pub fn encode(packet: &Packet, octets: &mut Vec<u8>) -> Result<(), NoMemory>
     append(octets, &head);
     append_body(packet, octets);
     Ok(())
+}
+
+/// Appends the octets that spell the packet: format, channel, type and body. Each packet has this one spelling.
+///
+/// The packet's fields are in their ranges, with at most 16 octets of user data in a CALL. It takes no memory where the
+/// capacity has room for the octets; else it is refused with `NoMemory` (70) where there is none. ITU-T X.25 (10/96),
+/// section 5.
+pub fn encode(packet: &Packet, octets: &mut Vec<u8>) -> Result<(), NoMemory>
+    requires { IsInRange CALL_OCTETS (plain packet.now) }
+    ensures ok { OnOk result (octets.new.items ≡ octets.old.items ++ spelling_of (plain packet.now)) }
+    // What is appended reads as the packet.
+    ensures again { OnOk result (packet_of CALL_OCTETS (drop (length octets.old.items) octets.new.items) ≡ Ok (plain packet.now)) }
+    ensures err { OnErr result (VecUnchanged octets.old octets.new) }
+    ensures room { vec_len octets.old + length (spelling_of (plain packet.now)) ≤ vec_capacity octets.old → IsOk result }
+{
+    append_packet(packet, octets)
 }
