@@ -202,3 +202,6 @@ pub fn push_information(information: &[u8], text: &mut Text)
         Err(error) => push_packet_fault(error, text),
     }
 }
+
+#[cfg(test)]
+mod tests;

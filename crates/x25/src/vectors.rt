@@ -1,4 +1,4 @@
-//! Test vectors of the FCS and of frames.
+//! Test vectors of the FCS, of frames and of packets.
 ghost use Rattle.std.specs.Prelude.{◌≡◌, true, IsErrOf, OnErr};
 
 use crate::answer::{MOST_OCTETS, answer};
@@ -18,7 +18,7 @@ struct Vector {
 /// The first vector: the check value of the FCS.
 const CHECK_VALUE: u16 = 0x906E;
 
-static VECTORS: [Vector; 12] = [
+static VECTORS: [Vector; 16] = [
     Vector {
         name: "V2",
         line: "> 013febdf",
@@ -38,6 +38,16 @@ static VECTORS: [Vector; 12] = [
         name: "V5",
         line: "> 053f8bb8",
         answer: "> fault 3 address\n",
+    },
+    Vector {
+        name: "V6",
+        line: "> 01001000fb00007702",
+        answer: "> I cmd P=0 S=0 R=0 | RESTART cause=0 diag=0\n",
+    },
+    Vector {
+        name: "V7",
+        line: "< 03001000fb0700c478",
+        answer: "< I cmd P=0 S=0 R=0 | RESTART cause=7 diag=0\n",
     },
     Vector {
         name: "V8",
@@ -78,6 +88,16 @@ static VECTORS: [Vector; 12] = [
         name: "V15",
         line: "> 013febde",
         answer: "> fault 2 fcs\n",
+    },
+    Vector {
+        name: "V16",
+        line: "> 01209d37",
+        answer: "> I cmd P=0 S=0 R=1 | fault 20 diag=38\n",
+    },
+    Vector {
+        name: "V17",
+        line: "> 012210010b431234567000417605",
+        answer: "> I cmd P=0 S=1 R=1 | CALL ch=1 called=123 calling=4567 fac=- data=41\n",
     },
 ];
 
@@ -136,7 +156,7 @@ mod tests {
         let mut writer = Device::new(Vec::new(rt.alloc()));
         assert_eq!(rt; vectors(rt.alloc(), &mut writer)?, 0);
         let lines =
-            "V1 ok\nV2 ok\nV3 ok\nV4 ok\nV5 ok\nV8 ok\nV9 ok\nV10 ok\nV11 ok\nV12 ok\nV13 ok\nV14 ok\nV15 ok\n";
+            "V1 ok\nV2 ok\nV3 ok\nV4 ok\nV5 ok\nV6 ok\nV7 ok\nV8 ok\nV9 ok\nV10 ok\nV11 ok\nV12 ok\nV13 ok\nV14 ok\nV15 ok\nV16 ok\nV17 ok\n";
         assert_eq!(rt; writer.into_inner().as_slice(), lines.as_bytes());
         Ok(())
     }

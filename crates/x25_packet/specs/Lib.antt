@@ -5,4 +5,3 @@ pub mod Spelling
 pub mod PacketError
 pub mod Reading
 pub mod FirstError
-pub mod Text

@@ -13,7 +13,7 @@ number_of BadFacility = 25
 number_of BadParameter = 26
 number_of NoMemory = 70
 
--- Annex E: the diagnostic code that reports the error; 0, no additional information, for a bad digit (profile)
+-- the diagnostic code that reports the error (profile)
 abbrev pub diagnostic_of : PacketError → ℕ
 diagnostic_of TooShort = 38
 diagnostic_of BadFormat = 40

@@ -1,9 +1,8 @@
 //! The digits of an address, ITU-T X.25 (10/96), section 5.2.1.
-ghost use Rattle.std.specs.Prelude.{◌≡◌, ◌==◌, ◌<◌, ◌≤◌, ◌+◌, ◌*◌, ◌/◌, List, ℕ, length, IfSome, IsSome, IsTrue, ◌↔◌, slice_index, true, Some};
+ghost use Rattle.std.specs.Prelude.{◌≡◌, ◌==◌, ◌<◌, ◌≤◌, ◌+◌, ◌*◌, ◌/◌, List, ℕ, length, IfSome, IsSome, IsTrue, ◌↔◌, slice_index, true};
 ghost use Rattle.std.specs.List.{list_all};
 ghost use Rattle.x25_packet.specs.Digits.{NamesDigits, digits_in, digits_of_text, halves_at, halves_of, hold_digits, is_digit, is_figure, is_pair, IsAddress};
 
-use std::fmt;
 use std::marker::Model;
 
 /// The most digits that an address has.
@@ -117,23 +116,5 @@ impl<'a> Digits<'a> {
         let at = self.start + place;
         let octet = self.octets[at / 2];
         if at % 2 == 0 { octet / 16 } else { octet % 16 }
-    }
-}
-
-/// The digits one after the other, `-` where there are none.
-impl fmt::Display for Digits<'_> {
-    ghost use Rattle.x25_packet.specs.Text.{digits_text};
-
-    ghost output = { λ digits. Some (digits_text digits) };
-
-    fn fmt<W: fmt::Write>(&self, out: &mut fmt::Formatter<W>) -> fmt::Result {
-        if self.is_empty() {
-            return write!(out, "-");
-        }
-        for place in 0..self.len() {
-            let digit = self.get(place);
-            write!(out, "{digit}")?;
-        }
-        Ok(())
     }
 }

@@ -1,7 +1,6 @@
-ghost use Rattle.std.specs.Prelude.{◌≡◌, Some};
+ghost use Rattle.std.specs.Prelude.{◌≡◌};
 ghost use Rattle.x25_packet.specs.PacketError.{diagnostic_of, number_of};
 
-use std::fmt;
 use thiserror::Error;
 
 /// Why octets spell no packet: the first ground that applies.
@@ -52,7 +51,7 @@ impl PacketError {
         }
     }
 
-    /// The diagnostic code that reports this error, ITU-T X.25 (10/96), Annex E, or 0 where none does.
+    /// The diagnostic code that reports this error (profile), 0 where none does.
     pub fn diagnostic(self) -> u8
         ensures { result ≡ diagnostic_of self }
     {
@@ -65,20 +64,5 @@ impl PacketError {
             PacketError::BadParameter => 66,
             PacketError::BadDigit | PacketError::NoMemory => 0,
         }
-    }
-}
-
-/// An error as a trace shows it: `fault`, its number and its diagnostic.
-#[derive(Clone, Copy, Debug, PartialEq, Eq)]
-pub struct Fault(pub PacketError);
-
-impl fmt::Display for Fault {
-    ghost use Rattle.x25_packet.specs.Text.{fault_text};
-
-    ghost output = { λ fault. Some (fault_text fault.0) };
-
-    fn fmt<W: fmt::Write>(&self, out: &mut fmt::Formatter<W>) -> fmt::Result {
-        let (number, diagnostic) = (self.0.number(), self.0.diagnostic());
-        write!(out, "fault {number} diag={diagnostic}")
     }
 }

@@ -1,4 +1,4 @@
-//! The packets of X.25, modulo 8: their octets, their values and their text.
+//! The packets of X.25, modulo 8: their octets and their values.
 //!
 //! ITU-T X.25 (10/96), sections 5 and 7.
 #![tactic(auto)]
@@ -7,7 +7,6 @@ mod call;
 mod digits;
 mod error;
 mod facilities;
-mod octets;
 mod packet;
 mod reading;
 mod spelling;
@@ -15,9 +14,8 @@ mod spelling;
 mod tests;
 
 pub use digits::Digits;
-pub use error::{Fault, PacketError};
+pub use error::PacketError;
 pub use facilities::{Directions, Facilities};
-pub use octets::Octets;
 pub use packet::Packet;
 pub use reading::{CALL_OCTETS, channel, decode};
 pub use spelling::encode;

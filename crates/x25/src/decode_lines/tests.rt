@@ -63,7 +63,7 @@ impl Sink for Writer {
 const TRACE: &str = "> 013febdf\n< 01738357\n> 01001000fb00007702\nx\n> 0101\n";
 
 const ANSWERS: &str =
-    "> SABM cmd P=1\n< UA rsp F=1\n> I cmd P=0 S=0 R=0 | 1000fb0000\n? 60\n> fault 1 short\n";
+    "> SABM cmd P=1\n< UA rsp F=1\n> I cmd P=0 S=0 R=0 | RESTART cause=0 diag=0\n? 60\n> fault 1 short\n";
 
 fn decoded(rt: &HostRuntime, input: &[u8]) -> Result<(u8, Vec<u8>), Fail> {
     let mut reader = Device::new(input);
@@ -83,7 +83,7 @@ fn answers_lines(rt: HostRuntime) -> Result<(), Fail> {
         ("> 033f5bec", "> fault 4 undefined ctl=3f\n", 0),
         (
             "> 01001000fb00007702",
-            "> I cmd P=0 S=0 R=0 | 1000fb0000\n",
+            "> I cmd P=0 S=0 R=0 | RESTART cause=0 diag=0\n",
             0,
         ),
         ("> \n> 0101\n", "> fault 1 short\n> fault 1 short\n", 0),
@@ -127,7 +127,7 @@ fn answers_octets_one_by_one(rt: HostRuntime) -> Result<(), Fail> {
 
 #[test]
 fn tells_the_call_that_fails(rt: HostRuntime) -> Result<(), Fail> {
-    for calls in 0..12 {
+    for calls in 0..16 {
         let mut reader = Reader {
             octets: TRACE.as_bytes(),
             most: 7,
@@ -152,7 +152,7 @@ fn tells_the_call_that_fails(rt: HostRuntime) -> Result<(), Fail> {
             is_marked: false,
         };
         let result = decode_lines(rt.alloc(), &mut Device::new(TRACE.as_bytes()), &mut writer);
-        if calls < 10 {
+        if calls < ANSWERS.len().div_ceil(9) {
             assert_eq!(rt; result, Err(Fault::Write));
             assert!(rt; writer.is_marked);
         } else {
@@ -167,7 +167,9 @@ fn tells_the_call_that_fails(rt: HostRuntime) -> Result<(), Fail> {
 #[test]
 fn answers_long_lines(rt: HostRuntime) -> Result<(), Fail> {
     let alloc = rt.alloc();
-    let octets = vec![in alloc; 0xA5u8; 4099]?;
+    let user = vec![in alloc; 0xA5u8; 4096]?;
+    let mut octets = [0x10, 0x01, 0x00].to_vec(alloc)?;
+    octets.extend_from_slice(user.as_slice())?;
     let frame = Frame::I {
         ns: Seq::ZERO,
         nr: Seq::ZERO,
@@ -178,7 +180,8 @@ fn answers_long_lines(rt: HostRuntime) -> Result<(), Fail> {
     encode(Role::Dce, &frame, &mut spelled)?;
     let digits = hex::encode(alloc, spelled.as_slice())?;
     assert_eq!(rt; digits.as_str().len(), 8206);
-    let shown = hex::encode(alloc, octets.as_slice())?;
+    let shown = hex::encode(alloc, user.as_slice())?;
+    let shown = format!(in alloc; "DATA ch=1 S=0 R=0 M=0 Q=0 data={shown}")?;
     let input = format!(in alloc; "< {digits}\n> {digits}00\n> 013febdf\n> {digits}0\n< {digits}")?;
     let output = format!(in alloc;
         "< I cmd P=1 S=0 R=0 | {shown}\n? 60\n> SABM cmd P=1\n? 60\n< I cmd P=1 S=0 R=0 | {shown}\n"
