@@ -23,6 +23,27 @@ channel_of (reset_conf channel) = channel
 channel_of (restart cause diagnostic) = 0
 channel_of restart_conf = 0
 
+-- a packet of a channel, as all but RESTART and its confirmation are
+abbrev pub HasChannel : PlainPacket → Type 0
+HasChannel (restart cause diagnostic) = ⊥
+HasChannel restart_conf = ⊥
+HasChannel _ = Unit {0}
+
+-- the same packet on this channel
+abbrev pub moved_to : ℕ → PlainPacket → PlainPacket
+moved_to to (call channel called calling facilities user) = call to called calling facilities user
+moved_to to (accept channel facilities) = accept to facilities
+moved_to to (clear channel cause diagnostic) = clear to cause diagnostic
+moved_to to (clear_conf channel) = clear_conf to
+moved_to to (user_data channel q m ps pr user) = user_data to q m ps pr user
+moved_to to (rr channel pr) = rr to pr
+moved_to to (rnr channel pr) = rnr to pr
+moved_to to (interrupt channel user) = interrupt to user
+moved_to to (interrupt_conf channel) = interrupt_conf to
+moved_to to (reset channel cause diagnostic) = reset to cause diagnostic
+moved_to to (reset_conf channel) = reset_conf to
+moved_to to v = v
+
 -- Section 5.1.1: the general format identifier, bits 5 to 8 of the first octet. It is 1 for sequence numbers modulo 8;
 -- bit 8 is the qualifier of a data packet. Bit 7, delivery confirmation, is 0 (profile).
 abbrev pub format_of : PlainPacket → ℕ

@@ -1,3 +1,5 @@
+ghost use Rattle.std.specs.Prelude.{◌≡◌, ℕ};
+
 use crate::digits::Digits;
 use x25_bits::Seq;
 
@@ -62,4 +64,77 @@ pub enum Packet<'a> {
         diagnostic: u8,
     },
     RestartConf,
+}
+
+impl<'a> Packet<'a> {
+    ghost use Rattle.x25_packet.specs.PlainPacket.{plain};
+    ghost use Rattle.x25_packet.specs.Spelling.{HasChannel, IsChannel, IsInRange, moved_to};
+
+    /// The same packet on this channel, 1 to 4,095. A RESTART and its confirmation have none.
+    pub fn with_channel(self, channel: u16) -> Packet<'a>
+        requires channel { IsChannel channel }
+        requires kind { HasChannel (plain self) }
+        ensures moved { plain result ≡ moved_to channel (plain self.entry) }
+        ensures range { (most : ℕ) → IsInRange most (plain self.entry) → IsInRange most (plain result) }
+    {
+        match self {
+            Packet::Call {
+                called,
+                calling,
+                facilities,
+                user,
+                ..
+            } => Packet::Call {
+                channel,
+                called,
+                calling,
+                facilities,
+                user,
+            },
+            Packet::Accept { facilities, .. } => Packet::Accept {
+                channel,
+                facilities,
+            },
+            Packet::Clear {
+                cause,
+                diagnostic,
+                ..
+            } => Packet::Clear {
+                channel,
+                cause,
+                diagnostic,
+            },
+            Packet::ClearConf { .. } => Packet::ClearConf { channel },
+            Packet::Data {
+                q,
+                m,
+                ps,
+                pr,
+                user,
+                ..
+            } => Packet::Data {
+                channel,
+                q,
+                m,
+                ps,
+                pr,
+                user,
+            },
+            Packet::Rr { pr, .. } => Packet::Rr { channel, pr },
+            Packet::Rnr { pr, .. } => Packet::Rnr { channel, pr },
+            Packet::Interrupt { user, .. } => Packet::Interrupt { channel, user },
+            Packet::InterruptConf { .. } => Packet::InterruptConf { channel },
+            Packet::Reset {
+                cause,
+                diagnostic,
+                ..
+            } => Packet::Reset {
+                channel,
+                cause,
+                diagnostic,
+            },
+            Packet::ResetConf { .. } => Packet::ResetConf { channel },
+            Packet::Restart { .. } | Packet::RestartConf => unreachable!(),
+        }
+    }
 }

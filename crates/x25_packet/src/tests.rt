@@ -147,3 +147,18 @@ fn channels_and_numbers(rt: HostRuntime) {
     assert_eq!(rt; PacketError::NoMemory.number(), 70);
     assert_eq!(rt; PacketError::NoMemory.diagnostic(), 0);
 }
+
+#[test]
+fn another_channel(rt: HostRuntime) -> Result<(), Fail> {
+    let packet = Packet::Clear {
+        channel: 1,
+        cause: 0,
+        diagnostic: 20,
+    }
+    .with_channel(256);
+    assert_eq!(rt;
+        format!(in rt.alloc(); "{packet}")?.as_str(),
+        "CLEAR ch=256 cause=0 diag=20"
+    );
+    Ok(())
+}
