@@ -6,12 +6,15 @@ ghost use Rattle.x25_frame.specs.Spelling.{IsWithin, bit, information_of};
 ghost use Rattle.x25_frame.specs.Text.{fault_text, octet_text, supervisory_text, why_text};
 ghost use Rattle.x25.specs.Text.{information_text, whole_text};
 
-use crate::text::Text;
+use crate::text::{MOST_OCTETS, ROOM, Text};
 use x25_frame::{Frame, FrameError, Seq};
+
+/// The most characters of a frame or of a fault on one line, without its mark and line feed.
+pub const MOST_TEXT: usize = 8_300;
 
 /// Appends a label and then a bit.
 fn push_bit(label: &[u8], is_set: bool, text: &mut Text)
-    requires room { length text.old + (length label.now + 1) ≤ 65536 }
+    requires room { length text.old + (length label.now + 1) ≤ ROOM }
     ensures text { text.new ≡ text.old ++ (label.now ++ decimal (bit is_set)) }
     ensures size { length text.new ≡ length text.old + (length label.now + 1) }
 {
@@ -21,7 +24,7 @@ fn push_bit(label: &[u8], is_set: bool, text: &mut Text)
 
 /// Appends a label and then a sequence number.
 fn push_number(label: &[u8], number: Seq, text: &mut Text)
-    requires room { length text.old + (length label.now + 1) ≤ 65536 }
+    requires room { length text.old + (length label.now + 1) ≤ ROOM }
     ensures text { text.new ≡ text.old ++ (label.now ++ decimal number.number) }
     ensures size { length text.new ≡ length text.old + (length label.now + 1) }
 {
@@ -30,7 +33,7 @@ fn push_number(label: &[u8], number: Seq, text: &mut Text)
 }
 
 fn push_supervisory(label: &[u8], command: bool, pf: bool, nr: Seq, text: &mut Text)
-    requires room { length text.old + (length label.now + 11) ≤ 65536 }
+    requires room { length text.old + (length label.now + 11) ≤ ROOM }
     ensures text { text.new ≡ text.old ++ (label.now ++ supervisory_text command pf nr.number) }
     ensures size { length text.new ≡ length text.old + (length label.now + 11) }
 {
@@ -47,7 +50,7 @@ fn push_supervisory(label: &[u8], command: bool, pf: bool, nr: Seq, text: &mut T
 /// Appends a label and then octets as hexadecimal digits.
 fn push_labelled(label: &[u8], octets: &[u8], text: &mut Text)
     requires few { length octets.now ≤ 3 }
-    requires room { length text.old + (length label.now + 6) ≤ 65536 }
+    requires room { length text.old + (length label.now + 6) ≤ ROOM }
     ensures text { text.new ≡ text.old ++ (label.now ++ flat_map octet_text octets.now) }
     ensures size { length text.new ≤ length text.old + (length label.now + 6) }
 {
@@ -57,8 +60,8 @@ fn push_labelled(label: &[u8], octets: &[u8], text: &mut Text)
 
 /// Appends the information of an I frame.
 fn push_information(information: &[u8], text: &mut Text)
-    requires few { length information.now ≤ 4103 }
-    requires room { length text.old + (2 * length information.now + 1) ≤ 65536 }
+    requires few { length information.now ≤ MOST_OCTETS }
+    requires room { length text.old + (2 * length information.now + 1) ≤ ROOM }
     ensures text { text.new ≡ text.old ++ information_text information.now }
     ensures size { length text.new ≤ length text.old + (2 * length information.now + 1) }
 {
@@ -66,11 +69,11 @@ fn push_information(information: &[u8], text: &mut Text)
 }
 
 fn push_info(ns: Seq, nr: Seq, p: bool, information: &[u8], text: &mut Text)
-    requires few { length information.now ≤ 4103 }
-    requires room { length text.old + 8300 ≤ 65536 }
+    requires few { length information.now ≤ MOST_OCTETS }
+    requires room { length text.old + MOST_TEXT ≤ ROOM }
     ensures text { text.new ≡ text.old ++ (codes "I cmd P=" ++ decimal (bit p) ++ codes " S=" ++ decimal ns.number
         ++ codes " R=" ++ decimal nr.number ++ codes " | " ++ information_text information.now) }
-    ensures size { length text.new ≤ length text.old + 8300 }
+    ensures size { length text.new ≤ length text.old + MOST_TEXT }
 {
     push_bit(b"I cmd P=", p, text);
     push_number(b" S=", ns, text);
@@ -80,7 +83,7 @@ fn push_info(ns: Seq, nr: Seq, p: bool, information: &[u8], text: &mut Text)
 }
 
 fn push_frame_reject(f: bool, why: [u8; 3], text: &mut Text)
-    requires room { length text.old + 32 ≤ 65536 }
+    requires room { length text.old + 32 ≤ ROOM }
     ensures text { text.new ≡ text.old ++ (codes "FRMR rsp F=" ++ decimal (bit f) ++ (codes " why=" ++ why_text why)) }
     ensures size { length text.new ≤ length text.old + 32 }
 {
@@ -93,9 +96,9 @@ fn push_frame_reject(f: bool, why: [u8; 3], text: &mut Text)
 /// An I frame has at most 4,099 octets of information.
 pub fn push_frame(frame: &Frame, text: &mut Text)
     requires few { IsWithin 4099 (plain frame.now) (information_of (plain frame.now)) }
-    requires room { length text.old + 8300 ≤ 65536 }
+    requires room { length text.old + MOST_TEXT ≤ ROOM }
     ensures text { text.new ≡ text.old ++ whole_text (plain frame.now) }
-    ensures size { length text.new ≤ length text.old + 8300 }
+    ensures size { length text.new ≤ length text.old + MOST_TEXT }
 {
     match frame {
         Frame::I { ns, nr, p, info } => push_info(*ns, *nr, *p, info, text),
@@ -112,9 +115,9 @@ pub fn push_frame(frame: &Frame, text: &mut Text)
 
 /// Appends the error that octets have.
 pub fn push_fault(error: FrameError, text: &mut Text)
-    requires room { length text.old + 8300 ≤ 65536 }
+    requires room { length text.old + MOST_TEXT ≤ ROOM }
     ensures text { text.new ≡ text.old ++ fault_text error }
-    ensures size { length text.new ≤ length text.old + 8300 }
+    ensures size { length text.new ≤ length text.old + MOST_TEXT }
 {
     match error {
         FrameError::Short => text.push(b"fault 1 short"),

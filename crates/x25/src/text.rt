@@ -3,6 +3,7 @@ ghost use Rattle.std.specs.Prelude.{◌≡◌, ◌↔◌, ◌+◌, ◌*◌, ◌�
 ghost use Rattle.std.specs.List.{flat_map};
 ghost use Rattle.x25_frame.specs.Text.{octet_text};
 ghost use Rattle.x25.specs.Text.{octets_text};
+ghost use Rattle.x25.specs.declared.text.TheConstants.{ROOM};
 
 use std::alloc::{AllocError, Global};
 use std::marker::Model;
@@ -10,8 +11,8 @@ use std::marker::Model;
 /// The characters that a text has room for.
 pub const ROOM: usize = 65_536;
 
-/// The most octets that are shown at once.
-const MOST_OCTETS: usize = 4_103;
+/// The most octets of a frame: with 4,099 octets of information, address, control and frame check sequence.
+pub const MOST_OCTETS: usize = 4_103;
 
 /// Characters, with room for `ROOM` of them set aside: no call but `new` takes memory.
 #[derive(Drop)]
@@ -24,7 +25,7 @@ impl Model for Text {
 
     ghost view = { λ text. text.characters.items };
 
-    ghost invariant = { λ text. 65536 ≤ vec_capacity text.characters };
+    ghost invariant = { λ text. ROOM ≤ vec_capacity text.characters };
 }
 
 impl Text {
@@ -63,7 +64,7 @@ impl Text {
 
     /// Appends the characters.
     pub fn push(&mut self, characters: &[u8])
-        requires room { length self.old + length characters.now ≤ 65536 }
+        requires room { length self.old + length characters.now ≤ ROOM }
         ensures text { self.new ≡ self.old ++ characters.now }
         ensures size { length self.new ≡ length self.old + length characters.now }
     {
@@ -73,7 +74,7 @@ impl Text {
     /// Appends a number of one digit.
     pub fn push_digit(&mut self, number: u8)
         requires digit { number < 10 }
-        requires room { length self.old + 1 ≤ 65536 }
+        requires room { length self.old + 1 ≤ ROOM }
         ensures text { self.new ≡ self.old ++ decimal number }
         ensures size { length self.new ≡ length self.old + 1 }
     {
@@ -82,8 +83,8 @@ impl Text {
 
     /// Appends the octets as hexadecimal digits, two for each.
     pub fn push_hexadecimal(&mut self, octets: &[u8])
-        requires few { length octets.now ≤ 4103 }
-        requires room { length self.old + 2 * length octets.now ≤ 65536 }
+        requires few { length octets.now ≤ MOST_OCTETS }
+        requires room { length self.old + 2 * length octets.now ≤ ROOM }
         ensures text { self.new ≡ self.old ++ flat_map octet_text octets.now }
         ensures size { length self.new ≡ length self.old + 2 * length octets.now }
     {
@@ -95,8 +96,8 @@ impl Text {
 
     /// Appends the octets as hexadecimal digits, `-` where there are none.
     pub fn push_octets(&mut self, octets: &[u8])
-        requires few { length octets.now ≤ 4103 }
-        requires room { length self.old + (2 * length octets.now + 1) ≤ 65536 }
+        requires few { length octets.now ≤ MOST_OCTETS }
+        requires room { length self.old + (2 * length octets.now + 1) ≤ ROOM }
         ensures text { self.new ≡ self.old ++ octets_text octets.now }
         ensures size { length self.new ≤ length self.old + (2 * length octets.now + 1) }
     {
