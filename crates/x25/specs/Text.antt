@@ -1,7 +1,7 @@
 -- The text that a trace shows of octets and of frames (profile).
 use Rattle.std.specs.Prelude.{ℕ, List, [], ◌∷◌, ◌++◌, codes, Result, Ok, Err}
 use Rattle.std.specs.List.{flat_map}
-use Rattle.x25_frame.specs.PlainFrame.{PlainFrame, info, rr, rnr, rej, sabm, disc, ua, dm, frmr}
+use Rattle.x25_frame.specs.PlainFrame.{PlainFrame, info}
 use Rattle.x25_frame.specs.Text.{octet_text, frame_text, fault_text}
 use Rattle.x25_frame.specs.declared.error.FrameError.{FrameError}
 

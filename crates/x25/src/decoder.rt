@@ -29,7 +29,7 @@ impl Decoder {
     ghost use Rattle.std.specs.Io.KnownBytes.{Appends};
     ghost use Rattle.x25.specs.Decoded.{answer_to, has_refused, is_refused, output_of};
     ghost use Rattle.x25.specs.Lines.{IsOpen};
-    ghost use Rattle.x25.specs.Stream.{HoldsLine, LeadsFrom};
+    ghost use Rattle.x25.specs.Stream.{HoldsLine, LeadsFrom, WritesEnded};
     ghost use Rattle.x25.specs.Written.{AppendsBeginning};
 
     /// Nothing is held and nothing waits.
@@ -199,6 +199,9 @@ impl Decoder {
         ensures text { (old : Option (List ℕ)) (rest all : List ℕ) (any : Bool)
             → LeadsFrom old (W.contents writer.old) self.old rest all any
             → AppendsBeginning old (W.contents writer.new) all }
+        ensures ended { (old : Option (List ℕ)) (rest all : List ℕ) (any : Bool)
+            → LeadsFrom old (W.contents writer.old) self.old rest all any
+            → result ≡ Fault.Read → WritesEnded old (W.contents writer.new) rest all }
         ensures memory { result ≢ Fault.NoMemory }
         ensures marked { result ≡ Fault.Write → W.is_marked writer.new ≡ true }
     {
