@@ -1,5 +1,5 @@
 -- Two ways to write an octet as two hexadecimal digits.
-use Rattle.std.proofs.Common.{ℕ, zero, suc, ◌≡◌, ◌<◌, ◌/◌, ◌%◌, ◌∷◌, [], List, false, ap, refl, arith, slice_index}
+use Rattle.std.proofs.Common.{ℕ, zero, suc, ◌≡◌, ◌<◌, ◌/◌, ◌%◌, ◌∷◌, [], List, false, refl, arith, slice_index}
 use Rattle.std.specs.Fmt.{digit_glyph}
 use Rattle.hex.specs.Hex.{encode_with, encode_lower, lower_digits}
 use Rattle.x25.specs.OctetText.{octet_text}

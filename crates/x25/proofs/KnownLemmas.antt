@@ -1,9 +1,7 @@
 -- What reads and writes in a row do to the known octets.
-use Rattle.std.proofs.Common.{ℕ, ◌+◌, ◌-◌, ◌<◌, ◌≤◌, length, ◌≡◌, ◌∙◌, List, [], ◌∷◌, ◌++◌, take, drop, Option, Some, None, append_assoc, ap, sym, refl, arith}
-use Rattle.std.specs.Io.KnownBytes.{Appends, Consumes, IsAtEnd}
-use Rattle.std.specs.Prelude.{IfSome}
+use Rattle.std.proofs.Common.{ℕ, ◌-◌, ◌≤◌, length, ◌≡◌, ◌∙◌, List, [], ◌++◌, take, drop, Option, Some, None, append_assoc, ap, sym, arith}
+use Rattle.std.specs.Io.KnownBytes.{Appends}
 use Rattle.std.proofs.lemmas.List.{take-append-drop, append-nil, take_all, length-drop}
-use Rattle.x25.specs.Written.{AppendsBeginning}
 
 pub appends_more : (a b c : Option (List ℕ)) (x y : List ℕ) → Appends a b x → Appends b c y → Appends a c (x ++ y)
 appends_more None b c x y h k = tt

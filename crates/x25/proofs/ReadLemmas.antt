@@ -1,7 +1,7 @@
 -- From the pieces that are read to the whole input.
-use Rattle.std.proofs.Common.{◌≡◌, ◌∙◌, ◌+◌, ◌≤◌, ◌<◌, ◌≢◌, ◌||◌, ℕ, zero, suc, Bool, true, false, List, [], ◌∷◌, ◌++◌, length, take, Option, Some, None, Result, Ok, Err, unwrap_or, ap, sym, refl, arith}
+use Rattle.std.proofs.Common.{◌≡◌, ◌∙◌, ◌+◌, ◌≤◌, ◌||◌, ℕ, zero, suc, Bool, false, List, [], ◌∷◌, ◌++◌, length, take, Option, Some, None, Result, Ok, Err, unwrap_or, ap, sym, refl, arith}
 use Rattle.std.specs.Prelude.{IfSome, IfOk, OnOk, OnErr, MatchResult}
-use Rattle.std.specs.Io.KnownBytes.{Appends, Consumes, IsAtEnd}
+use Rattle.std.specs.Io.KnownBytes.{Consumes, IsAtEnd, Keeps}
 use Rattle.std.proofs.lemmas.List.{length-append}
 use Rattle.x25.specs.Decoded.{output_of, has_refused}
 use Rattle.x25.specs.Stream.{Leads}
@@ -18,6 +18,12 @@ pub consumed : (a b : Option (List ℕ)) (rest octets : List ℕ) → a ≡ Some
 consumed None b rest octets e h = let bad : None ≡ Some rest = e in cc bad
 consumed (Some xs) None rest octets e h = absurd h
 consumed (Some xs) (Some ys) rest octets e h = (ys, refl, sym (same_some xs rest e) ∙ h)
+
+-- a failed read keeps what is left
+pub kept : (a b : Option (List ℕ)) (rest : List ℕ) → a ≡ Some rest → Keeps a b → b ≡ Some rest
+kept None b rest e h = let bad : None ≡ Some rest = e in cc bad
+kept (Some xs) None rest e h = absurd h
+kept (Some xs) (Some ys) rest e h = ap (λ o. Some o) h ∙ e
 
 pub at_end : (a b : Option (List ℕ)) (rest octets : List ℕ) (count : ℕ) → a ≡ Some rest → Consumes a b (take count octets) → count ≡ 0 → IsAtEnd b → rest ≡ []
 at_end None b rest octets count e h none end = let bad : None ≡ Some rest = e in cc bad
@@ -52,7 +58,7 @@ start old line long text refused input no_line not_long no_text none = record {
   status = ap (λ b. b || has_refused input) none;
 }
 
-if_some : (o : Option (List ℕ)) (P : List ℕ → Type 0) → ((input : List ℕ) → o ≡ Some input → P input) → IfSome o P
+pub if_some : (o : Option (List ℕ)) (P : List ℕ → Type 0) → ((input : List ℕ) → o ≡ Some input → P input) → IfSome o P
 if_some None P f = tt
 if_some (Some input) P f = f input refl
 

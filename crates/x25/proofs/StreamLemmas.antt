@@ -1,15 +1,15 @@
 -- A text, a piece at a time.
-use Rattle.std.proofs.Common.{◌≡◌, ◌≢◌, ◌∙◌, ◌≤◌, ◌<◌, ◌+◌, ◌-◌, ◌||◌, ◌&&◌, not, ℕ, zero, suc, Bool, true, false, List, [], ◌∷◌, ◌++◌, length, take, drop, Option, Some, None, ap, sym, refl, subst, arith, nat_eq, nat_lt, nat_le, append_assoc, if◌then◌else◌, codes, get_or, eq-eqb, eqb-true, Result, Ok, Err}
+use Rattle.std.proofs.Common.{◌≡◌, ◌∙◌, ◌<◌, ◌||◌, ℕ, Bool, true, false, List, [], ◌∷◌, ◌++◌, length, take, Option, ap, sym, refl, subst, arith, nat_eq, append_assoc, Result, Ok, Err}
 use Rattle.std.specs.Prelude.{OnOk, OnErr, MatchResult}
 use Rattle.std.specs.List.{flat_map, list_any}
 use Rattle.std.proofs.lemmas.Bool.{ne_eqb}
-use Rattle.std.proofs.lemmas.List.{append-nil, take_all, take-append-le, length-append, length-take}
+use Rattle.std.proofs.lemmas.List.{append-nil}
 use Rattle.std.specs.Io.KnownBytes.{Appends}
-use Rattle.x25.specs.Lines.{IsOpen, lines_of, onto}
+use Rattle.x25.specs.Lines.{IsOpen, lines_of}
 use Rattle.x25.specs.Decoded.{answer_to, is_refused, output_of, has_refused}
-use Rattle.x25.specs.Stream.{most_line, HoldsLine, Leads}
+use Rattle.x25.specs.Stream.{HoldsLine, Leads, WritesEnded}
 use Rattle.x25.specs.Written.{AppendsBeginning}
-use Rattle.x25.proofs.KnownLemmas.{appends_more, appends_none}
+use Rattle.x25.proofs.KnownLemmas.{appends_more}
 
 -- a line that ends
 pub ends_line : (begun rest : List ℕ) → IsOpen begun → lines_of (begun ++ 10 ∷ rest) ≡ begun ∷ lines_of rest
@@ -82,6 +82,16 @@ module _ (old : Option (List ℕ)) where
     sym h.same ∙ ap (λ t. h.written ++ t ++ output_of (h.begun ++ rest)) a.2 ∙ regroup h.written a.0 a.1 (output_of (h.begun ++ rest)),
     appends_more old w v h.written a.0 h.appends a.3,
   )
+
+  pub flushed : (w v : Option (List ℕ)) (line : List ℕ) (long : Bool) (text : List ℕ) (refused : Bool) (rest all : List ℕ) (any : Bool)
+      → Leads old w line long text refused rest all any → Appends w v text → WritesEnded old v rest all
+  flushed w v line long text refused rest all any h a = record {
+    begun = h.begun;
+    is_open = h.is_open;
+    part = h.written ++ text;
+    appends = appends_more old w v h.written text h.appends a;
+    same = h.same;
+  }
 
   pub held : (w : Option (List ℕ)) (line line2 : List ℕ) (long long2 : Bool) (text text2 : List ℕ) (refused refused2 : Bool) (part rest all : List ℕ) (any : Bool)
       → Leads old w line long text refused (part ++ rest) all any → IsOpen part

@@ -26,3 +26,11 @@ pub record Leads (old now : Option (List ℕ)) (line : List ℕ) (is_long : Bool
 
 abbrev pub LeadsFrom : Option (List ℕ) → Option (List ℕ) → Decoder → List ℕ → List ℕ → Bool → Type 0
 LeadsFrom old now d rest all any = Leads old now d.line d.is_long d.text d.is_refused rest all any
+
+-- Written is all of the text but the answers to the open line and to the rest.
+pub record WritesEnded (old now : Option (List ℕ)) (rest all : List ℕ) : Type 0 where
+  pub begun : List ℕ
+  pub is_open : IsOpen begun
+  pub part : List ℕ
+  pub appends : Appends old now part
+  pub same : part ++ output_of (begun ++ rest) ≡ all

@@ -2,7 +2,7 @@
 ghost use Rattle.std.specs.Prelude.{◌≡◌, ◌<◌, ◌-◌, ◌^◌, ℕ, Bool, true, List, Option, Some, if◌then◌else◌, IfOk, OnOk, OnErr, IfSome, IsErrOf, MatchResult, length};
 ghost use Rattle.std.specs.Io.KnownBytes.{Appends};
 ghost use Rattle.x25.specs.Decoded.{output_of, status_of};
-ghost use Rattle.x25.specs.Stream.{LeadsFrom};
+ghost use Rattle.x25.specs.Stream.{LeadsFrom, WritesEnded};
 ghost use Rattle.x25.specs.Written.{AppendsBeginning};
 
 use crate::decoder::Decoder;
@@ -28,6 +28,10 @@ fn decode_pieces<R: Source, W: Sink>(
         → LeadsFrom old (W.contents writer.old) decoder.old input all any
         → MatchResult result (λ status. Appends old (W.contents writer.new) all × (status ≡ (if any then 1 else 0)))
         (λ _. AppendsBeginning old (W.contents writer.new) all) }
+    ensures ended { (old : Option (List ℕ)) (input all : List ℕ) (any : Bool) → R.remaining reader.old ≡ Some input
+        → LeadsFrom old (W.contents writer.old) decoder.old input all any
+        → IsErrOf result Fault.Read
+        → (rest : List ℕ) × (R.remaining reader.new ≡ Some rest) × WritesEnded old (W.contents writer.new) rest all }
     ensures memory { IsErrOf result Fault.NoMemory → ⊥ }
     ensures read { IsErrOf result Fault.Read → R.is_marked reader.new ≡ true }
     ensures write { IsErrOf result Fault.Write → W.is_marked writer.new ≡ true }
@@ -66,6 +70,11 @@ pub fn decode_lines<R: Source, W: Sink>(
     // What was written before a fault is a beginning of it.
     ensures fault { OnErr result (IfSome (R.remaining reader.old) (λ input. length input < 2 ^ 64 - 1
         → AppendsBeginning (W.contents writer.old) (W.contents writer.new) (output_of input))) }
+    // At a failed read the answers to all lines that had ended are written.
+    ensures ended { IsErrOf result Fault.Read → IfSome (R.remaining reader.old) (λ input.
+        (rest : List ℕ) × (R.remaining reader.new ≡ Some rest)
+        × WritesEnded (W.contents writer.old) (W.contents writer.new) rest (output_of input)) }
+
     ensures memory { IsErrOf result Fault.NoMemory → (reader.new ≡ reader.old) × (writer.new ≡ writer.old) }
     ensures read { IsErrOf result Fault.Read → R.is_marked reader.new ≡ true }
     ensures write { IsErrOf result Fault.Write → W.is_marked writer.new ≡ true }

@@ -1,11 +1,11 @@
 //! Lines answered as they come, with at most one line held.
 ghost use Rattle.std.specs.Prelude.{◌≤◌, length};
 
-use crate::answer::{MOST_ANSWER, MOST_OCTETS, answer};
+use crate::answer::{MOST_ANSWER, answer};
 use crate::device::{Failed, Sink, write_all};
 use crate::fault::Fault;
 use crate::lines::split_line;
-use crate::text::{ROOM, Text};
+use crate::text::{MOST_OCTETS, ROOM, Text};
 use std::alloc::{AllocError, Global};
 
 /// The most characters of a line that is held, without its line feed: a mark, a space and 8,206 digits.
@@ -27,15 +27,15 @@ pub struct Decoder {
 impl Decoder {
     ghost use Rattle.std.specs.Prelude.{◌≡◌, ◌≢◌, ◌≤◌, ◌+◌, ◌++◌, ◌∷◌, [], ℕ, Bool, true, false, List, Option, ◌||◌, if◌then◌else◌, IfErr, IfOk, OnOk, OnErr, MatchResult, length};
     ghost use Rattle.std.specs.Io.KnownBytes.{Appends};
-    ghost use Rattle.x25.specs.Decoded.{answer_to, is_refused};
+    ghost use Rattle.x25.specs.Decoded.{answer_to, has_refused, is_refused, output_of};
     ghost use Rattle.x25.specs.Lines.{IsOpen};
-    ghost use Rattle.x25.specs.Stream.{HoldsLine, LeadsFrom};
+    ghost use Rattle.x25.specs.Stream.{HoldsLine, LeadsFrom, WritesEnded};
     ghost use Rattle.x25.specs.Written.{AppendsBeginning};
 
     /// Nothing is held and nothing waits.
     pub fn new(alloc: Global) -> Result<Decoder, AllocError>
-        ensures line { IfOk result (λ d. (d.line ≡ []) × (d.is_long ≡ false)) }
-        ensures text { IfOk result (λ d. (d.text ≡ []) × (d.is_refused ≡ false)) }
+        ensures fresh { IfOk result (λ d. (old : Option (List ℕ)) (input : List ℕ)
+            → LeadsFrom old old d input (output_of input) (has_refused input)) }
     {
         let line = Text::new(alloc)?;
         let text = Text::new(alloc)?;
@@ -81,7 +81,7 @@ impl Decoder {
 
     /// Answers the held line.
     fn answer_held(&mut self)
-        requires room { length self.old.text + 8320 ≤ 65536 }
+        requires room { length self.old.text + MOST_ANSWER ≤ ROOM }
         ensures text { (begun : List ℕ) → HoldsLine begun self.old.line self.old.is_long
             → self.new.text ≡ self.old.text ++ answer_to begun }
         ensures refused { (begun : List ℕ) → HoldsLine begun self.old.line self.old.is_long
@@ -103,7 +103,7 @@ impl Decoder {
 
     /// Makes room for an answer.
     fn make_room<W: Sink>(&mut self, writer: &mut W) -> Result<(), Failed>
-        ensures room { OnOk result (length self.new.text + 8320 ≤ 65536) }
+        ensures room { OnOk result (length self.new.text + MOST_ANSWER ≤ ROOM) }
         ensures leads { (old : Option (List ℕ)) (rest all : List ℕ) (any : Bool)
             → LeadsFrom old (W.contents writer.old) self.old rest all any
             → MatchResult result (λ _. LeadsFrom old (W.contents writer.new) self.new rest all any)
@@ -199,6 +199,9 @@ impl Decoder {
         ensures text { (old : Option (List ℕ)) (rest all : List ℕ) (any : Bool)
             → LeadsFrom old (W.contents writer.old) self.old rest all any
             → AppendsBeginning old (W.contents writer.new) all }
+        ensures ended { (old : Option (List ℕ)) (rest all : List ℕ) (any : Bool)
+            → LeadsFrom old (W.contents writer.old) self.old rest all any
+            → result ≡ Fault.Read → WritesEnded old (W.contents writer.new) rest all }
         ensures memory { result ≢ Fault.NoMemory }
         ensures marked { result ≡ Fault.Write → W.is_marked writer.new ≡ true }
     {

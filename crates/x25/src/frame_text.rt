@@ -8,11 +8,14 @@ ghost use Rattle.x25.specs.PacketText.{information_text};
 ghost use Rattle.x25.specs.FrameText.{fault_text, frame_text, supervisory_text, why_text};
 
 use crate::packet_text::push_information;
-use crate::text::Text;
+use crate::text::{ROOM, Text};
 use x25_frame::{Frame, FrameError, Seq};
 
+/// The most characters of a frame or of a fault on one line, without its mark and line feed.
+pub const MOST_TEXT: usize = 8_300;
+
 fn push_supervisory(label: &[u8], command: bool, pf: bool, nr: Seq, text: &mut Text)
-    requires room { length text.old + (length label.now + 11) ≤ 65536 }
+    requires room { length text.old + (length label.now + 11) ≤ ROOM }
     ensures text { text.new ≡ text.old ++ (label.now ++ supervisory_text command pf nr.number) }
     ensures size { length text.new ≡ length text.old + (length label.now + 11) }
 {
@@ -29,7 +32,7 @@ fn push_supervisory(label: &[u8], command: bool, pf: bool, nr: Seq, text: &mut T
 /// Appends a label and then octets as hexadecimal digits.
 fn push_labelled(label: &[u8], octets: &[u8], text: &mut Text)
     requires few { length octets.now ≤ 3 }
-    requires room { length text.old + (length label.now + 6) ≤ 65536 }
+    requires room { length text.old + (length label.now + 6) ≤ ROOM }
     ensures text { text.new ≡ text.old ++ (label.now ++ flat_map octet_text octets.now) }
     ensures size { length text.new ≤ length text.old + (length label.now + 6) }
 {
@@ -38,10 +41,10 @@ fn push_labelled(label: &[u8], octets: &[u8], text: &mut Text)
 }
 
 fn push_info(ns: Seq, nr: Seq, p: bool, information: &[u8], text: &mut Text)
-    requires { length text.old + 8300 ≤ 65536 }
+    requires { length text.old + MOST_TEXT ≤ ROOM }
     ensures text { text.new ≡ text.old ++ (codes "I cmd P=" ++ decimal (bit p) ++ codes " S=" ++ decimal ns.number
         ++ codes " R=" ++ decimal nr.number ++ codes " | " ++ information_text information.now) }
-    ensures size { length text.new ≤ length text.old + 8300 }
+    ensures size { length text.new ≤ length text.old + MOST_TEXT }
 {
     text.push_bit(b"I cmd P=", p);
     text.push_seq(b" S=", ns);
@@ -51,7 +54,7 @@ fn push_info(ns: Seq, nr: Seq, p: bool, information: &[u8], text: &mut Text)
 }
 
 fn push_frame_reject(f: bool, why: [u8; 3], text: &mut Text)
-    requires room { length text.old + 32 ≤ 65536 }
+    requires room { length text.old + 32 ≤ ROOM }
     ensures text { text.new ≡ text.old ++ (codes "FRMR rsp F=" ++ decimal (bit f) ++ (codes " why=" ++ why_text why)) }
     ensures size { length text.new ≤ length text.old + 32 }
 {
@@ -61,9 +64,9 @@ fn push_frame_reject(f: bool, why: [u8; 3], text: &mut Text)
 
 /// Appends a frame on one line.
 pub fn push_frame(frame: &Frame, text: &mut Text)
-    requires { length text.old + 8300 ≤ 65536 }
+    requires { length text.old + MOST_TEXT ≤ ROOM }
     ensures text { text.new ≡ text.old ++ frame_text (plain frame.now) }
-    ensures size { length text.new ≤ length text.old + 8300 }
+    ensures size { length text.new ≤ length text.old + MOST_TEXT }
 {
     match frame {
         Frame::I { ns, nr, p, info } => push_info(*ns, *nr, *p, info, text),
@@ -80,9 +83,9 @@ pub fn push_frame(frame: &Frame, text: &mut Text)
 
 /// Appends the error that octets have.
 pub fn push_fault(error: FrameError, text: &mut Text)
-    requires room { length text.old + 8300 ≤ 65536 }
+    requires room { length text.old + MOST_TEXT ≤ ROOM }
     ensures text { text.new ≡ text.old ++ fault_text error }
-    ensures size { length text.new ≤ length text.old + 8300 }
+    ensures size { length text.new ≤ length text.old + MOST_TEXT }
 {
     match error {
         FrameError::Short => text.push(b"fault 1 short"),

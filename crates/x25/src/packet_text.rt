@@ -5,24 +5,17 @@ ghost use Rattle.x25_packet.specs.Spelling.{IsInRange};
 ghost use Rattle.x25.specs.OctetText.{octets_text};
 ghost use Rattle.x25.specs.PacketText.{addresses_text, digits_text, fields_text, information_text, marks_text, numbers_text, packet_fault_text, packet_text, reason_text};
 
-use crate::text::Text;
+use crate::text::{MOST_OCTETS, ROOM, Text};
 use x25_frame::Seq;
 use x25_packet::{Digits, Packet, PacketError, decode};
 
-/// Appends a label and then a number.
-fn push_decimal(label: &[u8], number: u16, text: &mut Text)
-    requires room { length text.old + (length label.now + 5) ≤ 65536 }
-    ensures text { text.new ≡ text.old ++ (label.now ++ decimal number) }
-    ensures size { length text.new ≤ length text.old + (length label.now + 5) }
-{
-    text.push(label);
-    text.push_decimal(number);
-}
+/// The most characters of a packet or of its error on one line.
+pub const MOST_PACKET_TEXT: usize = 8_260;
 
 /// Appends a label and then octets.
 fn push_field(label: &[u8], octets: &[u8], text: &mut Text)
-    requires few { length octets.now ≤ 4103 }
-    requires room { length text.old + (length label.now + (2 * length octets.now + 1)) ≤ 65536 }
+    requires few { length octets.now ≤ MOST_OCTETS }
+    requires room { length text.old + (length label.now + (2 * length octets.now + 1)) ≤ ROOM }
     ensures text { text.new ≡ text.old ++ (label.now ++ octets_text octets.now) }
     ensures size { length text.new ≤ length text.old + (length label.now + (2 * length octets.now + 1)) }
 {
@@ -31,7 +24,7 @@ fn push_field(label: &[u8], octets: &[u8], text: &mut Text)
 }
 
 fn push_digits(digits: &Digits, text: &mut Text)
-    requires room { length text.old + length digits.now ≤ 65536 }
+    requires room { length text.old + length digits.now ≤ ROOM }
     ensures text { text.new ≡ text.old ++ map (λ digit. 48 + digit) digits.now }
     ensures size { length text.new ≡ length text.old + length digits.now }
 {
@@ -42,7 +35,7 @@ fn push_digits(digits: &Digits, text: &mut Text)
 
 /// Appends a label and then an address.
 fn push_address(label: &[u8], digits: &Digits, text: &mut Text)
-    requires room { length text.old + (length label.now + 16) ≤ 65536 }
+    requires room { length text.old + (length label.now + 16) ≤ ROOM }
     ensures text { text.new ≡ text.old ++ (label.now ++ digits_text digits.now) }
     ensures size { length text.new ≤ length text.old + (length label.now + 16) }
 {
@@ -56,16 +49,16 @@ fn push_address(label: &[u8], digits: &Digits, text: &mut Text)
 
 /// Appends a cause and a diagnostic.
 fn push_reason(cause: u8, diagnostic: u8, text: &mut Text)
-    requires room { length text.old + 23 ≤ 65536 }
+    requires room { length text.old + 23 ≤ ROOM }
     ensures text { text.new ≡ text.old ++ reason_text cause diagnostic }
     ensures size { length text.new ≤ length text.old + 23 }
 {
-    push_decimal(b" cause=", u16::from(cause), text);
-    push_decimal(b" diag=", u16::from(diagnostic), text);
+    text.push_number(b" cause=", u16::from(cause));
+    text.push_number(b" diag=", u16::from(diagnostic));
 }
 
 fn push_addresses(called: &Digits, calling: &Digits, text: &mut Text)
-    requires room { length text.old + 49 ≤ 65536 }
+    requires room { length text.old + 49 ≤ ROOM }
     ensures text { text.new ≡ text.old ++ addresses_text called.now calling.now }
     ensures size { length text.new ≤ length text.old + 49 }
 {
@@ -76,7 +69,7 @@ fn push_addresses(called: &Digits, calling: &Digits, text: &mut Text)
 fn push_fields(facilities: &[u8], user: &[u8], text: &mut Text)
     requires facilities { length facilities.now ≤ 6 }
     requires user { length user.now ≤ 16 }
-    requires room { length text.old + 57 ≤ 65536 }
+    requires room { length text.old + 57 ≤ ROOM }
     ensures text { text.new ≡ text.old ++ fields_text facilities.now user.now }
     ensures size { length text.new ≤ length text.old + 57 }
 {
@@ -85,7 +78,7 @@ fn push_fields(facilities: &[u8], user: &[u8], text: &mut Text)
 }
 
 fn push_marks(m: bool, q: bool, text: &mut Text)
-    requires room { length text.old + 8 ≤ 65536 }
+    requires room { length text.old + 8 ≤ ROOM }
     ensures text { text.new ≡ text.old ++ marks_text m q }
     ensures size { length text.new ≡ length text.old + 8 }
 {
@@ -94,7 +87,7 @@ fn push_marks(m: bool, q: bool, text: &mut Text)
 }
 
 fn push_numbers(ps: Seq, pr: Seq, text: &mut Text)
-    requires room { length text.old + 8 ≤ 65536 }
+    requires room { length text.old + 8 ≤ ROOM }
     ensures text { text.new ≡ text.old ++ numbers_text ps.number pr.number }
     ensures size { length text.new ≡ length text.old + 8 }
 {
@@ -106,9 +99,9 @@ fn push_numbers(ps: Seq, pr: Seq, text: &mut Text)
 #[tactic(auto, using(crate::proofs::FacilityLength::few_facilities))]
 pub fn push_packet(packet: &Packet, text: &mut Text)
     requires range { IsInRange 16 (plain packet.now) }
-    requires room { length text.old + 8260 ≤ 65536 }
+    requires room { length text.old + MOST_PACKET_TEXT ≤ ROOM }
     ensures text { text.new ≡ text.old ++ packet_text (plain packet.now) }
-    ensures size { length text.new ≤ length text.old + 8260 }
+    ensures size { length text.new ≤ length text.old + MOST_PACKET_TEXT }
 {
     match packet {
         Packet::Call {
@@ -118,7 +111,7 @@ pub fn push_packet(packet: &Packet, text: &mut Text)
             facilities,
             user,
         } => {
-            push_decimal(b"CALL ch=", *channel, text);
+            text.push_number(b"CALL ch=", *channel);
             push_addresses(called, calling, text);
             push_fields(facilities, user, text);
         }
@@ -126,7 +119,7 @@ pub fn push_packet(packet: &Packet, text: &mut Text)
             channel,
             facilities,
         } => {
-            push_decimal(b"ACCEPT ch=", *channel, text);
+            text.push_number(b"ACCEPT ch=", *channel);
             push_field(b" fac=", facilities, text);
         }
         Packet::Clear {
@@ -134,10 +127,10 @@ pub fn push_packet(packet: &Packet, text: &mut Text)
             cause,
             diagnostic,
         } => {
-            push_decimal(b"CLEAR ch=", *channel, text);
+            text.push_number(b"CLEAR ch=", *channel);
             push_reason(*cause, *diagnostic, text);
         }
-        Packet::ClearConf { channel } => push_decimal(b"CLEARCONF ch=", *channel, text),
+        Packet::ClearConf { channel } => text.push_number(b"CLEARCONF ch=", *channel),
         Packet::Data {
             channel,
             q,
@@ -146,33 +139,33 @@ pub fn push_packet(packet: &Packet, text: &mut Text)
             pr,
             user,
         } => {
-            push_decimal(b"DATA ch=", *channel, text);
+            text.push_number(b"DATA ch=", *channel);
             push_numbers(*ps, *pr, text);
             push_marks(*m, *q, text);
             push_field(b" data=", user, text);
         }
         Packet::Rr { channel, pr } => {
-            push_decimal(b"RR ch=", *channel, text);
+            text.push_number(b"RR ch=", *channel);
             text.push_seq(b" R=", *pr);
         }
         Packet::Rnr { channel, pr } => {
-            push_decimal(b"RNR ch=", *channel, text);
+            text.push_number(b"RNR ch=", *channel);
             text.push_seq(b" R=", *pr);
         }
         Packet::Interrupt { channel, user } => {
-            push_decimal(b"INT ch=", *channel, text);
+            text.push_number(b"INT ch=", *channel);
             push_field(b" data=", user, text);
         }
-        Packet::InterruptConf { channel } => push_decimal(b"INTCONF ch=", *channel, text),
+        Packet::InterruptConf { channel } => text.push_number(b"INTCONF ch=", *channel),
         Packet::Reset {
             channel,
             cause,
             diagnostic,
         } => {
-            push_decimal(b"RESET ch=", *channel, text);
+            text.push_number(b"RESET ch=", *channel);
             push_reason(*cause, *diagnostic, text);
         }
-        Packet::ResetConf { channel } => push_decimal(b"RESETCONF ch=", *channel, text),
+        Packet::ResetConf { channel } => text.push_number(b"RESETCONF ch=", *channel),
         Packet::Restart { cause, diagnostic } => {
             text.push(b"RESTART");
             push_reason(*cause, *diagnostic, text);
@@ -183,19 +176,19 @@ pub fn push_packet(packet: &Packet, text: &mut Text)
 
 /// Appends the error that octets have that spell no packet.
 fn push_packet_fault(error: PacketError, text: &mut Text)
-    requires room { length text.old + 22 ≤ 65536 }
+    requires room { length text.old + 22 ≤ ROOM }
     ensures text { text.new ≡ text.old ++ packet_fault_text error }
     ensures size { length text.new ≤ length text.old + 22 }
 {
-    push_decimal(b"fault ", u16::from(error.number()), text);
-    push_decimal(b" diag=", u16::from(error.diagnostic()), text);
+    text.push_number(b"fault ", u16::from(error.number()));
+    text.push_number(b" diag=", u16::from(error.diagnostic()));
 }
 
 /// Appends what the information of an I frame is: a packet, or its error.
 pub fn push_information(information: &[u8], text: &mut Text)
-    requires room { length text.old + 8260 ≤ 65536 }
+    requires room { length text.old + MOST_PACKET_TEXT ≤ ROOM }
     ensures text { text.new ≡ text.old ++ information_text information.now }
-    ensures size { length text.new ≤ length text.old + 8260 }
+    ensures size { length text.new ≤ length text.old + MOST_PACKET_TEXT }
 {
     match decode(information) {
         Ok(packet) => push_packet(&packet, text),

@@ -38,11 +38,16 @@ impl From<AllocError> for SettingsError {
 fn command<'a>(alloc: Global) -> Result<Command<'a>, AllocError>
     ensures { IfOk result (λ c. app_of c ≡ program) }
 {
+    let decode = Command::new(alloc, "decode").about(
+        "Answer lines of octets, `> HEX` from the DTE and `< HEX` from the DCE, by lines of text",
+    );
+    let vectors = Command::new(alloc, "vectors").about("Run the stored test vectors");
     Command::new(alloc, "x25")
+        .about("X.25 packet layer over LAPB, on lines of text")
         .no_binary_name(true)
         .subcommand_required(true)
-        .subcommand(Command::new(alloc, "decode"))?
-        .subcommand(Command::new(alloc, "vectors"))
+        .subcommand(decode)?
+        .subcommand(vectors)
 }
 
 /// Whether this is the only word.

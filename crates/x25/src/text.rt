@@ -3,6 +3,7 @@ ghost use Rattle.std.specs.Prelude.{◌≡◌, ◌↔◌, ◌+◌, ◌*◌, ◌�
 ghost use Rattle.std.specs.List.{flat_map};
 ghost use Rattle.x25_frame.specs.Spelling.{bit};
 ghost use Rattle.x25.specs.OctetText.{octet_text, octets_text};
+ghost use Rattle.x25.specs.declared.text.TheConstants.{ROOM};
 
 use itoa::Buffer;
 use std::alloc::{AllocError, Global};
@@ -12,8 +13,8 @@ use x25_frame::Seq;
 /// The characters that a text has room for.
 pub const ROOM: usize = 65_536;
 
-/// The most octets that are shown at once.
-const MOST_OCTETS: usize = 4_103;
+/// The most octets of a frame: with 4,099 octets of information, address, control and frame check sequence.
+pub const MOST_OCTETS: usize = 4_103;
 
 /// Characters, with room for `ROOM` of them set aside: no call but `new` takes memory.
 #[derive(Drop)]
@@ -26,7 +27,7 @@ impl Model for Text {
 
     ghost view = { λ text. text.characters.items };
 
-    ghost invariant = { λ text. 65536 ≤ vec_capacity text.characters };
+    ghost invariant = { λ text. ROOM ≤ vec_capacity text.characters };
 }
 
 impl Text {
@@ -65,7 +66,7 @@ impl Text {
 
     /// Appends the characters.
     pub fn push(&mut self, characters: &[u8])
-        requires room { length self.old + length characters.now ≤ 65536 }
+        requires room { length self.old + length characters.now ≤ ROOM }
         ensures text { self.new ≡ self.old ++ characters.now }
         ensures size { length self.new ≡ length self.old + length characters.now }
     {
@@ -75,7 +76,7 @@ impl Text {
     /// Appends a number of one digit.
     pub fn push_digit(&mut self, number: u8)
         requires digit { number < 10 }
-        requires room { length self.old + 1 ≤ 65536 }
+        requires room { length self.old + 1 ≤ ROOM }
         ensures text { self.new ≡ self.old ++ decimal number }
         ensures size { length self.new ≡ length self.old + 1 }
     {
@@ -84,7 +85,7 @@ impl Text {
 
     /// Appends a label and then a bit.
     pub fn push_bit(&mut self, label: &[u8], is_set: bool)
-        requires room { length self.old + (length label.now + 1) ≤ 65536 }
+        requires room { length self.old + (length label.now + 1) ≤ ROOM }
         ensures text { self.new ≡ self.old ++ (label.now ++ decimal (bit is_set)) }
         ensures size { length self.new ≡ length self.old + (length label.now + 1) }
     {
@@ -94,7 +95,7 @@ impl Text {
 
     /// Appends a label and then a sequence number.
     pub fn push_seq(&mut self, label: &[u8], number: Seq)
-        requires room { length self.old + (length label.now + 1) ≤ 65536 }
+        requires room { length self.old + (length label.now + 1) ≤ ROOM }
         ensures text { self.new ≡ self.old ++ (label.now ++ decimal number.number) }
         ensures size { length self.new ≡ length self.old + (length label.now + 1) }
     {
@@ -102,20 +103,21 @@ impl Text {
         self.push_digit(number.get());
     }
 
-    /// Appends a number in decimal.
-    pub fn push_decimal(&mut self, number: u16)
-        requires room { length self.old + 5 ≤ 65536 }
-        ensures text { self.new ≡ self.old ++ decimal number }
-        ensures size { length self.new ≤ length self.old + 5 }
+    /// Appends a label and then a number in decimal.
+    pub fn push_number(&mut self, label: &[u8], number: u16)
+        requires room { length self.old + (length label.now + 5) ≤ ROOM }
+        ensures text { self.new ≡ self.old ++ (label.now ++ decimal number) }
+        ensures size { length self.new ≤ length self.old + (length label.now + 5) }
     {
         let mut buffer = Buffer::new();
+        self.push(label);
         self.push(buffer.format(number).as_bytes());
     }
 
     /// Appends the octets as hexadecimal digits, two for each.
     pub fn push_hexadecimal(&mut self, octets: &[u8])
-        requires few { length octets.now ≤ 4103 }
-        requires room { length self.old + 2 * length octets.now ≤ 65536 }
+        requires few { length octets.now ≤ MOST_OCTETS }
+        requires room { length self.old + 2 * length octets.now ≤ ROOM }
         ensures text { self.new ≡ self.old ++ flat_map octet_text octets.now }
         ensures size { length self.new ≡ length self.old + 2 * length octets.now }
     {
@@ -127,8 +129,8 @@ impl Text {
 
     /// Appends the octets as hexadecimal digits, `-` where there are none.
     pub fn push_octets(&mut self, octets: &[u8])
-        requires few { length octets.now ≤ 4103 }
-        requires room { length self.old + (2 * length octets.now + 1) ≤ 65536 }
+        requires few { length octets.now ≤ MOST_OCTETS }
+        requires room { length self.old + (2 * length octets.now + 1) ≤ ROOM }
         ensures text { self.new ≡ self.old ++ octets_text octets.now }
         ensures size { length self.new ≤ length self.old + (2 * length octets.now + 1) }
     {

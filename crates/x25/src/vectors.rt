@@ -1,10 +1,10 @@
 //! Test vectors of the FCS, of frames and of packets.
 ghost use Rattle.std.specs.Prelude.{◌≡◌, true, IsErrOf, OnErr};
 
-use crate::answer::{MOST_OCTETS, answer};
+use crate::answer::answer;
 use crate::device::{Failed, Sink, write_all};
 use crate::fault::Fault;
-use crate::text::Text;
+use crate::text::{MOST_OCTETS, Text};
 use std::alloc::Global;
 use x25_bits::fcs;
 

@@ -1,4 +1,4 @@
-use Rattle.std.proofs.Common.{◌≡◌, ◌+◌, ◌≤◌, ◌<◌, ℕ, List, Option, Some, Bool, length}
+use Rattle.std.proofs.Common.{◌≡◌, ◌+◌, ◌≤◌, ℕ, List, Option, Some, Bool, length}
 use Rattle.x25.specs.Stream.{LeadsFrom}
 use Rattle.x25.proofs.decode_lines.decode_pieces.Given as goal
 

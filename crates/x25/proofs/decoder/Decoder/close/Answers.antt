@@ -1,4 +1,4 @@
-use Rattle.std.proofs.Common.{◌≡◌, ◌||◌, ◌++◌, ◌∷◌, ap}
+use Rattle.std.proofs.Common.{◌||◌, ◌++◌, ◌∷◌, ap}
 use Rattle.x25.proofs.StreamLemmas.{answered, direct, held}
 use Rattle.x25.proofs.decoder.Decoder.close.Goals as goal
 

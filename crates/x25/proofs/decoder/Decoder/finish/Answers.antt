@@ -1,4 +1,4 @@
-use Rattle.std.proofs.Common.{◌≡◌, ◌∙◌, [], true, false, ap, length, sym, refl}
+use Rattle.std.proofs.Common.{◌≡◌, ◌∙◌, [], true, false, ap, length, sym}
 use Rattle.x25.proofs.StreamLemmas.{ended_by, last}
 use Rattle.x25.proofs.decoder.Decoder.finish.Goals as goal
 
