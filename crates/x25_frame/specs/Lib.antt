@@ -2,4 +2,3 @@ pub mod PlainFrame
 pub mod Spelling
 pub mod FrameError
 pub mod Reading
-pub mod Text

@@ -1,8 +1,6 @@
-ghost use Rattle.std.specs.Prelude.{◌≡◌, Some};
+ghost use Rattle.std.specs.Prelude.{◌≡◌};
 ghost use Rattle.x25_frame.specs.FrameError.{number_of};
 
-use crate::octet::Octet;
-use std::fmt;
 use thiserror::Error;
 
 /// Why octets spell no frame: the first ground that applies, in this order.
@@ -42,33 +40,6 @@ impl FrameError {
             FrameError::Undefined { .. } => 4,
             FrameError::NoInfoAllowed { .. } => 5,
             FrameError::TooLong => 6,
-        }
-    }
-}
-
-/// An error as a trace shows it.
-#[derive(Clone, Copy, Debug, PartialEq, Eq)]
-pub struct Fault(pub FrameError);
-
-impl fmt::Display for Fault {
-    ghost use Rattle.x25_frame.specs.Text.{fault_text};
-
-    ghost output = { λ fault. Some (fault_text fault.0) };
-
-    fn fmt<W: fmt::Write>(&self, out: &mut fmt::Formatter<W>) -> fmt::Result {
-        match self.0 {
-            FrameError::Short => write!(out, "fault 1 short"),
-            FrameError::BadFcs => write!(out, "fault 2 fcs"),
-            FrameError::BadAddress => write!(out, "fault 3 address"),
-            FrameError::Undefined { control } => {
-                let control = Octet(control);
-                write!(out, "fault 4 undefined ctl={control}")
-            }
-            FrameError::NoInfoAllowed { control } => {
-                let control = Octet(control);
-                write!(out, "fault 5 info ctl={control}")
-            }
-            FrameError::TooLong => write!(out, "fault 6 long"),
         }
     }
 }

@@ -1,0 +1,9 @@
+pub mod OctetText
+pub mod PacketText
+pub mod FrameText
+pub mod Lines
+pub mod Decoded
+pub mod Written
+pub mod Stream
+pub mod Program
+pub mod Words

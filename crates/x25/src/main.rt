@@ -1,0 +1,85 @@
+//! `x25`: traces of X.25 on lines of text.
+//!
+//! Exit statuses: 0; 1 where a line was refused; 2 for words that ask for nothing it does, help words too; 3 where a
+//! read, a write or memory failed.
+#![tactic(auto)]
+
+mod answer;
+mod decode_lines;
+mod decoder;
+mod device;
+mod fault;
+mod frame_text;
+mod lines;
+mod packet_text;
+mod settings;
+mod text;
+mod vectors;
+
+use crate::decode_lines::decode_lines;
+use crate::device::Device;
+use crate::fault::Fault;
+use crate::settings::{SettingsError, Task, settings};
+use crate::vectors::vectors;
+use std::io::ErrorKind;
+use std::process::ExitCode;
+use std::rt::Env;
+use std::{env, io};
+
+/// The exit status of a usage fault.
+const USAGE: u8 = 2;
+
+/// The exit status of a fault.
+const FAULT: u8 = 3;
+
+fn report<R: Eprint>(rt: &R, fault: Fault) -> u8 {
+    let _ = eprintln!(rt; "{fault}");
+    FAULT
+}
+
+fn run<R: Input + Print + Eprint + AllocGlobal>(rt: &R, task: Task) -> u8 {
+    let mut writer = Device::new(io::writer(rt));
+    let result = match task {
+        Task::Decode => {
+            let mut reader = Device::new(rt.reader());
+            decode_lines(rt.alloc(), &mut reader, &mut writer)
+        }
+        Task::Vectors => vectors(rt.alloc(), &mut writer),
+    };
+    match result {
+        Ok(status) => status,
+        Err(fault) => report(rt, fault),
+    }
+}
+
+fn start<R: Input + Print + Eprint + AllocGlobal>(rt: &R, words: &[String]) -> u8 {
+    match settings(rt.alloc(), words) {
+        Ok(task) => run(rt, task),
+        Err(SettingsError::NoMemory) => report(rt, Fault::NoMemory),
+        Err(SettingsError::Usage(error)) => {
+            let _ = rt.eprint(&error);
+            USAGE
+        }
+    }
+}
+
+fn exit_status<R: Input + Print + Eprint + Env + AllocGlobal>(rt: &R) -> u8 {
+    let words = match env::args(rt) {
+        Ok(words) => words,
+        Err(error) if error.kind() == ErrorKind::OutOfMemory => {
+            return report(rt, Fault::NoMemory);
+        }
+        Err(_) => {
+            let _ = eprintln!(rt; "the words are no text");
+            return USAGE;
+        }
+    };
+    let Ok(words) = words.skip(1).collect::<Vec<String>>(rt.alloc()) else {
+        return report(rt, Fault::NoMemory);
+    };
+    start(rt, words.as_slice())
+}
+
+fn main(rt: HostRuntime) -> ExitCode {
+    ExitCode::from(exit_status(&rt))
+}

@@ -1,0 +1,152 @@
+-- Half octets by their place, and digits packed into octets.
+use Rattle.std.proofs.Common.{ℕ, zero, suc, ◌+◌, ◌-◌, ◌*◌, ◌/◌, ◌%◌, ◌<◌, ◌≤◌, ◌≡◌, ◌≢◌, ◌∙◌, Bool, true, false, List, [], ◌∷◌, ◌++◌, length, get_or, take, drop, refl, ap, sym, arith, nat_eq, length-drop}
+use Rattle.std.specs.Prelude.{◌&&◌, nat_le}
+use Rattle.std.specs.List.{list_all}
+use Rattle.std.proofs.lemmas.List.{get_or-drop, get_or-take, length-take-le, length-map, drop_all, drop_more, take-append-drop}
+use Rattle.std.proofs.lemmas.List.Folds.{list_all-append}
+use Rattle.std.proofs.lemmas.Bool.{and_parts, leb-true, le-leb, and_from}
+use Rattle.x25_packet.specs.Digits.{halves_of, halves_at, digits_in, digits_of_text, is_digit, is_pair, is_figure, hold_digits, IsAddress, NamesDigits}
+
+pub length-halves_of : (octets : List ℕ) → length (halves_of octets) ≡ 2 * length octets
+unfolding halves_of
+length-halves_of [] = refl
+length-halves_of (b ∷ octets) = let rest = length-halves_of octets in omega arith
+
+pub high_half : (octets : List ℕ) (k : ℕ) → get_or (halves_of octets) (2 * k) 0 ≡ get_or octets k 0 / 16
+unfolding halves_of
+high_half [] k = refl
+high_half (b ∷ octets) zero = refl
+high_half (b ∷ octets) (suc k) = let at : 2 * suc k ≡ suc (suc (2 * k)) = omega arith in rw at (high_half octets k)
+
+pub low_half : (octets : List ℕ) (k : ℕ) → get_or (halves_of octets) (2 * k + 1) 0 ≡ get_or octets k 0 % 16
+unfolding halves_of
+low_half [] k = refl
+low_half (b ∷ octets) zero = refl
+low_half (b ∷ octets) (suc k) = let at : 2 * suc k + 1 ≡ suc (suc (2 * k + 1)) = omega arith in rw at (low_half octets k)
+
+-- ---- what holds of each element of a list holds of its parts
+
+pub list_all-take : (p : ℕ → Bool) (n : ℕ) (xs : List ℕ) → list_all p xs ≡ true → list_all p (take n xs) ≡ true
+list_all-take p n xs h =
+    let whole : list_all p (take n xs ++ drop n xs) ≡ true = rw take-append-drop h in
+    (and_parts _ _ (sym (list_all-append p (take n xs) (drop n xs)) ∙ whole)).0
+
+pub list_all-drop : (p : ℕ → Bool) (n : ℕ) (xs : List ℕ) → list_all p xs ≡ true → list_all p (drop n xs) ≡ true
+list_all-drop p n xs h =
+    let whole : list_all p (take n xs ++ drop n xs) ≡ true = rw take-append-drop h in
+    (and_parts _ _ (sym (list_all-append p (take n xs) (drop n xs)) ∙ whole)).1
+
+pub list_all-get : (p : ℕ → Bool) (xs : List ℕ) (i : ℕ) → list_all p xs ≡ true → i < length xs → p (get_or xs i 0) ≡ true
+list_all-get p [] i h small = absurd (omega arith)
+list_all-get p (x ∷ xs) zero h small = (and_parts _ _ h).0
+list_all-get p (x ∷ xs) (suc i) h small = list_all-get p xs i (and_parts _ _ h).1 (omega arith)
+
+-- ---- a value whose fields name digits
+
+pub length-digits_in : (t : Bool) (octets : List ℕ) (start len : ℕ) → NamesDigits t octets start len → length (digits_in t octets start len) ≡ len
+length-digits_in true octets start len h = rw length-map (sym h.1)
+length-digits_in false octets start len h =
+    let room : len ≤ length (drop start (halves_of octets)) = rw (length-drop, length-halves_of) (omega arith) in
+    length-take-le len (drop start (halves_of octets)) room
+
+figures_are_digits : (text : List ℕ) → list_all is_figure text ≡ true → list_all is_digit (digits_of_text text) ≡ true
+figures_are_digits [] h = refl
+figures_are_digits (c ∷ text) h =
+    let parts = and_parts (is_figure c) (list_all is_figure text) h in
+    let low : c ≤ 57 = leb-true c 57 (and_parts (nat_le 48 c) (nat_le c 57) parts.0).1 in
+    and_from (is_digit (c - 48)) (list_all is_digit (digits_of_text text)) (le-leb (c - 48) 9 (omega (arith, low))) (figures_are_digits text parts.1)
+
+pub named_are_digits : (t : Bool) (octets : List ℕ) (start len : ℕ) → NamesDigits t octets start len → list_all is_digit (digits_in t octets start len) ≡ true
+named_are_digits true octets start len h = figures_are_digits octets h.2
+named_are_digits false octets start len h = h.2
+
+few : (t : Bool) (octets : List ℕ) (start len : ℕ) → NamesDigits t octets start len → len ≤ 15
+few true octets start len h = h.0
+few false octets start len h = h.0
+
+pub named_are_address : (t : Bool) (octets : List ℕ) (start len : ℕ) → NamesDigits t octets start len → IsAddress (digits_in t octets start len)
+named_are_address t octets start len h =
+    let size = length-digits_in t octets start len h in
+    let most = few t octets start len h in
+    record { short = omega arith; decimal = named_are_digits t octets start len h }
+
+half_high : (octets : List ℕ) (start len i : ℕ) → i < len → (start + i) % 2 ≡ 0
+    → get_or (halves_at octets start len) i 0 ≡ get_or octets ((start + i) / 2) 0 / 16
+half_high octets start len i h even =
+    let at : start + i ≡ 2 * ((start + i) / 2) = omega arith in
+    get_or-take len (drop start (halves_of octets)) i 0 h ∙ get_or-drop start (halves_of octets) i 0
+    ∙ ap (λ n. get_or (halves_of octets) n 0) at ∙ high_half octets ((start + i) / 2)
+
+half_low : (octets : List ℕ) (start len i : ℕ) → i < len → (start + i) % 2 ≡ 1
+    → get_or (halves_at octets start len) i 0 ≡ get_or octets ((start + i) / 2) 0 % 16
+half_low octets start len i h odd =
+    let at : start + i ≡ 2 * ((start + i) / 2) + 1 = omega arith in
+    get_or-take len (drop start (halves_of octets)) i 0 h ∙ get_or-drop start (halves_of octets) i 0
+    ∙ ap (λ n. get_or (halves_of octets) n 0) at ∙ low_half octets ((start + i) / 2)
+
+-- the digit at a place
+pub digit_high : (t : Bool) (octets : List ℕ) (start len i : ℕ) (digits : List ℕ) → digits_in t octets start len ≡ digits → NamesDigits t octets start len → t ≡ false
+    → i < length digits → (start + i) % 2 ≡ 0 → get_or octets ((start + i) / 2) 0 / 16 ≡ get_or digits i 0
+digit_high true octets start len i digits view holds f h even = let bad : true ≡ false = f in cc
+digit_high false octets start len i digits view holds f h even =
+    let size : length digits ≡ len = ap length (sym view) ∙ length-digits_in false octets start len holds in
+    sym (half_high octets start len i (omega arith) even) ∙ ap (λ (ds : List ℕ). get_or ds i 0) view
+
+pub digit_low : (t : Bool) (octets : List ℕ) (start len i : ℕ) (digits : List ℕ) → digits_in t octets start len ≡ digits → NamesDigits t octets start len → t ≡ false
+    → i < length digits → (start + i) % 2 ≢ 0 → get_or octets ((start + i) / 2) 0 % 16 ≡ get_or digits i 0
+digit_low true octets start len i digits view holds f h odd = let bad : true ≡ false = f in cc
+digit_low false octets start len i digits view holds f h odd =
+    let size : length digits ≡ len = ap length (sym view) ∙ length-digits_in false octets start len holds in
+    sym (half_low octets start len i (omega arith) (omega arith)) ∙ ap (λ (ds : List ℕ). get_or ds i 0) view
+
+pub digit_small : (t : Bool) (octets : List ℕ) (start len i : ℕ) (digits : List ℕ) → digits_in t octets start len ≡ digits → NamesDigits t octets start len
+    → i < length digits → get_or digits i 0 ≤ 9
+digit_small t octets start len i digits view holds h =
+    let all : list_all is_digit digits ≡ true = ap (list_all is_digit) (sym view) ∙ named_are_digits t octets start len holds in
+    leb-true _ _ (list_all-get is_digit digits i all h)
+
+-- ---- whether half octets are digits
+
+pub halves_are_digits : (octets : List ℕ) → list_all is_digit (halves_of octets) ≡ list_all is_pair octets
+unfolding halves_of
+halves_are_digits [] = refl
+halves_are_digits (b ∷ octets) = rw (halves_are_digits octets) (regroup (is_digit (b / 16)) (is_digit (b % 16)) (list_all is_pair octets))
+  where
+    regroup : (x y z : Bool) → (x && (y && z)) ≡ ((x && y) && z)
+    regroup true y z = refl
+    regroup false y z = refl
+
+pub filler_none : (count : ℕ) (octets : List ℕ) → length octets ≡ (count + 1) / 2 → count % 2 ≡ 0
+    → list_all (λ half. nat_eq half 0) (drop count (halves_of octets)) ≡ true
+filler_none count octets size even =
+    let none : drop count (halves_of octets) ≡ [] = drop_all count (halves_of octets) (rw length-halves_of (omega arith)) in
+    rw none refl
+
+pub filler_one : (count : ℕ) (octets : List ℕ) → length octets ≡ (count + 1) / 2 → count % 2 ≢ 0
+    → drop count (halves_of octets) ≡ get_or octets (count / 2) 0 % 16 ∷ []
+filler_one count octets size odd =
+    let at : count ≡ 2 * (count / 2) + 1 = omega arith in
+    let long : count < length (halves_of octets) = rw length-halves_of (omega arith) in
+    let past : drop (count + 1) (halves_of octets) ≡ [] = drop_all (count + 1) (halves_of octets) (rw length-halves_of (omega arith)) in
+    let half : get_or (halves_of octets) count 0 ≡ get_or octets (count / 2) 0 % 16 = ap (λ n. get_or (halves_of octets) n 0) at ∙ low_half octets (count / 2) in
+    drop_more (halves_of octets) count 0 long ∙ ap (λ (rest : List ℕ). get_or (halves_of octets) count 0 ∷ rest) past ∙ ap (λ h. h ∷ []) half
+
+pub no_pairs : (count : ℕ) (octets : List ℕ) (b : Bool) → b ≡ list_all is_pair octets → b ≡ false → false ≡ hold_digits count octets
+no_pairs count octets b e h =
+    let none : list_all is_digit (halves_of octets) ≡ false = halves_are_digits octets ∙ sym e ∙ h in
+    rw none refl
+
+pub all_digits : (octets : List ℕ) (b : Bool) → b ≡ list_all is_pair octets → b ≡ true → list_all is_digit (halves_of octets) ≡ true
+all_digits octets b e h = halves_are_digits octets ∙ sym e ∙ h
+
+pub no_filler : (count : ℕ) (octets : List ℕ) → length octets ≡ (count + 1) / 2 → count % 2 ≡ 0 → list_all is_digit (halves_of octets) ≡ true
+    → true ≡ hold_digits count octets
+no_filler count octets size even all = rw (all, filler_none count octets size even) refl
+
+pub a_filler : (count : ℕ) (octets : List ℕ) → length octets ≡ (count + 1) / 2 → count % 2 ≢ 0 → list_all is_digit (halves_of octets) ≡ true
+    → nat_eq (get_or octets (count / 2) 0 % 16) 0 ≡ hold_digits count octets
+a_filler count octets size odd all = rw (all, filler_one count octets size odd) (plain (nat_eq (get_or octets (count / 2) 0 % 16) 0))
+  where
+    plain : (b : Bool) → b ≡ (b && true)
+    plain true = refl
+    plain false = refl

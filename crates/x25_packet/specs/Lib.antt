@@ -1,0 +1,7 @@
+pub mod PlainPacket
+pub mod Digits
+pub mod Facilities
+pub mod Spelling
+pub mod PacketError
+pub mod Reading
+pub mod FirstError

@@ -1,0 +1,120 @@
+//! The digits of an address, ITU-T X.25 (10/96), section 5.2.1.
+ghost use Rattle.std.specs.Prelude.{◌≡◌, ◌==◌, ◌<◌, ◌≤◌, ◌+◌, ◌*◌, ◌/◌, List, ℕ, length, IfSome, IsSome, IsTrue, ◌↔◌, slice_index, true};
+ghost use Rattle.std.specs.List.{list_all};
+ghost use Rattle.x25_packet.specs.Digits.{NamesDigits, digits_in, digits_of_text, halves_at, halves_of, hold_digits, is_digit, is_figure, is_pair, IsAddress};
+
+use std::marker::Model;
+
+/// The most digits that an address has.
+const MOST: usize = 15;
+
+fn are_figures(text: &[u8]) -> bool
+    ensures { result ≡ list_all is_figure text.now }
+{
+    text.iter()
+        .all(|character| 48 <= *character && *character <= 57)
+}
+
+/// The digits of an address, at most 15, in half octets of a packet or in a text. Contracts see the list of them.
+#[derive(Debug, Drop)]
+pub struct Digits<'a> {
+    octets: &'a [u8],
+    start: usize,
+    len: usize,
+    in_text: bool,
+}
+
+impl<'a> Model for Digits<'a> {
+    ghost Value = { List ℕ };
+
+    ghost view = { λ digits. digits_in digits.in_text digits.octets.now digits.start digits.len };
+
+    ghost invariant = { λ digits. NamesDigits digits.in_text digits.octets.now digits.start digits.len };
+}
+
+fn are_digit_pairs(octets: &[u8]) -> bool
+    ensures { result ≡ list_all is_pair octets.now }
+{
+    octets
+        .iter()
+        .all(|octet| *octet / 16 <= 9 && *octet % 16 <= 9)
+}
+
+/// Whether each half octet is a digit, and those behind the first `count` are 0.
+pub fn hold_digits(count: usize, octets: &[u8]) -> bool
+    requires { length octets.now ≡ (count + 1) / 2 }
+    ensures value { result ≡ hold_digits count octets.now }
+    ensures digits { IsTrue result → list_all is_digit (halves_of octets.now) ≡ true }
+{
+    if !are_digit_pairs(octets) {
+        return false;
+    }
+    if count % 2 == 0 {
+        return true;
+    }
+    octets[count / 2] % 16 == 0
+}
+
+impl<'a> Digits<'a> {
+    /// The digits in `len` half octets, from the half octet `start` on.
+    pub(crate) fn in_halves(octets: &'a [u8], start: usize, len: usize) -> Digits<'a>
+        requires short { len ≤ 15 }
+        requires there { start + len ≤ 2 * length octets.now }
+        requires digits { list_all is_digit (halves_of octets.now) ≡ true }
+        ensures { result ≡ halves_at octets.now start len }
+    {
+        Digits {
+            octets,
+            start,
+            len,
+            in_text: false,
+        }
+    }
+
+    /// The digits of a text of at most 15 figures `0` to `9`.
+    pub fn of(text: &'a str) -> Option<Digits<'a>>
+        ensures some { IsSome result ↔ ((length text.now ≤ 15) × (list_all is_figure text.now ≡ true)) }
+        ensures digits { IfSome result (λ digits. digits ≡ digits_of_text text.now) }
+        ensures address { IfSome result (λ digits. IsAddress digits) }
+    {
+        let octets = text.as_bytes();
+        if octets.len() > MOST || !are_figures(octets) {
+            return None;
+        }
+        Some(Digits {
+            octets,
+            start: 0,
+            len: octets.len(),
+            in_text: true,
+        })
+    }
+
+    /// How many digits there are, 0 to 15.
+    pub fn len(&self) -> usize
+        ensures number { result ≡ length self.now }
+        ensures address { IsAddress self.now }
+    {
+        self.len
+    }
+
+    /// Whether there is no digit.
+    pub fn is_empty(&self) -> bool
+        ensures { result ≡ (length self.now == 0) }
+    {
+        self.len == 0
+    }
+
+    /// The digit at a place, 0 to 9. The first is at place 0.
+    pub fn get(&self, place: usize) -> u8
+        requires { place < length self.now }
+        ensures value { result ≡ slice_index self.now place }
+        ensures digit { result ≤ 9 }
+    {
+        if self.in_text {
+            return self.octets[place] - 48;
+        }
+        let at = self.start + place;
+        let octet = self.octets[at / 2];
+        if at % 2 == 0 { octet / 16 } else { octet % 16 }
+    }
+}

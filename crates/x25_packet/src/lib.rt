@@ -1,0 +1,22 @@
+//! The packets of X.25, modulo 8: their octets and their values.
+//!
+//! ITU-T X.25 (10/96), sections 5 and 7.
+#![tactic(auto)]
+
+mod call;
+mod digits;
+mod error;
+mod facilities;
+mod packet;
+mod reading;
+mod spelling;
+#[cfg(test)]
+mod tests;
+
+pub use digits::Digits;
+pub use error::PacketError;
+pub use facilities::{Directions, Facilities};
+pub use packet::Packet;
+pub use reading::{CALL_OCTETS, channel, decode};
+pub use spelling::encode;
+pub use x25_bits::{NoMemory, Seq};

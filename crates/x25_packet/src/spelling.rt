@@ -1,0 +1,238 @@
+//! From a packet to the octets that spell it.
+ghost use Rattle.std.specs.Prelude.{◌≡◌, ◌+◌, ◌*◌, ◌≤◌, ◌++◌, Ok, OnOk, OnErr, IsOk, drop, length, slice_index, vec_len, vec_capacity};
+ghost use Rattle.std.specs.Vec.{VecUnchanged};
+ghost use Rattle.x25_packet.specs.Digits.{IsAddress, packed};
+ghost use Rattle.x25_packet.specs.PlainPacket.{plain};
+ghost use Rattle.x25_packet.specs.Reading.{packet_of};
+ghost use Rattle.x25_packet.specs.Spelling.{IsInRange, accept_body, bit, body_of, call_body, channel_of, format_of, spelling_of, type_of};
+
+use crate::digits::Digits;
+use crate::packet::Packet;
+use crate::reading::CALL_OCTETS;
+use x25_bits::NoMemory;
+
+fn channel(packet: &Packet) -> u16
+    ensures { result ≡ channel_of (plain packet.now) }
+{
+    match packet {
+        Packet::Call { channel, .. }
+        | Packet::Accept { channel, .. }
+        | Packet::Clear { channel, .. }
+        | Packet::ClearConf { channel }
+        | Packet::Data { channel, .. }
+        | Packet::Rr { channel, .. }
+        | Packet::Rnr { channel, .. }
+        | Packet::Interrupt { channel, .. }
+        | Packet::InterruptConf { channel }
+        | Packet::Reset { channel, .. }
+        | Packet::ResetConf { channel } => *channel,
+        Packet::Restart { .. } | Packet::RestartConf => 0,
+    }
+}
+
+fn format(packet: &Packet) -> u8
+    ensures value { result ≡ format_of (plain packet.now) }
+    ensures half { result ≤ 9 }
+{
+    match packet {
+        Packet::Data { q: true, .. } => 9,
+        _ => 1,
+    }
+}
+
+/// The more data mark, in its place in the type.
+fn mark(m: bool) -> u8
+    ensures { result ≡ 16 * bit m }
+{
+    if m { 16 } else { 0 }
+}
+
+fn kind(packet: &Packet) -> u8
+    ensures { result ≡ type_of (plain packet.now) }
+{
+    match packet {
+        Packet::Call { .. } => 0x0B,
+        Packet::Accept { .. } => 0x0F,
+        Packet::Clear { .. } => 0x13,
+        Packet::ClearConf { .. } => 0x17,
+        Packet::Data { m, ps, pr, .. } => 2 * ps.get() + mark(*m) + 32 * pr.get(),
+        Packet::Rr { pr, .. } => 0x01 + 32 * pr.get(),
+        Packet::Rnr { pr, .. } => 0x05 + 32 * pr.get(),
+        Packet::Interrupt { .. } => 0x23,
+        Packet::InterruptConf { .. } => 0x27,
+        Packet::Reset { .. } => 0x1B,
+        Packet::ResetConf { .. } => 0x1F,
+        Packet::Restart { .. } => 0xFB,
+        Packet::RestartConf => 0xFF,
+    }
+}
+
+/// How many octets follow the type of a CALL.
+fn call_len(called: &Digits, calling: &Digits, facilities: &[u8], user: &[u8]) -> usize
+    requires field { length facilities.now ≤ 6 }
+    requires user { length user.now ≤ CALL_OCTETS }
+    ensures value { result ≡ length (call_body called.now calling.now facilities.now user.now) }
+    ensures few { result ≤ 4096 }
+{
+    2 + (called.len() + calling.len() + 1) / 2 + facilities.len() + user.len()
+}
+
+/// How many octets follow the type.
+fn body_len(packet: &Packet) -> usize
+    requires { IsInRange CALL_OCTETS (plain packet.now) }
+    ensures value { result ≡ length (body_of (plain packet.now)) }
+    ensures few { result ≤ 4096 }
+{
+    match packet {
+        Packet::Call {
+            called,
+            calling,
+            facilities,
+            user,
+            ..
+        } => call_len(called, calling, facilities, user),
+        Packet::Accept { facilities, .. } => {
+            if facilities.is_empty() {
+                return 0;
+            }
+            2 + facilities.len()
+        }
+        Packet::Data { user, .. } | Packet::Interrupt { user, .. } => user.len(),
+        Packet::Clear { .. } | Packet::Reset { .. } | Packet::Restart { .. } => 2,
+        _ => 0,
+    }
+}
+
+/// Appends octets that there is room for.
+fn append(octets: &mut Vec<u8>, more: &[u8])
+    requires { vec_len octets.old + length more.now ≤ vec_capacity octets.old }
+    ensures items { octets.new.items ≡ octets.old.items ++ more.now }
+    ensures len { vec_len octets.new ≡ vec_len octets.old + length more.now }
+    ensures capacity { vec_capacity octets.old ≤ vec_capacity octets.new }
+{
+    octets.extend_from_slice(more).unwrap();
+}
+
+/// The digit at a place of the called and then the calling digits, 0 behind them.
+fn digit_at(called: &Digits, calling: &Digits, place: usize) -> u8
+    ensures value { result ≡ slice_index (called.now ++ calling.now) place }
+    ensures digit { result ≤ 9 }
+{
+    if place < called.len() {
+        return called.get(place);
+    }
+    let behind = place - called.len();
+    if behind < calling.len() {
+        return calling.get(behind);
+    }
+    0
+}
+
+/// Appends the digits, two to an octet.
+fn append_digits(called: &Digits, calling: &Digits, octets: &mut Vec<u8>)
+    requires { vec_len octets.old + length (packed (called.now ++ calling.now)) ≤ vec_capacity octets.old }
+    ensures items { octets.new.items ≡ octets.old.items ++ packed (called.now ++ calling.now) }
+    ensures len { vec_len octets.new ≡ vec_len octets.old + length (packed (called.now ++ calling.now)) }
+    ensures capacity { vec_capacity octets.old ≤ vec_capacity octets.new }
+{
+    for pair in 0..(called.len() + calling.len() + 1) / 2 {
+        let high = digit_at(called, calling, 2 * pair);
+        let low = digit_at(called, calling, 2 * pair + 1);
+        octets.push_reserved(16 * high + low);
+    }
+}
+
+/// Appends what follows the type of a CALL.
+fn append_call(
+    called: &Digits,
+    calling: &Digits,
+    facilities: &[u8],
+    user: &[u8],
+    octets: &mut Vec<u8>,
+)
+    requires called { length called.now ≤ 15 }
+    requires calling { length calling.now ≤ 15 }
+    requires field { length facilities.now ≤ 6 }
+    requires room { vec_len octets.old + length (call_body called.now calling.now facilities.now user.now) ≤ vec_capacity octets.old }
+    ensures { octets.new.items ≡ octets.old.items ++ call_body called.now calling.now facilities.now user.now }
+{
+    append(octets, &[16 * calling.len() as u8 + called.len() as u8]);
+    append_digits(called, calling, octets);
+    append(octets, &[facilities.len() as u8]);
+    append(octets, facilities);
+    append(octets, user);
+}
+
+/// Appends what follows the type of an ACCEPT.
+fn append_accept(facilities: &[u8], octets: &mut Vec<u8>)
+    requires field { length facilities.now ≤ 6 }
+    requires room { vec_len octets.old + length (accept_body facilities.now) ≤ vec_capacity octets.old }
+    ensures { octets.new.items ≡ octets.old.items ++ accept_body facilities.now }
+{
+    if facilities.is_empty() {
+        return;
+    }
+    append(octets, &[0, facilities.len() as u8]);
+    append(octets, facilities);
+}
+
+/// Appends what follows the type.
+fn append_body(packet: &Packet, octets: &mut Vec<u8>)
+    requires range { IsInRange CALL_OCTETS (plain packet.now) }
+    requires room { vec_len octets.old + length (body_of (plain packet.now)) ≤ vec_capacity octets.old }
+    ensures { octets.new.items ≡ octets.old.items ++ body_of (plain packet.now) }
+{
+    match packet {
+        Packet::Call {
+            called,
+            calling,
+            facilities,
+            user,
+            ..
+        } => append_call(called, calling, facilities, user, octets),
+        Packet::Accept { facilities, .. } => append_accept(facilities, octets),
+        Packet::Data { user, .. } | Packet::Interrupt { user, .. } => append(octets, user),
+        Packet::Clear {
+            cause,
+            diagnostic,
+            ..
+        }
+        | Packet::Reset {
+            cause,
+            diagnostic,
+            ..
+        }
+        | Packet::Restart { cause, diagnostic } => append(octets, &[*cause, *diagnostic]),
+        _ => {}
+    }
+}
+
+fn append_packet(packet: &Packet, octets: &mut Vec<u8>) -> Result<(), NoMemory>
+    requires { IsInRange CALL_OCTETS (plain packet.now) }
+    ensures ok { OnOk result (octets.new.items ≡ octets.old.items ++ spelling_of (plain packet.now)) }
+    ensures err { OnErr result (VecUnchanged octets.old octets.new) }
+    ensures room { vec_len octets.old + length (spelling_of (plain packet.now)) ≤ vec_capacity octets.old → IsOk result }
+{
+    octets.reserve(3 + body_len(packet))?;
+    let [group, number] = channel(packet).to_be_bytes();
+    let head = [16 * format(packet) + group, number, kind(packet)];
+    append(octets, &head);
+    append_body(packet, octets);
+    Ok(())
+}
+
+/// Appends the octets that spell the packet: format, channel, type and body. Each packet has this one spelling.
+///
+/// The packet's fields are in their ranges, with at most 16 octets of user data in a CALL. It takes no memory where the
+/// capacity has room for the octets; else it is refused with `NoMemory` (70) where there is none. ITU-T X.25 (10/96),
+/// section 5.
+pub fn encode(packet: &Packet, octets: &mut Vec<u8>) -> Result<(), NoMemory>
+    requires { IsInRange CALL_OCTETS (plain packet.now) }
+    ensures ok { OnOk result (octets.new.items ≡ octets.old.items ++ spelling_of (plain packet.now)) }
+    // What is appended reads as the packet.
+    ensures again { OnOk result (packet_of CALL_OCTETS (drop (length octets.old.items) octets.new.items) ≡ Ok (plain packet.now)) }
+    ensures err { OnErr result (VecUnchanged octets.old octets.new) }
+    ensures room { vec_len octets.old + length (spelling_of (plain packet.now)) ≤ vec_capacity octets.old → IsOk result }
+{
+    append_packet(packet, octets)
+}
