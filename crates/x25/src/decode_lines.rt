@@ -53,9 +53,9 @@ fn decode_pieces<R: Source, W: Sink>(
 /// Answers each line that the reader gives by a line to the writer, and answers the status: 1 where a line was refused,
 /// else 0.
 ///
-/// At most one line of 8,208 characters is held. The buffers are made first: `NoMemory` comes with nothing read and
-/// nothing written. At `Read` the answers made so far are written before. A reader is called at most 2^64 - 1 times; the
-/// clauses on the text speak of inputs of fewer octets than that. Profile.
+/// At most one line of 8,208 characters is held, and after each read the answers to the lines that have ended are
+/// written. The buffers are made first: `NoMemory` comes with nothing read and nothing written. A reader is called at
+/// most 2^64 - 1 times; the clauses on the text speak of inputs of fewer octets than that. Profile.
 pub fn decode_lines<R: Source, W: Sink>(
     alloc: Global,
     reader: &mut R,

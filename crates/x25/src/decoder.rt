@@ -142,7 +142,7 @@ impl Decoder {
         Ok(())
     }
 
-    /// Takes a piece of the text.
+    /// Takes a piece of the text, and writes the answers to the lines that have ended.
     pub fn take_piece<W: Sink>(&mut self, piece: &[u8], writer: &mut W) -> Result<(), Failed>
         ensures leads { (old : Option (List ℕ)) (rest all : List ℕ) (any : Bool)
             → LeadsFrom old (W.contents writer.old) self.old (piece.now ++ rest) all any
@@ -158,7 +158,10 @@ impl Decoder {
             left = after;
         }
         self.hold(left);
-        Ok(())
+        match self.flush(writer) {
+            Ok(()) => Ok(()),
+            Err(failed) => Err(failed),
+        }
     }
 
     /// Answers the last line, where it has no line feed, and writes what waits.
