@@ -28,10 +28,6 @@ xor_false_l : (a : Bool) → xor false a ≡ a
 xor_false_l true = refl
 xor_false_l false = refl
 
-xor_true : (a : Bool) → xor true a ≡ not a
-xor_true true = refl
-xor_true false = refl
-
 pub add_assoc : (p q r : List Bool) → add (add p q) r ≡ add p (add q r)
 unfolding add
 add_assoc [] q r = refl
@@ -51,11 +47,6 @@ add_comm [] [] = refl
 add_comm [] (b ∷ q) = refl
 add_comm (a ∷ p) [] = refl
 add_comm (a ∷ p) (b ∷ q) = rw (xor_comm a b, add_comm p q) refl
-
-pub add-nil : (p : List Bool) → add p [] ≡ p
-unfolding add
-add-nil [] = refl
-add-nil (a ∷ p) = refl
 
 -- a 0 behind the shorter one changes nothing
 pub add-zero_behind : (p q : List Bool) → length p < length q → add (p ++ false ∷ []) q ≡ add p q
