@@ -156,9 +156,8 @@ fn another_channel(rt: HostRuntime) -> Result<(), Fail> {
         diagnostic: 20,
     }
     .with_channel(256);
-    assert_eq!(rt;
-        format!(in rt.alloc(); "{packet}")?.as_str(),
-        "CLEAR ch=256 cause=0 diag=20"
-    );
+    let mut octets = Vec::new(rt.alloc());
+    encode(&packet, &mut octets)?;
+    assert_eq!(rt; octets.as_slice(), [0x11, 0x00, 0x13, 0, 20].as_slice());
     Ok(())
 }
