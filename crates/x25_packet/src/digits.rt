@@ -20,16 +20,16 @@ fn are_figures(text: &[u8]) -> bool
 pub struct Digits<'a> {
     octets: &'a [u8],
     start: usize,
-    len: usize,
+    count: usize,
     in_text: bool,
 }
 
 impl<'a> Model for Digits<'a> {
     ghost Value = { List ℕ };
 
-    ghost view = { λ digits. digits_in digits.in_text digits.octets.now digits.start digits.len };
+    ghost view = { λ digits. digits_in digits.in_text digits.octets.now digits.start digits.count };
 
-    ghost invariant = { λ digits. NamesDigits digits.in_text digits.octets.now digits.start digits.len };
+    ghost invariant = { λ digits. NamesDigits digits.in_text digits.octets.now digits.start digits.count };
 }
 
 fn are_digit_pairs(octets: &[u8]) -> bool
@@ -56,17 +56,17 @@ pub fn hold_digits(count: usize, octets: &[u8]) -> bool
 }
 
 impl<'a> Digits<'a> {
-    /// The digits in `len` half octets, from the half octet `start` on.
-    pub(crate) fn in_halves(octets: &'a [u8], start: usize, len: usize) -> Digits<'a>
-        requires short { len ≤ 15 }
-        requires there { start + len ≤ 2 * length octets.now }
+    /// The digits in `count` half octets, from the half octet `start` on.
+    pub(crate) fn in_halves(octets: &'a [u8], start: usize, count: usize) -> Digits<'a>
+        requires short { count ≤ 15 }
+        requires there { start + count ≤ 2 * length octets.now }
         requires digits { list_all is_digit (halves_of octets.now) ≡ true }
-        ensures { result ≡ halves_at octets.now start len }
+        ensures { result ≡ halves_at octets.now start count }
     {
         Digits {
             octets,
             start,
-            len,
+            count,
             in_text: false,
         }
     }
@@ -84,7 +84,7 @@ impl<'a> Digits<'a> {
         Some(Digits {
             octets,
             start: 0,
-            len: octets.len(),
+            count: octets.len(),
             in_text: true,
         })
     }
@@ -94,14 +94,14 @@ impl<'a> Digits<'a> {
         ensures number { result ≡ length self.now }
         ensures address { IsAddress self.now }
     {
-        self.len
+        self.count
     }
 
     /// Whether there is no digit.
     pub fn is_empty(&self) -> bool
         ensures { result ≡ (length self.now == 0) }
     {
-        self.len == 0
+        self.len() == 0
     }
 
     /// The digit at a place, 0 to 9. The first is at place 0.

@@ -7,5 +7,5 @@ pub invariant_of-result : goal.invariant_of-result
 invariant_of-result c = (
   c.requires.short,
   c.requires.there,
-  list_all-take is_digit c.args.len (drop c.args.start (halves_of c.args.octets.now)) (list_all-drop is_digit c.args.start (halves_of c.args.octets.now) c.requires.digits),
+  list_all-take is_digit c.args.count (drop c.args.start (halves_of c.args.octets.now)) (list_all-drop is_digit c.args.start (halves_of c.args.octets.now) c.requires.digits),
 )
