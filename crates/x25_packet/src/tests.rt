@@ -96,22 +96,6 @@ fn digits_of_a_text(rt: HostRuntime) -> Result<(), Fail> {
 }
 
 #[test]
-fn a_call_from_texts(rt: HostRuntime) -> Result<(), Fail> {
-    let packet = Packet::Call {
-        channel: 1,
-        called: Digits::of("123").ok_or("three digits")?,
-        calling: Digits::of("4567").ok_or("four digits")?,
-        facilities: &[],
-        user: &[0x41],
-    };
-    let mut octets = Vec::new(rt.alloc());
-    encode(&packet, &mut octets)?;
-    let spelled = hex::encode(rt.alloc(), octets.as_slice())?;
-    assert_eq!(rt; spelled.as_str(), "10010b43123456700041");
-    Ok(())
-}
-
-#[test]
 fn facilities_of_a_field(rt: HostRuntime) {
     let both = Facilities::of(&[0x42, 7, 8, 0x43, 2, 3]);
     let sizes = Directions {
