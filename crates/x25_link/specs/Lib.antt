@@ -1,0 +1,3 @@
+pub mod LinkError
+pub mod Lists
+pub mod Plain
