@@ -1,1 +1,5 @@
+pub mod BacklogLemmas
+pub mod EndLemmas
+pub mod FitsLemmas
 pub mod ListLemmas
+pub mod StationRows

@@ -1,9 +1,10 @@
 ghost use Rattle.std.specs.Prelude.{◌≡◌};
 ghost use Rattle.x25_link.specs.LinkError.{number_of};
-ghost use Rattle.x25_link.specs.declared.error.LinkError.TheVariants.{NoMemory};
+ghost use Rattle.x25_link.specs.declared.error.LinkError.TheVariants as error;
 
 use std::alloc::{AllocError, AllocFailed};
 use thiserror::Error;
+use x25_bits::NoMemory;
 
 /// Why a link refuses a call.
 #[derive(Clone, Copy, Debug, PartialEq, Eq, Error)]
@@ -53,7 +54,7 @@ impl LinkError {
 }
 
 impl From<AllocError> for LinkError {
-    ghost from_gives = { λ _ e. e ≡ NoMemory };
+    ghost from_gives = { λ _ e. e ≡ error.NoMemory };
 
     fn from(_error: AllocError) -> LinkError {
         LinkError::NoMemory
@@ -61,9 +62,17 @@ impl From<AllocError> for LinkError {
 }
 
 impl<T: Drop> From<AllocFailed<T>> for LinkError {
-    ghost from_gives = { λ _ e. e ≡ NoMemory };
+    ghost from_gives = { λ _ e. e ≡ error.NoMemory };
 
     fn from(_error: AllocFailed<T>) -> LinkError {
+        LinkError::NoMemory
+    }
+}
+
+impl From<NoMemory> for LinkError {
+    ghost from_gives = { λ _ e. e ≡ error.NoMemory };
+
+    fn from(_error: NoMemory) -> LinkError {
         LinkError::NoMemory
     }
 }

@@ -32,4 +32,11 @@ impl Octets {
     {
         self.octets
     }
+
+    pub fn as_slice(&self) -> &[u8]
+        ensures items { result.now ≡ self.now }
+        ensures short { length result.now ≤ 4099 }
+    {
+        self.octets.as_slice()
+    }
 }
