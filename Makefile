@@ -1,0 +1,30 @@
+# make x25   leaves the proved program at build/x25
+# make demo  builds it and decodes the traces of examples/
+# make test  the gate: every proof from nothing, the must-fail edits, the tests and the programs
+# make clean removes what these made
+
+.PHONY: x25 demo test clean kit
+
+x25: build/x25
+
+# rt proves, builds and runs; the run reads nothing and is thrown away.
+build/x25: crates.txt $(shell find crates -path '*/out' -prune -o -type f -print) | kit
+	cd crates/x25 && rt run -- decode < /dev/null > /dev/null
+	mkdir -p build
+	cp crates/x25/out/x25 build/x25
+
+demo: build/x25
+	@for trace in examples/*.trace; do \
+	    echo "$$ x25 decode < $$trace"; \
+	    build/x25 decode < $$trace || exit $$?; \
+	    echo; \
+	done
+
+test: kit
+	rt ci
+
+clean:
+	rm -rf build crates/*/out
+
+kit:
+	@command -v rt > /dev/null || { echo "The Rattle kit is missing: its command rt isn't on the PATH." >&2; exit 1; }

@@ -1,0 +1,2 @@
+pub mod KindLemmas
+pub mod FrameLemmas

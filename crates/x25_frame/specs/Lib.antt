@@ -1,0 +1,5 @@
+pub mod PlainFrame
+pub mod Spelling
+pub mod FrameError
+pub mod Reading
+pub mod Text

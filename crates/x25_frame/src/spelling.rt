@@ -1,0 +1,73 @@
+//! From a frame to the octets that spell it.
+ghost use Rattle.std.specs.Prelude.{◌≡◌, ◌+◌, ◌*◌, ◌≤◌, ◌++◌, OnOk, OnErr, IsOk, length, vec_len, vec_capacity};
+ghost use Rattle.std.specs.Vec.{VecUnchanged};
+ghost use Rattle.x25_frame.specs.PlainFrame.{plain};
+ghost use Rattle.x25_frame.specs.Spelling.{spelling_of, body_of, control_of, information_of, is_command, bit};
+
+use crate::reading::address;
+use crate::{Frame, NoMemory, Role};
+use x25_bits::fcs;
+
+fn is_command(frame: &Frame) -> bool
+    ensures { result ≡ is_command (plain frame.now) }
+{
+    match frame {
+        Frame::I { .. } | Frame::Sabm { .. } | Frame::Disc { .. } => true,
+        Frame::Rr { command, .. } | Frame::Rnr { command, .. } | Frame::Rej { command, .. } =>
+            *command,
+        Frame::Ua { .. } | Frame::Dm { .. } | Frame::Frmr { .. } => false,
+    }
+}
+
+/// The poll or final bit, in its place in the control.
+fn poll_bit(pf: bool) -> u8
+    ensures { result ≡ 16 * bit pf }
+{
+    if pf { 0x10 } else { 0 }
+}
+
+fn control(frame: &Frame) -> u8
+    ensures { result ≡ control_of (plain frame.now) }
+{
+    match frame {
+        Frame::I { ns, nr, p, info: _ } => 2 * ns.get() + poll_bit(*p) + 32 * nr.get(),
+        Frame::Rr { nr, pf, .. } => 0x01 + poll_bit(*pf) + 32 * nr.get(),
+        Frame::Rnr { nr, pf, .. } => 0x05 + poll_bit(*pf) + 32 * nr.get(),
+        Frame::Rej { nr, pf, .. } => 0x09 + poll_bit(*pf) + 32 * nr.get(),
+        Frame::Sabm { p } => 0x2F + poll_bit(*p),
+        Frame::Disc { p } => 0x43 + poll_bit(*p),
+        Frame::Ua { f } => 0x63 + poll_bit(*f),
+        Frame::Dm { f } => 0x0F + poll_bit(*f),
+        Frame::Frmr { f, .. } => 0x87 + poll_bit(*f),
+    }
+}
+
+fn information<'a>(frame: &'a Frame<'a>) -> &'a [u8]
+    ensures { result.now ≡ information_of (plain frame.now) }
+{
+    match frame {
+        Frame::I { info, .. } => info,
+        Frame::Frmr { why, .. } => why.as_slice(),
+        _ => &[],
+    }
+}
+
+/// Appends the octets that spell the frame, sent by `from`: address, control, information and frame check sequence.
+///
+/// Each frame has this one spelling. The information of an I frame isn't bounded here. It takes no memory where the
+/// capacity has room for the information and four octets more. ITU-T X.25 (10/96), sections 2.2 and 2.3.
+pub fn encode(from: Role, frame: &Frame, octets: &mut Vec<u8>) -> Result<(), NoMemory>
+    ensures ok { OnOk result (octets.new.items ≡ octets.old.items ++ spelling_of from (plain frame.now)) }
+    ensures err { OnErr result (VecUnchanged octets.old octets.new) }
+    ensures room { vec_len octets.old + (length (information_of (plain frame.now)) + 4) ≤ vec_capacity octets.old → IsOk result }
+{
+    let head = [address(from, is_command(frame)), control(frame)];
+    let info = information(frame);
+    octets.reserve(info.len() + 4)?;
+    let start = octets.len();
+    octets.extend_from_slice(&head).unwrap();
+    octets.extend_from_slice(info).unwrap();
+    let sequence = fcs(&octets[start..]);
+    octets.extend_from_slice(&sequence.to_le_bytes()).unwrap();
+    Ok(())
+}
