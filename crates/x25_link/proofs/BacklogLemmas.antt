@@ -105,6 +105,7 @@ below_of n m le differs = by_test (nat_lt n m) refl
   where
     never : false ≡ true → ⊥
     never e = cc
+
     by_test : (b : Bool) → nat_lt n m ≡ b → n < m
     by_test true e = ltb-true n m e
     by_test false e = let above = ltb-false n m e in absurd (never (differs (omega arith)))

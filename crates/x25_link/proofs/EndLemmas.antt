@@ -94,7 +94,7 @@ pumped_stays (suc n) k t h = ap (pumped_once k) (pumped_stays n k t h) ∙ (rw h
 
 -- ---- the RR that ends an RNR
 
-ready_sends : (k : ℕ) (b : Bool) (command pf : Bool) (t : Side) → is_busy t.near ≡ b → may_send k (ready command pf t).near ≡ may_send k t.near
+pub ready_sends : (k : ℕ) (b : Bool) (command pf : Bool) (t : Side) → is_busy t.near ≡ b → may_send k (ready command pf t).near ≡ may_send k t.near
 ready_sends k true command pf t e = rw e refl
 ready_sends k false command pf t e = rw e refl
 
@@ -165,13 +165,13 @@ put_calm_by : (b : Bool) (k : ℕ) (s : Station) (packet : List ℕ) → s.outgo
 put_calm_by true k s packet low settled calm may =
     let all = all_sent k s packet settled may in
     rw may (calm_is (send_next (with_packet packet s)).near (λ up said.
-      let busy : is_busy s ≡ true = busy_is s calm up said in
-      absurd (omega (arith, ltb-true _ _ busy))))
+    let busy : is_busy s ≡ true = busy_is s calm up said in
+    absurd (omega (arith, ltb-true _ _ busy))))
 put_calm_by false k s packet low settled calm may =
     rw may (calm_is (with_packet packet s).near (λ up said.
-      let busy : is_busy s ≡ true = busy_is s calm up said in
-      let more : 254 < waits (added packet s.outgoing) = omega (arith, ltb-true _ _ busy, length-append s.outgoing.given (packet ∷ [])) in
-      lt-ltb _ _ more))
+    let busy : is_busy s ≡ true = busy_is s calm up said in
+    let more : 254 < waits (added packet s.outgoing) = omega (arith, ltb-true _ _ busy, length-append s.outgoing.given (packet ∷ [])) in
+    lt-ltb _ _ more))
 
 pub put_calm : (k : ℕ) (s : Station) (packet : List ℕ) → s.outgoing.place ≤ s.outgoing.sent → may_send k s ≡ false → owes_ready s ≡ false
     → owes_ready (pumped_once k (with_packet packet s)).near ≡ false

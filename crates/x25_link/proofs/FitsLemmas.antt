@@ -24,13 +24,22 @@ pub made_more : (c : Settings) (role : Role) (before old made : List (List ℕ))
     → made ≡ old ++ spelling_of role frame ∷ [] → Made c before made (frames ++ frame ∷ [])
 made_more c role before old made frames frame same h e =
     e ∙ ap (λ (r : Role). old ++ spelling_of r frame ∷ []) same ∙ ap (λ (o : List (List ℕ)). o ++ spelling_of c.role frame ∷ []) h
-      ∙ append_assoc before _ _ ∙ ap (λ (m : List (List ℕ)). before ++ m) (sym (map-append (spelling_of c.role) frames (frame ∷ [])))
+    ∙ append_assoc before _ _ ∙ ap (λ (m : List (List ℕ)). before ++ m) (sym (map-append (spelling_of c.role) frames (frame ∷ [])))
 
 pub with_backlog : (c : Settings) (v : Procedure) (s : Station) (b : Backlog) (o : Outgoing) → FitsStation c v s → FitsBacklog c.window b o
     → FitsStation c (record v { backlog = b }) (record s { outgoing = o })
 with_backlog c v s b o fits backlog = record {
-  role = fits.role; longest = fits.longest; retries = fits.retries; backlog = backlog; taken = fits.taken; phase = fits.phase; tries = fits.tries;
-  recovery = fits.recovery; peer_busy = fits.peer_busy; rejecting = fits.rejecting; said_busy = fits.said_busy;
+  role = fits.role;
+  longest = fits.longest;
+  retries = fits.retries;
+  backlog = backlog;
+  taken = fits.taken;
+  phase = fits.phase;
+  tries = fits.tries;
+  recovery = fits.recovery;
+  peer_busy = fits.peer_busy;
+  rejecting = fits.rejecting;
+  said_busy = fits.said_busy;
 }
 
 pub may_send_is : (k : ℕ) (s : Station) → s.recovery ≡ false → s.peer_busy ≡ false → is_up s.phase ≡ true → may_send k s ≡ is_open k s.outgoing
@@ -57,14 +66,32 @@ pumped_more n k t = rw (add-one n) refl
 
 pub said : (c : Settings) (v : Procedure) (s : Station) (b : Bool) → FitsStation c v s → FitsStation c (record v { said_busy = b }) (record s { said_busy = b })
 said c v s b fits = record {
-  role = fits.role; longest = fits.longest; retries = fits.retries; backlog = fits.backlog; taken = fits.taken; phase = fits.phase; tries = fits.tries;
-  recovery = fits.recovery; peer_busy = fits.peer_busy; rejecting = fits.rejecting; said_busy = refl;
+  role = fits.role;
+  longest = fits.longest;
+  retries = fits.retries;
+  backlog = fits.backlog;
+  taken = fits.taken;
+  phase = fits.phase;
+  tries = fits.tries;
+  recovery = fits.recovery;
+  peer_busy = fits.peer_busy;
+  rejecting = fits.rejecting;
+  said_busy = refl;
 }
 
 pub rejecting : (c : Settings) (v : Procedure) (s : Station) (b : Bool) → FitsStation c v s → FitsStation c (record v { rejecting = b }) (record s { rejecting = b })
 rejecting c v s b fits = record {
-  role = fits.role; longest = fits.longest; retries = fits.retries; backlog = fits.backlog; taken = fits.taken; phase = fits.phase; tries = fits.tries;
-  recovery = fits.recovery; peer_busy = fits.peer_busy; rejecting = refl; said_busy = fits.said_busy;
+  role = fits.role;
+  longest = fits.longest;
+  retries = fits.retries;
+  backlog = fits.backlog;
+  taken = fits.taken;
+  phase = fits.phase;
+  tries = fits.tries;
+  recovery = fits.recovery;
+  peer_busy = fits.peer_busy;
+  rejecting = refl;
+  said_busy = fits.said_busy;
 }
 
 -- ---- an N(R) that acknowledges some frames, or none
@@ -75,10 +102,22 @@ pub risen : (c : Settings) (v : Procedure) (b : Backlog) (before made : List (Li
 risen c v b before made t count nr side some number backlog =
     let fits = side.near in
     let test : (resolved t.near.outgoing.acked nr == t.near.outgoing.acked) ≡ false = ne_eqb _ _ (λ e. omega arith) in
-    rw test (record { near = record {
-      role = fits.role; longest = fits.longest; retries = fits.retries; backlog = rw number at backlog; taken = fits.taken; phase = fits.phase; tries = refl;
-      recovery = fits.recovery; peer_busy = fits.peer_busy; rejecting = fits.rejecting; said_busy = fits.said_busy;
-    }; out = side.out })
+    rw test (record {
+      near = record {
+        role = fits.role;
+        longest = fits.longest;
+        retries = fits.retries;
+        backlog = rw number at backlog;
+        taken = fits.taken;
+        phase = fits.phase;
+        tries = refl;
+        recovery = fits.recovery;
+        peer_busy = fits.peer_busy;
+        rejecting = fits.rejecting;
+        said_busy = fits.said_busy;
+      };
+      out = side.out;
+    })
 
 pub not_risen : (c : Settings) (v : Procedure) (b : Backlog) (before made : List (List ℕ)) (t : Side) (count nr : ℕ) → FitsSide c v before made t → count ≡ 0
     → t.near.outgoing.acked + count ≡ resolved t.near.outgoing.acked nr → FitsBacklog c.window b (acknowledged_to (t.near.outgoing.acked + count) t.near.outgoing)
@@ -86,10 +125,22 @@ pub not_risen : (c : Settings) (v : Procedure) (b : Backlog) (before made : List
 not_risen c v b before made t count nr side none number backlog =
     let fits = side.near in
     let test : (resolved t.near.outgoing.acked nr == t.near.outgoing.acked) ≡ true = eq-eqb _ _ (omega arith) in
-    rw test (record { near = record {
-      role = fits.role; longest = fits.longest; retries = fits.retries; backlog = rw number at backlog; taken = fits.taken; phase = fits.phase; tries = fits.tries;
-      recovery = fits.recovery; peer_busy = fits.peer_busy; rejecting = fits.rejecting; said_busy = fits.said_busy;
-    }; out = side.out })
+    rw test (record {
+      near = record {
+        role = fits.role;
+        longest = fits.longest;
+        retries = fits.retries;
+        backlog = rw number at backlog;
+        taken = fits.taken;
+        phase = fits.phase;
+        tries = fits.tries;
+        recovery = fits.recovery;
+        peer_busy = fits.peer_busy;
+        rejecting = fits.rejecting;
+        said_busy = fits.said_busy;
+      };
+      out = side.out;
+    })
 
 -- ---- a packet that is taken
 
@@ -97,19 +148,43 @@ pub taken_fits : (c : Settings) (v : Procedure) (r : Receiver) (before made : Li
     → FitsSide c (record v { receiver = r; rejecting = false }) before made (takes packet t)
 taken_fits c v r before made t packet side taken =
     let fits = side.near in
-    record { near = record {
-      role = fits.role; longest = fits.longest; retries = fits.retries; backlog = fits.backlog; taken = rw length_push taken; phase = fits.phase; tries = fits.tries;
-      recovery = fits.recovery; peer_busy = fits.peer_busy; rejecting = refl; said_busy = fits.said_busy;
-    }; out = side.out }
+    record {
+      near = record {
+        role = fits.role;
+        longest = fits.longest;
+        retries = fits.retries;
+        backlog = fits.backlog;
+        taken = rw length_push taken;
+        phase = fits.phase;
+        tries = fits.tries;
+        recovery = fits.recovery;
+        peer_busy = fits.peer_busy;
+        rejecting = refl;
+        said_busy = fits.said_busy;
+      };
+      out = side.out;
+    }
 
 pub no_tries : (c : Settings) (v : Procedure) (before made : List (List ℕ)) (t : Side) → FitsSide c v before made (with_near t (with_nothing Up t.near.tries))
     → FitsSide c (record v { tries = 0 }) before made (with_near t fresh)
 no_tries c v before made t side =
     let fits = side.near in
-    record { near = record {
-      role = fits.role; longest = fits.longest; retries = fits.retries; backlog = fits.backlog; taken = fits.taken; phase = fits.phase; tries = refl;
-      recovery = fits.recovery; peer_busy = fits.peer_busy; rejecting = fits.rejecting; said_busy = fits.said_busy;
-    }; out = side.out }
+    record {
+      near = record {
+        role = fits.role;
+        longest = fits.longest;
+        retries = fits.retries;
+        backlog = fits.backlog;
+        taken = fits.taken;
+        phase = fits.phase;
+        tries = refl;
+        recovery = fits.recovery;
+        peer_busy = fits.peer_busy;
+        rejecting = fits.rejecting;
+        said_busy = fits.said_busy;
+      };
+      out = side.out;
+    }
 
 -- ---- what RR, RNR and REJ tell
 
@@ -117,10 +192,22 @@ pub peer_fits : (c : Settings) (v : Procedure) (before made : List (List ℕ)) (
     → FitsSide c (record v { peer_busy = busy }) before made (peer_is busy t)
 peer_fits c v before made t busy side =
     let fits = side.near in
-    record { near = record {
-      role = fits.role; longest = fits.longest; retries = fits.retries; backlog = fits.backlog; taken = fits.taken; phase = fits.phase; tries = fits.tries;
-      recovery = fits.recovery; peer_busy = refl; rejecting = fits.rejecting; said_busy = fits.said_busy;
-    }; out = side.out }
+    record {
+      near = record {
+        role = fits.role;
+        longest = fits.longest;
+        retries = fits.retries;
+        backlog = fits.backlog;
+        taken = fits.taken;
+        phase = fits.phase;
+        tries = fits.tries;
+        recovery = fits.recovery;
+        peer_busy = refl;
+        rejecting = fits.rejecting;
+        said_busy = fits.said_busy;
+      };
+      out = side.out;
+    }
 
 pub back_fits : (c : Settings) (v : Procedure) (b : Backlog) (before made : List (List ℕ)) (t : Side) → FitsSide c v before made t → FitsBacklog c.window b (gone_back t.near.outgoing)
     → FitsSide c (record v { backlog = b }) before made (goes_back t)
@@ -138,18 +225,45 @@ info_notes k ns p packet t = notes_by (is_taken ns t.near) _ _ _ refl refl
 pub phase_fits : (c : Settings) (v : Procedure) (s : Station) (phase : Phase) (tries : ℕ) → FitsStation c v s
     → FitsStation c (record v { phase = phase; tries = tries }) (record s { phase = phase; tries = tries })
 phase_fits c v s phase tries fits = record {
-  role = fits.role; longest = fits.longest; retries = fits.retries; backlog = fits.backlog; taken = fits.taken; phase = refl; tries = refl;
-  recovery = fits.recovery; peer_busy = fits.peer_busy; rejecting = fits.rejecting; said_busy = fits.said_busy;
+  role = fits.role;
+  longest = fits.longest;
+  retries = fits.retries;
+  backlog = fits.backlog;
+  taken = fits.taken;
+  phase = refl;
+  tries = refl;
+  recovery = fits.recovery;
+  peer_busy = fits.peer_busy;
+  rejecting = fits.rejecting;
+  said_busy = fits.said_busy;
 }
 
 pub tries_fits : (c : Settings) (v : Procedure) (s : Station) → FitsStation c v s → FitsStation c (record v { tries = v.tries + 1 }) (record s { tries = s.tries + 1 })
 tries_fits c v s fits = record {
-  role = fits.role; longest = fits.longest; retries = fits.retries; backlog = fits.backlog; taken = fits.taken; phase = fits.phase; tries = ap (λ n. n + 1) fits.tries;
-  recovery = fits.recovery; peer_busy = fits.peer_busy; rejecting = fits.rejecting; said_busy = fits.said_busy;
+  role = fits.role;
+  longest = fits.longest;
+  retries = fits.retries;
+  backlog = fits.backlog;
+  taken = fits.taken;
+  phase = fits.phase;
+  tries = ap (λ n. n + 1) fits.tries;
+  recovery = fits.recovery;
+  peer_busy = fits.peer_busy;
+  rejecting = fits.rejecting;
+  said_busy = fits.said_busy;
 }
 
 pub recovery_fits : (c : Settings) (v : Procedure) (s : Station) (b : Bool) → FitsStation c v s → FitsStation c (record v { recovery = b }) (record s { recovery = b })
 recovery_fits c v s b fits = record {
-  role = fits.role; longest = fits.longest; retries = fits.retries; backlog = fits.backlog; taken = fits.taken; phase = fits.phase; tries = fits.tries;
-  recovery = refl; peer_busy = fits.peer_busy; rejecting = fits.rejecting; said_busy = fits.said_busy;
+  role = fits.role;
+  longest = fits.longest;
+  retries = fits.retries;
+  backlog = fits.backlog;
+  taken = fits.taken;
+  phase = fits.phase;
+  tries = fits.tries;
+  recovery = refl;
+  peer_busy = fits.peer_busy;
+  rejecting = fits.rejecting;
+  said_busy = fits.said_busy;
 }

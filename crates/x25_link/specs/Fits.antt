@@ -11,8 +11,8 @@ use Rattle.x25_link.specs.Station.{Settings, Station, Side}
 
 pub record FitsStation (c : Settings) (v : Procedure) (s : Station) : Type 0 where
   pub role : v.role ≡ c.role
-  pub longest : v.n1 ≡ c.longest
-  pub retries : v.n2 ≡ c.retries
+  pub longest : v.parameters.n1 ≡ c.longest
+  pub retries : v.parameters.n2 ≡ c.retries
   pub backlog : FitsBacklog c.window v.backlog s.outgoing
   pub taken : FitsTaken v.receiver (length s.taken)
   pub phase : v.phase ≡ s.phase

@@ -9,3 +9,4 @@ pub mod MustSend
 pub mod Fits
 pub mod Steps
 pub mod Link
+pub mod LinkLaws

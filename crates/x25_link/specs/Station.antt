@@ -33,8 +33,14 @@ lists_of s = record { given = s.outgoing.given; acked = s.outgoing.acked; taken 
 -- nothing handed down or up, all numbers 0, no condition stands
 abbrev pub with_nothing : Phase → ℕ → Station
 with_nothing phase tries = record {
-  phase = phase; tries = tries; outgoing = no_packet; taken = [];
-  recovery = false; peer_busy = false; rejecting = false; said_busy = false;
+  phase = phase;
+  tries = tries;
+  outgoing = no_packet;
+  taken = [];
+  recovery = false;
+  peer_busy = false;
+  rejecting = false;
+  said_busy = false;
 }
 
 -- a station whose link was just set up (section 2.4.4.1)

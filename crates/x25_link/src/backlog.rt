@@ -65,7 +65,8 @@ impl Backlog {
     /// Lets a packet wait.
     pub fn add(&mut self, packet: Octets)
         requires { length self.old.queue < 256 }
-        ensures { (k : ℕ) (o : Outgoing) → FitsBacklog k self.old o → FitsBacklog k self.new (added packet o) }
+        ensures queue { length self.new.queue ≡ length self.old.queue + 1 }
+        ensures state { (k : ℕ) (o : Outgoing) → FitsBacklog k self.old o → FitsBacklog k self.new (added packet o) }
     {
         self.queue.push(packet);
     }
@@ -107,6 +108,7 @@ impl Backlog {
         ensures step { (k : ℕ) (o : Outgoing) → FitsBacklog k self.old o → FitsBacklog k self.new (if result then sent_on o else o) }
         ensures made { (k : ℕ) (o : Outgoing) → FitsBacklog k self.old o →
             out.new.made ≡ (if result then out.old.made ++ spelling_of from (info (o.place % 8) nr.number false (next_packet o)) ∷ [] else out.old.made) }
+        ensures queue { length self.new.queue ≤ length self.old.queue }
         ensures long { out.old.long ≡ (if result then out.new.long + 1 else out.new.long) }
         ensures short { out.new.short ≡ out.old.short }
     {
@@ -138,7 +140,15 @@ fn send_again(sender: &mut Sender<Octets>, from: Role, nr: Seq, out: &mut Outbox
         return false;
     };
     let info = packet.as_slice();
-    out.send_long(from, &Frame::I { ns, nr, p: false, info });
+    out.send_long(
+        from,
+        &Frame::I {
+            ns,
+            nr,
+            p: false,
+            info,
+        },
+    );
     true
 }
 
@@ -153,6 +163,14 @@ fn send_new(sender: &mut Sender<Octets>, packet: Octets, from: Role, nr: Seq, ou
 {
     let ns = sender.top();
     let info = packet.as_slice();
-    out.send_long(from, &Frame::I { ns, nr, p: false, info });
+    out.send_long(
+        from,
+        &Frame::I {
+            ns,
+            nr,
+            p: false,
+            info,
+        },
+    );
     let _ = sender.offer(packet);
 }

@@ -32,7 +32,10 @@ impl<const ROOM: usize> Blanks<ROOM> {
     pub fn new(alloc: Global) -> Blanks<ROOM>
         ensures { result ≡ 0 }
     {
-        Blanks { blanks: Vec::new(alloc), alloc }
+        Blanks {
+            blanks: Vec::new(alloc),
+            alloc,
+        }
     }
 
     pub fn len(&self) -> usize

@@ -19,6 +19,8 @@ impl Procedure {
         requires long { 0 < out.old.long }
         ensures step { (c : Settings) (before : List (List ℕ)) (s : Station) → FitsSide c self.old before out.old.made (alone s) → may_send c.window s ≡ false → owes_ready s ≡ false →
             FitsSide c self.new before out.new.made (closed_by c.window (puts packet (alone s))).side }
+        ensures kept { self.new ≡ record self.old { backlog = self.new.backlog } }
+        ensures queue { length self.new.backlog.queue ≤ length self.old.backlog.queue + 1 }
         ensures long { out.new.long + 1 ≡ out.old.long }
         ensures short { out.new.short ≡ out.old.short }
     {
@@ -69,7 +71,7 @@ impl Procedure {
         requires { 0 < out.old.short }
         ensures { (c : Settings) (before : List (List ℕ)) (t : Side) → FitsSide c self.old before out.old.made t → FitsHeard c self.new before out.new.made result (fires c t) }
     {
-        if self.tries >= self.n2 {
+        if self.tries >= self.parameters.n2 {
             return self.leave(Reason::Retries);
         }
         self.tries += 1;
@@ -87,7 +89,10 @@ impl Procedure {
                 self.recovery = true;
                 self.ready(true, true, out);
             }
-            Phase::Down | Phase::Waiting | Phase::Closed => self.send(&Frame::Sabm { p: true }, out),
+            Phase::Down | Phase::Waiting | Phase::Closed => self.send(
+                &Frame::Sabm { p: true },
+                out,
+            ),
         }
     }
 

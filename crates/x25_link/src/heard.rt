@@ -3,6 +3,7 @@ ghost use Rattle.std.specs.Prelude.{◌≡◌, None, Some, false, true};
 use crate::phase::{Notes, Reason};
 
 /// What a frame brought: the packet that is handed up, and what is noted.
+#[derive(Drop)]
 pub struct Heard<'a> {
     pub packet: Option<&'a [u8]>,
     pub notes: Notes,

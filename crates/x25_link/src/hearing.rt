@@ -22,7 +22,9 @@ fn is_poll(frame: &Frame) -> bool
 {
     match frame {
         Frame::I { p, .. } | Frame::Sabm { p } | Frame::Disc { p } => *p,
-        Frame::Rr { command, pf, .. } | Frame::Rnr { command, pf, .. } | Frame::Rej { command, pf, .. } => *command && *pf,
+        Frame::Rr { command, pf, .. }
+        | Frame::Rnr { command, pf, .. }
+        | Frame::Rej { command, pf, .. } => *command && *pf,
         Frame::Ua { .. } | Frame::Dm { .. } | Frame::Frmr { .. } => false,
     }
 }
@@ -31,7 +33,15 @@ impl Procedure {
     // ---- Up
 
     // An I frame.
-    fn hear_i<'a>(&mut self, octets: &[u8], ns: Seq, nr: Seq, p: bool, info: &'a [u8], out: &mut Outbox) -> Heard<'a>
+    fn hear_i<'a>(
+        &mut self,
+        octets: &[u8],
+        ns: Seq,
+        nr: Seq,
+        p: bool,
+        info: &'a [u8],
+        out: &mut Outbox,
+    ) -> Heard<'a>
         requires long { 0 < out.old.long }
         requires short { 0 < out.old.short }
         ensures step { (c : Settings) (before : List (List ℕ)) (t : Side) → FitsSide c self.old before out.old.made t →
@@ -49,7 +59,15 @@ impl Procedure {
     }
 
     // RR, or RNR where the peer is busy.
-    fn hear_ready<'a>(&mut self, octets: &[u8], busy: bool, command: bool, nr: Seq, pf: bool, out: &mut Outbox) -> Heard<'a>
+    fn hear_ready<'a>(
+        &mut self,
+        octets: &[u8],
+        busy: bool,
+        command: bool,
+        nr: Seq,
+        pf: bool,
+        out: &mut Outbox,
+    ) -> Heard<'a>
         requires { 0 < out.old.short }
         ensures step { (c : Settings) (before : List (List ℕ)) (t : Side) → FitsSide c self.old before out.old.made t →
             FitsHeard c self.new before out.new.made result (numbered c octets.now nr.number (λ u. quiet (polls command pf (peer_is busy u))) t) }
@@ -65,7 +83,14 @@ impl Procedure {
     }
 
     // REJ.
-    fn hear_rej<'a>(&mut self, octets: &[u8], command: bool, nr: Seq, pf: bool, out: &mut Outbox) -> Heard<'a>
+    fn hear_rej<'a>(
+        &mut self,
+        octets: &[u8],
+        command: bool,
+        nr: Seq,
+        pf: bool,
+        out: &mut Outbox,
+    ) -> Heard<'a>
         requires { 0 < out.old.short }
         ensures step { (c : Settings) (before : List (List ℕ)) (t : Side) → FitsSide c self.old before out.old.made t →
             FitsHeard c self.new before out.new.made result (numbered c octets.now nr.number (λ u. quiet (polls command pf (goes_back (peer_is false u)))) t) }
@@ -236,7 +261,7 @@ impl Procedure {
         ensures long { out.old.long ≤ out.new.long + 1 }
         ensures short { out.old.short ≤ out.new.short + 1 }
     {
-        match decode(other(self.role), self.n1, octets) {
+        match decode(other(self.role), self.parameters.n1, octets) {
             Ok(frame) => self.hear_read(octets, frame, out),
             Err(error) => self.hear_unread(octets, error, out),
         }

@@ -37,7 +37,11 @@ fn command_address(from: Role) -> u8
 fn octet_at(octets: &[u8], place: usize) -> u8
     ensures { result ≡ slice_index octets.now place }
 {
-    if place < octets.len() { octets[place] } else { 0 }
+    if place < octets.len() {
+        octets[place]
+    } else {
+        0
+    }
 }
 
 impl Procedure {
@@ -90,7 +94,9 @@ impl Procedure {
         let control = octet_at(octets, 1);
         let command = octet_at(octets, 0) == command_address(other(self.role));
         let of_response = if command { 0 } else { 16 };
-        let numbers = 2 * self.backlog.top().get() + of_response + 32 * self.receiver.wanted().get();
+        let numbers = 2 * self.backlog.top().get()
+            + of_response
+            + 32 * self.receiver.wanted().get();
         Frame::Frmr {
             f: command && control / 16 % 2 == 1,
             why: [control, numbers, why],

@@ -8,6 +8,7 @@ mod error;
 mod heard;
 mod hearing;
 mod leaving;
+mod link;
 mod octets;
 mod ordered;
 mod outbox;
@@ -19,6 +20,7 @@ mod receiving;
 mod step;
 
 pub use error::LinkError;
+pub use link::Link;
 pub use ordered::OrderedLink;
 pub use phase::{Notes, Phase, Reason};
 pub use plain::PlainLink;

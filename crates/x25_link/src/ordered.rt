@@ -1,4 +1,4 @@
-ghost use Rattle.std.specs.Prelude.{◌≡◌, ℕ, ◌+◌, ◌-◌, ◌<◌, ◌≤◌, ◌↔◌, length, vec_len, Bool, true, false, IfErr, OnOk, OnErr, IsOk, IsErrOf};
+ghost use Rattle.std.specs.Prelude.{◌≡◌, ℕ, ◌+◌, ◌-◌, ◌<◌, ◌≤◌, ◌↔◌, List, length, vec_len, Bool, true, false, IfErr, OnOk, OnErr, IsOk, IsErrOf};
 ghost use Rattle.x25_link.specs.Lists.{Lists, handed_down};
 
 use crate::error::LinkError;
@@ -7,8 +7,17 @@ use crate::error::LinkError;
 ///
 /// It means three lists of packets: those handed down, the acknowledged ones, a beginning of these, and those handed up.
 pub trait OrderedLink {
-    /// Which lists a link fits.
-    ghost fits: { Self → Lists → Type 0 };
+    /// What a link stands for.
+    ghost State: { Type 0 };
+
+    /// Which states a link fits.
+    ghost fits: { Self → State → Type 0 };
+
+    /// The lists of a state.
+    ghost lists: { State → Lists };
+
+    /// The state after an accepted `put` of a packet.
+    ghost after_put: { State → List ℕ → State };
 
     /// The most octets of a packet.
     ghost longest: { Self → ℕ };
@@ -44,7 +53,7 @@ pub trait OrderedLink {
     fn room(&mut self, count: usize) -> Result<(), LinkError>
         ensures enough { OnOk result (count ≤ spares self.new) }
         ensures no_fewer { spares self.old ≤ spares self.new }
-        ensures lists { (x : Lists) → fits self.old x → fits self.new x }
+        ensures state { (x : State) → fits self.old x → fits self.new x }
         ensures longest_stays { longest self.new ≡ longest self.old }
         ensures waits_stays { waits self.new ≡ waits self.old }
         ensures up_stays { up self.new ≡ up self.old }
@@ -57,7 +66,7 @@ pub trait OrderedLink {
     /// one `put`, where some is set aside, and where some is, the call isn't refused with 70.
     fn put(&mut self, packet: Vec<u8>) -> Result<(), LinkError>
         requires { vec_len packet ≤ longest self.old }
-        ensures step { (x : Lists) → fits self.old x → OnOk result (fits self.new (handed_down x packet.items)) }
+        ensures state { (x : State) → fits self.old x → OnOk result (fits self.new (after_put x packet.items)) }
         ensures spares_fall { OnOk result (spares self.new ≡ spares self.old - 1) }
         ensures longest_stays { longest self.new ≡ longest self.old }
         ensures up_stays { up self.new ≡ up self.old }
@@ -68,6 +77,9 @@ pub trait OrderedLink {
         ensures accepted { up self.old ≡ true → waits self.old < 256 → 0 < spares self.old → IsOk result }
         ensures err { OnErr result (self.new ≡ self.old) };
 
+    /// A `put` hands its packet down, behind all others.
+    ghost adds: { (x : State) (packet : List ℕ) → lists (after_put x packet) ≡ handed_down (lists x) packet };
+
     /// What is acknowledged is a beginning of what was handed down.
-    ghost begins: { (link : Self) (x : Lists) → fits link x → x.acked ≤ length x.given };
+    ghost begins: { (link : Self) (x : State) → fits link x → (lists x).acked ≤ length (lists x).given };
 }

@@ -50,10 +50,19 @@ impl PlainLink {
 }
 
 impl OrderedLink for PlainLink {
+    ghost use Rattle.x25_link.specs.Lists.{Lists, handed_down};
     ghost use Rattle.x25_link.specs.Plain.{FitsPlain};
-    ghost use Rattle.std.specs.Prelude.{length, true};
+    ghost use Rattle.std.specs.Prelude.{length, true, refl};
+
+    ghost State = { Lists };
 
     ghost fits = { FitsPlain };
+
+    ghost lists = { λ x. x };
+
+    ghost after_put = { handed_down };
+
+    ghost adds = { λ _ _. refl };
 
     ghost begins = { λ _ _ fits. fits.acked };
 

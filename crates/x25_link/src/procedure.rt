@@ -16,14 +16,19 @@ pub const BUSY_ABOVE: usize = 254;
 /// The most frames of a window.
 pub const FRAMES: u8 = 7;
 
+/// The system parameters N1, in octets of information, and N2. ITU-T X.25 (10/96), section 2.4.8.
+#[derive(Clone, Copy)]
+pub struct Parameters {
+    pub n1: usize,
+    pub n2: u8,
+    ghost short: { n1 ≤ 4099 },
+}
+
 /// The variables of a LAPB station. ITU-T X.25 (10/96), sections 2.3.2 and 2.4.
 #[derive(Drop)]
 pub struct Procedure {
     pub role: Role,
-    /// N1, in octets of information.
-    pub n1: usize,
-    /// N2.
-    pub n2: u8,
+    pub parameters: Parameters,
     pub backlog: Backlog,
     pub receiver: Receiver,
     pub phase: Phase,
@@ -93,6 +98,8 @@ impl Procedure {
         ensures sent { (c : Settings) (s : Station) → FitsStation c self.old s → result ≡ may_send c.window s }
         ensures step { (c : Settings) (before : List (List ℕ)) (t : Side) → FitsSide c self.old before out.old.made t → FitsSide c self.new before out.new.made (pumped_once c.window t) }
         ensures long { out.old.long ≤ out.new.long + 1 }
+        ensures kept { self.new ≡ record self.old { backlog = self.new.backlog } }
+        ensures queue { length self.new.backlog.queue ≤ length self.old.backlog.queue }
         ensures used { out.old.long ≡ (if result then out.new.long + 1 else out.new.long) }
         ensures short { out.new.short ≡ out.old.short }
     {

@@ -27,7 +27,13 @@ impl Procedure {
 
     /// Takes an I frame whose N(R) is valid. It hands the packet up where the frame is the one wanted and the station
     /// isn't busy.
-    pub fn hear_info<'a>(&mut self, ns: Seq, p: bool, info: &'a [u8], out: &mut Outbox) -> Option<&'a [u8]>
+    pub fn hear_info<'a>(
+        &mut self,
+        ns: Seq,
+        p: bool,
+        info: &'a [u8],
+        out: &mut Outbox,
+    ) -> Option<&'a [u8]>
         requires long { 0 < out.old.long }
         requires short { 0 < out.old.short }
         ensures step { (c : Settings) (before : List (List ℕ)) (t : Side) → FitsSide c self.old before out.old.made t →
@@ -90,7 +96,14 @@ impl Procedure {
         } else if !self.rejecting {
             self.rejecting = true;
             let nr = self.receiver.wanted();
-            self.send(&Frame::Rej { command: false, nr, pf: p }, out);
+            self.send(
+                &Frame::Rej {
+                    command: false,
+                    nr,
+                    pf: p,
+                },
+                out,
+            );
         } else if p {
             self.ready(false, true, out);
         }

@@ -12,10 +12,10 @@ returns-then-not-pump_once-clause-step c = λ d before s fits settled calm.
     let l = sent_length d.window _ s.outgoing backlog in
     let high = backlog.sender.sound.place_high in
     let low : s.outgoing.place ≤ s.outgoing.sent = omega arith in
-    let near = with_backlog d _ s _ _ fits.near (c.add.ensures d.window s.outgoing backlog) in
+    let near = with_backlog d _ s _ _ fits.near (c.add.ensures.state d.window s.outgoing backlog) in
     let once = c.pump_once.ensures.step d before (with_packet c.args.packet s) (record { near = near; out = fits.out }) in
     subst (λ (u : Side). FitsSide d c.pump_once.new.self before c.discard.new.self.made u) (sym (put_once d.window s c.args.packet low settled calm))
-      (rw (ap (λ o. o.made) c.discard.ensures) once)
+    (rw (ap (λ o. o.made) c.discard.ensures) once)
 
 pub returns-then-not-pump_once-clause-long : goal.returns-then-not-pump_once-clause-long
 returns-then-not-pump_once-clause-long c =
@@ -29,6 +29,6 @@ returns-else-not-pump_once-clause-step c = λ d before s fits settled calm.
     let l = sent_length d.window _ s.outgoing backlog in
     let high = backlog.sender.sound.place_high in
     let low : s.outgoing.place ≤ s.outgoing.sent = omega arith in
-    let near = with_backlog d _ s _ _ fits.near (c.add.ensures d.window s.outgoing backlog) in
+    let near = with_backlog d _ s _ _ fits.near (c.add.ensures.state d.window s.outgoing backlog) in
     let once = c.pump_once.ensures.step d before (with_packet c.args.packet s) (record { near = near; out = fits.out }) in
     subst (λ (u : Side). FitsSide d c.pump_once.new.self before c.pump_once.new.out.made u) (sym (put_once d.window s c.args.packet low settled calm)) once
