@@ -1,0 +1,269 @@
+-- What the code's variables stand for after a small change.
+use Rattle.std.proofs.Common.{◌≡◌, ℕ, ◌%◌, List, [], ◌∷◌, ◌++◌, length, map, Bool, true, false, None, if◌then◌else◌, refl, sym, ap, ◌∙◌, append_assoc, add-one, ◌+◌, ◌<◌, ◌==◌, zero, suc, arith}
+use Rattle.std.proofs.lemmas.Bool.{eq-eqb, ne_eqb}
+use Rattle.std.proofs.lemmas.List.{length_push}
+use Rattle.x25_window.specs.Modulo.{resolved}
+use Rattle.x25_window.specs.Receiving.{FitsTaken}
+use Rattle.x25_window.specs.declared.receiver.Receiver.{Receiver}
+use Rattle.std.proofs.lemmas.List.{map-append}
+use Rattle.x25_bits.specs.declared.role.Role.{Role}
+use Rattle.x25_frame.specs.PlainFrame.{PlainFrame, info}
+use Rattle.x25_frame.specs.Spelling.{spelling_of}
+use Rattle.x25_link.specs.declared.backlog.Backlog.{Backlog}
+use Rattle.x25_link.specs.declared.procedure.Procedure.{Procedure}
+use Rattle.x25_link.specs.Outgoing.{Outgoing, acknowledged_to, gone_back, is_open, next_packet, moved_on}
+use Rattle.x25_link.specs.Backlog.{FitsBacklog}
+use Rattle.x25_link.specs.declared.phase.Phase.{Phase}
+use Rattle.x25_link.specs.declared.phase.Phase.TheVariants.{Up}
+use Rattle.x25_link.specs.Station.{Settings, Station, Side, with_near, with_nothing, fresh, is_up, wanted, may_send, pumped, pumped_once}
+use Rattle.x25_link.specs.MustSend.{Step, acknowledged, is_taken, takes, hears_info, peer_is, goes_back}
+use Rattle.x25_link.specs.declared.phase.Notes.{Notes}
+use Rattle.x25_link.specs.Fits.{FitsStation, FitsSide, Made}
+
+pub made_more : (c : Settings) (role : Role) (before old made : List (List ℕ)) (frames : List PlainFrame) (frame : PlainFrame) → role ≡ c.role → Made c before old frames
+    → made ≡ old ++ spelling_of role frame ∷ [] → Made c before made (frames ++ frame ∷ [])
+made_more c role before old made frames frame same h e =
+    e ∙ ap (λ (r : Role). old ++ spelling_of r frame ∷ []) same ∙ ap (λ (o : List (List ℕ)). o ++ spelling_of c.role frame ∷ []) h
+    ∙ append_assoc before _ _ ∙ ap (λ (m : List (List ℕ)). before ++ m) (sym (map-append (spelling_of c.role) frames (frame ∷ [])))
+
+pub with_backlog : (c : Settings) (v : Procedure) (s : Station) (b : Backlog) (o : Outgoing) → FitsStation c v s → FitsBacklog c.window b o
+    → FitsStation c (record v { backlog = b }) (record s { outgoing = o })
+with_backlog c v s b o fits backlog = record {
+  role = fits.role;
+  longest = fits.longest;
+  retries = fits.retries;
+  backlog = backlog;
+  taken = fits.taken;
+  phase = fits.phase;
+  tries = fits.tries;
+  recovery = fits.recovery;
+  peer_busy = fits.peer_busy;
+  rejecting = fits.rejecting;
+  said_busy = fits.said_busy;
+}
+
+pub may_send_is : (k : ℕ) (s : Station) → s.recovery ≡ false → s.peer_busy ≡ false → is_up s.phase ≡ true → may_send k s ≡ is_open k s.outgoing
+may_send_is k s recovery peer_busy up = rw (up, recovery, peer_busy) refl
+
+-- the sending rule, once, where neither recovery nor a busy peer holds it up
+pub pump_fits : (c : Settings) (v : Procedure) (b : Backlog) (before old made : List (List ℕ)) (t : Side) (nr : ℕ) (sent : Bool) → FitsSide c v before old t
+    → v.recovery ≡ false → v.peer_busy ≡ false → is_up v.phase ≡ true → nr ≡ wanted t.near → sent ≡ is_open c.window t.near.outgoing
+    → FitsBacklog c.window b (if sent then moved_on t.near.outgoing else t.near.outgoing)
+    → made ≡ (if sent then old ++ spelling_of v.role (info (t.near.outgoing.place % 8) nr false (next_packet t.near.outgoing)) ∷ [] else old)
+    → FitsSide c (record v { backlog = b }) before made (pumped_once c.window t)
+pump_fits c v b before old made t nr true fits recovery peer_busy up number opened backlog e =
+    let near = fits.near in
+    let may = may_send_is c.window t.near (sym near.recovery ∙ recovery) (sym near.peer_busy ∙ peer_busy) (sym (ap is_up near.phase) ∙ up) in
+    rw (may, sym opened) (record { near = with_backlog c v t.near b _ near backlog; out = made_more c v.role before old made t.out _ near.role fits.out (rw number at e) })
+pump_fits c v b before old made t nr false fits recovery peer_busy up number opened backlog e =
+    let near = fits.near in
+    let may = may_send_is c.window t.near (sym near.recovery ∙ recovery) (sym near.peer_busy ∙ peer_busy) (sym (ap is_up near.phase) ∙ up) in
+    rw (may, sym opened) (record { near = with_backlog c v t.near b _ near backlog; out = e ∙ fits.out })
+
+pub pumped_more : (n k : ℕ) (t : Side) → pumped (n + 1) k t ≡ pumped_once k (pumped n k t)
+unfolding pumped
+pumped_more n k t = rw (add-one n) refl
+
+pub said : (c : Settings) (v : Procedure) (s : Station) (b : Bool) → FitsStation c v s → FitsStation c (record v { said_busy = b }) (record s { said_busy = b })
+said c v s b fits = record {
+  role = fits.role;
+  longest = fits.longest;
+  retries = fits.retries;
+  backlog = fits.backlog;
+  taken = fits.taken;
+  phase = fits.phase;
+  tries = fits.tries;
+  recovery = fits.recovery;
+  peer_busy = fits.peer_busy;
+  rejecting = fits.rejecting;
+  said_busy = refl;
+}
+
+pub rejecting : (c : Settings) (v : Procedure) (s : Station) (b : Bool) → FitsStation c v s → FitsStation c (record v { rejecting = b }) (record s { rejecting = b })
+rejecting c v s b fits = record {
+  role = fits.role;
+  longest = fits.longest;
+  retries = fits.retries;
+  backlog = fits.backlog;
+  taken = fits.taken;
+  phase = fits.phase;
+  tries = fits.tries;
+  recovery = fits.recovery;
+  peer_busy = fits.peer_busy;
+  rejecting = refl;
+  said_busy = fits.said_busy;
+}
+
+-- ---- an N(R) that acknowledges some frames, or none
+
+pub risen : (c : Settings) (v : Procedure) (b : Backlog) (before made : List (List ℕ)) (t : Side) (count nr : ℕ) → FitsSide c v before made t → 0 < count
+    → t.near.outgoing.acked + count ≡ resolved t.near.outgoing.acked nr → FitsBacklog c.window b (acknowledged_to (t.near.outgoing.acked + count) t.near.outgoing)
+    → FitsSide c (record v { backlog = b; tries = 0 }) before made (acknowledged nr t)
+risen c v b before made t count nr side some number backlog =
+    let fits = side.near in
+    let test : (resolved t.near.outgoing.acked nr == t.near.outgoing.acked) ≡ false = ne_eqb _ _ (λ e. omega arith) in
+    rw test (record {
+      near = record {
+        role = fits.role;
+        longest = fits.longest;
+        retries = fits.retries;
+        backlog = rw number at backlog;
+        taken = fits.taken;
+        phase = fits.phase;
+        tries = refl;
+        recovery = fits.recovery;
+        peer_busy = fits.peer_busy;
+        rejecting = fits.rejecting;
+        said_busy = fits.said_busy;
+      };
+      out = side.out;
+    })
+
+pub not_risen : (c : Settings) (v : Procedure) (b : Backlog) (before made : List (List ℕ)) (t : Side) (count nr : ℕ) → FitsSide c v before made t → count ≡ 0
+    → t.near.outgoing.acked + count ≡ resolved t.near.outgoing.acked nr → FitsBacklog c.window b (acknowledged_to (t.near.outgoing.acked + count) t.near.outgoing)
+    → FitsSide c (record v { backlog = b }) before made (acknowledged nr t)
+not_risen c v b before made t count nr side none number backlog =
+    let fits = side.near in
+    let test : (resolved t.near.outgoing.acked nr == t.near.outgoing.acked) ≡ true = eq-eqb _ _ (omega arith) in
+    rw test (record {
+      near = record {
+        role = fits.role;
+        longest = fits.longest;
+        retries = fits.retries;
+        backlog = rw number at backlog;
+        taken = fits.taken;
+        phase = fits.phase;
+        tries = fits.tries;
+        recovery = fits.recovery;
+        peer_busy = fits.peer_busy;
+        rejecting = fits.rejecting;
+        said_busy = fits.said_busy;
+      };
+      out = side.out;
+    })
+
+-- ---- a packet that is taken
+
+pub taken_fits : (c : Settings) (v : Procedure) (r : Receiver) (before made : List (List ℕ)) (t : Side) (packet : List ℕ) → FitsSide c v before made t → FitsTaken r (length t.near.taken + 1)
+    → FitsSide c (record v { receiver = r; rejecting = false }) before made (takes packet t)
+taken_fits c v r before made t packet side taken =
+    let fits = side.near in
+    record {
+      near = record {
+        role = fits.role;
+        longest = fits.longest;
+        retries = fits.retries;
+        backlog = fits.backlog;
+        taken = rw length_push taken;
+        phase = fits.phase;
+        tries = fits.tries;
+        recovery = fits.recovery;
+        peer_busy = fits.peer_busy;
+        rejecting = refl;
+        said_busy = fits.said_busy;
+      };
+      out = side.out;
+    }
+
+pub no_tries : (c : Settings) (v : Procedure) (before made : List (List ℕ)) (t : Side) → FitsSide c v before made (with_near t (with_nothing Up t.near.tries))
+    → FitsSide c (record v { tries = 0 }) before made (with_near t fresh)
+no_tries c v before made t side =
+    let fits = side.near in
+    record {
+      near = record {
+        role = fits.role;
+        longest = fits.longest;
+        retries = fits.retries;
+        backlog = fits.backlog;
+        taken = fits.taken;
+        phase = fits.phase;
+        tries = refl;
+        recovery = fits.recovery;
+        peer_busy = fits.peer_busy;
+        rejecting = fits.rejecting;
+        said_busy = fits.said_busy;
+      };
+      out = side.out;
+    }
+
+-- ---- what RR, RNR and REJ tell
+
+pub peer_fits : (c : Settings) (v : Procedure) (before made : List (List ℕ)) (t : Side) (busy : Bool) → FitsSide c v before made t
+    → FitsSide c (record v { peer_busy = busy }) before made (peer_is busy t)
+peer_fits c v before made t busy side =
+    let fits = side.near in
+    record {
+      near = record {
+        role = fits.role;
+        longest = fits.longest;
+        retries = fits.retries;
+        backlog = fits.backlog;
+        taken = fits.taken;
+        phase = fits.phase;
+        tries = fits.tries;
+        recovery = fits.recovery;
+        peer_busy = refl;
+        rejecting = fits.rejecting;
+        said_busy = fits.said_busy;
+      };
+      out = side.out;
+    }
+
+pub back_fits : (c : Settings) (v : Procedure) (b : Backlog) (before made : List (List ℕ)) (t : Side) → FitsSide c v before made t → FitsBacklog c.window b (gone_back t.near.outgoing)
+    → FitsSide c (record v { backlog = b }) before made (goes_back t)
+back_fits c v b before made t side backlog = record { near = with_backlog c v t.near b _ side.near backlog; out = side.out }
+
+notes_by : (b : Bool) (x y : Step) (n : Notes) → x.notes ≡ n → y.notes ≡ n → (let z : Step = if b then x else y in z.notes) ≡ n
+notes_by true x y n e f = e
+notes_by false x y n e f = f
+
+pub info_notes : (k ns : ℕ) (p : Bool) (packet : List ℕ) (t : Side) → (hears_info k ns p packet t).notes ≡ record { down = None; up = false }
+info_notes k ns p packet t = notes_by (is_taken ns t.near) _ _ _ refl refl
+
+-- ---- other variables
+
+pub phase_fits : (c : Settings) (v : Procedure) (s : Station) (phase : Phase) (tries : ℕ) → FitsStation c v s
+    → FitsStation c (record v { phase = phase; tries = tries }) (record s { phase = phase; tries = tries })
+phase_fits c v s phase tries fits = record {
+  role = fits.role;
+  longest = fits.longest;
+  retries = fits.retries;
+  backlog = fits.backlog;
+  taken = fits.taken;
+  phase = refl;
+  tries = refl;
+  recovery = fits.recovery;
+  peer_busy = fits.peer_busy;
+  rejecting = fits.rejecting;
+  said_busy = fits.said_busy;
+}
+
+pub tries_fits : (c : Settings) (v : Procedure) (s : Station) → FitsStation c v s → FitsStation c (record v { tries = v.tries + 1 }) (record s { tries = s.tries + 1 })
+tries_fits c v s fits = record {
+  role = fits.role;
+  longest = fits.longest;
+  retries = fits.retries;
+  backlog = fits.backlog;
+  taken = fits.taken;
+  phase = fits.phase;
+  tries = ap (λ n. n + 1) fits.tries;
+  recovery = fits.recovery;
+  peer_busy = fits.peer_busy;
+  rejecting = fits.rejecting;
+  said_busy = fits.said_busy;
+}
+
+pub recovery_fits : (c : Settings) (v : Procedure) (s : Station) (b : Bool) → FitsStation c v s → FitsStation c (record v { recovery = b }) (record s { recovery = b })
+recovery_fits c v s b fits = record {
+  role = fits.role;
+  longest = fits.longest;
+  retries = fits.retries;
+  backlog = fits.backlog;
+  taken = fits.taken;
+  phase = fits.phase;
+  tries = fits.tries;
+  recovery = refl;
+  peer_busy = fits.peer_busy;
+  rejecting = fits.rejecting;
+  said_busy = fits.said_busy;
+}

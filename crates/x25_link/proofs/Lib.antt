@@ -1,0 +1,6 @@
+pub mod BacklogLemmas
+pub mod EndLemmas
+pub mod FitsLemmas
+pub mod LinkLemmas
+pub mod ListLemmas
+pub mod StationRows

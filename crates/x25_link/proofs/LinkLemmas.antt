@@ -1,0 +1,55 @@
+-- A link between its calls.
+use Rattle.std.proofs.Common.{◌≡◌, ℕ, zero, suc, ◌+◌, ◌≤◌, List, [], ◌∷◌, ◌++◌, length, map, Bool, true, false, if◌then◌else◌, refl, sym, ap, ◌∙◌, subst, arith}
+use Rattle.std.specs.Prelude.{nat_lt, ◌&&◌, not}
+use Rattle.x25_frame.specs.Spelling.{spelling_of}
+use Rattle.x25_link.specs.declared.phase.Phase.{Phase}
+use Rattle.x25_link.specs.declared.phase.Phase.TheVariants.{Down, Waiting, Up, Closed}
+use Rattle.x25_link.specs.Lists.{Lists, handed_down}
+use Rattle.x25_link.specs.Station.{Settings, Station, Side, lists_of, is_up, is_busy, with_near, ready, send_next, may_send, pumped_once, pumped, owes_ready, finished, ended}
+use Rattle.x25_link.specs.Steps.{alone, asks_again, fires, put_step}
+use Rattle.x25_link.specs.Fits.{FitsStation}
+use Rattle.x25_link.specs.Link.{ShownLink, FitsLink, LinkState, FitsWhole, lists_in, after_put_to}
+use Rattle.x25_link.proofs.EndLemmas.{with_packet, left_false, right_false, ready_sends, ended_stays}
+use Rattle.x25_link.proofs.BacklogLemmas.{sent_length}
+
+-- ---- a step after which nothing may be sent
+
+pub closed_state : (c : Settings) (v : ShownLink) (u : Side) → FitsStation c v.procedure u.near → may_send c.window u.near ≡ false → owes_ready u.near ≡ false → FitsLink c v (ended c.window u).near
+closed_state c v u near settled calm =
+    subst (λ (w : Side). FitsLink c v w.near) (sym (ended_stays c.window u settled calm)) (record { near = near; settled = settled; calm = calm })
+
+pub closed_out : (c : Settings) (frames : List (List ℕ)) (u : Side) → may_send c.window u.near ≡ false → owes_ready u.near ≡ false → frames ≡ map (spelling_of c.role) u.out
+    → frames ≡ map (spelling_of c.role) (ended c.window u).out
+closed_out c frames u settled calm out = subst (λ (w : Side). frames ≡ map (spelling_of c.role) w.out) (sym (ended_stays c.window u settled calm)) out
+
+-- ---- timer T1
+
+calm_by : (b : Bool) (command pf : Bool) (t : Side) → is_busy t.near ≡ b → owes_ready (ready command pf t).near ≡ false
+calm_by true command pf t e = rw e (right_false (is_up t.near.phase) _ (rw e refl))
+calm_by false command pf t e = rw e (right_false (is_up t.near.phase) _ refl)
+
+asks_settled : (k : ℕ) (p : Phase) (t : Side) → t.near.phase ≡ p → may_send k (asks_again p t).near ≡ false
+asks_settled k Down t e = left_false (is_up t.near.phase) _ (ap is_up e)
+asks_settled k Waiting t e = left_false (is_up t.near.phase) _ (ap is_up e)
+asks_settled k Up t e = ready_sends k _ true true (with_near t (record t.near { recovery = true })) refl ∙ right_false (is_up t.near.phase) _ refl
+asks_settled k Closed t e = left_false (is_up t.near.phase) _ (ap is_up e)
+
+asks_calm : (p : Phase) (t : Side) → t.near.phase ≡ p → owes_ready (asks_again p t).near ≡ false
+asks_calm Down t e = left_false (is_up t.near.phase) _ (ap is_up e)
+asks_calm Waiting t e = left_false (is_up t.near.phase) _ (ap is_up e)
+asks_calm Up t e = calm_by _ true true (with_near t (record t.near { recovery = true })) refl
+asks_calm Closed t e = left_false (is_up t.near.phase) _ (ap is_up e)
+
+fires_settled_by : (b : Bool) (c : Settings) (t : Side) → nat_lt t.near.tries c.retries ≡ b → may_send c.window (fires c t).side.near ≡ false
+fires_settled_by true c t e = rw e (asks_settled c.window t.near.phase (with_near t (record t.near { tries = t.near.tries + 1 })) refl)
+fires_settled_by false c t e = rw e refl
+
+pub fires_settled : (c : Settings) (t : Side) → may_send c.window (fires c t).side.near ≡ false
+fires_settled c t = fires_settled_by _ c t refl
+
+fires_calm_by : (b : Bool) (c : Settings) (t : Side) → nat_lt t.near.tries c.retries ≡ b → owes_ready (fires c t).side.near ≡ false
+fires_calm_by true c t e = rw e (asks_calm t.near.phase (with_near t (record t.near { tries = t.near.tries + 1 })) refl)
+fires_calm_by false c t e = rw e refl
+
+pub fires_calm : (c : Settings) (t : Side) → owes_ready (fires c t).side.near ≡ false
+fires_calm c t = fires_calm_by _ c t refl

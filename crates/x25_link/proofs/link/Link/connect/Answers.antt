@@ -1,0 +1,20 @@
+use Rattle.std.proofs.Common.{[], sym, subst, refl, ◌∙◌}
+use Rattle.x25_link.specs.Link.{ShownLink, FitsLink}
+use Rattle.x25_link.specs.MustSend.{Step}
+use Rattle.x25_link.specs.Steps.{alone, connects}
+use Rattle.x25_link.proofs.LinkLemmas.{closed_state, closed_out}
+use Rattle.x25_link.proofs.link.Link.connect.Goals as goal
+
+pub returns-clause-state : goal.returns-clause-state
+returns-clause-state c = λ d s fits.
+    let inside = subst (λ (v : ShownLink). FitsLink d v s) (sym c.self.view_is) fits in
+    let side = c.connect.ensures d [] (alone s) (record { near = inside.near; out = c.reserve.ensures.made ∙ c.self.invariant }) in
+    let step : Step = connects (alone s) in
+    closed_state d _ step.side side.near refl refl
+
+pub returns-clause-answer : goal.returns-clause-answer
+returns-clause-answer c = λ d s fits.
+    let inside = subst (λ (v : ShownLink). FitsLink d v s) (sym c.self.view_is) fits in
+    let side = c.connect.ensures d [] (alone s) (record { near = inside.near; out = c.reserve.ensures.made ∙ c.self.invariant }) in
+    let step : Step = connects (alone s) in
+    record { frames = closed_out d _ step.side refl refl (c.drain.ensures.made ∙ side.out); packet = refl; notes = refl }

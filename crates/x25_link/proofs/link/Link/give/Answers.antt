@@ -1,0 +1,16 @@
+use Rattle.std.proofs.Common.{◌≡◌, ◌≤◌, ◌++◌, sym, ap, subst, ◌∙◌, append-nil, arith}
+use Rattle.x25_link.specs.Link.{ShownLink, FitsLink}
+use Rattle.x25_link.proofs.BacklogLemmas.{sent_length}
+use Rattle.x25_link.proofs.EndLemmas.{with_packet, ended_settled, ended_calm}
+use Rattle.x25_link.proofs.link.Link.give.Goals as goal
+
+pub returns-clause-state : goal.returns-clause-state
+returns-clause-state c = λ d s fits.
+    let inside = subst (λ (v : ShownLink). FitsLink d v s) (sym c.self.view_is) fits in
+    let side = rw c.of.ensures at (c.give.ensures.step d _ s (record { near = inside.near; out = sym (append-nil _) }) inside.settled inside.calm) in
+    let sound = inside.near.backlog.sender.sound in
+    record {
+      near = side.near;
+      settled = ended_settled d.window (with_packet c.args.packet.items s) sound.window_high sound.place_low;
+      calm = ended_calm d.window (with_packet c.args.packet.items s);
+    }

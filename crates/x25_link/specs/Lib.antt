@@ -1,0 +1,12 @@
+pub mod LinkError
+pub mod Lists
+pub mod Outbox
+pub mod Plain
+pub mod Outgoing
+pub mod Backlog
+pub mod Station
+pub mod MustSend
+pub mod Fits
+pub mod Steps
+pub mod Link
+pub mod LinkLaws

@@ -1,0 +1,49 @@
+-- What contracts see of a link, and the states of the definition that it fits.
+use Rattle.std.specs.Prelude.{◌≡◌, ℕ, List, ◌++◌, map, false, option_copied}
+use Rattle.x25_frame.specs.Spelling.{spelling_of}
+use Rattle.x25_link.specs.declared.procedure.Procedure.{Procedure}
+use Rattle.x25_link.specs.declared.step.Step as code
+use Rattle.x25_link.specs.Lists.{Lists}
+use Rattle.x25_link.specs.Outbox.{ShownOutbox}
+use Rattle.x25_link.specs.Station.{Settings, Station, lists_of, may_send, owes_ready}
+use Rattle.x25_link.specs.MustSend.{Step}
+use Rattle.x25_link.specs.Steps.{put_step}
+use Rattle.x25_link.specs.Fits.{FitsStation}
+
+-- the variables of the station, and the frames that `sent` will hand out, with the memory set aside for further ones
+pub record ShownLink : Type 0 where
+  pub procedure : Procedure
+  pub outgoing : ShownOutbox
+
+-- between calls nothing is left to be sent
+pub record FitsLink (c : Settings) (v : ShownLink) (s : Station) : Type 0 where
+  pub near : FitsStation c v.procedure s
+  pub settled : may_send c.window s ≡ false
+  pub calm : owes_ready s ≡ false
+
+-- the answer of a call is that step's: the frames, as the octets that spell them, the packet and the notes
+pub record IsAnswer (c : Settings) (answer : code.Step) (step : Step) : Type 0 where
+  pub frames : map (λ frame. frame.items) answer.frames.items ≡ map (spelling_of c.role) step.side.out
+  pub packet : option_copied answer.packet ≡ step.packet
+  pub notes : answer.notes ≡ step.notes
+
+-- ---- a link as one that keeps order
+
+-- what it stands for: its settings, the station, and the frames that `sent` will hand out
+pub record LinkState : Type 0 where
+  pub settings : Settings
+  pub station : Station
+  pub kept : List (List ℕ)
+
+pub record FitsWhole (v : ShownLink) (x : LinkState) : Type 0 where
+  pub link : FitsLink x.settings v x.station
+  pub kept : v.outgoing.made ≡ x.kept
+
+abbrev pub lists_in : LinkState → Lists
+lists_in x = lists_of x.station
+
+-- the packet is handed down, and the frames that go are kept
+abbrev pub after_put_to : LinkState → List ℕ → LinkState
+after_put_to x packet =
+    let step = put_step x.settings packet x.station in
+    record { settings = x.settings; station = step.side.near; kept = x.kept ++ map (spelling_of x.settings.role) step.side.out }

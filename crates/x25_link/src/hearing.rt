@@ -1,0 +1,283 @@
+//! What a station does with the octets that it takes, phase by phase.
+ghost use Rattle.std.specs.Prelude.{◌≡◌, ℕ, ◌+◌, ◌<◌, ◌≤◌, List, ◌&&◌, Ok, Err, true, false};
+ghost use Rattle.x25_frame.specs.PlainFrame.{plain};
+ghost use Rattle.x25_frame.specs.Reading.{frame_of};
+ghost use Rattle.x25_frame.specs.Spelling.{is_command};
+ghost use Rattle.x25_link.specs.Station.{Settings, Station, Side, may_send, owes_ready};
+ghost use Rattle.x25_link.specs.Fits.{FitsStation, FitsSide, FitsHeard};
+ghost use Rattle.x25_link.specs.MustSend.{numbered, hears_info, polls, peer_is, goes_back, quiet, row_of_frame, row_of, other};
+ghost use Rattle.x25_link.specs.Steps.{poll_of, declines, when_down, when_waiting, hears, alone, take_step};
+
+use crate::heard::Heard;
+use crate::leaving::other;
+use crate::outbox::Outbox;
+use crate::phase::{Phase, Reason};
+use crate::procedure::Procedure;
+use x25_bits::Seq;
+use x25_frame::{Frame, FrameError, decode};
+
+// Whether the frame is a command with P=1.
+fn is_poll(frame: &Frame) -> bool
+    ensures { result ≡ (is_command (plain frame.now) && poll_of (plain frame.now)) }
+{
+    match frame {
+        Frame::I { p, .. } | Frame::Sabm { p } | Frame::Disc { p } => *p,
+        Frame::Rr { command, pf, .. }
+        | Frame::Rnr { command, pf, .. }
+        | Frame::Rej { command, pf, .. } => *command && *pf,
+        Frame::Ua { .. } | Frame::Dm { .. } | Frame::Frmr { .. } => false,
+    }
+}
+
+impl Procedure {
+    // ---- Up
+
+    // An I frame.
+    fn hear_i<'a>(
+        &mut self,
+        octets: &[u8],
+        ns: Seq,
+        nr: Seq,
+        p: bool,
+        info: &'a [u8],
+        out: &mut Outbox,
+    ) -> Heard<'a>
+        requires long { 0 < out.old.long }
+        requires short { 0 < out.old.short }
+        ensures step { (c : Settings) (before : List (List ℕ)) (t : Side) → FitsSide c self.old before out.old.made t →
+            FitsHeard c self.new before out.new.made result (numbered c octets.now nr.number (hears_info c.window ns.number p info.now) t) }
+        ensures long { out.old.long ≤ out.new.long + 1 }
+        ensures short { out.old.short ≤ out.new.short + 1 }
+    {
+        if !self.acknowledge(nr) {
+            return self.reject(octets, 8, out);
+        }
+        let packet = self.hear_info(ns, p, info, out);
+        let mut heard = Heard::quiet();
+        heard.packet = packet;
+        heard
+    }
+
+    // RR, or RNR where the peer is busy.
+    fn hear_ready<'a>(
+        &mut self,
+        octets: &[u8],
+        busy: bool,
+        command: bool,
+        nr: Seq,
+        pf: bool,
+        out: &mut Outbox,
+    ) -> Heard<'a>
+        requires { 0 < out.old.short }
+        ensures step { (c : Settings) (before : List (List ℕ)) (t : Side) → FitsSide c self.old before out.old.made t →
+            FitsHeard c self.new before out.new.made result (numbered c octets.now nr.number (λ u. quiet (polls command pf (peer_is busy u))) t) }
+        ensures long { out.new.long ≡ out.old.long }
+        ensures short { out.old.short ≤ out.new.short + 1 }
+    {
+        if !self.acknowledge(nr) {
+            return self.reject(octets, 8, out);
+        }
+        self.peer_busy = busy;
+        self.poll(command, pf, out);
+        Heard::quiet()
+    }
+
+    // REJ.
+    fn hear_rej<'a>(
+        &mut self,
+        octets: &[u8],
+        command: bool,
+        nr: Seq,
+        pf: bool,
+        out: &mut Outbox,
+    ) -> Heard<'a>
+        requires { 0 < out.old.short }
+        ensures step { (c : Settings) (before : List (List ℕ)) (t : Side) → FitsSide c self.old before out.old.made t →
+            FitsHeard c self.new before out.new.made result (numbered c octets.now nr.number (λ u. quiet (polls command pf (goes_back (peer_is false u)))) t) }
+        ensures long { out.new.long ≡ out.old.long }
+        ensures short { out.old.short ≤ out.new.short + 1 }
+    {
+        if !self.acknowledge(nr) {
+            return self.reject(octets, 8, out);
+        }
+        self.peer_busy = false;
+        self.backlog.go_back();
+        self.poll(command, pf, out);
+        Heard::quiet()
+    }
+
+    // A frame, in Up.
+    fn hear_frame<'a>(&mut self, octets: &[u8], frame: Frame<'a>, out: &mut Outbox) -> Heard<'a>
+        requires long { 0 < out.old.long }
+        requires short { 0 < out.old.short }
+        ensures step { (c : Settings) (before : List (List ℕ)) (t : Side) → FitsSide c self.old before out.old.made t →
+            FitsHeard c self.new before out.new.made result (row_of_frame c octets.now (plain frame.entry) t) }
+        ensures long { out.old.long ≤ out.new.long + 1 }
+        ensures short { out.old.short ≤ out.new.short + 1 }
+    {
+        match frame {
+            Frame::I { ns, nr, p, info } => self.hear_i(octets, ns, nr, p, info, out),
+            Frame::Rr { command, nr, pf } => self.hear_ready(octets, false, command, nr, pf, out),
+            Frame::Rnr { command, nr, pf } => self.hear_ready(octets, true, command, nr, pf, out),
+            Frame::Rej { command, nr, pf } => self.hear_rej(octets, command, nr, pf, out),
+            Frame::Sabm { p } => {
+                self.send(&Frame::Ua { f: p }, out);
+                self.set_up();
+                Heard::noted(Some(Reason::Reset), true)
+            }
+            Frame::Disc { p } => {
+                self.send(&Frame::Ua { f: p }, out);
+                self.leave(Reason::Disc)
+            }
+            Frame::Ua { .. } => Heard::quiet(),
+            Frame::Dm { .. } => self.leave(Reason::Dm),
+            Frame::Frmr { .. } => self.leave(Reason::FrmrGot),
+        }
+    }
+
+    // Octets that spell no frame, in Up.
+    fn hear_error<'a>(&mut self, octets: &[u8], error: FrameError, out: &mut Outbox) -> Heard<'a>
+        requires { 0 < out.old.short }
+        ensures step { (c : Settings) (before : List (List ℕ)) (t : Side) → FitsSide c self.old before out.old.made t →
+            FitsHeard c self.new before out.new.made result (row_of c octets.now (Err error) t) }
+        ensures long { out.new.long ≡ out.old.long }
+        ensures short { out.old.short ≤ out.new.short + 1 }
+    {
+        match error {
+            FrameError::Undefined { .. } => self.reject(octets, 1, out),
+            FrameError::NoInfoAllowed { .. } => self.reject(octets, 3, out),
+            FrameError::TooLong => self.reject(octets, 4, out),
+            FrameError::Short | FrameError::BadFcs | FrameError::BadAddress => Heard::quiet(),
+        }
+    }
+
+    // ---- the other phases
+
+    // A command with P=1 is answered by DM.
+    fn decline(&self, frame: &Frame, out: &mut Outbox)
+        requires { 0 < out.old.short }
+        ensures step { (c : Settings) (before : List (List ℕ)) (t : Side) → FitsSide c self.now before out.old.made t →
+            FitsSide c self.now before out.new.made (declines (plain frame.now) t) }
+        ensures long { out.new.long ≡ out.old.long }
+        ensures short { out.old.short ≤ out.new.short + 1 }
+    {
+        if is_poll(frame) {
+            self.send(&Frame::Dm { f: true }, out);
+        }
+    }
+
+    // A frame, in Down.
+    fn hear_down<'a>(&mut self, frame: &Frame, out: &mut Outbox) -> Heard<'a>
+        requires { 0 < out.old.short }
+        ensures step { (c : Settings) (before : List (List ℕ)) (t : Side) → FitsSide c self.old before out.old.made t →
+            FitsHeard c self.new before out.new.made result (when_down (plain frame.now) t) }
+        ensures long { out.new.long ≡ out.old.long }
+        ensures short { out.old.short ≤ out.new.short + 1 }
+    {
+        match frame {
+            Frame::Sabm { p } => {
+                self.send(&Frame::Ua { f: *p }, out);
+                self.set_up();
+                Heard::noted(None, true)
+            }
+            Frame::Disc { p } => {
+                self.send(&Frame::Dm { f: *p }, out);
+                Heard::quiet()
+            }
+            _ => {
+                self.decline(frame, out);
+                Heard::quiet()
+            }
+        }
+    }
+
+    // A frame, in Waiting.
+    fn hear_waiting<'a>(&mut self, frame: &Frame, out: &mut Outbox) -> Heard<'a>
+        requires { 0 < out.old.short }
+        ensures step { (c : Settings) (before : List (List ℕ)) (t : Side) → FitsSide c self.old before out.old.made t →
+            FitsHeard c self.new before out.new.made result (when_waiting (plain frame.now) t) }
+        ensures long { out.new.long ≡ out.old.long }
+        ensures short { out.old.short ≤ out.new.short + 1 }
+    {
+        match frame {
+            Frame::Ua { f: true } => {
+                self.set_up();
+                Heard::noted(None, true)
+            }
+            Frame::Sabm { p } => {
+                self.send(&Frame::Ua { f: *p }, out);
+                Heard::quiet()
+            }
+            Frame::Disc { p } => {
+                self.send(&Frame::Dm { f: *p }, out);
+                Heard::quiet()
+            }
+            _ => Heard::quiet(),
+        }
+    }
+
+    // ---- all phases
+
+    // Octets that spell no frame.
+    fn hear_unread<'a>(&mut self, octets: &[u8], error: FrameError, out: &mut Outbox) -> Heard<'a>
+        requires { 0 < out.old.short }
+        ensures step { (c : Settings) (before : List (List ℕ)) (t : Side) → FitsSide c self.old before out.old.made t →
+            FitsHeard c self.new before out.new.made result (hears c octets.now (Err error) t.near.phase t) }
+        ensures long { out.new.long ≡ out.old.long }
+        ensures short { out.old.short ≤ out.new.short + 1 }
+    {
+        match self.phase {
+            Phase::Up => self.hear_error(octets, error, out),
+            Phase::Down | Phase::Waiting | Phase::Closed => Heard::quiet(),
+        }
+    }
+
+    // A frame.
+    fn hear_read<'a>(&mut self, octets: &[u8], frame: Frame<'a>, out: &mut Outbox) -> Heard<'a>
+        requires long { 0 < out.old.long }
+        requires short { 0 < out.old.short }
+        ensures step { (c : Settings) (before : List (List ℕ)) (t : Side) → FitsSide c self.old before out.old.made t →
+            FitsHeard c self.new before out.new.made result (hears c octets.now (Ok (plain frame.entry)) t.near.phase t) }
+        ensures long { out.old.long ≤ out.new.long + 1 }
+        ensures short { out.old.short ≤ out.new.short + 1 }
+    {
+        match self.phase {
+            Phase::Down => self.hear_down(&frame, out),
+            Phase::Waiting => self.hear_waiting(&frame, out),
+            Phase::Up => self.hear_frame(octets, frame, out),
+            Phase::Closed => {
+                self.decline(&frame, out);
+                Heard::quiet()
+            }
+        }
+    }
+
+    // What the octets bring, before the sending rule.
+    fn hear_octets<'a>(&mut self, octets: &'a [u8], out: &mut Outbox) -> Heard<'a>
+        requires long { 0 < out.old.long }
+        requires short { 0 < out.old.short }
+        ensures step { (c : Settings) (before : List (List ℕ)) (t : Side) → FitsSide c self.old before out.old.made t →
+            FitsHeard c self.new before out.new.made result (hears c octets.now (frame_of (other c.role) c.longest octets.now) t.near.phase t) }
+        ensures long { out.old.long ≤ out.new.long + 1 }
+        ensures short { out.old.short ≤ out.new.short + 1 }
+    {
+        match decode(other(self.role), self.parameters.n1, octets) {
+            Ok(frame) => self.hear_read(octets, frame, out),
+            Err(error) => self.hear_unread(octets, error, out),
+        }
+    }
+
+    /// Takes octets, and sends what they ask for.
+    pub fn hear<'a>(&mut self, octets: &'a [u8], out: &mut Outbox) -> Heard<'a>
+        requires long { 8 ≤ out.old.long }
+        requires short { 2 ≤ out.old.short }
+        ensures step { (c : Settings) (before : List (List ℕ)) (s : Station) → FitsSide c self.old before out.old.made (alone s) →
+            FitsHeard c self.new before out.new.made result (take_step c octets.now s) }
+        ensures settled { (c : Settings) (s : Station) → FitsStation c self.old s → may_send c.window (take_step c octets.now s).side.near ≡ false }
+        ensures calm { (c : Settings) (s : Station) → FitsStation c self.old s → owes_ready (take_step c octets.now s).side.near ≡ false }
+    {
+        let heard = self.hear_octets(octets, out);
+        self.end(out);
+        heard
+    }
+}

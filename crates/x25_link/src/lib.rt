@@ -1,0 +1,28 @@
+//! The LAPB station of ITU-T X.25 (10/96), section 2, modulo 8, and the link that the packet layer stands on.
+#![tactic(auto)]
+
+mod backlog;
+mod blank;
+mod calling;
+mod error;
+mod heard;
+mod hearing;
+mod leaving;
+mod link;
+mod octets;
+mod ordered;
+mod outbox;
+mod phase;
+mod plain;
+mod procedure;
+mod queue;
+mod receiving;
+mod step;
+
+pub use error::LinkError;
+pub use link::Link;
+pub use ordered::OrderedLink;
+pub use phase::{Notes, Phase, Reason};
+pub use plain::PlainLink;
+pub use step::Step;
+pub use x25_bits::Role;

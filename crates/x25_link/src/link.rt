@@ -1,0 +1,311 @@
+ghost use Rattle.std.specs.Prelude.{◌≡◌, ℕ, ◌+◌, ◌-◌, ◌<◌, ◌≤◌, ◌↔◌, ◌++◌, List, [], length, map, vec_len, Bool, true, false, Some, None, IfOk, IfErr, OnOk, OnErr, IsOk, IsErrOf};
+ghost use Rattle.x25_frame.specs.Spelling.{spelling_of};
+ghost use Rattle.x25_link.specs.Station.{Settings, Station, with_nothing, is_up};
+ghost use Rattle.x25_link.specs.Steps.{Refuses, config_refusal, take_step, put_refusal, put_step, connect_refusal, connect_step, disconnect_refusal, disconnect_step, timer_refusal, timer_step, abandon_step, is_idle};
+ghost use Rattle.x25_link.specs.Link.{FitsLink, IsAnswer};
+ghost use Rattle.x25_link.specs.declared.phase.Phase.TheVariants.{Down};
+
+use crate::backlog::Backlog;
+use crate::error::LinkError;
+use crate::octets::{LONGEST_PACKET, Octets};
+use crate::ordered::OrderedLink;
+use crate::outbox::Outbox;
+use crate::phase::{Notes, Phase, Reason};
+use crate::procedure::{FRAMES, Parameters, Procedure};
+use crate::queue::PLACES;
+use crate::step::Step;
+use std::alloc::Global;
+use std::marker::Model;
+use x25_bits::Role;
+use x25_window::Receiver;
+
+/// The most I frames that one call sends, and one more.
+const LONG_FRAMES: usize = 8;
+
+/// The most other frames that one call sends.
+const SHORT_FRAMES: usize = 2;
+
+/// A LAPB station, DTE or DCE. ITU-T X.25 (10/96), section 2.
+///
+/// Each call but `put` answers the frames to send, in order. The frames of `put` are kept until `sent` takes them.
+#[derive(Drop)]
+pub struct Link {
+    procedure: Procedure,
+    outgoing: Outbox,
+    answers: Outbox,
+}
+
+impl Model for Link {
+    ghost use Rattle.std.specs.Prelude.{◌≡◌, []};
+    ghost use Rattle.x25_link.specs.Link.{ShownLink};
+
+    ghost Value = { ShownLink };
+
+    ghost view = { λ l. record { procedure = l.procedure; outgoing = l.outgoing } };
+
+    ghost invariant = { λ l. l.answers.made ≡ [] };
+}
+
+impl Link {
+    /// A link that is down. `k` is the window, 1 to 7; `n1` the most octets of a packet, 1 to 4,099; and a command that
+    /// isn't answered is sent `n2` times more, 1 to 255.
+    ///
+    /// 14 where one is out of its range, then 70.
+    pub fn new(alloc: Global, role: Role, k: u8, n1: usize, n2: u8) -> Result<Link, LinkError>
+        ensures state { IfOk result (λ l. FitsLink (record { role = role; window = k; longest = n1; retries = n2 }) l (with_nothing Down 0)) }
+        ensures none_kept { IfOk result (λ l. l.outgoing ≡ record { made = []; long = 0; short = 0 }) }
+        ensures refused { Refuses (config_refusal k n1 n2) result }
+    {
+        if k < 1 || k > FRAMES || n1 < 1 || n1 > LONGEST_PACKET || n2 < 1 {
+            return Err(LinkError::BadConfig);
+        }
+        let Some(backlog) = Backlog::new(alloc, k)? else {
+            return Err(LinkError::BadConfig);
+        };
+        Ok(Link {
+            procedure: Procedure {
+                role,
+                parameters: Parameters { n1, n2 },
+                backlog,
+                receiver: Receiver::new(),
+                phase: Phase::Down,
+                tries: 0,
+                recovery: false,
+                peer_busy: false,
+                rejecting: false,
+                said_busy: false,
+            },
+            outgoing: Outbox::new(alloc),
+            answers: Outbox::new(alloc),
+        })
+    }
+
+    /// Begins to set the link up: SABM with P=1.
+    ///
+    /// 12 where it is being set up, 13 where it is closed, 15 where it is up, then 70.
+    pub fn connect(&mut self) -> Result<Step<'static>, LinkError>
+        ensures state { (c : Settings) (s : Station) → FitsLink c self.old s → OnOk result (FitsLink c self.new (connect_step c s).side.near) }
+        ensures answer { (c : Settings) (s : Station) → FitsLink c self.old s → IfOk result (λ answer. IsAnswer c answer (connect_step c s)) }
+        ensures refused { (c : Settings) (s : Station) → FitsLink c self.old s → Refuses (connect_refusal s.phase) result }
+        ensures outgoing { self.new.outgoing ≡ self.old.outgoing }
+        ensures err { OnErr result (self.new ≡ self.old) }
+    {
+        match self.procedure.phase {
+            Phase::Down => {}
+            Phase::Waiting => return Err(LinkError::AlreadyWaiting),
+            Phase::Up => return Err(LinkError::AlreadyUp),
+            Phase::Closed => return Err(LinkError::Closed),
+        }
+        self.answers.reserve(0, SHORT_FRAMES)?;
+        self.procedure.connect(&mut self.answers);
+        Ok(Step {
+            frames: self.answers.drain(),
+            packet: None,
+            notes: Notes {
+                down: None,
+                up: false,
+            },
+        })
+    }
+
+    /// Takes octets, frame check sequence included, and answers what they ask for by the must-send table and the phases.
+    ///
+    /// 70 alone.
+    pub fn take<'a>(&mut self, octets: &'a [u8]) -> Result<Step<'a>, LinkError>
+        ensures state { (c : Settings) (s : Station) → FitsLink c self.old s → OnOk result (FitsLink c self.new (take_step c octets.now s).side.near) }
+        ensures answer { (c : Settings) (s : Station) → FitsLink c self.old s → IfOk result (λ answer. IsAnswer c answer (take_step c octets.now s)) }
+        ensures refused { IfErr result (λ e. e ≡ LinkError.NoMemory) }
+        ensures outgoing { self.new.outgoing ≡ self.old.outgoing }
+        ensures err { OnErr result (self.new ≡ self.old) }
+    {
+        self.answers.reserve(LONG_FRAMES, SHORT_FRAMES)?;
+        let heard = self.procedure.hear(octets, &mut self.answers);
+        Ok(Step {
+            frames: self.answers.drain(),
+            packet: heard.packet,
+            notes: heard.notes,
+        })
+    }
+
+    /// Disconnects this end, for good: DISC with P=1. It notes LinkDown(local) where the link was up.
+    ///
+    /// 13 where it is closed, then 70.
+    pub fn disconnect(&mut self) -> Result<Step<'static>, LinkError>
+        ensures state { (c : Settings) (s : Station) → FitsLink c self.old s → OnOk result (FitsLink c self.new (disconnect_step c s).side.near) }
+        ensures answer { (c : Settings) (s : Station) → FitsLink c self.old s → IfOk result (λ answer. IsAnswer c answer (disconnect_step c s)) }
+        ensures refused { (c : Settings) (s : Station) → FitsLink c self.old s → Refuses (disconnect_refusal s.phase) result }
+        ensures outgoing { self.new.outgoing ≡ self.old.outgoing }
+        ensures err { OnErr result (self.new ≡ self.old) }
+    {
+        match self.procedure.phase {
+            Phase::Down | Phase::Waiting | Phase::Up => {}
+            Phase::Closed => return Err(LinkError::Closed),
+        }
+        self.answers.reserve(0, SHORT_FRAMES)?;
+        let heard = self.procedure.disconnect(&mut self.answers);
+        Ok(Step {
+            frames: self.answers.drain(),
+            packet: heard.packet,
+            notes: heard.notes,
+        })
+    }
+
+    /// A firing of timer T1: a SABM or a poll again, or after `n2` of these LinkDown(retries).
+    ///
+    /// 11 where the timer doesn't run, then 70.
+    pub fn t1(&mut self) -> Result<Step<'static>, LinkError>
+        ensures state { (c : Settings) (s : Station) → FitsLink c self.old s → OnOk result (FitsLink c self.new (timer_step c s).side.near) }
+        ensures answer { (c : Settings) (s : Station) → FitsLink c self.old s → IfOk result (λ answer. IsAnswer c answer (timer_step c s)) }
+        ensures refused { (c : Settings) (s : Station) → FitsLink c self.old s → Refuses (timer_refusal s) result }
+        ensures outgoing { self.new.outgoing ≡ self.old.outgoing }
+        ensures err { OnErr result (self.new ≡ self.old) }
+    {
+        if !self.procedure.timer_runs() {
+            return Err(LinkError::NotRunning);
+        }
+        self.answers.reserve(0, SHORT_FRAMES)?;
+        let heard = self.procedure.fire(&mut self.answers);
+        Ok(Step {
+            frames: self.answers.drain(),
+            packet: heard.packet,
+            notes: heard.notes,
+        })
+    }
+
+    /// Leaves Up without a frame, and notes LinkDown(counts) (profile). It takes no memory.
+    pub fn abandon(&mut self) -> Step<'static>
+        requires { is_up self.old.procedure.phase ≡ true }
+        ensures state { (c : Settings) (s : Station) → FitsLink c self.old s → FitsLink c self.new (abandon_step c s).side.near }
+        ensures answer { (c : Settings) (s : Station) → FitsLink c self.old s → IsAnswer c result (abandon_step c s) }
+        ensures outgoing { self.new.outgoing ≡ self.old.outgoing }
+    {
+        let heard = self.procedure.leave(Reason::Counts);
+        Step {
+            frames: self.answers.drain(),
+            packet: heard.packet,
+            notes: heard.notes,
+        }
+    }
+
+    /// Hands a packet of at most `n1` octets down, and answers the frames to send, and before them those of earlier calls
+    /// of `put` that `sent` didn't take.
+    ///
+    /// 9 where the link isn't up, then 10 where 256 packets wait, then 70.
+    pub fn put_packet(&mut self, packet: Vec<u8>) -> Result<Step<'static>, LinkError>
+        requires { vec_len packet ≤ self.old.procedure.parameters.n1 }
+        ensures state { (c : Settings) (s : Station) → FitsLink c self.old s → OnOk result (FitsLink c self.new (put_step c packet.items s).side.near) }
+        ensures frames { (c : Settings) (s : Station) → FitsLink c self.old s →
+            IfOk result (λ answer. map (λ f. f.items) answer.frames.items ≡ self.old.outgoing.made ++ map (spelling_of c.role) (put_step c packet.items s).side.out) }
+        ensures packet { IfOk result (λ answer. answer.packet ≡ None) }
+        ensures notes { IfOk result (λ answer. answer.notes ≡ record { down = None; up = false }) }
+        ensures refused { (c : Settings) (s : Station) → FitsLink c self.old s → Refuses (put_refusal s) result }
+        ensures outgoing { OnOk result (self.new.outgoing ≡ record { made = []; long = 0; short = 0 }) }
+        ensures err { OnErr result (self.new ≡ self.old) }
+    {
+        self.give(packet)?;
+        Ok(Step {
+            frames: self.sent(),
+            packet: None,
+            notes: Notes {
+                down: None,
+                up: false,
+            },
+        })
+    }
+
+    /// Hands out the frames of `put`, in order. No memory is set aside for further calls of `put` after it.
+    pub fn sent(&mut self) -> Vec<Vec<u8>>
+        ensures frames { map (λ f. f.items) result.items ≡ self.old.outgoing.made }
+        ensures outgoing { self.new.outgoing ≡ record { made = []; long = 0; short = 0 } }
+        ensures procedure { self.new.procedure ≡ self.old.procedure }
+    {
+        self.outgoing.drain()
+    }
+
+    /// Whether the link is up, nothing waits and all that was sent is acknowledged.
+    pub fn idle(&self) -> bool
+        ensures { (c : Settings) (s : Station) → FitsLink c self.now s → result ≡ is_idle s }
+    {
+        self.procedure.is_idle()
+    }
+
+    // Hands a packet down, and keeps the frames.
+    fn give(&mut self, packet: Vec<u8>) -> Result<(), LinkError>
+        requires { vec_len packet ≤ self.old.procedure.parameters.n1 }
+        ensures state { (c : Settings) (s : Station) → FitsLink c self.old s → OnOk result (FitsLink c self.new (put_step c packet.items s).side.near) }
+        ensures made { (c : Settings) (s : Station) → FitsLink c self.old s →
+            OnOk result (self.new.outgoing.made ≡ self.old.outgoing.made ++ map (spelling_of c.role) (put_step c packet.items s).side.out) }
+        ensures spare { OnOk result (self.new.outgoing.long ≡ self.old.outgoing.long - 1) }
+        ensures refused { (c : Settings) (s : Station) → FitsLink c self.old s → Refuses (put_refusal s) result }
+        ensures not_up { IsErrOf result LinkError.NotUp ↔ (is_up self.old.procedure.phase ≡ false) }
+        ensures full { IsErrOf result LinkError.QueueFull ↔ ((is_up self.old.procedure.phase ≡ true) × (length self.old.procedure.backlog.queue ≡ 256)) }
+        ensures memory { IsErrOf result LinkError.NoMemory → self.old.outgoing.long ≡ 0 }
+        ensures accepted { is_up self.old.procedure.phase ≡ true → length self.old.procedure.backlog.queue < 256 → 0 < self.old.outgoing.long → IsOk result }
+        ensures up_stays { is_up self.new.procedure.phase ≡ is_up self.old.procedure.phase }
+        ensures longest_stays { self.new.procedure.parameters.n1 ≡ self.old.procedure.parameters.n1 }
+        ensures waits_more { OnOk result (length self.new.procedure.backlog.queue ≤ length self.old.procedure.backlog.queue + 1) }
+        ensures err { OnErr result (self.new ≡ self.old) }
+    {
+        if !self.procedure.phase.is_up() {
+            return Err(LinkError::NotUp);
+        }
+        if self.procedure.backlog.waiting() == PLACES {
+            return Err(LinkError::QueueFull);
+        }
+        self.outgoing.reserve(1, 0)?;
+        self.procedure.give(Octets::of(packet), &mut self.outgoing);
+        Ok(())
+    }
+}
+
+impl OrderedLink for Link {
+    ghost use Rattle.x25_link.specs.Link.{LinkState, FitsWhole, lists_in, after_put_to};
+    ghost use Rattle.x25_link.specs.LinkLaws.{put_adds, acked_low};
+    ghost use Rattle.x25_link.specs.Station.{is_up};
+    ghost use Rattle.std.specs.Prelude.{length};
+
+    ghost State = { LinkState };
+
+    ghost fits = { FitsWhole };
+
+    ghost lists = { lists_in };
+
+    ghost after_put = { after_put_to };
+
+    ghost adds = { put_adds };
+
+    ghost begins = { acked_low };
+
+    ghost longest = { λ l. l.procedure.parameters.n1 };
+
+    ghost waits = { λ l. length l.procedure.backlog.queue };
+
+    ghost up = { λ l. is_up l.procedure.phase };
+
+    ghost spares = { λ l. l.outgoing.long };
+
+    fn limit(&self) -> usize {
+        self.procedure.parameters.n1
+    }
+
+    fn waiting(&self) -> usize {
+        self.procedure.backlog.waiting()
+    }
+
+    fn is_up(&self) -> bool {
+        self.procedure.phase.is_up()
+    }
+
+    fn spare(&self) -> usize {
+        self.outgoing.long()
+    }
+
+    fn room(&mut self, count: usize) -> Result<(), LinkError> {
+        self.outgoing.reserve(count, 0)?;
+        Ok(())
+    }
+
+    fn put(&mut self, packet: Vec<u8>) -> Result<(), LinkError> {
+        self.give(packet)
+    }
+}

@@ -1,0 +1,128 @@
+ghost use Rattle.std.specs.Prelude.{◌≡◌, ℕ, ◌+◌, ◌-◌, ◌<◌, ◌≤◌, ◌⊎◌, List, [], ◌∷◌, ◌++◌, length, map, max, vec_len, vec_capacity, OnOk, OnErr};
+ghost use Rattle.x25_frame.specs.PlainFrame.{plain};
+ghost use Rattle.x25_frame.specs.Spelling.{spelling_of, information_of};
+ghost use Rattle.x25_link.specs.Outbox.{ShownOutbox};
+
+use crate::blank::Blanks;
+use std::alloc::{AllocError, Global};
+use std::marker::Model;
+use std::mem;
+use x25_bits::Role;
+use x25_frame::{Frame, encode};
+
+/// The most octets of a frame: those of a packet, address, control and frame check sequence.
+pub const LONGEST_FRAME: usize = 4103;
+
+/// The most octets of a frame that carries no packet: those of FRMR.
+pub const SHORT_FRAME: usize = 7;
+
+/// Frames that were made, in order, and memory for further ones.
+///
+/// Memory for I frames and for other frames is set aside apart, so that a short frame doesn't carry that of a long one.
+#[derive(Drop)]
+pub struct Outbox {
+    made: Vec<Vec<u8>>,
+    long: Blanks<LONGEST_FRAME>,
+    short: Blanks<SHORT_FRAME>,
+    alloc: Global,
+}
+
+impl Model for Outbox {
+    ghost use Rattle.std.specs.Prelude.{◌+◌, ◌≤◌, map, vec_len, vec_capacity};
+    ghost use Rattle.x25_link.specs.Outbox.{ShownOutbox};
+
+    ghost Value = { ShownOutbox };
+
+    ghost view = { λ o. record { made = map (λ v. v.items) o.made.items; long = o.long; short = o.short } };
+
+    ghost invariant = { λ o. vec_len o.made + (o.long + o.short) ≤ vec_capacity o.made };
+}
+
+impl Outbox {
+    pub fn new(alloc: Global) -> Outbox
+        ensures { result ≡ record { made = []; long = 0; short = 0 } }
+    {
+        Outbox {
+            made: Vec::new(alloc),
+            long: Blanks::new(alloc),
+            short: Blanks::new(alloc),
+            alloc,
+        }
+    }
+
+    /// For how many I frames memory is set aside.
+    pub fn long(&self) -> usize
+        ensures { result ≡ self.now.long }
+    {
+        self.long.len()
+    }
+
+    /// Sets memory aside for at least so many I frames and other frames.
+    pub fn reserve(&mut self, long: usize, short: usize) -> Result<(), AllocError>
+        ensures made { self.new.made ≡ self.old.made }
+        ensures long { OnOk result (self.new.long ≡ max self.old.long long) }
+        ensures short { OnOk result (self.new.short ≡ max self.old.short short) }
+        ensures missing { OnErr result ((self.old.long < long) ⊎ (self.old.short < short)) }
+        ensures err { OnErr result (self.new ≡ self.old) }
+    {
+        let long_count = self.long.len().max(long);
+        let Some(count) = long_count.checked_add(self.short.len().max(short)) else {
+            return Err(AllocError);
+        };
+        self.made.reserve(count)?;
+        let before = self.short.len();
+        self.short.reserve(short)?;
+        if self.long.reserve(long).is_err() {
+            self.short.truncate(before);
+            return Err(AllocError);
+        }
+        Ok(())
+    }
+
+    /// Makes an I frame.
+    pub fn send_long(&mut self, from: Role, frame: &Frame)
+        requires ready { 0 < self.old.long }
+        requires fits { length (information_of (plain frame.now)) ≤ 4099 }
+        ensures { self.new ≡ record self.old { made = self.old.made ++ spelling_of from (plain frame.now) ∷ []; long = self.old.long - 1 } }
+    {
+        let octets = self.long.take();
+        self.made.push_reserved(spelled(from, frame, octets));
+    }
+
+    /// Makes a frame that carries no packet.
+    pub fn send_short(&mut self, from: Role, frame: &Frame)
+        requires ready { 0 < self.old.short }
+        requires fits { length (information_of (plain frame.now)) ≤ 3 }
+        ensures { self.new ≡ record self.old { made = self.old.made ++ spelling_of from (plain frame.now) ∷ []; short = self.old.short - 1 } }
+    {
+        let octets = self.short.take();
+        self.made.push_reserved(spelled(from, frame, octets));
+    }
+
+    /// Lets memory for one I frame go, where there is some.
+    pub fn discard(&mut self)
+        ensures { self.new ≡ record self.old { long = self.old.long - 1 } }
+    {
+        self.long.truncate(self.long.len().saturating_sub(1));
+    }
+
+    /// Hands out the frames that were made.
+    pub fn drain(&mut self) -> Vec<Vec<u8>>
+        ensures made { map (λ v. v.items) result.items ≡ self.old.made }
+        ensures empty { self.new ≡ record { made = []; long = 0; short = 0 } }
+    {
+        self.long.truncate(0);
+        self.short.truncate(0);
+        mem::replace(&mut self.made, Vec::new(self.alloc))
+    }
+}
+
+// The octets of a frame, in memory that was set aside.
+fn spelled(from: Role, frame: &Frame, mut octets: Vec<u8>) -> Vec<u8>
+    requires empty { octets.items ≡ [] }
+    requires room { length (information_of (plain frame.now)) + 4 ≤ vec_capacity octets }
+    ensures { result.items ≡ spelling_of from (plain frame.now) }
+{
+    encode(from, frame, &mut octets).unwrap();
+    octets
+}

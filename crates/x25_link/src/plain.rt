@@ -1,0 +1,151 @@
+ghost use Rattle.std.specs.Prelude.{◌≡◌, ℕ, ◌+◌, ◌-◌, ◌<◌, ◌≤◌, List, [], ◌∷◌, ◌++◌, length, drop, true, IfOk, IfErr, OnOk, OnErr, OnSome, IfSome, MatchOption, slice_get};
+ghost use Rattle.x25_link.specs.Lists.{Lists, no_packets, acked_more};
+ghost use Rattle.x25_link.specs.Plain.{ShownPlain, FitsPlain};
+
+use crate::error::LinkError;
+use crate::octets::{LONGEST_PACKET, Octets};
+use crate::ordered::OrderedLink;
+use crate::queue::{PLACES, Queue};
+use std::alloc::Global;
+use std::marker::Model;
+
+/// A link that is always up and loses nothing: what is put comes out, in order (profile).
+#[derive(Drop)]
+pub struct PlainLink {
+    queue: Queue,
+    spare: usize,
+}
+
+impl Model for PlainLink {
+    ghost use Rattle.x25_link.specs.Plain.{ShownPlain};
+
+    ghost Value = { ShownPlain };
+
+    ghost view = { λ l. record { queue = l.queue; spare = l.spare } };
+
+    ghost invariant = { λ _. Unit {0} };
+}
+
+impl PlainLink {
+    /// A link in which nothing waits. Refused with 70 alone.
+    pub fn new(alloc: Global) -> Result<PlainLink, LinkError>
+        ensures ok { IfOk result (λ l. FitsPlain l no_packets) }
+        ensures spare { IfOk result (λ l. l.spare ≡ 0) }
+        ensures err { IfErr result (λ e. e ≡ LinkError.NoMemory) }
+    {
+        let queue = Queue::new(alloc)?;
+        Ok(PlainLink { queue, spare: 0 })
+    }
+
+    /// Takes the first packet that waits, which counts as acknowledged by that. It takes no memory.
+    #[tactic(auto, using(crate::proofs::ListLemmas::drop_first))]
+    pub fn out(&mut self) -> Option<Vec<u8>>
+        ensures step { (x : Lists) → FitsPlain self.old x → OnSome result (FitsPlain self.new (acked_more x)) }
+        ensures front { (x : Lists) → FitsPlain self.old x → IfSome result (λ packet. slice_get x.given x.acked ≡ Some packet.items) }
+        ensures value { MatchOption result ((self.old.queue ≡ []) × (self.new ≡ self.old)) (λ packet. (self.old.queue ≡ packet.items ∷ self.new.queue) × (self.new.spare ≡ self.old.spare)) }
+    {
+        let packet = self.queue.pop()?;
+        Some(packet.into_vec())
+    }
+}
+
+impl OrderedLink for PlainLink {
+    ghost use Rattle.x25_link.specs.Lists.{Lists, handed_down};
+    ghost use Rattle.x25_link.specs.Plain.{FitsPlain};
+    ghost use Rattle.std.specs.Prelude.{length, true, refl};
+
+    ghost State = { Lists };
+
+    ghost fits = { FitsPlain };
+
+    ghost lists = { λ x. x };
+
+    ghost after_put = { handed_down };
+
+    ghost adds = { λ _ _. refl };
+
+    ghost begins = { λ _ _ fits. fits.acked };
+
+    ghost longest = { λ _. 4099 };
+
+    ghost waits = { λ l. length l.queue };
+
+    ghost up = { λ _. true };
+
+    ghost spares = { λ l. l.spare };
+
+    fn limit(&self) -> usize {
+        LONGEST_PACKET
+    }
+
+    fn waiting(&self) -> usize {
+        self.queue.len()
+    }
+
+    fn is_up(&self) -> bool {
+        true
+    }
+
+    fn spare(&self) -> usize {
+        self.spare
+    }
+
+    fn room(&mut self, count: usize) -> Result<(), LinkError> {
+        if self.spare < count {
+            self.spare = count;
+        }
+        Ok(())
+    }
+
+    fn put(&mut self, packet: Vec<u8>) -> Result<(), LinkError> {
+        if self.queue.len() == PLACES {
+            return Err(LinkError::QueueFull);
+        }
+        self.queue.push(Octets::of(packet));
+        self.spare = self.spare.saturating_sub(1);
+        Ok(())
+    }
+}
+
+#[cfg(test)]
+mod tests {
+    use super::*;
+    use std::test::Fail;
+
+    // Puts one packet through any link that is up and holds none.
+    fn put_one<L: OrderedLink>(link: &mut L, alloc: Global, octet: u8) -> Result<(), LinkError>
+        requires { 1 ≤ L.longest link.old }
+    {
+        link.room(1)?;
+        link.put(vec![in alloc; octet]?)
+    }
+
+    #[test]
+    fn what_is_put_comes_out(rt: HostRuntime) -> Result<(), Fail> {
+        let mut link = PlainLink::new(rt.alloc())?;
+        assert!(rt; link.is_up());
+        assert_eq!(rt; link.limit(), 4099);
+        assert_eq!(rt; link.out().is_none(), true);
+        put_one(&mut link, rt.alloc(), 5)?;
+        put_one(&mut link, rt.alloc(), 6)?;
+        assert_eq!(rt; link.waiting(), 2);
+        assert_eq!(rt; link.out().ok_or("5 waits")?.as_slice(), [5].as_slice());
+        assert_eq!(rt; link.out().ok_or("6 waits")?.as_slice(), [6].as_slice());
+        assert_eq!(rt; link.waiting(), 0);
+        Ok(())
+    }
+
+    #[test]
+    fn is_full_at_256(rt: HostRuntime) -> Result<(), Fail> {
+        let mut link = PlainLink::new(rt.alloc())?;
+        link.room(2)?;
+        for _ in 0..256u16 {
+            link.put(Vec::new(rt.alloc()))?;
+        }
+        assert_eq!(rt; link.spare(), 0);
+        assert_eq!(rt; link.put(Vec::new(rt.alloc())), Err(LinkError::QueueFull));
+        assert_eq!(rt; link.waiting(), 256);
+        assert_eq!(rt; LinkError::QueueFull.number(), 10);
+        Ok(())
+    }
+}

@@ -1,0 +1,59 @@
+ghost use Rattle.std.specs.Prelude.{◌≡◌, ℕ, ◌<◌, ◌≤◌, List, [], ◌∷◌, ◌++◌, length, IfOk, MatchOption};
+
+use crate::octets::Octets;
+use circular_buffer::HeapCircularBuffer;
+use std::alloc::{AllocError, Global};
+use std::marker::Model;
+
+/// How many packets may wait.
+pub const PLACES: usize = 256;
+
+/// The packets that wait, at most 256, in a ring that is made once.
+#[derive(Drop)]
+pub struct Queue {
+    ring: HeapCircularBuffer<Octets>,
+}
+
+impl Model for Queue {
+    ghost Value = { List (List ℕ) };
+
+    ghost view = { λ q. q.ring.items };
+
+    ghost invariant = { λ q. q.ring.capacity ≡ 256 };
+}
+
+impl Queue {
+    pub fn new(alloc: Global) -> Result<Queue, AllocError>
+        ensures { IfOk result (λ q. q ≡ []) }
+    {
+        let ring = HeapCircularBuffer::with_capacity(alloc, PLACES)?;
+        Ok(Queue { ring })
+    }
+
+    pub fn len(&self) -> usize
+        ensures value { result ≡ length self.now }
+        ensures few { result ≤ 256 }
+    {
+        self.ring.len()
+    }
+
+    pub fn push(&mut self, packet: Octets)
+        requires { length self.old < 256 }
+        ensures { self.new ≡ self.old ++ packet ∷ [] }
+    {
+        let _ = self.ring.push_back(packet);
+    }
+
+    /// Takes the first packet.
+    pub fn pop(&mut self) -> Option<Octets>
+        ensures { MatchOption result ((self.old ≡ []) × (self.new ≡ [])) (λ packet. self.old ≡ packet ∷ self.new) }
+    {
+        self.ring.pop_front()
+    }
+
+    pub fn clear(&mut self)
+        ensures { self.new ≡ [] }
+    {
+        self.ring.clear();
+    }
+}
