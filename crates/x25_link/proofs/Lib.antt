@@ -4,3 +4,5 @@ pub mod FitsLemmas
 pub mod LinkLemmas
 pub mod ListLemmas
 pub mod StationRows
+pub mod WindowLemmas
+pub mod WindowRows

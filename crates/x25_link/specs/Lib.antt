@@ -6,7 +6,9 @@ pub mod Outgoing
 pub mod Backlog
 pub mod Station
 pub mod MustSend
+pub mod WindowMachine
 pub mod Fits
 pub mod Steps
+pub mod WindowLaw
 pub mod Link
 pub mod LinkLaws

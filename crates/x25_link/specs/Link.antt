@@ -1,11 +1,11 @@
 -- What contracts see of a link, and the states of the definition that it fits.
-use Rattle.std.specs.Prelude.{◌≡◌, ℕ, List, ◌++◌, map, false, option_copied}
+use Rattle.std.specs.Prelude.{◌≡◌, ℕ, Bool, List, ◌++◌, length, map, false, option_copied}
 use Rattle.x25_frame.specs.Spelling.{spelling_of}
 use Rattle.x25_link.specs.declared.procedure.Procedure.{Procedure}
 use Rattle.x25_link.specs.declared.step.Step as code
 use Rattle.x25_link.specs.Lists.{Lists}
 use Rattle.x25_link.specs.Outbox.{ShownOutbox}
-use Rattle.x25_link.specs.Station.{Settings, Station, lists_of, may_send, owes_ready}
+use Rattle.x25_link.specs.Station.{Settings, Station, lists_of, is_up, may_send, owes_ready}
 use Rattle.x25_link.specs.MustSend.{Step}
 use Rattle.x25_link.specs.Steps.{put_step}
 use Rattle.x25_link.specs.Fits.{FitsStation}
@@ -14,6 +14,16 @@ use Rattle.x25_link.specs.Fits.{FitsStation}
 pub record ShownLink : Type 0 where
   pub procedure : Procedure
   pub outgoing : ShownOutbox
+
+-- the most octets of a packet, whether the link is up, and how many packets wait
+abbrev pub limit_of : ShownLink → ℕ
+limit_of v = v.procedure.parameters.n1
+
+abbrev pub up_of : ShownLink → Bool
+up_of v = is_up v.procedure.phase
+
+abbrev pub waiting_of : ShownLink → ℕ
+waiting_of v = length v.procedure.backlog.queue
 
 -- between calls nothing is left to be sent
 pub record FitsLink (c : Settings) (v : ShownLink) (s : Station) : Type 0 where

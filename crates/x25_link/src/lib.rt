@@ -7,6 +7,7 @@ mod calling;
 mod error;
 mod heard;
 mod hearing;
+mod law;
 mod leaving;
 mod link;
 mod octets;
@@ -20,6 +21,7 @@ mod receiving;
 mod step;
 
 pub use error::LinkError;
+pub use law::follows_the_window;
 pub use link::Link;
 pub use ordered::OrderedLink;
 pub use phase::{Notes, Phase, Reason};

@@ -1,8 +1,8 @@
 ghost use Rattle.std.specs.Prelude.{◌≡◌, ℕ, ◌+◌, ◌-◌, ◌<◌, ◌≤◌, ◌↔◌, ◌++◌, List, [], length, map, vec_len, Bool, true, false, Some, None, IfOk, IfErr, OnOk, OnErr, IsOk, IsErrOf};
 ghost use Rattle.x25_frame.specs.Spelling.{spelling_of};
-ghost use Rattle.x25_link.specs.Station.{Settings, Station, with_nothing, is_up};
+ghost use Rattle.x25_link.specs.Station.{Settings, Station, with_nothing};
 ghost use Rattle.x25_link.specs.Steps.{Refuses, config_refusal, take_step, put_refusal, put_step, connect_refusal, connect_step, disconnect_refusal, disconnect_step, timer_refusal, timer_step, abandon_step, is_idle};
-ghost use Rattle.x25_link.specs.Link.{FitsLink, IsAnswer};
+ghost use Rattle.x25_link.specs.Link.{FitsLink, IsAnswer, limit_of, up_of, waiting_of};
 ghost use Rattle.x25_link.specs.declared.phase.Phase.TheVariants.{Down};
 
 use crate::backlog::Backlog;
@@ -174,7 +174,7 @@ impl Link {
 
     /// Leaves Up without a frame, and notes LinkDown(counts) (profile). It takes no memory.
     pub fn abandon(&mut self) -> Step<'static>
-        requires { is_up self.old.procedure.phase ≡ true }
+        requires { up_of self.old ≡ true }
         ensures state { (c : Settings) (s : Station) → FitsLink c self.old s → FitsLink c self.new (abandon_step c s).side.near }
         ensures answer { (c : Settings) (s : Station) → FitsLink c self.old s → IsAnswer c result (abandon_step c s) }
         ensures outgoing { self.new.outgoing ≡ self.old.outgoing }
@@ -192,7 +192,7 @@ impl Link {
     ///
     /// 9 where the link isn't up, then 10 where 256 packets wait, then 70.
     pub fn put_packet(&mut self, packet: Vec<u8>) -> Result<Step<'static>, LinkError>
-        requires { vec_len packet ≤ self.old.procedure.parameters.n1 }
+        requires { vec_len packet ≤ limit_of self.old }
         ensures state { (c : Settings) (s : Station) → FitsLink c self.old s → OnOk result (FitsLink c self.new (put_step c packet.items s).side.near) }
         ensures frames { (c : Settings) (s : Station) → FitsLink c self.old s →
             IfOk result (λ answer. map (λ f. f.items) answer.frames.items ≡ self.old.outgoing.made ++ map (spelling_of c.role) (put_step c packet.items s).side.out) }
@@ -231,19 +231,19 @@ impl Link {
 
     // Hands a packet down, and keeps the frames.
     fn give(&mut self, packet: Vec<u8>) -> Result<(), LinkError>
-        requires { vec_len packet ≤ self.old.procedure.parameters.n1 }
+        requires { vec_len packet ≤ limit_of self.old }
         ensures state { (c : Settings) (s : Station) → FitsLink c self.old s → OnOk result (FitsLink c self.new (put_step c packet.items s).side.near) }
         ensures made { (c : Settings) (s : Station) → FitsLink c self.old s →
             OnOk result (self.new.outgoing.made ≡ self.old.outgoing.made ++ map (spelling_of c.role) (put_step c packet.items s).side.out) }
         ensures spare { OnOk result (self.new.outgoing.long ≡ self.old.outgoing.long - 1) }
         ensures refused { (c : Settings) (s : Station) → FitsLink c self.old s → Refuses (put_refusal s) result }
-        ensures not_up { IsErrOf result LinkError.NotUp ↔ (is_up self.old.procedure.phase ≡ false) }
-        ensures full { IsErrOf result LinkError.QueueFull ↔ ((is_up self.old.procedure.phase ≡ true) × (length self.old.procedure.backlog.queue ≡ 256)) }
+        ensures not_up { IsErrOf result LinkError.NotUp ↔ (up_of self.old ≡ false) }
+        ensures full { IsErrOf result LinkError.QueueFull ↔ ((up_of self.old ≡ true) × (waiting_of self.old ≡ 256)) }
         ensures memory { IsErrOf result LinkError.NoMemory → self.old.outgoing.long ≡ 0 }
-        ensures accepted { is_up self.old.procedure.phase ≡ true → length self.old.procedure.backlog.queue < 256 → 0 < self.old.outgoing.long → IsOk result }
-        ensures up_stays { is_up self.new.procedure.phase ≡ is_up self.old.procedure.phase }
-        ensures longest_stays { self.new.procedure.parameters.n1 ≡ self.old.procedure.parameters.n1 }
-        ensures waits_more { OnOk result (length self.new.procedure.backlog.queue ≤ length self.old.procedure.backlog.queue + 1) }
+        ensures accepted { up_of self.old ≡ true → waiting_of self.old < 256 → 0 < self.old.outgoing.long → IsOk result }
+        ensures up_stays { up_of self.new ≡ up_of self.old }
+        ensures longest_stays { limit_of self.new ≡ limit_of self.old }
+        ensures waits_more { OnOk result (waiting_of self.new ≤ waiting_of self.old + 1) }
         ensures err { OnErr result (self.new ≡ self.old) }
     {
         if !self.procedure.phase.is_up() {
@@ -259,10 +259,8 @@ impl Link {
 }
 
 impl OrderedLink for Link {
-    ghost use Rattle.x25_link.specs.Link.{LinkState, FitsWhole, lists_in, after_put_to};
+    ghost use Rattle.x25_link.specs.Link.{LinkState, FitsWhole, lists_in, after_put_to, limit_of, up_of, waiting_of};
     ghost use Rattle.x25_link.specs.LinkLaws.{put_adds, acked_low};
-    ghost use Rattle.x25_link.specs.Station.{is_up};
-    ghost use Rattle.std.specs.Prelude.{length};
 
     ghost State = { LinkState };
 
@@ -276,11 +274,11 @@ impl OrderedLink for Link {
 
     ghost begins = { acked_low };
 
-    ghost longest = { λ l. l.procedure.parameters.n1 };
+    ghost longest = { limit_of };
 
-    ghost waits = { λ l. length l.procedure.backlog.queue };
+    ghost waits = { waiting_of };
 
-    ghost up = { λ l. is_up l.procedure.phase };
+    ghost up = { up_of };
 
     ghost spares = { λ l. l.outgoing.long };
 

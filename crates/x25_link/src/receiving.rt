@@ -57,7 +57,8 @@ impl Procedure {
         ensures taken { (c : Settings) (packet : List ℕ) (before made : List (List ℕ)) (t : Side) → FitsSide c self.old before made t → result ≡ true → FitsSide c self.new before made (takes packet t) }
         ensures passed { (c : Settings) (s : Station) → FitsStation c self.old s → result ≡ false → FitsStation c self.new s }
     {
-        if self.is_busy() {
+        let busy = self.is_busy();
+        if busy {
             return false;
         }
         if !self.receiver.accept(ns) {

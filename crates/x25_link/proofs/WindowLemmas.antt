@@ -1,0 +1,116 @@
+-- What each small step of a station keeps: it is a run of the window machine.
+use Rattle.std.proofs.Common.{◌≡◌, ℕ, zero, suc, ◌+◌, ◌-◌, ◌%◌, ◌<◌, ◌≤◌, List, [], ◌∷◌, ◌++◌, ◌⊎◌, inl, inr, length, max, Bool, true, false, not, if◌then◌else◌, Option, Some, None, refl, sym, ap, ◌∙◌, subst, arith, append-nil, append_assoc}
+use Rattle.std.specs.Prelude.{◌&&◌, nat_lt, nat_le, option_to_list}
+use Rattle.std.proofs.lemmas.Bool.{leb-true, eqb-true}
+use Rattle.x25_frame.specs.PlainFrame.{PlainFrame, info, rr, rnr, rej, sabm, disc, ua, dm, frmr}
+use Rattle.x25_window.specs.Modulo.{resolved}
+use Rattle.x25_link.specs.Outgoing.{Outgoing, moved_on}
+use Rattle.x25_link.specs.Station.{Settings, Station, Side, is_up, is_busy, wanted, with_near, sends, ready, send_next, may_send, pumped_once, pumped, owes_ready, finished, ended}
+use Rattle.x25_link.specs.MustSend.{Step, quiet, leaves, is_valid, acknowledged, is_taken, takes, answers, rejects_gap, passes_over, hears_info, peer_is, goes_back, polls}
+use Rattle.x25_link.specs.WindowMachine.{Window, Move, gives, sends_packet, tells, hears, Kind, is_rr, is_rnr, is_rej, Input, Brings, Runs, rests, goes_on, May}
+use Rattle.x25_link.specs.WindowMachine.Move.{takes as takes_packet}
+use Rattle.x25_link.specs.WindowLaw.{IsSound, window_in}
+use Rattle.x25_link.proofs.EndLemmas.{both_true, is_false, open_is}
+
+-- by the values alone, so that a step that changes only flags keeps it by computation
+pub record KeptAt (k : ℕ) (input : Input) (from : Window) (is_on : Bool) (o : Outgoing) (taken : List (List ℕ)) (out : List PlainFrame) : Type 0 where
+  pub up : is_on ≡ true
+  pub sound : IsSound k o
+  pub runs : Runs k input from (window_in o taken) out
+
+module _ (k : ℕ) (input : Input) (from : Window) where
+  abbrev pub Kept : Side → Type 0
+  Kept t = KeptAt k input from (is_up t.near.phase) t.near.outgoing t.near.taken t.out
+
+  keeps_if : (b : Bool) (u v : Side) → Kept u → Kept v → Kept (if b then u else v)
+  keeps_if true u v f g = f
+  keeps_if false u v f g = g
+
+  by_if : (b : Bool) (u v : Side) → (b ≡ true → Kept u) → (b ≡ false → Kept v) → Kept (if b then u else v)
+  by_if true u v f g = f refl
+  by_if false u v f g = g refl
+
+  pub K-rr : (command pf : Bool) (t : Side) → Kept t → Kept (sends (rr command (wanted t.near) pf) t)
+  K-rr command pf t h = record { up = h.up; sound = h.sound; runs = goes_on _ _ (tells is_rr command pf) h.runs tt tt }
+
+  pub K-rnr : (command pf : Bool) (t : Side) → Kept t → Kept (sends (rnr command (wanted t.near) pf) t)
+  K-rnr command pf t h = record { up = h.up; sound = h.sound; runs = goes_on _ _ (tells is_rnr command pf) h.runs tt tt }
+
+  pub K-rej : (command pf : Bool) (t : Side) → Kept t → Kept (sends (rej command (wanted t.near) pf) t)
+  K-rej command pf t h = record { up = h.up; sound = h.sound; runs = goes_on _ _ (tells is_rej command pf) h.runs tt tt }
+
+  pub K-ready : (command pf : Bool) (t : Side) → Kept t → Kept (ready command pf t)
+  K-ready command pf t h =
+      keeps_if (is_busy t.near) _ _
+      (K-rnr command pf (with_near t (record t.near { said_busy = true })) h)
+      (K-rr command pf (with_near t (record t.near { said_busy = false })) h)
+
+  pub K-send_next : (t : Side) → may_send k t.near ≡ true → Kept t → Kept (send_next t)
+  K-send_next t may h =
+      let o = open_is k t.near may in
+      let s = h.sound in
+      record {
+        up = h.up;
+        sound = record { place_low = omega arith; place_high = omega arith; sent_high = omega arith; room = omega arith };
+        runs = goes_on _ _ (sends_packet t.near.outgoing.place) h.runs (s.place_low, s.place_high, o.room, o.packet) tt;
+      }
+
+  pub K-pumped : (n : ℕ) (t : Side) → Kept t → Kept (pumped n k t)
+  unfolding pumped
+  K-pumped zero t h = h
+  K-pumped (suc n) t h =
+      by_if (may_send k (pumped n k t).near) (send_next (pumped n k t)) (pumped n k t)
+      (λ may. K-send_next (pumped n k t) may (K-pumped n t h)) (λ _. K-pumped n t h)
+
+  pub K-finished : (t : Side) → Kept t → Kept (finished t)
+  K-finished t h = keeps_if (owes_ready t.near) _ t (K-ready false false t h) h
+
+  pub K-ended : (t : Side) → Kept t → Kept (ended k t)
+  K-ended t h = K-finished (pumped 7 k t) (K-pumped 7 t h)
+
+  -- ---- what is received
+
+  pub K-acknowledged : (nr : ℕ) (t : Side) → is_valid nr t.near ≡ true → Brings (hears nr) input → Kept t → Kept (acknowledged nr t)
+  K-acknowledged nr t valid brings h =
+      let s = h.sound in
+      let within : resolved t.near.outgoing.acked nr ≤ t.near.outgoing.sent = leb-true _ _ valid in
+      record {
+        up = h.up;
+        sound = record { place_low = omega arith; place_high = omega arith; sent_high = s.sent_high; room = omega arith };
+        runs = subst (Runs k input from (window_in (acknowledged nr t).near.outgoing t.near.taken)) (append-nil t.out) (goes_on _ _ (hears nr) h.runs within brings);
+      }
+
+  pub K-takes : (ns : ℕ) (packet : List ℕ) (t : Side) → is_taken ns t.near ≡ true → Brings (takes_packet ns packet) input → Kept t → Kept (takes packet t)
+  K-takes ns packet t taken brings h =
+      let both = both_true _ _ taken in
+      let same : ns ≡ length t.near.taken % 8 = eqb-true _ _ both.1 in
+      record {
+        up = h.up;
+        sound = h.sound;
+        runs = subst (Runs k input from (window_in t.near.outgoing (t.near.taken ++ packet ∷ []))) (append-nil t.out) (goes_on _ _ (takes_packet ns packet) h.runs same brings);
+      }
+
+  pub K-answers : (p : Bool) (t : Side) → Kept t → Kept (answers k p t)
+  K-answers true t h = K-ready false true t h
+  K-answers false t h = by_if (may_send k t.near) (send_next t) (ready false false t) (λ may. K-send_next t may h) (λ _. K-ready false false t h)
+
+  pub K-passes_over : (p : Bool) (t : Side) → Kept t → Kept (passes_over p t)
+  K-passes_over p t h =
+      keeps_if (is_busy t.near) _ _ (K-ready false p t h)
+      (keeps_if (not t.near.rejecting) _ _ (K-rej false p (with_near t (record t.near { rejecting = true })) h)
+      (keeps_if p _ _ (K-ready false true t h) h))
+
+  pub K-goes_back : (t : Side) → Kept t → Kept (goes_back t)
+  K-goes_back t h =
+      let s = h.sound in
+      record {
+        up = h.up;
+        sound = record { place_low = omega arith; place_high = omega arith; sent_high = s.sent_high; room = s.room };
+        runs = h.runs;
+      }
+
+  pub K-polls : (command pf : Bool) (t : Side) → Kept t → Kept (polls command pf t)
+  K-polls true true t h = K-ready false true t h
+  K-polls true false t h = h
+  K-polls false true t h = K-goes_back (with_near t (record t.near { recovery = false; tries = 0 })) h
+  K-polls false false t h = h
