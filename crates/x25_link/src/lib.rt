@@ -19,6 +19,8 @@ mod procedure;
 mod queue;
 mod receiving;
 mod step;
+#[cfg(test)]
+mod tests;
 
 pub use error::LinkError;
 pub use law::follows_the_window;
