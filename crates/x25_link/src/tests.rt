@@ -1,4 +1,5 @@
 use super::*;
+use crate::leaving::other;
 use std::alloc::{AllocError, Global};
 use std::process::Abort;
 use std::test::Fail;
@@ -146,26 +147,12 @@ fn step_text(alloc: Global, from: Role, step: &Step) -> Result<String, Fail> {
     Ok(text)
 }
 
-fn other(role: Role) -> Role {
-    match role {
-        Role::Dte => DCE,
-        Role::Dce => DTE,
-    }
-}
-
 fn put(link: &mut Link, alloc: Global, octet: u8) -> Result<Step<'static>, LinkError> {
     let packet = vec![in alloc; octet]?;
     if packet.len() > link.limit() {
         return Err(LinkError::BadConfig);
     }
     link.put_packet(packet)
-}
-
-fn put_many(link: &mut Link, alloc: Global, count: u16) -> Result<Step<'static>, LinkError> {
-    for _ in 1..count {
-        put(link, alloc, 0)?;
-    }
-    put(link, alloc, 0)
 }
 
 /// Hands a packet down by the trait's calls, and takes its frames.
@@ -237,7 +224,7 @@ impl End {
             Abandon => shown(alloc, self.role, abandon(link)),
             T1 => shown(alloc, self.role, link.t1()),
             Put(octet) => shown(alloc, self.role, put(link, alloc, octet)),
-            PutMany(count) => shown(alloc, self.role, put_many(link, alloc, count)),
+            PutMany(count) => self.put_many(alloc, count),
             Take(octets) => shown(alloc, self.role, link.take(octets)),
             Hear(frame) => self.hear(alloc, &frame),
             Deliver => self.deliver(alloc),
@@ -246,6 +233,14 @@ impl End {
             Look(place) => self.look(alloc, place),
             Ask => self.ask(alloc),
         }
+    }
+
+    fn put_many(&mut self, alloc: Global, count: u16) -> Result<Shown, Fail> {
+        for _ in 1..count {
+            put(&mut self.link, alloc, 0)?;
+        }
+        let (text, _lost) = shown(alloc, self.role, put(&mut self.link, alloc, 0))?;
+        silent(alloc, text)
     }
 
     fn hear(&mut self, alloc: Global, frame: &Frame) -> Result<Shown, Fail> {
@@ -300,19 +295,8 @@ impl Pair {
         Ok(Pair { alloc, dte, dce })
     }
 
-    /// What happens at one station.
-    fn happens(&mut self, role: Role, event: Event) -> Result<Shown, Fail> {
-        match role {
-            Role::Dte => self.dte.happens(self.alloc, event),
-            Role::Dce => self.dce.happens(self.alloc, event),
-        }
-    }
-
     /// Puts the frames that a station sends on the line.
-    fn send(&mut self, from: Role, frames: Vec<Vec<u8>>, event: Event) -> Result<(), Fail> {
-        if matches!(event, PutMany(_)) {
-            return Ok(());
-        }
+    fn send(&mut self, from: Role, frames: Vec<Vec<u8>>) -> Result<(), Fail> {
         let line = match from {
             Role::Dte => &mut self.dce.line,
             Role::Dce => &mut self.dte.line,
@@ -323,14 +307,19 @@ impl Pair {
         Ok(())
     }
 
+    fn happens(&mut self, role: Role, event: Event) -> Result<String, Fail> {
+        let (text, frames) = match role {
+            Role::Dte => self.dte.happens(self.alloc, event)?,
+            Role::Dce => self.dce.happens(self.alloc, event)?,
+        };
+        self.send(role, frames)?;
+        Ok(text)
+    }
+
     /// Each event, at its station, shows its text.
     fn plays(&mut self, rt: &impl Abort, rows: &[(Role, Event, &str)]) -> Result<(), Fail> {
-        let mut row = 0usize;
-        for &(role, event, text) in rows {
-            let (shown, frames) = self.happens(role, event)?;
-            assert_eq!(rt; shown.as_str(), text, "row {row}");
-            self.send(role, frames, event)?;
-            row = row.saturating_add(1);
+        for (row, &(role, event, text)) in rows.iter().enumerate() {
+            assert_eq!(rt; self.happens(role, event)?.as_str(), text, "row {row}");
         }
         Ok(())
     }
