@@ -445,6 +445,28 @@ fn a_gap_is_answered_by_one_rej(rt: HostRuntime) -> Result<(), Fail> {
     )
 }
 
+// REJ lowers V(S), and in recovery nothing raises it again: N(R) is valid up to the highest number sent all the same.
+#[test]
+fn an_acknowledgement_above_the_lowered_place_is_taken(rt: HostRuntime) -> Result<(), Fail> {
+    let mut pair = up(&rt, rt.alloc(), 7, 10)?;
+    let rej = Hear(Frame::Rej {
+        command: false,
+        nr: Seq::ZERO,
+        pf: false,
+    });
+    pair.plays(
+        &rt,
+        &[
+            (DTE, Put(0), "I cmd P=0 S=0 R=0"),
+            (DTE, Put(1), "I cmd P=0 S=1 R=0"),
+            (DTE, T1, "RR cmd P=1 R=0"),
+            (DTE, rej, ""),
+            (DTE, rr(2, false), ""),
+            (DTE, Ask, "idle"),
+        ],
+    )
+}
+
 #[test]
 fn bad_frames_are_answered_by_frmr(rt: HostRuntime) -> Result<(), Fail> {
     let alloc = rt.alloc();
