@@ -1,12 +1,12 @@
 -- The two lists of a backlog, the packets sent and those that wait, as one.
-use Rattle.std.proofs.Common.{◌≡◌, ℕ, ◌+◌, ◌-◌, ◌%◌, ◌<◌, ◌≤◌, List, [], ◌∷◌, ◌++◌, length, take, drop, slice_index_or, max, Bool, true, false, refl, sym, ap, ◌∙◌, arith, add-one}
-use Rattle.std.specs.Prelude.{nat_lt, ◌&&◌}
+use Rattle.std.proofs.Common.{◌≡◌, ℕ, ◌+◌, ◌%◌, ◌<◌, ◌≤◌, List, [], ◌∷◌, length, take, drop, slice_index_or, max, Bool, true, false, refl, sym, ap, ◌∙◌, arith}
+use Rattle.std.specs.Prelude.{nat_lt}
 use Rattle.std.proofs.lemmas.List.{length-take-le, take_more, drop_more, length-drop, get_or-take}
 use Rattle.std.proofs.lemmas.Bool.{lt-ltb, le-ltb, ltb-true, ltb-false, eq-eqb}
 use Rattle.std.proofs.lemmas.Bool.Decides.{nat_tests}
 use Rattle.x25_window.specs.Held.{Held, Fits}
-use Rattle.x25_window.specs.Sending.{Sending, offered, moved_on}
-use Rattle.x25_frame.specs.PlainFrame.{PlainFrame, info}
+use Rattle.x25_window.specs.Sending.{offered, moved_on}
+use Rattle.x25_frame.specs.PlainFrame.{info}
 use Rattle.x25_link.specs.declared.backlog.Backlog.{Backlog}
 use Rattle.x25_link.specs.Outgoing.{moved_on as sent_on}
 use Rattle.x25_link.specs.Outgoing.{Outgoing, is_open, next_packet}

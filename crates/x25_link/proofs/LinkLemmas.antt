@@ -1,16 +1,14 @@
 -- A link between its calls.
-use Rattle.std.proofs.Common.{◌≡◌, ℕ, zero, suc, ◌+◌, ◌≤◌, List, [], ◌∷◌, ◌++◌, length, map, Bool, true, false, if◌then◌else◌, refl, sym, ap, ◌∙◌, subst, arith}
-use Rattle.std.specs.Prelude.{nat_lt, ◌&&◌, not}
+use Rattle.std.proofs.Common.{◌≡◌, ℕ, ◌+◌, List, map, Bool, true, false, refl, sym, ap, ◌∙◌, subst}
+use Rattle.std.specs.Prelude.{nat_lt}
 use Rattle.x25_frame.specs.Spelling.{spelling_of}
 use Rattle.x25_link.specs.declared.phase.Phase.{Phase}
 use Rattle.x25_link.specs.declared.phase.Phase.TheVariants.{Down, Waiting, Up, Closed}
-use Rattle.x25_link.specs.Lists.{Lists, handed_down}
-use Rattle.x25_link.specs.Station.{Settings, Station, Side, lists_of, is_up, is_busy, with_near, ready, send_next, may_send, pumped_once, pumped, owes_ready, finished, ended}
-use Rattle.x25_link.specs.Steps.{alone, asks_again, fires, put_step}
+use Rattle.x25_link.specs.Station.{Settings, Side, is_up, is_busy, with_near, ready, may_send, owes_ready, ended}
+use Rattle.x25_link.specs.Steps.{asks_again, fires}
 use Rattle.x25_link.specs.Fits.{FitsStation}
-use Rattle.x25_link.specs.Link.{ShownLink, FitsLink, LinkState, FitsWhole, lists_in, after_put_to}
-use Rattle.x25_link.proofs.EndLemmas.{with_packet, left_false, right_false, ready_sends, ended_stays}
-use Rattle.x25_link.proofs.BacklogLemmas.{sent_length}
+use Rattle.x25_link.specs.Link.{ShownLink, FitsLink}
+use Rattle.x25_link.proofs.EndLemmas.{left_false, right_false, ready_sends, ended_stays}
 
 -- ---- a step after which nothing may be sent
 

@@ -10,5 +10,7 @@ pub mod WindowMachine
 pub mod Fits
 pub mod Steps
 pub mod WindowLaw
+pub mod SetUp
+pub mod NoteLaw
 pub mod Link
 pub mod LinkLaws

@@ -6,8 +6,8 @@ use Rattle.std.proofs.Math.Nat.{le_trans}
 use Rattle.std.proofs.lemmas.List.{length-take-le}
 use Rattle.x25_link.specs.Lists.{Lists, handed_down}
 use Rattle.x25_link.specs.Outgoing.{added}
-use Rattle.x25_link.specs.Station.{Station, Side, lists_of, with_near, is_busy, ready, sends, send_next, may_send, pumped, owes_ready, finished, ended}
-use Rattle.x25_link.specs.Steps.{alone, puts}
+use Rattle.x25_link.specs.Station.{Side, lists_of, with_near, is_busy, ready, send_next, may_send, pumped, owes_ready, ended}
+use Rattle.x25_link.specs.Steps.{alone}
 use Rattle.x25_link.specs.Link.{ShownLink, LinkState, FitsWhole, lists_in, after_put_to}
 
 by_if : (b : Bool) (u v : Side) (x : Lists) → lists_of u.near ≡ x → lists_of v.near ≡ x → (let w : Side = if b then u else v in lists_of w.near) ≡ x

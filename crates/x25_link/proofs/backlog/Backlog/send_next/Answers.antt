@@ -1,7 +1,7 @@
-use Rattle.std.proofs.Common.{◌≡◌, ℕ, ◌+◌, ◌%◌, ◌<◌, ◌≤◌, List, [], ◌∷◌, ◌++◌, length, take, false, sym, ap, ◌∙◌, refl, arith}
+use Rattle.std.proofs.Common.{ℕ, ◌%◌, List, [], ◌∷◌, ◌++◌, false, sym, ap, ◌∙◌, refl, arith}
 use Rattle.x25_frame.specs.PlainFrame.{PlainFrame, info}
 use Rattle.x25_frame.specs.Spelling.{spelling_of}
-use Rattle.x25_link.specs.Outgoing.{Outgoing, next_packet}
+use Rattle.x25_link.specs.Outgoing.{next_packet}
 use Rattle.x25_link.specs.Backlog.{sending_of}
 use Rattle.x25_link.proofs.BacklogLemmas.{again_is, again_fits, all_sent, same_fits, full_closed, none_waits, empty_waits, next_is, new_fits, sent_length, new_frame, next_open, below_of}
 use Rattle.x25_link.proofs.backlog.Backlog.send_next.Goals as goal
