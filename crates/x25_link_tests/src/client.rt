@@ -30,13 +30,30 @@ fn answer_and_pull<L: OrderedLink>(
     Ok(())
 }
 
+// Puts two packets of no octets so, and says how many wait then.
+fn waiting_after<L: OrderedLink>(link: &mut L, alloc: Global) -> Result<usize, LinkError> {
+    if !link.is_up() {
+        return Err(LinkError::NotUp);
+    }
+    if link.waiting() == 256 {
+        return Err(LinkError::QueueFull);
+    }
+    answer_and_pull(link, Vec::new(alloc), Vec::new(alloc))?;
+    Ok(link.waiting())
+}
+
 #[test]
 fn pulls_while_few_wait(rt: HostRuntime) -> Result<(), Fail> {
-    let alloc = rt.alloc();
-    let mut link = PlainLink::new(alloc)?;
-    for waiting in [2usize, 4, 6, 8, 9, 10] {
-        answer_and_pull(&mut link, Vec::new(alloc), Vec::new(alloc))?;
-        assert_eq!(rt; link.waiting(), waiting);
+    let mut link = PlainLink::new(rt.alloc())?;
+    for waiting in [2, 4, 6, 8, 9, 10] {
+        assert_eq!(rt; waiting_after(&mut link, rt.alloc())?, waiting);
     }
+    Ok(())
+}
+
+#[test]
+fn a_link_that_is_down_takes_nothing(rt: HostRuntime) -> Result<(), Fail> {
+    let mut link = Link::new(rt.alloc(), Role::Dte, 7, 4099, 10)?;
+    assert_eq!(rt; waiting_after(&mut link, rt.alloc()), Err(LinkError::NotUp));
     Ok(())
 }

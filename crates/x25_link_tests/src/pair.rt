@@ -1,28 +1,30 @@
 //! Two stations, and tables of events that are played at them.
 
 use crate::station::{End, Event};
-use Event::{Connect, Deliver, Hear};
+use Event::{Connect, Deliver};
 use std::alloc::Global;
 use std::process::Abort;
 use std::test::Fail;
-use x25_bits::{Role, Seq};
-use x25_frame::Frame;
+use x25_bits::Role;
 use x25_link::LinkError;
 
 pub const DTE: Role = Role::Dte;
 
 pub const DCE: Role = Role::Dce;
 
+/// An event, the station at which it happens, and what it shows.
+pub type Row = (Role, Event<'static>, &'static str);
+
 /// Two stations, and the line between them.
 #[derive(Drop)]
-pub struct Pair {
+struct Pair {
     alloc: Global,
     dte: End,
-    pub dce: End,
+    dce: End,
 }
 
 impl Pair {
-    pub fn new(alloc: Global, k: u8, n2: u8) -> Result<Pair, LinkError> {
+    fn new(alloc: Global, k: u8, n2: u8) -> Result<Pair, LinkError> {
         let dte = End::new(alloc, DTE, k, n2)?;
         let dce = End::new(alloc, DCE, k, n2)?;
         Ok(Pair { alloc, dte, dce })
@@ -50,7 +52,7 @@ impl Pair {
     }
 
     /// Each event, at its station, shows its text.
-    pub fn plays(&mut self, rt: &impl Abort, rows: &[(Role, Event, &str)]) -> Result<(), Fail> {
+    fn plays(&mut self, rt: &impl Abort, rows: &[Row]) -> Result<(), Fail> {
         for (row, &(role, event, text)) in rows.iter().enumerate() {
             assert_eq!(rt; self.happens(role, event)?.as_str(), text, "row {row}");
         }
@@ -58,34 +60,21 @@ impl Pair {
     }
 }
 
-const SET_UP: [(Role, Event, &str); 3] = [
+const SET_UP: [Row; 3] = [
     (DTE, Connect, "SABM cmd P=1"),
     (DCE, Deliver, "up, UA rsp F=1"),
     (DTE, Deliver, "up"),
 ];
 
-/// Two stations that are up.
-pub fn up(rt: &impl Abort, alloc: Global, k: u8, n2: u8) -> Result<Pair, Fail> {
+/// Plays a table at two stations that are down.
+pub fn play(rt: &impl Abort, alloc: Global, k: u8, n2: u8, rows: &[Row]) -> Result<(), Fail> {
     let mut pair = Pair::new(alloc, k, n2)?;
+    pair.plays(rt, rows)
+}
+
+/// Plays a table at two stations that are up.
+pub fn play_up(rt: &impl Abort, alloc: Global, k: u8, rows: &[Row]) -> Result<(), Fail> {
+    let mut pair = Pair::new(alloc, k, 10)?;
     pair.plays(rt, SET_UP.as_slice())?;
-    Ok(pair)
-}
-
-/// An RR response.
-pub fn rr(nr: u8, f: bool) -> Event<'static> {
-    Hear(Frame::Rr {
-        command: false,
-        nr: Seq::modulo(nr),
-        pf: f,
-    })
-}
-
-/// The first I frame.
-pub fn first_i(info: &[u8]) -> Event<'_> {
-    Hear(Frame::I {
-        ns: Seq::ZERO,
-        nr: Seq::ZERO,
-        p: false,
-        info,
-    })
+    pair.plays(rt, rows)
 }

@@ -1,76 +1,71 @@
 //! Set-up, disconnection and refusals.
 
-use crate::pair::{DCE, DTE, Pair, up};
+use crate::pair::{DCE, DTE, Row, play, play_up};
 use crate::station::Event::{Abandon, Ask, Connect, Deliver, Disconnect, Hear, Put, T1};
 use std::test::Fail;
 use x25_frame::Frame;
 use x25_link::{Link, LinkError};
 
+const TWO_DISCS: [Row; 2] = [
+    (
+        DCE,
+        Hear(Frame::Disc { p: true }),
+        "down (disc), UA rsp F=1",
+    ),
+    (DCE, Hear(Frame::Disc { p: true }), "DM rsp F=1"),
+];
+
 #[test]
 fn a_disc_is_answered_once_by_ua(rt: HostRuntime) -> Result<(), Fail> {
-    let mut pair = up(&rt, rt.alloc(), 7, 10)?;
-    let disc = Hear(Frame::Disc { p: true });
-    pair.plays(
-        &rt,
-        &[
-            (DCE, disc, "down (disc), UA rsp F=1"),
-            (DCE, disc, "DM rsp F=1"),
-        ],
-    )
+    play_up(&rt, rt.alloc(), 7, TWO_DISCS.as_slice())
 }
+
+const NO_ANSWER: [Row; 5] = [
+    (DTE, Connect, "SABM cmd P=1"),
+    (DTE, T1, "SABM cmd P=1"),
+    (DTE, T1, "down (retries)"),
+    (DTE, T1, "refused 11"),
+    (DTE, Put(0), "refused 9"),
+];
 
 #[test]
 fn a_set_up_without_an_answer_ends(rt: HostRuntime) -> Result<(), Fail> {
-    let mut pair = Pair::new(rt.alloc(), 7, 1)?;
-    pair.plays(
-        &rt,
-        &[
-            (DTE, Connect, "SABM cmd P=1"),
-            (DTE, T1, "SABM cmd P=1"),
-            (DTE, T1, "down (retries)"),
-            (DTE, T1, "refused 11"),
-            (DTE, Put(0), "refused 9"),
-        ],
-    )
+    play(&rt, rt.alloc(), 7, 1, NO_ANSWER.as_slice())
 }
+
+const ANEW: [Row; 5] = [
+    (DCE, Put(0), "I cmd P=0 S=0 R=0"),
+    (DCE, Put(1), ""),
+    (DCE, Ask, "1 wait"),
+    (
+        DCE,
+        Hear(Frame::Sabm { p: false }),
+        "down (reset), up, UA rsp F=0",
+    ),
+    (DCE, Ask, "idle"),
+];
 
 #[test]
 fn a_sabm_begins_anew(rt: HostRuntime) -> Result<(), Fail> {
-    let mut pair = up(&rt, rt.alloc(), 1, 10)?;
-    pair.plays(
-        &rt,
-        &[
-            (DCE, Put(0), "I cmd P=0 S=0 R=0"),
-            (DCE, Put(1), ""),
-            (DCE, Ask, "1 wait"),
-            (
-                DCE,
-                Hear(Frame::Sabm { p: false }),
-                "down (reset), up, UA rsp F=0",
-            ),
-            (DCE, Ask, "idle"),
-        ],
-    )
+    play_up(&rt, rt.alloc(), 1, ANEW.as_slice())
 }
+
+const REFUSALS: [Row; 10] = [
+    (DTE, Connect, "SABM cmd P=1"),
+    (DTE, Connect, "refused 12"),
+    (DCE, Deliver, "up, UA rsp F=1"),
+    (DTE, Deliver, "up"),
+    (DTE, Connect, "refused 15"),
+    (DCE, Abandon, "down (counts)"),
+    (DCE, Put(0), "refused 9"),
+    (DTE, Disconnect, "down (local), DISC cmd P=1"),
+    (DTE, Disconnect, "refused 13"),
+    (DTE, Connect, "refused 13"),
+];
 
 #[test]
 fn calls_are_refused_by_the_phase(rt: HostRuntime) -> Result<(), Fail> {
-    let mut pair = Pair::new(rt.alloc(), 7, 10)?;
-    pair.plays(
-        &rt,
-        &[
-            (DTE, Connect, "SABM cmd P=1"),
-            (DTE, Connect, "refused 12"),
-            (DCE, Deliver, "up, UA rsp F=1"),
-            (DTE, Deliver, "up"),
-            (DTE, Connect, "refused 15"),
-            (DCE, Abandon, "down (counts)"),
-            (DCE, Put(0), "refused 9"),
-            (DTE, Disconnect, "down (local), DISC cmd P=1"),
-            (DTE, Disconnect, "refused 13"),
-            (DTE, Connect, "refused 13"),
-        ],
-    )
+    play(&rt, rt.alloc(), 7, 10, REFUSALS.as_slice())
 }
 
 #[test]

@@ -3,7 +3,7 @@
 use crate::texts::{frame_text, hex_text, step_text};
 use std::alloc::Global;
 use std::test::Fail;
-use x25_bits::Role;
+use x25_bits::{Role, Seq};
 use x25_frame::{Frame, encode};
 use x25_link::{Link, LinkError, OrderedLink, Step};
 
@@ -26,16 +26,23 @@ pub enum Event<'a> {
     Lose,
     /// A frame arrives that the other station didn't send.
     Hear(Frame<'a>),
+    /// An RR response with this N(R) and F arrives that the other station didn't send.
+    HearRr(u8, bool),
+    /// An I frame with N(S) and N(R) 0 and so many octets of information, all 0, arrives that the other station didn't send.
+    HearLong(usize),
     /// Octets arrive that the other station didn't send.
     Take(&'a [u8]),
     /// Nothing happens. The text is the octets of the frame at this place of the line to this station.
     Look(usize),
     /// Nothing happens. The text says how many packets wait, or that the station is idle.
     Ask,
+    /// Nothing happens. The text says how many frames are on the line to this station.
+    Count,
 }
 
 use Event::{
-    Abandon, Ask, Connect, Deliver, Disconnect, Hear, Look, Lose, Put, PutMany, Reply, T1, Take,
+    Abandon, Ask, Connect, Count, Deliver, Disconnect, Hear, HearLong, HearRr, Look, Lose, Put,
+    PutMany, Reply, T1, Take,
 };
 
 /// What an event shows, and the frames to send.
@@ -137,11 +144,21 @@ impl End {
             PutMany(count) => self.put_many(alloc, count),
             Take(octets) => shown(alloc, self.role, link.take(octets)),
             Hear(frame) => self.hear(alloc, &frame),
+            HearRr(nr, f) => self.hear(
+                alloc,
+                &Frame::Rr {
+                    command: false,
+                    nr: Seq::modulo(nr),
+                    pf: f,
+                },
+            ),
+            HearLong(length) => self.hear_long(alloc, length),
             Deliver => self.deliver(alloc),
             Reply(octet) => self.reply(alloc, octet),
             Lose => self.lose(alloc),
             Look(place) => self.look(alloc, place),
             Ask => self.ask(alloc),
+            Count => self.count(alloc),
         }
     }
 
@@ -157,6 +174,24 @@ impl End {
         let mut octets = Vec::new(alloc);
         encode(other(self.role), frame, &mut octets)?;
         shown(alloc, self.role, self.link.take(octets.as_slice()))
+    }
+
+    fn hear_long(&mut self, alloc: Global, length: usize) -> Result<Shown, Fail> {
+        let info = vec![in alloc; 0u8; length]?;
+        self.hear(
+            alloc,
+            &Frame::I {
+                ns: Seq::ZERO,
+                nr: Seq::ZERO,
+                p: false,
+                info: info.as_slice(),
+            },
+        )
+    }
+
+    fn count(&self, alloc: Global) -> Result<Shown, Fail> {
+        let count = self.line.len();
+        silent(alloc, format!(in alloc; "{count} frames")?)
     }
 
     /// The first frame on the line.
