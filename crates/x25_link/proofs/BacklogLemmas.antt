@@ -7,7 +7,7 @@ use Rattle.std.proofs.lemmas.Bool.Decides.{nat_tests}
 use Rattle.x25_window.specs.Held.{Held, Fits}
 use Rattle.x25_window.specs.Sending.{offered, moved_on}
 use Rattle.x25_frame.specs.PlainFrame.{info}
-use Rattle.x25_link.specs.declared.backlog.Backlog.{Backlog}
+use Rattle.x25_link.specs.declared.outgoing.Backlog.{Backlog}
 use Rattle.x25_link.specs.Outgoing.{moved_on as sent_on}
 use Rattle.x25_link.specs.Outgoing.{Outgoing, is_open, next_packet}
 use Rattle.x25_link.specs.Backlog.{FitsBacklog, sending_of}

@@ -9,8 +9,8 @@ use Rattle.std.proofs.lemmas.List.{map-append}
 use Rattle.x25_bits.specs.declared.role.Role.{Role}
 use Rattle.x25_frame.specs.PlainFrame.{PlainFrame, info}
 use Rattle.x25_frame.specs.Spelling.{spelling_of}
-use Rattle.x25_link.specs.declared.backlog.Backlog.{Backlog}
-use Rattle.x25_link.specs.declared.procedure.Procedure.{Procedure}
+use Rattle.x25_link.specs.declared.outgoing.Backlog.{Backlog}
+use Rattle.x25_link.specs.declared.station.Procedure.{Procedure}
 use Rattle.x25_link.specs.Outgoing.{Outgoing, acknowledged_to, gone_back, is_open, next_packet, moved_on}
 use Rattle.x25_link.specs.Backlog.{FitsBacklog}
 use Rattle.x25_link.specs.declared.phase.Phase.{Phase}

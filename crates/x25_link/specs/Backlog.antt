@@ -2,7 +2,7 @@
 use Rattle.std.specs.Prelude.{◌≡◌, ℕ, ◌≤◌, List, length, take, drop}
 use Rattle.x25_window.specs.Sending.{Sending}
 use Rattle.x25_window.specs.Held.{Fits}
-use Rattle.x25_link.specs.declared.backlog.Backlog.{Backlog}
+use Rattle.x25_link.specs.declared.outgoing.Backlog.{Backlog}
 use Rattle.x25_link.specs.Outgoing.{Outgoing}
 
 -- the packets that were sent, as the window machine has them

@@ -3,7 +3,7 @@ use Rattle.std.specs.Prelude.{◌≡◌, ℕ, List, ◌++◌, length, map, optio
 use Rattle.x25_frame.specs.PlainFrame.{PlainFrame}
 use Rattle.x25_frame.specs.Spelling.{spelling_of}
 use Rattle.x25_window.specs.Receiving.{FitsTaken}
-use Rattle.x25_link.specs.declared.procedure.Procedure.{Procedure}
+use Rattle.x25_link.specs.declared.station.Procedure.{Procedure}
 use Rattle.x25_link.specs.declared.heard.Heard.{Heard}
 use Rattle.x25_link.specs.MustSend.{Step}
 use Rattle.x25_link.specs.Backlog.{FitsBacklog}

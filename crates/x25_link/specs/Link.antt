@@ -1,7 +1,7 @@
 -- What contracts see of a link, and the states of the definition that it fits.
 use Rattle.std.specs.Prelude.{◌≡◌, ℕ, Bool, List, ◌++◌, length, map, false, option_copied}
 use Rattle.x25_frame.specs.Spelling.{spelling_of}
-use Rattle.x25_link.specs.declared.procedure.Procedure.{Procedure}
+use Rattle.x25_link.specs.declared.station.Procedure.{Procedure}
 use Rattle.x25_link.specs.declared.step.Step as code
 use Rattle.x25_link.specs.Lists.{Lists}
 use Rattle.x25_link.specs.Outbox.{ShownOutbox}

@@ -9,10 +9,9 @@ ghost use Rattle.x25_link.specs.MustSend.{numbered, hears_info, polls, peer_is, 
 ghost use Rattle.x25_link.specs.Steps.{poll_of, declines, when_down, when_waiting, hears, alone, take_step};
 
 use crate::heard::Heard;
-use crate::leaving::other;
 use crate::outbox::Outbox;
 use crate::phase::{Phase, Reason};
-use crate::procedure::Procedure;
+use crate::station::{Procedure, other};
 use x25_bits::Seq;
 use x25_frame::{Frame, FrameError, decode};
 

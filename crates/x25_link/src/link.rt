@@ -6,14 +6,15 @@ ghost use Rattle.x25_link.specs.LinkError.{RefusesPut};
 ghost use Rattle.x25_link.specs.Link.{FitsLink, IsAnswer, limit_of, up_of, waiting_of};
 ghost use Rattle.x25_link.specs.declared.phase.Phase.TheVariants.{Down};
 
-use crate::backlog::Backlog;
+use crate::outgoing::Backlog;
 use crate::error::LinkError;
+use crate::heard::Heard;
 use crate::octets::{LONGEST_PACKET, Octets};
-use crate::ordered::OrderedLink;
+use crate::ordered_link::OrderedLink;
 use crate::outbox::Outbox;
-use crate::phase::{Notes, Phase, Reason};
-use crate::procedure::{FRAMES, Parameters, Procedure};
-use crate::queue::PLACES;
+use crate::phase::{Phase, Reason};
+use crate::station::{FRAMES, Parameters, Procedure};
+use crate::waiting_packets::PLACES;
 use crate::step::Step;
 use std::alloc::Global;
 use std::marker::Model;
@@ -99,14 +100,7 @@ impl Link {
         }
         self.answers.reserve(0, SHORT_FRAMES)?;
         self.procedure.connect(&mut self.answers);
-        Ok(Step {
-            frames: self.answers.drain(),
-            packet: None,
-            notes: Notes {
-                down: None,
-                up: false,
-            },
-        })
+        Ok(self.answers.answered(Heard::quiet()))
     }
 
     /// Takes octets, frame check sequence included, and answers what they ask for by the must-send table and the phases.
@@ -121,11 +115,7 @@ impl Link {
     {
         self.answers.reserve(LONG_FRAMES, SHORT_FRAMES)?;
         let heard = self.procedure.hear(octets, &mut self.answers);
-        Ok(Step {
-            frames: self.answers.drain(),
-            packet: heard.packet,
-            notes: heard.notes,
-        })
+        Ok(self.answers.answered(heard))
     }
 
     /// Disconnects this end, for good: DISC with P=1. It notes LinkDown(local) where the link was up.
@@ -144,11 +134,7 @@ impl Link {
         }
         self.answers.reserve(0, SHORT_FRAMES)?;
         let heard = self.procedure.disconnect(&mut self.answers);
-        Ok(Step {
-            frames: self.answers.drain(),
-            packet: heard.packet,
-            notes: heard.notes,
-        })
+        Ok(self.answers.answered(heard))
     }
 
     /// A firing of timer T1: a SABM or a poll again, or after `n2` of these LinkDown(retries).
@@ -166,11 +152,7 @@ impl Link {
         }
         self.answers.reserve(0, SHORT_FRAMES)?;
         let heard = self.procedure.fire(&mut self.answers);
-        Ok(Step {
-            frames: self.answers.drain(),
-            packet: heard.packet,
-            notes: heard.notes,
-        })
+        Ok(self.answers.answered(heard))
     }
 
     /// Leaves Up without a frame, and notes LinkDown(counts) (profile). It takes no memory.
@@ -181,11 +163,7 @@ impl Link {
         ensures outgoing { self.new.outgoing ≡ self.old.outgoing }
     {
         let heard = self.procedure.leave(Reason::Counts);
-        Step {
-            frames: self.answers.drain(),
-            packet: heard.packet,
-            notes: heard.notes,
-        }
+        self.answers.answered(heard)
     }
 
     /// Hands a packet of at most `n1` octets down, and answers the frames to send, and before them those of earlier calls
@@ -205,14 +183,7 @@ impl Link {
         ensures err { OnErr result (self.new ≡ self.old) }
     {
         self.give(packet)?;
-        Ok(Step {
-            frames: self.sent(),
-            packet: None,
-            notes: Notes {
-                down: None,
-                up: false,
-            },
-        })
+        Ok(self.outgoing.answered(Heard::quiet()))
     }
 
     /// Hands out the frames of `put`, in order. No memory is set aside for further calls of `put` after it.
