@@ -1,24 +1,24 @@
 //! The LAPB station of ITU-T X.25 (10/96), section 2, modulo 8, and the link that the packet layer stands on.
 #![tactic(auto)]
 
-mod outgoing;
-mod frame_memory;
 mod calls;
 mod error;
+mod frame_memory;
+mod frmr;
 mod heard;
 mod hearing;
 mod law;
-mod frmr;
 mod link;
+mod numbered_frames;
 mod octets;
 mod ordered_link;
 mod outbox;
+mod outgoing;
 mod phase;
 mod plain_link;
 mod station;
-mod waiting_packets;
-mod numbered_frames;
 mod step;
+mod waiting_packets;
 
 pub use error::LinkError;
 pub use law::{follows_the_window, holds_few, notes_what_changes, sets_up_by_rows};

@@ -6,16 +6,17 @@ ghost use Rattle.x25_link.specs.LinkError.{RefusesPut};
 ghost use Rattle.x25_link.specs.Link.{FitsLink, IsAnswer, limit_of, up_of, waiting_of};
 ghost use Rattle.x25_link.specs.declared.phase.Phase.TheVariants.{Down};
 
-use crate::outgoing::Backlog;
+mod in_order;
+
 use crate::error::LinkError;
 use crate::heard::Heard;
 use crate::octets::{LONGEST_PACKET, Octets};
-use crate::ordered_link::OrderedLink;
 use crate::outbox::Outbox;
+use crate::outgoing::Backlog;
 use crate::phase::{Phase, Reason};
 use crate::station::{FRAMES, Parameters, Procedure};
-use crate::waiting_packets::PLACES;
 use crate::step::Step;
+use crate::waiting_packets::PLACES;
 use std::alloc::Global;
 use std::marker::Model;
 use x25_bits::Role;
@@ -229,69 +230,5 @@ impl Link {
         self.outgoing.reserve(1, 0)?;
         self.procedure.give(Octets::of(packet), &mut self.outgoing);
         Ok(())
-    }
-}
-
-impl OrderedLink for Link {
-    ghost use Rattle.x25_link.specs.Link.{LinkState, FitsWhole, lists_in, waits_of, up_at, after_put_to, limit_of, up_of, waiting_of};
-    ghost use Rattle.x25_link.specs.LinkLaws.{put_adds, acked_low, link_waits, link_up, put_stays_up, link_few, link_close};
-
-    ghost State = { LinkState };
-
-    ghost fits = { FitsWhole };
-
-    ghost lists = { lists_in };
-
-    ghost waits_in = { waits_of };
-
-    ghost up_in = { up_at };
-
-    ghost after_put = { after_put_to };
-
-    ghost adds = { put_adds };
-
-    ghost begins = { acked_low };
-
-    ghost waits_are = { link_waits };
-
-    ghost up_is = { link_up };
-
-    ghost stays_up = { put_stays_up };
-
-    ghost few_wait = { link_few };
-
-    ghost few_unacknowledged = { link_close };
-
-    ghost longest = { limit_of };
-
-    ghost waits = { waiting_of };
-
-    ghost up = { up_of };
-
-    ghost spares = { λ l. l.outgoing.long };
-
-    fn limit(&self) -> usize {
-        self.procedure.parameters.n1
-    }
-
-    fn waiting(&self) -> usize {
-        self.procedure.backlog.waiting()
-    }
-
-    fn is_up(&self) -> bool {
-        self.procedure.phase.is_up()
-    }
-
-    fn spare(&self) -> usize {
-        self.outgoing.long()
-    }
-
-    fn room(&mut self, count: usize) -> Result<(), LinkError> {
-        self.outgoing.reserve(count, 0)?;
-        Ok(())
-    }
-
-    fn put(&mut self, packet: Vec<u8>) -> Result<(), LinkError> {
-        self.give(packet)
     }
 }

@@ -141,7 +141,8 @@ fn send_again(sender: &mut Sender<Octets>, from: Role, nr: Seq, out: &mut Outbox
 
 // Sends a packet for the first time.
 fn send_new(sender: &mut Sender<Octets>, packet: Octets, from: Role, nr: Seq, out: &mut Outbox)
-    requires { 0 < out.old.long }
+    requires ready { 0 < out.old.long }
+    requires open { ¬ (length sender.old.items ≡ sender.old.window) }
     ensures step { (w : Sending (List ℕ)) → Fits sender.old w → length w.given < w.acked + w.window → Fits sender.new (offered w packet) }
     ensures made { (w : Sending (List ℕ)) → Fits sender.old w →
         out.new.made ≡ out.old.made ++ spelling_of from (info (length w.given % 8) nr.number false packet) ∷ [] }
@@ -149,5 +150,5 @@ fn send_new(sender: &mut Sender<Octets>, packet: Octets, from: Role, nr: Seq, ou
     ensures short { out.new.short ≡ out.old.short }
 {
     out.send_packet(from, sender.top(), nr, packet.as_slice());
-    let _ = sender.offer(packet);
+    sender.offer(packet).unwrap();
 }

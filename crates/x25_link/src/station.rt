@@ -4,9 +4,9 @@ ghost use Rattle.x25_frame.specs.Spelling.{information_of};
 ghost use Rattle.x25_link.specs.MustSend.{leaves, other};
 ghost use Rattle.x25_link.specs.Station.{Settings, Station, Side, is_busy, sends, ready, with_nothing, with_near, fresh, may_send, pumped_once, pumped, finished, ended};
 
-use crate::outgoing::Backlog;
-use crate::outbox::Outbox;
 use crate::heard::Heard;
+use crate::outbox::Outbox;
+use crate::outgoing::Backlog;
 use crate::phase::{Phase, Reason};
 use x25_bits::Role;
 use x25_frame::Frame;
