@@ -1,7 +1,7 @@
 -- What contracts see of a link, and the states of the definition that it fits.
 use Rattle.std.specs.Prelude.{◌≡◌, ℕ, Bool, List, ◌++◌, length, map, false, option_copied}
 use Rattle.x25_frame.specs.Spelling.{spelling_of}
-use Rattle.x25_link.specs.declared.station.Procedure.{Procedure}
+use Rattle.x25_link.specs.declared.station.Station.{Station as StationCode}
 use Rattle.x25_link.specs.declared.step.Step as code
 use Rattle.x25_link.specs.Lists.{Lists}
 use Rattle.x25_link.specs.Outbox.{ShownOutbox}
@@ -13,7 +13,7 @@ use Rattle.x25_link.specs.Fits.{FitsStation}
 
 -- the variables of the station, and the frames that `sent` will hand out, with the memory set aside for further ones
 pub record ShownLink : Type 0 where
-  pub procedure : Procedure
+  pub procedure : StationCode
   pub outgoing : ShownOutbox
 
 -- the most octets of a packet, whether the link is up, and how many packets wait

@@ -1,6 +1,6 @@
 //! What a station does at the calls of its user and of its timer.
 ghost use Rattle.std.specs.Prelude.{◌≡◌, ℕ, ◌+◌, ◌<◌, ◌≤◌, List, length, false, true};
-ghost use Rattle.x25_link.specs.Station.{Settings, Station, Side, may_send, owes_ready, ended};
+ghost use Rattle.x25_link.specs.Station.{Settings, Station as StationState, Side, may_send, owes_ready, ended};
 ghost use Rattle.x25_link.specs.Fits.{FitsStation, FitsSide, FitsHeard};
 ghost use Rattle.x25_link.specs.MustSend.{quiet};
 ghost use Rattle.x25_link.specs.Steps.{alone, puts, connects, disconnects, fires, timer_runs, is_idle, asks_again, closed_by};
@@ -9,15 +9,15 @@ use crate::heard::Heard;
 use crate::octets::Octets;
 use crate::outbox::Outbox;
 use crate::phase::{Phase, Reason};
-use crate::station::Procedure;
+use crate::station::Station;
 use x25_frame::Frame;
 
-impl Procedure {
+impl Station {
     /// Lets a packet wait, and sends it where it may go. Memory for one I frame is used or let go.
     pub fn give(&mut self, packet: Octets, out: &mut Outbox)
         requires free { length self.old.backlog.queue < 256 }
         requires long { 0 < out.old.long }
-        ensures step { (c : Settings) (before : List (List ℕ)) (s : Station) → FitsSide c self.old before out.old.made (alone s) → may_send c.window s ≡ false → owes_ready s ≡ false →
+        ensures step { (c : Settings) (before : List (List ℕ)) (s : StationState) → FitsSide c self.old before out.old.made (alone s) → may_send c.window s ≡ false → owes_ready s ≡ false →
             FitsSide c self.new before out.new.made (closed_by c.window (puts packet (alone s))).side }
         ensures kept { self.new ≡ record self.old { backlog = self.new.backlog } }
         ensures queue { length self.new.backlog.queue ≤ length self.old.backlog.queue + 1 }
@@ -57,7 +57,7 @@ impl Procedure {
 
     /// Whether timer T1 runs.
     pub fn timer_runs(&self) -> bool
-        ensures { (c : Settings) (s : Station) → FitsStation c self.now s → result ≡ timer_runs s.phase s }
+        ensures { (c : Settings) (s : StationState) → FitsStation c self.now s → result ≡ timer_runs s.phase s }
     {
         match self.phase {
             Phase::Down | Phase::Closed => false,
@@ -98,7 +98,7 @@ impl Procedure {
 
     /// Whether the link is up, nothing waits and all that was sent is acknowledged.
     pub fn is_idle(&self) -> bool
-        ensures { (c : Settings) (s : Station) → FitsStation c self.now s → result ≡ is_idle s }
+        ensures { (c : Settings) (s : StationState) → FitsStation c self.now s → result ≡ is_idle s }
     {
         self.phase.is_up() && self.backlog.waiting() == 0 && self.backlog.unacked() == 0
     }

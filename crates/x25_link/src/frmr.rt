@@ -2,14 +2,14 @@
 ghost use Rattle.std.specs.Prelude.{◌≡◌, ℕ, ◌+◌, ◌*◌, ◌/◌, ◌%◌, ◌<◌, ◌≤◌, ◌==◌, List, length, slice_index, true, if◌then◌else◌};
 ghost use Rattle.x25_frame.specs.PlainFrame.{plain};
 ghost use Rattle.x25_frame.specs.Spelling.{address_of, information_of};
-ghost use Rattle.x25_link.specs.Station.{Settings, Station, Side};
+ghost use Rattle.x25_link.specs.Station.{Settings, Station as StationState, Side};
 ghost use Rattle.x25_link.specs.Fits.{FitsStation, FitsSide, FitsHeard};
 ghost use Rattle.x25_link.specs.MustSend.{rejects, reject_of};
 
 use crate::heard::Heard;
 use crate::outbox::Outbox;
 use crate::phase::Reason;
-use crate::station::{Procedure, other};
+use crate::station::{Station, other};
 use x25_bits::Role;
 use x25_frame::Frame;
 
@@ -34,7 +34,7 @@ fn octet_at(octets: &[u8], place: usize) -> u8
     }
 }
 
-impl Procedure {
+impl Station {
     /// Sends FRMR for these octets, with the third octet of its information, and leaves Up.
     pub fn reject<'a>(&mut self, octets: &[u8], why: u8, out: &mut Outbox) -> Heard<'a>
         requires { 0 < out.old.short }
@@ -49,7 +49,7 @@ impl Procedure {
 
     // The FRMR for these octets.
     fn rejection<'a>(&self, octets: &[u8], why: u8) -> Frame<'a>
-        ensures frame { (c : Settings) (s : Station) → FitsStation c self.now s → plain result ≡ reject_of c octets.now why s }
+        ensures frame { (c : Settings) (s : StationState) → FitsStation c self.now s → plain result ≡ reject_of c octets.now why s }
         ensures short { length (information_of (plain result)) ≤ 3 }
     {
         let control = octet_at(octets, 1);

@@ -1,6 +1,6 @@
 ghost use Rattle.std.specs.Prelude.{◌≡◌, ℕ, ◌+◌, ◌-◌, ◌<◌, ◌≤◌, ◌↔◌, ◌++◌, List, [], length, map, vec_len, Bool, true, false, Some, None, IfOk, IfErr, OnOk, OnErr, IsOk, IsErrOf};
 ghost use Rattle.x25_frame.specs.Spelling.{spelling_of};
-ghost use Rattle.x25_link.specs.Station.{Settings, Station, with_nothing};
+ghost use Rattle.x25_link.specs.Station.{Settings, Station as StationState, with_nothing};
 ghost use Rattle.x25_link.specs.Steps.{Refuses, config_refusal, take_step, put_refusal, put_step, connect_refusal, connect_step, disconnect_refusal, disconnect_step, timer_refusal, timer_step, abandon_step, is_idle};
 ghost use Rattle.x25_link.specs.LinkError.{RefusesPut};
 ghost use Rattle.x25_link.specs.Link.{FitsLink, IsAnswer, limit_of, up_of, waiting_of};
@@ -12,9 +12,9 @@ use crate::error::LinkError;
 use crate::heard::Heard;
 use crate::octets::{LONGEST_PACKET, Octets};
 use crate::outbox::Outbox;
-use crate::outgoing::Backlog;
+use crate::outgoing::Outgoing;
 use crate::phase::{Phase, Reason};
-use crate::station::{FRAMES, Parameters, Procedure};
+use crate::station::{FRAMES, Parameters, Station};
 use crate::step::Step;
 use crate::waiting_packets::PLACES;
 use std::alloc::Global;
@@ -33,7 +33,7 @@ const SHORT_FRAMES: usize = 2;
 /// Each call but `put` answers the frames to send, in order. The frames of `put` are kept until `sent` takes them.
 #[derive(Drop)]
 pub struct Link {
-    procedure: Procedure,
+    procedure: Station,
     outgoing: Outbox,
     answers: Outbox,
 }
@@ -62,11 +62,11 @@ impl Link {
         if k < 1 || k > FRAMES || n1 < 1 || n1 > LONGEST_PACKET || n2 < 1 {
             return Err(LinkError::BadConfig);
         }
-        let Some(backlog) = Backlog::new(alloc, k)? else {
+        let Some(backlog) = Outgoing::new(alloc, k)? else {
             return Err(LinkError::BadConfig);
         };
         Ok(Link {
-            procedure: Procedure {
+            procedure: Station {
                 role,
                 parameters: Parameters { n1, n2 },
                 backlog,
@@ -87,9 +87,9 @@ impl Link {
     ///
     /// 12 where it is being set up, 13 where it is closed, 15 where it is up, then 70.
     pub fn connect(&mut self) -> Result<Step<'static>, LinkError>
-        ensures state { (c : Settings) (s : Station) → FitsLink c self.old s → OnOk result (FitsLink c self.new (connect_step c s).side.near) }
-        ensures answer { (c : Settings) (s : Station) → FitsLink c self.old s → IfOk result (λ answer. IsAnswer c answer (connect_step c s)) }
-        ensures refused { (c : Settings) (s : Station) → FitsLink c self.old s → Refuses (connect_refusal s.phase) result }
+        ensures state { (c : Settings) (s : StationState) → FitsLink c self.old s → OnOk result (FitsLink c self.new (connect_step c s).side.near) }
+        ensures answer { (c : Settings) (s : StationState) → FitsLink c self.old s → IfOk result (λ answer. IsAnswer c answer (connect_step c s)) }
+        ensures refused { (c : Settings) (s : StationState) → FitsLink c self.old s → Refuses (connect_refusal s.phase) result }
         ensures outgoing { self.new.outgoing ≡ self.old.outgoing }
         ensures err { OnErr result (self.new ≡ self.old) }
     {
@@ -108,8 +108,8 @@ impl Link {
     ///
     /// 70 alone.
     pub fn take<'a>(&mut self, octets: &'a [u8]) -> Result<Step<'a>, LinkError>
-        ensures state { (c : Settings) (s : Station) → FitsLink c self.old s → OnOk result (FitsLink c self.new (take_step c octets.now s).side.near) }
-        ensures answer { (c : Settings) (s : Station) → FitsLink c self.old s → IfOk result (λ answer. IsAnswer c answer (take_step c octets.now s)) }
+        ensures state { (c : Settings) (s : StationState) → FitsLink c self.old s → OnOk result (FitsLink c self.new (take_step c octets.now s).side.near) }
+        ensures answer { (c : Settings) (s : StationState) → FitsLink c self.old s → IfOk result (λ answer. IsAnswer c answer (take_step c octets.now s)) }
         ensures refused { IfErr result (λ e. e ≡ LinkError.NoMemory) }
         ensures outgoing { self.new.outgoing ≡ self.old.outgoing }
         ensures err { OnErr result (self.new ≡ self.old) }
@@ -123,9 +123,9 @@ impl Link {
     ///
     /// 13 where it is closed, then 70.
     pub fn disconnect(&mut self) -> Result<Step<'static>, LinkError>
-        ensures state { (c : Settings) (s : Station) → FitsLink c self.old s → OnOk result (FitsLink c self.new (disconnect_step c s).side.near) }
-        ensures answer { (c : Settings) (s : Station) → FitsLink c self.old s → IfOk result (λ answer. IsAnswer c answer (disconnect_step c s)) }
-        ensures refused { (c : Settings) (s : Station) → FitsLink c self.old s → Refuses (disconnect_refusal s.phase) result }
+        ensures state { (c : Settings) (s : StationState) → FitsLink c self.old s → OnOk result (FitsLink c self.new (disconnect_step c s).side.near) }
+        ensures answer { (c : Settings) (s : StationState) → FitsLink c self.old s → IfOk result (λ answer. IsAnswer c answer (disconnect_step c s)) }
+        ensures refused { (c : Settings) (s : StationState) → FitsLink c self.old s → Refuses (disconnect_refusal s.phase) result }
         ensures outgoing { self.new.outgoing ≡ self.old.outgoing }
         ensures err { OnErr result (self.new ≡ self.old) }
     {
@@ -142,9 +142,9 @@ impl Link {
     ///
     /// 11 where the timer doesn't run, then 70.
     pub fn t1(&mut self) -> Result<Step<'static>, LinkError>
-        ensures state { (c : Settings) (s : Station) → FitsLink c self.old s → OnOk result (FitsLink c self.new (timer_step c s).side.near) }
-        ensures answer { (c : Settings) (s : Station) → FitsLink c self.old s → IfOk result (λ answer. IsAnswer c answer (timer_step c s)) }
-        ensures refused { (c : Settings) (s : Station) → FitsLink c self.old s → Refuses (timer_refusal s) result }
+        ensures state { (c : Settings) (s : StationState) → FitsLink c self.old s → OnOk result (FitsLink c self.new (timer_step c s).side.near) }
+        ensures answer { (c : Settings) (s : StationState) → FitsLink c self.old s → IfOk result (λ answer. IsAnswer c answer (timer_step c s)) }
+        ensures refused { (c : Settings) (s : StationState) → FitsLink c self.old s → Refuses (timer_refusal s) result }
         ensures outgoing { self.new.outgoing ≡ self.old.outgoing }
         ensures err { OnErr result (self.new ≡ self.old) }
     {
@@ -159,8 +159,8 @@ impl Link {
     /// Leaves Up without a frame, and notes LinkDown(counts) (profile). It takes no memory.
     pub fn abandon(&mut self) -> Step<'static>
         requires { up_of self.old ≡ true }
-        ensures state { (c : Settings) (s : Station) → FitsLink c self.old s → FitsLink c self.new (abandon_step c s).side.near }
-        ensures answer { (c : Settings) (s : Station) → FitsLink c self.old s → IsAnswer c result (abandon_step c s) }
+        ensures state { (c : Settings) (s : StationState) → FitsLink c self.old s → FitsLink c self.new (abandon_step c s).side.near }
+        ensures answer { (c : Settings) (s : StationState) → FitsLink c self.old s → IsAnswer c result (abandon_step c s) }
         ensures outgoing { self.new.outgoing ≡ self.old.outgoing }
     {
         let heard = self.procedure.leave(Reason::Counts);
@@ -173,12 +173,12 @@ impl Link {
     /// 9 where the link isn't up, then 10 where 256 packets wait, then 70, and that only where no memory is set aside.
     pub fn put_packet(&mut self, packet: Vec<u8>) -> Result<Step<'static>, LinkError>
         requires { vec_len packet ≤ limit_of self.old }
-        ensures state { (c : Settings) (s : Station) → FitsLink c self.old s → OnOk result (FitsLink c self.new (put_step c packet.items s).side.near) }
-        ensures frames { (c : Settings) (s : Station) → FitsLink c self.old s →
+        ensures state { (c : Settings) (s : StationState) → FitsLink c self.old s → OnOk result (FitsLink c self.new (put_step c packet.items s).side.near) }
+        ensures frames { (c : Settings) (s : StationState) → FitsLink c self.old s →
             IfOk result (λ answer. map (λ f. f.items) answer.frames.items ≡ self.old.outgoing.made ++ map (spelling_of c.role) (put_step c packet.items s).side.out) }
         ensures packet { IfOk result (λ answer. answer.packet ≡ None) }
         ensures notes { IfOk result (λ answer. answer.notes ≡ record { down = None; up = false }) }
-        ensures refused { (c : Settings) (s : Station) → FitsLink c self.old s → Refuses (put_refusal s) result }
+        ensures refused { (c : Settings) (s : StationState) → FitsLink c self.old s → Refuses (put_refusal s) result }
         ensures memory { IsErrOf result LinkError.NoMemory → self.old.outgoing.long ≡ 0 }
         ensures outgoing { OnOk result (self.new.outgoing ≡ record { made = []; long = 0; short = 0 }) }
         ensures err { OnErr result (self.new ≡ self.old) }
@@ -198,7 +198,7 @@ impl Link {
 
     /// Whether the link is up, nothing waits and all that was sent is acknowledged.
     pub fn idle(&self) -> bool
-        ensures { (c : Settings) (s : Station) → FitsLink c self.now s → result ≡ is_idle s }
+        ensures { (c : Settings) (s : StationState) → FitsLink c self.now s → result ≡ is_idle s }
     {
         self.procedure.is_idle()
     }
@@ -206,11 +206,11 @@ impl Link {
     // Hands a packet down, and keeps the frames.
     fn give(&mut self, packet: Vec<u8>) -> Result<(), LinkError>
         requires { vec_len packet ≤ limit_of self.old }
-        ensures state { (c : Settings) (s : Station) → FitsLink c self.old s → OnOk result (FitsLink c self.new (put_step c packet.items s).side.near) }
-        ensures made { (c : Settings) (s : Station) → FitsLink c self.old s →
+        ensures state { (c : Settings) (s : StationState) → FitsLink c self.old s → OnOk result (FitsLink c self.new (put_step c packet.items s).side.near) }
+        ensures made { (c : Settings) (s : StationState) → FitsLink c self.old s →
             OnOk result (self.new.outgoing.made ≡ self.old.outgoing.made ++ map (spelling_of c.role) (put_step c packet.items s).side.out) }
         ensures spare { OnOk result (self.new.outgoing.long ≡ self.old.outgoing.long - 1) }
-        ensures refused { (c : Settings) (s : Station) → FitsLink c self.old s → Refuses (put_refusal s) result }
+        ensures refused { (c : Settings) (s : StationState) → FitsLink c self.old s → Refuses (put_refusal s) result }
         ensures not_up { IsErrOf result LinkError.NotUp ↔ (up_of self.old ≡ false) }
         ensures full { IsErrOf result LinkError.QueueFull ↔ ((up_of self.old ≡ true) × (waiting_of self.old ≡ 256)) }
         ensures kinds { IfErr result RefusesPut }

@@ -1,18 +1,18 @@
 //! What a station that is Up does with frames that carry an N(R).
 ghost use Rattle.std.specs.Prelude.{◌≡◌, ℕ, ◌+◌, ◌<◌, ◌≤◌, List, length, true, false, option_copied};
-ghost use Rattle.x25_link.specs.Station.{Settings, Station, Side};
+ghost use Rattle.x25_link.specs.Station.{Settings, Station as StationState, Side};
 ghost use Rattle.x25_link.specs.Fits.{FitsStation, FitsSide};
 ghost use Rattle.x25_link.specs.MustSend.{is_valid, acknowledged, is_taken, takes, answers, passes_over, hears_info, polls};
 
 use crate::outbox::Outbox;
-use crate::station::Procedure;
+use crate::station::Station;
 use x25_bits::Seq;
 use x25_frame::Frame;
 
-impl Procedure {
+impl Station {
     /// Takes a received N(R), and says whether it is valid. All frames below it are acknowledged.
     pub fn acknowledge(&mut self, nr: Seq) -> bool
-        ensures valid { (c : Settings) (s : Station) → FitsStation c self.old s → result ≡ is_valid nr.number s }
+        ensures valid { (c : Settings) (s : StationState) → FitsStation c self.old s → result ≡ is_valid nr.number s }
         ensures step { (c : Settings) (before made : List (List ℕ)) (t : Side) → FitsSide c self.old before made t → result ≡ true → FitsSide c self.new before made (acknowledged nr.number t) }
         ensures unchanged { result ≡ false → self.new ≡ self.old }
     {
@@ -53,9 +53,9 @@ impl Procedure {
 
     // Whether an I frame of this number is taken. The REJ condition ends with that.
     fn takes(&mut self, ns: Seq) -> bool
-        ensures value { (c : Settings) (s : Station) → FitsStation c self.old s → result ≡ is_taken ns.number s }
+        ensures value { (c : Settings) (s : StationState) → FitsStation c self.old s → result ≡ is_taken ns.number s }
         ensures taken { (c : Settings) (packet : List ℕ) (before made : List (List ℕ)) (t : Side) → FitsSide c self.old before made t → result ≡ true → FitsSide c self.new before made (takes packet t) }
-        ensures passed { (c : Settings) (s : Station) → FitsStation c self.old s → result ≡ false → FitsStation c self.new s }
+        ensures passed { (c : Settings) (s : StationState) → FitsStation c self.old s → result ≡ false → FitsStation c self.new s }
     {
         let busy = self.is_busy();
         if busy {

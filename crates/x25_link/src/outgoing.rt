@@ -4,7 +4,7 @@ ghost use Rattle.x25_window.specs.Sending.{Sending, moved_on, offered};
 ghost use Rattle.x25_window.specs.Held.{Fits};
 ghost use Rattle.x25_frame.specs.PlainFrame.{info};
 ghost use Rattle.x25_frame.specs.Spelling.{spelling_of};
-ghost use Rattle.x25_link.specs.Outgoing.{Outgoing, no_packet, added, acknowledged_to, gone_back, is_open, next_packet, waits};
+ghost use Rattle.x25_link.specs.Outgoing.{Outgoing as OutgoingState, no_packet, added, acknowledged_to, gone_back, is_open, next_packet, waits};
 ghost use Rattle.x25_link.specs.Outgoing.{moved_on as sent_on};
 
 use crate::error::LinkError;
@@ -17,15 +17,15 @@ use x25_window::{Sender, WindowError};
 
 /// The packets handed down that aren't acknowledged: those that were sent, and behind them those that wait.
 #[derive(Drop)]
-pub struct Backlog {
+pub struct Outgoing {
     pub sender: Sender<Octets>,
     pub queue: Queue,
 }
 
-impl Backlog {
+impl Outgoing {
     ghost use Rattle.x25_link.specs.Backlog.{FitsBacklog};
 
-    pub fn new(alloc: Global, window: u8) -> Result<Option<Backlog>, LinkError>
+    pub fn new(alloc: Global, window: u8) -> Result<Option<Outgoing>, LinkError>
         ensures fits { IfOk result (λ made. MatchOption made (¬ ((1 ≤ window) × (window ≤ 7))) (λ b. FitsBacklog window b no_packet)) }
         ensures err { IfErr result (λ e. e ≡ LinkError.NoMemory) }
     {
@@ -33,13 +33,13 @@ impl Backlog {
             return Ok(None);
         };
         let queue = Queue::new(alloc)?;
-        Ok(Some(Backlog { sender, queue }))
+        Ok(Some(Outgoing { sender, queue }))
     }
 
     /// How many packets wait.
     pub fn waiting(&self) -> usize
         ensures value { result ≡ length self.now.queue }
-        ensures state { (k : ℕ) (o : Outgoing) → FitsBacklog k self.now o → result ≡ waits o }
+        ensures state { (k : ℕ) (o : OutgoingState) → FitsBacklog k self.now o → result ≡ waits o }
         ensures few { result ≤ 256 }
     {
         self.queue.len()
@@ -48,7 +48,7 @@ impl Backlog {
     /// How many frames were sent and aren't acknowledged.
     #[tactic(auto, using(crate::proofs::BacklogLemmas::sent_length))]
     pub fn unacked(&self) -> u8
-        ensures { (k : ℕ) (o : Outgoing) → FitsBacklog k self.now o → o.acked + result ≡ o.sent }
+        ensures { (k : ℕ) (o : OutgoingState) → FitsBacklog k self.now o → o.acked + result ≡ o.sent }
     {
         self.sender.unacked()
     }
@@ -56,7 +56,7 @@ impl Backlog {
     /// The highest number ever sent plus one.
     #[tactic(auto, using(crate::proofs::BacklogLemmas::sent_length))]
     pub fn top(&self) -> Seq
-        ensures { (k : ℕ) (o : Outgoing) → FitsBacklog k self.now o → result.number ≡ o.sent % 8 }
+        ensures { (k : ℕ) (o : OutgoingState) → FitsBacklog k self.now o → result.number ≡ o.sent % 8 }
     {
         self.sender.top()
     }
@@ -65,7 +65,7 @@ impl Backlog {
     pub fn add(&mut self, packet: Octets)
         requires { length self.old.queue < 256 }
         ensures queue { length self.new.queue ≡ length self.old.queue + 1 }
-        ensures state { (k : ℕ) (o : Outgoing) → FitsBacklog k self.old o → FitsBacklog k self.new (added packet o) }
+        ensures state { (k : ℕ) (o : OutgoingState) → FitsBacklog k self.old o → FitsBacklog k self.new (added packet o) }
     {
         self.queue.push(packet);
     }
@@ -73,10 +73,10 @@ impl Backlog {
     /// Takes a received N(R), and says how many frames it acknowledges.
     #[tactic(auto, using(crate::proofs::BacklogLemmas::sent_length))]
     pub fn ack(&mut self, nr: Seq) -> Result<u8, WindowError>
-        ensures step { (k : ℕ) (o : Outgoing) → FitsBacklog k self.old o → IfOk result (λ count. FitsBacklog k self.new (acknowledged_to (o.acked + count) o)) }
-        ensures number { (k : ℕ) (o : Outgoing) → FitsBacklog k self.old o → IfOk result (λ count. o.acked + count ≡ resolved o.acked nr.number) }
-        ensures within { (k : ℕ) (o : Outgoing) → FitsBacklog k self.old o → IfOk result (λ count. o.acked + count ≤ o.sent) }
-        ensures beyond { (k : ℕ) (o : Outgoing) → FitsBacklog k self.old o → OnErr result (o.sent < resolved o.acked nr.number) }
+        ensures step { (k : ℕ) (o : OutgoingState) → FitsBacklog k self.old o → IfOk result (λ count. FitsBacklog k self.new (acknowledged_to (o.acked + count) o)) }
+        ensures number { (k : ℕ) (o : OutgoingState) → FitsBacklog k self.old o → IfOk result (λ count. o.acked + count ≡ resolved o.acked nr.number) }
+        ensures within { (k : ℕ) (o : OutgoingState) → FitsBacklog k self.old o → IfOk result (λ count. o.acked + count ≤ o.sent) }
+        ensures beyond { (k : ℕ) (o : OutgoingState) → FitsBacklog k self.old o → OnErr result (o.sent < resolved o.acked nr.number) }
         ensures err { OnErr result (self.new ≡ self.old) }
     {
         self.sender.ack(nr)
@@ -84,14 +84,14 @@ impl Backlog {
 
     /// Moves the place to send from back to the first frame that isn't acknowledged.
     pub fn go_back(&mut self)
-        ensures { (k : ℕ) (o : Outgoing) → FitsBacklog k self.old o → FitsBacklog k self.new (gone_back o) }
+        ensures { (k : ℕ) (o : OutgoingState) → FitsBacklog k self.old o → FitsBacklog k self.new (gone_back o) }
     {
         self.sender.again();
     }
 
     /// Drops all packets.
     pub fn clear(&mut self)
-        ensures { (k : ℕ) (o : Outgoing) → FitsBacklog k self.old o → FitsBacklog k self.new no_packet }
+        ensures { (k : ℕ) (o : OutgoingState) → FitsBacklog k self.old o → FitsBacklog k self.new no_packet }
     {
         self.sender.clear();
         self.queue.clear();
@@ -100,9 +100,9 @@ impl Backlog {
     /// Sends the next packet, again or new, where the window is open and there is one. It says whether it did.
     pub fn send_next(&mut self, from: Role, nr: Seq, out: &mut Outbox) -> bool
         requires { 0 < out.old.long }
-        ensures sent { (k : ℕ) (o : Outgoing) → FitsBacklog k self.old o → result ≡ is_open k o }
-        ensures step { (k : ℕ) (o : Outgoing) → FitsBacklog k self.old o → FitsBacklog k self.new (if result then sent_on o else o) }
-        ensures made { (k : ℕ) (o : Outgoing) → FitsBacklog k self.old o →
+        ensures sent { (k : ℕ) (o : OutgoingState) → FitsBacklog k self.old o → result ≡ is_open k o }
+        ensures step { (k : ℕ) (o : OutgoingState) → FitsBacklog k self.old o → FitsBacklog k self.new (if result then sent_on o else o) }
+        ensures made { (k : ℕ) (o : OutgoingState) → FitsBacklog k self.old o →
             out.new.made ≡ (if result then out.old.made ++ spelling_of from (info (o.place % 8) nr.number false (next_packet o)) ∷ [] else out.old.made) }
         ensures queue { length self.new.queue ≤ length self.old.queue }
         ensures long { out.old.long ≡ (if result then out.new.long + 1 else out.new.long) }

@@ -2,11 +2,11 @@ ghost use Rattle.std.specs.Prelude.{◌≡◌, ℕ, ◌+◌, ◌<◌, ◌≤◌,
 ghost use Rattle.x25_frame.specs.PlainFrame.{plain};
 ghost use Rattle.x25_frame.specs.Spelling.{information_of};
 ghost use Rattle.x25_link.specs.MustSend.{leaves, other};
-ghost use Rattle.x25_link.specs.Station.{Settings, Station, Side, is_busy, sends, ready, with_nothing, with_near, fresh, may_send, pumped_once, pumped, finished, ended};
+ghost use Rattle.x25_link.specs.Station.{Settings, Station as StationState, Side, is_busy, sends, ready, with_nothing, with_near, fresh, may_send, pumped_once, pumped, finished, ended};
 
 use crate::heard::Heard;
 use crate::outbox::Outbox;
-use crate::outgoing::Backlog;
+use crate::outgoing::Outgoing;
 use crate::phase::{Phase, Reason};
 use x25_bits::Role;
 use x25_frame::Frame;
@@ -28,10 +28,10 @@ pub struct Parameters {
 
 /// The variables of a LAPB station. ITU-T X.25 (10/96), sections 2.3.2 and 2.4.
 #[derive(Drop)]
-pub struct Procedure {
+pub struct Station {
     pub role: Role,
     pub parameters: Parameters,
-    pub backlog: Backlog,
+    pub backlog: Outgoing,
     pub receiver: Receiver,
     pub phase: Phase,
     pub tries: u8,
@@ -52,12 +52,12 @@ pub fn other(role: Role) -> Role
     }
 }
 
-impl Procedure {
+impl Station {
     ghost use Rattle.x25_link.specs.Fits.{FitsStation, FitsSide, FitsHeard};
 
     /// Whether the station is busy, and takes no I frame.
     pub fn is_busy(&self) -> bool
-        ensures { (c : Settings) (s : Station) → FitsStation c self.now s → result ≡ is_busy s }
+        ensures { (c : Settings) (s : StationState) → FitsStation c self.now s → result ≡ is_busy s }
     {
         self.backlog.waiting() > BUSY_ABOVE
     }
@@ -107,7 +107,7 @@ impl Procedure {
     /// The sending rule, once. It says whether a frame was sent.
     pub fn pump_once(&mut self, out: &mut Outbox) -> bool
         requires { 0 < out.old.long }
-        ensures sent { (c : Settings) (s : Station) → FitsStation c self.old s → result ≡ may_send c.window s }
+        ensures sent { (c : Settings) (s : StationState) → FitsStation c self.old s → result ≡ may_send c.window s }
         ensures step { (c : Settings) (before : List (List ℕ)) (t : Side) → FitsSide c self.old before out.old.made t → FitsSide c self.new before out.new.made (pumped_once c.window t) }
         ensures long { out.old.long ≤ out.new.long + 1 }
         ensures kept { self.new ≡ record self.old { backlog = self.new.backlog } }
