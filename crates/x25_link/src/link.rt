@@ -33,7 +33,7 @@ const SHORT_FRAMES: usize = 2;
 /// Each call but `put` answers the frames to send, in order. The frames of `put` are kept until `sent` takes them.
 #[derive(Drop)]
 pub struct Link {
-    procedure: Station,
+    station: Station,
     outgoing: Outbox,
     answers: Outbox,
 }
@@ -44,7 +44,7 @@ impl Model for Link {
 
     ghost Value = { ShownLink };
 
-    ghost view = { λ l. record { procedure = l.procedure; outgoing = l.outgoing } };
+    ghost view = { λ l. record { station = l.station; outgoing = l.outgoing } };
 
     ghost invariant = { λ l. l.answers.made ≡ [] };
 }
@@ -66,7 +66,7 @@ impl Link {
             return Err(LinkError::BadConfig);
         };
         Ok(Link {
-            procedure: Station {
+            station: Station {
                 role,
                 parameters: Parameters { n1, n2 },
                 backlog,
@@ -93,14 +93,14 @@ impl Link {
         ensures outgoing { self.new.outgoing ≡ self.old.outgoing }
         ensures err { OnErr result (self.new ≡ self.old) }
     {
-        match self.procedure.phase {
+        match self.station.phase {
             Phase::Down => {}
             Phase::Waiting => return Err(LinkError::AlreadyWaiting),
             Phase::Up => return Err(LinkError::AlreadyUp),
             Phase::Closed => return Err(LinkError::Closed),
         }
         self.answers.reserve(0, SHORT_FRAMES)?;
-        self.procedure.connect(&mut self.answers);
+        self.station.connect(&mut self.answers);
         Ok(self.answers.answered(Heard::quiet()))
     }
 
@@ -115,7 +115,7 @@ impl Link {
         ensures err { OnErr result (self.new ≡ self.old) }
     {
         self.answers.reserve(LONG_FRAMES, SHORT_FRAMES)?;
-        let heard = self.procedure.hear(octets, &mut self.answers);
+        let heard = self.station.hear(octets, &mut self.answers);
         Ok(self.answers.answered(heard))
     }
 
@@ -129,12 +129,12 @@ impl Link {
         ensures outgoing { self.new.outgoing ≡ self.old.outgoing }
         ensures err { OnErr result (self.new ≡ self.old) }
     {
-        match self.procedure.phase {
+        match self.station.phase {
             Phase::Down | Phase::Waiting | Phase::Up => {}
             Phase::Closed => return Err(LinkError::Closed),
         }
         self.answers.reserve(0, SHORT_FRAMES)?;
-        let heard = self.procedure.disconnect(&mut self.answers);
+        let heard = self.station.disconnect(&mut self.answers);
         Ok(self.answers.answered(heard))
     }
 
@@ -148,11 +148,11 @@ impl Link {
         ensures outgoing { self.new.outgoing ≡ self.old.outgoing }
         ensures err { OnErr result (self.new ≡ self.old) }
     {
-        if !self.procedure.timer_runs() {
+        if !self.station.timer_runs() {
             return Err(LinkError::NotRunning);
         }
         self.answers.reserve(0, SHORT_FRAMES)?;
-        let heard = self.procedure.fire(&mut self.answers);
+        let heard = self.station.fire(&mut self.answers);
         Ok(self.answers.answered(heard))
     }
 
@@ -163,7 +163,7 @@ impl Link {
         ensures answer { (c : Settings) (s : StationState) → FitsLink c self.old s → IsAnswer c result (abandon_step c s) }
         ensures outgoing { self.new.outgoing ≡ self.old.outgoing }
     {
-        let heard = self.procedure.leave(Reason::Counts);
+        let heard = self.station.leave(Reason::Counts);
         self.answers.answered(heard)
     }
 
@@ -191,7 +191,7 @@ impl Link {
     pub fn sent(&mut self) -> Vec<Vec<u8>>
         ensures frames { map (λ f. f.items) result.items ≡ self.old.outgoing.made }
         ensures outgoing { self.new.outgoing ≡ record { made = []; long = 0; short = 0 } }
-        ensures procedure { self.new.procedure ≡ self.old.procedure }
+        ensures station { self.new.station ≡ self.old.station }
     {
         self.outgoing.drain()
     }
@@ -200,7 +200,7 @@ impl Link {
     pub fn idle(&self) -> bool
         ensures { (c : Settings) (s : StationState) → FitsLink c self.now s → result ≡ is_idle s }
     {
-        self.procedure.is_idle()
+        self.station.is_idle()
     }
 
     // Hands a packet down, and keeps the frames.
@@ -221,14 +221,14 @@ impl Link {
         ensures waits_more { OnOk result (waiting_of self.new ≤ waiting_of self.old + 1) }
         ensures err { OnErr result (self.new ≡ self.old) }
     {
-        if !self.procedure.phase.is_up() {
+        if !self.station.phase.is_up() {
             return Err(LinkError::NotUp);
         }
-        if self.procedure.backlog.waiting() == PLACES {
+        if self.station.backlog.waiting() == PLACES {
             return Err(LinkError::QueueFull);
         }
         self.outgoing.reserve(1, 0)?;
-        self.procedure.give(Octets::of(packet), &mut self.outgoing);
+        self.station.give(Octets::of(packet), &mut self.outgoing);
         Ok(())
     }
 }

@@ -44,15 +44,15 @@ impl OrderedLink for Link {
     ghost spares = { λ l. l.outgoing.long };
 
     fn limit(&self) -> usize {
-        self.procedure.parameters.n1
+        self.station.parameters.n1
     }
 
     fn waiting(&self) -> usize {
-        self.procedure.backlog.waiting()
+        self.station.backlog.waiting()
     }
 
     fn is_up(&self) -> bool {
-        self.procedure.phase.is_up()
+        self.station.phase.is_up()
     }
 
     fn spare(&self) -> usize {
