@@ -1,9 +1,10 @@
 # make x25   leaves the proved program at build/x25
 # make demo  builds it and decodes the traces of examples/
 # make test  the gate: every proof from nothing, the must-fail edits, the tests and the programs
+# make wrong-bodies [CRATE=NAME]  tries the edits of crates/NAME/wrong-bodies/, which the gate leaves out
 # make clean removes what these made
 
-.PHONY: x25 demo test clean kit
+.PHONY: x25 demo test wrong-bodies clean kit
 
 x25: build/x25
 
@@ -22,6 +23,9 @@ demo: build/x25
 
 test: kit
 	rt ci
+
+wrong-bodies: kit
+	.ci/wrong_bodies $(CRATE)
 
 clean:
 	rm -rf build crates/*/out

@@ -106,38 +106,3 @@ pub fn seal(octets: &mut Vec<u8>) -> Result<(), NoMemory>
     octets.extend_from_slice(&last)?;
     Ok(())
 }
-
-#[cfg(test)]
-mod tests {
-    use super::*;
-    use crate::Seq;
-    use std::test::Fail;
-
-    #[test]
-    fn check_value(rt: HostRuntime) {
-        assert_eq!(rt; fcs(b"123456789"), 0x906E);
-    }
-
-    #[test]
-    fn seals_and_checks(rt: HostRuntime) -> Result<(), Fail> {
-        let mut octets = [0x01, 0x3F].to_vec(rt.alloc())?;
-        seal(&mut octets)?;
-        assert_eq!(rt; octets.as_slice(), [0x01, 0x3F, 0xEB, 0xDF].as_slice());
-        assert!(rt; check(octets.as_slice()));
-        assert!(rt; !check(&[0x01, 0x3F, 0xEB, 0xDE]));
-        assert!(rt; check(&[0, 0]));
-        assert!(rt; !check(&[0]));
-        Ok(())
-    }
-
-    #[test]
-    fn counts_modulo_8(rt: HostRuntime) -> Result<(), Fail> {
-        let last = Seq::new(7).ok_or("7 is a sequence number")?;
-        assert_eq!(rt; last.get(), 7);
-        assert_eq!(rt; last.next(), Seq::ZERO);
-        assert_eq!(rt; Seq::new(8), None);
-        assert_eq!(rt; Seq::modulo(13).get(), 5);
-        assert_eq!(rt; NoMemory.number(), 70);
-        Ok(())
-    }
-}
