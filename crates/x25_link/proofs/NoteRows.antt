@@ -1,6 +1,7 @@
 -- What the notes of each step say of the station after it.
-use Rattle.std.proofs.Common.{◌≡◌, ℕ, zero, suc, ◌+◌, ◌≤◌, List, [], ◌∷◌, ◌++◌, Bool, true, false, not, if◌then◌else◌, Option, Some, None, option_to_list, Result, Ok, Err, refl, sym, ap, ◌∙◌, arith, append-nil}
+use Rattle.std.proofs.Common.{length, subst, ◌≡◌, ℕ, zero, suc, ◌+◌, ◌≤◌, List, [], ◌∷◌, ◌++◌, Bool, true, false, not, if◌then◌else◌, Option, Some, None, option_to_list, Result, Ok, Err, refl, sym, ap, ◌∙◌, arith, append-nil}
 use Rattle.std.specs.Prelude.{nat_lt}
+use Rattle.std.proofs.Math.Nat.{le_trans}
 use Rattle.std.proofs.lemmas.Bool.{ltb-false}
 use Rattle.x25_frame.specs.PlainFrame.{PlainFrame, info, rr, rnr, rej, sabm, disc, ua, dm, frmr}
 use Rattle.x25_frame.specs.Reading.{frame_of}
@@ -18,7 +19,7 @@ use Rattle.x25_link.specs.MustSend.{Step, quiet, leaves, other, rejects, is_vali
 use Rattle.x25_link.specs.Steps.{alone, closed_by, hears, puts, connects, asks_again, fires, disconnects, when_down, when_waiting}
 use Rattle.x25_link.specs.SetUp.{reset_from}
 use Rattle.x25_link.specs.NoteLaw.{Tells, Continues, HandsUp, TakeTells, TakeContinues, TakeHandsUp, TimerTells, TimerContinues, PutTells, ConnectTells, DisconnectTells, AbandonTells}
-use Rattle.x25_link.specs.LinkLaws.{ended_lists}
+use Rattle.x25_link.specs.LinkLaws.{ended_lists, ended_phase}
 use Rattle.x25_link.proofs.EndLemmas.{true_false, both_true, is_false, none_open, ended_stays}
 
 none_is_some : {A : Type 0} (reason : Reason) → (let r : Option Reason = None in r) ≡ Some reason → A
@@ -29,20 +30,27 @@ none_is_some reason e = absurd (never e)
 
 -- ---- what the end of a step keeps
 
-phase_if : (b : Bool) (u v : Side) (p : Phase) → u.near.phase ≡ p → v.near.phase ≡ p → (let w : Side = if b then u else v in w.near.phase) ≡ p
-phase_if true u v p e f = e
-phase_if false u v p e f = f
+sent_if : (b : Bool) (u v : Side) (n : ℕ) → n ≤ u.near.outgoing.sent → n ≤ v.near.outgoing.sent → n ≤ (let w : Side = if b then u else v in w.near.outgoing.sent)
+sent_if true u v n e f = e
+sent_if false u v n e f = f
 
-pumped_phase : (n k : ℕ) (t : Side) → (pumped n k t).near.phase ≡ t.near.phase
+pumped_sent : (n k : ℕ) (t : Side) → t.near.outgoing.sent ≤ (pumped n k t).near.outgoing.sent
 unfolding pumped
-pumped_phase zero k t = refl
-pumped_phase (suc n) k t = phase_if (may_send k (pumped n k t).near) (send_next (pumped n k t)) (pumped n k t) _ refl refl ∙ pumped_phase n k t
+pumped_sent zero k t = omega arith
+pumped_sent (suc n) k t =
+    let before = pumped_sent n k t in
+    sent_if (may_send k (pumped n k t).near) (send_next (pumped n k t)) (pumped n k t) _ (omega arith) before
 
-ready_phase : (t : Side) → (ready false false t).near.phase ≡ t.near.phase
-ready_phase t = phase_if (is_busy t.near) _ _ _ refl refl
+ended_sent : (k : ℕ) (t : Side) → t.near.outgoing.sent ≤ (ended k t).near.outgoing.sent
+ended_sent k t =
+    let before = pumped_sent 7 k t in
+    sent_if (owes_ready (pumped 7 k t).near) (ready false false (pumped 7 k t)) (pumped 7 k t) _ (sent_if (is_busy (pumped 7 k t).near) _ _ _ before before) before
 
-ended_phase : (k : ℕ) (t : Side) → (ended k t).near.phase ≡ t.near.phase
-ended_phase k t = phase_if (owes_ready (pumped 7 k t).near) (ready false false (pumped 7 k t)) (pumped 7 k t) _ (ready_phase (pumped 7 k t)) refl ∙ pumped_phase 7 k t
+ended_waits : (k : ℕ) (t : Side) → waits (ended k t).near.outgoing ≤ waits t.near.outgoing
+ended_waits k t =
+    let given = ap (λ x. length x.given) (ended_lists k t) in
+    let sent = ended_sent k t in
+    omega arith
 
 tells_from : (k : ℕ) (s : Station) (step : Step) → Tells s step → Tells s (closed_by k step)
 tells_from k s step h =
@@ -66,7 +74,17 @@ continues_from k s step h =
       phase = λ e. ended_phase k step.side ∙ h.phase e;
       given = λ e. ap (λ x. x.given) lists ∙ h.given e;
       taken = λ e. ap (λ x. x.taken) lists ∙ h.taken e;
+      waits = λ e. le_trans (ended_waits k step.side) (h.waits e);
+      acked = λ e. subst (λ n. s.outgoing.acked ≤ n) (sym (ap (λ x. x.acked) lists)) (h.acked e);
     }
+
+hands_from : (k : ℕ) (s : Station) (step : Step) → HandsUp s step → HandsUp s (closed_by k step)
+hands_from k s step h = record {
+  up = h.up;
+  few = h.few;
+  few_after = λ x e. le_trans (ended_waits k step.side) (h.few_after x e);
+  quiet = h.quiet;
+}
 
 -- ---- rows in which Up is left, or a link is set up
 
@@ -87,7 +105,13 @@ leaves_tells s reason t = record {
 }
 
 leaves_continues : (s : Station) (reason : Reason) (t : Side) → Continues s (leaves reason t)
-leaves_continues s reason t = record { phase = λ e. noted_quiet reason false e; given = λ e. noted_quiet reason false e; taken = λ e. noted_quiet reason false e }
+leaves_continues s reason t = record {
+  phase = λ e. noted_quiet reason false e;
+  given = λ e. noted_quiet reason false e;
+  taken = λ e. noted_quiet reason false e;
+  waits = λ e. noted_quiet reason false e;
+  acked = λ e. noted_quiet reason false e;
+}
 
 sets_up_tells : (s : Station) (down : Option Reason) (out : List PlainFrame) → down ≡ reset_from s.phase
     → Tells s (let step : Step = record { side = record { near = fresh; out = out }; packet = None; notes = record { down = down; up = true } } in step)
@@ -102,19 +126,27 @@ sets_up_tells s down out same = record {
 
 sets_up_continues : (s : Station) (down : Option Reason) (out : List PlainFrame)
     → Continues s (let step : Step = record { side = record { near = fresh; out = out }; packet = None; notes = record { down = down; up = true } } in step)
-sets_up_continues s down out = record { phase = λ e. up_quiet down e; given = λ e. up_quiet down e; taken = λ e. up_quiet down e }
+sets_up_continues s down out = record {
+  phase = λ e. up_quiet down e;
+  given = λ e. up_quiet down e;
+  taken = λ e. up_quiet down e;
+  waits = λ e. up_quiet down e;
+  acked = λ e. up_quiet down e;
+}
 
 -- ---- rows that note nothing
 
 -- by the values alone, so that a step that changes only flags keeps it by computation
-pub record SameAt (s : Station) (more : List (List ℕ)) (at : Phase) (all up : List (List ℕ)) : Type 0 where
+pub record SameAt (s : Station) (more : List (List ℕ)) (at : Phase) (all up : List (List ℕ)) (low high : ℕ) : Type 0 where
   pub phase : at ≡ s.phase
   pub given : all ≡ s.outgoing.given
   pub taken : up ≡ s.taken ++ more
+  pub acked : s.outgoing.acked ≤ low
+  pub sent : s.outgoing.sent ≤ high
 
 module _ (s : Station) (more : List (List ℕ)) where
   abbrev pub Same : Side → Type 0
-  Same t = SameAt s more t.near.phase t.near.outgoing.given t.near.taken
+  Same t = SameAt s more t.near.phase t.near.outgoing.given t.near.taken t.near.outgoing.acked t.near.outgoing.sent
 
   same_if : (b : Bool) (u v : Side) → Same u → Same v → Same (if b then u else v)
   same_if true u v f g = f
@@ -125,7 +157,8 @@ module _ (s : Station) (more : List (List ℕ)) where
 
   pub S-answers : (k : ℕ) (p : Bool) (t : Side) → Same t → Same (answers k p t)
   S-answers k true t h = S-ready false true t h
-  S-answers k false t h = same_if (may_send k t.near) (send_next t) (ready false false t) h (S-ready false false t h)
+  S-answers k false t h = same_if (may_send k t.near) (send_next t) (ready false false t)
+      (let sent = h.sent in record { phase = h.phase; given = h.given; taken = h.taken; acked = h.acked; sent = omega arith }) (S-ready false false t h)
 
   pub S-passes_over : (p : Bool) (t : Side) → Same t → Same (passes_over p t)
   S-passes_over p t h =
@@ -140,7 +173,10 @@ module _ (s : Station) (more : List (List ℕ)) where
   S-polls false false t h = h
 
 begins_same : (s : Station) → Same s [] (alone s)
-begins_same s = record { phase = refl; given = refl; taken = sym (append-nil s.taken) }
+begins_same s = record { phase = refl; given = refl; taken = sym (append-nil s.taken); acked = omega arith; sent = omega arith }
+
+heard_same : (s : Station) (nr : ℕ) → Same s [] (acknowledged nr (alone s))
+heard_same s nr = record { phase = refl; given = refl; taken = sym (append-nil s.taken); acked = omega arith; sent = omega arith }
 
 quiet_tells : (s : Station) (t : Side) (packet : Option (List ℕ)) → is_up t.near.phase ≡ is_up s.phase → (is_up s.phase ≡ false → lists_of s ≡ no_packets → lists_of t.near ≡ no_packets)
     → Tells s (let step : Step = record { side = t; packet = packet; notes = record { down = None; up = false } } in step)
@@ -160,7 +196,10 @@ up_tells s t packet more e h = quiet_tells s t packet (ap is_up h.phase) (λ low
 
 quiet_continues : (s : Station) (t : Side) (packet : Option (List ℕ)) → Same s (option_to_list packet) t
     → Continues s (let step : Step = record { side = t; packet = packet; notes = record { down = None; up = false } } in step)
-quiet_continues s t packet h = record { phase = λ _. h.phase; given = λ _. h.given; taken = λ _. h.taken }
+quiet_continues s t packet h =
+    let given = ap length h.given in
+    let sent = h.sent in
+    record { phase = λ _. h.phase; given = λ _. h.given; taken = λ _. h.taken; waits = λ _. omega arith; acked = λ _. h.acked }
 
 -- where nothing in the lists moved
 still_tells : (s : Station) (t : Side) → t.near ≡ s → Tells s (quiet t)
@@ -168,7 +207,13 @@ still_tells s t e = quiet_tells s t None (ap (λ (u : Station). is_up u.phase) e
 
 still_continues : (s : Station) (t : Side) → t.near ≡ s → Continues s (quiet t)
 still_continues s t e =
-    quiet_continues s t None (record { phase = ap (λ (u : Station). u.phase) e; given = ap (λ (u : Station). u.outgoing.given) e; taken = ap (λ (u : Station). u.taken) e ∙ sym (append-nil s.taken) })
+    quiet_continues s t None (record {
+      phase = ap (λ (u : Station). u.phase) e;
+      given = ap (λ (u : Station). u.outgoing.given) e;
+      taken = ap (λ (u : Station). u.taken) e ∙ sym (append-nil s.taken);
+      acked = omega (arith, ap (λ (u : Station). u.outgoing.acked) e);
+      sent = omega (arith, ap (λ (u : Station). u.outgoing.sent) e);
+    })
 
 -- ---- both laws of a row, and what it hands up
 
@@ -178,7 +223,7 @@ pub record RowTells (s : Station) (step : Step) : Type 0 where
   pub hands : HandsUp s step
 
 hands_none : (s : Station) (step : Step) → step.packet ≡ None → HandsUp s step
-hands_none s step e = record { up = λ x f. never x (sym e ∙ f); few = λ x f. never x (sym e ∙ f); quiet = λ x f. never x (sym e ∙ f) }
+hands_none s step e = record { up = λ x f. never x (sym e ∙ f); few = λ x f. never x (sym e ∙ f); few_after = λ x f. never x (sym e ∙ f); quiet = λ x f. never x (sym e ∙ f) }
   where
     never : {A : Type 0} (x : List ℕ) → (let p : Option (List ℕ) = None in p) ≡ Some x → A
     never x e = absurd (no e)
@@ -213,29 +258,31 @@ info_tells : (k ns nr : ℕ) (p : Bool) (packet : List ℕ) (s : Station) (b : B
     → RowTells s (hears_info k ns p packet (acknowledged nr (alone s)))
 info_tells k ns nr p packet s true e is =
     let t : Side = takes packet (acknowledged nr (alone s)) in
-    let same : Same s (packet ∷ []) (answers k p t) = S-answers s (packet ∷ []) k p t (record { phase = refl; given = refl; taken = refl }) in
+    let same : Same s (packet ∷ []) (answers k p t) = S-answers s (packet ∷ []) k p t (record { phase = refl; given = refl; taken = refl; acked = omega arith; sent = omega arith }) in
+    let given = ap length same.given in
+    let sent = same.sent in
     let both = both_true _ _ is in
     let few : waits s.outgoing ≤ 254 = ltb-false _ _ (is_false _ both.0) in
     rw is (record {
       tells = up_tells s (answers k p t) (Some packet) (packet ∷ []) e same;
       continues = quiet_continues s (answers k p t) (Some packet) same;
-      hands = record { up = λ _ _. e; few = λ _ _. few; quiet = λ _ _. refl };
+      hands = record { up = λ _ _. e; few = λ _ _. few; few_after = λ _ _. omega arith; quiet = λ _ _. refl };
     })
 info_tells k ns nr p packet s false e is =
     let t = acknowledged nr (alone s) in
-    rw is (row_same s (passes_over p t) e (S-passes_over s [] p t (begins_same s)))
+    rw is (row_same s (passes_over p t) e (S-passes_over s [] p t (heard_same s nr)))
 
 frame_tells : (c : Settings) (octets : List ℕ) (frame : PlainFrame) (s : Station) → s.phase ≡ Up → RowTells s (row_of_frame c octets frame (alone s))
 frame_tells c octets (info ns nr p packet) s e = row_numbered c octets nr (hears_info c.window ns p packet) s (info_tells c.window ns nr p packet s _ e refl)
 frame_tells c octets (rr command nr pf) s e =
     row_numbered c octets nr (λ u. quiet (polls command pf (peer_is false u))) s
-    (row_same s _ e (S-polls s [] command pf (peer_is false (acknowledged nr (alone s))) (begins_same s)))
+    (row_same s _ e (S-polls s [] command pf (peer_is false (acknowledged nr (alone s))) (heard_same s nr)))
 frame_tells c octets (rnr command nr pf) s e =
     row_numbered c octets nr (λ u. quiet (polls command pf (peer_is true u))) s
-    (row_same s _ e (S-polls s [] command pf (peer_is true (acknowledged nr (alone s))) (begins_same s)))
+    (row_same s _ e (S-polls s [] command pf (peer_is true (acknowledged nr (alone s))) (heard_same s nr)))
 frame_tells c octets (rej command nr pf) s e =
     row_numbered c octets nr (λ u. quiet (polls command pf (goes_back (peer_is false u)))) s
-    (row_same s _ e (S-polls s [] command pf (goes_back (peer_is false (acknowledged nr (alone s)))) (begins_same s)))
+    (row_same s _ e (S-polls s [] command pf (goes_back (peer_is false (acknowledged nr (alone s)))) (heard_same s nr)))
 frame_tells c octets (sabm p) s e = row_sets_up s (Some Reset) _ (sym (ap reset_from e))
 frame_tells c octets (disc p) s e = row_leaves s Disc (sends (ua p) (alone s))
 frame_tells c octets (ua f) s e = row_still s (alone s) refl
@@ -302,8 +349,7 @@ take_continues c octets s = continues_from c.window s _ (take_row c octets s).co
 
 pub take_hands_up : TakeHandsUp
 take_hands_up c octets s =
-    let h = (take_row c octets s).hands in
-    record { up = h.up; few = h.few; quiet = h.quiet }
+    hands_from c.window s _ (take_row c octets s).hands
 
 row_quiet : (s : Station) (n : ℕ) → is_up s.phase ≡ false → RowTells s (quiet (sends (sabm true) (alone (record s { tries = n }))))
 row_quiet s n low = record {

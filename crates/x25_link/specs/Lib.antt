@@ -14,3 +14,4 @@ pub mod SetUp
 pub mod NoteLaw
 pub mod Link
 pub mod LinkLaws
+pub mod Bounds

@@ -23,16 +23,20 @@ pub record Tells (s : Station) (step : Step) : Type 0 where
   pub stays : IsQuiet step → is_up step.side.near.phase ≡ is_up s.phase
   pub empty : IsQuiet step → is_up s.phase ≡ false → lists_of s ≡ no_packets → lists_of step.side.near ≡ no_packets
 
--- nothing noted: the phase is as before, nothing is handed down, and what is handed up stands behind all others
+-- nothing noted: the phase is as before, nothing is handed down, what is handed up stands behind all others, no packet
+-- waits again, and what is acknowledged stays so
 pub record Continues (s : Station) (step : Step) : Type 0 where
   pub phase : IsQuiet step → step.side.near.phase ≡ s.phase
   pub given : IsQuiet step → step.side.near.outgoing.given ≡ s.outgoing.given
   pub taken : IsQuiet step → step.side.near.taken ≡ s.taken ++ option_to_list step.packet
+  pub waits : IsQuiet step → waits step.side.near.outgoing ≤ waits s.outgoing
+  pub acked : IsQuiet step → s.outgoing.acked ≤ step.side.near.outgoing.acked
 
--- a packet is handed up in Up alone, while at most 254 wait, and nothing is noted then
+-- a packet is handed up in Up alone, while at most 254 wait, before the step and after it, and nothing is noted then
 pub record HandsUp (s : Station) (step : Step) : Type 0 where
   pub up : (packet : List ℕ) → step.packet ≡ Some packet → s.phase ≡ Up
   pub few : (packet : List ℕ) → step.packet ≡ Some packet → waits s.outgoing ≤ 254
+  pub few_after : (packet : List ℕ) → step.packet ≡ Some packet → waits step.side.near.outgoing ≤ 254
   pub quiet : (packet : List ℕ) → step.packet ≡ Some packet → IsQuiet step
 
 abbrev pub TakeTells : Type 0

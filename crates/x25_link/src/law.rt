@@ -1,3 +1,4 @@
+ghost use Rattle.x25_link.specs.Bounds.{FewWait, FewStand, WindowIsSmall};
 ghost use Rattle.x25_link.specs.NoteLaw.{TakeTells, TakeContinues, TakeHandsUp, TimerTells, TimerContinues, PutTells, ConnectTells, DisconnectTells, AbandonTells};
 ghost use Rattle.x25_link.specs.SetUp.{TakeWaits, TakeSetsUp, ConnectWaits, TimerWaits, DisconnectWaits};
 ghost use Rattle.x25_link.specs.WindowLaw.{TakeFollows, PutFollows, TimerFollows, DisconnectFollows, AbandonFollows, TakeStaysOut, DisconnectStaysOut};
@@ -36,4 +37,11 @@ pub fn notes_what_changes()
     ensures connect { ConnectTells }
     ensures disconnect { DisconnectTells }
     ensures abandon { AbandonTells }
+{}
+
+/// What a link holds at most: 256 packets that wait, and k, at most 7, that were sent and aren't acknowledged.
+pub fn holds_few()
+    ensures wait { FewWait }
+    ensures stand { FewStand }
+    ensures window { WindowIsSmall }
 {}
