@@ -1,0 +1,3 @@
+pub mod FacilityLength
+pub mod DigitLemmas
+pub mod ResultLemmas
