@@ -5,7 +5,7 @@ ghost use Rattle.x25_program.specs.Decoded.{answer_to, is_refused, n1, octets_in
 ghost use Rattle.x25_text.specs.FrameText.{reading_text};
 
 use x25_frame::{Role, decode};
-use x25_text::{MOST_OCTETS, MOST_TEXT, ROOM, Text, push_fault, push_frame};
+use x25_text::{MOST_OCTETS, MOST_TEXT, ROOM, Text, push_fault, push_frame, read_hexadecimal};
 
 /// The most octets of information in an I frame.
 const N1: usize = 4_099;
@@ -33,9 +33,13 @@ fn read_octets(digits: &[u8], octets: &mut [u8]) -> Option<usize>
     if count > MOST_OCTETS {
         return None;
     }
-    match hex::decode_to_slice(digits, &mut octets[..count]) {
-        Ok(()) => Some(count),
-        Err(_) => None,
+    if digits.len() % 2 == 1 {
+        return None;
+    }
+    if read_hexadecimal(digits, &mut octets[..count]) {
+        Some(count)
+    } else {
+        None
     }
 }
 

@@ -4,9 +4,11 @@
 #![tactic(auto)]
 
 mod frame_text;
+mod hexadecimal;
 mod packet_text;
 mod text;
 
 pub use frame_text::{MOST_TEXT, push_fault, push_frame};
+pub use hexadecimal::read_hexadecimal;
 pub use packet_text::{MOST_PACKET_TEXT, push_information, push_packet};
 pub use text::{MOST_OCTETS, ROOM, Text};
