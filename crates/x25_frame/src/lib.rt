@@ -7,8 +7,6 @@ mod error;
 mod frame;
 mod reading;
 mod spelling;
-#[cfg(test)]
-mod tests;
 
 pub use error::FrameError;
 pub use frame::Frame;
