@@ -8,8 +8,6 @@ mod frame;
 mod law;
 mod reading;
 mod spelling;
-#[cfg(test)]
-mod tests;
 
 pub use error::FrameError;
 pub use frame::Frame;
