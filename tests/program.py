@@ -9,8 +9,7 @@ PLACES = ["build/x25", "crates/x25/out/x25"]
 
 
 def find_program():
-    """Answers the path of the program that was built last, or None where there is none; the variable X25 decides, if set."""
-    if os.environ.get("X25"):
-        return os.path.abspath(os.environ["X25"])
-    built = [path for path in (os.path.join(ROOT, place) for place in PLACES) if os.path.isfile(path)]
+    """Answers the path of the program that was built last, or None where there is none; the variable X25, if set, names the one to take."""
+    places = [os.environ["X25"]] if "X25" in os.environ else [os.path.join(ROOT, place) for place in PLACES]
+    built = [os.path.abspath(path) for path in places if os.path.isfile(path)]
     return max(built, key=os.path.getmtime, default=None)
