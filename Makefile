@@ -3,9 +3,10 @@
 # make test  the gate: every proof from nothing, the must-fail edits, the tests and the programs, the golden cases, the tools
 # make golden       runs the stored cases of tests/golden on the program
 # make check-tools  runs the tests of tools/, without the kit too; those that need the program are left out where it isn't built
+# make wrong-bodies [CRATE=NAME]  tries the edits of crates/NAME/wrong-bodies/, which the gate leaves out
 # make clean removes what these made
 
-.PHONY: x25 demo test golden check-tools clean kit
+.PHONY: x25 demo test golden check-tools wrong-bodies clean kit
 
 x25: build/x25
 
@@ -30,6 +31,9 @@ golden: build/x25
 
 check-tools:
 	python3 -m unittest discover --start-directory tests/tools
+
+wrong-bodies: kit
+	.ci/wrong_bodies $(CRATE)
 
 clean:
 	rm -rf build crates/*/out

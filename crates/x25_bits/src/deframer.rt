@@ -14,9 +14,6 @@ use crate::scan::Scan;
 use std::alloc::Global;
 use std::mem;
 
-#[cfg(test)]
-mod tests;
-
 /// The fewest bits of a content: 4 octets.
 const FEWEST: usize = 32;
 

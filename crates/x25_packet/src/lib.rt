@@ -10,8 +10,6 @@ mod facilities;
 mod packet;
 mod reading;
 mod spelling;
-#[cfg(test)]
-mod tests;
 
 pub use digits::Digits;
 pub use error::PacketError;
