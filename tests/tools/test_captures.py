@@ -200,6 +200,11 @@ class XotStreams(unittest.TestCase):
         self.assertEqual(lines(file), ("", {}))
         self.assertEqual(lines(file, port=2000)[0].count("\n"), 1)
 
+    def test_swap_makes_frames_of_the_other_end(self):
+        text, _ = self.read([(True, 1, self.accept)], swap=True)
+        frame = x25lines.frame_line(text.strip().encode())
+        self.assertEqual((frame.direction, frame.octets[:-2]), ("<", b"\x03\x00" + ACCEPT))
+
     def test_what_is_no_xot_is_passed_over(self):
         arp, fragment = samples.ethernet(bytes(28), 0x0806), samples.ethernet(samples.ipv4(True, samples.tcp(True, 1, self.call), fragment=5))
         self.assertEqual(lines(samples.pcap([(0, 0, arp), (0, 0, fragment), (0, 0, b"\x00")], link_type=1)), ("", {}))
