@@ -4,11 +4,6 @@
 The tests of the tools that need no program run before, too: they take seconds, and where one fails nothing else is begun. The
 line 'N passed, M failed' of `rt ci` is held back, and the last line is one such line that counts all three: proofs and must-fail
 edits, a golden case for each build of the program, a test of the tools. Exit status: 0 nothing failed, 1 something did.
-"""The whole gate: `rt ci`, then the golden cases on the programs that it left, then the tests of the tools.
-
-The tests of the tools that need no program run before, too: they take seconds, and where one fails nothing else is begun. The line 'N passed, M failed' of `rt ci` is held back, and the last line is one such line
-that counts all three: proofs and must-fail edits, a golden case for each build of the program, a test of the tools.
-Exit status: 0 nothing failed, 1 something did.
 """
 
 import os

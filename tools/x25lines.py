@@ -17,7 +17,7 @@ MOST_INFORMATION = MOST_OCTETS - 4
 MOST_CHARACTERS = 131_264
 NANOSECONDS = 10**9
 
-FRAME_LINE = re.compile(rb"(?:([0-9]{1,15})(?:\.([0-9]{1,9}))?\t)?([<>]) ((?:[0-9a-fA-F]{2})*)")
+FRAME_LINE = re.compile(rb"(?:([0-9]{1,10})(?:\.([0-9]{1,9}))?\t)?([<>]) ((?:[0-9a-fA-F]{2})*)")
 
 
 class BadInput(Exception):
