@@ -19,6 +19,10 @@ NANOSECONDS = 10**9
 
 FRAME_LINE = re.compile(rb"(?:([0-9]{1,10})(?:\.([0-9]{1,9}))?\t)?([<>]) ((?:[0-9a-fA-F]{2})*)")
 
+# The other lines of a run of `x25 sim`: an entry of an end, a refusal, a line that was no event.
+ENTRY_LINE = re.compile(rb"(dte|dce) ([a-z][ -~]*)")
+REFUSAL_LINE = re.compile(rb"! [0-9]+|\? 60")
+
 
 class BadInput(Exception):
     """What was read isn't what the script reads; the text says where and why."""
