@@ -184,7 +184,7 @@ impl Deframer {
 
     /// Puts back what was held before a call: so many of the bits put aside, or else of those that are kept.
     fn restore(&mut self, scan: Scan, held: usize, aside: Option<Bits>)
-        requires few { held ≤ HELD }
+        requires few { held ≤ 32831 }
         requires there { held ≤ length (unwrap_or aside self.old.kept) }
         ensures scan { self.new.scan ≡ scan }
         ensures kept { self.new.kept ≡ take held (unwrap_or aside self.old.kept) }
@@ -203,9 +203,9 @@ impl Deframer {
 
 /// Keeps the bit, where it can be content and there are not too many.
 fn push_if(is_kept: bool, bit: bool, kept: &mut Bits) -> Result<(), NoMemory>
-    ensures fits { OnOk result ((all : List Bool) → kept.old ≡ take HELD all → kept.new ≡ take HELD (if is_kept then all ++ bit ∷ [] else all)) }
+    ensures fits { OnOk result ((all : List Bool) → kept.old ≡ take 32831 all → kept.new ≡ take 32831 (if is_kept then all ++ bit ∷ [] else all)) }
     ensures begins { Begins kept.old kept.new }
-    ensures few { length kept.old ≤ HELD → length kept.new ≤ HELD }
+    ensures few { length kept.old ≤ 32831 → length kept.new ≤ 32831 }
 {
     if !is_kept {
         return Ok(());
@@ -219,7 +219,7 @@ fn push_if(is_kept: bool, bit: bool, kept: &mut Bits) -> Result<(), NoMemory>
 
 /// What the span is whose unstuffed bits and the first six of a flag these are.
 fn span_in(kept: &Bits) -> Option<Span<'_>>
-    ensures { (all : List Bool) → kept.now ≡ take HELD all → listed_span result ≡ kept_found all }
+    ensures { (all : List Bool) → kept.now ≡ take 32831 all → listed_span result ≡ kept_found all }
 {
     if kept.len() <= 6 {
         return None;
