@@ -4,27 +4,12 @@
 //! read, a write or memory failed.
 #![tactic(auto)]
 
-mod answer;
-mod decode_lines;
-mod decoder;
-mod device;
-mod fault;
-mod frame_text;
-mod lines;
-mod packet_text;
-mod settings;
-mod text;
-mod vectors;
-
-use crate::decode_lines::decode_lines;
-use crate::device::Device;
-use crate::fault::Fault;
-use crate::settings::{SettingsError, Task, settings};
-use crate::vectors::vectors;
 use std::io::ErrorKind;
 use std::process::ExitCode;
 use std::rt::Env;
 use std::{env, io};
+use x25_program::{Device, Fault, decode_lines, vectors};
+use x25_settings::{SettingsError, Task, settings};
 
 /// The exit status of a usage fault.
 const USAGE: u8 = 2;

@@ -5,11 +5,13 @@
 
 mod error;
 mod frame;
+mod law;
 mod reading;
 mod spelling;
 
 pub use error::FrameError;
 pub use frame::Frame;
+pub use law::reads_what_is_spelled;
 pub use reading::decode;
 pub use spelling::encode;
 pub use x25_bits::{NoMemory, Role, Seq};

@@ -1,12 +1,12 @@
 -- The two lists of a backlog, the packets sent and those that wait, as one.
-use Rattle.std.proofs.Common.{◌≡◌, ℕ, ◌+◌, ◌-◌, ◌%◌, ◌<◌, ◌≤◌, List, [], ◌∷◌, ◌++◌, length, take, drop, slice_index_or, max, Bool, true, false, refl, sym, ap, ◌∙◌, arith, add-one}
-use Rattle.std.specs.Prelude.{nat_lt, ◌&&◌}
+use Rattle.std.proofs.Common.{◌≡◌, ℕ, ◌+◌, ◌%◌, ◌<◌, ◌≤◌, List, [], ◌∷◌, length, take, drop, slice_index_or, max, Bool, true, false, refl, sym, ap, ◌∙◌, arith}
+use Rattle.std.specs.Prelude.{nat_lt}
 use Rattle.std.proofs.lemmas.List.{length-take-le, take_more, drop_more, length-drop, get_or-take}
 use Rattle.std.proofs.lemmas.Bool.{lt-ltb, le-ltb, ltb-true, ltb-false, eq-eqb}
 use Rattle.std.proofs.lemmas.Bool.Decides.{nat_tests}
 use Rattle.x25_window.specs.Held.{Held, Fits}
-use Rattle.x25_window.specs.Sending.{Sending, offered, moved_on}
-use Rattle.x25_frame.specs.PlainFrame.{PlainFrame, info}
+use Rattle.x25_window.specs.Sending.{offered, moved_on}
+use Rattle.x25_frame.specs.PlainFrame.{info}
 use Rattle.x25_link.specs.declared.backlog.Backlog.{Backlog}
 use Rattle.x25_link.specs.Outgoing.{moved_on as sent_on}
 use Rattle.x25_link.specs.Outgoing.{Outgoing, is_open, next_packet}
@@ -38,7 +38,7 @@ pub again_fits : (k : ℕ) (b : Backlog) (h : Held (List ℕ)) (o : Outgoing) �
     → FitsBacklog k (record { sender = h; queue = b.queue }) (sent_on o)
 again_fits k b h o fits below sender =
     let same : max o.sent (o.place + 1) ≡ o.sent = omega arith in
-    record { sender = rw same sender; queue = rw same (fits.queue); sent = rw same (fits.sent) }
+    record { sender = rw same sender; queue = rw same (fits.queue); sent = rw same (fits.sent); few = fits.few }
 
 -- ---- all was sent: the place to send from is the number of the first packet that waits
 
@@ -50,7 +50,7 @@ all_sent k b o fits test =
     omega arith
 
 pub same_fits : (k : ℕ) (b : Backlog) (h : Held (List ℕ)) (o : Outgoing) → FitsBacklog k b o → Fits h (sending_of k o) → FitsBacklog k (record { sender = h; queue = b.queue }) o
-same_fits k b h o fits sender = record { sender = sender; queue = fits.queue; sent = fits.sent }
+same_fits k b h o fits sender = record { sender = sender; queue = fits.queue; sent = fits.sent; few = fits.few }
 
 pub full_closed : (k : ℕ) (o : Outgoing) → o.acked + k ≤ o.place → is_open k o ≡ false
 full_closed k o full = rw (le-ltb o.place (o.acked + k) full) refl
@@ -78,9 +78,9 @@ next_is k b o x rest fits queue =
     let split = drop_more o.given o.sent [] below in
     record { below = below; packet = cc; left = cc }
 
-pub new_fits : (k : ℕ) (b : Backlog) (h : Held (List ℕ)) (o : Outgoing) (x : List ℕ) (rest : List (List ℕ)) → FitsBacklog k b o → o.place ≡ o.sent → Next o x rest
+pub new_fits : (k : ℕ) (b : Backlog) (h : Held (List ℕ)) (o : Outgoing) (x : List ℕ) (rest : List (List ℕ)) → FitsBacklog k b o → o.place ≡ o.sent → Next o x rest → length rest ≤ 256
     → Fits h (offered (sending_of k o) x) → FitsBacklog k (record { sender = h; queue = rest }) (sent_on o)
-new_fits k b h o x rest fits place next sender =
+new_fits k b h o x rest fits place next few sender =
     let l = sent_length k b o fits in
     let same : max o.sent (o.place + 1) ≡ o.sent + 1 = omega arith in
     let sender' = rw (eq-eqb o.place (length (take o.sent o.given)) (place ∙ sym l)) at sender in
@@ -88,6 +88,7 @@ new_fits k b h o x rest fits place next sender =
       sender = rw (take_more o.given o.sent [] next.below, next.packet) sender';
       queue = next.left;
       sent = omega (arith, next.below);
+      few = few;
     })
 
 pub new_frame : (k : ℕ) (b : Backlog) (o : Outgoing) (x : List ℕ) (rest : List (List ℕ)) (nr : ℕ) → FitsBacklog k b o → o.place ≡ o.sent → Next o x rest

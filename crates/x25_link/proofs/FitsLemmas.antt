@@ -1,5 +1,5 @@
 -- What the code's variables stand for after a small change.
-use Rattle.std.proofs.Common.{◌≡◌, ℕ, ◌%◌, List, [], ◌∷◌, ◌++◌, length, map, Bool, true, false, None, if◌then◌else◌, refl, sym, ap, ◌∙◌, append_assoc, add-one, ◌+◌, ◌<◌, ◌==◌, zero, suc, arith}
+use Rattle.std.proofs.Common.{◌≡◌, ℕ, ◌%◌, List, [], ◌∷◌, ◌++◌, length, Bool, true, false, None, if◌then◌else◌, refl, sym, ap, ◌∙◌, append_assoc, add-one, ◌+◌, ◌<◌, ◌==◌, arith}
 use Rattle.std.proofs.lemmas.Bool.{eq-eqb, ne_eqb}
 use Rattle.std.proofs.lemmas.List.{length_push}
 use Rattle.x25_window.specs.Modulo.{resolved}

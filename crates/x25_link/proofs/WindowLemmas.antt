@@ -1,16 +1,12 @@
 -- What each small step of a station keeps: it is a run of the window machine.
-use Rattle.std.proofs.Common.{◌≡◌, ℕ, zero, suc, ◌+◌, ◌-◌, ◌%◌, ◌<◌, ◌≤◌, List, [], ◌∷◌, ◌++◌, ◌⊎◌, inl, inr, length, max, Bool, true, false, not, if◌then◌else◌, Option, Some, None, refl, sym, ap, ◌∙◌, subst, arith, append-nil, append_assoc}
-use Rattle.std.specs.Prelude.{◌&&◌, nat_lt, nat_le, option_to_list}
-use Rattle.std.proofs.lemmas.Bool.{leb-true, eqb-true}
-use Rattle.x25_frame.specs.PlainFrame.{PlainFrame, info, rr, rnr, rej, sabm, disc, ua, dm, frmr}
-use Rattle.x25_window.specs.Modulo.{resolved}
-use Rattle.x25_link.specs.Outgoing.{Outgoing, moved_on}
-use Rattle.x25_link.specs.Station.{Settings, Station, Side, is_up, is_busy, wanted, with_near, sends, ready, send_next, may_send, pumped_once, pumped, owes_ready, finished, ended}
-use Rattle.x25_link.specs.MustSend.{Step, quiet, leaves, is_valid, acknowledged, is_taken, takes, answers, rejects_gap, passes_over, hears_info, peer_is, goes_back, polls}
-use Rattle.x25_link.specs.WindowMachine.{Window, Move, gives, sends_packet, tells, hears, Kind, is_rr, is_rnr, is_rej, Input, Brings, Runs, rests, goes_on, May}
-use Rattle.x25_link.specs.WindowMachine.Move.{takes as takes_packet}
+use Rattle.std.proofs.Common.{◌≡◌, ℕ, zero, suc, List, Bool, true, false, not, if◌then◌else◌, refl, arith}
+use Rattle.x25_frame.specs.PlainFrame.{PlainFrame, rr, rnr, rej}
+use Rattle.x25_link.specs.Outgoing.{Outgoing}
+use Rattle.x25_link.specs.Station.{Side, is_up, is_busy, wanted, with_near, sends, ready, send_next, may_send, pumped, owes_ready, finished, ended}
+use Rattle.x25_link.specs.MustSend.{answers, passes_over, goes_back, polls}
+use Rattle.x25_link.specs.WindowMachine.{Window, sends_packet, tells, is_rr, is_rnr, is_rej, Input, Runs, goes_on}
 use Rattle.x25_link.specs.WindowLaw.{IsSound, window_in}
-use Rattle.x25_link.proofs.EndLemmas.{both_true, is_false, open_is}
+use Rattle.x25_link.proofs.EndLemmas.{open_is}
 
 -- by the values alone, so that a step that changes only flags keeps it by computation
 pub record KeptAt (k : ℕ) (input : Input) (from : Window) (is_on : Bool) (o : Outgoing) (taken : List (List ℕ)) (out : List PlainFrame) : Type 0 where
@@ -67,28 +63,6 @@ module _ (k : ℕ) (input : Input) (from : Window) where
 
   pub K-ended : (t : Side) → Kept t → Kept (ended k t)
   K-ended t h = K-finished (pumped 7 k t) (K-pumped 7 t h)
-
-  -- ---- what is received
-
-  pub K-acknowledged : (nr : ℕ) (t : Side) → is_valid nr t.near ≡ true → Brings (hears nr) input → Kept t → Kept (acknowledged nr t)
-  K-acknowledged nr t valid brings h =
-      let s = h.sound in
-      let within : resolved t.near.outgoing.acked nr ≤ t.near.outgoing.sent = leb-true _ _ valid in
-      record {
-        up = h.up;
-        sound = record { place_low = omega arith; place_high = omega arith; sent_high = s.sent_high; room = omega arith };
-        runs = subst (Runs k input from (window_in (acknowledged nr t).near.outgoing t.near.taken)) (append-nil t.out) (goes_on _ _ (hears nr) h.runs within brings);
-      }
-
-  pub K-takes : (ns : ℕ) (packet : List ℕ) (t : Side) → is_taken ns t.near ≡ true → Brings (takes_packet ns packet) input → Kept t → Kept (takes packet t)
-  K-takes ns packet t taken brings h =
-      let both = both_true _ _ taken in
-      let same : ns ≡ length t.near.taken % 8 = eqb-true _ _ both.1 in
-      record {
-        up = h.up;
-        sound = h.sound;
-        runs = subst (Runs k input from (window_in t.near.outgoing (t.near.taken ++ packet ∷ []))) (append-nil t.out) (goes_on _ _ (takes_packet ns packet) h.runs same brings);
-      }
 
   pub K-answers : (p : Bool) (t : Side) → Kept t → Kept (answers k p t)
   K-answers true t h = K-ready false true t h

@@ -14,3 +14,4 @@ pub record FitsBacklog (k : ℕ) (b : Backlog) (o : Outgoing) : Type 0 where
   pub sender : Fits b.sender (sending_of k o)
   pub queue : b.queue ≡ drop o.sent o.given
   pub sent : o.sent ≤ length o.given
+  pub few : length b.queue ≤ 256

@@ -5,6 +5,7 @@ use Rattle.x25_link.specs.declared.procedure.Procedure.{Procedure}
 use Rattle.x25_link.specs.declared.step.Step as code
 use Rattle.x25_link.specs.Lists.{Lists}
 use Rattle.x25_link.specs.Outbox.{ShownOutbox}
+use Rattle.x25_link.specs.Outgoing.{waits}
 use Rattle.x25_link.specs.Station.{Settings, Station, lists_of, is_up, may_send, owes_ready}
 use Rattle.x25_link.specs.MustSend.{Step}
 use Rattle.x25_link.specs.Steps.{put_step}
@@ -51,6 +52,12 @@ pub record FitsWhole (v : ShownLink) (x : LinkState) : Type 0 where
 
 abbrev pub lists_in : LinkState → Lists
 lists_in x = lists_of x.station
+
+abbrev pub waits_of : LinkState → ℕ
+waits_of x = waits x.station.outgoing
+
+abbrev pub up_at : LinkState → Bool
+up_at x = is_up x.station.phase
 
 -- the packet is handed down, and the frames that go are kept
 abbrev pub after_put_to : LinkState → List ℕ → LinkState

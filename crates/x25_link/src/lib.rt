@@ -23,7 +23,7 @@ mod step;
 mod tests;
 
 pub use error::LinkError;
-pub use law::follows_the_window;
+pub use law::{follows_the_window, holds_few, notes_what_changes, sets_up_by_rows};
 pub use link::Link;
 pub use ordered::OrderedLink;
 pub use phase::{Notes, Phase, Reason};

@@ -2,6 +2,7 @@ ghost use Rattle.std.specs.Prelude.{◌≡◌, ℕ, ◌+◌, ◌-◌, ◌<◌, �
 ghost use Rattle.x25_frame.specs.Spelling.{spelling_of};
 ghost use Rattle.x25_link.specs.Station.{Settings, Station, with_nothing};
 ghost use Rattle.x25_link.specs.Steps.{Refuses, config_refusal, take_step, put_refusal, put_step, connect_refusal, connect_step, disconnect_refusal, disconnect_step, timer_refusal, timer_step, abandon_step, is_idle};
+ghost use Rattle.x25_link.specs.LinkError.{RefusesPut};
 ghost use Rattle.x25_link.specs.Link.{FitsLink, IsAnswer, limit_of, up_of, waiting_of};
 ghost use Rattle.x25_link.specs.declared.phase.Phase.TheVariants.{Down};
 
@@ -190,7 +191,7 @@ impl Link {
     /// Hands a packet of at most `n1` octets down, and answers the frames to send, and before them those of earlier calls
     /// of `put` that `sent` didn't take.
     ///
-    /// 9 where the link isn't up, then 10 where 256 packets wait, then 70.
+    /// 9 where the link isn't up, then 10 where 256 packets wait, then 70, and that only where no memory is set aside.
     pub fn put_packet(&mut self, packet: Vec<u8>) -> Result<Step<'static>, LinkError>
         requires { vec_len packet ≤ limit_of self.old }
         ensures state { (c : Settings) (s : Station) → FitsLink c self.old s → OnOk result (FitsLink c self.new (put_step c packet.items s).side.near) }
@@ -199,6 +200,7 @@ impl Link {
         ensures packet { IfOk result (λ answer. answer.packet ≡ None) }
         ensures notes { IfOk result (λ answer. answer.notes ≡ record { down = None; up = false }) }
         ensures refused { (c : Settings) (s : Station) → FitsLink c self.old s → Refuses (put_refusal s) result }
+        ensures memory { IsErrOf result LinkError.NoMemory → self.old.outgoing.long ≡ 0 }
         ensures outgoing { OnOk result (self.new.outgoing ≡ record { made = []; long = 0; short = 0 }) }
         ensures err { OnErr result (self.new ≡ self.old) }
     {
@@ -239,6 +241,7 @@ impl Link {
         ensures refused { (c : Settings) (s : Station) → FitsLink c self.old s → Refuses (put_refusal s) result }
         ensures not_up { IsErrOf result LinkError.NotUp ↔ (up_of self.old ≡ false) }
         ensures full { IsErrOf result LinkError.QueueFull ↔ ((up_of self.old ≡ true) × (waiting_of self.old ≡ 256)) }
+        ensures kinds { IfErr result RefusesPut }
         ensures memory { IsErrOf result LinkError.NoMemory → self.old.outgoing.long ≡ 0 }
         ensures accepted { up_of self.old ≡ true → waiting_of self.old < 256 → 0 < self.old.outgoing.long → IsOk result }
         ensures up_stays { up_of self.new ≡ up_of self.old }
@@ -259,8 +262,8 @@ impl Link {
 }
 
 impl OrderedLink for Link {
-    ghost use Rattle.x25_link.specs.Link.{LinkState, FitsWhole, lists_in, after_put_to, limit_of, up_of, waiting_of};
-    ghost use Rattle.x25_link.specs.LinkLaws.{put_adds, acked_low};
+    ghost use Rattle.x25_link.specs.Link.{LinkState, FitsWhole, lists_in, waits_of, up_at, after_put_to, limit_of, up_of, waiting_of};
+    ghost use Rattle.x25_link.specs.LinkLaws.{put_adds, acked_low, link_waits, link_up, put_stays_up, link_few, link_close};
 
     ghost State = { LinkState };
 
@@ -268,11 +271,25 @@ impl OrderedLink for Link {
 
     ghost lists = { lists_in };
 
+    ghost waits_in = { waits_of };
+
+    ghost up_in = { up_at };
+
     ghost after_put = { after_put_to };
 
     ghost adds = { put_adds };
 
     ghost begins = { acked_low };
+
+    ghost waits_are = { link_waits };
+
+    ghost up_is = { link_up };
+
+    ghost stays_up = { put_stays_up };
+
+    ghost few_wait = { link_few };
+
+    ghost few_unacknowledged = { link_close };
 
     ghost longest = { limit_of };
 

@@ -51,7 +51,8 @@ impl PlainLink {
 
 impl OrderedLink for PlainLink {
     ghost use Rattle.x25_link.specs.Lists.{Lists, handed_down};
-    ghost use Rattle.x25_link.specs.Plain.{FitsPlain};
+    ghost use Rattle.x25_link.specs.Plain.{FitsPlain, unacknowledged};
+    ghost use Rattle.x25_link.specs.LinkLaws.{plain_waits, plain_few, plain_close};
     ghost use Rattle.std.specs.Prelude.{length, true, refl};
 
     ghost State = { Lists };
@@ -60,11 +61,25 @@ impl OrderedLink for PlainLink {
 
     ghost lists = { λ x. x };
 
+    ghost waits_in = { unacknowledged };
+
+    ghost up_in = { λ _. true };
+
     ghost after_put = { handed_down };
 
     ghost adds = { λ _ _. refl };
 
     ghost begins = { λ _ _ fits. fits.acked };
+
+    ghost waits_are = { plain_waits };
+
+    ghost up_is = { λ _ _ _. refl };
+
+    ghost stays_up = { λ _ _. refl };
+
+    ghost few_wait = { plain_few };
+
+    ghost few_unacknowledged = { plain_close };
 
     ghost longest = { λ _. 4099 };
 

@@ -5,7 +5,7 @@ use Rattle.x25_link.proofs.backlog.Backlog.ack.Goals as goal
 
 pub returns-in-Ok-clause-step : goal.returns-in-Ok-clause-step
 returns-in-Ok-clause-step c = λ k o fits.
-    record { sender = c.in-Ok.ensures.step (sending_of k o) fits.sender; queue = fits.queue; sent = fits.sent }
+    record { sender = c.in-Ok.ensures.step (sending_of k o) fits.sender; queue = fits.queue; sent = fits.sent; few = fits.few }
 
 pub returns-in-Ok-clause-number : goal.returns-in-Ok-clause-number
 returns-in-Ok-clause-number c = λ k o fits. c.in-Ok.ensures.resolves (sending_of k o) fits.sender

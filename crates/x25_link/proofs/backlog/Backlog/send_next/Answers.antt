@@ -1,7 +1,7 @@
-use Rattle.std.proofs.Common.{◌≡◌, ℕ, ◌+◌, ◌%◌, ◌<◌, ◌≤◌, List, [], ◌∷◌, ◌++◌, length, take, false, sym, ap, ◌∙◌, refl, arith}
+use Rattle.std.proofs.Common.{length, ℕ, ◌%◌, List, [], ◌∷◌, ◌++◌, false, sym, ap, ◌∙◌, refl, arith}
 use Rattle.x25_frame.specs.PlainFrame.{PlainFrame, info}
 use Rattle.x25_frame.specs.Spelling.{spelling_of}
-use Rattle.x25_link.specs.Outgoing.{Outgoing, next_packet}
+use Rattle.x25_link.specs.Outgoing.{next_packet}
 use Rattle.x25_link.specs.Backlog.{sending_of}
 use Rattle.x25_link.proofs.BacklogLemmas.{again_is, again_fits, all_sent, same_fits, full_closed, none_waits, empty_waits, next_is, new_fits, sent_length, new_frame, next_open, below_of}
 use Rattle.x25_link.proofs.backlog.Backlog.send_next.Goals as goal
@@ -43,7 +43,7 @@ returns-in_default-clause-sent c = λ k o fits.
 pub returns-in_default-clause-step : goal.returns-in_default-clause-step
 returns-in_default-clause-step c = λ k o fits.
     let same = same_fits k _ _ o fits (c.if-send_again.ensures.step (sending_of k o) fits.sender) in
-    record { sender = same.sender; queue = c.in_default.ensures.1 ∙ sym c.in_default.ensures.0 ∙ fits.queue; sent = fits.sent }
+    record { sender = same.sender; queue = c.in_default.ensures.1 ∙ sym c.in_default.ensures.0 ∙ fits.queue; sent = fits.sent; few = rw (c.in_default.ensures.1) (omega arith) }
 
 pub returns-in_default-clause-made : goal.returns-in_default-clause-made
 returns-in_default-clause-made c = λ k o fits. c.if-send_again.ensures.made (sending_of k o) fits.sender
@@ -63,7 +63,7 @@ returns-clause-step c = λ k o fits.
     let all = all_sent k _ o fits (c.if-send_again.ensures.sent (sending_of k o) fits.sender) in
     let next = next_is k _ o _ _ fits c.in-Some.ensures in
     let room = below_of _ _ sender.sound.room (c.if-is_full.ensures.state (sending_of k o) sender).1 in
-    new_fits k _ _ o _ _ fits all next (c.send_new.ensures.step (sending_of k o) sender room)
+    new_fits k _ _ o _ _ fits all next (omega (arith, fits.few, ap length c.in-Some.ensures)) (c.send_new.ensures.step (sending_of k o) sender room)
 
 pub returns-clause-made : goal.returns-clause-made
 returns-clause-made c = λ k o fits.

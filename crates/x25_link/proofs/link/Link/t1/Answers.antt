@@ -1,4 +1,4 @@
-use Rattle.std.proofs.Common.{[], sym, subst, refl, ◌∙◌}
+use Rattle.std.proofs.Common.{[], sym, subst, ◌∙◌}
 use Rattle.x25_link.specs.Link.{ShownLink, FitsLink}
 use Rattle.x25_link.specs.MustSend.{Step}
 use Rattle.x25_link.specs.Steps.{alone, fires}

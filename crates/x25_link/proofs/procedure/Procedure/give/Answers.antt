@@ -1,4 +1,4 @@
-use Rattle.std.proofs.Common.{◌≡◌, ◌≤◌, sym, ap, subst, arith}
+use Rattle.std.proofs.Common.{◌≤◌, sym, ap, subst, arith}
 use Rattle.x25_link.specs.Station.{Side}
 use Rattle.x25_link.specs.Fits.{FitsSide}
 use Rattle.x25_link.proofs.BacklogLemmas.{sent_length}

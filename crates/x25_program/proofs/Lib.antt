@@ -1,0 +1,5 @@
+pub mod KnownLemmas
+pub mod LineLemmas
+pub mod StreamLemmas
+pub mod HeldLemmas
+pub mod ReadLemmas

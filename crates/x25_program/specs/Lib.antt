@@ -1,0 +1,4 @@
+pub mod Lines
+pub mod Decoded
+pub mod Written
+pub mod Stream

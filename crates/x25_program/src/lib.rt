@@ -1,0 +1,16 @@
+//! What the program `x25` does, over any readers and writers: lines of a trace answered by lines of text, and the stored
+//! test vectors.
+#![tactic(auto)]
+
+mod answer;
+mod decoder;
+mod decoding;
+mod device;
+mod fault;
+mod lines;
+mod test_vectors;
+
+pub use decoding::decode_lines;
+pub use device::{Device, Failed, Sink, Source, write_all};
+pub use fault::Fault;
+pub use test_vectors::vectors;

@@ -1,0 +1,7 @@
+//! Tests of `x25_program`, over readers and writers in memory.
+#![tactic(auto)]
+
+#[cfg(test)]
+mod lines;
+#[cfg(test)]
+mod vectors;

@@ -1,0 +1,3 @@
+pub mod OctetText
+pub mod PacketText
+pub mod FrameText
