@@ -27,7 +27,7 @@ SITA = 196
 RECEIVED = 1
 NO_PROTOCOL, LAPB = 0, 1
 
-RUN_LINE = re.compile(rb"(dte|dce) [a-z].*|! [0-9]+|\? 60")
+RUN_LINE = re.compile(rb"(dte|dce) [a-z][ -~]*|! [0-9]+|\? 60")
 MILLISECOND = 10**6
 
 
