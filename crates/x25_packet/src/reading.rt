@@ -172,13 +172,13 @@ fn read<'a>(most: usize, octets: &'a [u8]) -> Result<Packet<'a>, PacketError>
 /// format identifier (21), the type on this channel (22), then the body from its front to its end: octets missing (20),
 /// digits (24), facilities (25 and 26), octets left over (23).
 pub fn decode<'a>(octets: &'a [u8]) -> Result<Packet<'a>, PacketError>
-    ensures exact { Gives result (packet_of CALL_OCTETS octets.now) }
+    ensures exact { Gives result (packet_of 16 octets.now) }
     // The first error, from the front.
-    ensures fault { IfErr result (IsFirstError CALL_OCTETS octets.now) }
+    ensures fault { IfErr result (IsFirstError 16 octets.now) }
     // What is read is spelled so.
-    ensures found { IfOk result (λ v. Spells CALL_OCTETS (plain v) octets.now) }
+    ensures found { IfOk result (λ v. Spells 16 (plain v) octets.now) }
     // What is spelled so is read.
-    ensures only { (v : PlainPacket) → Spells CALL_OCTETS v octets.now → IsOkAnd result (λ w. plain w ≡ v) }
+    ensures only { (v : PlainPacket) → Spells 16 v octets.now → IsOkAnd result (λ w. plain w ≡ v) }
 {
     read(CALL_OCTETS, octets)
 }

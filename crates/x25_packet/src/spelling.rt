@@ -8,7 +8,6 @@ ghost use Rattle.x25_packet.specs.Spelling.{IsInRange, accept_body, bit, body_of
 
 use crate::digits::Digits;
 use crate::packet::Packet;
-use crate::reading::CALL_OCTETS;
 use x25_bits::NoMemory;
 
 fn channel(packet: &Packet) -> u16
@@ -70,7 +69,7 @@ fn kind(packet: &Packet) -> u8
 /// How many octets follow the type of a CALL.
 fn call_len(called: &Digits, calling: &Digits, facilities: &[u8], user: &[u8]) -> usize
     requires field { length facilities.now ≤ 6 }
-    requires user { length user.now ≤ CALL_OCTETS }
+    requires user { length user.now ≤ 16 }
     ensures value { result ≡ length (call_body called.now calling.now facilities.now user.now) }
     ensures few { result ≤ 4096 }
 {
@@ -79,7 +78,7 @@ fn call_len(called: &Digits, calling: &Digits, facilities: &[u8], user: &[u8]) -
 
 /// How many octets follow the type.
 fn body_len(packet: &Packet) -> usize
-    requires { IsInRange CALL_OCTETS (plain packet.now) }
+    requires { IsInRange 16 (plain packet.now) }
     ensures value { result ≡ length (body_of (plain packet.now)) }
     ensures few { result ≤ 4096 }
 {
@@ -178,7 +177,7 @@ fn append_accept(facilities: &[u8], octets: &mut Vec<u8>)
 
 /// Appends what follows the type.
 fn append_body(packet: &Packet, octets: &mut Vec<u8>)
-    requires range { IsInRange CALL_OCTETS (plain packet.now) }
+    requires range { IsInRange 16 (plain packet.now) }
     requires room { vec_len octets.old + length (body_of (plain packet.now)) ≤ vec_capacity octets.old }
     ensures { octets.new.items ≡ octets.old.items ++ body_of (plain packet.now) }
 {
@@ -208,7 +207,7 @@ fn append_body(packet: &Packet, octets: &mut Vec<u8>)
 }
 
 fn append_packet(packet: &Packet, octets: &mut Vec<u8>) -> Result<(), NoMemory>
-    requires { IsInRange CALL_OCTETS (plain packet.now) }
+    requires { IsInRange 16 (plain packet.now) }
     ensures ok { OnOk result (octets.new.items ≡ octets.old.items ++ spelling_of (plain packet.now)) }
     ensures err { OnErr result (VecUnchanged octets.old octets.new) }
     ensures room { vec_len octets.old + length (spelling_of (plain packet.now)) ≤ vec_capacity octets.old → IsOk result }
@@ -227,10 +226,10 @@ fn append_packet(packet: &Packet, octets: &mut Vec<u8>) -> Result<(), NoMemory>
 /// capacity has room for the octets; else it is refused with `NoMemory` (70) where there is none. ITU-T X.25 (10/96),
 /// section 5.
 pub fn encode(packet: &Packet, octets: &mut Vec<u8>) -> Result<(), NoMemory>
-    requires { IsInRange CALL_OCTETS (plain packet.now) }
+    requires { IsInRange 16 (plain packet.now) }
     ensures ok { OnOk result (octets.new.items ≡ octets.old.items ++ spelling_of (plain packet.now)) }
     // What is appended reads as the packet.
-    ensures again { OnOk result (packet_of CALL_OCTETS (drop (length octets.old.items) octets.new.items) ≡ Ok (plain packet.now)) }
+    ensures again { OnOk result (packet_of 16 (drop (length octets.old.items) octets.new.items) ≡ Ok (plain packet.now)) }
     ensures err { OnErr result (VecUnchanged octets.old octets.new) }
     ensures room { vec_len octets.old + length (spelling_of (plain packet.now)) ≤ vec_capacity octets.old → IsOk result }
 {

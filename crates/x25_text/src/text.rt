@@ -1,5 +1,5 @@
 //! A text that waits to be written.
-ghost use Rattle.std.specs.Prelude.{◌≡◌, ◌↔◌, ◌+◌, ◌*◌, ◌≤◌, ◌<◌, ◌++◌, [], ℕ, List, IfOk, IsTrue, length, decimal, vec_capacity};
+ghost use Rattle.std.specs.Prelude.{◌≡◌, ◌↔◌, ◌+◌, ◌*◌, ◌≤◌, ◌<◌, ◌++◌, [], ℕ, List, IfOk, IsTrue, length, take, decimal};
 ghost use Rattle.std.specs.List.{flat_map};
 ghost use Rattle.x25_frame.specs.Spelling.{bit};
 ghost use Rattle.x25_text.specs.OctetText.{octet_text, octets_text};
@@ -16,18 +16,30 @@ pub const ROOM: usize = 65_536;
 /// The most octets of a frame: with 4,099 octets of information, address, control and frame check sequence.
 pub const MOST_OCTETS: usize = 4_103;
 
-/// Characters, with room for `ROOM` of them set aside: no call but `new` takes memory.
+/// Characters, at the front of a buffer of `ROOM` of them: no call but `new` takes memory.
 #[derive(Drop)]
 pub struct Text {
-    characters: Vec<u8>,
+    buffer: Vec<u8>,
+    count: usize,
 }
 
 impl Model for Text {
     ghost Value = { List ℕ };
 
-    ghost view = { λ text. text.characters.items };
+    ghost view = { λ text. take text.count text.buffer.items };
 
-    ghost invariant = { λ text. ROOM ≤ vec_capacity text.characters };
+    ghost invariant = { λ text. (length text.buffer.items ≡ ROOM) × (text.count ≤ ROOM) };
+}
+
+/// Writes the octets as hexadecimal digits from a place on.
+#[inline]
+fn write_hexadecimal(octets: &[u8], buffer: &mut [u8], from: usize)
+    requires few { length octets.now ≤ MOST_OCTETS }
+    requires room { from + 2 * length octets.now ≤ length buffer.old }
+    ensures text { take (from + 2 * length octets.now) buffer.new ≡ take from buffer.old ++ flat_map octet_text octets.now }
+    ensures size { length buffer.new ≡ length buffer.old }
+{
+    let _ = hex::encode_to_slice(octets, &mut buffer[from..from + 2 * octets.len()]);
 }
 
 impl Text {
@@ -35,42 +47,45 @@ impl Text {
     pub fn new(alloc: Global) -> Result<Text, AllocError>
         ensures { IfOk result (λ text. text ≡ []) }
     {
-        let characters = Vec::with_capacity(alloc, ROOM)?;
-        Ok(Text { characters })
+        let buffer = vec![in alloc; 0u8; ROOM]?;
+        Ok(Text { buffer, count: 0 })
     }
 
     pub fn as_slice(&self) -> &[u8]
         ensures { result.now ≡ self.now }
     {
-        self.characters.as_slice()
+        &self.buffer[..self.count]
     }
 
     pub fn len(&self) -> usize
         ensures { result ≡ length self.now }
     {
-        self.characters.len()
+        self.count
     }
 
     pub fn is_empty(&self) -> bool
         ensures { IsTrue result ↔ (length self.now ≡ 0) }
     {
-        self.characters.is_empty()
+        self.count == 0
     }
 
     /// Forgets all characters.
     pub fn clear(&mut self)
         ensures { self.new ≡ [] }
     {
-        self.characters.clear();
+        self.count = 0;
     }
 
     /// Appends the characters.
+    #[inline]
     pub fn push(&mut self, characters: &[u8])
         requires room { length self.old + length characters.now ≤ ROOM }
         ensures text { self.new ≡ self.old ++ characters.now }
         ensures size { length self.new ≡ length self.old + length characters.now }
     {
-        let _ = self.characters.extend_from_slice(characters);
+        let end = self.count + characters.len();
+        self.buffer[self.count..end].copy_from_slice(characters);
+        self.count = end;
     }
 
     /// Appends a number of one digit.
@@ -121,10 +136,8 @@ impl Text {
         ensures text { self.new ≡ self.old ++ flat_map octet_text octets.now }
         ensures size { length self.new ≡ length self.old + 2 * length octets.now }
     {
-        let mut digits = [0u8; 2 * MOST_OCTETS];
-        let digits = &mut digits[..2 * octets.len()];
-        let _ = hex::encode_to_slice(octets, digits);
-        self.push(digits);
+        write_hexadecimal(octets, self.buffer.as_mut_slice(), self.count);
+        self.count += 2 * octets.len();
     }
 
     /// Appends the octets as hexadecimal digits, `-` where there are none.
