@@ -30,7 +30,7 @@ golden: build/x25
 	python3 tests/golden.py --program build/x25
 
 check-tools:
-	python3 -m unittest discover --start-directory tests/tools
+	python3 tests/check_tools.py
 
 wrong-bodies: kit
 	.ci/wrong_bodies $(CRATE)

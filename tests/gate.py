@@ -10,12 +10,11 @@ import os
 import re
 import subprocess
 import sys
-import unittest
 
+import check_tools
 import golden
 from program import ROOT
 
-TOOL_TESTS = os.path.join(ROOT, "tests", "tools")
 CLOSING = re.compile(r"(\d+) passed, (\d+) failed\n?")
 # What `rt ci` leaves: LLVM's build, and that of Rattle's own compiler where that compiles the program.
 BUILD, SECOND_BUILD = "crates/x25/out/x25", "crates/x25/out/x25.by-rattle"
@@ -23,7 +22,7 @@ BUILD, SECOND_BUILD = "crates/x25/out/x25", "crates/x25/out/x25.by-rattle"
 
 def quick():
     """Runs the tests of the tools that need no program, before all else; answers whether they pass."""
-    command = [sys.executable, "-m", "unittest", "discover", "--start-directory", TOOL_TESTS]
+    command = [sys.executable, os.path.join(ROOT, "tests", "check_tools.py")]
     return subprocess.run(command, cwd=ROOT, env={**os.environ, "X25": ""}).returncode == 0
 
 
@@ -57,12 +56,9 @@ def golden_cases():
 
 
 def tools():
-    """Runs the tests of the tools on the program that `rt ci` built; one that is left out counts as neither."""
+    """Runs the tests of the tools, those that need a program on the one that `rt ci` built."""
     os.environ["X25"] = os.path.join(ROOT, BUILD)
-    tests = unittest.defaultTestLoader.discover(TOOL_TESTS)
-    result = unittest.TextTestRunner(stream=sys.stdout, verbosity=1).run(tests)
-    failed = len(result.failures) + len(result.errors) + len(result.unexpectedSuccesses)
-    return result.testsRun - failed - len(result.skipped), failed
+    return check_tools.run()
 
 
 def main():

@@ -11,6 +11,7 @@ import subprocess
 import sys
 import unittest
 
+import samples
 import support
 from support import ToolCase
 
@@ -97,6 +98,11 @@ def given_by_tshark(capture):
         yield found
 
 
+def x25_fields(found):
+    """Those of the fields found that are the packet's, without how it is carried."""
+    return {name: it for name, it in found.items() if name.startswith("x25.")}
+
+
 @unittest.skipUnless(shutil.which("tshark"), "tshark isn't installed")
 class Tshark(ToolCase):
     def check(self, trace, texts, least):
@@ -122,6 +128,21 @@ class Tshark(ToolCase):
 
     def test_vectors(self):
         self.golden("vectors_as_a_trace", 11)
+
+    def test_packets_over_tcp(self):
+        """In a capture of XOT tshark finds the packets that it finds in the frames which pcap2x25.py makes of it."""
+        packets = [bytes.fromhex(it) for it in ("10010b43123456700041", "10010f", "1001b048656c6c6f", "100141", "10012300", "10011b0000", "1001130000")]
+        sequence, records = {True: 1, False: 1}, []
+        for number, packet in enumerate(packets):
+            to_server, octets = number % 2 == 0, samples.xot(packet)
+            records.append((number, 0, samples.ethernet(samples.ipv4(to_server, samples.tcp(to_server, sequence[to_server], octets)))))
+            sequence[to_server] += len(octets)
+        captured = self.file("xot.pcap", samples.pcap(records, link_type=1))
+        framed = os.path.join(self.folder, "framed.pcapng")
+        support.run("x25pcap.py", "-o", framed, given=support.run("pcap2x25.py", captured).stdout)
+        there, here = ([x25_fields(row) for row in given_by_tshark(capture)] for capture in (captured, framed))
+        self.assertEqual(there, here)
+        self.assertEqual([row["x25.type"] for row in here], [0x0B, 0x0F, 0x00, 0x01, 0x23, 0x1B, 0x13])
 
     @support.needs_program
     def test_the_example(self):
