@@ -1,9 +1,9 @@
 #!/usr/bin/env python3
 """The whole gate: `rt ci`, then the golden cases on the programs that it left, then the tests of the tools.
 
-Run at the root of the repository. The line 'N passed, M failed' of `rt ci` is held back, and the last line is one such line
-that counts all three: proofs and must-fail edits, a golden case for each build of the program, a test of the tools.
-Exit status: 0 nothing failed, 1 something did.
+The tests of the tools that need no program run before, too: they take seconds, and where one fails nothing else is begun. The
+line 'N passed, M failed' of `rt ci` is held back, and the last line is one such line that counts all three: proofs and must-fail
+edits, a golden case for each build of the program, a test of the tools. Exit status: 0 nothing failed, 1 something did.
 """
 
 import os
@@ -15,9 +15,16 @@ import unittest
 import golden
 from program import ROOT
 
+TOOL_TESTS = os.path.join(ROOT, "tests", "tools")
 CLOSING = re.compile(r"(\d+) passed, (\d+) failed\n?")
-# What the two compilers leave: LLVM's build, and Rattle's own.
-BUILDS = ["crates/x25/out/x25", "crates/x25/out/x25.by-rattle"]
+# What `rt ci` leaves: LLVM's build, and that of Rattle's own compiler where that compiles the program.
+BUILD, SECOND_BUILD = "crates/x25/out/x25", "crates/x25/out/x25.by-rattle"
+
+
+def quick():
+    """Runs the tests of the tools that need no program, before all else; answers whether they pass."""
+    command = [sys.executable, "-m", "unittest", "discover", "--start-directory", TOOL_TESTS]
+    return subprocess.run(command, cwd=ROOT, env={**os.environ, "X25": ""}).returncode == 0
 
 
 def proofs():
@@ -35,30 +42,33 @@ def proofs():
 
 
 def golden_cases():
-    """Runs the golden cases on each build of the program; a build that isn't there has failed."""
+    """Runs the golden cases on each build of the program; without the first they have failed."""
     passed = failed = 0
-    for build in BUILDS:
+    for build in (BUILD, SECOND_BUILD):
         program = os.path.join(ROOT, build)
-        if not os.path.isfile(program):
+        if os.path.isfile(program):
+            agreeing, differing = golden.run(program, golden.names())
+            print(f"golden cases on {build}: {agreeing} agree, {differing} differ")
+            passed, failed = passed + agreeing, failed + differing
+        else:
             print(f"golden cases: {build} isn't there")
-            failed += 1
-            continue
-        agreeing, differing = golden.run(program, golden.names())
-        print(f"golden cases on {build}: {agreeing} agree, {differing} differ")
-        passed, failed = passed + agreeing, failed + differing
+            failed += build == BUILD
     return passed, failed
 
 
 def tools():
     """Runs the tests of the tools on the program that `rt ci` built; one that is left out counts as neither."""
-    os.environ["X25"] = os.path.join(ROOT, BUILDS[0])
-    tests = unittest.defaultTestLoader.discover(os.path.join(ROOT, "tests", "tools"))
+    os.environ["X25"] = os.path.join(ROOT, BUILD)
+    tests = unittest.defaultTestLoader.discover(TOOL_TESTS)
     result = unittest.TextTestRunner(stream=sys.stdout, verbosity=1).run(tests)
     failed = len(result.failures) + len(result.errors) + len(result.unexpectedSuccesses)
     return result.testsRun - failed - len(result.skipped), failed
 
 
 def main():
+    if not quick():
+        print("0 passed, 1 failed")
+        return 1
     counts = [proofs(), golden_cases(), tools()]
     passed, failed = (sum(column) for column in zip(*counts))
     print(f"{passed} passed, {failed} failed")

@@ -20,7 +20,6 @@ import itertools
 import os
 import re
 import shutil
-import subprocess
 import sys
 
 import drawing
@@ -34,9 +33,7 @@ BUILT = os.path.join(os.path.dirname(os.path.dirname(os.path.abspath(__file__)))
 AT_ONCE = 4096
 LEAST_WIDTH, MOST_WIDTH = 40, 400
 
-TEXT_LINE = re.compile(r"(?:([0-9.]{1,30})\t)?([<>]) ((?:I|RR|RNR|REJ|SABM|DISC|UA|DM|FRMR|fault) [ -~]*)")
-ENTRY_LINE = re.compile(r"(dte|dce) ([a-z][ -~]*)")
-NOTE_LINE = re.compile(r"! [0-9]+|\? 60")
+TEXT_LINE = re.compile(rb"(?:([0-9.]{1,30})\t)?([<>]) ((?:I|RR|RNR|REJ|SABM|DISC|UA|DM|FRMR|fault) [ -~]*)")
 
 
 class Decoder:
@@ -78,13 +75,12 @@ def reading(number, line):
     frame = x25lines.frame_line(line)
     if frame is not None:
         return frame
-    text = line.decode("ascii", "replace")
-    if found := TEXT_LINE.fullmatch(text):
-        return Frame(found[2], found[3], None, found[1] or "")
-    if found := ENTRY_LINE.fullmatch(text):
-        return Entry(found[1], found[2])
-    if NOTE_LINE.fullmatch(text):
-        return Note(text)
+    if found := TEXT_LINE.fullmatch(line):
+        return Frame(found[2].decode(), found[3].decode(), None, (found[1] or b"").decode())
+    if found := x25lines.ENTRY_LINE.fullmatch(line):
+        return Entry(found[1].decode(), found[2].decode())
+    if x25lines.REFUSAL_LINE.fullmatch(line):
+        return Note(line.decode())
     raise BadInput(f"line {number} is no line of decode, of a trace or of a run: {x25lines.shown(line)}")
 
 

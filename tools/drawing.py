@@ -9,8 +9,6 @@ from xml.sax.saxutils import escape
 # What may have become of a frame, beside being delivered as it was sent.
 LOST, DAMAGED, WAITING = "lost", "damaged", "on the line"
 
-ENDS = {"dte": "DTE", "dce": "DCE"}
-
 
 class Frame(NamedTuple):
     """A frame put on the line: `>` or `<`, its text, what became of it (None: it was delivered), the time or nothing."""

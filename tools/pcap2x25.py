@@ -52,13 +52,9 @@ class Converter:
         time = 0
         for record in records:
             time = record.time or 0
-            for direction, octets in self._frames(record):
-                yield self._line(direction, octets, time)
+            yield from (FrameLine(*frame, time) for frame in self._frames(record))
         for direction, packet in self._xot.end():
-            yield from (self._line(*frame, time) for frame in self._framed(direction, packet))
-
-    def _line(self, direction, octets, time):
-        return FrameLine(OTHER[direction] if self._options.swap else direction, octets, time)
+            yield from (FrameLine(*frame, time) for frame in self._framed(direction, packet))
 
     def _frames(self, record):
         """Yields direction and octets, with the frame check sequence, of the frames of a record."""
@@ -111,13 +107,15 @@ class Converter:
         elif len(octets) > x25lines.MOST_OCTETS:
             self.notes["frame that is longer than a line may be"] += 1
         else:
-            yield ">" if is_sent else "<", octets
+            yield ">" if is_sent != self._options.swap else "<", octets
 
     def _framed(self, direction, packet):
         """Puts an X.25 packet into the next I frame of its direction."""
         if len(packet) > x25lines.MOST_INFORMATION:
             self.notes["packet that is longer than a frame may be"] += 1
             return
+        if self._options.swap:
+            direction = OTHER[direction]
         ns, nr = self._sent[direction] % 8, self._sent[OTHER[direction]] % 8
         self._sent[direction] += 1
         octets = bytes([ADDRESS[direction], nr << 5 | ns << 1]) + packet

@@ -4,6 +4,7 @@ A line is `> HEX` (from the DTE to the DCE) or `< HEX` (from the DCE to the DTE)
 sequence. A timed line has the time in seconds and a tab before that. docs/FORMATS.md describes both.
 """
 
+import binascii
 import os
 import re
 import sys
@@ -16,32 +17,28 @@ MOST_INFORMATION = MOST_OCTETS - 4
 MOST_CHARACTERS = 131_264
 NANOSECONDS = 10**9
 
-FRAME_LINE = re.compile(rb"(?:([0-9]{1,15})(?:\.([0-9]{1,9}))?\t)?([<>]) ((?:[0-9a-fA-F]{2})*)")
+FRAME_LINE = re.compile(rb"(?:([0-9]{1,10})(?:\.([0-9]{1,9}))?\t)?([<>]) ((?:[0-9a-fA-F]{2})*)")
+
+# The other lines of a run of `x25 sim`: an entry of an end, a refusal, a line that was no event.
+ENTRY_LINE = re.compile(rb"(dte|dce) ([a-z][ -~]*)")
+REFUSAL_LINE = re.compile(rb"! [0-9]+|\? 60")
 
 
 class BadInput(Exception):
     """What was read isn't what the script reads; the text says where and why."""
 
 
-def _fcs_table():
-    table = []
-    for octet in range(256):
-        register = octet
-        for _ in range(8):
-            register = register >> 1 ^ 0x8408 if register & 1 else register >> 1
-        table.append(register)
-    return tuple(table)
-
-
-_TABLE = _fcs_table()
+# Each octet with its bits in the other order.
+_REVERSED = bytes(int(f"{octet:08b}"[::-1], 2) for octet in range(256))
 
 
 def fcs(octets):
-    """The frame check sequence of some octets (X.25 section 2.2.7), two octets, the low one first."""
-    register = 0xFFFF
-    for octet in octets:
-        register = register >> 8 ^ _TABLE[(register ^ octet) & 0xFF]
-    return (register ^ 0xFFFF).to_bytes(2, "little")
+    """The frame check sequence of some octets (X.25 section 2.2.7), two octets, the low one first.
+
+    The division by x^16 + x^12 + x^5 + 1 is `crc_hqx`'s; that takes the high bit of an octet first, and a line the low one.
+    """
+    remainder = binascii.crc_hqx(octets.translate(_REVERSED), 0xFFFF) ^ 0xFFFF
+    return remainder.to_bytes(2, "big").translate(_REVERSED)
 
 
 def is_sealed(octets):

@@ -15,7 +15,6 @@ Exit status: 0, or 2 for bad words or bad input.
 """
 
 import argparse
-import re
 import sys
 
 import captures
@@ -27,7 +26,6 @@ SITA = 196
 RECEIVED = 1
 NO_PROTOCOL, LAPB = 0, 1
 
-RUN_LINE = re.compile(rb"(dte|dce) [a-z][ -~]*|! [0-9]+|\? 60")
 MILLISECOND = 10**6
 
 
@@ -50,7 +48,7 @@ def convert(file, out):
             time = number * MILLISECOND if frame.time is None else frame.time
             octets, flags = packet(frame)
             writer.packet(octets, time, flags)
-        elif not RUN_LINE.fullmatch(line):
+        elif not (x25lines.ENTRY_LINE.fullmatch(line) or x25lines.REFUSAL_LINE.fullmatch(line)):
             raise BadInput(f"line {number} is no line of a trace or a run: {x25lines.shown(line)}")
 
 

@@ -24,6 +24,16 @@ MOST_SEGMENTS, MOST_STREAMS = 256, 4096
 SEQUENCES = 1 << 32
 
 
+class Payload(NamedTuple):
+    """What a packet of IP carries: the protocol, the two addresses, its octets, and its length, of which some octets may not be captured."""
+
+    protocol: int
+    source: bytes
+    target: bytes
+    octets: bytes
+    length: int
+
+
 class Segment(NamedTuple):
     """A segment of TCP: its ends (address and port), where its octets stand in the stream, its flags, its octets."""
 
@@ -60,18 +70,18 @@ IP_OF = {
 
 
 def _of_ipv4(octets):
-    """Protocol, source, target, payload and its length of a packet of IPv4, or None where it is none, or a fragment."""
+    """The payload of a packet of IPv4, or None where it is none, or a fragment."""
     if len(octets) < 20:
         return None
     header, total = 4 * (octets[0] & 0xF), int.from_bytes(octets[2:4], "big")
     fragment = int.from_bytes(octets[6:8], "big") & 0x3FFF
     if header < 20 or total < header or fragment:
         return None
-    return octets[9], octets[12:16], octets[16:20], octets[header:total], total - header
+    return Payload(octets[9], octets[12:16], octets[16:20], octets[header:total], total - header)
 
 
 def _of_ipv6(octets):
-    """As `_of_ipv4`, of IPv6; extension headers are passed over."""
+    """The payload of a packet of IPv6 behind its extension headers, or None where it is none."""
     if len(octets) < 40:
         return None
     protocol, length = octets[6], int.from_bytes(octets[4:6], "big")
@@ -81,22 +91,22 @@ def _of_ipv6(octets):
             break
         protocol, header = payload[0], 8 * (payload[1] + 1)
         payload, length = payload[header:], length - header
-    return protocol, source, target, payload, length
+    return Payload(protocol, source, target, payload, length)
 
 
 def segment(octets):
     """The segment of TCP in a packet of IP, or None where it holds none; and how many of its octets weren't captured."""
-    version = octets[0] >> 4 if octets else 0
-    found = {4: _of_ipv4, 6: _of_ipv6}.get(version, lambda _: None)(octets)
-    if found is None or found[0] != TCP or len(found[3]) < 20:
+    read = {4: _of_ipv4, 6: _of_ipv6}.get(octets[0] >> 4 if octets else None)
+    payload = read(octets) if read else None
+    if payload is None or payload.protocol != TCP or len(payload.octets) < 20:
         return None, 0
-    _, source, target, tcp, length = found
+    tcp = payload.octets
     source_port, target_port, sequence = struct.unpack_from(">HHI", tcp)
     header = 4 * (tcp[12] >> 4)
-    if not 20 <= header <= length:
+    if not 20 <= header <= payload.length:
         return None, 0
-    ends = (source, source_port), (target, target_port)
-    return Segment(*ends, sequence, tcp[13], tcp[header:]), length - max(len(tcp), header)
+    ends = (payload.source, source_port), (payload.target, target_port)
+    return Segment(*ends, sequence, tcp[13], tcp[header:]), payload.length - max(len(tcp), header)
 
 
 class Stream:

@@ -57,7 +57,7 @@ class RoundTrip(ToolCase):
         self.assertEqual(support.decode(back.stdout), support.decode(given))
 
     def test_times_come_back(self):
-        timed = b"1700000000.000000001\t> 013febdf\n1700000001.500000000\t< 01738357\n"
+        timed = b"1700000000.000000001\t> 013febdf\n9999999999.999999999\t< 01738357\n"
         back = support.run("pcap2x25.py", "--time", given=support.run("x25pcap.py", given=timed).stdout)
         self.assertEqual(back.stdout, timed)
 
@@ -200,6 +200,11 @@ class XotStreams(unittest.TestCase):
         self.assertEqual(lines(file), ("", {}))
         self.assertEqual(lines(file, port=2000)[0].count("\n"), 1)
 
+    def test_swap_makes_frames_of_the_other_end(self):
+        text, _ = self.read([(True, 1, self.accept)], swap=True)
+        frame = x25lines.frame_line(text.strip().encode())
+        self.assertEqual((frame.direction, frame.octets[:-2]), ("<", b"\x03\x00" + ACCEPT))
+
     def test_what_is_no_xot_is_passed_over(self):
         arp, fragment = samples.ethernet(bytes(28), 0x0806), samples.ethernet(samples.ipv4(True, samples.tcp(True, 1, self.call), fragment=5))
         self.assertEqual(lines(samples.pcap([(0, 0, arp), (0, 0, fragment), (0, 0, b"\x00")], link_type=1)), ("", {}))
@@ -295,7 +300,7 @@ class Hostile(ToolCase):
             self.assert_refused(support.run(script, self.folder), "Is a directory")
 
     def test_lines_that_are_none(self):
-        for line in (b"x", b"> 0", b"> 013febdf\r", b"", b">013febdf", b"> " + b"00" * 4104, b"1.5 > 013febdf", b"\xff\xfe\x00"):
+        for line in (b"x", b"> 0", b"> 013febdf\r", b"", b">013febdf", b"> " + b"00" * 4104, b"1.5 > 013febdf", b"99999999999\t> 013febdf", b"\xff\xfe\x00"):
             with self.subTest(line[:20]):
                 self.assert_refused(support.run("x25pcap.py", given=SET_UP + line + b"\n"), "line 3 is no line of a trace")
 

@@ -50,6 +50,18 @@ class Documents(unittest.TestCase):
         for document in DOCUMENTS:
             self.assertTrue(examples(document), document)
 
+    def test_what_excludes_a_bug_is_proved(self):
+        """Each function and clause that the manual names as excluding a bug stands in the document of the proofs, or is a wrong body."""
+        section = support.read("docs/MANUAL.md").decode().split("### Excluded by what is proved")[1].split("###")[0]
+        proofs = set(re.findall(r"\w+", " ".join(re.findall("`([^`]*)`", support.read("docs/PROOFS.md").decode()))))
+        wrong_bodies = {os.path.splitext(name)[0] for _, _, names in os.walk(os.path.join(support.ROOT, "crates")) for name in names if name.endswith(".edit")}
+        for row in section.splitlines()[4:]:
+            reason = row.split(" | ")[2] if row.count(" | ") == 2 else ""
+            with self.subTest(row):
+                self.assertTrue(re.findall("`([^`]*)`", reason) or not row)
+                names = {name for code in re.findall("`([^`]*)`", reason) for name in re.findall(r"\w+", code)}
+                self.assertEqual(names - proofs - wrong_bodies, set())
+
     def test_each_script_stands_in_the_manual(self):
         manual = support.read("docs/MANUAL.md").decode()
         scripts = [name for name in os.listdir(support.TOOLS) if os.access(os.path.join(support.TOOLS, name), os.X_OK) and name.endswith(".py")]
