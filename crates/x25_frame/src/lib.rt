@@ -11,7 +11,7 @@ mod spelling;
 
 pub use error::FrameError;
 pub use frame::Frame;
-pub use law::reads_what_is_spelled;
+pub use law::{reading_is_the_grammar, reads_what_is_spelled};
 pub use reading::decode;
 pub use spelling::encode;
 pub use x25_bits::{NoMemory, Role, Seq};

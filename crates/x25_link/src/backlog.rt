@@ -13,7 +13,6 @@ use crate::outbox::Outbox;
 use crate::queue::Queue;
 use std::alloc::Global;
 use x25_bits::{Role, Seq};
-use x25_frame::Frame;
 use x25_window::{Sender, WindowError};
 
 /// The packets handed down that aren't acknowledged: those that were sent, and behind them those that wait.
@@ -139,16 +138,7 @@ fn send_again(sender: &mut Sender<Octets>, from: Role, nr: Seq, out: &mut Outbox
     let Some((ns, packet)) = sender.next() else {
         return false;
     };
-    let info = packet.as_slice();
-    out.send_long(
-        from,
-        &Frame::I {
-            ns,
-            nr,
-            p: false,
-            info,
-        },
-    );
+    out.send_packet(from, ns, nr, packet.as_slice());
     true
 }
 
@@ -161,16 +151,6 @@ fn send_new(sender: &mut Sender<Octets>, packet: Octets, from: Role, nr: Seq, ou
     ensures long { out.old.long ≡ out.new.long + 1 }
     ensures short { out.new.short ≡ out.old.short }
 {
-    let ns = sender.top();
-    let info = packet.as_slice();
-    out.send_long(
-        from,
-        &Frame::I {
-            ns,
-            nr,
-            p: false,
-            info,
-        },
-    );
+    out.send_packet(from, sender.top(), nr, packet.as_slice());
     let _ = sender.offer(packet);
 }

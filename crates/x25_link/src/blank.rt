@@ -11,21 +11,25 @@ struct Blank<const ROOM: usize> {
     ghost room: { ROOM ≤ vec_capacity octets },
 }
 
-/// Memory for frames of at most ROOM octets each. Contracts see for how many.
+/// Memory for frames of at most ROOM octets each. Contracts see for how many frames it is promised.
+///
+/// A frame gets memory of its own length while there is some, so blanks are taken only where memory is refused. Those that
+/// aren't taken stay for later promises.
 #[derive(Drop)]
 pub struct Blanks<const ROOM: usize> {
     blanks: Vec<Blank<ROOM>>,
+    promised: usize,
     alloc: Global,
 }
 
 impl<const ROOM: usize> Model for Blanks<ROOM> {
-    ghost use Rattle.std.specs.Prelude.{ℕ, vec_len};
+    ghost use Rattle.std.specs.Prelude.{ℕ, ◌≤◌, vec_len};
 
     ghost Value = { ℕ };
 
-    ghost view = { λ b. vec_len b.blanks };
+    ghost view = { λ b. b.promised };
 
-    ghost invariant = { λ _. Unit {0} };
+    ghost invariant = { λ b. b.promised ≤ vec_len b.blanks };
 }
 
 impl<const ROOM: usize> Blanks<ROOM> {
@@ -34,58 +38,50 @@ impl<const ROOM: usize> Blanks<ROOM> {
     {
         Blanks {
             blanks: Vec::new(alloc),
+            promised: 0,
             alloc,
         }
     }
 
-    pub fn len(&self) -> usize
+    pub fn promised(&self) -> usize
         ensures { result ≡ self.now }
     {
-        self.blanks.len()
+        self.promised
     }
 
-    /// Sets memory aside until there is some for so many frames, or none at all.
+    /// Promises memory for at least so many frames.
     pub fn reserve(&mut self, count: usize) -> Result<(), AllocError>
         ensures ok { OnOk result (self.new ≡ max self.old count) }
         ensures missing { OnErr result (self.old < count) }
         ensures err { OnErr result (self.new ≡ self.old) }
     {
-        let before = self.blanks.len();
-        let added = self.fill(count);
-        if added.is_err() {
-            self.truncate(before);
-        }
-        added
-    }
-
-    // Sets memory aside until there is some for so many frames, or as many as memory allows.
-    fn fill(&mut self, count: usize) -> Result<(), AllocError>
-        ensures ok { OnOk result (self.new ≡ max self.old count) }
-        ensures missing { OnErr result (self.old < count) }
-        ensures kept { self.old ≤ self.new }
-    {
         while self.blanks.len() < count {
             let octets = Vec::with_capacity(self.alloc, ROOM)?;
             self.blanks.push(Blank { octets })?;
         }
+        self.promised = self.promised.max(count);
         Ok(())
     }
 
-    /// Takes the memory of one frame.
-    pub fn take(&mut self) -> Vec<u8>
-        requires { 0 < self.old }
+    /// Takes memory that was promised, for a frame of so many octets.
+    pub fn take(&mut self, length: usize) -> Vec<u8>
+        requires promised { 0 < self.old }
+        requires short { length ≤ ROOM }
         ensures empty { result.items ≡ [] }
-        ensures room { ROOM ≤ vec_capacity result }
+        ensures room { length ≤ vec_capacity result }
         ensures fewer { self.new + 1 ≡ self.old }
     {
-        let blank = self.blanks.pop().unwrap();
-        blank.octets
+        self.promised -= 1;
+        match Vec::with_capacity(self.alloc, length) {
+            Ok(octets) => octets,
+            Err(AllocError) => self.blanks.pop().unwrap().octets,
+        }
     }
 
-    /// Lets the memory go beyond that for so many frames.
-    pub fn truncate(&mut self, count: usize)
+    /// Takes the promise back beyond that for so many frames.
+    pub fn limit(&mut self, count: usize)
         ensures { self.new ≡ min self.old count }
     {
-        self.blanks.truncate(count);
+        self.promised = self.promised.min(count);
     }
 }

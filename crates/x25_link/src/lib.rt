@@ -19,8 +19,6 @@ mod procedure;
 mod queue;
 mod receiving;
 mod step;
-#[cfg(test)]
-mod tests;
 
 pub use error::LinkError;
 pub use law::{follows_the_window, holds_few, notes_what_changes, sets_up_by_rows};

@@ -3,3 +3,5 @@ pub mod DigitLemmas
 pub mod ResultLemmas
 pub mod DigitTable
 pub mod PairLemmas
+pub mod LaneLemmas
+pub mod BlockLemmas

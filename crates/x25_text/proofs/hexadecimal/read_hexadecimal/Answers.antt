@@ -1,41 +1,34 @@
-use Rattle.std.proofs.Common.{◌≡◌, ◌∙◌, ◌*◌, ◌+◌, ◌<◌, arith, length, slice_index}
-use Rattle.std.specs.Prelude.{slice_set}
-use Rattle.std.proofs.lemmas.List.{length-set}
-use Rattle.x25_text.proofs.DigitTable.{a_digit, no_digit}
-use Rattle.x25_text.proofs.PairLemmas.{Leads, at_end, decode_read, fault_high, fault_low, next}
-use Rattle.x25_text.proofs.hexadecimal.read_hexadecimal.Goals.{then-high-gt15-via-then-high-gt15, then-high-gt15-via-else-high-gt15+then-low-gt15}
+use Rattle.std.proofs.Common.{◌≡◌, ◌∙◌, ◌+◌, ◌-◌, ◌*◌, arith, length, subst}
+use Rattle.x25_text.proofs.BlockLemmas.{Reads, reads_fault, reads_last, reads_more, reads_none}
+use Rattle.x25_text.proofs.PairLemmas.{decode_read}
 use Rattle.x25_text.proofs.hexadecimal.read_hexadecimal.Goals as goal
 
-pub returns-then-high-gt15 : goal.returns-then-high-gt15
-returns-then-high-gt15 c =
-    let i = c.loop-i.i in
-    let digits = c.args.digits.now in
-    let size = length c.args.octets.now in
-    let within : i < size = omega (arith, c.loop-i-test.true, c.loop-i.auto.i-end) in
-    decode_read digits size c.requires
-    ∙ elim c.then-high-gt15.branch [
-        | then-high-gt15-via-then-high-gt15 w ↦
-            fault_high size i digits c.loop-i.octets c.loop-i.invariant within c.requires
-              (no_digit (slice_index digits (2 * i)) c.value-high.result (omega (arith, c.type_inv.digits (2 * i))) c.value-high.ensures (omega (arith, w.if-high-gt15)))
-        | then-high-gt15-via-else-high-gt15+then-low-gt15 w ↦
-            fault_low size i digits c.loop-i.octets c.loop-i.invariant within c.requires
-              (no_digit (slice_index digits (2 * i + 1)) c.value-low.result (omega (arith, c.type_inv.digits (2 * i + 1))) c.value-low.ensures (omega (arith, w.if-low-gt15)))
-      ]
+pub loop-eight-init : goal.loop-eight-init
+loop-eight-init c = reads_none c.args.digits.now c.args.octets.now
 
-pub loop-i-preserved : goal.loop-i-preserved
-loop-i-preserved c =
-    let i = c.loop-i.i in
-    let digits = c.args.digits.now in
+pub returns-then-count-lt8 : goal.returns-then-count-lt8
+returns-then-count-lt8 c = decode_read c.args.digits.now (length c.args.octets.now) c.requires ∙ c.read_pairs.ensures
+
+pub returns-then-not-read_eight : goal.returns-then-not-read_eight
+returns-then-not-read_eight c =
     let size = length c.args.octets.now in
-    record {
-      long = length-set _ _ _ ∙ c.loop-i.invariant.long;
-      same =
-          next size i c.value-high.result c.value-low.result digits c.loop-i.octets c.loop-i.invariant (omega (arith, c.loop-i-test.true, c.loop-i.auto.i-end)) c.requires
-            (a_digit (slice_index digits (2 * i)) c.value-high.result c.value-high.ensures (omega (arith, c.if-high-gt15.false)))
-            (a_digit (slice_index digits (2 * i + 1)) c.value-low.result c.value-low.ensures (omega (arith, c.if-low-gt15.false)));
-    }
+    decode_read c.args.digits.now size c.requires
+    ∙ reads_fault size (8 * c.loop-eight.eight) 8 c.args.digits.now c.loop-eight.octets c.loop-eight.invariant c.requires
+      (omega (arith, c.loop-eight-test.true, c.loop-eight.auto.eight-end)) c.if-not-read_eight.ensures.octets
+
+pub loop-eight-preserved : goal.loop-eight-preserved
+loop-eight-preserved c =
+    let size = length c.args.octets.now in
+    let on : 8 * c.loop-eight.eight + 8 ≡ 8 * (c.loop-eight.eight + 1) = omega arith in
+    subst (λ n. Reads size n c.args.digits.now c.read_eight.new.octets) on
+    (reads_more size (8 * c.loop-eight.eight) 8 c.args.digits.now c.loop-eight.octets c.read_eight.new.octets c.loop-eight.invariant c.requires
+        (omega (arith, c.loop-eight-test.true, c.loop-eight.auto.eight-end)) c.if-not-read_eight.ensures.octets c.if-not-read_eight.ensures.before
+        (omega (arith, c.read_eight.auto.octets, c.loop-eight.invariant.long)))
 
 pub returns : goal.returns
 returns c =
-    decode_read c.args.digits.now (length c.args.octets.now) c.requires
-    ∙ at_end (length c.args.octets.now) c.loop-i.i c.args.digits.now c.loop-i.octets c.loop-i.invariant (omega (arith, c.loop-i-test.false, c.loop-i.auto.i-end)) c.requires
+    let size = length c.args.octets.now in
+    decode_read c.args.digits.now size c.requires
+    ∙ reads_last size (8 * c.loop-eight.eight) (size - 8) c.args.digits.now c.loop-eight.octets c.read_eight-2.new.octets c.read_eight-2.result c.loop-eight.invariant c.requires
+      (omega (arith, c.loop-eight-test.false, c.loop-eight.auto.eight-end, c.if-count-lt8.false)) (omega (arith, c.loop-eight.auto.eight-end, c.loop-eight-test.false))
+      (omega (arith, c.if-count-lt8.false)) c.read_eight-2.ensures.octets c.read_eight-2.ensures.before (omega (arith, c.read_eight-2.auto.octets, c.loop-eight.invariant.long))
