@@ -15,7 +15,7 @@ use Rattle.x25_link.proofs.EndLemmas.{left_false, right_false, ready_sends, ende
 
 -- ---- a step after which nothing may be sent
 
-pub closed_state : (c : Settings) (v : ShownLink) (u : Side) → FitsStation c v.procedure u.near → may_send c.window u.near ≡ false → owes_ready u.near ≡ false → FitsLink c v (ended c.window u).near
+pub closed_state : (c : Settings) (v : ShownLink) (u : Side) → FitsStation c v.station u.near → may_send c.window u.near ≡ false → owes_ready u.near ≡ false → FitsLink c v (ended c.window u).near
 closed_state c v u near settled calm =
     subst (λ (w : Side). FitsLink c v w.near) (sym (ended_stays c.window u settled calm)) (record { near = near; settled = settled; calm = calm })
 
@@ -65,7 +65,7 @@ pub few_stand : FewStand
 few_stand c v s fits =
     let backlog = fits.near.backlog in
     let sound = backlog.sender.sound in
-    let l = sent_length c.window v.procedure.backlog s.outgoing backlog in
+    let l = sent_length c.window v.station.backlog s.outgoing backlog in
     let high = sound.place_high in
     let room = sound.room in
     record { place_low = sound.place_low; place_high = omega arith; sent_high = backlog.sent; room = omega arith }

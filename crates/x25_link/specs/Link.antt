@@ -1,7 +1,7 @@
 -- What contracts see of a link, and the states of the definition that it fits.
 use Rattle.std.specs.Prelude.{◌≡◌, ℕ, Bool, List, ◌++◌, length, map, false, option_copied}
 use Rattle.x25_frame.specs.Spelling.{spelling_of}
-use Rattle.x25_link.specs.declared.procedure.Procedure.{Procedure}
+use Rattle.x25_link.specs.declared.station.Station.{Station as StationCode}
 use Rattle.x25_link.specs.declared.step.Step as code
 use Rattle.x25_link.specs.Lists.{Lists}
 use Rattle.x25_link.specs.Outbox.{ShownOutbox}
@@ -13,22 +13,22 @@ use Rattle.x25_link.specs.Fits.{FitsStation}
 
 -- the variables of the station, and the frames that `sent` will hand out, with the memory set aside for further ones
 pub record ShownLink : Type 0 where
-  pub procedure : Procedure
+  pub station : StationCode
   pub outgoing : ShownOutbox
 
 -- the most octets of a packet, whether the link is up, and how many packets wait
 abbrev pub limit_of : ShownLink → ℕ
-limit_of v = v.procedure.parameters.n1
+limit_of v = v.station.parameters.n1
 
 abbrev pub up_of : ShownLink → Bool
-up_of v = is_up v.procedure.phase
+up_of v = is_up v.station.phase
 
 abbrev pub waiting_of : ShownLink → ℕ
-waiting_of v = length v.procedure.backlog.queue
+waiting_of v = length v.station.backlog.queue
 
 -- between calls nothing is left to be sent
 pub record FitsLink (c : Settings) (v : ShownLink) (s : Station) : Type 0 where
-  pub near : FitsStation c v.procedure s
+  pub near : FitsStation c v.station s
   pub settled : may_send c.window s ≡ false
   pub calm : owes_ready s ≡ false
 

@@ -3,7 +3,9 @@ ghost use Rattle.x25_frame.specs.PlainFrame.{plain, info};
 ghost use Rattle.x25_frame.specs.Spelling.{spelling_of, information_of};
 ghost use Rattle.x25_link.specs.Outbox.{ShownOutbox};
 
-use crate::blank::Blanks;
+use crate::frame_memory::Blanks;
+use crate::heard::Heard;
+use crate::step::Step;
 use std::alloc::{AllocError, Global};
 use std::marker::Model;
 use std::mem;
@@ -114,6 +116,20 @@ impl Outbox {
         ensures { self.new ≡ record self.old { long = self.old.long - 1 } }
     {
         self.long.limit(self.long.promised().saturating_sub(1));
+    }
+
+    /// What a call answers: the frames that were made, and what it heard.
+    pub fn answered<'a>(&mut self, heard: Heard<'a>) -> Step<'a>
+        ensures frames { map (λ v. v.items) result.frames.items ≡ self.old.made }
+        ensures packet { result.packet ≡ heard.entry.packet }
+        ensures notes { result.notes ≡ heard.entry.notes }
+        ensures empty { self.new ≡ record { made = []; long = 0; short = 0 } }
+    {
+        Step {
+            frames: self.drain(),
+            packet: heard.packet,
+            notes: heard.notes,
+        }
     }
 
     /// Hands out the frames that were made. No memory is promised for further ones.
