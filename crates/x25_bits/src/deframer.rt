@@ -144,14 +144,11 @@ impl Deframer {
         if !self.scan.is_open {
             return Ok(());
         }
-        match self.closing() {
-            None => Ok(()),
-            Some(span) => {
-                let found = span.copied(self.alloc)?;
-                out.push(found)?;
-                Ok(())
-            }
-        }
+        let Some(span) = self.closing() else {
+            return Ok(());
+        };
+        out.push(span.copied(self.alloc)?)?;
+        Ok(())
     }
 
     /// What the span is that a flag closes here.

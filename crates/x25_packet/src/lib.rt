@@ -4,6 +4,7 @@
 #![tactic(auto)]
 
 mod call;
+mod codes;
 mod digits;
 mod error;
 mod facilities;

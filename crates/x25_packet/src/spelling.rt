@@ -4,8 +4,10 @@ ghost use Rattle.std.specs.Vec.{VecUnchanged};
 ghost use Rattle.x25_packet.specs.Digits.{IsAddress, packed};
 ghost use Rattle.x25_packet.specs.PlainPacket.{plain};
 ghost use Rattle.x25_packet.specs.Reading.{packet_of};
-ghost use Rattle.x25_packet.specs.Spelling.{IsInRange, accept_body, bit, body_of, call_body, channel_of, format_of, spelling_of, type_of};
+ghost use Rattle.x25_bits.specs.Bit.{bit};
+ghost use Rattle.x25_packet.specs.Spelling.{IsInRange, accept_body, body_of, call_body, channel_of, format_of, spelling_of, type_of};
 
+use crate::codes;
 use crate::digits::Digits;
 use crate::packet::Packet;
 use x25_bits::NoMemory;
@@ -50,19 +52,19 @@ fn kind(packet: &Packet) -> u8
     ensures { result ≡ type_of (plain packet.now) }
 {
     match packet {
-        Packet::Call { .. } => 0x0B,
-        Packet::Accept { .. } => 0x0F,
-        Packet::Clear { .. } => 0x13,
-        Packet::ClearConf { .. } => 0x17,
+        Packet::Call { .. } => codes::CALL,
+        Packet::Accept { .. } => codes::ACCEPT,
+        Packet::Clear { .. } => codes::CLEAR,
+        Packet::ClearConf { .. } => codes::CLEAR_CONF,
         Packet::Data { m, ps, pr, .. } => 2 * ps.get() + mark(*m) + 32 * pr.get(),
-        Packet::Rr { pr, .. } => 0x01 + 32 * pr.get(),
-        Packet::Rnr { pr, .. } => 0x05 + 32 * pr.get(),
-        Packet::Interrupt { .. } => 0x23,
-        Packet::InterruptConf { .. } => 0x27,
-        Packet::Reset { .. } => 0x1B,
-        Packet::ResetConf { .. } => 0x1F,
-        Packet::Restart { .. } => 0xFB,
-        Packet::RestartConf => 0xFF,
+        Packet::Rr { pr, .. } => codes::RR + 32 * pr.get(),
+        Packet::Rnr { pr, .. } => codes::RNR + 32 * pr.get(),
+        Packet::Interrupt { .. } => codes::INTERRUPT,
+        Packet::InterruptConf { .. } => codes::INTERRUPT_CONF,
+        Packet::Reset { .. } => codes::RESET,
+        Packet::ResetConf { .. } => codes::RESET_CONF,
+        Packet::Restart { .. } => codes::RESTART,
+        Packet::RestartConf => codes::RESTART_CONF,
     }
 }
 
