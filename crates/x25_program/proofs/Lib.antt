@@ -3,3 +3,5 @@ pub mod LineLemmas
 pub mod StreamLemmas
 pub mod HeldLemmas
 pub mod ReadLemmas
+pub mod VectorLemmas
+pub mod VerdictLemmas

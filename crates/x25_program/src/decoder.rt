@@ -50,6 +50,7 @@ impl Decoder {
 
     /// Writes the text that waits.
     fn flush<W: Sink>(&mut self, writer: &mut W) -> Result<(), Failed>
+        ensures kept { OnOk result (W.is_marked writer.new ≡ W.is_marked writer.old) }
         ensures ok { OnOk result (Appends (W.contents writer.old) (W.contents writer.new) self.old.text) }
         ensures empty { OnOk result (self.new.text ≡ []) }
         ensures err { OnErr result (AppendsBeginning (W.contents writer.old) (W.contents writer.new) self.old.text) }
@@ -96,13 +97,14 @@ impl Decoder {
             self.is_long = false;
         } else {
             let refused = answer(self.line.as_slice(), &mut self.octets, &mut self.text);
-            self.is_refused = self.is_refused | refused;
+            self.is_refused |= refused;
             self.line.clear();
         }
     }
 
     /// Makes room for an answer.
     fn make_room<W: Sink>(&mut self, writer: &mut W) -> Result<(), Failed>
+        ensures kept { OnOk result (W.is_marked writer.new ≡ W.is_marked writer.old) }
         ensures room { OnOk result (length self.new.text + MOST_ANSWER ≤ ROOM) }
         ensures leads { (old : Option (List ℕ)) (rest all : List ℕ) (any : Bool)
             → LeadsFrom old (W.contents writer.old) self.old rest all any
@@ -123,6 +125,7 @@ impl Decoder {
     /// Takes the rest of a line, without its line feed.
     fn close<W: Sink>(&mut self, tail: &[u8], writer: &mut W) -> Result<(), Failed>
         requires { IsOpen tail.now }
+        ensures kept { OnOk result (W.is_marked writer.new ≡ W.is_marked writer.old) }
         ensures leads { (old : Option (List ℕ)) (rest all : List ℕ) (any : Bool)
             → LeadsFrom old (W.contents writer.old) self.old (tail.now ++ 10 ∷ rest) all any
             → MatchResult result (λ _. LeadsFrom old (W.contents writer.new) self.new rest all any)
@@ -134,7 +137,7 @@ impl Decoder {
         }
         if self.line.is_empty() {
             let refused = answer(tail, &mut self.octets, &mut self.text);
-            self.is_refused = self.is_refused | refused;
+            self.is_refused |= refused;
             return Ok(());
         }
         self.hold(tail);
@@ -144,6 +147,8 @@ impl Decoder {
 
     /// Takes a piece of the text, and writes the answers to the lines that have ended.
     pub fn take_piece<W: Sink>(&mut self, piece: &[u8], writer: &mut W) -> Result<(), Failed>
+        ensures written { OnOk result (self.new.text ≡ []) }
+        ensures kept { OnOk result (W.is_marked writer.new ≡ W.is_marked writer.old) }
         ensures leads { (old : Option (List ℕ)) (rest all : List ℕ) (any : Bool)
             → LeadsFrom old (W.contents writer.old) self.old (piece.now ++ rest) all any
             → MatchResult result (λ _. LeadsFrom old (W.contents writer.new) self.new rest all any)
@@ -166,6 +171,7 @@ impl Decoder {
 
     /// Answers the last line, where it has no line feed, and writes what waits.
     fn finish<W: Sink>(&mut self, writer: &mut W) -> Result<(), Failed>
+        ensures kept { OnOk result (W.is_marked writer.new ≡ W.is_marked writer.old) }
         ensures text { (old : Option (List ℕ)) (all : List ℕ) (any : Bool)
             → LeadsFrom old (W.contents writer.old) self.old [] all any
             → MatchResult result (λ _. Appends old (W.contents writer.new) all × (self.new.is_refused ≡ any))
@@ -184,6 +190,8 @@ impl Decoder {
 
     /// Writes what waits at the end of the text, and answers the status.
     pub fn end<W: Sink>(&mut self, writer: &mut W) -> Result<u8, Fault>
+        ensures zero_or_one { IfOk result (λ status. status ≤ 1) }
+        ensures kept { OnOk result (W.is_marked writer.new ≡ W.is_marked writer.old) }
         ensures text { (old : Option (List ℕ)) (all : List ℕ) (any : Bool)
             → LeadsFrom old (W.contents writer.old) self.old [] all any
             → MatchResult result (λ status. Appends old (W.contents writer.new) all × (status ≡ (if any then 1 else 0)))

@@ -1,5 +1,5 @@
 //! Lines of octets answered by lines of text.
-ghost use Rattle.std.specs.Prelude.{◌≡◌, ◌<◌, ◌-◌, ◌^◌, ℕ, Bool, true, List, Option, Some, if◌then◌else◌, IfOk, OnOk, OnErr, IfSome, IsErrOf, MatchResult, length};
+ghost use Rattle.std.specs.Prelude.{◌≡◌, ◌<◌, ◌≤◌, ◌-◌, ◌^◌, ℕ, Bool, true, List, Option, Some, if◌then◌else◌, IfOk, OnOk, OnErr, IfSome, IsErrOf, MatchResult, length};
 ghost use Rattle.std.specs.Io.KnownBytes.{Appends};
 ghost use Rattle.x25_program.specs.Decoded.{output_of, status_of};
 ghost use Rattle.x25_program.specs.Stream.{LeadsFrom, WritesEnded};
@@ -23,6 +23,8 @@ fn decode_pieces<R: Source, W: Sink>(
     writer: &mut W,
 ) -> Result<u8, Fault>
     requires room { 0 < length piece.old }
+    ensures clean { OnOk result ((R.is_marked reader.new ≡ R.is_marked reader.old) × (W.is_marked writer.new ≡ W.is_marked writer.old)) }
+    ensures zero_or_one { IfOk result (λ status. status ≤ 1) }
     ensures text { (old : Option (List ℕ)) (input all : List ℕ) (any : Bool) → R.remaining reader.old ≡ Some input
         → length input < 2 ^ 64 - 1
         → LeadsFrom old (W.contents writer.old) decoder.old input all any
@@ -61,6 +63,9 @@ pub fn decode_lines<R: Source, W: Sink>(
     reader: &mut R,
     writer: &mut W,
 ) -> Result<u8, Fault>
+    // Where a status is answered, no call of the reader or of the writer failed.
+    ensures clean { OnOk result ((R.is_marked reader.new ≡ R.is_marked reader.old) × (W.is_marked writer.new ≡ W.is_marked writer.old)) }
+    ensures zero_or_one { IfOk result (λ status. status ≤ 1) }
     // What is written is the text of all that was read.
     ensures text { OnOk result (IfSome (R.remaining reader.old) (λ input. length input < 2 ^ 64 - 1
         → Appends (W.contents writer.old) (W.contents writer.new) (output_of input))) }

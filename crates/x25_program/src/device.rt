@@ -106,6 +106,7 @@ impl<W: Write> Sink for Device<W> {
 
 /// Writes all the octets, in as many calls as that takes.
 pub fn write_all<W: Sink>(writer: &mut W, octets: &[u8]) -> Result<(), Failed>
+    ensures kept { OnOk result (W.is_marked writer.new ≡ W.is_marked writer.old) }
     ensures ok { OnOk result (Appends (W.contents writer.old) (W.contents writer.new) octets.now) }
     ensures err { OnErr result (AppendsBeginning (W.contents writer.old) (W.contents writer.new) octets.now) }
     ensures marked { OnErr result (W.is_marked writer.new ≡ true) }

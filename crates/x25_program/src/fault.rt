@@ -18,6 +18,21 @@ pub enum Fault {
     NoMemory,
 }
 
+impl Fault {
+    ghost use Rattle.x25_program.specs.Fault.{number_of};
+
+    /// The number of the error: 61 a failed read, 62 a failed write, 70 no memory.
+    pub fn number(self) -> u8
+        ensures { result ≡ number_of self }
+    {
+        match self {
+            Fault::Read => 61,
+            Fault::Write => 62,
+            Fault::NoMemory => 70,
+        }
+    }
+}
+
 impl From<AllocError> for Fault {
     ghost from_gives = { λ _ fault. fault ≡ NoMemory };
 

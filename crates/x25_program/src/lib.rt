@@ -8,9 +8,11 @@ mod decoding;
 mod device;
 mod fault;
 mod lines;
+mod status;
 mod test_vectors;
 
 pub use decoding::decode_lines;
 pub use device::{Device, Failed, Sink, Source, write_all};
 pub use fault::Fault;
-pub use test_vectors::vectors;
+pub use status::exit_status;
+pub use test_vectors::{vectors, vectors_hold};

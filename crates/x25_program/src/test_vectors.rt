@@ -1,5 +1,9 @@
 //! Test vectors of the FCS, of frames and of packets.
-ghost use Rattle.std.specs.Prelude.{◌≡◌, true, IsErrOf, OnErr};
+ghost use Rattle.std.specs.Prelude.{◌≡◌, true, if◌then◌else◌, length, map, IfOk, IsErrOf, OnErr, OnOk};
+ghost use Rattle.std.specs.Io.KnownBytes.{Appends};
+ghost use Rattle.std.specs.List.{flat_map, list_all};
+ghost use Rattle.x25_program.specs.Vectors.{are_right, is_check_right, is_right, shown, verdict, verdict_of, verdicts};
+ghost use Rattle.x25_program.specs.Written.{AppendsBeginning};
 
 use crate::answer::answer;
 use crate::device::{Failed, Sink, write_all};
@@ -101,10 +105,16 @@ static VECTORS: [Vector; 16] = [
     },
 ];
 
+/// Writes a name, and `ok` or `bad`.
 fn write_verdict<W: Sink>(writer: &mut W, name: &str, is_right: bool) -> Result<(), Failed>
+    ensures ok { OnOk result (Appends (W.contents writer.old) (W.contents writer.new) (verdict name.now is_right)) }
+    ensures err { OnErr result (AppendsBeginning (W.contents writer.old) (W.contents writer.new) (verdict name.now is_right)) }
+    ensures kept { OnOk result (W.is_marked writer.new ≡ W.is_marked writer.old) }
     ensures marked { OnErr result (W.is_marked writer.new ≡ true) }
 {
-    write_all(writer, name.as_bytes())?;
+    if let Err(failed) = write_all(writer, name.as_bytes()) {
+        return Err(failed);
+    }
     if is_right {
         write_all(writer, b" ok\n")
     } else {
@@ -112,26 +122,65 @@ fn write_verdict<W: Sink>(writer: &mut W, name: &str, is_right: bool) -> Result<
     }
 }
 
-fn write_verdicts<W: Sink>(text: &mut Text, writer: &mut W) -> Result<bool, Failed>
+/// Whether the vector's line is answered by its answer.
+fn holds(vector: &Vector, octets: &mut [u8], text: &mut Text) -> bool
+    requires { length octets.old ≡ MOST_OCTETS }
+    ensures { result ≡ is_right (shown vector.now) }
+{
+    text.clear();
+    answer(vector.line.as_bytes(), octets, text);
+    text.as_slice() == vector.answer.as_bytes()
+}
+
+/// Writes a line for each vector, and answers whether all hold.
+fn write_each<W: Sink>(vectors: &[Vector], text: &mut Text, writer: &mut W) -> Result<bool, Failed>
+    ensures right { IfOk result (λ all. all ≡ list_all is_right (map shown vectors.now)) }
+    ensures ok { OnOk result (Appends (W.contents writer.old) (W.contents writer.new) (flat_map verdict_of (map shown vectors.now))) }
+    ensures err { OnErr result (AppendsBeginning (W.contents writer.old) (W.contents writer.new) (flat_map verdict_of (map shown vectors.now))) }
+    ensures kept { OnOk result (W.is_marked writer.new ≡ W.is_marked writer.old) }
     ensures marked { OnErr result (W.is_marked writer.new ≡ true) }
 {
     let mut octets = [0u8; MOST_OCTETS];
-    let mut all_right = fcs(b"123456789") == CHECK_VALUE;
-    write_verdict(writer, "V1", all_right)?;
-    for vector in &VECTORS {
-        text.clear();
-        answer(vector.line.as_bytes(), &mut octets, text);
-        let is_right = text.as_slice() == vector.answer.as_bytes();
-        write_verdict(writer, vector.name, is_right)?;
-        all_right = all_right & is_right;
+    let mut all_right = true;
+    for vector in vectors {
+        let is_right = holds(vector, &mut octets, text);
+        if let Err(failed) = write_verdict(writer, vector.name, is_right) {
+            return Err(failed);
+        }
+        all_right &= is_right;
     }
     Ok(all_right)
+}
+
+fn write_verdicts<W: Sink>(text: &mut Text, writer: &mut W) -> Result<bool, Failed>
+    ensures right { IfOk result (λ all. all ≡ are_right) }
+    ensures ok { OnOk result (Appends (W.contents writer.old) (W.contents writer.new) verdicts) }
+    ensures err { OnErr result (AppendsBeginning (W.contents writer.old) (W.contents writer.new) verdicts) }
+    ensures kept { OnOk result (W.is_marked writer.new ≡ W.is_marked writer.old) }
+    ensures marked { OnErr result (W.is_marked writer.new ≡ true) }
+{
+    let check_right = fcs(b"123456789") == CHECK_VALUE;
+    if let Err(failed) = write_verdict(writer, "V1", check_right) {
+        return Err(failed);
+    }
+    match write_each(&VECTORS, text, writer) {
+        Ok(others_right) => Ok(check_right & others_right),
+        Err(failed) => Err(failed),
+    }
 }
 
 /// Writes a line for each vector, its name and `ok` or `bad`, and answers the status: 1 where one is bad, else 0.
 ///
 /// Its buffer is made first: `NoMemory` comes with nothing written. Profile.
 pub fn vectors<W: Sink>(alloc: Global, writer: &mut W) -> Result<u8, Fault>
+    // What is written is the verdicts on the stored vectors, and the status is theirs.
+    ensures text { OnOk result (Appends (W.contents writer.old) (W.contents writer.new) verdicts) }
+    ensures status { IfOk result (λ status. status ≡ (if are_right then 0 else 1)) }
+    // Where a status is answered, no call of the writer failed.
+    ensures clean { OnOk result (W.is_marked writer.new ≡ W.is_marked writer.old) }
+
+    // What was written before a fault is a beginning of them.
+    ensures fault { OnErr result (AppendsBeginning (W.contents writer.old) (W.contents writer.new) verdicts) }
     ensures memory { IsErrOf result Fault.NoMemory → writer.new ≡ writer.old }
     ensures read { IsErrOf result Fault.Read → ⊥ }
     ensures write { IsErrOf result Fault.Write → W.is_marked writer.new ≡ true }
@@ -144,3 +193,8 @@ pub fn vectors<W: Sink>(alloc: Global, writer: &mut W) -> Result<u8, Fault>
         Err(_) => Err(Fault::Write),
     }
 }
+
+/// Each stored vector holds: the definitions give its answer.
+pub fn vectors_hold()
+    ensures { are_right ≡ true }
+{}

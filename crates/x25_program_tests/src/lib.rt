@@ -2,6 +2,10 @@
 #![tactic(auto)]
 
 #[cfg(test)]
+mod fakes;
+#[cfg(test)]
+mod faults;
+#[cfg(test)]
 mod lines;
 #[cfg(test)]
 mod vectors;

@@ -1,63 +1,6 @@
 use std::test::Fail;
 use x25_frame::{Frame, Role, Seq, encode};
-use x25_program::{Device, Failed, Fault, Sink, Source, decode_lines};
-
-/// A reader of octets that gives at most `most` at once and fails when no call is left.
-#[derive(Drop)]
-struct Reader<'a> {
-    octets: &'a [u8],
-    most: usize,
-    calls: usize,
-    is_marked: bool,
-}
-
-impl Source for Reader<'_> {
-    ghost use Rattle.std.specs.Prelude.{None};
-
-    ghost remaining = { λ _. None };
-
-    ghost is_marked = { λ r. r.is_marked };
-
-    fn read(&mut self, buffer: &mut [u8]) -> Result<usize, Failed> {
-        if self.calls == 0 {
-            self.is_marked = true;
-            return Err(Failed);
-        }
-        self.calls -= 1;
-        let count = self.most.min(self.octets.len()).min(buffer.len());
-        let (front, rest) = self.octets.split_at(count);
-        buffer[..count].copy_from_slice(front);
-        self.octets = rest;
-        Ok(count)
-    }
-}
-
-/// A writer that takes at most `most` octets at once and fails when no call is left.
-#[derive(Drop)]
-struct Writer {
-    octets: Vec<u8>,
-    most: usize,
-    calls: usize,
-    is_marked: bool,
-}
-
-impl Sink for Writer {
-    ghost use Rattle.std.specs.Prelude.{None};
-
-    ghost contents = { λ _. None };
-
-    ghost is_marked = { λ w. w.is_marked };
-
-    fn write(&mut self, buffer: &[u8]) -> Result<usize, Failed> {
-        let count = self.most.max(1).min(buffer.len());
-        if self.calls == 0 || self.octets.extend_from_slice(&buffer[..count]).is_err() {
-            self.is_marked = true;
-            return Err(Failed);
-        }
-        self.calls -= 1;
-        Ok(count)
-    }
-}
+use x25_program::{Device, decode_lines};
 
 const TRACE: &str = "> 013febdf\n< 01738357\n> 01001000fb00007702\nx\n> 0101\n";
 
@@ -99,66 +42,6 @@ fn answers_lines(rt: HostRuntime) -> Result<(), Fail> {
         let (answer, written) = decoded(&rt, input.as_bytes())?;
         assert_eq!(rt; written.as_slice(), output.as_bytes());
         assert_eq!(rt; answer, status);
-    }
-    Ok(())
-}
-
-#[test]
-fn answers_octets_one_by_one(rt: HostRuntime) -> Result<(), Fail> {
-    for most in 1..7 {
-        let mut reader = Reader {
-            octets: TRACE.as_bytes(),
-            most,
-            calls: 1000,
-            is_marked: false,
-        };
-        let mut writer = Writer {
-            octets: Vec::new(rt.alloc()),
-            most,
-            calls: 1000,
-            is_marked: false,
-        };
-        assert_eq!(rt; decode_lines(rt.alloc(), &mut reader, &mut writer), Ok(1));
-        assert_eq!(rt; writer.octets.as_slice(), ANSWERS.as_bytes());
-    }
-    Ok(())
-}
-
-#[test]
-fn tells_the_call_that_fails(rt: HostRuntime) -> Result<(), Fail> {
-    for calls in 0..16 {
-        let mut reader = Reader {
-            octets: TRACE.as_bytes(),
-            most: 7,
-            calls,
-            is_marked: false,
-        };
-        let mut writer = Device::new(Vec::new(rt.alloc()));
-        let result = decode_lines(rt.alloc(), &mut reader, &mut writer);
-        let written = writer.into_inner();
-        if calls < 9 {
-            assert_eq!(rt; result, Err(Fault::Read));
-            assert!(rt; reader.is_marked);
-        } else {
-            assert_eq!(rt; result, Ok(1));
-        }
-        assert!(rt; ANSWERS.as_bytes().starts_with(written.as_slice()));
-        assert_eq!(rt; written.is_empty(), calls < 2);
-        let mut writer = Writer {
-            octets: Vec::new(rt.alloc()),
-            most: 9,
-            calls,
-            is_marked: false,
-        };
-        let result = decode_lines(rt.alloc(), &mut Device::new(TRACE.as_bytes()), &mut writer);
-        if calls < ANSWERS.len().div_ceil(9) {
-            assert_eq!(rt; result, Err(Fault::Write));
-            assert!(rt; writer.is_marked);
-        } else {
-            assert_eq!(rt; result, Ok(1));
-        }
-        assert!(rt; ANSWERS.as_bytes().starts_with(writer.octets.as_slice()));
-        assert_eq!(rt; writer.octets.len(), ANSWERS.len().min(9 * calls));
     }
     Ok(())
 }

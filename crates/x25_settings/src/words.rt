@@ -27,6 +27,30 @@ pub enum SettingsError {
     NoMemory,
 }
 
+impl SettingsError {
+    ghost use Rattle.x25_settings.specs.SettingsError.{number_of, exit_status_of};
+
+    /// The number of the error: 63 for words that aren't plain, 70 no memory.
+    pub fn number(&self) -> u8
+        ensures { result ≡ number_of self.now }
+    {
+        match self {
+            SettingsError::Usage(_) => 63,
+            SettingsError::NoMemory => 70,
+        }
+    }
+
+    /// The exit status that the error gives the program: 2 for words that aren't plain, 3 for want of memory. Profile.
+    pub fn exit_status(&self) -> u8
+        ensures { result ≡ exit_status_of self.now }
+    {
+        match self {
+            SettingsError::Usage(_) => 2,
+            SettingsError::NoMemory => 3,
+        }
+    }
+}
+
 impl From<AllocError> for SettingsError {
     ghost from_gives = { λ _ e. e ≡ NoMemory };
 

@@ -1,10 +1,8 @@
 -- Sixteen characters at a time, lane by lane.
-use Rattle.std.proofs.Common.{ℕ, zero, suc, ◌≡◌, ◌<◌, ◌≤◌, ◌+◌, ◌-◌, ◌*◌, ◌/◌, ◌%◌, ◌^◌, ◌∙◌, ◌⊎◌, inl, inr, Bool, true, false, cond, leb, bit_or, List, [], ◌∷◌, ◌++◌, length, map, get_or, replicate, refl, ap, sym, arith, Fits, w8}
+use Rattle.std.proofs.Common.{ℕ, zero, suc, ◌≡◌, ◌<◌, ◌≤◌, ◌+◌, ◌-◌, ◌*◌, ◌%◌, ◌^◌, ◌∙◌, inl, inr, Bool, true, false, cond, List, [], ◌∷◌, length, map, get_or, refl, ap, sym, arith, Fits, w8}
 use Rattle.std.specs.Prelude.{◌==◌, ◌&&◌, nat_lt, nat_eq, Option, Some, None}
 use Rattle.std.specs.List.{list_all}
 use Rattle.std.proofs.lemmas.Bool.{cases_eq, eq-eqb, eqb-true, ne_eqb, ltb-true, ltb-false}
-use Rattle.std.proofs.lemmas.List.{length-map}
-use Rattle.std.proofs.lemmas.Simd.{zip2_of_maps, zip2_splat, splat_is_map, bitmask_splat, tops_compared}
 use Rattle.std.proofs.Math.Nat.{pow-suc}
 use Rattle.std.specs.Simd.Lanes.{Each1, sel_l, mask_l, top}
 use Rattle.hex.specs.Hex.{hex_digit_value}
@@ -38,7 +36,7 @@ mask_full p (x ∷ xs) = go (p x) (mask_full p xs)
         → nat_eq (cond b 1 0 + 2 * mask_l (map p xs)) (2 ^ suc (length xs) - 1) ≡ (b && list_all p xs)
     go true rest =
         same_test (1 + 2 * mask_l (map p xs)) (2 ^ suc (length xs) - 1) (mask_l (map p xs)) (2 ^ length xs - 1)
-          (λ e. omega (arith, e, twice, some)) (λ e. omega (arith, e, twice, some))
+        (λ e. omega (arith, e, twice, some)) (λ e. omega (arith, e, twice, some))
         ∙ rest
     go false rest = ne_eqb (0 + 2 * mask_l (map p xs)) (2 ^ suc (length xs) - 1) (λ e. omega (arith, e, twice, some))
 
@@ -104,7 +102,7 @@ joined_is (suc n) k (high ∷ low ∷ v) w e all same =
     let there : get_or w (2 * k + 1) 0 ≡ low = same 1 (omega arith) in
     let octet : (get_or w (2 * k) 0 * 16 % 256 + get_or w (2 * k + 1) 0) % 256 ≡ high * 16 + low = omega (arith, here, there, small, little) in
     let rest : octets_from w (k + 1) n ≡ paired v = joined_is n (k + 1) v w (omega arith) second.1
-      (λ j h. ap (λ m. get_or w m 0) (on k j) ∙ same (suc (suc j)) (omega arith)) in
+    (λ j h. ap (λ m. get_or w m 0) (on k j) ∙ same (suc (suc j)) (omega arith)) in
     λ i. octet i ∷ rest i
   where
     zero_more : (m : ℕ) → m ≡ m + 0

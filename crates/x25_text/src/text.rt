@@ -39,7 +39,8 @@ fn write_hexadecimal(octets: &[u8], buffer: &mut [u8], from: usize)
     ensures text { take (from + 2 * length octets.now) buffer.new ≡ take from buffer.old ++ flat_map octet_text octets.now }
     ensures size { length buffer.new ≡ length buffer.old }
 {
-    let _ = hex::encode_to_slice(octets, &mut buffer[from..from + 2 * octets.len()]);
+    let digits = &mut buffer[from..from + 2 * octets.len()];
+    hex::encode_to_slice(octets, digits).unwrap();
 }
 
 impl Text {
@@ -60,7 +61,7 @@ impl Text {
     pub fn len(&self) -> usize
         ensures { result ≡ length self.now }
     {
-        self.count
+        self.as_slice().len()
     }
 
     pub fn is_empty(&self) -> bool

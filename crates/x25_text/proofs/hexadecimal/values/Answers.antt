@@ -12,5 +12,5 @@ returns c =
     let splat : (n : ℕ) → replicate 16 n ≡ map (λ _. n) v = λ n. splat_is_map v 16 n c.fits-characters.0 in
     sel_of_maps _ _ _ v (tops_of_map _ v (zip2_of_maps _ _ _ v (zip2_of_maps _ _ _ v (itself v) (splat 48)) (splat 10))) (zip2_of_maps _ _ _ v (itself v) (splat 48))
     (sel_of_maps _ _ _ v (tops_of_map _ v (zip2_of_maps _ _ _ v (zip2_of_maps _ _ _ v (zip2_of_maps _ _ _ v (itself v) (splat 32)) (splat 97)) (splat 6)))
-        (zip2_of_maps _ _ _ v (zip2_of_maps _ _ _ v (zip2_of_maps _ _ _ v (itself v) (splat 32)) (splat 97)) (splat 10)) (splat 255))
+    (zip2_of_maps _ _ _ v (zip2_of_maps _ _ _ v (zip2_of_maps _ _ _ v (itself v) (splat 32)) (splat 97)) (splat 10)) (splat 255))
     ∙ same_map _ value_of v refl (fits_each v c.fits-characters.1)
