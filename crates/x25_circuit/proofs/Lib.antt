@@ -1,2 +1,6 @@
 mod TableRows
 mod CallRows
+pub mod MessageLemmas
+pub mod RowLemmas
+pub mod TalkLemmas
+pub mod PullLemmas
