@@ -4,3 +4,4 @@ pub mod MessageLemmas
 pub mod RowLemmas
 pub mod TalkLemmas
 pub mod PullLemmas
+pub mod CarryLemmas

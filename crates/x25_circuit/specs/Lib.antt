@@ -15,3 +15,4 @@ pub mod Replies
 pub mod FitsCircuit
 pub mod Pulling
 pub mod DataPacket
+pub mod MessageLaws

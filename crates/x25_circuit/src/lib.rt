@@ -7,6 +7,7 @@ mod clearing;
 mod cutter;
 mod error;
 mod hearing;
+mod law;
 mod message;
 mod notice;
 mod octets;
@@ -21,6 +22,7 @@ mod transfer;
 
 pub use circuit::Circuit;
 pub use error::CircuitError;
+pub use law::messages_are_carried;
 pub use message::Message;
 pub use notice::{Notice, Reply};
 pub use octets::{LONGEST_MESSAGE, Octets};
