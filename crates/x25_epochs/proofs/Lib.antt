@@ -1,0 +1,17 @@
+pub mod HandshakeRelation
+pub mod HandshakeLemmas
+pub mod StretchRelation
+pub mod TransferRelation
+pub mod CallsRelation
+pub mod ChannelRelation
+pub mod LayersRelation
+pub mod TextLemmas
+pub mod LineLemmas
+pub mod PartLemmas
+pub mod StretchLemmas
+pub mod TransferLemmas
+pub mod CallLemmas
+pub mod ChannelLemmas
+pub mod LayerLemmas
+pub mod ClaimLemmas
+pub mod BookLemmas

@@ -1,0 +1,77 @@
+-- A circuit between two clears: p1, call sent, call received, collided (p5) and p4, with the calls made and indicated.
+use Rattle.std.specs.Prelude.{ℕ, List, [], ◌∷◌, ◌++◌, Option, Some, None}
+use Rattle.x25_epochs.specs.Handshake.{At}
+use Rattle.x25_epochs.specs.Terms.{Item, Terms, Role, Dte, Dce}
+use Rattle.x25_epochs.specs.Stretch.{Packet, Call, Accept, Stretch}
+use Rattle.x25_epochs.specs.Transfer.{TransferStep, fresh_transfer, transfer_takes, TransferAct, transfer_acts}
+
+pub data Phase : Type 0 where
+  -- p1, out, in, p5, p4
+  Free : Phase
+  Calling : Phase
+  Arriving : Phase
+  Crossed : Phase
+  Talking : (at : At Stretch) → Phase
+
+-- the phase, and the items of `call` and `incoming` of this clear epoch
+pub record Connection : Type 0 where
+  pub phase : Phase
+  pub made : List Item
+  pub indicated : List Item
+
+pub record CallStep : Type 0 where
+  pub next : Connection
+  pub out : List Packet
+  pub error : Option ℕ
+
+abbrev pub goes : Phase → List Item → List Item → List Packet → CallStep
+goes p m i o = record { next = record { phase = p; made = m; indicated = i }; out = o; error = None }
+
+-- an error of the circuit's table: E S
+abbrev pub unexpected : Phase → List Item → List Item → CallStep
+unexpected p m i = record { next = record { phase = p; made = m; indicated = i }; out = []; error = Some 0 }
+
+abbrev pub in_transfer : List Item → List Item → TransferStep → CallStep
+in_transfer m i s = record { next = record { phase = Talking s.next; made = m; indicated = i }; out = s.out; error = s.error }
+
+abbrev pub call_crosses : Role → List Item → List Item → Item → CallStep
+call_crosses Dte m i n = goes Crossed m i []
+call_crosses Dce m i n = goes Arriving m (i ++ n ∷ []) []
+
+abbrev pub phase_takes : Role → ℕ → Phase → List Item → List Item → Packet → CallStep
+phase_takes r size Free m i (Call n) = goes Arriving m (i ++ n ∷ []) []
+phase_takes r size Free m i other = unexpected Free m i
+phase_takes r size Calling m i (Call n) = call_crosses r m i n
+phase_takes r size Calling m i Accept = goes (Talking fresh_transfer) m i []
+phase_takes r size Calling m i other = unexpected Calling m i
+phase_takes r size Arriving m i p = unexpected Arriving m i
+phase_takes r size Crossed m i Accept = goes (Talking fresh_transfer) m i []
+phase_takes r size Crossed m i other = unexpected Crossed m i
+phase_takes r size (Talking x) m i p = in_transfer m i (transfer_takes size x p)
+
+abbrev pub call_takes : Role → ℕ → Connection → Packet → CallStep
+call_takes r size x p = phase_takes r size x.phase x.made x.indicated p
+
+pub data CallAct : Type 0 where
+  Makes : (item : Item) → CallAct
+  Accepts : CallAct
+  Talks : (act : TransferAct) → CallAct
+
+abbrev pub phase_acts : Terms → Phase → List Item → List Item → CallAct → CallStep
+phase_acts t Free m i (Makes n) = goes Calling (m ++ n ∷ []) i (Call n ∷ [])
+phase_acts t Free m i other = goes Free m i []
+phase_acts t Calling m i a = goes Calling m i []
+phase_acts t Arriving m i Accepts = goes (Talking fresh_transfer) m i (Accept ∷ [])
+phase_acts t Arriving m i other = goes Arriving m i []
+phase_acts t Crossed m i a = goes Crossed m i []
+phase_acts t (Talking x) m i (Talks a) = in_transfer m i (transfer_acts t x a)
+phase_acts t (Talking x) m i other = goes (Talking x) m i []
+
+-- a call of the user or a pull; a refused one changes nothing
+abbrev pub call_acts : Terms → Connection → CallAct → CallStep
+call_acts t x a = phase_acts t x.phase x.made x.indicated a
+
+-- lines, read from the front
+
+abbrev pub fresh_call : Connection
+fresh_call = record { phase = Free; made = []; indicated = [] }

@@ -1,0 +1,9 @@
+pub mod Messages
+pub mod Terms
+pub mod Handshake
+pub mod Stretch
+pub mod Transfer
+pub mod Calls
+pub mod Channel
+pub mod Layers
+pub mod Books
