@@ -4,7 +4,6 @@ use Rattle.x25_epochs.specs.Terms.{Item, Terms, IsSound, Dte, Dce}
 use Rattle.x25_epochs.specs.Stretch.{Packet, Call, Accept}
 use Rattle.x25_epochs.specs.Transfer.{fresh_transfer, transfer_takes, transfer_acts}
 use Rattle.x25_epochs.specs.Calls.{Phase, Free, Calling, Arriving, Crossed, Talking, Connection, phase_takes, call_takes, CallAct, Makes, Accepts, Talks, phase_acts, call_acts, fresh_call}
-use Rattle.x25_epochs.specs.Books.{none}
 use Rattle.x25_epochs.proofs.TransferRelation.{TransfersRelated, GoodTransfer}
 use Rattle.x25_epochs.proofs.CallsRelation.{Nil, OneCall, MaybeCall, Accepted, CallAccepted, Joint, ConnectionsRelated, GoodDte, GoodDce, IsCalled}
 use Rattle.x25_epochs.proofs.LineLemmas.{nil_append}

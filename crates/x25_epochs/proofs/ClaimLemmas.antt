@@ -82,7 +82,7 @@ joint_b ta tb Calling y ma ia mb ib v u p h = absurd h.0
 joint_b ta tb Crossed y ma ia mb ib v u p h = absurd h.0
 joint_b ta tb other y ma ia mb ib v u p h = absurd h
 
-Seen-joint : (r : Role) (t b : Terms) (m i : List Item) (x : At Stretch) (y : Connection) (u : List Packet) (p : Packet) (v : List Packet)
+pub Seen-joint : (r : Role) (t b : Terms) (m i : List Item) (x : At Stretch) (y : Connection) (u : List Packet) (p : Packet) (v : List Packet)
     → Seen r t b (record { phase = Talking x; made = m; indicated = i }) u (p ∷ v) y → (z : At Stretch) × (y.phase ≡ Talking z) × TransfersRelated t b x u (p ∷ v) z
 Seen-joint Dte t b m i x y u p v h = joint_a t b x y.phase m i y.made y.indicated u p v h.joint
 Seen-joint Dce t b m i x y u p v h = joint_b b t y.phase x y.made y.indicated m i v u p h.joint

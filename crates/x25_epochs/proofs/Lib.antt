@@ -14,4 +14,10 @@ pub mod CallLemmas
 pub mod ChannelLemmas
 pub mod LayerLemmas
 pub mod ClaimLemmas
+pub mod NameLemmas
 pub mod BookLemmas
+pub mod TurnLemmas
+pub mod StretchKindLemmas
+pub mod CallKindLemmas
+pub mod LawLemmas
+pub mod ArrivalLemmas

@@ -4,7 +4,6 @@ use Rattle.std.proofs.lemmas.List.{length_push}
 use Rattle.x25_epochs.specs.Messages.{Piece, Message, nothing, joining, completed, carried_from, carries, piece_ground, Fits, cut}
 use Rattle.x25_epochs.specs.Terms.{resolved}
 use Rattle.x25_epochs.specs.Stretch.{Packet, Data, Int, IntConf}
-use Rattle.x25_epochs.specs.Books.{none}
 use Rattle.x25_epochs.proofs.StretchRelation.{Carried, carried, ack_in, int_in, conf_in, piece_of, pieces, number_at, Numbered, hears, heard, ints, confs, Flow, Acks, Ints, Text}
 use Rattle.x25_epochs.proofs.TextLemmas.{joining-append, carried-append, Fits-back, Fits-append, Fits-cut, joining-cut, carried-cut}
 use Rattle.x25_epochs.proofs.LineLemmas.{nil_append, resolved_is, heard_least, heard_push, pieces_push, ints_push, confs_push, Numbered_push}

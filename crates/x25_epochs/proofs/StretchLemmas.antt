@@ -6,7 +6,6 @@ use Rattle.x25_epochs.specs.Messages.{Piece, nothing, joining, carried_from, car
 use Rattle.x25_epochs.specs.Terms.{Terms, resolved, IsSound}
 use Rattle.x25_epochs.specs.Stretch.{Packet, Data, Rr, Rnr, Int, IntConf, Reset, ResetConf, Call, Accept, Clear, ClearConf, Stretch, fresh, StretchStep, stretch_does, stretch_fails, StretchAct, Send, Pull, Ready, NotReady, Interrupt, status, sends, pulls, interrupts, stretch_acts, ack_ground, data_ground, by_ground, takes_data, takes_status, stretch_takes}
 use Rattle.x25_epochs.specs.Layers.{ready}
-use Rattle.x25_epochs.specs.Books.{none}
 use Rattle.x25_epochs.proofs.StretchRelation.{carried, ack_in, int_in, conf_in, InFlowControl, pieces, heard, ints, Ints, Text, Direction, StretchesRelated, GoodStretch, FollowsFrom}
 use Rattle.x25_epochs.proofs.TextLemmas.{by_if, carried-append}
 use Rattle.x25_epochs.proofs.LineLemmas.{nil_append, AllOpen_push}

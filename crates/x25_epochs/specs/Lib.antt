@@ -6,4 +6,6 @@ pub mod Transfer
 pub mod Calls
 pub mod Channel
 pub mod Layers
+pub mod Names
 pub mod Books
+pub mod Arrivals

@@ -5,4 +5,4 @@
 
 mod law;
 
-pub use law::nothing_is_wrong;
+pub use law::keeps_order;
