@@ -1,6 +1,10 @@
 -- An open stretch of both ends, with nothing on the way from one: all of it has arrived.
 use Rattle.std.proofs.Common.{◌≡◌, ℕ, List, [], Option, Some, None, refl, sym, ap, subst, ◌∙◌}
-use Rattle.x25_epochs.specs.Terms.{Item, Role, Dte, Dce, other_role, Terms, IsSound}
+use Rattle.x25_bits.specs.declared.role.Role.{Role}
+use Rattle.x25_bits.specs.declared.role.Role.TheVariants.{Dte, Dce}
+use Rattle.x25_circuit.specs.Circuit.{Terms}
+use Rattle.x25_circuit.specs.Notices.{CallRequest}
+use Rattle.x25_epochs.specs.Terms.{other_role, IsSound}
 use Rattle.x25_epochs.specs.Handshake.{Side, Live, Left, At, state_of}
 use Rattle.x25_epochs.specs.Stretch.{Stretch}
 use Rattle.x25_epochs.specs.Transfer.{d1}
@@ -21,8 +25,8 @@ record Opened (s : Side (At Channels)) (k : ℕ) (x : Stretch) : Type 0 where
   channels : Channels
   clears : ℕ
   resets : ℕ
-  made : List Item
-  indicated : List Item
+  made : List CallRequest
+  indicated : List CallRequest
   end : s ≡ Live (ready restarts channels)
   circuit : channels k ≡ live clears (record { phase = Talking (d1 resets x); made = made; indicated = indicated })
 

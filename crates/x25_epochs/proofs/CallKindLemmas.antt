@@ -1,6 +1,10 @@
 -- Calls: what is indicated at an end, the other end made.
 use Rattle.std.proofs.Common.{◌≡◌, ◌⊎◌, inl, inr, ℕ, List, [], ◌∷◌, ◌++◌, Option, None, refl, sym, subst, ◌∙◌}
-use Rattle.x25_epochs.specs.Terms.{Item, Role, Dte, Dce, Terms, IsSound}
+use Rattle.x25_bits.specs.declared.role.Role.{Role}
+use Rattle.x25_bits.specs.declared.role.Role.TheVariants.{Dte, Dce}
+use Rattle.x25_circuit.specs.Circuit.{Terms}
+use Rattle.x25_circuit.specs.Notices.{CallRequest}
+use Rattle.x25_epochs.specs.Terms.{IsSound}
 use Rattle.x25_epochs.specs.Handshake.{Mark, Inner}
 use Rattle.x25_epochs.specs.Stretch.{Packet, Call, Accept}
 use Rattle.x25_epochs.specs.Calls.{Phase, Free, Calling, Arriving, Crossed, Talking, Connection, phase_takes, call_takes, CallAct, Makes, Accepts, Talks, phase_acts, call_acts}
@@ -11,14 +15,14 @@ use Rattle.x25_epochs.proofs.CallLemmas.{GoodDte-takes, GoodDce-takes}
 use Rattle.x25_epochs.proofs.BookLemmas.{Stays, append_nil}
 use Rattle.x25_epochs.proofs.TurnLemmas.{MayIndicate, WithinCall, IsHandled}
 
-empty_begins : (i m : List Item) → i ≡ [] → Begins i m
-empty_begins i m is = subst (λ (l : List Item). Begins l m) (sym is) (m, refl)
+empty_begins : (i m : List CallRequest) → i ≡ [] → Begins i m
+empty_begins i m is = subst (λ (l : List CallRequest). Begins l m) (sym is) (m, refl)
 
-same_begins : (i m : List Item) → i ≡ m → Begins i m
+same_begins : (i m : List CallRequest) → i ≡ m → Begins i m
 same_begins i m is = ([], append_nil i ∙ is)
 
 -- in every phase of a call
-joint_begins : (ta tb : Terms) (a b : Phase) (ma ia mb ib : List Item) (u v : List Packet) → Joint ta tb a b ma ia mb ib u v → Begins ia mb × Begins ib ma
+joint_begins : (ta tb : Terms) (a b : Phase) (ma ia mb ib : List CallRequest) (u v : List Packet) → Joint ta tb a b ma ia mb ib u v → Begins ia mb × Begins ib ma
 joint_begins ta tb Free Free ma ia mb ib u v h = (empty_begins ia mb h.3, empty_begins ib ma h.5)
 joint_begins ta tb Free Calling ma ia mb ib u v h = (empty_begins ia mb h.3, empty_begins ib ma h.4)
 joint_begins ta tb Free other ma ia mb ib u v h = absurd h
@@ -53,7 +57,7 @@ indicated_begins Dce t b sound c u p v y h =
     (calls_begin b t y v (u ++ (call_takes Dce b.size c p).out) (call_takes Dce b.size c p).next good.kept).1
 
 -- a packet makes no call
-takes_made : (r : Role) (size : ℕ) (a : Phase) (m i : List Item) (p : Packet) → (phase_takes r size a m i p).next.made ≡ m
+takes_made : (r : Role) (size : ℕ) (a : Phase) (m i : List CallRequest) (p : Packet) → (phase_takes r size a m i p).next.made ≡ m
 takes_made r size Free m i (Call n) = refl
 takes_made r size Free m i other = refl
 takes_made Dte size Calling m i (Call n) = refl
@@ -70,10 +74,10 @@ call_taken : (r : Role) (t b : Terms) → IsSound b → (e : ℕ) (c : Connectio
 call_taken r t b sound e c u p v y inner h =
     Stays refl refl ([], append_nil c.made ∙ sym (takes_made r b.size c.phase c.made c.indicated p)) (inr (refl, indicated_begins r t b sound c u p v y h))
 
-alike : (l : List Item) → Begins l l
+alike : (l : List CallRequest) → Begins l l
 alike l = ([], append_nil l)
 
-acted : (t : Terms) (a : Phase) (m i : List Item) (act : CallAct) → Begins m (phase_acts t a m i act).next.made × ((phase_acts t a m i act).next.indicated ≡ i)
+acted : (t : Terms) (a : Phase) (m i : List CallRequest) (act : CallAct) → Begins m (phase_acts t a m i act).next.made × ((phase_acts t a m i act).next.indicated ≡ i)
 acted t Free m i (Makes n) = ((n ∷ [], refl), refl)
 acted t Free m i other = (alike m, refl)
 acted t Calling m i act = (alike m, refl)

@@ -1,6 +1,9 @@
 -- Calls keep their relation, and have no procedure error.
 use Rattle.std.proofs.Common.{◌≡◌, inl, inr, List, [], ◌∷◌, ◌++◌, None, refl, sym, ap, subst, ◌∙◌}
-use Rattle.x25_epochs.specs.Terms.{Item, Terms, IsSound, Dte, Dce}
+use Rattle.x25_bits.specs.declared.role.Role.TheVariants.{Dte, Dce}
+use Rattle.x25_circuit.specs.Circuit.{Terms}
+use Rattle.x25_circuit.specs.Notices.{CallRequest}
+use Rattle.x25_epochs.specs.Terms.{IsSound}
 use Rattle.x25_epochs.specs.Stretch.{Packet, Call, Accept}
 use Rattle.x25_epochs.specs.Transfer.{fresh_transfer, transfer_takes, transfer_acts}
 use Rattle.x25_epochs.specs.Calls.{Phase, Free, Calling, Arriving, Crossed, Talking, Connection, phase_takes, call_takes, CallAct, Makes, Accepts, Talks, phase_acts, call_acts, fresh_call}
@@ -13,7 +16,7 @@ nil_is : (u : List Packet) → Nil u → u ≡ []
 nil_is [] h = refl
 nil_is (p ∷ u) h = absurd h
 
-push_first : (l : List Item) (n : Item) (m : List Item) → l ≡ [] → m ≡ n ∷ [] → l ++ n ∷ [] ≡ m
+push_first : (l : List CallRequest) (n : CallRequest) (m : List CallRequest) → l ≡ [] → m ≡ n ∷ [] → l ++ n ∷ [] ≡ m
 push_first l n m none one = ap (λ k. k ++ n ∷ []) none ∙ sym one
 
 GoodDte-still : (ta tb : Terms) (x : Connection) (u v : List Packet) (b : Connection) → ConnectionsRelated ta tb x u v b → GoodDte ta tb (record { next = x; out = []; error = None }) u v b
@@ -23,7 +26,7 @@ GoodDce-still : (ta tb : Terms) (a : Connection) (u v : List Packet) (x : Connec
 GoodDce-still ta tb a u v x h = record { quiet = refl; kept = subst (λ (w : List Packet). ConnectionsRelated ta tb a u w x) (sym (nil_append v)) h }
 
 -- the DTE takes a packet
-GoodDte-phase : (ta tb : Terms) → IsSound tb → (a b : Phase) (ma ia mb ib : List Item) (u : List Packet) (p : Packet) (v : List Packet) → Joint ta tb a b ma ia mb ib u (p ∷ v)
+GoodDte-phase : (ta tb : Terms) → IsSound tb → (a b : Phase) (ma ia mb ib : List CallRequest) (u : List Packet) (p : Packet) (v : List Packet) → Joint ta tb a b ma ia mb ib u (p ∷ v)
     → GoodDte ta tb (phase_takes Dte tb.size a ma ia p) u v (record { phase = b; made = mb; indicated = ib })
 GoodDte-phase ta tb s Free Free ma ia mb ib u p v h = absurd h.1
 GoodDte-phase ta tb s Free Calling ma ia mb ib u (Call n) v h =
@@ -69,7 +72,7 @@ pub GoodDte-takes : (ta tb : Terms) → IsSound tb → (a : Connection) (u : Lis
 GoodDte-takes ta tb s a u p v b h = GoodDte-phase ta tb s a.phase b.phase a.made a.indicated b.made b.indicated u p v h.joint
 
 -- the DCE takes a packet
-GoodDce-phase : (ta tb : Terms) → IsSound ta → (a b : Phase) (ma ia mb ib : List Item) (u : List Packet) (p : Packet) (v : List Packet) → Joint ta tb a b ma ia mb ib (p ∷ u) v
+GoodDce-phase : (ta tb : Terms) → IsSound ta → (a b : Phase) (ma ia mb ib : List CallRequest) (u : List Packet) (p : Packet) (v : List Packet) → Joint ta tb a b ma ia mb ib (p ∷ u) v
     → GoodDce ta tb (record { phase = a; made = ma; indicated = ia }) u v (phase_takes Dce ta.size b mb ib p)
 GoodDce-phase ta tb s Calling Free ma ia mb ib u (Call n) v h =
     GoodDce-still ta tb (record { phase = Calling; made = ma; indicated = ia }) u v (record { phase = Arriving; made = mb; indicated = ib ++ n ∷ [] })
@@ -79,7 +82,7 @@ GoodDce-phase ta tb s Calling Calling ma ia mb ib u (Call n) v h =
     GoodDce-still ta tb (record { phase = Calling; made = ma; indicated = ia }) u v (record { phase = Arriving; made = mb; indicated = ib ++ n ∷ [] })
     (record { joint = (h.0.1, maybe mb v h.1, h.2, push_first ib n ma h.3 h.0.0) })
   where
-    maybe : (m : List Item) (v : List Packet) → OneCall m v → MaybeCall m v
+    maybe : (m : List CallRequest) (v : List Packet) → OneCall m v → MaybeCall m v
     maybe m [] h = absurd h
     maybe m (p ∷ v) h = h
 GoodDce-phase ta tb s Calling Calling ma ia mb ib u other v h = absurd h.0
@@ -114,7 +117,7 @@ GoodDce-takes ta tb s a u p v b h = GoodDce-phase ta tb s a.phase b.phase a.made
 
 -- lines that grow at the back
 
-call_first : (m : List Item) (n : Item) (u : List Packet) → Nil u → m ≡ [] → OneCall (m ++ n ∷ []) (u ++ Call n ∷ [])
+call_first : (m : List CallRequest) (n : CallRequest) (u : List Packet) → Nil u → m ≡ [] → OneCall (m ++ n ∷ []) (u ++ Call n ∷ [])
 call_first m n [] h none = (ap (λ k. k ++ n ∷ []) none, tt)
 call_first m n (p ∷ u) h none = absurd h
 
@@ -122,7 +125,7 @@ accept_first : (R : List Packet → Type 0) (u : List Packet) → Nil u → R []
 accept_first R [] h r = r
 accept_first R (p ∷ u) h r = absurd h
 
-accept_behind : (R : List Packet → Type 0) (m : List Item) (v : List Packet) → MaybeCall m v → R [] → CallAccepted m R (v ++ Accept ∷ [])
+accept_behind : (R : List Packet → Type 0) (m : List CallRequest) (v : List Packet) → MaybeCall m v → R [] → CallAccepted m R (v ++ Accept ∷ [])
 accept_behind R m [] h r = (h, r)
 accept_behind R m (Call n ∷ v) h r = (h.0, accept_first R v h.1 r)
 accept_behind R m (other ∷ v) h r = absurd h
@@ -132,7 +135,7 @@ Accepted-map R Q o f [] h = absurd h
 Accepted-map R Q o f (Accept ∷ u) h = f u h
 Accepted-map R Q o f (other ∷ u) h = absurd h
 
-CallAccepted-map : (R Q : List Packet → Type 0) (o : List Packet) → ((w : List Packet) → R w → Q (w ++ o)) → (m : List Item) (u : List Packet) → CallAccepted m R u → CallAccepted m Q (u ++ o)
+CallAccepted-map : (R Q : List Packet → Type 0) (o : List Packet) → ((w : List Packet) → R w → Q (w ++ o)) → (m : List CallRequest) (u : List Packet) → CallAccepted m R u → CallAccepted m Q (u ++ o)
 CallAccepted-map R Q o f m [] h = absurd h
 CallAccepted-map R Q o f m (Call n ∷ u) h = (h.0, Accepted-map R Q o f u h.1)
 CallAccepted-map R Q o f m (Accept ∷ u) h = (h.0, f u h.1)
@@ -144,14 +147,14 @@ Accepted-some R [] h = absurd h
 Accepted-some R (Accept ∷ u) h = (u, h)
 Accepted-some R (other ∷ u) h = absurd h
 
-CallAccepted-some : (R : List Packet → Type 0) (m : List Item) (u : List Packet) → CallAccepted m R u → (w : List Packet) × R w
+CallAccepted-some : (R : List Packet → Type 0) (m : List CallRequest) (u : List Packet) → CallAccepted m R u → (w : List Packet) × R w
 CallAccepted-some R m [] h = absurd h
 CallAccepted-some R m (Call n ∷ u) h = Accepted-some R u h.1
 CallAccepted-some R m (Accept ∷ u) h = (u, h.1)
 CallAccepted-some R m (other ∷ u) h = absurd h
 
 -- the DTE acts
-GoodDte-acts_phase : (ta tb : Terms) → IsSound ta → IsSound tb → (a b : Phase) (ma ia mb ib : List Item) (u v : List Packet) (act : CallAct) → Joint ta tb a b ma ia mb ib u v
+GoodDte-acts_phase : (ta tb : Terms) → IsSound ta → IsSound tb → (a b : Phase) (ma ia mb ib : List CallRequest) (u v : List Packet) (act : CallAct) → Joint ta tb a b ma ia mb ib u v
     → GoodDte ta tb (phase_acts ta a ma ia act) u v (record { phase = b; made = mb; indicated = ib })
 GoodDte-acts_phase ta tb sa sb Free Free ma ia mb ib u v (Makes n) h = record { quiet = refl; kept = record { joint = (call_first ma n u h.0 h.2, h.1, h.3, h.4, h.5) } }
 GoodDte-acts_phase ta tb sa sb Free Calling ma ia mb ib u v (Makes n) h = record { quiet = refl; kept = record { joint = (call_first ma n u h.0 h.2, h.1, h.3, h.4) } }
@@ -182,7 +185,7 @@ pub GoodDte-acts : (ta tb : Terms) → IsSound ta → IsSound tb → (a : Connec
 GoodDte-acts ta tb sa sb a u v b act h = GoodDte-acts_phase ta tb sa sb a.phase b.phase a.made a.indicated b.made b.indicated u v act h.joint
 
 -- the DCE acts
-GoodDce-acts_phase : (ta tb : Terms) → IsSound ta → IsSound tb → (a b : Phase) (ma ia mb ib : List Item) (u v : List Packet) (act : CallAct) → Joint ta tb a b ma ia mb ib u v
+GoodDce-acts_phase : (ta tb : Terms) → IsSound ta → IsSound tb → (a b : Phase) (ma ia mb ib : List CallRequest) (u v : List Packet) (act : CallAct) → Joint ta tb a b ma ia mb ib u v
     → GoodDce ta tb (record { phase = a; made = ma; indicated = ia }) u v (phase_acts tb b mb ib act)
 GoodDce-acts_phase ta tb sa sb Free Free ma ia mb ib u v (Makes n) h = record { quiet = refl; kept = record { joint = (h.0, call_first mb n v h.1 h.4, h.2, h.3, h.5) } }
 GoodDce-acts_phase ta tb sa sb Calling Free ma ia mb ib u v (Makes n) h = record { quiet = refl; kept = record { joint = (h.0, call_first mb n v h.1 h.3, h.2, h.4) } }
@@ -227,12 +230,12 @@ pub ConnectionsRelated-fresh : (ta tb : Terms) → ConnectionsRelated ta tb fres
 ConnectionsRelated-fresh ta tb = record { joint = (tt, tt, refl, refl, refl, refl) }
 
 -- no CLEAR comes in p1: nothing is on the way to an end in p1 from one that has left another phase
-quiet_free_a : (ta tb : Terms) (b : Phase) (ma ia mb ib : List Item) (u : List Packet) → (b ≡ Free → ⊥) → Joint ta tb Free b ma ia mb ib u [] → ⊥
+quiet_free_a : (ta tb : Terms) (b : Phase) (ma ia mb ib : List CallRequest) (u : List Packet) → (b ≡ Free → ⊥) → Joint ta tb Free b ma ia mb ib u [] → ⊥
 quiet_free_a ta tb Free ma ia mb ib u gone h = gone refl
 quiet_free_a ta tb Calling ma ia mb ib u gone h = h.1
 quiet_free_a ta tb other ma ia mb ib u gone h = h
 
-quiet_free_b : (ta tb : Terms) (a : Phase) (ma ia mb ib : List Item) (v : List Packet) → (a ≡ Free → ⊥) → Joint ta tb a Free ma ia mb ib [] v → ⊥
+quiet_free_b : (ta tb : Terms) (a : Phase) (ma ia mb ib : List CallRequest) (v : List Packet) → (a ≡ Free → ⊥) → Joint ta tb a Free ma ia mb ib [] v → ⊥
 quiet_free_b ta tb Free ma ia mb ib v gone h = gone refl
 quiet_free_b ta tb Calling ma ia mb ib v gone h = h.0
 quiet_free_b ta tb other ma ia mb ib v gone h = h

@@ -1,6 +1,7 @@
 -- What is kept of two circuits between two clears. The first of the two ends is the DTE, the second the DCE.
 use Rattle.std.proofs.Common.{◌≡◌, ◌⊎◌, List, [], ◌∷◌, ◌++◌, None}
-use Rattle.x25_epochs.specs.Terms.{Item, Terms}
+use Rattle.x25_circuit.specs.Circuit.{Terms}
+use Rattle.x25_circuit.specs.Notices.{CallRequest}
 use Rattle.x25_epochs.specs.Stretch.{Packet, Call, Accept}
 use Rattle.x25_epochs.specs.Transfer.{fresh_transfer}
 use Rattle.x25_epochs.specs.Calls.{Phase, Free, Calling, Arriving, Crossed, Talking, Connection, CallStep}
@@ -11,16 +12,16 @@ Nil [] = Unit {0}
 Nil (p ∷ u) = ⊥
 
 -- one CALL alone, with the item made
-abbrev pub call_at : List Item → Packet → Type 0 → Type 0
+abbrev pub call_at : List CallRequest → Packet → Type 0 → Type 0
 call_at m (Call n) later = (m ≡ n ∷ []) × later
 call_at m other later = ⊥
 
-abbrev pub OneCall : List Item → List Packet → Type 0
+abbrev pub OneCall : List CallRequest → List Packet → Type 0
 OneCall m [] = ⊥
 OneCall m (p ∷ u) = call_at m p (Nil u)
 
 -- one CALL, or none and none was made
-abbrev pub MaybeCall : List Item → List Packet → Type 0
+abbrev pub MaybeCall : List CallRequest → List Packet → Type 0
 MaybeCall m [] = m ≡ []
 MaybeCall m (p ∷ u) = call_at m p (Nil u)
 
@@ -33,18 +34,18 @@ abbrev pub Accepted : (List Packet → Type 0) → List Packet → Type 0
 Accepted R [] = ⊥
 Accepted R (p ∷ u) = accept_at p (R u)
 
-abbrev pub call_or_accept_at : List Item → Packet → Type 0 → Type 0 → Type 0
+abbrev pub call_or_accept_at : List CallRequest → Packet → Type 0 → Type 0 → Type 0
 call_or_accept_at m (Call n) called accepted = (m ≡ n ∷ []) × called
 call_or_accept_at m Accept called accepted = (m ≡ []) × accepted
 call_or_accept_at m other called accepted = ⊥
 
 -- the same, but where a call was made its CALL is before it
-abbrev pub CallAccepted : List Item → (List Packet → Type 0) → List Packet → Type 0
+abbrev pub CallAccepted : List CallRequest → (List Packet → Type 0) → List Packet → Type 0
 CallAccepted m R [] = ⊥
 CallAccepted m R (p ∷ u) = call_or_accept_at m p (Accepted R u) (R u)
 
 -- the phases of the two ends (K0 to K10), with what is made and indicated at each; u is on the way to the DCE, v to the DTE
-abbrev pub Joint : Terms → Terms → Phase → Phase → List Item → List Item → List Item → List Item → List Packet → List Packet → Type 0
+abbrev pub Joint : Terms → Terms → Phase → Phase → List CallRequest → List CallRequest → List CallRequest → List CallRequest → List Packet → List Packet → Type 0
 Joint ta tb Free Free ma ia mb ib u v = Nil u × Nil v × (ma ≡ []) × (ia ≡ []) × (mb ≡ []) × (ib ≡ [])
 Joint ta tb Free Calling ma ia mb ib u v = Nil u × OneCall mb v × (ma ≡ []) × (ia ≡ []) × (ib ≡ [])
 Joint ta tb Calling Free ma ia mb ib u v = OneCall ma u × Nil v × (ia ≡ []) × (mb ≡ []) × (ib ≡ [])

@@ -1,8 +1,12 @@
 -- A channel keeps its relation, and no CLEAR comes in p1.
 use Rattle.std.proofs.Common.{◌≡◌, ℕ, suc, ◌+◌, ◌%◌, List, [], ◌∷◌, ◌++◌, length, Option, Some, None, Bool, true, false, nat_lt, nat_le, if◌then◌else◌, refl, sym, subst, ◌∙◌}
 use Rattle.x25_epochs.specs.Handshake.{Inner, Side, Live, Left, At}
-use Rattle.x25_epochs.specs.Messages.{Piece, cut, wholes}
-use Rattle.x25_epochs.specs.Terms.{Item, Terms, IsSound, Role, Dte, Dce, other_role}
+use Rattle.x25_circuit.specs.Messages.{Piece, cut, wholes}
+use Rattle.x25_bits.specs.declared.role.Role.{Role}
+use Rattle.x25_bits.specs.declared.role.Role.TheVariants.{Dte, Dce}
+use Rattle.x25_circuit.specs.Circuit.{Terms}
+use Rattle.x25_circuit.specs.Notices.{CallRequest}
+use Rattle.x25_epochs.specs.Terms.{IsSound, other_role}
 use Rattle.x25_epochs.specs.Stretch.{Packet, Data, Rr, Rnr, Int, IntConf, Reset, ResetConf, Call, Accept, Clear, ClearConf, Stretch, fresh, StretchStep, stretch_does, stretch_fails, StretchAct, Send, Pull, Ready, NotReady, Interrupt, status, pulls, stretch_acts, ack_ground, data_ground, by_ground, takes_data, takes_status, stretch_takes}
 use Rattle.x25_epochs.specs.Transfer.{lifted, takes_d1, takes_rst, transfer_side_takes, TransferAct, Inside, Resets, transfer_side_acts}
 use Rattle.x25_epochs.specs.Calls.{Phase, Free, Calling, Arriving, Crossed, Talking, Connection, CallStep, phase_takes, call_takes, CallAct, Makes, Accepts, Talks, phase_acts, call_acts, fresh_call}
@@ -47,7 +51,7 @@ pulls_inner t x (p ∷ ps) =
 
 acts_inner : (t : Terms) (x : Stretch) (a : StretchAct) → Quiet (stretch_acts t x a).out
 acts_inner t x (Send q xs) =
-    let sent : StretchStep = stretch_does (record x { rest = x.rest ++ cut t.size q xs; down = x.down ++ record { q = q; octets = xs } ∷ [] }) [] in
+    let sent : StretchStep = stretch_does (record x { rest = x.rest ++ cut t.size q xs; down = x.down ++ record { q = q; user = xs } ∷ [] }) [] in
     if_inner (nat_le (length xs) 65535) (if nat_lt (wholes x.rest) 8 then sent else stretch_does x []) (stretch_does x [])
     (if_inner (nat_lt (wholes x.rest) 8) sent (stretch_does x []) tt tt) tt
 acts_inner t x Pull = pulls_inner t x x.rest
@@ -78,7 +82,7 @@ side_inner : (size e : ℕ) (x : Side Stretch) (p : Packet) → Quiet (transfer_
 side_inner size e (Live x) p = d1_inner size e x p
 side_inner size e (Left x) p = rst_inner e x p
 
-takes_phase_inner : (r : Role) (size : ℕ) (a : Phase) (m i : List Item) (p : Packet) → Quiet (phase_takes r size a m i p).out
+takes_phase_inner : (r : Role) (size : ℕ) (a : Phase) (m i : List CallRequest) (p : Packet) → Quiet (phase_takes r size a m i p).out
 takes_phase_inner r size Free m i (Call n) = tt
 takes_phase_inner r size Free m i other = tt
 takes_phase_inner Dte size Calling m i (Call n) = tt
@@ -98,7 +102,7 @@ acts_side_inner t e (Live x) (Inside a) = lifted_inner e (stretch_acts t x a) (s
 acts_side_inner t e (Live x) Resets = (refl, tt)
 acts_side_inner t e (Left x) a = tt
 
-acts_phase_inner : (t : Terms) (p : Phase) (m i : List Item) (a : CallAct) → Quiet (phase_acts t p m i a).out
+acts_phase_inner : (t : Terms) (p : Phase) (m i : List CallRequest) (a : CallAct) → Quiet (phase_acts t p m i a).out
 acts_phase_inner t Free m i (Makes n) = (refl, tt)
 acts_phase_inner t Free m i other = tt
 acts_phase_inner t Calling m i a = tt

@@ -1,7 +1,9 @@
 -- What is kept of the two ends of a channel.
 use Rattle.std.proofs.Common.{◌≡◌, List, ◌++◌, None}
 use Rattle.x25_epochs.specs.Handshake.{Mark, Inner, Request, Confirm, At}
-use Rattle.x25_epochs.specs.Terms.{Terms, Role, Dte, Dce}
+use Rattle.x25_bits.specs.declared.role.Role.{Role}
+use Rattle.x25_bits.specs.declared.role.Role.TheVariants.{Dte, Dce}
+use Rattle.x25_circuit.specs.Circuit.{Terms}
 use Rattle.x25_epochs.specs.Stretch.{Packet, Clear, ClearConf, fresh}
 use Rattle.x25_epochs.specs.Calls.{Connection, fresh_call}
 use Rattle.x25_epochs.specs.Channel.{ChannelStep}

@@ -1,6 +1,9 @@
 -- In every run, the books of the two ends are lawful: for any kind of thing that is handled so within a call.
 use Rattle.std.proofs.Common.{◌≡◌, ℕ, List, [], ◌∷◌, ◌++◌, Option, None, Bool, true, false, if◌then◌else◌, refl, sym, ap, subst}
-use Rattle.x25_epochs.specs.Terms.{Role, Dte, Dce, other_role, Terms, IsSound}
+use Rattle.x25_bits.specs.declared.role.Role.{Role}
+use Rattle.x25_bits.specs.declared.role.Role.TheVariants.{Dte, Dce}
+use Rattle.x25_circuit.specs.Circuit.{Terms}
+use Rattle.x25_epochs.specs.Terms.{other_role, IsSound}
 use Rattle.x25_epochs.specs.Handshake.{Mark, Inner, Side, Live, Left, At, state_of}
 use Rattle.x25_epochs.specs.Stretch.{Packet}
 use Rattle.x25_epochs.specs.Calls.{Connection, call_takes}

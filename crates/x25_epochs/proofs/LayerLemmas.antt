@@ -2,7 +2,10 @@
 use Rattle.std.proofs.Common.{◌≡◌, ℕ, suc, List, [], ◌∷◌, ◌++◌, Option, None, Bool, true, false, if◌then◌else◌, refl, sym, ap, subst, ◌∙◌, ◌==◌, eq-eqb}
 use Rattle.std.proofs.lemmas.Bool.{eqb-true}
 use Rattle.x25_epochs.specs.Handshake.{Side, Live, Left, At}
-use Rattle.x25_epochs.specs.Terms.{Terms, IsSound, Role, Dte, Dce, other_role}
+use Rattle.x25_bits.specs.declared.role.Role.{Role}
+use Rattle.x25_bits.specs.declared.role.Role.TheVariants.{Dte, Dce}
+use Rattle.x25_circuit.specs.Circuit.{Terms}
+use Rattle.x25_epochs.specs.Terms.{IsSound, other_role}
 use Rattle.x25_epochs.specs.Stretch.{Packet, fresh}
 use Rattle.x25_epochs.specs.Calls.{unexpected}
 use Rattle.x25_epochs.specs.Channel.{ChannelStep, channel_takes, ChannelAct, channel_acts}

@@ -1,7 +1,8 @@
 -- What is kept of two layers, and of two ends of which each may be out.
 use Rattle.std.proofs.Common.{◌≡◌, ℕ, List, [], ◌∷◌, ◌++◌, None, Bool, true, false, ◌==◌}
 use Rattle.x25_epochs.specs.Handshake.{Mark, Inner, Request, Confirm, Side, At}
-use Rattle.x25_epochs.specs.Terms.{Terms, Role}
+use Rattle.x25_bits.specs.declared.role.Role.{Role}
+use Rattle.x25_circuit.specs.Circuit.{Terms}
 use Rattle.x25_epochs.specs.Stretch.{Packet, fresh}
 use Rattle.x25_epochs.specs.Layers.{LayerPacket, On, Restart, RestartConf, Channels, all_fresh, LayerStep}
 use Rattle.x25_epochs.proofs.HandshakeRelation.{Extended, Level, Handshake}

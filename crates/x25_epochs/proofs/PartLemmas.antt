@@ -1,11 +1,12 @@
 -- What each step does to the parts of the relation of two stretches.
 use Rattle.std.proofs.Common.{◌≡◌, ℕ, ◌+◌, ◌%◌, ◌≤◌, List, [], ◌∷◌, ◌++◌, length, Option, Some, None, Bool, true, false, refl, sym, ap, subst, ◌∙◌, arith, append_assoc, length-append}
 use Rattle.std.proofs.lemmas.List.{length_push}
-use Rattle.x25_epochs.specs.Messages.{Piece, Message, nothing, joining, completed, carried_from, carries, piece_ground, Fits, cut}
-use Rattle.x25_epochs.specs.Terms.{resolved}
+use Rattle.x25_circuit.specs.declared.message.Message.{Message}
+use Rattle.x25_circuit.specs.Messages.{Piece, no_part, joining, completed, carried_from, carried, piece_ground, AreSound, cut}
+use Rattle.x25_window.specs.Modulo.{resolved}
 use Rattle.x25_epochs.specs.Stretch.{Packet, Data, Int, IntConf}
-use Rattle.x25_epochs.proofs.StretchRelation.{Carried, carried, ack_in, int_in, conf_in, piece_of, pieces, number_at, Numbered, hears, heard, ints, confs, Flow, Acks, Ints, Text}
-use Rattle.x25_epochs.proofs.TextLemmas.{joining-append, carried-append, Fits-back, Fits-append, Fits-cut, joining-cut, carried-cut}
+use Rattle.x25_epochs.proofs.StretchRelation.{Numbering, numbering, ack_in, int_in, conf_in, piece_of, pieces, number_at, Numbered, hears, heard, ints, confs, Flow, Acks, Ints, Text}
+use Rattle.x25_epochs.proofs.TextLemmas.{joining-append, carried-append, AreSound-back, AreSound-append, AreSound-cut, joining-cut, carried-cut}
 use Rattle.x25_epochs.proofs.LineLemmas.{nil_append, resolved_is, heard_least, heard_push, pieces_push, ints_push, confs_push, Numbered_push}
 
 -- A1, A2
@@ -19,10 +20,10 @@ Flow-send sent taken u r p h = record {
   numbers = Numbered_push (length taken) u (Data (length sent % 8) r p) h.numbers (ap (λ n. n % 8) (Flow-le sent taken u h), tt);
 }
 
-pub Flow-push : (sent taken : List Piece) (u : List Packet) (q : Packet) → carried q ≡ None → Flow sent taken u → Flow sent taken (u ++ q ∷ [])
+pub Flow-push : (sent taken : List Piece) (u : List Packet) (q : Packet) → numbering q ≡ None → Flow sent taken u → Flow sent taken (u ++ q ∷ [])
 Flow-push sent taken u q none h = record {
   flow = h.flow ∙ ap (λ l. taken ++ l) (sym (pieces_push u q ∙ ap (λ c. pieces u ++ piece_of c) none ∙ nil_append (pieces u)));
-  numbers = Numbered_push (length taken) u q h.numbers (subst (λ (c : Option Carried). number_at (length taken + length (pieces u)) c (λ m. Unit {0})) (sym none) tt);
+  numbers = Numbered_push (length taken) u q h.numbers (subst (λ (c : Option Numbering). number_at (length taken + length (pieces u)) c (λ m. Unit {0})) (sym none) tt);
 }
 
 pub Flow-take : (sent taken : List Piece) (u : List Packet) (s r : ℕ) (p : Piece) → Flow sent taken (Data s r p ∷ u) → Flow sent (taken ++ p ∷ []) u
@@ -99,38 +100,38 @@ Ints-conf down up u v h = record { count = omega arith; flow = h.flow }
 -- A7
 
 pub Text-send : (size : ℕ) (sent rest : List Piece) (down : List Message) (q : Bool) (xs : List ℕ) → 1 ≤ size → length xs ≤ 65535 → Text size sent rest down
-    → Text size sent (rest ++ cut size q xs) (down ++ record { q = q; octets = xs } ∷ [])
+    → Text size sent (rest ++ cut size q xs) (down ++ record { q = q; user = xs } ∷ [])
 Text-send size sent rest down q xs one small h =
     let e : (sent ++ rest) ++ cut size q xs ≡ sent ++ (rest ++ cut size q xs) = append_assoc sent rest (cut size q xs) in
     let far : length xs ≤ size + length xs = omega arith in
     record {
-      fits = subst (λ (l : List Piece). Fits size nothing l) e
-        (Fits-append size nothing (sent ++ rest) (cut size q xs) h.fits
-        (subst (λ j. Fits size j (cut size q xs)) (sym h.whole) (Fits-cut (length xs) size q xs nothing one far (omega arith) refl)));
-      whole = ap (joining nothing) (sym e) ∙ joining-append nothing (sent ++ rest) (cut size q xs) ∙ joining-cut (length xs) size q xs (joining nothing (sent ++ rest));
-      carried = ap (λ l. l ++ record { q = q; octets = xs } ∷ []) h.carried
-        ∙ sym (ap carries (sym e) ∙ carried-append nothing (sent ++ rest) (cut size q xs)
-        ∙ ap (λ j. carries (sent ++ rest) ++ carried_from j (cut size q xs)) h.whole
-        ∙ ap (λ l. carries (sent ++ rest) ++ l) (carried-cut (length xs) size q xs nothing));
+      fits = subst (λ (l : List Piece). AreSound size no_part l) e
+        (AreSound-append size no_part (sent ++ rest) (cut size q xs) h.fits
+        (subst (λ j. AreSound size j (cut size q xs)) (sym h.whole) (AreSound-cut (length xs) size q xs no_part one far (omega arith) refl)));
+      whole = ap (joining no_part) (sym e) ∙ joining-append no_part (sent ++ rest) (cut size q xs) ∙ joining-cut (length xs) size q xs (joining no_part (sent ++ rest));
+      messages = ap (λ l. l ++ record { q = q; user = xs } ∷ []) h.messages
+        ∙ sym (ap carried (sym e) ∙ carried-append no_part (sent ++ rest) (cut size q xs)
+        ∙ ap (λ j. carried (sent ++ rest) ++ carried_from j (cut size q xs)) h.whole
+        ∙ ap (λ l. carried (sent ++ rest) ++ l) (carried-cut (length xs) size q xs no_part));
     }
 
 pub Text-pull : (size : ℕ) (sent : List Piece) (p : Piece) (rest : List Piece) (down : List Message) → Text size sent (p ∷ rest) down → Text size (sent ++ p ∷ []) rest down
 Text-pull size sent p rest down h =
     let e : sent ++ (p ∷ rest) ≡ (sent ++ p ∷ []) ++ rest = sym (append_assoc sent (p ∷ []) rest) in
     record {
-      fits = subst (λ (l : List Piece). Fits size nothing l) e h.fits;
-      whole = ap (joining nothing) (sym e) ∙ h.whole;
-      carried = h.carried ∙ ap carries e;
+      fits = subst (λ (l : List Piece). AreSound size no_part l) e h.fits;
+      whole = ap (joining no_part) (sym e) ∙ h.whole;
+      messages = h.messages ∙ ap carried e;
     }
 
 -- a packet on the way is refused on no ground
 pub Text-ground : (size : ℕ) (sent rest : List Piece) (down : List Message) (taken : List Piece) (p : Piece) (later : List Piece) → sent ≡ taken ++ (p ∷ later) → Text size sent rest down
-    → piece_ground size (joining nothing taken) p ≡ None
+    → piece_ground size (joining no_part taken) p ≡ None
 Text-ground size sent rest down taken p later is h =
-    (Fits-back size nothing taken ((p ∷ later) ++ rest)
-    (subst (λ (l : List Piece). Fits size nothing l) (ap (λ l. l ++ rest) is ∙ append_assoc taken (p ∷ later) rest) h.fits)).0
+    (AreSound-back size no_part taken ((p ∷ later) ++ rest)
+    (subst (λ (l : List Piece). AreSound size no_part l) (ap (λ l. l ++ rest) is ∙ append_assoc taken (p ∷ later) rest) h.fits)).0
 
-pub up-take : (up : List Message) (taken : List Piece) (p : Piece) → up ≡ carries taken → up ++ completed (joining nothing taken) p ≡ carries (taken ++ p ∷ [])
+pub up-take : (up : List Message) (taken : List Piece) (p : Piece) → up ≡ carried taken → up ++ completed (joining no_part taken) p ≡ carried (taken ++ p ∷ [])
 up-take up taken p is =
-    ap (λ l. l ++ completed (joining nothing taken) p) is
-    ∙ sym (carried-append nothing taken (p ∷ []) ∙ ap (λ l. carries taken ++ l) (nil_append (completed (joining nothing taken) p)))
+    ap (λ l. l ++ completed (joining no_part taken) p) is
+    ∙ sym (carried-append no_part taken (p ∷ []) ∙ ap (λ l. carried taken ++ l) (nil_append (completed (joining no_part taken) p)))

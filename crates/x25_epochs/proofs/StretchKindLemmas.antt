@@ -1,7 +1,12 @@
 -- Messages and interrupts: what belongs to a stretch is handed up as the other end handed it down in that stretch.
 use Rattle.std.proofs.Common.{◌≡◌, ◌⊎◌, inl, inr, ℕ, suc, ◌+◌, ◌<◌, List, [], ◌∷◌, ◌++◌, length, Option, Some, None, Bool, true, false, nat_lt, nat_le, if◌then◌else◌, refl, sym, ap, subst, ◌∙◌, arith}
-use Rattle.x25_epochs.specs.Messages.{Piece, Message, wholes}
-use Rattle.x25_epochs.specs.Terms.{Item, Role, Dte, Dce, Terms, IsSound}
+use Rattle.x25_circuit.specs.declared.message.Message.{Message}
+use Rattle.x25_circuit.specs.Messages.{Piece, wholes}
+use Rattle.x25_bits.specs.declared.role.Role.{Role}
+use Rattle.x25_bits.specs.declared.role.Role.TheVariants.{Dte, Dce}
+use Rattle.x25_circuit.specs.Circuit.{Terms}
+use Rattle.x25_circuit.specs.Notices.{CallRequest}
+use Rattle.x25_epochs.specs.Terms.{IsSound}
 use Rattle.x25_epochs.specs.Handshake.{Mark, Inner, Side, Live, Left, At, state_of}
 use Rattle.x25_epochs.specs.Stretch.{Packet, Data, Rr, Rnr, Int, IntConf, Reset, ResetConf, Call, Accept, Clear, ClearConf, Stretch, fresh, StretchStep, stretch_does, stretch_fails, StretchAct, Send, Pull, Ready, NotReady, Interrupt, pulls, stretch_acts, by_ground, data_ground, ack_ground, takes_data, takes_status, stretch_takes}
 use Rattle.x25_epochs.specs.Transfer.{d1, rst, fresh_transfer, lifted, transfer_side_takes, transfer_takes, TransferAct, Inside, Resets, transfer_side_acts, transfer_acts}
@@ -87,7 +92,7 @@ connects : {M : Type 0} (down up : Stretch → List M) → IsKept down up → (A
 connects down up k A e = Stays refl refl (down fresh, refl) (inl k.up_fresh)
 
 -- the change by a packet within a call, where the other end is y
-phase_taken : {M : Type 0} (down up : Stretch → List M) → IsKept down up → (r : Role) (t b : Terms) → IsSound b → (e : ℕ) (a : Phase) (m i : List Item) (u : List Packet) (p : Packet) (v : List Packet) (y : Connection)
+phase_taken : {M : Type 0} (down up : Stretch → List M) → IsKept down up → (r : Role) (t b : Terms) → IsSound b → (e : ℕ) (a : Phase) (m i : List CallRequest) (u : List Packet) (p : Packet) (v : List Packet) (y : Connection)
     → Seen r t b (record { phase = a; made = m; indicated = i }) u (p ∷ v) y
     → WithinCall (of_stretch down up) (MayIndicate (of_stretch down up) (record { phase = a; made = m; indicated = i }) y) e (record { phase = a; made = m; indicated = i }) (phase_takes r b.size a m i p).next
 phase_taken down up k r t b sound e Free m i u (Call n) v y h = idle down up _ e
@@ -125,7 +130,7 @@ transfer_acted down up k t s (Left x) a = (refl, alike (down x), refl)
 unmoved : {M : Type 0} (down up : Stretch → List M) (a : Phase) → Acted down up a a
 unmoved down up a = (refl, alike (held_in down up a).down, refl)
 
-phase_acted : {M : Type 0} (down up : Stretch → List M) → IsKept down up → (t : Terms) (a : Phase) (m i : List Item) (act : CallAct) → Acted down up a (phase_acts t a m i act).next.phase
+phase_acted : {M : Type 0} (down up : Stretch → List M) → IsKept down up → (t : Terms) (a : Phase) (m i : List CallRequest) (act : CallAct) → Acted down up a (phase_acts t a m i act).next.phase
 phase_acted down up k t Free m i (Makes n) = (refl, ([], refl), refl)
 phase_acted down up k t Free m i other = unmoved down up Free
 phase_acted down up k t Calling m i act = unmoved down up Calling
@@ -183,7 +188,7 @@ messages_pulled t x (p ∷ ps) =
 messages_acted : (t : Terms) (x : Stretch) (a : StretchAct) → Quiet (λ y. y.down) (λ y. y.up) x (stretch_acts t x a)
 messages_acted t x (Send q xs) =
     if_quiet (λ y. y.down) (λ y. y.up) x (nat_le (length xs) 65535) _ _
-    (if_quiet (λ y. y.down) (λ y. y.up) x (nat_lt (wholes x.rest) 8) _ _ ((record { q = q; octets = xs } ∷ [], refl), refl) (alike x.down, refl)) (alike x.down, refl)
+    (if_quiet (λ y. y.down) (λ y. y.up) x (nat_lt (wholes x.rest) 8) _ _ ((record { q = q; user = xs } ∷ [], refl), refl) (alike x.down, refl)) (alike x.down, refl)
 messages_acted t x Pull = messages_pulled t x x.rest
 messages_acted t x Ready = (alike x.down, refl)
 messages_acted t x NotReady = (alike x.down, refl)

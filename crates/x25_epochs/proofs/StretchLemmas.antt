@@ -2,11 +2,13 @@
 use Rattle.std.proofs.Common.{◌≡◌, ℕ, ◌+◌, ◌%◌, ◌<◌, ◌≤◌, List, [], ◌∷◌, ◌++◌, length, Option, Some, None, Bool, true, false, nat_lt, nat_le, if◌then◌else◌, refl, sym, ap, subst, ◌∙◌, eq-eqb, arith, append_assoc}
 use Rattle.std.proofs.lemmas.List.{length_push}
 use Rattle.std.proofs.lemmas.Bool.{le-leb, leb-true, ltb-true}
-use Rattle.x25_epochs.specs.Messages.{Piece, nothing, joining, carried_from, carries, piece_ground, cut, wholes}
-use Rattle.x25_epochs.specs.Terms.{Terms, resolved, IsSound}
+use Rattle.x25_circuit.specs.Messages.{Piece, no_part, joining, carried_from, carried, piece_ground, cut, wholes}
+use Rattle.x25_window.specs.Modulo.{resolved}
+use Rattle.x25_circuit.specs.Circuit.{Terms}
+use Rattle.x25_epochs.specs.Terms.{IsSound}
 use Rattle.x25_epochs.specs.Stretch.{Packet, Data, Rr, Rnr, Int, IntConf, Reset, ResetConf, Call, Accept, Clear, ClearConf, Stretch, fresh, StretchStep, stretch_does, stretch_fails, StretchAct, Send, Pull, Ready, NotReady, Interrupt, status, sends, pulls, interrupts, stretch_acts, ack_ground, data_ground, by_ground, takes_data, takes_status, stretch_takes}
 use Rattle.x25_epochs.specs.Layers.{ready}
-use Rattle.x25_epochs.proofs.StretchRelation.{carried, ack_in, int_in, conf_in, InFlowControl, pieces, heard, ints, Ints, Text, Direction, StretchesRelated, GoodStretch, FollowsFrom}
+use Rattle.x25_epochs.proofs.StretchRelation.{numbering, ack_in, int_in, conf_in, InFlowControl, pieces, heard, ints, Ints, Text, Direction, StretchesRelated, GoodStretch, FollowsFrom}
 use Rattle.x25_epochs.proofs.TextLemmas.{by_if, carried-append}
 use Rattle.x25_epochs.proofs.LineLemmas.{nil_append, AllOpen_push}
 use Rattle.x25_epochs.proofs.PartLemmas.{Flow-le, Flow-send, Flow-push, Flow-take, Acks-push, Acks-pass, Acks-more, Acks-taken, Acks-hear, heard_below, Ints-there, Ints-back, Ints-send, Ints-take, Ints-out, Ints-conf, Text-send, Text-pull, Text-ground, up-take}
@@ -22,7 +24,7 @@ StretchesRelated-fresh t b = record { there = none t; back = none b }
       flow = record { flow = refl; numbers = tt };
       acks = record { room = omega arith; acks = omega arith };
       ints = record { count = omega arith; flow = refl };
-      text = record { fits = tt; whole = refl; carried = refl };
+      text = record { fits = tt; whole = refl; messages = refl };
       up = refl;
       kinds = tt;
     }
@@ -32,7 +34,7 @@ GoodStretch-still : (t b : Terms) (x : Stretch) (u v : List Packet) (y : Stretch
 GoodStretch-still t b x u v y h = record { quiet = refl; kept = subst (λ (w : List Packet). StretchesRelated t b x w v y) (sym (nil_append u)) h }
 
 -- x tells how far it has taken
-StretchesRelated-tell : (t b : Terms) (x : Stretch) (u v : List Packet) (y : Stretch) (q : Packet) → IsSound b → carried q ≡ None → int_in q ≡ [] → conf_in q ≡ 0 → InFlowControl q → ack_in q ≡ Some (length x.taken % 8)
+StretchesRelated-tell : (t b : Terms) (x : Stretch) (u v : List Packet) (y : Stretch) (q : Packet) → IsSound b → numbering q ≡ None → int_in q ≡ [] → conf_in q ≡ 0 → InFlowControl q → ack_in q ≡ Some (length x.taken % 8)
     → StretchesRelated t b x u v y → StretchesRelated t b x (u ++ q ∷ []) v y
 StretchesRelated-tell t b x u v y q sound none no_int no_conf is ack h =
     let le : length y.sent ≡ length x.taken + length (pieces v) = Flow-le y.sent x.taken v h.back.flow in
@@ -69,7 +71,7 @@ StretchesRelated-own_ready t b x u v y ready h = record {
 
 GoodStretch-sends : (t b : Terms) (x : Stretch) (u v : List Packet) (y : Stretch) (q : Bool) (xs : List ℕ) → IsSound t → StretchesRelated t b x u v y → GoodStretch t b (sends t x q xs) u v y
 GoodStretch-sends t b x u v y q xs sound h =
-    let sent : Stretch = record x { rest = x.rest ++ cut t.size q xs; down = x.down ++ record { q = q; octets = xs } ∷ [] } in
+    let sent : Stretch = record x { rest = x.rest ++ cut t.size q xs; down = x.down ++ record { q = q; user = xs } ∷ [] } in
     by_if (λ s. GoodStretch t b s u v y) (nat_le (length xs) 65535) (if nat_lt (wholes x.rest) 8 then stretch_does sent [] else stretch_does x []) (stretch_does x [])
     (λ small. by_if (λ s. GoodStretch t b s u v y) (nat_lt (wholes x.rest) 8) (stretch_does sent []) (stretch_does x [])
     (λ _. GoodStretch-still t b sent u v y (record {
@@ -192,7 +194,7 @@ GoodStretch-take-data t b sound x u v y s r p h =
     let e : length x.sent ≡ length y.taken + length (pieces u) = Flow-le x.sent y.taken u h.there.flow in
     let low : resolved x.acked r ≤ length x.sent = heard_below x.acked (length x.sent) v r (length y.taken) (omega arith) h.there.acks.acks in
     let wanted : s ≡ length x.taken % 8 = h.back.flow.numbers.0 in
-    let ground : piece_ground b.size (joining nothing x.taken) p ≡ None = Text-ground b.size y.sent y.rest y.down x.taken p (pieces v) h.back.flow.flow h.back.text in
+    let ground : piece_ground b.size (joining no_part x.taken) p ≡ None = Text-ground b.size y.sent y.rest y.down x.taken p (pieces v) h.back.flow.flow h.back.text in
     let none : data_ground b.size x s r p ≡ None = rw (le-leb (resolved x.acked r) (length x.sent) low) (rw (eq-eqb s (length x.taken % 8) wanted) ground) in
     subst (λ (g : Option ℕ). GoodStretch t b (by_ground g x (takes_data x r p)) u v y) (sym none)
     (record {
@@ -297,16 +299,16 @@ GoodStretch-takes t b sound x u ClearConf v y h = absurd h.back.kinds.0
 
 pub FollowsFrom-from_Dir : (t : Terms) (x : Stretch) (u v : List Packet) (y : Stretch) → Direction t x u v y → FollowsFrom x u y
 FollowsFrom-from_Dir t x u v y h =
-    let down : x.down ≡ carries y.taken ++ carried_from (joining nothing y.taken) (pieces u ++ x.rest) =
-      h.text.carried ∙ ap (λ l. carries (l ++ x.rest)) h.flow.flow ∙ ap carries (append_assoc y.taken (pieces u) x.rest)
-      ∙ carried-append nothing y.taken (pieces u ++ x.rest)
+    let down : x.down ≡ carried y.taken ++ carried_from (joining no_part y.taken) (pieces u ++ x.rest) =
+      h.text.messages ∙ ap (λ l. carried (l ++ x.rest)) h.flow.flow ∙ ap carried (append_assoc y.taken (pieces u) x.rest)
+      ∙ carried-append no_part y.taken (pieces u ++ x.rest)
     in
     record {
-      begins = (carried_from (joining nothing y.taken) (pieces u ++ x.rest), ap (λ l. l ++ carried_from (joining nothing y.taken) (pieces u ++ x.rest)) h.up ∙ sym down);
+      begins = (carried_from (joining no_part y.taken) (pieces u ++ x.rest), ap (λ l. l ++ carried_from (joining no_part y.taken) (pieces u ++ x.rest)) h.up ∙ sym down);
       int_begins = (ints u, sym h.ints.flow);
       all = λ none idle.
-        h.up ∙ sym (nil_append (carries y.taken))
-        ∙ ap (λ l. carries y.taken ++ l) (sym (ap (λ l. carried_from (joining nothing y.taken) (pieces l ++ x.rest)) none ∙ ap (λ l. carried_from (joining nothing y.taken) l) idle))
+        h.up ∙ sym (nil_append (carried y.taken))
+        ∙ ap (λ l. carried y.taken ++ l) (sym (ap (λ l. carried_from (joining no_part y.taken) (pieces l ++ x.rest)) none ∙ ap (λ l. carried_from (joining no_part y.taken) l) idle))
         ∙ sym down;
       int_all = λ none. sym (h.ints.flow ∙ ap (λ l. y.int_up ++ ints l) none ∙ nil_append y.int_up);
     }

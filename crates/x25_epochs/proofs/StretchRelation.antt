@@ -1,18 +1,20 @@
 -- What is kept of two circuits in d1 of one stretch, and the lines between them.
 use Rattle.std.proofs.Common.{◌≡◌, ℕ, ◌+◌, ◌%◌, ◌≤◌, List, [], ◌∷◌, ◌++◌, length, Option, Some, None, Bool, true, false}
-use Rattle.x25_epochs.specs.Messages.{Piece, Message, nothing, joining, carries, Fits}
-use Rattle.x25_epochs.specs.Terms.{Terms, resolved}
+use Rattle.x25_circuit.specs.declared.message.Message.{Message}
+use Rattle.x25_circuit.specs.Messages.{Piece, no_part, joining, carried, AreSound}
+use Rattle.x25_window.specs.Modulo.{resolved}
+use Rattle.x25_circuit.specs.Circuit.{Terms}
 use Rattle.x25_epochs.specs.Stretch.{Packet, Data, Rr, Rnr, Int, IntConf, Stretch, StretchStep}
 use Rattle.x25_epochs.specs.Books.{Begins}
 
 -- a data packet's number and what it carries
-pub record Carried : Type 0 where
+pub record Numbering : Type 0 where
   pub number : ℕ
   pub piece : Piece
 
-abbrev pub carried : Packet → Option Carried
-carried (Data s r p) = Some (record { number = s; piece = p })
-carried other = None
+abbrev pub numbering : Packet → Option Numbering
+numbering (Data s r p) = Some (record { number = s; piece = p })
+numbering other = None
 
 -- P(R), where the packet has one
 abbrev pub ack_in : Packet → Option ℕ
@@ -43,22 +45,22 @@ AllInFlowControl [] = Unit {0}
 AllInFlowControl (p ∷ u) = InFlowControl p × AllInFlowControl u
 
 -- the data packets on a line
-abbrev pub piece_of : Option Carried → List Piece
+abbrev pub piece_of : Option Numbering → List Piece
 piece_of None = []
 piece_of (Some c) = c.piece ∷ []
 
 abbrev pub pieces : List Packet → List Piece
 pieces [] = []
-pieces (p ∷ u) = piece_of (carried p) ++ pieces u
+pieces (p ∷ u) = piece_of (numbering p) ++ pieces u
 
-abbrev pub number_at : ℕ → Option Carried → (ℕ → Type 0) → Type 0
+abbrev pub number_at : ℕ → Option Numbering → (ℕ → Type 0) → Type 0
 number_at n None later = later n
 number_at n (Some c) later = (c.number ≡ n % 8) × later (n + 1)
 
 -- the data packets are numbered from n on, modulo 8 (A2)
 abbrev pub Numbered : ℕ → List Packet → Type 0
 Numbered n [] = Unit {0}
-Numbered n (p ∷ u) = number_at n (carried p) (λ m. Numbered m u)
+Numbered n (p ∷ u) = number_at n (numbering p) (λ m. Numbered m u)
 
 -- the number acknowledged, once this P(R) has come
 abbrev pub hears : ℕ → Option ℕ → ℕ
@@ -99,9 +101,9 @@ pub record Ints (out : Bool) (down up : List (List ℕ)) (u v : List Packet) : T
 
 -- A7: what was sent, with what is still to be sent, is whole messages, those handed down
 pub record Text (size : ℕ) (sent rest : List Piece) (down : List Message) : Type 0 where
-  pub fits : Fits size nothing (sent ++ rest)
-  pub whole : joining nothing (sent ++ rest) ≡ nothing
-  pub carried : down ≡ carries (sent ++ rest)
+  pub fits : AreSound size no_part (sent ++ rest)
+  pub whole : joining no_part (sent ++ rest) ≡ no_part
+  pub messages : down ≡ carried (sent ++ rest)
 
 -- the direction from x to y; u is on the way there, v on the way back
 pub record Direction (t : Terms) (x : Stretch) (u v : List Packet) (y : Stretch) : Type 0 where
@@ -109,7 +111,7 @@ pub record Direction (t : Terms) (x : Stretch) (u v : List Packet) (y : Stretch)
   pub acks : Acks t.window x.acked (length x.sent) v (length y.taken)
   pub ints : Ints x.int_out x.int_down y.int_up u v
   pub text : Text t.size x.sent x.rest x.down
-  pub up : y.up ≡ carries y.taken
+  pub up : y.up ≡ carried y.taken
   pub kinds : AllInFlowControl u
 
 pub record StretchesRelated (t b : Terms) (x : Stretch) (u v : List Packet) (y : Stretch) : Type 0 where

@@ -1,7 +1,8 @@
 -- p4 keeps its relation, and has no procedure error.
 use Rattle.std.proofs.Common.{◌≡◌, ℕ, suc, List, [], ◌∷◌, ◌++◌, Option, None, refl, sym, subst}
 use Rattle.x25_epochs.specs.Handshake.{Inner, Side, Live, Left, At}
-use Rattle.x25_epochs.specs.Terms.{Terms, IsSound}
+use Rattle.x25_circuit.specs.Circuit.{Terms}
+use Rattle.x25_epochs.specs.Terms.{IsSound}
 use Rattle.x25_epochs.specs.Stretch.{Packet, Data, Rr, Rnr, Int, IntConf, Reset, ResetConf, Call, Accept, Clear, ClearConf, Stretch, fresh, StretchStep, StretchAct, stretch_acts, stretch_takes}
 use Rattle.x25_epochs.specs.Transfer.{d1, rst, fresh_transfer, lifted, takes_d1, takes_rst, transfer_side_takes, transfer_takes, TransferAct, Inside, Resets, transfer_side_acts, transfer_acts}
 use Rattle.x25_epochs.proofs.HandshakeRelation.{AllInner}

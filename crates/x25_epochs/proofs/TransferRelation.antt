@@ -1,7 +1,7 @@
 -- What is kept of two circuits in p4.
 use Rattle.std.proofs.Common.{◌≡◌, List, [], ◌∷◌, ◌++◌, None}
 use Rattle.x25_epochs.specs.Handshake.{Mark, Inner, Request, Confirm, At}
-use Rattle.x25_epochs.specs.Terms.{Terms}
+use Rattle.x25_circuit.specs.Circuit.{Terms}
 use Rattle.x25_epochs.specs.Stretch.{Packet, Reset, ResetConf, Call, Accept, Clear, ClearConf, Stretch, fresh}
 use Rattle.x25_epochs.specs.Transfer.{TransferStep}
 use Rattle.x25_epochs.proofs.HandshakeRelation.{Level, Handshake}

@@ -1,7 +1,9 @@
 -- Each step of an end lets the names of its channels stay or grow, and what it hands up begins what the other end handed down: for any kind of thing of which this is known within a call.
 use Rattle.std.proofs.Common.{◌≡◌, ◌⊎◌, inl, inr, ℕ, suc, ◌<◌, List, [], ◌∷◌, ◌++◌, Option, Some, None, Bool, true, false, ◌==◌, if◌then◌else◌, refl, sym, ap, subst, ◌∙◌, arith}
 use Rattle.std.proofs.lemmas.Bool.{eqb-true}
-use Rattle.x25_epochs.specs.Terms.{Role, Terms, IsSound}
+use Rattle.x25_bits.specs.declared.role.Role.{Role}
+use Rattle.x25_circuit.specs.Circuit.{Terms}
+use Rattle.x25_epochs.specs.Terms.{IsSound}
 use Rattle.x25_epochs.specs.Handshake.{Mark, Inner, Side, Live, Left, At, state_of}
 use Rattle.x25_epochs.specs.Stretch.{Packet, Data, Rr, Rnr, Int, IntConf, Reset, ResetConf, Call, Accept, Clear, ClearConf}
 use Rattle.x25_epochs.specs.Calls.{Phase, Free, Connection, CallStep, call_takes, CallAct, call_acts, fresh_call}

@@ -1,6 +1,7 @@
 -- Where nothing is on the way and nothing waits, everything of a stretch has arrived.
 use Rattle.std.specs.Prelude.{◌≡◌, ℕ, List, [], Option, Some, None}
-use Rattle.x25_epochs.specs.Terms.{Terms, IsSound}
+use Rattle.x25_circuit.specs.Circuit.{Terms}
+use Rattle.x25_epochs.specs.Terms.{IsSound}
 use Rattle.x25_epochs.specs.Handshake.{Side, Live, Left, At, state_of}
 use Rattle.x25_epochs.specs.Stretch.{Stretch}
 use Rattle.x25_epochs.specs.Calls.{Phase, Talking, Connection}

@@ -1,7 +1,11 @@
 -- What each end handed down and up on a channel, written under the names of its stretches.
 use Rattle.std.specs.Prelude.{◌≡◌, ℕ, List, [], ◌∷◌, ◌++◌, Bool, if◌then◌else◌}
-use Rattle.x25_epochs.specs.Messages.{Message}
-use Rattle.x25_epochs.specs.Terms.{Item, Terms, IsSound, Role, Dte, Dce}
+use Rattle.x25_circuit.specs.declared.message.Message.{Message}
+use Rattle.x25_bits.specs.declared.role.Role.{Role}
+use Rattle.x25_bits.specs.declared.role.Role.TheVariants.{Dte, Dce}
+use Rattle.x25_circuit.specs.Circuit.{Terms}
+use Rattle.x25_circuit.specs.Notices.{CallRequest}
+use Rattle.x25_epochs.specs.Terms.{IsSound}
 use Rattle.x25_epochs.specs.Handshake.{Side, Live, Left, At, state_of}
 use Rattle.x25_epochs.specs.Stretch.{Stretch}
 use Rattle.x25_epochs.specs.Calls.{Phase, Talking, Connection}
@@ -40,7 +44,7 @@ abbrev pub interrupts : Kind (List ℕ)
 interrupts = of_stretch (λ x. x.int_down) (λ x. x.int_up)
 
 -- calls stand before the first reset of what they may become
-abbrev pub calls : Kind Item
+abbrev pub calls : Kind CallRequest
 calls = record { resets = λ c. 0; held = λ c. record { down = c.made; up = c.indicated } }
 
 -- the circuit of channel k

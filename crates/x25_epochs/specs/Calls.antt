@@ -1,7 +1,10 @@
 -- A circuit between two clears: p1, call sent, call received, collided (p5) and p4, with the calls made and indicated.
 use Rattle.std.specs.Prelude.{ℕ, List, [], ◌∷◌, ◌++◌, Option, Some, None}
 use Rattle.x25_epochs.specs.Handshake.{At}
-use Rattle.x25_epochs.specs.Terms.{Item, Terms, Role, Dte, Dce}
+use Rattle.x25_bits.specs.declared.role.Role.{Role}
+use Rattle.x25_bits.specs.declared.role.Role.TheVariants.{Dte, Dce}
+use Rattle.x25_circuit.specs.Circuit.{Terms}
+use Rattle.x25_circuit.specs.Notices.{CallRequest}
 use Rattle.x25_epochs.specs.Stretch.{Packet, Call, Accept, Stretch}
 use Rattle.x25_epochs.specs.Transfer.{TransferStep, fresh_transfer, transfer_takes, TransferAct, transfer_acts}
 
@@ -16,29 +19,29 @@ pub data Phase : Type 0 where
 -- the phase, and the items of `call` and `incoming` of this clear epoch
 pub record Connection : Type 0 where
   pub phase : Phase
-  pub made : List Item
-  pub indicated : List Item
+  pub made : List CallRequest
+  pub indicated : List CallRequest
 
 pub record CallStep : Type 0 where
   pub next : Connection
   pub out : List Packet
   pub error : Option ℕ
 
-abbrev pub goes : Phase → List Item → List Item → List Packet → CallStep
+abbrev pub goes : Phase → List CallRequest → List CallRequest → List Packet → CallStep
 goes p m i o = record { next = record { phase = p; made = m; indicated = i }; out = o; error = None }
 
 -- an error of the circuit's table: E S
-abbrev pub unexpected : Phase → List Item → List Item → CallStep
+abbrev pub unexpected : Phase → List CallRequest → List CallRequest → CallStep
 unexpected p m i = record { next = record { phase = p; made = m; indicated = i }; out = []; error = Some 0 }
 
-abbrev pub in_transfer : List Item → List Item → TransferStep → CallStep
+abbrev pub in_transfer : List CallRequest → List CallRequest → TransferStep → CallStep
 in_transfer m i s = record { next = record { phase = Talking s.next; made = m; indicated = i }; out = s.out; error = s.error }
 
-abbrev pub call_crosses : Role → List Item → List Item → Item → CallStep
+abbrev pub call_crosses : Role → List CallRequest → List CallRequest → CallRequest → CallStep
 call_crosses Dte m i n = goes Crossed m i []
 call_crosses Dce m i n = goes Arriving m (i ++ n ∷ []) []
 
-abbrev pub phase_takes : Role → ℕ → Phase → List Item → List Item → Packet → CallStep
+abbrev pub phase_takes : Role → ℕ → Phase → List CallRequest → List CallRequest → Packet → CallStep
 phase_takes r size Free m i (Call n) = goes Arriving m (i ++ n ∷ []) []
 phase_takes r size Free m i other = unexpected Free m i
 phase_takes r size Calling m i (Call n) = call_crosses r m i n
@@ -53,11 +56,11 @@ abbrev pub call_takes : Role → ℕ → Connection → Packet → CallStep
 call_takes r size x p = phase_takes r size x.phase x.made x.indicated p
 
 pub data CallAct : Type 0 where
-  Makes : (item : Item) → CallAct
+  Makes : (item : CallRequest) → CallAct
   Accepts : CallAct
   Talks : (act : TransferAct) → CallAct
 
-abbrev pub phase_acts : Terms → Phase → List Item → List Item → CallAct → CallStep
+abbrev pub phase_acts : Terms → Phase → List CallRequest → List CallRequest → CallAct → CallStep
 phase_acts t Free m i (Makes n) = goes Calling (m ++ n ∷ []) i (Call n ∷ [])
 phase_acts t Free m i other = goes Free m i []
 phase_acts t Calling m i a = goes Calling m i []

@@ -1,7 +1,8 @@
 -- A circuit between two restarts: the calls within the handshake of CLEAR.
 use Rattle.std.specs.Prelude.{ℕ, suc, List, [], ◌∷◌, Option, Some, None}
 use Rattle.x25_epochs.specs.Handshake.{Side, Live, Left, At}
-use Rattle.x25_epochs.specs.Terms.{Terms, Role}
+use Rattle.x25_bits.specs.declared.role.Role.{Role}
+use Rattle.x25_circuit.specs.Circuit.{Terms}
 use Rattle.x25_epochs.specs.Stretch.{Packet, Clear, ClearConf}
 use Rattle.x25_epochs.specs.Calls.{Phase, Free, Connection, CallStep, call_takes, CallAct, call_acts, fresh_call}
 

@@ -1,4 +1,3 @@
-pub mod Messages
 pub mod Terms
 pub mod Handshake
 pub mod Stretch

@@ -1,17 +1,20 @@
 -- A circuit in d1 of p4 (flow control ready) for one stretch, with the lists of what was handed down and up in it: the calls of the user and the packets taken.
 use Rattle.std.specs.Prelude.{ℕ, ◌+◌, ◌%◌, List, [], ◌∷◌, ◌++◌, length, Option, Some, None, Bool, true, false, nat_lt, nat_le, if◌then◌else◌, ◌==◌}
-use Rattle.x25_epochs.specs.Messages.{Piece, Message, nothing, joining, completed, piece_ground, cut, wholes}
-use Rattle.x25_epochs.specs.Terms.{Item, Terms, resolved}
+use Rattle.x25_circuit.specs.declared.message.Message.{Message}
+use Rattle.x25_circuit.specs.Messages.{Piece, no_part, joining, completed, piece_ground, cut, wholes}
+use Rattle.x25_window.specs.Modulo.{resolved}
+use Rattle.x25_circuit.specs.Circuit.{Terms}
+use Rattle.x25_circuit.specs.Notices.{CallRequest}
 
 pub data Packet : Type 0 where
   Data : (ns : ℕ) → (nr : ℕ) → (piece : Piece) → Packet
   Rr : (nr : ℕ) → Packet
   Rnr : (nr : ℕ) → Packet
-  Int : (octets : List ℕ) → Packet
+  Int : (user : List ℕ) → Packet
   IntConf : Packet
   Reset : Packet
   ResetConf : Packet
-  Call : (item : Item) → Packet
+  Call : (item : CallRequest) → Packet
   Accept : Packet
   Clear : Packet
   ClearConf : Packet
@@ -57,11 +60,11 @@ abbrev pub stretch_fails : Stretch → ℕ → StretchStep
 stretch_fails x n = record { next = x; out = []; error = Some n }
 
 pub data StretchAct : Type 0 where
-  Send : (q : Bool) → (octets : List ℕ) → StretchAct
+  Send : (q : Bool) → (user : List ℕ) → StretchAct
   Pull : StretchAct
   Ready : StretchAct
   NotReady : StretchAct
-  Interrupt : (octets : List ℕ) → StretchAct
+  Interrupt : (user : List ℕ) → StretchAct
 
 -- RR or RNR with this number
 abbrev pub status : Bool → ℕ → Packet
@@ -72,7 +75,7 @@ abbrev pub sends : Terms → Stretch → Bool → List ℕ → StretchStep
 sends t x q xs =
     if nat_le (length xs) 65535
     then (if nat_lt (wholes x.rest) 8
-      then stretch_does (record x { rest = x.rest ++ cut t.size q xs; down = x.down ++ record { q = q; octets = xs } ∷ [] }) []
+      then stretch_does (record x { rest = x.rest ++ cut t.size q xs; down = x.down ++ record { q = q; user = xs } ∷ [] }) []
       else stretch_does x [])
     else stretch_does x []
 
@@ -109,7 +112,7 @@ ack_ground x r = if nat_le (resolved x.acked r) (length x.sent) then None else S
 abbrev pub data_ground : ℕ → Stretch → ℕ → ℕ → Piece → Option ℕ
 data_ground size x s r p =
     if nat_le (resolved x.acked r) (length x.sent)
-    then (if s == length x.taken % 8 then piece_ground size (joining nothing x.taken) p else Some 1)
+    then (if s == length x.taken % 8 then piece_ground size (joining no_part x.taken) p else Some 1)
     else Some 2
 
 abbrev pub by_ground : Option ℕ → Stretch → StretchStep → StretchStep
@@ -121,7 +124,7 @@ takes_data x r p =
     stretch_does (record x {
       acked = resolved x.acked r;
       taken = x.taken ++ p ∷ [];
-      up = x.up ++ completed (joining nothing x.taken) p;
+      up = x.up ++ completed (joining no_part x.taken) p;
     }) (status x.own_ready (length x.taken + 1) ∷ [])
 
 abbrev pub takes_status : Stretch → Bool → ℕ → StretchStep

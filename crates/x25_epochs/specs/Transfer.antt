@@ -1,7 +1,7 @@
 -- p4 (data transfer): a circuit in d1, or one that has sent RESET; a stretch within the handshake of RESET.
 use Rattle.std.specs.Prelude.{ℕ, suc, List, [], ◌∷◌, Option, Some, None}
 use Rattle.x25_epochs.specs.Handshake.{Side, Live, Left, At}
-use Rattle.x25_epochs.specs.Terms.{Terms}
+use Rattle.x25_circuit.specs.Circuit.{Terms}
 use Rattle.x25_epochs.specs.Stretch.{Packet, Reset, ResetConf, Call, Accept, Clear, ClearConf, Stretch, fresh, StretchStep, StretchAct, stretch_acts, stretch_takes}
 
 pub record TransferStep : Type 0 where

@@ -1,5 +1,6 @@
 ghost use Rattle.std.specs.Prelude.{◌≡◌, List, None};
-ghost use Rattle.x25_epochs.specs.Terms.{Terms, IsSound};
+ghost use Rattle.x25_circuit.specs.Circuit.{Terms};
+ghost use Rattle.x25_epochs.specs.Terms.{IsSound};
 ghost use Rattle.x25_epochs.specs.Layers.{Event, pair_run, pair_start};
 ghost use Rattle.x25_epochs.specs.Books.{messages, interrupts, calls, AreInOrder};
 ghost use Rattle.x25_epochs.specs.Arrivals.{AllArrives};
