@@ -16,7 +16,7 @@ pub data Change {M : Type 0} (Allowed : List M → Type 0) (clears resets : ℕ)
 -- .. in a step of the layer
 pub data Turn {M : Type 0} (kind : Kind M) (Allowed : List M → Type 0) (k : ℕ) (x y : At Channels) : Type 0 where
   Remained : y.epoch ≡ x.epoch
-    → Change Allowed (name_at kind x k).clears (name_at kind x k).resets (held_at kind x k) (name_at kind y k).clears (name_at kind y k).resets (held_at kind y k) → Turn kind Allowed k x y
+      → Change Allowed (name_at kind x k).clears (name_at kind x k).resets (held_at kind x k) (name_at kind y k).clears (name_at kind y k).resets (held_at kind y k) → Turn kind Allowed k x y
   Restarted : x.epoch < y.epoch → held_at kind y k ≡ none → Turn kind Allowed k x y
 
 pub append_nil : {A : Type 0} (a : List A) → a ++ [] ≡ a
@@ -44,11 +44,11 @@ rewritten_kept {M} e f n l k later up down = record {
   later = λ m less. written_other e.book n l m (earlier-differs n m less) ∙ k.later m (later m less);
   later_there = k.later_there;
   begins = λ m. by_test (λ (x : Lists M). Begins x.up (f.book m).down) (same_name m n) l (e.book m)
-    (λ is. subst (λ (j : Name). Begins l.up (f.book j).down) (sym (same_name-is m n is)) up)
-    (λ is. k.begins m);
+      (λ is. subst (λ (j : Name). Begins l.up (f.book j).down) (sym (same_name-is m n is)) up)
+      (λ is. k.begins m);
   begins_there = λ m. by_test (λ (x : Lists M). Begins (f.book m).up x.down) (same_name m n) l (e.book m)
-    (λ is. subst (λ (j : Name). Begins (f.book j).up l.down) (sym (same_name-is m n is)) down)
-    (λ is. k.begins_there m);
+      (λ is. subst (λ (j : Name). Begins (f.book j).up l.down) (sym (same_name-is m n is)) down)
+      (λ is. k.begins_there m);
 }
 
 Begins-trans : {T : Type 0} (a b c : List T) → Begins a b → Begins b c → Begins a c
@@ -70,8 +70,8 @@ stays : {M : Type 0} (e f : Desk M) (n : Name) (l : Lists M) → n ≡ e.name �
 stays {M} e f n l name down up k =
     rewritten_kept e f n l k (λ m less. subst (λ (j : Name). IsEarlier j m) name less) (stays_up e f n l name up k)
     (Begins-trans (f.book n).up e.held.down l.down
-      (subst (λ (j : Name). Begins (f.book j).up e.held.down) (sym name) (subst (λ (x : Lists M). Begins (f.book e.name).up x.down) k.held (k.begins_there e.name)))
-      down)
+    (subst (λ (j : Name). Begins (f.book j).up e.held.down) (sym name) (subst (λ (x : Lists M). Begins (f.book e.name).up x.down) k.held (k.begins_there e.name)))
+    down)
 
 grows : {M : Type 0} (e f : Desk M) (n : Name) (l : Lists M) → IsEarlier e.name n → l ≡ none → IsLawful e f → IsLawful (rewritten e n l) f
 grows {M} e f n l later empty k =

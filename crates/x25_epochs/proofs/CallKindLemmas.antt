@@ -1,13 +1,13 @@
 -- Calls: what is indicated at an end, the other end made.
-use Rattle.std.proofs.Common.{◌≡◌, ◌⊎◌, inl, inr, ℕ, List, [], ◌∷◌, ◌++◌, Option, None, refl, sym, subst, ◌∙◌}
+use Rattle.std.proofs.Common.{◌≡◌, ◌⊎◌, inl, inr, ℕ, List, [], ◌∷◌, ◌++◌, refl, sym, subst, ◌∙◌}
 use Rattle.x25_bits.specs.declared.role.Role.{Role}
 use Rattle.x25_bits.specs.declared.role.Role.TheVariants.{Dte, Dce}
 use Rattle.x25_circuit.specs.Circuit.{Terms}
 use Rattle.x25_circuit.specs.Notices.{CallRequest}
 use Rattle.x25_epochs.specs.Terms.{IsSound}
-use Rattle.x25_epochs.specs.Handshake.{Mark, Inner}
+use Rattle.x25_epochs.specs.Handshake.{Inner}
 use Rattle.x25_epochs.specs.Stretch.{Packet, Call, Accept}
-use Rattle.x25_epochs.specs.Calls.{Phase, Free, Calling, Arriving, Crossed, Talking, Connection, phase_takes, call_takes, CallAct, Makes, Accepts, Talks, phase_acts, call_acts}
+use Rattle.x25_epochs.specs.Calls.{Phase, Unused, Waiting, Offered, Crossed, Talking, Connection, phase_takes, call_takes, CallAct, PlacesCall, AcceptsCall, Talks, phase_acts}
 use Rattle.x25_epochs.specs.Books.{calls, Begins}
 use Rattle.x25_epochs.proofs.CallsRelation.{Joint, ConnectionsRelated, GoodDte, GoodDce}
 use Rattle.x25_epochs.proofs.ChannelRelation.{clear_mark, Seen}
@@ -23,21 +23,21 @@ same_begins i m is = ([], append_nil i ∙ is)
 
 -- in every phase of a call
 joint_begins : (ta tb : Terms) (a b : Phase) (ma ia mb ib : List CallRequest) (u v : List Packet) → Joint ta tb a b ma ia mb ib u v → Begins ia mb × Begins ib ma
-joint_begins ta tb Free Free ma ia mb ib u v h = (empty_begins ia mb h.3, empty_begins ib ma h.5)
-joint_begins ta tb Free Calling ma ia mb ib u v h = (empty_begins ia mb h.3, empty_begins ib ma h.4)
-joint_begins ta tb Free other ma ia mb ib u v h = absurd h
-joint_begins ta tb Calling Free ma ia mb ib u v h = (empty_begins ia mb h.2, empty_begins ib ma h.4)
-joint_begins ta tb Calling Calling ma ia mb ib u v h = (empty_begins ia mb h.2, empty_begins ib ma h.3)
-joint_begins ta tb Calling Arriving ma ia mb ib u v h = (empty_begins ia mb h.2, same_begins ib ma h.3)
-joint_begins ta tb Calling (Talking y) ma ia mb ib u v h = (empty_begins ia mb h.2, same_begins ib ma h.3)
-joint_begins ta tb Calling Crossed ma ia mb ib u v h = absurd h
-joint_begins ta tb Crossed Calling ma ia mb ib u v h = (empty_begins ia mb h.2, empty_begins ib ma h.3)
-joint_begins ta tb Crossed Arriving ma ia mb ib u v h = (empty_begins ia mb h.2, same_begins ib ma h.3)
+joint_begins ta tb Unused Unused ma ia mb ib u v h = (empty_begins ia mb h.3, empty_begins ib ma h.5)
+joint_begins ta tb Unused Waiting ma ia mb ib u v h = (empty_begins ia mb h.3, empty_begins ib ma h.4)
+joint_begins ta tb Unused other ma ia mb ib u v h = absurd h
+joint_begins ta tb Waiting Unused ma ia mb ib u v h = (empty_begins ia mb h.2, empty_begins ib ma h.4)
+joint_begins ta tb Waiting Waiting ma ia mb ib u v h = (empty_begins ia mb h.2, empty_begins ib ma h.3)
+joint_begins ta tb Waiting Offered ma ia mb ib u v h = (empty_begins ia mb h.2, same_begins ib ma h.3)
+joint_begins ta tb Waiting (Talking y) ma ia mb ib u v h = (empty_begins ia mb h.2, same_begins ib ma h.3)
+joint_begins ta tb Waiting Crossed ma ia mb ib u v h = absurd h
+joint_begins ta tb Crossed Waiting ma ia mb ib u v h = (empty_begins ia mb h.2, empty_begins ib ma h.3)
+joint_begins ta tb Crossed Offered ma ia mb ib u v h = (empty_begins ia mb h.2, same_begins ib ma h.3)
 joint_begins ta tb Crossed (Talking y) ma ia mb ib u v h = (empty_begins ia mb h.2, same_begins ib ma h.3)
 joint_begins ta tb Crossed other ma ia mb ib u v h = absurd h
-joint_begins ta tb Arriving Calling ma ia mb ib u v h = (same_begins ia mb h.2, empty_begins ib ma h.3)
-joint_begins ta tb Arriving other ma ia mb ib u v h = absurd h
-joint_begins ta tb (Talking x) Calling ma ia mb ib u v h = (same_begins ia mb h.2, empty_begins ib ma h.3)
+joint_begins ta tb Offered Waiting ma ia mb ib u v h = (same_begins ia mb h.2, empty_begins ib ma h.3)
+joint_begins ta tb Offered other ma ia mb ib u v h = absurd h
+joint_begins ta tb (Talking x) Waiting ma ia mb ib u v h = (same_begins ia mb h.2, empty_begins ib ma h.3)
 joint_begins ta tb (Talking x) (Talking y) ma ia mb ib u v h = whose h.1
   where
     whose : (((ia ≡ []) × (ib ≡ ma)) ⊎ ((ia ≡ mb) × (ib ≡ []))) → Begins ia mb × Begins ib ma
@@ -58,13 +58,13 @@ indicated_begins Dce t b sound c u p v y h =
 
 -- a packet makes no call
 takes_made : (r : Role) (size : ℕ) (a : Phase) (m i : List CallRequest) (p : Packet) → (phase_takes r size a m i p).next.made ≡ m
-takes_made r size Free m i (Call n) = refl
-takes_made r size Free m i other = refl
-takes_made Dte size Calling m i (Call n) = refl
-takes_made Dce size Calling m i (Call n) = refl
-takes_made r size Calling m i Accept = refl
-takes_made r size Calling m i other = refl
-takes_made r size Arriving m i p = refl
+takes_made r size Unused m i (Call n) = refl
+takes_made r size Unused m i other = refl
+takes_made Dte size Waiting m i (Call n) = refl
+takes_made Dce size Waiting m i (Call n) = refl
+takes_made r size Waiting m i Accept = refl
+takes_made r size Waiting m i other = refl
+takes_made r size Offered m i p = refl
 takes_made r size Crossed m i Accept = refl
 takes_made r size Crossed m i other = refl
 takes_made r size (Talking x) m i p = refl
@@ -78,11 +78,11 @@ alike : (l : List CallRequest) → Begins l l
 alike l = ([], append_nil l)
 
 acted : (t : Terms) (a : Phase) (m i : List CallRequest) (act : CallAct) → Begins m (phase_acts t a m i act).next.made × ((phase_acts t a m i act).next.indicated ≡ i)
-acted t Free m i (Makes n) = ((n ∷ [], refl), refl)
-acted t Free m i other = (alike m, refl)
-acted t Calling m i act = (alike m, refl)
-acted t Arriving m i Accepts = (alike m, refl)
-acted t Arriving m i other = (alike m, refl)
+acted t Unused m i (PlacesCall n) = ((n ∷ [], refl), refl)
+acted t Unused m i other = (alike m, refl)
+acted t Waiting m i act = (alike m, refl)
+acted t Offered m i AcceptsCall = (alike m, refl)
+acted t Offered m i other = (alike m, refl)
 acted t Crossed m i act = (alike m, refl)
 acted t (Talking x) m i (Talks a) = (alike m, refl)
 acted t (Talking x) m i other = (alike m, refl)

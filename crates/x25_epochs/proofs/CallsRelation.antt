@@ -4,7 +4,7 @@ use Rattle.x25_circuit.specs.Circuit.{Terms}
 use Rattle.x25_circuit.specs.Notices.{CallRequest}
 use Rattle.x25_epochs.specs.Stretch.{Packet, Call, Accept}
 use Rattle.x25_epochs.specs.Transfer.{fresh_transfer}
-use Rattle.x25_epochs.specs.Calls.{Phase, Free, Calling, Arriving, Crossed, Talking, Connection, CallStep}
+use Rattle.x25_epochs.specs.Calls.{Phase, Unused, Waiting, Offered, Crossed, Talking, Connection, CallStep}
 use Rattle.x25_epochs.proofs.TransferRelation.{TransfersRelated}
 
 abbrev pub Nil : List Packet → Type 0
@@ -46,17 +46,17 @@ CallAccepted m R (p ∷ u) = call_or_accept_at m p (Accepted R u) (R u)
 
 -- the phases of the two ends (K0 to K10), with what is made and indicated at each; u is on the way to the DCE, v to the DTE
 abbrev pub Joint : Terms → Terms → Phase → Phase → List CallRequest → List CallRequest → List CallRequest → List CallRequest → List Packet → List Packet → Type 0
-Joint ta tb Free Free ma ia mb ib u v = Nil u × Nil v × (ma ≡ []) × (ia ≡ []) × (mb ≡ []) × (ib ≡ [])
-Joint ta tb Free Calling ma ia mb ib u v = Nil u × OneCall mb v × (ma ≡ []) × (ia ≡ []) × (ib ≡ [])
-Joint ta tb Calling Free ma ia mb ib u v = OneCall ma u × Nil v × (ia ≡ []) × (mb ≡ []) × (ib ≡ [])
-Joint ta tb Calling Calling ma ia mb ib u v = OneCall ma u × OneCall mb v × (ia ≡ []) × (ib ≡ [])
-Joint ta tb Calling Arriving ma ia mb ib u v = Nil u × MaybeCall mb v × (ia ≡ []) × (ib ≡ ma)
-Joint ta tb Crossed Calling ma ia mb ib u v = OneCall ma u × Nil v × (ia ≡ []) × (ib ≡ [])
-Joint ta tb Crossed Arriving ma ia mb ib u v = Nil u × Nil v × (ia ≡ []) × (ib ≡ ma)
-Joint ta tb Calling (Talking y) ma ia mb ib u v = Nil u × CallAccepted mb (λ w. TransfersRelated ta tb fresh_transfer [] w y) v × (ia ≡ []) × (ib ≡ ma)
+Joint ta tb Unused Unused ma ia mb ib u v = Nil u × Nil v × (ma ≡ []) × (ia ≡ []) × (mb ≡ []) × (ib ≡ [])
+Joint ta tb Unused Waiting ma ia mb ib u v = Nil u × OneCall mb v × (ma ≡ []) × (ia ≡ []) × (ib ≡ [])
+Joint ta tb Waiting Unused ma ia mb ib u v = OneCall ma u × Nil v × (ia ≡ []) × (mb ≡ []) × (ib ≡ [])
+Joint ta tb Waiting Waiting ma ia mb ib u v = OneCall ma u × OneCall mb v × (ia ≡ []) × (ib ≡ [])
+Joint ta tb Waiting Offered ma ia mb ib u v = Nil u × MaybeCall mb v × (ia ≡ []) × (ib ≡ ma)
+Joint ta tb Crossed Waiting ma ia mb ib u v = OneCall ma u × Nil v × (ia ≡ []) × (ib ≡ [])
+Joint ta tb Crossed Offered ma ia mb ib u v = Nil u × Nil v × (ia ≡ []) × (ib ≡ ma)
+Joint ta tb Waiting (Talking y) ma ia mb ib u v = Nil u × CallAccepted mb (λ w. TransfersRelated ta tb fresh_transfer [] w y) v × (ia ≡ []) × (ib ≡ ma)
 Joint ta tb Crossed (Talking y) ma ia mb ib u v = Nil u × Accepted (λ w. TransfersRelated ta tb fresh_transfer [] w y) v × (ia ≡ []) × (ib ≡ ma)
-Joint ta tb Arriving Calling ma ia mb ib u v = Nil u × Nil v × (ia ≡ mb) × (ib ≡ [])
-Joint ta tb (Talking x) Calling ma ia mb ib u v = Accepted (λ w. TransfersRelated ta tb x w [] fresh_transfer) u × Nil v × (ia ≡ mb) × (ib ≡ [])
+Joint ta tb Offered Waiting ma ia mb ib u v = Nil u × Nil v × (ia ≡ mb) × (ib ≡ [])
+Joint ta tb (Talking x) Waiting ma ia mb ib u v = Accepted (λ w. TransfersRelated ta tb x w [] fresh_transfer) u × Nil v × (ia ≡ mb) × (ib ≡ [])
 Joint ta tb (Talking x) (Talking y) ma ia mb ib u v = TransfersRelated ta tb x u v y × (((ia ≡ []) × (ib ≡ ma)) ⊎ ((ia ≡ mb) × (ib ≡ [])))
 Joint ta tb other another ma ia mb ib u v = ⊥
 
@@ -74,4 +74,4 @@ pub record GoodDce (ta tb : Terms) (a : Connection) (u v : List Packet) (s : Cal
 
 -- where an end is not in p1
 abbrev pub IsCalled : Connection → Type 0
-IsCalled x = x.phase ≡ Free → ⊥
+IsCalled x = x.phase ≡ Unused → ⊥

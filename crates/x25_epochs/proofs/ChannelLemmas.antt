@@ -7,11 +7,10 @@ use Rattle.x25_bits.specs.declared.role.Role.TheVariants.{Dte, Dce}
 use Rattle.x25_circuit.specs.Circuit.{Terms}
 use Rattle.x25_circuit.specs.Notices.{CallRequest}
 use Rattle.x25_epochs.specs.Terms.{IsSound, other_role}
-use Rattle.x25_epochs.specs.Stretch.{Packet, Data, Rr, Rnr, Int, IntConf, Reset, ResetConf, Call, Accept, Clear, ClearConf, Stretch, fresh, StretchStep, stretch_does, stretch_fails, StretchAct, Send, Pull, Ready, NotReady, Interrupt, status, pulls, stretch_acts, ack_ground, data_ground, by_ground, takes_data, takes_status, stretch_takes}
-use Rattle.x25_epochs.specs.Transfer.{lifted, takes_d1, takes_rst, transfer_side_takes, TransferAct, Inside, Resets, transfer_side_acts}
-use Rattle.x25_epochs.specs.Calls.{Phase, Free, Calling, Arriving, Crossed, Talking, Connection, CallStep, phase_takes, call_takes, CallAct, Makes, Accepts, Talks, phase_acts, call_acts, fresh_call}
-use Rattle.x25_epochs.specs.Channel.{live, clr, lifted_call, in_p1, live_takes, clr_takes, channel_side_takes, channel_takes, ChannelAct, Within, Clears, clears, channel_side_acts, channel_acts, fresh_channel}
-use Rattle.x25_epochs.specs.Layers.{ready}
+use Rattle.x25_epochs.specs.Stretch.{Packet, Data, Rr, Rnr, Int, IntConf, Reset, ResetConf, Call, Accept, Clear, ClearConf, Stretch, StretchStep, stretch_does, stretch_fails, StretchAct, Send, Pull, Ready, NotReady, Interrupt, status, pulls, stretch_acts, ack_ground, data_ground, by_ground, takes_data, takes_status, stretch_takes}
+use Rattle.x25_epochs.specs.Transfer.{lifted, takes_d1, takes_rst, transfer_side_takes, TransferAct, Inside, SendsReset, transfer_side_acts}
+use Rattle.x25_epochs.specs.Calls.{Phase, Unused, Waiting, Offered, Crossed, Talking, Connection, CallStep, phase_takes, call_takes, CallAct, PlacesCall, AcceptsCall, Talks, phase_acts, call_acts, fresh_call}
+use Rattle.x25_epochs.specs.Channel.{live, clr, lifted_call, in_p1, live_takes, clr_takes, channel_side_takes, channel_takes, ChannelAct, Within, SendsClear, clears, channel_side_acts, channel_acts, fresh_channel}
 use Rattle.x25_epochs.proofs.HandshakeRelation.{AllInner}
 use Rattle.x25_epochs.proofs.HandshakeLemmas.{request_live, confirm_never, leave, inner_act, inner_take, drops, marker_left, hand_flip, both_fresh, inner_live, live_front, hand_map, request_gone}
 use Rattle.x25_epochs.proofs.CallsRelation.{GoodDte, GoodDce, IsCalled}
@@ -83,13 +82,13 @@ side_inner size e (Live x) p = d1_inner size e x p
 side_inner size e (Left x) p = rst_inner e x p
 
 takes_phase_inner : (r : Role) (size : ℕ) (a : Phase) (m i : List CallRequest) (p : Packet) → Quiet (phase_takes r size a m i p).out
-takes_phase_inner r size Free m i (Call n) = tt
-takes_phase_inner r size Free m i other = tt
-takes_phase_inner Dte size Calling m i (Call n) = tt
-takes_phase_inner Dce size Calling m i (Call n) = tt
-takes_phase_inner r size Calling m i Accept = tt
-takes_phase_inner r size Calling m i other = tt
-takes_phase_inner r size Arriving m i p = tt
+takes_phase_inner r size Unused m i (Call n) = tt
+takes_phase_inner r size Unused m i other = tt
+takes_phase_inner Dte size Waiting m i (Call n) = tt
+takes_phase_inner Dce size Waiting m i (Call n) = tt
+takes_phase_inner r size Waiting m i Accept = tt
+takes_phase_inner r size Waiting m i other = tt
+takes_phase_inner r size Offered m i p = tt
 takes_phase_inner r size Crossed m i Accept = tt
 takes_phase_inner r size Crossed m i other = tt
 takes_phase_inner r size (Talking x) m i p = side_inner size x.epoch x.side p
@@ -99,15 +98,15 @@ takes_call_inner r size x p = takes_phase_inner r size x.phase x.made x.indicate
 
 acts_side_inner : (t : Terms) (e : ℕ) (x : Side Stretch) (a : TransferAct) → Quiet (transfer_side_acts t e x a).out
 acts_side_inner t e (Live x) (Inside a) = lifted_inner e (stretch_acts t x a) (stretch_acts t x a).error (acts_inner t x a)
-acts_side_inner t e (Live x) Resets = (refl, tt)
+acts_side_inner t e (Live x) SendsReset = (refl, tt)
 acts_side_inner t e (Left x) a = tt
 
 acts_phase_inner : (t : Terms) (p : Phase) (m i : List CallRequest) (a : CallAct) → Quiet (phase_acts t p m i a).out
-acts_phase_inner t Free m i (Makes n) = (refl, tt)
-acts_phase_inner t Free m i other = tt
-acts_phase_inner t Calling m i a = tt
-acts_phase_inner t Arriving m i Accepts = (refl, tt)
-acts_phase_inner t Arriving m i other = tt
+acts_phase_inner t Unused m i (PlacesCall n) = (refl, tt)
+acts_phase_inner t Unused m i other = tt
+acts_phase_inner t Waiting m i a = tt
+acts_phase_inner t Offered m i AcceptsCall = (refl, tt)
+acts_phase_inner t Offered m i other = tt
 acts_phase_inner t Crossed m i a = tt
 acts_phase_inner t (Talking x) m i (Talks a) = acts_side_inner t x.epoch x.side a
 acts_phase_inner t (Talking x) m i other = tt
@@ -134,7 +133,7 @@ Seen-fresh : (r : Role) (t b : Terms) → Seen r t b fresh_call [] [] fresh_call
 Seen-fresh Dte t b = ConnectionsRelated-fresh t b
 Seen-fresh Dce t b = ConnectionsRelated-fresh b t
 
-Seen-free : (r : Role) (t b : Terms) (x y : Connection) (u : List Packet) → x.phase ≡ Free → IsCalled y → Seen r t b x u [] y → ⊥
+Seen-free : (r : Role) (t b : Terms) (x y : Connection) (u : List Packet) → x.phase ≡ Unused → IsCalled y → Seen r t b x u [] y → ⊥
 Seen-free Dte t b x y u is gone h = free_a t b x y u is gone h
 Seen-free Dce t b x y u is gone h = free_b b t y x u is gone h
 
@@ -145,7 +144,7 @@ Seen-flip Dce t b x u v y h = h
 pub ChannelRelated-flip : (r : Role) (t b : Terms) (x : At Connection) (L K : List Packet) (y : At Connection) → ChannelRelated r t b x L K y → ChannelRelated (other_role r) b t y K L x
 ChannelRelated-flip r t b x L K y h = record {
   hand = hand_flip (record { mark = clear_mark; fresh = fresh_call; gone = IsCalled; related = λ x u v y. Seen (other_role r) b t y v u x }) x.epoch y.epoch x.side y.side L K
-    (hand_map (connection_level r t b) (λ x u v y. Seen (other_role r) b t y v u x) (λ x u v y k. Seen-flip r t b x u v y k) x.epoch y.epoch x.side y.side L K h.hand);
+      (hand_map (connection_level r t b) (λ x u v y. Seen (other_role r) b t y v u x) (λ x u v y k. Seen-flip r t b x u v y k) x.epoch y.epoch x.side y.side L K h.hand);
 }
 
 pub ChannelRelated-fresh : (r : Role) (t b : Terms) → ChannelRelated r t b fresh_channel [] [] fresh_channel
@@ -176,8 +175,8 @@ GoodChannel-inner r t b sound e x L K y p is h =
       hand = inner_take l p s.out is (takes_call_inner r b.size x p) e y.epoch x s.next y.side L K (λ w v z k. (Seen-takes r t b sound x w p v z k).kept) h.hand;
     })
 
-not_p1 : (a : Phase) → (a ≡ Free → ⊥) → in_p1 a ≡ None
-not_p1 Free h = absurd (h refl)
+not_p1 : (a : Phase) → (a ≡ Unused → ⊥) → in_p1 a ≡ None
+not_p1 Unused h = absurd (h refl)
 not_p1 other h = refl
 
 GoodChannel-live : (r : Role) (t b : Terms) → IsSound b → (e : ℕ) (x : Connection) (L : List Packet) (p : Packet) (K : List Packet) (y : At Connection) → ChannelRelated r t b (live e x) L (p ∷ K) y
@@ -215,14 +214,14 @@ pub GoodChannel-takes : (r : Role) (t b : Terms) → IsSound b → (x : At Conne
 GoodChannel-takes r t b s x L p K y h = GoodChannel-takes_side r t b s x.epoch x.side L p K y h
 
 GoodChannel-clears : (r : Role) (t b : Terms) (e : ℕ) (x : Connection) (a : Phase) (L K : List Packet) (y : At Connection) → x.phase ≡ a → ChannelRelated r t b (live e x) L K y → GoodChannel r t b (clears e x a) L K y
-GoodChannel-clears r t b e x Free L K y is h = GoodChannel-still r t b (live e x) L K y h
+GoodChannel-clears r t b e x Unused L K y is h = GoodChannel-still r t b (live e x) L K y h
 GoodChannel-clears r t b e x other L K y is h =
-    record { quiet = refl; kept = record { hand = leave (connection_level r t b) Clear refl e y.epoch x y.side L K (λ free. let no : other ≡ Free = sym is ∙ free in cc) h.hand } }
+    record { quiet = refl; kept = record { hand = leave (connection_level r t b) Clear refl e y.epoch x y.side L K (λ free. let no : other ≡ Unused = sym is ∙ free in cc) h.hand } }
 
 GoodChannel-acts_side : (r : Role) (t b : Terms) → IsSound t → IsSound b → (e : ℕ) (x : Side Connection) (L K : List Packet) (y : At Connection) (a : ChannelAct) → ChannelRelated r t b (record { epoch = e; side = x }) L K y
     → GoodChannel r t b (channel_side_acts t e x a) L K y
 GoodChannel-acts_side r t b st sb e (Live x) L K y (Within a) h = GoodChannel-within r t b st sb e x L K y a h
-GoodChannel-acts_side r t b st sb e (Live x) L K y Clears h = GoodChannel-clears r t b e x x.phase L K y refl h
+GoodChannel-acts_side r t b st sb e (Live x) L K y SendsClear h = GoodChannel-clears r t b e x x.phase L K y refl h
 GoodChannel-acts_side r t b st sb e (Left x) L K y a h = GoodChannel-still r t b (clr e x) L K y h
 
 pub GoodChannel-acts : (r : Role) (t b : Terms) → IsSound t → IsSound b → (x : At Connection) (L K : List Packet) (y : At Connection) (a : ChannelAct) → ChannelRelated r t b x L K y → GoodChannel r t b (channel_acts t x a) L K y

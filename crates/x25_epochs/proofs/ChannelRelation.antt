@@ -4,7 +4,7 @@ use Rattle.x25_epochs.specs.Handshake.{Mark, Inner, Request, Confirm, At}
 use Rattle.x25_bits.specs.declared.role.Role.{Role}
 use Rattle.x25_bits.specs.declared.role.Role.TheVariants.{Dte, Dce}
 use Rattle.x25_circuit.specs.Circuit.{Terms}
-use Rattle.x25_epochs.specs.Stretch.{Packet, Clear, ClearConf, fresh}
+use Rattle.x25_epochs.specs.Stretch.{Packet, Clear, ClearConf}
 use Rattle.x25_epochs.specs.Calls.{Connection, fresh_call}
 use Rattle.x25_epochs.specs.Channel.{ChannelStep}
 use Rattle.x25_epochs.proofs.HandshakeRelation.{Level, Handshake}

@@ -1,7 +1,6 @@
 -- Each event of a handshake keeps its relation.
 use Rattle.std.proofs.Common.{◌≡◌, inl, inr, ℕ, suc, List, [], ◌∷◌, ◌++◌, Bool, true, false, refl, sym, ap, subst}
 use Rattle.x25_epochs.specs.Handshake.{Mark, Inner, Request, Confirm, Side, Live, Left, has_left, state_of}
-use Rattle.x25_epochs.specs.Stretch.{fresh}
 use Rattle.x25_epochs.proofs.HandshakeRelation.{kept_before, before, kept_past, past, ends_at, Ends, behind_at, Behind, Extended, Level, Handshake, AllInner}
 
 pub true≢false : true ≡ false → ⊥
@@ -156,7 +155,7 @@ leave l q is ex ey x y L K gone (inl same) =
       there = ends_leave l.mark q is L same.there;
       back = same.back;
       inner = subst (λ (u : List _). Extended l.gone l.related (Left x) u (before l.mark K) y) (sym (before_leave l.mark q is L same.there))
-        (stops l.gone l.related x (before l.mark L) (before l.mark K) y gone same.inner);
+          (stops l.gone l.related x (before l.mark L) (before l.mark K) y gone same.inner);
     })
 leave l q is ex ey x y L K gone (inr (inl ahead)) =
     inr (inl (record {
@@ -165,7 +164,7 @@ leave l q is ex ey x y L K gone (inr (inl ahead)) =
       back = ahead.back;
       there = behind_leave l.mark q is L ahead.there;
       inner = subst (λ (u : List _). Extended l.gone l.related (Left x) u [] (Live l.fresh)) (sym (past_leave l.mark q is L ahead.there))
-        (stops l.gone l.related x (before l.mark (past l.mark L)) [] (Live l.fresh) gone ahead.inner);
+          (stops l.gone l.related x (before l.mark (past l.mark L)) [] (Live l.fresh) gone ahead.inner);
     }))
 leave l q is ex ey x y L K gone (inr (inr later)) = absurd (true≢false (sym later.waits))
 
@@ -179,7 +178,7 @@ inner_act l o all ex ey x x₂ y L K kept (inl same) =
       there = ends_inner l.mark L o all same.there;
       back = same.back;
       inner = subst (λ (u : List _). Extended l.gone l.related (Live x₂) u (before l.mark K) y) (sym (before_inner l.mark L o all same.there))
-        (ext_act l.gone l.related x x₂ o (before l.mark L) (before l.mark K) y (λ w z r. kept w (before l.mark K) z r) same.inner);
+          (ext_act l.gone l.related x x₂ o (before l.mark L) (before l.mark K) y (λ w z r. kept w (before l.mark K) z r) same.inner);
     })
 inner_act l o all ex ey x x₂ y L K kept (inr (inl ahead)) =
     inr (inl (record {
@@ -207,7 +206,7 @@ inner_take l p o is all ex ey x x₂ y L K kept (inl same) =
       there = ends_inner l.mark L o all same.there;
       back = inner_front l.mark p K (has_left y) is same.back;
       inner = subst (λ (u : List _). Extended l.gone l.related (Live x₂) u (before l.mark K) y) (sym (before_inner l.mark L o all same.there))
-        (ext_take l.gone l.related x x₂ p o (before l.mark L) (before l.mark K) y (λ w z r. kept w (before l.mark K) z r)
+          (ext_take l.gone l.related x x₂ p o (before l.mark L) (before l.mark K) y (λ w z r. kept w (before l.mark K) z r)
           (subst (λ (v : List _). Extended l.gone l.related (Live x) (before l.mark L) v y) (before_front l.mark p K is) same.inner));
     })
 inner_take l p o is all ex ey x x₂ y L K kept (inr (inl ahead)) = absurd (cons≢nil p K ahead.back)
@@ -290,7 +289,7 @@ marker_left l empty p never ex ey x y L K (inr (inr later)) =
       there = subst (λ (u : List _). Ends l.mark false u) (sym later.there) refl;
       back = marker_behind (l.mark p) (Ends l.mark (has_left y) K) (Behind l.mark (has_left y) K) never later.back;
       inner = subst (λ (u : List _). Extended l.gone l.related (Live l.fresh) (before l.mark u) (before l.mark K) y) (sym later.there)
-        (subst (λ (u : List _). Extended l.gone l.related (Live l.fresh) [] (before l.mark u) y) (marker_past (l.mark p) K (past l.mark K) never) later.inner);
+          (subst (λ (u : List _). Extended l.gone l.related (Live l.fresh) [] (before l.mark u) y) (marker_past (l.mark p) K (past l.mark K) never) later.inner);
     })
 
 -- The relation seen from the other end.

@@ -1,16 +1,14 @@
 -- In every run, the books of the two ends are lawful: for any kind of thing that is handled so within a call.
-use Rattle.std.proofs.Common.{◌≡◌, ℕ, List, [], ◌∷◌, ◌++◌, Option, None, Bool, true, false, if◌then◌else◌, refl, sym, ap, subst}
+use Rattle.std.proofs.Common.{ℕ, List, [], ◌∷◌, Option, Bool, true, false, if◌then◌else◌, refl, sym, subst}
 use Rattle.x25_bits.specs.declared.role.Role.{Role}
 use Rattle.x25_bits.specs.declared.role.Role.TheVariants.{Dte, Dce}
 use Rattle.x25_circuit.specs.Circuit.{Terms}
 use Rattle.x25_epochs.specs.Terms.{other_role, IsSound}
-use Rattle.x25_epochs.specs.Handshake.{Mark, Inner, Side, Live, Left, At, state_of}
-use Rattle.x25_epochs.specs.Stretch.{Packet}
-use Rattle.x25_epochs.specs.Calls.{Connection, call_takes}
-use Rattle.x25_epochs.specs.Layers.{LayerPacket, On, Channels, ready, Pair, Move, Acts, Takes, LinkDown, Event, turned, pair_moves, pair_start, layer_acts, layer_takes, layer_side_takes}
+use Rattle.x25_epochs.specs.Handshake.{Side, Live, Left, At, state_of}
+use Rattle.x25_epochs.specs.Calls.{call_takes}
+use Rattle.x25_epochs.specs.Layers.{LayerPacket, On, Channels, ready, Move, Acts, Takes, LinkDown, Event, pair_moves, layer_acts, layer_takes, layer_side_takes}
 use Rattle.x25_epochs.specs.Names.{Name}
-use Rattle.x25_epochs.specs.Books.{Lists, none, Kind, name_at, held_at, desk, written, IsLawful, Ledger, turned_ledger, ledger_moves, ledger_happens, ledger_run, ledger_start, AreInOrder}
-use Rattle.x25_epochs.proofs.ChannelRelation.{clear_mark}
+use Rattle.x25_epochs.specs.Books.{Lists, Kind, name_at, held_at, desk, written, IsLawful, Ledger, turned_ledger, ledger_moves, ledger_happens, ledger_run, ledger_start, AreInOrder}
 use Rattle.x25_epochs.proofs.LayersRelation.{EndsRelated}
 use Rattle.x25_epochs.proofs.LayerLemmas.{Stands, Stands-moves, Stands-turned, Stands-start}
 use Rattle.x25_epochs.proofs.BookLemmas.{Turn, MayHandUp, lawful_turned, lawful_turn}
@@ -23,15 +21,15 @@ taken kind handled r t b sound e x k p L K far book top =
     turn_taken kind handled (MayHandUp (name_at kind (record { epoch = e; side = x }) k) (desk kind (state_of far) k book)) k r b.size e x p
     (λ y q c is_x is_p side inner.
     let top_y : EndsRelated r t b (Live (ready e y)) L (On k q ∷ K) far =
-      subst (λ (z : LayerPacket). EndsRelated r t b (Live (ready e y)) L (z ∷ K) far) is_p
-      (subst (λ (z : Side Channels). EndsRelated r t b (Live (record { epoch = e; side = z })) L (p ∷ K) far) is_x top) in
+    subst (λ (z : LayerPacket). EndsRelated r t b (Live (ready e y)) L (z ∷ K) far) is_p
+    (subst (λ (z : Side Channels). EndsRelated r t b (Live (record { epoch = e; side = z })) L (p ∷ K) far) is_x top) in
     subst (λ (z : Side Channels). WithinCall kind (MayHandUp (name_at kind (record { epoch = e; side = z }) k) (desk kind (state_of far) k book)) (y k).epoch c (call_takes r b.size c q).next) (sym is_x)
-      (taken_in_its_epoch kind handled r t b sound e y k c q L K far book inner side top_y))
+    (taken_in_its_epoch kind handled r t b sound e y k c q L K far book inner side top_y))
 
 lawful_moves : {M : Type 0} (kind : Kind M) → IsHandled kind → (r : Role) (t b : Terms) → IsSound b → (near : Side (At Channels)) (out back : List LayerPacket) (far : Side (At Channels)) (error : Option ℕ)
     (what : Move) (k : ℕ) (book there : Name → Lists M) → EndsRelated r t b near out back far → IsLawful (desk kind (state_of near) k book) (desk kind (state_of far) k there)
     → let w = pair_moves r t b (record { near = near; far = far; out = out; back = back; error = error }) near what in
-      IsLawful (desk kind (state_of w.near) k (written book (name_at kind (state_of w.near) k) (held_at kind (state_of w.near) k))) (desk kind (state_of w.far) k there)
+    IsLawful (desk kind (state_of w.near) k (written book (name_at kind (state_of w.near) k) (held_at kind (state_of w.near) k))) (desk kind (state_of w.far) k there)
 lawful_moves kind handled r t b sound (Live x) out back far error (Acts a) k book there top h =
     lawful_turn kind k x (layer_acts t x a).next book (desk kind (state_of far) k there) (turn_acted kind handled (MayHandUp (name_at kind x k) (desk kind (state_of far) k there)) k t x.epoch x.side a) h
 lawful_moves kind handled r t b sound (Live x) out [] far error Takes k book there top h =
@@ -78,7 +76,12 @@ holds_start : {M : Type 0} (kind : Kind M) → IsHandled kind → (t b : Terms) 
 holds_start kind handled t b = record {
   stands = Stands-start t b;
   books = λ k. record {
-    held = sym handled.fresh; held_there = sym handled.fresh; later = λ m l. refl; later_there = λ m l. refl; begins = λ m. ([], refl); begins_there = λ m. ([], refl)
+    held = sym handled.fresh;
+    held_there = sym handled.fresh;
+    later = λ m l. refl;
+    later_there = λ m l. refl;
+    begins = λ m. ([], refl);
+    begins_there = λ m. ([], refl);
   };
 }
 

@@ -6,10 +6,10 @@ use Rattle.x25_bits.specs.declared.role.Role.{Role}
 use Rattle.x25_bits.specs.declared.role.Role.TheVariants.{Dte, Dce}
 use Rattle.x25_circuit.specs.Circuit.{Terms}
 use Rattle.x25_epochs.specs.Terms.{IsSound, other_role}
-use Rattle.x25_epochs.specs.Stretch.{Packet, fresh}
+use Rattle.x25_epochs.specs.Stretch.{Packet}
 use Rattle.x25_epochs.specs.Calls.{unexpected}
 use Rattle.x25_epochs.specs.Channel.{ChannelStep, channel_takes, ChannelAct, channel_acts}
-use Rattle.x25_epochs.specs.Layers.{LayerPacket, On, Restart, RestartConf, Channels, put, addressed, all_fresh, ready, restarting, layer_side_takes, layer_takes, LayerAct, OnChannel, Restarts, layer_side_acts, layer_acts, Pair, Move, Acts, Takes, LinkDown, turned, first_error, pair_moves, Event, pair_happens, pair_run, pair_start}
+use Rattle.x25_epochs.specs.Layers.{LayerPacket, On, Restart, RestartConf, Channels, put, addressed, all_fresh, ready, restarting, layer_side_takes, layer_takes, LayerAct, OnChannel, SendsRestart, layer_side_acts, layer_acts, Pair, Move, Acts, Takes, LinkDown, turned, first_error, pair_moves, Event, pair_happens, pair_run, pair_start}
 use Rattle.x25_epochs.proofs.HandshakeRelation.{AllInner}
 use Rattle.x25_epochs.proofs.HandshakeLemmas.{request_live, confirm_never, ext_act, ext_take, leave, inner_act, inner_take, drops, marker_left, hand_flip, both_requests, inner_live, live_front, hand_map}
 use Rattle.x25_epochs.proofs.ChannelRelation.{ChannelRelated, GoodChannel}
@@ -68,7 +68,7 @@ ChannelsRelated-takes : (r : Role) (t b : Terms) → IsSound b → (x : Channels
     → GoodChannels r t b x h (channel_takes r b.size (x h) p) L K y
 ChannelsRelated-takes r t b sound x h p L K y all =
     let good : GoodChannel r t b (channel_takes r b.size (x h) p) (on h L) (on h K) (y h) =
-      GoodChannel-takes r t b sound (x h) (on h L) p (on h K) (y h) (subst (λ (l : List Packet). ChannelRelated r t b (x h) (on h L) l (y h)) (on-front h p K) (all.each h)) in
+    GoodChannel-takes r t b sound (x h) (on h L) p (on h K) (y h) (subst (λ (l : List Packet). ChannelRelated r t b (x h) (on h L) l (y h)) (on-front h p K) (all.each h)) in
     record { quiet = good.quiet; kept = ChannelsRelated-put r t b x L K (On h p ∷ K) y h (channel_takes r b.size (x h) p) all (λ k not. on-past k h p K not) good.kept }
 
 ChannelsRelated-acts : (r : Role) (t b : Terms) → IsSound t → IsSound b → (x : Channels) (h : ℕ) (a : ChannelAct) (L K : List LayerPacket) (y : Channels) → ChannelsRelated r t b x L K y
@@ -83,7 +83,7 @@ ChannelsRelated-fresh r t b = record { each = λ h. ChannelRelated-fresh r t b }
 LayersRelated-flip : (r : Role) (t b : Terms) (x : At Channels) (L K : List LayerPacket) (y : At Channels) → LayersRelated r t b x L K y → LayersRelated (other_role r) b t y K L x
 LayersRelated-flip r t b x L K y h = record {
   hand = hand_flip (record { mark = restart_mark; fresh = all_fresh; gone = λ x. Unit {0}; related = λ x u v y. ChannelsRelated (other_role r) b t y v u x }) x.epoch y.epoch x.side y.side L K
-    (hand_map (channels_level r t b) (λ x u v y. ChannelsRelated (other_role r) b t y v u x) (λ x u v y k. record { each = λ h. ChannelRelated-flip r t b (x h) (on h u) (on h v) (y h) (k.each h) }) x.epoch y.epoch x.side y.side L K h.hand);
+      (hand_map (channels_level r t b) (λ x u v y. ChannelsRelated (other_role r) b t y v u x) (λ x u v y k. record { each = λ h. ChannelRelated-flip r t b (x h) (on h u) (on h v) (y h) (k.each h) }) x.epoch y.epoch x.side y.side L K h.hand);
 }
 
 GoodLayer-still : (r : Role) (t b : Terms) (x : At Channels) (L K : List LayerPacket) (y : At Channels) → LayersRelated r t b x L K y → GoodLayer r t b (record { next = x; out = []; error = None }) L K y
@@ -99,7 +99,7 @@ GoodLayer-side_takes r t b sound e (Live x) L (On h p) K y k =
       quiet = (ChannelsRelated-takes r t b sound x h p some.0 some.1 some.2 some.3).quiet;
       kept = record {
         hand = inner_take l (On h p) (addressed h s.out) refl (inner_addressed h s.out) e y.epoch x (put x h s.next) y.side L K
-          (λ w v z c. (ChannelsRelated-takes r t b sound x h p w v z c).kept) k.hand;
+            (λ w v z c. (ChannelsRelated-takes r t b sound x h p w v z c).kept) k.hand;
       };
     }
 GoodLayer-side_takes r t b sound e (Live x) L Restart K y k =
@@ -126,10 +126,10 @@ GoodLayer-side_acts r t b st sb e (Live x) L K y (OnChannel h a) k =
       quiet = (ChannelsRelated-acts r t b st sb x h a some.0 some.1 some.2 some.3).quiet;
       kept = record {
         hand = inner_act l (addressed h s.out) (inner_addressed h s.out) e y.epoch x (put x h s.next) y.side L K
-          (λ w v z c. (ChannelsRelated-acts r t b st sb x h a w v z c).kept) k.hand;
+            (λ w v z c. (ChannelsRelated-acts r t b st sb x h a w v z c).kept) k.hand;
       };
     }
-GoodLayer-side_acts r t b st sb e (Live x) L K y Restarts k =
+GoodLayer-side_acts r t b st sb e (Live x) L K y SendsRestart k =
     record { quiet = refl; kept = record { hand = leave (channels_level r t b) Restart refl e y.epoch x y.side L K tt k.hand } }
 GoodLayer-side_acts r t b st sb e (Left x) L K y a k = GoodLayer-still r t b (restarting e x) L K y k
 

@@ -3,7 +3,7 @@ use Rattle.std.proofs.Common.{◌≡◌, ℕ, List, [], ◌∷◌, ◌++◌, Non
 use Rattle.x25_epochs.specs.Handshake.{Mark, Inner, Request, Confirm, Side, At}
 use Rattle.x25_bits.specs.declared.role.Role.{Role}
 use Rattle.x25_circuit.specs.Circuit.{Terms}
-use Rattle.x25_epochs.specs.Stretch.{Packet, fresh}
+use Rattle.x25_epochs.specs.Stretch.{Packet}
 use Rattle.x25_epochs.specs.Layers.{LayerPacket, On, Restart, RestartConf, Channels, all_fresh, LayerStep}
 use Rattle.x25_epochs.proofs.HandshakeRelation.{Extended, Level, Handshake}
 use Rattle.x25_epochs.proofs.ChannelRelation.{ChannelRelated}

@@ -106,13 +106,13 @@ Text-send size sent rest down q xs one small h =
     let far : length xs ≤ size + length xs = omega arith in
     record {
       fits = subst (λ (l : List Piece). AreSound size no_part l) e
-        (AreSound-append size no_part (sent ++ rest) (cut size q xs) h.fits
-        (subst (λ j. AreSound size j (cut size q xs)) (sym h.whole) (AreSound-cut (length xs) size q xs no_part one far (omega arith) refl)));
+          (AreSound-append size no_part (sent ++ rest) (cut size q xs) h.fits
+          (subst (λ j. AreSound size j (cut size q xs)) (sym h.whole) (AreSound-cut (length xs) size q xs no_part one far (omega arith) refl)));
       whole = ap (joining no_part) (sym e) ∙ joining-append no_part (sent ++ rest) (cut size q xs) ∙ joining-cut (length xs) size q xs (joining no_part (sent ++ rest));
       messages = ap (λ l. l ++ record { q = q; user = xs } ∷ []) h.messages
-        ∙ sym (ap carried (sym e) ∙ carried-append no_part (sent ++ rest) (cut size q xs)
-        ∙ ap (λ j. carried (sent ++ rest) ++ carried_from j (cut size q xs)) h.whole
-        ∙ ap (λ l. carried (sent ++ rest) ++ l) (carried-cut (length xs) size q xs no_part));
+          ∙ sym (ap carried (sym e) ∙ carried-append no_part (sent ++ rest) (cut size q xs)
+          ∙ ap (λ j. carried (sent ++ rest) ++ carried_from j (cut size q xs)) h.whole
+          ∙ ap (λ l. carried (sent ++ rest) ++ l) (carried-cut (length xs) size q xs no_part));
     }
 
 pub Text-pull : (size : ℕ) (sent : List Piece) (p : Piece) (rest : List Piece) (down : List Message) → Text size sent (p ∷ rest) down → Text size (sent ++ p ∷ []) rest down

@@ -1,24 +1,23 @@
 -- Messages and interrupts: what belongs to a stretch is handed up as the other end handed it down in that stretch.
-use Rattle.std.proofs.Common.{◌≡◌, ◌⊎◌, inl, inr, ℕ, suc, ◌+◌, ◌<◌, List, [], ◌∷◌, ◌++◌, length, Option, Some, None, Bool, true, false, nat_lt, nat_le, if◌then◌else◌, refl, sym, ap, subst, ◌∙◌, arith}
-use Rattle.x25_circuit.specs.declared.message.Message.{Message}
+use Rattle.std.proofs.Common.{◌≡◌, inl, inr, ℕ, ◌+◌, List, [], ◌∷◌, ◌++◌, length, Option, Some, None, Bool, true, false, nat_lt, nat_le, if◌then◌else◌, refl, sym, ap, subst, ◌∙◌, arith}
 use Rattle.x25_circuit.specs.Messages.{Piece, wholes}
 use Rattle.x25_bits.specs.declared.role.Role.{Role}
 use Rattle.x25_bits.specs.declared.role.Role.TheVariants.{Dte, Dce}
 use Rattle.x25_circuit.specs.Circuit.{Terms}
 use Rattle.x25_circuit.specs.Notices.{CallRequest}
 use Rattle.x25_epochs.specs.Terms.{IsSound}
-use Rattle.x25_epochs.specs.Handshake.{Mark, Inner, Side, Live, Left, At, state_of}
+use Rattle.x25_epochs.specs.Handshake.{Inner, Side, Live, Left, At, state_of}
 use Rattle.x25_epochs.specs.Stretch.{Packet, Data, Rr, Rnr, Int, IntConf, Reset, ResetConf, Call, Accept, Clear, ClearConf, Stretch, fresh, StretchStep, stretch_does, stretch_fails, StretchAct, Send, Pull, Ready, NotReady, Interrupt, pulls, stretch_acts, by_ground, data_ground, ack_ground, takes_data, takes_status, stretch_takes}
-use Rattle.x25_epochs.specs.Transfer.{d1, rst, fresh_transfer, lifted, transfer_side_takes, transfer_takes, TransferAct, Inside, Resets, transfer_side_acts, transfer_acts}
-use Rattle.x25_epochs.specs.Calls.{Phase, Free, Calling, Arriving, Crossed, Talking, Connection, phase_takes, call_takes, CallAct, Makes, Accepts, Talks, phase_acts, call_acts}
-use Rattle.x25_epochs.specs.Books.{Lists, none, Kind, resets_in, held_in, of_stretch, messages, interrupts, Begins}
+use Rattle.x25_epochs.specs.Transfer.{d1, rst, fresh_transfer, lifted, transfer_side_takes, transfer_takes, TransferAct, Inside, SendsReset, transfer_side_acts}
+use Rattle.x25_epochs.specs.Calls.{Phase, Unused, Waiting, Offered, Crossed, Talking, Connection, phase_takes, call_takes, CallAct, PlacesCall, AcceptsCall, Talks, phase_acts}
+use Rattle.x25_epochs.specs.Books.{Lists, none, resets_in, held_in, of_stretch, messages, interrupts, Begins}
 use Rattle.x25_epochs.proofs.HandshakeLemmas.{meets}
-use Rattle.x25_epochs.proofs.StretchRelation.{InFlowControl, StretchesRelated, FollowsFrom, GoodStretch}
+use Rattle.x25_epochs.proofs.StretchRelation.{InFlowControl, FollowsFrom, GoodStretch}
 use Rattle.x25_epochs.proofs.TransferRelation.{reset_mark, stretch_level, TransfersRelated}
 use Rattle.x25_epochs.proofs.ChannelRelation.{clear_mark, Seen}
 use Rattle.x25_epochs.proofs.StretchLemmas.{GoodStretch-takes, FollowsFrom-from_Dir}
 use Rattle.x25_epochs.proofs.ClaimLemmas.{Seen-joint}
-use Rattle.x25_epochs.proofs.BookLemmas.{Change, Stays, MoreResets, MoreClears, append_nil}
+use Rattle.x25_epochs.proofs.BookLemmas.{Change, Stays, MoreResets, append_nil}
 use Rattle.x25_epochs.proofs.TurnLemmas.{MayIndicate, WithinCall, IsHandled}
 
 -- what has to be known of two lists of a stretch
@@ -79,10 +78,11 @@ in_its_stretch down up k t b sound e x u p v z h =
     (λ a is open_p.
     let hand = subst (λ (s : Side Stretch). TransfersRelated t b (record { epoch = x.epoch; side = s }) u (p ∷ v) z) is h in
     let inside = meets (stretch_level t b) p (reset_inner p open_p) x.epoch z.epoch a z.side u v hand.hand in
-    let good : GoodStretch t b (stretch_takes b.size a p) inside.1 inside.2 (state_of z.side) = GoodStretch-takes t b sound a inside.1 p inside.2 (state_of z.side) inside.3 in
-    (sym inside.0,
-    k.begins (state_of z.side) inside.2 (stretch_takes b.size a p).next
-      (FollowsFrom-from_Dir b (state_of z.side) inside.2 (inside.1 ++ (stretch_takes b.size a p).out) (stretch_takes b.size a p).next good.kept.back)))
+    let good : GoodStretch t b (stretch_takes b.size a p) inside.1 inside.2 (state_of z.side) = GoodStretch-takes t b sound a inside.1 p inside.2 (state_of z.side) inside.3 in (
+      sym inside.0,
+      k.begins (state_of z.side) inside.2 (stretch_takes b.size a p).next
+          (FollowsFrom-from_Dir b (state_of z.side) inside.2 (inside.1 ++ (stretch_takes b.size a p).out) (stretch_takes b.size a p).next good.kept.back),
+    ))
 
 -- outside of p4 nothing is held
 idle : {M : Type 0} (down up : Stretch → List M) (A : List M → Type 0) (e : ℕ) → Change A e 0 none e 0 none
@@ -95,19 +95,19 @@ connects down up k A e = Stays refl refl (down fresh, refl) (inl k.up_fresh)
 phase_taken : {M : Type 0} (down up : Stretch → List M) → IsKept down up → (r : Role) (t b : Terms) → IsSound b → (e : ℕ) (a : Phase) (m i : List CallRequest) (u : List Packet) (p : Packet) (v : List Packet) (y : Connection)
     → Seen r t b (record { phase = a; made = m; indicated = i }) u (p ∷ v) y
     → WithinCall (of_stretch down up) (MayIndicate (of_stretch down up) (record { phase = a; made = m; indicated = i }) y) e (record { phase = a; made = m; indicated = i }) (phase_takes r b.size a m i p).next
-phase_taken down up k r t b sound e Free m i u (Call n) v y h = idle down up _ e
-phase_taken down up k r t b sound e Free m i u other v y h = idle down up _ e
-phase_taken down up k Dte t b sound e Calling m i u (Call n) v y h = idle down up _ e
-phase_taken down up k Dce t b sound e Calling m i u (Call n) v y h = idle down up _ e
-phase_taken down up k r t b sound e Calling m i u Accept v y h = connects down up k _ e
-phase_taken down up k r t b sound e Calling m i u other v y h = idle down up _ e
-phase_taken down up k r t b sound e Arriving m i u p v y h = idle down up _ e
+phase_taken down up k r t b sound e Unused m i u (Call n) v y h = idle down up _ e
+phase_taken down up k r t b sound e Unused m i u other v y h = idle down up _ e
+phase_taken down up k Dte t b sound e Waiting m i u (Call n) v y h = idle down up _ e
+phase_taken down up k Dce t b sound e Waiting m i u (Call n) v y h = idle down up _ e
+phase_taken down up k r t b sound e Waiting m i u Accept v y h = connects down up k _ e
+phase_taken down up k r t b sound e Waiting m i u other v y h = idle down up _ e
+phase_taken down up k r t b sound e Offered m i u p v y h = idle down up _ e
 phase_taken down up k r t b sound e Crossed m i u Accept v y h = connects down up k _ e
 phase_taken down up k r t b sound e Crossed m i u other v y h = idle down up _ e
 phase_taken {M} down up k r t b sound e (Talking x) m i u p v y h =
     let joint = Seen-joint r t b m i x y u p v h in
     subst (λ (a : Phase). Change (λ (l : List M). (resets_in a ≡ x.epoch) × Begins l (held_in down up a).down) e x.epoch (held_in down up (Talking x)) e (transfer_takes b.size x p).next.epoch
-      (held_in down up (Talking (transfer_takes b.size x p).next))) (sym joint.1)
+    (held_in down up (Talking (transfer_takes b.size x p).next))) (sym joint.1)
     (in_its_stretch down up k t b sound e x u p v joint.0 joint.2)
 
 call_taken : {M : Type 0} (down up : Stretch → List M) → IsKept down up → (r : Role) (t b : Terms) → IsSound b → (e : ℕ) (c : Connection) (u : List Packet) (p : Packet) (v : List Packet) (y : Connection)
@@ -124,18 +124,18 @@ lifted_acted down up s x st (Some n) h = (refl, h.0, h.1)
 transfer_acted : {M : Type 0} (down up : Stretch → List M) → IsKept down up → (t : Terms) (s : ℕ) (x : Side Stretch) (a : TransferAct)
     → Acted down up (Talking (record { epoch = s; side = x })) (Talking (transfer_side_acts t s x a).next)
 transfer_acted down up k t s (Live x) (Inside a) = lifted_acted down up s x (stretch_acts t x a) (stretch_acts t x a).error (k.acts t x a)
-transfer_acted down up k t s (Live x) Resets = (refl, alike (down x), refl)
+transfer_acted down up k t s (Live x) SendsReset = (refl, alike (down x), refl)
 transfer_acted down up k t s (Left x) a = (refl, alike (down x), refl)
 
 unmoved : {M : Type 0} (down up : Stretch → List M) (a : Phase) → Acted down up a a
 unmoved down up a = (refl, alike (held_in down up a).down, refl)
 
 phase_acted : {M : Type 0} (down up : Stretch → List M) → IsKept down up → (t : Terms) (a : Phase) (m i : List CallRequest) (act : CallAct) → Acted down up a (phase_acts t a m i act).next.phase
-phase_acted down up k t Free m i (Makes n) = (refl, ([], refl), refl)
-phase_acted down up k t Free m i other = unmoved down up Free
-phase_acted down up k t Calling m i act = unmoved down up Calling
-phase_acted down up k t Arriving m i Accepts = (refl, (down fresh, refl), k.up_fresh)
-phase_acted down up k t Arriving m i other = unmoved down up Arriving
+phase_acted down up k t Unused m i (PlacesCall n) = (refl, ([], refl), refl)
+phase_acted down up k t Unused m i other = unmoved down up Unused
+phase_acted down up k t Waiting m i act = unmoved down up Waiting
+phase_acted down up k t Offered m i AcceptsCall = (refl, (down fresh, refl), k.up_fresh)
+phase_acted down up k t Offered m i other = unmoved down up Offered
 phase_acted down up k t Crossed m i act = unmoved down up Crossed
 phase_acted down up k t (Talking x) m i (Talks a) = transfer_acted down up k t x.epoch x.side a
 phase_acted down up k t (Talking x) m i other = unmoved down up (Talking x)
@@ -212,7 +212,7 @@ interrupts_acted t x NotReady = (alike x.int_down, refl)
 interrupts_acted t x (Interrupt xs) =
     if_quiet (λ y. y.int_down) (λ y. y.int_up) x (nat_le 1 (length xs)) _ _
     (if_quiet (λ y. y.int_down) (λ y. y.int_up) x (nat_le (length xs) 32) _ _ (if_quiet (λ y. y.int_down) (λ y. y.int_up) x x.int_out _ _ (alike x.int_down, refl) ((xs ∷ [], refl), refl)) (alike x.int_down, refl))
-      (alike x.int_down, refl)
+    (alike x.int_down, refl)
 
 pub messages_handled : IsHandled messages
 messages_handled = handled (λ x. x.down) (λ x. x.up) (record { down_fresh = refl; up_fresh = refl; takes = messages_taken; acts = messages_acted; begins = λ giver u taker h. h.begins })

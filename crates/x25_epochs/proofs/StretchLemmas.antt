@@ -300,15 +300,15 @@ GoodStretch-takes t b sound x u ClearConf v y h = absurd h.back.kinds.0
 pub FollowsFrom-from_Dir : (t : Terms) (x : Stretch) (u v : List Packet) (y : Stretch) → Direction t x u v y → FollowsFrom x u y
 FollowsFrom-from_Dir t x u v y h =
     let down : x.down ≡ carried y.taken ++ carried_from (joining no_part y.taken) (pieces u ++ x.rest) =
-      h.text.messages ∙ ap (λ l. carried (l ++ x.rest)) h.flow.flow ∙ ap carried (append_assoc y.taken (pieces u) x.rest)
-      ∙ carried-append no_part y.taken (pieces u ++ x.rest)
+    h.text.messages ∙ ap (λ l. carried (l ++ x.rest)) h.flow.flow ∙ ap carried (append_assoc y.taken (pieces u) x.rest)
+    ∙ carried-append no_part y.taken (pieces u ++ x.rest)
     in
     record {
       begins = (carried_from (joining no_part y.taken) (pieces u ++ x.rest), ap (λ l. l ++ carried_from (joining no_part y.taken) (pieces u ++ x.rest)) h.up ∙ sym down);
       int_begins = (ints u, sym h.ints.flow);
       all = λ none idle.
-        h.up ∙ sym (nil_append (carried y.taken))
-        ∙ ap (λ l. carried y.taken ++ l) (sym (ap (λ l. carried_from (joining no_part y.taken) (pieces l ++ x.rest)) none ∙ ap (λ l. carried_from (joining no_part y.taken) l) idle))
-        ∙ sym down;
+          h.up ∙ sym (nil_append (carried y.taken))
+          ∙ ap (λ l. carried y.taken ++ l) (sym (ap (λ l. carried_from (joining no_part y.taken) (pieces l ++ x.rest)) none ∙ ap (λ l. carried_from (joining no_part y.taken) l) idle))
+          ∙ sym down;
       int_all = λ none. sym (h.ints.flow ∙ ap (λ l. y.int_up ++ ints l) none ∙ nil_append y.int_up);
     }

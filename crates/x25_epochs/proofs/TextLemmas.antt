@@ -45,9 +45,10 @@ AreSound-cut (suc n) size q xs j one far room same =
     let over : size < length xs = grind (arith, nat_tests) in
     let t : length (take size xs) ≡ size = grind (arith, common_steps) in
     let d : length (drop size xs) + size ≡ length xs = grind (arith, common_steps) in
-    let a : length (j.user ++ take size xs) ≡ length j.user + length (take size xs) = length-append j.user (take size xs) in
-    (ground_none size j (length (take size xs)) q (omega arith) (omega arith) same,
-    AreSound-cut n size q (drop size xs) (record { begun = Some q; user = j.user ++ take size xs }) one (omega arith) (omega arith) (same_q-refl q)))
+    let a : length (j.user ++ take size xs) ≡ length j.user + length (take size xs) = length-append j.user (take size xs) in (
+      ground_none size j (length (take size xs)) q (omega arith) (omega arith) same,
+      AreSound-cut n size q (drop size xs) (record { begun = Some q; user = j.user ++ take size xs }) one (omega arith) (omega arith) (same_q-refl q),
+    ))
 
 pub joining-cut : (n size : ℕ) (q : Bool) (xs : List ℕ) (j : Partial) → joining j (cut_from n size q xs) ≡ no_part
 joining-cut zero size q xs j = refl

@@ -4,7 +4,7 @@ use Rattle.x25_epochs.specs.Handshake.{Inner, Side, Live, Left, At}
 use Rattle.x25_circuit.specs.Circuit.{Terms}
 use Rattle.x25_epochs.specs.Terms.{IsSound}
 use Rattle.x25_epochs.specs.Stretch.{Packet, Data, Rr, Rnr, Int, IntConf, Reset, ResetConf, Call, Accept, Clear, ClearConf, Stretch, fresh, StretchStep, StretchAct, stretch_acts, stretch_takes}
-use Rattle.x25_epochs.specs.Transfer.{d1, rst, fresh_transfer, lifted, takes_d1, takes_rst, transfer_side_takes, transfer_takes, TransferAct, Inside, Resets, transfer_side_acts, transfer_acts}
+use Rattle.x25_epochs.specs.Transfer.{d1, rst, fresh_transfer, lifted, takes_d1, takes_rst, transfer_side_takes, transfer_takes, TransferAct, Inside, SendsReset, transfer_side_acts, transfer_acts}
 use Rattle.x25_epochs.proofs.HandshakeRelation.{AllInner}
 use Rattle.x25_epochs.proofs.HandshakeLemmas.{request_live, confirm_never, leave, inner_act, inner_take, drops, marker_left, hand_flip, both_fresh, inner_live, live_front, hand_map}
 use Rattle.x25_epochs.proofs.StretchRelation.{InFlowControl, AllInFlowControl, StretchesRelated, GoodStretch}
@@ -57,7 +57,7 @@ AllInTransfer-append (p ∷ u) o h g = (h.0, AllInTransfer-append u o h.1 g)
 pub TransfersRelated-flip : (t b : Terms) (x : At Stretch) (L K : List Packet) (y : At Stretch) → TransfersRelated t b x L K y → TransfersRelated b t y K L x
 TransfersRelated-flip t b x L K y h = record {
   hand = hand_flip (record { mark = reset_mark; fresh = fresh; gone = λ x. Unit {0}; related = λ x u v y. StretchesRelated b t y v u x }) x.epoch y.epoch x.side y.side L K
-    (hand_map (stretch_level t b) (λ x u v y. StretchesRelated b t y v u x) (λ x u v y r. StretchesRelated-flip t b x u v y r) x.epoch y.epoch x.side y.side L K h.hand);
+      (hand_map (stretch_level t b) (λ x u v y. StretchesRelated b t y v u x) (λ x u v y r. StretchesRelated-flip t b x u v y r) x.epoch y.epoch x.side y.side L K h.hand);
   there = h.back;
   back = h.there;
 }
@@ -80,7 +80,7 @@ GoodTransfer-inside t b st sb e x L K y a h =
     let open_out : AllInFlowControl (stretch_acts t x a).out = AllInFlowControl-back r.0 (stretch_acts t x a).out good.kept.there.kinds in
     GoodTransfer-lifted t b e (stretch_acts t x a) L K y good.quiet (record {
       hand = inner_act l (stretch_acts t x a).out (AllInner-open (stretch_acts t x a).out open_out) e y.epoch x (stretch_acts t x a).next y.side L K
-        (λ w v z k. (GoodStretch-acts t b st sb x w v z a k).kept) h.hand;
+          (λ w v z k. (GoodStretch-acts t b st sb x w v z a k).kept) h.hand;
       there = AllInTransfer-append L (stretch_acts t x a).out h.there (AllInTransfer-open (stretch_acts t x a).out open_out);
       back = h.back;
     })
@@ -95,7 +95,7 @@ GoodTransfer-inner t b sound e x L K y p is h =
     let open_out : AllInFlowControl s.out = AllInFlowControl-back r.0 s.out good.kept.there.kinds in
     GoodTransfer-lifted t b e s L K y good.quiet (record {
       hand = inner_take l p s.out (inner_mark p is) (AllInner-open s.out open_out) e y.epoch x s.next y.side L K
-        (λ w v z k. (GoodStretch-takes t b sound x w p v z k).kept) h.hand;
+          (λ w v z k. (GoodStretch-takes t b sound x w p v z k).kept) h.hand;
       there = AllInTransfer-append L s.out h.there (AllInTransfer-open s.out open_out);
       back = h.back.1;
     })
@@ -154,7 +154,7 @@ GoodTransfer-takes t b sound x L p K y h = GoodTransfer-side t b sound x.epoch x
 GoodTransfer-side_acts : (t b : Terms) → IsSound t → IsSound b → (e : ℕ) (x : Side Stretch) (L K : List Packet) (y : At Stretch) (a : TransferAct) → TransfersRelated t b (record { epoch = e; side = x }) L K y
     → GoodTransfer t b (transfer_side_acts t e x a) L K y
 GoodTransfer-side_acts t b st sb e (Live x) L K y (Inside a) h = GoodTransfer-inside t b st sb e x L K y a h
-GoodTransfer-side_acts t b st sb e (Live x) L K y Resets h = record {
+GoodTransfer-side_acts t b st sb e (Live x) L K y SendsReset h = record {
   quiet = refl;
   kept = record {
     hand = leave (stretch_level t b) Reset refl e y.epoch x y.side L K tt h.hand;
@@ -163,7 +163,7 @@ GoodTransfer-side_acts t b st sb e (Live x) L K y Resets h = record {
   };
 }
 GoodTransfer-side_acts t b st sb e (Left x) L K y (Inside a) h = GoodTransfer-still t b (rst e x) L K y h
-GoodTransfer-side_acts t b st sb e (Left x) L K y Resets h = GoodTransfer-still t b (rst e x) L K y h
+GoodTransfer-side_acts t b st sb e (Left x) L K y SendsReset h = GoodTransfer-still t b (rst e x) L K y h
 
 pub GoodTransfer-acts : (t b : Terms) → IsSound t → IsSound b → (x : At Stretch) (L K : List Packet) (y : At Stretch) (a : TransferAct) → TransfersRelated t b x L K y → GoodTransfer t b (transfer_acts t x a) L K y
 GoodTransfer-acts t b st sb x L K y a h = GoodTransfer-side_acts t b st sb x.epoch x.side L K y a h

@@ -1,11 +1,12 @@
 -- Where nothing is on the way and nothing waits, everything of a stretch has arrived.
 use Rattle.std.specs.Prelude.{◌≡◌, ℕ, List, [], Option, Some, None}
 use Rattle.x25_circuit.specs.Circuit.{Terms}
+use Rattle.x25_circuit.specs.Messages.{wholes}
 use Rattle.x25_epochs.specs.Terms.{IsSound}
 use Rattle.x25_epochs.specs.Handshake.{Side, Live, Left, At, state_of}
 use Rattle.x25_epochs.specs.Stretch.{Stretch}
 use Rattle.x25_epochs.specs.Calls.{Phase, Talking, Connection}
-use Rattle.x25_epochs.specs.Layers.{Channels, Pair, Event, pair_run, pair_start}
+use Rattle.x25_epochs.specs.Layers.{Channels, Event, pair_run, pair_start}
 use Rattle.x25_epochs.specs.Books.{messages, name_at}
 
 abbrev pub open_in : Side Stretch → Option Stretch
@@ -29,9 +30,9 @@ abbrev pub open_at : Side (At Channels) → ℕ → Option Stretch
 open_at (Live z) k = open_channel z.side k
 open_at (Left z) k = None
 
--- all that the one handed down the other handed up: of messages, where nothing waits to be sent
+-- all that the one handed down the other handed up: of messages, where none waits to be sent
 pub record HasArrived (giver taker : Stretch) : Type 0 where
-  pub messages : giver.rest ≡ [] → taker.up ≡ giver.down
+  pub messages : wholes giver.rest ≡ 0 → taker.up ≡ giver.down
   pub interrupts : taker.int_up ≡ giver.int_down
 
 -- in every run, where a stretch is open at both ends under one name and nothing is on the way

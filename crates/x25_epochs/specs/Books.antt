@@ -1,12 +1,12 @@
 -- What each end handed down and up on a channel, written under the names of its stretches.
-use Rattle.std.specs.Prelude.{◌≡◌, ℕ, List, [], ◌∷◌, ◌++◌, Bool, if◌then◌else◌}
+use Rattle.std.specs.Prelude.{◌≡◌, ℕ, List, [], ◌∷◌, ◌++◌, if◌then◌else◌}
 use Rattle.x25_circuit.specs.declared.message.Message.{Message}
 use Rattle.x25_bits.specs.declared.role.Role.{Role}
 use Rattle.x25_bits.specs.declared.role.Role.TheVariants.{Dte, Dce}
 use Rattle.x25_circuit.specs.Circuit.{Terms}
 use Rattle.x25_circuit.specs.Notices.{CallRequest}
 use Rattle.x25_epochs.specs.Terms.{IsSound}
-use Rattle.x25_epochs.specs.Handshake.{Side, Live, Left, At, state_of}
+use Rattle.x25_epochs.specs.Handshake.{At, state_of}
 use Rattle.x25_epochs.specs.Stretch.{Stretch}
 use Rattle.x25_epochs.specs.Calls.{Phase, Talking, Connection}
 use Rattle.x25_epochs.specs.Layers.{Channels, Pair, Move, Event, turned, pair_moves, pair_start}

@@ -10,9 +10,9 @@ use Rattle.x25_epochs.specs.Transfer.{TransferStep, fresh_transfer, transfer_tak
 
 pub data Phase : Type 0 where
   -- p1, out, in, p5, p4
-  Free : Phase
-  Calling : Phase
-  Arriving : Phase
+  Unused : Phase
+  Waiting : Phase
+  Offered : Phase
   Crossed : Phase
   Talking : (at : At Stretch) → Phase
 
@@ -39,15 +39,15 @@ in_transfer m i s = record { next = record { phase = Talking s.next; made = m; i
 
 abbrev pub call_crosses : Role → List CallRequest → List CallRequest → CallRequest → CallStep
 call_crosses Dte m i n = goes Crossed m i []
-call_crosses Dce m i n = goes Arriving m (i ++ n ∷ []) []
+call_crosses Dce m i n = goes Offered m (i ++ n ∷ []) []
 
 abbrev pub phase_takes : Role → ℕ → Phase → List CallRequest → List CallRequest → Packet → CallStep
-phase_takes r size Free m i (Call n) = goes Arriving m (i ++ n ∷ []) []
-phase_takes r size Free m i other = unexpected Free m i
-phase_takes r size Calling m i (Call n) = call_crosses r m i n
-phase_takes r size Calling m i Accept = goes (Talking fresh_transfer) m i []
-phase_takes r size Calling m i other = unexpected Calling m i
-phase_takes r size Arriving m i p = unexpected Arriving m i
+phase_takes r size Unused m i (Call n) = goes Offered m (i ++ n ∷ []) []
+phase_takes r size Unused m i other = unexpected Unused m i
+phase_takes r size Waiting m i (Call n) = call_crosses r m i n
+phase_takes r size Waiting m i Accept = goes (Talking fresh_transfer) m i []
+phase_takes r size Waiting m i other = unexpected Waiting m i
+phase_takes r size Offered m i p = unexpected Offered m i
 phase_takes r size Crossed m i Accept = goes (Talking fresh_transfer) m i []
 phase_takes r size Crossed m i other = unexpected Crossed m i
 phase_takes r size (Talking x) m i p = in_transfer m i (transfer_takes size x p)
@@ -56,16 +56,16 @@ abbrev pub call_takes : Role → ℕ → Connection → Packet → CallStep
 call_takes r size x p = phase_takes r size x.phase x.made x.indicated p
 
 pub data CallAct : Type 0 where
-  Makes : (item : CallRequest) → CallAct
-  Accepts : CallAct
+  PlacesCall : (item : CallRequest) → CallAct
+  AcceptsCall : CallAct
   Talks : (act : TransferAct) → CallAct
 
 abbrev pub phase_acts : Terms → Phase → List CallRequest → List CallRequest → CallAct → CallStep
-phase_acts t Free m i (Makes n) = goes Calling (m ++ n ∷ []) i (Call n ∷ [])
-phase_acts t Free m i other = goes Free m i []
-phase_acts t Calling m i a = goes Calling m i []
-phase_acts t Arriving m i Accepts = goes (Talking fresh_transfer) m i (Accept ∷ [])
-phase_acts t Arriving m i other = goes Arriving m i []
+phase_acts t Unused m i (PlacesCall n) = goes Waiting (m ++ n ∷ []) i (Call n ∷ [])
+phase_acts t Unused m i other = goes Unused m i []
+phase_acts t Waiting m i a = goes Waiting m i []
+phase_acts t Offered m i AcceptsCall = goes (Talking fresh_transfer) m i (Accept ∷ [])
+phase_acts t Offered m i other = goes Offered m i []
 phase_acts t Crossed m i a = goes Crossed m i []
 phase_acts t (Talking x) m i (Talks a) = in_transfer m i (transfer_acts t x a)
 phase_acts t (Talking x) m i other = goes (Talking x) m i []
@@ -77,4 +77,4 @@ call_acts t x a = phase_acts t x.phase x.made x.indicated a
 -- lines, read from the front
 
 abbrev pub fresh_call : Connection
-fresh_call = record { phase = Free; made = []; indicated = [] }
+fresh_call = record { phase = Unused; made = []; indicated = [] }

@@ -4,7 +4,7 @@ use Rattle.x25_epochs.specs.Handshake.{Side, Live, Left, At}
 use Rattle.x25_bits.specs.declared.role.Role.{Role}
 use Rattle.x25_circuit.specs.Circuit.{Terms}
 use Rattle.x25_epochs.specs.Stretch.{Packet, Clear, ClearConf}
-use Rattle.x25_epochs.specs.Calls.{Phase, Free, Connection, CallStep, call_takes, CallAct, call_acts, fresh_call}
+use Rattle.x25_epochs.specs.Calls.{Phase, Unused, Connection, CallStep, call_takes, CallAct, call_acts, fresh_call}
 
 pub record ChannelStep : Type 0 where
   pub next : At Connection
@@ -24,7 +24,7 @@ lifted_call e s (Some n) = record { next = clr e s.next; out = Clear ∷ []; err
 
 -- a CLEAR in p1 is confirmed as elsewhere; it is marked here as what never comes
 abbrev pub in_p1 : Phase → Option ℕ
-in_p1 Free = Some 20
+in_p1 Unused = Some 20
 in_p1 other = None
 
 abbrev pub live_takes : Role → ℕ → ℕ → Connection → Packet → ChannelStep
@@ -46,16 +46,16 @@ channel_takes r size x p = channel_side_takes r size x.epoch x.side p
 
 pub data ChannelAct : Type 0 where
   Within : (act : CallAct) → ChannelAct
-  Clears : ChannelAct
+  SendsClear : ChannelAct
 
 -- clear() is refused in p1
 abbrev pub clears : ℕ → Connection → Phase → ChannelStep
-clears e x Free = record { next = live e x; out = []; error = None }
+clears e x Unused = record { next = live e x; out = []; error = None }
 clears e x other = record { next = clr e x; out = Clear ∷ []; error = None }
 
 abbrev pub channel_side_acts : Terms → ℕ → Side Connection → ChannelAct → ChannelStep
 channel_side_acts t e (Live x) (Within a) = lifted_call e (call_acts t x a) (call_acts t x a).error
-channel_side_acts t e (Live x) Clears = clears e x x.phase
+channel_side_acts t e (Live x) SendsClear = clears e x x.phase
 channel_side_acts t e (Left x) a = record { next = clr e x; out = []; error = None }
 
 abbrev pub channel_acts : Terms → At Connection → ChannelAct → ChannelStep

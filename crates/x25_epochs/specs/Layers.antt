@@ -53,11 +53,11 @@ layer_takes r size x p = layer_side_takes r size x.epoch x.side p
 
 pub data LayerAct : Type 0 where
   OnChannel : (channel : ℕ) → (act : ChannelAct) → LayerAct
-  Restarts : LayerAct
+  SendsRestart : LayerAct
 
 abbrev pub layer_side_acts : Terms → ℕ → Side Channels → LayerAct → LayerStep
 layer_side_acts t e (Live x) (OnChannel h a) = on_channel e x h (channel_acts t (x h) a)
-layer_side_acts t e (Live x) Restarts = record { next = restarting e x; out = Restart ∷ []; error = None }
+layer_side_acts t e (Live x) SendsRestart = record { next = restarting e x; out = Restart ∷ []; error = None }
 layer_side_acts t e (Left x) a = record { next = restarting e x; out = []; error = None }
 
 abbrev pub layer_acts : Terms → At Channels → LayerAct → LayerStep

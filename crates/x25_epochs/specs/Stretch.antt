@@ -75,8 +75,8 @@ abbrev pub sends : Terms → Stretch → Bool → List ℕ → StretchStep
 sends t x q xs =
     if nat_le (length xs) 65535
     then (if nat_lt (wholes x.rest) 8
-      then stretch_does (record x { rest = x.rest ++ cut t.size q xs; down = x.down ++ record { q = q; user = xs } ∷ [] }) []
-      else stretch_does x [])
+    then stretch_does (record x { rest = x.rest ++ cut t.size q xs; down = x.down ++ record { q = q; user = xs } ∷ [] }) []
+    else stretch_does x [])
     else stretch_does x []
 
 abbrev pub pulls : Terms → Stretch → List Piece → StretchStep
@@ -84,18 +84,18 @@ pulls t x [] = stretch_does x []
 pulls t x (p ∷ ps) =
     if x.peer_ready
     then (if nat_lt (length x.sent) (x.acked + t.window)
-      then stretch_does (record x { sent = x.sent ++ p ∷ []; rest = ps }) (Data (length x.sent % 8) (length x.taken % 8) p ∷ [])
-      else stretch_does x [])
+    then stretch_does (record x { sent = x.sent ++ p ∷ []; rest = ps }) (Data (length x.sent % 8) (length x.taken % 8) p ∷ [])
+    else stretch_does x [])
     else stretch_does x []
 
 abbrev pub interrupts : Stretch → List ℕ → StretchStep
 interrupts x xs =
     if nat_le 1 (length xs)
     then (if nat_le (length xs) 32
-      then (if x.int_out
-        then stretch_does x []
-        else stretch_does (record x { int_out = true; int_down = x.int_down ++ xs ∷ [] }) (Int xs ∷ []))
-      else stretch_does x [])
+    then (if x.int_out
+    then stretch_does x []
+    else stretch_does (record x { int_out = true; int_down = x.int_down ++ xs ∷ [] }) (Int xs ∷ []))
+    else stretch_does x [])
     else stretch_does x []
 
 -- a call of the user, or a pull. A refused one changes nothing

@@ -55,11 +55,11 @@ transfer_takes size x p = transfer_side_takes size x.epoch x.side p
 
 pub data TransferAct : Type 0 where
   Inside : (act : StretchAct) → TransferAct
-  Resets : TransferAct
+  SendsReset : TransferAct
 
 abbrev pub transfer_side_acts : Terms → ℕ → Side Stretch → TransferAct → TransferStep
 transfer_side_acts t e (Live x) (Inside a) = lifted e (stretch_acts t x a) (stretch_acts t x a).error
-transfer_side_acts t e (Live x) Resets = record { next = rst e x; out = Reset ∷ []; error = None }
+transfer_side_acts t e (Live x) SendsReset = record { next = rst e x; out = Reset ∷ []; error = None }
 transfer_side_acts t e (Left x) a = record { next = rst e x; out = []; error = None }
 
 -- a call of the user in p4. In rst all are refused, which changes nothing
