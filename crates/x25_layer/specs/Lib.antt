@@ -1,0 +1,3 @@
+pub mod LayerError
+pub mod Layer
+pub mod Calls
