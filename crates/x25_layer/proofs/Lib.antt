@@ -1,0 +1,3 @@
+pub mod Sees
+pub mod ViewLemmas
+pub mod NoteLemmas

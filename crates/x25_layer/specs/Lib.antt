@@ -1,3 +1,5 @@
 pub mod LayerError
 pub mod Layer
 pub mod Calls
+pub mod Quiet
+pub mod Transcript
