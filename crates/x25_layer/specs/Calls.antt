@@ -15,7 +15,7 @@ pub data LayerRequest : Type 0 where
   Dials : (called : List ℕ) → (calling : List ℕ) → (user : List ℕ) → LayerRequest
   Restarts : LayerRequest
 
--- the layer after the call, the packet to send, where there is one, and the channel; or why it is refused
+-- the layer after the call, and the packet to send, where there is one; or why it is refused
 pub data LayerOutcome : Type 0 where
   Accepted : (next : Layer) → (packet : Option PlainPacket) → LayerOutcome
   Declined : (error : LayerError) → LayerOutcome
@@ -87,4 +87,4 @@ abbrev pub pulled_on : Layer → ℕ → Pulled → LayerPulled
 pulled_on l h p = record { next = record { restarting = l.restarting; restarts = l.restarts; circuits = put_at l.circuits h p.next }; packet = packet_on h p.packet }
 
 abbrev pub layer_pulled : LayerSettings → Layer → ℕ → LayerPulled
-layer_pulled c l h = if is_channel c.channels h then pulled_on l h (pulled c.circuit (l.circuits h)) else record { next = l; packet = None }
+layer_pulled c l h = pulled_on l h (pulled c.circuit (l.circuits h))
