@@ -1,3 +1,6 @@
 pub mod Sees
 pub mod ViewLemmas
 pub mod NoteLemmas
+pub mod LayerSees
+pub mod StepLemmas
+pub mod LayerLemmas
