@@ -4,3 +4,4 @@ pub mod NoteLemmas
 pub mod LayerSees
 pub mod StepLemmas
 pub mod LayerLemmas
+pub mod BookLemmas
