@@ -5,3 +5,4 @@ pub mod LayerSees
 pub mod StepLemmas
 pub mod LayerLemmas
 pub mod BookLemmas
+pub mod WorldLemmas
