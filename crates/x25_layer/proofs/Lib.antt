@@ -6,3 +6,4 @@ pub mod StepLemmas
 pub mod LayerLemmas
 pub mod BookLemmas
 pub mod WorldLemmas
+pub mod RunLemmas
