@@ -7,3 +7,5 @@ pub mod LayerLemmas
 pub mod BookLemmas
 pub mod WorldLemmas
 pub mod RunLemmas
+pub mod ArrivalLemmas
+pub mod LawLemmas

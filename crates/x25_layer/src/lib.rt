@@ -3,5 +3,7 @@
 #![tactic(auto)]
 
 mod error;
+mod law;
 
 pub use error::LayerError;
+pub use law::two_layers_keep_order;
