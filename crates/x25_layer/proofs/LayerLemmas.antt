@@ -188,7 +188,7 @@ if_there c l r false good error z s h = tt
 
 -- a free channel is a configured one
 
-is_between : (channels h : ℕ) → 1 ≤ h → h ≤ channels → is_channel channels h ≡ true
+pub is_between : (channels h : ℕ) → 1 ≤ h → h ≤ channels → is_channel channels h ≡ true
 is_between channels h low high = rw (le-leb 1 h low) (rw (le-leb h channels high) refl)
 
 some_is : (k h : ℕ) → Some k ≡ Some h → k ≡ h

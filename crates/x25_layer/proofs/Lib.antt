@@ -9,3 +9,4 @@ pub mod WorldLemmas
 pub mod RunLemmas
 pub mod ArrivalLemmas
 pub mod LawLemmas
+pub mod RoundLemmas
