@@ -10,3 +10,4 @@ pub mod RunLemmas
 pub mod ArrivalLemmas
 pub mod LawLemmas
 pub mod RoundLemmas
+pub mod SettleLemmas

@@ -1,5 +1,6 @@
 ghost use Rattle.std.specs.Prelude.{ℕ};
 ghost use Rattle.x25_layer.specs.Law.{Always, IsQuietWorld, IsLawfulWorld, ArrivesAll, KeepsOrder};
+ghost use Rattle.x25_layer.specs.RoundLaw.{CallsRun, HearsRun, RoundsSettle};
 
 /// Two layers over links that keep order, whatever their users ask and whenever a link goes down: after every event,
 ///
@@ -17,3 +18,11 @@ pub fn two_layers_keep_order()
 {
     x25_epochs::keeps_order();
 }
+
+/// A call of a layer over a link is a run: the step of the call, and then pulls of data packets, until a round of pulls gives
+/// nothing.
+pub fn calls_are_runs()
+    ensures calls { CallsRun }
+    ensures hears { HearsRun }
+    ensures settle { RoundsSettle }
+{}

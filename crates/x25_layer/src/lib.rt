@@ -6,4 +6,4 @@ mod error;
 mod law;
 
 pub use error::LayerError;
-pub use law::two_layers_keep_order;
+pub use law::{calls_are_runs, two_layers_keep_order};
