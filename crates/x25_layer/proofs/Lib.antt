@@ -11,3 +11,4 @@ pub mod ArrivalLemmas
 pub mod LawLemmas
 pub mod RoundLemmas
 pub mod SettleLemmas
+pub mod LayerRows

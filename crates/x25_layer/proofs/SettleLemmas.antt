@@ -5,12 +5,12 @@ use Rattle.x25_packet.specs.PlainPacket.{PlainPacket}
 use Rattle.x25_circuit.specs.declared.state.State.{State}
 use Rattle.x25_circuit.specs.declared.state.State.TheVariants.{Free, Calling, Arriving, Collision, Open, Resetting, Clearing}
 use Rattle.x25_circuit.specs.Messages.{Piece}
-use Rattle.x25_circuit.specs.Circuit.{Settings, Talk, Circuit}
+use Rattle.x25_circuit.specs.Circuit.{Settings, Talk, Circuit, begun}
 use Rattle.x25_circuit.specs.Calls.{Pulled, pulls_nothing, data_packet, pull_open, pull_in, pulled}
-use Rattle.x25_layer.specs.Layer.{LayerSettings, Layer, put_at, packet_on}
+use Rattle.x25_layer.specs.Layer.{LayerSettings, Layer, put_at, packet_on, goes_up}
 use Rattle.x25_layer.specs.Calls.{LayerPulled, layer_pulled}
-use Rattle.x25_layer.specs.Rounds.{LinkView, Putting, with_pulled, pull_one, round, rounds_of, rounds, backlog}
-use Rattle.x25_layer.specs.RoundLaw.{RoundsSettle}
+use Rattle.x25_layer.specs.Rounds.{LinkView, Putting, begin, with_pulled, pull_one, round, rounds_of, rounds, backlog}
+use Rattle.x25_layer.specs.RoundLaw.{RoundsSettle, ComesUpAlone}
 
 none_some : {T : Type 0} (x : T) → None ≡ Some x → ⊥
 none_some x e = cc
@@ -147,3 +147,11 @@ settled (suc j) link c s enough = by (round_lessens link c c.channels (let e : c
 
 pub rounds_settle : RoundsSettle
 rounds_settle link c s = settled (left c s) link c s (let e : left c s ≤ left c s = omega arith in e)
+
+-- circuits that begin have nothing to send
+begun_backlog : (n : ℕ) → backlog (λ k. begun) n ≡ 0
+begun_backlog zero = refl
+begun_backlog (suc n) = let e : backlog (λ k. begun) n ≡ 0 = begun_backlog n in omega (arith, e)
+
+pub comes_up_alone : ComesUpAlone
+comes_up_alone link c = ap (λ (n : ℕ). rounds_of n link c (begin (goes_up c).next (goes_up c).owed)) (begun_backlog c.channels)

@@ -2,9 +2,9 @@
 use Rattle.std.specs.Prelude.{◌≡◌, ℕ, List, [], ◌∷◌, ◌++◌, Result, Ok, Bool, true, false, ◌==◌}
 use Rattle.x25_packet.specs.PlainPacket.{PlainPacket}
 use Rattle.x25_packet.specs.Reading.{packet_of}
-use Rattle.x25_layer.specs.Layer.{LayerSettings, Layer, is_channel}
+use Rattle.x25_layer.specs.Layer.{LayerSettings, Layer, is_channel, goes_up}
 use Rattle.x25_layer.specs.Calls.{LayerRequest}
-use Rattle.x25_layer.specs.Rounds.{LinkView, Putting, round, rounds, Answered, Went, calls, Heard, hears, longest_user}
+use Rattle.x25_layer.specs.Rounds.{LinkView, Putting, begin, round, rounds, Answered, Went, calls, Heard, hears, comes_up, longest_user}
 use Rattle.x25_layer.specs.World.{World, Move, Requests, Pulls, HandsUp, moves}
 
 -- moves of the near end, one after another
@@ -48,3 +48,7 @@ HearsRun = (link : LinkView) (c : LayerSettings) (w : World) (packet : PlainPack
 -- behind the rounds, one round more gives nothing
 abbrev pub RoundsSettle : Type 0
 RoundsSettle = (link : LinkView) (c : LayerSettings) (s : Putting) → round link c c.channels (rounds link c s) ≡ rounds link c s
+
+-- at LinkUp RESTART is put, and nothing else
+abbrev pub ComesUpAlone : Type 0
+ComesUpAlone = (link : LinkView) (c : LayerSettings) → (comes_up link c).step ≡ begin (goes_up c).next (goes_up c).owed

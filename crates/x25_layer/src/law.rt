@@ -1,6 +1,6 @@
 ghost use Rattle.std.specs.Prelude.{ℕ};
 ghost use Rattle.x25_layer.specs.Law.{Always, IsQuietWorld, IsLawfulWorld, ArrivesAll, KeepsOrder};
-ghost use Rattle.x25_layer.specs.RoundLaw.{CallsRun, HearsRun, RoundsSettle};
+ghost use Rattle.x25_layer.specs.RoundLaw.{CallsRun, HearsRun, RoundsSettle, ComesUpAlone};
 
 /// Two layers over links that keep order, whatever their users ask and whenever a link goes down: after every event,
 ///
@@ -20,9 +20,10 @@ pub fn two_layers_keep_order()
 }
 
 /// A call of a layer over a link is a run: the step of the call, and then pulls of data packets, until a round of pulls gives
-/// nothing.
+/// nothing. When the link comes up, RESTART is put alone.
 pub fn calls_are_runs()
     ensures calls { CallsRun }
     ensures hears { HearsRun }
     ensures settle { RoundsSettle }
+    ensures up { ComesUpAlone }
 {}
