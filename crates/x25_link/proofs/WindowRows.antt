@@ -15,8 +15,9 @@ use Rattle.x25_link.specs.Outgoing.{no_packet}
 use Rattle.x25_link.specs.Station.{Settings, Station, Side, is_up, with_near, sends, ready, may_send, owes_ready}
 use Rattle.x25_link.specs.MustSend.{Step, quiet, leaves, other, rejects, is_valid, acknowledged, is_taken, takes, hears_info, peer_is, goes_back, polls, numbered, row_of_frame, row_of}
 use Rattle.x25_link.specs.Steps.{alone, closed_by, hears, puts, asks_again, fires, disconnects, when_down}
-use Rattle.x25_link.specs.WindowMachine.{Window, Input, hands_down, receives, nothing, rests, moved}
-use Rattle.x25_link.specs.WindowMachine.Move.{hears as hears_number, takes as takes_packet}
+use Rattle.x25_window.specs.Window.{after}
+use Rattle.x25_window.specs.Window.Step.{Hear, Take}
+use Rattle.x25_link.specs.WindowMachine.{Window, Input, hands_down, receives, nothing, rests}
 use Rattle.x25_link.specs.WindowLaw.{IsRunning, brought_by, window_of}
 use Rattle.x25_link.specs.WindowLaw.{after_input, MayHandUp, if_valid, ending_of_frame, ending_of, ends_in, AreLast, Stays, Ends, Follows, TakeFollows, PutFollows, TimerFollows, DisconnectFollows, AbandonFollows, IsOut, sets_up, StaysOut, TakeStaysOut, ClosesOut, DisconnectStaysOut}
 use Rattle.x25_link.proofs.EndLemmas.{both_true, none_open, ended_stays}
@@ -25,13 +26,13 @@ use Rattle.x25_link.proofs.WindowLemmas.{KeptAt, Kept, K-ready, K-ended, K-answe
 -- ---- from a row to the step
 
 pub record RowKept (k : ℕ) (input : Input) (s : Station) (step : Step) : Type 0 where
-  pub kept : KeptAt k nothing (after_input input step.packet (window_of s)) (is_up step.side.near.phase) step.side.near.outgoing step.side.near.taken step.side.out
-  pub hands_up : MayHandUp input step.packet (window_of s)
+  pub kept : KeptAt k (after_input input step.packet (window_of k s)) (is_up step.side.near.phase) step.side.near.outgoing step.side.near.taken step.side.out
+  pub hands_up : MayHandUp input step.packet (window_of k s)
   pub quiet : step.notes ≡ record { down = None; up = false }
 
 stays_from : (k : ℕ) (input : Input) (s : Station) (step : Step) → RowKept k input s step → Stays k input s (closed_by k step)
 stays_from k input s step row =
-    let h = K-ended k nothing (after_input input step.packet (window_of s)) step.side row.kept in
+    let h = K-ended k (after_input input step.packet (window_of k s)) step.side row.kept in
     record { up = h.up; sound = h.sound; hands_up = row.hands_up; sends = h.runs; quiet = row.quiet }
 
 pub closed_stays : (k : ℕ) (step : Step) → may_send k step.side.near ≡ false → owes_ready step.side.near ≡ false → closed_by k step ≡ step
@@ -52,10 +53,10 @@ leaves_ends k reason s last phase =
     ends_from k reason (leaves reason (alone s)) refl refl (record { frames = last; packet = refl; phase = phase; outgoing = refl; taken = refl; noted = refl })
 
 -- the station once a valid N(R) is heard
-abbrev heard_window : ℕ → Station → Window
-heard_window nr s = moved (window_of s) (hears_number nr)
+abbrev heard_window : ℕ → ℕ → Station → Window
+heard_window k nr s = after (window_of k s) (Hear nr)
 
-heard_kept : (k nr : ℕ) (s : Station) → IsRunning k s → is_valid nr s ≡ true → Kept k nothing (heard_window nr s) (acknowledged nr (alone s))
+heard_kept : (k nr : ℕ) (s : Station) → IsRunning k s → is_valid nr s ≡ true → Kept k (heard_window k nr s) (acknowledged nr (alone s))
 heard_kept k nr s running valid =
     let h = running.sound in
     let within : resolved s.outgoing.acked nr ≤ s.outgoing.sent = leb-true _ _ valid in
@@ -72,51 +73,51 @@ info_kept k ns nr p packet s true is running valid =
     let h = heard_kept k nr s running valid in
     let both = both_true _ _ is in
     let same : ns ≡ length s.taken % 8 = eqb-true _ _ both.1 in
-    let w : Window = moved (heard_window nr s) (takes_packet 0 packet) in
+    let w : Window = after (heard_window k nr s) (Take 0 packet) in
     rw is (record {
-      kept = K-answers k nothing w p (takes packet t) (record { up = h.up; sound = h.sound; runs = rests });
+      kept = K-answers k w p (takes packet t) (record { up = h.up; sound = h.sound; runs = rests });
       hands_up = (same, refl);
       quiet = refl;
     })
 info_kept k ns nr p packet s false is running valid =
     let t = acknowledged nr (alone s) in
     rw is (record {
-      kept = K-passes_over k nothing (heard_window nr s) p t (heard_kept k nr s running valid);
+      kept = K-passes_over k (heard_window k nr s) p t (heard_kept k nr s running valid);
       hands_up = tt;
       quiet = refl;
     })
 
 numbered_by : (c : Settings) (octets : List ℕ) (nr : ℕ) (row : Side → Step) (input : Input) (s : Station) (b : Bool) → is_valid nr s ≡ b
     → (is_valid nr s ≡ true → RowKept c.window input s (row (acknowledged nr (alone s))))
-    → Follows (if_valid nr (window_of s)) c.window input s (closed_by c.window (numbered c octets nr row (alone s)))
+    → Follows (if_valid nr (window_of c.window s)) c.window input s (closed_by c.window (numbered c octets nr row (alone s)))
 numbered_by c octets nr row input s true valid kept =
     let row_kept = kept valid in
     rw valid (stays_from c.window input s (row (acknowledged nr (alone s))) row_kept)
 numbered_by c octets nr row input s false valid kept = rw valid (rejects_ends c octets 8 s)
 
-start : (k : ℕ) (input : Input) (s : Station) → IsRunning k s → Kept k nothing (window_of s) (alone s)
+start : (k : ℕ) (input : Input) (s : Station) → IsRunning k s → Kept k (window_of k s) (alone s)
 start k input s running = record { up = running.up; sound = running.sound; runs = rests }
 
-quiet_follows : (k : ℕ) (input : Input) (s : Station) → after_input input None (window_of s) ≡ window_of s → IsRunning k s → Stays k input s (closed_by k (quiet (alone s)))
+quiet_follows : (k : ℕ) (input : Input) (s : Station) → after_input input None (window_of k s) ≡ window_of k s → IsRunning k s → Stays k input s (closed_by k (quiet (alone s)))
 quiet_follows k input s same running =
     stays_from k input s (quiet (alone s)) (record { kept = rw same (start k input s running); hands_up = tt; quiet = refl })
 
 frame_follows : (c : Settings) (octets : List ℕ) (frame : PlainFrame) (s : Station) → IsRunning c.window s
-    → Follows (ending_of_frame frame (window_of s)) c.window (receives frame) s (closed_by c.window (row_of_frame c octets frame (alone s)))
+    → Follows (ending_of_frame frame (window_of c.window s)) c.window (receives frame) s (closed_by c.window (row_of_frame c octets frame (alone s)))
 frame_follows c octets (info ns nr p packet) s running =
     numbered_by c octets nr (hears_info c.window ns p packet) (receives (info ns nr p packet)) s _ refl
     (λ valid. info_kept c.window ns nr p packet s _ refl running valid)
 frame_follows c octets (rr command nr pf) s running =
     numbered_by c octets nr (λ u. quiet (polls command pf (peer_is false u))) (receives (rr command nr pf)) s _ refl
-    (λ valid. record { kept = K-polls c.window nothing (heard_window nr s) command pf (peer_is false (acknowledged nr (alone s))) (heard_kept c.window nr s running valid); hands_up = tt; quiet = refl })
+    (λ valid. record { kept = K-polls c.window (heard_window c.window nr s) command pf (peer_is false (acknowledged nr (alone s))) (heard_kept c.window nr s running valid); hands_up = tt; quiet = refl })
 frame_follows c octets (rnr command nr pf) s running =
     numbered_by c octets nr (λ u. quiet (polls command pf (peer_is true u))) (receives (rnr command nr pf)) s _ refl
-    (λ valid. record { kept = K-polls c.window nothing (heard_window nr s) command pf (peer_is true (acknowledged nr (alone s))) (heard_kept c.window nr s running valid); hands_up = tt; quiet = refl })
+    (λ valid. record { kept = K-polls c.window (heard_window c.window nr s) command pf (peer_is true (acknowledged nr (alone s))) (heard_kept c.window nr s running valid); hands_up = tt; quiet = refl })
 frame_follows c octets (rej command nr pf) s running =
     numbered_by c octets nr (λ u. quiet (polls command pf (goes_back (peer_is false u)))) (receives (rej command nr pf)) s _ refl
     (λ valid. record {
-      kept = K-polls c.window nothing (heard_window nr s) command pf (goes_back (peer_is false (acknowledged nr (alone s))))
-          (K-goes_back c.window nothing (heard_window nr s) (peer_is false (acknowledged nr (alone s))) (heard_kept c.window nr s running valid));
+      kept = K-polls c.window (heard_window c.window nr s) command pf (goes_back (peer_is false (acknowledged nr (alone s))))
+          (K-goes_back c.window (heard_window c.window nr s) (peer_is false (acknowledged nr (alone s))) (heard_kept c.window nr s running valid));
       hands_up = tt;
       quiet = refl;
     })
@@ -132,7 +133,7 @@ frame_follows c octets (dm f) s running = leaves_ends c.window Dm s refl refl
 frame_follows c octets (frmr f why) s running = leaves_ends c.window FrmrGot s refl refl
 
 read_follows : (c : Settings) (octets : List ℕ) (read : Result PlainFrame FrameError) (s : Station) → IsRunning c.window s
-    → Follows (ending_of read (window_of s)) c.window (brought_by read) s (closed_by c.window (row_of c octets read (alone s)))
+    → Follows (ending_of read (window_of c.window s)) c.window (brought_by read) s (closed_by c.window (row_of c octets read (alone s)))
 read_follows c octets (Ok frame) s running = frame_follows c octets frame s running
 read_follows c octets (Err Short) s running = quiet_follows c.window nothing s refl running
 read_follows c octets (Err BadFcs) s running = quiet_follows c.window nothing s refl running
@@ -160,7 +161,7 @@ up_is Closed e = absurd (never e)
 
 pub take_follows : TakeFollows
 take_follows c octets s running read is =
-    rw (sym is) (subst (λ (p : Phase). Follows (ending_of read (window_of s)) c.window (brought_by read) s (closed_by c.window (hears c octets read p (alone s)))) (sym (up_is s.phase running.up))
+    rw (sym is) (subst (λ (p : Phase). Follows (ending_of read (window_of c.window s)) c.window (brought_by read) s (closed_by c.window (hears c octets read p (alone s)))) (sym (up_is s.phase running.up))
     (read_follows c octets read s running))
 
 pub put_follows : PutFollows
@@ -184,7 +185,7 @@ timer_by true c s is running =
     let u : Side = with_near t (record t.near { recovery = true }) in
     rw is (subst (λ (p : Phase). Stays k nothing s (closed_by k (quiet (asks_again p t)))) (sym (up_is s.phase running.up))
     (stays_from k nothing s (quiet (ready true true u)) (record {
-      kept = K-ready k nothing (window_of s) true true u (start k nothing s running);
+      kept = K-ready k (window_of k s) true true u (start k nothing s running);
       hands_up = tt;
       quiet = refl;
     })))

@@ -14,16 +14,18 @@ use Rattle.x25_link.specs.Outgoing.{Outgoing, no_packet}
 use Rattle.x25_link.specs.Station.{Settings, Station, is_up}
 use Rattle.x25_link.specs.MustSend.{Step, other}
 use Rattle.x25_link.specs.Steps.{take_step, put_step, timer_step, disconnect_step, abandon_step}
-use Rattle.x25_link.specs.WindowMachine.{Window, Input, hands_down, receives, nothing, Runs, gives, hears, takes, moved}
+use Rattle.x25_window.specs.Window.{after}
+use Rattle.x25_window.specs.Window.Step.{HandDown, Hear, Take}
+use Rattle.x25_link.specs.WindowMachine.{Window, Input, hands_down, receives, nothing, Runs}
 
 -- ---- a station as a window machine
 
-abbrev pub window_in : Outgoing → List (List ℕ) → Window
-window_in o taken = record { given = o.given; acked = o.acked; sent = o.sent; taken = taken }
+abbrev pub window_in : ℕ → Outgoing → List (List ℕ) → Window
+window_in k o taken = record { window = k; given = o.given; acked = o.acked; sent = o.sent; taken = taken }
 
 -- what the machine has of a station
-abbrev pub window_of : Station → Window
-window_of s = window_in s.outgoing s.taken
+abbrev pub window_of : ℕ → Station → Window
+window_of k s = window_in k s.outgoing s.taken
 
 -- V(S) lies where frames may be sent from, and no more than k frames stand unacknowledged
 pub record IsSound (k : ℕ) (o : Outgoing) : Type 0 where
@@ -47,18 +49,18 @@ pub record IsRunning (k : ℕ) (s : Station) : Type 0 where
 -- the packet that is handed up is taken
 abbrev pub taken_up : Option (List ℕ) → Window → Window
 taken_up None w = w
-taken_up (Some x) w = moved w (takes 0 x)
+taken_up (Some x) w = after w (Take 0 x)
 
 -- an N(R) is heard exactly once, and then what is handed up is taken
 abbrev pub after_frame : PlainFrame → Option (List ℕ) → Window → Window
-after_frame (info ns nr p x) packet w = taken_up packet (moved w (hears nr))
-after_frame (rr command nr pf) packet w = moved w (hears nr)
-after_frame (rnr command nr pf) packet w = moved w (hears nr)
-after_frame (rej command nr pf) packet w = moved w (hears nr)
+after_frame (info ns nr p x) packet w = taken_up packet (after w (Hear nr))
+after_frame (rr command nr pf) packet w = after w (Hear nr)
+after_frame (rnr command nr pf) packet w = after w (Hear nr)
+after_frame (rej command nr pf) packet w = after w (Hear nr)
 after_frame frame packet w = w
 
 abbrev pub after_input : Input → Option (List ℕ) → Window → Window
-after_input (hands_down x) packet w = moved w (gives x)
+after_input (hands_down x) packet w = after w (HandDown x)
 after_input (receives frame) packet w = after_frame frame packet w
 after_input nothing packet w = w
 
@@ -129,8 +131,8 @@ AreLast Counts frames = frames ≡ []
 pub record Stays (k : ℕ) (input : Input) (s : Station) (step : Step) : Type 0 where
   pub up : is_up step.side.near.phase ≡ true
   pub sound : IsSound k step.side.near.outgoing
-  pub hands_up : MayHandUp input step.packet (window_of s)
-  pub sends : Runs k nothing (after_input input step.packet (window_of s)) (window_of step.side.near) step.side.out
+  pub hands_up : MayHandUp input step.packet (window_of k s)
+  pub sends : Runs (after_input input step.packet (window_of k s)) (window_of k step.side.near) step.side.out
   pub quiet : step.notes ≡ record { down = None; up = false }
 
 -- Up is left, or begins afresh: nothing is handed up, and all lists are empty
@@ -149,7 +151,7 @@ Follows (Some reason) k input s step = Ends reason step
 
 abbrev pub TakeFollows : Type 0
 TakeFollows = (c : Settings) (octets : List ℕ) (s : Station) → IsRunning c.window s → (read : Result PlainFrame FrameError) → read ≡ frame_of (other c.role) c.longest octets →
-    Follows (ending_of read (window_of s)) c.window (brought_by read) s (take_step c octets s)
+    Follows (ending_of read (window_of c.window s)) c.window (brought_by read) s (take_step c octets s)
 
 abbrev pub PutFollows : Type 0
 PutFollows = (c : Settings) (packet : List ℕ) (s : Station) → IsRunning c.window s → Stays c.window (hands_down packet) s (put_step c packet s)

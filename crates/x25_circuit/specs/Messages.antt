@@ -1,0 +1,105 @@
+-- Data packets, and the messages that they carry, whoever cut them. ITU-T X.25 (10/96), sections 4.3.2 and 4.3.4 to 4.3.6.
+use Rattle.std.specs.Prelude.{◌≡◌, ℕ, zero, suc, ◌+◌, List, [], ◌∷◌, ◌++◌, length, take, drop, Option, Some, None, Bool, true, false, nat_le, if◌then◌else◌}
+use Rattle.x25_circuit.specs.declared.message.Message.{Message}
+
+-- the user data of a data packet with its marks: the more data mark is 1 or 0, and Q is the qualifier
+pub data Piece : Type 0 where
+  More : (q : Bool) → (user : List ℕ) → Piece
+  Last : (q : Bool) → (user : List ℕ) → Piece
+
+abbrev pub piece_of : Bool → Bool → List ℕ → Piece
+piece_of q true user = More q user
+piece_of q false user = Last q user
+
+abbrev pub q_of : Piece → Bool
+q_of (More q user) = q
+q_of (Last q user) = q
+
+abbrev pub user_of : Piece → List ℕ
+user_of (More q user) = user
+user_of (Last q user) = user
+
+-- a message of which some packets have come: Q, where one has, and the octets so far
+pub record Partial : Type 0 where
+  pub begun : Option Bool
+  pub user : List ℕ
+
+abbrev pub no_part : Partial
+no_part = record { begun = None; user = [] }
+
+abbrev pub joined : Partial → Piece → Partial
+joined j (More q user) = record { begun = Some q; user = j.user ++ user }
+joined j (Last q user) = no_part
+
+-- what is begun, and not ended, behind these packets
+abbrev pub joining : Partial → List Piece → Partial
+joining j [] = j
+joining j (p ∷ ps) = joining (joined j p) ps
+
+-- the message that ends with this packet, where one does
+abbrev pub completed : Partial → Piece → List Message
+completed j (More q user) = []
+completed j (Last q user) = record { q = q; user = j.user ++ user } ∷ []
+
+abbrev pub carried_from : Partial → List Piece → List Message
+carried_from j [] = []
+carried_from j (p ∷ ps) = completed j p ++ carried_from (joined j p) ps
+
+-- the messages that these packets carry: one ends with each packet whose more data mark is 0
+abbrev pub carried : List Piece → List Message
+carried ps = carried_from no_part ps
+
+-- ---- which packets may follow
+
+abbrev pub same_q : Bool → Bool → Bool
+same_q true q = q
+same_q false true = false
+same_q false false = true
+
+abbrev pub may_have_q : Option Bool → Bool → Bool
+may_have_q None q = true
+may_have_q (Some r) q = same_q r q
+
+-- The first ground on which so many octets with this qualifier are refused behind what has begun: 39 where they are more
+-- than a packet holds, or the message gets more than 65,535; 83 where the qualifier isn't that of the packets before.
+-- The diagnostics are of the profile.
+abbrev pub ground_of : ℕ → Partial → ℕ → Bool → Option ℕ
+ground_of size j n q =
+    if nat_le n size
+    then (if nat_le (length j.user + n) 65535 then (if may_have_q j.begun q then None else Some 83) else Some 39)
+    else Some 39
+
+abbrev pub piece_ground : ℕ → Partial → Piece → Option ℕ
+piece_ground size j p = ground_of size j (length (user_of p)) (q_of p)
+
+-- none of these is refused: one qualifier in a message, at most 65,535 octets, and each packet of at most the size
+abbrev pub AreSound : ℕ → Partial → List Piece → Type 0
+AreSound size j [] = Unit {0}
+AreSound size j (p ∷ ps) = (piece_ground size j p ≡ None) × AreSound size (joined j p) ps
+
+-- ---- how a message is cut: all packets but the last are full and have M = 1, and an empty message is one empty packet
+
+-- the first number is at least how many are cut off
+abbrev pub cut_from : ℕ → ℕ → Bool → List ℕ → List Piece
+cut_from zero size q user = Last q user ∷ []
+cut_from (suc n) size q user =
+    if nat_le (length user) size
+    then Last q user ∷ []
+    else More q (take size user) ∷ cut_from n size q (drop size user)
+
+abbrev pub cut : ℕ → Bool → List ℕ → List Piece
+cut size q user = cut_from (length user) size q user
+
+-- the packets of messages, one message after another
+abbrev pub cut_all : ℕ → List Message → List Piece
+cut_all size [] = []
+cut_all size (m ∷ ms) = cut size m.q m.user ++ cut_all size ms
+
+-- how many messages end in these
+abbrev pub ends_of : Piece → ℕ
+ends_of (More q user) = 0
+ends_of (Last q user) = 1
+
+abbrev pub wholes : List Piece → ℕ
+wholes [] = 0
+wholes (p ∷ ps) = ends_of p + wholes ps

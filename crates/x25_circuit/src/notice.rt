@@ -1,0 +1,101 @@
+ghost use Rattle.std.specs.Prelude.{◌≡◌, [], ◌∷◌, None, Some};
+ghost use Rattle.x25_packet.specs.PlainPacket.{plain};
+
+use crate::message::Message;
+use x25_packet::{Digits, Packet};
+
+/// What a packet brought the user. Addresses and user data are borrowed from the packet; a message is handed over whole.
+#[derive(Debug, Drop)]
+pub enum Notice<'a> {
+    /// The other end calls.
+    Incoming {
+        called: Digits<'a>,
+        calling: Digits<'a>,
+        user: &'a [u8],
+    },
+    /// The other end accepted the call.
+    Connected,
+    /// The other end cleared the call.
+    Cleared {
+        cause: u8,
+        diagnostic: u8,
+    },
+    /// This end's clearing is confirmed.
+    ClearDone,
+    /// The other end reset the call.
+    WasReset {
+        cause: u8,
+        diagnostic: u8,
+    },
+    /// This end's reset is confirmed.
+    ResetDone,
+    /// The last packet of a message came.
+    Delivered(Message),
+    /// An interrupt came.
+    Interrupted {
+        user: &'a [u8],
+    },
+    /// This end's interrupt is confirmed.
+    InterruptDone,
+    /// The packet was an error of procedure, which this end reports to the other by this diagnostic.
+    Fault {
+        diagnostic: u8,
+    },
+}
+
+/// What a circuit answers to a packet: the packet to send, and what the user is told.
+#[derive(Debug, Drop)]
+pub struct Reply<'a> {
+    pub packet: Option<Packet<'a>>,
+    /// This end's own call was dropped for the one of the notice.
+    pub collided: bool,
+    pub notice: Option<Notice<'a>>,
+}
+
+impl<'a> Reply<'a> {
+    ghost use Rattle.x25_circuit.specs.Replies.{Says, plain_notice};
+
+    /// Nothing is sent or told.
+    pub(crate) fn nothing() -> Reply<'a>
+        ensures { Says result None [] }
+    {
+        Reply {
+            packet: None,
+            collided: false,
+            notice: None,
+        }
+    }
+
+    /// Nothing is sent.
+    pub(crate) fn tells(notice: Notice<'a>) -> Reply<'a>
+        ensures { Says result None (plain_notice notice.entry ∷ []) }
+    {
+        Reply {
+            packet: None,
+            collided: false,
+            notice: Some(notice),
+        }
+    }
+
+    /// Nothing is told.
+    pub(crate) fn owes(packet: Packet<'a>) -> Reply<'a>
+        ensures { Says result (Some (plain packet.entry)) [] }
+    {
+        Reply {
+            packet: Some(packet),
+            collided: false,
+            notice: None,
+        }
+    }
+
+    /// A packet is sent, and the user is told.
+    pub(crate) fn both(packet: Packet<'a>, notice: Notice<'a>) -> Reply<'a>
+        ensures { Says result (Some (plain packet.entry)) (plain_notice notice.entry ∷ []) }
+    {
+        Reply {
+            packet: Some(packet),
+            collided: false,
+            notice: Some(notice),
+        }
+    }
+}

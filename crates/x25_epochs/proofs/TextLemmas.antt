@@ -1,0 +1,66 @@
+-- Laws of packets and messages.
+use Rattle.std.proofs.Common.{◌≡◌, ℕ, zero, suc, ◌+◌, ◌<◌, ◌≤◌, List, [], ◌∷◌, ◌++◌, length, Some, None, Bool, true, false, nat_le, if◌then◌else◌, refl, sym, ap, ◌∙◌, arith, append_assoc, length-append, take, drop}
+use Rattle.std.proofs.lemmas.Grind.{common_steps}
+use Rattle.std.proofs.lemmas.Bool.{le-leb}
+use Rattle.std.proofs.lemmas.Bool.Decides.{nat_tests}
+use Rattle.std.proofs.lemmas.List.{take-append-drop}
+use Rattle.x25_circuit.specs.Messages.{Piece, More, Last, Partial, no_part, joined, joining, completed, carried_from, same_q, may_have_q, ground_of, AreSound, cut_from}
+
+pub by_if : {A : Type 0} (P : A → Type 0) (b : Bool) (u v : A) → (b ≡ true → P u) → (b ≡ false → P v) → P (if b then u else v)
+by_if P true u v f g = f refl
+by_if P false u v f g = g refl
+
+pub joining-append : (j : Partial) (a b : List Piece) → joining j (a ++ b) ≡ joining (joining j a) b
+joining-append j [] b = refl
+joining-append j (p ∷ a) b = joining-append (joined j p) a b
+
+pub carried-append : (j : Partial) (a b : List Piece) → carried_from j (a ++ b) ≡ carried_from j a ++ carried_from (joining j a) b
+carried-append j [] b = refl
+carried-append j (p ∷ a) b =
+    ap (λ l. completed j p ++ l) (carried-append (joined j p) a b)
+    ∙ sym (append_assoc (completed j p) (carried_from (joined j p) a) (carried_from (joining (joined j p) a) b))
+
+pub AreSound-back : (size : ℕ) (j : Partial) (a b : List Piece) → AreSound size j (a ++ b) → AreSound size (joining j a) b
+AreSound-back size j [] b h = h
+AreSound-back size j (p ∷ a) b h = AreSound-back size (joined j p) a b h.1
+
+pub AreSound-append : (size : ℕ) (j : Partial) (a b : List Piece) → AreSound size j a → AreSound size (joining j a) b → AreSound size j (a ++ b)
+AreSound-append size j [] b h g = g
+AreSound-append size j (p ∷ a) b h g = (h.0, AreSound-append size (joined j p) a b h.1 g)
+
+ground_none : (size : ℕ) (j : Partial) (n : ℕ) (q : Bool) → n ≤ size → length j.user + n ≤ 65535 → may_have_q j.begun q ≡ true → ground_of size j n q ≡ None
+ground_none size j n q small room same = rw (le-leb n size small) (rw (le-leb (length j.user + n) 65535 room) (rw same refl))
+
+same_q-refl : (q : Bool) → same_q q q ≡ true
+same_q-refl true = refl
+same_q-refl false = refl
+
+pub AreSound-cut : (n size : ℕ) (q : Bool) (xs : List ℕ) (j : Partial) → 1 ≤ size → length xs ≤ size + n → length j.user + length xs ≤ 65535 → may_have_q j.begun q ≡ true
+    → AreSound size j (cut_from n size q xs)
+AreSound-cut zero size q xs j one far room same = (ground_none size j (length xs) q (omega arith) room same, tt)
+AreSound-cut (suc n) size q xs j one far room same =
+    by_if (λ ps. AreSound size j ps) (nat_le (length xs) size) (Last q xs ∷ []) (More q (take size xs) ∷ cut_from n size q (drop size xs))
+    (λ small. (ground_none size j (length xs) q (grind (arith, nat_tests)) room same, tt))
+    (λ large.
+    let over : size < length xs = grind (arith, nat_tests) in
+    let t : length (take size xs) ≡ size = grind (arith, common_steps) in
+    let d : length (drop size xs) + size ≡ length xs = grind (arith, common_steps) in
+    let a : length (j.user ++ take size xs) ≡ length j.user + length (take size xs) = length-append j.user (take size xs) in (
+      ground_none size j (length (take size xs)) q (omega arith) (omega arith) same,
+      AreSound-cut n size q (drop size xs) (record { begun = Some q; user = j.user ++ take size xs }) one (omega arith) (omega arith) (same_q-refl q),
+    ))
+
+pub joining-cut : (n size : ℕ) (q : Bool) (xs : List ℕ) (j : Partial) → joining j (cut_from n size q xs) ≡ no_part
+joining-cut zero size q xs j = refl
+joining-cut (suc n) size q xs j =
+    by_if (λ ps. joining j ps ≡ no_part) (nat_le (length xs) size) (Last q xs ∷ []) (More q (take size xs) ∷ cut_from n size q (drop size xs))
+    (λ _. refl)
+    (λ _. joining-cut n size q (drop size xs) (record { begun = Some q; user = j.user ++ take size xs }))
+
+pub carried-cut : (n size : ℕ) (q : Bool) (xs : List ℕ) (j : Partial) → carried_from j (cut_from n size q xs) ≡ record { q = q; user = j.user ++ xs } ∷ []
+carried-cut zero size q xs j = refl
+carried-cut (suc n) size q xs j =
+    by_if (λ ps. carried_from j ps ≡ record { q = q; user = j.user ++ xs } ∷ []) (nat_le (length xs) size) (Last q xs ∷ []) (More q (take size xs) ∷ cut_from n size q (drop size xs))
+    (λ _. refl)
+    (λ _. carried-cut n size q (drop size xs) (record { begun = Some q; user = j.user ++ take size xs })
+    ∙ ap (λ (l : List ℕ). record { q = q; user = l } ∷ []) (append_assoc j.user (take size xs) (drop size xs) ∙ ap (λ l. j.user ++ l) (take-append-drop size xs)))

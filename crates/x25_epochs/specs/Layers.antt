@@ -1,0 +1,120 @@
+-- All channels of an end within the handshake of RESTART; and two ends that may each be out, with the packets on the way.
+use Rattle.std.specs.Prelude.{ℕ, suc, List, [], ◌∷◌, ◌++◌, Option, Some, None, Bool, if◌then◌else◌, ◌==◌}
+use Rattle.x25_epochs.specs.Handshake.{Side, Live, Left, At}
+use Rattle.x25_bits.specs.declared.role.Role.{Role}
+use Rattle.x25_bits.specs.declared.role.Role.TheVariants.{Dte, Dce}
+use Rattle.x25_circuit.specs.Circuit.{Terms}
+use Rattle.x25_epochs.specs.Stretch.{Packet}
+use Rattle.x25_epochs.specs.Calls.{Connection, unexpected}
+use Rattle.x25_epochs.specs.Channel.{ChannelStep, channel_takes, ChannelAct, channel_acts, fresh_channel}
+
+pub data LayerPacket : Type 0 where
+  On : (channel : ℕ) → (packet : Packet) → LayerPacket
+  Restart : LayerPacket
+  RestartConf : LayerPacket
+
+abbrev pub Channels : Type 0
+Channels = ℕ → At Connection
+
+abbrev pub put : Channels → ℕ → At Connection → Channels
+put x h a k = if k == h then a else x k
+
+abbrev pub addressed : ℕ → List Packet → List LayerPacket
+addressed h [] = []
+addressed h (p ∷ o) = On h p ∷ addressed h o
+
+abbrev pub all_fresh : Channels
+all_fresh h = fresh_channel
+
+pub record LayerStep : Type 0 where
+  pub next : At Channels
+  pub out : List LayerPacket
+  pub error : Option ℕ
+
+abbrev pub ready : ℕ → Channels → At Channels
+ready e x = record { epoch = e; side = Live x }
+
+abbrev pub restarting : ℕ → Channels → At Channels
+restarting e x = record { epoch = e; side = Left x }
+
+abbrev pub on_channel : ℕ → Channels → ℕ → ChannelStep → LayerStep
+on_channel e x h s = record { next = ready e (put x h s.next); out = addressed h s.out; error = s.error }
+
+abbrev pub layer_side_takes : Role → ℕ → ℕ → Side Channels → LayerPacket → LayerStep
+layer_side_takes r size e (Live x) (On h p) = on_channel e x h (channel_takes r size (x h) p)
+layer_side_takes r size e (Live x) Restart = record { next = ready (suc e) all_fresh; out = RestartConf ∷ []; error = None }
+layer_side_takes r size e (Live x) RestartConf = record { next = restarting e x; out = Restart ∷ []; error = Some 17 }
+layer_side_takes r size e (Left x) (On h p) = record { next = restarting e x; out = []; error = None }
+layer_side_takes r size e (Left x) Restart = record { next = ready (suc e) all_fresh; out = []; error = None }
+layer_side_takes r size e (Left x) RestartConf = record { next = ready (suc e) all_fresh; out = []; error = None }
+
+abbrev pub layer_takes : Role → ℕ → At Channels → LayerPacket → LayerStep
+layer_takes r size x p = layer_side_takes r size x.epoch x.side p
+
+pub data LayerAct : Type 0 where
+  OnChannel : (channel : ℕ) → (act : ChannelAct) → LayerAct
+  SendsRestart : LayerAct
+
+abbrev pub layer_side_acts : Terms → ℕ → Side Channels → LayerAct → LayerStep
+layer_side_acts t e (Live x) (OnChannel h a) = on_channel e x h (channel_acts t (x h) a)
+layer_side_acts t e (Live x) SendsRestart = record { next = restarting e x; out = Restart ∷ []; error = None }
+layer_side_acts t e (Left x) a = record { next = restarting e x; out = []; error = None }
+
+abbrev pub layer_acts : Terms → At Channels → LayerAct → LayerStep
+layer_acts t x a = layer_side_acts t x.epoch x.side a
+
+-- two ends, of which each may be out (Left), with the packets on the way
+pub record Pair : Type 0 where
+  pub near : Side (At Channels)
+  pub far : Side (At Channels)
+  pub out : List LayerPacket
+  pub back : List LayerPacket
+  pub error : Option ℕ
+
+pub data Move : Type 0 where
+  Acts : (act : LayerAct) → Move
+  Takes : Move
+  LinkDown : Move
+
+abbrev pub turned : Pair → Pair
+turned w = record { near = w.far; far = w.near; out = w.back; back = w.out; error = w.error }
+
+abbrev pub first_error : Option ℕ → Option ℕ → Option ℕ
+first_error None e = e
+first_error (Some n) e = Some n
+
+abbrev pub stepped : Pair → List LayerPacket → LayerStep → Pair
+stepped w back s = record { near = Live s.next; far = w.far; out = w.out ++ s.out; back = back; error = first_error w.error s.error }
+
+abbrev pub pair_takes : Role → ℕ → Pair → At Channels → List LayerPacket → Pair
+pair_takes r size w x [] = w
+pair_takes r size w x (p ∷ K) = stepped w K (layer_takes r size x p)
+
+-- an end that is out does nothing more
+abbrev pub pair_moves : Role → Terms → Terms → Pair → Side (At Channels) → Move → Pair
+pair_moves r t b w (Live x) (Acts a) = stepped w w.back (layer_acts t x a)
+pair_moves r t b w (Live x) Takes = pair_takes r b.size w x w.back
+pair_moves r t b w (Live x) LinkDown = record { near = Left x; far = w.far; out = w.out; back = w.back; error = w.error }
+pair_moves r t b w (Left x) what = w
+
+pub record Event : Type 0 where
+  pub first : Bool
+  pub what : Move
+
+abbrev pub pair_happens : Terms → Terms → Pair → Event → Pair
+pair_happens t b w e =
+    if e.first then pair_moves Dte t b w w.near e.what else turned (pair_moves Dce b t (turned w) w.far e.what)
+
+abbrev pub pair_run : Terms → Terms → List Event → Pair → Pair
+pair_run t b [] w = w
+pair_run t b (e ∷ unexpected) w = pair_run t b unexpected (pair_happens t b w e)
+
+-- both links are up, and each end has sent its RESTART
+abbrev pub pair_start : Pair
+pair_start = record {
+  near = Live (restarting 0 all_fresh);
+  far = Live (restarting 0 all_fresh);
+  out = Restart ∷ [];
+  back = Restart ∷ [];
+  error = None;
+}

@@ -1,0 +1,10 @@
+pub mod Terms
+pub mod Handshake
+pub mod Stretch
+pub mod Transfer
+pub mod Calls
+pub mod Channel
+pub mod Layers
+pub mod Names
+pub mod Books
+pub mod Arrivals

@@ -1,0 +1,110 @@
+-- Where the giver is idle and a stretch is open at both ends, the transcripts say that all of it has arrived.
+use Rattle.std.proofs.Common.{◌≡◌, ℕ, zero, suc, ◌+◌, ◌≤◌, List, [], ◌∷◌, ◌++◌, length, Option, Some, None, Bool, true, false, refl, sym, ap, subst, ◌∙◌, length-append, arith}
+use Rattle.x25_packet.specs.PlainPacket.{PlainPacket}
+use Rattle.x25_circuit.specs.declared.message.Message.{Message}
+use Rattle.x25_circuit.specs.Messages.{wholes}
+use Rattle.x25_circuit.specs.Circuit.{Circuit, is_open, waits}
+use Rattle.x25_epochs.specs.Handshake.{Side, Live, Left, At, state_of}
+use Rattle.x25_epochs.specs.Stretch.{Stretch}
+use Rattle.x25_epochs.specs.Calls.{Phase, Unused, Waiting, Offered, Crossed, Talking, Connection}
+use Rattle.x25_epochs.specs.Layers.{Channels}
+use Rattle.x25_epochs.specs.Names.{Name}
+use Rattle.x25_epochs.specs.Books.{Lists, messages, interrupts, resets_in, held_in, circuit_at, name_at, held_at}
+use Rattle.x25_epochs.specs.Arrivals.{open_in, open_phase, open_call, open_channel, open_at, HasArrived}
+use Rattle.x25_layer.specs.Layer.{Layer}
+use Rattle.x25_layer.specs.Transcript.{under, messages_in, interrupts_in, name_of}
+use Rattle.x25_layer.specs.World.{End}
+use Rattle.x25_layer.specs.Law.{HasAllOf, IsIdleTo}
+use Rattle.x25_layer.proofs.Sees.{view}
+use Rattle.x25_layer.proofs.LayerSees.{SeesLayer, view_at}
+use Rattle.x25_layer.proofs.StepLemmas.{name_eq}
+use Rattle.x25_layer.proofs.WorldLemmas.{SeesEnd}
+
+-- nothing is in flight where all is acknowledged, and what is acknowledged was handed up
+no_length : (l : List PlainPacket) → length l ≡ 0 → l ≡ []
+no_length [] e = refl
+no_length (p ∷ l) e = absurd (omega (arith, e))
+
+pub none_in_flight : (given taken out : List PlainPacket) (acked : ℕ) → given ≡ taken ++ out → acked ≡ length given → acked ≤ length taken → out ≡ []
+none_in_flight given taken out acked order all low =
+    let l : length given ≡ length taken + length out = ap length order ∙ length-append taken out in
+    no_length out (let e : length out ≡ 0 = omega (arith, l, all, low) in e)
+
+-- the stretch that is open on a channel of a circuit
+record OpenCircuit (x : At Connection) : Type 0 where
+  stretch : Stretch
+  opened : open_call x.side ≡ Some stretch
+  no_more : waits (view x) ≡ wholes stretch.rest
+  messages_held : held_in (λ y. y.down) (λ y. y.up) (state_of x.side).phase ≡ record { down = stretch.down; up = stretch.up }
+  interrupts_held : held_in (λ y. y.int_down) (λ y. y.int_up) (state_of x.side).phase ≡ record { down = stretch.int_down; up = stretch.int_up }
+
+false_true : false ≡ true → ⊥
+false_true e = cc
+
+open_circuit : (x : At Connection) → is_open (view x) ≡ true → OpenCircuit x
+open_circuit x is = side x.epoch x.side is
+  where
+    transfer : (e : ℕ) (c : Connection) (s : ℕ) (z : Side Stretch) → let y : At Connection = record { epoch = e; side = Live (record { phase = Talking (record { epoch = s; side = z }); made = c.made; indicated = c.indicated }) } in
+        is_open (view y) ≡ true → OpenCircuit y
+    transfer e c s (Live x) opened = record { stretch = x; opened = refl; no_more = refl; messages_held = refl; interrupts_held = refl }
+    transfer e c s (Left x) opened = absurd (false_true opened)
+    phase : (e : ℕ) (c : Connection) (a : Phase) → let y : At Connection = record { epoch = e; side = Live (record { phase = a; made = c.made; indicated = c.indicated }) } in is_open (view y) ≡ true → OpenCircuit y
+    phase e c (Talking at) opened = transfer e c at.epoch at.side opened
+    phase e c Unused opened = absurd (false_true opened)
+    phase e c Waiting opened = absurd (false_true opened)
+    phase e c Offered opened = absurd (false_true opened)
+    phase e c Crossed opened = absurd (false_true opened)
+    side : (e : ℕ) (z : Side Connection) → is_open (view (record { epoch = e; side = z })) ≡ true → OpenCircuit (record { epoch = e; side = z })
+    side e (Live c) opened = phase e c c.phase opened
+    side e (Left c) opened = absurd (false_true opened)
+
+-- .. of an end
+record OpenEnd (e : End) (s : Side (At Channels)) (k : ℕ) : Type 0 where
+  stretch : Stretch
+  opened : open_at s k ≡ Some stretch
+  no_more : waits (e.layer.circuits k) ≡ wholes stretch.rest
+  named : name_of e.layer k ≡ name_at messages (state_of s) k
+  messages_held : held_at messages (state_of s) k ≡ record { down = stretch.down; up = stretch.up }
+  interrupts_held : held_at interrupts (state_of s) k ≡ record { down = stretch.int_down; up = stretch.int_up }
+
+open_end : (e : End) (s : Side (At Channels)) (k : ℕ) → SeesEnd e s → is_open (e.layer.circuits k) ≡ true → OpenEnd e s k
+open_end e (Left z) k sees opened = absurd (false_true (sym (ap (λ (l : Layer). is_open (l.circuits k)) sees.1) ∙ opened))
+open_end e (Live z) k sees opened = ready z.epoch z.side sees.1.restarts sees.1.circuits
+  where
+    ready : (epoch : ℕ) (y : Side Channels) → e.layer.restarts ≡ epoch → ((j : ℕ) → e.layer.circuits j ≡ view_at y j) → OpenEnd e (Live (record { epoch = epoch; side = y })) k
+    ready epoch (Left x) same each = absurd (false_true (sym (ap is_open (each k)) ∙ opened))
+    ready epoch (Live x) same each =
+        let o : OpenCircuit (x k) = open_circuit (x k) (sym (ap is_open (each k)) ∙ opened) in
+        record {
+          stretch = o.stretch;
+          opened = o.opened;
+          no_more = ap waits (each k) ∙ o.no_more;
+          named = name_eq (name_of e.layer k) (name_at messages (record { epoch = epoch; side = Live x }) k) same (ap (λ (c : Circuit). c.clears) (each k)) (ap (λ (c : Circuit). c.resets) (each k));
+          messages_held = o.messages_held;
+          interrupts_held = o.interrupts_held;
+        }
+
+-- what stands in the transcript under the present name is what the end holds
+pub record AtPresent (e : End) (s : Side (At Channels)) (k : ℕ) : Type 0 where
+  pub of_messages : messages_in (under k (name_at messages (state_of s) k) e.entries) ≡ held_at messages (state_of s) k
+  pub of_interrupts : interrupts_in (under k (name_at messages (state_of s) k) e.entries) ≡ held_at interrupts (state_of s) k
+
+pub has_all : (e f : End) (s u : Side (At Channels)) (k acked : ℕ) → SeesEnd e s → SeesEnd f u → AtPresent e s k → AtPresent f u k → IsIdleTo k e f acked
+    → ((x y : Stretch) → open_at s k ≡ Some x → open_at u k ≡ Some y → name_at messages (state_of s) k ≡ name_at messages (state_of u) k → HasArrived x y)
+    → HasAllOf k (name_of e.layer k) e.entries f.entries
+has_all e f s u k acked sees there at at_there idle arrives =
+    let o : OpenEnd e s k = open_end e s k sees idle.opened in
+    let p : OpenEnd f u k = open_end f u k there idle.opened_there in
+    let same : name_at messages (state_of s) k ≡ name_at messages (state_of u) k = sym o.named ∙ idle.same_name ∙ p.named in
+    let all : HasArrived o.stretch p.stretch = arrives o.stretch p.stretch o.opened p.opened same in
+    let here : name_of e.layer k ≡ name_at messages (state_of u) k = idle.same_name ∙ p.named in
+    record {
+      messages =
+        ap (λ (n : Name). (messages_in (under k n f.entries)).up) here ∙ ap (λ (l : Lists Message). l.up) (at_there.of_messages ∙ p.messages_held)
+        ∙ all.messages (sym o.no_more ∙ idle.no_message)
+        ∙ sym (ap (λ (n : Name). (messages_in (under k n e.entries)).down) o.named ∙ ap (λ (l : Lists Message). l.down) (at.of_messages ∙ o.messages_held));
+      interrupts =
+        ap (λ (n : Name). (interrupts_in (under k n f.entries)).up) here ∙ ap (λ (l : Lists (List ℕ)). l.up) (at_there.of_interrupts ∙ p.interrupts_held)
+        ∙ all.interrupts
+        ∙ sym (ap (λ (n : Name). (interrupts_in (under k n e.entries)).down) o.named ∙ ap (λ (l : Lists (List ℕ)). l.down) (at.of_interrupts ∙ o.interrupts_held));
+    }

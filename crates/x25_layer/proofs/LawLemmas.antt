@@ -1,0 +1,97 @@
+-- What holds of two layers after every event, from what is known of the nested handshakes.
+use Rattle.std.proofs.Common.{◌≡◌, ℕ, List, [], ◌∷◌, ◌++◌, Option, Some, refl, sym, ap, subst, ◌∙◌}
+use Rattle.x25_circuit.specs.Circuit.{Terms}
+use Rattle.x25_epochs.specs.Terms.{IsSound}
+use Rattle.x25_epochs.specs.Handshake.{state_of}
+use Rattle.x25_epochs.specs.Layers.{LayerPacket, Pair, pair_run, pair_start}
+use Rattle.x25_epochs.specs.Names.{Name}
+use Rattle.x25_epochs.specs.Books.{Lists, Kind, messages, interrupts, calls, name_at, held_at, Begins, IsLawful, desk, Ledger, ledger_run, ledger_start, AreInOrder}
+use Rattle.x25_layer.specs.Transcript.{Handed, Entry, under, calls_in, messages_in, interrupts_in}
+use Rattle.x25_layer.specs.World.{World, Event, run, start}
+use Rattle.x25_layer.specs.Law.{Always, IsQuietWorld, HandsUpLawfully, IsLawfulWorld, ArrivesAll, KeepsOrder}
+use Rattle.x25_layer.proofs.LayerSees.{bare_layers}
+use Rattle.x25_layer.proofs.WorldLemmas.{Sees}
+use Rattle.x25_layer.proofs.RunLemmas.{Premises, ledger_pair, AreBooks, InRun, in_run}
+use Rattle.x25_layer.proofs.ArrivalLemmas.{none_in_flight, AtPresent, has_all}
+
+pub always_in_order : Premises → (channels : ℕ) → Always KeepsOrder channels
+always_in_order p channels t b st sb es = (in_run p channels t b st sb es).sees.order
+
+pub always_quiet : Premises → (channels : ℕ) → Always (IsQuietWorld channels) channels
+always_quiet p channels t b st sb es =
+    let h = in_run p channels t b st sb es in
+    record { near = h.sees.near_quiet; far = h.sees.far_quiet }
+
+near_begins : {M : Type 0} (kind : Kind M) (lists : Handed → Lists M) (w : World) (g : Ledger M) → AreBooks kind lists w g
+    → ((k : ℕ) → IsLawful (desk kind (state_of g.pair.near) k (g.near k)) (desk kind (state_of g.pair.far) k (g.far k)))
+    → (k : ℕ) (m : Name) → Begins (lists (under k m w.near.entries)).up (lists (under k m w.far.entries)).down
+near_begins {M} kind lists w g books law k m =
+    subst (λ (l : Lists M). Begins l.up (lists (under k m w.far.entries)).down) (sym (books.near k m))
+    (subst (λ (l : Lists M). Begins (g.near k m).up l.down) (sym (books.far k m)) ((law k).begins m))
+
+far_begins : {M : Type 0} (kind : Kind M) (lists : Handed → Lists M) (w : World) (g : Ledger M) → AreBooks kind lists w g
+    → ((k : ℕ) → IsLawful (desk kind (state_of g.pair.near) k (g.near k)) (desk kind (state_of g.pair.far) k (g.far k)))
+    → (k : ℕ) (m : Name) → Begins (lists (under k m w.far.entries)).up (lists (under k m w.near.entries)).down
+far_begins {M} kind lists w g books law k m =
+    subst (λ (l : Lists M). Begins l.up (lists (under k m w.near.entries)).down) (sym (books.far k m))
+    (subst (λ (l : Lists M). Begins (g.far k m).up l.down) (sym (books.near k m)) ((law k).begins_there m))
+
+pub always_lawful : Premises → (channels : ℕ) → Always IsLawfulWorld channels
+always_lawful p channels t b st sb es =
+    let w : World = run channels t b es (start channels t b) in
+    let h : InRun channels t b w = in_run p channels t b st sb es in
+    let order_m = p.messages t b st sb h.events in
+    let order_i = p.interrupts t b st sb h.events in
+    let order_c = p.calls t b st sb h.events in
+    let ledger_m : Ledger _ = ledger_run messages t b h.events ledger_start in
+    let ledger_i : Ledger _ = ledger_run interrupts t b h.events ledger_start in
+    let ledger_c : Ledger _ = ledger_run calls t b h.events ledger_start in
+    record {
+      near = record {
+        messages = near_begins messages messages_in w ledger_m h.messages order_m;
+        interrupts = near_begins interrupts interrupts_in w ledger_i h.interrupts order_i;
+        calls = near_begins calls calls_in w ledger_c h.calls order_c;
+      };
+      far = record {
+        messages = far_begins messages messages_in w ledger_m h.messages order_m;
+        interrupts = far_begins interrupts interrupts_in w ledger_i h.interrupts order_i;
+        calls = far_begins calls calls_in w ledger_c h.calls order_c;
+      };
+    }
+
+-- what stands under the present name of an end
+near_present : {M : Type 0} (kind : Kind M) (lists : Handed → Lists M) (w : World) (j : Pair) (g : Ledger M) → AreBooks kind lists w g → g.pair ≡ j → (k : ℕ)
+    → g.near k (name_at kind (state_of g.pair.near) k) ≡ held_at kind (state_of g.pair.near) k
+    → lists (under k (name_at kind (state_of j.near) k) w.near.entries) ≡ held_at kind (state_of j.near) k
+near_present kind lists w j g books same k held =
+    subst (λ (q : Pair). lists (under k (name_at kind (state_of q.near) k) w.near.entries) ≡ held_at kind (state_of q.near) k) same (books.near k (name_at kind (state_of g.pair.near) k) ∙ held)
+
+far_present : {M : Type 0} (kind : Kind M) (lists : Handed → Lists M) (w : World) (j : Pair) (g : Ledger M) → AreBooks kind lists w g → g.pair ≡ j → (k : ℕ)
+    → g.far k (name_at kind (state_of g.pair.far) k) ≡ held_at kind (state_of g.pair.far) k
+    → lists (under k (name_at kind (state_of j.far) k) w.far.entries) ≡ held_at kind (state_of j.far) k
+far_present kind lists w j g books same k held =
+    subst (λ (q : Pair). lists (under k (name_at kind (state_of q.far) k) w.far.entries) ≡ held_at kind (state_of q.far) k) same (books.far k (name_at kind (state_of g.pair.far) k) ∙ held)
+
+pub always_arrives : Premises → (channels : ℕ) → Always ArrivesAll channels
+always_arrives p channels t b st sb es =
+    let w : World = run channels t b es (start channels t b) in
+    let h : InRun channels t b w = in_run p channels t b st sb es in
+    let j : Pair = pair_run t b h.events pair_start in
+    let near : (k : ℕ) → AtPresent w.near j.near k = λ k. record {
+      of_messages = near_present messages messages_in w j (ledger_run messages t b h.events ledger_start) h.messages (ledger_pair messages t b h.events ledger_start) k (p.messages t b st sb h.events k).held;
+      of_interrupts = near_present interrupts interrupts_in w j (ledger_run interrupts t b h.events ledger_start) h.interrupts (ledger_pair interrupts t b h.events ledger_start) k (p.interrupts t b st sb h.events k).held;
+    } in
+    let far : (k : ℕ) → AtPresent w.far j.far k = λ k. record {
+      of_messages = far_present messages messages_in w j (ledger_run messages t b h.events ledger_start) h.messages (ledger_pair messages t b h.events ledger_start) k (p.messages t b st sb h.events k).held_there;
+      of_interrupts = far_present interrupts interrupts_in w j (ledger_run interrupts t b h.events ledger_start) h.interrupts (ledger_pair interrupts t b h.events ledger_start) k (p.interrupts t b st sb h.events k).held_there;
+    } in
+    record {
+      near = λ k acked idle. has_all w.near w.far j.near j.far k acked h.sees.near h.sees.far (near k) (far k) idle
+        (λ x y open_x open_y same.
+          (p.arrived t b st sb h.events k x y open_x open_y same).0
+          (sym h.sees.out ∙ ap bare_layers (none_in_flight w.near.given w.far.taken w.out acked h.sees.order.near idle.all_acked idle.acked_taken)));
+      far = λ k acked idle. has_all w.far w.near j.far j.near k acked h.sees.far h.sees.near (far k) (near k) idle
+        (λ x y open_x open_y same.
+          (p.arrived t b st sb h.events k y x open_y open_x (sym same)).1
+          (sym h.sees.back ∙ ap bare_layers (none_in_flight w.far.given w.near.taken w.back acked h.sees.order.far idle.all_acked idle.acked_taken)));
+    }

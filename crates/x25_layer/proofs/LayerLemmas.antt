@@ -1,0 +1,309 @@
+-- Each answer of a layer, each accepted call and each pull is a step of the nested handshakes, where that is no error of procedure.
+use Rattle.std.proofs.Common.{◌≡◌, ◌⊎◌, inl, inr, ℕ, zero, suc, ◌≤◌, List, [], ◌∷◌, Option, Some, None, Bool, true, false, nat_le, ◌==◌, ◌&&◌, if◌then◌else◌, option_to_list, refl, sym, ap, subst, ◌∙◌, arith}
+use Rattle.std.proofs.lemmas.Bool.{eqb-true, le-leb}
+use Rattle.x25_bits.specs.declared.role.Role.{Role}
+use Rattle.x25_bits.specs.declared.role.Role.TheVariants.{Dte, Dce}
+use Rattle.x25_packet.specs.PlainPacket.{PlainPacket, call, accept, clear, clear_conf, user_data, rr, rnr, interrupt, interrupt_conf, reset, reset_conf, restart, restart_conf}
+use Rattle.x25_packet.specs.Spelling.{channel_of, HasChannel, moved_to}
+use Rattle.x25_circuit.specs.Circuit.{Circuit, begun, forgotten, is_free}
+use Rattle.x25_circuit.specs.Notices.{PlainNotice}
+use Rattle.x25_circuit.specs.Table.{Answer, answers}
+use Rattle.x25_circuit.specs.Calls.{Outcome, Done, Refused, Request, Calls, outcome, Pulled, pulled}
+use Rattle.x25_epochs.specs.Handshake.{Side, Live, Left, has_left, At, state_of}
+use Rattle.x25_epochs.specs.Stretch.{Packet}
+use Rattle.x25_epochs.specs.Calls.{Connection}
+use Rattle.x25_epochs.specs.Channel.{ChannelStep, channel_takes, channel_acts}
+use Rattle.x25_epochs.specs.Layers.{LayerPacket, On, Restart, RestartConf, Channels, put, addressed, on_channel, ready, restarting, all_fresh, LayerStep, layer_takes, layer_side_takes, layer_acts, layer_side_acts, OnChannel}
+use Rattle.x25_layer.specs.Layer.{LayerSettings, Layer, LayerAnswer, is_channel, put_at, packet_on, notices_on, is_ready, answers_on, drops, answers_ready, answers_restarting, answers_in, layer_answers}
+use Rattle.x25_layer.specs.Layer as flat
+use Rattle.x25_layer.specs.Calls.{LayerRequest, Asks, Dials, Restarts, LayerOutcome, Accepted, Declined, first_of, lowest_free, highest_free, free_channel, puts_at_once, where_room, if_at_once, outcome_on, dialled, outcome_ready, outcome_in, layer_outcome, LayerPulled, pulled_on, layer_pulled}
+use Rattle.x25_layer.specs.Quiet.{IsQuiet, IsQuietAt, AreQuiet, AreNoFaults}
+use Rattle.x25_layer.specs.Transcript.{Handed, nothing_handed, told_by_all, asked_by, Entry, Asked, name_of}
+use Rattle.x25_layer.specs.World.{entries_asked, entry_of_request, entry_of_dial, entries_told}
+use Rattle.x25_layer.proofs.Sees.{view, bare, bare_if, IsQuietIf, TellNoFault, Follows, Does, Heeds, act_of, pull_act, Notes, NotesOutcome}
+use Rattle.x25_layer.proofs.ViewLemmas.{some_none, follows, heeds, pulls_as}
+use Rattle.x25_layer.proofs.NoteLemmas.{still, notes_taken, notes_asked, notes_pulled}
+use Rattle.x25_layer.proofs.LayerSees.{bare_layer, bare_layers, view_at, SeesLayer, StepOf, FollowsLayer, DoesLayer, dial_act, layer_act, HeedsLayer}
+use Rattle.x25_layer.proofs.StepLemmas.{quiet_step, restart_step, step_on, under_one, told_under}
+
+pub true≢false : true ≡ false → ⊥
+true≢false e = subst (λ (b : Bool). elim b as (λ _. Type 0) [ true ↦ Unit {0} | false ↦ ⊥ ]) e tt
+
+-- ---- a circuit's packet, on its channel
+
+moved_bare : (h : ℕ) (p : PlainPacket) → HasChannel p → bare_layer (moved_to h p) ≡ On h (bare p)
+moved_bare h (restart cause diagnostic) has = absurd has
+moved_bare h restart_conf has = absurd has
+moved_bare h other has = refl
+
+moved_quiet : (channels h : ℕ) (p : PlainPacket) → HasChannel p → IsQuiet p → is_channel channels h ≡ true → IsQuietAt channels (moved_to h p)
+moved_quiet channels h (restart cause diagnostic) has ok is = absurd has
+moved_quiet channels h restart_conf has ok is = absurd has
+moved_quiet channels h (call k called calling facilities user) has ok is = (ok, λ u. is)
+moved_quiet channels h (accept k facilities) has ok is = (ok, λ u. is)
+moved_quiet channels h (clear k cause diagnostic) has ok is = (ok, λ u. is)
+moved_quiet channels h (reset k cause diagnostic) has ok is = (ok, λ u. is)
+moved_quiet channels h other has ok is = (tt, λ u. is)
+
+on_bare : (h : ℕ) (o : Option PlainPacket) → IsQuietIf o → bare_layers (option_to_list (packet_on h o)) ≡ addressed h (bare_if o)
+on_bare h None q = refl
+on_bare h (Some p) q = ap (λ (x : LayerPacket). x ∷ []) (moved_bare h p q.1)
+
+on_quiet : (channels h : ℕ) (o : Option PlainPacket) → is_channel channels h ≡ true → IsQuietIf o → AreQuiet channels (option_to_list (packet_on h o))
+on_quiet channels h None is q = tt
+on_quiet channels h (Some p) is q = (moved_quiet channels h p q.1 q.0 is, tt)
+
+on_no_fault : (h : ℕ) (ns : List PlainNotice) → TellNoFault ns → AreNoFaults (notices_on h ns)
+on_no_fault h [] q = tt
+on_no_fault h (n ∷ ns) q = (q.0, on_no_fault h ns q.1)
+
+put_same : (b : Bool) (c d : Circuit) (s z : At Connection) → c ≡ view s → d ≡ view z → (if b then c else d) ≡ view (if b then s else z)
+put_same true c d s z p q = p
+put_same false c d s z p q = q
+
+sees_put : (e : ℕ) (f : ℕ → Circuit) (x : Channels) (h : ℕ) (c : Circuit) (s : At Connection) → ((k : ℕ) → f k ≡ view (x k)) → c ≡ view s → SeesLayer (is_ready e (put_at f h c)) (ready e (put x h s))
+sees_put e f x h c s each is = record { restarting = refl; restarts = refl; circuits = λ k. put_same (k == h) c (f k) s (x k) is (each k) }
+
+-- ---- packets handed up
+
+answers_follow : (channels e : ℕ) (f : ℕ → Circuit) (x : Channels) (h : ℕ) (a : Answer) (s : ChannelStep) → is_channel channels h ≡ true → ((k : ℕ) → f k ≡ view (x k)) → Follows a s
+    → Notes (x h) s.next (told_by_all a.notices) → FollowsLayer channels (answers_on e f h a) (ready e x) (on_channel e x h s)
+answers_follow channels e f x h a s is each g notes =
+    let sees : SeesLayer (is_ready e (put_at f h a.next)) (ready e (put x h s.next)) = sees_put e f x h a.next s.next each g.next in
+    record {
+      next = sees;
+      owed = on_bare h a.owed g.quiet ∙ ap (λ o. addressed h o) g.owed;
+      quiet = on_quiet channels h a.owed is g.quiet;
+      no_fault = on_no_fault h a.notices g.no_fault;
+      step = step_on e x h s.next (is_ready e (put_at f h a.next)) (told_by_all a.notices) (entries_told (is_ready e (put_at f h a.next)) (notices_on h a.notices)) sees notes
+        (λ k m. told_under (is_ready e (put_at f h a.next)) h a.notices k m);
+    }
+
+if_channel : (channels : ℕ) (b : Bool) (u v : LayerAnswer) (z : At Channels) (s : LayerStep) → b ≡ true → FollowsLayer channels u z s → FollowsLayer channels (if b then u else v) z s
+if_channel channels true u v z s is g = g
+if_channel channels false u v z s is g = absurd (true≢false (sym is))
+
+on_its_channel : (c : LayerSettings) (e : ℕ) (f : ℕ → Circuit) (x : Channels) (p : PlainPacket) (has : HasChannel p) → ((k : ℕ) → f k ≡ view (x k)) → IsQuietAt c.channels p
+    → (channel_takes c.circuit.role c.circuit.incoming.size (x (channel_of p)) (bare p)).error ≡ None
+    → FollowsLayer c.channels (if is_channel c.channels (channel_of p) then answers_on e f (channel_of p) (answers c.circuit (f (channel_of p)) p) else drops false e f) (ready e x)
+      (on_channel e x (channel_of p) (channel_takes c.circuit.role c.circuit.incoming.size (x (channel_of p)) (bare p)))
+on_its_channel c e f x p has each ok q =
+    let h : ℕ = channel_of p in
+    let s : ChannelStep = channel_takes c.circuit.role c.circuit.incoming.size (x h) (bare p) in
+    if_channel c.channels (is_channel c.channels h) (answers_on e f h (answers c.circuit (f h) p)) (drops false e f) (ready e x) (on_channel e x h s) (ok.1 has)
+    (answers_follow c.channels e f x h (answers c.circuit (f h) p) s (ok.1 has) each
+      (subst (λ (y : Circuit). Follows (answers c.circuit y p) s) (sym (each h)) (follows c.circuit (x h) p ok.0 has q))
+      (subst (λ (y : Circuit). Notes (x h) s.next (told_by_all (answers c.circuit y p).notices)) (sym (each h)) (notes_taken c.circuit (x h) p ok.0 has q)))
+
+abbrev Taken : LayerSettings → ℕ → Side Channels → PlainPacket → LayerStep
+Taken c e z p = layer_side_takes c.circuit.role c.circuit.incoming.size e z (bare_layer p)
+
+row_ready : (c : LayerSettings) (e : ℕ) (f : ℕ → Circuit) (x : Channels) (p : PlainPacket) → ((k : ℕ) → f k ≡ view (x k)) → IsQuietAt c.channels p → (Taken c e (Live x) p).error ≡ None
+    → FollowsLayer c.channels (answers_ready c e f p) (ready e x) (Taken c e (Live x) p)
+row_ready c e f x (restart cause diagnostic) each ok q =
+    record { next = record { restarting = refl; restarts = refl; circuits = λ k. refl }; owed = refl; quiet = ((tt, λ no. absurd no), tt); no_fault = (tt, tt); step = restart_step e (Live x) }
+row_ready c e f x restart_conf each ok q = absurd (some_none 17 q)
+row_ready c e f x (call h called calling facilities user) each ok q = on_its_channel c e f x (call h called calling facilities user) tt each ok q
+row_ready c e f x (accept h facilities) each ok q = on_its_channel c e f x (accept h facilities) tt each ok q
+row_ready c e f x (clear h cause diagnostic) each ok q = on_its_channel c e f x (clear h cause diagnostic) tt each ok q
+row_ready c e f x (clear_conf h) each ok q = on_its_channel c e f x (clear_conf h) tt each ok q
+row_ready c e f x (user_data h qualifier more ps pr user) each ok q = on_its_channel c e f x (user_data h qualifier more ps pr user) tt each ok q
+row_ready c e f x (rr h pr) each ok q = on_its_channel c e f x (rr h pr) tt each ok q
+row_ready c e f x (rnr h pr) each ok q = on_its_channel c e f x (rnr h pr) tt each ok q
+row_ready c e f x (interrupt h user) each ok q = on_its_channel c e f x (interrupt h user) tt each ok q
+row_ready c e f x (interrupt_conf h) each ok q = on_its_channel c e f x (interrupt_conf h) tt each ok q
+row_ready c e f x (reset h cause diagnostic) each ok q = on_its_channel c e f x (reset h cause diagnostic) tt each ok q
+row_ready c e f x (reset_conf h) each ok q = on_its_channel c e f x (reset_conf h) tt each ok q
+
+restarted : (channels e : ℕ) (x : Side Channels) (notices : List flat.LayerNotice) → AreNoFaults notices → entries_told (is_ready (suc e) (λ k. begun)) notices ≡ []
+    → FollowsLayer channels (flat.restarts_to e None notices) (record { epoch = e; side = x }) (record { next = ready (suc e) all_fresh; out = []; error = None })
+restarted channels e x notices clean none = record {
+  next = record { restarting = refl; restarts = refl; circuits = λ k. refl };
+  owed = refl;
+  quiet = tt;
+  no_fault = clean;
+  step = subst (λ (es : List Entry). StepOf (record { epoch = e; side = x }) (ready (suc e) all_fresh) es) (sym none) (restart_step e x);
+}
+
+dropped : (channels e : ℕ) (f : ℕ → Circuit) (x : Channels) → ((k : ℕ) → f k ≡ forgotten (view (x k)))
+    → FollowsLayer channels (drops true e f) (restarting e x) (record { next = restarting e x; out = []; error = None })
+dropped channels e f x each = record {
+  next = record { restarting = refl; restarts = refl; circuits = each };
+  owed = refl;
+  quiet = tt;
+  no_fault = tt;
+  step = quiet_step (restarting e x) (restarting e x) refl (λ k. still (x k));
+}
+
+row_restarting : (c : LayerSettings) (e : ℕ) (f : ℕ → Circuit) (x : Channels) (p : PlainPacket) → ((k : ℕ) → f k ≡ forgotten (view (x k)))
+    → FollowsLayer c.channels (answers_restarting e f p) (restarting e x) (Taken c e (Left x) p)
+row_restarting c e f x (restart cause diagnostic) each = restarted c.channels e (Left x) (flat.restarted cause diagnostic ∷ []) (tt, tt) refl
+row_restarting c e f x restart_conf each = restarted c.channels e (Left x) (flat.restart_done ∷ []) (tt, tt) refl
+row_restarting c e f x other each = dropped c.channels e f x each
+
+row_side : (c : LayerSettings) (b : Bool) (e g : ℕ) (f : ℕ → Circuit) (z : Side Channels) (p : PlainPacket) → b ≡ has_left z → e ≡ g → ((k : ℕ) → f k ≡ view_at z k) → IsQuietAt c.channels p
+    → (Taken c g z p).error ≡ None → FollowsLayer c.channels (answers_in c b e f p) (record { epoch = g; side = z }) (Taken c g z p)
+row_side c false e g f (Live x) p is same each ok q =
+    subst (λ (m : ℕ). FollowsLayer c.channels (answers_in c false m f p) (ready g x) (Taken c g (Live x) p)) (sym same) (row_ready c g f x p each ok q)
+row_side c true e g f (Left x) p is same each ok q =
+    subst (λ (m : ℕ). FollowsLayer c.channels (answers_in c true m f p) (restarting g x) (Taken c g (Left x) p)) (sym same) (row_restarting c g f x p each)
+row_side c true e g f (Live x) p is same each ok q = absurd (true≢false is)
+row_side c false e g f (Left x) p is same each ok q = absurd (true≢false (sym is))
+
+-- A packet handed up.
+pub layer_follows : (c : LayerSettings) (l : Layer) (z : At Channels) (p : PlainPacket) → SeesLayer l z → IsQuietAt c.channels p
+    → (layer_takes c.circuit.role c.circuit.incoming.size z (bare_layer p)).error ≡ None → FollowsLayer c.channels (layer_answers c l p) z (layer_takes c.circuit.role c.circuit.incoming.size z (bare_layer p))
+layer_follows c l z p s ok q = row_side c l.restarting l.restarts z.epoch l.circuits z.side p s.restarting s.restarts s.circuits ok q
+
+-- ---- calls of the user
+
+asked_on : (c : LayerSettings) (e : ℕ) (f : ℕ → Circuit) (x : Channels) (h : ℕ) (request : Request) (d : Outcome) (s : ChannelStep) → is_channel c.channels h ≡ true → ((k : ℕ) → f k ≡ view (x k)) → Heeds d s
+    → NotesOutcome d (x h) s.next (asked_by request) → (l : Layer) (r : LayerRequest) → ((n : Layer) → entries_asked c l n r ≡ entry_of_request n h request)
+    → HeedsLayer c l r (outcome_on e f h d) (ready e x) (on_channel e x h s)
+asked_on c e f x h request (Done next packet) s is each g notes l r same =
+    let n : Layer = is_ready e (put_at f h next) in
+    let sees : SeesLayer n (ready e (put x h s.next)) = sees_put e f x h next s.next each g.next in
+    record {
+      next = sees;
+      put = on_bare h packet g.quiet ∙ ap (λ o. addressed h o) g.packet;
+      quiet = on_quiet c.channels h packet is g.quiet;
+      step = subst (λ (es : List Entry). StepOf (ready e x) (ready e (put x h s.next)) es) (sym (same n))
+        (step_on e x h s.next n (asked_by request) (entry_of_request n h request) sees notes
+          (λ k m. sym (under_one k m (record { channel = h; name = name_of n h; said = Asked request }) (asked_by request))));
+    }
+asked_on c e f x h request (Refused error) s is each g notes l r same = tt
+
+room : (c : LayerSettings) (l : Layer) (r : LayerRequest) (full : Bool) (good : LayerOutcome) (z : At Channels) (s : LayerStep) → HeedsLayer c l r good z s → HeedsLayer c l r (where_room full good) z s
+room c l r true good z s h = tt
+room c l r false good z s h = h
+
+at_once : (c : LayerSettings) (l : Layer) (r : LayerRequest) (now full : Bool) (good : LayerOutcome) (z : At Channels) (s : LayerStep) → HeedsLayer c l r good z s → HeedsLayer c l r (if_at_once now full good) z s
+at_once c l r true full good z s h = room c l r full good z s h
+at_once c l r false full good z s h = h
+
+if_there : (c : LayerSettings) (l : Layer) (r : LayerRequest) (b : Bool) (good : LayerOutcome) (error : _) (z : At Channels) (s : LayerStep) → (b ≡ true → HeedsLayer c l r good z s)
+    → HeedsLayer c l r (if b then good else Declined error) z s
+if_there c l r true good error z s h = h refl
+if_there c l r false good error z s h = tt
+
+-- a free channel is a configured one
+
+pub is_between : (channels h : ℕ) → 1 ≤ h → h ≤ channels → is_channel channels h ≡ true
+is_between channels h low high = rw (le-leb 1 h low) (rw (le-leb h channels high) refl)
+
+some_is : (k h : ℕ) → Some k ≡ Some h → k ≡ h
+some_is k h e = cc
+
+lowest_in : (f : ℕ → Circuit) (n h : ℕ) → lowest_free f n ≡ Some h → (1 ≤ h) × (h ≤ n)
+lowest_in f zero h e = absurd (cc)
+lowest_in f (suc n) h e = step (lowest_free f n) (λ k is. lowest_in f n k is) (is_free (f (suc n))) e
+  where
+    step : (o : Option ℕ) → ((k : ℕ) → o ≡ Some k → (1 ≤ k) × (k ≤ n)) → (b : Bool) → first_of o b (suc n) ≡ Some h → (1 ≤ h) × (h ≤ suc n)
+    step (Some k) below b is = let r = below k refl in let same = some_is k h is in (omega (arith, r.0, same), omega (arith, r.1, same))
+    step None below true is = let same = some_is (suc n) h is in (omega (arith, same), omega (arith, same))
+    step None below false is = absurd (cc)
+
+highest_in : (f : ℕ → Circuit) (n h : ℕ) → highest_free f n ≡ Some h → (1 ≤ h) × (h ≤ n)
+highest_in f zero h e = absurd (cc)
+highest_in f (suc n) h e = step (λ is. highest_in f n h is) (is_free (f (suc n))) e
+  where
+    step : (highest_free f n ≡ Some h → (1 ≤ h) × (h ≤ n)) → (b : Bool) → (if b then Some (suc n) else highest_free f n) ≡ Some h → (1 ≤ h) × (h ≤ suc n)
+    step below true is = let same = some_is (suc n) h is in (omega (arith, same), omega (arith, same))
+    step below false is = let r = below is in (omega (arith, r.0), omega (arith, r.1))
+
+free_in : (role : Role) (f : ℕ → Circuit) (n h : ℕ) → free_channel role f n ≡ Some h → is_channel n h ≡ true
+free_in Dte f n h e = let r = highest_in f n h e in is_between n h r.0 r.1
+free_in Dce f n h e = let r = lowest_in f n h e in is_between n h r.0 r.1
+
+-- the circuit of a configured channel does what is asked
+circuit_asked : (c : LayerSettings) (e : ℕ) (f : ℕ → Circuit) (x : Channels) (h : ℕ) (request : Request) → is_channel c.channels h ≡ true → ((k : ℕ) → f k ≡ view (x k))
+    → (l : Layer) (r : LayerRequest) → ((n : Layer) → entries_asked c l n r ≡ entry_of_request n h request)
+    → HeedsLayer c l r (outcome_on e f h (outcome c.circuit (f h) request)) (ready e x) (on_channel e x h (channel_acts c.circuit.outgoing (x h) (act_of request)))
+circuit_asked c e f x h request is each l r same =
+    asked_on c e f x h request (outcome c.circuit (f h) request) (channel_acts c.circuit.outgoing (x h) (act_of request)) is each
+    (subst (λ (y : Circuit). Heeds (outcome c.circuit y request) (channel_acts c.circuit.outgoing (x h) (act_of request))) (sym (each h)) (heeds c.circuit (x h) request))
+    (subst (λ (y : Circuit). NotesOutcome (outcome c.circuit y request) (x h) (channel_acts c.circuit.outgoing (x h) (act_of request)).next (asked_by request)) (sym (each h)) (notes_asked c.circuit (x h) request))
+    l r same
+
+dial : (c : LayerSettings) (full : Bool) (e : ℕ) (f : ℕ → Circuit) (x : Channels) (called calling user : List ℕ) → ((k : ℕ) → f k ≡ view (x k)) → (l : Layer) → l.circuits ≡ f
+    → HeedsLayer c l (Dials called calling user) (dialled c full e f (free_channel c.circuit.role f c.channels) called calling user) (ready e x)
+      (layer_side_acts c.circuit.outgoing e (Live x) (dial_act (free_channel c.circuit.role f c.channels) called calling user))
+dial c full e f x called calling user each l same = found (free_channel c.circuit.role f c.channels) refl
+  where
+    found : (o : Option ℕ) → free_channel c.circuit.role f c.channels ≡ o
+        → HeedsLayer c l (Dials called calling user) (dialled c full e f o called calling user) (ready e x) (layer_side_acts c.circuit.outgoing e (Live x) (dial_act o called calling user))
+    found None is = tt
+    found (Some h) is =
+        room c l (Dials called calling user) full (outcome_on e f h (outcome c.circuit (f h) (Calls called calling user))) (ready e x)
+          (on_channel e x h (channel_acts c.circuit.outgoing (x h) (act_of (Calls called calling user))))
+        (circuit_asked c e f x h (Calls called calling user) (free_in c.circuit.role f c.channels h is) each l (Dials called calling user)
+          (λ n. ap (λ o. entry_of_dial n o (Calls called calling user)) (ap (λ (g : ℕ → Circuit). free_channel c.circuit.role g c.channels) same ∙ is)))
+
+asked_ready : (c : LayerSettings) (full : Bool) (e : ℕ) (l : Layer) (x : Channels) (r : LayerRequest) → ((k : ℕ) → l.circuits k ≡ view (x k))
+    → HeedsLayer c l r (outcome_ready c full e l.circuits r) (ready e x) (layer_side_acts c.circuit.outgoing e (Live x) (layer_act c l.circuits r))
+asked_ready c full e l x (Asks h request) each =
+    if_there c l (Asks h request) (is_channel c.channels h) (if_at_once (puts_at_once request) full (outcome_on e l.circuits h (outcome c.circuit (l.circuits h) request))) _ (ready e x)
+      (on_channel e x h (channel_acts c.circuit.outgoing (x h) (act_of request)))
+    (λ is. at_once c l (Asks h request) (puts_at_once request) full (outcome_on e l.circuits h (outcome c.circuit (l.circuits h) request)) (ready e x)
+      (on_channel e x h (channel_acts c.circuit.outgoing (x h) (act_of request)))
+      (circuit_asked c e l.circuits x h request is each l (Asks h request) (λ n. refl)))
+asked_ready c full e l x (Dials called calling user) each = dial c full e l.circuits x called calling user each l refl
+asked_ready c full e l x Restarts each =
+    room c l Restarts full (Accepted (flat.restarting_from e l.circuits) (Some (restart 0 0))) (ready e x) (record { next = restarting e x; out = Restart ∷ []; error = None })
+    (record {
+      next = record { restarting = refl; restarts = refl; circuits = λ k. ap forgotten (each k) };
+      put = refl;
+      quiet = ((inl refl, λ no. absurd no), tt);
+      step = quiet_step (ready e x) (restarting e x) refl (λ k. still (x k));
+    })
+
+-- A call of the user.
+pub layer_heeds : (c : LayerSettings) (full : Bool) (l : Layer) (z : At Channels) (r : LayerRequest) → SeesLayer l z
+    → HeedsLayer c l r (layer_outcome c full l r) z (layer_acts c.circuit.outgoing z (layer_act c l.circuits r))
+layer_heeds c full l z r s = side l.restarting z.side s.restarting s.circuits
+  where
+    side : (b : Bool) (w : Side Channels) → b ≡ has_left w → ((k : ℕ) → l.circuits k ≡ view_at w k)
+        → HeedsLayer c l r (outcome_in c full b l.restarts l.circuits r) (record { epoch = z.epoch; side = w }) (layer_side_acts c.circuit.outgoing z.epoch w (layer_act c l.circuits r))
+    side true w is each = tt
+    side false (Left x) is each = absurd (true≢false (sym is))
+    side false (Live x) is each =
+        subst (λ (m : ℕ). HeedsLayer c l r (outcome_ready c full m l.circuits r) (ready z.epoch x) (layer_side_acts c.circuit.outgoing z.epoch (Live x) (layer_act c l.circuits r))) (sym s.restarts)
+        (asked_ready c full z.epoch l x r each)
+
+-- ---- pulls
+
+pulled_forgotten : (k h : ℕ) (f : ℕ → Circuit) (x : Channels) → ((j : ℕ) → f j ≡ forgotten (view (x j))) → (y : Circuit) → y ≡ forgotten (view (x h)) → (b : Bool) → (k == h) ≡ b → (if b then y else f k) ≡ forgotten (view (x k))
+pulled_forgotten k h f x each y is true at = is ∙ ap (λ (j : ℕ). forgotten (view (x j))) (sym (eqb-true k h at))
+pulled_forgotten k h f x each y is false at = each k
+
+pulled_note : (c : LayerSettings) (x : Channels) (h k : ℕ) (b : Bool) → (k == h) ≡ b → Notes (x k) (if b then (channel_acts c.circuit.outgoing (x h) pull_act).next else x k) nothing_handed
+pulled_note c x h k true at = subst (λ (j : ℕ). Notes (x j) (channel_acts c.circuit.outgoing (x h) pull_act).next nothing_handed) (sym (eqb-true k h at)) (notes_pulled c.circuit (x h))
+pulled_note c x h k false at = still (x k)
+
+pub layer_pulls : (c : LayerSettings) (l : Layer) (z : At Channels) (h : ℕ) → is_channel c.channels h ≡ true → SeesLayer l z
+    → DoesLayer c.channels (layer_pulled c l h).next (layer_pulled c l h).packet [] z (layer_acts c.circuit.outgoing z (OnChannel h pull_act))
+layer_pulls c l z h is s = side l.restarting z.side s.restarting s.circuits
+  where
+    side : (b : Bool) (w : Side Channels) → b ≡ has_left w → ((k : ℕ) → l.circuits k ≡ view_at w k)
+        → let p : LayerPulled = record { next = record { restarting = b; restarts = l.restarts; circuits = put_at l.circuits h (pulled c.circuit (l.circuits h)).next }; packet = packet_on h (pulled c.circuit (l.circuits h)).packet } in
+          DoesLayer c.channels p.next p.packet [] (record { epoch = z.epoch; side = w }) (layer_side_acts c.circuit.outgoing z.epoch w (OnChannel h pull_act))
+    side true (Live x) differ each = absurd (true≢false differ)
+    side false (Left x) differ each = absurd (true≢false (sym differ))
+    side true (Left x) both each =
+        let kept : pulled c.circuit (l.circuits h) ≡ record { next = forgotten (view (x h)); packet = None } = ap (λ (y : Circuit). pulled c.circuit y) (each h) in
+        record {
+          next = record { restarting = refl; restarts = s.restarts; circuits = λ k. pulled_forgotten k h l.circuits x each (pulled c.circuit (l.circuits h)).next (ap (λ (p : Pulled). p.next) kept) (k == h) refl };
+          put = ap (λ (p : Pulled). bare_layers (option_to_list (packet_on h p.packet))) kept;
+          quiet = subst (λ (p : Pulled). AreQuiet c.channels (option_to_list (packet_on h p.packet))) (sym kept) tt;
+          step = quiet_step (restarting z.epoch x) (restarting z.epoch x) refl (λ k. still (x k));
+        }
+    side false (Live x) both each =
+        let t : ChannelStep = channel_acts c.circuit.outgoing (x h) pull_act in
+        let g : Does (pulled c.circuit (l.circuits h)).next (pulled c.circuit (l.circuits h)).packet t =
+          subst (λ (y : Circuit). Does (pulled c.circuit y).next (pulled c.circuit y).packet t) (sym (each h)) (pulls_as c.circuit (x h)) in
+        record {
+          next = record { restarting = refl; restarts = s.restarts; circuits = λ k. put_same (k == h) (pulled c.circuit (l.circuits h)).next (l.circuits k) t.next (x k) g.next (each k) };
+          put = on_bare h (pulled c.circuit (l.circuits h)).packet g.quiet ∙ ap (λ o. addressed h o) g.packet;
+          quiet = on_quiet c.channels h (pulled c.circuit (l.circuits h)).packet is g.quiet;
+          step = quiet_step (ready z.epoch x) (ready z.epoch (put x h t.next)) refl (λ k. pulled_note c x h k (k == h) refl);
+        }

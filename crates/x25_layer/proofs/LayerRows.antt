@@ -1,0 +1,153 @@
+-- Worked runs of two layers, computed on the definitions.
+use Rattle.std.proofs.Common.{◌≡◌, ℕ, ◌+◌, List, [], ◌∷◌, ◌++◌, length, Option, Some, None, Bool, true, false, refl}
+use Rattle.x25_bits.specs.declared.role.Role.{Role}
+use Rattle.x25_bits.specs.declared.role.Role.TheVariants.{Dte, Dce}
+use Rattle.x25_packet.specs.PlainPacket.{PlainPacket, call, accept, clear, clear_conf, user_data, rr, reset, reset_conf, restart, restart_conf}
+use Rattle.x25_circuit.specs.declared.error.CircuitError.TheVariants as circuit
+use Rattle.x25_circuit.specs.declared.state.State.TheVariants.{Free, Calling, Open}
+use Rattle.x25_circuit.specs.Messages.{Last}
+use Rattle.x25_circuit.specs.Circuit.{Circuit, usual, begun}
+use Rattle.x25_circuit.specs.Notices.{CallRequest, incoming, connected, collided, cleared, clear_done, was_reset, delivered}
+use Rattle.x25_circuit.specs.Calls.{Request, Calls, Accepts, Clears, Sends, Resets}
+use Rattle.x25_epochs.specs.Names.{Name}
+use Rattle.x25_layer.specs.declared.error.LayerError.TheVariants as error
+use Rattle.x25_layer.specs.Layer.{LayerSettings, Layer, on_channel, restarted, restart_done, layer_fault, is_ready, layer_answers, put_at}
+use Rattle.x25_layer.specs.Calls.{LayerRequest, Asks, Dials, Restarts, Accepted, Declined, layer_outcome, free_channel}
+use Rattle.x25_layer.specs.Rounds.{LinkView, Putting, Went, Refuses, calls, rounds, begin}
+use Rattle.x25_layer.specs.Transcript.{Entry, Said, Asked, Told}
+use Rattle.x25_layer.specs.World.{World, Move, Requests, Pulls, HandsUp, Event, settings_of, run, start}
+
+abbrev by_dte : Move → Event
+by_dte move = record { first = true; what = move }
+
+abbrev by_dce : Move → Event
+by_dce move = record { first = false; what = move }
+
+abbrev asks : Request → Move
+asks request = Requests false (Asks 1 request)
+
+-- of two channels
+abbrev after : List Event → World
+after events = run 2 usual usual events (start 2 usual usual)
+
+-- each RESTART is taken by the other end
+abbrev restarts : List Event
+restarts = by_dce HandsUp ∷ by_dte HandsUp ∷ []
+
+abbrev name : ℕ → ℕ → ℕ → Name
+name r c s = record { restarts = r; clears = c; resets = s }
+
+abbrev entry : ℕ → Name → Said → Entry
+entry channel at said = record { channel = channel; name = at; said = said }
+
+abbrev digits_12 : CallRequest
+digits_12 = record { called = 1 ∷ []; calling = 2 ∷ []; user = [] }
+
+-- both RESTARTs go at link set-up and no confirmation comes: they collide
+row_restart : (after restarts).near.given ≡ restart 0 0 ∷ []
+row_restart = refl
+
+row_restart_told : (after restarts).near.told ≡ restarted 7 0 ∷ []
+row_restart_told = refl
+
+-- a DTE calls on the highest channel, a DCE on the lowest; the calls of both are told on the channels where they came
+row_channels : (after (restarts ++ by_dte (Requests false (Dials (49 ∷ []) (50 ∷ []) [])) ∷ by_dce (Requests false (Dials (51 ∷ []) (52 ∷ []) [])) ∷ [])).near.given ≡ restart 0 0 ∷ call 2 (1 ∷ []) (2 ∷ []) [] [] ∷ []
+row_channels = refl
+
+row_channels_dce : (after (restarts ++ by_dte (Requests false (Dials (49 ∷ []) (50 ∷ []) [])) ∷ by_dce (Requests false (Dials (51 ∷ []) (52 ∷ []) [])) ∷ [])).far.given ≡ restart 7 0 ∷ call 1 (3 ∷ []) (4 ∷ []) [] [] ∷ []
+row_channels_dce = refl
+
+-- a call of the DTE on channel 1, which the DCE accepts
+abbrev connects : List Event
+connects = restarts ++ by_dte (asks (Calls (49 ∷ []) (50 ∷ []) [])) ∷ by_dce HandsUp ∷ by_dce (asks Accepts) ∷ by_dte HandsUp ∷ []
+
+row_message : (after (connects ++ by_dte (asks (Sends false (104 ∷ 105 ∷ []))) ∷ by_dte (Pulls 1) ∷ by_dce HandsUp ∷ by_dte HandsUp ∷ [])).far.entries
+    ≡ entry 1 (name 1 0 0) (Told (incoming digits_12)) ∷ entry 1 (name 1 0 0) (Asked Accepts) ∷ entry 1 (name 1 0 0) (Told (delivered (record { q = false; user = 104 ∷ 105 ∷ [] }))) ∷ []
+row_message = refl
+
+-- a collision of calls, and then of clears: no confirmation is sent
+row_collision : (after (restarts ++ by_dte (asks (Calls (49 ∷ []) (50 ∷ []) [])) ∷ by_dce (asks (Calls (51 ∷ []) (52 ∷ []) [])) ∷ by_dce HandsUp ∷ by_dte HandsUp
+    ∷ by_dte (asks Clears) ∷ by_dce (asks Clears) ∷ by_dce HandsUp ∷ by_dte HandsUp ∷ [])).far.told
+    ≡ restarted 0 0 ∷ on_channel 1 collided ∷ on_channel 1 (incoming digits_12) ∷ on_channel 1 clear_done ∷ []
+row_collision = refl
+
+-- RESET and then CLEAR: the resets are counted afresh behind the clear, so the next call stands under one name at both ends
+abbrev resets_and_clears : List Event
+resets_and_clears = connects ++ by_dte (asks Resets) ∷ by_dte (asks Clears) ∷ by_dce HandsUp ∷ by_dce HandsUp ∷ by_dte HandsUp ∷ by_dte HandsUp ∷ by_dte (asks (Calls (49 ∷ []) (50 ∷ []) [])) ∷ by_dce HandsUp ∷ []
+
+row_names_dte : (after resets_and_clears).near.entries
+    ≡ entry 1 (name 1 0 0) (Asked (Calls (49 ∷ []) (50 ∷ []) [])) ∷ entry 1 (name 1 0 0) (Told connected) ∷ entry 1 (name 1 0 0) (Asked Resets) ∷ entry 1 (name 1 0 0) (Asked Clears)
+    ∷ entry 1 (name 1 1 0) (Told clear_done) ∷ entry 1 (name 1 1 0) (Asked (Calls (49 ∷ []) (50 ∷ []) [])) ∷ []
+row_names_dte = refl
+
+row_names_dce : (after resets_and_clears).far.entries
+    ≡ entry 1 (name 1 0 0) (Told (incoming digits_12)) ∷ entry 1 (name 1 0 0) (Asked Accepts) ∷ entry 1 (name 1 0 1) (Told (was_reset 0 0)) ∷ entry 1 (name 1 1 0) (Told (cleared 0 0))
+    ∷ entry 1 (name 1 1 0) (Told (incoming digits_12)) ∷ []
+row_names_dce = refl
+
+-- a confirmation of a RESTART that this end didn't send
+row_confirmation : (layer_answers (settings_of Dce 1 usual usual) (is_ready 1 (λ k. begun)) restart_conf).owed ≡ Some (restart 1 17)
+row_confirmation = refl
+
+row_confirmation_dte : (layer_answers (settings_of Dte 1 usual usual) (is_ready 1 (λ k. begun)) restart_conf).owed ≡ Some (restart 128 17)
+row_confirmation_dte = refl
+
+-- ---- refusals, in order
+
+abbrev link_with : Bool → ℕ → LinkView
+link_with is_up waiting = record { is_up = is_up; waits = λ put. waiting }
+
+abbrev one : LayerSettings
+one = settings_of Dte 1 usual usual
+
+abbrev sent_restart : Layer
+sent_restart = record { restarting = true; restarts = 1; circuits = λ k. begun }
+
+row_not_up : calls (link_with false 256) one sent_restart (Asks 9 Clears) ≡ Refuses error.NotUp
+row_not_up = refl
+
+row_restarting : calls (link_with true 256) one sent_restart (Asks 9 Clears) ≡ Refuses error.Restarting
+row_restarting = refl
+
+row_no_channel : calls (link_with true 256) one (is_ready 1 (λ k. begun)) (Asks 9 Clears) ≡ Refuses error.NoSuchChannel
+row_no_channel = refl
+
+row_channel_0 : calls (link_with true 0) one (is_ready 1 (λ k. begun)) (Asks 0 Clears) ≡ Refuses error.NoSuchChannel
+row_channel_0 = refl
+
+row_full : calls (link_with true 256) one (is_ready 1 (λ k. begun)) (Asks 1 Clears) ≡ Refuses error.QueueFull
+row_full = refl
+
+row_full_send : calls (link_with true 256) one (is_ready 1 (λ k. begun)) (Asks 1 (Sends false [])) ≡ Refuses (error.Circuit circuit.WrongState)
+row_full_send = refl
+
+row_state : calls (link_with true 255) one (is_ready 1 (λ k. begun)) (Asks 1 Clears) ≡ Refuses (error.Circuit circuit.WrongState)
+row_state = refl
+
+row_no_free : calls (link_with true 256) one (is_ready 1 (λ k. record { state = Calling; clears = 0; resets = 0; talk = begun.talk })) (Dials [] [] []) ≡ Refuses error.NoFreeChannel
+row_no_free = refl
+
+row_restart_full : calls (link_with true 256) one (is_ready 1 (λ k. begun)) Restarts ≡ Refuses error.QueueFull
+row_restart_full = refl
+
+-- ---- rounds: one packet of each channel in turn, while fewer than 8 packets wait
+
+abbrev with_two : Circuit
+with_two = record {
+  state = Open;
+  clears = 0;
+  resets = 0;
+  talk = record { sent = []; taken = []; acked = 0; rest = Last false (1 ∷ []) ∷ Last false (2 ∷ []) ∷ Last false (3 ∷ []) ∷ []; int_out = false; peer_ready = true; own_ready = true };
+}
+
+abbrev two : LayerSettings
+two = settings_of Dte 2 usual usual
+
+-- the window is 2
+row_rounds : (rounds (record { is_up = true; waits = λ put. 0 }) two (begin (is_ready 1 (λ k. with_two)) None)).put
+    ≡ user_data 1 false false 0 0 (1 ∷ []) ∷ user_data 2 false false 0 0 (1 ∷ []) ∷ user_data 1 false false 1 0 (2 ∷ []) ∷ user_data 2 false false 1 0 (2 ∷ []) ∷ []
+row_rounds = refl
+
+-- seven packets wait, and then eight
+row_rounds_full : (rounds (record { is_up = true; waits = λ put. 7 + length put }) two (begin (is_ready 1 (λ k. with_two)) None)).put ≡ user_data 1 false false 0 0 (1 ∷ []) ∷ []
+row_rounds_full = refl

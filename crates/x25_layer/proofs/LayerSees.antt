@@ -1,0 +1,76 @@
+-- What a layer is of the nested handshakes, and what a step does to the names and lists of its channels.
+use Rattle.std.proofs.Common.{◌≡◌, ℕ, suc, ◌<◌, List, [], ◌∷◌, Option, None, Some, Bool, true, false, ◌==◌, if◌then◌else◌, option_to_list}
+use Rattle.x25_packet.specs.PlainPacket.{PlainPacket, restart, restart_conf}
+use Rattle.x25_packet.specs.Spelling.{channel_of}
+use Rattle.x25_circuit.specs.Circuit.{Circuit, forgotten}
+use Rattle.x25_circuit.specs.Calls.{Calls}
+use Rattle.x25_epochs.specs.Handshake.{Side, Live, Left, has_left, At}
+use Rattle.x25_epochs.specs.Layers.{LayerPacket, On, Restart, RestartConf, Channels, LayerStep, LayerAct, OnChannel, SendsRestart}
+use Rattle.x25_epochs.specs.Names.{Name, same_name}
+use Rattle.x25_epochs.specs.Books.{circuit_at}
+use Rattle.x25_layer.specs.Layer.{LayerSettings, Layer, LayerAnswer}
+use Rattle.x25_layer.specs.Calls.{LayerRequest, Asks, Dials, Restarts, LayerOutcome, Accepted, Declined, free_channel}
+use Rattle.x25_layer.specs.Quiet.{AreQuiet, AreNoFaults}
+use Rattle.x25_layer.specs.Transcript.{Handed, nothing_handed, Entry, under}
+use Rattle.x25_layer.specs.World.{entries_told, entries_asked}
+use Rattle.x25_layer.proofs.Sees.{view, bare, held_of, resets_of, Notes, act_of}
+
+abbrev pub bare_layer : PlainPacket → LayerPacket
+bare_layer (restart cause diagnostic) = Restart
+bare_layer restart_conf = RestartConf
+bare_layer packet = On (channel_of packet) (bare packet)
+
+abbrev pub bare_layers : List PlainPacket → List LayerPacket
+bare_layers [] = []
+bare_layers (packet ∷ packets) = bare_layer packet ∷ bare_layers packets
+
+abbrev pub view_at : Side Channels → ℕ → Circuit
+view_at (Live x) k = view (x k)
+view_at (Left x) k = forgotten (view (x k))
+
+pub record SeesLayer (l : Layer) (z : At Channels) : Type 0 where
+  pub restarting : l.restarting ≡ has_left z.side
+  pub restarts : l.restarts ≡ z.epoch
+  pub circuits : (k : ℕ) → l.circuits k ≡ view_at z.side k
+
+-- the name of the stretch that stands on a channel
+abbrev pub present : At Channels → ℕ → Name
+present y k = record { restarts = y.epoch; clears = (circuit_at y k).epoch; resets = resets_of (circuit_at y k) }
+
+-- what is said on channel k in a step: within a restart, or nothing at a new one
+pub data TurnOf (k : ℕ) (x y : At Channels) (h : Handed) : Type 0 where
+  Here : y.epoch ≡ x.epoch → Notes (circuit_at x k) (circuit_at y k) h → TurnOf k x y h
+  Afresh : x.epoch < y.epoch → held_of (circuit_at y k) ≡ nothing_handed → h ≡ nothing_handed → TurnOf k x y h
+
+-- .. and all of it stands under the name after the step
+abbrev pub StepOf : At Channels → At Channels → List Entry → Type 0
+StepOf x y es = (k : ℕ) → (h : Handed) × TurnOf k x y h × ((m : Name) → under k m es ≡ (if same_name m (present y k) then h else nothing_handed))
+
+-- an answer of the layer is the step of the nested one, tells of no error, and says what that gains
+pub record FollowsLayer (channels : ℕ) (a : LayerAnswer) (z : At Channels) (s : LayerStep) : Type 0 where
+  pub next : SeesLayer a.next s.next
+  pub owed : bare_layers (option_to_list a.owed) ≡ s.out
+  pub quiet : AreQuiet channels (option_to_list a.owed)
+  pub no_fault : AreNoFaults a.notices
+  pub step : StepOf z s.next (entries_told a.next a.notices)
+
+-- the same of a call or a pull, with the entries that it makes
+pub record DoesLayer (channels : ℕ) (l : Layer) (packet : Option PlainPacket) (es : List Entry) (z : At Channels) (s : LayerStep) : Type 0 where
+  pub next : SeesLayer l s.next
+  pub put : bare_layers (option_to_list packet) ≡ s.out
+  pub quiet : AreQuiet channels (option_to_list packet)
+  pub step : StepOf z s.next es
+
+abbrev pub dial_act : Option ℕ → List ℕ → List ℕ → List ℕ → LayerAct
+dial_act None called calling user = SendsRestart
+dial_act (Some h) called calling user = OnChannel h (act_of (Calls called calling user))
+
+-- (of a dial that finds no free channel nothing is said)
+abbrev pub layer_act : LayerSettings → (ℕ → Circuit) → LayerRequest → LayerAct
+layer_act c circuits (Asks h request) = OnChannel h (act_of request)
+layer_act c circuits (Dials called calling user) = dial_act (free_channel c.circuit.role circuits c.channels) called calling user
+layer_act c circuits Restarts = SendsRestart
+
+abbrev pub HeedsLayer : LayerSettings → Layer → LayerRequest → LayerOutcome → At Channels → LayerStep → Type 0
+HeedsLayer c l request (Accepted next packet) z s = DoesLayer c.channels next packet (entries_asked c l next request) z s
+HeedsLayer c l request (Declined error) z s = Unit {0}

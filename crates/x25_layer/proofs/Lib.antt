@@ -1,0 +1,14 @@
+pub mod Sees
+pub mod ViewLemmas
+pub mod NoteLemmas
+pub mod LayerSees
+pub mod StepLemmas
+pub mod LayerLemmas
+pub mod BookLemmas
+pub mod WorldLemmas
+pub mod RunLemmas
+pub mod ArrivalLemmas
+pub mod LawLemmas
+pub mod RoundLemmas
+pub mod SettleLemmas
+pub mod LayerRows

@@ -1,0 +1,139 @@
+-- What a circuit of the table is of a channel of the nested handshakes: the lists that no row needs are forgotten.
+use Rattle.std.proofs.Common.{◌≡◌, ◌⊎◌, ℕ, ◌<◌, List, [], ◌∷◌, ◌++◌, Option, Some, None}
+use Rattle.x25_packet.specs.PlainPacket.{PlainPacket, call, accept, clear, clear_conf, user_data, rr, rnr, interrupt, interrupt_conf, reset, reset_conf, restart, restart_conf}
+use Rattle.x25_packet.specs.Spelling.{HasChannel}
+use Rattle.x25_circuit.specs.declared.state.State.{State}
+use Rattle.x25_circuit.specs.declared.state.State.TheVariants.{Free, Calling, Arriving, Collision, Open, Resetting, Clearing}
+use Rattle.x25_circuit.specs.Messages.{piece_of}
+use Rattle.x25_circuit.specs.Circuit.{Talk, silent, Circuit}
+use Rattle.x25_circuit.specs.Notices.{CallRequest, PlainNotice}
+use Rattle.x25_circuit.specs.Table.{Answer}
+use Rattle.x25_circuit.specs.Calls.{Outcome, Done, Refused, Request, Calls, Accepts, Clears, Sends, Interrupts, Resets, SaysReady, SaysNotReady, request_of, Pulled}
+use Rattle.x25_epochs.specs.Handshake.{Side, Live, Left, At, state_of}
+use Rattle.x25_epochs.specs.Stretch.{Packet, Data, Rr, Rnr, Int, IntConf, Reset, ResetConf, Call, Accept, Clear, ClearConf, Stretch, StretchAct, Send, Pull, Ready, NotReady, Interrupt}
+use Rattle.x25_epochs.specs.Transfer.{TransferAct, Inside, SendsReset}
+use Rattle.x25_epochs.specs.Calls.{Phase, Unused, Waiting, Offered, Crossed, Talking, Connection, CallAct, PlacesCall, AcceptsCall, Talks}
+use Rattle.x25_epochs.specs.Channel.{ChannelStep, ChannelAct, Within, SendsClear}
+use Rattle.x25_epochs.specs.Books.{resets_in}
+use Rattle.x25_layer.specs.Quiet.{IsQuiet, IsNoFault}
+use Rattle.x25_layer.specs.Transcript.{Handed, nothing_handed, added, told_by, told_by_all, asked_by}
+
+abbrev pub talk_of : Stretch → Talk
+talk_of x = record { sent = x.sent; taken = x.taken; acked = x.acked; rest = x.rest; int_out = x.int_out; peer_ready = x.peer_ready; own_ready = x.own_ready }
+
+abbrev pub state_in_transfer : Side Stretch → State
+state_in_transfer (Live x) = Open
+state_in_transfer (Left x) = Resetting
+
+abbrev pub state_in : Phase → State
+state_in Unused = Free
+state_in Waiting = Calling
+state_in Offered = Arriving
+state_in Crossed = Collision
+state_in (Talking at) = state_in_transfer at.side
+
+abbrev pub state_at : Side Connection → State
+state_at (Live x) = state_in x.phase
+state_at (Left x) = Clearing
+
+abbrev pub talk_in_transfer : Side Stretch → Talk
+talk_in_transfer (Live x) = talk_of x
+talk_in_transfer (Left x) = silent
+
+abbrev pub talk_in : Phase → Talk
+talk_in (Talking at) = talk_in_transfer at.side
+talk_in other = silent
+
+abbrev pub talk_at : Side Connection → Talk
+talk_at (Live x) = talk_in x.phase
+talk_at (Left x) = silent
+
+abbrev pub view : At Connection → Circuit
+view n = record { state = state_at n.side; clears = n.epoch; resets = resets_in (state_of n.side).phase; talk = talk_at n.side }
+
+-- a packet of a channel without channel, cause, diagnostic and facilities (of a RESTART nothing is said)
+abbrev pub bare : PlainPacket → Packet
+bare (call channel called calling facilities user) = Call (record { called = called; calling = calling; user = user })
+bare (accept channel facilities) = Accept
+bare (clear channel cause diagnostic) = Clear
+bare (clear_conf channel) = ClearConf
+bare (user_data channel q m ps pr user) = Data ps pr (piece_of q m user)
+bare (rr channel pr) = Rr pr
+bare (rnr channel pr) = Rnr pr
+bare (interrupt channel user) = Int user
+bare (interrupt_conf channel) = IntConf
+bare (reset channel cause diagnostic) = Reset
+bare (reset_conf channel) = ResetConf
+bare (restart cause diagnostic) = ClearConf
+bare restart_conf = ClearConf
+
+abbrev pub bare_if : Option PlainPacket → List Packet
+bare_if None = []
+bare_if (Some packet) = bare packet ∷ []
+
+abbrev pub IsQuietIf : Option PlainPacket → Type 0
+IsQuietIf None = Unit {0}
+IsQuietIf (Some packet) = IsQuiet packet × HasChannel packet
+
+abbrev pub TellNoFault : List PlainNotice → Type 0
+TellNoFault [] = Unit {0}
+TellNoFault (notice ∷ notices) = IsNoFault notice × TellNoFault notices
+
+-- the answer of the table is the step of the channel, and tells of no error of procedure
+pub record Follows (a : Answer) (s : ChannelStep) : Type 0 where
+  pub next : a.next ≡ view s.next
+  pub owed : bare_if a.owed ≡ s.out
+  pub quiet : IsQuietIf a.owed
+  pub no_fault : TellNoFault a.notices
+
+-- the same of a call of the user that isn't refused, and of a pull
+pub record Does (x : Circuit) (owed : Option PlainPacket) (s : ChannelStep) : Type 0 where
+  pub next : x ≡ view s.next
+  pub packet : bare_if owed ≡ s.out
+  pub quiet : IsQuietIf owed
+
+abbrev pub Heeds : Outcome → ChannelStep → Type 0
+Heeds (Done next packet) s = Does next packet s
+Heeds (Refused e) s = Unit {0}
+
+abbrev pub act_of : Request → ChannelAct
+act_of (Calls called calling user) = Within (PlacesCall (request_of called calling user))
+act_of Accepts = Within AcceptsCall
+act_of Clears = SendsClear
+act_of (Sends q user) = Within (Talks (Inside (Send q user)))
+act_of (Interrupts user) = Within (Talks (Inside (Interrupt user)))
+act_of Resets = Within (Talks SendsReset)
+act_of SaysReady = Within (Talks (Inside Ready))
+act_of SaysNotReady = Within (Talks (Inside NotReady))
+
+abbrev pub pull_act : ChannelAct
+pull_act = Within (Talks (Inside Pull))
+
+-- ---- what a channel holds under its present name
+
+abbrev pub held_stretch : List CallRequest → List CallRequest → Stretch → Handed
+held_stretch made indicated x = record { made = made; indicated = indicated; down = x.down; up = x.up; int_down = x.int_down; int_up = x.int_up }
+
+abbrev pub held_phase : List CallRequest → List CallRequest → Phase → Handed
+held_phase made indicated (Talking at) = held_stretch made indicated (state_of at.side)
+held_phase made indicated other = record { made = made; indicated = indicated; down = []; up = []; int_down = []; int_up = [] }
+
+abbrev pub held_of : At Connection → Handed
+held_of n = held_phase (state_of n.side).made (state_of n.side).indicated (state_of n.side).phase
+
+abbrev pub resets_of : At Connection → ℕ
+resets_of n = resets_in (state_of n.side).phase
+
+-- no call is among these
+abbrev pub HasNoCall : Handed → Type 0
+HasNoCall h = (h.made ≡ []) × (h.indicated ≡ [])
+
+-- The name stays, and these are added, of calls only before the first reset; or the name grows, and nothing is said.
+pub data Notes (x y : At Connection) (h : Handed) : Type 0 where
+  Adds : y.epoch ≡ x.epoch → resets_of y ≡ resets_of x → held_of y ≡ added (held_of x) h → HasNoCall h ⊎ (resets_of y ≡ 0) → Notes x y h
+  AfterReset : y.epoch ≡ x.epoch → resets_of x < resets_of y → h ≡ nothing_handed → held_of y ≡ held_phase (held_of x).made (held_of x).indicated Unused → Notes x y h
+  AfterClear : x.epoch < y.epoch → h ≡ nothing_handed → held_of y ≡ nothing_handed → Notes x y h
+
+abbrev pub NotesOutcome : Outcome → At Connection → At Connection → Handed → Type 0
+NotesOutcome (Done next packet) x y h = Notes x y h
+NotesOutcome (Refused e) x y h = Unit {0}

@@ -1,0 +1,6 @@
+use Rattle.x25_layer.proofs.RoundLemmas.{calls_run, hears_run}
+use Rattle.x25_layer.proofs.SettleLemmas.{rounds_settle, comes_up_alone}
+use Rattle.x25_layer.proofs.law.calls_are_runs.Goals as goal
+
+pub returns : goal.returns
+returns c = record { calls = calls_run; hears = hears_run; settle = rounds_settle; up = comes_up_alone }

@@ -1,0 +1,90 @@
+-- The calls of the user of a layer, their refusals in order (profile), and the channel that a new call takes.
+use Rattle.std.specs.Prelude.{ℕ, zero, suc, List, [], ◌∷◌, Option, Some, None, Bool, true, false, if◌then◌else◌}
+use Rattle.x25_bits.specs.declared.role.Role.{Role}
+use Rattle.x25_bits.specs.declared.role.Role.TheVariants.{Dte, Dce}
+use Rattle.x25_packet.specs.PlainPacket.{PlainPacket, restart}
+use Rattle.x25_circuit.specs.Circuit.{Circuit, is_free}
+use Rattle.x25_circuit.specs.Calls.{Outcome, Done, Refused, Request, Calls, Accepts, Clears, Sends, Interrupts, Resets, SaysReady, SaysNotReady, outcome, Pulled, pulled}
+use Rattle.x25_layer.specs.declared.error.LayerError.{LayerError}
+use Rattle.x25_layer.specs.declared.error.LayerError.TheVariants as error
+use Rattle.x25_layer.specs.Layer.{LayerSettings, Layer, is_channel, put_at, packet_on, is_ready, restarting_from}
+
+-- a call of a circuit on a channel; a new call, which takes a free channel; a restart
+pub data LayerRequest : Type 0 where
+  Asks : (channel : ℕ) → (request : Request) → LayerRequest
+  Dials : (called : List ℕ) → (calling : List ℕ) → (user : List ℕ) → LayerRequest
+  Restarts : LayerRequest
+
+-- the layer after the call, and the packet to send, where there is one; or why it is refused
+pub data LayerOutcome : Type 0 where
+  Accepted : (next : Layer) → (packet : Option PlainPacket) → LayerOutcome
+  Declined : (error : LayerError) → LayerOutcome
+
+-- the lowest free channel of those up to a number
+abbrev pub first_of : Option ℕ → Bool → ℕ → Option ℕ
+first_of (Some k) free h = Some k
+first_of None free h = if free then Some h else None
+
+abbrev pub lowest_free : (ℕ → Circuit) → ℕ → Option ℕ
+lowest_free circuits zero = None
+lowest_free circuits (suc n) = first_of (lowest_free circuits n) (is_free (circuits (suc n))) (suc n)
+
+-- .. and the highest
+abbrev pub highest_free : (ℕ → Circuit) → ℕ → Option ℕ
+highest_free circuits zero = None
+highest_free circuits (suc n) = if is_free (circuits (suc n)) then Some (suc n) else highest_free circuits n
+
+-- A DTE calls on the highest free channel and a DCE on the lowest (section 4.1.2, annex A), so that they seldom collide.
+abbrev pub free_channel : Role → (ℕ → Circuit) → ℕ → Option ℕ
+free_channel Dte circuits channels = highest_free circuits channels
+free_channel Dce circuits channels = lowest_free circuits channels
+
+-- a message puts no packet at once, so a full queue doesn't refuse it
+abbrev pub puts_at_once : Request → Bool
+puts_at_once (Sends q user) = false
+puts_at_once request = true
+
+abbrev pub where_room : Bool → LayerOutcome → LayerOutcome
+where_room true good = Declined error.QueueFull
+where_room false good = good
+
+abbrev pub if_at_once : Bool → Bool → LayerOutcome → LayerOutcome
+if_at_once true is_full good = where_room is_full good
+if_at_once false is_full good = good
+
+-- the circuit of a channel does what is asked; the others are as they were
+abbrev pub outcome_on : ℕ → (ℕ → Circuit) → ℕ → Outcome → LayerOutcome
+outcome_on restarts circuits h (Done next packet) = Accepted (is_ready restarts (put_at circuits h next)) (packet_on h packet)
+outcome_on restarts circuits h (Refused e) = Declined (error.Circuit e)
+
+abbrev pub dialled : LayerSettings → Bool → ℕ → (ℕ → Circuit) → Option ℕ → List ℕ → List ℕ → List ℕ → LayerOutcome
+dialled c is_full restarts circuits None called calling user = Declined error.NoFreeChannel
+dialled c is_full restarts circuits (Some h) called calling user = where_room is_full (outcome_on restarts circuits h (outcome c.circuit (circuits h) (Calls called calling user)))
+
+abbrev pub outcome_ready : LayerSettings → Bool → ℕ → (ℕ → Circuit) → LayerRequest → LayerOutcome
+outcome_ready c is_full restarts circuits (Asks h request) =
+    if is_channel c.channels h
+    then if_at_once (puts_at_once request) is_full (outcome_on restarts circuits h (outcome c.circuit (circuits h) request))
+    else Declined error.NoSuchChannel
+outcome_ready c is_full restarts circuits (Dials called calling user) = dialled c is_full restarts circuits (free_channel c.circuit.role circuits c.channels) called calling user
+outcome_ready c is_full restarts circuits Restarts = where_room is_full (Accepted (restarting_from restarts circuits) (Some (restart 0 0)))
+
+abbrev pub outcome_in : LayerSettings → Bool → Bool → ℕ → (ℕ → Circuit) → LayerRequest → LayerOutcome
+outcome_in c is_full true restarts circuits request = Declined error.Restarting
+outcome_in c is_full false restarts circuits request = outcome_ready c is_full restarts circuits request
+
+-- where the link is up; the test says whether 256 packets wait
+abbrev pub layer_outcome : LayerSettings → Bool → Layer → LayerRequest → LayerOutcome
+layer_outcome c is_full l request = outcome_in c is_full l.restarting l.restarts l.circuits request
+
+-- ---- the next data packet of a channel
+
+pub record LayerPulled : Type 0 where
+  pub next : Layer
+  pub packet : Option PlainPacket
+
+abbrev pub pulled_on : Layer → ℕ → Pulled → LayerPulled
+pulled_on l h p = record { next = record { restarting = l.restarting; restarts = l.restarts; circuits = put_at l.circuits h p.next }; packet = packet_on h p.packet }
+
+abbrev pub layer_pulled : LayerSettings → Layer → ℕ → LayerPulled
+layer_pulled c l h = pulled_on l h (pulled c.circuit (l.circuits h))

@@ -1,0 +1,9 @@
+pub mod LayerError
+pub mod Layer
+pub mod Calls
+pub mod Quiet
+pub mod Rounds
+pub mod Transcript
+pub mod World
+pub mod Law
+pub mod RoundLaw

@@ -1,0 +1,29 @@
+ghost use Rattle.std.specs.Prelude.{ℕ};
+ghost use Rattle.x25_layer.specs.Law.{Always, IsQuietWorld, IsLawfulWorld, ArrivesAll, KeepsOrder};
+ghost use Rattle.x25_layer.specs.RoundLaw.{CallsRun, HearsRun, RoundsSettle, ComesUpAlone};
+
+/// Two layers over links that keep order, whatever their users ask and whenever a link goes down: after every event,
+///
+/// - what each link was given is what the other handed up, and then what is in flight;
+/// - no end told the other or its user of an error of procedure;
+/// - on each channel and under each name of a stretch, what an end handed up is a beginning of what the other handed down, of
+///   messages, of interrupts and of calls;
+/// - and all of the messages and interrupts of a stretch that is open at both ends, where all that the giver handed down is
+///   acknowledged and none of its messages waits.
+pub fn two_layers_keep_order()
+    ensures order { (channels : ℕ) → Always KeepsOrder channels }
+    ensures quiet { (channels : ℕ) → Always (IsQuietWorld channels) channels }
+    ensures lawful { (channels : ℕ) → Always IsLawfulWorld channels }
+    ensures arrives { (channels : ℕ) → Always ArrivesAll channels }
+{
+    x25_epochs::keeps_order();
+}
+
+/// A call of a layer over a link is a run: the step of the call, and then pulls of data packets, until a round of pulls gives
+/// nothing. When the link comes up, RESTART is put alone.
+pub fn calls_are_runs()
+    ensures calls { CallsRun }
+    ensures hears { HearsRun }
+    ensures settle { RoundsSettle }
+    ensures up { ComesUpAlone }
+{}

@@ -1,0 +1,9 @@
+//! The packet layer of X.25 at one end: restart, and its logical channels over a link that keeps order.
+//! ITU-T X.25 (10/96), sections 3 and 4.
+#![tactic(auto)]
+
+mod error;
+mod law;
+
+pub use error::LayerError;
+pub use law::{calls_are_runs, two_layers_keep_order};
