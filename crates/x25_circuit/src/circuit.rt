@@ -27,7 +27,7 @@ pub struct Circuit {
 }
 
 impl Circuit {
-    ghost use Rattle.x25_circuit.specs.FitsCircuit.{FitsCircuit, room_of};
+    ghost use Rattle.x25_circuit.specs.FitsCircuit.{FitsCircuit, room_of, partial_of};
 
     /// A channel that was never used: p1, with window 2 and packets of at most 128 octets in both directions.
     ///
@@ -89,11 +89,13 @@ impl Circuit {
         self.state == State::Open
     }
 
-    /// How many messages wait, at most 8.
+    /// How many messages wait, at most 8. Each has at most 65,535 octets, and so has the message of which some packets came.
     pub fn waits(&self) -> usize
         ensures value { (c : Settings) (x : Channel) → FitsCircuit c self.now x → result ≡ waits x }
         ensures few { result ≤ 8 }
+        ensures partial { length (partial_of self.now) ≤ 65535 }
     {
+        let _octets = self.transfer.partial.len();
         self.transfer.queue.len()
     }
 

@@ -5,7 +5,7 @@ ghost use Rattle.x25_circuit.specs.Circuit.{Settings};
 ghost use Rattle.x25_circuit.specs.Circuit.{Circuit as Channel};
 ghost use Rattle.x25_circuit.specs.Table.{cause_at, diagnostic_in, clears_for, resets_for, unexpected, clears_to, resets_to, row_clear, row_clear_conf, row_reset, row_reset_conf, row_undecoded, cause_of};
 ghost use Rattle.x25_circuit.specs.FitsCircuit.{FitsCircuit, room_of};
-ghost use Rattle.x25_circuit.specs.Replies.{Says};
+ghost use Rattle.x25_circuit.specs.Replies.{Says, IsSendable, plain_owed};
 
 use crate::circuit::Circuit;
 use crate::notice::{Notice, Reply};
@@ -62,6 +62,7 @@ impl Circuit {
     pub(crate) fn clear_for<'a>(&mut self, cause: u8, diagnostic: u8) -> Reply<'a>
         ensures next { (c : Settings) (x : Channel) → FitsCircuit c self.old x → FitsCircuit c self.new (clears_for c x cause diagnostic).next }
         ensures says { (c : Settings) (x : Channel) → FitsCircuit c self.old x → Says result (clears_for c x cause diagnostic).owed (clears_for c x cause diagnostic).notices }
+        ensures range { IsSendable (plain_owed result.packet) }
         ensures room { room_of self.old ≤ room_of self.new }
     {
         self.enter(State::Clearing);
@@ -79,6 +80,7 @@ impl Circuit {
     pub(crate) fn reset_for<'a>(&mut self, diagnostic: u8) -> Reply<'a>
         ensures next { (c : Settings) (x : Channel) → FitsCircuit c self.old x → FitsCircuit c self.new (resets_for c x diagnostic).next }
         ensures says { (c : Settings) (x : Channel) → FitsCircuit c self.old x → Says result (resets_for c x diagnostic).owed (resets_for c x diagnostic).notices }
+        ensures range { IsSendable (plain_owed result.packet) }
         ensures room { room_of self.old ≤ room_of self.new }
     {
         self.enter(State::Resetting);
@@ -96,6 +98,7 @@ impl Circuit {
     pub(crate) fn unexpected<'a>(&mut self) -> Reply<'a>
         ensures next { (c : Settings) (x : Channel) → FitsCircuit c self.old x → FitsCircuit c self.new (unexpected c x self.old.state).next }
         ensures says { (c : Settings) (x : Channel) → FitsCircuit c self.old x → Says result (unexpected c x self.old.state).owed (unexpected c x self.old.state).notices }
+        ensures range { IsSendable (plain_owed result.packet) }
         ensures room { room_of self.old ≤ room_of self.new }
     {
         self.clear_for(19, diagnostic_in(self.role, self.state))
@@ -126,6 +129,7 @@ impl Circuit {
         requires { self.old.clears < 2 ^ 64 - 1 }
         ensures next { (c : Settings) (x : Channel) → FitsCircuit c self.old x → FitsCircuit c self.new (row_clear x self.old.state cause diagnostic).next }
         ensures says { (c : Settings) (x : Channel) → FitsCircuit c self.old x → Says result (row_clear x self.old.state cause diagnostic).owed (row_clear x self.old.state cause diagnostic).notices }
+        ensures range { IsSendable (plain_owed result.packet) }
     {
         let state = self.state;
         self.be_cleared();
@@ -143,6 +147,7 @@ impl Circuit {
         requires { self.old.clears < 2 ^ 64 - 1 }
         ensures next { (c : Settings) (x : Channel) → FitsCircuit c self.old x → FitsCircuit c self.new (row_clear_conf c x self.old.state).next }
         ensures says { (c : Settings) (x : Channel) → FitsCircuit c self.old x → Says result (row_clear_conf c x self.old.state).owed (row_clear_conf c x self.old.state).notices }
+        ensures range { IsSendable (plain_owed result.packet) }
     {
         match self.state {
             State::Clearing => {
@@ -157,6 +162,7 @@ impl Circuit {
         requires { self.old.resets < 2 ^ 64 - 1 }
         ensures next { (c : Settings) (x : Channel) → FitsCircuit c self.old x → FitsCircuit c self.new (row_reset c x self.old.state cause diagnostic).next }
         ensures says { (c : Settings) (x : Channel) → FitsCircuit c self.old x → Says result (row_reset c x self.old.state cause diagnostic).owed (row_reset c x self.old.state cause diagnostic).notices }
+        ensures range { IsSendable (plain_owed result.packet) }
     {
         match self.state {
             State::Open => {
@@ -179,6 +185,7 @@ impl Circuit {
         requires { self.old.resets < 2 ^ 64 - 1 }
         ensures next { (c : Settings) (x : Channel) → FitsCircuit c self.old x → FitsCircuit c self.new (row_reset_conf c x self.old.state).next }
         ensures says { (c : Settings) (x : Channel) → FitsCircuit c self.old x → Says result (row_reset_conf c x self.old.state).owed (row_reset_conf c x self.old.state).notices }
+        ensures range { IsSendable (plain_owed result.packet) }
     {
         match self.state {
             State::Open => self.reset_for(27),
@@ -197,6 +204,7 @@ impl Circuit {
         requires { error ≢ PacketError.NoMemory }
         ensures next { (c : Settings) (x : Channel) → FitsCircuit c self.old x → FitsCircuit c self.new (row_undecoded c x self.old.state error).next }
         ensures says { (c : Settings) (x : Channel) → FitsCircuit c self.old x → Says result (row_undecoded c x self.old.state error).owed (row_undecoded c x self.old.state error).notices }
+        ensures range { IsSendable (plain_owed result.packet) }
     {
         match self.state {
             State::Open => self.reset_for(error.diagnostic()),
