@@ -1,9 +1,12 @@
 # make x25   leaves the proved program at build/x25
 # make demo  builds it and decodes the traces of examples/
-# make test  the gate: every proof from nothing, the must-fail edits, the tests and the programs
+# make test  the gate: every proof from nothing, the must-fail edits, the tests and the programs, the golden cases, the tools
+# make golden       runs the stored cases of tests/golden on the program
+# make check-tools  runs the tests of tools/, without the kit too; those that need the program are left out where it isn't built
+# make wrong-bodies [CRATE=NAME]  tries the edits of crates/NAME/wrong-bodies/, which the gate leaves out
 # make clean removes what these made
 
-.PHONY: x25 demo test clean kit
+.PHONY: x25 demo test golden check-tools wrong-bodies clean kit
 
 x25: build/x25
 
@@ -21,7 +24,16 @@ demo: build/x25
 	done
 
 test: kit
-	rt ci
+	python3 tests/gate.py
+
+golden: build/x25
+	python3 tests/golden.py --program build/x25
+
+check-tools:
+	python3 tests/check_tools.py
+
+wrong-bodies: kit
+	.ci/wrong_bodies $(CRATE)
 
 clean:
 	rm -rf build crates/*/out

@@ -4,37 +4,24 @@
 //! read, a write or memory failed.
 #![tactic(auto)]
 
-mod answer;
-mod decode_lines;
-mod decoder;
-mod device;
-mod fault;
-mod frame_text;
-mod lines;
-mod packet_text;
-mod settings;
-mod text;
-mod vectors;
+ghost use Rattle.std.specs.Prelude.{◌≡◌};
 
-use crate::decode_lines::decode_lines;
-use crate::device::Device;
-use crate::fault::Fault;
-use crate::settings::{SettingsError, Task, settings};
-use crate::vectors::vectors;
 use std::io::ErrorKind;
 use std::process::ExitCode;
 use std::rt::Env;
 use std::{env, io};
+use x25_program::{Device, Fault, decode_lines, exit_status, vectors};
+use x25_settings::{SettingsError, Task, settings};
 
 /// The exit status of a usage fault.
 const USAGE: u8 = 2;
 
-/// The exit status of a fault.
-const FAULT: u8 = 3;
-
-fn report<R: Eprint>(rt: &R, fault: Fault) -> u8 {
+/// Tells a fault on standard error, and answers its exit status. Where standard error fails too, nothing is told.
+fn report<R: Eprint>(rt: &R, fault: Fault) -> u8
+    ensures { result ≡ 3 }
+{
     let _ = eprintln!(rt; "{fault}");
-    FAULT
+    exit_status(&Err(fault))
 }
 
 fn run<R: Input + Print + Eprint + AllocGlobal>(rt: &R, task: Task) -> u8 {
@@ -47,7 +34,7 @@ fn run<R: Input + Print + Eprint + AllocGlobal>(rt: &R, task: Task) -> u8 {
         Task::Vectors => vectors(rt.alloc(), &mut writer),
     };
     match result {
-        Ok(status) => status,
+        Ok(_) => exit_status(&result),
         Err(fault) => report(rt, fault),
     }
 }
@@ -58,12 +45,13 @@ fn start<R: Input + Print + Eprint + AllocGlobal>(rt: &R, words: &[String]) -> u
         Err(SettingsError::NoMemory) => report(rt, Fault::NoMemory),
         Err(SettingsError::Usage(error)) => {
             let _ = rt.eprint(&error);
-            USAGE
+            SettingsError::Usage(error).exit_status()
         }
     }
 }
 
-fn exit_status<R: Input + Print + Eprint + Env + AllocGlobal>(rt: &R) -> u8 {
+/// Does what the words of the command line ask for, and answers the exit status.
+fn answer<R: Input + Print + Eprint + Env + AllocGlobal>(rt: &R) -> u8 {
     let words = match env::args(rt) {
         Ok(words) => words,
         Err(error) if error.kind() == ErrorKind::OutOfMemory => {
@@ -81,5 +69,5 @@ fn exit_status<R: Input + Print + Eprint + Env + AllocGlobal>(rt: &R) -> u8 {
 }
 
 fn main(rt: HostRuntime) -> ExitCode {
-    ExitCode::from(exit_status(&rt))
+    ExitCode::from(answer(&rt))
 }

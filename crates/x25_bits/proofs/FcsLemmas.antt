@@ -1,16 +1,13 @@
 -- The register divides: what is fed to it bit by bit leaves the remainder of the long division.
-use Rattle.std.proofs.Common.{ℕ, zero, suc, ◌+◌, ◌-◌, ◌/◌, ◌%◌, ◌^◌, ◌<◌, ◌≤◌, ◌≡◌, ◌∙◌, Bool, true, false, not, List, [], ◌∷◌, ◌++◌, length, map, take, drop, refl, ap, sym, inl, inr, ◌⊎◌, arith, bit_xor, bit_and, nat_eq, get_or, length-append, add-one}
+use Rattle.std.proofs.Common.{ℕ, zero, suc, ◌+◌, ◌-◌, ◌/◌, ◌%◌, ◌^◌, ◌<◌, ◌≤◌, ◌≡◌, ◌∙◌, Bool, true, false, not, List, [], ◌∷◌, ◌++◌, length, map, take, drop, refl, ap, sym, inl, inr, ◌⊎◌, arith, bit_xor, bit_and, length-append}
 use Rattle.std.specs.Prelude.{◌==◌, if◌then◌else◌, replicate}
 use Rattle.std.proofs.lemmas.Nat.{xor_mod, xor_shr}
 use Rattle.std.proofs.lemmas.Nat.Bits.{shr_and_one}
 use Rattle.std.proofs.Math.Nat.{div-one}
-use Rattle.std.proofs.Math.Seq.{drop-cons}
-use Rattle.std.proofs.lemmas.List.Concat.{flat_map-cons}
-use mathlib.Core.Bool.{beq}
 use Rattle.x25_bits.specs.Fcs.{low_bits, number_of, bits_of, xor, add, divisor, divided, inverted, fcs_of}
 use Rattle.x25_bits.specs.Register.{stepped, fed}
 
-xor_assoc : (a b c : Bool) → xor (xor a b) c ≡ xor a (xor b c)
+pub xor_assoc : (a b c : Bool) → xor (xor a b) c ≡ xor a (xor b c)
 xor_assoc true true true = refl
 xor_assoc true true false = refl
 xor_assoc true false true = refl
@@ -35,13 +32,13 @@ add_assoc (a ∷ p) [] r = refl
 add_assoc (a ∷ p) (b ∷ q) [] = refl
 add_assoc (a ∷ p) (b ∷ q) (c ∷ r) = rw (xor_assoc a b c, add_assoc p q r) refl
 
-xor_comm : (a b : Bool) → xor a b ≡ xor b a
+pub xor_comm : (a b : Bool) → xor a b ≡ xor b a
 xor_comm true true = refl
 xor_comm true false = refl
 xor_comm false true = refl
 xor_comm false false = refl
 
-add_comm : (p q : List Bool) → add p q ≡ add q p
+pub add_comm : (p q : List Bool) → add p q ≡ add q p
 unfolding add
 add_comm [] [] = refl
 add_comm [] (b ∷ q) = refl
@@ -71,7 +68,7 @@ divided-step n r rs b p h = go (xor r b) refl
     go true t = rw (t, add_assoc divisor (rs ++ false ∷ []) p, add-zero_behind rs p h) refl
     go false t = rw (t, add-zero_behind rs p h) refl
 
-length-add : (p q : List Bool) → length p ≡ length q → length (add p q) ≡ length q
+pub length-add : (p q : List Bool) → length p ≡ length q → length (add p q) ≡ length q
 unfolding add
 length-add [] q h = refl
 length-add (a ∷ p) [] h = h
@@ -87,7 +84,7 @@ length-divisor : length divisor ≡ 16
 unfolding divisor
 length-divisor = refl
 
-length-stepped : (r : List Bool) (b : Bool) → length r ≡ 16 → length (stepped r b) ≡ 16
+pub length-stepped : (r : List Bool) (b : Bool) → length r ≡ 16 → length (stepped r b) ≡ 16
 unfolding stepped
 length-stepped [] b h = h
 length-stepped (r ∷ rs) b h =
@@ -140,14 +137,6 @@ pub low_bits-suc : (k n : ℕ) → low_bits (suc k) n ≡ (n % 2 == 1) ∷ low_b
 unfolding low_bits
 low_bits-suc k n = refl
 
--- a number of k bits has a 0 behind them
-pub low_bits-more : (k n : ℕ) → n < 2 ^ k → low_bits (suc k) n ≡ low_bits k n ++ false ∷ []
-unfolding low_bits
-low_bits-more zero n h = let none : n ≡ 0 = omega arith in rw none refl
-low_bits-more (suc k) n h =
-    let half : n / 2 < 2 ^ k = omega arith in
-    ap (λ (bits : List Bool). (n % 2 == 1) ∷ bits) (low_bits-more k (n / 2) half)
-
 pub number_of-complement : (k n : ℕ) → n < 2 ^ k → number_of (map not (low_bits k n)) + n + 1 ≡ 2 ^ k
 unfolding low_bits number_of
 number_of-complement zero n h = omega arith
@@ -163,23 +152,6 @@ pub length-low_bits : (k n : ℕ) → length (low_bits k n) ≡ k
 unfolding low_bits
 length-low_bits zero n = refl
 length-low_bits (suc k) n = ap suc (length-low_bits k (n / 2))
-
-pub divisor-is : low_bits 16 33800 ≡ divisor
-unfolding divisor low_bits
-divisor-is = refl
-
-stepped-first : (n : ℕ) (b : Bool) → stepped (low_bits 16 n) b ≡ (if xor (n % 2 == 1) b then add divisor (low_bits 15 (n / 2) ++ false ∷ []) else (low_bits 15 (n / 2) ++ false ∷ []))
-unfolding stepped
-stepped-first n b = rw (low_bits-suc 15 n) refl
-
--- one bit, as the code has it
-pub stepped-low_bits : (n : ℕ) (b : Bool) → n < 2 ^ 16
-    → stepped (low_bits 16 n) b ≡ (if xor (n % 2 == 1) b then low_bits 16 (bit_xor (n / 2) 33800) else low_bits 16 (n / 2))
-stepped-low_bits n b h =
-    let half : n / 2 < 2 ^ 15 = omega arith in
-    let more : low_bits 16 (n / 2) ≡ low_bits 15 (n / 2) ++ false ∷ [] = low_bits-more 15 (n / 2) half in
-    let sum : low_bits 16 (bit_xor (n / 2) 33800) ≡ add divisor (low_bits 15 (n / 2) ++ false ∷ []) = rw (low_bits-xor 16 (n / 2) 33800, divisor-is, more) (add_comm _ _) in
-    rw (more, sum) (stepped-first n b)
 
 -- the first sixteen coefficients inverted
 inverted_by : (k : ℕ) (p : List Bool) → k ≤ length p → map not (take k p) ++ drop k p ≡ add (replicate k true) p
@@ -221,38 +193,3 @@ fcs_of-low_bits octets n h e =
 
 pub and_one : (n : ℕ) → bit_and n 1 ≡ n % 2
 and_one n = rw (sym (div-one n)) (shr_and_one n 0)
-
-is_xor : (a b : Bool) → not (beq a b) ≡ xor a b
-is_xor true true = refl
-is_xor true false = refl
-is_xor false true = refl
-is_xor false false = refl
-
--- what the code tests
-pub register_differs : (n : ℕ) (b : Bool) → n < 2 ^ 16 → not (beq (nat_eq (bit_and n 1) 1) b) ≡ true
-    → low_bits 16 (bit_xor (n / 2) 33800) ≡ stepped (low_bits 16 n) b
-register_differs n b h t =
-    let test : xor (n % 2 == 1) b ≡ true = sym (is_xor (n % 2 == 1) b) ∙ (rw and_one at t) in
-    rw (stepped-low_bits n b h, test) refl
-
-pub register_same : (n : ℕ) (b : Bool) → n < 2 ^ 16 → not (beq (nat_eq (bit_and n 1) 1) b) ≡ false
-    → low_bits 16 (n / 2) ≡ stepped (low_bits 16 n) b
-register_same n b h t =
-    let test : xor (n % 2 == 1) b ≡ false = sym (is_xor (n % 2 == 1) b) ∙ (rw and_one at t) in
-    rw (stepped-low_bits n b h, test) refl
-
--- the next bit of an octet
-pub fed-next : (register after rest k : ℕ) → k < 8 → low_bits 16 after ≡ stepped (low_bits 16 register) (nat_eq (bit_and rest 1) 1)
-    → fed (low_bits 16 after) (low_bits (8 - (k + 1)) (rest / 2)) ≡ fed (low_bits 16 register) (low_bits (8 - k) rest)
-unfolding fed
-fed-next register after rest k h e =
-    let left : 8 - k ≡ suc (8 - (k + 1)) = omega arith in
-    rw (left, low_bits-suc (8 - (k + 1)) rest, ← and_one rest, e) refl
-
--- the next octet
-pub fed-octet : (register after i : ℕ) (octets : List ℕ) → i < length octets
-    → low_bits 16 after ≡ fed (low_bits 16 register) (low_bits 8 (get_or octets i 0))
-    → fed (low_bits 16 after) (bits_of (drop (i + 1) octets)) ≡ fed (low_bits 16 register) (bits_of (drop i octets))
-fed-octet register after i octets h e =
-    let cut : drop i octets ≡ get_or octets i 0 ∷ drop (i + 1) octets = rw (add-one, drop-cons octets i 0) refl in
-    rw (cut, flat_map-cons (low_bits 8) (get_or octets i 0) (drop (i + 1) octets), fed-append, ← e) refl

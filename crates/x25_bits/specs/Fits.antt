@@ -1,5 +1,5 @@
 -- What a deframer holds of the bits so far. Profile.
-use Rattle.std.specs.Prelude.{ℕ, ◌≡◌, ◌+◌, ◌==◌, Bool, true, false, Option, Some, None, List, [], ◌∷◌, drop, take}
+use Rattle.std.specs.Prelude.{ℕ, ◌≡◌, ◌+◌, ◌==◌, Bool, true, false, Option, Some, None, List, [], ◌∷◌, drop, length, take}
 use Rattle.x25_bits.specs.Spans.{flag_places}
 use Rattle.x25_bits.specs.Stuffing.{unstuff}
 use Rattle.x25_bits.specs.SpanClass.{seven_from}
@@ -38,6 +38,10 @@ pub record HoldsSpan (d : Deframer) (span : List Bool) : Type 0 where
 abbrev pub HoldsOpen : Deframer → Option (List Bool) → Type 0
 HoldsOpen d None = d.scan.is_open ≡ false
 HoldsOpen d (Some span) = HoldsSpan d span
+
+-- how many bits a deframer holds
+abbrev pub count_held : Deframer → ℕ
+count_held d = length d.kept
 
 -- The deframer holds all that the classes of the spans still to be closed need of these bits: the 1 bits at the end
 -- (seven where no 0 has come), and what the open span needs.

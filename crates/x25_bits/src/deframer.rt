@@ -4,8 +4,6 @@ ghost use Rattle.x25_bits.specs.Begins.{Begins};
 ghost use Rattle.x25_bits.specs.SpanClass.{found_of};
 ghost use Rattle.x25_bits.specs.Held.{Seen, seen_next, seen_found, seen_from, found_from, ends, closing, keeps, kept_next, kept_found};
 ghost use Rattle.x25_bits.specs.Plain.{plains, listed_span};
-ghost use Rattle.x25_bits.specs.Fits.{Fits};
-ghost use Rattle.x25_bits.specs.FitsSeen.{FitsSeen};
 
 use crate::bits::Bits;
 use crate::found::{Found, Span};
@@ -13,9 +11,6 @@ use crate::no_memory::NoMemory;
 use crate::scan::Scan;
 use std::alloc::Global;
 use std::mem;
-
-#[cfg(test)]
-mod tests;
 
 /// The fewest bits of a content: 4 octets.
 const FEWEST: usize = 32;
@@ -33,9 +28,13 @@ pub struct Deframer {
     /// The unstuffed bits behind the last flag, as long as they can be content.
     kept: Bits,
     alloc: Global,
+    ghost few: { length kept ≤ 32831 },
 }
 
 impl Deframer {
+    ghost use Rattle.x25_bits.specs.Fits.{Fits, count_held};
+    ghost use Rattle.x25_bits.specs.FitsSeen.{FitsSeen};
+
     /// A deframer that no bits have come to.
     pub fn new(alloc: Global) -> Deframer
         ensures { Fits result [] }
@@ -48,13 +47,14 @@ impl Deframer {
     }
 
     /// Takes more bits. Appended to `out` is what the spans are that these bits close, in order, however the bits
-    /// so far were cut. Error 70 where there is no memory for it.
+    /// so far were cut. At most 32,831 bits are held. Error 70 where there is no memory for it.
     pub fn feed(&mut self, bits: &Bits, out: &mut Vec<Found>) -> Result<(), NoMemory>
         ensures fits { OnOk result ((before : List Bool) → Fits self.old before → Fits self.new (before ++ bits.now)) }
         ensures found { OnOk result ((before : List Bool) → Fits self.old before
             → plains out.new.items ≡ plains out.old.items ++ drop (length (found_of before)) (found_of (before ++ bits.now))) }
         ensures same { OnErr result (self.new ≡ self.old) }
         ensures kept { OnErr result (out.new.items ≡ out.old.items) }
+        ensures few { count_held self.new ≤ 32831 }
     {
         let scan = self.scan;
         let held = self.kept.len();
@@ -144,14 +144,11 @@ impl Deframer {
         if !self.scan.is_open {
             return Ok(());
         }
-        match self.closing() {
-            None => Ok(()),
-            Some(span) => {
-                let found = span.copied(self.alloc)?;
-                out.push(found)?;
-                Ok(())
-            }
-        }
+        let Some(span) = self.closing() else {
+            return Ok(());
+        };
+        out.push(span.copied(self.alloc)?)?;
+        Ok(())
     }
 
     /// What the span is that a flag closes here.
@@ -184,7 +181,8 @@ impl Deframer {
 
     /// Puts back what was held before a call: so many of the bits put aside, or else of those that are kept.
     fn restore(&mut self, scan: Scan, held: usize, aside: Option<Bits>)
-        requires { held ≤ length (unwrap_or aside self.old.kept) }
+        requires few { held ≤ 32831 }
+        requires there { held ≤ length (unwrap_or aside self.old.kept) }
         ensures scan { self.new.scan ≡ scan }
         ensures kept { self.new.kept ≡ take held (unwrap_or aside self.old.kept) }
         ensures alloc { self.new.alloc ≡ self.old.alloc }
@@ -202,8 +200,9 @@ impl Deframer {
 
 /// Keeps the bit, where it can be content and there are not too many.
 fn push_if(is_kept: bool, bit: bool, kept: &mut Bits) -> Result<(), NoMemory>
-    ensures fits { OnOk result ((all : List Bool) → kept.old ≡ take HELD all → kept.new ≡ take HELD (if is_kept then all ++ bit ∷ [] else all)) }
+    ensures fits { OnOk result ((all : List Bool) → kept.old ≡ take 32831 all → kept.new ≡ take 32831 (if is_kept then all ++ bit ∷ [] else all)) }
     ensures begins { Begins kept.old kept.new }
+    ensures few { length kept.old ≤ 32831 → length kept.new ≤ 32831 }
 {
     if !is_kept {
         return Ok(());
@@ -217,7 +216,7 @@ fn push_if(is_kept: bool, bit: bool, kept: &mut Bits) -> Result<(), NoMemory>
 
 /// What the span is whose unstuffed bits and the first six of a flag these are.
 fn span_in(kept: &Bits) -> Option<Span<'_>>
-    ensures { (all : List Bool) → kept.now ≡ take HELD all → listed_span result ≡ kept_found all }
+    ensures { (all : List Bool) → kept.now ≡ take 32831 all → listed_span result ≡ kept_found all }
 {
     if kept.len() <= 6 {
         return None;

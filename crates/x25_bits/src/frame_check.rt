@@ -1,47 +1,83 @@
 //! The frame check sequence (FCS) of a frame, ITU-T X.25 (10/96), section 2.2.7.
-ghost use Rattle.std.specs.Prelude.{◌≡◌, ◌+◌, ◌≤◌, ◌++◌, ◌↔◌, IsTrue, IsOk, OnOk, OnErr, vec_len, vec_capacity};
+ghost use Rattle.std.specs.Prelude.{◌≡◌, ◌+◌, ◌/◌, ◌^◌, ◌<◌, ◌≤◌, ◌++◌, ◌↔◌, false, length, replicate, IsTrue, IsOk, OnOk, OnErr, vec_len, vec_capacity};
 ghost use Rattle.std.specs.Vec.{VecUnchanged};
-ghost use Rattle.x25_bits.specs.Fcs.{fcs_of, low_bits};
-ghost use Rattle.x25_bits.specs.Register.{stepped, fed};
+ghost use Rattle.x25_bits.specs.Fcs.{bits_of, fcs_of, low_bits};
+ghost use Rattle.x25_bits.specs.Register.{fed};
 ghost use Rattle.x25_bits.specs.Sealed.{seal_of, is_sealed, IsSealed};
 
 use crate::no_memory::NoMemory;
 use byteorder::{ByteOrder, LittleEndian};
 
-/// The divisor x^16 + x^12 + x^5 + 1 without its first term, the coefficient of x^15 in the lowest bit.
-const DIVISOR: u16 = 0x8408;
-
-/// The register after one bit more.
-fn with_bit(register: u16, bit: bool) -> u16
-    ensures { low_bits 16 result ≡ stepped (low_bits 16 register) bit }
+/// Eight octets that leave what these leave with eight octets of 0 behind them.
+///
+/// The divisor's fourth power is x^64 + x^48 + x^20 + 1. Multiples of it, taken away until the first 64 coefficients are 0,
+/// change no others but the next 64.
+#[inline]
+fn folded(held: u64) -> u64
+    ensures { fed (low_bits 16 0) (low_bits 64 result) ≡ fed (low_bits 16 0) (low_bits 64 held ++ replicate 64 false) }
 {
-    let low = register & 1 == 1;
-    let rest = register >> 1;
-    if low != bit { rest ^ DIVISOR } else { rest }
+    let taken = held ^ (held << 16) ^ (held << 32) ^ (held << 44) ^ (held << 48);
+    taken ^ (taken >> 20) ^ (taken >> 48)
 }
 
-/// The register after the eight bits of an octet, the lowest first.
-fn with_octet(register: u16, octet: u8) -> u16
-    ensures { low_bits 16 result ≡ fed (low_bits 16 register) (low_bits 8 octet) }
+/// The highest sixteen bits.
+#[inline]
+fn highest(word: u64) -> u16
+    ensures { result ≡ word / 2 ^ 48 }
 {
-    let mut after = register;
-    let mut rest = octet;
-    for _ in 0..8u8 {
-        after = with_bit(after, rest & 1 == 1);
-        rest >>= 1;
+    (word >> 48) as u16
+}
+
+/// The register that eight octets leave, by the divisor's square x^32 + x^24 + x^10 + 1 and then by the divisor itself.
+#[inline]
+fn reduced(held: u64) -> u16
+    ensures { low_bits 16 result ≡ fed (low_bits 16 0) (low_bits 64 held) }
+{
+    let first = held << 32;
+    let four = first ^ (first << 8) ^ (first << 16) ^ (first << 22) ^ (first << 24);
+    let next = (held ^ four ^ (four >> 10) ^ (four >> 24)) >> 32 << 32;
+    let second = next << 16;
+    let two = second ^ (second << 4) ^ (second << 8) ^ (second << 11) ^ (second << 12);
+    let third = (next ^ two ^ (two >> 5) ^ (two >> 12)) >> 48 << 48;
+    let last = third ^ (third << 4) ^ (third << 8) ^ (third << 11) ^ (third << 12);
+    highest(last ^ (last >> 5) ^ (last >> 12))
+}
+
+/// What eight octets hold after fewer than eight: a register of ones, fed so many octets of 0.
+static STARTS: [u64; 8] = [
+    0xF321_0000_0000_0000,
+    0x3078_0000_0000_0000,
+    0xFFFF_0000_0000_0000,
+    0x0F87_0000_0000_0000,
+    0xF0B8_0000_0000_0000,
+    0x3933_0000_0000_0000,
+    0x0321_0000_0000_0000,
+    0x3088_0000_0000_0000,
+];
+
+/// Eight octets that leave what the first octets leave in a register of ones. They are fewer than eight.
+#[inline]
+fn begun(octets: &[u8]) -> u64
+    requires { length octets.now < 8 }
+    ensures { fed (low_bits 16 0) (low_bits 64 result) ≡ fed (low_bits 16 65535) (bits_of octets.now) }
+{
+    let count = octets.len();
+    if count == 0 {
+        return STARTS[0];
     }
-    after
+    STARTS[count] ^ (LittleEndian::read_uint(octets, count) << (64 - 8 * count as u32))
 }
 
 /// The frame check sequence of the octets.
 pub fn fcs(octets: &[u8]) -> u16
     ensures { result ≡ fcs_of octets.now }
 {
-    let mut register = 0xFFFF;
-    for octet in octets {
-        register = with_octet(register, *octet);
+    let (first, rest) = octets.split_at(octets.len() % 8);
+    let mut held = begun(first);
+    for eight in 0..rest.len() / 8 {
+        held = folded(held) ^ LittleEndian::read_u64(&rest[8 * eight..]);
     }
-    !register
+    !reduced(held)
 }
 
 /// Whether the last two octets are the frame check sequence of the octets before them, the low octet first.
@@ -69,39 +105,4 @@ pub fn seal(octets: &mut Vec<u8>) -> Result<(), NoMemory>
     LittleEndian::write_u16(&mut last, fcs(octets.as_slice()));
     octets.extend_from_slice(&last)?;
     Ok(())
-}
-
-#[cfg(test)]
-mod tests {
-    use super::*;
-    use crate::Seq;
-    use std::test::Fail;
-
-    #[test]
-    fn check_value(rt: HostRuntime) {
-        assert_eq!(rt; fcs(b"123456789"), 0x906E);
-    }
-
-    #[test]
-    fn seals_and_checks(rt: HostRuntime) -> Result<(), Fail> {
-        let mut octets = [0x01, 0x3F].to_vec(rt.alloc())?;
-        seal(&mut octets)?;
-        assert_eq!(rt; octets.as_slice(), [0x01, 0x3F, 0xEB, 0xDF].as_slice());
-        assert!(rt; check(octets.as_slice()));
-        assert!(rt; !check(&[0x01, 0x3F, 0xEB, 0xDE]));
-        assert!(rt; check(&[0, 0]));
-        assert!(rt; !check(&[0]));
-        Ok(())
-    }
-
-    #[test]
-    fn counts_modulo_8(rt: HostRuntime) -> Result<(), Fail> {
-        let last = Seq::new(7).ok_or("7 is a sequence number")?;
-        assert_eq!(rt; last.get(), 7);
-        assert_eq!(rt; last.next(), Seq::ZERO);
-        assert_eq!(rt; Seq::new(8), None);
-        assert_eq!(rt; Seq::modulo(13).get(), 5);
-        assert_eq!(rt; NoMemory.number(), 70);
-        Ok(())
-    }
 }

@@ -1,9 +1,10 @@
-//! Laws of flags, spans and stuffing. Each is the contract of a function that does nothing.
-ghost use Rattle.std.specs.Prelude.{ℕ, ◌≡◌, ◌<◌, ◌≤◌, ◌++◌, ◌∷◌, [], All, Bool, List, length};
+//! Laws of flags, spans and stuffing, and of the frame check sequence. Each is the contract of a function that does nothing.
+ghost use Rattle.std.specs.Prelude.{ℕ, ◌≡◌, ◌<◌, ◌≤◌, ◌↔◌, ◌++◌, ◌∷◌, [], All, Bool, true, List, length};
 ghost use Rattle.std.specs.List.{flat_map};
 ghost use Rattle.x25_bits.specs.Begins.{Begins};
 ghost use Rattle.x25_bits.specs.Cuts.{found_by_cuts};
 ghost use Rattle.x25_bits.specs.Fcs.{bits_of};
+ghost use Rattle.x25_bits.specs.Sealed.{IsSealed, is_sealed};
 ghost use Rattle.x25_bits.specs.SpanClass.{Content, class_of, found_of};
 ghost use Rattle.x25_bits.specs.Spans.{flag, spans_of};
 ghost use Rattle.x25_bits.specs.Stuffing.{framed, stuff, unstuff};
@@ -34,4 +35,9 @@ pub fn content_stuffs_again()
 pub fn put_is_found()
     ensures { (before : List Bool) (octets : List ℕ) → All (λ octet. octet < 256) octets → 4 ≤ length octets → length octets ≤ 4103
         → found_of (before ++ framed octets) ≡ found_of (before ++ flag) ++ Content octets ∷ [] }
+{}
+
+/// The test of octets finds their last two to be the frame check sequence of the others exactly where they are.
+pub fn sealed_is_tested()
+    ensures { (octets : List ℕ) → All (λ octet. octet < 256) octets → (is_sealed octets ≡ true) ↔ IsSealed octets }
 {}

@@ -16,7 +16,10 @@ pub use bits::Bits;
 pub use deframer::Deframer;
 pub use found::Found;
 pub use frame_check::{check, fcs, seal};
-pub use laws::{content_stuffs_again, cuts_agree, flag_parts, put_is_found, stuffing_is_undone};
+pub use laws::{
+    content_stuffs_again, cuts_agree, flag_parts, put_is_found, sealed_is_tested,
+    stuffing_is_undone,
+};
 pub use no_memory::NoMemory;
 pub use role::Role;
 pub use seq::Seq;

@@ -10,6 +10,7 @@ pub struct Seq {
 }
 
 impl Seq {
+    /// The number 0, from which V(S) and V(R) start.
     pub const ZERO: Seq = Seq { number: 0 };
 
     /// The sequence number, where the number is 0 to 7.
@@ -42,5 +43,13 @@ impl Seq {
         ensures { result.number ≡ (self.number + 1) % 8 }
     {
         Seq::modulo(self.number + 1)
+    }
+}
+
+impl Default for Seq {
+    fn default() -> Seq
+        ensures { result.number ≡ 0 }
+    {
+        Seq::ZERO
     }
 }

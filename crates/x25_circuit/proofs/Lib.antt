@@ -1,2 +1,7 @@
 mod TableRows
 mod CallRows
+pub mod MessageLemmas
+pub mod RowLemmas
+pub mod TalkLemmas
+pub mod PullLemmas
+pub mod CarryLemmas

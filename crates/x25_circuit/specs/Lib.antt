@@ -4,3 +4,15 @@ pub mod Circuit
 pub mod Notices
 pub mod Table
 pub mod Calls
+pub mod Cutter
+pub mod CutterFields
+pub mod Queue
+pub mod PartialMessage
+pub mod Changes
+pub mod FitsNumbers
+pub mod Fits
+pub mod Replies
+pub mod FitsCircuit
+pub mod Pulling
+pub mod DataPacket
+pub mod MessageLaws

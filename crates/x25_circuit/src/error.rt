@@ -4,6 +4,7 @@ ghost use Rattle.x25_circuit.specs.declared.error.CircuitError.TheVariants as er
 
 use std::alloc::AllocError;
 use thiserror::Error;
+use x25_bits::NoMemory;
 
 /// Why a call of a circuit is refused.
 #[derive(Clone, Copy, Debug, PartialEq, Eq, Error)]
@@ -49,6 +50,14 @@ impl From<AllocError> for CircuitError {
     ghost from_gives = { λ _ e. e ≡ error.NoMemory };
 
     fn from(_error: AllocError) -> CircuitError {
+        CircuitError::NoMemory
+    }
+}
+
+impl From<NoMemory> for CircuitError {
+    ghost from_gives = { λ _ e. e ≡ error.NoMemory };
+
+    fn from(_error: NoMemory) -> CircuitError {
         CircuitError::NoMemory
     }
 }

@@ -1,14 +1,30 @@
 //! One logical channel of X.25 at one end. ITU-T X.25 (10/96), sections 4 and Annex C.
 #![tactic(auto)]
 
+mod calling;
+mod circuit;
+mod clearing;
+mod cutter;
 mod error;
+mod hearing;
+mod law;
 mod message;
 mod notice;
 mod octets;
+mod partial;
+mod pulling;
+mod queue;
+mod setting_up;
 mod state;
+mod talking;
+mod terms;
+mod transfer;
 
+pub use circuit::Circuit;
 pub use error::CircuitError;
+pub use law::messages_are_carried;
 pub use message::Message;
 pub use notice::{Notice, Reply};
 pub use octets::{LONGEST_MESSAGE, Octets};
+pub use pulling::DataPacket;
 pub use x25_bits::Role;

@@ -1,3 +1,6 @@
+ghost use Rattle.std.specs.Prelude.{◌≡◌, [], ◌∷◌, None, Some};
+ghost use Rattle.x25_packet.specs.PlainPacket.{plain};
+
 use crate::message::Message;
 use x25_packet::{Digits, Packet};
 
@@ -47,4 +50,52 @@ pub struct Reply<'a> {
     /// This end's own call was dropped for the one of the notice.
     pub collided: bool,
     pub notice: Option<Notice<'a>>,
+}
+
+impl<'a> Reply<'a> {
+    ghost use Rattle.x25_circuit.specs.Replies.{Says, plain_notice};
+
+    /// Nothing is sent or told.
+    pub(crate) fn nothing() -> Reply<'a>
+        ensures { Says result None [] }
+    {
+        Reply {
+            packet: None,
+            collided: false,
+            notice: None,
+        }
+    }
+
+    /// Nothing is sent.
+    pub(crate) fn tells(notice: Notice<'a>) -> Reply<'a>
+        ensures { Says result None (plain_notice notice.entry ∷ []) }
+    {
+        Reply {
+            packet: None,
+            collided: false,
+            notice: Some(notice),
+        }
+    }
+
+    /// Nothing is told.
+    pub(crate) fn owes(packet: Packet<'a>) -> Reply<'a>
+        ensures { Says result (Some (plain packet.entry)) [] }
+    {
+        Reply {
+            packet: Some(packet),
+            collided: false,
+            notice: None,
+        }
+    }
+
+    /// A packet is sent, and the user is told.
+    pub(crate) fn both(packet: Packet<'a>, notice: Notice<'a>) -> Reply<'a>
+        ensures { Says result (Some (plain packet.entry)) (plain_notice notice.entry ∷ []) }
+    {
+        Reply {
+            packet: Some(packet),
+            collided: false,
+            notice: Some(notice),
+        }
+    }
 }

@@ -1,2 +1,3 @@
 pub mod KindLemmas
 pub mod FrameLemmas
+pub mod ReadingLawLemmas

@@ -1,12 +1,10 @@
 -- The octets that spell a frame. ITU-T X.25 (10/96), sections 2.2.3 to 2.2.7 and 2.3.2.
-use Rattle.std.specs.Prelude.{ℕ, ◌+◌, ◌*◌, ◌<◌, ◌≤◌, ◌≡◌, Bool, true, false, if◌then◌else◌, List, [], ◌∷◌, ◌++◌, length}
+use Rattle.std.specs.Prelude.{ℕ, ◌+◌, ◌*◌, ◌<◌, ◌≤◌, ◌≡◌, Bool, true, false, List, [], ◌∷◌, ◌++◌, length}
 use Rattle.x25_bits.specs.Sealed.{seal_of}
 use Rattle.x25_bits.specs.declared.role.Role.{Role}
 use Rattle.x25_bits.specs.declared.role.Role.TheVariants.{Dte, Dce}
+pub use Rattle.x25_bits.specs.Bit.{bit}
 use Rattle.x25_frame.specs.PlainFrame.{PlainFrame, info, rr, rnr, rej, sabm, disc, ua, dm, frmr}
-
-abbrev pub bit : Bool → ℕ
-bit b = if b then 1 else 0
 
 abbrev pub is_command : PlainFrame → Bool
 is_command (info ns nr p octets) = true
@@ -18,6 +16,18 @@ is_command (disc p) = true
 is_command (ua f) = false
 is_command (dm f) = false
 is_command (frmr f why) = false
+
+-- the poll bit of a command, the final bit of a response
+abbrev pub poll_or_final : PlainFrame → Bool
+poll_or_final (info ns nr p octets) = p
+poll_or_final (rr command nr pf) = pf
+poll_or_final (rnr command nr pf) = pf
+poll_or_final (rej command nr pf) = pf
+poll_or_final (sabm p) = p
+poll_or_final (disc p) = p
+poll_or_final (ua f) = f
+poll_or_final (dm f) = f
+poll_or_final (frmr f why) = f
 
 -- Section 2.4.2: commands to the DTE and responses from it carry the address A, 3; commands to the DCE and responses
 -- from it carry B, 1.

@@ -1,3 +1,5 @@
+ghost use Rattle.std.specs.Prelude.{◌≡◌, ◌&&◌};
+
 use x25_bits::Seq;
 
 /// A frame of LAPB, ITU-T X.25 (10/96), section 2.3.4. Its information is borrowed.
@@ -43,4 +45,39 @@ pub enum Frame<'a> {
         f: bool,
         why: [u8; 3],
     },
+}
+
+impl Frame<'_> {
+    ghost use Rattle.x25_frame.specs.PlainFrame.{plain};
+    ghost use Rattle.x25_frame.specs.Spelling.{is_command, poll_or_final};
+
+    /// Whether it is a command, and not a response.
+    pub fn is_command(&self) -> bool
+        ensures { result ≡ is_command (plain self.now) }
+    {
+        match self {
+            Frame::I { .. } | Frame::Sabm { .. } | Frame::Disc { .. } => true,
+            Frame::Rr { command, .. } | Frame::Rnr { command, .. } | Frame::Rej { command, .. } =>
+                *command,
+            Frame::Ua { .. } | Frame::Dm { .. } | Frame::Frmr { .. } => false,
+        }
+    }
+
+    /// The poll bit of a command, the final bit of a response.
+    pub fn poll_or_final(&self) -> bool
+        ensures { result ≡ poll_or_final (plain self.now) }
+    {
+        match self {
+            Frame::I { p, .. } | Frame::Sabm { p } | Frame::Disc { p } => *p,
+            Frame::Rr { pf, .. } | Frame::Rnr { pf, .. } | Frame::Rej { pf, .. } => *pf,
+            Frame::Ua { f } | Frame::Dm { f } | Frame::Frmr { f, .. } => *f,
+        }
+    }
+
+    /// Whether it is a command with P=1, which asks for a response with F=1.
+    pub fn is_poll(&self) -> bool
+        ensures { result ≡ (is_command (plain self.now) && poll_or_final (plain self.now)) }
+    {
+        self.is_command() && self.poll_or_final()
+    }
 }

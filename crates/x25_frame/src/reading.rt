@@ -1,22 +1,14 @@
 //! From octets to the frame that they spell.
 ghost use Rattle.std.specs.Prelude.{IfOk, IfErr, IsOkAnd, ◌≡◌, ◌+◌, ◌*◌, ◌/◌, ◌%◌, ◌≤◌, ℕ, length};
 ghost use Rattle.x25_frame.specs.PlainFrame.{PlainFrame, plain};
-ghost use Rattle.x25_frame.specs.Spelling.{Spells, address_of};
+ghost use Rattle.x25_frame.specs.Spelling.{Spells};
 ghost use Rattle.x25_frame.specs.FrameError.{IsFirstError};
 ghost use Rattle.x25_frame.specs.Reading.{Gives, bare, frame_of, kind_of, unnumbered, addressed_frame};
 
+use crate::address::address;
+use crate::codes::{DISC, DM, FRMR, REJ, RNR, RR, SABM, UA};
 use crate::{Frame, FrameError, Role, Seq};
 use x25_bits::check;
-
-/// The address that a command or a response of this end carries: A is 3, B is 1.
-pub(crate) fn address(from: Role, command: bool) -> u8
-    ensures { result ≡ address_of from command }
-{
-    match (from, command) {
-        (Role::Dte, true) | (Role::Dce, false) => 1,
-        (Role::Dte, false) | (Role::Dce, true) => 3,
-    }
-}
 
 /// The frame, where it has no information.
 fn read_bare<'a>(control: u8, info: &[u8], frame: Frame<'a>) -> Result<Frame<'a>, FrameError>
@@ -37,11 +29,11 @@ fn read_unnumbered<'a>(
     ensures { Gives result (unnumbered command (control % 16 + 32 * (control / 32)) control pf info.now) }
 {
     match (command, control % 16 + control / 32 * 32) {
-        (true, 0x2F) => read_bare(control, info, Frame::Sabm { p: pf }),
-        (true, 0x43) => read_bare(control, info, Frame::Disc { p: pf }),
-        (false, 0x63) => read_bare(control, info, Frame::Ua { f: pf }),
-        (false, 0x0F) => read_bare(control, info, Frame::Dm { f: pf }),
-        (false, 0x87) => match info {
+        (true, SABM) => read_bare(control, info, Frame::Sabm { p: pf }),
+        (true, DISC) => read_bare(control, info, Frame::Disc { p: pf }),
+        (false, UA) => read_bare(control, info, Frame::Ua { f: pf }),
+        (false, DM) => read_bare(control, info, Frame::Dm { f: pf }),
+        (false, FRMR) => match info {
             [first, second, third] => Ok(Frame::Frmr {
                 f: pf,
                 why: [*first, *second, *third],
@@ -78,9 +70,9 @@ fn read_kind<'a>(
         });
     }
     match control % 16 {
-        0x01 => read_bare(control, info, Frame::Rr { command, nr, pf }),
-        0x05 => read_bare(control, info, Frame::Rnr { command, nr, pf }),
-        0x09 => read_bare(control, info, Frame::Rej { command, nr, pf }),
+        RR => read_bare(control, info, Frame::Rr { command, nr, pf }),
+        RNR => read_bare(control, info, Frame::Rnr { command, nr, pf }),
+        REJ => read_bare(control, info, Frame::Rej { command, nr, pf }),
         _ => read_unnumbered(command, control, pf, info),
     }
 }

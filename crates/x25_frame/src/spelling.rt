@@ -2,22 +2,13 @@
 ghost use Rattle.std.specs.Prelude.{◌≡◌, ◌+◌, ◌*◌, ◌≤◌, ◌++◌, OnOk, OnErr, IsOk, length, vec_len, vec_capacity};
 ghost use Rattle.std.specs.Vec.{VecUnchanged};
 ghost use Rattle.x25_frame.specs.PlainFrame.{plain};
-ghost use Rattle.x25_frame.specs.Spelling.{spelling_of, body_of, control_of, information_of, is_command, bit};
+ghost use Rattle.x25_bits.specs.Bit.{bit};
+ghost use Rattle.x25_frame.specs.Spelling.{spelling_of, body_of, control_of, information_of};
 
-use crate::reading::address;
+use crate::address::address;
+use crate::codes::{DISC, DM, FRMR, REJ, RNR, RR, SABM, UA};
 use crate::{Frame, NoMemory, Role};
 use x25_bits::fcs;
-
-fn is_command(frame: &Frame) -> bool
-    ensures { result ≡ is_command (plain frame.now) }
-{
-    match frame {
-        Frame::I { .. } | Frame::Sabm { .. } | Frame::Disc { .. } => true,
-        Frame::Rr { command, .. } | Frame::Rnr { command, .. } | Frame::Rej { command, .. } =>
-            *command,
-        Frame::Ua { .. } | Frame::Dm { .. } | Frame::Frmr { .. } => false,
-    }
-}
 
 /// The poll or final bit, in its place in the control.
 fn poll_bit(pf: bool) -> u8
@@ -31,14 +22,14 @@ fn control(frame: &Frame) -> u8
 {
     match frame {
         Frame::I { ns, nr, p, info: _ } => 2 * ns.get() + poll_bit(*p) + 32 * nr.get(),
-        Frame::Rr { nr, pf, .. } => 0x01 + poll_bit(*pf) + 32 * nr.get(),
-        Frame::Rnr { nr, pf, .. } => 0x05 + poll_bit(*pf) + 32 * nr.get(),
-        Frame::Rej { nr, pf, .. } => 0x09 + poll_bit(*pf) + 32 * nr.get(),
-        Frame::Sabm { p } => 0x2F + poll_bit(*p),
-        Frame::Disc { p } => 0x43 + poll_bit(*p),
-        Frame::Ua { f } => 0x63 + poll_bit(*f),
-        Frame::Dm { f } => 0x0F + poll_bit(*f),
-        Frame::Frmr { f, .. } => 0x87 + poll_bit(*f),
+        Frame::Rr { nr, pf, .. } => RR + poll_bit(*pf) + 32 * nr.get(),
+        Frame::Rnr { nr, pf, .. } => RNR + poll_bit(*pf) + 32 * nr.get(),
+        Frame::Rej { nr, pf, .. } => REJ + poll_bit(*pf) + 32 * nr.get(),
+        Frame::Sabm { p } => SABM + poll_bit(*p),
+        Frame::Disc { p } => DISC + poll_bit(*p),
+        Frame::Ua { f } => UA + poll_bit(*f),
+        Frame::Dm { f } => DM + poll_bit(*f),
+        Frame::Frmr { f, .. } => FRMR + poll_bit(*f),
     }
 }
 
@@ -61,7 +52,7 @@ pub fn encode(from: Role, frame: &Frame, octets: &mut Vec<u8>) -> Result<(), NoM
     ensures err { OnErr result (VecUnchanged octets.old octets.new) }
     ensures room { vec_len octets.old + (length (information_of (plain frame.now)) + 4) ≤ vec_capacity octets.old → IsOk result }
 {
-    let head = [address(from, is_command(frame)), control(frame)];
+    let head = [address(from, frame.is_command()), control(frame)];
     let info = information(frame);
     octets.reserve(info.len() + 4)?;
     let start = octets.len();

@@ -62,7 +62,7 @@ pub side_offer : (s : RawState) (x : ℕ) (v : ShownEnd) (out back : List RawFra
     → FitsLine out (s.line.out ++ frames_of (after s.line.near (HandDown x)) (Send s.line.near.sent))
     → FitsSide v out back (acts s (act.Offer x))
 side_offer s x v out back line room near out_line =
-    rw (offer_open s x room) (record { near = near; out_line = rw (append-nil s.line.out) out_line; back_line = line })
+    record { near = near; out_line = rw (append-nil s.line.out) out_line; back_line = line }
 
 pub due_offer : (r : Result (Unit {0}) RawError) (s : RawState) (x : ℕ) → IfErr r (λ e. (e ≡ Full) ⊎ (e ≡ NoMemory))
     → (r ≡ Err Full → s.line.near.sent ≡ s.line.near.acked + s.line.near.window) → IfErr r (IsDue s (act.Offer x))
@@ -81,7 +81,7 @@ pub side_next : (s : RawState) (v : ShownEnd) (out back : List RawFrame) → Fit
     → FitsEnd v (after s.line.near (Send s.near_place)) (s.near_place + 1)
     → FitsLine out (s.line.out ++ frames_of s.line.near (Send s.near_place)) → FitsSide v out back (acts s act.Next)
 side_next s v out back line below near out_line =
-    rw (next_open s below) (record { near = near; out_line = out_line; back_line = line })
+    record { near = near; out_line = out_line; back_line = line }
 
 pub due_next : (r : Result (Unit {0}) RawError) (s : RawState) → IfErr r (λ e. (e ≡ NothingToSend) ⊎ (e ≡ NoMemory))
     → (r ≡ Err NothingToSend → s.near_place ≡ s.line.near.sent) → IfErr r (IsDue s act.Next)
@@ -143,7 +143,7 @@ lose_open s rs i line h =
 pub side_lose : (s : RawState) (v : ShownEnd) (out back rs : List RawFrame) (i : ℕ) → FitsSide v out rs s → i < length rs → FitsLine back (remove s.line.back i)
     → FitsSide v out back (acts s (act.Lose i))
 side_lose s v out back rs i fits below h =
-    rw (lose_open s rs i fits.back_line below) (record { near = fits.near; out_line = fits.out_line; back_line = h })
+    record { near = fits.near; out_line = fits.out_line; back_line = h }
 
 pub due_lose : (r : Result (Unit {0}) RawError) (s : RawState) (rs : List RawFrame) (i : ℕ) → FitsLine rs s.line.back
     → IfErr r (λ e. (e ≡ NoSuchFrame) × (length rs ≤ i)) → IfErr r (IsDue s (act.Lose i))

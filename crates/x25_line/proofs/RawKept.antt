@@ -6,7 +6,7 @@ use Rattle.std.proofs.lemmas.List.{length_push}
 use Rattle.x25_window.specs.Window.{End, Frame, Numbered}
 use Rattle.x25_line.specs.Line.{Line, MayTake, FrontMayBeTaken, AllowsAll, takes_item, front_arrived}
 use Rattle.x25_line.specs.InWindow.{InWindow}
-use Rattle.x25_line.specs.RawMachine.{RawState, start, sides_swapped, is_wanted, front_is_wanted, moves_of, done, refused_if, refusal_of, unless, acts, acts_as, end_of_event, act_of_event, happens, run}
+use Rattle.x25_line.specs.RawMachine.{RawState, start, sides_swapped, is_wanted, front_is_wanted, moves_of, refused_if, refusal_of, refusal_as, acts, acts_as, end_of_event, act_of_event, happens, run, AllAccepted}
 use Rattle.x25_bits.specs.declared.role.Role.{Role}
 use Rattle.x25_bits.specs.declared.role.Role.TheVariants.{Dte, Dce}
 use Rattle.x25_line.specs.declared.raw_error.RawError.{RawError}
@@ -81,54 +81,47 @@ far-front_arrived : (b : Bool) (bs : List (Frame ℕ)) (w : Line ℕ) → (front
 far-front_arrived b [] w = refl
 far-front_arrived b (f ∷ fs) w = refl
 
-pub far-done : (s : RawState) (a : RawAct) → (done s a).line.far ≡ s.line.far
-far-done s (act.Offer x) = refl
-far-done s act.Next = refl
-far-done s act.Again = refl
-far-done s act.Tell = refl
-far-done s act.Deliver = far-front_arrived (front_is_wanted (length s.line.near.taken) s.line.back) s.line.back s.line
-far-done s (act.Lose i) = refl
+pub far-acts : (s : RawState) (a : RawAct) → (acts s a).line.far ≡ s.line.far
+far-acts s (act.Offer x) = refl
+far-acts s act.Next = refl
+far-acts s act.Again = refl
+far-acts s act.Tell = refl
+far-acts s act.Deliver = far-front_arrived (front_is_wanted (length s.line.near.taken) s.line.back) s.line.back s.line
+far-acts s (act.Lose i) = refl
 
-place-within : (s : RawState) (a : RawAct) → Sound s → Kept (done s a).line
-    → ((done s a).line.near.acked ≤ (done s a).near_place) × ((done s a).near_place ≤ (done s a).line.near.sent)
+place-within : (s : RawState) (a : RawAct) → Sound s → Kept (acts s a).line
+    → ((acts s a).line.near.acked ≤ (acts s a).near_place) × ((acts s a).near_place ≤ (acts s a).line.near.sent)
 place-within s (act.Offer x) h k = let low = h.near_low in let high = h.near_high in (grind (arith, nat_tests), grind (arith, nat_tests))
 place-within s act.Next h k = let low = h.near_low in let high = h.near_high in (omega arith, omega arith)
 place-within s act.Again h k = let bounds = Way-acked s.line.near s.line.far.taken s.line.out s.line.back h.kept.from_near in (omega arith, omega arith)
 place-within s act.Tell h k = (h.near_low, h.near_high)
 place-within s act.Deliver h k =
-    let line = (done s act.Deliver).line in
+    let line = (acts s act.Deliver).line in
     let bounds = Way-acked line.near line.far.taken line.out line.back k.from_near in
     let same : line.near.sent ≡ s.line.near.sent = sent-front_arrived (front_is_wanted (length s.line.near.taken) s.line.back) s.line.back s.line in
     let high = h.near_high in
     (omega arith, omega arith)
 place-within s (act.Lose i) h k = (h.near_low, h.near_high)
 
-Sound-done : (s : RawState) (a : RawAct) → refusal_of s a ≡ None → Sound s → Sound (done s a)
-Sound-done s a ok h =
+Sound-acts : (s : RawState) (a : RawAct) → refusal_of s a ≡ None → Sound s → Sound (acts s a)
+Sound-acts s a ok h =
     let kept = Kept-all_moved (moves_of s a) s.line (allows_moves s a ok h) h.kept in
     let place = place-within s a h kept in
     record {
       kept = kept;
       near_low = place.0;
       near_high = place.1;
-      far_low = rw (far-done s a) h.far_low;
-      far_high = rw (far-done s a) h.far_high;
+      far_low = rw (far-acts s a) h.far_low;
+      far_high = rw (far-acts s a) h.far_high;
     }
 
-Sound-acts : (s : RawState) (a : RawAct) → Sound s → Sound (acts s a)
-Sound-acts s a h = go (refusal_of s a) (λ ok. Sound-done s a ok h)
-  where
-    go : (o : Option RawError) → (o ≡ None → Sound (done s a)) → Sound (unless o s (done s a))
-    go None f = f refl
-    go (Some e) f = h
+Sound-acts_as : (r : Role) (s : RawState) (a : RawAct) → refusal_as r s a ≡ None → Sound s → Sound (acts_as r s a)
+Sound-acts_as Dte s a ok h = Sound-acts s a ok h
+Sound-acts_as Dce s a ok h = Sound-swapped (acts (sides_swapped s) a) (Sound-acts (sides_swapped s) a ok (Sound-swapped s h))
 
-Sound-acts_as : (r : Role) (s : RawState) (a : RawAct) → Sound s → Sound (acts_as r s a)
-Sound-acts_as Dte s a h = Sound-acts s a h
-Sound-acts_as Dce s a h = Sound-swapped (acts (sides_swapped s) a) (Sound-acts (sides_swapped s) a (Sound-swapped s h))
+pub Sound-run : (es : List RawEvent) (s : RawState) → AllAccepted s es → Sound s → Sound (run es s)
+Sound-run [] s ok h = h
+Sound-run (e ∷ es) s ok h = Sound-run es (happens s e) ok.1 (Sound-acts_as (end_of_event e) s (act_of_event e) ok.0 h)
 
-pub Sound-run : (es : List RawEvent) (s : RawState) → Sound s → Sound (run es s)
-Sound-run [] s h = h
-Sound-run (e ∷ es) s h = Sound-run es (happens s e) (Sound-acts_as (end_of_event e) s (act_of_event e) h)
-
-pub window_holds : (es : List RawEvent) (k : ℕ) → 1 ≤ k → k ≤ 7 → InWindow (run es (start k)).line
-window_holds es k low high = InWindow-from_Kept (run es (start k)).line (Sound-run es (start k) (Sound-start k low high)).kept
+pub window_holds : (es : List RawEvent) (k : ℕ) → 1 ≤ k → k ≤ 7 → AllAccepted (start k) es → InWindow (run es (start k)).line
+window_holds es k low high ok = InWindow-from_Kept (run es (start k)).line (Sound-run es (start k) ok (Sound-start k low high)).kept

@@ -1,10 +1,10 @@
 -- A world that is a run stays one, and what a run says of what the world holds.
-use Rattle.std.proofs.Common.{◌≡◌, ℕ, ◌-◌, List, [], ◌∷◌, ◌++◌, length, Option, Some, None, Result, Ok, Err, OnOk, OnErr, IfErr, ◌⊎◌, inl, inr, ap, sym, ◌∙◌, refl, arith}
+use Rattle.std.proofs.Common.{◌≡◌, ℕ, ◌-◌, List, [], ◌∷◌, ◌++◌, length, Some, None, Result, Ok, Err, OnOk, OnErr, IfErr, ◌⊎◌, inl, inr, ap, sym, ◌∙◌, refl, arith}
 use Rattle.std.proofs.Props.{props}
 use Rattle.std.proofs.Math.Logic.{∥∥₁_elim, ∥∥₁_map}
 use Rattle.std.proofs.lemmas.List.{take_all, length-drop}
 use Rattle.x25_window.specs.Window.{End, Frame}
-use Rattle.x25_line.specs.RawMachine.{RawState, sides_swapped, done, refusal_of, unless, acts, end_of_event, act_of_event, happens, run, start}
+use Rattle.x25_line.specs.RawMachine.{RawState, sides_swapped, refusal_of, acts, end_of_event, act_of_event, happens, run, start, event_refusal, AllAccepted}
 use Rattle.x25_line.specs.RawShown.{ShownEnd, ShownWorld}
 use Rattle.x25_line.specs.RawFitting.{FitsEnd, FitsSide, FitsWorld, BringsBadAck, IsDue, IsRefusal, Run, run_of, RunInWindow, InOrder}
 use Rattle.x25_bits.specs.declared.role.Role.TheVariants.{Dte, Dce}
@@ -15,22 +15,8 @@ use Rattle.x25_line.specs.declared.raw_event.RawEvent.{RawEvent}
 use Rattle.x25_line.specs.declared.raw_event.RawAct.{RawAct}
 use Rattle.x25_line.specs.declared.raw_event.RawAct.TheVariants as act
 use Rattle.x25_line.proofs.Kept.{Kept, Way, hears_valid, Way-acked}
-use Rattle.x25_line.proofs.RawKept.{Sound, Sound-run, Sound-start, far-done, window_holds}
+use Rattle.x25_line.proofs.RawKept.{Sound, Sound-run, Sound-start, far-acts, window_holds}
 use Rattle.x25_line.proofs.RawActs.{OnOk_then}
-
-far-acts : (s : RawState) (a : RawAct) → (acts s a).line.far ≡ s.line.far
-far-acts s a = go (refusal_of s a)
-  where
-    go : (o : Option RawError) → (unless o s (done s a)).line.far ≡ s.line.far
-    go None = far-done s a
-    go (Some e) = refl
-
-far_place-acts : (s : RawState) (a : RawAct) → (acts s a).far_place ≡ s.far_place
-far_place-acts s a = go (refusal_of s a)
-  where
-    go : (o : Option RawError) → (unless o s (done s a)).far_place ≡ s.far_place
-    go None = refl
-    go (Some e) = refl
 
 -- ---- an end that acts, in its world
 
@@ -43,12 +29,12 @@ dce_side v s h = record { near = h.dce; out_line = h.to_dte; back_line = h.to_dc
 pub dte_step : (old : ShownWorld) (n : ShownEnd) (o b : List RawFrame) {E : Type 0} (r : Result (Unit {0}) E) (s : RawState) (a : RawAct) → FitsWorld old s
     → OnOk r (FitsSide n o b (acts s a)) → OnOk r (FitsWorld (record { dte = n; dce = old.dce; to_dce = o; to_dte = b }) (acts s a))
 dte_step old n o b r s a fits h =
-    OnOk_then r h (λ side. record { dte = side.near; dce = rw (far-acts s a, far_place-acts s a) fits.dce; to_dce = side.out_line; to_dte = side.back_line })
+    OnOk_then r h (λ side. record { dte = side.near; dce = rw (far-acts s a) fits.dce; to_dce = side.out_line; to_dte = side.back_line })
 
 pub dce_step : (old : ShownWorld) (n : ShownEnd) (o b : List RawFrame) {E : Type 0} (r : Result (Unit {0}) E) (s : RawState) (a : RawAct) → FitsWorld old s
     → OnOk r (FitsSide n o b (acts (sides_swapped s) a)) → OnOk r (FitsWorld (record { dte = old.dte; dce = n; to_dce = b; to_dte = o }) (sides_swapped (acts (sides_swapped s) a)))
 dce_step old n o b r s a fits h =
-    OnOk_then r h (λ side. record { dte = rw (far-acts (sides_swapped s) a, far_place-acts (sides_swapped s) a) fits.dte; dce = side.near; to_dce = side.back_line; to_dte = side.out_line })
+    OnOk_then r h (λ side. record { dte = rw (far-acts (sides_swapped s) a) fits.dte; dce = side.near; to_dce = side.back_line; to_dte = side.out_line })
 
 -- ---- runs
 
@@ -56,17 +42,29 @@ pub run-push : (es : List RawEvent) (e : RawEvent) (s : RawState) → run (es ++
 run-push [] e s = refl
 run-push (x ∷ es) e s = run-push es e (happens s x)
 
+pub AllAccepted-push : (es : List RawEvent) (e : RawEvent) (s : RawState) → AllAccepted s es → event_refusal (run es s) e ≡ None → AllAccepted s (es ++ e ∷ [])
+AllAccepted-push [] e s h last = (last, tt)
+AllAccepted-push (x ∷ es) e s h last = (h.0, AllAccepted-push es e (happens s x) h.1 last)
+
 pub Run-next : (old new : ShownWorld) (e : RawEvent) (r : Result (Unit {0}) RawError) → Run old
-    → ((s : RawState) → FitsWorld old s → OnOk r (FitsWorld new (happens s e))) → OnErr r (new ≡ old) → Run new
-Run-next old new e (Ok x) h step same =
-    record { window = h.window; low = h.low; high = h.high; events = h.events ++ e ∷ []; fits = rw run-push (step (run h.events (start h.window)) h.fits) }
-Run-next old new e (Err x) h step same = rw same h
+    → ((s : RawState) → FitsWorld old s → OnOk r (FitsWorld new (happens s e)))
+    → ((s : RawState) → FitsWorld old s → OnOk r (event_refusal s e ≡ None)) → OnErr r (new ≡ old) → Run new
+Run-next old new e (Ok x) h step accepted same =
+    record {
+      window = h.window;
+      low = h.low;
+      high = h.high;
+      events = h.events ++ e ∷ [];
+      accepted = AllAccepted-push h.events e (start h.window) h.accepted (accepted (run h.events (start h.window)) h.fits);
+      fits = rw run-push (step (run h.events (start h.window)) h.fits);
+    }
+Run-next old new e (Err x) h step accepted same = rw same h
 
 pub Sound-reached : (v : ShownWorld) → (h : Run v) → Sound (run_of h)
-Sound-reached v h = Sound-run h.events (start h.window) (Sound-start h.window h.low h.high)
+Sound-reached v h = Sound-run h.events (start h.window) h.accepted (Sound-start h.window h.low h.high)
 
 pub in_window : (v : ShownWorld) → ∥ Run v ∥₁ → ∥ RunInWindow v ∥₁
-in_window v h = ∥∥₁_map h (λ r. record { run = r; window = window_holds r.events r.window r.low r.high })
+in_window v h = ∥∥₁_map h (λ r. record { run = r; window = window_holds r.events r.window r.low r.high r.accepted })
 
 -- ---- no N(R) is ever invalid
 

@@ -7,7 +7,7 @@ use Rattle.x25_window.specs.Receiving.{FitsTaken}
 use Rattle.x25_window.specs.Window.{End, Numbered, Frame}
 use Rattle.x25_line.specs.Line.{arrived}
 use Rattle.x25_line.specs.InWindow.{InWindow}
-use Rattle.x25_line.specs.RawMachine.{RawState, is_wanted, refusal_of, event_refusal, run, start}
+use Rattle.x25_line.specs.RawMachine.{RawState, is_wanted, refusal_of, event_refusal, run, start, AllAccepted}
 use Rattle.x25_line.specs.RawShown.{ShownEnd, ShownWorld}
 use Rattle.x25_bits.specs.declared.role.Role.{Role}
 use Rattle.x25_bits.specs.declared.role.Role.TheVariants.{Dte, Dce}
@@ -92,19 +92,21 @@ pub record FitsWorld (v : ShownWorld) (s : RawState) : Type 0 where
 abbrev pub IsRefusal : RawState → RawEvent → RawError → Type 0
 IsRefusal s e error = (event_refusal s e ≡ Some error) ⊎ (error ≡ NoMemory)
 
--- the events before the one that was refused have happened
+-- the events before the one that was refused were accepted and have happened
 pub record StopsAt (events : List RawEvent) (s : RawState) (v : ShownWorld) (refused : RawRefused) : Type 0 where
+  pub accepted : AllAccepted s (take refused.index events)
   pub fits : FitsWorld v (run (take refused.index events) s)
   pub event : RawEvent
   pub is : slice_get events refused.index ≡ Some event
   pub refusal : IsRefusal (run (take refused.index events) s) event refused.error
 
--- some list of events leads to a state that the world fits
+-- some list of events that are accepted leads to a state that the world fits
 pub record Run (v : ShownWorld) : Type 0 where
   pub window : ℕ
   pub low : 1 ≤ window
   pub high : window ≤ 7
   pub events : List RawEvent
+  pub accepted : AllAccepted (start window) events
   pub fits : FitsWorld v (run events (start window))
 
 abbrev pub run_of : {v : ShownWorld} → Run v → RawState

@@ -1,5 +1,5 @@
 -- The world of two bare ends: each event is a list of moves of the window machine. Items are octets (profile).
-use Rattle.std.specs.Prelude.{ℕ, ◌+◌, ◌%◌, List, [], ◌∷◌, length, max, Option, Some, None, Bool, true, false, nat_le, ◌==◌, if◌then◌else◌}
+use Rattle.std.specs.Prelude.{◌≡◌, ℕ, ◌+◌, ◌%◌, List, [], ◌∷◌, length, max, Option, Some, None, Bool, true, false, nat_le, ◌==◌, if◌then◌else◌}
 use Rattle.x25_window.specs.Window.{End, Numbered, Frame}
 use Rattle.x25_line.specs.Line.{Line, Move, fresh_line, swapped, all_moved}
 use Rattle.x25_line.specs.Line.Move.{HandsDown, Sends, Tells, Arrives, Loses}
@@ -65,8 +65,9 @@ place_after s act.Tell e = s.near_place
 place_after s act.Deliver e = max s.near_place e.acked
 place_after s (act.Lose place) e = s.near_place
 
-abbrev pub done : RawState → RawAct → RawState
-done s a = let line = all_moved (moves_of s a) s.line in
+-- the near end's act
+abbrev pub acts : RawState → RawAct → RawState
+acts s a = let line = all_moved (moves_of s a) s.line in
     record { line = line; near_place = place_after s a line.near; far_place = s.far_place }
 
 abbrev pub refused_if : Bool → RawError → Option RawError
@@ -85,14 +86,6 @@ refusal_of s act.Again = None
 refusal_of s act.Tell = None
 refusal_of s act.Deliver = refused_if (is_empty s.line.back) Empty
 refusal_of s (act.Lose place) = refused_if (nat_le (length s.line.back) place) NoSuchFrame
-
--- a refused act changes nothing
-abbrev pub unless : Option RawError → RawState → RawState → RawState
-unless (Some error) s then_done = s
-unless None s then_done = then_done
-
-abbrev pub acts : RawState → RawAct → RawState
-acts s a = unless (refusal_of s a) s (done s a)
 
 -- ---- events
 
@@ -134,3 +127,8 @@ event_refusal s e = refusal_as (end_of_event e) s (act_of_event e)
 abbrev pub run : List RawEvent → RawState → RawState
 run [] s = s
 run (e ∷ es) s = run es (happens s e)
+
+-- each event is accepted where it comes
+abbrev pub AllAccepted : RawState → List RawEvent → Type 0
+AllAccepted s [] = Unit {0}
+AllAccepted s (e ∷ es) = (event_refusal s e ≡ None) × AllAccepted (happens s e) es

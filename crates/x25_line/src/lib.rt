@@ -14,6 +14,3 @@ pub use raw_event::RawEvent;
 pub use raw_frame::{RawCarried, RawFrame};
 pub use raw_world::RawWorld;
 pub use x25_bits::Role;
-
-#[cfg(test)]
-mod tests;

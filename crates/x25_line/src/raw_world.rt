@@ -1,7 +1,6 @@
 ghost use Rattle.std.specs.Prelude.{ℕ, ◌≡◌, ◌≢◌, ◌<◌, ◌≤◌, OnOk, OnErr, IfOk, IfErr, MatchOption, length, take, slice_get, Some, None, Err, List};
-ghost use Rattle.x25_line.specs.RawMachine.{RawState, happens, run, start, event_refusal};
+ghost use Rattle.x25_line.specs.RawMachine.{RawState, happens, run, start, event_refusal, AllAccepted};
 ghost use Rattle.x25_line.specs.RawFitting.{FitsWorld, InOrder, IsBeginning, IsRefusal, StopsAt, RunInWindow, shown_end, other_end};
-ghost use Rattle.x25_line.specs.InWindow.{InWindow};
 
 use crate::raw_end::{RawEnd, act};
 use crate::raw_error::{RawError, RawRefused};
@@ -78,14 +77,16 @@ impl RawWorld {
         }
     }
 
-    /// Lets the events happen in order, up to the first that is refused, as by `apply`. The events before it stand.
+    /// Lets the events happen in order, as by `apply`, up to the first that is refused. The events before it were accepted,
+    /// and stand.
     pub fn run(&mut self, events: &[RawEvent]) -> Result<(), RawRefused>
         ensures step { (s : RawState) → FitsWorld self.old s → OnOk result (FitsWorld self.new (run events.now s)) }
+        ensures accepted { (s : RawState) → FitsWorld self.old s → OnOk result (AllAccepted s events.now) }
         ensures stopped { (s : RawState) → FitsWorld self.old s → IfErr result (StopsAt events.now s self.new) }
         ensures never_bad { IfErr result (λ refused. refused.error ≢ RawError.BadAck) }
         ensures there { InOrder self.new.dte self.new.dce }
         ensures back { InOrder self.new.dce self.new.dte }
-        ensures window { (window : ℕ) → 1 ≤ window → window ≤ 7 → InWindow (run events.now (start window)).line }
+        ensures window { ∥ RunInWindow self.new ∥₁ }
     {
         for index in 0..events.len() {
             if let Err(error) = self.apply(events[index]) {

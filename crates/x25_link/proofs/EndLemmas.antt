@@ -1,15 +1,13 @@
 -- The end of a step comes to rest: nothing is left that may be sent, and no RR is owed.
-use Rattle.std.proofs.Common.{◌≡◌, ℕ, ◌+◌, ◌-◌, ◌<◌, ◌≤◌, zero, suc, List, [], ◌∷◌, ◌++◌, ◌⊎◌, inl, inr, length, max, Bool, true, false, not, if◌then◌else◌, refl, sym, ap, ◌∙◌, arith, length-append, add-one}
+use Rattle.std.proofs.Common.{◌≡◌, ℕ, ◌+◌, ◌<◌, ◌≤◌, zero, suc, List, [], ◌∷◌, ◌⊎◌, inl, inr, length, Bool, true, false, not, if◌then◌else◌, refl, sym, ap, ◌∙◌, arith, length-append}
 use Rattle.std.specs.Prelude.{◌&&◌, nat_lt}
 use Rattle.std.proofs.lemmas.Bool.{lt-ltb, le-ltb, ltb-true, ltb-false}
-use Rattle.std.proofs.lemmas.Bool.Decides.{nat_tests}
-use Rattle.x25_link.specs.declared.phase.Phase.{Phase}
 use Rattle.x25_link.specs.Outgoing.{Outgoing, waits, is_open, added, moved_on}
-use Rattle.x25_link.specs.Station.{Station, Side, is_up, is_busy, ready, with_near, send_next, may_send, pumped_once, pumped, owes_ready, finished, ended}
+use Rattle.x25_link.specs.Station.{Station, Side, is_up, is_busy, ready, send_next, may_send, pumped_once, pumped, owes_ready, finished, ended}
 
 -- ---- tests
 
-true_false : {A : Type 0} → true ≡ false → A
+pub true_false : {A : Type 0} → true ≡ false → A
 true_false e = absurd (never e)
   where
     never : true ≡ false → ⊥

@@ -1,5 +1,5 @@
 -- What the code's variables stand for after a small change.
-use Rattle.std.proofs.Common.{◌≡◌, ℕ, ◌%◌, List, [], ◌∷◌, ◌++◌, length, map, Bool, true, false, None, if◌then◌else◌, refl, sym, ap, ◌∙◌, append_assoc, add-one, ◌+◌, ◌<◌, ◌==◌, zero, suc, arith}
+use Rattle.std.proofs.Common.{◌≡◌, ℕ, ◌%◌, List, [], ◌∷◌, ◌++◌, length, Bool, true, false, None, if◌then◌else◌, refl, sym, ap, ◌∙◌, append_assoc, add-one, ◌+◌, ◌<◌, ◌==◌, arith}
 use Rattle.std.proofs.lemmas.Bool.{eq-eqb, ne_eqb}
 use Rattle.std.proofs.lemmas.List.{length_push}
 use Rattle.x25_window.specs.Modulo.{resolved}
@@ -9,8 +9,8 @@ use Rattle.std.proofs.lemmas.List.{map-append}
 use Rattle.x25_bits.specs.declared.role.Role.{Role}
 use Rattle.x25_frame.specs.PlainFrame.{PlainFrame, info}
 use Rattle.x25_frame.specs.Spelling.{spelling_of}
-use Rattle.x25_link.specs.declared.backlog.Backlog.{Backlog}
-use Rattle.x25_link.specs.declared.procedure.Procedure.{Procedure}
+use Rattle.x25_link.specs.declared.outgoing.Outgoing.{Outgoing as OutgoingCode}
+use Rattle.x25_link.specs.declared.station.Station.{Station as StationCode}
 use Rattle.x25_link.specs.Outgoing.{Outgoing, acknowledged_to, gone_back, is_open, next_packet, moved_on}
 use Rattle.x25_link.specs.Backlog.{FitsBacklog}
 use Rattle.x25_link.specs.declared.phase.Phase.{Phase}
@@ -26,7 +26,7 @@ made_more c role before old made frames frame same h e =
     e ∙ ap (λ (r : Role). old ++ spelling_of r frame ∷ []) same ∙ ap (λ (o : List (List ℕ)). o ++ spelling_of c.role frame ∷ []) h
     ∙ append_assoc before _ _ ∙ ap (λ (m : List (List ℕ)). before ++ m) (sym (map-append (spelling_of c.role) frames (frame ∷ [])))
 
-pub with_backlog : (c : Settings) (v : Procedure) (s : Station) (b : Backlog) (o : Outgoing) → FitsStation c v s → FitsBacklog c.window b o
+pub with_backlog : (c : Settings) (v : StationCode) (s : Station) (b : OutgoingCode) (o : Outgoing) → FitsStation c v s → FitsBacklog c.window b o
     → FitsStation c (record v { backlog = b }) (record s { outgoing = o })
 with_backlog c v s b o fits backlog = record {
   role = fits.role;
@@ -46,7 +46,7 @@ pub may_send_is : (k : ℕ) (s : Station) → s.recovery ≡ false → s.peer_bu
 may_send_is k s recovery peer_busy up = rw (up, recovery, peer_busy) refl
 
 -- the sending rule, once, where neither recovery nor a busy peer holds it up
-pub pump_fits : (c : Settings) (v : Procedure) (b : Backlog) (before old made : List (List ℕ)) (t : Side) (nr : ℕ) (sent : Bool) → FitsSide c v before old t
+pub pump_fits : (c : Settings) (v : StationCode) (b : OutgoingCode) (before old made : List (List ℕ)) (t : Side) (nr : ℕ) (sent : Bool) → FitsSide c v before old t
     → v.recovery ≡ false → v.peer_busy ≡ false → is_up v.phase ≡ true → nr ≡ wanted t.near → sent ≡ is_open c.window t.near.outgoing
     → FitsBacklog c.window b (if sent then moved_on t.near.outgoing else t.near.outgoing)
     → made ≡ (if sent then old ++ spelling_of v.role (info (t.near.outgoing.place % 8) nr false (next_packet t.near.outgoing)) ∷ [] else old)
@@ -64,7 +64,7 @@ pub pumped_more : (n k : ℕ) (t : Side) → pumped (n + 1) k t ≡ pumped_once 
 unfolding pumped
 pumped_more n k t = rw (add-one n) refl
 
-pub said : (c : Settings) (v : Procedure) (s : Station) (b : Bool) → FitsStation c v s → FitsStation c (record v { said_busy = b }) (record s { said_busy = b })
+pub said : (c : Settings) (v : StationCode) (s : Station) (b : Bool) → FitsStation c v s → FitsStation c (record v { said_busy = b }) (record s { said_busy = b })
 said c v s b fits = record {
   role = fits.role;
   longest = fits.longest;
@@ -79,7 +79,7 @@ said c v s b fits = record {
   said_busy = refl;
 }
 
-pub rejecting : (c : Settings) (v : Procedure) (s : Station) (b : Bool) → FitsStation c v s → FitsStation c (record v { rejecting = b }) (record s { rejecting = b })
+pub rejecting : (c : Settings) (v : StationCode) (s : Station) (b : Bool) → FitsStation c v s → FitsStation c (record v { rejecting = b }) (record s { rejecting = b })
 rejecting c v s b fits = record {
   role = fits.role;
   longest = fits.longest;
@@ -96,7 +96,7 @@ rejecting c v s b fits = record {
 
 -- ---- an N(R) that acknowledges some frames, or none
 
-pub risen : (c : Settings) (v : Procedure) (b : Backlog) (before made : List (List ℕ)) (t : Side) (count nr : ℕ) → FitsSide c v before made t → 0 < count
+pub risen : (c : Settings) (v : StationCode) (b : OutgoingCode) (before made : List (List ℕ)) (t : Side) (count nr : ℕ) → FitsSide c v before made t → 0 < count
     → t.near.outgoing.acked + count ≡ resolved t.near.outgoing.acked nr → FitsBacklog c.window b (acknowledged_to (t.near.outgoing.acked + count) t.near.outgoing)
     → FitsSide c (record v { backlog = b; tries = 0 }) before made (acknowledged nr t)
 risen c v b before made t count nr side some number backlog =
@@ -119,7 +119,7 @@ risen c v b before made t count nr side some number backlog =
       out = side.out;
     })
 
-pub not_risen : (c : Settings) (v : Procedure) (b : Backlog) (before made : List (List ℕ)) (t : Side) (count nr : ℕ) → FitsSide c v before made t → count ≡ 0
+pub not_risen : (c : Settings) (v : StationCode) (b : OutgoingCode) (before made : List (List ℕ)) (t : Side) (count nr : ℕ) → FitsSide c v before made t → count ≡ 0
     → t.near.outgoing.acked + count ≡ resolved t.near.outgoing.acked nr → FitsBacklog c.window b (acknowledged_to (t.near.outgoing.acked + count) t.near.outgoing)
     → FitsSide c (record v { backlog = b }) before made (acknowledged nr t)
 not_risen c v b before made t count nr side none number backlog =
@@ -144,7 +144,7 @@ not_risen c v b before made t count nr side none number backlog =
 
 -- ---- a packet that is taken
 
-pub taken_fits : (c : Settings) (v : Procedure) (r : Receiver) (before made : List (List ℕ)) (t : Side) (packet : List ℕ) → FitsSide c v before made t → FitsTaken r (length t.near.taken + 1)
+pub taken_fits : (c : Settings) (v : StationCode) (r : Receiver) (before made : List (List ℕ)) (t : Side) (packet : List ℕ) → FitsSide c v before made t → FitsTaken r (length t.near.taken + 1)
     → FitsSide c (record v { receiver = r; rejecting = false }) before made (takes packet t)
 taken_fits c v r before made t packet side taken =
     let fits = side.near in
@@ -165,7 +165,7 @@ taken_fits c v r before made t packet side taken =
       out = side.out;
     }
 
-pub no_tries : (c : Settings) (v : Procedure) (before made : List (List ℕ)) (t : Side) → FitsSide c v before made (with_near t (with_nothing Up t.near.tries))
+pub no_tries : (c : Settings) (v : StationCode) (before made : List (List ℕ)) (t : Side) → FitsSide c v before made (with_near t (with_nothing Up t.near.tries))
     → FitsSide c (record v { tries = 0 }) before made (with_near t fresh)
 no_tries c v before made t side =
     let fits = side.near in
@@ -188,7 +188,7 @@ no_tries c v before made t side =
 
 -- ---- what RR, RNR and REJ tell
 
-pub peer_fits : (c : Settings) (v : Procedure) (before made : List (List ℕ)) (t : Side) (busy : Bool) → FitsSide c v before made t
+pub peer_fits : (c : Settings) (v : StationCode) (before made : List (List ℕ)) (t : Side) (busy : Bool) → FitsSide c v before made t
     → FitsSide c (record v { peer_busy = busy }) before made (peer_is busy t)
 peer_fits c v before made t busy side =
     let fits = side.near in
@@ -209,7 +209,7 @@ peer_fits c v before made t busy side =
       out = side.out;
     }
 
-pub back_fits : (c : Settings) (v : Procedure) (b : Backlog) (before made : List (List ℕ)) (t : Side) → FitsSide c v before made t → FitsBacklog c.window b (gone_back t.near.outgoing)
+pub back_fits : (c : Settings) (v : StationCode) (b : OutgoingCode) (before made : List (List ℕ)) (t : Side) → FitsSide c v before made t → FitsBacklog c.window b (gone_back t.near.outgoing)
     → FitsSide c (record v { backlog = b }) before made (goes_back t)
 back_fits c v b before made t side backlog = record { near = with_backlog c v t.near b _ side.near backlog; out = side.out }
 
@@ -222,7 +222,7 @@ info_notes k ns p packet t = notes_by (is_taken ns t.near) _ _ _ refl refl
 
 -- ---- other variables
 
-pub phase_fits : (c : Settings) (v : Procedure) (s : Station) (phase : Phase) (tries : ℕ) → FitsStation c v s
+pub phase_fits : (c : Settings) (v : StationCode) (s : Station) (phase : Phase) (tries : ℕ) → FitsStation c v s
     → FitsStation c (record v { phase = phase; tries = tries }) (record s { phase = phase; tries = tries })
 phase_fits c v s phase tries fits = record {
   role = fits.role;
@@ -238,7 +238,7 @@ phase_fits c v s phase tries fits = record {
   said_busy = fits.said_busy;
 }
 
-pub tries_fits : (c : Settings) (v : Procedure) (s : Station) → FitsStation c v s → FitsStation c (record v { tries = v.tries + 1 }) (record s { tries = s.tries + 1 })
+pub tries_fits : (c : Settings) (v : StationCode) (s : Station) → FitsStation c v s → FitsStation c (record v { tries = v.tries + 1 }) (record s { tries = s.tries + 1 })
 tries_fits c v s fits = record {
   role = fits.role;
   longest = fits.longest;
@@ -253,7 +253,7 @@ tries_fits c v s fits = record {
   said_busy = fits.said_busy;
 }
 
-pub recovery_fits : (c : Settings) (v : Procedure) (s : Station) (b : Bool) → FitsStation c v s → FitsStation c (record v { recovery = b }) (record s { recovery = b })
+pub recovery_fits : (c : Settings) (v : StationCode) (s : Station) (b : Bool) → FitsStation c v s → FitsStation c (record v { recovery = b }) (record s { recovery = b })
 recovery_fits c v s b fits = record {
   role = fits.role;
   longest = fits.longest;

@@ -3,6 +3,8 @@ pub mod EndLemmas
 pub mod FitsLemmas
 pub mod LinkLemmas
 pub mod ListLemmas
+pub mod NoteRows
+pub mod SetUpRows
 pub mod StationRows
 pub mod WindowLemmas
 pub mod WindowRows

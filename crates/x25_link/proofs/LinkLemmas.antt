@@ -1,20 +1,21 @@
 -- A link between its calls.
-use Rattle.std.proofs.Common.{◌≡◌, ℕ, zero, suc, ◌+◌, ◌≤◌, List, [], ◌∷◌, ◌++◌, length, map, Bool, true, false, if◌then◌else◌, refl, sym, ap, ◌∙◌, subst, arith}
-use Rattle.std.specs.Prelude.{nat_lt, ◌&&◌, not}
+use Rattle.std.proofs.Common.{length, arith, ◌≤◌, ◌≡◌, ℕ, ◌+◌, List, map, Bool, true, false, refl, sym, ap, ◌∙◌, subst}
+use Rattle.std.proofs.lemmas.List.{length-drop}
+use Rattle.std.specs.Prelude.{nat_lt}
 use Rattle.x25_frame.specs.Spelling.{spelling_of}
 use Rattle.x25_link.specs.declared.phase.Phase.{Phase}
 use Rattle.x25_link.specs.declared.phase.Phase.TheVariants.{Down, Waiting, Up, Closed}
-use Rattle.x25_link.specs.Lists.{Lists, handed_down}
-use Rattle.x25_link.specs.Station.{Settings, Station, Side, lists_of, is_up, is_busy, with_near, ready, send_next, may_send, pumped_once, pumped, owes_ready, finished, ended}
-use Rattle.x25_link.specs.Steps.{alone, asks_again, fires, put_step}
+use Rattle.x25_link.specs.Station.{Settings, Side, is_up, is_busy, with_near, ready, may_send, owes_ready, ended}
+use Rattle.x25_link.specs.Steps.{asks_again, fires}
 use Rattle.x25_link.specs.Fits.{FitsStation}
-use Rattle.x25_link.specs.Link.{ShownLink, FitsLink, LinkState, FitsWhole, lists_in, after_put_to}
-use Rattle.x25_link.proofs.EndLemmas.{with_packet, left_false, right_false, ready_sends, ended_stays}
 use Rattle.x25_link.proofs.BacklogLemmas.{sent_length}
+use Rattle.x25_link.specs.Bounds.{FewWait, FewStand, WindowIsSmall}
+use Rattle.x25_link.specs.Link.{ShownLink, FitsLink}
+use Rattle.x25_link.proofs.EndLemmas.{left_false, right_false, ready_sends, ended_stays}
 
 -- ---- a step after which nothing may be sent
 
-pub closed_state : (c : Settings) (v : ShownLink) (u : Side) → FitsStation c v.procedure u.near → may_send c.window u.near ≡ false → owes_ready u.near ≡ false → FitsLink c v (ended c.window u).near
+pub closed_state : (c : Settings) (v : ShownLink) (u : Side) → FitsStation c v.station u.near → may_send c.window u.near ≡ false → owes_ready u.near ≡ false → FitsLink c v (ended c.window u).near
 closed_state c v u near settled calm =
     subst (λ (w : Side). FitsLink c v w.near) (sym (ended_stays c.window u settled calm)) (record { near = near; settled = settled; calm = calm })
 
@@ -53,3 +54,21 @@ fires_calm_by false c t e = rw e refl
 
 pub fires_calm : (c : Settings) (t : Side) → owes_ready (fires c t).side.near ≡ false
 fires_calm c t = fires_calm_by _ c t refl
+
+-- ---- what a link holds at most
+
+pub few_wait : FewWait
+few_wait c v s fits =
+    subst (λ (n : ℕ). n ≤ 256) (ap length fits.near.backlog.queue ∙ length-drop s.outgoing.sent s.outgoing.given) fits.near.backlog.few
+
+pub few_stand : FewStand
+few_stand c v s fits =
+    let backlog = fits.near.backlog in
+    let sound = backlog.sender.sound in
+    let l = sent_length c.window v.station.backlog s.outgoing backlog in
+    let high = sound.place_high in
+    let room = sound.room in
+    record { place_low = sound.place_low; place_high = omega arith; sent_high = backlog.sent; room = omega arith }
+
+pub window_is_small : WindowIsSmall
+window_is_small c v s fits = fits.near.backlog.sender.sound.window_high

@@ -1,12 +1,10 @@
 -- The definition moves: worked examples, by computing.
-use Rattle.std.proofs.Common.{◌≡◌, ℕ, List, [], ◌∷◌, ◌++◌, Bool, true, false, Option, Some, None, Ok, Err, refl}
+use Rattle.std.proofs.Common.{◌≡◌, [], ◌∷◌, ◌++◌, false, Ok, refl}
 use Rattle.x25_bits.specs.declared.role.Role.TheVariants.{Dte, Dce}
-use Rattle.x25_frame.specs.PlainFrame.{PlainFrame, info, rr, rnr, rej, sabm, disc, ua, dm, frmr}
-use Rattle.x25_link.specs.declared.phase.Phase.TheVariants.{Down, Waiting, Up, Closed}
-use Rattle.x25_link.specs.declared.phase.Reason.TheVariants.{FrmrSent, Disc, Reset, Retries}
-use Rattle.x25_link.specs.Station.{Settings, Station, Side, fresh, with_nothing, ended, pumped}
-use Rattle.x25_link.specs.MustSend.{Step, row_of, row_of_frame}
-use Rattle.x25_link.specs.Steps.{alone, put_step, connect_step, timer_step, hears, closed_by}
+use Rattle.x25_frame.specs.PlainFrame.{info, rr, rej, frmr}
+use Rattle.x25_link.specs.Station.{Settings, fresh, pumped}
+use Rattle.x25_link.specs.MustSend.{row_of, row_of_frame}
+use Rattle.x25_link.specs.Steps.{alone, put_step, closed_by}
 
 -- an I frame with N(R) 1 where nothing was sent
 invalid_nr : (let s = row_of (record { role = Dce; window = 7; longest = 4099; retries = 10 }) (1 ∷ 32 ∷ []) (Ok (info 0 1 false [])) (alone fresh) in s.side.out) ≡ frmr false (32 ∷ 0 ∷ 8 ∷ []) ∷ []

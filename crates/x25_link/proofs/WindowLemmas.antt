@@ -1,26 +1,24 @@
 -- What each small step of a station keeps: it is a run of the window machine.
-use Rattle.std.proofs.Common.{◌≡◌, ℕ, zero, suc, ◌+◌, ◌-◌, ◌%◌, ◌<◌, ◌≤◌, List, [], ◌∷◌, ◌++◌, ◌⊎◌, inl, inr, length, max, Bool, true, false, not, if◌then◌else◌, Option, Some, None, refl, sym, ap, ◌∙◌, subst, arith, append-nil, append_assoc}
-use Rattle.std.specs.Prelude.{◌&&◌, nat_lt, nat_le, option_to_list}
-use Rattle.std.proofs.lemmas.Bool.{leb-true, eqb-true}
-use Rattle.x25_frame.specs.PlainFrame.{PlainFrame, info, rr, rnr, rej, sabm, disc, ua, dm, frmr}
-use Rattle.x25_window.specs.Modulo.{resolved}
-use Rattle.x25_link.specs.Outgoing.{Outgoing, moved_on}
-use Rattle.x25_link.specs.Station.{Settings, Station, Side, is_up, is_busy, wanted, with_near, sends, ready, send_next, may_send, pumped_once, pumped, owes_ready, finished, ended}
-use Rattle.x25_link.specs.MustSend.{Step, quiet, leaves, is_valid, acknowledged, is_taken, takes, answers, rejects_gap, passes_over, hears_info, peer_is, goes_back, polls}
-use Rattle.x25_link.specs.WindowMachine.{Window, Move, gives, sends_packet, tells, hears, Kind, is_rr, is_rnr, is_rej, Input, Brings, Runs, rests, goes_on, May}
-use Rattle.x25_link.specs.WindowMachine.Move.{takes as takes_packet}
+use Rattle.std.proofs.Common.{◌≡◌, ℕ, zero, suc, List, [], Bool, true, false, not, if◌then◌else◌, refl, arith}
+use Rattle.std.proofs.lemmas.Option.{slice_get-get_or}
+use Rattle.x25_frame.specs.PlainFrame.{PlainFrame, rr, rnr, rej}
+use Rattle.x25_link.specs.Outgoing.{Outgoing}
+use Rattle.x25_link.specs.Station.{Side, is_up, is_busy, wanted, with_near, sends, ready, send_next, may_send, pumped, owes_ready, finished, ended}
+use Rattle.x25_link.specs.MustSend.{answers, passes_over, goes_back, polls}
+use Rattle.x25_window.specs.Window.Step.{Send, Tell}
+use Rattle.x25_link.specs.WindowMachine.{Window, Runs, goes_on}
 use Rattle.x25_link.specs.WindowLaw.{IsSound, window_in}
-use Rattle.x25_link.proofs.EndLemmas.{both_true, is_false, open_is}
+use Rattle.x25_link.proofs.EndLemmas.{open_is}
 
 -- by the values alone, so that a step that changes only flags keeps it by computation
-pub record KeptAt (k : ℕ) (input : Input) (from : Window) (is_on : Bool) (o : Outgoing) (taken : List (List ℕ)) (out : List PlainFrame) : Type 0 where
+pub record KeptAt (k : ℕ) (from : Window) (is_on : Bool) (o : Outgoing) (taken : List (List ℕ)) (out : List PlainFrame) : Type 0 where
   pub up : is_on ≡ true
   pub sound : IsSound k o
-  pub runs : Runs k input from (window_in o taken) out
+  pub runs : Runs from (window_in k o taken) out
 
-module _ (k : ℕ) (input : Input) (from : Window) where
+module _ (k : ℕ) (from : Window) where
   abbrev pub Kept : Side → Type 0
-  Kept t = KeptAt k input from (is_up t.near.phase) t.near.outgoing t.near.taken t.out
+  Kept t = KeptAt k from (is_up t.near.phase) t.near.outgoing t.near.taken t.out
 
   keeps_if : (b : Bool) (u v : Side) → Kept u → Kept v → Kept (if b then u else v)
   keeps_if true u v f g = f
@@ -31,13 +29,13 @@ module _ (k : ℕ) (input : Input) (from : Window) where
   by_if false u v f g = g refl
 
   pub K-rr : (command pf : Bool) (t : Side) → Kept t → Kept (sends (rr command (wanted t.near) pf) t)
-  K-rr command pf t h = record { up = h.up; sound = h.sound; runs = goes_on _ _ (tells is_rr command pf) h.runs tt tt }
+  K-rr command pf t h = record { up = h.up; sound = h.sound; runs = goes_on _ _ Tell _ h.runs tt tt ((refl, refl), tt) }
 
   pub K-rnr : (command pf : Bool) (t : Side) → Kept t → Kept (sends (rnr command (wanted t.near) pf) t)
-  K-rnr command pf t h = record { up = h.up; sound = h.sound; runs = goes_on _ _ (tells is_rnr command pf) h.runs tt tt }
+  K-rnr command pf t h = record { up = h.up; sound = h.sound; runs = goes_on _ _ Tell _ h.runs tt tt ((refl, refl), tt) }
 
   pub K-rej : (command pf : Bool) (t : Side) → Kept t → Kept (sends (rej command (wanted t.near) pf) t)
-  K-rej command pf t h = record { up = h.up; sound = h.sound; runs = goes_on _ _ (tells is_rej command pf) h.runs tt tt }
+  K-rej command pf t h = record { up = h.up; sound = h.sound; runs = goes_on _ _ Tell _ h.runs tt tt ((refl, refl), tt) }
 
   pub K-ready : (command pf : Bool) (t : Side) → Kept t → Kept (ready command pf t)
   K-ready command pf t h =
@@ -52,7 +50,7 @@ module _ (k : ℕ) (input : Input) (from : Window) where
       record {
         up = h.up;
         sound = record { place_low = omega arith; place_high = omega arith; sent_high = omega arith; room = omega arith };
-        runs = goes_on _ _ (sends_packet t.near.outgoing.place) h.runs (s.place_low, s.place_high, o.room, o.packet) tt;
+        runs = goes_on _ _ (Send t.near.outgoing.place) _ h.runs tt (s.place_low, s.place_high, o.room, o.packet) (rw (slice_get-get_or t.near.outgoing.given t.near.outgoing.place [] o.packet) (((refl, refl), refl, refl), tt));
       }
 
   pub K-pumped : (n : ℕ) (t : Side) → Kept t → Kept (pumped n k t)
@@ -67,28 +65,6 @@ module _ (k : ℕ) (input : Input) (from : Window) where
 
   pub K-ended : (t : Side) → Kept t → Kept (ended k t)
   K-ended t h = K-finished (pumped 7 k t) (K-pumped 7 t h)
-
-  -- ---- what is received
-
-  pub K-acknowledged : (nr : ℕ) (t : Side) → is_valid nr t.near ≡ true → Brings (hears nr) input → Kept t → Kept (acknowledged nr t)
-  K-acknowledged nr t valid brings h =
-      let s = h.sound in
-      let within : resolved t.near.outgoing.acked nr ≤ t.near.outgoing.sent = leb-true _ _ valid in
-      record {
-        up = h.up;
-        sound = record { place_low = omega arith; place_high = omega arith; sent_high = s.sent_high; room = omega arith };
-        runs = subst (Runs k input from (window_in (acknowledged nr t).near.outgoing t.near.taken)) (append-nil t.out) (goes_on _ _ (hears nr) h.runs within brings);
-      }
-
-  pub K-takes : (ns : ℕ) (packet : List ℕ) (t : Side) → is_taken ns t.near ≡ true → Brings (takes_packet ns packet) input → Kept t → Kept (takes packet t)
-  K-takes ns packet t taken brings h =
-      let both = both_true _ _ taken in
-      let same : ns ≡ length t.near.taken % 8 = eqb-true _ _ both.1 in
-      record {
-        up = h.up;
-        sound = h.sound;
-        runs = subst (Runs k input from (window_in t.near.outgoing (t.near.taken ++ packet ∷ []))) (append-nil t.out) (goes_on _ _ (takes_packet ns packet) h.runs same brings);
-      }
 
   pub K-answers : (p : Bool) (t : Side) → Kept t → Kept (answers k p t)
   K-answers true t h = K-ready false true t h

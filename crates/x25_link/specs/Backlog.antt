@@ -2,7 +2,7 @@
 use Rattle.std.specs.Prelude.{◌≡◌, ℕ, ◌≤◌, List, length, take, drop}
 use Rattle.x25_window.specs.Sending.{Sending}
 use Rattle.x25_window.specs.Held.{Fits}
-use Rattle.x25_link.specs.declared.backlog.Backlog.{Backlog}
+use Rattle.x25_link.specs.declared.outgoing.Outgoing.{Outgoing as OutgoingCode}
 use Rattle.x25_link.specs.Outgoing.{Outgoing}
 
 -- the packets that were sent, as the window machine has them
@@ -10,7 +10,8 @@ abbrev pub sending_of : ℕ → Outgoing → Sending (List ℕ)
 sending_of k o = record { given = take o.sent o.given; acked = o.acked; place = o.place; window = k }
 
 -- what was sent and isn't acknowledged, and what waits
-pub record FitsBacklog (k : ℕ) (b : Backlog) (o : Outgoing) : Type 0 where
+pub record FitsBacklog (k : ℕ) (b : OutgoingCode) (o : Outgoing) : Type 0 where
   pub sender : Fits b.sender (sending_of k o)
   pub queue : b.queue ≡ drop o.sent o.given
   pub sent : o.sent ≤ length o.given
+  pub few : length b.queue ≤ 256

@@ -3,13 +3,13 @@ use Rattle.std.specs.Prelude.{◌≡◌, ℕ, List, ◌++◌, length, map, optio
 use Rattle.x25_frame.specs.PlainFrame.{PlainFrame}
 use Rattle.x25_frame.specs.Spelling.{spelling_of}
 use Rattle.x25_window.specs.Receiving.{FitsTaken}
-use Rattle.x25_link.specs.declared.procedure.Procedure.{Procedure}
+use Rattle.x25_link.specs.declared.station.Station.{Station as StationCode}
 use Rattle.x25_link.specs.declared.heard.Heard.{Heard}
 use Rattle.x25_link.specs.MustSend.{Step}
 use Rattle.x25_link.specs.Backlog.{FitsBacklog}
 use Rattle.x25_link.specs.Station.{Settings, Station, Side}
 
-pub record FitsStation (c : Settings) (v : Procedure) (s : Station) : Type 0 where
+pub record FitsStation (c : Settings) (v : StationCode) (s : Station) : Type 0 where
   pub role : v.role ≡ c.role
   pub longest : v.parameters.n1 ≡ c.longest
   pub retries : v.parameters.n2 ≡ c.retries
@@ -26,12 +26,12 @@ pub record FitsStation (c : Settings) (v : Procedure) (s : Station) : Type 0 whe
 abbrev pub Made : Settings → List (List ℕ) → List (List ℕ) → List PlainFrame → Type 0
 Made c before made frames = made ≡ before ++ map (spelling_of c.role) frames
 
-pub record FitsSide (c : Settings) (v : Procedure) (before made : List (List ℕ)) (t : Side) : Type 0 where
+pub record FitsSide (c : Settings) (v : StationCode) (before made : List (List ℕ)) (t : Side) : Type 0 where
   pub near : FitsStation c v t.near
   pub out : Made c before made t.out
 
 -- what was heard is that step's: the state and the frames, the packet handed up, and what is noted
-pub record FitsHeard (c : Settings) (v : Procedure) (before made : List (List ℕ)) (heard : Heard) (step : Step) : Type 0 where
+pub record FitsHeard (c : Settings) (v : StationCode) (before made : List (List ℕ)) (heard : Heard) (step : Step) : Type 0 where
   pub side : FitsSide c v before made step.side
   pub packet : option_copied heard.packet ≡ step.packet
   pub notes : heard.notes ≡ step.notes

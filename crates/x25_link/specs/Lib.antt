@@ -10,5 +10,8 @@ pub mod WindowMachine
 pub mod Fits
 pub mod Steps
 pub mod WindowLaw
+pub mod SetUp
+pub mod NoteLaw
 pub mod Link
 pub mod LinkLaws
+pub mod Bounds

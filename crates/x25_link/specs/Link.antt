@@ -1,10 +1,11 @@
 -- What contracts see of a link, and the states of the definition that it fits.
 use Rattle.std.specs.Prelude.{◌≡◌, ℕ, Bool, List, ◌++◌, length, map, false, option_copied}
 use Rattle.x25_frame.specs.Spelling.{spelling_of}
-use Rattle.x25_link.specs.declared.procedure.Procedure.{Procedure}
+use Rattle.x25_link.specs.declared.station.Station.{Station as StationCode}
 use Rattle.x25_link.specs.declared.step.Step as code
 use Rattle.x25_link.specs.Lists.{Lists}
 use Rattle.x25_link.specs.Outbox.{ShownOutbox}
+use Rattle.x25_link.specs.Outgoing.{waits}
 use Rattle.x25_link.specs.Station.{Settings, Station, lists_of, is_up, may_send, owes_ready}
 use Rattle.x25_link.specs.MustSend.{Step}
 use Rattle.x25_link.specs.Steps.{put_step}
@@ -12,22 +13,22 @@ use Rattle.x25_link.specs.Fits.{FitsStation}
 
 -- the variables of the station, and the frames that `sent` will hand out, with the memory set aside for further ones
 pub record ShownLink : Type 0 where
-  pub procedure : Procedure
+  pub station : StationCode
   pub outgoing : ShownOutbox
 
 -- the most octets of a packet, whether the link is up, and how many packets wait
 abbrev pub limit_of : ShownLink → ℕ
-limit_of v = v.procedure.parameters.n1
+limit_of v = v.station.parameters.n1
 
 abbrev pub up_of : ShownLink → Bool
-up_of v = is_up v.procedure.phase
+up_of v = is_up v.station.phase
 
 abbrev pub waiting_of : ShownLink → ℕ
-waiting_of v = length v.procedure.backlog.queue
+waiting_of v = length v.station.backlog.queue
 
 -- between calls nothing is left to be sent
 pub record FitsLink (c : Settings) (v : ShownLink) (s : Station) : Type 0 where
-  pub near : FitsStation c v.procedure s
+  pub near : FitsStation c v.station s
   pub settled : may_send c.window s ≡ false
   pub calm : owes_ready s ≡ false
 
@@ -51,6 +52,12 @@ pub record FitsWhole (v : ShownLink) (x : LinkState) : Type 0 where
 
 abbrev pub lists_in : LinkState → Lists
 lists_in x = lists_of x.station
+
+abbrev pub waits_of : LinkState → ℕ
+waits_of x = waits x.station.outgoing
+
+abbrev pub up_at : LinkState → Bool
+up_at x = is_up x.station.phase
 
 -- the packet is handed down, and the frames that go are kept
 abbrev pub after_put_to : LinkState → List ℕ → LinkState

@@ -1,7 +1,6 @@
 -- The packets that a station was handed down, on a whole list and unbounded numbers.
 -- ITU-T X.25 (10/96), sections 2.3.2, 2.4.5.1 and 2.4.5.6.
 use Rattle.std.specs.Prelude.{ℕ, ◌+◌, ◌-◌, nat_lt, Bool, ◌&&◌, List, [], ◌∷◌, ◌++◌, length, slice_index_or, max}
-use Rattle.x25_window.specs.Modulo.{resolved}
 
 -- The packets handed down since the link was set up, of which number n goes with N(S) n modulo 8; how many of these are
 -- acknowledged; the highest number ever sent plus one; and V(S), the place to send from.

@@ -1,62 +1,12 @@
--- The window machine of one end of a link: what may be sent and taken, whoever decides when.
--- ITU-T X.25 (10/96), sections 2.3.2 and 2.4.5.
-use Rattle.std.specs.Prelude.{◌≡◌, ℕ, ◌+◌, ◌%◌, ◌<◌, ◌≤◌, Bool, false, List, [], ◌∷◌, ◌++◌, length, slice_index_or, max}
+-- The window machine of `x25_window` with packets as items: what a call brings to it, the frames of LAPB that show what it
+-- sends, and runs that only send. ITU-T X.25 (10/96), sections 2.3.2 and 2.4.5.
+use Rattle.std.specs.Prelude.{◌≡◌, ℕ, ◌%◌, false, List, [], ◌∷◌, ◌++◌, Option, Some, None}
 use Rattle.x25_frame.specs.PlainFrame.{PlainFrame, info, rr, rnr, rej}
-use Rattle.x25_window.specs.Modulo.{resolved}
+use Rattle.x25_window.specs.Window.{End, Step, Numbered, Frame, Allows, after, frames_of}
+use Rattle.x25_window.specs.Window.Step.{Send, Tell}
 
--- All packets handed down and all handed up, how many of the former are acknowledged, and the highest number ever sent
--- plus one. V(R) is the number of packets handed up.
-pub record Window : Type 0 where
-  pub given : List (List ℕ)
-  pub acked : ℕ
-  pub sent : ℕ
-  pub taken : List (List ℕ)
-
--- RR, RNR and REJ
-pub data Kind : Type 0 where
-  is_rr : Kind
-  is_rnr : Kind
-  is_rej : Kind
-
-pub data Move : Type 0 where
-  -- a packet is handed down
-  gives : (packet : List ℕ) → Move
-  -- frame n is sent
-  sends_packet : (n : ℕ) → Move
-  -- a supervisory frame is sent
-  tells : (kind : Kind) → (command pf : Bool) → Move
-  -- an N(R) is received
-  hears : (nr : ℕ) → Move
-  -- an I frame with this N(S) is taken
-  takes : (ns : ℕ) → (packet : List ℕ) → Move
-
-abbrev pub supervisory : Kind → Bool → ℕ → Bool → PlainFrame
-supervisory is_rr command nr pf = rr command nr pf
-supervisory is_rnr command nr pf = rnr command nr pf
-supervisory is_rej command nr pf = rej command nr pf
-
--- where a move may be made
-abbrev pub May : ℕ → Window → Move → Type 0
-May k w (gives packet) = Unit {0}
-May k w (sends_packet n) = (w.acked ≤ n) × (n ≤ w.sent) × (n < w.acked + k) × (n < length w.given)
-May k w (tells kind command pf) = Unit {0}
-May k w (hears nr) = resolved w.acked nr ≤ w.sent
-May k w (takes ns packet) = ns ≡ length w.taken % 8
-
-abbrev pub moved : Window → Move → Window
-moved w (gives packet) = record { given = w.given ++ packet ∷ []; acked = w.acked; sent = w.sent; taken = w.taken }
-moved w (sends_packet n) = record { given = w.given; acked = w.acked; sent = max w.sent (n + 1); taken = w.taken }
-moved w (tells kind command pf) = w
-moved w (hears nr) = record { given = w.given; acked = resolved w.acked nr; sent = w.sent; taken = w.taken }
-moved w (takes ns packet) = record { given = w.given; acked = w.acked; sent = w.sent; taken = w.taken ++ packet ∷ [] }
-
--- the frame that is sent, with the numbers modulo 8
-abbrev pub frame_sent : Window → Move → List PlainFrame
-frame_sent w (gives packet) = []
-frame_sent w (sends_packet n) = info (n % 8) (length w.taken % 8) false (slice_index_or w.given n []) ∷ []
-frame_sent w (tells kind command pf) = supervisory kind command (length w.taken % 8) pf ∷ []
-frame_sent w (hears nr) = []
-frame_sent w (takes ns packet) = []
+abbrev pub Window : Type 0
+Window = End (List ℕ)
 
 -- ---- what a call brings
 
@@ -65,32 +15,37 @@ pub data Input : Type 0 where
   receives : (frame : PlainFrame) → Input
   nothing : Input
 
-abbrev pub CarriesNumber : PlainFrame → ℕ → Type 0
-CarriesNumber (info ns nr p packet) n = nr ≡ n
-CarriesNumber (rr command nr pf) n = nr ≡ n
-CarriesNumber (rnr command nr pf) n = nr ≡ n
-CarriesNumber (rej command nr pf) n = nr ≡ n
-CarriesNumber frame n = ⊥
+-- ---- frames
 
-abbrev pub CarriesPacket : PlainFrame → ℕ → List ℕ → Type 0
-CarriesPacket (info ns nr p packet) n x = (ns ≡ n) × (packet ≡ x)
-CarriesPacket frame n x = ⊥
+abbrev pub ShowsItem : Option (Numbered (List ℕ)) → ℕ → List ℕ → Type 0
+ShowsItem None ns packet = ⊥
+ShowsItem (Some c) ns packet = (ns ≡ c.number % 8) × (packet ≡ c.item)
 
--- only the packet that is handed down is given, and only what the received frame carries is heard and taken
-abbrev pub Brings : Move → Input → Type 0
-Brings (gives x) (hands_down packet) = packet ≡ x
-Brings (gives x) input = ⊥
-Brings (sends_packet n) input = Unit {0}
-Brings (tells kind command pf) input = Unit {0}
-Brings (hears nr) (receives frame) = CarriesNumber frame nr
-Brings (hears nr) input = ⊥
-Brings (takes ns packet) (receives frame) = CarriesPacket frame ns packet
-Brings (takes ns packet) input = ⊥
+-- A frame on the line shows one of the machine: an I frame (with P=0) where that carries an item, else RR, RNR or REJ, and
+-- the numbers modulo 8.
+abbrev pub Shows : PlainFrame → Frame (List ℕ) → Type 0
+Shows (info ns nr p packet) f = ShowsItem f.carried ns packet × (nr ≡ f.ack % 8) × (p ≡ false)
+Shows (rr command nr pf) f = (f.carried ≡ None) × (nr ≡ f.ack % 8)
+Shows (rnr command nr pf) f = (f.carried ≡ None) × (nr ≡ f.ack % 8)
+Shows (rej command nr pf) f = (f.carried ≡ None) × (nr ≡ f.ack % 8)
+Shows frame f = ⊥
+
+-- frame by frame
+abbrev pub ShowAll : List PlainFrame → List (Frame (List ℕ)) → Type 0
+ShowAll [] [] = Unit {0}
+ShowAll (frame ∷ frames) (f ∷ fs) = Shows frame f × ShowAll frames fs
+ShowAll [] (f ∷ fs) = ⊥
+ShowAll (frame ∷ frames) [] = ⊥
 
 -- ---- runs
 
--- from one state to another by moves, with the frames that they send
-pub data Runs (k : ℕ) (input : Input) (from : Window) : Window → List PlainFrame → Type 0 where
-  rests : Runs k input from from []
-  goes_on : (w : Window) (frames : List PlainFrame) (move : Move) → Runs k input from w frames → May k w move → Brings move input
-      → Runs k input from (moved w move) (frames ++ frame_sent w move)
+abbrev pub IsSent : Step (List ℕ) → Type 0
+IsSent (Send n) = Unit {0}
+IsSent Tell = Unit {0}
+IsSent step = ⊥
+
+-- from one state to another by steps that send, with the frames that show what they send
+pub data Runs (from : Window) : Window → List PlainFrame → Type 0 where
+  rests : Runs from from []
+  goes_on : (w : Window) (before : List PlainFrame) (step : Step (List ℕ)) (frames : List PlainFrame) → Runs from w before
+      → IsSent step → Allows w step → ShowAll frames (frames_of w step) → Runs from (after w step) (before ++ frames)

@@ -3,16 +3,15 @@ ghost use Rattle.std.specs.Prelude.{◌≡◌, ℕ, ◌+◌, ◌<◌, ◌≤◌,
 ghost use Rattle.x25_frame.specs.PlainFrame.{plain};
 ghost use Rattle.x25_frame.specs.Reading.{frame_of};
 ghost use Rattle.x25_frame.specs.Spelling.{is_command};
-ghost use Rattle.x25_link.specs.Station.{Settings, Station, Side, may_send, owes_ready};
+ghost use Rattle.x25_link.specs.Station.{Settings, Station as StationState, Side, may_send, owes_ready};
 ghost use Rattle.x25_link.specs.Fits.{FitsStation, FitsSide, FitsHeard};
 ghost use Rattle.x25_link.specs.MustSend.{numbered, hears_info, polls, peer_is, goes_back, quiet, row_of_frame, row_of, other};
 ghost use Rattle.x25_link.specs.Steps.{poll_of, declines, when_down, when_waiting, hears, alone, take_step};
 
 use crate::heard::Heard;
-use crate::leaving::other;
 use crate::outbox::Outbox;
 use crate::phase::{Phase, Reason};
-use crate::procedure::Procedure;
+use crate::station::{Station, other};
 use x25_bits::Seq;
 use x25_frame::{Frame, FrameError, decode};
 
@@ -29,7 +28,7 @@ fn is_poll(frame: &Frame) -> bool
     }
 }
 
-impl Procedure {
+impl Station {
     // ---- Up
 
     // An I frame.
@@ -271,10 +270,10 @@ impl Procedure {
     pub fn hear<'a>(&mut self, octets: &'a [u8], out: &mut Outbox) -> Heard<'a>
         requires long { 8 ≤ out.old.long }
         requires short { 2 ≤ out.old.short }
-        ensures step { (c : Settings) (before : List (List ℕ)) (s : Station) → FitsSide c self.old before out.old.made (alone s) →
+        ensures step { (c : Settings) (before : List (List ℕ)) (s : StationState) → FitsSide c self.old before out.old.made (alone s) →
             FitsHeard c self.new before out.new.made result (take_step c octets.now s) }
-        ensures settled { (c : Settings) (s : Station) → FitsStation c self.old s → may_send c.window (take_step c octets.now s).side.near ≡ false }
-        ensures calm { (c : Settings) (s : Station) → FitsStation c self.old s → owes_ready (take_step c octets.now s).side.near ≡ false }
+        ensures settled { (c : Settings) (s : StationState) → FitsStation c self.old s → may_send c.window (take_step c octets.now s).side.near ≡ false }
+        ensures calm { (c : Settings) (s : StationState) → FitsStation c self.old s → owes_ready (take_step c octets.now s).side.near ≡ false }
     {
         let heard = self.hear_octets(octets, out);
         self.end(out);

@@ -1,10 +1,47 @@
-ghost use Rattle.x25_link.specs.WindowLaw.{TakeFollows, PutFollows, TimerFollows, DisconnectFollows, AbandonFollows};
+ghost use Rattle.x25_link.specs.Bounds.{FewWait, FewStand, WindowIsSmall};
+ghost use Rattle.x25_link.specs.NoteLaw.{TakeTells, TakeContinues, TakeHandsUp, TimerTells, TimerContinues, PutTells, ConnectTells, DisconnectTells, AbandonTells};
+ghost use Rattle.x25_link.specs.SetUp.{TakeWaits, TakeSetsUp, ConnectWaits, TimerWaits, DisconnectWaits};
+ghost use Rattle.x25_link.specs.WindowLaw.{TakeFollows, PutFollows, TimerFollows, DisconnectFollows, AbandonFollows, TakeStaysOut, DisconnectStaysOut};
 
-/// Each step of a station that is Up is a run of the window machine, or leaves Up or begins afresh.
+/// Each step of a station that is Up hears, hands up and then sends as the window machine may, and Up is left exactly
+/// where there is a reason. A station that is out stays out, but for a SABM.
 pub fn follows_the_window()
     ensures take { TakeFollows }
     ensures put { PutFollows }
     ensures timer { TimerFollows }
     ensures disconnect { DisconnectFollows }
     ensures abandon { AbandonFollows }
+    ensures take_out { TakeStaysOut }
+    ensures disconnect_out { DisconnectStaysOut }
+{}
+
+/// What a station does in set-up: at connect, at a SABM in Down and in Up, and at all that comes while UA is awaited.
+pub fn sets_up_by_rows()
+    ensures waits { TakeWaits }
+    ensures sets_up { TakeSetsUp }
+    ensures connects { ConnectWaits }
+    ensures timer { TimerWaits }
+    ensures disconnects { DisconnectWaits }
+{}
+
+/// What the notes of a step say of the station after it: after LinkUp it begins afresh, after LinkDown alone it isn't up
+/// and its lists are empty, and where nothing is noted it is up or not as before. A packet is handed up in Up alone, while
+/// at most 254 wait.
+pub fn notes_what_changes()
+    ensures take { TakeTells }
+    ensures take_continues { TakeContinues }
+    ensures take_hands_up { TakeHandsUp }
+    ensures timer { TimerTells }
+    ensures timer_continues { TimerContinues }
+    ensures put { PutTells }
+    ensures connect { ConnectTells }
+    ensures disconnect { DisconnectTells }
+    ensures abandon { AbandonTells }
+{}
+
+/// What a link holds at most: 256 packets that wait, and k, at most 7, that were sent and aren't acknowledged.
+pub fn holds_few()
+    ensures wait { FewWait }
+    ensures stand { FewStand }
+    ensures window { WindowIsSmall }
 {}

@@ -1,32 +1,30 @@
 //! The LAPB station of ITU-T X.25 (10/96), section 2, modulo 8, and the link that the packet layer stands on.
 #![tactic(auto)]
 
-mod backlog;
-mod blank;
-mod calling;
+mod calls;
 mod error;
+mod frame_memory;
+mod frmr;
 mod heard;
 mod hearing;
 mod law;
-mod leaving;
 mod link;
+mod numbered_frames;
 mod octets;
-mod ordered;
+mod ordered_link;
 mod outbox;
+mod outgoing;
 mod phase;
-mod plain;
-mod procedure;
-mod queue;
-mod receiving;
+mod plain_link;
+mod station;
 mod step;
-#[cfg(test)]
-mod tests;
+mod waiting_packets;
 
 pub use error::LinkError;
-pub use law::follows_the_window;
+pub use law::{follows_the_window, holds_few, notes_what_changes, sets_up_by_rows};
 pub use link::Link;
-pub use ordered::OrderedLink;
+pub use ordered_link::OrderedLink;
 pub use phase::{Notes, Phase, Reason};
-pub use plain::PlainLink;
+pub use plain_link::PlainLink;
 pub use step::Step;
 pub use x25_bits::Role;

@@ -1,19 +1,22 @@
 ghost use Rattle.std.specs.Prelude.{◌≡◌, ℕ, ◌+◌, ◌-◌, ◌<◌, ◌≤◌, ◌↔◌, ◌++◌, List, [], length, map, vec_len, Bool, true, false, Some, None, IfOk, IfErr, OnOk, OnErr, IsOk, IsErrOf};
 ghost use Rattle.x25_frame.specs.Spelling.{spelling_of};
-ghost use Rattle.x25_link.specs.Station.{Settings, Station, with_nothing};
+ghost use Rattle.x25_link.specs.Station.{Settings, Station as StationState, with_nothing};
 ghost use Rattle.x25_link.specs.Steps.{Refuses, config_refusal, take_step, put_refusal, put_step, connect_refusal, connect_step, disconnect_refusal, disconnect_step, timer_refusal, timer_step, abandon_step, is_idle};
+ghost use Rattle.x25_link.specs.LinkError.{RefusesPut};
 ghost use Rattle.x25_link.specs.Link.{FitsLink, IsAnswer, limit_of, up_of, waiting_of};
 ghost use Rattle.x25_link.specs.declared.phase.Phase.TheVariants.{Down};
 
-use crate::backlog::Backlog;
+mod in_order;
+
 use crate::error::LinkError;
+use crate::heard::Heard;
 use crate::octets::{LONGEST_PACKET, Octets};
-use crate::ordered::OrderedLink;
 use crate::outbox::Outbox;
-use crate::phase::{Notes, Phase, Reason};
-use crate::procedure::{FRAMES, Parameters, Procedure};
-use crate::queue::PLACES;
+use crate::outgoing::Outgoing;
+use crate::phase::{Phase, Reason};
+use crate::station::{FRAMES, Parameters, Station};
 use crate::step::Step;
+use crate::waiting_packets::PLACES;
 use std::alloc::Global;
 use std::marker::Model;
 use x25_bits::Role;
@@ -30,7 +33,7 @@ const SHORT_FRAMES: usize = 2;
 /// Each call but `put` answers the frames to send, in order. The frames of `put` are kept until `sent` takes them.
 #[derive(Drop)]
 pub struct Link {
-    procedure: Procedure,
+    station: Station,
     outgoing: Outbox,
     answers: Outbox,
 }
@@ -41,7 +44,7 @@ impl Model for Link {
 
     ghost Value = { ShownLink };
 
-    ghost view = { λ l. record { procedure = l.procedure; outgoing = l.outgoing } };
+    ghost view = { λ l. record { station = l.station; outgoing = l.outgoing } };
 
     ghost invariant = { λ l. l.answers.made ≡ [] };
 }
@@ -59,11 +62,11 @@ impl Link {
         if k < 1 || k > FRAMES || n1 < 1 || n1 > LONGEST_PACKET || n2 < 1 {
             return Err(LinkError::BadConfig);
         }
-        let Some(backlog) = Backlog::new(alloc, k)? else {
+        let Some(backlog) = Outgoing::new(alloc, k)? else {
             return Err(LinkError::BadConfig);
         };
         Ok(Link {
-            procedure: Procedure {
+            station: Station {
                 role,
                 parameters: Parameters { n1, n2 },
                 backlog,
@@ -84,161 +87,133 @@ impl Link {
     ///
     /// 12 where it is being set up, 13 where it is closed, 15 where it is up, then 70.
     pub fn connect(&mut self) -> Result<Step<'static>, LinkError>
-        ensures state { (c : Settings) (s : Station) → FitsLink c self.old s → OnOk result (FitsLink c self.new (connect_step c s).side.near) }
-        ensures answer { (c : Settings) (s : Station) → FitsLink c self.old s → IfOk result (λ answer. IsAnswer c answer (connect_step c s)) }
-        ensures refused { (c : Settings) (s : Station) → FitsLink c self.old s → Refuses (connect_refusal s.phase) result }
+        ensures state { (c : Settings) (s : StationState) → FitsLink c self.old s → OnOk result (FitsLink c self.new (connect_step c s).side.near) }
+        ensures answer { (c : Settings) (s : StationState) → FitsLink c self.old s → IfOk result (λ answer. IsAnswer c answer (connect_step c s)) }
+        ensures refused { (c : Settings) (s : StationState) → FitsLink c self.old s → Refuses (connect_refusal s.phase) result }
         ensures outgoing { self.new.outgoing ≡ self.old.outgoing }
         ensures err { OnErr result (self.new ≡ self.old) }
     {
-        match self.procedure.phase {
+        match self.station.phase {
             Phase::Down => {}
             Phase::Waiting => return Err(LinkError::AlreadyWaiting),
             Phase::Up => return Err(LinkError::AlreadyUp),
             Phase::Closed => return Err(LinkError::Closed),
         }
         self.answers.reserve(0, SHORT_FRAMES)?;
-        self.procedure.connect(&mut self.answers);
-        Ok(Step {
-            frames: self.answers.drain(),
-            packet: None,
-            notes: Notes {
-                down: None,
-                up: false,
-            },
-        })
+        self.station.connect(&mut self.answers);
+        Ok(self.answers.answered(Heard::quiet()))
     }
 
     /// Takes octets, frame check sequence included, and answers what they ask for by the must-send table and the phases.
     ///
     /// 70 alone.
     pub fn take<'a>(&mut self, octets: &'a [u8]) -> Result<Step<'a>, LinkError>
-        ensures state { (c : Settings) (s : Station) → FitsLink c self.old s → OnOk result (FitsLink c self.new (take_step c octets.now s).side.near) }
-        ensures answer { (c : Settings) (s : Station) → FitsLink c self.old s → IfOk result (λ answer. IsAnswer c answer (take_step c octets.now s)) }
+        ensures state { (c : Settings) (s : StationState) → FitsLink c self.old s → OnOk result (FitsLink c self.new (take_step c octets.now s).side.near) }
+        ensures answer { (c : Settings) (s : StationState) → FitsLink c self.old s → IfOk result (λ answer. IsAnswer c answer (take_step c octets.now s)) }
         ensures refused { IfErr result (λ e. e ≡ LinkError.NoMemory) }
         ensures outgoing { self.new.outgoing ≡ self.old.outgoing }
         ensures err { OnErr result (self.new ≡ self.old) }
     {
         self.answers.reserve(LONG_FRAMES, SHORT_FRAMES)?;
-        let heard = self.procedure.hear(octets, &mut self.answers);
-        Ok(Step {
-            frames: self.answers.drain(),
-            packet: heard.packet,
-            notes: heard.notes,
-        })
+        let heard = self.station.hear(octets, &mut self.answers);
+        Ok(self.answers.answered(heard))
     }
 
     /// Disconnects this end, for good: DISC with P=1. It notes LinkDown(local) where the link was up.
     ///
     /// 13 where it is closed, then 70.
     pub fn disconnect(&mut self) -> Result<Step<'static>, LinkError>
-        ensures state { (c : Settings) (s : Station) → FitsLink c self.old s → OnOk result (FitsLink c self.new (disconnect_step c s).side.near) }
-        ensures answer { (c : Settings) (s : Station) → FitsLink c self.old s → IfOk result (λ answer. IsAnswer c answer (disconnect_step c s)) }
-        ensures refused { (c : Settings) (s : Station) → FitsLink c self.old s → Refuses (disconnect_refusal s.phase) result }
+        ensures state { (c : Settings) (s : StationState) → FitsLink c self.old s → OnOk result (FitsLink c self.new (disconnect_step c s).side.near) }
+        ensures answer { (c : Settings) (s : StationState) → FitsLink c self.old s → IfOk result (λ answer. IsAnswer c answer (disconnect_step c s)) }
+        ensures refused { (c : Settings) (s : StationState) → FitsLink c self.old s → Refuses (disconnect_refusal s.phase) result }
         ensures outgoing { self.new.outgoing ≡ self.old.outgoing }
         ensures err { OnErr result (self.new ≡ self.old) }
     {
-        match self.procedure.phase {
+        match self.station.phase {
             Phase::Down | Phase::Waiting | Phase::Up => {}
             Phase::Closed => return Err(LinkError::Closed),
         }
         self.answers.reserve(0, SHORT_FRAMES)?;
-        let heard = self.procedure.disconnect(&mut self.answers);
-        Ok(Step {
-            frames: self.answers.drain(),
-            packet: heard.packet,
-            notes: heard.notes,
-        })
+        let heard = self.station.disconnect(&mut self.answers);
+        Ok(self.answers.answered(heard))
     }
 
     /// A firing of timer T1: a SABM or a poll again, or after `n2` of these LinkDown(retries).
     ///
     /// 11 where the timer doesn't run, then 70.
     pub fn t1(&mut self) -> Result<Step<'static>, LinkError>
-        ensures state { (c : Settings) (s : Station) → FitsLink c self.old s → OnOk result (FitsLink c self.new (timer_step c s).side.near) }
-        ensures answer { (c : Settings) (s : Station) → FitsLink c self.old s → IfOk result (λ answer. IsAnswer c answer (timer_step c s)) }
-        ensures refused { (c : Settings) (s : Station) → FitsLink c self.old s → Refuses (timer_refusal s) result }
+        ensures state { (c : Settings) (s : StationState) → FitsLink c self.old s → OnOk result (FitsLink c self.new (timer_step c s).side.near) }
+        ensures answer { (c : Settings) (s : StationState) → FitsLink c self.old s → IfOk result (λ answer. IsAnswer c answer (timer_step c s)) }
+        ensures refused { (c : Settings) (s : StationState) → FitsLink c self.old s → Refuses (timer_refusal s) result }
         ensures outgoing { self.new.outgoing ≡ self.old.outgoing }
         ensures err { OnErr result (self.new ≡ self.old) }
     {
-        if !self.procedure.timer_runs() {
+        if !self.station.timer_runs() {
             return Err(LinkError::NotRunning);
         }
         self.answers.reserve(0, SHORT_FRAMES)?;
-        let heard = self.procedure.fire(&mut self.answers);
-        Ok(Step {
-            frames: self.answers.drain(),
-            packet: heard.packet,
-            notes: heard.notes,
-        })
+        let heard = self.station.fire(&mut self.answers);
+        Ok(self.answers.answered(heard))
     }
 
     /// Leaves Up without a frame, and notes LinkDown(counts) (profile). It takes no memory.
     pub fn abandon(&mut self) -> Step<'static>
         requires { up_of self.old ≡ true }
-        ensures state { (c : Settings) (s : Station) → FitsLink c self.old s → FitsLink c self.new (abandon_step c s).side.near }
-        ensures answer { (c : Settings) (s : Station) → FitsLink c self.old s → IsAnswer c result (abandon_step c s) }
+        ensures state { (c : Settings) (s : StationState) → FitsLink c self.old s → FitsLink c self.new (abandon_step c s).side.near }
+        ensures answer { (c : Settings) (s : StationState) → FitsLink c self.old s → IsAnswer c result (abandon_step c s) }
         ensures outgoing { self.new.outgoing ≡ self.old.outgoing }
     {
-        let heard = self.procedure.leave(Reason::Counts);
-        Step {
-            frames: self.answers.drain(),
-            packet: heard.packet,
-            notes: heard.notes,
-        }
+        let heard = self.station.leave(Reason::Counts);
+        self.answers.answered(heard)
     }
 
     /// Hands a packet of at most `n1` octets down, and answers the frames to send, and before them those of earlier calls
     /// of `put` that `sent` didn't take.
     ///
-    /// 9 where the link isn't up, then 10 where 256 packets wait, then 70.
+    /// 9 where the link isn't up, then 10 where 256 packets wait, then 70, and that only where no memory is set aside.
     pub fn put_packet(&mut self, packet: Vec<u8>) -> Result<Step<'static>, LinkError>
         requires { vec_len packet ≤ limit_of self.old }
-        ensures state { (c : Settings) (s : Station) → FitsLink c self.old s → OnOk result (FitsLink c self.new (put_step c packet.items s).side.near) }
-        ensures frames { (c : Settings) (s : Station) → FitsLink c self.old s →
+        ensures state { (c : Settings) (s : StationState) → FitsLink c self.old s → OnOk result (FitsLink c self.new (put_step c packet.items s).side.near) }
+        ensures frames { (c : Settings) (s : StationState) → FitsLink c self.old s →
             IfOk result (λ answer. map (λ f. f.items) answer.frames.items ≡ self.old.outgoing.made ++ map (spelling_of c.role) (put_step c packet.items s).side.out) }
         ensures packet { IfOk result (λ answer. answer.packet ≡ None) }
         ensures notes { IfOk result (λ answer. answer.notes ≡ record { down = None; up = false }) }
-        ensures refused { (c : Settings) (s : Station) → FitsLink c self.old s → Refuses (put_refusal s) result }
+        ensures refused { (c : Settings) (s : StationState) → FitsLink c self.old s → Refuses (put_refusal s) result }
+        ensures memory { IsErrOf result LinkError.NoMemory → self.old.outgoing.long ≡ 0 }
         ensures outgoing { OnOk result (self.new.outgoing ≡ record { made = []; long = 0; short = 0 }) }
         ensures err { OnErr result (self.new ≡ self.old) }
     {
         self.give(packet)?;
-        Ok(Step {
-            frames: self.sent(),
-            packet: None,
-            notes: Notes {
-                down: None,
-                up: false,
-            },
-        })
+        Ok(self.outgoing.answered(Heard::quiet()))
     }
 
     /// Hands out the frames of `put`, in order. No memory is set aside for further calls of `put` after it.
     pub fn sent(&mut self) -> Vec<Vec<u8>>
         ensures frames { map (λ f. f.items) result.items ≡ self.old.outgoing.made }
         ensures outgoing { self.new.outgoing ≡ record { made = []; long = 0; short = 0 } }
-        ensures procedure { self.new.procedure ≡ self.old.procedure }
+        ensures station { self.new.station ≡ self.old.station }
     {
         self.outgoing.drain()
     }
 
     /// Whether the link is up, nothing waits and all that was sent is acknowledged.
     pub fn idle(&self) -> bool
-        ensures { (c : Settings) (s : Station) → FitsLink c self.now s → result ≡ is_idle s }
+        ensures { (c : Settings) (s : StationState) → FitsLink c self.now s → result ≡ is_idle s }
     {
-        self.procedure.is_idle()
+        self.station.is_idle()
     }
 
     // Hands a packet down, and keeps the frames.
     fn give(&mut self, packet: Vec<u8>) -> Result<(), LinkError>
         requires { vec_len packet ≤ limit_of self.old }
-        ensures state { (c : Settings) (s : Station) → FitsLink c self.old s → OnOk result (FitsLink c self.new (put_step c packet.items s).side.near) }
-        ensures made { (c : Settings) (s : Station) → FitsLink c self.old s →
+        ensures state { (c : Settings) (s : StationState) → FitsLink c self.old s → OnOk result (FitsLink c self.new (put_step c packet.items s).side.near) }
+        ensures made { (c : Settings) (s : StationState) → FitsLink c self.old s →
             OnOk result (self.new.outgoing.made ≡ self.old.outgoing.made ++ map (spelling_of c.role) (put_step c packet.items s).side.out) }
         ensures spare { OnOk result (self.new.outgoing.long ≡ self.old.outgoing.long - 1) }
-        ensures refused { (c : Settings) (s : Station) → FitsLink c self.old s → Refuses (put_refusal s) result }
+        ensures refused { (c : Settings) (s : StationState) → FitsLink c self.old s → Refuses (put_refusal s) result }
         ensures not_up { IsErrOf result LinkError.NotUp ↔ (up_of self.old ≡ false) }
         ensures full { IsErrOf result LinkError.QueueFull ↔ ((up_of self.old ≡ true) × (waiting_of self.old ≡ 256)) }
+        ensures kinds { IfErr result RefusesPut }
         ensures memory { IsErrOf result LinkError.NoMemory → self.old.outgoing.long ≡ 0 }
         ensures accepted { up_of self.old ≡ true → waiting_of self.old < 256 → 0 < self.old.outgoing.long → IsOk result }
         ensures up_stays { up_of self.new ≡ up_of self.old }
@@ -246,64 +221,14 @@ impl Link {
         ensures waits_more { OnOk result (waiting_of self.new ≤ waiting_of self.old + 1) }
         ensures err { OnErr result (self.new ≡ self.old) }
     {
-        if !self.procedure.phase.is_up() {
+        if !self.station.phase.is_up() {
             return Err(LinkError::NotUp);
         }
-        if self.procedure.backlog.waiting() == PLACES {
+        if self.station.backlog.waiting() == PLACES {
             return Err(LinkError::QueueFull);
         }
         self.outgoing.reserve(1, 0)?;
-        self.procedure.give(Octets::of(packet), &mut self.outgoing);
+        self.station.give(Octets::of(packet), &mut self.outgoing);
         Ok(())
-    }
-}
-
-impl OrderedLink for Link {
-    ghost use Rattle.x25_link.specs.Link.{LinkState, FitsWhole, lists_in, after_put_to, limit_of, up_of, waiting_of};
-    ghost use Rattle.x25_link.specs.LinkLaws.{put_adds, acked_low};
-
-    ghost State = { LinkState };
-
-    ghost fits = { FitsWhole };
-
-    ghost lists = { lists_in };
-
-    ghost after_put = { after_put_to };
-
-    ghost adds = { put_adds };
-
-    ghost begins = { acked_low };
-
-    ghost longest = { limit_of };
-
-    ghost waits = { waiting_of };
-
-    ghost up = { up_of };
-
-    ghost spares = { λ l. l.outgoing.long };
-
-    fn limit(&self) -> usize {
-        self.procedure.parameters.n1
-    }
-
-    fn waiting(&self) -> usize {
-        self.procedure.backlog.waiting()
-    }
-
-    fn is_up(&self) -> bool {
-        self.procedure.phase.is_up()
-    }
-
-    fn spare(&self) -> usize {
-        self.outgoing.long()
-    }
-
-    fn room(&mut self, count: usize) -> Result<(), LinkError> {
-        self.outgoing.reserve(count, 0)?;
-        Ok(())
-    }
-
-    fn put(&mut self, packet: Vec<u8>) -> Result<(), LinkError> {
-        self.give(packet)
     }
 }

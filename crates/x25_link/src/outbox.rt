@@ -1,24 +1,30 @@
-ghost use Rattle.std.specs.Prelude.{◌≡◌, ℕ, ◌+◌, ◌-◌, ◌<◌, ◌≤◌, ◌⊎◌, List, [], ◌∷◌, ◌++◌, length, map, max, vec_len, vec_capacity, OnOk, OnErr};
-ghost use Rattle.x25_frame.specs.PlainFrame.{plain};
+ghost use Rattle.std.specs.Prelude.{◌≡◌, ℕ, ◌+◌, ◌-◌, ◌<◌, ◌≤◌, ◌⊎◌, List, [], ◌∷◌, ◌++◌, length, map, max, vec_len, vec_capacity, false, OnOk, OnErr};
+ghost use Rattle.x25_frame.specs.PlainFrame.{plain, info};
 ghost use Rattle.x25_frame.specs.Spelling.{spelling_of, information_of};
 ghost use Rattle.x25_link.specs.Outbox.{ShownOutbox};
 
-use crate::blank::Blanks;
+use crate::frame_memory::Blanks;
+use crate::heard::Heard;
+use crate::step::Step;
 use std::alloc::{AllocError, Global};
 use std::marker::Model;
 use std::mem;
-use x25_bits::Role;
+use x25_bits::{Role, Seq};
 use x25_frame::{Frame, encode};
 
 /// The most octets of a frame: those of a packet, address, control and frame check sequence.
-pub const LONGEST_FRAME: usize = 4103;
+const LONGEST_FRAME: usize = 4103;
 
 /// The most octets of a frame that carries no packet: those of FRMR.
-pub const SHORT_FRAME: usize = 7;
+const SHORT_FRAME: usize = 7;
+
+/// The octets of a frame beside its information: address, control and frame check sequence.
+const FRAME_OVERHEAD: usize = 4;
 
 /// Frames that were made, in order, and memory for further ones.
 ///
-/// Memory for I frames and for other frames is set aside apart, so that a short frame doesn't carry that of a long one.
+/// Memory for I frames and for other frames is set aside apart. A frame that is handed out carries memory of its own length,
+/// wherever that is to be had when it is made.
 #[derive(Drop)]
 pub struct Outbox {
     made: Vec<Vec<u8>>,
@@ -54,7 +60,7 @@ impl Outbox {
     pub fn long(&self) -> usize
         ensures { result ≡ self.now.long }
     {
-        self.long.len()
+        self.long.promised()
     }
 
     /// Sets memory aside for at least so many I frames and other frames.
@@ -65,28 +71,34 @@ impl Outbox {
         ensures missing { OnErr result ((self.old.long < long) ⊎ (self.old.short < short)) }
         ensures err { OnErr result (self.new ≡ self.old) }
     {
-        let long_count = self.long.len().max(long);
-        let Some(count) = long_count.checked_add(self.short.len().max(short)) else {
+        let before = self.short.promised();
+        let long_count = self.long.promised().max(long);
+        let Some(count) = long_count.checked_add(before.max(short)) else {
             return Err(AllocError);
         };
         self.made.reserve(count)?;
-        let before = self.short.len();
         self.short.reserve(short)?;
         if self.long.reserve(long).is_err() {
-            self.short.truncate(before);
+            self.short.limit(before);
             return Err(AllocError);
         }
         Ok(())
     }
 
-    /// Makes an I frame.
-    pub fn send_long(&mut self, from: Role, frame: &Frame)
+    /// Makes an I frame with P=0.
+    pub fn send_packet(&mut self, from: Role, ns: Seq, nr: Seq, packet: &[u8])
         requires ready { 0 < self.old.long }
-        requires fits { length (information_of (plain frame.now)) ≤ 4099 }
-        ensures { self.new ≡ record self.old { made = self.old.made ++ spelling_of from (plain frame.now) ∷ []; long = self.old.long - 1 } }
+        requires fits { length packet.now ≤ 4099 }
+        ensures { self.new ≡ record self.old { made = self.old.made ++ spelling_of from (info ns.number nr.number false packet.now) ∷ []; long = self.old.long - 1 } }
     {
-        let octets = self.long.take();
-        self.made.push_reserved(spelled(from, frame, octets));
+        let octets = self.long.take(packet.len() + FRAME_OVERHEAD);
+        let frame = Frame::I {
+            ns,
+            nr,
+            p: false,
+            info: packet,
+        };
+        self.made.push_reserved(spelled(from, &frame, octets));
     }
 
     /// Makes a frame that carries no packet.
@@ -95,24 +107,41 @@ impl Outbox {
         requires fits { length (information_of (plain frame.now)) ≤ 3 }
         ensures { self.new ≡ record self.old { made = self.old.made ++ spelling_of from (plain frame.now) ∷ []; short = self.old.short - 1 } }
     {
-        let octets = self.short.take();
+        let octets = self.short.take(SHORT_FRAME);
         self.made.push_reserved(spelled(from, frame, octets));
     }
 
-    /// Lets memory for one I frame go, where there is some.
+    /// Takes the promise of memory for one I frame back, where there is some.
     pub fn discard(&mut self)
         ensures { self.new ≡ record self.old { long = self.old.long - 1 } }
     {
-        self.long.truncate(self.long.len().saturating_sub(1));
+        self.long.limit(self.long.promised().saturating_sub(1));
     }
 
-    /// Hands out the frames that were made.
+    /// What a call answers: the frames that were made, and what it heard.
+    pub fn answered<'a>(&mut self, heard: Heard<'a>) -> Step<'a>
+        ensures frames { map (λ v. v.items) result.frames.items ≡ self.old.made }
+        ensures packet { result.packet ≡ heard.entry.packet }
+        ensures notes { result.notes ≡ heard.entry.notes }
+        ensures empty { self.new ≡ record { made = []; long = 0; short = 0 } }
+    {
+        Step {
+            frames: self.drain(),
+            packet: heard.packet,
+            notes: heard.notes,
+        }
+    }
+
+    /// Hands out the frames that were made. No memory is promised for further ones.
     pub fn drain(&mut self) -> Vec<Vec<u8>>
         ensures made { map (λ v. v.items) result.items ≡ self.old.made }
         ensures empty { self.new ≡ record { made = []; long = 0; short = 0 } }
     {
-        self.long.truncate(0);
-        self.short.truncate(0);
+        self.long.limit(0);
+        self.short.limit(0);
+        if self.made.is_empty() {
+            return Vec::new(self.alloc);
+        }
         mem::replace(&mut self.made, Vec::new(self.alloc))
     }
 }

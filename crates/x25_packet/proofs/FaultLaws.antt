@@ -16,7 +16,8 @@ use Rattle.x25_packet.specs.FirstError.AcceptError.{some_lengths, no_field, zero
 use Rattle.x25_packet.specs.FirstError.IsFirstError.{no_header, wrong_format, no_packet, in_body}
 use Rattle.x25_packet.specs.PlainPacket.{PlainPacket, call, accept, clear, clear_conf, user_data, rr, rnr, interrupt, interrupt_conf, reset, reset_conf, restart, restart_conf}
 use Rattle.x25_packet.specs.Digits.{IsAddress}
-use Rattle.x25_packet.specs.Spelling.{bit, channel_of, format_of, header_of, type_of, IsChannel, IsInRange}
+use Rattle.x25_bits.specs.Bit.{bit}
+use Rattle.x25_packet.specs.Spelling.{channel_of, format_of, header_of, type_of, IsChannel, IsInRange}
 use Rattle.x25_packet.specs.Reading.{accept_of, accepted_with, bare, call_of, called_with, caused, channelled, data_of, facilities_and_user, field_after, flow_control_of, has_format, interrupt_of, kind_of, packet_of, reason_of, unchannelled, with_field}
 use Rattle.x25_packet.proofs.PacketLaws.{Field, IsOctets, bit_eq, bit_lt, channel_few, differ, field_found, format_cases, numbered, on_channel, other}
 use Rattle.x25_packet.proofs.FacilityLaws.{chosen}

@@ -5,3 +5,4 @@ pub mod Spelling
 pub mod PacketError
 pub mod Reading
 pub mod FirstError
+pub mod ReadingLaw

@@ -1,11 +1,9 @@
 -- The octets that spell a packet. ITU-T X.25 (10/96), sections 5.1 to 5.5.
-use Rattle.std.specs.Prelude.{ℕ, ◌+◌, ◌*◌, ◌/◌, ◌%◌, ◌<◌, ◌≤◌, ◌≡◌, Bool, if◌then◌else◌, List, [], ◌∷◌, ◌++◌, length}
+use Rattle.std.specs.Prelude.{ℕ, ◌+◌, ◌*◌, ◌/◌, ◌%◌, ◌<◌, ◌≤◌, ◌≡◌, List, [], ◌∷◌, ◌++◌, length}
+pub use Rattle.x25_bits.specs.Bit.{bit}
 use Rattle.x25_packet.specs.PlainPacket.{PlainPacket, call, accept, clear, clear_conf, user_data, rr, rnr, interrupt, interrupt_conf, reset, reset_conf, restart, restart_conf}
 use Rattle.x25_packet.specs.Digits.{packed, IsAddress}
 use Rattle.x25_packet.specs.Facilities.{IsFacilityField}
-
-abbrev pub bit : Bool → ℕ
-bit b = if b then 1 else 0
 
 -- Section 5.1.2 and 5.1.3: RESTART and its confirmation are of channel 0.
 abbrev pub channel_of : PlainPacket → ℕ

@@ -89,6 +89,18 @@ impl<'a> Digits<'a> {
         })
     }
 
+    /// The same digits once more, borrowed from where these are. It takes no memory.
+    pub fn again(&self) -> Digits<'a>
+        ensures { result ≡ self.now }
+    {
+        Digits {
+            octets: self.octets,
+            start: self.start,
+            count: self.count,
+            in_text: self.in_text,
+        }
+    }
+
     /// How many digits there are, 0 to 15.
     pub fn len(&self) -> usize
         ensures number { result ≡ length self.now }

@@ -4,18 +4,19 @@
 #![tactic(auto)]
 
 mod call;
+mod codes;
 mod digits;
 mod error;
 mod facilities;
+mod law;
 mod packet;
 mod reading;
 mod spelling;
-#[cfg(test)]
-mod tests;
 
 pub use digits::Digits;
 pub use error::PacketError;
 pub use facilities::{Directions, Facilities};
+pub use law::reading_is_the_grammar;
 pub use packet::Packet;
 pub use reading::{CALL_OCTETS, channel, decode};
 pub use spelling::encode;

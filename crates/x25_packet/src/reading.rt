@@ -6,6 +6,7 @@ ghost use Rattle.x25_packet.specs.PlainPacket.{PlainPacket, plain};
 ghost use Rattle.x25_packet.specs.Spelling.{Spells};
 
 use crate::call::{accept, call};
+use crate::codes;
 use crate::error::PacketError;
 use crate::packet::Packet;
 use x25_bits::Seq;
@@ -87,11 +88,11 @@ fn unchannelled<'a>(kind: u8, body: &'a [u8]) -> Result<Packet<'a>, PacketError>
     ensures { Gives result (unchannelled kind body.now) }
 {
     match kind {
-        0xFB => {
+        codes::RESTART => {
             let (cause, diagnostic) = reason(body)?;
             Ok(Packet::Restart { cause, diagnostic })
         }
-        0xFF => bare(Packet::RestartConf, body),
+        codes::RESTART_CONF => bare(Packet::RestartConf, body),
         _ => Err(PacketError::Unidentified),
     }
 }
@@ -102,8 +103,8 @@ fn flow_control<'a>(channel: u16, kind: u8, body: &[u8]) -> Result<Packet<'a>, P
 {
     let pr = Seq::modulo(kind / 32);
     match kind % 32 {
-        0x01 => bare(Packet::Rr { channel, pr }, body),
-        0x05 => bare(Packet::Rnr { channel, pr }, body),
+        codes::RR => bare(Packet::Rr { channel, pr }, body),
+        codes::RNR => bare(Packet::Rnr { channel, pr }, body),
         _ => Err(PacketError::Unidentified),
     }
 }
@@ -118,9 +119,9 @@ fn channelled<'a>(
     ensures { Gives result (channelled most channel kind body.now) }
 {
     match kind {
-        0x0B => call(most, channel, body),
-        0x0F => accept(channel, body),
-        0x13 => {
+        codes::CALL => call(most, channel, body),
+        codes::ACCEPT => accept(channel, body),
+        codes::CLEAR => {
             let (cause, diagnostic) = reason(body)?;
             Ok(Packet::Clear {
                 channel,
@@ -128,10 +129,10 @@ fn channelled<'a>(
                 diagnostic,
             })
         }
-        0x17 => bare(Packet::ClearConf { channel }, body),
-        0x23 => interrupt(channel, body),
-        0x27 => bare(Packet::InterruptConf { channel }, body),
-        0x1B => {
+        codes::CLEAR_CONF => bare(Packet::ClearConf { channel }, body),
+        codes::INTERRUPT => interrupt(channel, body),
+        codes::INTERRUPT_CONF => bare(Packet::InterruptConf { channel }, body),
+        codes::RESET => {
             let (cause, diagnostic) = reason(body)?;
             Ok(Packet::Reset {
                 channel,
@@ -139,7 +140,7 @@ fn channelled<'a>(
                 diagnostic,
             })
         }
-        0x1F => bare(Packet::ResetConf { channel }, body),
+        codes::RESET_CONF => bare(Packet::ResetConf { channel }, body),
         _ => flow_control(channel, kind, body),
     }
 }
@@ -172,13 +173,13 @@ fn read<'a>(most: usize, octets: &'a [u8]) -> Result<Packet<'a>, PacketError>
 /// format identifier (21), the type on this channel (22), then the body from its front to its end: octets missing (20),
 /// digits (24), facilities (25 and 26), octets left over (23).
 pub fn decode<'a>(octets: &'a [u8]) -> Result<Packet<'a>, PacketError>
-    ensures exact { Gives result (packet_of CALL_OCTETS octets.now) }
+    ensures exact { Gives result (packet_of 16 octets.now) }
     // The first error, from the front.
-    ensures fault { IfErr result (IsFirstError CALL_OCTETS octets.now) }
+    ensures fault { IfErr result (IsFirstError 16 octets.now) }
     // What is read is spelled so.
-    ensures found { IfOk result (λ v. Spells CALL_OCTETS (plain v) octets.now) }
+    ensures found { IfOk result (λ v. Spells 16 (plain v) octets.now) }
     // What is spelled so is read.
-    ensures only { (v : PlainPacket) → Spells CALL_OCTETS v octets.now → IsOkAnd result (λ w. plain w ≡ v) }
+    ensures only { (v : PlainPacket) → Spells 16 v octets.now → IsOkAnd result (λ w. plain w ≡ v) }
 {
     read(CALL_OCTETS, octets)
 }

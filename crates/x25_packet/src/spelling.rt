@@ -4,11 +4,12 @@ ghost use Rattle.std.specs.Vec.{VecUnchanged};
 ghost use Rattle.x25_packet.specs.Digits.{IsAddress, packed};
 ghost use Rattle.x25_packet.specs.PlainPacket.{plain};
 ghost use Rattle.x25_packet.specs.Reading.{packet_of};
-ghost use Rattle.x25_packet.specs.Spelling.{IsInRange, accept_body, bit, body_of, call_body, channel_of, format_of, spelling_of, type_of};
+ghost use Rattle.x25_bits.specs.Bit.{bit};
+ghost use Rattle.x25_packet.specs.Spelling.{IsInRange, accept_body, body_of, call_body, channel_of, format_of, spelling_of, type_of};
 
+use crate::codes;
 use crate::digits::Digits;
 use crate::packet::Packet;
-use crate::reading::CALL_OCTETS;
 use x25_bits::NoMemory;
 
 fn channel(packet: &Packet) -> u16
@@ -51,26 +52,26 @@ fn kind(packet: &Packet) -> u8
     ensures { result ≡ type_of (plain packet.now) }
 {
     match packet {
-        Packet::Call { .. } => 0x0B,
-        Packet::Accept { .. } => 0x0F,
-        Packet::Clear { .. } => 0x13,
-        Packet::ClearConf { .. } => 0x17,
+        Packet::Call { .. } => codes::CALL,
+        Packet::Accept { .. } => codes::ACCEPT,
+        Packet::Clear { .. } => codes::CLEAR,
+        Packet::ClearConf { .. } => codes::CLEAR_CONF,
         Packet::Data { m, ps, pr, .. } => 2 * ps.get() + mark(*m) + 32 * pr.get(),
-        Packet::Rr { pr, .. } => 0x01 + 32 * pr.get(),
-        Packet::Rnr { pr, .. } => 0x05 + 32 * pr.get(),
-        Packet::Interrupt { .. } => 0x23,
-        Packet::InterruptConf { .. } => 0x27,
-        Packet::Reset { .. } => 0x1B,
-        Packet::ResetConf { .. } => 0x1F,
-        Packet::Restart { .. } => 0xFB,
-        Packet::RestartConf => 0xFF,
+        Packet::Rr { pr, .. } => codes::RR + 32 * pr.get(),
+        Packet::Rnr { pr, .. } => codes::RNR + 32 * pr.get(),
+        Packet::Interrupt { .. } => codes::INTERRUPT,
+        Packet::InterruptConf { .. } => codes::INTERRUPT_CONF,
+        Packet::Reset { .. } => codes::RESET,
+        Packet::ResetConf { .. } => codes::RESET_CONF,
+        Packet::Restart { .. } => codes::RESTART,
+        Packet::RestartConf => codes::RESTART_CONF,
     }
 }
 
 /// How many octets follow the type of a CALL.
 fn call_len(called: &Digits, calling: &Digits, facilities: &[u8], user: &[u8]) -> usize
     requires field { length facilities.now ≤ 6 }
-    requires user { length user.now ≤ CALL_OCTETS }
+    requires user { length user.now ≤ 16 }
     ensures value { result ≡ length (call_body called.now calling.now facilities.now user.now) }
     ensures few { result ≤ 4096 }
 {
@@ -79,7 +80,7 @@ fn call_len(called: &Digits, calling: &Digits, facilities: &[u8], user: &[u8]) -
 
 /// How many octets follow the type.
 fn body_len(packet: &Packet) -> usize
-    requires { IsInRange CALL_OCTETS (plain packet.now) }
+    requires { IsInRange 16 (plain packet.now) }
     ensures value { result ≡ length (body_of (plain packet.now)) }
     ensures few { result ≤ 4096 }
 {
@@ -178,7 +179,7 @@ fn append_accept(facilities: &[u8], octets: &mut Vec<u8>)
 
 /// Appends what follows the type.
 fn append_body(packet: &Packet, octets: &mut Vec<u8>)
-    requires range { IsInRange CALL_OCTETS (plain packet.now) }
+    requires range { IsInRange 16 (plain packet.now) }
     requires room { vec_len octets.old + length (body_of (plain packet.now)) ≤ vec_capacity octets.old }
     ensures { octets.new.items ≡ octets.old.items ++ body_of (plain packet.now) }
 {
@@ -208,7 +209,7 @@ fn append_body(packet: &Packet, octets: &mut Vec<u8>)
 }
 
 fn append_packet(packet: &Packet, octets: &mut Vec<u8>) -> Result<(), NoMemory>
-    requires { IsInRange CALL_OCTETS (plain packet.now) }
+    requires { IsInRange 16 (plain packet.now) }
     ensures ok { OnOk result (octets.new.items ≡ octets.old.items ++ spelling_of (plain packet.now)) }
     ensures err { OnErr result (VecUnchanged octets.old octets.new) }
     ensures room { vec_len octets.old + length (spelling_of (plain packet.now)) ≤ vec_capacity octets.old → IsOk result }
@@ -227,10 +228,10 @@ fn append_packet(packet: &Packet, octets: &mut Vec<u8>) -> Result<(), NoMemory>
 /// capacity has room for the octets; else it is refused with `NoMemory` (70) where there is none. ITU-T X.25 (10/96),
 /// section 5.
 pub fn encode(packet: &Packet, octets: &mut Vec<u8>) -> Result<(), NoMemory>
-    requires { IsInRange CALL_OCTETS (plain packet.now) }
+    requires { IsInRange 16 (plain packet.now) }
     ensures ok { OnOk result (octets.new.items ≡ octets.old.items ++ spelling_of (plain packet.now)) }
     // What is appended reads as the packet.
-    ensures again { OnOk result (packet_of CALL_OCTETS (drop (length octets.old.items) octets.new.items) ≡ Ok (plain packet.now)) }
+    ensures again { OnOk result (packet_of 16 (drop (length octets.old.items) octets.new.items) ≡ Ok (plain packet.now)) }
     ensures err { OnErr result (VecUnchanged octets.old octets.new) }
     ensures room { vec_len octets.old + length (spelling_of (plain packet.now)) ≤ vec_capacity octets.old → IsOk result }
 {

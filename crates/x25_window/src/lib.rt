@@ -8,6 +8,3 @@ mod window_error;
 pub use receiver::Receiver;
 pub use sender::Sender;
 pub use window_error::WindowError;
-
-#[cfg(test)]
-mod tests;

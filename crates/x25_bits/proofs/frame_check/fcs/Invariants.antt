@@ -1,12 +1,12 @@
-use Rattle.std.proofs.Common.{◌≡◌, ℕ, ◌<◌, List, drop}
+use Rattle.std.proofs.Common.{◌≡◌, ◌*◌, ◌<◌, ℕ, List, drop}
 use Rattle.x25_bits.specs.Fcs.{low_bits, bits_of}
 use Rattle.x25_bits.specs.Register.{fed}
 use Rattle.x25_bits.proofs.frame_check.fcs.Given as goal
 
 -- what is left to feed leads to the same end
-pub record Leads (register : ℕ) (left octets : List ℕ) : Type 0 where
-  pub fits : register < 65536
-  pub same : fed (low_bits 16 register) (bits_of left) ≡ fed (low_bits 16 65535) (bits_of octets)
+pub record Leads (held : ℕ) (left octets : List ℕ) : Type 0 where
+  pub fits : held < 18446744073709551616
+  pub same : fed (fed (low_bits 16 0) (low_bits 64 held)) (bits_of left) ≡ fed (low_bits 16 65535) (bits_of octets)
 
-abbrev pub invariant-loop-octet : goal.invariant-loop-octet
-invariant-loop-octet l = Leads l.register (drop l.octet-index l.octets) l.octets
+abbrev pub invariant-loop-eight : goal.invariant-loop-eight
+invariant-loop-eight l = Leads l.held (drop (8 * l.eight) l.rest) l.octets

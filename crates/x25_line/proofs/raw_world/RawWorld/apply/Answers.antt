@@ -1,8 +1,8 @@
-use Rattle.std.proofs.Common.{◌≡◌, Err, OnOk, OnErr, refl, sym, ◌∙◌}
+use Rattle.std.proofs.Common.{◌≡◌, None, Err, OnOk, OnErr, refl, sym, ◌∙◌}
 use Rattle.std.proofs.Props.{props}
 use Rattle.std.proofs.Math.Logic.{∥∥₁_map, ∥∥₁_elim}
 use Rattle.x25_bits.specs.declared.role.Role.TheVariants.{Dte, Dce}
-use Rattle.x25_line.specs.RawMachine.{RawState, sides_swapped, end_of_event, happens}
+use Rattle.x25_line.specs.RawMachine.{RawState, sides_swapped, end_of_event, happens, event_refusal}
 use Rattle.x25_line.specs.RawShown.{ShownWorld}
 use Rattle.x25_line.specs.RawFitting.{FitsWorld, Run, run_of}
 use Rattle.x25_line.specs.declared.raw_error.RawError.TheVariants.{BadAck}
@@ -28,11 +28,14 @@ step-dte c s fits =
     rw (end-dte c, sym c.act-done.ensures)
     (dte_step (was_dte c) c.act.new.near c.act.new.out.items c.act.new.back.items c.act.result s c.act-done.result fits (c.act.ensures.step s (dte_side (was_dte c) s fits)))
 
+accepted-dte : (c : After-act) (s : RawState) → FitsWorld (was_dte c) s → OnOk c.act.result (event_refusal s c.args.event ≡ None)
+accepted-dte c s fits = rw (end-dte c, sym c.act-done.ensures) (c.act.ensures.accepted s (dte_side (was_dte c) s fits))
+
 same-dte : (c : After-act) → OnErr c.act.result (is_dte c ≡ was_dte c)
 same-dte c = OnErr_then c.act.result c.act.ensures.unchanged (λ h. rw (h.0, h.1, h.2) refl)
 
 run-dte : (c : After-act) → ∥ Run (is_dte c) ∥₁
-run-dte c = ∥∥₁_map c.self.invariant (λ h. Run-next (was_dte c) (is_dte c) c.args.event c.act.result h (step-dte c) (same-dte c))
+run-dte c = ∥∥₁_map c.self.invariant (λ h. Run-next (was_dte c) (is_dte c) c.args.event c.act.result h (step-dte c) (accepted-dte c) (same-dte c))
 
 never-dte : (c : After-act) → c.act.result ≡ Err BadAck → ⊥
 never-dte c e = ∥∥₁_elim c.self.invariant (hlevel props) (λ h.
@@ -75,11 +78,14 @@ step-dce c s fits =
     (dce_step (was_dce c) c.act-in-Dce.new.near c.act-in-Dce.new.out.items c.act-in-Dce.new.back.items c.act-in-Dce.result s c.act-done.result fits
     (c.act-in-Dce.ensures.step (sides_swapped s) (dce_side (was_dce c) s fits)))
 
+accepted-dce : (c : After-act-in-Dce) (s : RawState) → FitsWorld (was_dce c) s → OnOk c.act-in-Dce.result (event_refusal s c.args.event ≡ None)
+accepted-dce c s fits = rw (end-dce c, sym c.act-done.ensures) (c.act-in-Dce.ensures.accepted (sides_swapped s) (dce_side (was_dce c) s fits))
+
 same-dce : (c : After-act-in-Dce) → OnErr c.act-in-Dce.result (is_dce c ≡ was_dce c)
 same-dce c = OnErr_then c.act-in-Dce.result c.act-in-Dce.ensures.unchanged (λ h. rw (h.0, h.1, h.2) refl)
 
 run-dce : (c : After-act-in-Dce) → ∥ Run (is_dce c) ∥₁
-run-dce c = ∥∥₁_map c.self.invariant (λ h. Run-next (was_dce c) (is_dce c) c.args.event c.act-in-Dce.result h (step-dce c) (same-dce c))
+run-dce c = ∥∥₁_map c.self.invariant (λ h. Run-next (was_dce c) (is_dce c) c.args.event c.act-in-Dce.result h (step-dce c) (accepted-dce c) (same-dce c))
 
 never-dce : (c : After-act-in-Dce) → c.act-in-Dce.result ≡ Err BadAck → ⊥
 never-dce c e = ∥∥₁_elim c.self.invariant (hlevel props) (λ h.

@@ -13,5 +13,6 @@ invariant_of-result c =
       low = dte.sender.sound.window_low;
       high = dte.sender.sound.window_high;
       events = let none : List RawEvent = [] in none;
+      accepted = tt;
       fits = record { dte = dte; dce = dce; to_dce = rw c.new-3.ensures.items tt; to_dte = rw c.new-4.ensures.items tt };
     } ∣₁

@@ -1,4 +1,5 @@
-use Rattle.std.proofs.Common.{[], sym, subst, refl, ◌∙◌}
+use Rattle.std.proofs.Common.{ap, [], sym, subst, refl, ◌∙◌}
+use Rattle.std.specs.Prelude.{option_copied}
 use Rattle.x25_link.specs.Link.{ShownLink, FitsLink}
 use Rattle.x25_link.specs.MustSend.{Step}
 use Rattle.x25_link.specs.Steps.{alone, connects}
@@ -17,4 +18,4 @@ returns-clause-answer c = λ d s fits.
     let inside = subst (λ (v : ShownLink). FitsLink d v s) (sym c.self.view_is) fits in
     let side = c.connect.ensures d [] (alone s) (record { near = inside.near; out = c.reserve.ensures.made ∙ c.self.invariant }) in
     let step : Step = connects (alone s) in
-    record { frames = closed_out d _ step.side refl refl (c.drain.ensures.made ∙ side.out); packet = refl; notes = refl }
+    record { frames = closed_out d _ step.side refl refl (c.answered.ensures.frames ∙ side.out); packet = ap option_copied (c.answered.ensures.packet ∙ c.quiet.ensures.packet); notes = c.answered.ensures.notes ∙ c.quiet.ensures.notes }

@@ -1,4 +1,5 @@
-use Rattle.std.proofs.Common.{[], sym, subst, refl, ◌∙◌}
+use Rattle.std.proofs.Common.{ap, [], sym, subst, refl, ◌∙◌}
+use Rattle.std.specs.Prelude.{option_copied}
 use Rattle.x25_link.specs.Link.{ShownLink, FitsLink}
 use Rattle.x25_link.specs.MustSend.{Step}
 use Rattle.x25_link.specs.Steps.{alone, disconnects}
@@ -17,4 +18,4 @@ returns-clause-answer c = λ d s fits.
     let inside = subst (λ (v : ShownLink). FitsLink d v s) (sym c.self.view_is) fits in
     let heard = c.disconnect-heard.ensures d [] (alone s) (record { near = inside.near; out = c.reserve.ensures.made ∙ c.self.invariant }) in
     let step : Step = disconnects (alone s) in
-    record { frames = closed_out d _ step.side refl refl (c.drain.ensures.made ∙ heard.side.out); packet = heard.packet; notes = heard.notes }
+    record { frames = closed_out d _ step.side refl refl (c.answered.ensures.frames ∙ heard.side.out); packet = ap option_copied c.answered.ensures.packet ∙ heard.packet; notes = c.answered.ensures.notes ∙ heard.notes }

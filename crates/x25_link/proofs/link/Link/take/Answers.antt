@@ -1,4 +1,5 @@
-use Rattle.std.proofs.Common.{[], sym, subst, ◌∙◌}
+use Rattle.std.proofs.Common.{ap, [], sym, subst, ◌∙◌}
+use Rattle.std.specs.Prelude.{option_copied}
 use Rattle.x25_link.specs.Link.{ShownLink, FitsLink}
 use Rattle.x25_link.proofs.link.Link.take.Goals as goal
 
@@ -12,4 +13,4 @@ pub returns-clause-answer : goal.returns-clause-answer
 returns-clause-answer c = λ d s fits.
     let inside = subst (λ (v : ShownLink). FitsLink d v s) (sym c.self.view_is) fits in
     let heard = c.hear-heard.ensures.step d [] s (record { near = inside.near; out = c.reserve.ensures.made ∙ c.self.invariant }) in
-    record { frames = c.drain.ensures.made ∙ heard.side.out; packet = heard.packet; notes = heard.notes }
+    record { frames = c.answered.ensures.frames ∙ heard.side.out; packet = ap option_copied c.answered.ensures.packet ∙ heard.packet; notes = c.answered.ensures.notes ∙ heard.notes }

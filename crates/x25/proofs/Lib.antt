@@ -1,9 +1,0 @@
-pub mod FacilityLength
-pub mod DigitLemmas
-pub mod ResultLemmas
-pub mod KnownLemmas
-pub mod LineLemmas
-pub mod StreamLemmas
-pub mod HeldLemmas
-pub mod ReadLemmas
-pub mod ProgramLemmas

@@ -1,6 +1,0 @@
-use Rattle.std.proofs.Common.{refl}
-use Rattle.x25.proofs.ReadLemmas.{start}
-use Rattle.x25.proofs.decoder.Decoder.new.Goals as goal
-
-pub returns : goal.returns
-returns c = record { fresh = λ old input. start old _ _ _ _ input c.in_ok-line.ensures refl c.in_ok-text.ensures refl }

@@ -1,9 +1,0 @@
-pub mod OctetText
-pub mod PacketText
-pub mod FrameText
-pub mod Lines
-pub mod Decoded
-pub mod Written
-pub mod Stream
-pub mod Program
-pub mod Words

@@ -1,0 +1,11 @@
+//! Tests of `x25_bits`: vectors from outside, and each of its public functions with ample memory.
+#![tactic(auto)]
+
+#[cfg(test)]
+mod deframing;
+#[cfg(test)]
+mod numbers;
+#[cfg(test)]
+mod sealing;
+#[cfg(test)]
+mod spans;

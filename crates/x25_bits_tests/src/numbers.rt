@@ -1,0 +1,28 @@
+use std::test::Fail;
+use x25_bits::{NoMemory, Role, Seq};
+
+/// A number, whether it is a sequence number, what it is modulo 8, and the one after that.
+const ROWS: [(u8, bool, u8, u8); 5] = [
+    (0, true, 0, 1),
+    (7, true, 7, 0),
+    (8, false, 0, 1),
+    (13, false, 5, 6),
+    (255, false, 7, 0),
+];
+
+#[test]
+fn counts_modulo_8(rt: HostRuntime) {
+    for (number, is_one, rest, after) in ROWS {
+        let seq = Seq::modulo(number);
+        assert_eq!(rt; Seq::new(number).is_some(), is_one, "at {number}");
+        assert_eq!(rt; (seq.get(), seq.next().get()), (rest, after), "at {number}");
+    }
+}
+
+#[test]
+fn names(rt: HostRuntime) -> Result<(), Fail> {
+    assert_eq!(rt; Seq::new(0), Some(Seq::ZERO));
+    assert_eq!(rt; NoMemory.number(), 70);
+    assert_eq!(rt; Role::Dte.other(), Role::Dce);
+    Ok(())
+}

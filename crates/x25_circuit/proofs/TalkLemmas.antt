@@ -1,0 +1,79 @@
+-- What a circuit's variables stand for after a small change.
+use Rattle.std.proofs.Common.{◌≡◌, ℕ, ◌+◌, Bool, true, false, IsTrue, if◌then◌else◌, List, length, refl, sym, ap, subst, ◌∙◌, ◌==◌, ◌%◌, nat_le, Option, Some, None}
+use Rattle.x25_window.specs.Modulo.{resolved}
+use Rattle.x25_window.specs.Receiving.{FitsTaken}
+use Rattle.x25_window.specs.declared.receiver.Receiver.{Receiver}
+use Rattle.x25_circuit.specs.declared.circuit.Circuit as code
+use Rattle.x25_circuit.specs.declared.transfer.Transfer.{Transfer}
+use Rattle.x25_circuit.specs.Messages.{Piece, piece_of, piece_ground, ground_of, Partial, no_part, joining, wholes}
+use Rattle.x25_circuit.specs.PartialMessage.{ShownPartial}
+use Rattle.x25_circuit.specs.Queue.{waiting}
+use Rattle.x25_circuit.specs.Table.{data_ground, number_ground}
+use Rattle.x25_circuit.proofs.MessageLemmas.{wholes_all}
+use Rattle.x25_circuit.specs.Circuit.{Settings, Talk, Circuit}
+use Rattle.x25_circuit.specs.Changes.{with_interrupt, with_peer, with_own}
+use Rattle.x25_circuit.specs.Fits.{FitsTalk, first_ground}
+use Rattle.x25_circuit.specs.FitsCircuit.{FitsCircuit}
+
+pub with_transfer : (c : Settings) (v : code.Circuit) (x : Circuit) (u : Transfer) (t : Talk) → FitsCircuit c v x → FitsTalk c.outgoing.size u t
+    → FitsCircuit c (record v { transfer = u }) (record x { talk = t })
+with_transfer c v x u t fits talk = record {
+  role = fits.role;
+  window_out = fits.window_out;
+  size_out = fits.size_out;
+  window_in = fits.window_in;
+  size_in = fits.size_in;
+  state = fits.state;
+  clears = fits.clears;
+  resets = fits.resets;
+  talk = talk;
+}
+
+-- a transfer that was left as it is
+pub same_transfer : (c : Settings) (v : code.Circuit) (x : Circuit) (u : Transfer) → FitsCircuit c v x → u ≡ v.transfer → FitsCircuit c (record v { transfer = u }) x
+same_transfer c v x u fits same = with_transfer c v x u x.talk fits (subst (λ (w : Transfer). FitsTalk c.outgoing.size w x.talk) (sym same) fits.talk)
+
+pub own_fits : (size : ℕ) (v : Transfer) (t : Talk) (b : Bool) → FitsTalk size v t → FitsTalk size (record v { own_ready = b }) (with_own b t)
+own_fits size v t b fits = record { numbers = fits.numbers; taken = fits.taken; rest = fits.rest; part = fits.part; int_out = fits.int_out; peer_ready = fits.peer_ready; own_ready = refl }
+
+pub peer_fits : (size : ℕ) (v : Transfer) (t : Talk) (b : Bool) → FitsTalk size v t → FitsTalk size (record v { peer_ready = b }) (with_peer b t)
+peer_fits size v t b fits = record { numbers = fits.numbers; taken = fits.taken; rest = fits.rest; part = fits.part; int_out = fits.int_out; peer_ready = refl; own_ready = fits.own_ready }
+
+pub interrupt_fits : (size : ℕ) (v : Transfer) (t : Talk) (b : Bool) → FitsTalk size v t → FitsTalk size (record v { interrupt_out = b }) (with_interrupt b t)
+interrupt_fits size v t b fits = record { numbers = fits.numbers; taken = fits.taken; rest = fits.rest; part = fits.part; int_out = refl; peer_ready = fits.peer_ready; own_ready = fits.own_ready }
+
+pub taken_more : (r : Receiver) (b : Bool) (n m : ℕ) → IsTrue b → FitsTaken r (if b then n + 1 else n) → m ≡ n + 1 → FitsTaken r m
+taken_more r true n m h fits e = rw e fits
+taken_more r false n m h fits e = absurd (cc)
+
+pub piece_ground_of : (size : ℕ) (j : Partial) (q m : Bool) (user : List ℕ) → piece_ground size j (piece_of q m user) ≡ ground_of size j (length user) q
+piece_ground_of size j q true user = refl
+piece_ground_of size j q false user = refl
+
+-- memory that is set aside is no part of what is stood for
+pub partial_fits : (size : ℕ) (v : Transfer) (t : Talk) (p : ShownPartial) → FitsTalk size v t → p.part ≡ v.partial.part → FitsTalk size (record v { partial = p }) t
+partial_fits size v t p fits same = record { numbers = fits.numbers; taken = fits.taken; rest = fits.rest; part = same ∙ fits.part; int_out = fits.int_out; peer_ready = fits.peer_ready; own_ready = fits.own_ready }
+
+pub waits_are : (size : ℕ) (v : Transfer) (t : Talk) → FitsTalk size v t → wholes t.rest ≡ length (waiting v.queue)
+waits_are size v t fits = ap wholes fits.rest ∙ wholes_all size (waiting v.queue)
+
+-- ---- the grounds of a data packet
+
+pub same_ground : (size least ps : ℕ) (t : Talk) (q m : Bool) (user : List ℕ) → least ≡ size
+    → (if ps == length t.taken % 8 then ground_of least (joining no_part t.taken) (length user) q else Some 1)
+    ≡ (if ps == length t.taken % 8 then piece_ground size (joining no_part t.taken) (piece_of q m user) else Some 1)
+same_ground size least ps t q m user e = rw (e, sym (piece_ground_of size (joining no_part t.taken) q m user)) refl
+
+first_of_two : (b : Bool) (ground : Option ℕ) (n : ℕ) → ground ≡ Some n → (if b then ground else Some 2) ≡ Some (if b then n else 2)
+first_of_two true ground n e = e
+first_of_two false ground n e = refl
+
+pub ground_refused : (size : ℕ) (t : Talk) (ps pr : ℕ) (piece : Piece) (n : ℕ)
+    → (if ps == length t.taken % 8 then piece_ground size (joining no_part t.taken) piece else Some 1) ≡ Some n
+    → data_ground size t ps pr piece ≡ Some (first_ground t pr n)
+ground_refused size t ps pr piece n e = first_of_two (nat_le (resolved t.acked pr) (length t.sent)) _ n e
+
+pub ground_passed : (size : ℕ) (t : Talk) (ps pr : ℕ) (piece : Piece)
+    → (if ps == length t.taken % 8 then piece_ground size (joining no_part t.taken) piece else Some 1) ≡ None
+    → data_ground size t ps pr piece ≡ number_ground t pr
+ground_passed size t ps pr piece e = ap (λ (g : Option ℕ). if nat_le (resolved t.acked pr) (length t.sent) then g else Some 2) e

@@ -1,0 +1,5 @@
+use Rattle.std.proofs.Common.{sym, refl, ◌∙◌}
+use Rattle.x25_circuit.proofs.circuit.Circuit.accept.Goals as goal
+
+pub returns-in-Arriving-clause-outcome : goal.returns-in-Arriving-clause-outcome
+returns-in-Arriving-clause-outcome c = λ d x fits. rw (sym fits.state ∙ c.in-Arriving.is) ((c.enter.ensures.fits d x fits, refl))

@@ -1,0 +1,15 @@
+use Rattle.x25_circuit.proofs.RowLemmas.{clear_told}
+use Rattle.x25_circuit.proofs.circuit.Circuit.hear_clear.Goals as goal
+
+pub returns-in-Clearing-clause-next : goal.returns-in-Clearing-clause-next
+returns-in-Clearing-clause-next c = λ d x fits. rw c.in-Clearing.is (c.be_cleared.ensures.fits d x fits)
+
+pub returns-in-Free-clause-next : goal.returns-in-Free-clause-next
+returns-in-Free-clause-next c = λ d x fits. rw c.in-Free.is (c.be_cleared.ensures.fits d x fits)
+
+pub returns-in_default : goal.returns-in_default
+returns-in_default c =
+    record {
+      next = λ d x fits. rw (clear_told x _ _ _ c.in_default.not-Clearing c.in_default.not-Free) (c.be_cleared.ensures.fits d x fits);
+      says = λ d x fits. rw (clear_told x _ _ _ c.in_default.not-Clearing c.in_default.not-Free) c.both.ensures;
+    }

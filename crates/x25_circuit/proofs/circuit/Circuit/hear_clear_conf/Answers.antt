@@ -1,0 +1,12 @@
+use Rattle.x25_circuit.proofs.RowLemmas.{clear_conf_strays}
+use Rattle.x25_circuit.proofs.circuit.Circuit.hear_clear_conf.Goals as goal
+
+pub returns-in-Clearing-clause-next : goal.returns-in-Clearing-clause-next
+returns-in-Clearing-clause-next c = λ d x fits. rw c.in-Clearing.is (c.be_cleared.ensures.fits d x fits)
+
+pub returns-in_default : goal.returns-in_default
+returns-in_default c =
+    record {
+      next = λ d x fits. rw (clear_conf_strays d x _ c.in_default.not-Clearing) (c.unexpected.ensures.next d x fits);
+      says = λ d x fits. rw (clear_conf_strays d x _ c.in_default.not-Clearing) (c.unexpected.ensures.says d x fits);
+    }

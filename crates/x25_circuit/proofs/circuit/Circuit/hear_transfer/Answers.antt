@@ -1,0 +1,12 @@
+use Rattle.x25_circuit.proofs.RowLemmas.{data_strays}
+use Rattle.x25_circuit.proofs.circuit.Circuit.hear_transfer.Goals as goal
+
+pub returns-in_default : goal.returns-in_default
+returns-in_default c =
+    record {
+      next = λ d x fits. rw (data_strays d x _ _ c.in_default.not-Open c.in_default.not-Resetting c.in_default.not-Clearing) (c.unexpected.ensures.next d x fits);
+      says = λ d x fits. rw (data_strays d x _ _ c.in_default.not-Open c.in_default.not-Resetting c.in_default.not-Clearing) (c.unexpected.ensures.says d x fits);
+      err = tt;
+      missing = tt;
+      unchanged = tt;
+    }

@@ -1,0 +1,8 @@
+use Rattle.std.proofs.Common.{subst}
+use Rattle.x25_circuit.specs.declared.state.State.{State}
+use Rattle.x25_circuit.specs.Table.{row_clear}
+use Rattle.x25_circuit.specs.FitsCircuit.{FitsCircuit}
+use Rattle.x25_circuit.proofs.circuit.Circuit.packet.Goals as goal
+
+pub returns-in-Clear-clause-next : goal.returns-in-Clear-clause-next
+returns-in-Clear-clause-next c = λ d x fits. rw c.in-Clear.is (subst (λ (s : State). FitsCircuit d c.hear_clear.new.self (row_clear x s c.in-Clear.cause c.in-Clear.diagnostic).next) fits.state (c.hear_clear.ensures.next d x fits))

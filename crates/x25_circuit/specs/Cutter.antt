@@ -1,0 +1,22 @@
+-- What contracts see of a message while it is cut.
+use Rattle.std.specs.Prelude.{ℕ, Bool, false, nat_le, if◌then◌else◌, List, [], ◌∷◌, length, take, drop}
+use Rattle.x25_circuit.specs.declared.message.Message.{Message}
+use Rattle.x25_circuit.specs.Messages.{Piece, More, Last, piece_of}
+
+-- what is left of it, where something is, and the user data of the packet that was cut off last
+pub record ShownCutter : Type 0 where
+  pub left : List Message
+  pub lent : List ℕ
+
+-- the next packet of these messages, of at most this size
+abbrev pub first_cut : ℕ → List Message → Piece
+first_cut size [] = Last false []
+first_cut size (m ∷ ms) = if nat_le (length m.user) size then Last m.q m.user else More m.q (take size m.user)
+
+-- what is left of them then
+abbrev pub first_left : ℕ → List Message → List Message
+first_left size [] = []
+first_left size (m ∷ ms) = if nat_le (length m.user) size then ms else record { q = m.q; user = drop size m.user } ∷ ms
+
+abbrev pub marked : Bool → Bool → List ℕ → Piece
+marked q m user = piece_of q m user

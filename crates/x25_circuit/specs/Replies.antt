@@ -1,0 +1,38 @@
+-- What a reply says, as values alone, and that it is the answer of the table.
+use Rattle.std.specs.Prelude.{◌≡◌, Bool, true, false, List, [], ◌∷◌, Option, Some, None}
+use Rattle.x25_packet.specs.declared.packet.Packet.{Packet}
+use Rattle.x25_packet.specs.PlainPacket.{PlainPacket, plain}
+use Rattle.x25_circuit.specs.declared.notice.Notice.{Notice}
+use Rattle.x25_circuit.specs.declared.notice.Notice.TheVariants as code
+use Rattle.x25_circuit.specs.declared.notice.Reply.{Reply}
+use Rattle.x25_circuit.specs.Notices.{PlainNotice, incoming, connected, collided, cleared, clear_done, was_reset, reset_done, delivered, interrupted, interrupt_done, fault}
+
+abbrev pub plain_notice : Notice → PlainNotice
+plain_notice (code.Incoming called calling user) = incoming (record { called = called; calling = calling; user = user.now })
+plain_notice code.Connected = connected
+plain_notice (code.Cleared cause diagnostic) = cleared cause diagnostic
+plain_notice code.ClearDone = clear_done
+plain_notice (code.WasReset cause diagnostic) = was_reset cause diagnostic
+plain_notice code.ResetDone = reset_done
+plain_notice (code.Delivered message) = delivered message
+plain_notice (code.Interrupted user) = interrupted user.now
+plain_notice code.InterruptDone = interrupt_done
+plain_notice (code.Fault diagnostic) = fault diagnostic
+
+abbrev pub plain_notices : Option Notice → List PlainNotice
+plain_notices None = []
+plain_notices (Some notice) = plain_notice notice ∷ []
+
+-- a call of this end that was dropped is told first
+abbrev pub notices_of : Bool → Option Notice → List PlainNotice
+notices_of true notice = collided ∷ plain_notices notice
+notices_of false notice = plain_notices notice
+
+abbrev pub plain_owed : Option Packet → Option PlainPacket
+plain_owed None = None
+plain_owed (Some packet) = Some (plain packet)
+
+-- the reply says these
+pub record Says (reply : Reply) (packet : Option PlainPacket) (told : List PlainNotice) : Type 0 where
+  pub owed : plain_owed reply.packet ≡ packet
+  pub notices : notices_of reply.collided reply.notice ≡ told

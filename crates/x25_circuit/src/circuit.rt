@@ -1,0 +1,124 @@
+ghost use Rattle.std.specs.Prelude.{◌≡◌, ℕ, ◌<◌, ◌≤◌, length, IfOk, IfErr, OnOk, OnErr};
+ghost use Rattle.x25_circuit.specs.declared.state.State.{State};
+ghost use Rattle.x25_circuit.specs.Circuit.{Settings, begun, forgotten, zeroed, is_free, is_open, waits, usual, silent};
+ghost use Rattle.x25_circuit.specs.Circuit.{Circuit as Channel};
+
+use crate::error::CircuitError;
+use crate::state::State;
+use crate::terms::Terms;
+use crate::transfer::Transfer;
+use std::alloc::Global;
+use x25_bits::Role;
+
+/// One logical channel at one end, DTE or DCE. ITU-T X.25 (10/96), section 4.
+///
+/// Its packets name channel 1, and it doesn't look at the channel of those that it takes.
+#[derive(Drop)]
+pub struct Circuit {
+    pub(crate) role: Role,
+    pub(crate) state: State,
+    /// How many clears were done, and how many resets since the last of them.
+    pub(crate) clears: u64,
+    pub(crate) resets: u64,
+    /// The terms of the data packets that this end sends, and of those that it takes.
+    pub(crate) outgoing: Terms,
+    pub(crate) incoming: Terms,
+    pub(crate) transfer: Transfer,
+}
+
+impl Circuit {
+    ghost use Rattle.x25_circuit.specs.FitsCircuit.{FitsCircuit, room_of};
+
+    /// A channel that was never used: p1, with window 2 and packets of at most 128 octets in both directions.
+    ///
+    /// 70 alone.
+    pub fn new(alloc: Global, role: Role) -> Result<Circuit, CircuitError>
+        ensures fits { IfOk result (λ v. FitsCircuit (record { role = role; outgoing = usual; incoming = usual }) v begun) }
+        ensures err { IfErr result (λ e. e ≡ CircuitError.NoMemory) }
+    {
+        let transfer = Transfer::new(alloc)?;
+        Ok(Circuit {
+            role,
+            state: State::Free,
+            clears: 0,
+            resets: 0,
+            outgoing: Terms::usual(),
+            incoming: Terms::usual(),
+            transfer,
+        })
+    }
+
+    /// How many clears were done, and how many resets since the last of them.
+    pub fn counts(&self) -> (u64, u64)
+        ensures clears { (c : Settings) (x : Channel) → FitsCircuit c self.now x → result.0 ≡ x.clears }
+        ensures resets { (c : Settings) (x : Channel) → FitsCircuit c self.now x → result.1 ≡ x.resets }
+        ensures clears_held { result.0 ≡ self.now.clears }
+        ensures resets_held { result.1 ≡ self.now.resets }
+    {
+        (self.clears, self.resets)
+    }
+
+    /// Sets both counts to 0.
+    pub fn zero(&mut self)
+        ensures fits { (c : Settings) (x : Channel) → FitsCircuit c self.old x → FitsCircuit c self.new (zeroed x) }
+        ensures room { room_of self.old ≤ room_of self.new }
+    {
+        self.clears = 0;
+        self.resets = 0;
+    }
+
+    /// Goes to p1, with everything dropped, no packet and no notice. The counts are as they were.
+    pub fn forget(&mut self)
+        ensures fits { (c : Settings) (x : Channel) → FitsCircuit c self.old x → FitsCircuit c self.new (forgotten x) }
+        ensures room { room_of self.old ≤ room_of self.new }
+    {
+        self.enter(State::Free);
+    }
+
+    /// Whether it is in p1.
+    pub fn is_free(&self) -> bool
+        ensures { (c : Settings) (x : Channel) → FitsCircuit c self.now x → result ≡ is_free x }
+    {
+        self.state == State::Free
+    }
+
+    /// Whether it is in p4 with d1.
+    pub fn is_open(&self) -> bool
+        ensures { (c : Settings) (x : Channel) → FitsCircuit c self.now x → result ≡ is_open x }
+    {
+        self.state == State::Open
+    }
+
+    /// How many messages wait, at most 8.
+    pub fn waits(&self) -> usize
+        ensures value { (c : Settings) (x : Channel) → FitsCircuit c self.now x → result ≡ waits x }
+        ensures few { result ≤ 8 }
+    {
+        self.transfer.queue.len()
+    }
+
+    /// Sets memory aside for one `packet` with at most `count` octets of user data, or one `undecoded`.
+    ///
+    /// 70 alone.
+    pub fn room(&mut self, count: usize) -> Result<(), CircuitError>
+        ensures fits { (c : Settings) (x : Channel) → FitsCircuit c self.old x → FitsCircuit c self.new x }
+        ensures ok { OnOk result (count ≤ room_of self.new) }
+        ensures grows { room_of self.old ≤ room_of self.new }
+        ensures missing { OnErr result (room_of self.old < count) }
+        ensures err { IfErr result (λ e. e ≡ CircuitError.NoMemory) }
+        ensures unchanged { OnErr result (self.new ≡ self.old) }
+    {
+        self.transfer.partial.reserve(count)?;
+        Ok(())
+    }
+
+    /// Goes to this state, in which nothing is kept.
+    pub(crate) fn enter(&mut self, state: State)
+        ensures fits { (c : Settings) (x : Channel) → FitsCircuit c self.old x → FitsCircuit c self.new (record { state = state; clears = x.clears; resets = x.resets; talk = silent }) }
+        ensures kept { self.new ≡ record self.old { state = state; transfer = self.new.transfer } }
+        ensures room { room_of self.old ≤ room_of self.new }
+    {
+        self.state = state;
+        self.transfer.clear();
+    }
+}

@@ -1,0 +1,207 @@
+//! Clears and resets: those that errors of procedure cause, and those that are done. ITU-T X.25 (10/96), sections 4.1.7 to
+//! 4.1.9, 4.4.3 and Annex C.
+ghost use Rattle.std.specs.Prelude.{◌≡◌, ◌≢◌, ℕ, suc, ◌^◌, ◌-◌, ◌<◌, ◌≤◌, None, Some, [], ◌∷◌};
+ghost use Rattle.x25_circuit.specs.Circuit.{Settings};
+ghost use Rattle.x25_circuit.specs.Circuit.{Circuit as Channel};
+ghost use Rattle.x25_circuit.specs.Table.{cause_at, diagnostic_in, clears_for, resets_for, unexpected, clears_to, resets_to, row_clear, row_clear_conf, row_reset, row_reset_conf, row_undecoded, cause_of};
+ghost use Rattle.x25_circuit.specs.FitsCircuit.{FitsCircuit, room_of};
+ghost use Rattle.x25_circuit.specs.Replies.{Says};
+
+use crate::circuit::Circuit;
+use crate::notice::{Notice, Reply};
+use crate::state::State;
+use x25_bits::Role;
+use x25_packet::{Packet, PacketError};
+
+/// A DTE sends 128 in place of each cause of a DCE (profile).
+fn cause_at(role: Role, cause: u8) -> u8
+    ensures { result ≡ cause_at role cause }
+{
+    match role {
+        Role::Dte => 128,
+        Role::Dce => cause,
+    }
+}
+
+fn by_role(role: Role, dte: u8, dce: u8) -> u8
+    ensures dte { role ≡ Role.Dte → result ≡ dte }
+    ensures dce { role ≡ Role.Dce → result ≡ dce }
+{
+    match role {
+        Role::Dte => dte,
+        Role::Dce => dce,
+    }
+}
+
+// The diagnostic of a packet that this state doesn't allow (profile).
+fn diagnostic_in(role: Role, state: State) -> u8
+    ensures { result ≡ diagnostic_in role state }
+{
+    match state {
+        State::Free => 20,
+        State::Calling => by_role(role, 21, 22),
+        State::Arriving => by_role(role, 22, 21),
+        State::Open | State::Resetting => 23,
+        State::Collision => 24,
+        State::Clearing => 0,
+    }
+}
+
+// The cause of the CLEAR for octets that spell no packet (profile).
+fn cause_of(error: PacketError) -> u8
+    ensures { result ≡ cause_of error }
+{
+    match error {
+        PacketError::BadFacility | PacketError::BadParameter => 3,
+        _ => 19,
+    }
+}
+
+impl Circuit {
+    /// Clears the call for an error of procedure.
+    pub(crate) fn clear_for<'a>(&mut self, cause: u8, diagnostic: u8) -> Reply<'a>
+        ensures next { (c : Settings) (x : Channel) → FitsCircuit c self.old x → FitsCircuit c self.new (clears_for c x cause diagnostic).next }
+        ensures says { (c : Settings) (x : Channel) → FitsCircuit c self.old x → Says result (clears_for c x cause diagnostic).owed (clears_for c x cause diagnostic).notices }
+        ensures room { room_of self.old ≤ room_of self.new }
+    {
+        self.enter(State::Clearing);
+        Reply::both(
+            Packet::Clear {
+                channel: 1,
+                cause: cause_at(self.role, cause),
+                diagnostic,
+            },
+            Notice::Fault { diagnostic },
+        )
+    }
+
+    /// Resets the call for an error of procedure.
+    pub(crate) fn reset_for<'a>(&mut self, diagnostic: u8) -> Reply<'a>
+        ensures next { (c : Settings) (x : Channel) → FitsCircuit c self.old x → FitsCircuit c self.new (resets_for c x diagnostic).next }
+        ensures says { (c : Settings) (x : Channel) → FitsCircuit c self.old x → Says result (resets_for c x diagnostic).owed (resets_for c x diagnostic).notices }
+        ensures room { room_of self.old ≤ room_of self.new }
+    {
+        self.enter(State::Resetting);
+        Reply::both(
+            Packet::Reset {
+                channel: 1,
+                cause: cause_at(self.role, 5),
+                diagnostic,
+            },
+            Notice::Fault { diagnostic },
+        )
+    }
+
+    /// A packet that the state doesn't allow.
+    pub(crate) fn unexpected<'a>(&mut self) -> Reply<'a>
+        ensures next { (c : Settings) (x : Channel) → FitsCircuit c self.old x → FitsCircuit c self.new (unexpected c x self.old.state).next }
+        ensures says { (c : Settings) (x : Channel) → FitsCircuit c self.old x → Says result (unexpected c x self.old.state).owed (unexpected c x self.old.state).notices }
+        ensures room { room_of self.old ≤ room_of self.new }
+    {
+        self.clear_for(19, diagnostic_in(self.role, self.state))
+    }
+
+    // A clear is done.
+    fn be_cleared(&mut self)
+        requires { self.old.clears < 2 ^ 64 - 1 }
+        ensures fits { (c : Settings) (x : Channel) → FitsCircuit c self.old x → FitsCircuit c self.new (clears_to x None []).next }
+        ensures room { room_of self.old ≤ room_of self.new }
+    {
+        self.enter(State::Free);
+        self.clears += 1;
+        self.resets = 0;
+    }
+
+    // A reset is done.
+    fn be_reset(&mut self)
+        requires { self.old.resets < 2 ^ 64 - 1 }
+        ensures fits { (c : Settings) (x : Channel) → FitsCircuit c self.old x → FitsCircuit c self.new (resets_to x None []).next }
+        ensures room { room_of self.old ≤ room_of self.new }
+    {
+        self.enter(State::Open);
+        self.resets += 1;
+    }
+
+    pub(crate) fn hear_clear<'a>(&mut self, cause: u8, diagnostic: u8) -> Reply<'a>
+        requires { self.old.clears < 2 ^ 64 - 1 }
+        ensures next { (c : Settings) (x : Channel) → FitsCircuit c self.old x → FitsCircuit c self.new (row_clear x self.old.state cause diagnostic).next }
+        ensures says { (c : Settings) (x : Channel) → FitsCircuit c self.old x → Says result (row_clear x self.old.state cause diagnostic).owed (row_clear x self.old.state cause diagnostic).notices }
+    {
+        let state = self.state;
+        self.be_cleared();
+        match state {
+            State::Clearing => Reply::tells(Notice::ClearDone),
+            State::Free => Reply::owes(Packet::ClearConf { channel: 1 }),
+            _ => Reply::both(
+                Packet::ClearConf { channel: 1 },
+                Notice::Cleared { cause, diagnostic },
+            ),
+        }
+    }
+
+    pub(crate) fn hear_clear_conf<'a>(&mut self) -> Reply<'a>
+        requires { self.old.clears < 2 ^ 64 - 1 }
+        ensures next { (c : Settings) (x : Channel) → FitsCircuit c self.old x → FitsCircuit c self.new (row_clear_conf c x self.old.state).next }
+        ensures says { (c : Settings) (x : Channel) → FitsCircuit c self.old x → Says result (row_clear_conf c x self.old.state).owed (row_clear_conf c x self.old.state).notices }
+    {
+        match self.state {
+            State::Clearing => {
+                self.be_cleared();
+                Reply::tells(Notice::ClearDone)
+            }
+            _ => self.unexpected(),
+        }
+    }
+
+    pub(crate) fn hear_reset<'a>(&mut self, cause: u8, diagnostic: u8) -> Reply<'a>
+        requires { self.old.resets < 2 ^ 64 - 1 }
+        ensures next { (c : Settings) (x : Channel) → FitsCircuit c self.old x → FitsCircuit c self.new (row_reset c x self.old.state cause diagnostic).next }
+        ensures says { (c : Settings) (x : Channel) → FitsCircuit c self.old x → Says result (row_reset c x self.old.state cause diagnostic).owed (row_reset c x self.old.state cause diagnostic).notices }
+    {
+        match self.state {
+            State::Open => {
+                self.be_reset();
+                Reply::both(
+                    Packet::ResetConf { channel: 1 },
+                    Notice::WasReset { cause, diagnostic },
+                )
+            }
+            State::Resetting => {
+                self.be_reset();
+                Reply::tells(Notice::ResetDone)
+            }
+            State::Clearing => Reply::nothing(),
+            _ => self.unexpected(),
+        }
+    }
+
+    pub(crate) fn hear_reset_conf<'a>(&mut self) -> Reply<'a>
+        requires { self.old.resets < 2 ^ 64 - 1 }
+        ensures next { (c : Settings) (x : Channel) → FitsCircuit c self.old x → FitsCircuit c self.new (row_reset_conf c x self.old.state).next }
+        ensures says { (c : Settings) (x : Channel) → FitsCircuit c self.old x → Says result (row_reset_conf c x self.old.state).owed (row_reset_conf c x self.old.state).notices }
+    {
+        match self.state {
+            State::Open => self.reset_for(27),
+            State::Resetting => {
+                self.be_reset();
+                Reply::tells(Notice::ResetDone)
+            }
+            State::Clearing => Reply::nothing(),
+            _ => self.unexpected(),
+        }
+    }
+
+    /// Takes octets that came for this channel and spell no packet, by the error that they have, 20 to 26. It takes no
+    /// memory.
+    pub fn undecoded<'a>(&mut self, error: PacketError) -> Reply<'a>
+        requires { error ≢ PacketError.NoMemory }
+        ensures next { (c : Settings) (x : Channel) → FitsCircuit c self.old x → FitsCircuit c self.new (row_undecoded c x self.old.state error).next }
+        ensures says { (c : Settings) (x : Channel) → FitsCircuit c self.old x → Says result (row_undecoded c x self.old.state error).owed (row_undecoded c x self.old.state error).notices }
+    {
+        match self.state {
+            State::Open => self.reset_for(error.diagnostic()),
+            State::Resetting | State::Clearing => Reply::nothing(),
+            _ => self.clear_for(cause_of(error), error.diagnostic()),
+        }
+    }
+}

@@ -1,0 +1,215 @@
+//! Packets that come. ITU-T X.25 (10/96), sections 4.3.7 and 4.4.1, and Annex C.
+ghost use Rattle.std.specs.Prelude.{◌≡◌, ℕ, ◌+◌, ◌-◌, ◌^◌, ◌<◌, ◌≤◌, length, [], ◌∷◌, Some, None, true, false, option_to_list, OnOk, OnErr, IfOk, IfErr, IsOk};
+ghost use Rattle.x25_packet.specs.PlainPacket.{plain, user_data};
+ghost use Rattle.x25_packet.specs.Spelling.{HasChannel};
+ghost use Rattle.x25_circuit.specs.Circuit.{Settings};
+ghost use Rattle.x25_circuit.specs.Circuit.{Circuit as Channel};
+ghost use Rattle.x25_circuit.specs.Messages.{piece_of};
+ghost use Rattle.x25_circuit.specs.Notices.{deliveries};
+ghost use Rattle.x25_circuit.specs.Fits.{first_ground};
+ghost use Rattle.x25_circuit.specs.Table.{resets_for, unless, number_ground, hears_status, confirms, takes, status, row_open, row_data, answers};
+ghost use Rattle.x25_circuit.specs.FitsCircuit.{FitsCircuit, room_of, user_octets};
+ghost use Rattle.x25_circuit.specs.Replies.{Says, plain_notices};
+
+use crate::circuit::Circuit;
+use crate::error::CircuitError;
+use crate::message::Message;
+use crate::notice::{Notice, Reply};
+use crate::state::State;
+use x25_packet::{Packet, Seq};
+
+fn delivered<'a>(message: Option<Message>) -> Option<Notice<'a>>
+    ensures { plain_notices result ≡ deliveries (option_to_list message) }
+{
+    match message {
+        Some(message) => Some(Notice::Delivered(message)),
+        None => None,
+    }
+}
+
+impl Circuit {
+    /// RR, or RNR where this end isn't ready, with P(R).
+    pub(crate) fn status<'a>(&self) -> Packet<'a>
+        ensures { (c : Settings) (x : Channel) → FitsCircuit c self.now x → plain result ≡ status x.talk.own_ready (length x.talk.taken) }
+    {
+        let pr = self.transfer.receiver.wanted();
+        if self.transfer.own_ready {
+            Packet::Rr { channel: 1, pr }
+        } else {
+            Packet::Rnr { channel: 1, pr }
+        }
+    }
+
+    // RR or RNR.
+    fn hear_status<'a>(&mut self, pr: Seq, is_ready: bool) -> Reply<'a>
+        ensures next { (c : Settings) (x : Channel) → FitsCircuit c self.old x → FitsCircuit c self.new (unless c x (number_ground x.talk pr.number) (hears_status x x.talk is_ready pr.number)).next }
+        ensures says { (c : Settings) (x : Channel) → FitsCircuit c self.old x →
+            Says result (unless c x (number_ground x.talk pr.number) (hears_status x x.talk is_ready pr.number)).owed (unless c x (number_ground x.talk pr.number) (hears_status x x.talk is_ready pr.number)).notices }
+    {
+        if !self.transfer.ack(pr) {
+            return self.reset_for(2);
+        }
+        self.transfer.peer_ready = is_ready;
+        Reply::nothing()
+    }
+
+    // INTERRUPT CONFIRMATION.
+    fn hear_interrupt_conf<'a>(&mut self) -> Reply<'a>
+        ensures next { (c : Settings) (x : Channel) → FitsCircuit c self.old x → FitsCircuit c self.new (confirms c x x.talk self.old.transfer.interrupt_out).next }
+        ensures says { (c : Settings) (x : Channel) → FitsCircuit c self.old x →
+            Says result (confirms c x x.talk self.old.transfer.interrupt_out).owed (confirms c x x.talk self.old.transfer.interrupt_out).notices }
+    {
+        if !self.transfer.interrupt_out {
+            return self.reset_for(43);
+        }
+        self.transfer.interrupt_out = false;
+        Reply::tells(Notice::InterruptDone)
+    }
+
+    // A data packet that is refused, whatever its P(R): that is the first ground.
+    fn refuse<'a>(&mut self, pr: Seq, diagnostic: u8) -> Reply<'a>
+        ensures next { (c : Settings) (x : Channel) → FitsCircuit c self.old x → FitsCircuit c self.new (resets_for c x (first_ground x.talk pr.number diagnostic)).next }
+        ensures says { (c : Settings) (x : Channel) → FitsCircuit c self.old x →
+            Says result (resets_for c x (first_ground x.talk pr.number diagnostic)).owed (resets_for c x (first_ground x.talk pr.number diagnostic)).notices }
+    {
+        if !self.transfer.ack(pr) {
+            return self.reset_for(2);
+        }
+        self.reset_for(diagnostic)
+    }
+
+    // A data packet that isn't refused, but perhaps for its P(R).
+    fn join<'a>(&mut self, q: bool, m: bool, ps: Seq, pr: Seq, user: &[u8]) -> Reply<'a>
+        requires wanted { ps.number ≡ self.old.transfer.receiver.wanted.number }
+        requires room { length user.now ≤ room_of self.old }
+        requires short { length self.old.transfer.partial.part.user + length user.now ≤ 65535 }
+        ensures next { (c : Settings) (x : Channel) → FitsCircuit c self.old x → FitsCircuit c self.new (unless c x (number_ground x.talk pr.number) (takes x x.talk pr.number (piece_of q m user.now))).next }
+        ensures says { (c : Settings) (x : Channel) → FitsCircuit c self.old x →
+            Says result (unless c x (number_ground x.talk pr.number) (takes x x.talk pr.number (piece_of q m user.now))).owed (unless c x (number_ground x.talk pr.number) (takes x x.talk pr.number (piece_of q m user.now))).notices }
+    {
+        if !self.transfer.ack(pr) {
+            return self.reset_for(2);
+        }
+        let message = self.transfer.take(ps, q, m, user);
+        Reply {
+            packet: Some(self.status()),
+            collided: false,
+            notice: delivered(message),
+        }
+    }
+
+    // DATA.
+    fn hear_data<'a>(
+        &mut self,
+        q: bool,
+        m: bool,
+        ps: Seq,
+        pr: Seq,
+        user: &[u8],
+    ) -> Result<Reply<'a>, CircuitError>
+        ensures next { (c : Settings) (x : Channel) → FitsCircuit c self.old x → OnOk result (FitsCircuit c self.new (row_open c x x.talk (user_data 1 q m ps.number pr.number user.now)).next) }
+        ensures says { (c : Settings) (x : Channel) → FitsCircuit c self.old x →
+            IfOk result (λ reply. Says reply (row_open c x x.talk (user_data 1 q m ps.number pr.number user.now)).owed (row_open c x x.talk (user_data 1 q m ps.number pr.number user.now)).notices) }
+        ensures err { IfErr result (λ e. e ≡ CircuitError.NoMemory) }
+        ensures missing { OnErr result (room_of self.old < length user.now) }
+        ensures unchanged { OnErr result (self.new ≡ self.old) }
+    {
+        match self.transfer.ground(self.incoming.size, ps, q, user.len()) {
+            Some(diagnostic) => Ok(self.refuse(pr, diagnostic)),
+            None => {
+                self.transfer.partial.reserve(user.len())?;
+                Ok(self.join(q, m, ps, pr, user))
+            }
+        }
+    }
+
+    // A packet of data transfer, in p4 with d1.
+    fn hear_open<'a>(&mut self, packet: &Packet<'a>) -> Result<Reply<'a>, CircuitError>
+        ensures next { (c : Settings) (x : Channel) → FitsCircuit c self.old x → OnOk result (FitsCircuit c self.new (row_open c x x.talk (plain packet.now)).next) }
+        ensures says { (c : Settings) (x : Channel) → FitsCircuit c self.old x →
+            IfOk result (λ reply. Says reply (row_open c x x.talk (plain packet.now)).owed (row_open c x x.talk (plain packet.now)).notices) }
+        ensures err { IfErr result (λ e. e ≡ CircuitError.NoMemory) }
+        ensures missing { OnErr result (room_of self.old < length (user_octets (plain packet.now))) }
+        ensures unchanged { OnErr result (self.new ≡ self.old) }
+    {
+        match packet {
+            Packet::Data {
+                q,
+                m,
+                ps,
+                pr,
+                user,
+                ..
+            } => self.hear_data(*q, *m, *ps, *pr, user),
+            Packet::Rr { pr, .. } => Ok(self.hear_status(*pr, true)),
+            Packet::Rnr { pr, .. } => Ok(self.hear_status(*pr, false)),
+            Packet::Interrupt { user, .. } => Ok(Reply::both(
+                Packet::InterruptConf { channel: 1 },
+                Notice::Interrupted { user },
+            )),
+            Packet::InterruptConf { .. } => Ok(self.hear_interrupt_conf()),
+            _ => Ok(Reply::nothing()),
+        }
+    }
+
+    // A packet of data transfer.
+    fn hear_transfer<'a>(&mut self, packet: &Packet<'a>) -> Result<Reply<'a>, CircuitError>
+        ensures next { (c : Settings) (x : Channel) → FitsCircuit c self.old x → OnOk result (FitsCircuit c self.new (row_data c x self.old.state (plain packet.now)).next) }
+        ensures says { (c : Settings) (x : Channel) → FitsCircuit c self.old x →
+            IfOk result (λ reply. Says reply (row_data c x self.old.state (plain packet.now)).owed (row_data c x self.old.state (plain packet.now)).notices) }
+        ensures err { IfErr result (λ e. e ≡ CircuitError.NoMemory) }
+        ensures missing { OnErr result (room_of self.old < length (user_octets (plain packet.now))) }
+        ensures unchanged { OnErr result (self.new ≡ self.old) }
+    {
+        match self.state {
+            State::Open => self.hear_open(packet),
+            State::Resetting | State::Clearing => Ok(Reply::nothing()),
+            _ => Ok(self.unexpected()),
+        }
+    }
+
+    /// Takes a packet that came for this channel, and answers the packet to send and what the user is told, by the table of
+    /// the circuit. The channel that the packet names isn't looked at.
+    ///
+    /// 70 alone, and only for a data packet for which `room` set no memory aside.
+    pub fn packet<'a>(&mut self, packet: &Packet<'a>) -> Result<Reply<'a>, CircuitError>
+        requires kind { HasChannel (plain packet.now) }
+        requires clears { self.old.clears < 2 ^ 64 - 1 }
+        requires resets { self.old.resets < 2 ^ 64 - 1 }
+        ensures next { (c : Settings) (x : Channel) → FitsCircuit c self.old x → OnOk result (FitsCircuit c self.new (answers c x (plain packet.now)).next) }
+        ensures says { (c : Settings) (x : Channel) → FitsCircuit c self.old x →
+            IfOk result (λ reply. Says reply (answers c x (plain packet.now)).owed (answers c x (plain packet.now)).notices) }
+        ensures err { IfErr result (λ e. e ≡ CircuitError.NoMemory) }
+        ensures missing { OnErr result (room_of self.old < length (user_octets (plain packet.now))) }
+        ensures unchanged { OnErr result (self.new ≡ self.old) }
+    {
+        match packet {
+            Packet::Call {
+                called,
+                calling,
+                facilities,
+                user,
+                ..
+            } => Ok(self.hear_call(called, calling, facilities, user)),
+            Packet::Accept { facilities, .. } => Ok(self.hear_accept(facilities)),
+            Packet::Clear {
+                cause,
+                diagnostic,
+                ..
+            } => Ok(self.hear_clear(*cause, *diagnostic)),
+            Packet::ClearConf { .. } => Ok(self.hear_clear_conf()),
+            Packet::Reset {
+                cause,
+                diagnostic,
+                ..
+            } => Ok(self.hear_reset(*cause, *diagnostic)),
+            Packet::ResetConf { .. } => Ok(self.hear_reset_conf()),
+            Packet::Data { .. } => self.hear_transfer(packet),
+            Packet::Rr { .. } => self.hear_transfer(packet),
+            Packet::Rnr { .. } => self.hear_transfer(packet),
+            Packet::Interrupt { .. } => self.hear_transfer(packet),
+            Packet::InterruptConf { .. } => self.hear_transfer(packet),
+            Packet::Restart { .. } | Packet::RestartConf => unreachable!(),
+        }
+    }
+}

@@ -1,0 +1,95 @@
+ghost use Rattle.std.specs.Prelude.{◌≡◌, ℕ, ◌+◌, ◌<◌, ◌≤◌, [], ◌∷◌, ◌++◌, length, IfOk, IfSome, IfNone, true, false};
+
+use crate::cutter::{Cutter, Marks};
+use crate::message::Message;
+use circular_buffer::HeapCircularBuffer;
+use std::alloc::{AllocError, Global};
+
+/// How many messages may wait (profile).
+pub const PLACES: usize = 8;
+
+/// The messages that wait, at most 8, in a ring that is made once: the first of them, while it is cut, and the others.
+#[derive(Drop)]
+pub struct Queue {
+    pub cutter: Cutter,
+    pub ring: HeapCircularBuffer<Message>,
+    ghost places: { ring.capacity ≡ 8 },
+    ghost few: { length cutter.left + length ring.items ≤ 8 },
+}
+
+impl Queue {
+    ghost use Rattle.x25_circuit.specs.Queue.{waiting};
+    ghost use Rattle.x25_circuit.specs.Cutter.{first_cut, first_left, marked};
+
+    pub fn new(alloc: Global) -> Result<Queue, AllocError>
+        ensures { IfOk result (λ q. waiting q ≡ []) }
+    {
+        let ring = HeapCircularBuffer::with_capacity(alloc, PLACES)?;
+        Ok(Queue {
+            cutter: Cutter::new(alloc),
+            ring,
+        })
+    }
+
+    /// How many messages wait.
+    pub fn len(&self) -> usize
+        ensures value { result ≡ length (waiting self.now) }
+        ensures few { result ≤ 8 }
+    {
+        if self.cutter.is_cut() {
+            return self.ring.len();
+        }
+        self.ring.len() + 1
+    }
+
+    pub fn push(&mut self, message: Message)
+        requires { length (waiting self.old) < 8 }
+        ensures { waiting self.new ≡ waiting self.old ++ message ∷ [] }
+    {
+        let _ = self.ring.push_back(message);
+    }
+
+    pub fn clear(&mut self)
+        ensures { waiting self.new ≡ [] }
+    {
+        self.cutter.clear();
+        self.ring.clear();
+    }
+
+    // Lets the first message be cut, unless one is. It says whether there is one.
+    fn begin(&mut self) -> bool
+        ensures same { waiting self.new ≡ waiting self.old }
+        ensures some { result ≡ true → 0 < length self.new.cutter.left }
+        ensures none { result ≡ false → waiting self.new ≡ [] }
+    {
+        if !self.cutter.is_cut() {
+            return true;
+        }
+        let Some(front) = self.ring.pop_front() else {
+            return false;
+        };
+        self.cutter.load(front);
+        true
+    }
+
+    /// Cuts the next packet off, of at most `size` octets, where a message waits.
+    pub fn cut(&mut self, size: usize) -> Option<Marks>
+        ensures some { IfSome result (λ marks. 0 < length (waiting self.old)) }
+        ensures left { IfSome result (λ marks. waiting self.new ≡ first_left size (waiting self.old)) }
+        ensures packet { IfSome result (λ marks. marked marks.q marks.m self.new.cutter.lent ≡ first_cut size (waiting self.old)) }
+        ensures none { IfNone result (waiting self.old ≡ []) }
+        ensures same { IfNone result (waiting self.new ≡ []) }
+    {
+        if !self.begin() {
+            return None;
+        }
+        Some(self.cutter.cut(size))
+    }
+
+    /// The user data of the packet cut last.
+    pub fn lent(&self) -> &[u8]
+        ensures { result.now ≡ self.now.cutter.lent }
+    {
+        self.cutter.lent()
+    }
+}

@@ -1,0 +1,157 @@
+ghost use Rattle.std.specs.Prelude.{◌≡◌, ℕ, ◌+◌, ◌%◌, ◌<◌, ◌≤◌, ◌==◌, nat_le, nat_lt, length, ◌∷◌, [], ◌++◌, true, false, IfOk, IfErr, OnOk, OnErr, OnSome, IfSome, IfNone, Bool, option_to_list, Some, None, if◌then◌else◌};
+ghost use Rattle.x25_window.specs.Modulo.{resolved};
+ghost use Rattle.x25_circuit.specs.FitsNumbers.{FitsNumbers};
+ghost use Rattle.x25_circuit.specs.Messages.{piece_of, no_part, joining, completed, piece_ground, ground_of, cut};
+ghost use Rattle.x25_circuit.specs.Circuit.{Talk, silent};
+ghost use Rattle.x25_circuit.specs.Queue.{waiting};
+ghost use Rattle.x25_circuit.specs.Changes.{with_acked, with_taken, with_rest, with_interrupt, with_peer, with_own, with_sent};
+
+use crate::error::CircuitError;
+use crate::message::Message;
+use crate::partial::PartialMessage;
+use crate::queue::Queue;
+use crate::terms::Terms;
+use std::alloc::Global;
+use x25_bits::Seq;
+use x25_window::{Receiver, Sender};
+
+/// The most packets of a window.
+pub const PACKETS: u8 = 7;
+
+/// What a data packet says beside its user data.
+#[derive(Clone, Copy)]
+pub struct Header {
+    pub q: bool,
+    pub m: bool,
+    pub ps: Seq,
+    pub pr: Seq,
+}
+
+/// The variables of data transfer, p4. ITU-T X.25 (10/96), sections 4.3 and 4.4.
+#[derive(Drop)]
+pub struct Transfer {
+    /// The numbers of the packets sent; their user data isn't kept.
+    pub sender: Sender<()>,
+    pub receiver: Receiver,
+    pub queue: Queue,
+    pub partial: PartialMessage,
+    /// This end's interrupt isn't confirmed yet.
+    pub interrupt_out: bool,
+    pub peer_ready: bool,
+    pub own_ready: bool,
+}
+
+// Counts one packet more as sent, and gives the number that it has.
+fn count_sent(sender: &mut Sender<()>) -> Seq
+    requires { length sender.old.items < 7 }
+    ensures number { (n m : ℕ) → FitsNumbers sender.old n m → result.number ≡ m % 8 }
+    ensures fits { (n m : ℕ) → FitsNumbers sender.old n m → FitsNumbers sender.new n (m + 1) }
+{
+    let ps = sender.top();
+    let _ = sender.offer(());
+    ps
+}
+
+impl Transfer {
+    ghost use Rattle.x25_circuit.specs.Fits.{FitsTalk, IsSent, IsHeld};
+
+    pub fn new(alloc: Global) -> Result<Transfer, CircuitError>
+        ensures fits { (size : ℕ) → IfOk result (λ t. FitsTalk size t silent) }
+        ensures err { IfErr result (λ e. e ≡ CircuitError.NoMemory) }
+    {
+        let Some(sender) = Sender::new(alloc, PACKETS)? else {
+            unreachable!();
+        };
+        let queue = Queue::new(alloc)?;
+        Ok(Transfer {
+            sender,
+            receiver: Receiver::new(),
+            queue,
+            partial: PartialMessage::new(alloc),
+            interrupt_out: false,
+            peer_ready: true,
+            own_ready: true,
+        })
+    }
+
+    /// Drops everything. Memory that was set aside is kept.
+    pub fn clear(&mut self)
+        ensures fits { (size : ℕ) (t : Talk) → FitsTalk size self.old t → FitsTalk size self.new silent }
+        ensures room { self.old.partial.room ≤ self.new.partial.room }
+    {
+        self.sender.clear();
+        self.receiver.clear();
+        self.queue.clear();
+        self.partial.clear();
+        self.interrupt_out = false;
+        self.peer_ready = true;
+        self.own_ready = true;
+    }
+
+    /// Takes a received P(R), and says whether it is valid. All packets below it are acknowledged.
+    pub fn ack(&mut self, pr: Seq) -> bool
+        ensures valid { (size : ℕ) (t : Talk) → FitsTalk size self.old t → result ≡ nat_le (resolved t.acked pr.number) (length t.sent) }
+        ensures fits { (size : ℕ) (t : Talk) → FitsTalk size self.old t → result ≡ true → FitsTalk size self.new (with_acked (resolved t.acked pr.number) t) }
+        ensures partial { self.new.partial ≡ self.old.partial }
+        ensures receiver { self.new.receiver ≡ self.old.receiver }
+        ensures unchanged { result ≡ false → self.new ≡ self.old }
+    {
+        self.sender.ack(pr).is_ok()
+    }
+
+    /// The diagnostic for which a data packet is refused, whatever its P(R), if any: 1, 39 or 83.
+    pub fn ground(&self, size: usize, ps: Seq, q: bool, count: usize) -> Option<u8>
+        ensures value { (out : ℕ) (t : Talk) → FitsTalk out self.now t → result ≡ (if ps.number == length t.taken % 8 then ground_of size (joining no_part t.taken) count q else Some 1) }
+        ensures wanted { IfNone result (ps.number ≡ self.now.receiver.wanted.number) }
+        ensures short { IfNone result (length self.now.partial.part.user + count ≤ 65535) }
+    {
+        if ps != self.receiver.wanted() {
+            return Some(1);
+        }
+        self.partial.ground(size, count, q)
+    }
+
+    /// Takes a data packet that isn't refused, and gives the message that ends with it, if one does.
+    pub fn take(&mut self, ps: Seq, q: bool, m: bool, user: &[u8]) -> Option<Message>
+        requires wanted { ps.number ≡ self.old.receiver.wanted.number }
+        requires room { length user.now ≤ self.old.partial.room }
+        requires short { length self.old.partial.part.user + length user.now ≤ 65535 }
+        ensures fits { (size : ℕ) (t : Talk) → FitsTalk size self.old t → FitsTalk size self.new (with_taken (piece_of q m user.now) t) }
+        ensures message { (size : ℕ) (t : Talk) → FitsTalk size self.old t → option_to_list result ≡ completed (joining no_part t.taken) (piece_of q m user.now) }
+    {
+        self.receiver.accept(ps);
+        self.partial.join(q, m, user)
+    }
+
+    /// Lets a message wait.
+    pub fn push(&mut self, message: Message)
+        requires { length (waiting self.old.queue) < 8 }
+        ensures fits { (size : ℕ) (t : Talk) → FitsTalk size self.old t → FitsTalk size self.new (with_rest (t.rest ++ cut size message.q message.user) t) }
+        ensures room { self.old.partial.room ≤ self.new.partial.room }
+    {
+        self.queue.push(message);
+    }
+
+    /// Sends the next data packet, where the other end is ready, the window is open and a message waits. Its user data is
+    /// lent by `queue`.
+    pub fn advance(&mut self, terms: Terms) -> Option<Header>
+        ensures some { (t : Talk) → FitsTalk terms.size self.old t → IfSome result (λ header. IsSent terms.window terms.size t self.new header) }
+        ensures none { (t : Talk) → FitsTalk terms.size self.old t → IfNone result (FitsTalk terms.size self.new t) }
+        ensures held { (t : Talk) → FitsTalk terms.size self.old t → IfNone result (IsHeld terms.window t) }
+        ensures room { self.old.partial.room ≤ self.new.partial.room }
+    {
+        if !self.peer_ready || self.sender.unacked() >= terms.window {
+            return None;
+        }
+        let Some(marks) = self.queue.cut(terms.size) else {
+            return None;
+        };
+        let ps = count_sent(&mut self.sender);
+        Some(Header {
+            q: marks.q,
+            m: marks.m,
+            ps,
+            pr: self.receiver.wanted(),
+        })
+    }
+}

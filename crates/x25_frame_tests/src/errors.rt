@@ -1,0 +1,21 @@
+use std::test::Fail;
+use x25_frame::{Role, decode};
+
+/// Octets sent by the DTE, and the number of their error where an I frame has at most 4 octets of information.
+const ROWS: [(&[u8], u8); 6] = [
+    (&[0x01, 0x01], 1),
+    (&[0x01, 0x3F, 0xEB, 0xDE], 2),
+    (&[0x05, 0x3F, 0x8B, 0xB8], 3),
+    (&[0x03, 0x3F, 0x5B, 0xEC], 4),
+    (&[0x01, 0x3F, 0x00, 0x7A, 0xA9], 5),
+    (&[0x01, 0x00, 0x10, 0x00, 0xFB, 0x00, 0x00, 0x77, 0x02], 6),
+];
+
+#[test]
+fn tells_the_first_error(rt: HostRuntime) -> Result<(), Fail> {
+    for (octets, number) in ROWS {
+        let error = decode(Role::Dte, 4, octets).err().ok_or("no frame")?;
+        assert_eq!(rt; error.number(), number, "{octets:?}");
+    }
+    Ok(())
+}

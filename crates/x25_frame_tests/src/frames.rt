@@ -1,0 +1,75 @@
+use std::test::Fail;
+use x25_frame::Role::{Dce, Dte};
+use x25_frame::{Frame, Role, Seq, decode, encode};
+
+/// Which frame a row has: a constant can hold no sequence number but 0.
+#[derive(Clone, Copy)]
+enum Kind {
+    Sabm,
+    Ua,
+    Frmr,
+    Rr(u8),
+    Poll,
+    Rej,
+    I,
+}
+
+fn frame_of(kind: Kind) -> Frame<'static> {
+    match kind {
+        Kind::Sabm => Frame::Sabm { p: true },
+        Kind::Ua => Frame::Ua { f: true },
+        Kind::Frmr => Frame::Frmr {
+            f: false,
+            why: [0x20, 0x00, 0x08],
+        },
+        Kind::Rr(number) => Frame::Rr {
+            command: false,
+            nr: Seq::modulo(number),
+            pf: false,
+        },
+        Kind::Poll => Frame::Rr {
+            command: true,
+            nr: Seq::ZERO,
+            pf: true,
+        },
+        Kind::Rej => Frame::Rej {
+            command: false,
+            nr: Seq::ZERO,
+            pf: false,
+        },
+        Kind::I => Frame::I {
+            ns: Seq::ZERO,
+            nr: Seq::ZERO,
+            p: false,
+            info: &[0x10, 0x00, 0xFB, 0x00, 0x00],
+        },
+    }
+}
+
+/// Who sends the octets, the octets, and the frame that they spell.
+const ROWS: [(Role, &[u8], Kind); 8] = [
+    (Dte, &[0x01, 0x3F, 0xEB, 0xDF], Kind::Sabm),
+    (Dce, &[0x01, 0x73, 0x83, 0x57], Kind::Ua),
+    (Dce, &[0x01, 0x87, 0x20, 0x00, 0x08, 0x0F, 0x31], Kind::Frmr),
+    (Dce, &[0x01, 0x21, 0x14, 0x26], Kind::Rr(1)),
+    (Dte, &[0x03, 0x21, 0xA4, 0x15], Kind::Rr(1)),
+    (Dte, &[0x01, 0x11, 0x97, 0x17], Kind::Poll),
+    (Dce, &[0x01, 0x09, 0x5E, 0x8B], Kind::Rej),
+    (
+        Dte,
+        &[0x01, 0x00, 0x10, 0x00, 0xFB, 0x00, 0x00, 0x77, 0x02],
+        Kind::I,
+    ),
+];
+
+#[test]
+fn octets_and_frames(rt: HostRuntime) -> Result<(), Fail> {
+    for (from, octets, kind) in ROWS {
+        let frame = decode(from, 4099, octets)?;
+        assert_eq!(rt; frame, frame_of(kind), "{octets:?}");
+        let mut spelled = Vec::new(rt.alloc());
+        encode(from, &frame, &mut spelled)?;
+        assert_eq!(rt; spelled.as_slice(), octets);
+    }
+    Ok(())
+}

@@ -1,7 +1,0 @@
-use Rattle.std.proofs.Common.{ap, ◌∙◌, ◌%◌}
-use Rattle.x25_link.specs.Backlog.{sending_of}
-use Rattle.x25_link.proofs.BacklogLemmas.{sent_length}
-use Rattle.x25_link.proofs.backlog.Backlog.top.Goals as goal
-
-pub returns : goal.returns
-returns c = λ k o fits. c.top.ensures (sending_of k o) fits.sender ∙ ap (λ n. n % 8) (sent_length k _ o fits)

@@ -1,0 +1,76 @@
+use Rattle.std.proofs.Common.{length, ℕ, ◌%◌, List, [], ◌∷◌, ◌++◌, false, sym, ap, ◌∙◌, refl, arith}
+use Rattle.x25_frame.specs.PlainFrame.{PlainFrame, info}
+use Rattle.x25_frame.specs.Spelling.{spelling_of}
+use Rattle.x25_link.specs.Outgoing.{next_packet}
+use Rattle.x25_link.specs.Backlog.{sending_of}
+use Rattle.x25_link.proofs.BacklogLemmas.{again_is, again_fits, all_sent, same_fits, full_closed, none_waits, empty_waits, next_is, new_fits, sent_length, new_frame, next_open, below_of}
+use Rattle.x25_link.proofs.outgoing.Outgoing.send_next.Goals as goal
+
+pub returns-then-send_again-clause-sent : goal.returns-then-send_again-clause-sent
+returns-then-send_again-clause-sent c = λ k o fits.
+    sym (again_is k _ o fits (c.if-send_again.ensures.sent (sending_of k o) fits.sender)).open_is
+
+pub returns-then-send_again-clause-step : goal.returns-then-send_again-clause-step
+returns-then-send_again-clause-step c = λ k o fits.
+    let again = again_is k _ o fits (c.if-send_again.ensures.sent (sending_of k o) fits.sender) in
+    again_fits k _ _ o fits again.below (c.if-send_again.ensures.step (sending_of k o) fits.sender)
+
+pub returns-then-send_again-clause-made : goal.returns-then-send_again-clause-made
+returns-then-send_again-clause-made c = λ k o fits.
+    let again = again_is k _ o fits (c.if-send_again.ensures.sent (sending_of k o) fits.sender) in
+    rw again.packet at (c.if-send_again.ensures.made (sending_of k o) fits.sender)
+
+pub returns-then-is_full-clause-sent : goal.returns-then-is_full-clause-sent
+returns-then-is_full-clause-sent c = λ k o fits.
+    let l = sent_length k _ o fits in
+    let all = all_sent k _ o fits (c.if-send_again.ensures.sent (sending_of k o) fits.sender) in
+    let full = (c.if-is_full.ensures.state (sending_of k o) (c.if-send_again.ensures.step (sending_of k o) fits.sender)).0 refl in
+    sym (full_closed k o (omega arith))
+
+pub returns-then-is_full-clause-step : goal.returns-then-is_full-clause-step
+returns-then-is_full-clause-step c = λ k o fits.
+    same_fits k _ _ o fits (c.if-send_again.ensures.step (sending_of k o) fits.sender)
+
+pub returns-then-is_full-clause-made : goal.returns-then-is_full-clause-made
+returns-then-is_full-clause-made c = λ k o fits. c.if-send_again.ensures.made (sending_of k o) fits.sender
+
+pub returns-in_default-clause-sent : goal.returns-in_default-clause-sent
+returns-in_default-clause-sent c = λ k o fits.
+    let all = all_sent k _ o fits (c.if-send_again.ensures.sent (sending_of k o) fits.sender) in
+    let none = empty_waits k _ o fits (c.in_default.ensures.0) in
+    sym (none_waits k o (omega arith))
+
+pub returns-in_default-clause-step : goal.returns-in_default-clause-step
+returns-in_default-clause-step c = λ k o fits.
+    let same = same_fits k _ _ o fits (c.if-send_again.ensures.step (sending_of k o) fits.sender) in
+    record { sender = same.sender; queue = c.in_default.ensures.1 ∙ sym c.in_default.ensures.0 ∙ fits.queue; sent = fits.sent; few = rw (c.in_default.ensures.1) (omega arith) }
+
+pub returns-in_default-clause-made : goal.returns-in_default-clause-made
+returns-in_default-clause-made c = λ k o fits. c.if-send_again.ensures.made (sending_of k o) fits.sender
+
+pub returns-clause-sent : goal.returns-clause-sent
+returns-clause-sent c = λ k o fits.
+    let l = sent_length k _ o fits in
+    let sender = c.if-send_again.ensures.step (sending_of k o) fits.sender in
+    let all = all_sent k _ o fits (c.if-send_again.ensures.sent (sending_of k o) fits.sender) in
+    let next = next_is k _ o _ _ fits c.in-Some.ensures in
+    let room = below_of _ _ sender.sound.room (c.if-is_full.ensures.state (sending_of k o) sender).1 in
+    sym (next_open k _ o _ _ fits all next (omega arith))
+
+pub returns-clause-step : goal.returns-clause-step
+returns-clause-step c = λ k o fits.
+    let sender = c.if-send_again.ensures.step (sending_of k o) fits.sender in
+    let all = all_sent k _ o fits (c.if-send_again.ensures.sent (sending_of k o) fits.sender) in
+    let next = next_is k _ o _ _ fits c.in-Some.ensures in
+    let room = below_of _ _ sender.sound.room (c.if-is_full.ensures.state (sending_of k o) sender).1 in
+    new_fits k _ _ o _ _ fits all next (omega (arith, fits.few, ap length c.in-Some.ensures)) (c.send_new.ensures.step (sending_of k o) sender room)
+
+pub returns-clause-made : goal.returns-clause-made
+returns-clause-made c = λ k o fits.
+    let sender = c.if-send_again.ensures.step (sending_of k o) fits.sender in
+    let all = all_sent k _ o fits (c.if-send_again.ensures.sent (sending_of k o) fits.sender) in
+    let next = next_is k _ o _ _ fits c.in-Some.ensures in
+    let before = c.if-send_again.ensures.made (sending_of k o) fits.sender in
+    c.send_new.ensures.made (sending_of k o) sender
+    ∙ ap (λ (f : PlainFrame). c.send_again.new.out.made ++ spelling_of c.args.from f ∷ []) (new_frame k _ o _ _ _ fits all next)
+    ∙ ap (λ (m : List (List ℕ)). m ++ spelling_of c.args.from (info (o.place % 8) c.args.nr.number false (next_packet o)) ∷ []) before

@@ -1,0 +1,105 @@
+//! What a station does at the calls of its user and of its timer.
+ghost use Rattle.std.specs.Prelude.{◌≡◌, ℕ, ◌+◌, ◌<◌, ◌≤◌, List, length, false, true};
+ghost use Rattle.x25_link.specs.Station.{Settings, Station as StationState, Side, may_send, owes_ready, ended};
+ghost use Rattle.x25_link.specs.Fits.{FitsStation, FitsSide, FitsHeard};
+ghost use Rattle.x25_link.specs.MustSend.{quiet};
+ghost use Rattle.x25_link.specs.Steps.{alone, puts, connects, disconnects, fires, timer_runs, is_idle, asks_again, closed_by};
+
+use crate::heard::Heard;
+use crate::octets::Octets;
+use crate::outbox::Outbox;
+use crate::phase::{Phase, Reason};
+use crate::station::Station;
+use x25_frame::Frame;
+
+impl Station {
+    /// Lets a packet wait, and sends it where it may go. Memory for one I frame is used or let go.
+    pub fn give(&mut self, packet: Octets, out: &mut Outbox)
+        requires free { length self.old.backlog.queue < 256 }
+        requires long { 0 < out.old.long }
+        ensures step { (c : Settings) (before : List (List ℕ)) (s : StationState) → FitsSide c self.old before out.old.made (alone s) → may_send c.window s ≡ false → owes_ready s ≡ false →
+            FitsSide c self.new before out.new.made (closed_by c.window (puts packet (alone s))).side }
+        ensures kept { self.new ≡ record self.old { backlog = self.new.backlog } }
+        ensures queue { length self.new.backlog.queue ≤ length self.old.backlog.queue + 1 }
+        ensures long { out.new.long + 1 ≡ out.old.long }
+        ensures short { out.new.short ≡ out.old.short }
+    {
+        self.backlog.add(packet);
+        if !self.pump_once(out) {
+            out.discard();
+        }
+    }
+
+    /// Begins to set the link up.
+    pub fn connect(&mut self, out: &mut Outbox)
+        requires { 0 < out.old.short }
+        ensures { (c : Settings) (before : List (List ℕ)) (t : Side) → FitsSide c self.old before out.old.made t → FitsSide c self.new before out.new.made (connects t).side }
+    {
+        self.phase = Phase::Waiting;
+        self.tries = 0;
+        self.send(&Frame::Sabm { p: true }, out);
+    }
+
+    /// Disconnects, for good.
+    pub fn disconnect<'a>(&mut self, out: &mut Outbox) -> Heard<'a>
+        requires { 0 < out.old.short }
+        ensures { (c : Settings) (before : List (List ℕ)) (t : Side) → FitsSide c self.old before out.old.made t → FitsHeard c self.new before out.new.made result (disconnects t) }
+    {
+        let down = if self.phase.is_up() {
+            Some(Reason::Local)
+        } else {
+            None
+        };
+        self.clear(Phase::Closed);
+        self.send(&Frame::Disc { p: true }, out);
+        Heard::noted(down, false)
+    }
+
+    /// Whether timer T1 runs.
+    pub fn timer_runs(&self) -> bool
+        ensures { (c : Settings) (s : StationState) → FitsStation c self.now s → result ≡ timer_runs s.phase s }
+    {
+        match self.phase {
+            Phase::Down | Phase::Closed => false,
+            Phase::Waiting => true,
+            Phase::Up => self.backlog.unacked() > 0 || self.recovery || self.peer_busy,
+        }
+    }
+
+    /// A firing of timer T1, where it runs.
+    pub fn fire<'a>(&mut self, out: &mut Outbox) -> Heard<'a>
+        requires { 0 < out.old.short }
+        ensures { (c : Settings) (before : List (List ℕ)) (t : Side) → FitsSide c self.old before out.old.made t → FitsHeard c self.new before out.new.made result (fires c t) }
+    {
+        if self.tries >= self.parameters.n2 {
+            return self.leave(Reason::Retries);
+        }
+        self.tries += 1;
+        self.ask_again(out);
+        Heard::quiet()
+    }
+
+    // SABM again while UA is awaited, and a poll in Up.
+    fn ask_again(&mut self, out: &mut Outbox)
+        requires { 0 < out.old.short }
+        ensures { (c : Settings) (before : List (List ℕ)) (t : Side) → FitsSide c self.old before out.old.made t → FitsSide c self.new before out.new.made (asks_again t.near.phase t) }
+    {
+        match self.phase {
+            Phase::Up => {
+                self.recovery = true;
+                self.ready(true, true, out);
+            }
+            Phase::Down | Phase::Waiting | Phase::Closed => self.send(
+                &Frame::Sabm { p: true },
+                out,
+            ),
+        }
+    }
+
+    /// Whether the link is up, nothing waits and all that was sent is acknowledged.
+    pub fn is_idle(&self) -> bool
+        ensures { (c : Settings) (s : StationState) → FitsStation c self.now s → result ≡ is_idle s }
+    {
+        self.phase.is_up() && self.backlog.waiting() == 0 && self.backlog.unacked() == 0
+    }
+}

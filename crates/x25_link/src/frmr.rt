@@ -1,0 +1,66 @@
+//! FRMR: how a station rejects a frame. ITU-T X.25 (10/96), sections 2.3.4.9 and 2.4.7.3.
+ghost use Rattle.std.specs.Prelude.{◌≡◌, ℕ, ◌+◌, ◌*◌, ◌/◌, ◌%◌, ◌<◌, ◌≤◌, ◌==◌, List, length, slice_index, true, if◌then◌else◌};
+ghost use Rattle.x25_frame.specs.PlainFrame.{plain};
+ghost use Rattle.x25_frame.specs.Spelling.{address_of, information_of};
+ghost use Rattle.x25_link.specs.Station.{Settings, Station as StationState, Side};
+ghost use Rattle.x25_link.specs.Fits.{FitsStation, FitsSide, FitsHeard};
+ghost use Rattle.x25_link.specs.MustSend.{rejects, reject_of};
+
+use crate::heard::Heard;
+use crate::outbox::Outbox;
+use crate::phase::Reason;
+use crate::station::{Station, other};
+use x25_bits::Role;
+use x25_frame::Frame;
+
+// The address of the commands of this end.
+fn command_address(from: Role) -> u8
+    ensures { result ≡ address_of from true }
+{
+    match from {
+        Role::Dte => 1,
+        Role::Dce => 3,
+    }
+}
+
+// The octet at this place, or 0 where there is none.
+fn octet_at(octets: &[u8], place: usize) -> u8
+    ensures { result ≡ slice_index octets.now place }
+{
+    if place < octets.len() {
+        octets[place]
+    } else {
+        0
+    }
+}
+
+impl Station {
+    /// Sends FRMR for these octets, with the third octet of its information, and leaves Up.
+    pub fn reject<'a>(&mut self, octets: &[u8], why: u8, out: &mut Outbox) -> Heard<'a>
+        requires { 0 < out.old.short }
+        ensures step { (c : Settings) (before : List (List ℕ)) (t : Side) → FitsSide c self.old before out.old.made t → FitsHeard c self.new before out.new.made result (rejects c octets.now why t) }
+        ensures long { out.new.long ≡ out.old.long }
+        ensures short { out.old.short ≤ out.new.short + 1 }
+    {
+        let frame = self.rejection(octets, why);
+        self.send(&frame, out);
+        self.leave(Reason::FrmrSent)
+    }
+
+    // The FRMR for these octets.
+    fn rejection<'a>(&self, octets: &[u8], why: u8) -> Frame<'a>
+        ensures frame { (c : Settings) (s : StationState) → FitsStation c self.now s → plain result ≡ reject_of c octets.now why s }
+        ensures short { length (information_of (plain result)) ≤ 3 }
+    {
+        let control = octet_at(octets, 1);
+        let command = octet_at(octets, 0) == command_address(other(self.role));
+        let of_response = if command { 0 } else { 16 };
+        let numbers = 2 * self.backlog.top().get()
+            + of_response
+            + 32 * self.receiver.wanted().get();
+        Frame::Frmr {
+            f: command && control / 16 % 2 == 1,
+            why: [control, numbers, why],
+        }
+    }
+}

@@ -1,0 +1,70 @@
+//! The link as one that keeps order.
+ghost use Rattle.std.specs.Prelude.{◌≡◌};
+
+use crate::error::LinkError;
+use crate::link::Link;
+use crate::ordered_link::OrderedLink;
+
+impl OrderedLink for Link {
+    ghost use Rattle.x25_link.specs.Link.{LinkState, FitsWhole, lists_in, waits_of, up_at, after_put_to, limit_of, up_of, waiting_of};
+    ghost use Rattle.x25_link.specs.LinkLaws.{put_adds, acked_low, link_waits, link_up, put_stays_up, link_few, link_close};
+
+    ghost State = { LinkState };
+
+    ghost fits = { FitsWhole };
+
+    ghost lists = { lists_in };
+
+    ghost waits_in = { waits_of };
+
+    ghost up_in = { up_at };
+
+    ghost after_put = { after_put_to };
+
+    ghost adds = { put_adds };
+
+    ghost begins = { acked_low };
+
+    ghost waits_are = { link_waits };
+
+    ghost up_is = { link_up };
+
+    ghost stays_up = { put_stays_up };
+
+    ghost few_wait = { link_few };
+
+    ghost few_unacknowledged = { link_close };
+
+    ghost longest = { limit_of };
+
+    ghost waits = { waiting_of };
+
+    ghost up = { up_of };
+
+    ghost spares = { λ l. l.outgoing.long };
+
+    fn limit(&self) -> usize {
+        self.station.parameters.n1
+    }
+
+    fn waiting(&self) -> usize {
+        self.station.backlog.waiting()
+    }
+
+    fn is_up(&self) -> bool {
+        self.station.phase.is_up()
+    }
+
+    fn spare(&self) -> usize {
+        self.outgoing.long()
+    }
+
+    fn room(&mut self, count: usize) -> Result<(), LinkError> {
+        self.outgoing.reserve(count, 0)?;
+        Ok(())
+    }
+
+    fn put(&mut self, packet: Vec<u8>) -> Result<(), LinkError> {
+        self.give(packet)
+    }
+}

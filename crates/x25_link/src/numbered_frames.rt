@@ -1,0 +1,130 @@
+//! What a station that is Up does with frames that carry an N(R).
+ghost use Rattle.std.specs.Prelude.{◌≡◌, ℕ, ◌+◌, ◌<◌, ◌≤◌, List, length, true, false, option_copied};
+ghost use Rattle.x25_link.specs.Station.{Settings, Station as StationState, Side};
+ghost use Rattle.x25_link.specs.Fits.{FitsStation, FitsSide};
+ghost use Rattle.x25_link.specs.MustSend.{is_valid, acknowledged, is_taken, takes, answers, passes_over, hears_info, polls};
+
+use crate::outbox::Outbox;
+use crate::station::Station;
+use x25_bits::Seq;
+use x25_frame::Frame;
+
+impl Station {
+    /// Takes a received N(R), and says whether it is valid. All frames below it are acknowledged.
+    pub fn acknowledge(&mut self, nr: Seq) -> bool
+        ensures valid { (c : Settings) (s : StationState) → FitsStation c self.old s → result ≡ is_valid nr.number s }
+        ensures step { (c : Settings) (before made : List (List ℕ)) (t : Side) → FitsSide c self.old before made t → result ≡ true → FitsSide c self.new before made (acknowledged nr.number t) }
+        ensures unchanged { result ≡ false → self.new ≡ self.old }
+    {
+        let Ok(count) = self.backlog.ack(nr) else {
+            return false;
+        };
+        if count > 0 {
+            self.tries = 0;
+        }
+        true
+    }
+
+    /// Takes an I frame whose N(R) is valid. It hands the packet up where the frame is the one wanted and the station
+    /// isn't busy.
+    pub fn hear_info<'a>(
+        &mut self,
+        ns: Seq,
+        p: bool,
+        info: &'a [u8],
+        out: &mut Outbox,
+    ) -> Option<&'a [u8]>
+        requires long { 0 < out.old.long }
+        requires short { 0 < out.old.short }
+        ensures step { (c : Settings) (before : List (List ℕ)) (t : Side) → FitsSide c self.old before out.old.made t →
+            FitsSide c self.new before out.new.made (hears_info c.window ns.number p info.now t).side }
+        ensures packet { (c : Settings) (before : List (List ℕ)) (t : Side) → FitsSide c self.old before out.old.made t →
+            option_copied result ≡ (hears_info c.window ns.number p info.now t).packet }
+        ensures long { out.old.long ≤ out.new.long + 1 }
+        ensures short { out.old.short ≤ out.new.short + 1 }
+    {
+        if self.takes(ns) {
+            self.answer(p, out);
+            return Some(info);
+        }
+        self.pass_over(p, out);
+        None
+    }
+
+    // Whether an I frame of this number is taken. The REJ condition ends with that.
+    fn takes(&mut self, ns: Seq) -> bool
+        ensures value { (c : Settings) (s : StationState) → FitsStation c self.old s → result ≡ is_taken ns.number s }
+        ensures taken { (c : Settings) (packet : List ℕ) (before made : List (List ℕ)) (t : Side) → FitsSide c self.old before made t → result ≡ true → FitsSide c self.new before made (takes packet t) }
+        ensures passed { (c : Settings) (s : StationState) → FitsStation c self.old s → result ≡ false → FitsStation c self.new s }
+    {
+        let busy = self.is_busy();
+        if busy {
+            return false;
+        }
+        if !self.receiver.accept(ns) {
+            return false;
+        }
+        self.rejecting = false;
+        true
+    }
+
+    // Answers an I frame that was taken.
+    fn answer(&mut self, p: bool, out: &mut Outbox)
+        requires long { 0 < out.old.long }
+        requires short { 0 < out.old.short }
+        ensures step { (c : Settings) (before : List (List ℕ)) (t : Side) → FitsSide c self.old before out.old.made t → FitsSide c self.new before out.new.made (answers c.window p t) }
+        ensures long { out.old.long ≤ out.new.long + 1 }
+        ensures short { out.old.short ≤ out.new.short + 1 }
+    {
+        if p {
+            self.ready(false, true, out);
+            return;
+        }
+        if !self.pump_once(out) {
+            self.ready(false, false, out);
+        }
+    }
+
+    // Passes over an I frame that isn't taken.
+    fn pass_over(&mut self, p: bool, out: &mut Outbox)
+        requires { 0 < out.old.short }
+        ensures step { (c : Settings) (before : List (List ℕ)) (t : Side) → FitsSide c self.old before out.old.made t → FitsSide c self.new before out.new.made (passes_over p t) }
+        ensures long { out.new.long ≡ out.old.long }
+        ensures short { out.old.short ≤ out.new.short + 1 }
+    {
+        if self.is_busy() {
+            self.ready(false, p, out);
+        } else if !self.rejecting {
+            self.rejecting = true;
+            let nr = self.receiver.wanted();
+            self.send(
+                &Frame::Rej {
+                    command: false,
+                    nr,
+                    pf: p,
+                },
+                out,
+            );
+        } else if p {
+            self.ready(false, true, out);
+        }
+    }
+
+    /// Answers a command with P=1. A response with F=1 ends recovery.
+    pub fn poll(&mut self, command: bool, pf: bool, out: &mut Outbox)
+        requires { 0 < out.old.short }
+        ensures step { (c : Settings) (before : List (List ℕ)) (t : Side) → FitsSide c self.old before out.old.made t → FitsSide c self.new before out.new.made (polls command pf t) }
+        ensures long { out.new.long ≡ out.old.long }
+        ensures short { out.old.short ≤ out.new.short + 1 }
+    {
+        match (command, pf) {
+            (true, true) => self.ready(false, true, out),
+            (false, true) => {
+                self.recovery = false;
+                self.tries = 0;
+                self.backlog.go_back();
+            }
+            (_, false) => {}
+        }
+    }
+}

@@ -1,0 +1,110 @@
+ghost use Rattle.std.specs.Prelude.{◌≡◌, ℕ, ◌+◌, ◌-◌, ◌<◌, ◌≤◌, ◌↔◌, List, length, vec_len, Bool, true, false, IfErr, OnOk, OnErr, IsOk, IsErrOf};
+ghost use Rattle.x25_link.specs.LinkError.{RefusesPut};
+ghost use Rattle.x25_link.specs.Lists.{Lists, handed_down};
+
+use crate::error::LinkError;
+
+/// A link that hands packets up in the order in which they were handed down at the other end.
+///
+/// It means three lists of packets: those handed down, the acknowledged ones, a beginning of these, and those handed up.
+pub trait OrderedLink {
+    /// What a link stands for.
+    ghost State: { Type 0 };
+
+    /// Which states a link fits.
+    ghost fits: { Self → State → Type 0 };
+
+    /// The lists of a state.
+    ghost lists: { State → Lists };
+
+    /// How many packets wait in a state.
+    ghost waits_in: { State → ℕ };
+
+    /// Whether packets are taken in a state.
+    ghost up_in: { State → Bool };
+
+    /// The state after an accepted `put` of a packet.
+    ghost after_put: { State → List ℕ → State };
+
+    /// The most octets of a packet.
+    ghost longest: { Self → ℕ };
+
+    /// How many packets wait.
+    ghost waits: { Self → ℕ };
+
+    /// Whether packets are taken.
+    ghost up: { Self → Bool };
+
+    /// For how many calls of `put` memory is set aside.
+    ghost spares: { Self → ℕ };
+
+    /// The most octets of a packet.
+    fn limit(&self) -> usize
+        ensures { result ≡ longest self.now };
+
+    /// How many packets wait to be sent.
+    fn waiting(&self) -> usize
+        ensures value { result ≡ waits self.now }
+        ensures few { result ≤ 256 };
+
+    /// Whether the link is up.
+    fn is_up(&self) -> bool
+        ensures { result ≡ up self.now };
+
+    /// For how many calls of `put` memory is set aside.
+    fn spare(&self) -> usize
+        ensures { result ≡ spares self.now };
+
+    /// Sets memory aside for at least so many calls of `put`, and changes nothing else.
+    ///
+    /// Refused with 70 alone, and only where memory is set aside for fewer.
+    fn room(&mut self, count: usize) -> Result<(), LinkError>
+        ensures enough { OnOk result (count ≤ spares self.new) }
+        ensures no_fewer { spares self.old ≤ spares self.new }
+        ensures state { (x : State) → fits self.old x → fits self.new x }
+        ensures longest_stays { longest self.new ≡ longest self.old }
+        ensures waits_stays { waits self.new ≡ waits self.old }
+        ensures up_stays { up self.new ≡ up self.old }
+        ensures refused { IfErr result (λ e. e ≡ LinkError.NoMemory) }
+        ensures missing { OnErr result (spares self.old < count) }
+        ensures err { OnErr result (self.new ≡ self.old) };
+
+    /// Hands a packet of at most `limit()` octets down.
+    ///
+    /// Refused with 9 where the link isn't up, then with 10 where 256 packets wait, and else with 70 alone, and that only
+    /// where no memory is set aside. An accepted call uses the memory of one `put`, where some is set aside.
+    fn put(&mut self, packet: Vec<u8>) -> Result<(), LinkError>
+        requires { vec_len packet ≤ longest self.old }
+        ensures state { (x : State) → fits self.old x → OnOk result (fits self.new (after_put x packet.items)) }
+        ensures spares_fall { OnOk result (spares self.new ≡ spares self.old - 1) }
+        ensures longest_stays { longest self.new ≡ longest self.old }
+        ensures up_stays { up self.new ≡ up self.old }
+        ensures waits_more { OnOk result (waits self.new ≤ waits self.old + 1) }
+        ensures not_up { IsErrOf result LinkError.NotUp ↔ (up self.old ≡ false) }
+        ensures full { IsErrOf result LinkError.QueueFull ↔ ((up self.old ≡ true) × (waits self.old ≡ 256)) }
+        ensures kinds { IfErr result RefusesPut }
+        ensures memory { IsErrOf result LinkError.NoMemory → spares self.old ≡ 0 }
+        ensures accepted { up self.old ≡ true → waits self.old < 256 → 0 < spares self.old → IsOk result }
+        ensures err { OnErr result (self.new ≡ self.old) };
+
+    /// A `put` hands its packet down, behind all others.
+    ghost adds: { (x : State) (packet : List ℕ) → lists (after_put x packet) ≡ handed_down (lists x) packet };
+
+    /// What is acknowledged is a beginning of what was handed down.
+    ghost begins: { (link : Self) (x : State) → fits link x → (lists x).acked ≤ length (lists x).given };
+
+    /// How many packets wait is that of each state that the link fits.
+    ghost waits_are: { (link : Self) (x : State) → fits link x → waits link ≡ waits_in x };
+
+    /// Whether the link is up is that of each state that the link fits.
+    ghost up_is: { (link : Self) (x : State) → fits link x → up link ≡ up_in x };
+
+    /// A `put` leaves the link up.
+    ghost stays_up: { (x : State) (packet : List ℕ) → up_in (after_put x packet) ≡ up_in x };
+
+    /// At most 256 packets wait.
+    ghost few_wait: { (link : Self) (x : State) → fits link x → waits_in x ≤ 256 };
+
+    /// Of the packets that don't wait at most 7 aren't acknowledged.
+    ghost few_unacknowledged: { (link : Self) (x : State) → fits link x → length (lists x).given ≤ (lists x).acked + waits_in x + 7 };
+}

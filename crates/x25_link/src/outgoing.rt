@@ -1,0 +1,154 @@
+ghost use Rattle.std.specs.Prelude.{◌≡◌, ℕ, ◌+◌, ◌%◌, ◌<◌, ◌≤◌, ◌&&◌, nat_lt, max, List, [], ◌∷◌, ◌++◌, length, slice_get, slice_index_or, IfOk, IfErr, OnOk, OnErr, MatchOption, true, false, if◌then◌else◌};
+ghost use Rattle.x25_window.specs.Modulo.{resolved};
+ghost use Rattle.x25_window.specs.Sending.{Sending, moved_on, offered};
+ghost use Rattle.x25_window.specs.Held.{Fits};
+ghost use Rattle.x25_frame.specs.PlainFrame.{info};
+ghost use Rattle.x25_frame.specs.Spelling.{spelling_of};
+ghost use Rattle.x25_link.specs.Outgoing.{Outgoing as OutgoingState, no_packet, added, acknowledged_to, gone_back, is_open, next_packet, waits};
+ghost use Rattle.x25_link.specs.Outgoing.{moved_on as sent_on};
+
+use crate::error::LinkError;
+use crate::octets::Octets;
+use crate::outbox::Outbox;
+use crate::waiting_packets::Queue;
+use std::alloc::Global;
+use x25_bits::{Role, Seq};
+use x25_window::{Sender, WindowError};
+
+/// The packets handed down that aren't acknowledged: those that were sent, and behind them those that wait.
+#[derive(Drop)]
+pub struct Outgoing {
+    pub sender: Sender<Octets>,
+    pub queue: Queue,
+}
+
+impl Outgoing {
+    ghost use Rattle.x25_link.specs.Backlog.{FitsBacklog};
+
+    pub fn new(alloc: Global, window: u8) -> Result<Option<Outgoing>, LinkError>
+        ensures fits { IfOk result (λ made. MatchOption made (¬ ((1 ≤ window) × (window ≤ 7))) (λ b. FitsBacklog window b no_packet)) }
+        ensures err { IfErr result (λ e. e ≡ LinkError.NoMemory) }
+    {
+        let Some(sender) = Sender::new(alloc, window)? else {
+            return Ok(None);
+        };
+        let queue = Queue::new(alloc)?;
+        Ok(Some(Outgoing { sender, queue }))
+    }
+
+    /// How many packets wait.
+    pub fn waiting(&self) -> usize
+        ensures value { result ≡ length self.now.queue }
+        ensures state { (k : ℕ) (o : OutgoingState) → FitsBacklog k self.now o → result ≡ waits o }
+        ensures few { result ≤ 256 }
+    {
+        self.queue.len()
+    }
+
+    /// How many frames were sent and aren't acknowledged.
+    #[tactic(auto, using(crate::proofs::BacklogLemmas::sent_length))]
+    pub fn unacked(&self) -> u8
+        ensures { (k : ℕ) (o : OutgoingState) → FitsBacklog k self.now o → o.acked + result ≡ o.sent }
+    {
+        self.sender.unacked()
+    }
+
+    /// The highest number ever sent plus one.
+    #[tactic(auto, using(crate::proofs::BacklogLemmas::sent_length))]
+    pub fn top(&self) -> Seq
+        ensures { (k : ℕ) (o : OutgoingState) → FitsBacklog k self.now o → result.number ≡ o.sent % 8 }
+    {
+        self.sender.top()
+    }
+
+    /// Lets a packet wait.
+    pub fn add(&mut self, packet: Octets)
+        requires { length self.old.queue < 256 }
+        ensures queue { length self.new.queue ≡ length self.old.queue + 1 }
+        ensures state { (k : ℕ) (o : OutgoingState) → FitsBacklog k self.old o → FitsBacklog k self.new (added packet o) }
+    {
+        self.queue.push(packet);
+    }
+
+    /// Takes a received N(R), and says how many frames it acknowledges.
+    #[tactic(auto, using(crate::proofs::BacklogLemmas::sent_length))]
+    pub fn ack(&mut self, nr: Seq) -> Result<u8, WindowError>
+        ensures step { (k : ℕ) (o : OutgoingState) → FitsBacklog k self.old o → IfOk result (λ count. FitsBacklog k self.new (acknowledged_to (o.acked + count) o)) }
+        ensures number { (k : ℕ) (o : OutgoingState) → FitsBacklog k self.old o → IfOk result (λ count. o.acked + count ≡ resolved o.acked nr.number) }
+        ensures within { (k : ℕ) (o : OutgoingState) → FitsBacklog k self.old o → IfOk result (λ count. o.acked + count ≤ o.sent) }
+        ensures beyond { (k : ℕ) (o : OutgoingState) → FitsBacklog k self.old o → OnErr result (o.sent < resolved o.acked nr.number) }
+        ensures err { OnErr result (self.new ≡ self.old) }
+    {
+        self.sender.ack(nr)
+    }
+
+    /// Moves the place to send from back to the first frame that isn't acknowledged.
+    pub fn go_back(&mut self)
+        ensures { (k : ℕ) (o : OutgoingState) → FitsBacklog k self.old o → FitsBacklog k self.new (gone_back o) }
+    {
+        self.sender.again();
+    }
+
+    /// Drops all packets.
+    pub fn clear(&mut self)
+        ensures { (k : ℕ) (o : OutgoingState) → FitsBacklog k self.old o → FitsBacklog k self.new no_packet }
+    {
+        self.sender.clear();
+        self.queue.clear();
+    }
+
+    /// Sends the next packet, again or new, where the window is open and there is one. It says whether it did.
+    pub fn send_next(&mut self, from: Role, nr: Seq, out: &mut Outbox) -> bool
+        requires { 0 < out.old.long }
+        ensures sent { (k : ℕ) (o : OutgoingState) → FitsBacklog k self.old o → result ≡ is_open k o }
+        ensures step { (k : ℕ) (o : OutgoingState) → FitsBacklog k self.old o → FitsBacklog k self.new (if result then sent_on o else o) }
+        ensures made { (k : ℕ) (o : OutgoingState) → FitsBacklog k self.old o →
+            out.new.made ≡ (if result then out.old.made ++ spelling_of from (info (o.place % 8) nr.number false (next_packet o)) ∷ [] else out.old.made) }
+        ensures queue { length self.new.queue ≤ length self.old.queue }
+        ensures long { out.old.long ≡ (if result then out.new.long + 1 else out.new.long) }
+        ensures short { out.new.short ≡ out.old.short }
+    {
+        if send_again(&mut self.sender, from, nr, out) {
+            return true;
+        }
+        if self.sender.is_full() {
+            return false;
+        }
+        let Some(packet) = self.queue.pop() else {
+            return false;
+        };
+        send_new(&mut self.sender, packet, from, nr, out);
+        true
+    }
+}
+
+// Sends the packet at the place to send from again, where it was sent before. It says whether it did.
+fn send_again(sender: &mut Sender<Octets>, from: Role, nr: Seq, out: &mut Outbox) -> bool
+    requires { 0 < out.old.long }
+    ensures sent { (w : Sending (List ℕ)) → Fits sender.old w → result ≡ nat_lt w.place (length w.given) }
+    ensures step { (w : Sending (List ℕ)) → Fits sender.old w → Fits sender.new (if result then moved_on w else w) }
+    ensures made { (w : Sending (List ℕ)) → Fits sender.old w →
+        out.new.made ≡ (if result then out.old.made ++ spelling_of from (info (w.place % 8) nr.number false (slice_index_or w.given w.place [])) ∷ [] else out.old.made) }
+    ensures long { out.old.long ≡ (if result then out.new.long + 1 else out.new.long) }
+    ensures short { out.new.short ≡ out.old.short }
+{
+    let Some((ns, packet)) = sender.next() else {
+        return false;
+    };
+    out.send_packet(from, ns, nr, packet.as_slice());
+    true
+}
+
+// Sends a packet for the first time.
+fn send_new(sender: &mut Sender<Octets>, packet: Octets, from: Role, nr: Seq, out: &mut Outbox)
+    requires ready { 0 < out.old.long }
+    requires open { ¬ (length sender.old.items ≡ sender.old.window) }
+    ensures step { (w : Sending (List ℕ)) → Fits sender.old w → length w.given < w.acked + w.window → Fits sender.new (offered w packet) }
+    ensures made { (w : Sending (List ℕ)) → Fits sender.old w →
+        out.new.made ≡ out.old.made ++ spelling_of from (info (length w.given % 8) nr.number false packet) ∷ [] }
+    ensures long { out.old.long ≡ out.new.long + 1 }
+    ensures short { out.new.short ≡ out.old.short }
+{
+    out.send_packet(from, sender.top(), nr, packet.as_slice());
+    sender.offer(packet).unwrap();
+}

@@ -1,0 +1,123 @@
+ghost use Rattle.std.specs.Prelude.{◌≡◌, ℕ, ◌+◌, ◌-◌, ◌<◌, ◌≤◌, List, [], ◌∷◌, ◌++◌, length, drop, true, IfOk, IfErr, OnOk, OnErr, OnSome, IfSome, MatchOption, slice_get};
+ghost use Rattle.x25_link.specs.Lists.{Lists, no_packets, acked_more};
+ghost use Rattle.x25_link.specs.Plain.{ShownPlain, FitsPlain};
+
+use crate::error::LinkError;
+use crate::octets::{LONGEST_PACKET, Octets};
+use crate::ordered_link::OrderedLink;
+use crate::waiting_packets::{PLACES, Queue};
+use std::alloc::Global;
+use std::marker::Model;
+
+/// A link that is always up and loses nothing: what is put comes out, in order (profile).
+#[derive(Drop)]
+pub struct PlainLink {
+    queue: Queue,
+    spare: usize,
+}
+
+impl Model for PlainLink {
+    ghost use Rattle.x25_link.specs.Plain.{ShownPlain};
+
+    ghost Value = { ShownPlain };
+
+    ghost view = { λ l. record { queue = l.queue; spare = l.spare } };
+
+    ghost invariant = { λ _. Unit {0} };
+}
+
+impl PlainLink {
+    /// A link in which nothing waits. Refused with 70 alone.
+    pub fn new(alloc: Global) -> Result<PlainLink, LinkError>
+        ensures ok { IfOk result (λ l. FitsPlain l no_packets) }
+        ensures spare { IfOk result (λ l. l.spare ≡ 0) }
+        ensures err { IfErr result (λ e. e ≡ LinkError.NoMemory) }
+    {
+        let queue = Queue::new(alloc)?;
+        Ok(PlainLink { queue, spare: 0 })
+    }
+
+    /// Takes the first packet that waits, which counts as acknowledged by that. It takes no memory.
+    #[tactic(auto, using(crate::proofs::ListLemmas::drop_first))]
+    pub fn out(&mut self) -> Option<Vec<u8>>
+        ensures step { (x : Lists) → FitsPlain self.old x → OnSome result (FitsPlain self.new (acked_more x)) }
+        ensures front { (x : Lists) → FitsPlain self.old x → IfSome result (λ packet. slice_get x.given x.acked ≡ Some packet.items) }
+        ensures value { MatchOption result ((self.old.queue ≡ []) × (self.new ≡ self.old)) (λ packet. (self.old.queue ≡ packet.items ∷ self.new.queue) × (self.new.spare ≡ self.old.spare)) }
+    {
+        let packet = self.queue.pop()?;
+        Some(packet.into_vec())
+    }
+}
+
+impl OrderedLink for PlainLink {
+    ghost use Rattle.x25_link.specs.Lists.{Lists, handed_down};
+    ghost use Rattle.x25_link.specs.Plain.{FitsPlain, unacknowledged};
+    ghost use Rattle.x25_link.specs.LinkLaws.{plain_waits, plain_few, plain_close};
+    ghost use Rattle.std.specs.Prelude.{length, true, refl};
+
+    ghost State = { Lists };
+
+    ghost fits = { FitsPlain };
+
+    ghost lists = { λ x. x };
+
+    ghost waits_in = { unacknowledged };
+
+    ghost up_in = { λ _. true };
+
+    ghost after_put = { handed_down };
+
+    ghost adds = { λ _ _. refl };
+
+    ghost begins = { λ _ _ fits. fits.acked };
+
+    ghost waits_are = { plain_waits };
+
+    ghost up_is = { λ _ _ _. refl };
+
+    ghost stays_up = { λ _ _. refl };
+
+    ghost few_wait = { plain_few };
+
+    ghost few_unacknowledged = { plain_close };
+
+    ghost longest = { λ _. 4099 };
+
+    ghost waits = { λ l. length l.queue };
+
+    ghost up = { λ _. true };
+
+    ghost spares = { λ l. l.spare };
+
+    fn limit(&self) -> usize {
+        LONGEST_PACKET
+    }
+
+    fn waiting(&self) -> usize {
+        self.queue.len()
+    }
+
+    fn is_up(&self) -> bool {
+        true
+    }
+
+    fn spare(&self) -> usize {
+        self.spare
+    }
+
+    fn room(&mut self, count: usize) -> Result<(), LinkError> {
+        if self.spare < count {
+            self.spare = count;
+        }
+        Ok(())
+    }
+
+    fn put(&mut self, packet: Vec<u8>) -> Result<(), LinkError> {
+        if self.queue.len() == PLACES {
+            return Err(LinkError::QueueFull);
+        }
+        self.queue.push(Octets::of(packet));
+        self.spare = self.spare.saturating_sub(1);
+        Ok(())
+    }
+}

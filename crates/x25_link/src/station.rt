@@ -1,0 +1,163 @@
+ghost use Rattle.std.specs.Prelude.{◌≡◌, ℕ, ◌+◌, ◌<◌, ◌≤◌, ◌&&◌, not, nat_lt, List, length, if◌then◌else◌};
+ghost use Rattle.x25_frame.specs.PlainFrame.{plain};
+ghost use Rattle.x25_frame.specs.Spelling.{information_of};
+ghost use Rattle.x25_link.specs.MustSend.{leaves, other};
+ghost use Rattle.x25_link.specs.Station.{Settings, Station as StationState, Side, is_busy, sends, ready, with_nothing, with_near, fresh, may_send, pumped_once, pumped, finished, ended};
+
+use crate::heard::Heard;
+use crate::outbox::Outbox;
+use crate::outgoing::Outgoing;
+use crate::phase::{Phase, Reason};
+use x25_bits::Role;
+use x25_frame::Frame;
+use x25_window::Receiver;
+
+/// How many packets may wait before the station is busy.
+pub const BUSY_ABOVE: usize = 254;
+
+/// The most frames of a window.
+pub const FRAMES: u8 = 7;
+
+/// The system parameters N1, in octets of information, and N2. ITU-T X.25 (10/96), section 2.4.8.
+#[derive(Clone, Copy)]
+pub struct Parameters {
+    pub n1: usize,
+    pub n2: u8,
+    ghost short: { n1 ≤ 4099 },
+}
+
+/// The variables of a LAPB station. ITU-T X.25 (10/96), sections 2.3.2 and 2.4.
+#[derive(Drop)]
+pub struct Station {
+    pub role: Role,
+    pub parameters: Parameters,
+    pub backlog: Outgoing,
+    pub receiver: Receiver,
+    pub phase: Phase,
+    pub tries: u8,
+    pub recovery: bool,
+    pub peer_busy: bool,
+    pub rejecting: bool,
+    /// RNR was the last of RR and RNR that were sent.
+    pub said_busy: bool,
+}
+
+/// The other end.
+pub fn other(role: Role) -> Role
+    ensures { result ≡ other role }
+{
+    match role {
+        Role::Dte => Role::Dce,
+        Role::Dce => Role::Dte,
+    }
+}
+
+impl Station {
+    ghost use Rattle.x25_link.specs.Fits.{FitsStation, FitsSide, FitsHeard};
+
+    /// Whether the station is busy, and takes no I frame.
+    pub fn is_busy(&self) -> bool
+        ensures { (c : Settings) (s : StationState) → FitsStation c self.now s → result ≡ is_busy s }
+    {
+        self.backlog.waiting() > BUSY_ABOVE
+    }
+
+    /// Sends a frame that carries no packet.
+    #[tactic(auto, using(crate::proofs::FitsLemmas::made_more))]
+    pub fn send(&self, frame: &Frame, out: &mut Outbox)
+        requires ready { 0 < out.old.short }
+        requires short { length (information_of (plain frame.now)) ≤ 3 }
+        ensures step { (c : Settings) (before : List (List ℕ)) (t : Side) → FitsSide c self.now before out.old.made t → FitsSide c self.now before out.new.made (sends (plain frame.now) t) }
+        ensures short { out.old.short ≡ out.new.short + 1 }
+        ensures long { out.new.long ≡ out.old.long }
+    {
+        out.send_short(self.role, frame);
+    }
+
+    /// Sends RR, or RNR where the station is busy.
+    pub fn ready(&mut self, command: bool, pf: bool, out: &mut Outbox)
+        requires { 0 < out.old.short }
+        ensures step { (c : Settings) (before : List (List ℕ)) (t : Side) → FitsSide c self.old before out.old.made t → FitsSide c self.new before out.new.made (ready command pf t) }
+        ensures short { out.old.short ≡ out.new.short + 1 }
+        ensures long { out.new.long ≡ out.old.long }
+    {
+        let nr = self.receiver.wanted();
+        if self.is_busy() {
+            self.said_busy = true;
+            self.send(&Frame::Rnr { command, nr, pf }, out);
+        } else {
+            self.said_busy = false;
+            self.send(&Frame::Rr { command, nr, pf }, out);
+        }
+    }
+
+    /// Sends by the sending rule, for at most seven frames, and then an RR where RNR was the last and the station is no
+    /// longer busy.
+    pub fn end(&mut self, out: &mut Outbox)
+        requires long { 7 ≤ out.old.long }
+        requires short { 0 < out.old.short }
+        ensures { (c : Settings) (before : List (List ℕ)) (t : Side) → FitsSide c self.old before out.old.made t → FitsSide c self.new before out.new.made (ended c.window t) }
+    {
+        for _frame in 0..FRAMES {
+            self.pump_once(out);
+        }
+        self.finish(out);
+    }
+
+    /// The sending rule, once. It says whether a frame was sent.
+    pub fn pump_once(&mut self, out: &mut Outbox) -> bool
+        requires { 0 < out.old.long }
+        ensures sent { (c : Settings) (s : StationState) → FitsStation c self.old s → result ≡ may_send c.window s }
+        ensures step { (c : Settings) (before : List (List ℕ)) (t : Side) → FitsSide c self.old before out.old.made t → FitsSide c self.new before out.new.made (pumped_once c.window t) }
+        ensures long { out.old.long ≤ out.new.long + 1 }
+        ensures kept { self.new ≡ record self.old { backlog = self.new.backlog } }
+        ensures queue { length self.new.backlog.queue ≤ length self.old.backlog.queue }
+        ensures used { out.old.long ≡ (if result then out.new.long + 1 else out.new.long) }
+        ensures short { out.new.short ≡ out.old.short }
+    {
+        if !self.phase.is_up() || self.recovery || self.peer_busy {
+            return false;
+        }
+        let nr = self.receiver.wanted();
+        self.backlog.send_next(self.role, nr, out)
+    }
+
+    // RR, where RNR was the last and the station is no longer busy.
+    fn finish(&mut self, out: &mut Outbox)
+        requires { 0 < out.old.short }
+        ensures { (c : Settings) (before : List (List ℕ)) (t : Side) → FitsSide c self.old before out.old.made t → FitsSide c self.new before out.new.made (finished t) }
+    {
+        if self.phase.is_up() && self.said_busy && !self.is_busy() {
+            self.ready(false, false, out);
+        }
+    }
+
+    /// Drops all packets, and sets all variables but `tries` to 0.
+    pub fn clear(&mut self, phase: Phase)
+        ensures { (c : Settings) (before made : List (List ℕ)) (t : Side) → FitsSide c self.old before made t → FitsSide c self.new before made (with_near t (with_nothing phase t.near.tries)) }
+    {
+        self.phase = phase;
+        self.backlog.clear();
+        self.receiver.clear();
+        self.recovery = false;
+        self.peer_busy = false;
+        self.rejecting = false;
+        self.said_busy = false;
+    }
+
+    /// The link is set up: all variables are 0.
+    pub fn set_up(&mut self)
+        ensures { (c : Settings) (before made : List (List ℕ)) (t : Side) → FitsSide c self.old before made t → FitsSide c self.new before made (with_near t fresh) }
+    {
+        self.clear(Phase::Up);
+        self.tries = 0;
+    }
+
+    /// Leaves Up.
+    pub fn leave<'a>(&mut self, reason: Reason) -> Heard<'a>
+        ensures { (c : Settings) (before made : List (List ℕ)) (t : Side) → FitsSide c self.old before made t → FitsHeard c self.new before made result (leaves reason t) }
+    {
+        self.clear(Phase::Down);
+        Heard::down(reason)
+    }
+}

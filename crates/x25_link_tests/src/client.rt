@@ -1,0 +1,59 @@
+//! A client of any link that keeps order, as a packet layer is one.
+ghost use Rattle.std.specs.Prelude.{◌≡◌, ◌<◌, ◌≤◌, nat_lt, true, if◌then◌else◌, vec_len, IfErr, OnOk, OnErr};
+
+use std::alloc::Global;
+use std::test::Fail;
+use x25_bits::Role;
+use x25_link::{Link, LinkError, OrderedLink, PlainLink};
+
+// Puts an answer, and behind it a further packet where fewer than 8 packets wait. Which of them is a function of the state
+// that the link fits. Refused with 70 alone, and the link is as it was then.
+fn answer_and_pull<L: OrderedLink>(
+    link: &mut L,
+    answer: Vec<u8>,
+    further: Vec<u8>,
+) -> Result<(), LinkError>
+    requires up { L.up link.old ≡ true }
+    requires free { L.waits link.old < 256 }
+    requires answer_short { vec_len answer ≤ L.longest link.old }
+    requires further_short { vec_len further ≤ L.longest link.old }
+    ensures state { (x : L.State) → L.fits link.old x →
+        OnOk result (L.fits link.new (if nat_lt (L.waits_in (L.after_put x answer.items)) 8 then L.after_put (L.after_put x answer.items) further.items else L.after_put x answer.items)) }
+    ensures refused { IfErr result (λ e. e ≡ LinkError.NoMemory) }
+    ensures err { OnErr result (link.new ≡ link.old) }
+{
+    link.room(2)?;
+    link.put(answer).unwrap();
+    if link.waiting() < 8 {
+        link.put(further).unwrap();
+    }
+    Ok(())
+}
+
+// Puts two packets of no octets so, and says how many wait then.
+fn waiting_after<L: OrderedLink>(link: &mut L, alloc: Global) -> Result<usize, LinkError> {
+    if !link.is_up() {
+        return Err(LinkError::NotUp);
+    }
+    if link.waiting() == 256 {
+        return Err(LinkError::QueueFull);
+    }
+    answer_and_pull(link, Vec::new(alloc), Vec::new(alloc))?;
+    Ok(link.waiting())
+}
+
+#[test]
+fn pulls_while_few_wait(rt: HostRuntime) -> Result<(), Fail> {
+    let mut link = PlainLink::new(rt.alloc())?;
+    for waiting in [2, 4, 6, 8, 9, 10] {
+        assert_eq!(rt; waiting_after(&mut link, rt.alloc())?, waiting);
+    }
+    Ok(())
+}
+
+#[test]
+fn a_link_that_is_down_takes_nothing(rt: HostRuntime) -> Result<(), Fail> {
+    let mut link = Link::new(rt.alloc(), Role::Dte, 7, 4099, 10)?;
+    assert_eq!(rt; waiting_after(&mut link, rt.alloc()), Err(LinkError::NotUp));
+    Ok(())
+}

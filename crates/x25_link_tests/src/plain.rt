@@ -1,0 +1,43 @@
+//! A plain link, by its own calls and by those of the trait.
+ghost use Rattle.std.specs.Prelude.{◌≤◌};
+
+use std::alloc::Global;
+use std::test::Fail;
+use x25_link::{LinkError, OrderedLink, PlainLink};
+
+// Puts one packet through any link that is up and holds none.
+fn put_one<L: OrderedLink>(link: &mut L, alloc: Global, octet: u8) -> Result<(), LinkError>
+    requires { 1 ≤ L.longest link.old }
+{
+    link.room(1)?;
+    link.put(vec![in alloc; octet]?)
+}
+
+#[test]
+fn what_is_put_comes_out(rt: HostRuntime) -> Result<(), Fail> {
+    let mut link = PlainLink::new(rt.alloc())?;
+    assert!(rt; link.is_up());
+    assert_eq!(rt; link.limit(), 4099);
+    assert_eq!(rt; link.out().is_none(), true);
+    put_one(&mut link, rt.alloc(), 5)?;
+    put_one(&mut link, rt.alloc(), 6)?;
+    assert_eq!(rt; link.waiting(), 2);
+    assert_eq!(rt; link.out().ok_or("5 waits")?.as_slice(), [5].as_slice());
+    assert_eq!(rt; link.out().ok_or("6 waits")?.as_slice(), [6].as_slice());
+    assert_eq!(rt; link.waiting(), 0);
+    Ok(())
+}
+
+#[test]
+fn is_full_at_256(rt: HostRuntime) -> Result<(), Fail> {
+    let mut link = PlainLink::new(rt.alloc())?;
+    link.room(2)?;
+    for _ in 0..256u16 {
+        link.put(Vec::new(rt.alloc()))?;
+    }
+    assert_eq!(rt; link.spare(), 0);
+    assert_eq!(rt; link.put(Vec::new(rt.alloc())), Err(LinkError::QueueFull));
+    assert_eq!(rt; link.waiting(), 256);
+    assert_eq!(rt; LinkError::QueueFull.number(), 10);
+    Ok(())
+}

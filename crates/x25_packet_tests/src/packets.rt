@@ -1,0 +1,142 @@
+use std::alloc::Global;
+use std::test::Fail;
+use x25_packet::{NoMemory, Packet, PacketError, channel, decode, encode};
+
+/// Octets in hexadecimal, and the number of their error, 0 where they spell a packet.
+const ROWS: [(&str, u8); 29] = [
+    ("1000fb0000", 0),
+    ("1000fb0700", 0),
+    ("1000ff", 0),
+    ("9001b4", 0),
+    ("d001b4", 21),
+    ("10010b43123456700041", 0),
+    ("10010b43123456710041", 24),
+    ("10010b111206420707430202", 0),
+    ("10010b111206430202420707", 25),
+    ("10010b111206420307430202", 26),
+    ("10010b1112024207", 26),
+    ("10011300", 20),
+    ("1001130000", 0),
+    ("100113000000", 23),
+    ("9001130000", 21),
+    ("1001fb0000", 22),
+    ("100109", 22),
+    ("1000f1", 22),
+    ("10010f", 0),
+    ("10010f00", 20),
+    ("10010f01", 24),
+    ("10010f0000", 26),
+    ("100123", 20),
+    ("10012300", 0),
+    ("1fff27", 0),
+    ("11001b0501", 0),
+    ("10011f", 0),
+    ("100117", 0),
+    ("100141", 0),
+];
+
+/// The number of the error that the octets have, 0 where they spell a packet and are what it is spelled as.
+fn error_number(alloc: Global, octets: &[u8]) -> Result<u8, Fail> {
+    let packet = match decode(octets) {
+        Ok(packet) => packet,
+        Err(error) => return Ok(error.number()),
+    };
+    let mut again = Vec::new(alloc);
+    encode(&packet, &mut again)?;
+    if again.as_slice() != octets {
+        return Err(Fail::from("it is spelled otherwise"));
+    }
+    Ok(0)
+}
+
+#[test]
+fn packets_and_errors(rt: HostRuntime) -> Result<(), Fail> {
+    for (text, number) in ROWS {
+        let octets = hex::decode(rt.alloc(), text)?;
+        assert_eq!(rt;
+            error_number(rt.alloc(), octets.as_slice())?,
+            number,
+            "{text}"
+        );
+    }
+    Ok(())
+}
+
+/// The first octets of a packet, how many 0 octets may follow, and the error of one more.
+const LONGEST: [(&[u8], usize); 3] = [
+    (&[0x10, 0x01, 0x23], 32),
+    (&[0x10, 0x01, 0x00], 4096),
+    (&[0x10, 0x01, 0x0B, 0, 0], 16),
+];
+
+/// The head with so many 0 octets behind it.
+fn lengthened(alloc: Global, head: &[u8], count: usize) -> Result<Vec<u8>, NoMemory> {
+    let mut octets = head.to_vec(alloc)?;
+    for _ in 0..count {
+        octets.push(0)?;
+    }
+    Ok(octets)
+}
+
+#[test]
+fn longest_bodies(rt: HostRuntime) -> Result<(), Fail> {
+    for (head, most) in LONGEST {
+        for (count, number) in [(most, 0), (most + 1, 23)] {
+            let octets = lengthened(rt.alloc(), head, count)?;
+            assert_eq!(rt;
+                error_number(rt.alloc(), octets.as_slice())?,
+                number,
+                "{head:?}"
+            );
+        }
+    }
+    Ok(())
+}
+
+#[test]
+fn channels(rt: HostRuntime) {
+    let rows: [(&[u8], Option<u16>); 3] = [
+        (&[0x1F, 0xFF, 0], Some(4095)),
+        (&[0xD0, 0x01, 0xB4], Some(1)),
+        (&[0x10, 0x01], None),
+    ];
+    for (octets, wanted) in rows {
+        assert_eq!(rt; channel(octets), wanted, "{octets:?}");
+    }
+}
+
+#[test]
+fn another_channel(rt: HostRuntime) -> Result<(), Fail> {
+    let packet = Packet::Clear {
+        channel: 1,
+        cause: 0,
+        diagnostic: 20,
+    };
+    let mut octets = Vec::new(rt.alloc());
+    encode(&packet.with_channel(256), &mut octets)?;
+    assert_eq!(rt; octets.as_slice(), [0x11, 0x00, 0x13, 0, 20].as_slice());
+    Ok(())
+}
+
+/// Each error, its number and its diagnostic code.
+const NUMBERS: [(PacketError, u8, u8); 8] = [
+    (PacketError::TooShort, 20, 38),
+    (PacketError::BadFormat, 21, 40),
+    (PacketError::Unidentified, 22, 33),
+    (PacketError::TooLong, 23, 39),
+    (PacketError::BadDigit, 24, 0),
+    (PacketError::BadFacility, 25, 65),
+    (PacketError::BadParameter, 26, 66),
+    (PacketError::NoMemory, 70, 0),
+];
+
+#[test]
+fn errors_have_numbers(rt: HostRuntime) {
+    for (error, number, diagnostic) in NUMBERS {
+        assert_eq!(rt;
+            (error.number(), error.diagnostic()),
+            (number, diagnostic),
+            "{error}"
+        );
+    }
+}

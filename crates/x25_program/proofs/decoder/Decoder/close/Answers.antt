@@ -1,0 +1,18 @@
+use Rattle.std.proofs.Common.{◌||◌, ◌++◌, ◌∷◌, ap}
+use Rattle.x25_program.proofs.StreamLemmas.{answered, direct, held}
+use Rattle.x25_program.proofs.decoder.Decoder.close.Goals as goal
+
+pub returns-in-Err-clause-leads : goal.returns-in-Err-clause-leads
+returns-in-Err-clause-leads g c = λ old rest all any h. c.in-Err.ensures.leads old (c.args.tail.now ++ 10 ∷ rest) all any h
+
+pub returns-then-is_empty-clause-leads : goal.returns-then-is_empty-clause-leads
+returns-then-is_empty-clause-leads g c = λ old rest all any h.
+    direct old _ _ _ _ _ _ _ c.args.tail.now rest all any (c.in_default.ensures.leads old (c.args.tail.now ++ 10 ∷ rest) all any h)
+    c.requires (c.is_empty.ensures.0 c.if-is_empty.true) c.answer-refused.ensures.text
+    (ap (λ b. c.make_room.new.self.is_refused || b) c.answer-refused.ensures.refused)
+
+pub returns-clause-leads : goal.returns-clause-leads
+returns-clause-leads g c = λ old rest all any h.
+    let more = held old _ _ _ _ _ _ _ _ _ c.args.tail.now (10 ∷ rest) all any (c.in_default.ensures.leads old (c.args.tail.now ++ 10 ∷ rest) all any h)
+    c.requires c.hold.ensures.line c.hold.ensures.text c.hold.ensures.is_refused in
+    answered old _ _ _ _ _ _ _ _ _ rest all any more c.answer_held.ensures.text c.answer_held.ensures.refused c.answer_held.ensures.line c.answer_held.ensures.is_long

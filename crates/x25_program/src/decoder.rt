@@ -1,0 +1,224 @@
+//! Lines answered as they come, with at most one line held.
+ghost use Rattle.std.specs.Prelude.{◌≤◌, length};
+
+use crate::answer::{MOST_ANSWER, answer};
+use crate::device::{Failed, Sink, write_all};
+use crate::fault::Fault;
+use crate::lines::split_line;
+use std::alloc::{AllocError, Global};
+use x25_text::{MOST_OCTETS, ROOM, Text};
+
+/// The most characters of a line that is held, without its line feed: a mark, a space and 8,206 digits.
+const MOST_LINE: usize = 8_208;
+
+/// The line that is open, as far as it is held, and the text that waits to be written.
+///
+/// Its buffers are made by `new`; no other call takes memory.
+#[derive(Drop)]
+pub struct Decoder {
+    line: Text,
+    is_long: bool,
+    octets: [u8; MOST_OCTETS],
+    text: Text,
+    is_refused: bool,
+    ghost fits: { length line ≤ 8208 },
+}
+
+impl Decoder {
+    ghost use Rattle.std.specs.Prelude.{◌≡◌, ◌≢◌, ◌≤◌, ◌+◌, ◌++◌, ◌∷◌, [], ℕ, Bool, true, false, List, Option, ◌||◌, if◌then◌else◌, IfErr, IfOk, OnOk, OnErr, MatchResult, length};
+    ghost use Rattle.std.specs.Io.KnownBytes.{Appends};
+    ghost use Rattle.x25_program.specs.Decoded.{answer_to, has_refused, is_refused, output_of};
+    ghost use Rattle.x25_program.specs.Lines.{IsOpen};
+    ghost use Rattle.x25_program.specs.Stream.{HoldsLine, LeadsFrom, WritesEnded};
+    ghost use Rattle.x25_program.specs.Written.{AppendsBeginning};
+
+    /// Nothing is held and nothing waits.
+    pub fn new(alloc: Global) -> Result<Decoder, AllocError>
+        ensures fresh { IfOk result (λ d. (old : Option (List ℕ)) (input : List ℕ)
+            → LeadsFrom old old d input (output_of input) (has_refused input)) }
+    {
+        let line = Text::new(alloc)?;
+        let text = Text::new(alloc)?;
+        Ok(Decoder {
+            line,
+            is_long: false,
+            octets: [0; MOST_OCTETS],
+            text,
+            is_refused: false,
+        })
+    }
+
+    /// Writes the text that waits.
+    fn flush<W: Sink>(&mut self, writer: &mut W) -> Result<(), Failed>
+        ensures kept { OnOk result (W.is_marked writer.new ≡ W.is_marked writer.old) }
+        ensures ok { OnOk result (Appends (W.contents writer.old) (W.contents writer.new) self.old.text) }
+        ensures empty { OnOk result (self.new.text ≡ []) }
+        ensures err { OnErr result (AppendsBeginning (W.contents writer.old) (W.contents writer.new) self.old.text) }
+        ensures marked { OnErr result (W.is_marked writer.new ≡ true) }
+        ensures line { self.new.line ≡ self.old.line }
+        ensures is_long { self.new.is_long ≡ self.old.is_long }
+        ensures is_refused { self.new.is_refused ≡ self.old.is_refused }
+    {
+        write_all(writer, self.text.as_slice())?;
+        self.text.clear();
+        Ok(())
+    }
+
+    /// Holds more of the open line, as far as there is room for a line.
+    fn hold(&mut self, part: &[u8])
+        ensures line { (begun : List ℕ) → HoldsLine begun self.old.line self.old.is_long
+            → HoldsLine (begun ++ part.now) self.new.line self.new.is_long }
+        ensures text { self.new.text ≡ self.old.text }
+        ensures is_refused { self.new.is_refused ≡ self.old.is_refused }
+    {
+        let room = MOST_LINE - self.line.len();
+        if part.len() > room {
+            self.line.push(&part[..room]);
+            self.is_long = true;
+        } else {
+            self.line.push(part);
+        }
+    }
+
+    /// Answers the held line.
+    fn answer_held(&mut self)
+        requires room { length self.old.text + MOST_ANSWER ≤ ROOM }
+        ensures text { (begun : List ℕ) → HoldsLine begun self.old.line self.old.is_long
+            → self.new.text ≡ self.old.text ++ answer_to begun }
+        ensures refused { (begun : List ℕ) → HoldsLine begun self.old.line self.old.is_long
+            → self.new.is_refused ≡ (self.old.is_refused || is_refused begun) }
+        ensures line { self.new.line ≡ [] }
+        ensures is_long { self.new.is_long ≡ false }
+    {
+        if self.is_long {
+            self.text.push(b"? 60\n");
+            self.is_refused = true;
+            self.line.clear();
+            self.is_long = false;
+        } else {
+            let refused = answer(self.line.as_slice(), &mut self.octets, &mut self.text);
+            self.is_refused |= refused;
+            self.line.clear();
+        }
+    }
+
+    /// Makes room for an answer.
+    fn make_room<W: Sink>(&mut self, writer: &mut W) -> Result<(), Failed>
+        ensures kept { OnOk result (W.is_marked writer.new ≡ W.is_marked writer.old) }
+        ensures room { OnOk result (length self.new.text + MOST_ANSWER ≤ ROOM) }
+        ensures leads { (old : Option (List ℕ)) (rest all : List ℕ) (any : Bool)
+            → LeadsFrom old (W.contents writer.old) self.old rest all any
+            → MatchResult result (λ _. LeadsFrom old (W.contents writer.new) self.new rest all any)
+            (λ _. AppendsBeginning old (W.contents writer.new) all) }
+        ensures marked { OnErr result (W.is_marked writer.new ≡ true) }
+        ensures line { self.new.line ≡ self.old.line }
+    {
+        if self.text.len() > ROOM - MOST_ANSWER {
+            return match self.flush(writer) {
+                Ok(()) => Ok(()),
+                Err(failed) => Err(failed),
+            };
+        }
+        Ok(())
+    }
+
+    /// Takes the rest of a line, without its line feed.
+    fn close<W: Sink>(&mut self, tail: &[u8], writer: &mut W) -> Result<(), Failed>
+        requires { IsOpen tail.now }
+        ensures kept { OnOk result (W.is_marked writer.new ≡ W.is_marked writer.old) }
+        ensures leads { (old : Option (List ℕ)) (rest all : List ℕ) (any : Bool)
+            → LeadsFrom old (W.contents writer.old) self.old (tail.now ++ 10 ∷ rest) all any
+            → MatchResult result (λ _. LeadsFrom old (W.contents writer.new) self.new rest all any)
+            (λ _. AppendsBeginning old (W.contents writer.new) all) }
+        ensures marked { OnErr result (W.is_marked writer.new ≡ true) }
+    {
+        if let Err(failed) = self.make_room(writer) {
+            return Err(failed);
+        }
+        if self.line.is_empty() {
+            let refused = answer(tail, &mut self.octets, &mut self.text);
+            self.is_refused |= refused;
+            return Ok(());
+        }
+        self.hold(tail);
+        self.answer_held();
+        Ok(())
+    }
+
+    /// Takes a piece of the text, and writes the answers to the lines that have ended.
+    pub fn take_piece<W: Sink>(&mut self, piece: &[u8], writer: &mut W) -> Result<(), Failed>
+        ensures written { OnOk result (self.new.text ≡ []) }
+        ensures kept { OnOk result (W.is_marked writer.new ≡ W.is_marked writer.old) }
+        ensures leads { (old : Option (List ℕ)) (rest all : List ℕ) (any : Bool)
+            → LeadsFrom old (W.contents writer.old) self.old (piece.now ++ rest) all any
+            → MatchResult result (λ _. LeadsFrom old (W.contents writer.new) self.new rest all any)
+            (λ _. AppendsBeginning old (W.contents writer.new) all) }
+        ensures marked { OnErr result (W.is_marked writer.new ≡ true) }
+    {
+        let mut left = piece;
+        while let Some((tail, after)) = split_line(left) {
+            if let Err(failed) = self.close(tail, writer) {
+                return Err(failed);
+            }
+            left = after;
+        }
+        self.hold(left);
+        match self.flush(writer) {
+            Ok(()) => Ok(()),
+            Err(failed) => Err(failed),
+        }
+    }
+
+    /// Answers the last line, where it has no line feed, and writes what waits.
+    fn finish<W: Sink>(&mut self, writer: &mut W) -> Result<(), Failed>
+        ensures kept { OnOk result (W.is_marked writer.new ≡ W.is_marked writer.old) }
+        ensures text { (old : Option (List ℕ)) (all : List ℕ) (any : Bool)
+            → LeadsFrom old (W.contents writer.old) self.old [] all any
+            → MatchResult result (λ _. Appends old (W.contents writer.new) all × (self.new.is_refused ≡ any))
+            (λ _. AppendsBeginning old (W.contents writer.new) all) }
+        ensures marked { OnErr result (W.is_marked writer.new ≡ true) }
+    {
+        if self.line.is_empty() {
+            return self.flush(writer);
+        }
+        if let Err(failed) = self.make_room(writer) {
+            return Err(failed);
+        }
+        self.answer_held();
+        self.flush(writer)
+    }
+
+    /// Writes what waits at the end of the text, and answers the status.
+    pub fn end<W: Sink>(&mut self, writer: &mut W) -> Result<u8, Fault>
+        ensures zero_or_one { IfOk result (λ status. status ≤ 1) }
+        ensures kept { OnOk result (W.is_marked writer.new ≡ W.is_marked writer.old) }
+        ensures text { (old : Option (List ℕ)) (all : List ℕ) (any : Bool)
+            → LeadsFrom old (W.contents writer.old) self.old [] all any
+            → MatchResult result (λ status. Appends old (W.contents writer.new) all × (status ≡ (if any then 1 else 0)))
+            (λ _. AppendsBeginning old (W.contents writer.new) all) }
+        ensures write { IfErr result (λ fault. fault ≡ Fault.Write) }
+        ensures marked { OnErr result (W.is_marked writer.new ≡ true) }
+    {
+        match self.finish(writer) {
+            Ok(()) => Ok(u8::from(self.is_refused)),
+            Err(_) => Err(Fault::Write),
+        }
+    }
+
+    /// Writes what waits after a failed read, and answers the fault: `Write` where that fails too.
+    pub fn give_up<W: Sink>(&mut self, writer: &mut W) -> Fault
+        ensures text { (old : Option (List ℕ)) (rest all : List ℕ) (any : Bool)
+            → LeadsFrom old (W.contents writer.old) self.old rest all any
+            → AppendsBeginning old (W.contents writer.new) all }
+        ensures ended { (old : Option (List ℕ)) (rest all : List ℕ) (any : Bool)
+            → LeadsFrom old (W.contents writer.old) self.old rest all any
+            → result ≡ Fault.Read → WritesEnded old (W.contents writer.new) rest all }
+        ensures memory { result ≢ Fault.NoMemory }
+        ensures marked { result ≡ Fault.Write → W.is_marked writer.new ≡ true }
+    {
+        match self.flush(writer) {
+            Ok(()) => Fault::Read,
+            Err(_) => Fault::Write,
+        }
+    }
+}

@@ -1,0 +1,114 @@
+use crate::fakes::{FailingReader, FailingWriter};
+use std::test::Fail;
+use x25_program::{Device, Fault, decode_lines, exit_status};
+
+const TRACE: &str = "> 013febdf\n< 01738357\n> 01001000fb00007702\nx\n> 0101\n";
+
+const ANSWERS: &str =
+    "> SABM cmd P=1\n< UA rsp F=1\n> I cmd P=0 S=0 R=0 | RESTART cause=0 diag=0\n? 60\n> fault 1 short\n";
+
+/// The calls that read the trace seven octets at a time, the one at its end among them.
+const READS: usize = 9;
+
+/// The calls that write its answers nine octets at a time.
+const WRITES: usize = 11;
+
+/// What a run ends with: the fault, where the failing call comes, and else the status 1 for the refused line.
+fn wanted(has_failed: bool, fault: Fault) -> Result<u8, Fault> {
+    if has_failed { Err(fault) } else { Ok(1) }
+}
+
+#[test]
+fn tells_the_read_that_fails(rt: HostRuntime) -> Result<(), Fail> {
+    for before in 0..READS + 3 {
+        let mut reader = FailingReader::new(TRACE.as_bytes(), 7, before);
+        let mut writer = Device::new(Vec::new(rt.alloc()));
+        let result = decode_lines(rt.alloc(), &mut reader, &mut writer);
+        let written = writer.into_inner();
+        assert_eq!(rt; result, wanted(before < READS, Fault::Read));
+        assert!(rt; ANSWERS.as_bytes().starts_with(written.as_slice()));
+        assert_eq!(rt; written.is_empty(), before < 2);
+    }
+    Ok(())
+}
+
+#[test]
+fn tells_the_read_of_a_device_that_fails(rt: HostRuntime) -> Result<(), Fail> {
+    for before in 0..READS + 3 {
+        let mut reader = Device::new(FailingReader::new(TRACE.as_bytes(), 7, before));
+        let mut writer = Device::new(Vec::new(rt.alloc()));
+        let result = decode_lines(rt.alloc(), &mut reader, &mut writer);
+        let written = writer.into_inner();
+        assert_eq!(rt; result, wanted(before < READS, Fault::Read));
+        assert!(rt; ANSWERS.as_bytes().starts_with(written.as_slice()));
+    }
+    Ok(())
+}
+
+#[test]
+fn tells_the_write_that_fails(rt: HostRuntime) -> Result<(), Fail> {
+    for before in 0..WRITES + 3 {
+        let mut reader = Device::new(TRACE.as_bytes());
+        let mut writer = FailingWriter::new(Vec::new(rt.alloc()), 9, before);
+        let result = decode_lines(rt.alloc(), &mut reader, &mut writer);
+        assert_eq!(rt; result, wanted(before < WRITES, Fault::Write));
+        assert!(rt; ANSWERS.as_bytes().starts_with(writer.octets()));
+        assert_eq!(rt; writer.octets().len(), ANSWERS.len().min(9 * before));
+    }
+    Ok(())
+}
+
+#[test]
+fn tells_the_write_of_a_device_that_fails(rt: HostRuntime) -> Result<(), Fail> {
+    for before in 0..WRITES + 3 {
+        let mut reader = Device::new(TRACE.as_bytes());
+        let mut writer = Device::new(FailingWriter::new(Vec::new(rt.alloc()), 9, before));
+        let result = decode_lines(rt.alloc(), &mut reader, &mut writer);
+        let written = writer.into_inner();
+        assert_eq!(rt; result, wanted(before < WRITES, Fault::Write));
+        assert!(rt; ANSWERS.as_bytes().starts_with(written.octets()));
+        assert_eq!(rt; written.octets().len(), ANSWERS.len().min(9 * before));
+    }
+    Ok(())
+}
+
+/// Octets one by one, in and out.
+#[test]
+fn answers_in_any_pieces(rt: HostRuntime) -> Result<(), Fail> {
+    for most in 1..7 {
+        let mut reader = FailingReader::new(TRACE.as_bytes(), most, 1000);
+        let mut writer = FailingWriter::new(Vec::new(rt.alloc()), most, 1000);
+        assert_eq!(rt; decode_lines(rt.alloc(), &mut reader, &mut writer), Ok(1));
+        assert_eq!(rt; writer.octets(), ANSWERS.as_bytes());
+    }
+    Ok(())
+}
+
+#[test]
+fn has_a_text_and_a_number(rt: HostRuntime) -> Result<(), Fail> {
+    let rows = [
+        (Fault::Read, "read failed", 61),
+        (Fault::Write, "write failed", 62),
+        (Fault::NoMemory, "no memory", 70),
+    ];
+    for (fault, text, number) in rows {
+        let told = format!(in rt.alloc(); "{fault}")?;
+        assert_eq!(rt; told.as_str(), text);
+        assert_eq!(rt; fault.number(), number);
+    }
+    Ok(())
+}
+
+#[test]
+fn has_an_exit_status(rt: HostRuntime) {
+    let rows = [
+        (Ok(0), 0),
+        (Ok(1), 1),
+        (Err(Fault::Read), 3),
+        (Err(Fault::Write), 3),
+        (Err(Fault::NoMemory), 3),
+    ];
+    for (run, status) in rows {
+        assert_eq!(rt; exit_status(&run), status);
+    }
+}

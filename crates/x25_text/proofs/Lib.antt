@@ -1,0 +1,7 @@
+pub mod FacilityLength
+pub mod DigitLemmas
+pub mod ResultLemmas
+pub mod DigitTable
+pub mod PairLemmas
+pub mod LaneLemmas
+pub mod BlockLemmas

@@ -1,0 +1,4 @@
+pub mod OctetText
+pub mod Hexadecimal
+pub mod PacketText
+pub mod FrameText

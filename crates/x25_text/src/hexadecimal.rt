@@ -1,0 +1,117 @@
+//! Octets from hexadecimal digits.
+ghost use Rattle.std.specs.Prelude.{◌≡◌, ◌+◌, ◌*◌, ◌≤◌, nat_lt, if◌then◌else◌, length, take, drop, map, Some, None, IsTrue};
+ghost use Rattle.std.specs.List.{list_all};
+ghost use Rattle.std.specs.Result.{result_ok};
+ghost use Rattle.hex.specs.Hex.{decode_of};
+ghost use Rattle.x25_text.specs.Hexadecimal.{octets_of, paired, value_of};
+
+use std::simd::prelude::*;
+
+/// The value of each character that is a hexadecimal digit, 255 for the others.
+static VALUES: [u8; 256] = [
+    255, 255, 255, 255, 255, 255, 255, 255, 255, 255, 255, 255, 255, 255, 255, 255, 255, 255, 255,
+    255, 255, 255, 255, 255, 255, 255, 255, 255, 255, 255, 255, 255, 255, 255, 255, 255, 255, 255,
+    255, 255, 255, 255, 255, 255, 255, 255, 255, 255, 0, 1, 2, 3, 4, 5, 6, 7, 8, 9, 255, 255, 255,
+    255, 255, 255, 255, 10, 11, 12, 13, 14, 15, 255, 255, 255, 255, 255, 255, 255, 255, 255, 255,
+    255, 255, 255, 255, 255, 255, 255, 255, 255, 255, 255, 255, 255, 255, 255, 255, 10, 11, 12, 13,
+    14, 15, 255, 255, 255, 255, 255, 255, 255, 255, 255, 255, 255, 255, 255, 255, 255, 255, 255,
+    255, 255, 255, 255, 255, 255, 255, 255, 255, 255, 255, 255, 255, 255, 255, 255, 255, 255, 255,
+    255, 255, 255, 255, 255, 255, 255, 255, 255, 255, 255, 255, 255, 255, 255, 255, 255, 255, 255,
+    255, 255, 255, 255, 255, 255, 255, 255, 255, 255, 255, 255, 255, 255, 255, 255, 255, 255, 255,
+    255, 255, 255, 255, 255, 255, 255, 255, 255, 255, 255, 255, 255, 255, 255, 255, 255, 255, 255,
+    255, 255, 255, 255, 255, 255, 255, 255, 255, 255, 255, 255, 255, 255, 255, 255, 255, 255, 255,
+    255, 255, 255, 255, 255, 255, 255, 255, 255, 255, 255, 255, 255, 255, 255, 255, 255, 255, 255,
+    255, 255, 255, 255, 255, 255, 255, 255, 255, 255, 255, 255, 255, 255, 255, 255, 255, 255, 255,
+    255, 255, 255,
+];
+
+#[inline]
+fn value(character: u8) -> u8
+    ensures { result ≡ value_of character }
+{
+    VALUES[character as usize]
+}
+
+/// Reads the octets that the digits write, two for each, and says whether all were digits.
+fn read_pairs(digits: &[u8], octets: &mut [u8]) -> bool
+    requires { length digits.now ≡ 2 * length octets.old }
+    ensures { octets_of digits.now ≡ (if result then Some octets.new else None) }
+{
+    for i in 0..octets.len() {
+        let high = value(digits[2 * i]);
+        let low = value(digits[2 * i + 1]);
+        if high > 15 || low > 15 {
+            return false;
+        }
+        octets[i] = 16 * high + low;
+    }
+    true
+}
+
+/// The values of sixteen characters, 255 of one that is no digit.
+#[inline]
+fn values(characters: u8x16) -> u8x16
+    ensures { result ≡ map value_of characters }
+{
+    let decimal = characters - u8x16::splat(b'0');
+    let letter = (characters | u8x16::splat(0x20)) - u8x16::splat(b'a');
+    let of_letter = letter
+        .simd_lt(u8x16::splat(6))
+        .select(letter + u8x16::splat(10), u8x16::splat(255));
+    decimal.simd_lt(u8x16::splat(10)).select(decimal, of_letter)
+}
+
+/// Whether all are values of digits.
+#[inline]
+fn are_digits(values: u8x16) -> bool
+    ensures { result ≡ list_all (λ value. nat_lt value 16) values }
+{
+    values.simd_lt(u8x16::splat(16)).all()
+}
+
+/// The octets of sixteen values.
+#[inline]
+fn joined(values: u8x16) -> u8x8
+    requires { IsTrue (list_all (λ value. nat_lt value 16) values) }
+    ensures { result ≡ paired values }
+{
+    let high: u8x8 = values.swizzle([0, 2, 4, 6, 8, 10, 12, 14]);
+    let low: u8x8 = values.swizzle([1, 3, 5, 7, 9, 11, 13, 15]);
+    high * u8x8::splat(16) + low
+}
+
+/// Reads eight octets from a place on.
+#[inline]
+fn read_eight(digits: &[u8], octets: &mut [u8], place: usize) -> bool
+    requires digits { length digits.now ≡ 2 * length octets.old }
+    requires room { place + 8 ≤ length octets.old }
+    ensures octets { octets_of (take 16 (drop (2 * place) digits.now)) ≡ (if result then Some (take 8 (drop place octets.new)) else None) }
+    ensures before { take place octets.new ≡ take place octets.old }
+{
+    let values = values(u8x16::from_slice(&digits[2 * place..]));
+    if are_digits(values) {
+        joined(values).copy_to_slice(&mut octets[place..]);
+        true
+    } else {
+        false
+    }
+}
+
+/// Reads the octets that the digits write, two for each, and says whether all were digits.
+///
+/// Eight octets at a time; the last eight may be read over some that were read before.
+pub fn read_hexadecimal(digits: &[u8], octets: &mut [u8]) -> bool
+    requires { length digits.now ≡ 2 * length octets.old }
+    ensures { result_ok (decode_of digits.now) ≡ (if result then Some octets.new else None) }
+{
+    let count = octets.len();
+    if count < 8 {
+        return read_pairs(digits, octets);
+    }
+    for eight in 0..count / 8 {
+        if !read_eight(digits, octets, 8 * eight) {
+            return false;
+        }
+    }
+    read_eight(digits, octets, count - 8)
+}

@@ -1,0 +1,14 @@
+//! The text that a trace shows: frames and packets on one line, in a buffer that was set aside.
+//!
+//! docs/FORMATS.md has the texts. Profile.
+#![tactic(auto)]
+
+mod frame_text;
+mod hexadecimal;
+mod packet_text;
+mod text;
+
+pub use frame_text::{MOST_TEXT, push_fault, push_frame};
+pub use hexadecimal::read_hexadecimal;
+pub use packet_text::{MOST_PACKET_TEXT, push_information, push_packet};
+pub use text::{MOST_OCTETS, ROOM, Text};

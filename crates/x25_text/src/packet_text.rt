@@ -1,0 +1,197 @@
+//! Packets and their errors as text.
+ghost use Rattle.std.specs.Prelude.{◌≡◌, ◌+◌, ◌*◌, ◌≤◌, ◌<◌, ◌++◌, codes, decimal, length, map};
+ghost use Rattle.x25_packet.specs.PlainPacket.{plain};
+ghost use Rattle.x25_packet.specs.Spelling.{IsInRange};
+ghost use Rattle.x25_text.specs.OctetText.{octets_text};
+ghost use Rattle.x25_text.specs.PacketText.{addresses_text, digits_text, fields_text, information_text, marks_text, numbers_text, packet_fault_text, packet_text, reason_text};
+
+use crate::text::{MOST_OCTETS, ROOM, Text};
+use x25_frame::Seq;
+use x25_packet::{Digits, Packet, PacketError, decode};
+
+/// The most characters of a packet or of its error on one line.
+pub const MOST_PACKET_TEXT: usize = 8_260;
+
+/// Appends a label and then octets.
+fn push_field(label: &[u8], octets: &[u8], text: &mut Text)
+    requires few { length octets.now ≤ MOST_OCTETS }
+    requires room { length text.old + (length label.now + (2 * length octets.now + 1)) ≤ ROOM }
+    ensures text { text.new ≡ text.old ++ (label.now ++ octets_text octets.now) }
+    ensures size { length text.new ≤ length text.old + (length label.now + (2 * length octets.now + 1)) }
+{
+    text.push(label);
+    text.push_octets(octets);
+}
+
+fn push_digits(digits: &Digits, text: &mut Text)
+    requires room { length text.old + length digits.now ≤ ROOM }
+    ensures text { text.new ≡ text.old ++ map (λ digit. 48 + digit) digits.now }
+    ensures size { length text.new ≡ length text.old + length digits.now }
+{
+    for place in 0..digits.len() {
+        text.push_digit(digits.get(place));
+    }
+}
+
+/// Appends a label and then an address.
+fn push_address(label: &[u8], digits: &Digits, text: &mut Text)
+    requires room { length text.old + (length label.now + 16) ≤ ROOM }
+    ensures text { text.new ≡ text.old ++ (label.now ++ digits_text digits.now) }
+    ensures size { length text.new ≤ length text.old + (length label.now + 16) }
+{
+    text.push(label);
+    if digits.len() == 0 {
+        text.push(b"-");
+    } else {
+        push_digits(digits, text);
+    }
+}
+
+/// Appends a cause and a diagnostic.
+fn push_reason(cause: u8, diagnostic: u8, text: &mut Text)
+    requires room { length text.old + 23 ≤ ROOM }
+    ensures text { text.new ≡ text.old ++ reason_text cause diagnostic }
+    ensures size { length text.new ≤ length text.old + 23 }
+{
+    text.push_number(b" cause=", u16::from(cause));
+    text.push_number(b" diag=", u16::from(diagnostic));
+}
+
+fn push_addresses(called: &Digits, calling: &Digits, text: &mut Text)
+    requires room { length text.old + 49 ≤ ROOM }
+    ensures text { text.new ≡ text.old ++ addresses_text called.now calling.now }
+    ensures size { length text.new ≤ length text.old + 49 }
+{
+    push_address(b" called=", called, text);
+    push_address(b" calling=", calling, text);
+}
+
+fn push_fields(facilities: &[u8], user: &[u8], text: &mut Text)
+    requires facilities { length facilities.now ≤ 6 }
+    requires user { length user.now ≤ 16 }
+    requires room { length text.old + 57 ≤ ROOM }
+    ensures text { text.new ≡ text.old ++ fields_text facilities.now user.now }
+    ensures size { length text.new ≤ length text.old + 57 }
+{
+    push_field(b" fac=", facilities, text);
+    push_field(b" data=", user, text);
+}
+
+fn push_marks(m: bool, q: bool, text: &mut Text)
+    requires room { length text.old + 8 ≤ ROOM }
+    ensures text { text.new ≡ text.old ++ marks_text m q }
+    ensures size { length text.new ≡ length text.old + 8 }
+{
+    text.push_bit(b" M=", m);
+    text.push_bit(b" Q=", q);
+}
+
+fn push_numbers(ps: Seq, pr: Seq, text: &mut Text)
+    requires room { length text.old + 8 ≤ ROOM }
+    ensures text { text.new ≡ text.old ++ numbers_text ps.number pr.number }
+    ensures size { length text.new ≡ length text.old + 8 }
+{
+    text.push_seq(b" S=", ps);
+    text.push_seq(b" R=", pr);
+}
+
+/// Appends a packet on one line. A CALL has at most 16 octets of user data.
+#[tactic(auto, using(crate::proofs::FacilityLength::few_facilities))]
+pub fn push_packet(packet: &Packet, text: &mut Text)
+    requires range { IsInRange 16 (plain packet.now) }
+    requires room { length text.old + MOST_PACKET_TEXT ≤ ROOM }
+    ensures text { text.new ≡ text.old ++ packet_text (plain packet.now) }
+    ensures size { length text.new ≤ length text.old + MOST_PACKET_TEXT }
+{
+    match packet {
+        Packet::Call {
+            channel,
+            called,
+            calling,
+            facilities,
+            user,
+        } => {
+            text.push_number(b"CALL ch=", *channel);
+            push_addresses(called, calling, text);
+            push_fields(facilities, user, text);
+        }
+        Packet::Accept {
+            channel,
+            facilities,
+        } => {
+            text.push_number(b"ACCEPT ch=", *channel);
+            push_field(b" fac=", facilities, text);
+        }
+        Packet::Clear {
+            channel,
+            cause,
+            diagnostic,
+        } => {
+            text.push_number(b"CLEAR ch=", *channel);
+            push_reason(*cause, *diagnostic, text);
+        }
+        Packet::ClearConf { channel } => text.push_number(b"CLEARCONF ch=", *channel),
+        Packet::Data {
+            channel,
+            q,
+            m,
+            ps,
+            pr,
+            user,
+        } => {
+            text.push_number(b"DATA ch=", *channel);
+            push_numbers(*ps, *pr, text);
+            push_marks(*m, *q, text);
+            push_field(b" data=", user, text);
+        }
+        Packet::Rr { channel, pr } => {
+            text.push_number(b"RR ch=", *channel);
+            text.push_seq(b" R=", *pr);
+        }
+        Packet::Rnr { channel, pr } => {
+            text.push_number(b"RNR ch=", *channel);
+            text.push_seq(b" R=", *pr);
+        }
+        Packet::Interrupt { channel, user } => {
+            text.push_number(b"INT ch=", *channel);
+            push_field(b" data=", user, text);
+        }
+        Packet::InterruptConf { channel } => text.push_number(b"INTCONF ch=", *channel),
+        Packet::Reset {
+            channel,
+            cause,
+            diagnostic,
+        } => {
+            text.push_number(b"RESET ch=", *channel);
+            push_reason(*cause, *diagnostic, text);
+        }
+        Packet::ResetConf { channel } => text.push_number(b"RESETCONF ch=", *channel),
+        Packet::Restart { cause, diagnostic } => {
+            text.push(b"RESTART");
+            push_reason(*cause, *diagnostic, text);
+        }
+        Packet::RestartConf => text.push(b"RESTARTCONF"),
+    }
+}
+
+/// Appends the error that octets have that spell no packet.
+fn push_packet_fault(error: PacketError, text: &mut Text)
+    requires room { length text.old + 22 ≤ ROOM }
+    ensures text { text.new ≡ text.old ++ packet_fault_text error }
+    ensures size { length text.new ≤ length text.old + 22 }
+{
+    text.push_number(b"fault ", u16::from(error.number()));
+    text.push_number(b" diag=", u16::from(error.diagnostic()));
+}
+
+/// Appends what the information of an I frame is: a packet, or its error.
+pub fn push_information(information: &[u8], text: &mut Text)
+    requires room { length text.old + MOST_PACKET_TEXT ≤ ROOM }
+    ensures text { text.new ≡ text.old ++ information_text information.now }
+    ensures size { length text.new ≤ length text.old + MOST_PACKET_TEXT }
+{
+    match decode(information) {
+        Ok(packet) => push_packet(&packet, text),
+        Err(error) => push_packet_fault(error, text),
+    }
+}

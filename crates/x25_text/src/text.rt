@@ -1,0 +1,156 @@
+//! A text that waits to be written.
+ghost use Rattle.std.specs.Prelude.{◌≡◌, ◌↔◌, ◌+◌, ◌*◌, ◌≤◌, ◌<◌, ◌++◌, [], ℕ, List, IfOk, IsTrue, length, take, decimal};
+ghost use Rattle.std.specs.List.{flat_map};
+ghost use Rattle.x25_frame.specs.Spelling.{bit};
+ghost use Rattle.x25_text.specs.OctetText.{octet_text, octets_text};
+ghost use Rattle.x25_text.specs.declared.text.TheConstants.{ROOM};
+
+use itoa::Buffer;
+use std::alloc::{AllocError, Global};
+use std::marker::Model;
+use x25_frame::Seq;
+
+/// The characters that a text has room for.
+pub const ROOM: usize = 65_536;
+
+/// The most octets of a frame: with 4,099 octets of information, address, control and frame check sequence.
+pub const MOST_OCTETS: usize = 4_103;
+
+/// Characters, at the front of a buffer of `ROOM` of them: no call but `new` takes memory.
+#[derive(Drop)]
+pub struct Text {
+    buffer: Vec<u8>,
+    count: usize,
+}
+
+impl Model for Text {
+    ghost Value = { List ℕ };
+
+    ghost view = { λ text. take text.count text.buffer.items };
+
+    ghost invariant = { λ text. (length text.buffer.items ≡ ROOM) × (text.count ≤ ROOM) };
+}
+
+/// Writes the octets as hexadecimal digits from a place on.
+#[inline]
+fn write_hexadecimal(octets: &[u8], buffer: &mut [u8], from: usize)
+    requires few { length octets.now ≤ MOST_OCTETS }
+    requires room { from + 2 * length octets.now ≤ length buffer.old }
+    ensures text { take (from + 2 * length octets.now) buffer.new ≡ take from buffer.old ++ flat_map octet_text octets.now }
+    ensures size { length buffer.new ≡ length buffer.old }
+{
+    let digits = &mut buffer[from..from + 2 * octets.len()];
+    hex::encode_to_slice(octets, digits).unwrap();
+}
+
+impl Text {
+    /// No characters.
+    pub fn new(alloc: Global) -> Result<Text, AllocError>
+        ensures { IfOk result (λ text. text ≡ []) }
+    {
+        let buffer = vec![in alloc; 0u8; ROOM]?;
+        Ok(Text { buffer, count: 0 })
+    }
+
+    pub fn as_slice(&self) -> &[u8]
+        ensures { result.now ≡ self.now }
+    {
+        &self.buffer[..self.count]
+    }
+
+    pub fn len(&self) -> usize
+        ensures { result ≡ length self.now }
+    {
+        self.as_slice().len()
+    }
+
+    pub fn is_empty(&self) -> bool
+        ensures { IsTrue result ↔ (length self.now ≡ 0) }
+    {
+        self.count == 0
+    }
+
+    /// Forgets all characters.
+    pub fn clear(&mut self)
+        ensures { self.new ≡ [] }
+    {
+        self.count = 0;
+    }
+
+    /// Appends the characters.
+    #[inline]
+    pub fn push(&mut self, characters: &[u8])
+        requires room { length self.old + length characters.now ≤ ROOM }
+        ensures text { self.new ≡ self.old ++ characters.now }
+        ensures size { length self.new ≡ length self.old + length characters.now }
+    {
+        let end = self.count + characters.len();
+        self.buffer[self.count..end].copy_from_slice(characters);
+        self.count = end;
+    }
+
+    /// Appends a number of one digit.
+    pub fn push_digit(&mut self, number: u8)
+        requires digit { number < 10 }
+        requires room { length self.old + 1 ≤ ROOM }
+        ensures text { self.new ≡ self.old ++ decimal number }
+        ensures size { length self.new ≡ length self.old + 1 }
+    {
+        self.push(&[b'0' + number]);
+    }
+
+    /// Appends a label and then a bit.
+    pub fn push_bit(&mut self, label: &[u8], is_set: bool)
+        requires room { length self.old + (length label.now + 1) ≤ ROOM }
+        ensures text { self.new ≡ self.old ++ (label.now ++ decimal (bit is_set)) }
+        ensures size { length self.new ≡ length self.old + (length label.now + 1) }
+    {
+        self.push(label);
+        self.push_digit(u8::from(is_set));
+    }
+
+    /// Appends a label and then a sequence number.
+    pub fn push_seq(&mut self, label: &[u8], number: Seq)
+        requires room { length self.old + (length label.now + 1) ≤ ROOM }
+        ensures text { self.new ≡ self.old ++ (label.now ++ decimal number.number) }
+        ensures size { length self.new ≡ length self.old + (length label.now + 1) }
+    {
+        self.push(label);
+        self.push_digit(number.get());
+    }
+
+    /// Appends a label and then a number in decimal.
+    pub fn push_number(&mut self, label: &[u8], number: u16)
+        requires room { length self.old + (length label.now + 5) ≤ ROOM }
+        ensures text { self.new ≡ self.old ++ (label.now ++ decimal number) }
+        ensures size { length self.new ≤ length self.old + (length label.now + 5) }
+    {
+        let mut buffer = Buffer::new();
+        self.push(label);
+        self.push(buffer.format(number).as_bytes());
+    }
+
+    /// Appends the octets as hexadecimal digits, two for each.
+    pub fn push_hexadecimal(&mut self, octets: &[u8])
+        requires few { length octets.now ≤ MOST_OCTETS }
+        requires room { length self.old + 2 * length octets.now ≤ ROOM }
+        ensures text { self.new ≡ self.old ++ flat_map octet_text octets.now }
+        ensures size { length self.new ≡ length self.old + 2 * length octets.now }
+    {
+        write_hexadecimal(octets, self.buffer.as_mut_slice(), self.count);
+        self.count += 2 * octets.len();
+    }
+
+    /// Appends the octets as hexadecimal digits, `-` where there are none.
+    pub fn push_octets(&mut self, octets: &[u8])
+        requires few { length octets.now ≤ MOST_OCTETS }
+        requires room { length self.old + (2 * length octets.now + 1) ≤ ROOM }
+        ensures text { self.new ≡ self.old ++ octets_text octets.now }
+        ensures size { length self.new ≤ length self.old + (2 * length octets.now + 1) }
+    {
+        match octets {
+            [] => self.push(b"-"),
+            _ => self.push_hexadecimal(octets),
+        }
+    }
+}

@@ -1,0 +1,5 @@
+//! Tests of `x25_text`: octets of packets beside their texts.
+#![tactic(auto)]
+
+#[cfg(test)]
+mod packets;

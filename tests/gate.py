@@ -1,0 +1,75 @@
+#!/usr/bin/env python3
+"""The whole gate: `rt ci`, then the golden cases on the programs that it left, then the tests of the tools.
+
+The tests of the tools that need no program run before, too: they take seconds, and where one fails nothing else is begun. The
+line 'N passed, M failed' of `rt ci` is held back, and the last line is one such line that counts all three: proofs and must-fail
+edits, a golden case for each build of the program, a test of the tools. Exit status: 0 nothing failed, 1 something did.
+"""
+
+import os
+import re
+import subprocess
+import sys
+
+import check_tools
+import golden
+from program import ROOT
+
+CLOSING = re.compile(r"(\d+) passed, (\d+) failed\n?")
+# What `rt ci` leaves: LLVM's build, and that of Rattle's own compiler where that compiles the program.
+BUILD, SECOND_BUILD = "crates/x25/out/x25", "crates/x25/out/x25.by-rattle"
+
+
+def quick():
+    """Runs the tests of the tools that need no program, before all else; answers whether they pass."""
+    command = [sys.executable, os.path.join(ROOT, "tests", "check_tools.py")]
+    return subprocess.run(command, cwd=ROOT, env={**os.environ, "X25": ""}).returncode == 0
+
+
+def proofs():
+    """Runs `rt ci`, passing on what it prints but for its closing line; answers the numbers of that line."""
+    counts = None
+    with subprocess.Popen(["rt", "ci"], cwd=ROOT, stdout=subprocess.PIPE, text=True, errors="replace") as child:
+        for line in child.stdout:
+            closing = CLOSING.fullmatch(line)
+            if closing:
+                counts = int(closing[1]), int(closing[2])
+            else:
+                print(line, end="", flush=True)
+    passed, failed = counts or (0, 1)
+    return passed, max(failed, 1) if child.returncode else failed
+
+
+def golden_cases():
+    """Runs the golden cases on each build of the program; without the first they have failed."""
+    passed = failed = 0
+    for build in (BUILD, SECOND_BUILD):
+        program = os.path.join(ROOT, build)
+        if os.path.isfile(program):
+            agreeing, differing = golden.run(program, golden.names())
+            print(f"golden cases on {build}: {agreeing} agree, {differing} differ")
+            passed, failed = passed + agreeing, failed + differing
+        else:
+            print(f"golden cases: {build} isn't there")
+            failed += build == BUILD
+    return passed, failed
+
+
+def tools():
+    """Runs the tests of the tools, those that need a program on the one that `rt ci` built."""
+    os.environ["X25"] = os.path.join(ROOT, BUILD)
+    return check_tools.run()
+
+
+def main():
+    if not quick():
+        print("0 passed, 1 failed")
+        return 1
+    counts = [proofs(), golden_cases(), tools()]
+    passed, failed = (sum(column) for column in zip(*counts))
+    print(f"{passed} passed, {failed} failed")
+    return 1 if failed else 0
+
+
+if __name__ == "__main__":
+    sys.exit(main())

@@ -1,0 +1,68 @@
+#!/usr/bin/env python3
+"""Stands in for the program in the tests of chart.py: answers written by hand, for one short script and its frames.
+
+The run: the DTE's RESTART is damaged on the line and so not taken; T1 fires, the DTE polls, learns that it is missing, and sends
+it again; that one's acknowledgement is lost. As `x25 sim --tap` does, each event is answered by its entries and then its frames.
+"""
+
+import sys
+
+SET_UP = ["> 013febdf", "dce linkup", "< 01738357", "< 03001000fb0700c478", "dte linkup", "> 01001000fb00007702"]
+POLL, FINAL, ACKNOWLEDGED = "> 01119717", "< 01119717", "> 0321a415"
+AGAIN, LAST = "> 01201000fb00001787", "< 01211426"
+
+# The answers to the events in order; an event that has none of its own here is answered by nothing.
+EVENTS = [
+    ("damage > 0 013febdf", ["! 52"]),
+    ("damage > 1 00", ["! 51"]),
+    ("damage > 0 00", []),
+    ("deliver >", []),
+    ("deliver >", ["! 50"]),
+    ("t1 dte", [POLL]),
+    ("drain 1", [FINAL]),
+    ("drain 1", ["dte restarted cause=7 diag=0", ACKNOWLEDGED]),
+    ("drain 1", []),
+    ("drain 1", [AGAIN]),
+    ("drain 1", ["dce restarted cause=0 diag=0", LAST]),
+    ("lose < 0", []),
+    ("dte call 1 2 -", ["dte call ch=1 at 1.0.0 called=1 calling=2 data=-", "> 012210010b1112007da6"]),
+]
+TEXTS = {
+    "> 013febdf": "> SABM cmd P=1",
+    "< 01738357": "< UA rsp F=1",
+    "< 03001000fb0700c478": "< I cmd P=0 S=0 R=0 | RESTART cause=7 diag=0",
+    "> 01001000fb00007702": "> I cmd P=0 S=0 R=0 | RESTART cause=0 diag=0",
+    POLL: "> RR cmd P=1 R=0",
+    FINAL: "< RR rsp F=1 R=0",
+    ACKNOWLEDGED: "> RR rsp F=0 R=1",
+    AGAIN: "> I cmd P=0 S=0 R=1 | RESTART cause=0 diag=0",
+    LAST: "< RR rsp F=0 R=1",
+    "> 012210010b1112007da6": "> I cmd P=0 S=1 R=1 | CALL ch=1 called=1 calling=2 fac=- data=-",
+}
+
+
+def sim(lines):
+    """Answers the events of the script, each as the list above has it; any other line by `? 60`."""
+    events = iter(EVENTS)
+    answer = list(SET_UP)
+    for line in lines:
+        event, made = ("", ["? 60"]) if line == "" else next(events)
+        if event != line:
+            print(f"the script is another one: {line!r} for {event!r}", file=sys.stderr)
+            sys.exit(2)
+        answer += made
+    return answer
+
+
+def main():
+    lines = sys.stdin.read().splitlines()
+    if sys.argv[1:] == ["decode"]:
+        answer = [TEXTS[line] for line in lines]
+    elif sys.argv[1:3] == ["sim", "--tap"]:
+        answer = sim(lines)
+    else:
+        sys.exit(2)
+    print("\n".join(answer))
+
+
+main()

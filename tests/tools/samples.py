@@ -1,0 +1,87 @@
+"""Capture files for the tests, made octet by octet, apart from the code that is tested."""
+
+import struct
+
+LITTLE, BIG = "<", ">"
+
+
+def pcap(records, link_type=207, order=LITTLE, nano=False, network_flags=0):
+    """A pcap file; a record is (seconds, part of a second, octets) or (.., .., octets, length on the line)."""
+    magic = 0xA1B23C4D if nano else 0xA1B2C3D4
+    file = struct.pack(order + "IHHiIII", magic, 2, 4, 0, 0, 65535, link_type | network_flags)
+    for seconds, part, octets, *length in records:
+        file += struct.pack(order + "IIII", seconds, part, len(octets), *(length or [len(octets)])) + octets
+    return file
+
+
+def block(kind, body, order=LITTLE):
+    """A block of a pcapng file."""
+    body += bytes(-len(body) % 4)
+    length = struct.pack(order + "I", len(body) + 12)
+    return struct.pack(order + "I", kind) + length + body + length
+
+
+def option(code, value, order=LITTLE):
+    """An option of a block."""
+    return struct.pack(order + "HH", code, len(value)) + value + bytes(-len(value) % 4)
+
+
+def section(order=LITTLE):
+    """A section header block."""
+    return block(0x0A0D0D0A, struct.pack(order + "IHHq", 0x1A2B3C4D, 1, 0, -1), order)
+
+
+def interface(link_type, options=b"", order=LITTLE):
+    """An interface description block."""
+    return block(1, struct.pack(order + "HHI", link_type, 0, 0) + options, order)
+
+
+def packet(octets, ticks=0, flags=None, order=LITTLE, index=0):
+    """An enhanced packet block, with its direction and errors in `flags`."""
+    body = struct.pack(order + "IIIII", index, ticks >> 32, ticks & 0xFFFFFFFF, len(octets), len(octets)) + octets
+    body += bytes(-len(octets) % 4)
+    if flags is not None:
+        body += option(2, struct.pack(order + "I", flags), order) + option(0, b"", order)
+    return block(6, body, order)
+
+
+def simple_packet(octets):
+    """A simple packet block."""
+    return block(3, struct.pack("<I", len(octets)) + octets)
+
+
+def old_packet(octets, ticks=0):
+    """A packet block, as it was before the enhanced one."""
+    return block(2, struct.pack("<HHIIII", 0, 0, ticks >> 32, ticks & 0xFFFFFFFF, len(octets), len(octets)) + octets)
+
+
+def tcp(to_server, sequence, octets, flags=0x10, port=1998, total=None):
+    """A segment of TCP between port 40000 of a client and a server's port."""
+    ends = (40000, port) if to_server else (port, 40000)
+    return struct.pack(">HHIIBBHHH", *ends, sequence % (1 << 32), 0, 5 << 4, flags, 1000, 0, 0) + octets
+
+
+def ipv4(to_server, segment, fragment=0):
+    """A packet of IPv4 with a segment."""
+    ends = (b"\x0a\x00\x00\x01", b"\x0a\x00\x00\x02")
+    source, target = ends if to_server else ends[::-1]
+    return struct.pack(">BBHHHBBH", 0x45, 0, 20 + len(segment), 0, fragment, 64, 6, 0) + source + target + segment
+
+
+def ipv6(to_server, segment):
+    """A packet of IPv6 with a segment behind an extension header."""
+    ends = (b"\xfe\x80" + bytes(13) + b"\x01", b"\xfe\x80" + bytes(13) + b"\x02")
+    source, target = ends if to_server else ends[::-1]
+    extended = struct.pack(">BBHI", 6, 0, 0x0104, 0) + segment
+    return struct.pack(">IHBB", 6 << 28, len(extended), 60, 64) + source + target + extended
+
+
+def ethernet(packet, kind=0x0800, tags=b""):
+    """A frame of Ethernet, filled up to its least length."""
+    frame = bytes(12) + tags + struct.pack(">H", kind) + packet
+    return frame + bytes(max(0, 60 - len(frame)))
+
+
+def xot(*packets):
+    """X.25 packets as XOT puts them into a stream."""
+    return b"".join(struct.pack(">HH", 0, len(packet)) + packet for packet in packets)

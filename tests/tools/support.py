@@ -1,0 +1,65 @@
+"""What the tests of the tools share: the folders, running a script, the built program."""
+
+import os
+import subprocess
+import sys
+import tempfile
+import unittest
+
+TESTS = os.path.dirname(os.path.dirname(os.path.abspath(__file__)))
+ROOT = os.path.dirname(TESTS)
+TOOLS = os.path.join(ROOT, "tools")
+GOLDEN = os.path.join(TESTS, "golden")
+sys.path[:0] = [TESTS, TOOLS]
+
+from program import find_program  # noqa: E402
+
+PROGRAM = find_program()
+needs_program = unittest.skipUnless(PROGRAM, "the program x25 isn't built")
+
+
+def run(script, *words, given=b""):
+    """Runs a script of tools/ on some octets; answers what it did: returncode, stdout, stderr."""
+    command = [sys.executable, os.path.join(TOOLS, script), *words]
+    return subprocess.run(command, input=given, capture_output=True, timeout=60)
+
+
+def decode(trace):
+    """What `x25 decode` answers to a trace, as lines of text."""
+    done = subprocess.run([PROGRAM, "decode"], input=trace, capture_output=True, timeout=60, check=True)
+    return done.stdout.decode().splitlines()
+
+
+def read(*path):
+    """The octets of a file of the repository."""
+    with open(os.path.join(ROOT, *path), "rb") as file:
+        return file.read()
+
+
+class ToolCase(unittest.TestCase):
+    """A test that runs scripts, with a folder for its files."""
+
+    def setUp(self):
+        folder = tempfile.TemporaryDirectory()
+        self.addCleanup(folder.cleanup)
+        self.folder = folder.name
+
+    def file(self, name, octets):
+        """Writes a file into the test's folder; answers its path."""
+        path = os.path.join(self.folder, name)
+        with open(path, "wb") as out:
+            out.write(octets)
+        return path
+
+    def sparse(self, name, octets, size=1 << 30):
+        """Writes a file that begins with some octets and goes on with 0 up to a size, without taking so much room."""
+        path = self.file(name, octets)
+        os.truncate(path, size)
+        return path
+
+    def assert_refused(self, done, words):
+        """The script has ended with status 2 and one line that has these words."""
+        said = done.stderr.decode()
+        self.assertEqual(done.returncode, 2, said)
+        self.assertIn(words, said)
+        self.assertEqual(said.count("\n"), 1, said)

@@ -1,0 +1,318 @@
+"""Tests of pcap2x25.py and x25pcap.py: captures in and out."""
+
+import io
+import os
+import types
+import unittest
+
+import samples
+import support
+from support import ToolCase
+
+import captures
+import pcap2x25
+import x25lines
+
+SABM, UA = bytes.fromhex("013f"), bytes.fromhex("0173")
+SET_UP = b"> 013febdf\n< 01738357\n"
+CALL, ACCEPT = bytes.fromhex("10010b43123456700041"), bytes.fromhex("10010f")
+TRACES = ["examples/exchange.trace", "examples/setup.trace"]
+TRACES += [f"tests/golden/{name}.in" for name in ("frames_of_each_kind", "packets_of_each_kind", "octets_that_spell_no_frame", "octets_that_spell_no_packet")]
+
+
+def words(**given):
+    """What `pcap2x25.words` answers, with no words but these."""
+    return types.SimpleNamespace(**{"swap": False, "fcs": False, "lapb": None, "sent_by": None, "port": 1998, **given})
+
+
+def lines(capture, **given):
+    """The lines that a capture becomes, as a text, and the notes on what was left out."""
+    converter = pcap2x25.Converter(words(**given))
+    text = "".join(line.text() + "\n" for line in converter.lines(captures.records(io.BytesIO(capture))))
+    return text, dict(converter.notes)
+
+
+class FrameCheckSequence(unittest.TestCase):
+    def test_check_value(self):
+        self.assertEqual(x25lines.fcs(b"123456789"), bytes.fromhex("6e90"))
+
+    def test_sealed(self):
+        self.assertTrue(x25lines.is_sealed(bytes.fromhex("013febdf")))
+        self.assertFalse(x25lines.is_sealed(bytes.fromhex("013febde")))
+        self.assertFalse(x25lines.is_sealed(bytes.fromhex("0000")))
+
+
+class RoundTrip(ToolCase):
+    def test_traces_come_back(self):
+        for trace in TRACES:
+            with self.subTest(trace):
+                given = support.read(trace)
+                back = support.run("pcap2x25.py", given=support.run("x25pcap.py", given=given).stdout)
+                self.assertEqual((back.returncode, back.stdout, back.stderr), (0, given, b""))
+
+    @support.needs_program
+    def test_the_same_text_by_decode(self):
+        given = support.read("examples/exchange.trace")
+        back = support.run("pcap2x25.py", given=support.run("x25pcap.py", given=given).stdout)
+        self.assertEqual(support.decode(back.stdout), support.decode(given))
+
+    def test_times_come_back(self):
+        timed = b"1700000000.000000001\t> 013febdf\n9999999999.999999999\t< 01738357\n"
+        back = support.run("pcap2x25.py", "--time", given=support.run("x25pcap.py", given=timed).stdout)
+        self.assertEqual(back.stdout, timed)
+
+    def test_a_line_without_a_time_is_found_by_its_number(self):
+        back = support.run("pcap2x25.py", "--time", given=support.run("x25pcap.py", given=SET_UP).stdout)
+        self.assertEqual(back.stdout, b"0.001000000\t> 013febdf\n0.002000000\t< 01738357\n")
+
+    def test_entries_of_a_run_are_passed_over(self):
+        run = b"> 013febdf\ndce linkup\n< 01738357\n? 60\n! 51\ndte send ch=1 at 1.0.0 q=0 data=-\n"
+        back = support.run("pcap2x25.py", given=support.run("x25pcap.py", given=run).stdout)
+        self.assertEqual(back.stdout, SET_UP)
+
+    def test_output_to_a_file(self):
+        path = os.path.join(self.folder, "trace.pcapng")
+        self.assertEqual(support.run("x25pcap.py", "-o", path, given=SET_UP).returncode, 0)
+        self.assertEqual(support.run("pcap2x25.py", path).stdout, SET_UP)
+
+
+class Formats(unittest.TestCase):
+    def test_pcap_of_both_byte_orders_and_units(self):
+        for order in (samples.LITTLE, samples.BIG):
+            for nano in (False, True):
+                file = samples.pcap([(5, 7, b"\x01" + SABM), (6, 0, b"\x00" + UA)], order=order, nano=nano)
+                with self.subTest(order=order, nano=nano):
+                    self.assertEqual(lines(file), (SET_UP.decode(), {}))
+                    times = [record.time for record in captures.records(io.BytesIO(file))]
+                    self.assertEqual(times, [5 * 10**9 + 7 * (1 if nano else 1000), 6 * 10**9])
+
+    def test_pcap_that_says_its_frames_have_their_check_sequence(self):
+        file = samples.pcap([(0, 0, b"\x01" + bytes.fromhex("013febde"))], network_flags=0x1400_0000)
+        self.assertEqual(lines(file), ("> 013febde\n", {}))
+
+    def test_pcapng_of_both_byte_orders(self):
+        for order in (samples.LITTLE, samples.BIG):
+            file = samples.section(order) + samples.interface(207, order=order)
+            file += samples.packet(b"\x01" + SABM, order=order) + samples.block(0xBAD, b"unknown", order) + samples.packet(b"\x00" + UA, order=order)
+            with self.subTest(order=order):
+                self.assertEqual(lines(file), (SET_UP.decode(), {}))
+
+    def test_sections_of_two_byte_orders(self):
+        file = samples.section(samples.BIG) + samples.interface(207, order=samples.BIG) + samples.packet(b"\x01" + SABM, order=samples.BIG)
+        file += samples.section() + samples.interface(207) + samples.packet(b"\x00" + UA)
+        self.assertEqual(lines(file), (SET_UP.decode(), {}))
+
+    def test_clocks(self):
+        for resolution, ticks, time in ((b"\x00", 3, 3 * 10**9), (b"\x06", 3, 3000), (b"\x09", 3, 3), (b"\x81", 3, 15 * 10**8)):
+            file = samples.section() + samples.interface(207, samples.option(9, resolution)) + samples.packet(b"\x01" + SABM, ticks)
+            self.assertEqual([record.time for record in captures.records(io.BytesIO(file))], [time])
+
+    def test_packets_without_direction_or_options(self):
+        head = samples.section() + samples.interface(147)
+        for file in (head + samples.simple_packet(SABM), head + samples.old_packet(SABM)):
+            self.assertEqual(lines(file, lapb=147, sent_by="dte"), ("> 013febdf\n", {}))
+            with self.assertRaisesRegex(x25lines.BadInput, "no direction"):
+                lines(file, lapb=147)
+
+    def test_direction_of_the_flags(self):
+        head = samples.section() + samples.interface(147)
+        file = head + samples.packet(SABM, flags=2) + samples.packet(UA, flags=1)
+        self.assertEqual(lines(file, lapb=147), (SET_UP.decode(), {}))
+
+    def test_sita_without_flags_has_its_own_direction(self):
+        file = samples.pcap([(0, 0, bytes([0, 0, 0, 0, 1]) + SABM), (0, 0, bytes([1, 0, 0, 0, 1]) + UA)], link_type=196)
+        self.assertEqual(lines(file), (SET_UP.decode(), {}))
+
+    def test_other_protocols_of_sita_are_left_out(self):
+        file = samples.pcap([(0, 0, bytes([0, 0, 0, 0, 2]) + SABM)], link_type=196)
+        self.assertEqual(lines(file), ("", {"SITA record of protocol 2": 1}))
+
+    def test_swap(self):
+        file = samples.pcap([(0, 0, b"\x00" + SABM), (0, 0, b"\x01" + UA)])
+        self.assertEqual(lines(file, swap=True), (SET_UP.decode(), {}))
+
+    def test_a_frame_captured_in_part_is_left_out(self):
+        file = samples.pcap([(0, 0, b"\x01" + SABM, 40), (0, 0, b"\x00" + UA)])
+        self.assertEqual(lines(file), ("< 01738357\n", {"frame that was captured in part": 1}))
+
+
+class XotStreams(unittest.TestCase):
+    def setUp(self):
+        whole = samples.xot(CALL), samples.xot(ACCEPT)
+        self.call, self.accept = whole
+        self.expected, _ = self.read([(True, 1, self.call), (False, 1, self.accept)])
+
+    def read(self, segments, link_type=1, wrap=samples.ethernet, **given):
+        """The lines of a capture of segments, each (to the server, sequence number, octets, flags)."""
+        records = [(0, 0, wrap(samples.ipv4(to_server, samples.tcp(to_server, *rest)))) for to_server, *rest in segments]
+        return lines(samples.pcap(records, link_type=link_type), **given)
+
+    def test_packets_in_i_frames_that_count(self):
+        frames = [x25lines.frame_line(line.encode()) for line in self.expected.splitlines()]
+        self.assertEqual([frame.direction for frame in frames], [">", "<"])
+        self.assertTrue(all(x25lines.is_sealed(frame.octets) for frame in frames))
+        self.assertEqual(frames[0].octets[:-2], b"\x01\x00" + CALL)
+        # The answer counts the packet that came before it: N(R)=1.
+        self.assertEqual(frames[1].octets[:-2], b"\x03\x20" + ACCEPT)
+
+    def test_numbers_go_round(self):
+        text, _ = self.read([(True, 1, samples.xot(*[ACCEPT] * 9))])
+        controls = [x25lines.frame_line(line.encode()).octets[1] for line in text.splitlines()]
+        self.assertEqual(controls, [0, 2, 4, 6, 8, 10, 12, 14, 0])
+
+    def test_segments_in_any_order_twice_and_cut_anywhere(self):
+        pieces = [(True, 1 + at, self.call[at : at + 3]) for at in range(0, len(self.call), 3)]
+        syn = (True, 0, b"", 2)
+        for segments in (pieces[:1] + pieces[1:][::-1], [syn] + pieces[::-1], [syn] + pieces + pieces, [syn, *pieces[:2], syn, *pieces[2:]]):
+            text, notes = self.read([*segments, (False, 1, self.accept)])
+            self.assertEqual((text, notes), (self.expected, {}))
+
+    def test_overlapping_segments(self):
+        cut = (True, 1, self.call[:6]), (True, 4, self.call[3:]), (True, 2, self.call[1:5])
+        self.assertEqual(self.read([*cut, (False, 1, self.accept)]), (self.expected, {}))
+
+    def test_numbers_of_segments_go_round(self):
+        last = (1 << 32) - 5
+        segments = (True, last - 1, b"", 2), (True, last + 8, self.call[8:]), (True, last, self.call[:8]), (False, 1, self.accept)
+        self.assertEqual(self.read(segments), (self.expected, {}))
+
+    def test_links_below_ip(self):
+        tags = b"\x81\x00\x00\x05\x81\x00\x00\x06"
+        for link_type, wrap in (
+            (1, lambda packet: samples.ethernet(packet, tags=tags)),
+            (101, lambda packet: packet),
+            (0, lambda packet: b"\x02\x00\x00\x00" + packet),
+            (113, lambda packet: bytes(14) + b"\x08\x00" + packet),
+            (276, lambda packet: b"\x08\x00" + bytes(18) + packet),
+        ):
+            with self.subTest(link_type):
+                got = self.read([(True, 1, self.call), (False, 1, self.accept)], link_type, wrap)
+                self.assertEqual(got, (self.expected, {}))
+
+    def test_ipv6_with_an_extension_header(self):
+        both = (True, self.call), (False, self.accept)
+        records = [(0, 0, samples.ethernet(samples.ipv6(to_server, samples.tcp(to_server, 1, octets)), 0x86DD)) for to_server, octets in both]
+        self.assertEqual(lines(samples.pcap(records, link_type=1)), (self.expected, {}))
+
+    def test_another_port(self):
+        packet = samples.ethernet(samples.ipv4(True, samples.tcp(True, 1, self.call, port=2000)))
+        file = samples.pcap([(0, 0, packet)], link_type=1)
+        self.assertEqual(lines(file), ("", {}))
+        self.assertEqual(lines(file, port=2000)[0].count("\n"), 1)
+
+    def test_swap_makes_frames_of_the_other_end(self):
+        text, _ = self.read([(True, 1, self.accept)], swap=True)
+        frame = x25lines.frame_line(text.strip().encode())
+        self.assertEqual((frame.direction, frame.octets[:-2]), ("<", b"\x03\x00" + ACCEPT))
+
+    def test_what_is_no_xot_is_passed_over(self):
+        arp, fragment = samples.ethernet(bytes(28), 0x0806), samples.ethernet(samples.ipv4(True, samples.tcp(True, 1, self.call), fragment=5))
+        self.assertEqual(lines(samples.pcap([(0, 0, arp), (0, 0, fragment), (0, 0, b"\x00")], link_type=1)), ("", {}))
+
+    def test_a_gap_is_told_and_passed(self):
+        segments = (True, 1, self.call[:5]), (True, 1 + len(self.call), self.call), (False, 1, self.accept)
+        text, notes = self.read(segments)
+        self.assertEqual(text.count("\n"), 2)
+        self.assertEqual(notes, {"gap in a connection, octets that weren't captured": 1})
+
+    def test_a_connection_that_is_no_xot_is_told_once(self):
+        text, notes = self.read([(True, 1, b"GET / HTTP/1.0\r\n"), (True, 17, self.call)])
+        self.assertEqual((text, notes), ("", {"connection that isn't XOT, or was read out of step": 1}))
+
+    def test_a_packet_broken_off_is_told(self):
+        self.assertEqual(self.read([(True, 1, self.call[:9])]), ("", {"packet broken off at the end of its connection": 1}))
+
+    def test_a_new_connection_on_the_same_ports(self):
+        segments = (True, 0, b"", 2), (True, 1, self.call[:9]), (True, 5000, b"", 2), (True, 5001, self.call), (False, 1, self.accept)
+        self.assertEqual(self.read(segments), (self.expected, {"packet broken off at the end of its connection": 1}))
+
+
+class Hostile(ToolCase):
+    """Files that are cut off, damaged, or no captures at all end with a message; none ends with a traceback."""
+
+    def captures(self):
+        frames = [(1, 2, b"\x01" + SABM), (3, 4, b"\x00" + UA)]
+        segments = [(0, 0, samples.ethernet(samples.ipv4(True, samples.tcp(True, at, samples.xot(CALL))))) for at in (1, 15, 60)]
+        return {
+            "pcap": samples.pcap(frames),
+            "pcapng": support.run("x25pcap.py", given=SET_UP).stdout,
+            "xot": samples.pcap(segments, link_type=1),
+            "options": samples.section() + samples.interface(207, samples.option(9, b"\x06")) + samples.packet(frames[0][2], flags=2),
+        }
+
+    def read(self, octets):
+        """Reads a capture to its end, or to bad input; anything else is an error of the test."""
+        try:
+            lines(octets)
+        except x25lines.BadInput as error:
+            return str(error)
+        return None
+
+    def test_cut_off_anywhere(self):
+        for name, whole in self.captures().items():
+            self.assertIsNone(self.read(whole))
+            refused = [at for at in range(len(whole)) if self.read(whole[:at]) is not None]
+            # Only between records is a file that ends there a whole one.
+            self.assertGreater(len(refused), len(whole) * 9 // 10, name)
+
+    def test_any_octet_changed(self):
+        for whole in self.captures().values():
+            for at in range(len(whole)):
+                for value in (0, 1, 0x7F, 0x80, 0xFF):
+                    self.read(whole[:at] + bytes([value]) + whole[at + 1 :])
+
+    def test_messages(self):
+        whole = samples.section() + samples.interface(207)
+        cases = {
+            "neither a pcap nor a pcapng file": b"",
+            "neither a pcap nor": b"GET / HTTP/1.0\r\n",
+            "the file ends within the file header": samples.pcap([])[:20],
+            "record 1 has a wrong length": samples.pcap([]) + bytes.fromhex("0000000000000000ffffffffffffffff"),
+            "the file ends within record 1": samples.pcap([(0, 0, b"\x01" + SABM)])[:-1],
+            "record 1 has the link type 105": samples.pcap([(0, 0, SABM)], link_type=105),
+            "record 1 names the interface 7": whole + samples.packet(SABM, index=7),
+            "a section header has no byte order": samples.section()[:8] + bytes(20),
+            "the two lengths": whole[:-1] + b"\x01",
+            "a block behind record 0 has a wrong length": whole + b"\x06\x00\x00\x00\xff\xff\xff\xff",
+            "record 1 is too short": whole + samples.block(6, bytes(4)),
+            "an option of record 1 has a wrong length": whole + samples.block(6, samples.packet(b"\x01" + SABM)[8:-4] + b"\x02\x00\xff\xff"),
+            "record 1 is shorter than its header": samples.pcap([(0, 0, b"\x00")], link_type=196),
+        }
+        for message, octets in cases.items():
+            with self.subTest(message):
+                self.assert_refused(support.run("pcap2x25.py", given=octets), message)
+
+    def test_large_sparse_files(self):
+        heads = {"neither a pcap": b"", "record 1 holds no octets": samples.pcap([]), "wrong length": samples.section() + samples.interface(207)}
+        for message, head in heads.items():
+            with self.subTest(message):
+                self.assert_refused(support.run("pcap2x25.py", self.sparse("capture", head)), message)
+        self.assert_refused(support.run("x25pcap.py", self.sparse("trace", SET_UP)), "line 3 is longer than")
+
+    def test_what_stands_before_bad_input_is_written(self):
+        done = support.run("pcap2x25.py", given=samples.pcap([(0, 0, b"\x01" + SABM), (0, 0, b"\x00" + UA)])[:-1])
+        self.assertEqual(done.stdout, b"> 013febdf\n")
+        self.assert_refused(done, "the file ends within record 2")
+
+    def test_files_that_are_not_there(self):
+        for script in ("pcap2x25.py", "x25pcap.py"):
+            self.assert_refused(support.run(script, os.path.join(self.folder, "none")), "No such file")
+            self.assert_refused(support.run(script, self.folder), "Is a directory")
+
+    def test_lines_that_are_none(self):
+        for line in (b"x", b"> 0", b"> 013febdf\r", b"", b">013febdf", b"> " + b"00" * 4104, b"1.5 > 013febdf", b"99999999999\t> 013febdf", b"\xff\xfe\x00"):
+            with self.subTest(line[:20]):
+                self.assert_refused(support.run("x25pcap.py", given=SET_UP + line + b"\n"), "line 3 is no line of a trace")
+
+    def test_what_was_left_out_makes_status_1(self):
+        done = support.run("pcap2x25.py", given=samples.pcap([(0, 0, b"\x01" + SABM, 40)]))
+        self.assertEqual((done.returncode, done.stderr), (1, b"pcap2x25.py: left out: frame that was captured in part (1)\n"))
+
+    def test_help_and_bad_words(self):
+        for script in ("pcap2x25.py", "x25pcap.py"):
+            self.assertEqual(support.run(script, "--help").returncode, 0)
+            self.assertEqual(support.run(script, "--no-such-word").returncode, 2)
+
+
+if __name__ == "__main__":
+    unittest.main()

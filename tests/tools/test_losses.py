@@ -1,0 +1,106 @@
+"""Tests of losses.py: the scripts are in the grammar, and the same numbers give the same script."""
+
+import collections
+import hashlib
+import unittest
+
+import support
+from support import ToolCase
+
+import simscript
+import x25lines
+
+# One line of each form, and lines that are none.
+LINES = """dte call 123 4567 41|dce call - - -|dte call 1 2 0A0b|dte accept 1|dce clear 65535|dte send 1 0 6869|dce send 0 1 -|dte int 1 00
+dte int 1 -|dte reset 1|dce ready 1|dte notready 1|dce restart|dte disconnect|t1 dte|t1 dce|deliver >|deliver <|lose > 0|lose < 65535
+damage > 0 00|damage < 12 -|drain 1|drain 100|drain 65535"""
+NO_LINES = """|dte| dte restart|dte restart |dte  restart|dte\trestart|DTE restart|dte call 1 2|dte call 1 2 4|dte call x 2 -|dte call  2 -|dte accept
+dte accept 01|dte accept -1|dte accept +1|dte accept 65536|dte accept 1 |dte send 1 2 -|dte send 1 0|dte int 1 0g|t1|t1 both|deliver|deliver =
+deliver > 0|lose >|lose > 70000|damage > 0|damage > 0 0|drain|drain 0|drain 00|drain 65536|drain 1.5|dte restart\r|dte restart\n"""
+
+
+def script(*words):
+    done = support.run("losses.py", *words)
+    return done.stdout.decode().splitlines()
+
+
+def kinds(lines):
+    """How often each kind of line comes."""
+    fields = [line.split() for line in lines]
+    return collections.Counter(it[1] if it[0] in ("dte", "dce") else it[0] for it in fields)
+
+
+class Grammar(unittest.TestCase):
+    def test_lines(self):
+        for line in LINES.replace("\n", "|").split("|"):
+            self.assertTrue(simscript.is_line(line), line)
+
+    def test_no_lines(self):
+        for line in NO_LINES.replace("\ndte accept 01", "|dte accept 01").replace("\ndeliver > 0", "|deliver > 0").split("|"):
+            self.assertFalse(simscript.is_line(line), repr(line))
+
+    def test_numbers(self):
+        taken = [number for number in range(70_000) if simscript.is_line(f"lose > {number}")]
+        self.assertEqual(taken, list(range(65_536)))
+
+    def test_the_longest_line(self):
+        line = "dte send 1 0 " + "00" * 65_593
+        self.assertEqual(len(line), 131_199)
+        self.assertTrue(simscript.is_line(line))
+        self.assertFalse(simscript.is_line(line + "00"))
+
+
+class Scripts(ToolCase):
+    def test_all_lines_are_in_the_grammar(self):
+        for seed in range(5):
+            lines = script(str(seed), "1000", "--loss", "0.1", "--damage", "0.1", "--t1", "0.1", "--channels", "16")
+            self.assertEqual(len(lines), 1000)
+            self.assertEqual([line for line in lines if not simscript.is_line(line)], [])
+
+    def test_the_same_numbers_give_the_same_script(self):
+        words = "9", "500", "--loss", "0.2", "--channels", "3"
+        self.assertEqual(script(*words), script(*words))
+
+    def test_other_numbers_give_another_script(self):
+        scripts = [script("9", "500"), script("10", "500"), script("9", "500", "--loss", "0.2"), script("9", "500", "--channels", "3")]
+        self.assertEqual(len({hashlib.sha256("\n".join(lines).encode()).hexdigest() for lines in scripts}), 4)
+
+    def test_this_script_stays_what_it_is(self):
+        # Made once by this script: it is to stay the same on any machine and any Python.
+        text = "\n".join(script("1", "200", "--channels", "4"))
+        self.assertEqual(hashlib.sha256(text.encode()).hexdigest(), "bfd35f9b580a0f2d0784ed14c9a19c973e9535c45388d26279df86872fe00d9a")
+
+    def test_a_longer_script_begins_with_the_shorter(self):
+        self.assertEqual(script("5", "400")[:100], script("5", "100"))
+
+    def test_everything_comes(self):
+        found = kinds(script("2", "4000", "--channels", "4"))
+        wanted = {"call", "accept", "clear", "send", "int", "reset", "ready", "notready", "restart", "t1", "deliver", "lose", "damage", "drain"}
+        self.assertEqual(set(found), wanted)
+
+    def test_probabilities(self):
+        found = kinds(script("3", "10000", "--loss", "0.3", "--damage", "0.2", "--t1", "0.1"))
+        for kind, share in (("lose", 0.3), ("damage", 0.2), ("t1", 0.1)):
+            self.assertAlmostEqual(found[kind] / 10_000, share, delta=0.02)
+        found = kinds(script("3", "2000", "--loss", "0", "--damage", "0", "--t1", "0"))
+        self.assertEqual((found["lose"], found["damage"], found["t1"]), (0, 0, 0))
+
+    def test_damage_shows(self):
+        damaged = [line.split()[3] for line in script("4", "3000", "--damage", "0.9", "--loss", "0", "--t1", "0") if line.startswith("damage")]
+        self.assertGreater(len(damaged), 2000)
+        self.assertFalse(any(x25lines.is_sealed(bytes.fromhex(octets)) for octets in damaged))
+
+    def test_channels(self):
+        for count in (1, 16):
+            numbers = {int(line.split()[2]) for line in script("6", "4000", "--channels", str(count)) if line.split()[1] in ("send", "accept")}
+            self.assertEqual(numbers, set(range(1, count + 1)))
+
+    def test_bad_words(self):
+        for words in (["1"], ["x", "5"], ["1", "-5"], ["1", "5", "--loss", "1.5"], ["1", "5", "--loss", "nan"], ["1", "5", "--channels", "17"]):
+            self.assertEqual(support.run("losses.py", *words).returncode, 2)
+        self.assertEqual(support.run("losses.py", "1", "5", "--loss", "0.9", "--t1", "0.2").returncode, 2)
+        self.assertEqual(support.run("losses.py", "--help").returncode, 0)
+
+
+if __name__ == "__main__":
+    unittest.main()

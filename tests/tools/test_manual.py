@@ -1,0 +1,72 @@
+"""Runs the examples of the documents: indented lines that begin with `$`, with what they have to write below them."""
+
+import os
+import re
+import subprocess
+import unittest
+
+import support
+from support import ToolCase
+
+DOCUMENTS = ["README.md", "docs/MANUAL.md"]
+EXAMPLE = re.compile(r"^    \$ (.*)\n((?:    (?!\$ ).*\n)*)", re.MULTILINE)
+
+
+def examples(document):
+    """Each command of a document, with the text that stands below it."""
+    text = support.read(document).decode()
+    return [(command, re.sub("^    ", "", output, flags=re.MULTILINE)) for command, output in EXAMPLE.findall(text)]
+
+
+@support.needs_program
+class Examples(ToolCase):
+    def setUp(self):
+        """Makes a folder that looks like the root of the repository, and one with the program for the PATH."""
+        super().setUp()
+        for name in ("examples", "tools"):
+            os.symlink(os.path.join(support.ROOT, name), os.path.join(self.folder, name))
+        programs = os.path.join(self.folder, "build")
+        os.mkdir(programs)
+        os.symlink(support.PROGRAM, os.path.join(programs, "x25"))
+        self.environment = {**os.environ, "PATH": f"{programs}:{os.environ['PATH']}", "LC_ALL": "C", "PYTHONDONTWRITEBYTECODE": "1"}
+
+    def test_each_example_writes_what_stands_below_it(self):
+        for document in DOCUMENTS:
+            for command, output in examples(document):
+                with self.subTest(document=document, command=command):
+                    done = subprocess.run(["bash", "-c", command], cwd=self.folder, env=self.environment, capture_output=True, text=True, timeout=60)
+                    self.assertEqual(done.stdout, output, done.stderr)
+
+    def test_each_subcommand_has_one(self):
+        usage = subprocess.run([support.PROGRAM, "--help"], capture_output=True, text=True, timeout=60).stderr
+        subcommands = set(re.findall(r"^  (\w+)  ", usage, re.MULTILINE)) - {"help"}
+        commands = "\n".join(command for command, _ in examples("docs/MANUAL.md"))
+        self.assertTrue(subcommands)
+        self.assertEqual({name for name in subcommands if not re.search(rf"\bx25 {name}\b", commands)}, set())
+
+
+class Documents(unittest.TestCase):
+    def test_they_have_examples(self):
+        for document in DOCUMENTS:
+            self.assertTrue(examples(document), document)
+
+    def test_what_excludes_a_bug_is_proved(self):
+        """Each function and clause that the manual names as excluding a bug stands in the document of the proofs, or is a wrong body."""
+        section = support.read("docs/MANUAL.md").decode().split("### Excluded by what is proved")[1].split("###")[0]
+        proofs = set(re.findall(r"\w+", " ".join(re.findall("`([^`]*)`", support.read("docs/PROOFS.md").decode()))))
+        wrong_bodies = {os.path.splitext(name)[0] for _, _, names in os.walk(os.path.join(support.ROOT, "crates")) for name in names if name.endswith(".edit")}
+        for row in section.splitlines()[4:]:
+            reason = row.split(" | ")[2] if row.count(" | ") == 2 else ""
+            with self.subTest(row):
+                self.assertTrue(re.findall("`([^`]*)`", reason) or not row)
+                names = {name for code in re.findall("`([^`]*)`", reason) for name in re.findall(r"\w+", code)}
+                self.assertEqual(names - proofs - wrong_bodies, set())
+
+    def test_each_script_stands_in_the_manual(self):
+        manual = support.read("docs/MANUAL.md").decode()
+        scripts = [name for name in os.listdir(support.TOOLS) if os.access(os.path.join(support.TOOLS, name), os.X_OK) and name.endswith(".py")]
+        self.assertEqual([name for name in scripts if name not in manual], [])
+
+
+if __name__ == "__main__":
+    unittest.main()

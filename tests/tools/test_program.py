@@ -1,0 +1,56 @@
+"""What a golden case can't say of the program: devices that fail, answers before the input ends, memory that doesn't grow."""
+
+import os
+import resource
+import subprocess
+import unittest
+
+import support
+
+MEMORY = 64 << 20
+
+
+def few_megabytes():
+    """Bounds the memory of the program that is begun next."""
+    resource.setrlimit(resource.RLIMIT_AS, (MEMORY, MEMORY))
+
+
+@support.needs_program
+class Program(unittest.TestCase):
+    def run_on(self, words, **streams):
+        """What the program does with its streams: status and what it says on standard error."""
+        done = subprocess.run([support.PROGRAM, *words], stderr=subprocess.PIPE, timeout=60, **streams)
+        return done.returncode, done.stderr
+
+    def test_a_write_that_fails(self):
+        with open("/dev/full", "wb") as full:
+            self.assertEqual(self.run_on(["decode"], input=b"> 013febdf\n", stdout=full), (3, b"write failed\n"))
+            self.assertEqual(self.run_on(["vectors"], input=b"", stdout=full), (3, b"write failed\n"))
+
+    def test_a_read_that_fails(self):
+        folder = os.open("/", os.O_RDONLY)
+        self.addCleanup(os.close, folder)
+        self.assertEqual(self.run_on(["decode"], stdin=folder, stdout=subprocess.DEVNULL), (3, b"read failed\n"))
+
+    def test_usage_has_its_reason_on_standard_error(self):
+        status, said = self.run_on(["decode", "twice"], input=b"> 013febdf\n", stdout=subprocess.DEVNULL)
+        self.assertEqual(status, 2)
+        self.assertTrue(said)
+
+    def test_a_line_is_answered_before_the_input_ends(self):
+        with subprocess.Popen([support.PROGRAM, "decode"], stdin=subprocess.PIPE, stdout=subprocess.PIPE) as child:
+            for _ in range(3):
+                child.stdin.write(b"> 013febdf\n")
+                child.stdin.flush()
+                self.assertEqual(child.stdout.readline(), b"> SABM cmd P=1\n")
+            child.stdin.close()
+            self.assertEqual(child.stdout.read(), b"")
+
+    def test_memory_does_not_grow_with_the_input(self):
+        whole = b"> " + b"0" * (80 << 20) + b"\n> 013febdf\n"
+        done = subprocess.run([support.PROGRAM, "decode"], input=whole, capture_output=True, timeout=60, preexec_fn=few_megabytes)
+        self.assertEqual((done.returncode, done.stdout, done.stderr), (1, b"? 60\n> SABM cmd P=1\n", b""))
+
+
+if __name__ == "__main__":
+    unittest.main()

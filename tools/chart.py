@@ -1,0 +1,140 @@
+#!/usr/bin/env python3
+"""Draws a sequence chart: what two stations sent each other, time downwards, as text or as SVG.
+
+    x25 decode < trace | chart.py
+    x25 sim --tap < script | chart.py
+    chart.py --script script
+    chart.py --svg examples/exchange.trace > exchange.svg
+
+Reads the lines of `x25 decode`, the lines of a trace, also with a time and a tab before them, and the lines of
+`x25 sim --tap`. Frames in hexadecimal digits are given to `x25 decode`. A run alone doesn't say which of its frames was lost:
+with --script the run is made here from its script, by `x25 sim --tap`, and what the script loses or damages is marked. (The
+program has no `sim` yet.)
+
+The program is the one that --x25 names, or `x25` of the PATH, or else build/x25 of this repository.
+
+Exit status: 0, or 2 for bad words or bad input, where a chart as text has the rows before it.
+"""
+
+import argparse
+import itertools
+import os
+import re
+import shutil
+import sys
+
+import drawing
+import simruns
+import x25lines
+from drawing import Entry, Frame, Note
+from x25lines import BadInput
+
+BUILT = os.path.join(os.path.dirname(os.path.dirname(os.path.abspath(__file__))), "build", "x25")
+# How many lines are held at a time, so that frames are decoded together.
+AT_ONCE = 4096
+LEAST_WIDTH, MOST_WIDTH = 40, 400
+
+TEXT_LINE = re.compile(rb"(?:([0-9.]{1,30})\t)?([<>]) ((?:I|RR|RNR|REJ|SABM|DISC|UA|DM|FRMR|fault) [ -~]*)")
+
+
+class Decoder:
+    """Gives frames to the program's `decode`."""
+
+    def __init__(self, program):
+        self._program = program
+
+    def texts(self, frames):
+        """The texts of some frame lines, without their directions."""
+        if not frames:
+            return []
+        if self._program is None:
+            raise BadInput("frames in hexadecimal digits need the program x25: build it (make x25) or name it (--x25)")
+        given = "".join(frame.text() + "\n" for frame in frames).encode()
+        lines = simruns.answer(self._program, ["decode"], given).splitlines()
+        if len(lines) != len(frames):
+            raise BadInput(f"{self._program} decode didn't answer line by line")
+        return [line[2:] for line in lines]
+
+    def rows(self, lines):
+        """Yields a row for each line, given with its number; frames in digits are decoded some thousands at a time."""
+        lines = iter(lines)
+        while part := list(itertools.islice(lines, AT_ONCE)):
+            read = [reading(number, line) for number, line in part]
+            frames = [it for it in read if isinstance(it, x25lines.FrameLine)]
+            texts = iter(self.texts(frames))
+            for it in read:
+                yield Frame(it.direction, next(texts), None, time_of(it)) if isinstance(it, x25lines.FrameLine) else it
+
+
+def time_of(frame):
+    """The time of a frame line as a chart shows it."""
+    return "" if frame.time is None else x25lines.seconds(frame.time)
+
+
+def reading(number, line):
+    """What a line is: a frame still in digits, or the row that it makes."""
+    frame = x25lines.frame_line(line)
+    if frame is not None:
+        return frame
+    if found := TEXT_LINE.fullmatch(line):
+        return Frame(found[2].decode(), found[3].decode(), None, (found[1] or b"").decode())
+    if found := x25lines.ENTRY_LINE.fullmatch(line):
+        return Entry(found[1].decode(), found[2].decode())
+    if x25lines.REFUSAL_LINE.fullmatch(line):
+        return Note(line.decode())
+    raise BadInput(f"line {number} is no line of decode, of a trace or of a run: {x25lines.shown(line)}")
+
+
+def rows_of_script(decoder, program, file, words):
+    """The rows of the run of a script, with what became of each frame."""
+    run = simruns.run(program, file, words)
+    rows = list(decoder.rows(run.lines))
+    for index, fate in run.fates.items():
+        rows[index] = rows[index]._replace(fate=fate)
+    return rows
+
+
+def draw(rows, options, out):
+    """Writes the chart of some rows."""
+    if options.svg:
+        rows = list(itertools.islice(rows, drawing.Svg.MOST_ROWS + 1))
+        if len(rows) > drawing.Svg.MOST_ROWS:
+            raise BadInput(f"a picture has at most {drawing.Svg.MOST_ROWS:,} rows: cut the trace, or draw it as text")
+        chart = drawing.Svg(options.width, len(rows))
+    else:
+        chart = drawing.Text(options.width)
+    for line in itertools.chain(chart.begin(), map(chart.row, rows), chart.end()):
+        out.write(line + "\n")
+
+
+def words():
+    """The words after the script's name, and those for `x25 sim`."""
+    parser = argparse.ArgumentParser(description=__doc__, formatter_class=argparse.RawDescriptionHelpFormatter)
+    x25lines.add_input(parser, "what to draw")
+    parser.add_argument("--script", action="store_true", help="the input is a script: run it")
+    parser.add_argument("--sim", default="", metavar="WORDS", help="with --script, more words for `x25 sim`, as in --sim '--k 2'")
+    parser.add_argument("--svg", action="store_true", help="draw SVG")
+    parser.add_argument("--width", type=int, default=76, metavar="N", help="characters between the two ends (76)")
+    parser.add_argument("--x25", default=shutil.which("x25") or (BUILT if os.path.isfile(BUILT) else None), metavar="PROGRAM", help="the program")
+    options = parser.parse_args()
+    if not LEAST_WIDTH <= options.width <= MOST_WIDTH:
+        parser.error(f"the width is from {LEAST_WIDTH} to {MOST_WIDTH}")
+    if options.script and options.x25 is None:
+        parser.error("a script needs the program x25: build it (make x25) or name it (--x25)")
+    return options
+
+
+def main():
+    options = words()
+    decoder = Decoder(options.x25)
+    with x25lines.opened(options.file) as file:
+        if options.script:
+            rows = rows_of_script(decoder, options.x25, file, options.sim.split())
+        else:
+            rows = decoder.rows(x25lines.lines_of(file))
+        draw(rows, options, sys.stdout)
+    return 0
+
+
+if __name__ == "__main__":
+    x25lines.run(main)

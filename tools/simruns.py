@@ -1,0 +1,134 @@
+"""A run of `x25 sim --tap` from its script: its lines, and what became of each frame that was put on the line.
+
+The lines of a run don't say which event made them. So a line that is no event, an empty one, is put behind each event of the
+script; the program answers it by `? 60` and does nothing, and that parts what the events made.
+"""
+
+import subprocess
+from typing import NamedTuple
+
+import simscript
+import x25lines
+from drawing import DAMAGED, LOST, WAITING
+from x25lines import BadInput
+
+MARK, ANSWERED = "", "? 60"
+SECONDS = 60
+DIRECTIONS = (">", "<")
+# A run is held whole; `drain 65535` alone is as many events.
+MOST_EVENTS = 200_000
+
+
+class Run(NamedTuple):
+    """The lines of a run, each with its number, and by the place of a line what became of its frame."""
+
+    lines: list
+    fates: dict
+
+
+def answer(program, words, given):
+    """What a program writes for some words and some input, as a text; bad input where it can't be run, or refuses."""
+    try:
+        done = subprocess.run([program, *words], input=given, capture_output=True, timeout=SECONDS)
+    except OSError as error:
+        raise BadInput(f"{program}: {error.strerror}") from error
+    except subprocess.TimeoutExpired as error:
+        raise BadInput(f"{program} {words[0]} didn't end within {SECONDS} seconds") from error
+    if done.returncode not in (0, 1):
+        said = done.stderr.decode(errors="replace").strip().splitlines() or [f"status {done.returncode}"]
+        raise BadInput(f"{program} {words[0]}: {said[0]}")
+    return done.stdout.decode("ascii", "replace")
+
+
+def events_of(file):
+    """The events of a script; `drain N` is N of `drain 1`, so that each delivery is seen by itself."""
+    events = []
+    for number, line in x25lines.lines_of(file):
+        event = line.decode("ascii", "replace")
+        if not simscript.is_line(event):
+            raise BadInput(f"line {number} of the script is no event: {x25lines.shown(line)}")
+        kind, *fields = event.split(" ")
+        events += ["drain 1"] * int(fields[0]) if kind == "drain" else [event]
+        if len(events) > MOST_EVENTS:
+            raise BadInput(f"the script has more than {MOST_EVENTS:,} events")
+    return events
+
+
+def run(program, file, words):
+    """Runs a script."""
+    events = events_of(file)
+    given = f"{MARK}\n" + "".join(f"{event}\n{MARK}\n" for event in events)
+    text = answer(program, ["sim", "--tap", *words], given.encode())
+    parts = [[]]
+    for line in text.splitlines():
+        if line == ANSWERED:
+            parts.append([])
+        else:
+            parts[-1].append(line)
+    if len(parts) != len(events) + 2 or parts[-1]:
+        raise BadInput(f"{program} sim didn't answer event by event")
+    return _follow(parts[0], zip(events, parts[1:]))
+
+
+def _follow(begun, steps):
+    """The run whose set-up made some lines, and whose events each made some."""
+    line = Line()
+    line.put(begun)
+    for direction in DIRECTIONS:
+        # The set-up has delivered SABM and the answer to it.
+        line.deliver(direction)
+    for event, made in steps:
+        line.step(event, made)
+        if event.startswith("t1 ") and not is_refused(made):
+            line.lines.append(f"{event[3:]} timer T1 fires")
+        line.put(made)
+    return line.run()
+
+
+def is_refused(made):
+    """True where an event was refused, by the lines that it made."""
+    return len(made) == 1 and made[0].startswith("! ")
+
+
+class Line:
+    """The line between the stations while a run is followed: for each direction the places of the frames that are on it."""
+
+    def __init__(self):
+        self.lines = []
+        self._waiting = {direction: [] for direction in DIRECTIONS}
+        self._fates = {}
+
+    def put(self, made):
+        """Takes lines of the run, and puts their frames on the line."""
+        for text in made:
+            if text[:1] in self._waiting:
+                self._waiting[text[0]].append(len(self.lines))
+            self.lines.append(text)
+
+    def deliver(self, direction):
+        """Takes the first frame off the line, where there is one."""
+        if self._waiting[direction]:
+            self._waiting[direction].pop(0)
+
+    def step(self, event, made):
+        """What an event does to the frames on the line, where it was accepted."""
+        kind, *fields = event.split(" ")
+        if is_refused(made):
+            return
+        if kind == "deliver":
+            self.deliver(fields[0])
+        elif kind == "drain":
+            self.deliver(">" if self._waiting[">"] else "<")
+        elif kind in ("lose", "damage"):
+            places, place = self._waiting[fields[0]], int(fields[1])
+            if place >= len(places):
+                raise BadInput(f"the program accepted {event!r}, and no such frame is on the line")
+            self._fates[places[place]] = LOST if kind == "lose" else DAMAGED
+            if kind == "lose":
+                places.pop(place)
+
+    def run(self):
+        """The run up to here; what is on the line still waits there."""
+        left = [place for places in self._waiting.values() for place in places]
+        fates = {place: WAITING for place in left if place not in self._fates} | self._fates
+        return Run([(number, line.encode()) for number, line in enumerate(self.lines, 1)], fates)

@@ -1,0 +1,34 @@
+"""Lines of a script for `x25 sim`, and what each does to the line between the two stations.
+
+Fields are apart by one space. Ends are `dte` and `dce`, directions `>` (DTE to DCE) and `<`; numbers have no leading zeros.
+"""
+
+import re
+
+MOST_CHARACTERS = 131_200
+
+END, DIRECTION = "(?:dte|dce)", "[<>]"
+# 0 to 65535, and 1 to 65535.
+POSITIVE = "(?:[1-9][0-9]{0,3}|[1-5][0-9]{4}|6[0-4][0-9]{3}|65[0-4][0-9]{2}|655[0-2][0-9]|6553[0-5])"
+NUMBER = f"(?:0|{POSITIVE})"
+DIGITS = "(?:[0-9]+|-)"
+HEX = "(?:(?:[0-9a-fA-F]{2})+|-)"
+
+FORMS = [
+    f"{END} call {DIGITS} {DIGITS} {HEX}",
+    f"{END} (?:accept|clear|reset|ready|notready) {NUMBER}",
+    f"{END} send {NUMBER} [01] {HEX}",
+    f"{END} int {NUMBER} {HEX}",
+    f"{END} (?:restart|disconnect)",
+    f"t1 {END}",
+    f"deliver {DIRECTION}",
+    f"lose {DIRECTION} {NUMBER}",
+    f"damage {DIRECTION} {NUMBER} {HEX}",
+    f"drain {POSITIVE}",
+]
+LINE = re.compile("|".join(FORMS))
+
+
+def is_line(line):
+    """True for a line, without its line feed, that `x25 sim` takes for an event, or for some deliveries."""
+    return len(line) <= MOST_CHARACTERS and LINE.fullmatch(line) is not None

@@ -1,0 +1,132 @@
+"""Lines of a trace, as `x25 decode` reads them, and what the scripts of this folder share.
+
+A line is `> HEX` (from the DTE to the DCE) or `< HEX` (from the DCE to the DTE), the octets of a frame with its frame check
+sequence. A timed line has the time in seconds and a tab before that. docs/FORMATS.md describes both.
+"""
+
+import binascii
+import os
+import re
+import sys
+from typing import NamedTuple, Optional
+
+# Of a frame: 4,099 octets of information between address and control and the frame check sequence.
+MOST_OCTETS = 4103
+MOST_INFORMATION = MOST_OCTETS - 4
+# A time, a tab, a direction, a blank and the digits; what is longer is no line of a trace or a run.
+MOST_CHARACTERS = 131_264
+NANOSECONDS = 10**9
+
+FRAME_LINE = re.compile(rb"(?:([0-9]{1,10})(?:\.([0-9]{1,9}))?\t)?([<>]) ((?:[0-9a-fA-F]{2})*)")
+
+# The other lines of a run of `x25 sim`: an entry of an end, a refusal, a line that was no event.
+ENTRY_LINE = re.compile(rb"(dte|dce) ([a-z][ -~]*)")
+REFUSAL_LINE = re.compile(rb"! [0-9]+|\? 60")
+
+
+class BadInput(Exception):
+    """What was read isn't what the script reads; the text says where and why."""
+
+
+# Each octet with its bits in the other order.
+_REVERSED = bytes(int(f"{octet:08b}"[::-1], 2) for octet in range(256))
+
+
+def fcs(octets):
+    """The frame check sequence of some octets (X.25 section 2.2.7), two octets, the low one first.
+
+    The division by x^16 + x^12 + x^5 + 1 is `crc_hqx`'s; that takes the high bit of an octet first, and a line the low one.
+    """
+    remainder = binascii.crc_hqx(octets.translate(_REVERSED), 0xFFFF) ^ 0xFFFF
+    return remainder.to_bytes(2, "big").translate(_REVERSED)
+
+
+def is_sealed(octets):
+    """True where there are four octets or more and the last two are the frame check sequence of the rest."""
+    return len(octets) >= 4 and fcs(octets[:-2]) == octets[-2:]
+
+
+class FrameLine(NamedTuple):
+    """One frame of a trace: `>` or `<`, its octets with the frame check sequence, the time in nanoseconds if it was given."""
+
+    direction: str
+    octets: bytes
+    time: Optional[int] = None
+
+    def text(self, timed=False):
+        """The line, without its line feed; with the time before it where that is wanted."""
+        line = f"{self.direction} {self.octets.hex()}"
+        return f"{seconds(self.time or 0)}\t{line}" if timed else line
+
+
+def seconds(nanoseconds):
+    """A time as a decimal number of seconds with nine places."""
+    whole, rest = divmod(nanoseconds, NANOSECONDS)
+    return f"{whole}.{rest:09d}"
+
+
+def frame_line(line):
+    """Reads a line of a trace, given as octets without its line feed; answers None where it is none."""
+    found = FRAME_LINE.fullmatch(line)
+    if not found or len(found[4]) > 2 * MOST_OCTETS:
+        return None
+    time = None
+    if found[1]:
+        time = int(found[1]) * NANOSECONDS + int((found[2] or b"").ljust(9, b"0"))
+    return FrameLine(found[3].decode(), bytes.fromhex(found[4].decode()), time)
+
+
+def lines_of(file):
+    """Yields number and octets of each line of a binary file, without its line feed, holding one at a time."""
+    number = 0
+    while line := file.readline(MOST_CHARACTERS + 1):
+        number += 1
+        if len(line) > MOST_CHARACTERS and not line.endswith(b"\n"):
+            raise BadInput(f"line {number} is longer than {MOST_CHARACTERS:,} characters")
+        yield number, line.removesuffix(b"\n")
+
+
+def shown(line):
+    """The beginning of a line, for a message."""
+    return repr(line[:60].decode("latin-1")) + (".." if len(line) > 60 else "")
+
+
+def opened(path):
+    """Opens a file to read its octets; `-` is standard input."""
+    if path == "-":
+        return sys.stdin.buffer
+    try:
+        return open(path, "rb")
+    except OSError as error:
+        raise BadInput(f"{path}: {error.strerror}") from error
+
+
+def add_input(parser, what):
+    """Adds the argument FILE, `-` for standard input, to a parser of words."""
+    parser.add_argument("file", nargs="?", default="-", metavar="FILE", help=f"{what}; standard input where it is missing or `-`")
+
+
+def warn(text):
+    """Says something on standard error, after the script's name."""
+    print(f"{os.path.basename(sys.argv[0])}: {text}", file=sys.stderr)
+
+
+def run(main):
+    """Runs a script's `main` and ends with the status that it answers; bad input is told in a line and ends with 2."""
+    try:
+        status = main()
+        sys.stdout.flush()
+    except BadInput as error:
+        sys.stdout.flush()
+        warn(error)
+        status = 2
+    except BrokenPipeError:
+        # The reader of standard output has gone, as `head` does; nothing more can be written there.
+        os.dup2(os.open(os.devnull, os.O_WRONLY), sys.stdout.fileno())
+        status = 1
+    except KeyboardInterrupt:
+        status = 130
+    except OSError as error:
+        warn(error.strerror or error)
+        status = 2
+    sys.exit(status)

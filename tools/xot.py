@@ -1,0 +1,227 @@
+"""X.25 over TCP (XOT, RFC 1613): from captured packets of IP to the X.25 packets of their connections.
+
+TCP's segments are put in order here. What the capture lacks is told by `Xot.notes`, and reading goes on behind it.
+"""
+
+import struct
+from collections import Counter
+from typing import NamedTuple
+
+XOT_PORT = 1998
+
+ETHERNET, RAW_IP, OLD_RAW_IP, OTHER_RAW_IP, IPV4, IPV6 = 1, 101, 12, 14, 228, 229
+NULL, LOOP, LINUX_COOKED, LINUX_COOKED_2 = 0, 108, 113, 276
+VLAN_TAGS = (0x8100, 0x88A8, 0x9100)
+TYPE_IPV4, TYPE_IPV6 = 0x0800, 0x86DD
+TCP = 6
+# Extension headers of IPv6 that say their own length in the same way.
+EXTENSIONS = (0, 43, 60)
+MOST_EXTENSIONS = 8
+
+SYN = 2
+# How much is held of a connection while a segment is missing, and of how many connections.
+MOST_SEGMENTS, MOST_STREAMS = 256, 4096
+SEQUENCES = 1 << 32
+
+
+class Payload(NamedTuple):
+    """What a packet of IP carries: the protocol, the two addresses, its octets, and its length, of which some octets may not be captured."""
+
+    protocol: int
+    source: bytes
+    target: bytes
+    octets: bytes
+    length: int
+
+
+class Segment(NamedTuple):
+    """A segment of TCP: its ends (address and port), where its octets stand in the stream, its flags, its octets."""
+
+    source: tuple
+    target: tuple
+    sequence: int
+    flags: int
+    octets: bytes
+
+
+def _after(octets, type_at, header):
+    """What follows a link header with an Ethernet type, or nothing where that isn't IP."""
+    kind = octets[type_at : type_at + 2]
+    is_ip = kind in (TYPE_IPV4.to_bytes(2, "big"), TYPE_IPV6.to_bytes(2, "big"))
+    return octets[header:] if is_ip else b""
+
+
+def _after_ethernet(octets):
+    header = 14
+    while len(octets) >= header + 4 and int.from_bytes(octets[header - 2 : header], "big") in VLAN_TAGS:
+        header += 4
+    return _after(octets, header - 2, header)
+
+
+# For each link type that may hold IP, what answers the packet of IP in a frame.
+IP_OF = {
+    ETHERNET: _after_ethernet,
+    LINUX_COOKED: lambda octets: _after(octets, 14, 16),
+    LINUX_COOKED_2: lambda octets: _after(octets, 0, 20),
+    NULL: lambda octets: octets[4:],
+    LOOP: lambda octets: octets[4:],
+    **{raw: lambda octets: octets for raw in (RAW_IP, OLD_RAW_IP, OTHER_RAW_IP, IPV4, IPV6)},
+}
+
+
+def _of_ipv4(octets):
+    """The payload of a packet of IPv4, or None where it is none, or a fragment."""
+    if len(octets) < 20:
+        return None
+    header, total = 4 * (octets[0] & 0xF), int.from_bytes(octets[2:4], "big")
+    fragment = int.from_bytes(octets[6:8], "big") & 0x3FFF
+    if header < 20 or total < header or fragment:
+        return None
+    return Payload(octets[9], octets[12:16], octets[16:20], octets[header:total], total - header)
+
+
+def _of_ipv6(octets):
+    """The payload of a packet of IPv6 behind its extension headers, or None where it is none."""
+    if len(octets) < 40:
+        return None
+    protocol, length = octets[6], int.from_bytes(octets[4:6], "big")
+    source, target, payload = octets[8:24], octets[24:40], octets[40 : 40 + length]
+    for _ in range(MOST_EXTENSIONS):
+        if protocol not in EXTENSIONS or len(payload) < 8:
+            break
+        protocol, header = payload[0], 8 * (payload[1] + 1)
+        payload, length = payload[header:], length - header
+    return Payload(protocol, source, target, payload, length)
+
+
+def segment(octets):
+    """The segment of TCP in a packet of IP, or None where it holds none; and how many of its octets weren't captured."""
+    read = {4: _of_ipv4, 6: _of_ipv6}.get(octets[0] >> 4 if octets else None)
+    payload = read(octets) if read else None
+    if payload is None or payload.protocol != TCP or len(payload.octets) < 20:
+        return None, 0
+    tcp = payload.octets
+    source_port, target_port, sequence = struct.unpack_from(">HHI", tcp)
+    header = 4 * (tcp[12] >> 4)
+    if not 20 <= header <= payload.length:
+        return None, 0
+    ends = (payload.source, source_port), (payload.target, target_port)
+    return Segment(*ends, sequence, tcp[13], tcp[header:]), payload.length - max(len(tcp), header)
+
+
+class Stream:
+    """One direction of a connection: puts segments in order, and cuts what comes into packets.
+
+    Where a capture begins within a connection, the first segment is taken to begin with a packet, as it nearly always does.
+    """
+
+    def __init__(self, notes):
+        self._notes = notes
+        self._start = None
+        self._next = None
+        self._ahead = {}
+        self._held = bytearray()
+        self._is_lost = False
+
+    def take(self, segment):
+        """Takes a segment; yields the X.25 packets that are whole now."""
+        if segment.flags & SYN and segment.sequence != self._start:
+            yield from self.end()
+            self._begin(segment.sequence)
+        if segment.octets:
+            start = segment.sequence + bool(segment.flags & SYN)
+            if self._next is None:
+                self._next = start % SEQUENCES
+            self._ahead.setdefault(start % SEQUENCES, segment.octets)
+            self._in_order()
+            if len(self._ahead) > MOST_SEGMENTS:
+                self._pass_gap()
+        yield from self._packets()
+
+    def end(self):
+        """Gives up what is missing; yields the packets behind it, and notes what was left within one."""
+        while self._ahead:
+            self._pass_gap()
+            yield from self._packets()
+        if self._held:
+            self._notes["packet broken off at the end of its connection"] += 1
+            self._held.clear()
+
+    def _begin(self, sequence):
+        """Begins a connection, whose first octet stands behind the number of its SYN."""
+        self._start = sequence
+        self._next = (sequence + 1) % SEQUENCES
+        self._is_lost = False
+
+    def _distance(self, sequence):
+        """How far behind the octet that is wanted next a number stands; below 0, before it."""
+        distance = (sequence - self._next) % SEQUENCES
+        return distance - SEQUENCES if distance >= SEQUENCES // 2 else distance
+
+    def _in_order(self):
+        """Moves each segment that has become the next one, or overlaps it, to what is held."""
+        while ready := [it for it in self._ahead if self._distance(it) <= 0]:
+            for sequence in ready:
+                octets = self._ahead.pop(sequence)
+                fresh = octets[-self._distance(sequence) :] if self._distance(sequence) else octets
+                if len(octets) > -self._distance(sequence):
+                    self._held += fresh
+                    self._next = (self._next + len(fresh)) % SEQUENCES
+
+    def _pass_gap(self):
+        """Goes on at the nearest segment; what was held ends within a packet, and so is dropped."""
+        self._notes["gap in a connection, octets that weren't captured"] += 1
+        self._held.clear()
+        self._is_lost = False
+        self._next = min(self._ahead, key=self._distance)
+        self._in_order()
+
+    def _packets(self):
+        while not self._is_lost and len(self._held) >= 4:
+            version, length = struct.unpack_from(">HH", self._held)
+            if version != 0 or length == 0:
+                self._notes["connection that isn't XOT, or was read out of step"] += 1
+                self._is_lost = True
+                break
+            if len(self._held) < 4 + length:
+                return
+            packet = bytes(self._held[4 : 4 + length])
+            del self._held[: 4 + length]
+            yield packet
+        if self._is_lost:
+            self._held.clear()
+
+
+class Xot:
+    """All connections of a capture to and from one port. `notes` counts what was left out, by why."""
+
+    def __init__(self, port=XOT_PORT):
+        self._port = port
+        self._streams = {}
+        self.notes = Counter()
+
+    def take(self, record):
+        """Takes a record of the capture; yields direction and X.25 packet of each packet that is whole now.
+
+        `>` is to the port of XOT, so from the end that opened the connection.
+        """
+        found, missing = segment(IP_OF[record.link_type](record.octets))
+        if found is None or self._port not in (found.source[1], found.target[1]):
+            return
+        if missing > 0:
+            self.notes["segment that was captured in part"] += 1
+        direction = ">" if found.target[1] == self._port else "<"
+        ends = found.source, found.target
+        stream = self._streams.setdefault(ends, Stream(self.notes))
+        yield from ((direction, packet) for packet in stream.take(found))
+        if len(self._streams) > MOST_STREAMS:
+            yield from self._close(next(iter(self._streams)))
+
+    def end(self):
+        """Ends all connections; yields what they still hold."""
+        for ends in list(self._streams):
+            yield from self._close(ends)
+
+    def _close(self, ends):
+        direction = ">" if ends[1][1] == self._port else "<"
+        yield from ((direction, packet) for packet in self._streams.pop(ends).end())
