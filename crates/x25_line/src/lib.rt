@@ -2,6 +2,7 @@
 #![tactic(auto)]
 
 mod direction;
+mod law;
 mod raw_end;
 mod raw_error;
 mod raw_event;
@@ -9,6 +10,7 @@ mod raw_frame;
 mod raw_world;
 
 pub use direction::Direction;
+pub use law::{each_event_hands_one, packets_go, stations_keep_order};
 pub use raw_error::{RawError, RawRefused};
 pub use raw_event::RawEvent;
 pub use raw_frame::{RawCarried, RawFrame};
