@@ -22,7 +22,7 @@ use Rattle.x25_link.specs.WindowLaw.{Follows, IsOut, sets_up, StationLaws}
 use Rattle.x25_line.specs.Line.{Line, moved, swapped as line_swapped}
 use Rattle.x25_line.specs.Line.Move.{HandsDown, Loses}
 use Rattle.x25_line.specs.InWindow.{Begins}
-use Rattle.x25_line.specs.Stations.{StationEnd, Stations, Act, Put, Deliver, T1, Disconnect, Abandon, Lose, Damage, Event, after_step, unless, delivered, replaced, is_visible, acts, swapped, happens, run, start}
+use Rattle.x25_line.specs.Stations.{StationEnd, Stations, Act, Put, Deliver, T1, Disconnect, Abandon, Lose, Damage, Event, Near, Far, after_step, unless, delivered, replaced, is_visible, acts, swapped, happens, run, start}
 use Rattle.x25_line.specs.StationClaims.{AreJoined, Always, InOrder, BothInOrder, HasItsLists, BothHaveTheirLists, number_in, numbered_on, IsReached, at_start, near_moves, far_moves, AreInWindow, NoFrmrSent}
 use Rattle.x25_line.proofs.Kept.{Kept, Way, Kept-moved, Kept-swapped, Way-acked, InWindow-from_Kept}
 use Rattle.x25_line.proofs.StationLines.{IsOrderly, AreOrderly, AreParting, taken_out, place_of, shows_lost, shows_damaged, orderly_lost, orderly_damaged, visible_reads}
@@ -238,14 +238,14 @@ holds_swapped c d w holds =
       },
     )
 
-event_by : (b : Bool) (c d : Settings) → AreJoined c d → ReadsSpelled → StationLaws → (a : Act) (w : Stations) → Holds c d w → Holds c d (if b then acts c a w else swapped (acts d a (swapped w)))
-event_by true c d joined reads laws a w h = acts_joint c d joined reads laws a w h
-event_by false c d joined reads laws a w h =
-    holds_swapped d c (acts d a (swapped w)) (acts_joint d c (joined_swapped c d joined) reads laws a (swapped w) (holds_swapped c d w h))
+event_joint : (c d : Settings) → AreJoined c d → ReadsSpelled → StationLaws → (e : Event) (w : Stations) → Holds c d w → Holds c d (happens c d e w)
+event_joint c d joined reads laws (Near act) w h = acts_joint c d joined reads laws act w h
+event_joint c d joined reads laws (Far act) w h =
+    holds_swapped d c (acts d act (swapped w)) (acts_joint d c (joined_swapped c d joined) reads laws act (swapped w) (holds_swapped c d w h))
 
 run_joint : (c d : Settings) → AreJoined c d → ReadsSpelled → StationLaws → (es : List Event) (w : Stations) → Holds c d w → Holds c d (run c d es w)
 run_joint c d joined reads laws [] w h = h
-run_joint c d joined reads laws (e ∷ es) w h = run_joint c d joined reads laws es (happens c d e w) (event_by e.is_near c d joined reads laws e.act w h)
+run_joint c d joined reads laws (e ∷ es) w h = run_joint c d joined reads laws es (happens c d e w) (event_joint c d joined reads laws e w h)
 
 start_joint : (c d : Settings) → AreJoined c d → Holds c d start
 start_joint c d joined =

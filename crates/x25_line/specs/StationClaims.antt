@@ -1,5 +1,5 @@
 -- What holds of two link stations and the line between them after each list of events, the link set up once.
-use Rattle.std.specs.Prelude.{◌≡◌, ℕ, ◌≤◌, Bool, true, false, if◌then◌else◌, List, [], ◌∷◌, ◌++◌, take, Option, Some, None, option_to_list, Result, Ok, Err}
+use Rattle.std.specs.Prelude.{◌≡◌, ℕ, ◌≤◌, Bool, true, if◌then◌else◌, List, [], ◌∷◌, ◌++◌, take, Option, Some, None, option_to_list, Result, Ok, Err}
 use Rattle.x25_bits.specs.declared.role.Role.{Role}
 use Rattle.x25_frame.specs.PlainFrame.{PlainFrame, info, rr, rnr, rej, frmr}
 use Rattle.x25_frame.specs.Reading.{frame_of}
@@ -12,7 +12,7 @@ use Rattle.x25_link.specs.WindowMachine.{ShowAll}
 use Rattle.x25_link.specs.WindowLaw.{window_of}
 use Rattle.x25_line.specs.InWindow.{InWindow, Begins}
 use Rattle.x25_line.specs.Line.{Line, Move, AllowsMove, moved, swapped as line_swapped}
-use Rattle.x25_line.specs.Stations.{StationEnd, Stations, Act, Put, Deliver, Event, happens, run, start, swapped}
+use Rattle.x25_line.specs.Stations.{StationEnd, Stations, Act, Put, Deliver, Event, Near, Far, happens, run, start, swapped}
 
 -- the two ends of one link: one is the DTE and one the DCE, both with the same N1 and k from 1 to 7
 pub record AreJoined (c d : Settings) : Type 0 where
@@ -114,9 +114,9 @@ pub record HandsOne (act : Act) (w v : Stations) : Type 0 where
   pub down : HandsDown act w.near.down v.near.down
   pub far : v.far ≡ w.far
 
-abbrev pub HandsOneAt : Bool → Act → Stations → Stations → Type 0
-HandsOneAt true act w v = HandsOne act w v
-HandsOneAt false act w v = HandsOne act (swapped w) (swapped v)
+abbrev pub HandsOneAt : Event → Stations → Stations → Type 0
+HandsOneAt (Near act) w v = HandsOne act w v
+HandsOneAt (Far act) w v = HandsOne act (swapped w) (swapped v)
 
 abbrev pub EachEventHandsOne : Type 0
-EachEventHandsOne = (c d : Settings) (event : Event) (w : Stations) → HandsOneAt event.is_near event.act w (happens c d event w)
+EachEventHandsOne = (c d : Settings) (event : Event) (w : Stations) → HandsOneAt event w (happens c d event w)
