@@ -1,11 +1,12 @@
 -- What holds of two link stations and the line between them after each list of events, the link set up once.
-use Rattle.std.specs.Prelude.{◌≡◌, ℕ, ◌≤◌, Bool, true, if◌then◌else◌, List, [], ◌∷◌, ◌++◌, take, Option, Some, None, option_to_list, Result, Ok, Err}
+use Rattle.std.specs.Prelude.{◌≡◌, ℕ, ◌≤◌, Bool, true, false, if◌then◌else◌, List, [], ◌∷◌, ◌++◌, take, Option, Some, None, option_to_list, Result, Ok, Err}
 use Rattle.x25_bits.specs.declared.role.Role.{Role}
 use Rattle.x25_frame.specs.PlainFrame.{PlainFrame, info, rr, rnr, rej, frmr}
 use Rattle.x25_frame.specs.Reading.{frame_of}
 use Rattle.x25_frame.specs.declared.error.FrameError.{FrameError}
 use Rattle.x25_window.specs.Window.{End, fresh_end}
-use Rattle.x25_link.specs.Station.{Settings, is_up}
+use Rattle.x25_link.specs.Lists.{no_packets}
+use Rattle.x25_link.specs.Station.{Settings, is_up, lists_of}
 use Rattle.x25_link.specs.MustSend.{other}
 use Rattle.x25_link.specs.Steps.{is_idle}
 use Rattle.x25_link.specs.WindowMachine.{ShowAll}
@@ -34,15 +35,17 @@ Always Holds = (c d : Settings) → AreJoined c d → (events : List Event) → 
 -- up, and all was where the giver is idle.
 pub record InOrder (giver taker : StationEnd) : Type 0 where
   pub begins : Begins taker.up giver.down
-  pub acked : is_up giver.station.phase ≡ true → Begins (take giver.station.outgoing.acked giver.down) taker.up
+  pub acked : Begins (take giver.station.outgoing.acked giver.down) taker.up
   pub idle : is_idle giver.station ≡ true → taker.up ≡ giver.down
 
 abbrev pub BothInOrder : Settings → Settings → Stations → Type 0
 BothInOrder c d w = InOrder w.near w.far × InOrder w.far w.near
 
--- a station that is Up has the lists that were handed down and up
-abbrev pub HasItsLists : StationEnd → Type 0
-HasItsLists e = is_up e.station.phase ≡ true → (e.station.outgoing.given ≡ e.down) × (e.station.taken ≡ e.up)
+-- a station that is Up has the lists that were handed down and up, and any other has empty lists
+pub record HasItsLists (e : StationEnd) : Type 0 where
+  pub given : is_up e.station.phase ≡ true → e.station.outgoing.given ≡ e.down
+  pub taken : is_up e.station.phase ≡ true → e.station.taken ≡ e.up
+  pub empty : is_up e.station.phase ≡ false → lists_of e.station ≡ no_packets
 
 abbrev pub BothHaveTheirLists : Settings → Settings → Stations → Type 0
 BothHaveTheirLists c d w = HasItsLists w.near × HasItsLists w.far

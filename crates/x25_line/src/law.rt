@@ -3,7 +3,7 @@ ghost use Rattle.x25_line.specs.StationClaims.{Always, BothInOrder, BothHaveThei
 ghost use Rattle.x25_line.specs.StationRows.{PacketGoes, PacketsCross, LostComesAgain, DamagedComesAgain};
 
 use x25_frame::reads_what_is_spelled;
-use x25_link::follows_the_window;
+use x25_link::{follows_the_window, notes_what_changes};
 
 /// Two link stations, by the definition that a link meets call by call, joined by a line of octets that keeps order and may
 /// lose or visibly damage any frame, the link set up once: what holds after each list of events at either end.
@@ -17,6 +17,7 @@ pub fn stations_keep_order()
     ensures no_frmr { Always NoFrmrSent }
 {
     follows_the_window();
+    notes_what_changes();
     reads_what_is_spelled();
 }
 
