@@ -5,8 +5,8 @@ use Rattle.x25_link.specs.declared.error.LinkError.{LinkError}
 use Rattle.x25_link.specs.Station.{Settings, is_up}
 use Rattle.x25_link.specs.MustSend.{Step}
 use Rattle.x25_link.specs.Steps.{put_step, put_refusal, timer_step, timer_refusal, disconnect_step, disconnect_refusal, abandon_step}
-use Rattle.x25_line.specs.Stations.{Stations, Act, Put, Deliver, T1, Disconnect, Abandon, Lose, Damage, after_step, unless, delivered, replaced, is_visible, acts, swapped}
-use Rattle.x25_line.specs.StationClaims.{HandsOne, HandsOneAt, EachEventHandsOne}
+use Rattle.x25_line.specs.Stations.{Stations, Act, Put, Deliver, T1, Disconnect, Abandon, Lose, Damage, Near, Far, after_step, unless, delivered, replaced, is_visible, acts, swapped}
+use Rattle.x25_line.specs.StationClaims.{HandsOne, EachEventHandsOne}
 
 -- a step that hands nothing up and to which nothing was handed down
 record HandsNothing (w v : Stations) : Type 0 where
@@ -66,9 +66,6 @@ acts_hands c (Damage i octets) w =
     let h = nothing_if (is_visible octets) w (record w { back = replaced w.back i octets }) (record { up = refl; down = refl; far = refl }) in
     record { up = h.up; down = h.down; far = h.far }
 
-by_end : (b : Bool) (c d : Settings) (a : Act) (w : Stations) → HandsOneAt b a w (if b then acts c a w else swapped (acts d a (swapped w)))
-by_end true c d a w = acts_hands c a w
-by_end false c d a w = acts_hands d a (swapped w)
-
 pub each_hands_one : EachEventHandsOne
-each_hands_one c d event w = by_end event.is_near c d event.act w
+each_hands_one c d (Near act) w = acts_hands c act w
+each_hands_one c d (Far act) w = acts_hands d act (swapped w)

@@ -14,7 +14,9 @@ use Rattle.x25_link.specs.declared.phase.Phase.TheVariants.{Down, Waiting, Up, C
 use Rattle.x25_link.specs.declared.phase.Reason.TheVariants.{Retries, Local, Counts}
 use Rattle.x25_link.specs.declared.error.LinkError.{LinkError}
 use Rattle.x25_link.specs.Outgoing.{waits}
-use Rattle.x25_link.specs.Station.{Settings, Station, is_up}
+use Rattle.x25_link.specs.Lists.{Lists, no_packets}
+use Rattle.x25_link.specs.NoteLaw.{TakeTells, DisconnectTells}
+use Rattle.x25_link.specs.Station.{Settings, Station, is_up, lists_of}
 use Rattle.x25_link.specs.MustSend.{Step, other}
 use Rattle.x25_link.specs.Steps.{take_step, put_step, put_refusal, timer_step, timer_refusal, timer_runs, disconnect_step, disconnect_refusal, abandon_step, is_idle}
 use Rattle.x25_link.specs.WindowMachine.{Window, hands_down, nothing, ShowAll}
@@ -22,7 +24,7 @@ use Rattle.x25_link.specs.WindowLaw.{Follows, IsOut, sets_up, StationLaws}
 use Rattle.x25_line.specs.Line.{Line, moved, swapped as line_swapped}
 use Rattle.x25_line.specs.Line.Move.{HandsDown, Loses}
 use Rattle.x25_line.specs.InWindow.{Begins}
-use Rattle.x25_line.specs.Stations.{StationEnd, Stations, Act, Put, Deliver, T1, Disconnect, Abandon, Lose, Damage, Event, after_step, unless, delivered, replaced, is_visible, acts, swapped, happens, run, start}
+use Rattle.x25_line.specs.Stations.{StationEnd, Stations, Act, Put, Deliver, T1, Disconnect, Abandon, Lose, Damage, Event, Near, Far, after_step, unless, delivered, replaced, is_visible, acts, swapped, happens, run, start}
 use Rattle.x25_line.specs.StationClaims.{AreJoined, Always, InOrder, BothInOrder, HasItsLists, BothHaveTheirLists, number_in, numbered_on, IsReached, at_start, near_moves, far_moves, AreInWindow, NoFrmrSent}
 use Rattle.x25_line.proofs.Kept.{Kept, Way, Kept-moved, Kept-swapped, Way-acked, InWindow-from_Kept}
 use Rattle.x25_line.proofs.StationLines.{IsOrderly, AreOrderly, AreParting, taken_out, place_of, shows_lost, shows_damaged, orderly_lost, orderly_damaged, visible_reads}
@@ -60,7 +62,13 @@ not_both b e f = absurd (never (sym e ∙ f))
     never : true ≡ false → ⊥
     never e = cc
 
-module _ (c d : Settings) (joined : AreJoined c d) (reads : ReadsSpelled) (laws : StationLaws) where
+-- the laws of a station that a run rests on
+pub record Laws : Type 0 where
+  pub window : StationLaws
+  pub take_tells : TakeTells
+  pub disconnect_tells : DisconnectTells
+
+module _ (c d : Settings) (joined : AreJoined c d) (reads : ReadsSpelled) (laws : Laws) where
   -- ---- what comes
 
   deliver_joint : (w : Stations) (l : Line (List ℕ)) (os : List (List ℕ)) → w.back ≡ os → Joint c d w l → Holds c d (delivered c os w)
@@ -77,10 +85,12 @@ module _ (c d : Settings) (joined : AreJoined c d) (reads : ReadsSpelled) (laws 
       go (inl u) =
           let r = frame_of (other c.role) c.longest o in
           read_joint c d joined reads w l h u r os (take_step c o w.near.station) orderly.0 orderly.1 shows
-          (laws.take c o w.near.station (record { up = u.up; sound = u.sound }) r refl)
-      go (inr out) =
+          (laws.window.take c o w.near.station (record { up = u.up; sound = u.sound }) r refl)
+      go (inr away) =
           let r = frame_of (other c.role) c.longest o in
-          out_joint c d joined reads w l h (number_in r) os (take_step c o w.near.station) orderly.1 shows (laws.take_out c o w.near.station out (orderly_sets_up r orderly.0))
+          let s = w.near.station in
+          let stays = laws.window.take_out c o s away.out (orderly_sets_up r orderly.0) in
+          out_joint c d joined reads w l h (number_in r) os (take_step c o s) orderly.1 shows stays ((laws.take_tells c o s).empty stays.quiet (out_is_not_up s.phase away.out) away.empty)
 
   -- ---- what is handed down
 
@@ -101,7 +111,7 @@ module _ (c d : Settings) (joined : AreJoined c d) (reads : ReadsSpelled) (laws 
         taken = append-nil w.near.up ∙ h.near_up ∙ sym (ap (λ (z : Window). z.taken) u.same);
         within = within_push d.longest w.near.station.outgoing.given packet (subst (AllWithin d.longest) (sym (ap (λ (z : Window). z.given) u.same)) h.near_within) (omega arith);
       })
-      (laws.put c packet w.near.station (record { up = u.up; sound = u.sound }))
+      (laws.window.put c packet w.near.station (record { up = u.up; sound = u.sound }))
 
   put_joint : (w : Stations) (l : Line (List ℕ)) (packet : List ℕ) → Joint c d w l → length packet ≤ c.longest
       → Holds c d (unless (put_refusal w.near.station) w (after_step c w w.back (packet ∷ []) (put_step c packet w.near.station)))
@@ -109,7 +119,7 @@ module _ (c d : Settings) (joined : AreJoined c d) (reads : ReadsSpelled) (laws 
     where
       go : FitsEnd c w.near.station l.near → Holds c d (unless (put_refusal w.near.station) w (after_step c w w.back (packet ∷ []) (put_step c packet w.near.station)))
       go (inl u) = holds_unless c d (put_refusal w.near.station) w _ (l, h) (put_up w l packet h u short)
-      go (inr out) = rw (out_is_not_up w.near.station.phase out) (l, h)
+      go (inr away) = rw (out_is_not_up w.near.station.phase away.out) (l, h)
 
   -- ---- timer T1
 
@@ -130,8 +140,8 @@ module _ (c d : Settings) (joined : AreJoined c d) (reads : ReadsSpelled) (laws 
       go : FitsEnd c w.near.station l.near → Holds c d (unless (timer_refusal w.near.station) w (after_step c w w.back [] (timer_step c w.near.station)))
       go (inl u) =
           holds_unless c d (timer_refusal w.near.station) w _ (l, h)
-          (timer_by w l h u (nat_lt w.near.station.tries c.retries) (timer_step c w.near.station) (laws.timer c w.near.station (record { up = u.up; sound = u.sound })))
-      go (inr out) = rw (out_timer w.near.station.phase w.near.station out) (l, h)
+          (timer_by w l h u (nat_lt w.near.station.tries c.retries) (timer_step c w.near.station) (laws.window.timer c w.near.station (record { up = u.up; sound = u.sound })))
+      go (inr away) = rw (out_timer w.near.station.phase w.near.station away.out) (l, h)
 
   -- ---- disconnect and abandon
 
@@ -140,18 +150,20 @@ module _ (c d : Settings) (joined : AreJoined c d) (reads : ReadsSpelled) (laws 
   disconnect_joint w l h = holds_unless c d (disconnect_refusal w.near.station.phase) w _ (l, h) (go h.near)
     where
       go : FitsEnd c w.near.station l.near → Holds c d (after_step c w w.back [] (disconnect_step c w.near.station))
-      go (inl u) = ends_joint c d joined reads w l h w.back (disconnect_step c w.near.station) Local tt h.back h.back_orderly (laws.disconnect c w.near.station (record { up = u.up; sound = u.sound }))
-      go (inr out) =
-          let closes = laws.disconnect_out c w.near.station out in
+      go (inl u) = ends_joint c d joined reads w l h w.back (disconnect_step c w.near.station) Local tt h.back h.back_orderly (laws.window.disconnect c w.near.station (record { up = u.up; sound = u.sound }))
+      go (inr away) =
+          let s = w.near.station in
+          let closes = laws.window.disconnect_out c s away.out in
+          let empty = (laws.disconnect_tells c s).empty closes.quiet (out_is_not_up s.phase away.out) away.empty in
           parts_joint c d joined reads w l h l.back w.back (disconnect_step c w.near.station) h.kept h.reached h.back h.back_orderly
-          (subst AreParting (sym closes.frames) tt) (subst IsOut (sym closes.phase) tt) closes.packet
+          (subst AreParting (sym closes.frames) tt) (record { out = subst IsOut (sym closes.phase) tt; empty = empty }) closes.packet
 
   abandon_joint : (w : Stations) (l : Line (List ℕ)) → Joint c d w l → is_up w.near.station.phase ≡ true → Holds c d (after_step c w w.back [] (abandon_step c w.near.station))
   abandon_joint w l h up = go h.near
     where
       go : FitsEnd c w.near.station l.near → Holds c d (after_step c w w.back [] (abandon_step c w.near.station))
-      go (inl u) = ends_joint c d joined reads w l h w.back (abandon_step c w.near.station) Counts tt h.back h.back_orderly (laws.abandon c w.near.station (record { up = u.up; sound = u.sound }))
-      go (inr out) = not_both (is_up w.near.station.phase) up (out_is_not_up w.near.station.phase out)
+      go (inl u) = ends_joint c d joined reads w l h w.back (abandon_step c w.near.station) Counts tt h.back h.back_orderly (laws.window.abandon c w.near.station (record { up = u.up; sound = u.sound }))
+      go (inr away) = not_both (is_up w.near.station.phase) up (out_is_not_up w.near.station.phase away.out)
 
   -- ---- the line
 
@@ -238,14 +250,14 @@ holds_swapped c d w holds =
       },
     )
 
-event_by : (b : Bool) (c d : Settings) → AreJoined c d → ReadsSpelled → StationLaws → (a : Act) (w : Stations) → Holds c d w → Holds c d (if b then acts c a w else swapped (acts d a (swapped w)))
-event_by true c d joined reads laws a w h = acts_joint c d joined reads laws a w h
-event_by false c d joined reads laws a w h =
-    holds_swapped d c (acts d a (swapped w)) (acts_joint d c (joined_swapped c d joined) reads laws a (swapped w) (holds_swapped c d w h))
+event_joint : (c d : Settings) → AreJoined c d → ReadsSpelled → Laws → (e : Event) (w : Stations) → Holds c d w → Holds c d (happens c d e w)
+event_joint c d joined reads laws (Near act) w h = acts_joint c d joined reads laws act w h
+event_joint c d joined reads laws (Far act) w h =
+    holds_swapped d c (acts d act (swapped w)) (acts_joint d c (joined_swapped c d joined) reads laws act (swapped w) (holds_swapped c d w h))
 
-run_joint : (c d : Settings) → AreJoined c d → ReadsSpelled → StationLaws → (es : List Event) (w : Stations) → Holds c d w → Holds c d (run c d es w)
+run_joint : (c d : Settings) → AreJoined c d → ReadsSpelled → Laws → (es : List Event) (w : Stations) → Holds c d w → Holds c d (run c d es w)
 run_joint c d joined reads laws [] w h = h
-run_joint c d joined reads laws (e ∷ es) w h = run_joint c d joined reads laws es (happens c d e w) (event_by e.is_near c d joined reads laws e.act w h)
+run_joint c d joined reads laws (e ∷ es) w h = run_joint c d joined reads laws es (happens c d e w) (event_joint c d joined reads laws e w h)
 
 start_joint : (c d : Settings) → AreJoined c d → Holds c d start
 start_joint c d joined =
@@ -309,7 +321,7 @@ idle_all s idle high =
 -- an end that is Up isn't out
 up_of : (c : Settings) (s : Station) (e : End (List ℕ)) → FitsEnd c s e → is_up s.phase ≡ true → AsUp c s e
 up_of c s e (inl u) up = u
-up_of c s e (inr out) up = not_both (is_up s.phase) up (out_is_not_up s.phase out)
+up_of c s e (inr away) up = not_both (is_up s.phase) up (out_is_not_up s.phase away.out)
 
 in_order : (c : Settings) (giver taker : StationEnd) (e : End (List ℕ)) (taken : List (List ℕ)) (there back : List (Frame (List ℕ)))
     → FitsEnd c giver.station e → Way e taken there back → giver.down ≡ e.given → taker.up ≡ taken → InOrder giver taker
@@ -322,17 +334,19 @@ in_order c giver taker e taken there back fits way is_down is_up_list =
     is_up_list ∙ way.begins ∙ ap (λ (n : ℕ). take n e.given) (sym count) ∙ ap (take (length up)) (sym is_down) in
     record {
       begins = (drop (length up) down, ap (λ (ys : List (List ℕ)). ys ++ drop (length up) down) begins ∙ take-append-drop (length up) down);
-      acked = λ is_on. acked is_on begins;
+      acked = acked fits begins;
       idle = all;
     }
   where
-    acked : is_up giver.station.phase ≡ true → taker.up ≡ take (length taker.up) giver.down → Begins (take giver.station.outgoing.acked giver.down) taker.up
-    acked is_on begins =
-        let u = up_of c giver.station e fits is_on in
+    acked : FitsEnd c giver.station e → taker.up ≡ take (length taker.up) giver.down → Begins (take giver.station.outgoing.acked giver.down) taker.up
+    acked (inl u) begins =
         let bounds = Way-acked e taken there back way in
         let count = ap length is_up_list in
         let same = ap (λ (z : Window). z.acked) u.same in
         acked_begins giver.station.outgoing.acked giver.down taker.up begins (omega (arith, bounds.0, count, same))
+    acked (inr away) begins =
+        let none = ap (λ (z : Lists). z.acked) away.empty in
+        acked_begins giver.station.outgoing.acked giver.down taker.up begins (omega (arith, none))
 
     all : is_idle giver.station ≡ true → taker.up ≡ giver.down
     all idle =
@@ -344,11 +358,18 @@ in_order c giver taker e taken there back fits way is_down is_up_list =
         is_up_list ∙ way.begins ∙ take_all (length taken) e.given (omega (arith, bounds.0, acked, acked_same, given_same)) ∙ sym is_down
 
 has_lists : (c : Settings) (giver : StationEnd) (e : End (List ℕ)) → FitsEnd c giver.station e → giver.down ≡ e.given → giver.up ≡ e.taken → HasItsLists giver
-has_lists c giver e fits is_down is_up_list is_on =
-    let u = up_of c giver.station e fits is_on in
-    (ap (λ (z : Window). z.given) u.same ∙ sym is_down, ap (λ (z : Window). z.taken) u.same ∙ sym is_up_list)
+has_lists c giver e fits is_down is_up_list =
+    record {
+      given = λ is_on. ap (λ (z : Window). z.given) (up_of c giver.station e fits is_on).same ∙ sym is_down;
+      taken = λ is_on. ap (λ (z : Window). z.taken) (up_of c giver.station e fits is_on).same ∙ sym is_up_list;
+      empty = empty fits;
+    }
+  where
+    empty : FitsEnd c giver.station e → is_up giver.station.phase ≡ false → lists_of giver.station ≡ no_packets
+    empty (inl u) off = not_both (is_up giver.station.phase) u.up off
+    empty (inr away) off = away.empty
 
-module _ (reads : ReadsSpelled) (laws : StationLaws) where
+module _ (reads : ReadsSpelled) (laws : Laws) where
   reached : Always Holds
   reached c d joined events = run_joint c d joined reads laws events start (start_joint c d joined)
 

@@ -14,7 +14,9 @@ use Rattle.x25_link.specs.declared.phase.Phase.{Phase}
 use Rattle.x25_link.specs.declared.phase.Phase.TheVariants.{Down, Waiting, Up, Closed}
 use Rattle.x25_link.specs.declared.phase.Reason.{Reason}
 use Rattle.x25_link.specs.declared.phase.Reason.TheVariants.{Retries, Disc, Dm, FrmrSent, FrmrGot, Reset, Local, Counts}
-use Rattle.x25_link.specs.Station.{Settings, Station, is_up}
+use Rattle.x25_link.specs.Lists.{no_packets}
+use Rattle.x25_link.specs.Outgoing.{Outgoing, no_packet}
+use Rattle.x25_link.specs.Station.{Settings, Station, is_up, lists_of}
 use Rattle.x25_link.specs.MustSend.{Step, other}
 use Rattle.x25_link.specs.WindowMachine.{Window, Input, receives, nothing, Shows, ShowAll}
 use Rattle.x25_link.specs.WindowLaw.{IsSound, window_of, brought_by, after_input, MayHandUp, if_valid, ending_of, ends_in, AreLast, Stays, Ends, Follows, IsOut, AreDeclining, StaysOut}
@@ -40,9 +42,13 @@ pub record AsUp (c : Settings) (s : Station) (e : End (List ℕ)) : Type 0 where
   pub sound : IsSound c.window s.outgoing
   pub same : window_of c.window s ≡ e
 
--- any other is out, and its machine's end stands still
+-- any other is out with empty lists, and its machine's end stands still
+pub record IsAway (s : Station) : Type 0 where
+  pub out : IsOut s.phase
+  pub empty : lists_of s ≡ no_packets
+
 abbrev pub FitsEnd : Settings → Station → End (List ℕ) → Type 0
-FitsEnd c s e = AsUp c s e ⊎ IsOut s.phase
+FitsEnd c s e = AsUp c s e ⊎ IsAway s
 
 pub record Joint (c d : Settings) (w : Stations) (l : Line (List ℕ)) : Type 0 where
   pub reached : IsReached c.window d.window l
@@ -252,14 +258,14 @@ module _ (c d : Settings) (joined : AreJoined c d) (reads : ReadsSpelled) where
   pub parts_joint : (w : Stations) (l : Line (List ℕ)) → Joint c d w l → (gs : List (Frame (List ℕ))) (os : List (List ℕ)) (step : Step)
       → Kept (record { near = l.near; far = l.far; out = l.out; back = gs }) → IsReached c.window d.window (record { near = l.near; far = l.far; out = l.out; back = gs })
       → ShowAll (numbered_on (other c.role) c.longest os) gs → AreOrderly (other c.role) c.longest os
-      → AreParting step.side.out → IsOut step.side.near.phase → step.packet ≡ None
+      → AreParting step.side.out → IsAway step.side.near → step.packet ≡ None
       → Holds c d (after_step c w os [] step)
-  parts_joint w l h gs os step kept reached shows orderly parting out none = (
+  parts_joint w l h gs os step kept reached shows orderly parting away none = (
     record { near = l.near; far = l.far; out = l.out; back = gs },
     record {
       reached = reached;
       kept = kept;
-      near = inr out;
+      near = inr away;
       far = h.far;
       out = parting_out w.out step.side.out l.out parting h.out;
       back = shows;
@@ -306,11 +312,15 @@ module _ (c d : Settings) (joined : AreJoined c d) (reads : ReadsSpelled) where
   last_out Local p l h = rw h tt
   last_out Counts p l h = rw h tt
 
+  empty_lists : (o : Outgoing) (taken : List (List ℕ)) → o ≡ no_packet → taken ≡ [] → record { given = o.given; acked = o.acked; taken = taken } ≡ no_packets
+  empty_lists o taken none nothing_taken = rw (none, nothing_taken) refl
+
   pub ends_joint : (w : Stations) (l : Line (List ℕ)) → Joint c d w l → (os : List (List ℕ)) (step : Step) (reason : Reason) → Leaves reason
       → ShowAll (numbered_on (other c.role) c.longest os) l.back → AreOrderly (other c.role) c.longest os
       → Ends reason step → Holds c d (after_step c w os [] step)
   ends_joint w l h os step reason leaves shows orderly ends =
-      parts_joint w l h l.back os step h.kept h.reached shows orderly (last_parting reason step.side.out leaves ends.frames) (last_out reason step.side.near.phase leaves ends.phase) ends.packet
+      parts_joint w l h l.back os step h.kept h.reached shows orderly (last_parting reason step.side.out leaves ends.frames)
+      (record { out = last_out reason step.side.near.phase leaves ends.phase; empty = empty_lists step.side.near.outgoing step.side.near.taken ends.outgoing ends.taken }) ends.packet
 
   -- ---- what comes, by what it reads as
 
@@ -370,14 +380,14 @@ module _ (c d : Settings) (joined : AreJoined c d) (reads : ReadsSpelled) where
   declining_parting (frmr f why ∷ fs) h = absurd h
 
   pub out_joint : (w : Stations) (l : Line (List ℕ)) → Joint c d w l → (m : Option PlainFrame) (os : List (List ℕ)) (step : Step) → AreOrderly (other c.role) c.longest os
-      → ShowAll (consed m (numbered_on (other c.role) c.longest os)) l.back → StaysOut step
+      → ShowAll (consed m (numbered_on (other c.role) c.longest os)) l.back → StaysOut step → lists_of step.side.near ≡ no_packets
       → Holds c d (after_step c w os [] step)
-  out_joint w l h None os step orderly shows stays =
-      parts_joint w l h l.back os step h.kept h.reached shows orderly (declining_parting step.side.out stays.frames) stays.out stays.packet
-  out_joint w l h (Some f) os step orderly shows stays =
+  out_joint w l h None os step orderly shows stays empty =
+      parts_joint w l h l.back os step h.kept h.reached shows orderly (declining_parting step.side.out stays.frames) (record { out = stays.out; empty = empty }) stays.packet
+  out_joint w l h (Some f) os step orderly shows stays empty =
       let front = front_of f (numbered_on (other c.role) c.longest os) l.back shows in
       let left : (List (Frame (List ℕ))) → Line (List ℕ) = λ bs. record { near = l.near; far = l.far; out = l.out; back = remove bs 0 } in
       parts_joint w l h front.others os step
       (subst (λ (bs : List (Frame (List ℕ))). Kept (left bs)) front.is (Kept-moved (Loses 0) l tt h.kept))
       (subst (λ (bs : List (Frame (List ℕ))). IsReached c.window d.window (left bs)) front.is (near_moves l (Loses 0) h.reached tt))
-      front.rest_shows orderly (declining_parting step.side.out stays.frames) stays.out stays.packet
+      front.rest_shows orderly (declining_parting step.side.out stays.frames) (record { out = stays.out; empty = empty }) stays.packet

@@ -5,14 +5,15 @@ use Rattle.x25_frame.specs.PlainFrame.{PlainFrame, info, rr, rnr, rej, frmr}
 use Rattle.x25_frame.specs.Reading.{frame_of}
 use Rattle.x25_frame.specs.declared.error.FrameError.{FrameError}
 use Rattle.x25_window.specs.Window.{End, fresh_end}
-use Rattle.x25_link.specs.Station.{Settings, is_up}
+use Rattle.x25_link.specs.Lists.{no_packets}
+use Rattle.x25_link.specs.Station.{Settings, is_up, lists_of}
 use Rattle.x25_link.specs.MustSend.{other}
 use Rattle.x25_link.specs.Steps.{is_idle}
 use Rattle.x25_link.specs.WindowMachine.{ShowAll}
 use Rattle.x25_link.specs.WindowLaw.{window_of}
 use Rattle.x25_line.specs.InWindow.{InWindow, Begins}
 use Rattle.x25_line.specs.Line.{Line, Move, AllowsMove, moved, swapped as line_swapped}
-use Rattle.x25_line.specs.Stations.{StationEnd, Stations, Act, Put, Deliver, Event, happens, run, start, swapped}
+use Rattle.x25_line.specs.Stations.{StationEnd, Stations, Act, Put, Deliver, Event, Near, Far, happens, run, start, swapped}
 
 -- the two ends of one link: one is the DTE and one the DCE, both with the same N1 and k from 1 to 7
 pub record AreJoined (c d : Settings) : Type 0 where
@@ -34,15 +35,17 @@ Always Holds = (c d : Settings) → AreJoined c d → (events : List Event) → 
 -- up, and all was where the giver is idle.
 pub record InOrder (giver taker : StationEnd) : Type 0 where
   pub begins : Begins taker.up giver.down
-  pub acked : is_up giver.station.phase ≡ true → Begins (take giver.station.outgoing.acked giver.down) taker.up
+  pub acked : Begins (take giver.station.outgoing.acked giver.down) taker.up
   pub idle : is_idle giver.station ≡ true → taker.up ≡ giver.down
 
 abbrev pub BothInOrder : Settings → Settings → Stations → Type 0
 BothInOrder c d w = InOrder w.near w.far × InOrder w.far w.near
 
--- a station that is Up has the lists that were handed down and up
-abbrev pub HasItsLists : StationEnd → Type 0
-HasItsLists e = is_up e.station.phase ≡ true → (e.station.outgoing.given ≡ e.down) × (e.station.taken ≡ e.up)
+-- a station that is Up has the lists that were handed down and up, and any other has empty lists
+pub record HasItsLists (e : StationEnd) : Type 0 where
+  pub given : is_up e.station.phase ≡ true → e.station.outgoing.given ≡ e.down
+  pub taken : is_up e.station.phase ≡ true → e.station.taken ≡ e.up
+  pub empty : is_up e.station.phase ≡ false → lists_of e.station ≡ no_packets
 
 abbrev pub BothHaveTheirLists : Settings → Settings → Stations → Type 0
 BothHaveTheirLists c d w = HasItsLists w.near × HasItsLists w.far
@@ -114,9 +117,9 @@ pub record HandsOne (act : Act) (w v : Stations) : Type 0 where
   pub down : HandsDown act w.near.down v.near.down
   pub far : v.far ≡ w.far
 
-abbrev pub HandsOneAt : Bool → Act → Stations → Stations → Type 0
-HandsOneAt true act w v = HandsOne act w v
-HandsOneAt false act w v = HandsOne act (swapped w) (swapped v)
+abbrev pub HandsOneAt : Event → Stations → Stations → Type 0
+HandsOneAt (Near act) w v = HandsOne act w v
+HandsOneAt (Far act) w v = HandsOne act (swapped w) (swapped v)
 
 abbrev pub EachEventHandsOne : Type 0
-EachEventHandsOne = (c d : Settings) (event : Event) (w : Stations) → HandsOneAt event.is_near event.act w (happens c d event w)
+EachEventHandsOne = (c d : Settings) (event : Event) (w : Stations) → HandsOneAt event w (happens c d event w)

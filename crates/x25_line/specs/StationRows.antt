@@ -1,35 +1,43 @@
--- Worked rows of two link stations over a line: packets move.
-use Rattle.std.specs.Prelude.{◌≡◌, true, false, List, [], ◌∷◌}
+-- Worked rows of two link stations over a line: packets move, and frames are lost and damaged.
+use Rattle.std.specs.Prelude.{◌≡◌, true, [], ◌∷◌}
 use Rattle.x25_bits.specs.declared.role.Role.TheVariants.{Dte, Dce}
 use Rattle.x25_link.specs.Station.{Settings}
 use Rattle.x25_link.specs.Steps.{is_idle}
-use Rattle.x25_line.specs.Stations.{Act, Put, Deliver, T1, Lose, Damage, Event, run, start}
+use Rattle.x25_line.specs.Stations.{Stations, Put, Deliver, T1, Lose, Damage, Near, Far, run, start}
 
+-- the DTE is the near end
 abbrev pub dte : Settings
 dte = record { role = Dte; window = 7; longest = 128; retries = 20 }
 
 abbrev pub dce : Settings
 dce = record { role = Dce; window = 7; longest = 128; retries = 20 }
 
--- an act of the near end, or of the line to it, and one of the far end
-abbrev pub here : Act → Event
-here a = record { is_near = true; act = a }
-
-abbrev pub there : Act → Event
-there a = record { is_near = false; act = a }
-
--- after these events the packet of one octet, 5, was handed up, and all is acknowledged
-abbrev pub IsHandedUp : List Event → Type 0
-IsHandedUp events = let w = run dte dce events start in (w.far.up ≡ (5 ∷ []) ∷ []) × (is_idle w.near.station ≡ true)
+-- the packet of one octet, 5, was handed up at the far end and is acknowledged
+abbrev pub IsAcrossFive : Stations → Type 0
+IsAcrossFive w = (w.far.up ≡ (5 ∷ []) ∷ []) × (is_idle w.near.station ≡ true)
 
 -- a packet goes, is handed up, and is acknowledged
 abbrev pub PacketGoes : Type 0
-PacketGoes = IsHandedUp (here (Put (5 ∷ [])) ∷ there Deliver ∷ here Deliver ∷ [])
+PacketGoes = IsAcrossFive (run dte dce (Near (Put (5 ∷ [])) ∷ Far Deliver ∷ Near Deliver ∷ []) start)
 
--- Its frame is damaged or lost. Timer T1 runs out and the far end is polled. It answers, the frame goes again, is handed
--- up, and is acknowledged.
-abbrev pub DamagedComesAgain : Type 0
-DamagedComesAgain = IsHandedUp (here (Put (5 ∷ [])) ∷ there (Damage 0 (1 ∷ 2 ∷ [])) ∷ here T1 ∷ there Deliver ∷ there Deliver ∷ here Deliver ∷ there Deliver ∷ here Deliver ∷ [])
+-- the packets of one octet, 5 from the near end and 7 from the far end, go at once
+abbrev pub PacketsCross : Type 0
+PacketsCross =
+    let w = run dte dce (Near (Put (5 ∷ [])) ∷ Far (Put (7 ∷ [])) ∷ Far Deliver ∷ Near Deliver ∷ Near Deliver ∷ Far Deliver ∷ []) start in
+    (w.far.up ≡ (5 ∷ []) ∷ []) × (w.near.up ≡ (7 ∷ []) ∷ []) × (is_idle w.near.station ≡ true) × (is_idle w.far.station ≡ true)
+
+-- Its frame is lost. Timer T1 runs out and the far end is polled. It answers, the frame goes again, is handed up, and is
+-- acknowledged.
+abbrev pub lost : Stations
+lost = run dte dce (Near (Put (5 ∷ [])) ∷ Far (Lose 0) ∷ []) start
 
 abbrev pub LostComesAgain : Type 0
-LostComesAgain = IsHandedUp (here (Put (5 ∷ [])) ∷ there (Lose 0) ∷ here T1 ∷ there Deliver ∷ here Deliver ∷ there Deliver ∷ here Deliver ∷ [])
+LostComesAgain = (lost.out ≡ []) × IsAcrossFive (run dte dce (Near T1 ∷ Far Deliver ∷ Near Deliver ∷ Far Deliver ∷ Near Deliver ∷ []) lost)
+
+-- It is damaged, which comes first and is passed over.
+abbrev pub damaged : Stations
+damaged = run dte dce (Near (Put (5 ∷ [])) ∷ Far (Damage 0 (1 ∷ 2 ∷ [])) ∷ []) start
+
+abbrev pub DamagedComesAgain : Type 0
+DamagedComesAgain =
+    (damaged.out ≡ (1 ∷ 2 ∷ []) ∷ []) × IsAcrossFive (run dte dce (Near T1 ∷ Far Deliver ∷ Far Deliver ∷ Near Deliver ∷ Far Deliver ∷ Near Deliver ∷ []) damaged)

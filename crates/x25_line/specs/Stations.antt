@@ -87,12 +87,13 @@ acts c (Damage i octets) w = if is_visible octets then record w { back = replace
 
 -- ---- runs
 
-pub record Event : Type 0 where
-  pub is_near : Bool
-  pub act : Act
+pub data Event : Type 0 where
+  Near : (act : Act) → Event
+  Far : (act : Act) → Event
 
 abbrev pub happens : Settings → Settings → Event → Stations → Stations
-happens c d e w = if e.is_near then acts c e.act w else swapped (acts d e.act (swapped w))
+happens c d (Near act) w = acts c act w
+happens c d (Far act) w = swapped (acts d act (swapped w))
 
 abbrev pub run : Settings → Settings → List Event → Stations → Stations
 run c d [] w = w

@@ -1,9 +1,9 @@
 //! Two link stations over a line, as laws about their definition. Each is the contract of a function that does nothing.
 ghost use Rattle.x25_line.specs.StationClaims.{Always, BothInOrder, BothHaveTheirLists, AreInWindow, NoFrmrSent, EachEventHandsOne};
-ghost use Rattle.x25_line.specs.StationRows.{PacketGoes, DamagedComesAgain, LostComesAgain};
+ghost use Rattle.x25_line.specs.StationRows.{PacketGoes, PacketsCross, LostComesAgain, DamagedComesAgain};
 
 use x25_frame::reads_what_is_spelled;
-use x25_link::follows_the_window;
+use x25_link::{follows_the_window, notes_what_changes};
 
 /// Two link stations, by the definition that a link meets call by call, joined by a line of octets that keeps order and may
 /// lose or visibly damage any frame, the link set up once: what holds after each list of events at either end.
@@ -17,6 +17,7 @@ pub fn stations_keep_order()
     ensures no_frmr { Always NoFrmrSent }
 {
     follows_the_window();
+    notes_what_changes();
     reads_what_is_spelled();
 }
 
@@ -25,11 +26,13 @@ pub fn each_event_hands_one()
     ensures { EachEventHandsOne }
 {}
 
-/// Worked rows: a packet is handed up and acknowledged, also where its frame is damaged or lost and goes again.
+/// Worked rows: a packet is handed up and acknowledged, also where one comes the other way at once, and where its frame is
+/// lost or damaged and goes again.
 pub fn packets_go()
     ensures goes { PacketGoes }
-    ensures damaged { DamagedComesAgain }
+    ensures cross { PacketsCross }
     ensures lost { LostComesAgain }
+    ensures damaged { DamagedComesAgain }
 {
     reads_what_is_spelled();
 }

@@ -1,4 +1,4 @@
-//! Two ends and a line between them that keeps order and may lose any frame.
+//! Two ends and a line between them that keeps order and may lose any frame: bare ends, and laws of two link stations.
 #![tactic(auto)]
 
 mod direction;
