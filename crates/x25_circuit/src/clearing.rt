@@ -3,6 +3,7 @@
 ghost use Rattle.std.specs.Prelude.{◌≡◌, ◌≢◌, ℕ, suc, ◌^◌, ◌-◌, ◌<◌, ◌≤◌, None, Some, [], ◌∷◌};
 ghost use Rattle.x25_circuit.specs.Circuit.{Settings};
 ghost use Rattle.x25_circuit.specs.Circuit.{Circuit as Channel};
+ghost use Rattle.x25_circuit.specs.Notices.{reset_done};
 ghost use Rattle.x25_circuit.specs.Table.{cause_at, diagnostic_in, clears_for, resets_for, unexpected, clears_to, resets_to, row_clear, row_clear_conf, row_reset, row_reset_conf, row_undecoded, undecoded, cause_of};
 ghost use Rattle.x25_circuit.specs.FitsCircuit.{FitsCircuit, room_of, clears_of, resets_of};
 ghost use Rattle.x25_circuit.specs.Replies.{Says, IsSendable, plain_owed};
@@ -125,6 +126,17 @@ impl Circuit {
         self.resets += 1;
     }
 
+    // This end's reset is done: it isn't confirmed, by whatever packet it was.
+    fn end_reset<'a>(&mut self) -> Reply<'a>
+        requires { resets_of self.old < 2 ^ 64 - 1 }
+        ensures next { (c : Settings) (x : Channel) → FitsCircuit c self.old x → FitsCircuit c self.new (resets_to x None (reset_done ∷ [])).next }
+        ensures says { Says result None (reset_done ∷ []) }
+        ensures range { IsSendable (plain_owed result.packet) }
+    {
+        self.be_reset();
+        Reply::tells(Notice::ResetDone)
+    }
+
     pub(crate) fn hear_clear<'a>(&mut self, cause: u8, diagnostic: u8) -> Reply<'a>
         requires { clears_of self.old < 2 ^ 64 - 1 }
         ensures next { (c : Settings) (x : Channel) → FitsCircuit c self.old x → FitsCircuit c self.new (row_clear x self.old.state cause diagnostic).next }
@@ -172,10 +184,7 @@ impl Circuit {
                     Notice::WasReset { cause, diagnostic },
                 )
             }
-            State::Resetting => {
-                self.be_reset();
-                Reply::tells(Notice::ResetDone)
-            }
+            State::Resetting => self.end_reset(),
             State::Clearing => Reply::nothing(),
             _ => self.unexpected(),
         }
@@ -189,10 +198,7 @@ impl Circuit {
     {
         match self.state {
             State::Open => self.reset_for(27),
-            State::Resetting => {
-                self.be_reset();
-                Reply::tells(Notice::ResetDone)
-            }
+            State::Resetting => self.end_reset(),
             State::Clearing => Reply::nothing(),
             _ => self.unexpected(),
         }
