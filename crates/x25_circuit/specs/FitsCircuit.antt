@@ -23,9 +23,12 @@ pub record FitsCircuit (c : Settings) (v : code.Circuit) (x : Circuit) : Type 0 
 abbrev pub room_of : code.Circuit → ℕ
 room_of v = v.transfer.partial.room
 
--- the octets so far of the message of which some packets came
-abbrev pub partial_of : code.Circuit → List ℕ
-partial_of v = v.transfer.partial.part.user
+-- the counts
+abbrev pub clears_of : code.Circuit → ℕ
+clears_of v = v.clears
+
+abbrev pub resets_of : code.Circuit → ℕ
+resets_of v = v.resets
 
 -- a call with a packet to send
 abbrev pub Sends : Settings → code.Circuit → Result Packet CircuitError → Outcome → Type 0

@@ -8,7 +8,7 @@ ghost use Rattle.x25_circuit.specs.Messages.{piece_of};
 ghost use Rattle.x25_circuit.specs.Notices.{deliveries};
 ghost use Rattle.x25_circuit.specs.Fits.{first_ground};
 ghost use Rattle.x25_circuit.specs.Table.{resets_for, unless, number_ground, hears_status, confirms, takes, status, row_open, row_data, answers};
-ghost use Rattle.x25_circuit.specs.FitsCircuit.{FitsCircuit, room_of, user_octets};
+ghost use Rattle.x25_circuit.specs.FitsCircuit.{FitsCircuit, room_of, user_octets, clears_of, resets_of};
 ghost use Rattle.x25_circuit.specs.Replies.{Says, IsSendable, plain_owed, plain_notices};
 
 use crate::circuit::Circuit;
@@ -182,8 +182,8 @@ impl Circuit {
     /// 70 alone, and only for a data packet for which `room` set no memory aside.
     pub fn packet<'a>(&mut self, packet: &Packet<'a>) -> Result<Reply<'a>, CircuitError>
         requires kind { HasChannel (plain packet.now) }
-        requires clears { self.old.clears < 2 ^ 64 - 1 }
-        requires resets { self.old.resets < 2 ^ 64 - 1 }
+        requires clears { clears_of self.old < 2 ^ 64 - 1 }
+        requires resets { resets_of self.old < 2 ^ 64 - 1 }
         ensures next { (c : Settings) (x : Channel) → FitsCircuit c self.old x → OnOk result (FitsCircuit c self.new (answers c x (plain packet.now)).next) }
         ensures says { (c : Settings) (x : Channel) → FitsCircuit c self.old x →
             IfOk result (λ reply. Says reply (answers c x (plain packet.now)).owed (answers c x (plain packet.now)).notices) }

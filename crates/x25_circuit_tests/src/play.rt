@@ -32,13 +32,15 @@ pub enum Event<'a> {
     Fill(usize),
     Forget,
     Zero,
+    /// Nothing happens. The text says how many octets of a message in part have come.
+    Joined,
     /// Nothing happens. The text says how many messages wait, clears and resets, and whether the circuit is free or open.
     Ask,
 }
 
 use Event::{
-    Accept, Ask, Call, Clear, Data, Fill, Forget, Interrupt, NotReady, Pull, Ready, Reset, Send,
-    Take, Zero,
+    Accept, Ask, Call, Clear, Data, Fill, Forget, Interrupt, Joined, NotReady, Pull, Ready, Reset,
+    Send, Take, Zero,
 };
 
 fn zeros(alloc: Global, count: usize) -> Result<Vec<u8>, AllocError> {
@@ -298,6 +300,10 @@ impl Player {
             Zero => {
                 self.circuit.zero();
                 self.ask()
+            }
+            Joined => {
+                let count = self.circuit.octets_joined();
+                Ok(format!(in self.alloc; "{count} joined")?)
             }
             Ask => self.ask(),
         }

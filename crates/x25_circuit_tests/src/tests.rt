@@ -1,6 +1,6 @@
 use crate::play::Event::{
-    Accept, Ask, Call, Clear, Data, Fill, Forget, Interrupt, NotReady, Pull, Ready, Reset, Send,
-    Take, Zero,
+    Accept, Ask, Call, Clear, Data, Fill, Forget, Interrupt, Joined, NotReady, Pull, Ready, Reset,
+    Send, Take, Zero,
 };
 use crate::play::{Event, Player};
 use std::alloc::Global;
@@ -191,6 +191,7 @@ fn packets_are_joined(rt: HostRuntime) -> Result<(), Fail> {
         &[
             (Data(0, 0, true, false, 128), "RR R=1"),
             (Data(1, 0, true, false, 0), "RR R=2"),
+            (Joined, "128 joined"),
             (Data(2, 0, false, false, 1), "message q=0 129, RR R=3"),
             (NotReady, "RNR R=3"),
             (Data(3, 0, false, true, 0), "message q=1 0, RNR R=4"),

@@ -5,7 +5,7 @@ pub returns-in-Open-clause-next : goal.returns-in-Open-clause-next
 returns-in-Open-clause-next c = λ d x fits. rw c.in-Open.is (c.be_reset.ensures.fits d x fits)
 
 pub returns-in-Resetting-clause-next : goal.returns-in-Resetting-clause-next
-returns-in-Resetting-clause-next c = λ d x fits. rw c.in-Resetting.is (c.be_reset-in-Resetting.ensures.fits d x fits)
+returns-in-Resetting-clause-next c = λ d x fits. rw c.in-Resetting.is (c.end_reset.ensures.next d x fits)
 
 pub returns-in_default : goal.returns-in_default
 returns-in_default c =

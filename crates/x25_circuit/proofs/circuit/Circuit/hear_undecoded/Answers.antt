@@ -1,6 +1,6 @@
 use Rattle.std.proofs.Common.{sym}
 use Rattle.x25_circuit.proofs.RowLemmas.{undecoded_clears}
-use Rattle.x25_circuit.proofs.circuit.Circuit.undecoded.Goals as goal
+use Rattle.x25_circuit.proofs.circuit.Circuit.hear_undecoded.Goals as goal
 
 pub returns-in-Open-clause-next : goal.returns-in-Open-clause-next
 returns-in-Open-clause-next c = λ d x fits. rw c.in-Open.is (c.reset_for.ensures.next d x fits)
