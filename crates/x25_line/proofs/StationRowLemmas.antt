@@ -2,17 +2,18 @@
 use Rattle.std.proofs.Common.{◌≡◌, ℕ, ◌<◌, List, [], ◌∷◌, Bool, true, false, Result, Ok, Err, arith, refl, sym, ap, ◌∙◌, subst}
 use Rattle.x25_bits.specs.declared.role.Role.{Role}
 use Rattle.x25_bits.specs.declared.role.Role.TheVariants.{Dte, Dce}
-use Rattle.x25_frame.specs.PlainFrame.{PlainFrame, info, rr}
+use Rattle.x25_frame.specs.PlainFrame.{PlainFrame, info, rr, disc}
 use Rattle.x25_frame.specs.Spelling.{spelling_of}
 use Rattle.x25_frame.specs.Reading.{frame_of}
 use Rattle.x25_frame.specs.ReadingLaw.{ReadsSpelled}
 use Rattle.x25_frame.specs.declared.error.FrameError.{FrameError}
 use Rattle.x25_frame.specs.declared.error.FrameError.TheVariants.{Short}
+use Rattle.x25_link.specs.declared.phase.Phase.TheVariants.{Down, Closed}
 use Rattle.x25_link.specs.Station.{Settings, pumped}
 use Rattle.x25_link.specs.MustSend.{other}
 use Rattle.x25_link.specs.Steps.{alone, closed_by, hears, is_idle}
-use Rattle.x25_line.specs.Stations.{Stations, Put, Deliver, T1, Event, Near, Far, after_step, acts, delivered, swapped, happens, run, start}
-use Rattle.x25_line.specs.StationRows.{dte, dce, IsAcrossFive, PacketGoes, PacketsCross, lost, LostComesAgain, damaged, DamagedComesAgain}
+use Rattle.x25_line.specs.Stations.{Stations, Put, Deliver, T1, Disconnect, Event, Near, Far, after_step, acts, delivered, swapped, happens, run, start}
+use Rattle.x25_line.specs.StationRows.{dte, dce, IsAcrossFive, PacketGoes, PacketsCross, lost, LostComesAgain, damaged, DamagedComesAgain, DisconnectEnds, AbandonEnds}
 
 -- the world once octets that read as this have come to the near end
 abbrev taken_as : Settings → Result PlainFrame FrameError → List ℕ → List (List ℕ) → Stations → Stations
@@ -63,6 +64,9 @@ module _ (reads : ReadsSpelled) where
 
   crossing_reads : frame_of Dce 128 (spelling_of Dce crossing_frame) ≡ Ok crossing_frame
   crossing_reads = reads Dce 128 crossing_frame _ (record { in_range = (omega arith, omega arith); carries = tt; within = omega arith; spelling = refl })
+
+  disc_reads : frame_of Dte 128 (spelling_of Dte (disc true)) ≡ Ok (disc true)
+  disc_reads = reads Dte 128 (disc true) _ (record { in_range = tt; carries = refl; within = tt; spelling = refl })
 
   ready_reads : (from : Role) (command : Bool) (nr : ℕ) (pf : Bool) → nr < 8 → frame_of from 128 (spelling_of from (rr command nr pf)) ≡ Ok (rr command nr pf)
   ready_reads from command nr pf low = reads from 128 (rr command nr pf) _ (record { in_range = low; carries = refl; within = tt; spelling = refl })
@@ -124,3 +128,19 @@ module _ (reads : ReadsSpelled) where
             (sym (ap (run dte dce (Far Deliver ∷ Near Deliver ∷ Far Deliver ∷ Near Deliver ∷ [])) passed ∙ poll_brings w refl v refl refl u refl refl t refl refl))
             (refl, refl),
       )
+
+  pub disconnect_ends : DisconnectEnds
+  unfolding pumped
+  disconnect_ends =
+      let w = happens dte dce (Near Disconnect) (happens dte dce (Near (Put (5 ∷ []))) start) in
+      let v = swapped (taken_as dce (Ok packet_frame) (spelling_of Dte packet_frame) (spelling_of Dte (disc true) ∷ []) (swapped w)) in
+      let u = swapped (told dce (disc true) (swapped v)) in
+      let first : happens dte dce (Far Deliver) w ≡ v = ap swapped (comes dce (Ok packet_frame) (spelling_of Dte packet_frame) (spelling_of Dte (disc true) ∷ []) (swapped w) packet_reads refl) in
+      let second : happens dte dce (Far Deliver) v ≡ u = ap swapped (comes dce (Ok (disc true)) (spelling_of Dte (disc true)) [] (swapped v) disc_reads refl) in
+      subst (λ (z : Stations). (z.near.station.phase ≡ Closed) × (z.far.up ≡ (5 ∷ []) ∷ []) × (z.far.station.phase ≡ Down))
+      (sym (ap (happens dte dce (Far Deliver)) first ∙ second))
+      (refl, refl, refl)
+
+pub abandon_ends : AbandonEnds
+unfolding pumped
+abandon_ends = (refl, refl, refl)

@@ -15,7 +15,7 @@ use Rattle.x25_link.specs.declared.phase.Reason.TheVariants.{Retries, Local, Cou
 use Rattle.x25_link.specs.declared.error.LinkError.{LinkError}
 use Rattle.x25_link.specs.Outgoing.{waits}
 use Rattle.x25_link.specs.Lists.{Lists, no_packets}
-use Rattle.x25_link.specs.NoteLaw.{TakeTells, DisconnectTells}
+use Rattle.x25_link.specs.NoteLaw.{Tells, TakeTells, TimerTells, DisconnectTells, AbandonTells}
 use Rattle.x25_link.specs.Station.{Settings, Station, is_up, lists_of}
 use Rattle.x25_link.specs.MustSend.{Step, other}
 use Rattle.x25_link.specs.Steps.{take_step, put_step, put_refusal, timer_step, timer_refusal, timer_runs, disconnect_step, disconnect_refusal, abandon_step, is_idle}
@@ -24,12 +24,12 @@ use Rattle.x25_link.specs.WindowLaw.{Follows, IsOut, sets_up, StationLaws}
 use Rattle.x25_line.specs.Line.{Line, moved, swapped as line_swapped}
 use Rattle.x25_line.specs.Line.Move.{HandsDown, Loses}
 use Rattle.x25_line.specs.InWindow.{Begins}
-use Rattle.x25_line.specs.Stations.{StationEnd, Stations, Act, Put, Deliver, T1, Disconnect, Abandon, Lose, Damage, Event, Near, Far, after_step, unless, delivered, replaced, is_visible, acts, swapped, happens, run, start}
-use Rattle.x25_line.specs.StationClaims.{AreJoined, Always, InOrder, BothInOrder, HasItsLists, BothHaveTheirLists, number_in, numbered_on, IsReached, at_start, near_moves, far_moves, AreInWindow, NoFrmrSent}
+use Rattle.x25_line.specs.Stations.{StationEnd, Stations, Act, Put, Deliver, T1, Disconnect, Abandon, Lose, Damage, Event, Near, Far, after_step, unless, delivered, replaced, is_visible, acts, swapped, happens, run, fresh_station, start}
+use Rattle.x25_line.specs.StationClaims.{AreJoined, Always, InOrder, BothInOrder, HasItsLists, BothHaveTheirLists, NotesItsEnd, BothNoteTheirEnds, number_in, numbered_on, IsReached, at_start, near_moves, far_moves, AreInWindow, NoFrmrSent}
 use Rattle.x25_line.proofs.Kept.{Kept, Way, Kept-moved, Kept-swapped, Way-acked, InWindow-from_Kept}
 use Rattle.x25_line.proofs.StationLines.{IsOrderly, AreOrderly, AreParting, taken_out, place_of, shows_lost, shows_damaged, orderly_lost, orderly_damaged, visible_reads}
 use Rattle.x25_line.proofs.StationSends.{AllWithin, within_push}
-use Rattle.x25_line.proofs.StationSteps.{AsUp, FitsEnd, Joint, Holds, J-stays, out_is_not_up, quiet_joint, parts_joint, ends_joint, read_joint, out_joint}
+use Rattle.x25_line.proofs.StationSteps.{AsUp, FitsEnd, Joint, Holds, J-stays, out_is_not_up, not_both, quiet_notes, quiet_joint, parts_joint, ends_joint, read_joint, out_joint}
 
 reached_swapped : (k j : ℕ) (l : Line (List ℕ)) → IsReached k j l → IsReached j k (line_swapped l)
 reached_swapped k j l at_start = at_start
@@ -56,17 +56,13 @@ orderly_sets_up (Ok (dm f)) h = refl
 orderly_sets_up (Ok (frmr f why)) h = refl
 orderly_sets_up (Err e) h = refl
 
-not_both : {A : Type 0} (b : Bool) → b ≡ true → b ≡ false → A
-not_both b e f = absurd (never (sym e ∙ f))
-  where
-    never : true ≡ false → ⊥
-    never e = cc
-
 -- the laws of a station that a run rests on
 pub record Laws : Type 0 where
   pub window : StationLaws
   pub take_tells : TakeTells
+  pub timer_tells : TimerTells
   pub disconnect_tells : DisconnectTells
+  pub abandon_tells : AbandonTells
 
 module _ (c d : Settings) (joined : AreJoined c d) (reads : ReadsSpelled) (laws : Laws) where
   -- ---- what comes
@@ -84,13 +80,13 @@ module _ (c d : Settings) (joined : AreJoined c d) (reads : ReadsSpelled) (laws 
       go : FitsEnd c w.near.station l.near → Holds c d (delivered c (o ∷ os) w)
       go (inl u) =
           let r = frame_of (other c.role) c.longest o in
-          read_joint c d joined reads w l h u r os (take_step c o w.near.station) orderly.0 orderly.1 shows
+          read_joint c d joined reads w l h u r os (take_step c o w.near.station) orderly.0 orderly.1 shows (laws.take_tells c o w.near.station)
           (laws.window.take c o w.near.station (record { up = u.up; sound = u.sound }) r refl)
       go (inr away) =
           let r = frame_of (other c.role) c.longest o in
           let s = w.near.station in
           let stays = laws.window.take_out c o s away.out (orderly_sets_up r orderly.0) in
-          out_joint c d joined reads w l h (number_in r) os (take_step c o s) orderly.1 shows stays ((laws.take_tells c o s).empty stays.quiet (out_is_not_up s.phase away.out) away.empty)
+          out_joint c d joined reads w l h (number_in r) os (take_step c o s) orderly.1 shows stays ((laws.take_tells c o s).empty stays.quiet (out_is_not_up s.phase away.out) away.empty) (out_is_not_up s.phase away.out)
 
   -- ---- what is handed down
 
@@ -98,7 +94,7 @@ module _ (c d : Settings) (joined : AreJoined c d) (reads : ReadsSpelled) (laws 
       → Holds c d (after_step c w w.back (packet ∷ []) (put_step c packet w.near.station))
   put_up w l packet h u short =
       let longest = joined.longest in
-      J-stays c d joined reads w l (moved (HandsDown packet) l) w.back (packet ∷ []) (hands_down packet) (put_step c packet w.near.station) h
+      J-stays c d joined reads w l (moved (HandsDown packet) l) w.back (packet ∷ []) (hands_down packet) (put_step c packet w.near.station) h u.up
       (record {
         reached = near_moves l (HandsDown packet) h.reached tt;
         kept = Kept-moved (HandsDown packet) l tt h.kept;
@@ -123,10 +119,10 @@ module _ (c d : Settings) (joined : AreJoined c d) (reads : ReadsSpelled) (laws 
 
   -- ---- timer T1
 
-  timer_by : (w : Stations) (l : Line (List ℕ)) → Joint c d w l → AsUp c w.near.station l.near → (b : Bool) (step : Step)
+  timer_by : (w : Stations) (l : Line (List ℕ)) → Joint c d w l → AsUp c w.near.station l.near → (b : Bool) (step : Step) → Tells w.near.station step
       → Follows (if b then None else Some Retries) c.window nothing w.near.station step → Holds c d (after_step c w w.back [] step)
-  timer_by w l h u true step follows = quiet_joint c d joined reads w l h u w.back h.back_orderly h.back nothing step refl (λ y k. k) follows
-  timer_by w l h u false step follows = ends_joint c d joined reads w l h w.back step Retries tt h.back h.back_orderly follows
+  timer_by w l h u true step tells follows = quiet_joint c d joined reads w l h u w.back h.back_orderly h.back nothing step refl (λ y k. k) follows
+  timer_by w l h u false step tells follows = ends_joint c d joined reads w l h u.up w.back step Retries tt h.back h.back_orderly tells follows
 
   out_timer : (p : Phase) (s : Station) → IsOut p → timer_runs p s ≡ false
   out_timer Down s out = refl
@@ -140,7 +136,7 @@ module _ (c d : Settings) (joined : AreJoined c d) (reads : ReadsSpelled) (laws 
       go : FitsEnd c w.near.station l.near → Holds c d (unless (timer_refusal w.near.station) w (after_step c w w.back [] (timer_step c w.near.station)))
       go (inl u) =
           holds_unless c d (timer_refusal w.near.station) w _ (l, h)
-          (timer_by w l h u (nat_lt w.near.station.tries c.retries) (timer_step c w.near.station) (laws.window.timer c w.near.station (record { up = u.up; sound = u.sound })))
+          (timer_by w l h u (nat_lt w.near.station.tries c.retries) (timer_step c w.near.station) (laws.timer_tells c w.near.station) (laws.window.timer c w.near.station (record { up = u.up; sound = u.sound })))
       go (inr away) = rw (out_timer w.near.station.phase w.near.station away.out) (l, h)
 
   -- ---- disconnect and abandon
@@ -150,19 +146,20 @@ module _ (c d : Settings) (joined : AreJoined c d) (reads : ReadsSpelled) (laws 
   disconnect_joint w l h = holds_unless c d (disconnect_refusal w.near.station.phase) w _ (l, h) (go h.near)
     where
       go : FitsEnd c w.near.station l.near → Holds c d (after_step c w w.back [] (disconnect_step c w.near.station))
-      go (inl u) = ends_joint c d joined reads w l h w.back (disconnect_step c w.near.station) Local tt h.back h.back_orderly (laws.window.disconnect c w.near.station (record { up = u.up; sound = u.sound }))
+      go (inl u) = ends_joint c d joined reads w l h u.up w.back (disconnect_step c w.near.station) Local tt h.back h.back_orderly (laws.disconnect_tells c w.near.station) (laws.window.disconnect c w.near.station (record { up = u.up; sound = u.sound }))
       go (inr away) =
           let s = w.near.station in
           let closes = laws.window.disconnect_out c s away.out in
           let empty = (laws.disconnect_tells c s).empty closes.quiet (out_is_not_up s.phase away.out) away.empty in
           parts_joint c d joined reads w l h l.back w.back (disconnect_step c w.near.station) h.kept h.reached h.back h.back_orderly
           (subst AreParting (sym closes.frames) tt) (record { out = subst IsOut (sym closes.phase) tt; empty = empty }) closes.packet
+          (quiet_notes c w w.back [] (disconnect_step c s) h.near_notes closes.quiet (ap is_up closes.phase ∙ sym (out_is_not_up s.phase away.out)))
 
   abandon_joint : (w : Stations) (l : Line (List ℕ)) → Joint c d w l → is_up w.near.station.phase ≡ true → Holds c d (after_step c w w.back [] (abandon_step c w.near.station))
   abandon_joint w l h up = go h.near
     where
       go : FitsEnd c w.near.station l.near → Holds c d (after_step c w w.back [] (abandon_step c w.near.station))
-      go (inl u) = ends_joint c d joined reads w l h w.back (abandon_step c w.near.station) Counts tt h.back h.back_orderly (laws.window.abandon c w.near.station (record { up = u.up; sound = u.sound }))
+      go (inl u) = ends_joint c d joined reads w l h u.up w.back (abandon_step c w.near.station) Counts tt h.back h.back_orderly (laws.abandon_tells c w.near.station) (laws.window.abandon c w.near.station (record { up = u.up; sound = u.sound }))
       go (inr away) = not_both (is_up w.near.station.phase) up (out_is_not_up w.near.station.phase away.out)
 
   -- ---- the line
@@ -187,6 +184,8 @@ module _ (c d : Settings) (joined : AreJoined c d) (reads : ReadsSpelled) (laws 
       far_up = h.far_up;
       near_within = h.near_within;
       far_within = h.far_within;
+      near_notes = h.near_notes;
+      far_notes = h.far_notes;
       no_frmr = h.no_frmr;
     },
   )
@@ -246,6 +245,8 @@ holds_swapped c d w holds =
         far_up = h.near_up;
         near_within = h.far_within;
         far_within = h.near_within;
+        near_notes = h.far_notes;
+        far_notes = h.near_notes;
         no_frmr = h.no_frmr;
       },
     )
@@ -258,6 +259,9 @@ event_joint c d joined reads laws (Far act) w h =
 run_joint : (c d : Settings) → AreJoined c d → ReadsSpelled → Laws → (es : List Event) (w : Stations) → Holds c d w → Holds c d (run c d es w)
 run_joint c d joined reads laws [] w h = h
 run_joint c d joined reads laws (e ∷ es) w h = run_joint c d joined reads laws es (happens c d e w) (event_joint c d joined reads laws e w h)
+
+fresh_notes : NotesItsEnd fresh_station
+fresh_notes = record { still_up = λ on. refl; left = λ off. not_both true refl off; once = refl }
 
 start_joint : (c d : Settings) → AreJoined c d → Holds c d start
 start_joint c d joined =
@@ -284,6 +288,8 @@ start_joint c d joined =
         far_up = refl;
         near_within = tt;
         far_within = tt;
+        near_notes = fresh_notes;
+        far_notes = fresh_notes;
         no_frmr = tt;
       },
     )
@@ -390,6 +396,11 @@ module _ (reads : ReadsSpelled) (laws : Laws) where
       let l = holds.0 in
       let h = holds.1 in
       (has_lists c w.near l.near h.near h.near_down h.near_up, has_lists d w.far l.far h.far h.far_down h.far_up)
+
+  pub keeps_notes : Always BothNoteTheirEnds
+  keeps_notes c d joined events =
+      let h = (reached c d joined events).1 in
+      (h.near_notes, h.far_notes)
 
   pub keeps_window : Always AreInWindow
   keeps_window c d joined events =

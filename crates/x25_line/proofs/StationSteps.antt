@@ -1,6 +1,6 @@
 -- What holds of two stations and the window machine behind the line, and that a step of the near end keeps it.
 use Rattle.std.proofs.Common.{◌≡◌, ℕ, ◌%◌, List, [], ◌∷◌, ◌++◌, ◌⊎◌, inl, inr, length, map, remove, Bool, true, false, Option, Some, None, Result, Ok, Err, refl, sym, ap, ◌∙◌, subst, append-nil}
-use Rattle.std.specs.Prelude.{option_to_list}
+use Rattle.std.specs.Prelude.{option_to_list, ◌||◌}
 use Rattle.std.proofs.lemmas.Bool.{le-leb}
 use Rattle.x25_bits.specs.declared.role.Role.{Role}
 use Rattle.x25_frame.specs.PlainFrame.{PlainFrame, info, rr, rnr, rej, sabm, disc, ua, dm, frmr}
@@ -14,7 +14,9 @@ use Rattle.x25_link.specs.declared.phase.Phase.{Phase}
 use Rattle.x25_link.specs.declared.phase.Phase.TheVariants.{Down, Waiting, Up, Closed}
 use Rattle.x25_link.specs.declared.phase.Reason.{Reason}
 use Rattle.x25_link.specs.declared.phase.Reason.TheVariants.{Retries, Disc, Dm, FrmrSent, FrmrGot, Reset, Local, Counts}
+use Rattle.x25_link.specs.declared.phase.Notes.{Notes}
 use Rattle.x25_link.specs.Lists.{no_packets}
+use Rattle.x25_link.specs.NoteLaw.{IsQuiet, Tells}
 use Rattle.x25_link.specs.Outgoing.{Outgoing, no_packet}
 use Rattle.x25_link.specs.Station.{Settings, Station, is_up, lists_of}
 use Rattle.x25_link.specs.MustSend.{Step, other}
@@ -23,7 +25,7 @@ use Rattle.x25_link.specs.WindowLaw.{IsSound, window_of, brought_by, after_input
 use Rattle.x25_line.specs.Line.{Line, MayTake, FrontMayBeTaken, arrived, front_arrived, takes_item}
 use Rattle.x25_line.specs.Line.Move.{Arrives, Loses}
 use Rattle.x25_line.specs.Stations.{Stations, after_step}
-use Rattle.x25_line.specs.StationClaims.{AreJoined, IsReached, near_moves, number_in, numbered_on, NoFrmr}
+use Rattle.x25_line.specs.StationClaims.{AreJoined, IsReached, near_moves, number_in, numbered_on, NotesItsEnd, NoFrmr}
 use Rattle.x25_line.proofs.Kept.{Kept, Way, Kept-moved, hears_valid}
 use Rattle.x25_line.proofs.StationLines.{shows_append, Front, front_of, carried_of, IsOrderly, AreOrderly, consed, numbered_append, orderly_append, AllGood, AreParting, no_frmr_append, good_no_frmr, parting_no_frmr, good_numbered, good_orderly, parting_numbered, parting_orderly}
 use Rattle.x25_line.proofs.StationSends.{AllWithin, runs_sent}
@@ -33,6 +35,12 @@ out_is_not_up Down h = refl
 out_is_not_up Waiting h = absurd h
 out_is_not_up Up h = absurd h
 out_is_not_up Closed h = refl
+
+pub not_both : {A : Type 0} (b : Bool) → b ≡ true → b ≡ false → A
+not_both b e f = absurd (never (sym e ∙ f))
+  where
+    never : true ≡ false → ⊥
+    never e = cc
 
 -- ---- what holds
 
@@ -65,10 +73,43 @@ pub record Joint (c d : Settings) (w : Stations) (l : Line (List ℕ)) : Type 0 
   pub far_up : w.far.up ≡ l.far.taken
   pub near_within : AllWithin d.longest l.near.given
   pub far_within : AllWithin c.longest l.far.given
+  pub near_notes : NotesItsEnd w.near
+  pub far_notes : NotesItsEnd w.far
   pub no_frmr : NoFrmr w.sent
 
 abbrev pub Holds : Settings → Settings → Stations → Type 0
 Holds c d w = (l : Line (List ℕ)) × Joint c d w l
+
+-- ---- what is noted
+
+-- a step that notes nothing, Up or out as before
+pub quiet_notes : (c : Settings) (w : Stations) (back down : List (List ℕ)) (step : Step) → NotesItsEnd w.near → IsQuiet step → is_up step.side.near.phase ≡ is_up w.near.station.phase
+    → NotesItsEnd (after_step c w back down step).near
+quiet_notes c w back down step h quiet same =
+    let reasons = ap (λ (n : Notes). w.near.reasons ++ option_to_list n.down) quiet ∙ append-nil w.near.reasons in
+    record {
+      still_up = λ on. reasons ∙ h.still_up (sym same ∙ on);
+      left = λ off. (let l = h.left (sym same ∙ off) in (l.0, reasons ∙ l.1));
+      once = ap (λ (n : Notes). w.near.came_up || n.up) quiet ∙ ap (λ (b : Bool). b || false) h.once;
+    }
+
+-- LinkUp is noted by a station that begins afresh
+not_afresh : (s : Station) (step : Step) → Tells s step → is_up step.side.near.phase ≡ false → step.notes.up ≡ false
+not_afresh s step tells off = go step.notes.up refl
+  where
+    go : (b : Bool) → step.notes.up ≡ b → step.notes.up ≡ false
+    go true e = not_both (is_up step.side.near.phase) (ap (λ (z : Station). is_up z.phase) (tells.fresh_up e)) off
+    go false e = e
+
+-- a step that leaves Up
+leaving_notes : (c : Settings) (w : Stations) (back : List (List ℕ)) (step : Step) (reason : Reason) → NotesItsEnd w.near → is_up w.near.station.phase ≡ true
+    → step.notes.down ≡ Some reason → step.notes.up ≡ false → is_up step.side.near.phase ≡ false → NotesItsEnd (after_step c w back [] step).near
+leaving_notes c w back step reason h up down not_up off =
+    record {
+      still_up = λ on. not_both (is_up step.side.near.phase) on off;
+      left = λ _. (reason, ap (λ (r : Option Reason). w.near.reasons ++ option_to_list r) down ∙ ap (λ (rs : List Reason). rs ++ reason ∷ []) (h.still_up up));
+      once = ap (λ (b : Bool). w.near.came_up || b) not_up ∙ ap (λ (b : Bool). b || false) h.once;
+    }
 
 -- ---- a step of the near end, the machine's line being `l` once what comes has come
 
@@ -116,10 +157,10 @@ module _ (c d : Settings) (joined : AreJoined c d) (reads : ReadsSpelled) where
       (subst (λ (r : Role). AreOrderly r d.longest (map (spelling_of c.role) fs)) (sym joined.near_role) (parting_orderly reads c.role d.longest fs parting))
 
   -- a station that stays Up: what comes has come, and then it sends
-  pub J-stays : (w : Stations) (l m : Line (List ℕ)) (back down : List (List ℕ)) (input : Input) (step : Step) → Joint c d w l
+  pub J-stays : (w : Stations) (l m : Line (List ℕ)) (back down : List (List ℕ)) (input : Input) (step : Step) → Joint c d w l → is_up w.near.station.phase ≡ true
       → Stage c d w l m back down step.packet (after_input input step.packet (window_of c.window w.near.station)) → Stays c.window input w.near.station step
       → Holds c d (after_step c w back down step)
-  J-stays w l m back down input step h g stays =
+  J-stays w l m back down input step h was_up g stays =
       let v : Window = after_input input step.packet (window_of c.window w.near.station) in
       let t = runs_sent c.window d.window d.longest m v g.reached g.kept g.near g.within (window_of c.window step.side.near) step.side.out stays.sends in
       let far = t.far ∙ g.far in (
@@ -140,6 +181,8 @@ module _ (c d : Settings) (joined : AreJoined c d) (reads : ReadsSpelled) where
           far_up = h.far_up ∙ ap (λ (e : End (List ℕ)). e.taken) (sym far);
           near_within = subst (AllWithin d.longest) (sym t.given ∙ ap (λ (z : Window). z.given) (sym t.near)) g.within;
           far_within = subst (λ (e : End (List ℕ)). AllWithin c.longest e.given) (sym far) h.far_within;
+          near_notes = quiet_notes c w back down step h.near_notes stays.quiet (stays.up ∙ sym was_up);
+          far_notes = h.far_notes;
           no_frmr = no_frmr_append w.sent step.side.out h.no_frmr (good_no_frmr d.longest step.side.out t.good);
         },
       )
@@ -221,7 +264,7 @@ module _ (c d : Settings) (joined : AreJoined c d) (reads : ReadsSpelled) where
   numbered_joint w l h u os f nr step front number follows stage =
       let valid = valid_at w l h u front.frame front.others front.is nr number in
       let stays : Stays c.window (receives f) w.near.station step = subst (λ (o : Option Reason). Follows o c.window (receives f) w.near.station step) valid follows in
-      J-stays w l (come l (is_some step.packet) front.frame front.others) os [] (receives f) step h (stage step.packet stays.hands_up) stays
+      J-stays w l (come l (is_some step.packet) front.frame front.others) os [] (receives f) step h u.up (stage step.packet stays.hands_up) stays
 
   -- ---- steps that bring nothing, and steps that leave
 
@@ -250,7 +293,7 @@ module _ (c d : Settings) (joined : AreJoined c d) (reads : ReadsSpelled) where
       → ((y : List ℕ) → MayHandUp input (Some y) (window_of c.window w.near.station) → ⊥)
       → Stays c.window input w.near.station step → Holds c d (after_step c w os [] step)
   quiet_joint w l h u os orderly shows input step same never stays =
-      J-stays w l l os [] input step h
+      J-stays w l l os [] input step h u.up
       (subst (λ (v : Window). Stage c d w l l os [] step.packet v) (sym same)
       (quiet_stage w l h u os orderly shows step.packet (no_packet_of input step.packet (window_of c.window w.near.station) never stays.hands_up))) stays
 
@@ -258,9 +301,9 @@ module _ (c d : Settings) (joined : AreJoined c d) (reads : ReadsSpelled) where
   pub parts_joint : (w : Stations) (l : Line (List ℕ)) → Joint c d w l → (gs : List (Frame (List ℕ))) (os : List (List ℕ)) (step : Step)
       → Kept (record { near = l.near; far = l.far; out = l.out; back = gs }) → IsReached c.window d.window (record { near = l.near; far = l.far; out = l.out; back = gs })
       → ShowAll (numbered_on (other c.role) c.longest os) gs → AreOrderly (other c.role) c.longest os
-      → AreParting step.side.out → IsAway step.side.near → step.packet ≡ None
+      → AreParting step.side.out → IsAway step.side.near → step.packet ≡ None → NotesItsEnd (after_step c w os [] step).near
       → Holds c d (after_step c w os [] step)
-  parts_joint w l h gs os step kept reached shows orderly parting away none = (
+  parts_joint w l h gs os step kept reached shows orderly parting away none notes = (
     record { near = l.near; far = l.far; out = l.out; back = gs },
     record {
       reached = reached;
@@ -277,6 +320,8 @@ module _ (c d : Settings) (joined : AreJoined c d) (reads : ReadsSpelled) where
       far_up = h.far_up;
       near_within = h.near_within;
       far_within = h.far_within;
+      near_notes = notes;
+      far_notes = h.far_notes;
       no_frmr = no_frmr_append w.sent step.side.out h.no_frmr (parting_no_frmr step.side.out parting);
     },
   )
@@ -315,12 +360,15 @@ module _ (c d : Settings) (joined : AreJoined c d) (reads : ReadsSpelled) where
   empty_lists : (o : Outgoing) (taken : List (List ℕ)) → o ≡ no_packet → taken ≡ [] → record { given = o.given; acked = o.acked; taken = taken } ≡ no_packets
   empty_lists o taken none nothing_taken = rw (none, nothing_taken) refl
 
-  pub ends_joint : (w : Stations) (l : Line (List ℕ)) → Joint c d w l → (os : List (List ℕ)) (step : Step) (reason : Reason) → Leaves reason
+  pub ends_joint : (w : Stations) (l : Line (List ℕ)) → Joint c d w l → is_up w.near.station.phase ≡ true → (os : List (List ℕ)) (step : Step) (reason : Reason) → Leaves reason
       → ShowAll (numbered_on (other c.role) c.longest os) l.back → AreOrderly (other c.role) c.longest os
-      → Ends reason step → Holds c d (after_step c w os [] step)
-  ends_joint w l h os step reason leaves shows orderly ends =
+      → Tells w.near.station step → Ends reason step → Holds c d (after_step c w os [] step)
+  ends_joint w l h up os step reason leaves shows orderly tells ends =
+      let out = last_out reason step.side.near.phase leaves ends.phase in
+      let off = out_is_not_up step.side.near.phase out in
       parts_joint w l h l.back os step h.kept h.reached shows orderly (last_parting reason step.side.out leaves ends.frames)
-      (record { out = last_out reason step.side.near.phase leaves ends.phase; empty = empty_lists step.side.near.outgoing step.side.near.taken ends.outgoing ends.taken }) ends.packet
+      (record { out = out; empty = empty_lists step.side.near.outgoing step.side.near.taken ends.outgoing ends.taken }) ends.packet
+      (leaving_notes c w os step reason h.near_notes up ends.noted (not_afresh w.near.station step tells off) off)
 
   -- ---- what comes, by what it reads as
 
@@ -339,31 +387,31 @@ module _ (c d : Settings) (joined : AreJoined c d) (reads : ReadsSpelled) where
 
   pub read_joint : (w : Stations) (l : Line (List ℕ)) → Joint c d w l → AsUp c w.near.station l.near → (r : Result PlainFrame FrameError) (os : List (List ℕ)) (step : Step)
       → IsOrderly r → AreOrderly (other c.role) c.longest os → ShowAll (consed (number_in r) (numbered_on (other c.role) c.longest os)) l.back
-      → Follows (ending_of r (window_of c.window w.near.station)) c.window (brought_by r) w.near.station step
+      → Tells w.near.station step → Follows (ending_of r (window_of c.window w.near.station)) c.window (brought_by r) w.near.station step
       → Holds c d (after_step c w os [] step)
-  read_joint w l h u (Ok (info ns nr p x)) os step good orderly shows follows =
+  read_joint w l h u (Ok (info ns nr p x)) os step good orderly shows tells follows =
       let front = front_of (info ns nr p x) (numbered_on (other c.role) c.longest os) l.back shows in
       numbered_joint w l h u os (info ns nr p x) nr step front front.shows.1 follows (info_stage w l h u os orderly front.frame front.others front.is front.rest_shows ns nr p x front.shows)
-  read_joint w l h u (Ok (rr command nr pf)) os step good orderly shows follows =
+  read_joint w l h u (Ok (rr command nr pf)) os step good orderly shows tells follows =
       let front = front_of (rr command nr pf) (numbered_on (other c.role) c.longest os) l.back shows in
       told_joint w l h u os (rr command nr pf) nr step orderly front front.shows.1 follows (λ packet. refl) (λ y k. k)
-  read_joint w l h u (Ok (rnr command nr pf)) os step good orderly shows follows =
+  read_joint w l h u (Ok (rnr command nr pf)) os step good orderly shows tells follows =
       let front = front_of (rnr command nr pf) (numbered_on (other c.role) c.longest os) l.back shows in
       told_joint w l h u os (rnr command nr pf) nr step orderly front front.shows.1 follows (λ packet. refl) (λ y k. k)
-  read_joint w l h u (Ok (rej command nr pf)) os step good orderly shows follows =
+  read_joint w l h u (Ok (rej command nr pf)) os step good orderly shows tells follows =
       let front = front_of (rej command nr pf) (numbered_on (other c.role) c.longest os) l.back shows in
       told_joint w l h u os (rej command nr pf) nr step orderly front front.shows.1 follows (λ packet. refl) (λ y k. k)
-  read_joint w l h u (Ok (sabm p)) os step good orderly shows follows = absurd good
-  read_joint w l h u (Ok (disc p)) os step good orderly shows follows = ends_joint w l h os step Disc tt shows orderly follows
-  read_joint w l h u (Ok (ua f)) os step good orderly shows follows = quiet_joint w l h u os orderly shows (receives (ua f)) step refl (λ y k. k) follows
-  read_joint w l h u (Ok (dm f)) os step good orderly shows follows = ends_joint w l h os step Dm tt shows orderly follows
-  read_joint w l h u (Ok (frmr f why)) os step good orderly shows follows = absurd good
-  read_joint w l h u (Err Short) os step good orderly shows follows = quiet_joint w l h u os orderly shows nothing step refl (λ y k. k) follows
-  read_joint w l h u (Err BadFcs) os step good orderly shows follows = quiet_joint w l h u os orderly shows nothing step refl (λ y k. k) follows
-  read_joint w l h u (Err BadAddress) os step good orderly shows follows = absurd good
-  read_joint w l h u (Err (Undefined control)) os step good orderly shows follows = absurd good
-  read_joint w l h u (Err (NoInfoAllowed control)) os step good orderly shows follows = absurd good
-  read_joint w l h u (Err TooLong) os step good orderly shows follows = absurd good
+  read_joint w l h u (Ok (sabm p)) os step good orderly shows tells follows = absurd good
+  read_joint w l h u (Ok (disc p)) os step good orderly shows tells follows = ends_joint w l h u.up os step Disc tt shows orderly tells follows
+  read_joint w l h u (Ok (ua f)) os step good orderly shows tells follows = quiet_joint w l h u os orderly shows (receives (ua f)) step refl (λ y k. k) follows
+  read_joint w l h u (Ok (dm f)) os step good orderly shows tells follows = ends_joint w l h u.up os step Dm tt shows orderly tells follows
+  read_joint w l h u (Ok (frmr f why)) os step good orderly shows tells follows = absurd good
+  read_joint w l h u (Err Short) os step good orderly shows tells follows = quiet_joint w l h u os orderly shows nothing step refl (λ y k. k) follows
+  read_joint w l h u (Err BadFcs) os step good orderly shows tells follows = quiet_joint w l h u os orderly shows nothing step refl (λ y k. k) follows
+  read_joint w l h u (Err BadAddress) os step good orderly shows tells follows = absurd good
+  read_joint w l h u (Err (Undefined control)) os step good orderly shows tells follows = absurd good
+  read_joint w l h u (Err (NoInfoAllowed control)) os step good orderly shows tells follows = absurd good
+  read_joint w l h u (Err TooLong) os step good orderly shows tells follows = absurd good
 
   -- ---- what comes to an end that is out
 
@@ -380,14 +428,16 @@ module _ (c d : Settings) (joined : AreJoined c d) (reads : ReadsSpelled) where
   declining_parting (frmr f why ∷ fs) h = absurd h
 
   pub out_joint : (w : Stations) (l : Line (List ℕ)) → Joint c d w l → (m : Option PlainFrame) (os : List (List ℕ)) (step : Step) → AreOrderly (other c.role) c.longest os
-      → ShowAll (consed m (numbered_on (other c.role) c.longest os)) l.back → StaysOut step → lists_of step.side.near ≡ no_packets
+      → ShowAll (consed m (numbered_on (other c.role) c.longest os)) l.back → StaysOut step → lists_of step.side.near ≡ no_packets → is_up w.near.station.phase ≡ false
       → Holds c d (after_step c w os [] step)
-  out_joint w l h None os step orderly shows stays empty =
+  out_joint w l h None os step orderly shows stays empty was_out =
       parts_joint w l h l.back os step h.kept h.reached shows orderly (declining_parting step.side.out stays.frames) (record { out = stays.out; empty = empty }) stays.packet
-  out_joint w l h (Some f) os step orderly shows stays empty =
+      (quiet_notes c w os [] step h.near_notes stays.quiet (out_is_not_up step.side.near.phase stays.out ∙ sym was_out))
+  out_joint w l h (Some f) os step orderly shows stays empty was_out =
       let front = front_of f (numbered_on (other c.role) c.longest os) l.back shows in
       let left : (List (Frame (List ℕ))) → Line (List ℕ) = λ bs. record { near = l.near; far = l.far; out = l.out; back = remove bs 0 } in
       parts_joint w l h front.others os step
       (subst (λ (bs : List (Frame (List ℕ))). Kept (left bs)) front.is (Kept-moved (Loses 0) l tt h.kept))
       (subst (λ (bs : List (Frame (List ℕ))). IsReached c.window d.window (left bs)) front.is (near_moves l (Loses 0) h.reached tt))
       front.rest_shows orderly (declining_parting step.side.out stays.frames) (record { out = stays.out; empty = empty }) stays.packet
+      (quiet_notes c w os [] step h.near_notes stays.quiet (out_is_not_up step.side.near.phase stays.out ∙ sym was_out))

@@ -5,6 +5,7 @@ use Rattle.x25_frame.specs.PlainFrame.{PlainFrame, info, rr, rnr, rej, frmr}
 use Rattle.x25_frame.specs.Reading.{frame_of}
 use Rattle.x25_frame.specs.declared.error.FrameError.{FrameError}
 use Rattle.x25_window.specs.Window.{End, fresh_end}
+use Rattle.x25_link.specs.declared.phase.Reason.{Reason}
 use Rattle.x25_link.specs.Lists.{no_packets}
 use Rattle.x25_link.specs.Station.{Settings, is_up, lists_of}
 use Rattle.x25_link.specs.MustSend.{other}
@@ -49,6 +50,15 @@ pub record HasItsLists (e : StationEnd) : Type 0 where
 
 abbrev pub BothHaveTheirLists : Settings → Settings → Stations → Type 0
 BothHaveTheirLists c d w = HasItsLists w.near × HasItsLists w.far
+
+-- an end that is Up has noted nothing, and any other LinkDown once; the link is set up once, so that none notes LinkUp
+pub record NotesItsEnd (e : StationEnd) : Type 0 where
+  pub still_up : is_up e.station.phase ≡ true → e.reasons ≡ []
+  pub left : is_up e.station.phase ≡ false → (reason : Reason) × (e.reasons ≡ reason ∷ [])
+  pub once : e.came_up ≡ false
+
+abbrev pub BothNoteTheirEnds : Settings → Settings → Stations → Type 0
+BothNoteTheirEnds c d w = NotesItsEnd w.near × NotesItsEnd w.far
 
 -- ---- the window
 

@@ -1,9 +1,10 @@
 -- Worked rows of two link stations over a line: packets move, and frames are lost and damaged.
 use Rattle.std.specs.Prelude.{◌≡◌, true, [], ◌∷◌}
 use Rattle.x25_bits.specs.declared.role.Role.TheVariants.{Dte, Dce}
+use Rattle.x25_link.specs.declared.phase.Phase.TheVariants.{Down, Closed}
 use Rattle.x25_link.specs.Station.{Settings}
 use Rattle.x25_link.specs.Steps.{is_idle}
-use Rattle.x25_line.specs.Stations.{Stations, Put, Deliver, T1, Lose, Damage, Near, Far, run, start}
+use Rattle.x25_line.specs.Stations.{Stations, Put, Deliver, T1, Disconnect, Abandon, Lose, Damage, Near, Far, run, start}
 
 -- the DTE is the near end
 abbrev pub dte : Settings
@@ -41,3 +42,15 @@ damaged = run dte dce (Near (Put (5 ∷ [])) ∷ Far (Damage 0 (1 ∷ 2 ∷ []))
 abbrev pub DamagedComesAgain : Type 0
 DamagedComesAgain =
     (damaged.out ≡ (1 ∷ 2 ∷ []) ∷ []) × IsAcrossFive (run dte dce (Near T1 ∷ Far Deliver ∷ Far Deliver ∷ Near Deliver ∷ Far Deliver ∷ Near Deliver ∷ []) damaged)
+
+-- `disconnect` sends DISC behind the packet, and the far end goes down
+abbrev pub DisconnectEnds : Type 0
+DisconnectEnds =
+    let w = run dte dce (Near (Put (5 ∷ [])) ∷ Near Disconnect ∷ Far Deliver ∷ Far Deliver ∷ []) start in
+    (w.near.station.phase ≡ Closed) × (w.far.up ≡ (5 ∷ []) ∷ []) × (w.far.station.phase ≡ Down)
+
+-- `abandon` sends nothing, and no packet is accepted after it
+abbrev pub AbandonEnds : Type 0
+AbandonEnds =
+    let w = run dte dce (Near Abandon ∷ Near (Put (5 ∷ [])) ∷ []) start in
+    (w.near.station.phase ≡ Down) × (w.out ≡ []) × (w.near.down ≡ [])

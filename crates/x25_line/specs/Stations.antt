@@ -1,19 +1,23 @@
 -- Two link stations joined by a line of octets that keeps order and may lose or visibly damage any frame (profile: the line).
 -- Each act is of the near end, or of the line to it. The far end's acts are those of the two ends swapped.
-use Rattle.std.specs.Prelude.{ℕ, zero, suc, nat_lt, nat_le, Bool, not, ◌||◌, if◌then◌else◌, List, [], ◌∷◌, ◌++◌, length, map, remove, Option, Some, None, option_to_list}
+use Rattle.std.specs.Prelude.{ℕ, zero, suc, nat_lt, nat_le, Bool, false, not, ◌||◌, if◌then◌else◌, List, [], ◌∷◌, ◌++◌, length, map, remove, Option, Some, None, option_to_list}
 use Rattle.x25_bits.specs.Sealed.{is_sealed}
 use Rattle.x25_frame.specs.PlainFrame.{PlainFrame}
 use Rattle.x25_frame.specs.Spelling.{spelling_of}
 use Rattle.x25_link.specs.declared.error.LinkError.{LinkError}
+use Rattle.x25_link.specs.declared.phase.Reason.{Reason}
 use Rattle.x25_link.specs.Station.{Settings, Station, is_up, fresh}
 use Rattle.x25_link.specs.MustSend.{Step}
 use Rattle.x25_link.specs.Steps.{take_step, put_step, put_refusal, timer_step, timer_refusal, disconnect_step, disconnect_refusal, abandon_step}
 
--- a station, and all packets that were handed down to it and that it handed up
+-- A station, all packets that were handed down to it and that it handed up, the reasons of each LinkDown that it noted, and
+-- whether it ever noted LinkUp.
 pub record StationEnd : Type 0 where
   pub station : Station
   pub down : List (List ℕ)
   pub up : List (List ℕ)
+  pub reasons : List Reason
+  pub came_up : Bool
 
 -- The ends; the octets on the line from the near end and on the line to it, front first; and all frames ever sent.
 pub record Stations : Type 0 where
@@ -31,7 +35,13 @@ swapped w = record { near = w.far; far = w.near; out = w.back; back = w.out; sen
 -- after a step of the near end: `back` is what is left on the line to it, and `down` what was handed down
 abbrev pub after_step : Settings → Stations → List (List ℕ) → List (List ℕ) → Step → Stations
 after_step c w back down step = record {
-  near = record { station = step.side.near; down = w.near.down ++ down; up = w.near.up ++ option_to_list step.packet };
+  near = record {
+    station = step.side.near;
+    down = w.near.down ++ down;
+    up = w.near.up ++ option_to_list step.packet;
+    reasons = w.near.reasons ++ option_to_list step.notes.down;
+    came_up = w.near.came_up || step.notes.up;
+  };
   far = w.far;
   out = w.out ++ map (spelling_of c.role) step.side.out;
   back = back;
@@ -100,7 +110,7 @@ run c d [] w = w
 run c d (e ∷ es) w = run c d es (happens c d e w)
 
 abbrev pub fresh_station : StationEnd
-fresh_station = record { station = fresh; down = []; up = [] }
+fresh_station = record { station = fresh; down = []; up = []; reasons = []; came_up = false }
 
 -- the link was just set up
 abbrev pub start : Stations

@@ -1,6 +1,6 @@
 //! Two link stations over a line, as laws about their definition. Each is the contract of a function that does nothing.
-ghost use Rattle.x25_line.specs.StationClaims.{Always, BothInOrder, BothHaveTheirLists, AreInWindow, NoFrmrSent, EachEventHandsOne};
-ghost use Rattle.x25_line.specs.StationRows.{PacketGoes, PacketsCross, LostComesAgain, DamagedComesAgain};
+ghost use Rattle.x25_line.specs.StationClaims.{Always, BothInOrder, BothHaveTheirLists, BothNoteTheirEnds, AreInWindow, NoFrmrSent, EachEventHandsOne};
+ghost use Rattle.x25_line.specs.StationRows.{PacketGoes, PacketsCross, LostComesAgain, DamagedComesAgain, DisconnectEnds, AbandonEnds};
 
 use x25_frame::reads_what_is_spelled;
 use x25_link::{follows_the_window, notes_what_changes};
@@ -9,10 +9,11 @@ use x25_link::{follows_the_window, notes_what_changes};
 /// lose or visibly damage any frame, the link set up once: what holds after each list of events at either end.
 ///
 /// What one end handed up is a beginning of what the other was handed down, and the same where the giver is idle. What an
-/// end counts as acknowledged was handed up. The window holds all along, and no FRMR is ever sent.
+/// end counts as acknowledged was handed up. The link never resets, the window holds all along, and no FRMR is ever sent.
 pub fn stations_keep_order()
     ensures order { Always BothInOrder }
     ensures lists { Always BothHaveTheirLists }
+    ensures notes { Always BothNoteTheirEnds }
     ensures window { Always AreInWindow }
     ensures no_frmr { Always NoFrmrSent }
 {
@@ -27,12 +28,14 @@ pub fn each_event_hands_one()
 {}
 
 /// Worked rows: a packet is handed up and acknowledged, also where one comes the other way at once, and where its frame is
-/// lost or damaged and goes again.
-pub fn packets_go()
+/// lost or damaged and goes again. An end leaves at `disconnect` and at `abandon`.
+pub fn stations_move()
     ensures goes { PacketGoes }
     ensures cross { PacketsCross }
     ensures lost { LostComesAgain }
     ensures damaged { DamagedComesAgain }
+    ensures disconnect { DisconnectEnds }
+    ensures abandon { AbandonEnds }
 {
     reads_what_is_spelled();
 }
