@@ -28,7 +28,7 @@ impl<'a> Model for HexDigits<'a> {
 
 impl<'a> HexDigits<'a> {
     /// The octets that these digits write: an even number of hexadecimal digits, of either case.
-    pub fn of(digits: &'a [u8]) -> Option<HexDigits<'a>>
+    pub(crate) fn of(digits: &'a [u8]) -> Option<HexDigits<'a>>
         ensures { result ≡ octets_of digits.now }
     {
         if digits.len() % 2 == 1 || !are_hex_digits(digits) {
