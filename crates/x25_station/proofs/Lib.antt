@@ -1,0 +1,4 @@
+pub mod PutLemmas
+pub mod EntryLemmas
+pub mod RequestLemmas
+pub mod JoinLemmas

@@ -1,0 +1,19 @@
+//! A station is its link and its packet layer joined, as laws about the definition: each is the contract of a function that does nothing.
+ghost use Rattle.x25_station.specs.JoinLaw.{RequestIsJoined, ReceiveIsJoined, QuietIsJoined, DownIsJoined, UpIsJoined};
+
+use x25_layer::calls_are_runs;
+use x25_link::notes_what_changes;
+
+/// Each step of a station is a step of its link, and then packets that are handed down to the link, each accepted. They are the packets
+/// that the same moves of the packet layer put over a link that keeps order, and the entries are those of the link's notes and of
+/// the layer's transcript.
+pub fn steps_are_joined()
+    ensures request { RequestIsJoined }
+    ensures receive { ReceiveIsJoined }
+    ensures quiet { QuietIsJoined }
+    ensures down { DownIsJoined }
+    ensures up { UpIsJoined }
+{
+    calls_are_runs();
+    notes_what_changes();
+}
