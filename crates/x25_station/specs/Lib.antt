@@ -6,3 +6,4 @@ pub mod Station
 pub mod Steps
 pub mod Told
 pub mod JoinLaw
+pub mod ReadLaw
