@@ -5,3 +5,5 @@ pub mod JoinLemmas
 pub mod FieldLemmas
 pub mod CircuitLemmas
 pub mod ReadLemmas
+pub mod KeepLemmas
+pub mod StationRows

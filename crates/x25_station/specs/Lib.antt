@@ -7,3 +7,4 @@ pub mod Steps
 pub mod Told
 pub mod JoinLaw
 pub mod ReadLaw
+pub mod KeepLaw

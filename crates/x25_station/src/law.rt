@@ -1,5 +1,6 @@
 //! A station is its link and its packet layer joined, as laws about the definition: each is the contract of a function that does nothing.
 ghost use Rattle.x25_station.specs.JoinLaw.{RequestIsJoined, ReceiveIsJoined, QuietIsJoined, DownIsJoined, UpIsJoined};
+ghost use Rattle.x25_station.specs.KeepLaw.{ConnectKeeps, TimerKeeps, CommandKeeps, ReceiveKeeps};
 ghost use Rattle.x25_station.specs.ReadLaw.{PutsAreReadable};
 
 use x25_layer::calls_are_runs;
@@ -26,4 +27,15 @@ pub fn puts_are_readable()
     ensures { PutsAreReadable }
 {
     reading_is_the_grammar();
+}
+
+/// What each step of a station keeps, whatever comes: at most 256 packets wait in the link, and the packet layer is at rest where the
+/// link isn't up.
+pub fn steps_keep_bounds()
+    ensures connect { ConnectKeeps }
+    ensures timer { TimerKeeps }
+    ensures command { CommandKeeps }
+    ensures receive { ReceiveKeeps }
+{
+    notes_what_changes();
 }

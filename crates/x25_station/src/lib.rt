@@ -9,5 +9,5 @@ mod law;
 pub use command::Cmd;
 pub use config::Cfg;
 pub use error::StationError;
-pub use law::{puts_are_readable, steps_are_joined};
+pub use law::{puts_are_readable, steps_are_joined, steps_keep_bounds};
 pub use x25_bits::Role;
