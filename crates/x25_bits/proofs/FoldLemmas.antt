@@ -1,11 +1,13 @@
 -- Eight octets at a time: what the shifts of the code leave in the register.
-use Rattle.std.proofs.Common.{ℕ, zero, suc, ◌+◌, ◌-◌, ◌*◌, ◌%◌, ◌^◌, ◌<◌, ◌≤◌, ◌≡◌, ◌∙◌, Bool, true, false, List, [], ◌∷◌, ◌++◌, length, refl, ap, sym, arith, bit_xor, length-drop}
+use Rattle.std.proofs.Common.{ℕ, zero, suc, ◌+◌, ◌-◌, ◌*◌, ◌/◌, ◌%◌, ◌^◌, ◌<◌, ◌≤◌, ◌≡◌, ◌∙◌, Bool, true, false, List, [], ◌∷◌, ◌++◌, length, refl, ap, sym, arith, bit_xor, length-drop}
 use Rattle.std.specs.Prelude.{replicate, slice_index, slice_index_or, take, drop}
-use Rattle.std.proofs.lemmas.Nat.{shl_whole, pow-add}
+use Rattle.std.proofs.lemmas.Nat.{pow_pos}
+use Rattle.std.proofs.Math.Nat.{pow-suc}
+use lib.Arith.{mod-mul}
 use Rattle.std.proofs.lemmas.List.Concat.{flat_map-cons}
 use Rattle.byteorder.specs.Endian.{little_from, little_number}
 use Rattle.byteorder.specs.Numbers.{little_from-cons, little_from-take}
-use Rattle.std.proofs.lemmas.List.{length-take-le, take-append-drop, get_or-take, get_or-drop, drop-drop, drop_all}
+use Rattle.std.proofs.lemmas.List.{length-take-le, take-append-drop, get_or-take, get_or-drop, drop-drop, drop_all, take_all}
 use Rattle.std.proofs.lemmas.Grind.{flat_map-append}
 use Rattle.x25_bits.specs.Fcs.{low_bits, bits_of, add, divisor}
 use Rattle.x25_bits.specs.Register.{stepped, fed}
@@ -80,25 +82,33 @@ fed_word held next word e =
     ∙ ap (λ k. add (fed register (replicate k false)) (fed none (low_bits 64 word))) (sym (length-low_bits 64 word))
     ∙ fed_apart register (low_bits 64 word) (length-fed none (low_bits 64 held) length-none)
 
--- the octets of a number
-pub bits_of_little : (n : ℕ) (octets : List ℕ) → length octets ≡ n → ((i : ℕ) → i < n → slice_index octets i < 256)
-    → (low_bits (8 * n) (little_number n octets) ≡ bits_of octets) × (little_number n octets < 2 ^ (8 * n))
+-- the first octets of a number
+pub bits_of_little : (c n : ℕ) (octets : List ℕ) → c ≤ n → n ≤ length octets → ((i : ℕ) → i < n → slice_index octets i < 256)
+    → low_bits (8 * c) (little_number n octets) ≡ bits_of (take c octets)
 unfolding low_bits
-bits_of_little zero [] h f = (refl, omega arith)
-bits_of_little zero (x ∷ octets) h f = absurd (omega arith)
-bits_of_little (suc n) [] h f = absurd (omega arith)
-bits_of_little (suc n) (x ∷ octets) h f =
-    let rest = bits_of_little n octets (omega arith) (λ i k. f (suc i) (omega arith)) in
+bits_of_little zero n octets l h f = refl
+bits_of_little (suc c) zero octets l h f = absurd (omega arith)
+bits_of_little (suc c) (suc n) [] l h f = absurd (omega arith)
+bits_of_little (suc c) (suc n) (x ∷ octets) l h f =
+    let rest = bits_of_little c n octets (omega arith) (omega arith) (λ i k. f (suc i) (omega arith)) in
     let moved_on : little_from 1 n (x ∷ octets) ≡ little_number n octets = little_from-cons 0 n x octets in
-    let eight : 8 * suc n ≡ 8 + 8 * n = omega arith in
+    let eight : 8 * suc c ≡ 8 + 8 * c = omega arith in
     let small : x < 2 ^ 8 = f 0 (omega arith) in
-    let around : x + 256 * little_from 1 n (x ∷ octets) ≡ x + little_number n octets * 2 ^ 8 = rw moved_on (omega arith) in (
-      rw (eight, around, low_bits-join 8 (8 * n) x (little_number n octets) small, rest.0) (sym (flat_map-cons (low_bits 8) x octets)),
-      rw (eight, around, pow-add 2 8 (8 * n)) (bound x (little_number n octets) (2 ^ (8 * n)) small rest.1),
-    )
-  where
-    bound : (x m p : ℕ) → x < 256 → m < p → x + m * 256 < 256 * p
-    bound x m p h k = omega arith
+    let around : x + 256 * little_from 1 n (x ∷ octets) ≡ x + little_number n octets * 2 ^ 8 = rw moved_on (omega arith) in
+    rw (eight, around, low_bits-join 8 (8 * c) x (little_number n octets) small, rest) (sym (flat_map-cons (low_bits 8) x (take c octets)))
+
+halves : (r n a : ℕ) → r ≡ a * 2 + n % 2 → (r % 2 ≡ n % 2) × (r / 2 ≡ a)
+halves r n a e = (omega arith, omega arith)
+
+-- what is above the bits doesn't count
+low_bits-mod : (k n : ℕ) → low_bits k (n % 2 ^ k) ≡ low_bits k n
+unfolding low_bits
+low_bits-mod zero n = refl
+low_bits-mod (suc k) n =
+    let some : 0 < 2 ^ k = pow_pos k in
+    let apart : n % 2 ^ suc k ≡ n / 2 % 2 ^ k * 2 + n % 2 = ap (λ p. n % p) (pow-suc 2 k) ∙ mod-mul n {m = 2 ^ k} {c = 2} (omega arith) (omega arith) in
+    let parts = halves (n % 2 ^ suc k) n (n / 2 % 2 ^ k) apart in
+    rw (parts.0, parts.1, low_bits-mod k (n / 2)) refl
 
 abbrev pub ones : List Bool
 ones = low_bits 16 65535
@@ -119,30 +129,28 @@ starts_leave (suc (suc (suc (suc (suc (suc zero)))))) h = refl
 starts_leave (suc (suc (suc (suc (suc (suc (suc zero))))))) h = refl
 starts_leave (suc (suc (suc (suc (suc (suc (suc (suc c)))))))) h = absurd (omega arith)
 
-pub begun_empty : (octets : List ℕ) → length octets ≡ 0 → fed none (low_bits 64 17519284025447940096) ≡ fed ones (bits_of octets)
+pub begun_empty : (octets : List ℕ) → fed none (low_bits 64 17519284025447940096) ≡ fed ones (bits_of (take 0 octets))
 unfolding fed
-begun_empty [] h = starts_leave 0 (omega arith)
-begun_empty (x ∷ octets) h = absurd (omega arith)
+begun_empty octets = starts_leave 0 (omega arith)
 
-pub begun_is : (octets : List ℕ) (word : ℕ) → length octets < 8 → ((i : ℕ) → slice_index octets i < 256) → word ≡ little_number (length octets) octets
-    → fed none (low_bits 64 (bit_xor (slice_index_or starts (length octets) 0) (word * 2 ^ (64 - 8 * length octets) % 2 ^ 64))) ≡ fed ones (bits_of octets)
-begun_is octets word h f e =
-    let c = length octets in
+-- the first octets of a number behind the start
+pub begun_is : (octets : List ℕ) (c n word : ℕ) → c < 8 → c ≤ n → n ≤ length octets → ((i : ℕ) → slice_index octets i < 256) → word ≡ little_number n octets
+    → fed none (low_bits 64 (bit_xor (slice_index_or starts c 0) (word * 2 ^ (64 - 8 * c) % 2 ^ 64))) ≡ fed ones (bits_of (take c octets))
+begun_is octets c n word h within long f e =
     let j = 64 - 8 * c in
+    let first = bits_of (take c octets) in
     let start = slice_index_or starts c 0 in
-    let held = bits_of_little c octets refl (λ i k. f i) in
-    let small : word < 2 ^ (8 * c) = rw e held.1 in
-    let whole : word * 2 ^ j % 2 ^ 64 ≡ word * 2 ^ j = shl_whole word (8 * c) j 64 small (omega arith) in
     let all : 64 ≡ j + 8 * c = omega arith in
-    let bits : low_bits 64 (word * 2 ^ j) ≡ replicate j false ++ bits_of octets =
-    ap (λ k. low_bits k (word * 2 ^ j)) all ∙ low_bits-left j (8 * c) word ∙ ap (λ m. replicate j false ++ m) (ap (low_bits (8 * c)) e ∙ held.0) in
-    let moved_in : fed none (low_bits 64 (word * 2 ^ j % 2 ^ 64)) ≡ fed none (bits_of octets) =
-    ap (λ n. fed none (low_bits 64 n)) whole ∙ ap (fed none) bits ∙ fed-append none (replicate j false) (bits_of octets) ∙ ap (λ r. fed r (bits_of octets)) (fed_none j) in
-    let size : 8 * c ≡ length (bits_of octets) = sym (length-low_bits (8 * c) (little_number c octets)) ∙ ap length held.0 in
+    let held : low_bits (8 * c) word ≡ first = ap (low_bits (8 * c)) e ∙ bits_of_little c n octets within long (λ i k. f i) in
+    let bits : low_bits 64 (word * 2 ^ j) ≡ replicate j false ++ first =
+    ap (λ k. low_bits k (word * 2 ^ j)) all ∙ low_bits-left j (8 * c) word ∙ ap (λ m. replicate j false ++ m) held in
+    let moved_in : fed none (low_bits 64 (word * 2 ^ j % 2 ^ 64)) ≡ fed none first =
+    ap (fed none) (low_bits-mod 64 (word * 2 ^ j) ∙ bits) ∙ fed-append none (replicate j false) first ∙ ap (λ r. fed r first) (fed_none j) in
+    let size : 8 * c ≡ length first = sym (length-low_bits (8 * c) word) ∙ ap length held in
     sum_leaves start (word * 2 ^ j % 2 ^ 64)
     ∙ ap (add (fed none (low_bits 64 start))) moved_in
-    ∙ ap (λ r. add r (fed none (bits_of octets))) (starts_leave c h ∙ ap (λ k. fed ones (replicate k false)) size)
-    ∙ fed_apart ones (bits_of octets) (length-low_bits 16 65535)
+    ∙ ap (λ r. add r (fed none first)) (starts_leave c h ∙ ap (λ k. fed ones (replicate k false)) size)
+    ∙ fed_apart ones first (length-low_bits 16 65535)
 
 -- the next eight octets
 pub word_bits : (octets : List ℕ) (at word : ℕ) → at + 8 ≤ length octets → ((i : ℕ) → slice_index octets i < 256) → word ≡ little_number 8 (drop at octets)
@@ -152,10 +160,11 @@ word_bits octets at word h f e =
     let first = take 8 rest in
     let long : length first ≡ 8 = length-take-le 8 rest (rw length-drop (omega arith)) in
     let same_number : little_number 8 rest ≡ little_number 8 first = sym (little_from-take 0 8 8 rest (omega arith)) in
-    let bits = bits_of_little 8 first long (λ i k. rw (get_or-take 8 rest i 0 k, get_or-drop at octets i 0) (f (at + i))) in
+    let bits : low_bits 64 (little_number 8 first) ≡ bits_of first =
+    bits_of_little 8 8 first (omega arith) (omega arith) (λ i k. rw (get_or-take 8 rest i 0 k, get_or-drop at octets i 0) (f (at + i))) ∙ ap bits_of (take_all 8 first (omega arith)) in
     ap bits_of (sym (take-append-drop 8 rest) ∙ ap (λ x. first ++ x) (drop-drop 8 at octets))
     ∙ flat_map-append (low_bits 8) first (drop (at + 8) octets)
-    ∙ ap (λ x. x ++ bits_of (drop (at + 8) octets)) (sym bits.0 ∙ ap (low_bits 64) (sym same_number ∙ sym e))
+    ∙ ap (λ x. x ++ bits_of (drop (at + 8) octets)) (sym bits ∙ ap (low_bits 64) (sym same_number ∙ sym e))
 
 -- a step of the loop
 pub fed_next_word : (held next word i : ℕ) (rest : List ℕ) → 8 * i + 8 ≤ length rest → ((j : ℕ) → slice_index rest j < 256)

@@ -1,5 +1,5 @@
 //! The frame check sequence (FCS) of a frame, ITU-T X.25 (10/96), section 2.2.7.
-ghost use Rattle.std.specs.Prelude.{◌≡◌, ◌+◌, ◌/◌, ◌^◌, ◌<◌, ◌≤◌, ◌++◌, ◌↔◌, false, length, replicate, IsTrue, IsOk, OnOk, OnErr, vec_len, vec_capacity};
+ghost use Rattle.std.specs.Prelude.{◌≡◌, ◌+◌, ◌/◌, ◌^◌, ◌<◌, ◌≤◌, ◌++◌, ◌↔◌, false, length, replicate, take, IsTrue, IsOk, OnOk, OnErr, vec_len, vec_capacity};
 ghost use Rattle.std.specs.Vec.{VecUnchanged};
 ghost use Rattle.x25_bits.specs.Fcs.{bits_of, fcs_of, low_bits};
 ghost use Rattle.x25_bits.specs.Register.{fed};
@@ -55,25 +55,32 @@ static STARTS: [u64; 8] = [
     0x3088_0000_0000_0000,
 ];
 
-/// Eight octets that leave what the first octets leave in a register of ones. They are fewer than eight.
+/// Eight octets that leave what the first `count` octets leave in a register of ones. They are fewer than eight.
 #[inline]
-fn begun(octets: &[u8]) -> u64
-    requires { length octets.now < 8 }
-    ensures { fed (low_bits 16 0) (low_bits 64 result) ≡ fed (low_bits 16 65535) (bits_of octets.now) }
+fn begun(octets: &[u8], count: usize) -> u64
+    requires few { count < 8 }
+    requires within { count ≤ length octets.now }
+    ensures { fed (low_bits 16 0) (low_bits 64 result) ≡ fed (low_bits 16 65535) (bits_of (take count octets.now)) }
 {
-    let count = octets.len();
     if count == 0 {
         return STARTS[0];
     }
-    STARTS[count] ^ (LittleEndian::read_uint(octets, count) << (64 - 8 * count as u32))
+    // What a word holds behind these octets is shifted out.
+    let word = if octets.len() < 8 {
+        LittleEndian::read_uint(octets, count)
+    } else {
+        LittleEndian::read_u64(octets)
+    };
+    STARTS[count] ^ (word << (64 - 8 * count as u32))
 }
 
 /// The frame check sequence of the octets.
 pub fn fcs(octets: &[u8]) -> u16
     ensures { result ≡ fcs_of octets.now }
 {
-    let (first, rest) = octets.split_at(octets.len() % 8);
-    let mut held = begun(first);
+    let count = octets.len() % 8;
+    let mut held = begun(octets, count);
+    let (_, rest) = octets.split_at(count);
     for eight in 0..rest.len() / 8 {
         held = folded(held) ^ LittleEndian::read_u64(&rest[8 * eight..]);
     }

@@ -1,8 +1,9 @@
 -- What a circuit's variables stand for after a small change.
-use Rattle.std.proofs.Common.{◌≡◌, ℕ, ◌+◌, Bool, true, false, IsTrue, if◌then◌else◌, List, length, refl, sym, ap, subst, ◌∙◌, ◌==◌, ◌%◌, nat_le, Option, Some, None}
+use Rattle.std.proofs.Common.{◌≡◌, ℕ, ◌+◌, Bool, true, false, IsTrue, if◌then◌else◌, List, [], length, refl, sym, ap, subst, ◌∙◌, ◌==◌, ◌%◌, nat_le, Option, Some, None}
 use Rattle.x25_window.specs.Modulo.{resolved}
 use Rattle.x25_window.specs.Receiving.{FitsTaken}
 use Rattle.x25_window.specs.declared.receiver.Receiver.{Receiver}
+use Rattle.x25_packet.specs.Facilities.{IsFacilityField}
 use Rattle.x25_circuit.specs.declared.circuit.Circuit as code
 use Rattle.x25_circuit.specs.declared.transfer.Transfer.{Transfer}
 use Rattle.x25_circuit.specs.Messages.{Piece, piece_of, piece_ground, ground_of, Partial, no_part, joining, wholes}
@@ -77,3 +78,7 @@ pub ground_passed : (size : ℕ) (t : Talk) (ps pr : ℕ) (piece : Piece)
     → (if ps == length t.taken % 8 then piece_ground size (joining no_part t.taken) piece else Some 1) ≡ None
     → data_ground size t ps pr piece ≡ number_ground t pr
 ground_passed size t ps pr piece e = ap (λ (g : Option ℕ). if nat_le (resolved t.acked pr) (length t.sent) then g else Some 2) e
+
+-- no facilities are a facility field
+pub no_field : IsFacilityField []
+no_field = (record { packet_size = None; window_size = None }, record { sizes = tt; windows = tt }, refl)

@@ -4,12 +4,9 @@ use Rattle.x25_packet.specs.declared.packet.Packet.{Packet}
 use Rattle.x25_packet.specs.PlainPacket.{PlainPacket, plain, user_data}
 use Rattle.x25_circuit.specs.declared.circuit.Circuit as code
 use Rattle.x25_circuit.specs.declared.error.CircuitError.{CircuitError}
-use Rattle.x25_circuit.specs.declared.notice.Reply.{Reply}
 use Rattle.x25_circuit.specs.Circuit.{Settings, Circuit}
 use Rattle.x25_circuit.specs.Fits.{FitsTalk}
-use Rattle.x25_circuit.specs.Table.{Answer}
 use Rattle.x25_circuit.specs.Calls.{Outcome, Done, Refused}
-use Rattle.x25_circuit.specs.Replies.{Says}
 
 pub record FitsCircuit (c : Settings) (v : code.Circuit) (x : Circuit) : Type 0 where
   pub role : v.role ≡ c.role
@@ -26,10 +23,12 @@ pub record FitsCircuit (c : Settings) (v : code.Circuit) (x : Circuit) : Type 0 
 abbrev pub room_of : code.Circuit → ℕ
 room_of v = v.transfer.partial.room
 
--- the circuit and the reply are the answer of the table
-pub record IsAnswer (c : Settings) (v : code.Circuit) (reply : Reply) (a : Answer) : Type 0 where
-  pub next : FitsCircuit c v a.next
-  pub says : Says reply a.owed a.notices
+-- the counts
+abbrev pub clears_of : code.Circuit → ℕ
+clears_of v = v.clears
+
+abbrev pub resets_of : code.Circuit → ℕ
+resets_of v = v.resets
 
 -- a call with a packet to send
 abbrev pub Sends : Settings → code.Circuit → Result Packet CircuitError → Outcome → Type 0

@@ -2,6 +2,7 @@
 use Rattle.std.specs.Prelude.{◌≡◌, Bool, true, false, List, [], ◌∷◌, Option, Some, None}
 use Rattle.x25_packet.specs.declared.packet.Packet.{Packet}
 use Rattle.x25_packet.specs.PlainPacket.{PlainPacket, plain}
+use Rattle.x25_packet.specs.Spelling.{IsInRange}
 use Rattle.x25_circuit.specs.declared.notice.Notice.{Notice}
 use Rattle.x25_circuit.specs.declared.notice.Notice.TheVariants as code
 use Rattle.x25_circuit.specs.declared.notice.Reply.{Reply}
@@ -31,6 +32,11 @@ notices_of false notice = plain_notices notice
 abbrev pub plain_owed : Option Packet → Option PlainPacket
 plain_owed None = None
 plain_owed (Some packet) = Some (plain packet)
+
+-- the packet, where there is one, can be spelled
+abbrev pub IsSendable : Option PlainPacket → Type 0
+IsSendable None = Unit {0}
+IsSendable (Some packet) = IsInRange 16 packet
 
 -- the reply says these
 pub record Says (reply : Reply) (packet : Option PlainPacket) (told : List PlainNotice) : Type 0 where

@@ -1,6 +1,8 @@
 //! The user's calls that set up and clear. ITU-T X.25 (10/96), sections 4.1.2, 4.1.4 and 4.1.7.
-ghost use Rattle.std.specs.Prelude.{◌≡◌, ◌≤◌, OnErr, IfSome, IfNone, true, false};
-ghost use Rattle.x25_packet.specs.Digits.{digits_of_text};
+ghost use Rattle.std.specs.Prelude.{◌≡◌, ◌≤◌, OnErr, IfSome, IfNone, true, false, IfOk};
+ghost use Rattle.x25_packet.specs.PlainPacket.{plain};
+ghost use Rattle.x25_packet.specs.Spelling.{IsInRange};
+ghost use Rattle.x25_packet.specs.Digits.{IsAddress, digits_of_text};
 ghost use Rattle.x25_circuit.specs.declared.state.State.TheVariants.{Free};
 ghost use Rattle.x25_circuit.specs.Circuit.{Settings};
 ghost use Rattle.x25_circuit.specs.Circuit.{Circuit as Channel};
@@ -16,6 +18,7 @@ use x25_packet::{CALL_OCTETS, Digits, Packet};
 fn address<'a>(text: &'a str) -> Option<Digits<'a>>
     ensures some { IfSome result (λ digits. is_address_text text.now ≡ true) }
     ensures digits { IfSome result (λ digits. digits ≡ digits_of_text text.now) }
+    ensures address { IfSome result IsAddress }
     ensures none { IfNone result (is_address_text text.now ≡ false) }
 {
     Digits::of(text)
@@ -32,6 +35,7 @@ impl Circuit {
         user: &'a [u8],
     ) -> Result<Packet<'a>, CircuitError>
         ensures outcome { (c : Settings) (x : Channel) → FitsCircuit c self.old x → Sends c self.new result (outcome c x (Calls called.now calling.now user.now)) }
+        ensures range { IfOk result (λ packet. IsInRange 16 (plain packet)) }
         ensures room { room_of self.old ≤ room_of self.new }
         ensures unchanged { OnErr result (self.new ≡ self.old) }
     {
@@ -49,6 +53,7 @@ impl Circuit {
         user: &'a [u8],
     ) -> Result<Packet<'a>, CircuitError>
         ensures outcome { (c : Settings) (x : Channel) → FitsCircuit c self.old x → Sends c self.new result (call_in x Free called.now calling.now user.now) }
+        ensures range { IfOk result (λ packet. IsInRange 16 (plain packet)) }
         ensures room { room_of self.old ≤ room_of self.new }
         ensures unchanged { OnErr result (self.new ≡ self.old) }
     {
@@ -76,6 +81,7 @@ impl Circuit {
     /// 30 WrongState where no call came.
     pub fn accept<'a>(&mut self) -> Result<Packet<'a>, CircuitError>
         ensures outcome { (c : Settings) (x : Channel) → FitsCircuit c self.old x → Sends c self.new result (outcome c x Accepts) }
+        ensures range { IfOk result (λ packet. IsInRange 16 (plain packet)) }
         ensures room { room_of self.old ≤ room_of self.new }
         ensures unchanged { OnErr result (self.new ≡ self.old) }
     {
@@ -96,6 +102,7 @@ impl Circuit {
     /// 30 WrongState in p1 and where this end's CLEAR isn't confirmed yet.
     pub fn clear<'a>(&mut self) -> Result<Packet<'a>, CircuitError>
         ensures outcome { (c : Settings) (x : Channel) → FitsCircuit c self.old x → Sends c self.new result (outcome c x Clears) }
+        ensures range { IfOk result (λ packet. IsInRange 16 (plain packet)) }
         ensures room { room_of self.old ≤ room_of self.new }
         ensures unchanged { OnErr result (self.new ≡ self.old) }
     {

@@ -1,5 +1,6 @@
 ghost use Rattle.std.specs.Prelude.{◌≡◌, ℕ, ◌<◌, ◌≤◌, length, IfOk, IfErr, OnOk, OnErr};
 ghost use Rattle.x25_circuit.specs.declared.state.State.{State};
+ghost use Rattle.x25_circuit.specs.Messages.{no_part, joining};
 ghost use Rattle.x25_circuit.specs.Circuit.{Settings, begun, forgotten, zeroed, is_free, is_open, waits, usual, silent};
 ghost use Rattle.x25_circuit.specs.Circuit.{Circuit as Channel};
 
@@ -27,7 +28,7 @@ pub struct Circuit {
 }
 
 impl Circuit {
-    ghost use Rattle.x25_circuit.specs.FitsCircuit.{FitsCircuit, room_of};
+    ghost use Rattle.x25_circuit.specs.FitsCircuit.{FitsCircuit, room_of, clears_of, resets_of};
 
     /// A channel that was never used: p1, with window 2 and packets of at most 128 octets in both directions.
     ///
@@ -52,8 +53,8 @@ impl Circuit {
     pub fn counts(&self) -> (u64, u64)
         ensures clears { (c : Settings) (x : Channel) → FitsCircuit c self.now x → result.0 ≡ x.clears }
         ensures resets { (c : Settings) (x : Channel) → FitsCircuit c self.now x → result.1 ≡ x.resets }
-        ensures clears_held { result.0 ≡ self.now.clears }
-        ensures resets_held { result.1 ≡ self.now.resets }
+        ensures clears_held { result.0 ≡ clears_of self.now }
+        ensures resets_held { result.1 ≡ resets_of self.now }
     {
         (self.clears, self.resets)
     }
@@ -89,12 +90,20 @@ impl Circuit {
         self.state == State::Open
     }
 
-    /// How many messages wait, at most 8.
+    /// How many messages wait, at most 8. Each has at most 65,535 octets.
     pub fn waits(&self) -> usize
         ensures value { (c : Settings) (x : Channel) → FitsCircuit c self.now x → result ≡ waits x }
         ensures few { result ≤ 8 }
     {
         self.transfer.queue.len()
+    }
+
+    /// How many octets have come of the message of which some packets came, at most 65,535; 0 where there is none.
+    pub fn octets_joined(&self) -> usize
+        ensures value { (c : Settings) (x : Channel) → FitsCircuit c self.now x → result ≡ length (joining no_part x.talk.taken).user }
+        ensures short { result ≤ 65535 }
+    {
+        self.transfer.partial.len()
     }
 
     /// Sets memory aside for one `packet` with at most `count` octets of user data, or one `undecoded`.

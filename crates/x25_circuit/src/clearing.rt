@@ -3,9 +3,10 @@
 ghost use Rattle.std.specs.Prelude.{◌≡◌, ◌≢◌, ℕ, suc, ◌^◌, ◌-◌, ◌<◌, ◌≤◌, None, Some, [], ◌∷◌};
 ghost use Rattle.x25_circuit.specs.Circuit.{Settings};
 ghost use Rattle.x25_circuit.specs.Circuit.{Circuit as Channel};
-ghost use Rattle.x25_circuit.specs.Table.{cause_at, diagnostic_in, clears_for, resets_for, unexpected, clears_to, resets_to, row_clear, row_clear_conf, row_reset, row_reset_conf, row_undecoded, cause_of};
-ghost use Rattle.x25_circuit.specs.FitsCircuit.{FitsCircuit, room_of};
-ghost use Rattle.x25_circuit.specs.Replies.{Says};
+ghost use Rattle.x25_circuit.specs.Notices.{reset_done};
+ghost use Rattle.x25_circuit.specs.Table.{cause_at, diagnostic_in, clears_for, resets_for, unexpected, clears_to, resets_to, row_clear, row_clear_conf, row_reset, row_reset_conf, row_undecoded, undecoded, cause_of};
+ghost use Rattle.x25_circuit.specs.FitsCircuit.{FitsCircuit, room_of, clears_of, resets_of};
+ghost use Rattle.x25_circuit.specs.Replies.{Says, IsSendable, plain_owed};
 
 use crate::circuit::Circuit;
 use crate::notice::{Notice, Reply};
@@ -62,6 +63,7 @@ impl Circuit {
     pub(crate) fn clear_for<'a>(&mut self, cause: u8, diagnostic: u8) -> Reply<'a>
         ensures next { (c : Settings) (x : Channel) → FitsCircuit c self.old x → FitsCircuit c self.new (clears_for c x cause diagnostic).next }
         ensures says { (c : Settings) (x : Channel) → FitsCircuit c self.old x → Says result (clears_for c x cause diagnostic).owed (clears_for c x cause diagnostic).notices }
+        ensures range { IsSendable (plain_owed result.packet) }
         ensures room { room_of self.old ≤ room_of self.new }
     {
         self.enter(State::Clearing);
@@ -79,6 +81,7 @@ impl Circuit {
     pub(crate) fn reset_for<'a>(&mut self, diagnostic: u8) -> Reply<'a>
         ensures next { (c : Settings) (x : Channel) → FitsCircuit c self.old x → FitsCircuit c self.new (resets_for c x diagnostic).next }
         ensures says { (c : Settings) (x : Channel) → FitsCircuit c self.old x → Says result (resets_for c x diagnostic).owed (resets_for c x diagnostic).notices }
+        ensures range { IsSendable (plain_owed result.packet) }
         ensures room { room_of self.old ≤ room_of self.new }
     {
         self.enter(State::Resetting);
@@ -96,6 +99,7 @@ impl Circuit {
     pub(crate) fn unexpected<'a>(&mut self) -> Reply<'a>
         ensures next { (c : Settings) (x : Channel) → FitsCircuit c self.old x → FitsCircuit c self.new (unexpected c x self.old.state).next }
         ensures says { (c : Settings) (x : Channel) → FitsCircuit c self.old x → Says result (unexpected c x self.old.state).owed (unexpected c x self.old.state).notices }
+        ensures range { IsSendable (plain_owed result.packet) }
         ensures room { room_of self.old ≤ room_of self.new }
     {
         self.clear_for(19, diagnostic_in(self.role, self.state))
@@ -103,7 +107,7 @@ impl Circuit {
 
     // A clear is done.
     fn be_cleared(&mut self)
-        requires { self.old.clears < 2 ^ 64 - 1 }
+        requires { clears_of self.old < 2 ^ 64 - 1 }
         ensures fits { (c : Settings) (x : Channel) → FitsCircuit c self.old x → FitsCircuit c self.new (clears_to x None []).next }
         ensures room { room_of self.old ≤ room_of self.new }
     {
@@ -114,7 +118,7 @@ impl Circuit {
 
     // A reset is done.
     fn be_reset(&mut self)
-        requires { self.old.resets < 2 ^ 64 - 1 }
+        requires { resets_of self.old < 2 ^ 64 - 1 }
         ensures fits { (c : Settings) (x : Channel) → FitsCircuit c self.old x → FitsCircuit c self.new (resets_to x None []).next }
         ensures room { room_of self.old ≤ room_of self.new }
     {
@@ -122,10 +126,22 @@ impl Circuit {
         self.resets += 1;
     }
 
+    // This end's reset is done: it isn't confirmed, by whatever packet it was.
+    fn end_reset<'a>(&mut self) -> Reply<'a>
+        requires { resets_of self.old < 2 ^ 64 - 1 }
+        ensures next { (c : Settings) (x : Channel) → FitsCircuit c self.old x → FitsCircuit c self.new (resets_to x None (reset_done ∷ [])).next }
+        ensures says { Says result None (reset_done ∷ []) }
+        ensures range { IsSendable (plain_owed result.packet) }
+    {
+        self.be_reset();
+        Reply::tells(Notice::ResetDone)
+    }
+
     pub(crate) fn hear_clear<'a>(&mut self, cause: u8, diagnostic: u8) -> Reply<'a>
-        requires { self.old.clears < 2 ^ 64 - 1 }
+        requires { clears_of self.old < 2 ^ 64 - 1 }
         ensures next { (c : Settings) (x : Channel) → FitsCircuit c self.old x → FitsCircuit c self.new (row_clear x self.old.state cause diagnostic).next }
         ensures says { (c : Settings) (x : Channel) → FitsCircuit c self.old x → Says result (row_clear x self.old.state cause diagnostic).owed (row_clear x self.old.state cause diagnostic).notices }
+        ensures range { IsSendable (plain_owed result.packet) }
     {
         let state = self.state;
         self.be_cleared();
@@ -140,9 +156,10 @@ impl Circuit {
     }
 
     pub(crate) fn hear_clear_conf<'a>(&mut self) -> Reply<'a>
-        requires { self.old.clears < 2 ^ 64 - 1 }
+        requires { clears_of self.old < 2 ^ 64 - 1 }
         ensures next { (c : Settings) (x : Channel) → FitsCircuit c self.old x → FitsCircuit c self.new (row_clear_conf c x self.old.state).next }
         ensures says { (c : Settings) (x : Channel) → FitsCircuit c self.old x → Says result (row_clear_conf c x self.old.state).owed (row_clear_conf c x self.old.state).notices }
+        ensures range { IsSendable (plain_owed result.packet) }
     {
         match self.state {
             State::Clearing => {
@@ -154,9 +171,10 @@ impl Circuit {
     }
 
     pub(crate) fn hear_reset<'a>(&mut self, cause: u8, diagnostic: u8) -> Reply<'a>
-        requires { self.old.resets < 2 ^ 64 - 1 }
+        requires { resets_of self.old < 2 ^ 64 - 1 }
         ensures next { (c : Settings) (x : Channel) → FitsCircuit c self.old x → FitsCircuit c self.new (row_reset c x self.old.state cause diagnostic).next }
         ensures says { (c : Settings) (x : Channel) → FitsCircuit c self.old x → Says result (row_reset c x self.old.state cause diagnostic).owed (row_reset c x self.old.state cause diagnostic).notices }
+        ensures range { IsSendable (plain_owed result.packet) }
     {
         match self.state {
             State::Open => {
@@ -166,28 +184,36 @@ impl Circuit {
                     Notice::WasReset { cause, diagnostic },
                 )
             }
-            State::Resetting => {
-                self.be_reset();
-                Reply::tells(Notice::ResetDone)
-            }
+            State::Resetting => self.end_reset(),
             State::Clearing => Reply::nothing(),
             _ => self.unexpected(),
         }
     }
 
     pub(crate) fn hear_reset_conf<'a>(&mut self) -> Reply<'a>
-        requires { self.old.resets < 2 ^ 64 - 1 }
+        requires { resets_of self.old < 2 ^ 64 - 1 }
         ensures next { (c : Settings) (x : Channel) → FitsCircuit c self.old x → FitsCircuit c self.new (row_reset_conf c x self.old.state).next }
         ensures says { (c : Settings) (x : Channel) → FitsCircuit c self.old x → Says result (row_reset_conf c x self.old.state).owed (row_reset_conf c x self.old.state).notices }
+        ensures range { IsSendable (plain_owed result.packet) }
     {
         match self.state {
             State::Open => self.reset_for(27),
-            State::Resetting => {
-                self.be_reset();
-                Reply::tells(Notice::ResetDone)
-            }
+            State::Resetting => self.end_reset(),
             State::Clearing => Reply::nothing(),
             _ => self.unexpected(),
+        }
+    }
+
+    // Octets that spell no packet.
+    fn hear_undecoded<'a>(&mut self, error: PacketError) -> Reply<'a>
+        ensures next { (c : Settings) (x : Channel) → FitsCircuit c self.old x → FitsCircuit c self.new (row_undecoded c x self.old.state error).next }
+        ensures says { (c : Settings) (x : Channel) → FitsCircuit c self.old x → Says result (row_undecoded c x self.old.state error).owed (row_undecoded c x self.old.state error).notices }
+        ensures range { IsSendable (plain_owed result.packet) }
+    {
+        match self.state {
+            State::Open => self.reset_for(error.diagnostic()),
+            State::Resetting | State::Clearing => Reply::nothing(),
+            _ => self.clear_for(cause_of(error), error.diagnostic()),
         }
     }
 
@@ -195,13 +221,10 @@ impl Circuit {
     /// memory.
     pub fn undecoded<'a>(&mut self, error: PacketError) -> Reply<'a>
         requires { error ≢ PacketError.NoMemory }
-        ensures next { (c : Settings) (x : Channel) → FitsCircuit c self.old x → FitsCircuit c self.new (row_undecoded c x self.old.state error).next }
-        ensures says { (c : Settings) (x : Channel) → FitsCircuit c self.old x → Says result (row_undecoded c x self.old.state error).owed (row_undecoded c x self.old.state error).notices }
+        ensures next { (c : Settings) (x : Channel) → FitsCircuit c self.old x → FitsCircuit c self.new (undecoded c x error).next }
+        ensures says { (c : Settings) (x : Channel) → FitsCircuit c self.old x → Says result (undecoded c x error).owed (undecoded c x error).notices }
+        ensures range { IsSendable (plain_owed result.packet) }
     {
-        match self.state {
-            State::Open => self.reset_for(error.diagnostic()),
-            State::Resetting | State::Clearing => Reply::nothing(),
-            _ => self.clear_for(cause_of(error), error.diagnostic()),
-        }
+        self.hear_undecoded(error)
     }
 }

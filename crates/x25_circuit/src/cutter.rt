@@ -1,4 +1,4 @@
-ghost use Rattle.std.specs.Prelude.{◌≡◌, ◌<◌, [], ◌∷◌, length, true, false};
+ghost use Rattle.std.specs.Prelude.{◌≡◌, ◌<◌, ◌≤◌, [], ◌∷◌, length, true, false};
 
 use crate::message::Message;
 use crate::octets::Octets;
@@ -87,6 +87,7 @@ impl Cutter {
     pub fn cut(&mut self, size: usize) -> Marks
         requires { 0 < length self.old.left }
         ensures left { self.new.left ≡ first_left size self.old.left }
+        ensures short { length self.new.lent ≤ size }
         ensures packet { marked result.q result.m self.new.lent ≡ first_cut size self.old.left }
     {
         let left = self.message.user.as_slice().len() - self.start;

@@ -1,15 +1,15 @@
 //! Packets that come. ITU-T X.25 (10/96), sections 4.3.7 and 4.4.1, and Annex C.
 ghost use Rattle.std.specs.Prelude.{◌≡◌, ℕ, ◌+◌, ◌-◌, ◌^◌, ◌<◌, ◌≤◌, length, [], ◌∷◌, Some, None, true, false, option_to_list, OnOk, OnErr, IfOk, IfErr, IsOk};
 ghost use Rattle.x25_packet.specs.PlainPacket.{plain, user_data};
-ghost use Rattle.x25_packet.specs.Spelling.{HasChannel};
+ghost use Rattle.x25_packet.specs.Spelling.{HasChannel, IsInRange};
 ghost use Rattle.x25_circuit.specs.Circuit.{Settings};
 ghost use Rattle.x25_circuit.specs.Circuit.{Circuit as Channel};
 ghost use Rattle.x25_circuit.specs.Messages.{piece_of};
 ghost use Rattle.x25_circuit.specs.Notices.{deliveries};
 ghost use Rattle.x25_circuit.specs.Fits.{first_ground};
 ghost use Rattle.x25_circuit.specs.Table.{resets_for, unless, number_ground, hears_status, confirms, takes, status, row_open, row_data, answers};
-ghost use Rattle.x25_circuit.specs.FitsCircuit.{FitsCircuit, room_of, user_octets};
-ghost use Rattle.x25_circuit.specs.Replies.{Says, plain_notices};
+ghost use Rattle.x25_circuit.specs.FitsCircuit.{FitsCircuit, room_of, user_octets, clears_of, resets_of};
+ghost use Rattle.x25_circuit.specs.Replies.{Says, IsSendable, plain_owed, plain_notices};
 
 use crate::circuit::Circuit;
 use crate::error::CircuitError;
@@ -30,7 +30,8 @@ fn delivered<'a>(message: Option<Message>) -> Option<Notice<'a>>
 impl Circuit {
     /// RR, or RNR where this end isn't ready, with P(R).
     pub(crate) fn status<'a>(&self) -> Packet<'a>
-        ensures { (c : Settings) (x : Channel) → FitsCircuit c self.now x → plain result ≡ status x.talk.own_ready (length x.talk.taken) }
+        ensures value { (c : Settings) (x : Channel) → FitsCircuit c self.now x → plain result ≡ status x.talk.own_ready (length x.talk.taken) }
+        ensures range { IsInRange 16 (plain result) }
     {
         let pr = self.transfer.receiver.wanted();
         if self.transfer.own_ready {
@@ -45,6 +46,7 @@ impl Circuit {
         ensures next { (c : Settings) (x : Channel) → FitsCircuit c self.old x → FitsCircuit c self.new (unless c x (number_ground x.talk pr.number) (hears_status x x.talk is_ready pr.number)).next }
         ensures says { (c : Settings) (x : Channel) → FitsCircuit c self.old x →
             Says result (unless c x (number_ground x.talk pr.number) (hears_status x x.talk is_ready pr.number)).owed (unless c x (number_ground x.talk pr.number) (hears_status x x.talk is_ready pr.number)).notices }
+        ensures range { IsSendable (plain_owed result.packet) }
     {
         if !self.transfer.ack(pr) {
             return self.reset_for(2);
@@ -58,6 +60,7 @@ impl Circuit {
         ensures next { (c : Settings) (x : Channel) → FitsCircuit c self.old x → FitsCircuit c self.new (confirms c x x.talk self.old.transfer.interrupt_out).next }
         ensures says { (c : Settings) (x : Channel) → FitsCircuit c self.old x →
             Says result (confirms c x x.talk self.old.transfer.interrupt_out).owed (confirms c x x.talk self.old.transfer.interrupt_out).notices }
+        ensures range { IsSendable (plain_owed result.packet) }
     {
         if !self.transfer.interrupt_out {
             return self.reset_for(43);
@@ -71,6 +74,7 @@ impl Circuit {
         ensures next { (c : Settings) (x : Channel) → FitsCircuit c self.old x → FitsCircuit c self.new (resets_for c x (first_ground x.talk pr.number diagnostic)).next }
         ensures says { (c : Settings) (x : Channel) → FitsCircuit c self.old x →
             Says result (resets_for c x (first_ground x.talk pr.number diagnostic)).owed (resets_for c x (first_ground x.talk pr.number diagnostic)).notices }
+        ensures range { IsSendable (plain_owed result.packet) }
     {
         if !self.transfer.ack(pr) {
             return self.reset_for(2);
@@ -86,6 +90,7 @@ impl Circuit {
         ensures next { (c : Settings) (x : Channel) → FitsCircuit c self.old x → FitsCircuit c self.new (unless c x (number_ground x.talk pr.number) (takes x x.talk pr.number (piece_of q m user.now))).next }
         ensures says { (c : Settings) (x : Channel) → FitsCircuit c self.old x →
             Says result (unless c x (number_ground x.talk pr.number) (takes x x.talk pr.number (piece_of q m user.now))).owed (unless c x (number_ground x.talk pr.number) (takes x x.talk pr.number (piece_of q m user.now))).notices }
+        ensures range { IsSendable (plain_owed result.packet) }
     {
         if !self.transfer.ack(pr) {
             return self.reset_for(2);
@@ -110,6 +115,7 @@ impl Circuit {
         ensures next { (c : Settings) (x : Channel) → FitsCircuit c self.old x → OnOk result (FitsCircuit c self.new (row_open c x x.talk (user_data 1 q m ps.number pr.number user.now)).next) }
         ensures says { (c : Settings) (x : Channel) → FitsCircuit c self.old x →
             IfOk result (λ reply. Says reply (row_open c x x.talk (user_data 1 q m ps.number pr.number user.now)).owed (row_open c x x.talk (user_data 1 q m ps.number pr.number user.now)).notices) }
+        ensures range { IfOk result (λ reply. IsSendable (plain_owed reply.packet)) }
         ensures err { IfErr result (λ e. e ≡ CircuitError.NoMemory) }
         ensures missing { OnErr result (room_of self.old < length user.now) }
         ensures unchanged { OnErr result (self.new ≡ self.old) }
@@ -128,6 +134,7 @@ impl Circuit {
         ensures next { (c : Settings) (x : Channel) → FitsCircuit c self.old x → OnOk result (FitsCircuit c self.new (row_open c x x.talk (plain packet.now)).next) }
         ensures says { (c : Settings) (x : Channel) → FitsCircuit c self.old x →
             IfOk result (λ reply. Says reply (row_open c x x.talk (plain packet.now)).owed (row_open c x x.talk (plain packet.now)).notices) }
+        ensures range { IfOk result (λ reply. IsSendable (plain_owed reply.packet)) }
         ensures err { IfErr result (λ e. e ≡ CircuitError.NoMemory) }
         ensures missing { OnErr result (room_of self.old < length (user_octets (plain packet.now))) }
         ensures unchanged { OnErr result (self.new ≡ self.old) }
@@ -157,6 +164,7 @@ impl Circuit {
         ensures next { (c : Settings) (x : Channel) → FitsCircuit c self.old x → OnOk result (FitsCircuit c self.new (row_data c x self.old.state (plain packet.now)).next) }
         ensures says { (c : Settings) (x : Channel) → FitsCircuit c self.old x →
             IfOk result (λ reply. Says reply (row_data c x self.old.state (plain packet.now)).owed (row_data c x self.old.state (plain packet.now)).notices) }
+        ensures range { IfOk result (λ reply. IsSendable (plain_owed reply.packet)) }
         ensures err { IfErr result (λ e. e ≡ CircuitError.NoMemory) }
         ensures missing { OnErr result (room_of self.old < length (user_octets (plain packet.now))) }
         ensures unchanged { OnErr result (self.new ≡ self.old) }
@@ -174,11 +182,12 @@ impl Circuit {
     /// 70 alone, and only for a data packet for which `room` set no memory aside.
     pub fn packet<'a>(&mut self, packet: &Packet<'a>) -> Result<Reply<'a>, CircuitError>
         requires kind { HasChannel (plain packet.now) }
-        requires clears { self.old.clears < 2 ^ 64 - 1 }
-        requires resets { self.old.resets < 2 ^ 64 - 1 }
+        requires clears { clears_of self.old < 2 ^ 64 - 1 }
+        requires resets { resets_of self.old < 2 ^ 64 - 1 }
         ensures next { (c : Settings) (x : Channel) → FitsCircuit c self.old x → OnOk result (FitsCircuit c self.new (answers c x (plain packet.now)).next) }
         ensures says { (c : Settings) (x : Channel) → FitsCircuit c self.old x →
             IfOk result (λ reply. Says reply (answers c x (plain packet.now)).owed (answers c x (plain packet.now)).notices) }
+        ensures range { IfOk result (λ reply. IsSendable (plain_owed reply.packet)) }
         ensures err { IfErr result (λ e. e ≡ CircuitError.NoMemory) }
         ensures missing { OnErr result (room_of self.old < length (user_octets (plain packet.now))) }
         ensures unchanged { OnErr result (self.new ≡ self.old) }

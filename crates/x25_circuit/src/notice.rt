@@ -1,5 +1,6 @@
 ghost use Rattle.std.specs.Prelude.{◌≡◌, [], ◌∷◌, None, Some};
 ghost use Rattle.x25_packet.specs.PlainPacket.{plain};
+ghost use Rattle.x25_packet.specs.Spelling.{IsInRange};
 
 use crate::message::Message;
 use x25_packet::{Digits, Packet};
@@ -53,11 +54,12 @@ pub struct Reply<'a> {
 }
 
 impl<'a> Reply<'a> {
-    ghost use Rattle.x25_circuit.specs.Replies.{Says, plain_notice};
+    ghost use Rattle.x25_circuit.specs.Replies.{Says, IsSendable, plain_notice, plain_owed};
 
     /// Nothing is sent or told.
     pub(crate) fn nothing() -> Reply<'a>
-        ensures { Says result None [] }
+        ensures says { Says result None [] }
+        ensures range { IsSendable (plain_owed result.packet) }
     {
         Reply {
             packet: None,
@@ -68,7 +70,8 @@ impl<'a> Reply<'a> {
 
     /// Nothing is sent.
     pub(crate) fn tells(notice: Notice<'a>) -> Reply<'a>
-        ensures { Says result None (plain_notice notice.entry ∷ []) }
+        ensures says { Says result None (plain_notice notice.entry ∷ []) }
+        ensures range { IsSendable (plain_owed result.packet) }
     {
         Reply {
             packet: None,
@@ -79,7 +82,8 @@ impl<'a> Reply<'a> {
 
     /// Nothing is told.
     pub(crate) fn owes(packet: Packet<'a>) -> Reply<'a>
-        ensures { Says result (Some (plain packet.entry)) [] }
+        ensures says { Says result (Some (plain packet.entry)) [] }
+        ensures range { IsInRange 16 (plain packet.entry) → IsSendable (plain_owed result.packet) }
     {
         Reply {
             packet: Some(packet),
@@ -90,7 +94,8 @@ impl<'a> Reply<'a> {
 
     /// A packet is sent, and the user is told.
     pub(crate) fn both(packet: Packet<'a>, notice: Notice<'a>) -> Reply<'a>
-        ensures { Says result (Some (plain packet.entry)) (plain_notice notice.entry ∷ []) }
+        ensures says { Says result (Some (plain packet.entry)) (plain_notice notice.entry ∷ []) }
+        ensures range { IsInRange 16 (plain packet.entry) → IsSendable (plain_owed result.packet) }
     {
         Reply {
             packet: Some(packet),

@@ -38,11 +38,19 @@ impl PartialMessage {
         }
     }
 
+    /// How many octets have come.
+    pub fn len(&self) -> usize
+        ensures value { result ≡ length self.now.part.user }
+        ensures short { result ≤ 65535 }
+    {
+        self.user.len()
+    }
+
     /// The diagnostic for which so many octets with this qualifier are refused behind what has begun, if any: 39 or 83.
     pub fn ground(&self, size: usize, count: usize, q: bool) -> Option<u8>
         ensures { result ≡ ground_of size self.now.part count q }
     {
-        if count > size || count > LONGEST_MESSAGE - self.user.len() {
+        if count > size || count > LONGEST_MESSAGE - self.len() {
             return Some(39);
         }
         match self.begun {

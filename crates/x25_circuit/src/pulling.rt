@@ -1,11 +1,12 @@
 //! The data packets that are sent. ITU-T X.25 (10/96), sections 4.3.4 and 4.4.1.
-ghost use Rattle.std.specs.Prelude.{◌≡◌, ◌≤◌};
+ghost use Rattle.std.specs.Prelude.{◌≡◌, ◌≤◌, length, IfSome};
 ghost use Rattle.std.specs.Borrow.{sem};
 ghost use Rattle.x25_packet.specs.PlainPacket.{plain};
 ghost use Rattle.x25_circuit.specs.Circuit.{Settings};
 ghost use Rattle.x25_circuit.specs.Circuit.{Circuit as Channel};
 ghost use Rattle.x25_circuit.specs.Calls.{pulled};
 ghost use Rattle.x25_circuit.specs.DataPacket.{plain_data, plain_pulled};
+ghost use Rattle.x25_circuit.specs.Replies.{IsSendable};
 ghost use Rattle.x25_circuit.specs.FitsCircuit.{FitsCircuit, room_of};
 ghost use Rattle.x25_circuit.specs.Pulling.{packet_with, EndsPulled};
 
@@ -42,6 +43,7 @@ impl Circuit {
     /// unacknowledged. Its user data is borrowed from the message. It takes no memory.
     pub fn pull(&mut self) -> Option<DataPacket<'_>>
         ensures packet { (c : Settings) (x : Channel) → FitsCircuit c self.old x → plain_pulled result ≡ (pulled c x).packet }
+        ensures range { IsSendable (plain_pulled result) }
         ensures* after { sem 𝓛 (EndsPulled self.entry) }
     {
         let header = self.advance()?;
@@ -55,6 +57,7 @@ impl Circuit {
     fn advance(&mut self) -> Option<Header>
         ensures next { (c : Settings) (x : Channel) → FitsCircuit c self.old x → FitsCircuit c self.new (pulled c x).next }
         ensures packet { (c : Settings) (x : Channel) → FitsCircuit c self.old x → packet_with result self.new.transfer.queue.cutter.lent ≡ (pulled c x).packet }
+        ensures short { IfSome result (λ header. length self.new.transfer.queue.cutter.lent ≤ 4096) }
         ensures room { room_of self.old ≤ room_of self.new }
     {
         match self.state {

@@ -77,6 +77,7 @@ impl Queue {
         ensures some { IfSome result (λ marks. 0 < length (waiting self.old)) }
         ensures left { IfSome result (λ marks. waiting self.new ≡ first_left size (waiting self.old)) }
         ensures packet { IfSome result (λ marks. marked marks.q marks.m self.new.cutter.lent ≡ first_cut size (waiting self.old)) }
+        ensures short { IfSome result (λ marks. length self.new.cutter.lent ≤ size) }
         ensures none { IfNone result (waiting self.old ≡ []) }
         ensures same { IfNone result (waiting self.new ≡ []) }
     {

@@ -4,7 +4,7 @@ ghost use Rattle.x25_circuit.specs.declared.state.State.TheVariants.{Open};
 ghost use Rattle.x25_circuit.specs.Circuit.{Settings};
 ghost use Rattle.x25_circuit.specs.Circuit.{Circuit as Channel};
 ghost use Rattle.x25_circuit.specs.Notices.{connected, incoming};
-ghost use Rattle.x25_circuit.specs.Replies.{Says, plain_notice};
+ghost use Rattle.x25_circuit.specs.Replies.{Says, IsSendable, plain_owed, plain_notice};
 ghost use Rattle.x25_circuit.specs.Table.{collides, goes, row_call, row_accept, unless_facilities};
 ghost use Rattle.x25_circuit.specs.FitsCircuit.{FitsCircuit};
 
@@ -27,6 +27,7 @@ impl Circuit {
     ) -> Reply<'a>
         ensures next { (c : Settings) (x : Channel) → FitsCircuit c self.old x → FitsCircuit c self.new (row_call c x self.old.state (record { called = called.now; calling = calling.now; user = user.now }) facilities.now).next }
         ensures says { (c : Settings) (x : Channel) → FitsCircuit c self.old x → Says result (row_call c x self.old.state (record { called = called.now; calling = calling.now; user = user.now }) facilities.now).owed (row_call c x self.old.state (record { called = called.now; calling = calling.now; user = user.now }) facilities.now).notices }
+        ensures range { IsSendable (plain_owed result.packet) }
     {
         match self.state {
             State::Free => {
@@ -56,6 +57,7 @@ impl Circuit {
     ) -> Reply<'a>
         ensures next { (c : Settings) (x : Channel) → FitsCircuit c self.old x → FitsCircuit c self.new (collides c.role x (record { called = called.now; calling = calling.now; user = user.now })).next }
         ensures says { (c : Settings) (x : Channel) → FitsCircuit c self.old x → Says result (collides c.role x (record { called = called.now; calling = calling.now; user = user.now })).owed (collides c.role x (record { called = called.now; calling = calling.now; user = user.now })).notices }
+        ensures range { IsSendable (plain_owed result.packet) }
     {
         match self.role {
             Role::Dte => {
@@ -76,6 +78,7 @@ impl Circuit {
     pub(crate) fn hear_accept<'a>(&mut self, facilities: &[u8]) -> Reply<'a>
         ensures next { (c : Settings) (x : Channel) → FitsCircuit c self.old x → FitsCircuit c self.new (row_accept c x self.old.state facilities.now).next }
         ensures says { (c : Settings) (x : Channel) → FitsCircuit c self.old x → Says result (row_accept c x self.old.state facilities.now).owed (row_accept c x self.old.state facilities.now).notices }
+        ensures range { IsSendable (plain_owed result.packet) }
     {
         match self.state {
             State::Calling | State::Collision => self.connect(facilities),
@@ -91,6 +94,7 @@ impl Circuit {
         ensures next { (c : Settings) (x : Channel) → FitsCircuit c self.old x → FitsCircuit c self.new (unless_facilities c x facilities.now (goes x Open None (connected ∷ []))).next }
         ensures says { (c : Settings) (x : Channel) → FitsCircuit c self.old x →
             Says result (unless_facilities c x facilities.now (goes x Open None (connected ∷ []))).owed (unless_facilities c x facilities.now (goes x Open None (connected ∷ []))).notices }
+        ensures range { IsSendable (plain_owed result.packet) }
     {
         if !facilities.is_empty() {
             return self.clear_for(FACILITIES.0, FACILITIES.1);

@@ -137,6 +137,7 @@ impl Transfer {
     pub fn advance(&mut self, terms: Terms) -> Option<Header>
         ensures some { (t : Talk) → FitsTalk terms.size self.old t → IfSome result (λ header. IsSent terms.window terms.size t self.new header) }
         ensures none { (t : Talk) → FitsTalk terms.size self.old t → IfNone result (FitsTalk terms.size self.new t) }
+        ensures short { IfSome result (λ header. length self.new.queue.cutter.lent ≤ terms.size) }
         ensures held { (t : Talk) → FitsTalk terms.size self.old t → IfNone result (IsHeld terms.window t) }
         ensures room { self.old.partial.room ≤ self.new.partial.room }
     {

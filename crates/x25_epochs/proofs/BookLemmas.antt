@@ -1,6 +1,5 @@
 -- Lawful books are kept, where a step lets the name and what is held under it stay or grow.
-use Rattle.std.proofs.Common.{◌≡◌, ◌⊎◌, inl, inr, ℕ, ◌<◌, List, [], ◌++◌, Bool, true, false, if◌then◌else◌, refl, sym, ap, subst, ◌∙◌, append_assoc, arith}
-use Rattle.std.proofs.lemmas.Grind.{common_steps}
+use Rattle.std.proofs.Common.{◌≡◌, ◌⊎◌, inl, inr, ℕ, ◌<◌, List, ◌++◌, Bool, true, false, if◌then◌else◌, refl, sym, ap, subst, ◌∙◌, append_assoc}
 use Rattle.x25_epochs.specs.Handshake.{At}
 use Rattle.x25_epochs.specs.Layers.{Channels}
 use Rattle.x25_epochs.specs.Names.{Name, same_name, IsEarlier}
@@ -18,9 +17,6 @@ pub data Turn {M : Type 0} (kind : Kind M) (Allowed : List M → Type 0) (k : �
   Remained : y.epoch ≡ x.epoch
       → Change Allowed (name_at kind x k).clears (name_at kind x k).resets (held_at kind x k) (name_at kind y k).clears (name_at kind y k).resets (held_at kind y k) → Turn kind Allowed k x y
   Restarted : x.epoch < y.epoch → held_at kind y k ≡ none → Turn kind Allowed k x y
-
-pub append_nil : {A : Type 0} (a : List A) → a ++ [] ≡ a
-append_nil a = grind (arith, common_steps)
 
 by_test : {A : Type 0} (P : A → Type 0) (b : Bool) (u v : A) → (b ≡ true → P u) → (b ≡ false → P v) → P (if b then u else v)
 by_test P true u v f g = f refl

@@ -12,7 +12,8 @@ use Rattle.x25_epochs.specs.Books.{calls, Begins}
 use Rattle.x25_epochs.proofs.CallsRelation.{Joint, ConnectionsRelated, GoodDte, GoodDce}
 use Rattle.x25_epochs.proofs.ChannelRelation.{clear_mark, Seen}
 use Rattle.x25_epochs.proofs.CallLemmas.{GoodDte-takes, GoodDce-takes}
-use Rattle.x25_epochs.proofs.BookLemmas.{Stays, append_nil}
+use Rattle.x25_epochs.proofs.LineLemmas.{append_nil}
+use Rattle.x25_epochs.proofs.BookLemmas.{Stays}
 use Rattle.x25_epochs.proofs.TurnLemmas.{MayIndicate, WithinCall, IsHandled}
 
 empty_begins : (i m : List CallRequest) → i ≡ [] → Begins i m

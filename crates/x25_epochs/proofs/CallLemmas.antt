@@ -9,7 +9,7 @@ use Rattle.x25_epochs.specs.Transfer.{fresh_transfer, transfer_takes, transfer_a
 use Rattle.x25_epochs.specs.Calls.{Phase, Unused, Waiting, Offered, Crossed, Talking, Connection, phase_takes, call_takes, CallAct, PlacesCall, AcceptsCall, Talks, phase_acts, call_acts, fresh_call}
 use Rattle.x25_epochs.proofs.TransferRelation.{TransfersRelated, GoodTransfer}
 use Rattle.x25_epochs.proofs.CallsRelation.{Nil, OneCall, MaybeCall, Accepted, CallAccepted, Joint, ConnectionsRelated, GoodDte, GoodDce, IsCalled}
-use Rattle.x25_epochs.proofs.LineLemmas.{nil_append}
+use Rattle.x25_epochs.proofs.LineLemmas.{append_nil}
 use Rattle.x25_epochs.proofs.TransferLemmas.{TransfersRelated-flip, TransfersRelated-fresh, GoodTransfer-takes, GoodTransfer-acts}
 
 nil_is : (u : List Packet) → Nil u → u ≡ []
@@ -20,10 +20,10 @@ push_first : (l : List CallRequest) (n : CallRequest) (m : List CallRequest) →
 push_first l n m none one = ap (λ k. k ++ n ∷ []) none ∙ sym one
 
 GoodDte-still : (ta tb : Terms) (x : Connection) (u v : List Packet) (b : Connection) → ConnectionsRelated ta tb x u v b → GoodDte ta tb (record { next = x; out = []; error = None }) u v b
-GoodDte-still ta tb x u v b h = record { quiet = refl; kept = subst (λ (w : List Packet). ConnectionsRelated ta tb x w v b) (sym (nil_append u)) h }
+GoodDte-still ta tb x u v b h = record { quiet = refl; kept = subst (λ (w : List Packet). ConnectionsRelated ta tb x w v b) (sym (append_nil u)) h }
 
 GoodDce-still : (ta tb : Terms) (a : Connection) (u v : List Packet) (x : Connection) → ConnectionsRelated ta tb a u v x → GoodDce ta tb a u v (record { next = x; out = []; error = None })
-GoodDce-still ta tb a u v x h = record { quiet = refl; kept = subst (λ (w : List Packet). ConnectionsRelated ta tb a u w x) (sym (nil_append v)) h }
+GoodDce-still ta tb a u v x h = record { quiet = refl; kept = subst (λ (w : List Packet). ConnectionsRelated ta tb a u w x) (sym (append_nil v)) h }
 
 -- the DTE takes a packet
 GoodDte-phase : (ta tb : Terms) → IsSound tb → (a b : Phase) (ma ia mb ib : List CallRequest) (u : List Packet) (p : Packet) (v : List Packet) → Joint ta tb a b ma ia mb ib u (p ∷ v)

@@ -44,7 +44,7 @@ abbrev pub CallAccepted : List CallRequest → (List Packet → Type 0) → List
 CallAccepted m R [] = ⊥
 CallAccepted m R (p ∷ u) = call_or_accept_at m p (Accepted R u) (R u)
 
--- the phases of the two ends (K0 to K10), with what is made and indicated at each; u is on the way to the DCE, v to the DTE
+-- the phases in which the two ends may stand, with what is made and indicated at each; u is on the way to the DCE, v to the DTE
 abbrev pub Joint : Terms → Terms → Phase → Phase → List CallRequest → List CallRequest → List CallRequest → List CallRequest → List Packet → List Packet → Type 0
 Joint ta tb Unused Unused ma ia mb ib u v = Nil u × Nil v × (ma ≡ []) × (ia ≡ []) × (mb ≡ []) × (ib ≡ [])
 Joint ta tb Unused Waiting ma ia mb ib u v = Nil u × OneCall mb v × (ma ≡ []) × (ia ≡ []) × (ib ≡ [])

@@ -15,7 +15,7 @@ use Rattle.x25_epochs.proofs.HandshakeRelation.{AllInner}
 use Rattle.x25_epochs.proofs.HandshakeLemmas.{request_live, confirm_never, leave, inner_act, inner_take, drops, marker_left, hand_flip, both_fresh, inner_live, live_front, hand_map, request_gone}
 use Rattle.x25_epochs.proofs.CallsRelation.{GoodDte, GoodDce, IsCalled}
 use Rattle.x25_epochs.proofs.ChannelRelation.{clear_mark, Seen, connection_level, ChannelRelated, GoodChannel}
-use Rattle.x25_epochs.proofs.LineLemmas.{nil_append}
+use Rattle.x25_epochs.proofs.LineLemmas.{append_nil}
 use Rattle.x25_epochs.proofs.CallLemmas.{GoodDte-takes, GoodDce-takes, GoodDte-acts, GoodDce-acts, ConnectionsRelated-fresh, free_a, free_b}
 
 abbrev Quiet : List Packet → Type 0
@@ -151,7 +151,7 @@ pub ChannelRelated-fresh : (r : Role) (t b : Terms) → ChannelRelated r t b fre
 ChannelRelated-fresh r t b = record { hand = both_fresh (connection_level r t b) (Seen-fresh r t b) 0 }
 
 GoodChannel-still : (r : Role) (t b : Terms) (x : At Connection) (L K : List Packet) (y : At Connection) → ChannelRelated r t b x L K y → GoodChannel r t b (record { next = x; out = []; error = None }) L K y
-GoodChannel-still r t b x L K y h = record { quiet = refl; kept = subst (λ (u : List Packet). ChannelRelated r t b x u K y) (sym (nil_append L)) h }
+GoodChannel-still r t b x L K y h = record { quiet = refl; kept = subst (λ (u : List Packet). ChannelRelated r t b x u K y) (sym (append_nil L)) h }
 
 GoodChannel-lifted : (r : Role) (t b : Terms) (e : ℕ) (s : CallStep) (L K : List Packet) (y : At Connection) → s.error ≡ None → ChannelRelated r t b (live e s.next) (L ++ s.out) K y → GoodChannel r t b (lifted_call e s s.error) L K y
 GoodChannel-lifted r t b e s L K y quiet h = subst (λ (n : Option ℕ). GoodChannel r t b (lifted_call e s n) L K y) (sym quiet) (record { quiet = refl; kept = h })

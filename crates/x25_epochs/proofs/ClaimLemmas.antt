@@ -1,24 +1,23 @@
 -- What follows for the user from the relation of two layers.
-use Rattle.std.proofs.Common.{◌≡◌, ℕ, List, [], ◌∷◌, refl, sym, subst}
-use Rattle.x25_epochs.specs.Handshake.{Inner, Side, Live, Left, At, state_of}
+use Rattle.std.proofs.Common.{◌≡◌, ℕ, List, [], ◌∷◌, refl, subst}
+use Rattle.x25_epochs.specs.Handshake.{Live, At}
 use Rattle.x25_bits.specs.declared.role.Role.{Role}
 use Rattle.x25_bits.specs.declared.role.Role.TheVariants.{Dte, Dce}
 use Rattle.x25_circuit.specs.Circuit.{Terms}
 use Rattle.x25_circuit.specs.Notices.{CallRequest}
-use Rattle.x25_epochs.specs.Stretch.{Packet, Reset, ResetConf, Clear, ClearConf, Stretch}
+use Rattle.x25_epochs.specs.Stretch.{Packet, Stretch}
 use Rattle.x25_epochs.specs.Transfer.{d1}
 use Rattle.x25_epochs.specs.Calls.{Phase, Waiting, Crossed, Talking, Connection}
 use Rattle.x25_epochs.specs.Channel.{live}
-use Rattle.x25_epochs.specs.Layers.{LayerPacket, On, Channels, ready}
+use Rattle.x25_epochs.specs.Layers.{LayerPacket, Channels, ready}
 use Rattle.x25_epochs.proofs.HandshakeRelation.{before}
-use Rattle.x25_epochs.proofs.HandshakeLemmas.{meets, both_live}
-use Rattle.x25_epochs.proofs.StretchRelation.{InFlowControl, StretchesRelated}
+use Rattle.x25_epochs.proofs.HandshakeLemmas.{both_live}
+use Rattle.x25_epochs.proofs.StretchRelation.{StretchesRelated}
 use Rattle.x25_epochs.proofs.TransferRelation.{reset_mark, stretch_level, TransfersRelated}
 use Rattle.x25_epochs.proofs.CallsRelation.{Joint}
 use Rattle.x25_epochs.proofs.ChannelRelation.{clear_mark, Seen, connection_level, ChannelRelated}
-use Rattle.x25_epochs.proofs.LayersRelation.{on, restart_mark, channels_level, LayersRelated, EndsRelated}
+use Rattle.x25_epochs.proofs.LayersRelation.{on, restart_mark, channels_level, EndsRelated}
 use Rattle.x25_epochs.proofs.TransferLemmas.{TransfersRelated-flip}
-use Rattle.x25_epochs.proofs.LayerLemmas.{on-front}
 
 -- both ends live at all levels, in one stretch, and nothing on the way from the first
 
@@ -41,28 +40,6 @@ open_stretch r t b rs cs ss x y h m i n j p q K is_x is_y top =
     let p4 : TransfersRelated t b (d1 ss p) [] (before clear_mark v) (d1 ss q) = Seen-p4 r t b m i n j (d1 ss p) (d1 ss q) [] (before clear_mark v) seen in
     (before reset_mark (before clear_mark v), both_live (stretch_level t b) ss p q [] (before clear_mark v) p4.hand)
 
--- a packet of d1 is taken only in the stretch of the other end, and there Data holds
-
-clear_inner : (p : Packet) → InFlowControl p → clear_mark p ≡ Inner
-clear_inner Clear is = absurd is
-clear_inner ClearConf is = absurd is
-clear_inner other is = refl
-
-reset_inner : (p : Packet) → InFlowControl p → reset_mark p ≡ Inner
-reset_inner Reset is = absurd is
-reset_inner ResetConf is = absurd is
-reset_inner other is = refl
-
-pub record Meeting (t b : Terms) (rs cs ss : ℕ) (x : Stretch) (far : Side (At Channels)) (h : ℕ) (p : Packet) : Type 0 where
-  pub at : At Stretch
-  pub restarts : (state_of far).epoch ≡ rs
-  pub clears : (state_of (state_of far).side h).epoch ≡ cs
-  pub talks : (state_of (state_of (state_of far).side h).side).phase ≡ Talking at
-  pub resets : at.epoch ≡ ss
-  pub there : List Packet
-  pub back : List Packet
-  pub both : StretchesRelated t b x there (p ∷ back) (state_of at.side)
-
 -- (the end that talks and takes a packet: the other talks too)
 joint_a : (ta tb : Terms) (x : At Stretch) (b : Phase) (ma ia mb ib : List CallRequest) (u : List Packet) (p : Packet) (v : List Packet) → Joint ta tb (Talking x) b ma ia mb ib u (p ∷ v)
     → (y : At Stretch) × (b ≡ Talking y) × TransfersRelated ta tb x u (p ∷ v) y
@@ -81,34 +58,3 @@ pub Seen-joint : (r : Role) (t b : Terms) (m i : List CallRequest) (x : At Stret
     → Seen r t b (record { phase = Talking x; made = m; indicated = i }) u (p ∷ v) y → (z : At Stretch) × (y.phase ≡ Talking z) × TransfersRelated t b x u (p ∷ v) z
 Seen-joint Dte t b m i x y u p v h = joint_a t b x y.phase m i y.made y.indicated u p v h.joint
 Seen-joint Dce t b m i x y u p v h = joint_b b t y.phase x y.made y.indicated m i v u p h.joint
-
-EndsRelated-meets : (r : Role) (t b : Terms) (x : At Channels) (L K : List LayerPacket) (y : Side (At Channels)) → EndsRelated r t b (Live x) L K y → (w : List LayerPacket) × LayersRelated r t b x w K (state_of y)
-EndsRelated-meets r t b x L K (Live z) h = (L, h)
-EndsRelated-meets r t b x L K (Left z) h = (h.0, h.2)
-
-pub taken_in_stretch : (r : Role) (t b : Terms) (rs cs ss : ℕ) (x : Channels) (h : ℕ) (m i : List CallRequest) (a : Stretch) (p : Packet) (L K : List LayerPacket) (far : Side (At Channels))
-    → InFlowControl p → x h ≡ live cs (record { phase = Talking (d1 ss a); made = m; indicated = i })
-    → EndsRelated r t b (Live (ready rs x)) L (On h p ∷ K) far → Meeting t b rs cs ss a far h p
-taken_in_stretch r t b rs cs ss x h m i a p L K far is is_x top =
-    let lay = EndsRelated-meets r t b (ready rs x) L (On h p ∷ K) far top in
-    let y : At Channels = state_of far in
-    let chans = meets (channels_level r t b) (On h p) refl rs y.epoch x y.side lay.0 K lay.1.hand in
-    let c : Connection = record { phase = Talking (d1 ss a); made = m; indicated = i } in
-    let v : List Packet = on h chans.2 in
-    let u : List Packet = on h chans.1 in
-    let z : At Connection = state_of y.side h in
-    let chan : ChannelRelated r t b (live cs c) u (p ∷ v) z =
-    subst (λ (k : At Connection). ChannelRelated r t b k u (p ∷ v) z) is_x (subst (λ (l : List Packet). ChannelRelated r t b (x h) u l z) (on-front h p chans.2) (chans.3.each h)) in
-    let calls = meets (connection_level r t b) p (clear_inner p is) cs z.epoch c z.side u v chan.hand in
-    let talk = Seen-joint r t b m i (d1 ss a) (state_of z.side) calls.1 p calls.2 calls.3 in
-    let inside = meets (stretch_level t b) p (reset_inner p is) ss talk.0.epoch a talk.0.side calls.1 calls.2 talk.2.hand in
-    record {
-      at = talk.0;
-      restarts = sym chans.0;
-      clears = sym calls.0;
-      talks = talk.1;
-      resets = sym inside.0;
-      there = inside.1;
-      back = inside.2;
-      both = inside.3;
-    }

@@ -7,14 +7,13 @@ use Rattle.x25_bits.specs.declared.role.Role.TheVariants.{Dte, Dce}
 use Rattle.x25_circuit.specs.Circuit.{Terms}
 use Rattle.x25_epochs.specs.Terms.{IsSound, other_role}
 use Rattle.x25_epochs.specs.Stretch.{Packet}
-use Rattle.x25_epochs.specs.Calls.{unexpected}
 use Rattle.x25_epochs.specs.Channel.{ChannelStep, channel_takes, ChannelAct, channel_acts}
 use Rattle.x25_epochs.specs.Layers.{LayerPacket, On, Restart, RestartConf, Channels, put, addressed, all_fresh, ready, restarting, layer_side_takes, layer_takes, LayerAct, OnChannel, SendsRestart, layer_side_acts, layer_acts, Pair, Move, Acts, Takes, LinkDown, turned, first_error, pair_moves, Event, pair_happens, pair_run, pair_start}
 use Rattle.x25_epochs.proofs.HandshakeRelation.{AllInner}
 use Rattle.x25_epochs.proofs.HandshakeLemmas.{request_live, confirm_never, ext_act, ext_take, leave, inner_act, inner_take, drops, marker_left, hand_flip, both_requests, inner_live, live_front, hand_map}
 use Rattle.x25_epochs.proofs.ChannelRelation.{ChannelRelated, GoodChannel}
 use Rattle.x25_epochs.proofs.LayersRelation.{kept_on, on, ChannelsRelated, restart_mark, channels_level, LayersRelated, GoodLayer, EndsRelated}
-use Rattle.x25_epochs.proofs.LineLemmas.{nil_append}
+use Rattle.x25_epochs.proofs.LineLemmas.{append_nil}
 use Rattle.x25_epochs.proofs.ChannelLemmas.{ChannelRelated-flip, ChannelRelated-fresh, GoodChannel-takes, GoodChannel-acts}
 
 on-append : (h : ℕ) (L o : List LayerPacket) → on h (L ++ o) ≡ on h L ++ on h o
@@ -51,7 +50,7 @@ ChannelsRelated-put r t b x L K M y h s all others here = record { each = λ k. 
         (subst (λ (l : List Packet). ChannelRelated r t b s.next l (on h K) (y h)) (sym (on-append h L (addressed h s.out) ∙ ap (λ l. on h L ++ l) (on-same h s.out))) here))
     at k false is =
         subst (λ (a : Bool). ChannelRelated r t b (if a then s.next else x k) (on k (L ++ addressed h s.out)) (on k K) (y k)) (sym is)
-        (subst (λ (l : List Packet). ChannelRelated r t b (x k) l (on k K) (y k)) (sym (on-append k L (addressed h s.out) ∙ ap (λ l. on k L ++ l) (on-other k h s.out is) ∙ nil_append (on k L)))
+        (subst (λ (l : List Packet). ChannelRelated r t b (x k) l (on k K) (y k)) (sym (on-append k L (addressed h s.out) ∙ ap (λ l. on k L ++ l) (on-other k h s.out is) ∙ append_nil (on k L)))
         (subst (λ (l : List Packet). ChannelRelated r t b (x k) (on k L) l (y k)) (others k is) (all.each k)))
 
 pub on-front : (h : ℕ) (p : Packet) (K : List LayerPacket) → on h (On h p ∷ K) ≡ p ∷ on h K
@@ -87,7 +86,7 @@ LayersRelated-flip r t b x L K y h = record {
 }
 
 GoodLayer-still : (r : Role) (t b : Terms) (x : At Channels) (L K : List LayerPacket) (y : At Channels) → LayersRelated r t b x L K y → GoodLayer r t b (record { next = x; out = []; error = None }) L K y
-GoodLayer-still r t b x L K y h = record { quiet = refl; kept = subst (λ (u : List LayerPacket). LayersRelated r t b x u K y) (sym (nil_append L)) h }
+GoodLayer-still r t b x L K y h = record { quiet = refl; kept = subst (λ (u : List LayerPacket). LayersRelated r t b x u K y) (sym (append_nil L)) h }
 
 GoodLayer-side_takes : (r : Role) (t b : Terms) → IsSound b → (e : ℕ) (x : Side Channels) (L : List LayerPacket) (p : LayerPacket) (K : List LayerPacket) (y : At Channels)
     → LayersRelated r t b (record { epoch = e; side = x }) L (p ∷ K) y → GoodLayer r t b (layer_side_takes r b.size e x p) L K y
@@ -182,10 +181,10 @@ Stands-if : (r : Role) (t b : Terms) (first : Bool) (u v : Pair) → Stands r t 
 Stands-if r t b true u v f g = f
 Stands-if r t b false u v f g = g
 
-pub Stands-run : (t b : Terms) → IsSound t → IsSound b → (unexpected : List Event) (w : Pair) → Stands Dte t b w → Stands Dte t b (pair_run t b unexpected w)
+pub Stands-run : (t b : Terms) → IsSound t → IsSound b → (events : List Event) (w : Pair) → Stands Dte t b w → Stands Dte t b (pair_run t b events w)
 Stands-run t b st sb [] w h = h
-Stands-run t b st sb (e ∷ unexpected) w h =
-    Stands-run t b st sb unexpected (pair_happens t b w e)
+Stands-run t b st sb (e ∷ events) w h =
+    Stands-run t b st sb events (pair_happens t b w e)
     (Stands-if Dte t b e.first (pair_moves Dte t b w w.near e.what) (turned (pair_moves Dce b t (turned w) w.far e.what))
     (Stands-moves Dte t b st sb w.near w.out w.back w.far w.error e.what h)
     (Stands-turned Dce b t (pair_moves Dce b t (turned w) w.far e.what)

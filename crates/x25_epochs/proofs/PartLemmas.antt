@@ -7,9 +7,9 @@ use Rattle.x25_window.specs.Modulo.{resolved}
 use Rattle.x25_epochs.specs.Stretch.{Packet, Data, Int, IntConf}
 use Rattle.x25_epochs.proofs.StretchRelation.{Numbering, numbering, ack_in, int_in, conf_in, piece_of, pieces, number_at, Numbered, hears, heard, ints, confs, Flow, Acks, Ints, Text}
 use Rattle.x25_epochs.proofs.TextLemmas.{joining-append, carried-append, AreSound-back, AreSound-append, AreSound-cut, joining-cut, carried-cut}
-use Rattle.x25_epochs.proofs.LineLemmas.{nil_append, resolved_is, heard_least, heard_push, pieces_push, ints_push, confs_push, Numbered_push}
+use Rattle.x25_epochs.proofs.LineLemmas.{append_nil, resolved_is, heard_least, heard_push, pieces_push, ints_push, confs_push, Numbered_push}
 
--- A1, A2
+-- the data packets on the way, in their numbers
 
 pub Flow-le : (sent taken : List Piece) (u : List Packet) → Flow sent taken u → length sent ≡ length taken + length (pieces u)
 Flow-le sent taken u h = ap length h.flow ∙ length-append taken (pieces u)
@@ -22,7 +22,7 @@ Flow-send sent taken u r p h = record {
 
 pub Flow-push : (sent taken : List Piece) (u : List Packet) (q : Packet) → numbering q ≡ None → Flow sent taken u → Flow sent taken (u ++ q ∷ [])
 Flow-push sent taken u q none h = record {
-  flow = h.flow ∙ ap (λ l. taken ++ l) (sym (pieces_push u q ∙ ap (λ c. pieces u ++ piece_of c) none ∙ nil_append (pieces u)));
+  flow = h.flow ∙ ap (λ l. taken ++ l) (sym (pieces_push u q ∙ ap (λ c. pieces u ++ piece_of c) none ∙ append_nil (pieces u)));
   numbers = Numbered_push (length taken) u q h.numbers (subst (λ (c : Option Numbering). number_at (length taken + length (pieces u)) c (λ m. Unit {0})) (sym none) tt);
 }
 
@@ -32,10 +32,7 @@ Flow-take sent taken u s r p h = record {
   numbers = subst (λ (n : ℕ). Numbered n u) (sym (length_push taken p)) h.numbers.1;
 }
 
--- A3, A4
-
-pub Acks-low : (k acked sent : ℕ) (v : List Packet) (taken : ℕ) → Acks k acked sent v taken → acked ≤ taken
-Acks-low k acked sent v taken h = omega (arith, heard_least acked v)
+-- the window, and the numbers P(R) on the way back
 
 pub Acks-push : (k acked sent : ℕ) (v : List Packet) (taken : ℕ) (q : Packet) → k ≤ 7 → taken ≤ sent → ack_in q ≡ Some (taken % 8) → Acks k acked sent v taken → Acks k acked sent (v ++ q ∷ []) taken
 Acks-push k acked sent v taken q small le is h =
@@ -63,11 +60,11 @@ Acks-hear k acked sent v r taken room acks = record { room = omega arith; acks =
 pub heard_below : (acked sent : ℕ) (v : List Packet) (r taken : ℕ) → taken ≤ sent → heard (resolved acked r) v ≤ taken → resolved acked r ≤ sent
 heard_below acked sent v r taken le acks = omega (arith, heard_least (resolved acked r) v)
 
--- A5
+-- interrupts and their confirmations
 
 pub Ints-there : (out : Bool) (down up : List (List ℕ)) (u v : List Packet) (q : Packet) → int_in q ≡ [] → Ints out down up u v → Ints out down up (u ++ q ∷ []) v
 Ints-there out down up u v q none h =
-    let e : ints (u ++ q ∷ []) ≡ ints u = ints_push u q ∙ ap (λ l. ints u ++ l) none ∙ nil_append (ints u) in
+    let e : ints (u ++ q ∷ []) ≡ ints u = ints_push u q ∙ ap (λ l. ints u ++ l) none ∙ append_nil (ints u) in
     record { count = h.count ∙ ap (λ l. length l + confs v) (sym e); flow = h.flow ∙ ap (λ l. up ++ l) (sym e) }
 
 pub Ints-back : (out : Bool) (down up : List (List ℕ)) (u v : List Packet) (q : Packet) → conf_in q ≡ 0 → Ints out down up u v → Ints out down up u (v ++ q ∷ [])
@@ -97,7 +94,7 @@ Ints-out false down up u v h = absurd (omega arith)
 pub Ints-conf : (down up : List (List ℕ)) (u v : List Packet) → Ints true down up u (IntConf ∷ v) → Ints false down up u v
 Ints-conf down up u v h = record { count = omega arith; flow = h.flow }
 
--- A7
+-- messages
 
 pub Text-send : (size : ℕ) (sent rest : List Piece) (down : List Message) (q : Bool) (xs : List ℕ) → 1 ≤ size → length xs ≤ 65535 → Text size sent rest down
     → Text size sent (rest ++ cut size q xs) (down ++ record { q = q; user = xs } ∷ [])
@@ -134,4 +131,4 @@ Text-ground size sent rest down taken p later is h =
 pub up-take : (up : List Message) (taken : List Piece) (p : Piece) → up ≡ carried taken → up ++ completed (joining no_part taken) p ≡ carried (taken ++ p ∷ [])
 up-take up taken p is =
     ap (λ l. l ++ completed (joining no_part taken) p) is
-    ∙ sym (carried-append no_part taken (p ∷ []) ∙ ap (λ l. carried taken ++ l) (nil_append (completed (joining no_part taken) p)))
+    ∙ sym (carried-append no_part taken (p ∷ []) ∙ ap (λ l. carried taken ++ l) (append_nil (completed (joining no_part taken) p)))

@@ -17,7 +17,8 @@ use Rattle.x25_epochs.proofs.TransferRelation.{reset_mark, stretch_level, Transf
 use Rattle.x25_epochs.proofs.ChannelRelation.{clear_mark, Seen}
 use Rattle.x25_epochs.proofs.StretchLemmas.{GoodStretch-takes, FollowsFrom-from_Dir}
 use Rattle.x25_epochs.proofs.ClaimLemmas.{Seen-joint}
-use Rattle.x25_epochs.proofs.BookLemmas.{Change, Stays, MoreResets, append_nil}
+use Rattle.x25_epochs.proofs.LineLemmas.{append_nil}
+use Rattle.x25_epochs.proofs.BookLemmas.{Change, Stays, MoreResets}
 use Rattle.x25_epochs.proofs.TurnLemmas.{MayIndicate, WithinCall, IsHandled}
 
 -- what has to be known of two lists of a stretch

@@ -10,7 +10,7 @@ use Rattle.x25_epochs.specs.Stretch.{Packet, Data, Rr, Rnr, Int, IntConf, Reset,
 use Rattle.x25_epochs.specs.Layers.{ready}
 use Rattle.x25_epochs.proofs.StretchRelation.{numbering, ack_in, int_in, conf_in, InFlowControl, pieces, heard, ints, Ints, Text, Direction, StretchesRelated, GoodStretch, FollowsFrom}
 use Rattle.x25_epochs.proofs.TextLemmas.{by_if, carried-append}
-use Rattle.x25_epochs.proofs.LineLemmas.{nil_append, AllOpen_push}
+use Rattle.x25_epochs.proofs.LineLemmas.{append_nil, AllOpen_push}
 use Rattle.x25_epochs.proofs.PartLemmas.{Flow-le, Flow-send, Flow-push, Flow-take, Acks-push, Acks-pass, Acks-more, Acks-taken, Acks-hear, heard_below, Ints-there, Ints-back, Ints-send, Ints-take, Ints-out, Ints-conf, Text-send, Text-pull, Text-ground, up-take}
 
 pub StretchesRelated-flip : (t b : Terms) (x : Stretch) (u v : List Packet) (y : Stretch) → StretchesRelated t b x u v y → StretchesRelated b t y v u x
@@ -31,7 +31,7 @@ StretchesRelated-fresh t b = record { there = none t; back = none b }
 
 -- an answer of no packet
 GoodStretch-still : (t b : Terms) (x : Stretch) (u v : List Packet) (y : Stretch) → StretchesRelated t b x u v y → GoodStretch t b (stretch_does x []) u v y
-GoodStretch-still t b x u v y h = record { quiet = refl; kept = subst (λ (w : List Packet). StretchesRelated t b x w v y) (sym (nil_append u)) h }
+GoodStretch-still t b x u v y h = record { quiet = refl; kept = subst (λ (w : List Packet). StretchesRelated t b x w v y) (sym (append_nil u)) h }
 
 -- x tells how far it has taken
 StretchesRelated-tell : (t b : Terms) (x : Stretch) (u v : List Packet) (y : Stretch) (q : Packet) → IsSound b → numbering q ≡ None → int_in q ≡ [] → conf_in q ≡ 0 → InFlowControl q → ack_in q ≡ Some (length x.taken % 8)
@@ -307,8 +307,8 @@ FollowsFrom-from_Dir t x u v y h =
       begins = (carried_from (joining no_part y.taken) (pieces u ++ x.rest), ap (λ l. l ++ carried_from (joining no_part y.taken) (pieces u ++ x.rest)) h.up ∙ sym down);
       int_begins = (ints u, sym h.ints.flow);
       all = λ none idle.
-          h.up ∙ sym (nil_append (carried y.taken))
+          h.up ∙ sym (append_nil (carried y.taken))
           ∙ ap (λ l. carried y.taken ++ l) (sym (ap (λ l. carried_from (joining no_part y.taken) (pieces l ++ x.rest)) none ∙ ap (λ l. carried_from (joining no_part y.taken) l) idle))
           ∙ sym down;
-      int_all = λ none. sym (h.ints.flow ∙ ap (λ l. y.int_up ++ ints l) none ∙ nil_append y.int_up);
+      int_all = λ none. sym (h.ints.flow ∙ ap (λ l. y.int_up ++ ints l) none ∙ append_nil y.int_up);
     }

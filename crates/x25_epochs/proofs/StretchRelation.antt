@@ -31,7 +31,7 @@ abbrev pub conf_in : Packet → ℕ
 conf_in IntConf = 1
 conf_in other = 0
 
--- what kinds of packets pass in d1 (A6)
+-- what kinds of packets pass in d1
 abbrev pub InFlowControl : Packet → Type 0
 InFlowControl (Data s r p) = Unit {0}
 InFlowControl (Rr r) = Unit {0}
@@ -57,7 +57,7 @@ abbrev pub number_at : ℕ → Option Numbering → (ℕ → Type 0) → Type 0
 number_at n None later = later n
 number_at n (Some c) later = (c.number ≡ n % 8) × later (n + 1)
 
--- the data packets are numbered from n on, modulo 8 (A2)
+-- the data packets are numbered from n on, modulo 8
 abbrev pub Numbered : ℕ → List Packet → Type 0
 Numbered n [] = Unit {0}
 Numbered n (p ∷ u) = number_at n (numbering p) (λ m. Numbered m u)
@@ -84,22 +84,22 @@ abbrev pub one_if : Bool → ℕ
 one_if true = 1
 one_if false = 0
 
--- A1, A2: what was sent is what was taken and what is on the way, in its numbers
+-- what was sent is what was taken and what is on the way, in its numbers
 pub record Flow (sent taken : List Piece) (u : List Packet) : Type 0 where
   pub flow : sent ≡ taken ++ pieces u
   pub numbers : Numbered (length taken) u
 
--- A3, A4: the window, and the numbers P(R) on the way back
+-- the window, and the numbers P(R) on the way back
 pub record Acks (k acked sent : ℕ) (v : List Packet) (taken : ℕ) : Type 0 where
   pub room : sent ≤ acked + k
   pub acks : heard acked v ≤ taken
 
--- A5, and the interrupts of A7
+-- at most one interrupt is out: it or its confirmation is on the way; and those handed down are those handed up and those on the way
 pub record Ints (out : Bool) (down up : List (List ℕ)) (u v : List Packet) : Type 0 where
   pub count : one_if out ≡ length (ints u) + confs v
   pub flow : down ≡ up ++ ints u
 
--- A7: what was sent, with what is still to be sent, is whole messages, those handed down
+-- what was sent, with what is still to be sent, is whole messages, those handed down
 pub record Text (size : ℕ) (sent rest : List Piece) (down : List Message) : Type 0 where
   pub fits : AreSound size no_part (sent ++ rest)
   pub whole : joining no_part (sent ++ rest) ≡ no_part

@@ -15,7 +15,7 @@ reset_mark other = Inner
 abbrev pub stretch_level : Terms → Terms → Level Stretch Packet
 stretch_level t b = record { mark = reset_mark; fresh = fresh; gone = λ x. Unit {0}; related = StretchesRelated t b }
 
--- what kinds pass in p4, also in what will be dropped (T)
+-- what kinds pass in p4, also in what will be dropped
 abbrev pub InTransfer : Packet → Type 0
 InTransfer (Call i) = ⊥
 InTransfer Accept = ⊥

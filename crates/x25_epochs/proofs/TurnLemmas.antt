@@ -16,7 +16,8 @@ use Rattle.x25_epochs.proofs.ChannelRelation.{clear_mark, Seen, connection_level
 use Rattle.x25_epochs.proofs.LayersRelation.{on, channels_level, LayersRelated, EndsRelated}
 use Rattle.x25_epochs.proofs.LayerLemmas.{on-front}
 use Rattle.x25_epochs.proofs.NameLemmas.{name_eq}
-use Rattle.x25_epochs.proofs.BookLemmas.{Change, Stays, MoreResets, MoreClears, Turn, Remained, Restarted, append_nil, MayHandUp}
+use Rattle.x25_epochs.proofs.LineLemmas.{append_nil}
+use Rattle.x25_epochs.proofs.BookLemmas.{Change, Stays, MoreResets, MoreClears, Turn, Remained, Restarted, MayHandUp}
 
 -- what may be handed up in a call, where the other end stands in y
 abbrev pub MayIndicate : {M : Type 0} → Kind M → Connection → Connection → List M → Type 0

@@ -30,7 +30,7 @@ pub record CallStep : Type 0 where
 abbrev pub goes : Phase → List CallRequest → List CallRequest → List Packet → CallStep
 goes p m i o = record { next = record { phase = p; made = m; indicated = i }; out = o; error = None }
 
--- an error of the circuit's table: E S
+-- a packet that the phase doesn't allow
 abbrev pub unexpected : Phase → List CallRequest → List CallRequest → CallStep
 unexpected p m i = record { next = record { phase = p; made = m; indicated = i }; out = []; error = Some 0 }
 

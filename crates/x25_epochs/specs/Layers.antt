@@ -5,14 +5,16 @@ use Rattle.x25_bits.specs.declared.role.Role.{Role}
 use Rattle.x25_bits.specs.declared.role.Role.TheVariants.{Dte, Dce}
 use Rattle.x25_circuit.specs.Circuit.{Terms}
 use Rattle.x25_epochs.specs.Stretch.{Packet}
-use Rattle.x25_epochs.specs.Calls.{Connection, unexpected}
+use Rattle.x25_epochs.specs.Calls.{Connection}
 use Rattle.x25_epochs.specs.Channel.{ChannelStep, channel_takes, ChannelAct, channel_acts, fresh_channel}
 
+-- a packet of a channel, without its cause, diagnostic and facilities; RESTART and its confirmation
 pub data LayerPacket : Type 0 where
   On : (channel : ℕ) → (packet : Packet) → LayerPacket
   Restart : LayerPacket
   RestartConf : LayerPacket
 
+-- the channels of an end, by number
 abbrev pub Channels : Type 0
 Channels = ℕ → At Connection
 
@@ -26,11 +28,13 @@ addressed h (p ∷ o) = On h p ∷ addressed h o
 abbrev pub all_fresh : Channels
 all_fresh h = fresh_channel
 
+-- what a step leaves, the packets that it sends, and the number of the error of procedure, if it is one
 pub record LayerStep : Type 0 where
   pub next : At Channels
   pub out : List LayerPacket
   pub error : Option ℕ
 
+-- r1 in this epoch; and RESTART sent, which left it
 abbrev pub ready : ℕ → Channels → At Channels
 ready e x = record { epoch = e; side = Live x }
 
@@ -48,9 +52,11 @@ layer_side_takes r size e (Left x) (On h p) = record { next = restarting e x; ou
 layer_side_takes r size e (Left x) Restart = record { next = ready (suc e) all_fresh; out = []; error = None }
 layer_side_takes r size e (Left x) RestartConf = record { next = ready (suc e) all_fresh; out = []; error = None }
 
+-- a packet taken
 abbrev pub layer_takes : Role → ℕ → At Channels → LayerPacket → LayerStep
 layer_takes r size x p = layer_side_takes r size x.epoch x.side p
 
+-- what an end may do by itself: on a channel, or to all
 pub data LayerAct : Type 0 where
   OnChannel : (channel : ℕ) → (act : ChannelAct) → LayerAct
   SendsRestart : LayerAct
@@ -63,7 +69,8 @@ layer_side_acts t e (Left x) a = record { next = restarting e x; out = []; error
 abbrev pub layer_acts : Terms → At Channels → LayerAct → LayerStep
 layer_acts t x a = layer_side_acts t x.epoch x.side a
 
--- two ends, of which each may be out (Left), with the packets on the way
+-- The end that moves and the other one, each of which may be out (Left); the packets on the way from the one that moves, and those
+-- to it; and the number of the first error of procedure, if there was one.
 pub record Pair : Type 0 where
   pub near : Side (At Channels)
   pub far : Side (At Channels)
@@ -72,8 +79,11 @@ pub record Pair : Type 0 where
   pub error : Option ℕ
 
 pub data Move : Type 0 where
+  -- a call of the user, or a pull
   Acts : (act : LayerAct) → Move
+  -- the packet in front of those on the way to the end is taken
   Takes : Move
+  -- the link goes down, for good
   LinkDown : Move
 
 abbrev pub turned : Pair → Pair
@@ -90,13 +100,14 @@ abbrev pub pair_takes : Role → ℕ → Pair → At Channels → List LayerPack
 pair_takes r size w x [] = w
 pair_takes r size w x (p ∷ K) = stepped w K (layer_takes r size x p)
 
--- an end that is out does nothing more
+-- an end that is out does nothing more; the terms are of the direction from the end that moves, and of that to it
 abbrev pub pair_moves : Role → Terms → Terms → Pair → Side (At Channels) → Move → Pair
 pair_moves r t b w (Live x) (Acts a) = stepped w w.back (layer_acts t x a)
 pair_moves r t b w (Live x) Takes = pair_takes r b.size w x w.back
 pair_moves r t b w (Live x) LinkDown = record { near = Left x; far = w.far; out = w.out; back = w.back; error = w.error }
 pair_moves r t b w (Left x) what = w
 
+-- a move of the first end, or of the second
 pub record Event : Type 0 where
   pub first : Bool
   pub what : Move
@@ -107,7 +118,7 @@ pair_happens t b w e =
 
 abbrev pub pair_run : Terms → Terms → List Event → Pair → Pair
 pair_run t b [] w = w
-pair_run t b (e ∷ unexpected) w = pair_run t b unexpected (pair_happens t b w e)
+pair_run t b (e ∷ events) w = pair_run t b events (pair_happens t b w e)
 
 -- both links are up, and each end has sent its RESTART
 abbrev pub pair_start : Pair

@@ -1,4 +1,5 @@
--- A circuit in d1 of p4 (flow control ready) for one stretch, with the lists of what was handed down and up in it: the calls of the user and the packets taken.
+-- A circuit in d1 of p4 (flow control ready) for one stretch, with the lists of what was handed down and up in it: the calls of
+-- the user and the packets taken. ITU-T X.25 (10/96), sections 4.3 and 4.4.
 use Rattle.std.specs.Prelude.{ℕ, ◌+◌, ◌%◌, List, [], ◌∷◌, ◌++◌, length, Option, Some, None, Bool, true, false, nat_lt, nat_le, if◌then◌else◌, ◌==◌}
 use Rattle.x25_circuit.specs.declared.message.Message.{Message}
 use Rattle.x25_circuit.specs.Messages.{Piece, no_part, joining, completed, piece_ground, cut, wholes}
@@ -6,6 +7,7 @@ use Rattle.x25_window.specs.Modulo.{resolved}
 use Rattle.x25_circuit.specs.Circuit.{Terms}
 use Rattle.x25_circuit.specs.Notices.{CallRequest}
 
+-- the packets of a channel, with what the two ends' order depends on: no channel, cause, diagnostic or facilities
 pub data Packet : Type 0 where
   Data : (ns : ℕ) → (nr : ℕ) → (piece : Piece) → Packet
   Rr : (nr : ℕ) → Packet
@@ -19,6 +21,7 @@ pub data Packet : Type 0 where
   Clear : Packet
   ClearConf : Packet
 
+-- the table's state of a circuit in d1, and the messages and interrupts handed down and up in the stretch, which no row looks at
 pub record Stretch : Type 0 where
   pub sent : List Piece
   pub taken : List Piece

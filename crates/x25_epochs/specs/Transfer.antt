@@ -4,6 +4,7 @@ use Rattle.x25_epochs.specs.Handshake.{Side, Live, Left, At}
 use Rattle.x25_circuit.specs.Circuit.{Terms}
 use Rattle.x25_epochs.specs.Stretch.{Packet, Reset, ResetConf, Call, Accept, Clear, ClearConf, Stretch, fresh, StretchStep, StretchAct, stretch_acts, stretch_takes}
 
+-- what a step leaves, the packets that it sends, and the number of the error of procedure, if it is one
 pub record TransferStep : Type 0 where
   pub next : At Stretch
   pub out : List Packet

@@ -1,6 +1,6 @@
 use std::test::Fail;
 use x25_frame::Role::{Dce, Dte};
-use x25_frame::{Frame, Role, Seq, decode, encode};
+use x25_frame::{Frame, Role, Seq, command_address, decode, encode};
 
 /// Which frame a row has: a constant can hold no sequence number but 0.
 #[derive(Clone, Copy)]
@@ -72,4 +72,31 @@ fn octets_and_frames(rt: HostRuntime) -> Result<(), Fail> {
         assert_eq!(rt; spelled.as_slice(), octets);
     }
     Ok(())
+}
+
+/// A kind, whether it is a command, its poll or final bit, and whether it is a poll.
+const KINDS: [(Kind, bool, bool, bool); 7] = [
+    (Kind::Sabm, true, true, true),
+    (Kind::Ua, false, true, false),
+    (Kind::Frmr, false, false, false),
+    (Kind::Rr(1), false, false, false),
+    (Kind::Poll, true, true, true),
+    (Kind::Rej, false, false, false),
+    (Kind::I, true, false, false),
+];
+
+#[test]
+fn commands_and_polls(rt: HostRuntime) {
+    for (kind, is_command, bit, is_poll) in KINDS {
+        let frame = frame_of(kind);
+        assert_eq!(rt; frame.is_command(), is_command, "{frame:?}");
+        assert_eq!(rt;
+            (frame.poll_or_final(), frame.is_poll()),
+            (bit, is_poll),
+            "{frame:?}"
+        );
+    }
+    for (role, address) in [(Dte, 1), (Dce, 3)] {
+        assert_eq!(rt; command_address(role), address);
+    }
 }

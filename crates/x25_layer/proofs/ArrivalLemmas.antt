@@ -1,5 +1,5 @@
 -- Where the giver is idle and a stretch is open at both ends, the transcripts say that all of it has arrived.
-use Rattle.std.proofs.Common.{◌≡◌, ℕ, zero, suc, ◌+◌, ◌≤◌, List, [], ◌∷◌, ◌++◌, length, Option, Some, None, Bool, true, false, refl, sym, ap, subst, ◌∙◌, length-append, arith}
+use Rattle.std.proofs.Common.{◌≡◌, ℕ, ◌+◌, ◌≤◌, List, [], ◌∷◌, ◌++◌, length, Some, true, false, refl, sym, ap, ◌∙◌, length-append, arith}
 use Rattle.x25_packet.specs.PlainPacket.{PlainPacket}
 use Rattle.x25_circuit.specs.declared.message.Message.{Message}
 use Rattle.x25_circuit.specs.Messages.{wholes}
@@ -9,14 +9,14 @@ use Rattle.x25_epochs.specs.Stretch.{Stretch}
 use Rattle.x25_epochs.specs.Calls.{Phase, Unused, Waiting, Offered, Crossed, Talking, Connection}
 use Rattle.x25_epochs.specs.Layers.{Channels}
 use Rattle.x25_epochs.specs.Names.{Name}
-use Rattle.x25_epochs.specs.Books.{Lists, messages, interrupts, resets_in, held_in, circuit_at, name_at, held_at}
-use Rattle.x25_epochs.specs.Arrivals.{open_in, open_phase, open_call, open_channel, open_at, HasArrived}
+use Rattle.x25_epochs.specs.Books.{Lists, messages, interrupts, held_in, name_at, held_at}
+use Rattle.x25_epochs.specs.Arrivals.{open_call, open_at, HasArrived}
 use Rattle.x25_layer.specs.Layer.{Layer}
 use Rattle.x25_layer.specs.Transcript.{under, messages_in, interrupts_in, name_of}
 use Rattle.x25_layer.specs.World.{End}
 use Rattle.x25_layer.specs.Law.{HasAllOf, IsIdleTo}
 use Rattle.x25_layer.proofs.Sees.{view}
-use Rattle.x25_layer.proofs.LayerSees.{SeesLayer, view_at}
+use Rattle.x25_layer.proofs.LayerSees.{view_at}
 use Rattle.x25_layer.proofs.StepLemmas.{name_eq}
 use Rattle.x25_layer.proofs.WorldLemmas.{SeesEnd}
 
@@ -48,12 +48,14 @@ open_circuit x is = side x.epoch x.side is
         is_open (view y) ≡ true → OpenCircuit y
     transfer e c s (Live x) opened = record { stretch = x; opened = refl; no_more = refl; messages_held = refl; interrupts_held = refl }
     transfer e c s (Left x) opened = absurd (false_true opened)
+
     phase : (e : ℕ) (c : Connection) (a : Phase) → let y : At Connection = record { epoch = e; side = Live (record { phase = a; made = c.made; indicated = c.indicated }) } in is_open (view y) ≡ true → OpenCircuit y
     phase e c (Talking at) opened = transfer e c at.epoch at.side opened
     phase e c Unused opened = absurd (false_true opened)
     phase e c Waiting opened = absurd (false_true opened)
     phase e c Offered opened = absurd (false_true opened)
     phase e c Crossed opened = absurd (false_true opened)
+
     side : (e : ℕ) (z : Side Connection) → is_open (view (record { epoch = e; side = z })) ≡ true → OpenCircuit (record { epoch = e; side = z })
     side e (Live c) opened = phase e c c.phase opened
     side e (Left c) opened = absurd (false_true opened)
@@ -100,11 +102,11 @@ has_all e f s u k acked sees there at at_there idle arrives =
     let here : name_of e.layer k ≡ name_at messages (state_of u) k = idle.same_name ∙ p.named in
     record {
       messages =
-        ap (λ (n : Name). (messages_in (under k n f.entries)).up) here ∙ ap (λ (l : Lists Message). l.up) (at_there.of_messages ∙ p.messages_held)
-        ∙ all.messages (sym o.no_more ∙ idle.no_message)
-        ∙ sym (ap (λ (n : Name). (messages_in (under k n e.entries)).down) o.named ∙ ap (λ (l : Lists Message). l.down) (at.of_messages ∙ o.messages_held));
+          ap (λ (n : Name). (messages_in (under k n f.entries)).up) here ∙ ap (λ (l : Lists Message). l.up) (at_there.of_messages ∙ p.messages_held)
+          ∙ all.messages (sym o.no_more ∙ idle.no_message)
+          ∙ sym (ap (λ (n : Name). (messages_in (under k n e.entries)).down) o.named ∙ ap (λ (l : Lists Message). l.down) (at.of_messages ∙ o.messages_held));
       interrupts =
-        ap (λ (n : Name). (interrupts_in (under k n f.entries)).up) here ∙ ap (λ (l : Lists (List ℕ)). l.up) (at_there.of_interrupts ∙ p.interrupts_held)
-        ∙ all.interrupts
-        ∙ sym (ap (λ (n : Name). (interrupts_in (under k n e.entries)).down) o.named ∙ ap (λ (l : Lists (List ℕ)). l.down) (at.of_interrupts ∙ o.interrupts_held));
+          ap (λ (n : Name). (interrupts_in (under k n f.entries)).up) here ∙ ap (λ (l : Lists (List ℕ)). l.up) (at_there.of_interrupts ∙ p.interrupts_held)
+          ∙ all.interrupts
+          ∙ sym (ap (λ (n : Name). (interrupts_in (under k n e.entries)).down) o.named ∙ ap (λ (l : Lists (List ℕ)). l.down) (at.of_interrupts ∙ o.interrupts_held));
     }

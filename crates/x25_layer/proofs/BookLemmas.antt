@@ -1,16 +1,15 @@
 -- The transcript of an end is its book, of each kind: of calls, messages and interrupts.
-use Rattle.std.proofs.Common.{◌≡◌, ◌⊎◌, inl, inr, ℕ, suc, ◌<◌, List, [], ◌∷◌, ◌++◌, Bool, true, false, ◌==◌, if◌then◌else◌, refl, sym, ap, subst, ◌∙◌, append_assoc}
+use Rattle.std.proofs.Common.{◌≡◌, ◌⊎◌, inl, inr, ℕ, List, [], ◌∷◌, ◌++◌, Bool, true, false, ◌==◌, if◌then◌else◌, refl, sym, ap, ◌∙◌, append_assoc}
 use Rattle.std.proofs.lemmas.Bool.{eqb-true}
-use Rattle.x25_circuit.specs.declared.message.Message.{Message}
 use Rattle.x25_circuit.specs.Notices.{CallRequest}
-use Rattle.x25_epochs.specs.Handshake.{Side, Live, Left, At, state_of}
+use Rattle.x25_epochs.specs.Handshake.{Live, At, state_of}
 use Rattle.x25_epochs.specs.Stretch.{Stretch}
-use Rattle.x25_epochs.specs.Calls.{Phase, Unused, Waiting, Offered, Crossed, Talking, Connection}
+use Rattle.x25_epochs.specs.Calls.{Phase, Unused, Talking, Connection}
 use Rattle.x25_epochs.specs.Layers.{Channels}
 use Rattle.x25_epochs.specs.Names.{Name, both, same_name, IsEarlier}
-use Rattle.x25_epochs.specs.Books.{Lists, none, Kind, resets_in, held_in, of_stretch, messages, interrupts, calls, circuit_at, name_at, held_at, written}
+use Rattle.x25_epochs.specs.Books.{Lists, none, Kind, held_in, of_stretch, messages, interrupts, calls, circuit_at, name_at, held_at, written}
 use Rattle.x25_layer.specs.Transcript.{Handed, nothing_handed, added, Entry, says, under, calls_in, messages_in, interrupts_in}
-use Rattle.x25_layer.proofs.Sees.{held_phase, held_of, resets_of, HasNoCall, Notes, Adds, AfterReset, AfterClear}
+use Rattle.x25_layer.proofs.Sees.{held_phase, held_of, Adds, AfterReset, AfterClear}
 use Rattle.x25_layer.proofs.NoteLemmas.{append_nil}
 use Rattle.x25_layer.proofs.LayerSees.{present, TurnOf, Here, Afresh, StepOf}
 use Rattle.x25_layer.proofs.StepLemmas.{name_eq}
@@ -70,11 +69,13 @@ entered {M} kind lists listed k x y h turn m = by (listed.named k x y h turn)
     as_lists : (b : Bool) → lists (if b then h else nothing_handed) ≡ (if b then lists h else none)
     as_lists true = refl
     as_lists false = listed.nothing
+
     all_none : (b c : Bool) → lists h ≡ none → (if b then lists h else none) ≡ (if c then lists h else none)
     all_none true true e = refl
     all_none true false e = e
     all_none false true e = sym e
     all_none false false e = refl
+
     by : ((lists h ≡ none) ⊎ (name_at kind y k ≡ present y k)) → lists (if same_name m (present y k) then h else nothing_handed) ≡ (if same_name m (name_at kind y k) then lists h else none)
     by (inl e) = as_lists (same_name m (present y k)) ∙ all_none (same_name m (present y k)) (same_name m (name_at kind y k)) e
     by (inr e) = as_lists (same_name m (present y k)) ∙ ap (λ (n : Name). if same_name m n then lists h else none) (sym e)

@@ -1,16 +1,13 @@
 -- What holds of two layers after every event, from what is known of the nested handshakes.
-use Rattle.std.proofs.Common.{◌≡◌, ℕ, List, [], ◌∷◌, ◌++◌, Option, Some, refl, sym, ap, subst, ◌∙◌}
-use Rattle.x25_circuit.specs.Circuit.{Terms}
-use Rattle.x25_epochs.specs.Terms.{IsSound}
+use Rattle.std.proofs.Common.{◌≡◌, ℕ, sym, ap, subst, ◌∙◌}
 use Rattle.x25_epochs.specs.Handshake.{state_of}
-use Rattle.x25_epochs.specs.Layers.{LayerPacket, Pair, pair_run, pair_start}
+use Rattle.x25_epochs.specs.Layers.{Pair, pair_run, pair_start}
 use Rattle.x25_epochs.specs.Names.{Name}
-use Rattle.x25_epochs.specs.Books.{Lists, Kind, messages, interrupts, calls, name_at, held_at, Begins, IsLawful, desk, Ledger, ledger_run, ledger_start, AreInOrder}
-use Rattle.x25_layer.specs.Transcript.{Handed, Entry, under, calls_in, messages_in, interrupts_in}
-use Rattle.x25_layer.specs.World.{World, Event, run, start}
-use Rattle.x25_layer.specs.Law.{Always, IsQuietWorld, HandsUpLawfully, IsLawfulWorld, ArrivesAll, KeepsOrder}
+use Rattle.x25_epochs.specs.Books.{Lists, Kind, messages, interrupts, calls, name_at, held_at, Begins, IsLawful, desk, Ledger, ledger_run, ledger_start}
+use Rattle.x25_layer.specs.Transcript.{Handed, under, calls_in, messages_in, interrupts_in}
+use Rattle.x25_layer.specs.World.{World, run, start}
+use Rattle.x25_layer.specs.Law.{Always, IsQuietWorld, IsLawfulWorld, ArrivesAll, KeepsOrder}
 use Rattle.x25_layer.proofs.LayerSees.{bare_layers}
-use Rattle.x25_layer.proofs.WorldLemmas.{Sees}
 use Rattle.x25_layer.proofs.RunLemmas.{Premises, ledger_pair, AreBooks, InRun, in_run}
 use Rattle.x25_layer.proofs.ArrivalLemmas.{none_in_flight, AtPresent, has_all}
 
@@ -87,11 +84,11 @@ always_arrives p channels t b st sb es =
     } in
     record {
       near = λ k acked idle. has_all w.near w.far j.near j.far k acked h.sees.near h.sees.far (near k) (far k) idle
-        (λ x y open_x open_y same.
+          (λ x y open_x open_y same.
           (p.arrived t b st sb h.events k x y open_x open_y same).0
           (sym h.sees.out ∙ ap bare_layers (none_in_flight w.near.given w.far.taken w.out acked h.sees.order.near idle.all_acked idle.acked_taken)));
       far = λ k acked idle. has_all w.far w.near j.far j.near k acked h.sees.far h.sees.near (far k) (near k) idle
-        (λ x y open_x open_y same.
+          (λ x y open_x open_y same.
           (p.arrived t b st sb h.events k y x open_y open_x (sym same)).1
           (sym h.sees.back ∙ ap bare_layers (none_in_flight w.far.given w.near.taken w.back acked h.sees.order.far idle.all_acked idle.acked_taken)));
     }

@@ -1,5 +1,5 @@
 -- Each answer of a layer, each accepted call and each pull is a step of the nested handshakes, where that is no error of procedure.
-use Rattle.std.proofs.Common.{◌≡◌, ◌⊎◌, inl, inr, ℕ, zero, suc, ◌≤◌, List, [], ◌∷◌, Option, Some, None, Bool, true, false, nat_le, ◌==◌, ◌&&◌, if◌then◌else◌, option_to_list, refl, sym, ap, subst, ◌∙◌, arith}
+use Rattle.std.proofs.Common.{◌≡◌, inl, ℕ, zero, suc, ◌≤◌, List, [], ◌∷◌, Option, Some, None, Bool, true, false, ◌==◌, if◌then◌else◌, option_to_list, refl, sym, ap, subst, ◌∙◌, arith}
 use Rattle.std.proofs.lemmas.Bool.{eqb-true, le-leb}
 use Rattle.x25_bits.specs.declared.role.Role.{Role}
 use Rattle.x25_bits.specs.declared.role.Role.TheVariants.{Dte, Dce}
@@ -9,16 +9,15 @@ use Rattle.x25_circuit.specs.Circuit.{Circuit, begun, forgotten, is_free}
 use Rattle.x25_circuit.specs.Notices.{PlainNotice}
 use Rattle.x25_circuit.specs.Table.{Answer, answers}
 use Rattle.x25_circuit.specs.Calls.{Outcome, Done, Refused, Request, Calls, outcome, Pulled, pulled}
-use Rattle.x25_epochs.specs.Handshake.{Side, Live, Left, has_left, At, state_of}
-use Rattle.x25_epochs.specs.Stretch.{Packet}
+use Rattle.x25_epochs.specs.Handshake.{Side, Live, Left, has_left, At}
 use Rattle.x25_epochs.specs.Calls.{Connection}
 use Rattle.x25_epochs.specs.Channel.{ChannelStep, channel_takes, channel_acts}
-use Rattle.x25_epochs.specs.Layers.{LayerPacket, On, Restart, RestartConf, Channels, put, addressed, on_channel, ready, restarting, all_fresh, LayerStep, layer_takes, layer_side_takes, layer_acts, layer_side_acts, OnChannel}
+use Rattle.x25_epochs.specs.Layers.{LayerPacket, On, Restart, Channels, put, addressed, on_channel, ready, restarting, all_fresh, LayerStep, layer_takes, layer_side_takes, layer_acts, layer_side_acts, OnChannel}
 use Rattle.x25_layer.specs.Layer.{LayerSettings, Layer, LayerAnswer, is_channel, put_at, packet_on, notices_on, is_ready, answers_on, drops, answers_ready, answers_restarting, answers_in, layer_answers}
 use Rattle.x25_layer.specs.Layer as flat
-use Rattle.x25_layer.specs.Calls.{LayerRequest, Asks, Dials, Restarts, LayerOutcome, Accepted, Declined, first_of, lowest_free, highest_free, free_channel, puts_at_once, where_room, if_at_once, outcome_on, dialled, outcome_ready, outcome_in, layer_outcome, LayerPulled, pulled_on, layer_pulled}
+use Rattle.x25_layer.specs.Calls.{LayerRequest, Asks, Dials, Restarts, LayerOutcome, Accepted, Declined, first_of, lowest_free, highest_free, free_channel, puts_at_once, where_room, if_at_once, outcome_on, dialled, outcome_ready, outcome_in, layer_outcome, LayerPulled, layer_pulled}
 use Rattle.x25_layer.specs.Quiet.{IsQuiet, IsQuietAt, AreQuiet, AreNoFaults}
-use Rattle.x25_layer.specs.Transcript.{Handed, nothing_handed, told_by_all, asked_by, Entry, Asked, name_of}
+use Rattle.x25_layer.specs.Transcript.{nothing_handed, told_by_all, asked_by, Entry, Asked, name_of}
 use Rattle.x25_layer.specs.World.{entries_asked, entry_of_request, entry_of_dial, entries_told}
 use Rattle.x25_layer.proofs.Sees.{view, bare, bare_if, IsQuietIf, TellNoFault, Follows, Does, Heeds, act_of, pull_act, Notes, NotesOutcome}
 use Rattle.x25_layer.proofs.ViewLemmas.{some_none, follows, heeds, pulls_as}
@@ -76,7 +75,7 @@ answers_follow channels e f x h a s is each g notes =
       quiet = on_quiet channels h a.owed is g.quiet;
       no_fault = on_no_fault h a.notices g.no_fault;
       step = step_on e x h s.next (is_ready e (put_at f h a.next)) (told_by_all a.notices) (entries_told (is_ready e (put_at f h a.next)) (notices_on h a.notices)) sees notes
-        (λ k m. told_under (is_ready e (put_at f h a.next)) h a.notices k m);
+          (λ k m. told_under (is_ready e (put_at f h a.next)) h a.notices k m);
     }
 
 if_channel : (channels : ℕ) (b : Bool) (u v : LayerAnswer) (z : At Channels) (s : LayerStep) → b ≡ true → FollowsLayer channels u z s → FollowsLayer channels (if b then u else v) z s
@@ -86,14 +85,14 @@ if_channel channels false u v z s is g = absurd (true≢false (sym is))
 on_its_channel : (c : LayerSettings) (e : ℕ) (f : ℕ → Circuit) (x : Channels) (p : PlainPacket) (has : HasChannel p) → ((k : ℕ) → f k ≡ view (x k)) → IsQuietAt c.channels p
     → (channel_takes c.circuit.role c.circuit.incoming.size (x (channel_of p)) (bare p)).error ≡ None
     → FollowsLayer c.channels (if is_channel c.channels (channel_of p) then answers_on e f (channel_of p) (answers c.circuit (f (channel_of p)) p) else drops false e f) (ready e x)
-      (on_channel e x (channel_of p) (channel_takes c.circuit.role c.circuit.incoming.size (x (channel_of p)) (bare p)))
+    (on_channel e x (channel_of p) (channel_takes c.circuit.role c.circuit.incoming.size (x (channel_of p)) (bare p)))
 on_its_channel c e f x p has each ok q =
     let h : ℕ = channel_of p in
     let s : ChannelStep = channel_takes c.circuit.role c.circuit.incoming.size (x h) (bare p) in
     if_channel c.channels (is_channel c.channels h) (answers_on e f h (answers c.circuit (f h) p)) (drops false e f) (ready e x) (on_channel e x h s) (ok.1 has)
     (answers_follow c.channels e f x h (answers c.circuit (f h) p) s (ok.1 has) each
-      (subst (λ (y : Circuit). Follows (answers c.circuit y p) s) (sym (each h)) (follows c.circuit (x h) p ok.0 has q))
-      (subst (λ (y : Circuit). Notes (x h) s.next (told_by_all (answers c.circuit y p).notices)) (sym (each h)) (notes_taken c.circuit (x h) p ok.0 has q)))
+    (subst (λ (y : Circuit). Follows (answers c.circuit y p) s) (sym (each h)) (follows c.circuit (x h) p ok.0 has q))
+    (subst (λ (y : Circuit). Notes (x h) s.next (told_by_all (answers c.circuit y p).notices)) (sym (each h)) (notes_taken c.circuit (x h) p ok.0 has q)))
 
 abbrev Taken : LayerSettings → ℕ → Side Channels → PlainPacket → LayerStep
 Taken c e z p = layer_side_takes c.circuit.role c.circuit.incoming.size e z (bare_layer p)
@@ -168,7 +167,7 @@ asked_on c e f x h request (Done next packet) s is each g notes l r same =
       put = on_bare h packet g.quiet ∙ ap (λ o. addressed h o) g.packet;
       quiet = on_quiet c.channels h packet is g.quiet;
       step = subst (λ (es : List Entry). StepOf (ready e x) (ready e (put x h s.next)) es) (sym (same n))
-        (step_on e x h s.next n (asked_by request) (entry_of_request n h request) sees notes
+          (step_on e x h s.next n (asked_by request) (entry_of_request n h request) sees notes
           (λ k m. sym (under_one k m (record { channel = h; name = name_of n h; said = Asked request }) (asked_by request))));
     }
 asked_on c e f x h request (Refused error) s is each g notes l r same = tt
@@ -227,7 +226,7 @@ circuit_asked c e f x h request is each l r same =
 
 dial : (c : LayerSettings) (full : Bool) (e : ℕ) (f : ℕ → Circuit) (x : Channels) (called calling user : List ℕ) → ((k : ℕ) → f k ≡ view (x k)) → (l : Layer) → l.circuits ≡ f
     → HeedsLayer c l (Dials called calling user) (dialled c full e f (free_channel c.circuit.role f c.channels) called calling user) (ready e x)
-      (layer_side_acts c.circuit.outgoing e (Live x) (dial_act (free_channel c.circuit.role f c.channels) called calling user))
+    (layer_side_acts c.circuit.outgoing e (Live x) (dial_act (free_channel c.circuit.role f c.channels) called calling user))
 dial c full e f x called calling user each l same = found (free_channel c.circuit.role f c.channels) refl
   where
     found : (o : Option ℕ) → free_channel c.circuit.role f c.channels ≡ o
@@ -235,18 +234,18 @@ dial c full e f x called calling user each l same = found (free_channel c.circui
     found None is = tt
     found (Some h) is =
         room c l (Dials called calling user) full (outcome_on e f h (outcome c.circuit (f h) (Calls called calling user))) (ready e x)
-          (on_channel e x h (channel_acts c.circuit.outgoing (x h) (act_of (Calls called calling user))))
+        (on_channel e x h (channel_acts c.circuit.outgoing (x h) (act_of (Calls called calling user))))
         (circuit_asked c e f x h (Calls called calling user) (free_in c.circuit.role f c.channels h is) each l (Dials called calling user)
-          (λ n. ap (λ o. entry_of_dial n o (Calls called calling user)) (ap (λ (g : ℕ → Circuit). free_channel c.circuit.role g c.channels) same ∙ is)))
+        (λ n. ap (λ o. entry_of_dial n o (Calls called calling user)) (ap (λ (g : ℕ → Circuit). free_channel c.circuit.role g c.channels) same ∙ is)))
 
 asked_ready : (c : LayerSettings) (full : Bool) (e : ℕ) (l : Layer) (x : Channels) (r : LayerRequest) → ((k : ℕ) → l.circuits k ≡ view (x k))
     → HeedsLayer c l r (outcome_ready c full e l.circuits r) (ready e x) (layer_side_acts c.circuit.outgoing e (Live x) (layer_act c l.circuits r))
 asked_ready c full e l x (Asks h request) each =
     if_there c l (Asks h request) (is_channel c.channels h) (if_at_once (puts_at_once request) full (outcome_on e l.circuits h (outcome c.circuit (l.circuits h) request))) _ (ready e x)
-      (on_channel e x h (channel_acts c.circuit.outgoing (x h) (act_of request)))
+    (on_channel e x h (channel_acts c.circuit.outgoing (x h) (act_of request)))
     (λ is. at_once c l (Asks h request) (puts_at_once request) full (outcome_on e l.circuits h (outcome c.circuit (l.circuits h) request)) (ready e x)
-      (on_channel e x h (channel_acts c.circuit.outgoing (x h) (act_of request)))
-      (circuit_asked c e l.circuits x h request is each l (Asks h request) (λ n. refl)))
+    (on_channel e x h (channel_acts c.circuit.outgoing (x h) (act_of request)))
+    (circuit_asked c e l.circuits x h request is each l (Asks h request) (λ n. refl)))
 asked_ready c full e l x (Dials called calling user) each = dial c full e l.circuits x called calling user each l refl
 asked_ready c full e l x Restarts each =
     room c l Restarts full (Accepted (flat.restarting_from e l.circuits) (Some (restart 0 0))) (ready e x) (record { next = restarting e x; out = Restart ∷ []; error = None })
@@ -286,7 +285,7 @@ layer_pulls c l z h is s = side l.restarting z.side s.restarting s.circuits
   where
     side : (b : Bool) (w : Side Channels) → b ≡ has_left w → ((k : ℕ) → l.circuits k ≡ view_at w k)
         → let p : LayerPulled = record { next = record { restarting = b; restarts = l.restarts; circuits = put_at l.circuits h (pulled c.circuit (l.circuits h)).next }; packet = packet_on h (pulled c.circuit (l.circuits h)).packet } in
-          DoesLayer c.channels p.next p.packet [] (record { epoch = z.epoch; side = w }) (layer_side_acts c.circuit.outgoing z.epoch w (OnChannel h pull_act))
+        DoesLayer c.channels p.next p.packet [] (record { epoch = z.epoch; side = w }) (layer_side_acts c.circuit.outgoing z.epoch w (OnChannel h pull_act))
     side true (Live x) differ each = absurd (true≢false differ)
     side false (Left x) differ each = absurd (true≢false (sym differ))
     side true (Left x) both each =
@@ -300,7 +299,7 @@ layer_pulls c l z h is s = side l.restarting z.side s.restarting s.circuits
     side false (Live x) both each =
         let t : ChannelStep = channel_acts c.circuit.outgoing (x h) pull_act in
         let g : Does (pulled c.circuit (l.circuits h)).next (pulled c.circuit (l.circuits h)).packet t =
-          subst (λ (y : Circuit). Does (pulled c.circuit y).next (pulled c.circuit y).packet t) (sym (each h)) (pulls_as c.circuit (x h)) in
+        subst (λ (y : Circuit). Does (pulled c.circuit y).next (pulled c.circuit y).packet t) (sym (each h)) (pulls_as c.circuit (x h)) in
         record {
           next = record { restarting = refl; restarts = s.restarts; circuits = λ k. put_same (k == h) (pulled c.circuit (l.circuits h)).next (l.circuits k) t.next (x k) g.next (each k) };
           put = on_bare h (pulled c.circuit (l.circuits h)).packet g.quiet ∙ ap (λ o. addressed h o) g.packet;

@@ -1,19 +1,18 @@
 -- Worked runs of two layers, computed on the definitions.
-use Rattle.std.proofs.Common.{◌≡◌, ℕ, ◌+◌, List, [], ◌∷◌, ◌++◌, length, Option, Some, None, Bool, true, false, refl}
-use Rattle.x25_bits.specs.declared.role.Role.{Role}
+use Rattle.std.proofs.Common.{◌≡◌, ℕ, ◌+◌, List, [], ◌∷◌, ◌++◌, length, Some, None, Bool, true, false, refl}
 use Rattle.x25_bits.specs.declared.role.Role.TheVariants.{Dte, Dce}
-use Rattle.x25_packet.specs.PlainPacket.{PlainPacket, call, accept, clear, clear_conf, user_data, rr, reset, reset_conf, restart, restart_conf}
+use Rattle.x25_packet.specs.PlainPacket.{call, user_data, restart, restart_conf}
 use Rattle.x25_circuit.specs.declared.error.CircuitError.TheVariants as circuit
-use Rattle.x25_circuit.specs.declared.state.State.TheVariants.{Free, Calling, Open}
+use Rattle.x25_circuit.specs.declared.state.State.TheVariants.{Calling, Open}
 use Rattle.x25_circuit.specs.Messages.{Last}
 use Rattle.x25_circuit.specs.Circuit.{Circuit, usual, begun}
 use Rattle.x25_circuit.specs.Notices.{CallRequest, incoming, connected, collided, cleared, clear_done, was_reset, delivered}
 use Rattle.x25_circuit.specs.Calls.{Request, Calls, Accepts, Clears, Sends, Resets}
 use Rattle.x25_epochs.specs.Names.{Name}
 use Rattle.x25_layer.specs.declared.error.LayerError.TheVariants as error
-use Rattle.x25_layer.specs.Layer.{LayerSettings, Layer, on_channel, restarted, restart_done, layer_fault, is_ready, layer_answers, put_at}
-use Rattle.x25_layer.specs.Calls.{LayerRequest, Asks, Dials, Restarts, Accepted, Declined, layer_outcome, free_channel}
-use Rattle.x25_layer.specs.Rounds.{LinkView, Putting, Went, Refuses, calls, rounds, begin}
+use Rattle.x25_layer.specs.Layer.{LayerSettings, Layer, on_channel, restarted, is_ready, layer_answers}
+use Rattle.x25_layer.specs.Calls.{Asks, Dials, Restarts}
+use Rattle.x25_layer.specs.Rounds.{LinkView, Refuses, calls, rounds, begin}
 use Rattle.x25_layer.specs.Transcript.{Entry, Said, Asked, Told}
 use Rattle.x25_layer.specs.World.{World, Move, Requests, Pulls, HandsUp, Event, settings_of, run, start}
 

@@ -1,5 +1,5 @@
 -- What a layer is of the nested handshakes, and what a step does to the names and lists of its channels.
-use Rattle.std.proofs.Common.{◌≡◌, ℕ, suc, ◌<◌, List, [], ◌∷◌, Option, None, Some, Bool, true, false, ◌==◌, if◌then◌else◌, option_to_list}
+use Rattle.std.proofs.Common.{◌≡◌, ℕ, ◌<◌, List, [], ◌∷◌, Option, None, Some, if◌then◌else◌, option_to_list}
 use Rattle.x25_packet.specs.PlainPacket.{PlainPacket, restart, restart_conf}
 use Rattle.x25_packet.specs.Spelling.{channel_of}
 use Rattle.x25_circuit.specs.Circuit.{Circuit, forgotten}

@@ -1,5 +1,5 @@
 -- What a circuit tells and what its user asks is what its channel gains, in the nested handshakes, under its present name; or the name grows, and nothing is said.
-use Rattle.std.proofs.Common.{◌≡◌, ◌⊎◌, inl, inr, ℕ, suc, ◌+◌, ◌%◌, ◌<◌, List, [], ◌∷◌, ◌++◌, length, Option, Some, None, Bool, true, false, nat_lt, nat_le, ◌&&◌, if◌then◌else◌, refl, sym, ap, ◌∙◌, arith}
+use Rattle.std.proofs.Common.{◌≡◌, inl, inr, ℕ, ◌+◌, ◌%◌, List, [], ◌∷◌, ◌++◌, length, Option, Some, None, Bool, true, false, nat_lt, nat_le, ◌&&◌, if◌then◌else◌, refl, sym, ap, ◌∙◌, arith}
 use Rattle.std.proofs.lemmas.Grind.{common_steps}
 use Rattle.x25_bits.specs.declared.role.Role.{Role}
 use Rattle.x25_bits.specs.declared.role.Role.TheVariants.{Dte, Dce}
@@ -10,14 +10,14 @@ use Rattle.x25_circuit.specs.Messages.{Piece, piece_of, no_part, joining, comple
 use Rattle.x25_circuit.specs.Circuit.{Settings}
 use Rattle.x25_circuit.specs.Notices.{CallRequest, deliveries}
 use Rattle.x25_circuit.specs.Table.{answers, unless, takes, hears_status, confirms, collides}
-use Rattle.x25_circuit.specs.Calls.{Outcome, Done, Refused, Request, Calls, Accepts, Clears, Sends, Interrupts, Resets, SaysReady, SaysNotReady, may_call, request_of, outcome}
+use Rattle.x25_circuit.specs.Calls.{Outcome, Request, Calls, Accepts, Clears, Sends, Interrupts, may_call, request_of, outcome}
 use Rattle.x25_epochs.specs.Handshake.{Side, Live, Left, At}
 use Rattle.x25_epochs.specs.Stretch.{Data, Stretch, StretchStep, stretch_does, stretch_fails, by_ground, takes_data, takes_status, data_ground, ack_ground, pulls}
 use Rattle.x25_epochs.specs.Calls.{Phase, Unused, Waiting, Offered, Crossed, Talking, Connection, call_crosses}
-use Rattle.x25_epochs.specs.Channel.{live, clr, lifted_call, channel_takes, channel_acts}
+use Rattle.x25_epochs.specs.Channel.{clr, lifted_call, channel_takes, channel_acts}
 use Rattle.x25_layer.specs.Quiet.{IsQuiet}
-use Rattle.x25_layer.specs.Transcript.{Handed, nothing_handed, added, told_by, told_by_all, asked_by}
-use Rattle.x25_layer.proofs.Sees.{talk_of, view, bare, act_of, pull_act, held_stretch, held_phase, held_of, resets_of, HasNoCall, Notes, Adds, AfterReset, AfterClear, NotesOutcome}
+use Rattle.x25_layer.specs.Transcript.{Handed, nothing_handed, added, told_by_all, asked_by}
+use Rattle.x25_layer.proofs.Sees.{talk_of, view, bare, act_of, pull_act, held_stretch, held_of, resets_of, Notes, Adds, AfterReset, AfterClear, NotesOutcome}
 use Rattle.x25_layer.proofs.ViewLemmas.{some_none, channel_step, in_open, in_resetting, in_call}
 
 pub append_nil : {A : Type 0} (a : List A) → a ++ [] ≡ a
@@ -195,16 +195,16 @@ asked_send : (c : Settings) (e : ℕ) (m i : List CallRequest) (s : ℕ) (x : St
 asked_send c e m i s x q user =
     if_notes (nat_le (length user) 65535) _ _ (in_open e m i s x) (λ st. (channel_step e m i s st).next) _ _ _
     (if_notes (nat_lt (wholes x.rest) 8) _ _ (in_open e m i s x) (λ st. (channel_step e m i s st).next) _ _ _
-      (Adds refl refl
-        (handed_is m _ (none m) i _ (none i) (x.down ++ record { q = q; user = user } ∷ []) _ refl x.up _ (none x.up) x.int_down _ (none x.int_down) x.int_up _ (none x.int_up)) (inl (refl, refl)))
-      tt)
+    (Adds refl refl
+    (handed_is m _ (none m) i _ (none i) (x.down ++ record { q = q; user = user } ∷ []) _ refl x.up _ (none x.up) x.int_down _ (none x.int_down) x.int_up _ (none x.int_up)) (inl (refl, refl)))
+    tt)
     tt
 
 asked_interrupt : (c : Settings) (e : ℕ) (m i : List CallRequest) (s : ℕ) (x : Stretch) (user : List ℕ) → Asked c (in_open e m i s x) (Interrupts user)
 asked_interrupt c e m i s x user =
     if_both (nat_le 1 (length user)) (nat_le (length user) 32) _ _ (in_open e m i s x) (λ st. (channel_step e m i s st).next) _ _ _
     (if_notes x.int_out _ _ (in_open e m i s x) (λ st. (channel_step e m i s st).next) _ _ _ tt
-      (Adds refl refl (handed_is m _ (none m) i _ (none i) x.down _ (none x.down) x.up _ (none x.up) (x.int_down ++ user ∷ []) _ refl x.int_up _ (none x.int_up)) (inl (refl, refl))))
+    (Adds refl refl (handed_is m _ (none m) i _ (none i) x.down _ (none x.down) x.up _ (none x.up) (x.int_down ++ user ∷ []) _ refl x.int_up _ (none x.int_up)) (inl (refl, refl))))
     tt
 
 asked_open : (c : Settings) (e : ℕ) (m i : List CallRequest) (s : ℕ) (x : Stretch) (request : Request) → Asked c (in_open e m i s x) request

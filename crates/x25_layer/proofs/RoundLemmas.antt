@@ -1,13 +1,12 @@
 -- The rounds of a step are pulls of configured channels, one after another.
-use Rattle.std.proofs.Common.{◌≡◌, ℕ, zero, suc, ◌≤◌, List, [], ◌∷◌, ◌++◌, Option, Some, None, Result, Ok, Bool, true, false, nat_lt, ◌==◌, if◌then◌else◌, option_to_list, refl, sym, ap, subst, ◌∙◌, append_assoc, arith}
+use Rattle.std.proofs.Common.{◌≡◌, ℕ, zero, suc, ◌≤◌, List, [], ◌∷◌, ◌++◌, Option, Some, None, Bool, true, false, nat_lt, ◌==◌, if◌then◌else◌, option_to_list, refl, sym, ap, subst, ◌∙◌, append_assoc, arith}
 use Rattle.x25_packet.specs.PlainPacket.{PlainPacket}
-use Rattle.x25_packet.specs.Reading.{packet_of}
-use Rattle.x25_layer.specs.Layer.{LayerSettings, Layer, LayerNotice, LayerAnswer, is_channel, layer_answers}
-use Rattle.x25_layer.specs.Calls.{LayerRequest, LayerOutcome, Accepted, Declined, layer_outcome, LayerPulled, layer_pulled}
-use Rattle.x25_layer.specs.Rounds.{LinkView, Putting, begin, with_pulled, pull_one, round, rounds_of, rounds, backlog, Answered, Went, Refuses, went, calls, Heard, heard, hears, answer_to, longest_user}
+use Rattle.x25_layer.specs.Layer.{LayerSettings, Layer, LayerAnswer, is_channel, layer_answers}
+use Rattle.x25_layer.specs.Calls.{LayerOutcome, Accepted, Declined, layer_outcome, layer_pulled}
+use Rattle.x25_layer.specs.Rounds.{LinkView, Putting, begin, with_pulled, pull_one, round, rounds_of, rounds, backlog, Answered, Went, Refuses, went, heard, answer_to}
 use Rattle.x25_layer.specs.declared.error.LayerError.{LayerError}
 use Rattle.x25_layer.specs.declared.error.LayerError.TheVariants as error
-use Rattle.x25_layer.specs.World.{End, World, Move, Requests, Pulls, HandsUp, entries_asked, puts, requested, pulled_in, answered, handed_up, moves_in, moves}
+use Rattle.x25_layer.specs.World.{World, Move, Requests, Pulls, HandsUp, requested, pulled_in, answered, handed_up, moves_in, moves}
 use Rattle.x25_layer.specs.RoundLaw.{moves_all, pulls_of, AreChannels, IsRun, CallsRun, HearsRun}
 use Rattle.x25_layer.proofs.NoteLemmas.{append_nil}
 use Rattle.x25_layer.proofs.LayerLemmas.{is_between}
@@ -108,9 +107,10 @@ one_here link c w h put up is = room (nat_lt (link.waits put) 8)
         → Pulled c w (record { layer = w.near.layer; put = put }) (with_pulled (record { layer = w.near.layer; put = put }) (layer_pulled c w.near.layer h) o)
     given None found = pulled_nothing c w (record { layer = w.near.layer; put = put }) refl up
     given (Some packet) found = one_there c w h put up is packet found
+
     room : (b : Bool)
         → Pulled c w (record { layer = w.near.layer; put = put })
-          (if b then with_pulled (record { layer = w.near.layer; put = put }) (layer_pulled c w.near.layer h) (layer_pulled c w.near.layer h).packet else record { layer = w.near.layer; put = put })
+        (if b then with_pulled (record { layer = w.near.layer; put = put }) (layer_pulled c w.near.layer h) (layer_pulled c w.near.layer h).packet else record { layer = w.near.layer; put = put })
     room true = given (layer_pulled c w.near.layer h).packet refl
     room false = pulled_nothing c w (record { layer = w.near.layer; put = put }) refl up
 
@@ -136,18 +136,21 @@ run_then : (link : LinkView) (c : LayerSettings) (w : World) (move : Move) (firs
     → (moves c w move).near.given ≡ w.near.given ++ first.put → (moves c w move).out ≡ w.out ++ first.put → (moves c w move).back ≡ behind → (moves c w move).far ≡ w.far
     → (pulled : List ℕ) × AreChannels c.channels pulled × IsRun c w (move ∷ pulls_of pulled) (moves c w move) (rounds link c first) behind
 run_then link c w move first behind layer up given out back far =
-    let p : Pulled c (moves c w move) first (rounds link c first) = pulled_rounds (backlog first.layer.circuits c.channels) link c (moves c w move) first layer up in
-    (p.channels, p.are, record {
-      layer = p.layer;
-      given = p.given ∙ ap (λ l. l ++ p.more) given ∙ append_assoc w.near.given first.put p.more ∙ ap (λ l. w.near.given ++ l) (sym p.put);
-      out = p.out ∙ ap (λ l. l ++ p.more) out ∙ append_assoc w.out first.put p.more ∙ ap (λ l. w.out ++ l) (sym p.put);
-      back = p.back ∙ back;
-      up = p.up;
-      taken = p.taken;
-      told = p.told;
-      entries = p.entries;
-      far = p.far ∙ far;
-    })
+    let p : Pulled c (moves c w move) first (rounds link c first) = pulled_rounds (backlog first.layer.circuits c.channels) link c (moves c w move) first layer up in (
+      p.channels,
+      p.are,
+      record {
+        layer = p.layer;
+        given = p.given ∙ ap (λ l. l ++ p.more) given ∙ append_assoc w.near.given first.put p.more ∙ ap (λ l. w.near.given ++ l) (sym p.put);
+        out = p.out ∙ ap (λ l. l ++ p.more) out ∙ append_assoc w.out first.put p.more ∙ ap (λ l. w.out ++ l) (sym p.put);
+        back = p.back ∙ back;
+        up = p.up;
+        taken = p.taken;
+        told = p.told;
+        entries = p.entries;
+        far = p.far ∙ far;
+      },
+    )
 
 went_is : (s s₂ : Putting) → Went s ≡ Went s₂ → s ≡ s₂
 went_is s s₂ e = ap (λ (a : Answered). step_in a) e
@@ -164,6 +167,7 @@ calls_run link c w request s up is = up_link link.is_up is
   where
     move : Move
     move = Requests (link.waits [] == 256) request
+
     by : (o : LayerOutcome) → layer_outcome c (link.waits [] == 256) w.near.layer request ≡ o → went link c o ≡ Went s
         → (pulled : List ℕ) × AreChannels c.channels pulled × IsRun c w (move ∷ pulls_of pulled) (moves c w move) s w.back
     by (Declined e) found answer = absurd (refuses_went e s answer)
@@ -171,8 +175,9 @@ calls_run link c w request s up is = up_link link.is_up is
         let all : moves c w move ≡ requested c w request (Accepted next packet) = ap (λ (o : Bool). moves_in c w o move) up ∙ ap (λ (o : LayerOutcome). requested c w request o) found in
         subst (λ (t : Putting). (pulled : List ℕ) × AreChannels c.channels pulled × IsRun c w (move ∷ pulls_of pulled) (moves c w move) t w.back) (went_is (rounds link c (begin next packet)) s answer)
         (run_then link c w move (begin next packet) w.back
-          (ap (λ (x : World). x.near.layer) all) (ap (λ (x : World). x.near.is_out) all) (ap (λ (x : World). x.near.given) all) (ap (λ (x : World). x.out) all) (ap (λ (x : World). x.back) all)
-          (ap (λ (x : World). x.far) all))
+        (ap (λ (x : World). x.near.layer) all) (ap (λ (x : World). x.near.is_out) all) (ap (λ (x : World). x.near.given) all) (ap (λ (x : World). x.out) all) (ap (λ (x : World). x.back) all)
+        (ap (λ (x : World). x.far) all))
+
     up_link : (b : Bool) → (if b then went link c (layer_outcome c (link.waits [] == 256) w.near.layer request) else Refuses error.NotUp) ≡ Went s
         → (pulled : List ℕ) × AreChannels c.channels pulled × IsRun c w (move ∷ pulls_of pulled) (moves c w move) s w.back
     up_link true answer = by (layer_outcome c (link.waits [] == 256) w.near.layer request) refl answer
@@ -184,5 +189,5 @@ hears_run link c w packet back octets up front reads =
     let all : moves c w HandsUp ≡ answered w packet back a = ap (λ (o : Bool). moves_in c w o HandsUp) up ∙ ap (λ (l : List PlainPacket). handed_up c w l) front in
     subst (λ (r : _). (pulled : List ℕ) × AreChannels c.channels pulled × IsRun c w (HandsUp ∷ pulls_of pulled) (moves c w HandsUp) (heard link c (answer_to c w.near.layer octets r)).step back) (sym reads)
     (run_then link c w HandsUp (begin a.next a.owed) back
-      (ap (λ (x : World). x.near.layer) all) (ap (λ (x : World). x.near.is_out) all) (ap (λ (x : World). x.near.given) all) (ap (λ (x : World). x.out) all) (ap (λ (x : World). x.back) all)
-      (ap (λ (x : World). x.far) all))
+    (ap (λ (x : World). x.near.layer) all) (ap (λ (x : World). x.near.is_out) all) (ap (λ (x : World). x.near.given) all) (ap (λ (x : World). x.out) all) (ap (λ (x : World). x.back) all)
+    (ap (λ (x : World). x.far) all))

@@ -1,14 +1,14 @@
 -- Each run of two layers is a run of the nested handshakes, with the transcripts as books.
-use Rattle.std.proofs.Common.{◌≡◌, ◌⊎◌, inl, inr, ℕ, List, [], ◌∷◌, ◌++◌, Option, None, Bool, true, false, if◌then◌else◌, option_to_list, refl, sym, ap, subst, ◌∙◌}
+use Rattle.std.proofs.Common.{◌≡◌, ◌⊎◌, inl, inr, ℕ, List, [], ◌∷◌, ◌++◌, None, Bool, true, false, if◌then◌else◌, refl, sym, ap, subst, ◌∙◌}
 use Rattle.x25_bits.specs.declared.role.Role.{Role}
 use Rattle.x25_bits.specs.declared.role.Role.TheVariants.{Dte, Dce}
 use Rattle.x25_circuit.specs.Circuit.{Terms}
 use Rattle.x25_epochs.specs.Terms.{IsSound}
-use Rattle.x25_epochs.specs.Handshake.{At, state_of}
+use Rattle.x25_epochs.specs.Handshake.{state_of}
 use Rattle.x25_epochs.specs.Layers.{Channels, Pair, pair_moves, pair_happens, pair_run, pair_start}
 use Rattle.x25_epochs.specs.Layers as nested
 use Rattle.x25_epochs.specs.Names.{Name, IsEarlier}
-use Rattle.x25_epochs.specs.Books.{Lists, none, Kind, messages, interrupts, calls, name_at, held_at, desk, IsLawful, Ledger, turned_ledger, ledger_moves, ledger_happens, ledger_run, ledger_start, AreInOrder}
+use Rattle.x25_epochs.specs.Books.{Lists, none, Kind, messages, interrupts, calls, name_at, held_at, Ledger, turned_ledger, ledger_moves, ledger_happens, ledger_run, ledger_start, AreInOrder}
 use Rattle.x25_epochs.specs.Arrivals.{AllArrives}
 use Rattle.x25_layer.specs.Transcript.{Handed, Entry, under, calls_in, messages_in, interrupts_in}
 use Rattle.x25_layer.specs.World.{World, Move, Event, moves, turned, happens, run, start, settings_of}
@@ -40,7 +40,7 @@ ledger_pair {M} kind t b (e ∷ es) g = ledger_pair kind t b es (ledger_happens 
   where
     one : (first : Bool)
         → (if first then ledger_moves kind Dte t b g e.what else turned_ledger (ledger_moves kind Dce b t (turned_ledger g) e.what)).pair
-          ≡ (if first then pair_moves Dte t b g.pair g.pair.near e.what else nested.turned (pair_moves Dce b t (nested.turned g.pair) g.pair.far e.what))
+        ≡ (if first then pair_moves Dte t b g.pair g.pair.near e.what else nested.turned (pair_moves Dce b t (nested.turned g.pair) g.pair.far e.what))
     one true = refl
     one false = refl
 
@@ -56,8 +56,8 @@ near_books : {M : Type 0} (kind : Kind M) (lists : Handed → Lists M) → IsLis
     → AreBooks kind lists w g → (s : Stepped r t b channels w j w₂) → AreBooks kind lists w₂ (ledger_moves kind r t b g s.move)
 near_books {M} kind lists listed r t b channels w w₂ j g same held later books s = record {
   near = λ k m.
-    ap (λ (es : List Entry). lists (under k m es)) s.near_entries
-    ∙ booked kind lists listed k (state_of g.pair.near) (state_of (pair_moves r t b g.pair g.pair.near s.move).near) w.near.entries s.entries (g.near k) (held k) (later k) (books.near k)
+      ap (λ (es : List Entry). lists (under k m es)) s.near_entries
+      ∙ booked kind lists listed k (state_of g.pair.near) (state_of (pair_moves r t b g.pair g.pair.near s.move).near) w.near.entries s.entries (g.near k) (held k) (later k) (books.near k)
       (subst (λ (p : Pair). StepOf (state_of p.near) (state_of (pair_moves r t b p p.near s.move).near) s.entries) (sym same) s.step) m;
   far = λ k m. ap (λ (es : List Entry). lists (under k m es)) s.far_entries ∙ books.far k m;
 }
@@ -83,7 +83,7 @@ near_kept {M} kind lists listed order t b st sb channels w w₂ es books s =
     let g : Ledger M = ledger_run kind t b es ledger_start in
     subst (λ (l : Ledger M). AreBooks kind lists w₂ l) (sym (ledger_more kind t b es (event true s.move) ledger_start))
     (near_books kind lists listed Dte t b channels w w₂ (pair_run t b es pair_start) g (ledger_pair kind t b es ledger_start)
-      (λ k. (order t b st sb es k).held) (λ k m. (order t b st sb es k).later m) books s)
+    (λ k. (order t b st sb es k).held) (λ k m. (order t b st sb es k).later m) books s)
 
 far_kept : {M : Type 0} (kind : Kind M) (lists : Handed → Lists M) → IsListed kind lists → AreInOrder kind → (t b : Terms) → IsSound t → IsSound b → (channels : ℕ) (w w₂ : World) (es : List nested.Event)
     → AreBooks kind lists w (ledger_run kind t b es ledger_start) → (s : Stepped Dce b t channels (turned w) (nested.turned (pair_run t b es pair_start)) w₂)
@@ -93,13 +93,13 @@ far_kept {M} kind lists listed order t b st sb channels w w₂ es books s =
     subst (λ (l : Ledger M). AreBooks kind lists (turned w₂) l) (sym (ledger_more kind t b es (event false s.move) ledger_start))
     (books_turned kind lists w₂ (ledger_moves kind Dce b t (turned_ledger g) s.move)
     (near_books kind lists listed Dce b t channels (turned w) w₂ (nested.turned (pair_run t b es pair_start)) (turned_ledger g) (ap nested.turned (ledger_pair kind t b es ledger_start))
-      (λ k. (order t b st sb es k).held_there) (λ k m. (order t b st sb es k).later_there m) (books_turned kind lists w g books) s))
+    (λ k. (order t b st sb es k).held_there) (λ k m. (order t b st sb es k).later_there m) (books_turned kind lists w g books) s))
 
 near_happens : Premises → (channels : ℕ) (t b : Terms) → IsSound t → IsSound b → (w : World) (what : Move) → InRun channels t b w → InRun channels t b (moves (settings_of Dte channels t b) w what)
 near_happens p channels t b st sb w what h =
     let j : Pair = pair_run t b h.events pair_start in
     either (world_moves Dte t b channels w j.near j.far j.out j.back j.error what h.sees
-      (λ m. ap (λ (q : Pair). q.error) (sym (run_more t b h.events (event true m) pair_start)) ∙ p.quiet t b (h.events ++ event true m ∷ []) st sb) w.near.is_out refl)
+    (λ m. ap (λ (q : Pair). q.error) (sym (run_more t b h.events (event true m) pair_start)) ∙ p.quiet t b (h.events ++ event true m ∷ []) st sb) w.near.is_out refl)
   where
     either : (moves (settings_of Dte channels t b) w what ≡ w) ⊎ Stepped Dte t b channels w (pair_run t b h.events pair_start) (moves (settings_of Dte channels t b) w what) → InRun channels t b (moves (settings_of Dte channels t b) w what)
     either (inl same) = subst (λ (v : World). InRun channels t b v) (sym same) h
@@ -117,7 +117,7 @@ far_happens : Premises → (channels : ℕ) (t b : Terms) → IsSound t → IsSo
 far_happens p channels t b st sb w what h =
     let j : Pair = pair_run t b h.events pair_start in
     either (world_moves Dce b t channels (turned w) j.far j.near j.back j.out j.error what (sees_turned channels w j h.sees)
-      (λ m. ap (λ (q : Pair). q.error) (sym (run_more t b h.events (event false m) pair_start)) ∙ p.quiet t b (h.events ++ event false m ∷ []) st sb) w.far.is_out refl)
+    (λ m. ap (λ (q : Pair). q.error) (sym (run_more t b h.events (event false m) pair_start)) ∙ p.quiet t b (h.events ++ event false m ∷ []) st sb) w.far.is_out refl)
   where
     either : (moves (settings_of Dce channels b t) (turned w) what ≡ turned w) ⊎ Stepped Dce b t channels (turned w) (nested.turned (pair_run t b h.events pair_start)) (moves (settings_of Dce channels b t) (turned w) what)
         → InRun channels t b (turned (moves (settings_of Dce channels b t) (turned w) what))
@@ -127,7 +127,7 @@ far_happens p channels t b st sb w what h =
         record {
           events = h.events ++ event false s.move ∷ [];
           sees = subst (λ (q : Pair). Sees channels (turned v) q) (sym (run_more t b h.events (event false s.move) pair_start))
-            (sees_turned channels v (pair_moves Dce b t (nested.turned (pair_run t b h.events pair_start)) (nested.turned (pair_run t b h.events pair_start)).near s.move) s.sees);
+              (sees_turned channels v (pair_moves Dce b t (nested.turned (pair_run t b h.events pair_start)) (nested.turned (pair_run t b h.events pair_start)).near s.move) s.sees);
           messages = far_kept messages messages_in messages_listed p.messages t b st sb channels w v h.events h.messages s;
           interrupts = far_kept interrupts interrupts_in interrupts_listed p.interrupts t b st sb channels w v h.events h.interrupts s;
           calls = far_kept calls calls_in calls_listed p.calls t b st sb channels w v h.events h.calls s;
@@ -142,7 +142,7 @@ in_run_on p channels t b st sb [] w h = h
 in_run_on p channels t b st sb (e ∷ es) w h =
     in_run_on p channels t b st sb es (happens channels t b w e)
     (if_run channels t b e.first (moves (settings_of Dte channels t b) w e.what) (turned (moves (settings_of Dce channels b t) (turned w) e.what))
-      (near_happens p channels t b st sb w e.what h) (far_happens p channels t b st sb w e.what h))
+    (near_happens p channels t b st sb w e.what h) (far_happens p channels t b st sb w e.what h))
 
 begins : (channels : ℕ) (t b : Terms) → InRun channels t b (start channels t b)
 begins channels t b = record {

@@ -1,5 +1,5 @@
 -- What a circuit of the table is of a channel of the nested handshakes: the lists that no row needs are forgotten.
-use Rattle.std.proofs.Common.{◌≡◌, ◌⊎◌, ℕ, ◌<◌, List, [], ◌∷◌, ◌++◌, Option, Some, None}
+use Rattle.std.proofs.Common.{◌≡◌, ◌⊎◌, ℕ, ◌<◌, List, [], ◌∷◌, Option, Some, None}
 use Rattle.x25_packet.specs.PlainPacket.{PlainPacket, call, accept, clear, clear_conf, user_data, rr, rnr, interrupt, interrupt_conf, reset, reset_conf, restart, restart_conf}
 use Rattle.x25_packet.specs.Spelling.{HasChannel}
 use Rattle.x25_circuit.specs.declared.state.State.{State}
@@ -8,15 +8,15 @@ use Rattle.x25_circuit.specs.Messages.{piece_of}
 use Rattle.x25_circuit.specs.Circuit.{Talk, silent, Circuit}
 use Rattle.x25_circuit.specs.Notices.{CallRequest, PlainNotice}
 use Rattle.x25_circuit.specs.Table.{Answer}
-use Rattle.x25_circuit.specs.Calls.{Outcome, Done, Refused, Request, Calls, Accepts, Clears, Sends, Interrupts, Resets, SaysReady, SaysNotReady, request_of, Pulled}
+use Rattle.x25_circuit.specs.Calls.{Outcome, Done, Refused, Request, Calls, Accepts, Clears, Sends, Interrupts, Resets, SaysReady, SaysNotReady, request_of}
 use Rattle.x25_epochs.specs.Handshake.{Side, Live, Left, At, state_of}
-use Rattle.x25_epochs.specs.Stretch.{Packet, Data, Rr, Rnr, Int, IntConf, Reset, ResetConf, Call, Accept, Clear, ClearConf, Stretch, StretchAct, Send, Pull, Ready, NotReady, Interrupt}
-use Rattle.x25_epochs.specs.Transfer.{TransferAct, Inside, SendsReset}
-use Rattle.x25_epochs.specs.Calls.{Phase, Unused, Waiting, Offered, Crossed, Talking, Connection, CallAct, PlacesCall, AcceptsCall, Talks}
+use Rattle.x25_epochs.specs.Stretch.{Packet, Data, Rr, Rnr, Int, IntConf, Reset, ResetConf, Call, Accept, Clear, ClearConf, Stretch, Send, Pull, Ready, NotReady, Interrupt}
+use Rattle.x25_epochs.specs.Transfer.{Inside, SendsReset}
+use Rattle.x25_epochs.specs.Calls.{Phase, Unused, Waiting, Offered, Crossed, Talking, Connection, PlacesCall, AcceptsCall, Talks}
 use Rattle.x25_epochs.specs.Channel.{ChannelStep, ChannelAct, Within, SendsClear}
 use Rattle.x25_epochs.specs.Books.{resets_in}
 use Rattle.x25_layer.specs.Quiet.{IsQuiet, IsNoFault}
-use Rattle.x25_layer.specs.Transcript.{Handed, nothing_handed, added, told_by, told_by_all, asked_by}
+use Rattle.x25_layer.specs.Transcript.{Handed, nothing_handed, added}
 
 abbrev pub talk_of : Stretch → Talk
 talk_of x = record { sent = x.sent; taken = x.taken; acked = x.acked; rest = x.rest; int_out = x.int_out; peer_ready = x.peer_ready; own_ready = x.own_ready }

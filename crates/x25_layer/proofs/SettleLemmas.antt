@@ -1,5 +1,5 @@
 -- Behind the rounds of a step, one round more gives nothing.
-use Rattle.std.proofs.Common.{◌≡◌, ◌⊎◌, inl, inr, ℕ, zero, suc, ◌+◌, ◌<◌, ◌≤◌, ◌%◌, List, [], ◌∷◌, ◌++◌, length, Option, Some, None, Bool, true, false, nat_lt, ◌==◌, ◌&&◌, if◌then◌else◌, refl, sym, ap, subst, ◌∙◌, eq-eqb, arith}
+use Rattle.std.proofs.Common.{◌≡◌, ◌⊎◌, inl, inr, ℕ, zero, suc, ◌+◌, ◌<◌, ◌≤◌, ◌%◌, List, [], ◌∷◌, ◌++◌, length, Option, Some, None, Bool, true, false, nat_lt, ◌==◌, ◌&&◌, if◌then◌else◌, refl, sym, ap, ◌∙◌, eq-eqb, arith}
 use Rattle.std.proofs.lemmas.Bool.{eqb-true}
 use Rattle.x25_packet.specs.PlainPacket.{PlainPacket}
 use Rattle.x25_circuit.specs.declared.state.State.{State}
@@ -7,9 +7,9 @@ use Rattle.x25_circuit.specs.declared.state.State.TheVariants.{Free, Calling, Ar
 use Rattle.x25_circuit.specs.Messages.{Piece}
 use Rattle.x25_circuit.specs.Circuit.{Settings, Talk, Circuit, begun}
 use Rattle.x25_circuit.specs.Calls.{Pulled, pulls_nothing, data_packet, pull_open, pull_in, pulled}
-use Rattle.x25_layer.specs.Layer.{LayerSettings, Layer, put_at, packet_on, goes_up}
-use Rattle.x25_layer.specs.Calls.{LayerPulled, layer_pulled}
-use Rattle.x25_layer.specs.Rounds.{LinkView, Putting, begin, with_pulled, pull_one, round, rounds_of, rounds, backlog}
+use Rattle.x25_layer.specs.Layer.{LayerSettings, put_at, packet_on, goes_up}
+use Rattle.x25_layer.specs.Calls.{layer_pulled}
+use Rattle.x25_layer.specs.Rounds.{LinkView, Putting, begin, with_pulled, pull_one, round, rounds_of, backlog}
 use Rattle.x25_layer.specs.RoundLaw.{RoundsSettle, ComesUpAlone}
 
 none_some : {T : Type 0} (x : T) → None ≡ Some x → ⊥
@@ -26,6 +26,7 @@ shorter_open c x t (piece ∷ rest) p same found = test (t.peer_ready && nat_lt 
       next = record { state = x.state; clears = x.clears; resets = x.resets; talk = record { sent = t.sent ++ piece ∷ []; taken = t.taken; acked = t.acked; rest = rest; int_out = t.int_out; peer_ready = t.peer_ready; own_ready = t.own_ready } };
       packet = Some (data_packet (length t.sent % 8) (length t.taken % 8) piece);
     }
+
     test : (b : Bool) → (if b then next else pulls_nothing x).packet ≡ Some p → suc (length (if b then next else pulls_nothing x).next.talk.rest) ≡ length x.talk.rest
     test true is = let l : length x.talk.rest ≡ length (piece ∷ rest) = ap length same in omega (arith, l)
     test false is = absurd (none_some p is)
@@ -103,12 +104,14 @@ one_lessens link c h low high s = room (nat_lt (link.waits s.put) 8)
   where
     y : Circuit
     y = (pulled c.circuit (s.layer.circuits h)).next
+
     given : (o : Option PlainPacket) → (pulled c.circuit (s.layer.circuits h)).packet ≡ o → Lessens c s (with_pulled s (layer_pulled c s.layer h) (packet_on h o))
     given None found = inl refl
     given (Some packet) found =
         let less : suc (length y.talk.rest) ≡ length (s.layer.circuits h).talk.rest = shorter c.circuit (s.layer.circuits h) packet found in
         let sum = backlog_put s.layer.circuits h y c.channels low high in
         inr (let e : backlog (put_at s.layer.circuits h y) c.channels < backlog s.layer.circuits c.channels = omega (arith, less, sum) in e)
+
     room : (b : Bool) → Lessens c s (if b then with_pulled s (layer_pulled c s.layer h) (layer_pulled c s.layer h).packet else s)
     room true = given (pulled c.circuit (s.layer.circuits h)).packet refl
     room false = inl refl

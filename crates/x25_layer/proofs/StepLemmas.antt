@@ -1,9 +1,9 @@
 -- The entries of a step stand under the name after it, and are what the channels gain.
-use Rattle.std.proofs.Common.{◌≡◌, ℕ, suc, ◌+◌, ◌<◌, List, [], ◌∷◌, ◌++◌, Option, None, Some, Bool, true, false, ◌==◌, if◌then◌else◌, refl, sym, ap, subst, ◌∙◌, arith}
+use Rattle.std.proofs.Common.{◌≡◌, ℕ, suc, List, [], ◌∷◌, ◌++◌, Bool, true, false, ◌==◌, if◌then◌else◌, refl, sym, ap, subst, ◌∙◌, arith}
 use Rattle.std.proofs.lemmas.Bool.{eqb-true}
 use Rattle.x25_circuit.specs.Circuit.{Circuit}
 use Rattle.x25_circuit.specs.Notices.{PlainNotice}
-use Rattle.x25_epochs.specs.Handshake.{Side, Live, Left, At, state_of}
+use Rattle.x25_epochs.specs.Handshake.{Side, At}
 use Rattle.x25_epochs.specs.Calls.{Connection}
 use Rattle.x25_epochs.specs.Layers.{Channels, put, ready, all_fresh}
 use Rattle.x25_epochs.specs.Names.{Name, both, same_name}
@@ -11,9 +11,9 @@ use Rattle.x25_epochs.specs.Books.{circuit_at}
 use Rattle.x25_layer.specs.Layer.{Layer, notices_on}
 use Rattle.x25_layer.specs.Transcript.{Handed, nothing_handed, added, told_by, told_by_all, Entry, under, name_of}
 use Rattle.x25_layer.specs.World.{entries_told}
-use Rattle.x25_layer.proofs.Sees.{held_of, resets_of, Notes}
+use Rattle.x25_layer.proofs.Sees.{Notes}
 use Rattle.x25_layer.proofs.NoteLemmas.{still, append_nil}
-use Rattle.x25_layer.proofs.LayerSees.{SeesLayer, present, TurnOf, Here, Afresh, StepOf}
+use Rattle.x25_layer.proofs.LayerSees.{SeesLayer, present, Here, Afresh, StepOf}
 
 pub name_eq : (m n : Name) → m.restarts ≡ n.restarts → m.clears ≡ n.clears → m.resets ≡ n.resets → m ≡ n
 name_eq m n p q w =
@@ -46,11 +46,12 @@ name_seen l e y h s = name_eq (name_of l h) (present (ready e y) h) s.restarts (
 -- a step on channel h
 pub step_on : (e : ℕ) (x : Channels) (h : ℕ) (c : At Connection) (l : Layer) (s : Handed) (es : List Entry) → SeesLayer l (ready e (put x h c)) → Notes (x h) c s
     → ((k : ℕ) (m : Name) → under k m es ≡ (if both (k == h) (same_name m (name_of l h)) then s else nothing_handed)) → StepOf (ready e x) (ready e (put x h c)) es
-step_on e x h c l s es sees notes is k =
-    (if k == h then s else nothing_handed,
-    Here refl (chosen (k == h) (x k) c s (λ at. subst (λ (j : ℕ). Notes (x j) c s) (sym (eqb-true k h at)) notes)),
-    λ m. is k m ∙ fix (k == h) (same_name m (name_of l h)) (same_name m (present (ready e (put x h c)) k)) s
-      (λ at. ap (λ (j : Name). same_name m j) (name_seen l e (put x h c) h sees ∙ ap (λ (j : ℕ). present (ready e (put x h c)) j) (sym (eqb-true k h at)))))
+step_on e x h c l s es sees notes is k = (
+  if k == h then s else nothing_handed,
+  Here refl (chosen (k == h) (x k) c s (λ at. subst (λ (j : ℕ). Notes (x j) c s) (sym (eqb-true k h at)) notes)),
+  λ m. is k m ∙ fix (k == h) (same_name m (name_of l h)) (same_name m (present (ready e (put x h c)) k)) s
+      (λ at. ap (λ (j : Name). same_name m j) (name_seen l e (put x h c) h sees ∙ ap (λ (j : ℕ). present (ready e (put x h c)) j) (sym (eqb-true k h at)))),
+)
 
 handed_append : (s : Handed) → added s nothing_handed ≡ s
 handed_append s =

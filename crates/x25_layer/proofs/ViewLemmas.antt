@@ -1,15 +1,15 @@
 -- Each row of a circuit's table is a step of its channel in the nested handshakes, where that is no error of procedure.
-use Rattle.std.proofs.Common.{◌≡◌, ◌⊎◌, inl, inr, ℕ, zero, suc, ◌+◌, ◌%◌, List, [], ◌∷◌, ◌++◌, length, Option, Some, None, Bool, true, false, nat_lt, nat_le, ◌&&◌, if◌then◌else◌, refl, sym, ap, subst, ◌∙◌}
+use Rattle.std.proofs.Common.{◌≡◌, ℕ, ◌+◌, ◌%◌, List, [], ◌∷◌, length, Option, Some, None, Bool, true, false, nat_lt, nat_le, ◌&&◌, if◌then◌else◌, refl}
 use Rattle.x25_bits.specs.declared.role.Role.{Role}
 use Rattle.x25_bits.specs.declared.role.Role.TheVariants.{Dte, Dce}
 use Rattle.x25_packet.specs.PlainPacket.{PlainPacket, call, accept, clear, clear_conf, user_data, rr, rnr, interrupt, interrupt_conf, reset, reset_conf, restart, restart_conf}
 use Rattle.x25_packet.specs.Spelling.{HasChannel}
 use Rattle.x25_circuit.specs.declared.message.Message.{Message}
-use Rattle.x25_circuit.specs.Messages.{Piece, More, Last, piece_of, no_part, joining, completed, cut, wholes}
-use Rattle.x25_circuit.specs.Circuit.{Settings, Circuit}
+use Rattle.x25_circuit.specs.Messages.{Piece, More, Last, piece_of, no_part, joining, completed, wholes}
+use Rattle.x25_circuit.specs.Circuit.{Settings}
 use Rattle.x25_circuit.specs.Notices.{CallRequest, deliveries}
-use Rattle.x25_circuit.specs.Table.{Answer, answers, unless, takes, hears_status, confirms, status, collides}
-use Rattle.x25_circuit.specs.Calls.{Outcome, Done, Refused, Request, Calls, Accepts, Clears, Sends, Interrupts, Resets, SaysReady, SaysNotReady, may_call, outcome, Pulled, pulled, pull_open, data_packet}
+use Rattle.x25_circuit.specs.Table.{answers, unless, takes, hears_status, confirms, status, collides}
+use Rattle.x25_circuit.specs.Calls.{Outcome, Request, Calls, Accepts, Clears, Sends, Interrupts, Resets, SaysReady, SaysNotReady, may_call, outcome, Pulled, pulled, pull_open, data_packet}
 use Rattle.x25_epochs.specs.Handshake.{Side, Live, Left, At}
 use Rattle.x25_epochs.specs.Stretch.{Data, Stretch, StretchStep, stretch_does, stretch_fails, Send, Interrupt, pulls, stretch_acts, by_ground, takes_data, takes_status, data_ground, ack_ground}
 use Rattle.x25_epochs.specs.Stretch as nested

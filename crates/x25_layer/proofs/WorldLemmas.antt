@@ -8,10 +8,10 @@ use Rattle.x25_epochs.specs.Layers.{LayerPacket, Channels, LayerStep, OnChannel,
 use Rattle.x25_epochs.specs.Layers as nested
 use Rattle.x25_epochs.specs.Books.{circuit_at}
 use Rattle.x25_layer.specs.Layer.{LayerSettings, Layer, LayerNotice, LayerAnswer, is_channel, layer_answers, at_rest}
-use Rattle.x25_layer.specs.Calls.{LayerRequest, LayerOutcome, Accepted, Declined, layer_outcome, LayerPulled, layer_pulled}
+use Rattle.x25_layer.specs.Calls.{LayerOutcome, Accepted, Declined, layer_outcome, LayerPulled, layer_pulled}
 use Rattle.x25_layer.specs.Quiet.{AreQuiet, AreNoFaults}
 use Rattle.x25_layer.specs.Transcript.{Entry}
-use Rattle.x25_layer.specs.World.{End, World, entries_asked, entries_told, Move, Requests, Pulls, HandsUp, GoesDown, puts, requested, pulled_in, answered, handed_up, goes_down, moves_in, moves, turned, settings_of}
+use Rattle.x25_layer.specs.World.{End, World, entries_asked, entries_told, Move, Requests, Pulls, HandsUp, GoesDown, puts, requested, pulled_in, answered, handed_up, moves_in, turned, settings_of}
 use Rattle.x25_layer.specs.Law.{IsQuietEnd, KeepsOrder}
 use Rattle.x25_layer.proofs.Sees.{pull_act}
 use Rattle.x25_layer.proofs.NoteLemmas.{still, append_nil}
@@ -115,11 +115,11 @@ world_moves r t b channels w (Live z) far out back error (Requests full request)
   where
     did : (d : LayerOutcome) → HeedsLayer (settings_of r channels t b) w.near.layer request d z (layer_acts t z (layer_act (settings_of r channels t b) w.near.layer.circuits request))
         → (requested (settings_of r channels t b) w request d ≡ w)
-          ⊎ Stepped r t b channels w (record { near = Live z; far = far; out = out; back = back; error = error }) (requested (settings_of r channels t b) w request d)
+        ⊎ Stepped r t b channels w (record { near = Live z; far = far; out = out; back = back; error = error }) (requested (settings_of r channels t b) w request d)
     did (Accepted next packet) g = inr (record {
       move = Acts (layer_act (settings_of r channels t b) w.near.layer.circuits request);
       sees = put_sees channels w (record { near = Live z; far = far; out = out; back = back; error = error }) next (option_to_list packet)
-        (entries_asked (settings_of r channels t b) w.near.layer next request) (layer_acts t z (layer_act (settings_of r channels t b) w.near.layer.circuits request)) _ sees g.next g.put g.quiet;
+          (entries_asked (settings_of r channels t b) w.near.layer next request) (layer_acts t z (layer_act (settings_of r channels t b) w.near.layer.circuits request)) _ sees g.next g.put g.quiet;
       entries = entries_asked (settings_of r channels t b) w.near.layer next request;
       near_entries = refl;
       far_entries = refl;
@@ -130,7 +130,7 @@ world_moves r t b channels w (Live z) far out back error (Pulls h) sees quiet fa
   where
     test : (c : Bool) → is_channel channels h ≡ c
         → ((if c then pulled_in w (layer_pulled (settings_of r channels t b) w.near.layer h) else w) ≡ w)
-          ⊎ Stepped r t b channels w (record { near = Live z; far = far; out = out; back = back; error = error }) (if c then pulled_in w (layer_pulled (settings_of r channels t b) w.near.layer h) else w)
+        ⊎ Stepped r t b channels w (record { near = Live z; far = far; out = out; back = back; error = error }) (if c then pulled_in w (layer_pulled (settings_of r channels t b) w.near.layer h) else w)
     test false other = inl refl
     test true there =
         let p : LayerPulled = layer_pulled (settings_of r channels t b) w.near.layer h in
@@ -147,25 +147,25 @@ world_moves r t b channels w (Live z) far out back error HandsUp sees quiet fals
   where
     handed : (K : List PlainPacket) → w.back ≡ K
         → (handed_up (settings_of r channels t b) w K ≡ w)
-          ⊎ Stepped r t b channels w (record { near = Live z; far = far; out = out; back = back; error = error }) (handed_up (settings_of r channels t b) w K)
+        ⊎ Stepped r t b channels w (record { near = Live z; far = far; out = out; back = back; error = error }) (handed_up (settings_of r channels t b) w K)
     handed [] front = inl refl
     handed (p ∷ K) front =
         let c : LayerSettings = settings_of r channels t b in
         let same : bare_layer p ∷ bare_layers K ≡ back = ap bare_layers (sym front) ∙ sees.back in
         let s : LayerStep = layer_takes r b.size z (bare_layer p) in
         let clean : s.error ≡ None =
-          second error s.error (subst (λ (l : List LayerPacket). (pair_moves r t b (record { near = Live z; far = far; out = out; back = l; error = error }) (Live z) Takes).error ≡ None) (sym same) (quiet Takes)) in
+        second error s.error (subst (λ (l : List LayerPacket). (pair_moves r t b (record { near = Live z; far = far; out = out; back = l; error = error }) (Live z) Takes).error ≡ None) (sym same) (quiet Takes)) in
         let ok = subst (λ (l : List PlainPacket). AreQuiet channels l) front sees.back_quiet in
         let g : FollowsLayer channels (layer_answers c w.near.layer p) z s = layer_follows c w.near.layer z p sees.near.1 ok.0 clean in
         inr (subst (λ (l : List LayerPacket). Stepped r t b channels w (record { near = Live z; far = far; out = out; back = l; error = error }) (answered w p K (layer_answers c w.near.layer p))) same
-          (record {
-            move = Takes;
-            sees = answered_sees channels w (record { near = Live z; far = far; out = out; back = back; error = error }) p K (layer_answers c w.near.layer p) s _ sees front z g;
-            entries = entries_told (layer_answers c w.near.layer p).next (layer_answers c w.near.layer p).notices;
-            near_entries = refl;
-            far_entries = refl;
-            step = g.step;
-          }))
+        (record {
+          move = Takes;
+          sees = answered_sees channels w (record { near = Live z; far = far; out = out; back = back; error = error }) p K (layer_answers c w.near.layer p) s _ sees front z g;
+          entries = entries_told (layer_answers c w.near.layer p).next (layer_answers c w.near.layer p).notices;
+          near_entries = refl;
+          far_entries = refl;
+          step = g.step;
+        }))
 world_moves r t b channels w (Live z) far out back error GoesDown sees quiet false is = inr (record {
   move = LinkDown;
   sees = record {

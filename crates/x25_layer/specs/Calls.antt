@@ -1,10 +1,10 @@
 -- The calls of the user of a layer, their refusals in order (profile), and the channel that a new call takes.
-use Rattle.std.specs.Prelude.{ℕ, zero, suc, List, [], ◌∷◌, Option, Some, None, Bool, true, false, if◌then◌else◌}
+use Rattle.std.specs.Prelude.{ℕ, zero, suc, List, Option, Some, None, Bool, true, false, if◌then◌else◌}
 use Rattle.x25_bits.specs.declared.role.Role.{Role}
 use Rattle.x25_bits.specs.declared.role.Role.TheVariants.{Dte, Dce}
 use Rattle.x25_packet.specs.PlainPacket.{PlainPacket, restart}
 use Rattle.x25_circuit.specs.Circuit.{Circuit, is_free}
-use Rattle.x25_circuit.specs.Calls.{Outcome, Done, Refused, Request, Calls, Accepts, Clears, Sends, Interrupts, Resets, SaysReady, SaysNotReady, outcome, Pulled, pulled}
+use Rattle.x25_circuit.specs.Calls.{Outcome, Done, Refused, Request, Calls, Sends, outcome, Pulled, pulled}
 use Rattle.x25_layer.specs.declared.error.LayerError.{LayerError}
 use Rattle.x25_layer.specs.declared.error.LayerError.TheVariants as error
 use Rattle.x25_layer.specs.Layer.{LayerSettings, Layer, is_channel, put_at, packet_on, is_ready, restarting_from}
@@ -34,7 +34,7 @@ abbrev pub highest_free : (ℕ → Circuit) → ℕ → Option ℕ
 highest_free circuits zero = None
 highest_free circuits (suc n) = if is_free (circuits (suc n)) then Some (suc n) else highest_free circuits n
 
--- A DTE calls on the highest free channel and a DCE on the lowest (section 4.1.2, annex A), so that they seldom collide.
+-- A DTE calls on the highest free channel and a DCE on the lowest (sections 4.1.2 and 4.1.3), so that they seldom collide.
 abbrev pub free_channel : Role → (ℕ → Circuit) → ℕ → Option ℕ
 free_channel Dte circuits channels = highest_free circuits channels
 free_channel Dce circuits channels = lowest_free circuits channels

@@ -1,6 +1,5 @@
 -- What holds of two layers over links that keep order, after any events.
-use Rattle.std.specs.Prelude.{◌≡◌, ℕ, ◌≤◌, List, ◌++◌, length, Bool, true}
-use Rattle.x25_packet.specs.PlainPacket.{PlainPacket}
+use Rattle.std.specs.Prelude.{◌≡◌, ℕ, ◌≤◌, List, ◌++◌, length, true}
 use Rattle.x25_circuit.specs.Circuit.{Terms, is_open, waits}
 use Rattle.x25_epochs.specs.Terms.{IsSound}
 use Rattle.x25_epochs.specs.Names.{Name}

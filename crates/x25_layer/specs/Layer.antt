@@ -1,9 +1,9 @@
--- The packet layer of one end: restart, and its circuits by logical channel. ITU-T X.25 (10/96), sections 3 and 4.5, and
--- Annex C, tables C-1 and C-2. Diagnostics are of the profile, and so is that a packet is dropped which names no channel of this end.
+-- The packet layer of one end: restart, and its circuits by logical channel. ITU-T X.25 (10/96), sections 3.1, 3.3 and 4.5, and
+-- Annex C, table C-2. Diagnostics are of the profile, and so is that a packet is dropped which names no channel of this end.
 use Rattle.std.specs.Prelude.{ℕ, suc, List, [], ◌∷◌, Option, Some, None, Bool, true, false, nat_le, ◌==◌, ◌&&◌, if◌then◌else◌}
 use Rattle.x25_bits.specs.declared.role.Role.{Role}
 use Rattle.x25_packet.specs.declared.error.PacketError.{PacketError}
-use Rattle.x25_packet.specs.PlainPacket.{PlainPacket, call, accept, clear, clear_conf, user_data, rr, rnr, interrupt, interrupt_conf, reset, reset_conf, restart, restart_conf}
+use Rattle.x25_packet.specs.PlainPacket.{PlainPacket, restart, restart_conf}
 use Rattle.x25_packet.specs.Spelling.{channel_of, moved_to}
 use Rattle.x25_circuit.specs.Circuit.{Settings, Circuit, begun, forgotten}
 use Rattle.x25_circuit.specs.Notices.{PlainNotice}

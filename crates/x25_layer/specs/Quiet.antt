@@ -1,6 +1,6 @@
 -- No error of procedure: packets and notices that tell of none.
-use Rattle.std.specs.Prelude.{◌≡◌, ◌⊎◌, ℕ, List, [], ◌∷◌, Bool, true}
-use Rattle.x25_packet.specs.PlainPacket.{PlainPacket, call, accept, clear, clear_conf, user_data, rr, rnr, interrupt, interrupt_conf, reset, reset_conf, restart, restart_conf}
+use Rattle.std.specs.Prelude.{◌≡◌, ◌⊎◌, ℕ, List, [], ◌∷◌, true}
+use Rattle.x25_packet.specs.PlainPacket.{PlainPacket, call, accept, clear, reset, restart}
 use Rattle.x25_packet.specs.Spelling.{channel_of, HasChannel}
 use Rattle.x25_circuit.specs.Notices.{PlainNotice, fault}
 use Rattle.x25_layer.specs.Layer.{is_channel, LayerNotice, on_channel, layer_fault}

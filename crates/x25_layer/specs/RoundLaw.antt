@@ -1,10 +1,10 @@
 -- Each call of a layer is a run: the step of the call, and then pulls of configured channels.
-use Rattle.std.specs.Prelude.{◌≡◌, ℕ, List, [], ◌∷◌, ◌++◌, Result, Ok, Bool, true, false, ◌==◌}
+use Rattle.std.specs.Prelude.{◌≡◌, ℕ, List, [], ◌∷◌, ◌++◌, Ok, true, false, ◌==◌}
 use Rattle.x25_packet.specs.PlainPacket.{PlainPacket}
 use Rattle.x25_packet.specs.Reading.{packet_of}
-use Rattle.x25_layer.specs.Layer.{LayerSettings, Layer, is_channel, goes_up}
+use Rattle.x25_layer.specs.Layer.{LayerSettings, is_channel, goes_up}
 use Rattle.x25_layer.specs.Calls.{LayerRequest}
-use Rattle.x25_layer.specs.Rounds.{LinkView, Putting, begin, round, rounds, Answered, Went, calls, Heard, hears, comes_up, longest_user}
+use Rattle.x25_layer.specs.Rounds.{LinkView, Putting, begin, round, rounds, Went, calls, hears, comes_up, longest_user}
 use Rattle.x25_layer.specs.World.{World, Move, Requests, Pulls, HandsUp, moves}
 
 -- moves of the near end, one after another

@@ -1,6 +1,6 @@
 -- A layer over a link: each call's own packet is put, and then the data packets of all channels, in rounds. The refusals and the
 -- rounds are of the profile.
-use Rattle.std.specs.Prelude.{ℕ, zero, suc, ◌+◌, List, [], ◌∷◌, ◌++◌, length, option_to_list, Option, Some, None, Result, Ok, Err, Bool, true, false, nat_lt, ◌==◌, if◌then◌else◌}
+use Rattle.std.specs.Prelude.{ℕ, zero, suc, ◌+◌, List, [], ◌∷◌, ◌++◌, length, option_to_list, Option, Some, None, Result, Ok, Err, Bool, nat_lt, ◌==◌, if◌then◌else◌}
 use Rattle.x25_packet.specs.declared.error.PacketError.{PacketError}
 use Rattle.x25_packet.specs.PlainPacket.{PlainPacket}
 use Rattle.x25_packet.specs.Reading.{packet_of, channel_in}

@@ -4,3 +4,9 @@ pub mod RawKept
 pub mod FitLemmas
 pub mod RawActs
 pub mod RawWorlds
+pub mod StationLines
+pub mod StationSends
+pub mod StationSteps
+pub mod StationRuns
+pub mod StationEvents
+pub mod StationRowLemmas

@@ -1,7 +1,8 @@
-//! Two ends and a line between them that keeps order and may lose any frame.
+//! Two ends and a line between them that keeps order and may lose any frame: bare ends, and laws of two link stations.
 #![tactic(auto)]
 
 mod direction;
+mod law;
 mod raw_end;
 mod raw_error;
 mod raw_event;
@@ -9,6 +10,7 @@ mod raw_frame;
 mod raw_world;
 
 pub use direction::Direction;
+pub use law::{each_event_hands_one, stations_keep_order, stations_move};
 pub use raw_error::{RawError, RawRefused};
 pub use raw_event::RawEvent;
 pub use raw_frame::{RawCarried, RawFrame};

@@ -1,6 +1,7 @@
 pub mod BacklogLemmas
 pub mod EndLemmas
 pub mod FitsLemmas
+pub mod FrameCount
 pub mod LinkLemmas
 pub mod ListLemmas
 pub mod NoteRows

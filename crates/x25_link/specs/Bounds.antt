@@ -1,7 +1,8 @@
--- What a link holds at most.
-use Rattle.std.specs.Prelude.{◌≤◌}
+-- What a link holds at most, and how many frames a step sends at most.
+use Rattle.std.specs.Prelude.{ℕ, ◌≤◌, List, length}
 use Rattle.x25_link.specs.Outgoing.{waits}
 use Rattle.x25_link.specs.Station.{Settings, Station}
+use Rattle.x25_link.specs.Steps.{take_step, put_step}
 use Rattle.x25_link.specs.WindowLaw.{IsSound}
 use Rattle.x25_link.specs.Link.{ShownLink, FitsLink}
 
@@ -16,3 +17,11 @@ FewStand = (c : Settings) (v : ShownLink) (s : Station) → FitsLink c v s → I
 -- and k is at most 7
 abbrev pub WindowIsSmall : Type 0
 WindowIsSmall = (c : Settings) (v : ShownLink) (s : Station) → FitsLink c v s → c.window ≤ 7
+
+-- octets are answered by nine frames at most: one for what they ask, seven I frames, and the RR that ends an RNR
+abbrev pub TakeSendsFew : Type 0
+TakeSendsFew = (c : Settings) (octets : List ℕ) (s : Station) → length (take_step c octets s).side.out ≤ 9
+
+-- a packet handed down sends one frame at most, since nothing that may be sent waits between calls
+abbrev pub PutSendsOne : Type 0
+PutSendsOne = (c : Settings) (v : ShownLink) (s : Station) (packet : List ℕ) → FitsLink c v s → length (put_step c packet s).side.out ≤ 1

@@ -1,4 +1,4 @@
-ghost use Rattle.x25_link.specs.Bounds.{FewWait, FewStand, WindowIsSmall};
+ghost use Rattle.x25_link.specs.Bounds.{FewWait, FewStand, WindowIsSmall, TakeSendsFew, PutSendsOne};
 ghost use Rattle.x25_link.specs.NoteLaw.{TakeTells, TakeContinues, TakeHandsUp, TimerTells, TimerContinues, PutTells, ConnectTells, DisconnectTells, AbandonTells};
 ghost use Rattle.x25_link.specs.SetUp.{TakeWaits, TakeSetsUp, ConnectWaits, TimerWaits, DisconnectWaits};
 ghost use Rattle.x25_link.specs.WindowLaw.{TakeFollows, PutFollows, TimerFollows, DisconnectFollows, AbandonFollows, TakeStaysOut, DisconnectStaysOut};
@@ -39,9 +39,12 @@ pub fn notes_what_changes()
     ensures abandon { AbandonTells }
 {}
 
-/// What a link holds at most: 256 packets that wait, and k, at most 7, that were sent and aren't acknowledged.
+/// What a link holds at most: 256 packets that wait, and k, at most 7, that were sent and aren't acknowledged. Octets are
+/// answered by nine frames at most, and a packet that is handed down sends one at most.
 pub fn holds_few()
     ensures wait { FewWait }
     ensures stand { FewStand }
     ensures window { WindowIsSmall }
+    ensures take { TakeSendsFew }
+    ensures put { PutSendsOne }
 {}

@@ -5,7 +5,10 @@ use Rattle.std.specs.List.{list_all}
 use Rattle.std.proofs.lemmas.List.{get_or-drop, get_or-take, length-take-le, length-map, drop_all, drop_more, take-append-drop}
 use Rattle.std.proofs.lemmas.List.Folds.{list_all-append}
 use Rattle.std.proofs.lemmas.Bool.{and_parts, leb-true, le-leb, and_from}
-use Rattle.x25_packet.specs.Digits.{halves_of, halves_at, digits_in, digits_of_text, is_digit, is_pair, is_figure, hold_digits, IsAddress, NamesDigits}
+use Rattle.x25_packet.specs.Digits.{halves_of, halves_at, digits_of_text, is_digit, is_pair, is_figure, hold_digits, IsAddress}
+use Rattle.x25_packet.specs.DigitsPlace.{digits_in, NamesDigits}
+use Rattle.x25_packet.specs.declared.digits.Place.{Place}
+use Rattle.x25_packet.specs.declared.digits.Place.TheVariants.{Text, Halves}
 
 pub length-halves_of : (octets : List ℕ) → length (halves_of octets) ≡ 2 * length octets
 unfolding halves_of
@@ -41,13 +44,18 @@ list_all-get p [] i h small = absurd (omega arith)
 list_all-get p (x ∷ xs) zero h small = (and_parts _ _ h).0
 list_all-get p (x ∷ xs) (suc i) h small = list_all-get p xs i (and_parts _ _ h).1 (omega arith)
 
--- ---- a value whose fields name digits
+-- ---- where digits lie
 
-pub length-digits_in : (t : Bool) (octets : List ℕ) (start len : ℕ) → NamesDigits t octets start len → length (digits_in t octets start len) ≡ len
-length-digits_in true octets start len h = rw length-map (sym h.1)
-length-digits_in false octets start len h =
-    let room : len ≤ length (drop start (halves_of octets)) = rw (length-drop, length-halves_of) (omega arith) in
-    length-take-le len (drop start (halves_of octets)) room
+-- how many lie there
+abbrev count_in : Place → ℕ
+count_in (Text text) = length text.now
+count_in (Halves octets start count) = count
+
+pub length-digits_in : (p : Place) → NamesDigits p → length (digits_in p) ≡ count_in p
+length-digits_in (Text text) h = rw length-map refl
+length-digits_in (Halves octets start count) h =
+    let room : count ≤ length (drop start (halves_of octets.now)) = rw (length-drop, length-halves_of) (omega arith) in
+    length-take-le count (drop start (halves_of octets.now)) room
 
 figures_are_digits : (text : List ℕ) → list_all is_figure text ≡ true → list_all is_digit (digits_of_text text) ≡ true
 figures_are_digits [] h = refl
@@ -56,53 +64,34 @@ figures_are_digits (c ∷ text) h =
     let low : c ≤ 57 = leb-true c 57 (and_parts (nat_le 48 c) (nat_le c 57) parts.0).1 in
     and_from (is_digit (c - 48)) (list_all is_digit (digits_of_text text)) (le-leb (c - 48) 9 (omega (arith, low))) (figures_are_digits text parts.1)
 
-pub named_are_digits : (t : Bool) (octets : List ℕ) (start len : ℕ) → NamesDigits t octets start len → list_all is_digit (digits_in t octets start len) ≡ true
-named_are_digits true octets start len h = figures_are_digits octets h.2
-named_are_digits false octets start len h = h.2
+pub named_are_digits : (p : Place) → NamesDigits p → list_all is_digit (digits_in p) ≡ true
+named_are_digits (Text text) h = figures_are_digits text.now h.1
+named_are_digits (Halves octets start count) h = h.2
 
-few : (t : Bool) (octets : List ℕ) (start len : ℕ) → NamesDigits t octets start len → len ≤ 15
-few true octets start len h = h.0
-few false octets start len h = h.0
+pub few : (p : Place) → NamesDigits p → length (digits_in p) ≤ 15
+few (Text text) h = let size = length-digits_in (Text text) h in omega (arith, h.0)
+few (Halves octets start count) h = let size = length-digits_in (Halves octets start count) h in omega (arith, h.0)
 
-pub named_are_address : (t : Bool) (octets : List ℕ) (start len : ℕ) → NamesDigits t octets start len → IsAddress (digits_in t octets start len)
-named_are_address t octets start len h =
-    let size = length-digits_in t octets start len h in
-    let most = few t octets start len h in
-    record { short = omega arith; decimal = named_are_digits t octets start len h }
+pub named_are_address : (p : Place) → NamesDigits p → IsAddress (digits_in p)
+named_are_address p h = record { short = few p h; decimal = named_are_digits p h }
 
-half_high : (octets : List ℕ) (start len i : ℕ) → i < len → (start + i) % 2 ≡ 0
-    → get_or (halves_at octets start len) i 0 ≡ get_or octets ((start + i) / 2) 0 / 16
-half_high octets start len i h even =
-    let at : start + i ≡ 2 * ((start + i) / 2) = omega arith in
-    get_or-take len (drop start (halves_of octets)) i 0 h ∙ get_or-drop start (halves_of octets) i 0
-    ∙ ap (λ n. get_or (halves_of octets) n 0) at ∙ high_half octets ((start + i) / 2)
+pub half_even : (octets : List ℕ) (place : ℕ) → place % 2 ≡ 0 → get_or octets (place / 2) 0 / 16 ≡ get_or (halves_of octets) place 0
+half_even octets place even =
+    let at : place ≡ 2 * (place / 2) = omega arith in
+    sym (ap (λ n. get_or (halves_of octets) n 0) at ∙ high_half octets (place / 2))
 
-half_low : (octets : List ℕ) (start len i : ℕ) → i < len → (start + i) % 2 ≡ 1
-    → get_or (halves_at octets start len) i 0 ≡ get_or octets ((start + i) / 2) 0 % 16
-half_low octets start len i h odd =
-    let at : start + i ≡ 2 * ((start + i) / 2) + 1 = omega arith in
-    get_or-take len (drop start (halves_of octets)) i 0 h ∙ get_or-drop start (halves_of octets) i 0
-    ∙ ap (λ n. get_or (halves_of octets) n 0) at ∙ low_half octets ((start + i) / 2)
+pub half_odd : (octets : List ℕ) (place : ℕ) → place % 2 ≢ 0 → get_or octets (place / 2) 0 % 16 ≡ get_or (halves_of octets) place 0
+half_odd octets place odd =
+    let at : place ≡ 2 * (place / 2) + 1 = omega arith in
+    sym (ap (λ n. get_or (halves_of octets) n 0) at ∙ low_half octets (place / 2))
 
 -- the digit at a place
-pub digit_high : (t : Bool) (octets : List ℕ) (start len i : ℕ) (digits : List ℕ) → digits_in t octets start len ≡ digits → NamesDigits t octets start len → t ≡ false
-    → i < length digits → (start + i) % 2 ≡ 0 → get_or octets ((start + i) / 2) 0 / 16 ≡ get_or digits i 0
-digit_high true octets start len i digits view holds f h even = let bad : true ≡ false = f in cc
-digit_high false octets start len i digits view holds f h even =
-    let size : length digits ≡ len = ap length (sym view) ∙ length-digits_in false octets start len holds in
-    sym (half_high octets start len i (omega arith) even) ∙ ap (λ (ds : List ℕ). get_or ds i 0) view
+pub digit_in_halves : (octets : List ℕ) (start count i : ℕ) → i < count → get_or (halves_of octets) (start + i) 0 ≡ get_or (halves_at octets start count) i 0
+digit_in_halves octets start count i h = sym (get_or-take count (drop start (halves_of octets)) i 0 h ∙ get_or-drop start (halves_of octets) i 0)
 
-pub digit_low : (t : Bool) (octets : List ℕ) (start len i : ℕ) (digits : List ℕ) → digits_in t octets start len ≡ digits → NamesDigits t octets start len → t ≡ false
-    → i < length digits → (start + i) % 2 ≢ 0 → get_or octets ((start + i) / 2) 0 % 16 ≡ get_or digits i 0
-digit_low true octets start len i digits view holds f h odd = let bad : true ≡ false = f in cc
-digit_low false octets start len i digits view holds f h odd =
-    let size : length digits ≡ len = ap length (sym view) ∙ length-digits_in false octets start len holds in
-    sym (half_low octets start len i (omega arith) (omega arith)) ∙ ap (λ (ds : List ℕ). get_or ds i 0) view
-
-pub digit_small : (t : Bool) (octets : List ℕ) (start len i : ℕ) (digits : List ℕ) → digits_in t octets start len ≡ digits → NamesDigits t octets start len
-    → i < length digits → get_or digits i 0 ≤ 9
-digit_small t octets start len i digits view holds h =
-    let all : list_all is_digit digits ≡ true = ap (list_all is_digit) (sym view) ∙ named_are_digits t octets start len holds in
+pub digit_small : (p : Place) (i : ℕ) (digits : List ℕ) → digits_in p ≡ digits → NamesDigits p → i < length digits → get_or digits i 0 ≤ 9
+digit_small p i digits view holds h =
+    let all : list_all is_digit digits ≡ true = ap (list_all is_digit) (sym view) ∙ named_are_digits p holds in
     leb-true _ _ (list_all-get is_digit digits i all h)
 
 -- ---- whether half octets are digits

@@ -1,5 +1,5 @@
 -- The digits of addresses, in half octets or in a text. ITU-T X.25 (10/96), section 5.2.1.
-use Rattle.std.specs.Prelude.{ℕ, ◌/◌, ◌%◌, ◌-◌, ◌+◌, ◌*◌, ◌≤◌, ◌≡◌, ◌==◌, Bool, true, false, ◌&&◌, nat_le, List, [], ◌∷◌, take, drop, length, map}
+use Rattle.std.specs.Prelude.{ℕ, ◌/◌, ◌%◌, ◌-◌, ◌+◌, ◌*◌, ◌≤◌, ◌≡◌, ◌==◌, Bool, true, ◌&&◌, nat_le, List, [], ◌∷◌, take, drop, length, map}
 use Rattle.std.specs.List.{list_all}
 
 -- the half octets, the high one first
@@ -40,14 +40,3 @@ is_figure character = nat_le 48 character && nat_le character 57
 -- the digits that a text of figures shows
 abbrev pub digits_of_text : List ℕ → List ℕ
 digits_of_text text = map (λ c. c - 48) text
-
--- the digits that lie in a text, or in half octets from a place on
-abbrev pub digits_in : Bool → List ℕ → ℕ → ℕ → List ℕ
-digits_in true octets start len = digits_of_text octets
-digits_in false octets start len = halves_at octets start len
-
--- there lie digits of an address
-abbrev pub NamesDigits : Bool → List ℕ → ℕ → ℕ → Type 0
-NamesDigits true octets start len = (len ≤ 15) × (len ≡ length octets) × (list_all is_figure octets ≡ true)
-NamesDigits false octets start len = (len ≤ 15) × (start + len ≤ 2 * length octets)
-    × (list_all is_digit (halves_at octets start len) ≡ true)

@@ -1,5 +1,6 @@
 pub mod PlainPacket
 pub mod Digits
+pub mod DigitsPlace
 pub mod Facilities
 pub mod Spelling
 pub mod PacketError

@@ -1,7 +1,7 @@
 //! The digits of an address, ITU-T X.25 (10/96), section 5.2.1.
 ghost use Rattle.std.specs.Prelude.{◌≡◌, ◌==◌, ◌<◌, ◌≤◌, ◌+◌, ◌*◌, ◌/◌, List, ℕ, length, IfSome, IsSome, IsTrue, ◌↔◌, slice_index, true};
 ghost use Rattle.std.specs.List.{list_all};
-ghost use Rattle.x25_packet.specs.Digits.{NamesDigits, digits_in, digits_of_text, halves_at, halves_of, hold_digits, is_digit, is_figure, is_pair, IsAddress};
+ghost use Rattle.x25_packet.specs.Digits.{digits_of_text, halves_at, halves_of, hold_digits, is_digit, is_figure, is_pair, IsAddress};
 
 use std::marker::Model;
 
@@ -15,21 +15,34 @@ fn are_figures(text: &[u8]) -> bool
         .all(|character| 48 <= *character && *character <= 57)
 }
 
+/// Where digits lie.
+#[derive(Clone, Copy, Debug)]
+enum Place<'a> {
+    /// In a text of figures.
+    Text(&'a [u8]),
+    /// In `count` half octets, from the half octet `start` on.
+    Halves {
+        octets: &'a [u8],
+        start: usize,
+        count: usize,
+    },
+}
+
 /// The digits of an address, at most 15, in half octets of a packet or in a text. Contracts see the list of them.
 #[derive(Debug, Drop)]
 pub struct Digits<'a> {
-    octets: &'a [u8],
-    start: usize,
-    count: usize,
-    in_text: bool,
+    place: Place<'a>,
 }
 
 impl<'a> Model for Digits<'a> {
+    ghost use Rattle.std.specs.Prelude.{ℕ, List};
+    ghost use Rattle.x25_packet.specs.DigitsPlace.{NamesDigits, digits_in};
+
     ghost Value = { List ℕ };
 
-    ghost view = { λ digits. digits_in digits.in_text digits.octets.now digits.start digits.count };
+    ghost view = { λ digits. digits_in digits.place };
 
-    ghost invariant = { λ digits. NamesDigits digits.in_text digits.octets.now digits.start digits.count };
+    ghost invariant = { λ digits. NamesDigits digits.place };
 }
 
 fn are_digit_pairs(octets: &[u8]) -> bool
@@ -55,19 +68,34 @@ pub fn hold_digits(count: usize, octets: &[u8]) -> bool
     octets[count / 2] % 16 == 0
 }
 
+/// The half octet at a place, the high half of an octet first.
+fn half(octets: &[u8], place: usize) -> u8
+    requires { place < 2 * length octets.now }
+    ensures { result ≡ slice_index (halves_of octets.now) place }
+{
+    let octet = octets[place / 2];
+    if place % 2 == 0 {
+        octet / 16
+    } else {
+        octet % 16
+    }
+}
+
 impl<'a> Digits<'a> {
     /// The digits in `count` half octets, from the half octet `start` on.
     pub(crate) fn in_halves(octets: &'a [u8], start: usize, count: usize) -> Digits<'a>
         requires short { count ≤ 15 }
+        requires near { start ≤ 15 }
         requires there { start + count ≤ 2 * length octets.now }
         requires digits { list_all is_digit (halves_of octets.now) ≡ true }
         ensures { result ≡ halves_at octets.now start count }
     {
         Digits {
-            octets,
-            start,
-            count,
-            in_text: false,
+            place: Place::Halves {
+                octets,
+                start,
+                count,
+            },
         }
     }
 
@@ -82,10 +110,7 @@ impl<'a> Digits<'a> {
             return None;
         }
         Some(Digits {
-            octets,
-            start: 0,
-            count: octets.len(),
-            in_text: true,
+            place: Place::Text(octets),
         })
     }
 
@@ -93,12 +118,7 @@ impl<'a> Digits<'a> {
     pub fn again(&self) -> Digits<'a>
         ensures { result ≡ self.now }
     {
-        Digits {
-            octets: self.octets,
-            start: self.start,
-            count: self.count,
-            in_text: self.in_text,
-        }
+        Digits { place: self.place }
     }
 
     /// How many digits there are, 0 to 15.
@@ -106,7 +126,10 @@ impl<'a> Digits<'a> {
         ensures number { result ≡ length self.now }
         ensures address { IsAddress self.now }
     {
-        self.count
+        match self.place {
+            Place::Text(text) => text.len(),
+            Place::Halves { count, .. } => count,
+        }
     }
 
     /// Whether there is no digit.
@@ -122,11 +145,9 @@ impl<'a> Digits<'a> {
         ensures value { result ≡ slice_index self.now place }
         ensures digit { result ≤ 9 }
     {
-        if self.in_text {
-            return self.octets[place] - 48;
+        match self.place {
+            Place::Text(text) => text[place] - 48,
+            Place::Halves { octets, start, .. } => half(octets, start + place),
         }
-        let at = self.start + place;
-        let octet = self.octets[at / 2];
-        if at % 2 == 0 { octet / 16 } else { octet % 16 }
     }
 }

@@ -1,5 +1,9 @@
-//! Tests of `x25_text`: octets of packets beside their texts.
+//! Tests of `x25_text`: octets of frames and packets beside their texts, and digits beside `hex`.
 #![tactic(auto)]
 
+#[cfg(test)]
+mod digits;
+#[cfg(test)]
+mod frames;
 #[cfg(test)]
 mod packets;

@@ -1,4 +1,4 @@
-use Rattle.std.proofs.Common.{◌≡◌, ◌+◌, ◌*◌, ◌%◌, ◌-◌, ◌∙◌, ap, sym, arith, length, drop, length-drop}
+use Rattle.std.proofs.Common.{◌≡◌, ◌+◌, ◌*◌, ◌%◌, ◌-◌, ◌∙◌, ap, sym, refl, arith, length, drop, length-drop}
 use Rattle.std.proofs.lemmas.Nat.{xor_lt}
 use Rattle.std.proofs.lemmas.List.{get_or-drop}
 use Rattle.byteorder.specs.Numbers.{little_from-take}
@@ -9,7 +9,7 @@ use Rattle.x25_bits.proofs.frame_check.fcs.Goals as goal
 pub loop-eight-init : goal.loop-eight-init
 loop-eight-init c = record {
   fits = omega (arith, c.begun-held.type_inv);
-  same = fed_parts c.begun-held.result _ _ _ c.args.octets.now c.split_at.ensures.front c.split_at.ensures.back c.begun-held.ensures;
+  same = fed_parts c.begun-held.result _ _ _ c.args.octets.now refl c.split_at.ensures.back c.begun-held.ensures;
 }
 
 pub loop-eight-preserved : goal.loop-eight-preserved

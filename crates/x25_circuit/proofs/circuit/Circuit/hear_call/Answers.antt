@@ -22,4 +22,5 @@ returns-in_default c =
     record {
       next = λ d x fits. rw (call_strays d x _ _ _ c.in_default.not-Free c.in_default.not-Calling c.in_default.not-Clearing) (c.unexpected.ensures.next d x fits);
       says = λ d x fits. rw (call_strays d x _ _ _ c.in_default.not-Free c.in_default.not-Calling c.in_default.not-Clearing) (c.unexpected.ensures.says d x fits);
+      range = c.unexpected.ensures.range;
     }

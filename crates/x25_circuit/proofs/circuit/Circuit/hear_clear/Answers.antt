@@ -1,3 +1,4 @@
+use Rattle.std.proofs.Common.{lit≤}
 use Rattle.x25_circuit.proofs.RowLemmas.{clear_told}
 use Rattle.x25_circuit.proofs.circuit.Circuit.hear_clear.Goals as goal
 
@@ -11,5 +12,6 @@ pub returns-in_default : goal.returns-in_default
 returns-in_default c =
     record {
       next = λ d x fits. rw (clear_told x _ _ _ c.in_default.not-Clearing c.in_default.not-Free) (c.be_cleared.ensures.fits d x fits);
-      says = λ d x fits. rw (clear_told x _ _ _ c.in_default.not-Clearing c.in_default.not-Free) c.both.ensures;
+      says = λ d x fits. rw (clear_told x _ _ _ c.in_default.not-Clearing c.in_default.not-Free) c.both.ensures.says;
+      range = c.both.ensures.range ((lit≤ tt, lit≤ tt));
     }

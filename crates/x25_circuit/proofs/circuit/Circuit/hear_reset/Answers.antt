@@ -5,11 +5,12 @@ pub returns-in-Open-clause-next : goal.returns-in-Open-clause-next
 returns-in-Open-clause-next c = λ d x fits. rw c.in-Open.is (c.be_reset.ensures.fits d x fits)
 
 pub returns-in-Resetting-clause-next : goal.returns-in-Resetting-clause-next
-returns-in-Resetting-clause-next c = λ d x fits. rw c.in-Resetting.is (c.be_reset-in-Resetting.ensures.fits d x fits)
+returns-in-Resetting-clause-next c = λ d x fits. rw c.in-Resetting.is (c.end_reset.ensures.next d x fits)
 
 pub returns-in_default : goal.returns-in_default
 returns-in_default c =
     record {
       next = λ d x fits. rw (reset_strays d x _ _ _ c.in_default.not-Open c.in_default.not-Resetting c.in_default.not-Clearing) (c.unexpected.ensures.next d x fits);
       says = λ d x fits. rw (reset_strays d x _ _ _ c.in_default.not-Open c.in_default.not-Resetting c.in_default.not-Clearing) (c.unexpected.ensures.says d x fits);
+      range = c.unexpected.ensures.range;
     }

@@ -6,4 +6,4 @@ use Rattle.x25_circuit.proofs.circuit.Circuit.say.Goals as goal
 pub returns-in-Open-clause-outcome : goal.returns-in-Open-clause-outcome
 returns-in-Open-clause-outcome c = λ d x fits.
     let now = with_transfer d c.args.self.now x _ _ fits (own_fits d.outgoing.size c.args.self.now.transfer x.talk c.args.is_ready fits.talk) in
-    rw (ready_at x x.state c.args.is_ready (sym fits.state ∙ c.in-Open.is)) ((now, ap Some (sym (c.status.ensures d _ now))))
+    rw (ready_at x x.state c.args.is_ready (sym fits.state ∙ c.in-Open.is)) ((now, ap Some (sym (c.status.ensures.value d _ now))))

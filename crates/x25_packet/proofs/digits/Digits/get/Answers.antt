@@ -1,27 +1,26 @@
-use Rattle.std.proofs.Common.{◌≤◌, subst, sym, ℕ}
-use Rattle.x25_packet.proofs.DigitLemmas.{digit_high, digit_low, digit_small}
+use Rattle.std.proofs.Common.{◌≡◌, ◌∙◌, ◌≤◌, ℕ, List, length, get_or, sym, ap, subst, arith}
+use Rattle.x25_packet.specs.DigitsPlace.{NamesDigits, digits_in}
+use Rattle.x25_packet.specs.declared.digits.Place.{Place}
+use Rattle.x25_packet.specs.declared.digits.Place.TheVariants.{Halves}
+use Rattle.x25_packet.proofs.DigitLemmas.{length-digits_in, digit_in_halves, digit_small}
 use Rattle.x25_packet.proofs.digits.Digits.get.Goals as goal
 
-pub returns-then-at-eq0-clause-value : goal.returns-then-at-eq0-clause-value
-returns-then-at-eq0-clause-value c = digit_high c.self.inside.in_text c.self.inside.octets.now c.self.inside.start c.self.inside.count c.args.place c.args.self.now
-    c.self.view_is c.self.invariant c.if-self.false c.requires c.if-at-eq0.true
+pub overflow_add-start : goal.overflow_add-start
+overflow_add-start c =
+    let p : Place = Halves c.in-Halves.octets c.in-Halves.start c.in-Halves.count in
+    let view : digits_in p ≡ c.args.self.now = rw c.in-Halves.is at c.self.view_is in
+    let holds : NamesDigits p = rw c.in-Halves.is at c.self.invariant in
+    let size : length c.args.self.now ≡ c.in-Halves.count = ap length (sym view) ∙ length-digits_in p holds in
+    omega (arith, holds.0, holds.3, size)
 
-pub returns-then-at-eq0-clause-digit : goal.returns-then-at-eq0-clause-digit
-returns-then-at-eq0-clause-digit c =
-    let same = digit_high c.self.inside.in_text c.self.inside.octets.now c.self.inside.start c.self.inside.count c.args.place c.args.self.now
-    c.self.view_is c.self.invariant c.if-self.false c.requires c.if-at-eq0.true in
-    let small = digit_small c.self.inside.in_text c.self.inside.octets.now c.self.inside.start c.self.inside.count c.args.place c.args.self.now
-    c.self.view_is c.self.invariant c.requires in
-    let P : ℕ → _ = λ n. n ≤ 9 in subst P (sym same) small
-
-pub returns-else-at-eq0-clause-value : goal.returns-else-at-eq0-clause-value
-returns-else-at-eq0-clause-value c = digit_low c.self.inside.in_text c.self.inside.octets.now c.self.inside.start c.self.inside.count c.args.place c.args.self.now
-    c.self.view_is c.self.invariant c.if-self.false c.requires c.if-at-eq0.false
-
-pub returns-else-at-eq0-clause-digit : goal.returns-else-at-eq0-clause-digit
-returns-else-at-eq0-clause-digit c =
-    let same = digit_low c.self.inside.in_text c.self.inside.octets.now c.self.inside.start c.self.inside.count c.args.place c.args.self.now
-    c.self.view_is c.self.invariant c.if-self.false c.requires c.if-at-eq0.false in
-    let small = digit_small c.self.inside.in_text c.self.inside.octets.now c.self.inside.start c.self.inside.count c.args.place c.args.self.now
-    c.self.view_is c.self.invariant c.requires in
+pub returns-in-Halves-clause-digit : goal.returns-in-Halves-clause-digit
+returns-in-Halves-clause-digit c =
+    let p : Place = Halves c.in-Halves.octets c.in-Halves.start c.in-Halves.count in
+    let view : digits_in p ≡ c.args.self.now = rw c.in-Halves.is at c.self.view_is in
+    let holds : NamesDigits p = rw c.in-Halves.is at c.self.invariant in
+    let size : length c.args.self.now ≡ c.in-Halves.count = ap length (sym view) ∙ length-digits_in p holds in
+    let same : c.half.result ≡ get_or c.args.self.now c.args.place 0 =
+    c.half.ensures ∙ digit_in_halves c.in-Halves.octets.now c.in-Halves.start c.in-Halves.count c.args.place (omega (arith, size))
+    ∙ ap (λ (ds : List ℕ). get_or ds c.args.place 0) view in
+    let small = digit_small p c.args.place c.args.self.now view holds c.requires in
     let P : ℕ → _ = λ n. n ≤ 9 in subst P (sym same) small

@@ -8,4 +8,5 @@ invariant_of-result c = (
   c.requires.short,
   c.requires.there,
   list_all-take is_digit c.args.count (drop c.args.start (halves_of c.args.octets.now)) (list_all-drop is_digit c.args.start (halves_of c.args.octets.now) c.requires.digits),
+  c.requires.near,
 )

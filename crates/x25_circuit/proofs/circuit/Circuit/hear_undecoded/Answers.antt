@@ -1,6 +1,6 @@
 use Rattle.std.proofs.Common.{sym}
 use Rattle.x25_circuit.proofs.RowLemmas.{undecoded_clears}
-use Rattle.x25_circuit.proofs.circuit.Circuit.undecoded.Goals as goal
+use Rattle.x25_circuit.proofs.circuit.Circuit.hear_undecoded.Goals as goal
 
 pub returns-in-Open-clause-next : goal.returns-in-Open-clause-next
 returns-in-Open-clause-next c = λ d x fits. rw c.in-Open.is (c.reset_for.ensures.next d x fits)
@@ -13,4 +13,5 @@ returns-in_default c =
     record {
       next = λ d x fits. rw (undecoded_clears d x _ _ c.in_default.not-Open c.in_default.not-Resetting c.in_default.not-Clearing) (c.clear_for.ensures.next d x fits);
       says = λ d x fits. rw (undecoded_clears d x _ _ c.in_default.not-Open c.in_default.not-Resetting c.in_default.not-Clearing, sym c.cause_of.ensures, sym c.diagnostic-in_default.ensures) (c.clear_for.ensures.says d x fits);
+      range = c.clear_for.ensures.range;
     }

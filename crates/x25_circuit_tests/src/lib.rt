@@ -1,0 +1,7 @@
+//! Worked examples of logical channels.
+#![tactic(auto)]
+
+#[cfg(test)]
+mod play;
+#[cfg(test)]
+mod tests;

@@ -1,0 +1,319 @@
+//! Circuits played by tables of events.
+ghost use Rattle.std.specs.Prelude.{◌≡◌, true};
+ghost use Rattle.x25_packet.specs.PlainPacket.{plain};
+ghost use Rattle.x25_packet.specs.Spelling.{HasChannel};
+
+use std::alloc::{AllocError, Global};
+use std::process::Abort;
+use std::test::Fail;
+use x25_circuit::{Circuit, CircuitError, DataPacket, Notice, Reply};
+use x25_packet::{Digits, Packet, PacketError, Seq, decode};
+
+/// What happens to a circuit.
+#[derive(Clone, Copy)]
+pub enum Event<'a> {
+    /// The user calls, with addresses and so many octets of user data.
+    Call(&'a str, &'a str, usize),
+    Accept,
+    Clear,
+    /// A message with this qualifier and so many octets.
+    Send(bool, usize),
+    /// An interrupt of so many octets.
+    Interrupt(usize),
+    Reset,
+    Ready,
+    NotReady,
+    Pull,
+    /// Octets come, in hexadecimal.
+    Take(&'a str),
+    /// DATA comes, with P(S), P(R), M, Q and so many octets.
+    Data(u8, u8, bool, bool, usize),
+    /// So many full packets of one message come, from P(S) 0 on. The text is that of the last.
+    Fill(usize),
+    Forget,
+    Zero,
+    /// Nothing happens. The text says how many octets of a message in part have come.
+    Joined,
+    /// Nothing happens. The text says how many messages wait, clears and resets, and whether the circuit is free or open.
+    Ask,
+}
+
+use Event::{
+    Accept, Ask, Call, Clear, Data, Fill, Forget, Interrupt, Joined, NotReady, Pull, Ready, Reset,
+    Send, Take, Zero,
+};
+
+fn zeros(alloc: Global, count: usize) -> Result<Vec<u8>, AllocError> {
+    let mut octets = Vec::new(alloc);
+    for _ in 0..count {
+        octets.push(0)?;
+    }
+    Ok(octets)
+}
+
+fn hex_text(alloc: Global, octets: &[u8]) -> Result<String, AllocError> {
+    if octets.is_empty() {
+        return format!(in alloc; "-");
+    }
+    hex::encode(alloc, octets)
+}
+
+fn digits_text(alloc: Global, digits: &Digits) -> Result<String, AllocError> {
+    let mut text = String::new(alloc);
+    for place in 0..digits.len() {
+        text.push_str(format!(in alloc; "{}", digits.get(place))?.as_str())?;
+    }
+    Ok(text)
+}
+
+fn data_text(alloc: Global, data: &DataPacket) -> Result<String, AllocError> {
+    let (s, r) = (data.header.ps.get(), data.header.pr.get());
+    let (m, q) = (u8::from(data.header.m), u8::from(data.header.q));
+    format!(in alloc; "DATA S={s} R={r} M={m} Q={q} {}", data.user.len())
+}
+
+/// The packet as octets, in hexadecimal.
+fn packet_text(alloc: Global, packet: &Packet) -> Result<String, AllocError> {
+    let text = match packet {
+        Packet::Call {
+            called,
+            calling,
+            facilities,
+            user,
+            ..
+        } => {
+            let from = digits_text(alloc, calling)?;
+            let to = digits_text(alloc, called)?;
+            format!(in alloc;
+                "CALL called={to} calling={from} fac={} data={}",
+                facilities.len(),
+                user.len()
+            )?
+        }
+        Packet::Accept { facilities, .. } => format!(in alloc; "ACCEPT fac={}", facilities.len())?,
+        Packet::Clear {
+            cause,
+            diagnostic,
+            ..
+        } => format!(in alloc; "CLEAR cause={cause} diag={diagnostic}")?,
+        Packet::ClearConf { .. } => format!(in alloc; "CLEARCONF")?,
+        Packet::Data { .. } => format!(in alloc; "DATA")?,
+        Packet::Rr { pr, .. } => format!(in alloc; "RR R={}", pr.get())?,
+        Packet::Rnr { pr, .. } => format!(in alloc; "RNR R={}", pr.get())?,
+        Packet::Interrupt { user, .. } => format!(in alloc; "INT {}", user.len())?,
+        Packet::InterruptConf { .. } => format!(in alloc; "INTCONF")?,
+        Packet::Reset {
+            cause,
+            diagnostic,
+            ..
+        } => format!(in alloc; "RESET cause={cause} diag={diagnostic}")?,
+        Packet::ResetConf { .. } => format!(in alloc; "RESETCONF")?,
+        Packet::Restart { .. } | Packet::RestartConf => format!(in alloc; "RESTART")?,
+    };
+    Ok(text)
+}
+
+fn notice_text(alloc: Global, notice: &Notice) -> Result<String, AllocError> {
+    match notice {
+        Notice::Incoming {
+            called,
+            calling,
+            user,
+        } => {
+            let from = digits_text(alloc, calling)?;
+            let to = digits_text(alloc, called)?;
+            let data = hex_text(alloc, user)?;
+            format!(in alloc; "incoming called={to} calling={from} data={data}")
+        }
+        Notice::Connected => format!(in alloc; "connected"),
+        Notice::Cleared { cause, diagnostic } => format!(in alloc;
+            "cleared cause={cause} diag={diagnostic}"
+        ),
+        Notice::ClearDone => format!(in alloc; "cleardone"),
+        Notice::WasReset { cause, diagnostic } => format!(in alloc;
+            "wasreset cause={cause} diag={diagnostic}"
+        ),
+        Notice::ResetDone => format!(in alloc; "resetdone"),
+        Notice::Delivered(message) => {
+            let q = u8::from(message.q);
+            format!(in alloc; "message q={q} {}", message.user.as_slice().len())
+        }
+        Notice::Interrupted { user } => format!(in alloc; "interrupt {}", user.len()),
+        Notice::InterruptDone => format!(in alloc; "intdone"),
+        Notice::Fault { diagnostic } => format!(in alloc; "fault {diagnostic}"),
+    }
+}
+
+/// Appends a part of a text, behind a comma where it isn't the first.
+fn append(text: &mut String, part: &str) -> Result<(), AllocError> {
+    if !text.is_empty() {
+        text.push_str(", ")?;
+    }
+    text.push_str(part)
+}
+
+/// What the user is told, and the packet owed.
+fn reply_text(alloc: Global, reply: &Reply) -> Result<String, AllocError> {
+    let mut text = String::new(alloc);
+    if reply.collided {
+        append(&mut text, "collided")?;
+    }
+    if let Some(notice) = &reply.notice {
+        append(&mut text, notice_text(alloc, notice)?.as_str())?;
+    }
+    if let Some(packet) = &reply.packet {
+        append(&mut text, packet_text(alloc, packet)?.as_str())?;
+    }
+    Ok(text)
+}
+
+fn sent_text(alloc: Global, sent: Result<Packet, CircuitError>) -> Result<String, AllocError> {
+    match sent {
+        Ok(packet) => packet_text(alloc, &packet),
+        Err(error) => refusal_text(alloc, error),
+    }
+}
+
+fn refusal_text(alloc: Global, error: CircuitError) -> Result<String, AllocError> {
+    format!(in alloc; "refused {}", error.number())
+}
+
+/// Whether a packet is of a logical channel.
+fn is_of_channel(packet: &Packet) -> bool
+    ensures { result ≡ true → HasChannel (plain packet.now) }
+{
+    match packet {
+        Packet::Restart { .. } | Packet::RestartConf => false,
+        _ => true,
+    }
+}
+
+/// A circuit, and what happens to it.
+#[derive(Drop)]
+pub struct Player {
+    alloc: Global,
+    circuit: Circuit,
+}
+
+impl Player {
+    pub fn new(alloc: Global, circuit: Circuit) -> Player {
+        Player { alloc, circuit }
+    }
+
+    fn take_packet(&mut self, packet: &Packet) -> Result<String, Fail> {
+        let (clears, resets) = self.circuit.counts();
+        if clears == u64::MAX || resets == u64::MAX || !is_of_channel(packet) {
+            return Err("no packet for a circuit")?;
+        }
+        let reply = self.circuit.packet(packet)?;
+        Ok(reply_text(self.alloc, &reply)?)
+    }
+
+    fn take(&mut self, text: &str) -> Result<String, Fail> {
+        let octets = hex::decode(self.alloc, text)?;
+        match decode(octets.as_slice()) {
+            Ok(packet) => self.take_packet(&packet),
+            Err(PacketError::NoMemory) => Err("reading takes no memory")?,
+            Err(error) => Ok(reply_text(self.alloc, &self.circuit.undecoded(error))?),
+        }
+    }
+
+    fn data(&mut self, s: u8, r: u8, m: bool, q: bool, count: usize) -> Result<String, Fail> {
+        let octets = zeros(self.alloc, count)?;
+        self.circuit.room(count)?;
+        self.take_packet(&Packet::Data {
+            channel: 1,
+            q,
+            m,
+            ps: Seq::modulo(s),
+            pr: Seq::modulo(r),
+            user: octets.as_slice(),
+        })
+    }
+
+    fn fill(&mut self, count: usize) -> Result<String, Fail> {
+        let mut text = String::new(self.alloc);
+        for number in 0..count {
+            text = self.data((number % 8) as u8, 0, true, false, 128)?;
+        }
+        Ok(text)
+    }
+
+    fn send(&mut self, q: bool, count: usize) -> Result<String, Fail> {
+        match self.circuit.send(q, zeros(self.alloc, count)?) {
+            Ok(()) => Ok(String::new(self.alloc)),
+            Err(error) => Ok(refusal_text(self.alloc, error)?),
+        }
+    }
+
+    fn pull(&mut self) -> Result<String, Fail> {
+        match self.circuit.pull() {
+            Some(data) => Ok(data_text(self.alloc, &data)?),
+            None => Ok(String::new(self.alloc)),
+        }
+    }
+
+    fn ask(&self) -> Result<String, Fail> {
+        let (clears, resets) = self.circuit.counts();
+        let state = if self.circuit.is_free() {
+            "free"
+        } else if self.circuit.is_open() {
+            "open"
+        } else {
+            "between"
+        };
+        let waits = self.circuit.waits();
+        Ok(format!(in self.alloc; "{state} {clears}.{resets}, {waits} wait")?)
+    }
+
+    fn interrupt(&mut self, count: usize) -> Result<String, Fail> {
+        let user = zeros(self.alloc, count)?;
+        Ok(sent_text(self.alloc, self.circuit.interrupt(user.as_slice()))?)
+    }
+
+    fn call(&mut self, called: &str, calling: &str, count: usize) -> Result<String, Fail> {
+        let user = zeros(self.alloc, count)?;
+        Ok(sent_text(
+            self.alloc,
+            self.circuit.call(called, calling, user.as_slice()),
+        )?)
+    }
+
+    fn happens(&mut self, event: Event) -> Result<String, Fail> {
+        match event {
+            Call(called, calling, count) => self.call(called, calling, count),
+            Accept => Ok(sent_text(self.alloc, self.circuit.accept())?),
+            Clear => Ok(sent_text(self.alloc, self.circuit.clear())?),
+            Send(q, count) => self.send(q, count),
+            Interrupt(count) => self.interrupt(count),
+            Reset => Ok(sent_text(self.alloc, self.circuit.reset())?),
+            Ready => Ok(sent_text(self.alloc, self.circuit.ready())?),
+            NotReady => Ok(sent_text(self.alloc, self.circuit.not_ready())?),
+            Pull => self.pull(),
+            Take(text) => self.take(text),
+            Data(s, r, m, q, count) => self.data(s, r, m, q, count),
+            Fill(count) => self.fill(count),
+            Forget => {
+                self.circuit.forget();
+                self.ask()
+            }
+            Zero => {
+                self.circuit.zero();
+                self.ask()
+            }
+            Joined => {
+                let count = self.circuit.octets_joined();
+                Ok(format!(in self.alloc; "{count} joined")?)
+            }
+            Ask => self.ask(),
+        }
+    }
+
+    /// Each event shows its text.
+    pub fn plays(&mut self, rt: &impl Abort, rows: &[(Event, &str)]) -> Result<(), Fail> {
+        for (row, &(event, text)) in rows.iter().enumerate() {
+            assert_eq!(rt; self.happens(event)?.as_str(), text, "row {row}");
+        }
+        Ok(())
+    }
+}

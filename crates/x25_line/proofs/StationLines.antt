@@ -1,0 +1,272 @@
+-- The octets on a line, and the frames of the window machine that they show.
+use Rattle.std.proofs.Common.{◌≡◌, ℕ, zero, suc, ◌%◌, List, [], ◌∷◌, ◌++◌, ◌⊎◌, inl, inr, length, map, remove, Bool, true, false, not, if◌then◌else◌, Option, Some, None, Result, Ok, Err, refl, sym, ap, ◌∙◌, subst}
+use Rattle.std.specs.Prelude.{◌||◌, nat_lt, option_to_list}
+use Rattle.x25_bits.specs.Sealed.{is_sealed}
+use Rattle.x25_bits.specs.declared.role.Role.{Role}
+use Rattle.x25_frame.specs.PlainFrame.{PlainFrame, info, rr, rnr, rej, sabm, disc, ua, dm, frmr}
+use Rattle.x25_frame.specs.Spelling.{spelling_of, information_of, IsInRange, MayCarry, IsWithin}
+use Rattle.x25_frame.specs.Reading.{frame_of, addressed_frame}
+use Rattle.x25_frame.specs.declared.error.FrameError.{FrameError}
+use Rattle.x25_frame.specs.declared.error.FrameError.TheVariants.{Short, BadFcs, BadAddress, Undefined, NoInfoAllowed, TooLong}
+use Rattle.x25_window.specs.Window.{Numbered, Frame}
+use Rattle.x25_frame.specs.ReadingLaw.{ReadsSpelled}
+use Rattle.x25_link.specs.WindowMachine.{ShowsItem, Shows, ShowAll}
+use Rattle.x25_line.specs.Stations.{replaced, is_visible}
+use Rattle.x25_line.specs.StationClaims.{number_in, numbered_on, NoFrmr}
+
+-- ---- frames by frames
+
+pub shows_append : (fs es : List PlainFrame) (gs hs : List (Frame (List ℕ))) → ShowAll fs gs → ShowAll es hs → ShowAll (fs ++ es) (gs ++ hs)
+shows_append [] es [] hs f e = e
+shows_append [] es (g ∷ gs) hs f e = absurd f
+shows_append (x ∷ fs) es [] hs f e = absurd f
+shows_append (x ∷ fs) es (g ∷ gs) hs f e = (f.0, shows_append fs es gs hs f.1 e)
+
+-- what stands for the first frame
+pub record Front (f : PlainFrame) (rest : List PlainFrame) (bs : List (Frame (List ℕ))) : Type 0 where
+  pub frame : Frame (List ℕ)
+  pub others : List (Frame (List ℕ))
+  pub is : bs ≡ frame ∷ others
+  pub shows : Shows f frame
+  pub rest_shows : ShowAll rest others
+
+pub front_of : (f : PlainFrame) (rest : List PlainFrame) (bs : List (Frame (List ℕ))) → ShowAll (f ∷ rest) bs → Front f rest bs
+front_of f rest [] h = absurd h
+front_of f rest (g ∷ gs) h = record { frame = g; others = gs; is = refl; shows = h.0; rest_shows = h.1 }
+
+pub record Carried (ns : ℕ) (x : List ℕ) (o : Option (Numbered (List ℕ))) : Type 0 where
+  pub item : Numbered (List ℕ)
+  pub is : o ≡ Some item
+  pub number : ns ≡ item.number % 8
+  pub same : x ≡ item.item
+
+pub carried_of : (ns : ℕ) (x : List ℕ) (o : Option (Numbered (List ℕ))) → ShowsItem o ns x → Carried ns x o
+carried_of ns x None h = absurd h
+carried_of ns x (Some q) h = record { item = q; is = refl; number = h.0; same = h.1 }
+
+-- ---- what is on a line
+
+-- no SABM and no FRMR, and what doesn't read as a frame was visibly damaged
+abbrev pub IsOrderly : Result PlainFrame FrameError → Type 0
+IsOrderly (Ok (sabm p)) = ⊥
+IsOrderly (Ok (frmr f why)) = ⊥
+IsOrderly (Ok frame) = Unit {0}
+IsOrderly (Err Short) = Unit {0}
+IsOrderly (Err BadFcs) = Unit {0}
+IsOrderly (Err BadAddress) = ⊥
+IsOrderly (Err (Undefined control)) = ⊥
+IsOrderly (Err (NoInfoAllowed control)) = ⊥
+IsOrderly (Err TooLong) = ⊥
+
+abbrev pub AreOrderly : Role → ℕ → List (List ℕ) → Type 0
+AreOrderly from n1 [] = Unit {0}
+AreOrderly from n1 (o ∷ os) = IsOrderly (frame_of from n1 o) × AreOrderly from n1 os
+
+-- the frames, with the first, where that has a number
+abbrev pub consed : Option PlainFrame → List PlainFrame → List PlainFrame
+consed first frames = option_to_list first ++ frames
+
+consed_append : (m : Option PlainFrame) (xs ys : List PlainFrame) → consed m (xs ++ ys) ≡ consed m xs ++ ys
+consed_append None xs ys = refl
+consed_append (Some f) xs ys = refl
+
+pub numbered_append : (from : Role) (n1 : ℕ) (xs ys : List (List ℕ)) → numbered_on from n1 (xs ++ ys) ≡ numbered_on from n1 xs ++ numbered_on from n1 ys
+numbered_append from n1 [] ys = refl
+numbered_append from n1 (o ∷ xs) ys =
+    ap (consed (number_in (frame_of from n1 o))) (numbered_append from n1 xs ys)
+    ∙ consed_append (number_in (frame_of from n1 o)) (numbered_on from n1 xs) (numbered_on from n1 ys)
+
+pub orderly_append : (from : Role) (n1 : ℕ) (xs ys : List (List ℕ)) → AreOrderly from n1 xs → AreOrderly from n1 ys → AreOrderly from n1 (xs ++ ys)
+orderly_append from n1 [] ys f e = e
+orderly_append from n1 (o ∷ xs) ys f e = (f.0, orderly_append from n1 xs ys f.1 e)
+
+-- ---- what is put on a line
+
+-- it may be spelled, is numbered, and is no FRMR
+pub record IsGood (n1 : ℕ) (f : PlainFrame) : Type 0 where
+  pub in_range : IsInRange f
+  pub carries : MayCarry f (information_of f)
+  pub within : IsWithin n1 f (information_of f)
+  pub number : number_in (Ok f) ≡ Some f
+  pub orderly : IsOrderly (Ok f)
+
+abbrev pub AllGood : ℕ → List PlainFrame → Type 0
+AllGood n1 [] = Unit {0}
+AllGood n1 (f ∷ fs) = IsGood n1 f × AllGood n1 fs
+
+pub good_append : (n1 : ℕ) (fs es : List PlainFrame) → AllGood n1 fs → AllGood n1 es → AllGood n1 (fs ++ es)
+good_append n1 [] es h g = g
+good_append n1 (f ∷ fs) es h g = (h.0, good_append n1 fs es h.1 g)
+
+-- frames that carry no number: UA, DM and DISC
+abbrev pub AreParting : List PlainFrame → Type 0
+AreParting [] = Unit {0}
+AreParting (disc p ∷ fs) = AreParting fs
+AreParting (ua f ∷ fs) = AreParting fs
+AreParting (dm f ∷ fs) = AreParting fs
+AreParting (f ∷ fs) = ⊥
+
+no_frmr_cons : (f : PlainFrame) (fs : List PlainFrame) → IsOrderly (Ok f) → NoFrmr fs → NoFrmr (f ∷ fs)
+no_frmr_cons (info ns nr p x) fs o h = h
+no_frmr_cons (rr command nr pf) fs o h = h
+no_frmr_cons (rnr command nr pf) fs o h = h
+no_frmr_cons (rej command nr pf) fs o h = h
+no_frmr_cons (sabm p) fs o h = h
+no_frmr_cons (disc p) fs o h = h
+no_frmr_cons (ua f) fs o h = h
+no_frmr_cons (dm f) fs o h = h
+no_frmr_cons (frmr f why) fs o h = absurd o
+
+pub no_frmr_append : (fs es : List PlainFrame) → NoFrmr fs → NoFrmr es → NoFrmr (fs ++ es)
+no_frmr_append [] es f e = e
+no_frmr_append (info ns nr p x ∷ fs) es f e = no_frmr_append fs es f e
+no_frmr_append (rr command nr pf ∷ fs) es f e = no_frmr_append fs es f e
+no_frmr_append (rnr command nr pf ∷ fs) es f e = no_frmr_append fs es f e
+no_frmr_append (rej command nr pf ∷ fs) es f e = no_frmr_append fs es f e
+no_frmr_append (sabm p ∷ fs) es f e = no_frmr_append fs es f e
+no_frmr_append (disc p ∷ fs) es f e = no_frmr_append fs es f e
+no_frmr_append (ua g ∷ fs) es f e = no_frmr_append fs es f e
+no_frmr_append (dm g ∷ fs) es f e = no_frmr_append fs es f e
+no_frmr_append (frmr g why ∷ fs) es f e = absurd f
+
+pub good_no_frmr : (n1 : ℕ) (fs : List PlainFrame) → AllGood n1 fs → NoFrmr fs
+good_no_frmr n1 [] h = tt
+good_no_frmr n1 (f ∷ fs) h = no_frmr_cons f fs h.0.orderly (good_no_frmr n1 fs h.1)
+
+pub parting_no_frmr : (fs : List PlainFrame) → AreParting fs → NoFrmr fs
+parting_no_frmr [] h = tt
+parting_no_frmr (disc p ∷ fs) h = parting_no_frmr fs h
+parting_no_frmr (ua f ∷ fs) h = parting_no_frmr fs h
+parting_no_frmr (dm f ∷ fs) h = parting_no_frmr fs h
+parting_no_frmr (info ns nr p x ∷ fs) h = absurd h
+parting_no_frmr (rr command nr pf ∷ fs) h = absurd h
+parting_no_frmr (rnr command nr pf ∷ fs) h = absurd h
+parting_no_frmr (rej command nr pf ∷ fs) h = absurd h
+parting_no_frmr (sabm p ∷ fs) h = absurd h
+parting_no_frmr (frmr f why ∷ fs) h = absurd h
+
+module _ (reads : ReadsSpelled) (from : Role) (n1 : ℕ) where
+  good_reads : (f : PlainFrame) → IsGood n1 f → frame_of from n1 (spelling_of from f) ≡ Ok f
+  good_reads f h = reads from n1 f (spelling_of from f) (record { in_range = h.in_range; carries = h.carries; within = h.within; spelling = refl })
+
+  pub good_numbered : (fs : List PlainFrame) → AllGood n1 fs → numbered_on from n1 (map (spelling_of from) fs) ≡ fs
+  good_numbered [] h = refl
+  good_numbered (f ∷ fs) h = rw (good_reads f h.0, h.0.number) (ap (λ (es : List PlainFrame). f ∷ es) (good_numbered fs h.1))
+
+  pub good_orderly : (fs : List PlainFrame) → AllGood n1 fs → AreOrderly from n1 (map (spelling_of from) fs)
+  good_orderly [] h = tt
+  good_orderly (f ∷ fs) h = (rw (good_reads f h.0) h.0.orderly, good_orderly fs h.1)
+
+  disc_reads : (p : Bool) → frame_of from n1 (spelling_of from (disc p)) ≡ Ok (disc p)
+  disc_reads p = reads from n1 (disc p) _ (record { in_range = tt; carries = refl; within = tt; spelling = refl })
+
+  ua_reads : (f : Bool) → frame_of from n1 (spelling_of from (ua f)) ≡ Ok (ua f)
+  ua_reads f = reads from n1 (ua f) _ (record { in_range = tt; carries = refl; within = tt; spelling = refl })
+
+  dm_reads : (f : Bool) → frame_of from n1 (spelling_of from (dm f)) ≡ Ok (dm f)
+  dm_reads f = reads from n1 (dm f) _ (record { in_range = tt; carries = refl; within = tt; spelling = refl })
+
+  pub parting_numbered : (fs : List PlainFrame) → AreParting fs → numbered_on from n1 (map (spelling_of from) fs) ≡ []
+  parting_numbered [] h = refl
+  parting_numbered (disc p ∷ fs) h = rw (disc_reads p) (parting_numbered fs h)
+  parting_numbered (ua f ∷ fs) h = rw (ua_reads f) (parting_numbered fs h)
+  parting_numbered (dm f ∷ fs) h = rw (dm_reads f) (parting_numbered fs h)
+  parting_numbered (info ns nr p x ∷ fs) h = absurd h
+  parting_numbered (rr command nr pf ∷ fs) h = absurd h
+  parting_numbered (rnr command nr pf ∷ fs) h = absurd h
+  parting_numbered (rej command nr pf ∷ fs) h = absurd h
+  parting_numbered (sabm p ∷ fs) h = absurd h
+  parting_numbered (frmr f why ∷ fs) h = absurd h
+
+  pub parting_orderly : (fs : List PlainFrame) → AreParting fs → AreOrderly from n1 (map (spelling_of from) fs)
+  parting_orderly [] h = tt
+  parting_orderly (disc p ∷ fs) h = (rw (disc_reads p) tt, parting_orderly fs h)
+  parting_orderly (ua f ∷ fs) h = (rw (ua_reads f) tt, parting_orderly fs h)
+  parting_orderly (dm f ∷ fs) h = (rw (dm_reads f) tt, parting_orderly fs h)
+  parting_orderly (info ns nr p x ∷ fs) h = absurd h
+  parting_orderly (rr command nr pf ∷ fs) h = absurd h
+  parting_orderly (rnr command nr pf ∷ fs) h = absurd h
+  parting_orderly (rej command nr pf ∷ fs) h = absurd h
+  parting_orderly (sabm p ∷ fs) h = absurd h
+  parting_orderly (frmr f why ∷ fs) h = absurd h
+
+-- ---- what is lost or damaged
+
+-- which of the numbered frames stands at this place of the line, where one does
+abbrev first_of : Option PlainFrame → Option ℕ
+first_of None = None
+first_of (Some frame) = Some 0
+
+abbrev one_more : Option ℕ → Option ℕ
+one_more None = None
+one_more (Some n) = Some (suc n)
+
+abbrev behind : Option PlainFrame → Option ℕ → Option ℕ
+behind None place = place
+behind (Some frame) place = one_more place
+
+abbrev pub place_of : Role → ℕ → List (List ℕ) → ℕ → Option ℕ
+place_of from n1 [] i = None
+place_of from n1 (o ∷ os) zero = first_of (number_in (frame_of from n1 o))
+place_of from n1 (o ∷ os) (suc i) = behind (number_in (frame_of from n1 o)) (place_of from n1 os i)
+
+abbrev pub taken_out : Option ℕ → List (Frame (List ℕ)) → List (Frame (List ℕ))
+taken_out None gs = gs
+taken_out (Some n) gs = remove gs n
+
+taken_out_behind : (p : Option ℕ) (g : Frame (List ℕ)) (gs : List (Frame (List ℕ))) → taken_out (one_more p) (g ∷ gs) ≡ g ∷ taken_out p gs
+taken_out_behind None g gs = refl
+taken_out_behind (Some n) g gs = refl
+
+shows_first : (m : Option PlainFrame) (fs : List PlainFrame) (gs : List (Frame (List ℕ))) → ShowAll (consed m fs) gs → ShowAll fs (taken_out (first_of m) gs)
+shows_first None fs gs h = h
+shows_first (Some f) fs [] h = absurd h
+shows_first (Some f) fs (g ∷ gs) h = h.1
+
+shows_behind : (m : Option PlainFrame) (fs es : List PlainFrame) (p : Option ℕ) (gs : List (Frame (List ℕ)))
+    → ((hs : List (Frame (List ℕ))) → ShowAll fs hs → ShowAll es (taken_out p hs)) → ShowAll (consed m fs) gs → ShowAll (consed m es) (taken_out (behind m p) gs)
+shows_behind None fs es p gs f h = f gs h
+shows_behind (Some x) fs es p [] f h = absurd h
+shows_behind (Some x) fs es p (g ∷ gs) f h = subst (ShowAll (x ∷ es)) (sym (taken_out_behind p g gs)) (h.0, f gs h.1)
+
+pub shows_lost : (from : Role) (n1 : ℕ) (os : List (List ℕ)) (i : ℕ) (gs : List (Frame (List ℕ)))
+    → ShowAll (numbered_on from n1 os) gs → ShowAll (numbered_on from n1 (remove os i)) (taken_out (place_of from n1 os i) gs)
+shows_lost from n1 [] zero gs h = h
+shows_lost from n1 [] (suc i) gs h = h
+shows_lost from n1 (o ∷ os) zero gs h = shows_first (number_in (frame_of from n1 o)) (numbered_on from n1 os) gs h
+shows_lost from n1 (o ∷ os) (suc i) gs h =
+    shows_behind (number_in (frame_of from n1 o)) (numbered_on from n1 os) (numbered_on from n1 (remove os i)) (place_of from n1 os i) gs
+    (λ hs k. shows_lost from n1 os i hs k) h
+
+pub shows_damaged : (from : Role) (n1 : ℕ) (octets : List ℕ) → number_in (frame_of from n1 octets) ≡ None → (os : List (List ℕ)) (i : ℕ) (gs : List (Frame (List ℕ)))
+    → ShowAll (numbered_on from n1 os) gs → ShowAll (numbered_on from n1 (replaced os i octets)) (taken_out (place_of from n1 os i) gs)
+shows_damaged from n1 octets none [] i gs h = h
+shows_damaged from n1 octets none (o ∷ os) zero gs h = rw none (shows_first (number_in (frame_of from n1 o)) (numbered_on from n1 os) gs h)
+shows_damaged from n1 octets none (o ∷ os) (suc i) gs h =
+    shows_behind (number_in (frame_of from n1 o)) (numbered_on from n1 os) (numbered_on from n1 (replaced os i octets)) (place_of from n1 os i) gs
+    (λ hs k. shows_damaged from n1 octets none os i hs k) h
+
+pub orderly_lost : (from : Role) (n1 : ℕ) (os : List (List ℕ)) (i : ℕ) → AreOrderly from n1 os → AreOrderly from n1 (remove os i)
+orderly_lost from n1 [] zero h = h
+orderly_lost from n1 [] (suc i) h = h
+orderly_lost from n1 (o ∷ os) zero h = h.1
+orderly_lost from n1 (o ∷ os) (suc i) h = (h.0, orderly_lost from n1 os i h.1)
+
+pub orderly_damaged : (from : Role) (n1 : ℕ) (octets : List ℕ) → IsOrderly (frame_of from n1 octets) → (os : List (List ℕ)) (i : ℕ) → AreOrderly from n1 os → AreOrderly from n1 (replaced os i octets)
+orderly_damaged from n1 octets e [] i h = h
+orderly_damaged from n1 octets e (o ∷ os) zero h = (e, h.1)
+orderly_damaged from n1 octets e (o ∷ os) (suc i) h = (h.0, orderly_damaged from n1 octets e os i h.1)
+
+-- octets that are visibly damaged read as no frame
+pub visible_reads : (from : Role) (n1 : ℕ) (octets : List ℕ) → is_visible octets ≡ true → (frame_of from n1 octets ≡ Err Short) ⊎ (frame_of from n1 octets ≡ Err BadFcs)
+unfolding frame_of
+visible_reads from n1 octets e = go (nat_lt (length octets) 4) (is_sealed octets) e
+  where
+    go : (b s : Bool) → (b || not s) ≡ true
+        → (let r : Result PlainFrame FrameError = if b then Err Short else if not s then Err BadFcs else addressed_frame from n1 octets in (r ≡ Err Short) ⊎ (r ≡ Err BadFcs))
+    go true s e = inl refl
+    go false false e = inr refl
+    go false true e = absurd (never e)
+      where
+        never : false ≡ true → ⊥
+        never e = cc

@@ -1,0 +1,149 @@
+-- A run of a station that only sends is moves of the window machine that it allows, and its frames show those of the machine.
+use Rattle.std.proofs.Common.{◌≡◌, ℕ, zero, suc, ◌%◌, ◌<◌, ◌≤◌, List, [], ◌∷◌, ◌++◌, length, Option, Some, None, refl, sym, ap, ◌∙◌, subst, arith, append_assoc, append-nil}
+use Rattle.std.specs.List.{slice_get}
+use Rattle.x25_frame.specs.PlainFrame.{PlainFrame, info, rr, rnr, rej, sabm, disc, ua, dm, frmr}
+use Rattle.x25_window.specs.Window.{Step, Frame, Allows, after, frame_of, frames_of, numbered}
+use Rattle.x25_window.specs.Window.Step.{HandDown, Send, Tell, Hear, Take}
+use Rattle.x25_link.specs.WindowMachine.{Window, ShowsItem, Shows, ShowAll, IsSent, Runs, rests, goes_on}
+use Rattle.x25_line.specs.Line.{Line, steps}
+use Rattle.x25_line.specs.Line.Move.{Sends, Tells}
+use Rattle.x25_line.specs.StationClaims.{IsReached, near_moves}
+use Rattle.x25_line.proofs.Kept.{Kept, Kept-moved}
+use Rattle.x25_line.proofs.StationLines.{shows_append, IsGood, AllGood, good_append}
+
+-- ---- packets
+
+abbrev pub AllWithin : ℕ → List (List ℕ) → Type 0
+AllWithin n1 [] = Unit {0}
+AllWithin n1 (x ∷ xs) = (length x ≤ n1) × AllWithin n1 xs
+
+pub within_push : (n1 : ℕ) (xs : List (List ℕ)) (x : List ℕ) → AllWithin n1 xs → length x ≤ n1 → AllWithin n1 (xs ++ x ∷ [])
+within_push n1 [] x h le = (le, tt)
+within_push n1 (y ∷ xs) x h le = (h.0, within_push n1 xs x h.1 le)
+
+-- the packet of a number that was handed down
+record Item (n1 : ℕ) (xs : List (List ℕ)) (n : ℕ) : Type 0 where
+  pub item : List ℕ
+  pub is : slice_get xs n ≡ Some item
+  pub within : length item ≤ n1
+
+item_at : (n1 : ℕ) (xs : List (List ℕ)) (n : ℕ) → n < length xs → AllWithin n1 xs → Item n1 xs n
+item_at n1 [] n lt h = absurd (omega arith)
+item_at n1 (x ∷ xs) zero lt h = record { item = x; is = refl; within = h.0 }
+item_at n1 (x ∷ xs) (suc n) lt h =
+    let i = item_at n1 xs n (omega arith) h.1 in
+    record { item = i.item; is = i.is; within = i.within }
+
+-- ---- frames
+
+single_good : (n1 : ℕ) (g : Frame (List ℕ)) → ((f : PlainFrame) → Shows f g → IsGood n1 f) → (fs : List PlainFrame) → ShowAll fs (g ∷ []) → AllGood n1 fs
+single_good n1 g good [] h = absurd h
+single_good n1 g good (f ∷ []) h = (good f h.0, tt)
+single_good n1 g good (f ∷ e ∷ fs) h = absurd h.1
+
+-- a number modulo 8 is in range
+below_eight : (a b : ℕ) → a ≡ b % 8 → a < 8
+below_eight a b e = omega arith
+
+tell_good : (n1 : ℕ) (w : Window) (f : PlainFrame) → Shows f (frame_of w None) → IsGood n1 f
+tell_good n1 w (info ns nr p x) h = absurd h.0
+tell_good n1 w (rr command nr pf) h = record { in_range = below_eight nr (length w.taken) h.1; carries = refl; within = tt; number = refl; orderly = tt }
+tell_good n1 w (rnr command nr pf) h = record { in_range = below_eight nr (length w.taken) h.1; carries = refl; within = tt; number = refl; orderly = tt }
+tell_good n1 w (rej command nr pf) h = record { in_range = below_eight nr (length w.taken) h.1; carries = refl; within = tt; number = refl; orderly = tt }
+tell_good n1 w (sabm p) h = absurd h
+tell_good n1 w (disc p) h = absurd h
+tell_good n1 w (ua p) h = absurd h
+tell_good n1 w (dm p) h = absurd h
+tell_good n1 w (frmr p why) h = absurd h
+
+not_none : (n : ℕ) (xs : List (List ℕ)) (x : List ℕ) → slice_get xs n ≡ Some x → numbered n (slice_get xs n) ≡ None → ⊥
+not_none n xs x is none = absurd (never (sym (ap (numbered n) is) ∙ none))
+  where
+    never : numbered n (Some x) ≡ None → ⊥
+    never e = cc
+
+send_good : (n1 n : ℕ) (w : Window) → Item n1 w.given n → (f : PlainFrame) → Shows f (frame_of (after w (Send n)) (numbered n (slice_get w.given n))) → IsGood n1 f
+send_good n1 n w i (info ns nr p x) h =
+    let shown : ShowsItem (numbered n (Some i.item)) ns x = subst (λ (o : Option (List ℕ)). ShowsItem (numbered n o) ns x) i.is h.0 in
+    let same = ap length shown.1 in
+    let short = i.within in
+    record { in_range = (below_eight ns n shown.0, below_eight nr (length w.taken) h.1); carries = tt; within = omega arith; number = refl; orderly = tt }
+send_good n1 n w i (rr command nr pf) h = absurd (not_none n w.given i.item i.is h.0)
+send_good n1 n w i (rnr command nr pf) h = absurd (not_none n w.given i.item i.is h.0)
+send_good n1 n w i (rej command nr pf) h = absurd (not_none n w.given i.item i.is h.0)
+send_good n1 n w i (sabm p) h = absurd h
+send_good n1 n w i (disc p) h = absurd h
+send_good n1 n w i (ua p) h = absurd h
+send_good n1 n w i (dm p) h = absurd h
+send_good n1 n w i (frmr p why) h = absurd h
+
+-- ---- runs
+
+-- the line once the frames of a run are on it
+pub record Sent (k j n1 : ℕ) (l : Line (List ℕ)) (from w : Window) (frames : List PlainFrame) : Type 0 where
+  pub line : Line (List ℕ)
+  pub reached : IsReached k j line
+  pub kept : Kept line
+  pub near : line.near ≡ w
+  pub far : line.far ≡ l.far
+  pub back : line.back ≡ l.back
+  pub behind : List (Frame (List ℕ))
+  pub out : line.out ≡ l.out ++ behind
+  pub shows : ShowAll frames behind
+  pub good : AllGood n1 frames
+  pub given : w.given ≡ from.given
+  pub taken : w.taken ≡ from.taken
+
+-- one step more
+sent_more : (k j n1 : ℕ) (l : Line (List ℕ)) (from w : Window) (frames : List PlainFrame) (h : Sent k j n1 l from w frames) (s : Step (List ℕ)) (fs : List PlainFrame)
+    → IsReached k j (steps h.line s) → Kept (steps h.line s) → (after w s).given ≡ w.given → (after w s).taken ≡ w.taken → ShowAll fs (frames_of w s) → AllGood n1 fs
+    → Sent k j n1 l from (after w s) (frames ++ fs)
+sent_more k j n1 l from w frames h s fs reached kept given taken shows good =
+    record {
+      line = steps h.line s;
+      reached = reached;
+      kept = kept;
+      near = ap (λ (z : Window). after z s) h.near;
+      far = h.far;
+      back = h.back;
+      behind = h.behind ++ frames_of h.line.near s;
+      out = ap (λ (gs : List (Frame (List ℕ))). gs ++ frames_of h.line.near s) h.out ∙ append_assoc l.out h.behind (frames_of h.line.near s);
+      shows = shows_append frames fs h.behind (frames_of h.line.near s) h.shows (subst (λ (z : Window). ShowAll fs (frames_of z s)) (sym h.near) shows);
+      good = good_append n1 frames fs h.good good;
+      given = given ∙ h.given;
+      taken = taken ∙ h.taken;
+    }
+
+more : (k j n1 : ℕ) (l : Line (List ℕ)) (from w : Window) (frames : List PlainFrame) → AllWithin n1 from.given → (s : Step (List ℕ)) (fs : List PlainFrame)
+    → IsSent s → Allows w s → ShowAll fs (frames_of w s) → Sent k j n1 l from w frames → Sent k j n1 l from (after w s) (frames ++ fs)
+more k j n1 l from w frames within (HandDown x) fs sends may shows h = absurd sends
+more k j n1 l from w frames within (Hear ack) fs sends may shows h = absurd sends
+more k j n1 l from w frames within (Take n x) fs sends may shows h = absurd sends
+more k j n1 l from w frames within Tell fs sends may shows h =
+    sent_more k j n1 l from w frames h Tell fs (near_moves h.line Tells h.reached tt) (Kept-moved Tells h.line tt h.kept) refl refl shows
+    (single_good n1 (frame_of w None) (tell_good n1 w) fs shows)
+more k j n1 l from w frames within (Send n) fs sends may shows h =
+    let ok : Allows h.line.near (Send n) = subst (λ (z : Window). Allows z (Send n)) (sym h.near) may in
+    let item = item_at n1 w.given n may.3 (subst (AllWithin n1) (sym h.given) within) in
+    sent_more k j n1 l from w frames h (Send n) fs (near_moves h.line (Sends n) h.reached ok) (Kept-moved (Sends n) h.line ok h.kept) refl refl shows
+    (single_good n1 (frame_of (after w (Send n)) (numbered n (slice_get w.given n))) (send_good n1 n w item) fs shows)
+
+pub runs_sent : (k j n1 : ℕ) (l : Line (List ℕ)) (from : Window) → IsReached k j l → Kept l → l.near ≡ from → AllWithin n1 from.given
+    → (w : Window) (frames : List PlainFrame) → Runs from w frames → Sent k j n1 l from w frames
+runs_sent k j n1 l from reached kept near within w frames rests =
+    record {
+      line = l;
+      reached = reached;
+      kept = kept;
+      near = near;
+      far = refl;
+      back = refl;
+      behind = [];
+      out = sym (append-nil l.out);
+      shows = tt;
+      good = tt;
+      given = refl;
+      taken = refl;
+    }
+runs_sent k j n1 l from reached kept near within w frames (goes_on v fs s gs run sends may shows) =
+    more k j n1 l from v fs within s gs sends may shows (runs_sent k j n1 l from reached kept near within v fs run)

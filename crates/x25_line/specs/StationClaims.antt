@@ -1,0 +1,135 @@
+-- What holds of two link stations and the line between them after each list of events, the link set up once.
+use Rattle.std.specs.Prelude.{◌≡◌, ℕ, ◌≤◌, Bool, true, false, if◌then◌else◌, List, [], ◌∷◌, ◌++◌, take, Option, Some, None, option_to_list, Result, Ok, Err}
+use Rattle.x25_bits.specs.declared.role.Role.{Role}
+use Rattle.x25_frame.specs.PlainFrame.{PlainFrame, info, rr, rnr, rej, frmr}
+use Rattle.x25_frame.specs.Reading.{frame_of}
+use Rattle.x25_frame.specs.declared.error.FrameError.{FrameError}
+use Rattle.x25_window.specs.Window.{End, fresh_end}
+use Rattle.x25_link.specs.declared.phase.Reason.{Reason}
+use Rattle.x25_link.specs.Lists.{no_packets}
+use Rattle.x25_link.specs.Station.{Settings, is_up, lists_of}
+use Rattle.x25_link.specs.MustSend.{other}
+use Rattle.x25_link.specs.Steps.{is_idle}
+use Rattle.x25_link.specs.WindowMachine.{ShowAll}
+use Rattle.x25_link.specs.WindowLaw.{window_of}
+use Rattle.x25_line.specs.InWindow.{InWindow, Begins}
+use Rattle.x25_line.specs.Line.{Line, Move, AllowsMove, moved, swapped as line_swapped}
+use Rattle.x25_line.specs.Stations.{StationEnd, Stations, Act, Put, Deliver, Event, Near, Far, happens, run, start, swapped}
+
+-- the two ends of one link: one is the DTE and one the DCE, both with the same N1 and k from 1 to 7
+pub record AreJoined (c d : Settings) : Type 0 where
+  pub near_role : other d.role ≡ c.role
+  pub far_role : other c.role ≡ d.role
+  pub longest : c.longest ≡ d.longest
+  pub near_low : 1 ≤ c.window
+  pub near_high : c.window ≤ 7
+  pub far_low : 1 ≤ d.window
+  pub far_high : d.window ≤ 7
+
+-- what holds after each list of events
+abbrev pub Always : (Settings → Settings → Stations → Type 0) → Type 0
+Always Holds = (c d : Settings) → AreJoined c d → (events : List Event) → Holds c d (run c d events start)
+
+-- ---- order
+
+-- From one end to the other: what was handed up is a beginning of what was handed down, what is acknowledged was handed
+-- up, and all was where the giver is idle.
+pub record InOrder (giver taker : StationEnd) : Type 0 where
+  pub begins : Begins taker.up giver.down
+  pub acked : Begins (take giver.station.outgoing.acked giver.down) taker.up
+  pub idle : is_idle giver.station ≡ true → taker.up ≡ giver.down
+
+abbrev pub BothInOrder : Settings → Settings → Stations → Type 0
+BothInOrder c d w = InOrder w.near w.far × InOrder w.far w.near
+
+-- a station that is Up has the lists that were handed down and up, and any other has empty lists
+pub record HasItsLists (e : StationEnd) : Type 0 where
+  pub given : is_up e.station.phase ≡ true → e.station.outgoing.given ≡ e.down
+  pub taken : is_up e.station.phase ≡ true → e.station.taken ≡ e.up
+  pub empty : is_up e.station.phase ≡ false → lists_of e.station ≡ no_packets
+
+abbrev pub BothHaveTheirLists : Settings → Settings → Stations → Type 0
+BothHaveTheirLists c d w = HasItsLists w.near × HasItsLists w.far
+
+-- an end that is Up has noted nothing, and any other LinkDown once; the link is set up once, so that none notes LinkUp
+pub record NotesItsEnd (e : StationEnd) : Type 0 where
+  pub still_up : is_up e.station.phase ≡ true → e.reasons ≡ []
+  pub left : is_up e.station.phase ≡ false → (reason : Reason) × (e.reasons ≡ reason ∷ [])
+  pub once : e.came_up ≡ false
+
+abbrev pub BothNoteTheirEnds : Settings → Settings → Stations → Type 0
+BothNoteTheirEnds c d w = NotesItsEnd w.near × NotesItsEnd w.far
+
+-- ---- the window
+
+-- the frame that octets spell, where it carries an N(R)
+abbrev pub number_in : Result PlainFrame FrameError → Option PlainFrame
+number_in (Ok (info ns nr p packet)) = Some (info ns nr p packet)
+number_in (Ok (rr command nr pf)) = Some (rr command nr pf)
+number_in (Ok (rnr command nr pf)) = Some (rnr command nr pf)
+number_in (Ok (rej command nr pf)) = Some (rej command nr pf)
+number_in (Ok frame) = None
+number_in (Err e) = None
+
+-- the frames with an N(R) among the octets from an end in this role
+abbrev pub numbered_on : Role → ℕ → List (List ℕ) → List PlainFrame
+numbered_on from n1 [] = []
+numbered_on from n1 (octets ∷ line) = option_to_list (number_in (frame_of from n1 octets)) ++ numbered_on from n1 line
+
+-- what the window machine reaches from the link just set up, by moves of either end that it allows
+pub data IsReached (k j : ℕ) : Line (List ℕ) → Type 0 where
+  at_start : IsReached k j (record { near = fresh_end k; far = fresh_end j; out = []; back = [] })
+  near_moves : (l : Line (List ℕ)) (move : Move (List ℕ)) → IsReached k j l → AllowsMove l move → IsReached k j (moved move l)
+  far_moves : (l : Line (List ℕ)) (move : Move (List ℕ)) → IsReached k j l → AllowsMove (line_swapped l) move → IsReached k j (line_swapped (moved move (line_swapped l)))
+
+-- an end of the window machine has the lists of a station, and its numbers where that is Up
+pub record IsEndOf (k : ℕ) (e : StationEnd) (machine : End (List ℕ)) : Type 0 where
+  pub given : e.down ≡ machine.given
+  pub taken : e.up ≡ machine.taken
+  pub numbers : is_up e.station.phase ≡ true → window_of k e.station ≡ machine
+
+-- the window machine with the whole numbers behind the N(S)s and N(R)s on the line, and its window
+pub record IsBehind (c d : Settings) (w : Stations) (l : Line (List ℕ)) : Type 0 where
+  pub reached : IsReached c.window d.window l
+  pub near : IsEndOf c.window w.near l.near
+  pub far : IsEndOf d.window w.far l.far
+  pub out : ShowAll (numbered_on (other d.role) d.longest w.out) l.out
+  pub back : ShowAll (numbered_on (other c.role) c.longest w.back) l.back
+  pub window : InWindow l
+
+abbrev pub AreInWindow : Settings → Settings → Stations → Type 0
+AreInWindow c d w = (l : Line (List ℕ)) × IsBehind c d w l
+
+-- ---- no fault is ever found
+
+abbrev pub NoFrmr : List PlainFrame → Type 0
+NoFrmr [] = Unit {0}
+NoFrmr (frmr f why ∷ frames) = ⊥
+NoFrmr (frame ∷ frames) = NoFrmr frames
+
+abbrev pub NoFrmrSent : Settings → Settings → Stations → Type 0
+NoFrmrSent c d w = NoFrmr w.sent
+
+-- ---- what one event hands up and down
+
+-- at most one packet is handed up, and only as octets come
+abbrev pub HandsUp : Act → List (List ℕ) → List (List ℕ) → Type 0
+HandsUp Deliver old new = (packet : Option (List ℕ)) × (new ≡ old ++ option_to_list packet)
+HandsUp act old new = new ≡ old
+
+-- only the packet that is put is handed down, or it is refused
+abbrev pub HandsDown : Act → List (List ℕ) → List (List ℕ) → Type 0
+HandsDown (Put packet) old new = (accepted : Bool) × (new ≡ if accepted then old ++ packet ∷ [] else old)
+HandsDown act old new = new ≡ old
+
+pub record HandsOne (act : Act) (w v : Stations) : Type 0 where
+  pub up : HandsUp act w.near.up v.near.up
+  pub down : HandsDown act w.near.down v.near.down
+  pub far : v.far ≡ w.far
+
+abbrev pub HandsOneAt : Event → Stations → Stations → Type 0
+HandsOneAt (Near act) w v = HandsOne act w v
+HandsOneAt (Far act) w v = HandsOne act (swapped w) (swapped v)
+
+abbrev pub EachEventHandsOne : Type 0
+EachEventHandsOne = (c d : Settings) (event : Event) (w : Stations) → HandsOneAt event w (happens c d event w)

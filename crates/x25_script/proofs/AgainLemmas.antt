@@ -1,0 +1,111 @@
+-- A line that is spelled is read.
+use Rattle.std.proofs.Common.{ℕ, ◌≤◌, ◌≡◌, ◌∙◌, Bool, true, false, List, ◌∷◌, ◌++◌, Option, Some, None, refl, ap, arith}
+use Rattle.std.specs.Prelude.{cond, option_and_then, decimal}
+use Rattle.std.specs.List.{list_all}
+use Rattle.std.proofs.lemmas.Bool.{ne_eqb}
+use Rattle.std.proofs.lemmas.Fmt.{digits_decimal}
+use Rattle.x25_bits.specs.declared.role.Role.{Role}
+use Rattle.x25_bits.specs.declared.role.Role.TheVariants.{Dte, Dce}
+use Rattle.x25_script.specs.PlainLine.{PlainCommand, call, accept, clear, send, interrupt, reset, ready, not_ready, restart, disconnect, PlainLine, command, t1, deliver, lose, damage, drain}
+use Rattle.x25_script.specs.Spelling.{end_text, direction_text, q_text, address_text, IsAddress, IsNumber, Writes, SpellsCommand, Spells}
+use Rattle.x25_script.specs.Reading.{parts_of, number_in, call_in, send_in, interrupt_in, on_channel, with_fields, command_in, lose_in, damage_in, drain_in, line_in}
+use Rattle.x25_script.proofs.NumberLemmas.{own, number_again}
+use Rattle.x25_script.proofs.PartLemmas.{parts_again, no_blank, digits_no_blank, address_no_blank, end_again, from_again, q_again, address_again, octets_again}
+
+-- a step after one that reads
+bind_again : {A B : Type 0} (read : Option A) (f : A → Option B) (x : A) (y : B) → read ≡ Some x → f x ≡ Some y → option_and_then f read ≡ Some y
+bind_again read f x y e h = ap (option_and_then f) e ∙ h
+
+number_read : (n : ℕ) → IsNumber n → number_in (decimal n) ≡ Some n
+number_read n h = number_again n (omega arith)
+
+decimal_no_blank : (n : ℕ) → IsNumber n → list_all no_blank (decimal n) ≡ true
+decimal_no_blank n h = digits_no_blank (decimal n) (digits_decimal own n (omega arith))
+
+q_no_blank : (q : Bool) → list_all no_blank (q_text q) ≡ true
+q_no_blank false = refl
+q_no_blank true = refl
+
+from_no_blank : (from : Role) → list_all no_blank (direction_text from) ≡ true
+from_no_blank Dte = refl
+from_no_blank Dce = refl
+
+call_again : (called calling user digits : List ℕ) → IsAddress called → IsAddress calling → Writes digits user
+    → call_in (address_text called ++ (32 ∷ (address_text calling ++ (32 ∷ digits)))) ≡ Some (call called calling user)
+unfolding call_in
+call_again called calling user digits h k w =
+    bind_again _ _ (address_text called, address_text calling ++ (32 ∷ digits)) _ (parts_again (address_text called) _ (address_no_blank called h))
+    (bind_again _ _ (address_text calling, digits) _ (parts_again (address_text calling) digits (address_no_blank calling k))
+    (bind_again _ _ called _ (address_again called h)
+    (bind_again _ _ calling _ (address_again calling k)
+    (bind_again _ _ user _ (octets_again digits user w) refl))))
+
+send_again : (channel : ℕ) (q : Bool) (user digits : List ℕ) → IsNumber channel → Writes digits user
+    → send_in (decimal channel ++ (32 ∷ (q_text q ++ (32 ∷ digits)))) ≡ Some (send channel q user)
+unfolding send_in
+send_again channel q user digits h w =
+    bind_again _ _ (decimal channel, q_text q ++ (32 ∷ digits)) _ (parts_again (decimal channel) _ (decimal_no_blank channel h))
+    (bind_again _ _ (q_text q, digits) _ (parts_again (q_text q) digits (q_no_blank q))
+    (bind_again _ _ channel _ (number_read channel h)
+    (bind_again _ _ q _ (q_again q)
+    (bind_again _ _ user _ (octets_again digits user w) refl))))
+
+interrupt_again : (channel : ℕ) (user digits : List ℕ) → IsNumber channel → Writes digits user
+    → interrupt_in (decimal channel ++ (32 ∷ digits)) ≡ Some (interrupt channel user)
+unfolding interrupt_in
+interrupt_again channel user digits h w =
+    bind_again _ _ (decimal channel, digits) _ (parts_again (decimal channel) digits (decimal_no_blank channel h))
+    (bind_again _ _ channel _ (number_read channel h)
+    (bind_again _ _ user _ (octets_again digits user w) refl))
+
+channel_again : (asked : ℕ → PlainCommand) (channel : ℕ) → IsNumber channel → on_channel asked (decimal channel) ≡ Some (asked channel)
+channel_again asked channel h = bind_again _ _ channel _ (number_read channel h) refl
+
+pub command_again : (v : PlainCommand) (text : List ℕ) → SpellsCommand v text → command_in text ≡ Some v
+unfolding command_in parts_of with_fields
+command_again (call called calling user) text s = ap command_in s.2.2 ∙ call_again called calling user s.2.0 s.0 s.1 s.2.1
+command_again (accept channel) text s = ap command_in s.1 ∙ channel_again accept channel s.0
+command_again (clear channel) text s = ap command_in s.1 ∙ channel_again clear channel s.0
+command_again (send channel q user) text s = ap command_in s.1.2 ∙ send_again channel q user s.1.0 s.0 s.1.1
+command_again (interrupt channel user) text s = ap command_in s.1.2 ∙ interrupt_again channel user s.1.0 s.0 s.1.1
+command_again (reset channel) text s = ap command_in s.1 ∙ channel_again reset channel s.0
+command_again (ready channel) text s = ap command_in s.1 ∙ channel_again ready channel s.0
+command_again (not_ready channel) text s = ap command_in s.1 ∙ channel_again not_ready channel s.0
+command_again restart text s = ap command_in s
+command_again disconnect text s = ap command_in s
+
+lose_again : (from : Role) (place : ℕ) → IsNumber place → lose_in (direction_text from ++ (32 ∷ decimal place)) ≡ Some (lose from place)
+unfolding lose_in
+lose_again from place h =
+    bind_again _ _ (direction_text from, decimal place) _ (parts_again (direction_text from) _ (from_no_blank from))
+    (bind_again _ _ from _ (from_again from)
+    (bind_again _ _ place _ (number_read place h) refl))
+
+damage_again : (from : Role) (place : ℕ) (octets digits : List ℕ) → IsNumber place → Writes digits octets
+    → damage_in (direction_text from ++ (32 ∷ (decimal place ++ (32 ∷ digits)))) ≡ Some (damage from place octets)
+unfolding damage_in
+damage_again from place octets digits h w =
+    bind_again _ _ (direction_text from, decimal place ++ (32 ∷ digits)) _ (parts_again (direction_text from) _ (from_no_blank from))
+    (bind_again _ _ (decimal place, digits) _ (parts_again (decimal place) digits (decimal_no_blank place h))
+    (bind_again _ _ from _ (from_again from)
+    (bind_again _ _ place _ (number_read place h)
+    (bind_again _ _ octets _ (octets_again digits octets w) refl))))
+
+drain_again : (count : ℕ) → IsNumber count → 1 ≤ count → drain_in (decimal count) ≡ Some (drain count)
+unfolding drain_in
+drain_again count h some =
+    bind_again _ _ count _ (number_read count h) (ap (λ b. cond b None (Some (drain count))) (ne_eqb count 0 (omega arith)))
+
+commanded_again : (end : Role) (asked : PlainCommand) (rest : List ℕ) → SpellsCommand asked rest → line_in (end_text end ++ (32 ∷ rest)) ≡ Some (command end asked)
+unfolding line_in parts_of
+commanded_again Dte asked rest s = bind_again _ _ asked _ (command_again asked rest s) refl
+commanded_again Dce asked rest s = bind_again _ _ asked _ (command_again asked rest s) refl
+
+pub line_again : (v : PlainLine) (text : List ℕ) → Spells v text → line_in text ≡ Some v
+unfolding line_in parts_of
+line_again (command end asked) text s = ap line_in s.1 ∙ commanded_again end asked s.0 s.2
+line_again (t1 end) text s = ap line_in s ∙ bind_again _ _ end _ (end_again end) refl
+line_again (deliver from) text s = ap line_in s ∙ bind_again _ _ from _ (from_again from) refl
+line_again (lose from place) text s = ap line_in s.1 ∙ lose_again from place s.0
+line_again (damage from place octets) text s = ap line_in s.1.2 ∙ damage_again from place octets s.1.0 s.0 s.1.1
+line_again (drain count) text s = ap line_in s.2 ∙ drain_again count s.0 s.1

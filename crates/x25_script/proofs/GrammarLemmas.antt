@@ -1,0 +1,226 @@
+-- A line is read exactly where it is spelled.
+use Rattle.std.proofs.Common.{ℕ, ◌==◌, ◌≤◌, ◌≡◌, ◌∙◌, inl, inr, List, ◌∷◌, ◌++◌, Option, Some, None, refl, ap, sym, subst, arith}
+use Rattle.std.specs.Prelude.{cond, option_map, codes, decimal}
+use Rattle.std.specs.Str.{bytes_eq}
+use Rattle.std.proofs.lemmas.Bool.{eqb-false}
+use Rattle.x25_bits.specs.declared.role.Role.{Role}
+use Rattle.x25_script.specs.declared.words.Keyword.{Keyword}
+use Rattle.x25_script.specs.declared.words.Keyword.TheVariants.{End, T1, Deliver, Lose, Damage, Drain}
+use Rattle.x25_script.specs.declared.words.Verb.{Verb}
+use Rattle.x25_script.specs.declared.words.Verb.TheVariants.{Call, Accept, Clear, Send, Interrupt, Reset, Ready, NotReady}
+use Rattle.x25_script.specs.PlainLine.{PlainCommand, accept, clear, reset, ready, not_ready, PlainLine}
+use Rattle.x25_script.specs.Spelling.{end_text, direction_text, q_text, address_text, IsNumber, SpellsCommand, Spells}
+use Rattle.x25_script.specs.Reading.{parts_of, end_in, from_in, q_in, number_in, address_in, octets_in, verb_in, keyword_in, call_in, send_in, interrupt_in, on_channel, with_fields, bare_command_in, command_of, command_in, lose_in, damage_in, drain_in, after, line_in}
+use Rattle.x25_script.proofs.NumberLemmas.{number_found}
+use Rattle.x25_script.proofs.PartLemmas.{chosen, same_some, none_some, bind_found, bytes_same, parts_joined, end_found, from_found, q_found, address_found, octets_found}
+
+-- ---- what is read is spelled so
+
+-- the word of a command
+abbrev pub verb_text : Verb → List ℕ
+verb_text Call = codes "call"
+verb_text Accept = codes "accept"
+verb_text Clear = codes "clear"
+verb_text Send = codes "send"
+verb_text Interrupt = codes "int"
+verb_text Reset = codes "reset"
+verb_text Ready = codes "ready"
+verb_text NotReady = codes "notready"
+
+-- the first word of a line
+abbrev pub keyword_text : Keyword → List ℕ
+keyword_text (End end) = end_text end
+keyword_text T1 = codes "t1"
+keyword_text Deliver = codes "deliver"
+keyword_text Lose = codes "lose"
+keyword_text Damage = codes "damage"
+keyword_text Drain = codes "drain"
+
+-- this word, or what the other tests find
+verb_step : (text word : List ℕ) (this verb : Verb) (rest : Option Verb) → word ≡ verb_text this → cond (bytes_eq text word) (Some this) rest ≡ Some verb
+    → (rest ≡ Some verb → text ≡ verb_text verb) → text ≡ verb_text verb
+verb_step text word this verb rest is e others = elim (chosen (bytes_eq text word) _ _ _ e) [
+  | inl p ↦ bytes_same text word p.0 ∙ is ∙ ap verb_text (same_some p.1)
+  | inr p ↦ others p.1
+]
+
+pub verb_found : (text : List ℕ) (verb : Verb) → verb_in text ≡ Some verb → text ≡ verb_text verb
+verb_found text verb e =
+    verb_step text (codes "call") Call verb _ refl e (λ e.
+    verb_step text (codes "accept") Accept verb _ refl e (λ e.
+    verb_step text (codes "clear") Clear verb _ refl e (λ e.
+    verb_step text (codes "send") Send verb _ refl e (λ e.
+    verb_step text (codes "int") Interrupt verb _ refl e (λ e.
+    verb_step text (codes "reset") Reset verb _ refl e (λ e.
+    verb_step text (codes "ready") Ready verb _ refl e (λ e.
+    verb_step text (codes "notready") NotReady verb _ refl e (λ e. absurd (none_some e)))))))))
+
+keyword_step : (text word : List ℕ) (this keyword : Keyword) (rest : Option Keyword) → word ≡ keyword_text this → cond (bytes_eq text word) (Some this) rest ≡ Some keyword
+    → (rest ≡ Some keyword → text ≡ keyword_text keyword) → text ≡ keyword_text keyword
+keyword_step text word this keyword rest is e others = elim (chosen (bytes_eq text word) _ _ _ e) [
+  | inl p ↦ bytes_same text word p.0 ∙ is ∙ ap keyword_text (same_some p.1)
+  | inr p ↦ others p.1
+]
+
+end_keyword : (text : List ℕ) (read : Option Role) (keyword : Keyword) → ((end : Role) → read ≡ Some end → text ≡ end_text end)
+    → option_map (λ end. End end) read ≡ Some keyword → text ≡ keyword_text keyword
+end_keyword text (Some end) keyword found e = found end refl ∙ ap keyword_text (same_some e)
+end_keyword text None keyword found e = absurd (none_some e)
+
+pub keyword_found : (text : List ℕ) (keyword : Keyword) → keyword_in text ≡ Some keyword → text ≡ keyword_text keyword
+keyword_found text keyword e =
+    keyword_step text (codes "t1") T1 keyword _ refl e (λ e.
+    keyword_step text (codes "deliver") Deliver keyword _ refl e (λ e.
+    keyword_step text (codes "lose") Lose keyword _ refl e (λ e.
+    keyword_step text (codes "damage") Damage keyword _ refl e (λ e.
+    keyword_step text (codes "drain") Drain keyword _ refl e (λ e.
+    end_keyword text (end_in text) keyword (end_found text) e)))))
+
+-- a number that is read
+pub number_spelled : (text : List ℕ) (n : ℕ) → number_in text ≡ Some n → IsNumber n × (text ≡ decimal n)
+number_spelled text n e = let found = number_found text n e in let small = found.0 in (omega (arith, small), found.1)
+
+-- two fields
+fields_two : (text a b c d : List ℕ) → text ≡ a ++ (32 ∷ b) → a ≡ c → b ≡ d → text ≡ c ++ (32 ∷ d)
+fields_two text a b c d e f g = e ∙ ap (λ x. x ++ (32 ∷ b)) f ∙ ap (λ x. c ++ (32 ∷ x)) g
+
+call_found : (fields : List ℕ) (v : PlainCommand) → call_in fields ≡ Some v → SpellsCommand v (codes "call " ++ fields)
+unfolding call_in
+call_found fields v e =
+    let first = bind_found (parts_of fields) _ v e in
+    let second = bind_found (parts_of first.0.1) _ v first.2 in
+    let called = bind_found (address_in first.0.0) _ v second.2 in
+    let calling = bind_found (address_in second.0.0) _ v called.2 in
+    let user = bind_found (octets_in second.0.1) _ v calling.2 in
+    let one = address_found first.0.0 called.0 called.1 in
+    let two = address_found second.0.0 calling.0 calling.1 in
+    let rest = fields_two first.0.1 second.0.0 second.0.1 (address_text calling.0) second.0.1 (parts_joined first.0.1 second.0 second.1) two.1 refl in
+    let all = fields_two fields first.0.0 first.0.1 (address_text called.0) _ (parts_joined fields first.0 first.1) one.1 rest in
+    subst (λ (w : PlainCommand). SpellsCommand w (codes "call " ++ fields)) (same_some user.2)
+    (one.0, two.0, (second.0.1, octets_found second.0.1 user.0 user.1, ap (λ t. codes "call " ++ t) all))
+
+send_found : (fields : List ℕ) (v : PlainCommand) → send_in fields ≡ Some v → SpellsCommand v (codes "send " ++ fields)
+unfolding send_in
+send_found fields v e =
+    let first = bind_found (parts_of fields) _ v e in
+    let second = bind_found (parts_of first.0.1) _ v first.2 in
+    let channel = bind_found (number_in first.0.0) _ v second.2 in
+    let q = bind_found (q_in second.0.0) _ v channel.2 in
+    let user = bind_found (octets_in second.0.1) _ v q.2 in
+    let one = number_spelled first.0.0 channel.0 channel.1 in
+    let two = q_found second.0.0 q.0 q.1 in
+    let rest = fields_two first.0.1 second.0.0 second.0.1 (q_text q.0) second.0.1 (parts_joined first.0.1 second.0 second.1) two refl in
+    let all = fields_two fields first.0.0 first.0.1 (decimal channel.0) _ (parts_joined fields first.0 first.1) one.1 rest in
+    subst (λ (w : PlainCommand). SpellsCommand w (codes "send " ++ fields)) (same_some user.2)
+    (one.0, (second.0.1, octets_found second.0.1 user.0 user.1, ap (λ t. codes "send " ++ t) all))
+
+interrupt_found : (fields : List ℕ) (v : PlainCommand) → interrupt_in fields ≡ Some v → SpellsCommand v (codes "int " ++ fields)
+unfolding interrupt_in
+interrupt_found fields v e =
+    let parts = bind_found (parts_of fields) _ v e in
+    let channel = bind_found (number_in parts.0.0) _ v parts.2 in
+    let user = bind_found (octets_in parts.0.1) _ v channel.2 in
+    let one = number_spelled parts.0.0 channel.0 channel.1 in
+    let all = fields_two fields parts.0.0 parts.0.1 (decimal channel.0) parts.0.1 (parts_joined fields parts.0 parts.1) one.1 refl in
+    subst (λ (w : PlainCommand). SpellsCommand w (codes "int " ++ fields)) (same_some user.2)
+    (one.0, (parts.0.1, octets_found parts.0.1 user.0 user.1, ap (λ t. codes "int " ++ t) all))
+
+channel_found : (asked : ℕ → PlainCommand) (word fields : List ℕ) (v : PlainCommand) → on_channel asked fields ≡ Some v
+    → ((n : ℕ) → IsNumber n → SpellsCommand (asked n) (word ++ decimal n)) → SpellsCommand v (word ++ fields)
+channel_found asked word fields v e spell =
+    let channel = bind_found (number_in fields) _ v e in
+    let one = number_spelled fields channel.0 channel.1 in
+    subst (λ (w : PlainCommand). SpellsCommand w (word ++ fields)) (same_some channel.2)
+    (subst (λ (t : List ℕ). SpellsCommand (asked channel.0) (word ++ t)) (sym one.1) (spell channel.0 one.0))
+
+with_fields_found : (verb : Verb) (fields : List ℕ) (v : PlainCommand) → with_fields verb fields ≡ Some v → SpellsCommand v (verb_text verb ++ (32 ∷ fields))
+unfolding with_fields
+with_fields_found Call fields v e = call_found fields v e
+with_fields_found Accept fields v e = channel_found accept (codes "accept ") fields v e (λ n h. (h, refl))
+with_fields_found Clear fields v e = channel_found clear (codes "clear ") fields v e (λ n h. (h, refl))
+with_fields_found Send fields v e = send_found fields v e
+with_fields_found Interrupt fields v e = interrupt_found fields v e
+with_fields_found Reset fields v e = channel_found reset (codes "reset ") fields v e (λ n h. (h, refl))
+with_fields_found Ready fields v e = channel_found ready (codes "ready ") fields v e (λ n h. (h, refl))
+with_fields_found NotReady fields v e = channel_found not_ready (codes "notready ") fields v e (λ n h. (h, refl))
+
+bare_found : (text : List ℕ) (v : PlainCommand) → bare_command_in text ≡ Some v → SpellsCommand v text
+bare_found text v e = elim (chosen (bytes_eq text (codes "restart")) _ _ _ e) [
+  | inl p ↦ subst (λ (w : PlainCommand). SpellsCommand w text) (same_some p.1) (bytes_same text (codes "restart") p.0)
+  | inr p ↦ elim (chosen (bytes_eq text (codes "disconnect")) _ _ _ p.1) [
+    | inl q ↦ subst (λ (w : PlainCommand). SpellsCommand w text) (same_some q.1) (bytes_same text (codes "disconnect") q.0)
+    | inr q ↦ absurd (none_some q.1)
+  ]
+]
+
+command_parts : (text : List ℕ) (parts : Option (List ℕ × List ℕ)) (v : PlainCommand) → parts_of text ≡ parts → command_of text parts ≡ Some v → SpellsCommand v text
+command_parts text None v same e = bare_found text v e
+command_parts text (Some parts) v same e =
+    let verb = bind_found (verb_in parts.0) _ v e in
+    let word = verb_found parts.0 verb.0 verb.1 in
+    subst (λ (t : List ℕ). SpellsCommand v t) (sym (fields_two text parts.0 parts.1 (verb_text verb.0) parts.1 (parts_joined text parts same) word refl))
+    (with_fields_found verb.0 parts.1 v verb.2)
+
+pub command_found : (text : List ℕ) (v : PlainCommand) → command_in text ≡ Some v → SpellsCommand v text
+unfolding command_in
+command_found text v e = command_parts text (parts_of text) v refl e
+
+lose_found : (fields : List ℕ) (v : PlainLine) → lose_in fields ≡ Some v → Spells v (codes "lose " ++ fields)
+unfolding lose_in
+lose_found fields v e =
+    let parts = bind_found (parts_of fields) _ v e in
+    let from = bind_found (from_in parts.0.0) _ v parts.2 in
+    let place = bind_found (number_in parts.0.1) _ v from.2 in
+    let two = number_spelled parts.0.1 place.0 place.1 in
+    let all = fields_two fields parts.0.0 parts.0.1 (direction_text from.0) (decimal place.0) (parts_joined fields parts.0 parts.1) (from_found parts.0.0 from.0 from.1) two.1 in
+    subst (λ (w : PlainLine). Spells w (codes "lose " ++ fields)) (same_some place.2) (two.0, ap (λ t. codes "lose " ++ t) all)
+
+damage_found : (fields : List ℕ) (v : PlainLine) → damage_in fields ≡ Some v → Spells v (codes "damage " ++ fields)
+unfolding damage_in
+damage_found fields v e =
+    let first = bind_found (parts_of fields) _ v e in
+    let second = bind_found (parts_of first.0.1) _ v first.2 in
+    let from = bind_found (from_in first.0.0) _ v second.2 in
+    let place = bind_found (number_in second.0.0) _ v from.2 in
+    let octets = bind_found (octets_in second.0.1) _ v place.2 in
+    let two = number_spelled second.0.0 place.0 place.1 in
+    let rest = fields_two first.0.1 second.0.0 second.0.1 (decimal place.0) second.0.1 (parts_joined first.0.1 second.0 second.1) two.1 refl in
+    let all = fields_two fields first.0.0 first.0.1 (direction_text from.0) _ (parts_joined fields first.0 first.1) (from_found first.0.0 from.0 from.1) rest in
+    subst (λ (w : PlainLine). Spells w (codes "damage " ++ fields)) (same_some octets.2)
+    (two.0, (second.0.1, octets_found second.0.1 octets.0 octets.1, ap (λ t. codes "damage " ++ t) all))
+
+drain_found : (fields : List ℕ) (v : PlainLine) → drain_in fields ≡ Some v → Spells v (codes "drain " ++ fields)
+unfolding drain_in
+drain_found fields v e =
+    let count = bind_found (number_in fields) _ v e in
+    let one = number_spelled fields count.0 count.1 in
+    elim (chosen (count.0 == 0) _ _ _ count.2) [
+      | inl p ↦ absurd (none_some p.1)
+      | inr p ↦
+          let other = eqb-false count.0 0 p.0 in
+          let some : 1 ≤ count.0 = omega (arith, other) in
+          subst (λ (w : PlainLine). Spells w (codes "drain " ++ fields)) (same_some p.1) (one.0, some, ap (λ t. codes "drain " ++ t) one.1)
+    ]
+
+after_found : (keyword : Keyword) (fields : List ℕ) (v : PlainLine) → after keyword fields ≡ Some v → Spells v (keyword_text keyword ++ (32 ∷ fields))
+after_found (End end) fields v e =
+    let asked = bind_found (command_in fields) _ v e in
+    subst (λ (w : PlainLine). Spells w (end_text end ++ (32 ∷ fields))) (same_some asked.2) (fields, refl, command_found fields asked.0 asked.1)
+after_found T1 fields v e =
+    let end = bind_found (end_in fields) _ v e in
+    subst (λ (w : PlainLine). Spells w (codes "t1 " ++ fields)) (same_some end.2) (ap (λ t. codes "t1 " ++ t) (end_found fields end.0 end.1))
+after_found Deliver fields v e =
+    let from = bind_found (from_in fields) _ v e in
+    subst (λ (w : PlainLine). Spells w (codes "deliver " ++ fields)) (same_some from.2) (ap (λ t. codes "deliver " ++ t) (from_found fields from.0 from.1))
+after_found Lose fields v e = lose_found fields v e
+after_found Damage fields v e = damage_found fields v e
+after_found Drain fields v e = drain_found fields v e
+
+pub line_found : (text : List ℕ) (v : PlainLine) → line_in text ≡ Some v → Spells v text
+unfolding line_in
+line_found text v e =
+    let parts = bind_found (parts_of text) _ v e in
+    let word = bind_found (keyword_in parts.0.0) _ v parts.2 in
+    subst (λ (t : List ℕ). Spells v t)
+    (sym (fields_two text parts.0.0 parts.0.1 (keyword_text word.0) parts.0.1 (parts_joined text parts.0 parts.1) (keyword_found parts.0.0 word.0 word.1) refl))
+    (after_found word.0 parts.0.1 v word.2)

@@ -1,0 +1,6 @@
+pub mod FieldLemmas
+pub mod NumberLemmas
+pub mod OctetLemmas
+pub mod PartLemmas
+pub mod GrammarLemmas
+pub mod AgainLemmas

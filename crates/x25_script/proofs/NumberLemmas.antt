@@ -1,0 +1,77 @@
+-- A number and its decimal text.
+use Rattle.std.proofs.Common.{ℕ, zero, suc, ◌^◌, ◌<◌, ◌≤◌, ◌≡◌, ◌∙◌, Bool, true, false, List, length, get_or, Option, Some, None, Result, Ok, Err, nat_lt, refl, ap, sym, subst, arith, rules}
+use Rattle.std.specs.Prelude.{cond, decimal, ◌&&◌}
+use Rattle.std.specs.Char.{is_ascii_digit}
+use Rattle.std.specs.List.{list_all}
+use Rattle.std.specs.Result.{result_ok}
+use Rattle.std.specs.Str.{bytes_eq}
+use Rattle.std.specs.Str.Parse.{digits_value, ParsesUnsigned}
+use Rattle.std.proofs.lemmas.Bool.{and_parts, and_from, ltb-true, lt-ltb}
+use Rattle.std.proofs.lemmas.Fmt.{decimal_digit, decimal_nonempty, first_decimal, digits_decimal, digits_value-decimal, decimal-digits_value}
+use Rattle.std.proofs.lemmas.Slice.Eq.{bytes_eq-Decides}
+use Rattle.std.proofs.lemmas.Str.Parse.{IsNumeralModel, numerals_by_value, parse_digits}
+use Rattle.x25_script.specs.Reading.{number_in}
+
+pub own : IsNumeralModel (λ digits. list_all is_ascii_digit digits ≡ true) (digits_value 10)
+own = numerals_by_value _ (search rules)
+
+when_some : (b : Bool) (n m : ℕ) → cond b (Some n) None ≡ Some m → (b ≡ true) × (n ≡ m)
+when_some true n m e = (refl, cc)
+when_some false n m e = absurd (cc)
+
+-- what is read is written so
+pub number_found : (text : List ℕ) (n : ℕ) → number_in text ≡ Some n → (n < 65536) × (text ≡ decimal n)
+unfolding number_in
+number_found text n e =
+    let value = digits_value 10 text in
+    let test = when_some _ value n e in
+    let parts = and_parts (nat_lt value 65536) (bytes_eq (decimal value) text) test.0 in
+    let small = ltb-true value 65536 parts.0 in
+    let same : decimal value ≡ text = (bytes_eq-Decides (decimal value) text).0 parts.1 in
+    (subst (λ (m : ℕ). m < 65536) test.1 small, sym same ∙ ap decimal test.1)
+
+number_read : (n : ℕ) (text : List ℕ) → n < 65536 → digits_value 10 text ≡ n → decimal n ≡ text → number_in text ≡ Some n
+unfolding number_in
+number_read n text small value same =
+    let test : (nat_lt n 65536 && bytes_eq (decimal n) text) ≡ true =
+    and_from _ _ (lt-ltb n 65536 small) ((bytes_eq-Decides (decimal n) text).1 same) in
+    ap (λ m. cond (nat_lt m 65536 && bytes_eq (decimal m) text) (Some m) None) value ∙ ap (λ b. cond b (Some n) None) test
+
+-- what is written so is read
+pub number_again : (n : ℕ) → n < 65536 → number_in (decimal n) ≡ Some n
+number_again n small = number_read n (decimal n) small (digits_value-decimal own n (omega arith)) refl
+
+some_or_none : (read : Option ℕ) → ((n : ℕ) → read ≡ Some n → ⊥) → read ≡ None
+some_or_none None h = refl
+some_or_none (Some n) h = absurd (h n refl)
+
+none_written : (text : List ℕ) → ((n : ℕ) → n < 65536 → text ≡ decimal n → ⊥) → number_in text ≡ None
+none_written text h = some_or_none (number_in text) (λ n e. let found = number_found text n e in h n found.0 found.1)
+
+-- a decimal text of two digits or more doesn't begin with 0
+leading : (n : ℕ) → n < 65536 → 1 < length (decimal n) → get_or (decimal n) 0 0 ≡ 48 → ⊥
+leading zero small long first = let one = ap length (decimal_digit 0 (omega arith)) in omega (arith, one)
+leading (suc n) small long first = let above = first_decimal (suc n) (omega arith) (omega arith) in omega arith
+
+pub no_number_behind_zero : (text : List ℕ) → 1 < length text → get_or text 0 0 ≡ 48 → number_in text ≡ None
+no_number_behind_zero text long first = none_written text (λ n small same.
+    leading n small (subst (λ (t : List ℕ). 1 < length t) same long) (subst (λ (t : List ℕ). get_or t 0 0 ≡ 48) same first))
+
+pub no_number_of_others : (text : List ℕ) → list_all is_ascii_digit text ≡ false → number_in text ≡ None
+no_number_of_others text h = none_written text (λ n small same.
+    let digits = digits_decimal own n (omega arith) in
+    let both : true ≡ false = sym digits ∙ ap (list_all is_ascii_digit) (sym same) ∙ h in absurd (cc))
+
+pub number_parsed : {E : Type 0} (text : List ℕ) (r : Result ℕ E) → list_all is_ascii_digit text ≡ true → (get_or text 0 0 ≡ 48 → length text ≤ 1)
+    → ParsesUnsigned 16 10 text r → result_ok r ≡ number_in text
+number_parsed {E} text (Ok n) digits first h =
+    let parsed = parse_digits own {E = E} 16 text (Ok n) h digits in
+    let small : n < 65536 = omega (arith, parsed.0.1, parsed.1) in
+    sym (number_read n text small (sym parsed.1)
+    (ap decimal parsed.1 ∙ decimal-digits_value own text digits parsed.0.0 (λ e. let short = first e in omega (arith, parsed.0.0)) (omega (arith, parsed.0.1))))
+number_parsed {E} text (Err e) digits first h =
+    let refused = parse_digits own {E = E} 16 text (Err e) h digits in
+    sym (none_written text (λ n small same. refused (
+      subst (λ (t : List ℕ). 0 < length t) (sym same) (decimal_nonempty n (omega arith)),
+      subst (λ (t : List ℕ). digits_value 10 t < 2 ^ 16) (sym same) (let value = digits_value-decimal own n (omega arith) in omega arith),
+    )))

@@ -1,0 +1,205 @@
+-- Fields apart by a blank.
+use Rattle.std.proofs.Common.{ℕ, ◌==◌, ◌≡◌, ◌∙◌, ◌⊎◌, inl, inr, Bool, true, false, List, [], ◌∷◌, ◌++◌, length, Option, Some, None, Result, Ok, Err, refl, ap, sym, arith}
+use Rattle.std.specs.Prelude.{cond, not, option_map, option_and_then, ◌&&◌, codes, nat_eq}
+use Rattle.std.specs.Char.{is_ascii_digit}
+use Rattle.std.specs.List.{list_all}
+use Rattle.std.specs.Str.{bytes_eq}
+use Rattle.std.proofs.lemmas.Bool.{and_parts, and_from, eqb-true, eqb-false}
+use Rattle.std.proofs.lemmas.Bool.Decides.{nat_tests}
+use Rattle.std.proofs.lemmas.Slice.Eq.{bytes_eq-Decides}
+use Rattle.x25_bits.specs.declared.role.Role.{Role}
+use Rattle.x25_bits.specs.declared.role.Role.TheVariants.{Dte, Dce}
+use Rattle.x25_script.specs.Spelling.{end_text, direction_text, q_text, address_text, IsAddress, Writes}
+use Rattle.x25_script.specs.Reading.{parts_of, onto_first, end_in, from_in, q_in, digits_in, address_in, octets_in}
+use Rattle.x25_script.specs.Octets.{octets_of}
+use Rattle.hex.specs.declared.error.FromHexError.{FromHexError}
+use Rattle.hex.specs.Hex.{decode_of}
+use Rattle.hex.proofs.HexLemmas.{decode_of-ok}
+use Rattle.std.specs.Result.{result_ok}
+
+-- which way a test went
+pub chosen : {A : Type 0} (b : Bool) (x y z : A) → cond b x y ≡ z → ((b ≡ true) × (x ≡ z)) ⊎ ((b ≡ false) × (y ≡ z))
+chosen true x y z e = inl (refl, e)
+chosen false x y z e = inr (refl, e)
+
+pub same_some : {A : Type 0} {x y : A} → (let a : Option A = Some x in let b : Option A = Some y in a ≡ b) → x ≡ y
+same_some h = cc
+
+pub none_some : {A : Type 0} {x : A} → (let a : Option A = None in let b : Option A = Some x in a ≡ b) → ⊥
+none_some h = cc
+
+-- what the steps before a step read
+pub bind_found : {A B : Type 0} (read : Option A) (f : A → Option B) (y : B) → option_and_then f read ≡ Some y → (x : A) × (read ≡ Some x) × (f x ≡ Some y)
+bind_found (Some x) f y e = (x, refl, e)
+bind_found None f y e = absurd (none_some e)
+
+map_found : {A B : Type 0} (read : Option A) (f : A → B) (y : B) → option_map f read ≡ Some y → (x : A) × (read ≡ Some x) × (f x ≡ y)
+map_found (Some x) f y e = (x, refl, same_some e)
+map_found None f y e = absurd (none_some e)
+
+pub bytes_same : (a b : List ℕ) → bytes_eq a b ≡ true → a ≡ b
+bytes_same a b h = (bytes_eq-Decides a b).0 h
+
+-- ---- the first blank
+
+pub parts_joined : (text : List ℕ) (parts : List ℕ × List ℕ) → parts_of text ≡ Some parts → text ≡ parts.0 ++ (32 ∷ parts.1)
+unfolding parts_of
+parts_joined [] parts e = absurd (none_some e)
+parts_joined (c ∷ text) parts e = elim (chosen (c == 32) (Some ([], text)) (option_map (onto_first c) (parts_of text)) (Some parts) e) [
+  | inl p ↦
+      let same : (let x : List ℕ × List ℕ = ([], text) in x) ≡ parts = same_some p.1 in
+      let first = eqb-true c 32 p.0 in
+      ap (λ d. d ∷ text) first ∙ ap (λ (q : List ℕ × List ℕ). q.0 ++ (32 ∷ q.1)) same
+  | inr p ↦
+      let rest = map_found (parts_of text) (onto_first c) parts p.1 in
+      ap (λ t. c ∷ t) (parts_joined text rest.0 rest.1) ∙ ap (λ (q : List ℕ × List ℕ). q.0 ++ (32 ∷ q.1)) rest.2
+]
+
+abbrev pub no_blank : ℕ → Bool
+no_blank c = not (c == 32)
+
+pub parts_again : (front rest : List ℕ) → list_all no_blank front ≡ true → parts_of (front ++ (32 ∷ rest)) ≡ Some (front, rest)
+unfolding parts_of
+parts_again [] rest h = refl
+parts_again (c ∷ front) rest h =
+    let parts = and_parts (no_blank c) (list_all no_blank front) h in
+    let other : (c == 32) ≡ false = turned (c == 32) parts.0 in
+    ap (λ b. cond b (Some ([], front ++ (32 ∷ rest))) (option_map (onto_first c) (parts_of (front ++ (32 ∷ rest))))) other
+    ∙ ap (option_map (onto_first c)) (parts_again front rest parts.1)
+  where
+    turned : (b : Bool) → not b ≡ true → b ≡ false
+    turned true h = absurd (cc)
+    turned false h = refl
+
+digit_no_blank : (c : ℕ) → is_ascii_digit c ≡ true → no_blank c ≡ true
+digit_no_blank c h = grind (arith, nat_tests, h)
+
+pub digits_no_blank : (text : List ℕ) → list_all is_ascii_digit text ≡ true → list_all no_blank text ≡ true
+digits_no_blank [] h = refl
+digits_no_blank (c ∷ text) h =
+    let parts = and_parts (is_ascii_digit c) (list_all is_ascii_digit text) h in
+    and_from _ _ (digit_no_blank c parts.0) (digits_no_blank text parts.1)
+
+pub address_no_blank : (digits : List ℕ) → IsAddress digits → list_all no_blank (address_text digits) ≡ true
+address_no_blank [] h = refl
+address_no_blank (c ∷ digits) h = digits_no_blank (c ∷ digits) h
+
+-- ---- ends, directions, Q
+
+pub end_found : (text : List ℕ) (end : Role) → end_in text ≡ Some end → text ≡ end_text end
+end_found text end e = elim (chosen (bytes_eq text (codes "dte")) _ _ _ e) [
+  | inl p ↦ bytes_same text _ p.0 ∙ ap end_text (same_some p.1)
+  | inr p ↦ elim (chosen (bytes_eq text (codes "dce")) _ _ _ p.1) [
+    | inl q ↦ bytes_same text _ q.0 ∙ ap end_text (same_some q.1)
+    | inr q ↦ absurd (none_some q.1)
+  ]
+]
+
+pub end_again : (end : Role) → end_in (end_text end) ≡ Some end
+end_again Dte = refl
+end_again Dce = refl
+
+pub from_found : (text : List ℕ) (from : Role) → from_in text ≡ Some from → text ≡ direction_text from
+from_found text from e = elim (chosen (bytes_eq text (codes ">")) _ _ _ e) [
+  | inl p ↦ bytes_same text _ p.0 ∙ ap direction_text (same_some p.1)
+  | inr p ↦ elim (chosen (bytes_eq text (codes "<")) _ _ _ p.1) [
+    | inl q ↦ bytes_same text _ q.0 ∙ ap direction_text (same_some q.1)
+    | inr q ↦ absurd (none_some q.1)
+  ]
+]
+
+pub from_again : (from : Role) → from_in (direction_text from) ≡ Some from
+from_again Dte = refl
+from_again Dce = refl
+
+pub q_found : (text : List ℕ) (q : Bool) → q_in text ≡ Some q → text ≡ q_text q
+q_found text q e = elim (chosen (bytes_eq text (codes "0")) _ _ _ e) [
+  | inl p ↦ bytes_same text _ p.0 ∙ ap q_text (same_some p.1)
+  | inr p ↦ elim (chosen (bytes_eq text (codes "1")) _ _ _ p.1) [
+    | inl r ↦ bytes_same text _ r.0 ∙ ap q_text (same_some r.1)
+    | inr r ↦ absurd (none_some r.1)
+  ]
+]
+
+pub q_again : (q : Bool) → q_in (q_text q) ≡ Some q
+q_again false = refl
+q_again true = refl
+
+-- ---- addresses
+
+some_digits : (text : List ℕ) → (length text == 0) ≡ false → address_text text ≡ text
+some_digits [] h = absurd (cc)
+some_digits (c ∷ text) h = refl
+
+pub address_found : (text digits : List ℕ) → address_in text ≡ Some digits → IsAddress digits × (text ≡ address_text digits)
+address_found text digits e = elim (chosen (bytes_eq text (codes "-")) _ _ _ e) [
+  | inl p ↦ none text digits (bytes_same text _ p.0) (same_some p.1)
+  | inr p ↦ elim (chosen (length text == 0) _ _ _ p.1) [
+    | inl q ↦ absurd (none_some q.1)
+    | inr q ↦ elim (chosen (list_all is_ascii_digit text) _ _ _ q.1) [
+      | inl r ↦ some text digits q.0 r.0 (same_some r.1)
+      | inr r ↦ absurd (none_some r.1)
+    ]
+  ]
+]
+  where
+    none : (text digits : List ℕ) → text ≡ codes "-" → [] ≡ digits → IsAddress digits × (text ≡ address_text digits)
+    none text [] h k = (refl, h)
+    none text (c ∷ digits) h k = absurd (cc)
+
+    some : (text digits : List ℕ) → (length text == 0) ≡ false → list_all is_ascii_digit text ≡ true → text ≡ digits → IsAddress digits × (text ≡ address_text digits)
+    some text digits long all same =
+        (ap (list_all is_ascii_digit) (sym same) ∙ all, sym (some_digits text long) ∙ ap address_text same)
+
+differs : (b : Bool) → (b ≡ true → ⊥) → b ≡ false
+differs true f = absurd (f refl)
+differs false f = refl
+
+no_dash : (c : ℕ) → is_ascii_digit c ≡ true → nat_eq c 45 ≡ false
+no_dash c h = grind (arith, nat_tests, h)
+
+pub address_again : (digits : List ℕ) → IsAddress digits → address_in (address_text digits) ≡ Some digits
+address_again [] h = refl
+address_again (c ∷ digits) h =
+    let first = and_parts (is_ascii_digit c) (list_all is_ascii_digit digits) h in
+    let other : bytes_eq (c ∷ digits) (codes "-") ≡ false = ap (λ b. b && bytes_eq digits []) (no_dash c first.0) in
+    let some : (length (c ∷ digits) == 0) ≡ false = differs (length (c ∷ digits) == 0) (λ t. let none = eqb-true (length (c ∷ digits)) 0 t in omega (arith, none)) in
+    ap (λ b. cond b (Some []) (cond (length (c ∷ digits) == 0) None (digits_in (c ∷ digits)))) other
+    ∙ ap (λ b. cond b None (digits_in (c ∷ digits))) some ∙ ap (λ b. cond b (Some (c ∷ digits)) None) h
+
+-- ---- octets
+
+ok_of : (text octets : List ℕ) → octets_of text ≡ Some octets → decode_of text ≡ Ok octets
+ok_of text octets e = go (decode_of text) e
+  where
+    go : (r : Result (List ℕ) FromHexError) → result_ok r ≡ Some octets → r ≡ Ok octets
+    go (Ok read) e = ap (λ o. Ok o) (same_some e)
+    go (Err fault) e = absurd (none_some e)
+
+pub octets_found : (text octets : List ℕ) → octets_in text ≡ Some octets → Writes text octets
+octets_found text octets e = elim (chosen (bytes_eq text (codes "-")) _ _ _ e) [
+  | inl p ↦ none text octets (bytes_same text _ p.0) (same_some p.1)
+  | inr p ↦ elim (chosen (length text == 0) _ _ _ p.1) [
+    | inl q ↦ absurd (none_some q.1)
+    | inr q ↦ some text octets (eqb-false (length text) 0 q.0) (ok_of text octets q.1)
+  ]
+]
+  where
+    none : (text octets : List ℕ) → text ≡ codes "-" → [] ≡ octets → Writes text octets
+    none text [] h k = h
+    none text (c ∷ octets) h k = absurd (cc)
+
+    some : (text octets : List ℕ) → (length text ≡ 0 → ⊥) → decode_of text ≡ Ok octets → Writes text octets
+    some text [] long e = let size = (decode_of-ok text [] e).2 in absurd (long (omega (arith, size)))
+    some text (c ∷ octets) long e = e
+
+pub octets_again : (text octets : List ℕ) → Writes text octets → octets_in text ≡ Some octets
+octets_again text [] h = ap octets_in h
+octets_again text (c ∷ octets) h =
+    let read = decode_of-ok text (c ∷ octets) h in
+    let even = read.0 in
+    let size = read.2 in
+    let other : bytes_eq text (codes "-") ≡ false = differs (bytes_eq text (codes "-")) (λ t. let one = ap length (bytes_same text (codes "-") t) in omega (arith, one, even)) in
+    let some : (length text == 0) ≡ false = differs (length text == 0) (λ t. let none = eqb-true (length text) 0 t in omega (arith, none, size)) in
+    ap (λ b. cond b (Some []) (cond (length text == 0) None (octets_of text))) other
+    ∙ ap (λ b. cond b None (octets_of text)) some ∙ ap result_ok h

@@ -1,0 +1,5 @@
+pub mod Octets
+pub mod PlainLine
+pub mod Spelling
+pub mod Reading
+pub mod ReadingLaw

@@ -1,0 +1,50 @@
+-- A line of a script as a value alone, without where its characters lie (profile).
+use Rattle.std.specs.Prelude.{ℕ, Bool, List}
+use Rattle.x25_bits.specs.declared.role.Role.{Role}
+use Rattle.x25_script.specs.declared.script_line.Command.{Command}
+use Rattle.x25_script.specs.declared.script_line.Command.TheVariants as command_code
+use Rattle.x25_script.specs.declared.script_line.ScriptLine.{ScriptLine}
+use Rattle.x25_script.specs.declared.script_line.ScriptLine.TheVariants as line_code
+
+-- A call has the characters of the called address, those of the calling one, and the user data; the others begin with
+-- their channel, before Q and the user data.
+pub data PlainCommand : Type 0 where
+  call : List ℕ → List ℕ → List ℕ → PlainCommand
+  accept : ℕ → PlainCommand
+  clear : ℕ → PlainCommand
+  send : ℕ → Bool → List ℕ → PlainCommand
+  interrupt : ℕ → List ℕ → PlainCommand
+  reset : ℕ → PlainCommand
+  ready : ℕ → PlainCommand
+  not_ready : ℕ → PlainCommand
+  restart : PlainCommand
+  disconnect : PlainCommand
+
+-- An end; or the end that a direction leads away from, a place and octets; or a count.
+pub data PlainLine : Type 0 where
+  command : Role → PlainCommand → PlainLine
+  t1 : Role → PlainLine
+  deliver : Role → PlainLine
+  lose : Role → ℕ → PlainLine
+  damage : Role → ℕ → List ℕ → PlainLine
+  drain : ℕ → PlainLine
+
+abbrev pub plain_command : Command → PlainCommand
+plain_command (command_code.Call called calling user) = call called.now calling.now user
+plain_command (command_code.Accept channel) = accept channel
+plain_command (command_code.Clear channel) = clear channel
+plain_command (command_code.Send channel q user) = send channel q user
+plain_command (command_code.Interrupt channel user) = interrupt channel user
+plain_command (command_code.Reset channel) = reset channel
+plain_command (command_code.Ready channel) = ready channel
+plain_command (command_code.NotReady channel) = not_ready channel
+plain_command command_code.Restart = restart
+plain_command command_code.Disconnect = disconnect
+
+abbrev pub plain : ScriptLine → PlainLine
+plain (line_code.Command end asked) = command end (plain_command asked)
+plain (line_code.T1 end) = t1 end
+plain (line_code.Deliver from) = deliver from
+plain (line_code.Lose from place) = lose from place
+plain (line_code.Damage from place octets) = damage from place octets
+plain (line_code.Drain count) = drain count

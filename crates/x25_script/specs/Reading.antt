@@ -1,0 +1,193 @@
+-- What characters read as: the line that they spell, or none (profile).
+use Rattle.std.specs.Prelude.{ℕ, ◌≡◌, ◌==◌, ◌&&◌, nat_lt, Bool, true, false, List, [], ◌∷◌, length, codes, decimal, if◌then◌else◌, Option, Some, None, option_map, option_and_then}
+use Rattle.std.specs.Char.{is_ascii_digit}
+use Rattle.std.specs.List.{list_all}
+use Rattle.std.specs.Str.{bytes_eq}
+use Rattle.std.specs.Str.Parse.{digits_value}
+use denote.Ref.{Bor}
+use Rattle.x25_bits.specs.declared.role.Role.{Role}
+use Rattle.x25_bits.specs.declared.role.Role.TheVariants.{Dte, Dce}
+use Rattle.x25_script.specs.declared.script_line.Command.{Command}
+use Rattle.x25_script.specs.declared.script_line.ScriptLine.{ScriptLine}
+use Rattle.x25_script.specs.declared.words.Keyword.{Keyword}
+use Rattle.x25_script.specs.declared.words.Keyword.TheVariants.{End, T1, Deliver, Lose, Damage, Drain}
+use Rattle.x25_script.specs.declared.words.Verb.{Verb}
+use Rattle.x25_script.specs.declared.words.Verb.TheVariants.{Call, Accept, Clear, Send, Interrupt, Reset, Ready, NotReady}
+use Rattle.x25_script.specs.Octets.{octets_of}
+use Rattle.x25_script.specs.PlainLine.{PlainCommand, call, accept, clear, send, interrupt, reset, ready, not_ready, restart, disconnect, PlainLine, command, t1, deliver, lose, damage, drain, plain_command, plain}
+
+-- a step of reading, where the steps before it read something
+infixl 10 ◌>>=◌
+abbrev pub ◌>>=◌ : {A B : Type 0} → Option A → (A → Option B) → Option B
+read >>= f = option_and_then f read
+
+-- a character in front of the first part
+abbrev pub onto_first : ℕ → List ℕ × List ℕ → List ℕ × List ℕ
+onto_first character parts = (character ∷ parts.0, parts.1)
+
+-- what stands before the first blank, and what follows it
+unfoldable pub parts_of : List ℕ → Option (List ℕ × List ℕ)
+parts_of [] = None
+parts_of (character ∷ text) = if character == 32 then Some ([], text) else option_map (onto_first character) (parts_of text)
+
+abbrev pub end_in : List ℕ → Option Role
+end_in text = if bytes_eq text (codes "dte") then Some Dte else if bytes_eq text (codes "dce") then Some Dce else None
+
+-- the end that a direction leads away from
+abbrev pub from_in : List ℕ → Option Role
+from_in text = if bytes_eq text (codes ">") then Some Dte else if bytes_eq text (codes "<") then Some Dce else None
+
+abbrev pub q_in : List ℕ → Option Bool
+q_in text = if bytes_eq text (codes "0") then Some false else if bytes_eq text (codes "1") then Some true else None
+
+-- the number of 16 bits that is written so
+unfoldable pub number_in : List ℕ → Option ℕ
+number_in text = let n = digits_value 10 text in if nat_lt n 65536 && bytes_eq (decimal n) text then Some n else None
+
+-- a text of digits `0` to `9`
+abbrev pub digits_in : List ℕ → Option (List ℕ)
+digits_in text = if list_all is_ascii_digit text then Some text else None
+
+-- the digits of an address, one at least or `-`
+abbrev pub address_in : List ℕ → Option (List ℕ)
+address_in text = if bytes_eq text (codes "-") then Some [] else if length text == 0 then None else digits_in text
+
+-- octets, one pair of digits at least or `-`
+abbrev pub octets_in : List ℕ → Option (List ℕ)
+octets_in text = if bytes_eq text (codes "-") then Some [] else if length text == 0 then None else octets_of text
+
+abbrev pub verb_in : List ℕ → Option Verb
+verb_in text =
+    if bytes_eq text (codes "call") then Some Call
+    else if bytes_eq text (codes "accept") then Some Accept
+    else if bytes_eq text (codes "clear") then Some Clear
+    else if bytes_eq text (codes "send") then Some Send
+    else if bytes_eq text (codes "int") then Some Interrupt
+    else if bytes_eq text (codes "reset") then Some Reset
+    else if bytes_eq text (codes "ready") then Some Ready
+    else if bytes_eq text (codes "notready") then Some NotReady
+    else None
+
+abbrev pub keyword_in : List ℕ → Option Keyword
+keyword_in text =
+    if bytes_eq text (codes "t1") then Some T1
+    else if bytes_eq text (codes "deliver") then Some Deliver
+    else if bytes_eq text (codes "lose") then Some Lose
+    else if bytes_eq text (codes "damage") then Some Damage
+    else if bytes_eq text (codes "drain") then Some Drain
+    else option_map (λ end. End end) (end_in text)
+
+unfoldable pub call_in : List ℕ → Option PlainCommand
+call_in text = do
+  first ← parts_of text
+  second ← parts_of first.1
+  called ← address_in first.0
+  calling ← address_in second.0
+  user ← octets_in second.1
+  Some (call called calling user)
+
+unfoldable pub send_in : List ℕ → Option PlainCommand
+send_in text = do
+  first ← parts_of text
+  second ← parts_of first.1
+  channel ← number_in first.0
+  q ← q_in second.0
+  user ← octets_in second.1
+  Some (send channel q user)
+
+unfoldable pub interrupt_in : List ℕ → Option PlainCommand
+interrupt_in text = do
+  parts ← parts_of text
+  channel ← number_in parts.0
+  user ← octets_in parts.1
+  Some (interrupt channel user)
+
+-- a command whose one field is its channel
+abbrev pub on_channel : (ℕ → PlainCommand) → List ℕ → Option PlainCommand
+on_channel asked text = do
+  channel ← number_in text
+  Some (asked channel)
+
+unfoldable pub with_fields : Verb → List ℕ → Option PlainCommand
+with_fields Call text = call_in text
+with_fields Accept text = on_channel accept text
+with_fields Clear text = on_channel clear text
+with_fields Send text = send_in text
+with_fields Interrupt text = interrupt_in text
+with_fields Reset text = on_channel reset text
+with_fields Ready text = on_channel ready text
+with_fields NotReady text = on_channel not_ready text
+
+abbrev pub bare_command_in : List ℕ → Option PlainCommand
+bare_command_in text = if bytes_eq text (codes "restart") then Some restart
+    else if bytes_eq text (codes "disconnect") then Some disconnect else None
+
+-- of a text and its parts at the first blank
+abbrev pub command_of : List ℕ → Option (List ℕ × List ℕ) → Option PlainCommand
+command_of text None = bare_command_in text
+command_of text (Some parts) = do
+  word ← verb_in parts.0
+  with_fields word parts.1
+
+unfoldable pub command_in : List ℕ → Option PlainCommand
+command_in text = command_of text (parts_of text)
+
+unfoldable pub lose_in : List ℕ → Option PlainLine
+lose_in text = do
+  parts ← parts_of text
+  from ← from_in parts.0
+  place ← number_in parts.1
+  Some (lose from place)
+
+unfoldable pub damage_in : List ℕ → Option PlainLine
+damage_in text = do
+  first ← parts_of text
+  second ← parts_of first.1
+  from ← from_in first.0
+  place ← number_in second.0
+  octets ← octets_in second.1
+  Some (damage from place octets)
+
+unfoldable pub drain_in : List ℕ → Option PlainLine
+drain_in text = do
+  count ← number_in text
+  if count == 0 then None else Some (drain count)
+
+-- what follows the first word
+abbrev pub after : Keyword → List ℕ → Option PlainLine
+after (End end) text = do
+  asked ← command_in text
+  Some (command end asked)
+after T1 text = do
+  end ← end_in text
+  Some (t1 end)
+after Deliver text = do
+  from ← from_in text
+  Some (deliver from)
+after Lose text = lose_in text
+after Damage text = damage_in text
+after Drain text = drain_in text
+
+-- the line that the characters spell
+unfoldable pub line_in : List ℕ → Option PlainLine
+line_in text = do
+  parts ← parts_of text
+  word ← keyword_in parts.0
+  after word parts.1
+
+-- an answer is what the characters read as
+abbrev pub GivesParts : Option (Bor (List ℕ) × Bor (List ℕ)) → Option (List ℕ × List ℕ) → Type 0
+GivesParts None read = read ≡ None
+GivesParts (Some parts) read = read ≡ Some (parts.0.now, parts.1.now)
+
+abbrev pub GivesText : Option (Bor (List ℕ)) → Option (List ℕ) → Type 0
+GivesText None read = read ≡ None
+GivesText (Some text) read = read ≡ Some text.now
+
+abbrev pub GivesCommand : Option Command → Option PlainCommand → Type 0
+GivesCommand None read = read ≡ None
+GivesCommand (Some asked) read = read ≡ Some (plain_command asked)
+
+abbrev pub GivesLine : Option ScriptLine → Option PlainLine → Type 0
+GivesLine None read = read ≡ None
+GivesLine (Some line) read = read ≡ Some (plain line)

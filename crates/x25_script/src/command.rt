@@ -1,0 +1,99 @@
+//! What the user of an end asks for.
+ghost use Rattle.x25_script.specs.Reading.{bare_command_in, call_in, command_in, interrupt_in, send_in, with_fields, GivesCommand};
+
+use crate::fields::{address, is, number, octets, q, split_blank, verb};
+use crate::script_line::Command;
+use crate::words::Verb;
+
+#[tactic(auto, unfolding(crate::specs::Reading::call_in))]
+fn call(text: &[u8]) -> Option<Command<'_>>
+    ensures { GivesCommand result (call_in text.now) }
+{
+    let (called, rest) = split_blank(text)?;
+    let (calling, user) = split_blank(rest)?;
+    Some(Command::Call {
+        called: address(called)?,
+        calling: address(calling)?,
+        user: octets(user)?,
+    })
+}
+
+#[tactic(auto, unfolding(crate::specs::Reading::send_in))]
+fn send(text: &[u8]) -> Option<Command<'_>>
+    ensures { GivesCommand result (send_in text.now) }
+{
+    let (channel, rest) = split_blank(text)?;
+    let (mark, user) = split_blank(rest)?;
+    Some(Command::Send {
+        channel: number(channel)?,
+        q: q(mark)?,
+        user: octets(user)?,
+    })
+}
+
+#[tactic(auto, unfolding(crate::specs::Reading::interrupt_in))]
+fn interrupt(text: &[u8]) -> Option<Command<'_>>
+    ensures { GivesCommand result (interrupt_in text.now) }
+{
+    let (channel, user) = split_blank(text)?;
+    Some(Command::Interrupt {
+        channel: number(channel)?,
+        user: octets(user)?,
+    })
+}
+
+/// The command of this word, with its fields.
+#[tactic(auto, unfolding(crate::specs::Reading::with_fields))]
+fn command_with(word: Verb, fields: &[u8]) -> Option<Command<'_>>
+    ensures { GivesCommand result (with_fields word fields.now) }
+{
+    match word {
+        Verb::Call => call(fields),
+        Verb::Send => send(fields),
+        Verb::Interrupt => interrupt(fields),
+        Verb::Accept => {
+            let channel = number(fields)?;
+            Some(Command::Accept { channel })
+        }
+        Verb::Clear => {
+            let channel = number(fields)?;
+            Some(Command::Clear { channel })
+        }
+        Verb::Reset => {
+            let channel = number(fields)?;
+            Some(Command::Reset { channel })
+        }
+        Verb::Ready => {
+            let channel = number(fields)?;
+            Some(Command::Ready { channel })
+        }
+        Verb::NotReady => {
+            let channel = number(fields)?;
+            Some(Command::NotReady { channel })
+        }
+    }
+}
+
+/// A command without fields.
+fn bare_command(text: &[u8]) -> Option<Command<'_>>
+    ensures { GivesCommand result (bare_command_in text.now) }
+{
+    if is(text, "restart") {
+        Some(Command::Restart)
+    } else if is(text, "disconnect") {
+        Some(Command::Disconnect)
+    } else {
+        None
+    }
+}
+
+/// The command that follows the name of its end.
+#[tactic(auto, unfolding(crate::specs::Reading::command_in))]
+pub(crate) fn command(text: &[u8]) -> Option<Command<'_>>
+    ensures { GivesCommand result (command_in text.now) }
+{
+    match split_blank(text) {
+        Some((word, fields)) => command_with(verb(word)?, fields),
+        None => bare_command(text),
+    }
+}

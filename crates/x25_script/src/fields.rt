@@ -1,0 +1,167 @@
+//! The fields of a line.
+ghost use Rattle.std.specs.Prelude.{◌≡◌, ◌==◌};
+ghost use Rattle.std.specs.Char.{is_ascii_digit};
+ghost use Rattle.std.specs.List.{list_all, position};
+ghost use Rattle.std.specs.Str.{bytes_eq};
+ghost use Rattle.x25_script.specs.Reading.{address_in, end_in, from_in, keyword_in, digits_in, number_in, octets_in, parts_of, q_in, verb_in, GivesParts, GivesText};
+
+use crate::hex_digits::HexDigits;
+use crate::words::{Keyword, Verb};
+use x25_bits::Role;
+
+/// Whether the text is this word.
+pub(crate) fn is(text: &[u8], word: &str) -> bool
+    ensures { result ≡ bytes_eq text.now word.now }
+{
+    text == word.as_bytes()
+}
+
+/// The place of the first blank.
+fn first_blank(text: &[u8]) -> Option<usize>
+    ensures { result ≡ position (λ character. character == 32) text.now }
+{
+    text.iter().position(|character| *character == b' ')
+}
+
+/// What stands before the first blank, and what follows it.
+pub(crate) fn split_blank(text: &[u8]) -> Option<(&[u8], &[u8])>
+    ensures { GivesParts result (parts_of text.now) }
+{
+    match first_blank(text) {
+        Some(at) => Some((&text[..at], &text[at + 1..])),
+        None => None,
+    }
+}
+
+pub(crate) fn end(text: &[u8]) -> Option<Role>
+    ensures { result ≡ end_in text.now }
+{
+    if is(text, "dte") {
+        Some(Role::Dte)
+    } else if is(text, "dce") {
+        Some(Role::Dce)
+    } else {
+        None
+    }
+}
+
+/// The end that a direction leads away from.
+pub(crate) fn from(text: &[u8]) -> Option<Role>
+    ensures { result ≡ from_in text.now }
+{
+    if is(text, ">") {
+        Some(Role::Dte)
+    } else if is(text, "<") {
+        Some(Role::Dce)
+    } else {
+        None
+    }
+}
+
+pub(crate) fn q(text: &[u8]) -> Option<bool>
+    ensures { result ≡ q_in text.now }
+{
+    if is(text, "0") {
+        Some(false)
+    } else if is(text, "1") {
+        Some(true)
+    } else {
+        None
+    }
+}
+
+fn are_digits(text: &[u8]) -> bool
+    ensures { result ≡ list_all is_ascii_digit text.now }
+{
+    text.iter().all(|character| character.is_ascii_digit())
+}
+
+/// The text, where all its characters are digits `0` to `9`.
+fn digits(text: &[u8]) -> Option<&str>
+    ensures { GivesText result (digits_in text.now) }
+{
+    if are_digits(text) {
+        str::from_utf8(text).ok()
+    } else {
+        None
+    }
+}
+
+/// A number of 16 bits, without leading zeros.
+pub(crate) fn number(text: &[u8]) -> Option<u16>
+    ensures { result ≡ number_in text.now }
+{
+    if text.len() > 1 && text[0] == b'0' {
+        return None;
+    }
+    digits(text)?.parse::<u16>().ok()
+}
+
+/// The digits of an address, one at least or `-`.
+pub(crate) fn address(text: &[u8]) -> Option<&str>
+    ensures { GivesText result (address_in text.now) }
+{
+    if is(text, "-") {
+        Some("")
+    } else if text.is_empty() {
+        None
+    } else {
+        digits(text)
+    }
+}
+
+/// Octets, one pair of digits at least or `-`.
+#[tactic(auto, using(crate::proofs::OctetLemmas::octets_of_none))]
+pub(crate) fn octets(text: &[u8]) -> Option<HexDigits<'_>>
+    ensures { result ≡ octets_in text.now }
+{
+    if is(text, "-") {
+        HexDigits::of(b"")
+    } else if text.is_empty() {
+        None
+    } else {
+        HexDigits::of(text)
+    }
+}
+
+pub(crate) fn keyword(word: &[u8]) -> Option<Keyword>
+    ensures { result ≡ keyword_in word.now }
+{
+    if is(word, "t1") {
+        Some(Keyword::T1)
+    } else if is(word, "deliver") {
+        Some(Keyword::Deliver)
+    } else if is(word, "lose") {
+        Some(Keyword::Lose)
+    } else if is(word, "damage") {
+        Some(Keyword::Damage)
+    } else if is(word, "drain") {
+        Some(Keyword::Drain)
+    } else {
+        Some(Keyword::End(end(word)?))
+    }
+}
+
+pub(crate) fn verb(word: &[u8]) -> Option<Verb>
+    ensures { result ≡ verb_in word.now }
+{
+    if is(word, "call") {
+        Some(Verb::Call)
+    } else if is(word, "accept") {
+        Some(Verb::Accept)
+    } else if is(word, "clear") {
+        Some(Verb::Clear)
+    } else if is(word, "send") {
+        Some(Verb::Send)
+    } else if is(word, "int") {
+        Some(Verb::Interrupt)
+    } else if is(word, "reset") {
+        Some(Verb::Reset)
+    } else if is(word, "ready") {
+        Some(Verb::Ready)
+    } else if is(word, "notready") {
+        Some(Verb::NotReady)
+    } else {
+        None
+    }
+}

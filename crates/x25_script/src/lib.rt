@@ -1,0 +1,18 @@
+//! The lines of a script: what a user's simulator of a line between two stations is told to do.
+//!
+//! docs/FORMATS.md has their forms. Profile.
+#![tactic(auto)]
+
+mod command;
+mod fields;
+mod hex_digits;
+mod law;
+mod reading;
+mod script_line;
+mod words;
+
+pub use hex_digits::HexDigits;
+pub use law::reading_is_the_grammar;
+pub use reading::read_line;
+pub use script_line::{Command, ScriptLine};
+pub use x25_bits::Role;

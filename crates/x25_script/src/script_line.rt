@@ -1,0 +1,77 @@
+use crate::hex_digits::HexDigits;
+use x25_bits::Role;
+
+/// What the user of an end asks for.
+///
+/// Addresses are digits `0` to `9`, any number of them; whether a call may have them is judged by the call. `user` is user
+/// data as octets. `channel` is any number of 16 bits; whether there is such a channel is judged by the call.
+#[derive(Debug, Drop)]
+pub enum Command<'a> {
+    Call {
+        called: &'a str,
+        calling: &'a str,
+        user: HexDigits<'a>,
+    },
+    Accept {
+        channel: u16,
+    },
+    Clear {
+        channel: u16,
+    },
+    Send {
+        channel: u16,
+        q: bool,
+        user: HexDigits<'a>,
+    },
+    Interrupt {
+        channel: u16,
+        user: HexDigits<'a>,
+    },
+    Reset {
+        channel: u16,
+    },
+    Ready {
+        channel: u16,
+    },
+    NotReady {
+        channel: u16,
+    },
+    Restart,
+    Disconnect,
+}
+
+/// A line of a script. Addresses and octets are borrowed from it.
+///
+/// A direction is named by the end that it leads away from. `place` counts the frames on the line in this direction from
+/// 0, the next to arrive; `count` is 1 to 65,535.
+#[derive(Debug, Drop)]
+pub enum ScriptLine<'a> {
+    /// The user of an end asks for something.
+    Command {
+        end: Role,
+        command: Command<'a>,
+    },
+    /// Timer T1 of an end runs out.
+    T1 {
+        end: Role,
+    },
+    /// The next frame from an end arrives.
+    Deliver {
+        from: Role,
+    },
+    /// A frame from an end is lost.
+    Lose {
+        from: Role,
+        place: u16,
+    },
+    /// A frame from an end is damaged: these octets stand in its place.
+    Damage {
+        from: Role,
+        place: u16,
+        octets: HexDigits<'a>,
+    },
+    /// Frames arrive, at most this many.
+    Drain {
+        count: u16,
+    },
+}

@@ -1,0 +1,29 @@
+use std::test::Fail;
+use x25_text::read_hexadecimal;
+
+const DIGITS: [u8; 58] = *b"0123456789abcdefABCDEF0011223344556677889900aaBBccDDeeFF12";
+
+/// For each number of octets, with and without a block over the one before.
+#[test]
+fn reads_digits_as_hex_does(rt: HostRuntime) -> Result<(), Fail> {
+    for count in 0..30usize {
+        let digits = &DIGITS[..2 * count];
+        let wanted = hex::decode(rt.alloc(), digits)?;
+        let mut octets = [0u8; 29];
+        assert!(rt; read_hexadecimal(digits, &mut octets[..count]));
+        assert_eq!(rt; &octets[..count], wanted.as_slice());
+    }
+    Ok(())
+}
+
+#[test]
+fn finds_what_is_no_digit_at_each_place(rt: HostRuntime) {
+    for character in [b'g', b'G', b'/', b':', b'@', b'`', 0, 255] {
+        for place in 0..DIGITS.len() {
+            let mut digits = DIGITS;
+            digits[place] = character;
+            let mut octets = [0u8; 29];
+            assert!(rt; !read_hexadecimal(&digits, &mut octets));
+        }
+    }
+}
