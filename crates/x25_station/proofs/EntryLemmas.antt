@@ -1,0 +1,40 @@
+-- The entries of a step have those of the layer's own transcript.
+use Rattle.std.proofs.Common.{◌≡◌, ℕ, List, [], ◌∷◌, Option, Some, None, refl, ap}
+use Rattle.x25_circuit.specs.Calls.{Calls}
+use Rattle.x25_layer.specs.Layer.{LayerSettings, Layer, LayerNotice, on_channel, restarted, restart_done, layer_fault}
+use Rattle.x25_layer.specs.Calls.{LayerRequest, Asks, Dials, Restarts, free_channel}
+use Rattle.x25_layer.specs.Transcript.{Entry, Told, name_of}
+use Rattle.x25_layer.specs.World.{entries_told, entries_asked, entry_of_dial}
+use Rattle.x25_station.specs.Entries.{station_told, of_channels, station_asked, layer_entries, layer_notices}
+
+pub told_entries : (l : Layer) (notices : List LayerNotice) → layer_entries (station_told l notices) ≡ entries_told l notices
+told_entries l [] = refl
+told_entries l (on_channel h notice ∷ notices) = ap (λ (es : List Entry). record { channel = h; name = name_of l h; said = Told notice } ∷ es) (told_entries l notices)
+told_entries l (restarted cause diagnostic ∷ notices) = told_entries l notices
+told_entries l (restart_done ∷ notices) = told_entries l notices
+told_entries l (layer_fault diagnostic ∷ notices) = told_entries l notices
+
+pub told_notices : (l : Layer) (notices : List LayerNotice) → layer_notices (station_told l notices) ≡ notices
+told_notices l [] = refl
+told_notices l (on_channel h notice ∷ notices) = ap (λ (ns : List LayerNotice). on_channel h notice ∷ ns) (told_notices l notices)
+told_notices l (restarted cause diagnostic ∷ notices) = ap (λ (ns : List LayerNotice). restarted cause diagnostic ∷ ns) (told_notices l notices)
+told_notices l (restart_done ∷ notices) = ap (λ (ns : List LayerNotice). restart_done ∷ ns) (told_notices l notices)
+told_notices l (layer_fault diagnostic ∷ notices) = ap (λ (ns : List LayerNotice). layer_fault diagnostic ∷ ns) (told_notices l notices)
+
+pub asked_entries : (c : LayerSettings) (l next : Layer) (request : LayerRequest) → layer_entries (station_asked c l next request) ≡ entries_asked c l next request
+asked_entries c l next (Asks h request) = refl
+asked_entries c l next (Dials called calling user) = by (free_channel c.circuit.role l.circuits c.channels)
+  where
+    by : (o : Option ℕ) → layer_entries (of_channels (entry_of_dial next o (Calls called calling user))) ≡ entry_of_dial next o (Calls called calling user)
+    by None = refl
+    by (Some h) = refl
+asked_entries c l next Restarts = refl
+
+pub asked_notices : (c : LayerSettings) (l next : Layer) (request : LayerRequest) → layer_notices (station_asked c l next request) ≡ []
+asked_notices c l next (Asks h request) = refl
+asked_notices c l next (Dials called calling user) = by (free_channel c.circuit.role l.circuits c.channels)
+  where
+    by : (o : Option ℕ) → layer_notices (of_channels (entry_of_dial next o (Calls called calling user))) ≡ []
+    by None = refl
+    by (Some h) = refl
+asked_notices c l next Restarts = refl

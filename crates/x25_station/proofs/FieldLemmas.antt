@@ -1,0 +1,231 @@
+-- A packet whose fields fit is read again from its octets.
+use Rattle.std.proofs.Common.{◌≡◌, ℕ, zero, suc, ◌+◌, ◌*◌, ◌/◌, ◌%◌, ◌<◌, ◌≤◌, List, [], ◌∷◌, ◌++◌, length, Option, Some, None, Bool, true, false, refl, sym, ap, subst, ◌∙◌, arith, length-append}
+use Rattle.std.specs.List.{list_all}
+use Rattle.std.specs.Prelude.{◌&&◌}
+use Rattle.std.proofs.lemmas.Bool.{and_parts, leb-true, and_from}
+use Rattle.std.proofs.lemmas.List.Elements.{All-nil, All-cons, All-append}
+use Rattle.std.proofs.lemmas.List.Folds.{list_all-append}
+use Rattle.x25_bits.specs.Bit.{bit}
+use Rattle.x25_packet.specs.Digits.{packed, is_digit, IsAddress}
+use Rattle.x25_packet.specs.PlainPacket.{PlainPacket, call, accept, clear, clear_conf, user_data, rr, rnr, interrupt, interrupt_conf, reset, reset_conf, restart, restart_conf}
+use Rattle.x25_packet.specs.Spelling.{channel_of, HasChannel, moved_to, format_of, type_of, addresses, call_body, accept_body, body_of, header_of, spelling_of, IsInRange}
+use Rattle.x25_packet.specs.Facilities.{IsFacilityField}
+use Rattle.x25_packet.specs.ReadingLaw.{ReadsWhatIsSpelled}
+use Rattle.x25_station.specs.ReadLaw.{AreOctets, IsReadable}
+
+abbrev IsOctet : ℕ → Type 0
+IsOctet octet = octet < 256
+
+abbrev pub Fits : PlainPacket → Type 0
+Fits (call h called calling facilities user) = IsAddress called × IsAddress calling × (facilities ≡ []) × (length user ≤ 16) × AreOctets user
+Fits (accept h facilities) = facilities ≡ []
+Fits (clear h cause diagnostic) = (cause < 256) × (diagnostic < 256)
+Fits (clear_conf h) = Unit {0}
+Fits (user_data h q m ps pr user) = (ps < 8) × (pr < 8) × (length user ≤ 128) × AreOctets user
+Fits (rr h pr) = pr < 8
+Fits (rnr h pr) = pr < 8
+Fits (interrupt h user) = (1 ≤ length user) × (length user ≤ 32) × AreOctets user
+Fits (interrupt_conf h) = Unit {0}
+Fits (reset h cause diagnostic) = (cause < 256) × (diagnostic < 256)
+Fits (reset_conf h) = Unit {0}
+Fits (restart cause diagnostic) = (cause < 256) × (diagnostic < 256)
+Fits restart_conf = Unit {0}
+
+-- of one of 16 channels, where it is of one
+abbrev pub IsOn : PlainPacket → Type 0
+IsOn p = HasChannel p → (1 ≤ channel_of p) × (channel_of p ≤ 16)
+
+pub moved_fits : (h : ℕ) (p : PlainPacket) → Fits p → Fits (moved_to h p)
+moved_fits h (call k called calling facilities user) f = f
+moved_fits h (accept k facilities) f = f
+moved_fits h (clear k cause diagnostic) f = f
+moved_fits h (clear_conf k) f = f
+moved_fits h (user_data k q m ps pr user) f = f
+moved_fits h (rr k pr) f = f
+moved_fits h (rnr k pr) f = f
+moved_fits h (interrupt k user) f = f
+moved_fits h (interrupt_conf k) f = f
+moved_fits h (reset k cause diagnostic) f = f
+moved_fits h (reset_conf k) f = f
+moved_fits h (restart cause diagnostic) f = f
+moved_fits h restart_conf f = f
+
+pub moved_on : (h : ℕ) (p : PlainPacket) → HasChannel p → 1 ≤ h → h ≤ 16 → IsOn (moved_to h p)
+moved_on h (call k called calling facilities user) has low high there = (low, high)
+moved_on h (accept k facilities) has low high there = (low, high)
+moved_on h (clear k cause diagnostic) has low high there = (low, high)
+moved_on h (clear_conf k) has low high there = (low, high)
+moved_on h (user_data k q m ps pr user) has low high there = (low, high)
+moved_on h (rr k pr) has low high there = (low, high)
+moved_on h (rnr k pr) has low high there = (low, high)
+moved_on h (interrupt k user) has low high there = (low, high)
+moved_on h (interrupt_conf k) has low high there = (low, high)
+moved_on h (reset k cause diagnostic) has low high there = (low, high)
+moved_on h (reset_conf k) has low high there = (low, high)
+moved_on h (restart cause diagnostic) has low high there = absurd has
+moved_on h restart_conf has low high there = absurd has
+
+-- ---- in range
+
+no_facility : (facilities : List ℕ) → facilities ≡ [] → IsFacilityField facilities
+no_facility facilities none = (record { packet_size = None; window_size = None }, record { sizes = tt; windows = tt }, none)
+
+channel_in_range : (h : ℕ) → (1 ≤ h) × (h ≤ 16) → (1 ≤ h) × (h ≤ 4095)
+channel_in_range h on = (on.0, omega (arith, on.1))
+
+in_range : (p : PlainPacket) → Fits p → IsOn p → IsInRange 16 p
+in_range (call h called calling facilities user) f on = (channel_in_range h (on tt), f.0, f.1, no_facility facilities f.2, f.3)
+in_range (accept h facilities) f on = (channel_in_range h (on tt), no_facility facilities f)
+in_range (clear h cause diagnostic) f on = channel_in_range h (on tt)
+in_range (clear_conf h) f on = channel_in_range h (on tt)
+in_range (user_data h q m ps pr user) f on = (channel_in_range h (on tt), f.0, f.1, omega (arith, f.2))
+in_range (rr h pr) f on = (channel_in_range h (on tt), f)
+in_range (rnr h pr) f on = (channel_in_range h (on tt), f)
+in_range (interrupt h user) f on = (channel_in_range h (on tt), f.0, f.1)
+in_range (interrupt_conf h) f on = channel_in_range h (on tt)
+in_range (reset h cause diagnostic) f on = channel_in_range h (on tt)
+in_range (reset_conf h) f on = channel_in_range h (on tt)
+in_range (restart cause diagnostic) f on = tt
+in_range restart_conf f on = tt
+
+-- ---- octets
+
+pub no_octets : AreOctets []
+no_octets = All-nil IsOctet
+
+pub octets_more : (a : ℕ) (xs : List ℕ) → a < 256 → AreOctets xs → AreOctets (a ∷ xs)
+octets_more a xs low all = All-cons IsOctet a xs low all
+
+two : (a b : ℕ) → a < 256 → b < 256 → AreOctets (a ∷ b ∷ [])
+two a b low high = octets_more a (b ∷ []) low (octets_more b [] high no_octets)
+
+bit_low : (b : Bool) → bit b ≤ 1
+bit_low true = omega arith
+bit_low false = omega arith
+
+packed_octets : (digits : List ℕ) → list_all is_digit digits ≡ true → AreOctets (packed digits)
+unfolding packed
+packed_octets [] all = no_octets
+packed_octets (high ∷ []) all =
+    let small : high ≤ 9 = leb-true high 9 (and_parts (is_digit high) true all).0 in
+    octets_more (16 * high) [] (omega (arith, small)) no_octets
+packed_octets (high ∷ low ∷ digits) all =
+    let parts = and_parts (is_digit high) (is_digit low && list_all is_digit digits) all in
+    let more = and_parts (is_digit low) (list_all is_digit digits) parts.1 in
+    let small : high ≤ 9 = leb-true high 9 parts.0 in
+    let small_low : low ≤ 9 = leb-true low 9 more.0 in
+    octets_more (16 * high + low) (packed digits) (omega (arith, small, small_low)) (packed_octets digits more.1)
+
+length_packed : (digits : List ℕ) → length (packed digits) ≡ (length digits + 1) / 2
+unfolding packed
+length_packed [] = refl
+length_packed (high ∷ []) = refl
+length_packed (high ∷ low ∷ digits) = let rest = length_packed digits in omega arith
+
+call_octets : (called calling user : List ℕ) → IsAddress called → IsAddress calling → length user ≤ 16 → AreOctets user → AreOctets (call_body called calling [] user)
+call_octets called calling user a b short octets =
+    let both : list_all is_digit (called ++ calling) ≡ true = list_all-append is_digit called calling ∙ ap (λ (x : Bool). x && list_all is_digit calling) a.decimal ∙ b.decimal in
+    octets_more (16 * length calling + length called) (packed (called ++ calling) ++ (0 ∷ user)) (omega (arith, a.short, b.short))
+    (All-append IsOctet (packed (called ++ calling)) (0 ∷ user) (packed_octets (called ++ calling) both) (octets_more 0 user (omega arith) octets))
+
+body_octets : (p : PlainPacket) → Fits p → AreOctets (body_of p)
+body_octets (call h called calling facilities user) f = subst (λ (x : List ℕ). AreOctets (call_body called calling x user)) (sym f.2) (call_octets called calling user f.0 f.1 f.3 f.4)
+body_octets (accept h facilities) f = subst (λ (x : List ℕ). AreOctets (accept_body x)) (sym f) no_octets
+body_octets (clear h cause diagnostic) f = two cause diagnostic f.0 f.1
+body_octets (clear_conf h) f = no_octets
+body_octets (user_data h q m ps pr user) f = f.3
+body_octets (rr h pr) f = no_octets
+body_octets (rnr h pr) f = no_octets
+body_octets (interrupt h user) f = f.2
+body_octets (interrupt_conf h) f = no_octets
+body_octets (reset h cause diagnostic) f = two cause diagnostic f.0 f.1
+body_octets (reset_conf h) f = no_octets
+body_octets (restart cause diagnostic) f = two cause diagnostic f.0 f.1
+body_octets restart_conf f = no_octets
+
+-- ---- header
+
+format_low : (p : PlainPacket) → format_of p ≤ 9
+format_low (call h called calling facilities user) = omega arith
+format_low (accept h facilities) = omega arith
+format_low (clear h cause diagnostic) = omega arith
+format_low (clear_conf h) = omega arith
+format_low (user_data h q m ps pr user) = let b : bit q ≤ 1 = bit_low q in omega (arith, b)
+format_low (rr h pr) = omega arith
+format_low (rnr h pr) = omega arith
+format_low (interrupt h user) = omega arith
+format_low (interrupt_conf h) = omega arith
+format_low (reset h cause diagnostic) = omega arith
+format_low (reset_conf h) = omega arith
+format_low (restart cause diagnostic) = omega arith
+format_low restart_conf = omega arith
+
+type_low : (p : PlainPacket) → Fits p → type_of p < 256
+type_low (call h called calling facilities user) f = omega arith
+type_low (accept h facilities) f = omega arith
+type_low (clear h cause diagnostic) f = omega arith
+type_low (clear_conf h) f = omega arith
+type_low (user_data h q m ps pr user) f = let b : bit m ≤ 1 = bit_low m in omega (arith, b, f.0, f.1)
+type_low (rr h pr) f = omega (arith, f)
+type_low (rnr h pr) f = omega (arith, f)
+type_low (interrupt h user) f = omega arith
+type_low (interrupt_conf h) f = omega arith
+type_low (reset h cause diagnostic) f = omega arith
+type_low (reset_conf h) f = omega arith
+type_low (restart cause diagnostic) f = omega arith
+type_low restart_conf f = omega arith
+
+channel_low : (p : PlainPacket) → IsOn p → channel_of p ≤ 16
+channel_low (call h called calling facilities user) on = (on tt).1
+channel_low (accept h facilities) on = (on tt).1
+channel_low (clear h cause diagnostic) on = (on tt).1
+channel_low (clear_conf h) on = (on tt).1
+channel_low (user_data h q m ps pr user) on = (on tt).1
+channel_low (rr h pr) on = (on tt).1
+channel_low (rnr h pr) on = (on tt).1
+channel_low (interrupt h user) on = (on tt).1
+channel_low (interrupt_conf h) on = (on tt).1
+channel_low (reset h cause diagnostic) on = (on tt).1
+channel_low (reset_conf h) on = (on tt).1
+channel_low (restart cause diagnostic) on = omega arith
+channel_low restart_conf on = omega arith
+
+header_octets : (p : PlainPacket) → Fits p → IsOn p → AreOctets (header_of p)
+header_octets p f on =
+    let h : channel_of p ≤ 16 = channel_low p on in
+    let first : format_of p ≤ 9 = format_low p in
+    octets_more (16 * format_of p + channel_of p / 256) (channel_of p % 256 ∷ type_of p ∷ []) (let e : 16 * format_of p + channel_of p / 256 < 256 = omega (arith, h, first) in e)
+    (octets_more (channel_of p % 256) (type_of p ∷ []) (let e : channel_of p % 256 < 256 = omega (arith, h) in e) (octets_more (type_of p) [] (type_low p f) no_octets))
+
+-- ---- length
+
+body_short : (p : PlainPacket) → Fits p → length (body_of p) ≤ 128
+body_short (call h called calling facilities user) f = subst (λ (x : List ℕ). length (call_body called calling x user) ≤ 128) (sym f.2)
+    (let a : length (packed (called ++ calling)) ≡ (length (called ++ calling) + 1) / 2 = length_packed (called ++ calling) in
+    let b : length (called ++ calling) ≡ length called + length calling = length-append called calling in
+    let d : length (packed (called ++ calling) ++ (0 ∷ user)) ≡ length (packed (called ++ calling)) + length (0 ∷ user) = length-append (packed (called ++ calling)) (0 ∷ user) in
+    omega (arith, a, b, d, f.0.short, f.1.short, f.3))
+body_short (accept h facilities) f = subst (λ (x : List ℕ). length (accept_body x) ≤ 128) (sym f) (omega arith)
+body_short (clear h cause diagnostic) f = omega arith
+body_short (clear_conf h) f = omega arith
+body_short (user_data h q m ps pr user) f = f.2
+body_short (rr h pr) f = omega arith
+body_short (rnr h pr) f = omega arith
+body_short (interrupt h user) f = omega (arith, f.1)
+body_short (interrupt_conf h) f = omega arith
+body_short (reset h cause diagnostic) f = omega arith
+body_short (reset_conf h) f = omega arith
+body_short (restart cause diagnostic) f = omega arith
+body_short restart_conf f = omega arith
+
+-- ---- reading
+
+pub readable : ReadsWhatIsSpelled → (p : PlainPacket) → Fits p → IsOn p → IsReadable p
+readable reads p f on =
+    let octets : AreOctets (spelling_of p) = All-append IsOctet (header_of p) (body_of p) (header_octets p f on) (body_octets p f) in
+    let short : length (body_of p) ≤ 128 = body_short p f in
+    record {
+      octets = octets;
+      short = omega (arith, short);
+      reads = (reads 16 p (spelling_of p) octets).1 (record { in_range = in_range p f on; spelling = refl });
+    }

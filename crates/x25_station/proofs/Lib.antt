@@ -1,0 +1,9 @@
+pub mod PutLemmas
+pub mod EntryLemmas
+pub mod RequestLemmas
+pub mod JoinLemmas
+pub mod FieldLemmas
+pub mod CircuitLemmas
+pub mod ReadLemmas
+pub mod KeepLemmas
+pub mod StationRows

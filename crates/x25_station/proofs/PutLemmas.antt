@@ -1,0 +1,87 @@
+-- What the layer puts in a step the link accepts.
+use Rattle.std.proofs.Common.{◌≡◌, ℕ, zero, suc, ◌<◌, List, [], ◌∷◌, ◌++◌, Option, Some, None, Bool, true, false, not, nat_lt, ◌==◌, if◌then◌else◌, option_to_list, refl, sym, ap, subst, ◌∙◌, arith}
+use Rattle.std.proofs.lemmas.Bool.{eqb-true, ltb-true}
+use Rattle.x25_packet.specs.PlainPacket.{PlainPacket}
+use Rattle.x25_packet.specs.Spelling.{spelling_of}
+use Rattle.x25_link.specs.declared.error.LinkError.TheVariants as error
+use Rattle.x25_link.specs.Outgoing.{waits}
+use Rattle.x25_link.specs.Station.{Settings as LinkSettings, Station as LinkStation, Side, is_up}
+use Rattle.x25_link.specs.Steps.{alone, put_refusal, put_step}
+use Rattle.x25_link.specs.NoteLaw.{PutTells}
+use Rattle.x25_layer.specs.Layer.{LayerSettings}
+use Rattle.x25_layer.specs.Calls.{layer_pulled}
+use Rattle.x25_layer.specs.Rounds.{Putting, with_pulled, pull_one, round, rounds_of, rounds, backlog}
+use Rattle.x25_station.specs.Station.{put_on, all_put, view_of, waiting_after}
+use Rattle.x25_station.specs.JoinLaw.{AreAccepted}
+
+-- ---- put after put
+
+pub all_append : (c : LinkSettings) (a b : List PlainPacket) (t : Side) → all_put c (a ++ b) t ≡ all_put c b (all_put c a t)
+all_append c [] b t = refl
+all_append c (p ∷ a) b t = all_append c a b (put_on c p t)
+
+pub accepted_append : (c : LinkSettings) (a b : List PlainPacket) (t : Side) → AreAccepted c a t → AreAccepted c b (all_put c a t) → AreAccepted c (a ++ b) t
+accepted_append c [] b t first second = second
+accepted_append c (p ∷ a) b t first second = (first.0, accepted_append c a b (put_on c p t) first.1 second)
+
+-- the link depends on the link alone, and not on the frames that went before
+pub near_alone : (c : LinkSettings) (packets : List PlainPacket) (t u : Side) → t.near ≡ u.near → (all_put c packets t).near ≡ (all_put c packets u).near
+near_alone c [] t u same = same
+near_alone c (p ∷ packets) t u same = near_alone c packets (put_on c p t) (put_on c p u) (ap (λ (s : LinkStation). (put_step c (spelling_of p) s).side.near) same)
+
+put_up : PutTells → (c : LinkSettings) (p : PlainPacket) (t : Side) → is_up t.near.phase ≡ true → is_up (put_on c p t).near.phase ≡ true
+put_up tells c p t up = (tells c (spelling_of p) t.near up).stays refl ∙ up
+
+pub all_up : PutTells → (c : LinkSettings) (packets : List PlainPacket) (t : Side) → is_up t.near.phase ≡ true → is_up (all_put c packets t).near.phase ≡ true
+all_up tells c [] t up = up
+all_up tells c (p ∷ packets) t up = all_up tells c packets (put_on c p t) (put_up tells c p t up)
+
+-- ---- the link accepts
+
+not_full : (n : ℕ) → n < 256 → (n == 256) ≡ false
+not_full n low = test (n == 256) refl
+  where
+    test : (b : Bool) → (n == 256) ≡ b → b ≡ false
+    test true is = let e : n ≡ 256 = eqb-true n 256 is in absurd (omega (arith, e, low))
+    test false is = refl
+
+pub accepts : (s : LinkStation) → is_up s.phase ≡ true → waits s.outgoing < 256 → put_refusal s ≡ None
+accepts s up low =
+    ap (λ (b : Bool). if not b then Some error.NotUp else if waits s.outgoing == 256 then Some error.QueueFull else None) up
+    ∙ ap (λ (b : Bool). if b then Some error.QueueFull else None) (not_full (waits s.outgoing) low)
+
+-- ---- the rounds
+
+pull_accepted : PutTells → (c : LinkSettings) (t : Side) (lc : LayerSettings) (h : ℕ) (s : Putting) → is_up t.near.phase ≡ true → AreAccepted c s.put t
+    → AreAccepted c (pull_one (view_of c t.near) lc h s).put t
+pull_accepted tells c t lc h s up all = test (nat_lt (waiting_after c t.near s.put) 8) refl
+  where
+    given : (o : Option PlainPacket) → waiting_after c t.near s.put < 8 → AreAccepted c (with_pulled s (layer_pulled lc s.layer h) o).put t
+    given None low = all
+    given (Some p) low =
+        let same : (all_put c s.put t).near ≡ (all_put c s.put (alone t.near)).near = near_alone c s.put t (alone t.near) refl in
+        let fewer : waits (all_put c s.put t).near.outgoing < 8 = subst (λ (x : LinkStation). waits x.outgoing < 8) (sym same) low in
+        accepted_append c s.put (p ∷ []) t all (accepts (all_put c s.put t).near (all_up tells c s.put t up) (omega (arith, fewer)), tt)
+
+    test : (b : Bool) → nat_lt (waiting_after c t.near s.put) 8 ≡ b → AreAccepted c (let n : Putting = if b then with_pulled s (layer_pulled lc s.layer h) (layer_pulled lc s.layer h).packet else s in n.put) t
+    test true is = given (layer_pulled lc s.layer h).packet (ltb-true _ _ is)
+    test false is = all
+
+round_accepted : PutTells → (c : LinkSettings) (t : Side) (lc : LayerSettings) (n : ℕ) (s : Putting) → is_up t.near.phase ≡ true → AreAccepted c s.put t
+    → AreAccepted c (round (view_of c t.near) lc n s).put t
+round_accepted tells c t lc zero s up all = all
+round_accepted tells c t lc (suc n) s up all = pull_accepted tells c t lc (suc n) (round (view_of c t.near) lc n s) up (round_accepted tells c t lc n s up all)
+
+rounds_of_accepted : PutTells → (k : ℕ) (c : LinkSettings) (t : Side) (lc : LayerSettings) (s : Putting) → is_up t.near.phase ≡ true → AreAccepted c s.put t
+    → AreAccepted c (rounds_of k (view_of c t.near) lc s).put t
+rounds_of_accepted tells zero c t lc s up all = all
+rounds_of_accepted tells (suc k) c t lc s up all = rounds_of_accepted tells k c t lc (round (view_of c t.near) lc lc.channels s) up (round_accepted tells c t lc lc.channels s up all)
+
+pub rounds_accepted : PutTells → (c : LinkSettings) (t : Side) (lc : LayerSettings) (s : Putting) → is_up t.near.phase ≡ true → AreAccepted c s.put t
+    → AreAccepted c (rounds (view_of c t.near) lc s).put t
+rounds_accepted tells c t lc s = rounds_of_accepted tells (backlog s.layer.circuits lc.channels) c t lc s
+
+-- what is owed, and the rounds behind it
+pub begin_accepted : (c : LinkSettings) (t : Side) (owed : Option PlainPacket) → is_up t.near.phase ≡ true → waits t.near.outgoing < 256 → AreAccepted c (option_to_list owed) t
+begin_accepted c t None up low = tt
+begin_accepted c t (Some p) up low = (accepts t.near up low, tt)

@@ -1,0 +1,5 @@
+use Rattle.x25_station.proofs.ReadLemmas as lemma
+use Rattle.x25_station.proofs.law.puts_are_readable.Goals as goal
+
+pub returns : goal.returns
+returns c = lemma.puts_are_readable c.reading_is_the_grammar.ensures.spelled

@@ -1,0 +1,18 @@
+use Rattle.x25_station.proofs.KeepLemmas.{LinkLaws, connect_kept, timer_kept, command_kept, receive_kept}
+use Rattle.x25_station.proofs.law.steps_keep_bounds.Goals as goal
+
+known : goal.After-notes_what_changes → LinkLaws
+known c = record {
+  put = c.notes_what_changes.ensures.put;
+  take = c.notes_what_changes.ensures.take;
+  take_continues = c.notes_what_changes.ensures.take_continues;
+  take_hands_up = c.notes_what_changes.ensures.take_hands_up;
+  timer = c.notes_what_changes.ensures.timer;
+  timer_continues = c.notes_what_changes.ensures.timer_continues;
+  connect = c.notes_what_changes.ensures.connect;
+  disconnect = c.notes_what_changes.ensures.disconnect;
+  abandon = c.notes_what_changes.ensures.abandon;
+}
+
+pub returns : goal.returns
+returns c = record { connect = connect_kept (known c); timer = timer_kept (known c); command = command_kept (known c); receive = receive_kept (known c) }

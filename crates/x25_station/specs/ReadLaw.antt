@@ -1,0 +1,49 @@
+-- What the layers put the other end reads again: each packet's octets are octets, fit in an I frame, and read as the packet.
+use Rattle.std.specs.Prelude.{◌≡◌, ℕ, ◌<◌, ◌≤◌, List, [], ◌∷◌, length, All, Result, Ok}
+use Rattle.x25_packet.specs.PlainPacket.{PlainPacket}
+use Rattle.x25_packet.specs.Spelling.{spelling_of}
+use Rattle.x25_packet.specs.Reading.{packet_of}
+use Rattle.x25_circuit.specs.Circuit.{usual}
+use Rattle.x25_circuit.specs.Calls.{Request, Calls, Sends, Interrupts}
+use Rattle.x25_layer.specs.Calls.{LayerRequest, Asks, Dials, Restarts}
+use Rattle.x25_layer.specs.Rounds.{longest_user}
+use Rattle.x25_layer.specs.World.{World, Move, Requests, Event, run, start}
+use Rattle.x25_station.specs.Settings.{longest_packet}
+
+abbrev pub AreOctets : List ℕ → Type 0
+AreOctets xs = All (λ octet. octet < 256) xs
+
+pub record IsReadable (packet : PlainPacket) : Type 0 where
+  pub octets : AreOctets (spelling_of packet)
+  pub short : length (spelling_of packet) ≤ longest_packet
+  pub reads : packet_of longest_user (spelling_of packet) ≡ Ok packet
+
+abbrev pub AreReadable : List PlainPacket → Type 0
+AreReadable [] = Unit {0}
+AreReadable (packet ∷ packets) = IsReadable packet × AreReadable packets
+
+-- ---- what users hand down is octets
+
+abbrev pub AsksOctets : Request → Type 0
+AsksOctets (Calls called calling user) = AreOctets user
+AsksOctets (Sends q user) = AreOctets user
+AsksOctets (Interrupts user) = AreOctets user
+AsksOctets request = Unit {0}
+
+abbrev pub RequestsOctets : LayerRequest → Type 0
+RequestsOctets (Asks h request) = AsksOctets request
+RequestsOctets (Dials called calling user) = AreOctets user
+RequestsOctets Restarts = Unit {0}
+
+abbrev pub MovesOctets : Move → Type 0
+MovesOctets (Requests is_full request) = RequestsOctets request
+MovesOctets move = Unit {0}
+
+abbrev pub BringOctets : List Event → Type 0
+BringOctets [] = Unit {0}
+BringOctets (e ∷ events) = MovesOctets e.what × BringOctets events
+
+-- whatever happens to two layers of at most 16 channels, on the usual terms
+abbrev pub PutsAreReadable : Type 0
+PutsAreReadable = (channels : ℕ) → channels ≤ 16 → (events : List Event) → BringOctets events →
+    let w : World = run channels usual usual events (start channels usual usual) in AreReadable w.near.given × AreReadable w.far.given

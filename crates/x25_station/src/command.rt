@@ -1,0 +1,46 @@
+/// What the user of a station asks for. Channels are 1 to the number configured; addresses are texts of digits, and user data
+/// octets.
+#[derive(Clone, Copy, Debug)]
+pub enum Cmd<'a> {
+    /// Calls the other end on a free channel, with addresses of 0 to 15 digits and at most 16 octets of user data.
+    Call {
+        called: &'a str,
+        calling: &'a str,
+        user: &'a [u8],
+    },
+    /// Accepts an incoming call.
+    Accept {
+        channel: u16,
+    },
+    /// Clears a call.
+    Clear {
+        channel: u16,
+    },
+    /// Sends a message of at most 65,535 octets, with the qualifier `q`.
+    Send {
+        channel: u16,
+        q: bool,
+        user: &'a [u8],
+    },
+    /// Sends an interrupt of 1 to 32 octets.
+    Interrupt {
+        channel: u16,
+        user: &'a [u8],
+    },
+    /// Resets a call.
+    Reset {
+        channel: u16,
+    },
+    /// Tells the other end that this one takes data packets.
+    Ready {
+        channel: u16,
+    },
+    /// Tells the other end that this one takes no data packets for now.
+    NotReady {
+        channel: u16,
+    },
+    /// Restarts the packet layer: all calls are cleared.
+    Restart,
+    /// Disconnects the link, for good.
+    Disconnect,
+}

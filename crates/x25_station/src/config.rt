@@ -1,0 +1,10 @@
+/// The settings of a station, beside which end it is.
+#[derive(Clone, Copy, Debug, PartialEq, Eq)]
+pub struct Cfg {
+    /// The window of the link: at most so many I frames aren't acknowledged, 1 to 7.
+    pub k: u8,
+    /// A command of the link that isn't answered is sent so many times more, 1 to 255.
+    pub n2: u8,
+    /// The channels 1 to this number are configured, 1 to 16.
+    pub channels: u8,
+}

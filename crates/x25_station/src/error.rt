@@ -1,0 +1,37 @@
+ghost use Rattle.std.specs.Prelude.{◌≡◌};
+ghost use Rattle.x25_station.specs.StationError.{number_of};
+
+use thiserror::Error;
+use x25_layer::LayerError;
+use x25_link::LinkError;
+
+/// Why a call of a station is refused.
+#[derive(Clone, Copy, Debug, PartialEq, Eq, Error)]
+pub enum StationError {
+    /// 14: a setting is out of its range.
+    #[error("a parameter is out of range")]
+    BadConfig,
+    /// The link refuses `connect`, `disconnect` or timer T1: 11, 12, 13 or 15.
+    #[error("{0}")]
+    Link(LinkError),
+    /// The packet layer refuses a command: 9, 10, 30 to 34, or 40 to 42.
+    #[error("{0}")]
+    Layer(LayerError),
+    /// 70: a growth was refused.
+    #[error("no memory")]
+    NoMemory,
+}
+
+impl StationError {
+    /// The number of this error, the same in all crates.
+    pub fn number(self) -> u8
+        ensures { result ≡ number_of self }
+    {
+        match self {
+            StationError::BadConfig => 14,
+            StationError::Link(error) => error.number(),
+            StationError::Layer(error) => error.number(),
+            StationError::NoMemory => 70,
+        }
+    }
+}

@@ -1,0 +1,41 @@
+//! A station is its link and its packet layer joined, as laws about the definition: each is the contract of a function that does nothing.
+ghost use Rattle.x25_station.specs.JoinLaw.{RequestIsJoined, ReceiveIsJoined, QuietIsJoined, DownIsJoined, UpIsJoined};
+ghost use Rattle.x25_station.specs.KeepLaw.{ConnectKeeps, TimerKeeps, CommandKeeps, ReceiveKeeps};
+ghost use Rattle.x25_station.specs.ReadLaw.{PutsAreReadable};
+
+use x25_layer::calls_are_runs;
+use x25_link::notes_what_changes;
+use x25_packet::reading_is_the_grammar;
+
+/// Each step of a station is a step of its link, and then packets that are handed down to the link, each accepted. They are the packets
+/// that the same moves of the packet layer put over a link that keeps order, and the entries are those of the link's notes and of
+/// the layer's transcript.
+pub fn steps_are_joined()
+    ensures request { RequestIsJoined }
+    ensures receive { ReceiveIsJoined }
+    ensures quiet { QuietIsJoined }
+    ensures down { DownIsJoined }
+    ensures up { UpIsJoined }
+{
+    calls_are_runs();
+    notes_what_changes();
+}
+
+/// What two layers of at most 16 channels put, whatever happens to them: the octets of each packet are octets, fit in an I frame, and
+/// read as that packet, where what their users hand down is octets.
+pub fn puts_are_readable()
+    ensures { PutsAreReadable }
+{
+    reading_is_the_grammar();
+}
+
+/// What each step of a station keeps, whatever comes: at most 256 packets wait in the link, and the packet layer is at rest where the
+/// link isn't up.
+pub fn steps_keep_bounds()
+    ensures connect { ConnectKeeps }
+    ensures timer { TimerKeeps }
+    ensures command { CommandKeeps }
+    ensures receive { ReceiveKeeps }
+{
+    notes_what_changes();
+}

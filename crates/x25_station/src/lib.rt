@@ -1,0 +1,13 @@
+//! A station of X.25: the LAPB link and the packet layer joined, at one end. ITU-T X.25 (10/96), sections 2 to 4.
+#![tactic(auto)]
+
+mod command;
+mod config;
+mod error;
+mod law;
+
+pub use command::Cmd;
+pub use config::Cfg;
+pub use error::StationError;
+pub use law::{puts_are_readable, steps_are_joined, steps_keep_bounds};
+pub use x25_bits::Role;
