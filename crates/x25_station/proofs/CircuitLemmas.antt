@@ -1,5 +1,5 @@
 -- What a circuit gives fits, and what waits in it is cut into packets that fit.
-use Rattle.std.proofs.Common.{◌≡◌, ℕ, zero, suc, ◌+◌, ◌-◌, ◌%◌, ◌<◌, ◌≤◌, List, [], ◌∷◌, ◌++◌, length, take, drop, map, Option, Some, None, Bool, true, false, nat_lt, nat_le, ◌==◌, if◌then◌else◌, refl, sym, ap, subst, ◌∙◌, arith, length-drop}
+use Rattle.std.proofs.Common.{◌≡◌, ℕ, zero, suc, ◌+◌, ◌-◌, ◌%◌, ◌<◌, ◌≤◌, List, [], ◌∷◌, ◌++◌, length, take, drop, Option, Some, None, Bool, true, false, nat_lt, nat_le, ◌==◌, if◌then◌else◌, refl, sym, subst, arith, length-drop}
 use Rattle.std.specs.List.{list_all}
 use Rattle.std.specs.Prelude.{◌&&◌}
 use Rattle.std.proofs.lemmas.Bool.{and_parts, leb-true, and_from, le-leb, leb-false}
@@ -8,9 +8,6 @@ use Rattle.std.proofs.lemmas.List.Elements.{All-take, All-drop}
 use Rattle.x25_bits.specs.declared.role.Role.{Role}
 use Rattle.x25_bits.specs.declared.role.Role.TheVariants.{Dte, Dce}
 use Rattle.x25_packet.specs.Digits.{is_digit, is_figure, digits_of_text, IsAddress}
-use Rattle.x25_packet.specs.declared.error.PacketError.{PacketError}
-use Rattle.x25_packet.specs.declared.error.PacketError.TheVariants.{TooShort, BadFormat, Unidentified, TooLong, BadDigit, BadFacility, BadParameter, NoMemory}
-use Rattle.x25_packet.specs.PacketError.{diagnostic_of}
 use Rattle.x25_packet.specs.PlainPacket.{PlainPacket, call, accept, clear, clear_conf, user_data, rr, rnr, interrupt, interrupt_conf, reset, reset_conf, restart, restart_conf}
 use Rattle.x25_packet.specs.Spelling.{HasChannel}
 use Rattle.x25_circuit.specs.declared.state.State.{State}
@@ -18,12 +15,12 @@ use Rattle.x25_circuit.specs.declared.state.State.TheVariants.{Free, Calling, Ar
 use Rattle.x25_circuit.specs.declared.error.CircuitError.TheVariants as error
 use Rattle.x25_circuit.specs.Messages.{Piece, More, Last, Partial, no_part, joining, may_have_q, ground_of, piece_ground, q_of, user_of, piece_of, cut_from, cut}
 use Rattle.x25_window.specs.Modulo.{resolved}
-use Rattle.x25_circuit.specs.Circuit.{Settings, Talk, Circuit, usual, silent, waits}
+use Rattle.x25_circuit.specs.Circuit.{Settings, Talk, Circuit, waits}
 use Rattle.x25_circuit.specs.Notices.{CallRequest, PlainNotice}
 use Rattle.x25_circuit.specs.Table as table
-use Rattle.x25_circuit.specs.Calls.{Outcome, Done, Refused, Request, Calls, Accepts, Clears, Sends, Interrupts, Resets, SaysReady, SaysNotReady, does, keeps_on, is_address_text, request_of, call_sent, may_call, call_in, accept_in, clear_in, send_open, send_in, interrupt_open, interrupt_in, reset_in, ready_open, ready_in, outcome, Pulled, pulls_nothing, data_packet, pull_open, pull_in, pulled}
+use Rattle.x25_circuit.specs.Calls.{Outcome, Done, Refused, Request, Calls, Accepts, Clears, Sends, Interrupts, Resets, SaysReady, SaysNotReady, does, is_address_text, request_of, call_sent, may_call, call_in, accept_in, clear_in, send_in, interrupt_in, reset_in, ready_in, outcome, Pulled, pulls_nothing, data_packet, pull_open, pull_in, pulled}
 use Rattle.x25_station.specs.ReadLaw.{AreOctets, AsksOctets}
-use Rattle.x25_station.proofs.FieldLemmas.{Fits, no_octets}
+use Rattle.x25_station.proofs.FieldLemmas.{Fits}
 
 abbrev PieceFits : Piece → Type 0
 PieceFits p = (length (user_of p) ≤ 128) × AreOctets (user_of p)

@@ -1,14 +1,14 @@
 -- A packet whose fields fit is read again from its octets.
-use Rattle.std.proofs.Common.{◌≡◌, ℕ, zero, suc, ◌+◌, ◌*◌, ◌/◌, ◌%◌, ◌<◌, ◌≤◌, List, [], ◌∷◌, ◌++◌, length, Option, Some, None, Bool, true, false, refl, sym, ap, subst, ◌∙◌, arith, length-append}
+use Rattle.std.proofs.Common.{◌≡◌, ℕ, ◌+◌, ◌*◌, ◌/◌, ◌%◌, ◌<◌, ◌≤◌, List, [], ◌∷◌, ◌++◌, length, None, Bool, true, false, refl, sym, ap, subst, ◌∙◌, arith, length-append}
 use Rattle.std.specs.List.{list_all}
 use Rattle.std.specs.Prelude.{◌&&◌}
-use Rattle.std.proofs.lemmas.Bool.{and_parts, leb-true, and_from}
+use Rattle.std.proofs.lemmas.Bool.{and_parts, leb-true}
 use Rattle.std.proofs.lemmas.List.Elements.{All-nil, All-cons, All-append}
 use Rattle.std.proofs.lemmas.List.Folds.{list_all-append}
 use Rattle.x25_bits.specs.Bit.{bit}
 use Rattle.x25_packet.specs.Digits.{packed, is_digit, IsAddress}
 use Rattle.x25_packet.specs.PlainPacket.{PlainPacket, call, accept, clear, clear_conf, user_data, rr, rnr, interrupt, interrupt_conf, reset, reset_conf, restart, restart_conf}
-use Rattle.x25_packet.specs.Spelling.{channel_of, HasChannel, moved_to, format_of, type_of, addresses, call_body, accept_body, body_of, header_of, spelling_of, IsInRange}
+use Rattle.x25_packet.specs.Spelling.{channel_of, HasChannel, moved_to, format_of, type_of, call_body, accept_body, body_of, header_of, spelling_of, IsInRange}
 use Rattle.x25_packet.specs.Facilities.{IsFacilityField}
 use Rattle.x25_packet.specs.ReadingLaw.{ReadsWhatIsSpelled}
 use Rattle.x25_station.specs.ReadLaw.{AreOctets, IsReadable}

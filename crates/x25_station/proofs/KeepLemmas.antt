@@ -1,5 +1,5 @@
 -- Every step of a station leaves at most 256 packets waiting, and the layer at rest where the link isn't up.
-use Rattle.std.proofs.Common.{◌≡◌, ℕ, zero, suc, ◌+◌, ◌-◌, ◌<◌, ◌≤◌, List, [], ◌∷◌, ◌++◌, length, max, Option, Some, None, Result, Bool, true, false, not, nat_lt, ◌==◌, if◌then◌else◌, option_to_list, refl, sym, ap, subst, ◌∙◌, arith, length-append}
+use Rattle.std.proofs.Common.{◌≡◌, ℕ, zero, suc, ◌+◌, ◌<◌, ◌≤◌, List, [], ◌∷◌, ◌++◌, length, max, Option, Some, None, Bool, true, false, not, nat_lt, ◌==◌, if◌then◌else◌, option_to_list, refl, sym, ap, subst, ◌∙◌, arith, length-append}
 use Rattle.std.proofs.lemmas.Bool.{eq-eqb}
 use Rattle.std.proofs.Math.Nat.{le_trans}
 use Rattle.x25_packet.specs.PlainPacket.{PlainPacket}
@@ -8,25 +8,23 @@ use Rattle.x25_link.specs.declared.error.LinkError.{LinkError}
 use Rattle.x25_link.specs.declared.error.LinkError.TheVariants as link_error
 use Rattle.x25_link.specs.declared.phase.Phase.{Phase}
 use Rattle.x25_link.specs.declared.phase.Phase.TheVariants.{Down, Waiting, Up, Closed}
-use Rattle.x25_link.specs.declared.phase.Notes.{Notes}
 use Rattle.x25_link.specs.declared.phase.Reason.{Reason}
 use Rattle.x25_link.specs.declared.phase.Reason.TheVariants.{Retries}
 use Rattle.x25_link.specs.Lists.{Lists}
 use Rattle.x25_link.specs.Outgoing.{Outgoing, waits, moved_on, added}
-use Rattle.x25_link.specs.Station.{Settings as LinkSettings, Station as LinkStation, Side, is_up, fresh, with_nothing, with_near, is_busy, ready, may_send, send_next, pumped, owes_ready, finished, ended}
+use Rattle.x25_link.specs.Station.{Settings as LinkSettings, Station as LinkStation, Side, is_up, fresh, with_nothing, with_near, is_busy, ready, may_send, send_next, pumped, owes_ready, ended}
 use Rattle.x25_link.specs.MustSend.{Step as LinkStep, quiet, leaves}
-use Rattle.x25_link.specs.Steps.{alone, put_refusal, puts, put_step, take_step, timer_refusal, asks_again, timer_step, connect_refusal, connects as link_connects, connect_step, disconnect_refusal, disconnects as link_disconnects, disconnect_step, abandon_step}
-use Rattle.x25_link.specs.NoteLaw.{IsQuiet, Tells, Continues, HandsUp, TakeTells, TakeContinues, TakeHandsUp, TimerTells, TimerContinues, PutTells, ConnectTells, DisconnectTells, AbandonTells}
-use Rattle.x25_layer.specs.declared.error.LayerError.{LayerError}
+use Rattle.x25_link.specs.Steps.{alone, put_refusal, put_step, take_step, timer_refusal, asks_again, timer_step, connect_refusal, connects as link_connects, connect_step, disconnect_refusal, disconnects as link_disconnects, disconnect_step, abandon_step}
+use Rattle.x25_link.specs.NoteLaw.{IsQuiet, Tells, HandsUp, TakeTells, TakeContinues, TakeHandsUp, TimerTells, TimerContinues, PutTells, ConnectTells, DisconnectTells, AbandonTells}
 use Rattle.x25_layer.specs.declared.error.LayerError.TheVariants as layer_error
-use Rattle.x25_layer.specs.Layer.{LayerSettings, Layer, at_rest, goes_up}
+use Rattle.x25_layer.specs.Layer.{LayerSettings, Layer, goes_up}
 use Rattle.x25_layer.specs.Calls.{LayerRequest, LayerOutcome, Accepted, Declined, layer_outcome}
-use Rattle.x25_layer.specs.Rounds.{LinkView, Putting, begin, rounds, Went, Refuses, went, calls}
+use Rattle.x25_layer.specs.Rounds.{LinkView, Putting, begin, rounds, Refuses, went}
 use Rattle.x25_station.specs.Settings.{Settings, link_settings, layer_settings}
-use Rattle.x25_station.specs.Command.{Command, Requests, Disconnects}
+use Rattle.x25_station.specs.Command.{Requests, Disconnects}
 use Rattle.x25_station.specs.Entries.{StationEntry, disconnect_asked}
 use Rattle.x25_station.specs.Station.{Station, put_on, all_put, view_of}
-use Rattle.x25_station.specs.Steps.{Step, Outcome, Did, Refused, with_puts, rests, layer_at, layer_answer, follows, connects, fires, led_by, disconnects, unless, abandons, receives, entries_of_outcome, did, requests, commands}
+use Rattle.x25_station.specs.Steps.{Step, with_puts, layer_at, layer_answer, follows, led_by, unless, abandons, entries_of_outcome, did, requests}
 use Rattle.x25_station.specs.JoinLaw.{AreAccepted}
 use Rattle.x25_station.specs.KeepLaw.{IsKept, KeptBy, ConnectKeeps, TimerKeeps, CommandKeeps, ReceiveKeeps}
 use Rattle.x25_station.proofs.PutLemmas.{all_up, rounds_accepted, begin_accepted}
@@ -79,6 +77,7 @@ room_of s none few = up (is_up s.phase) none
       where
         differ : true ≡ false → ⊥
         differ x = cc
+
     up : (b : Bool) → (let o : Option LinkError = if not b then Some link_error.NotUp else if waits s.outgoing == 256 then Some link_error.QueueFull else None in o) ≡ None → waits s.outgoing < 256
     up false e = absurd (none_some link_error.NotUp e)
     up true e = full (waits s.outgoing == 256) refl e
@@ -121,10 +120,13 @@ follows_kept tells c s k kept g = by k.packet refl k.notes.down refl k.notes.up 
   where
     lc : LayerSettings
     lc = layer_settings c
+
     view : LinkView
     view = view_of (link_settings c) k.side.near
+
     noted : (o : Option Reason) (b : Bool) → k.notes.down ≡ o → k.notes.up ≡ b → k.notes ≡ record { down = o; up = b }
     noted o b p q = ap (λ (x : Option Reason). record { down = x; up = k.notes.up }) p ∙ ap (λ (x : Bool). record { down = o; up = x }) q
+
     by : (p : Option (List ℕ)) → k.packet ≡ p → (d : Option Reason) → k.notes.down ≡ d → (u : Bool) → k.notes.up ≡ u
         → IsKept (with_puts c k.side (layer_at view lc s.layer p d u) []).near
     by p is_p d is_d true is_u =
@@ -226,13 +228,17 @@ request_kept tells c s request kept = at (is_up s.link.phase) refl (layer_outcom
   where
     lc : LayerSettings
     lc = layer_settings c
+
     full : Bool
     full = waits s.link.outgoing == 256
+
     view : LinkView
     view = view_of (link_settings c) s.link
+
     accepted : (next : Layer) (packet : Option PlainPacket) → is_up s.link.phase ≡ true → layer_outcome lc full s.layer request ≡ Accepted next packet → AreAccepted (link_settings c) (option_to_list packet) (alone s.link)
     accepted next None up found = tt
     accepted next (Some p) up found = begin_accepted (link_settings c) (alone s.link) (Some p) up (below (waits s.link.outgoing) kept.few (has_room lc full s.layer request next p found))
+
     at : (b : Bool) → is_up s.link.phase ≡ b → (o : LayerOutcome) → layer_outcome lc full s.layer request ≡ o
         → KeptBy (did c (alone s.link) (entries_of_outcome lc s.layer request o) (if b then went view lc o else Refuses layer_error.NotUp))
     at false up o found = tt

@@ -1,20 +1,18 @@
 -- Whatever happens to two layers on the usual terms, what they put fits, and so is read again.
-use Rattle.std.proofs.Common.{◌≡◌, ℕ, zero, suc, ◌+◌, ◌<◌, ◌≤◌, List, [], ◌∷◌, ◌++◌, length, option_to_list, Option, Some, None, Bool, true, false, nat_le, ◌==◌, if◌then◌else◌, refl, sym, ap, subst, ◌∙◌, arith}
-use Rattle.std.specs.Prelude.{◌&&◌}
+use Rattle.std.proofs.Common.{◌≡◌, ℕ, zero, suc, ◌<◌, ◌≤◌, List, [], ◌∷◌, ◌++◌, option_to_list, Option, Some, None, Bool, true, false, nat_le, ◌==◌, if◌then◌else◌, refl, arith}
 use Rattle.std.proofs.lemmas.Bool.{and_parts, leb-true}
 use Rattle.x25_bits.specs.declared.role.Role.{Role}
 use Rattle.x25_bits.specs.declared.role.Role.TheVariants.{Dte, Dce}
 use Rattle.x25_packet.specs.PlainPacket.{PlainPacket, call, accept, clear, clear_conf, user_data, rr, rnr, interrupt, interrupt_conf, reset, reset_conf, restart, restart_conf}
-use Rattle.x25_packet.specs.Spelling.{channel_of, moved_to}
 use Rattle.x25_packet.specs.ReadingLaw.{ReadsWhatIsSpelled}
-use Rattle.x25_circuit.specs.Circuit.{Circuit, Terms, usual, begun}
-use Rattle.x25_circuit.specs.Table.{Answer, answers, cause_at, by_role}
-use Rattle.x25_circuit.specs.Calls.{Outcome, Done, Refused, Request, Calls, outcome, Pulled, pulled}
-use Rattle.x25_layer.specs.Layer.{LayerSettings, Layer, LayerAnswer, LayerNotice, is_channel, put_at, packet_on, is_ready, restarting_from, answers_on, drops, restarts_to, answers_ready, answers_restarting, answers_in, layer_answers, goes_up, restart_cause, restarted, restart_done}
-use Rattle.x25_layer.specs.Calls.{LayerRequest, Asks, Dials, Restarts, LayerOutcome, Accepted, Declined, highest_free, lowest_free, first_of, free_channel, where_room, if_at_once, puts_at_once, outcome_on, dialled, outcome_ready, outcome_in, layer_outcome, LayerPulled, layer_pulled}
+use Rattle.x25_circuit.specs.Circuit.{Circuit, usual, begun}
+use Rattle.x25_circuit.specs.Table.{answers, cause_at}
+use Rattle.x25_circuit.specs.Calls.{Outcome, Done, Refused, Calls, outcome, pulled}
+use Rattle.x25_layer.specs.Layer.{LayerSettings, Layer, LayerAnswer, is_channel, put_at, packet_on, restarting_from, answers_on, drops, answers_ready, answers_restarting, answers_in, layer_answers, goes_up, restart_cause}
+use Rattle.x25_layer.specs.Calls.{LayerRequest, Asks, Dials, Restarts, LayerOutcome, Accepted, Declined, highest_free, lowest_free, first_of, free_channel, where_room, if_at_once, puts_at_once, outcome_on, dialled, outcome_ready, outcome_in, layer_outcome, layer_pulled}
 use Rattle.x25_layer.specs.declared.error.LayerError.TheVariants as error
-use Rattle.x25_layer.specs.World.{End, World, Move, Requests, Pulls, HandsUp, GoesDown, Event, requested, pulled_in, answered, handed_up, goes_down, moves_in, moves, turned, settings_of, happens, run, started, start}
-use Rattle.x25_station.specs.ReadLaw.{AreOctets, IsReadable, AreReadable, RequestsOctets, MovesOctets, BringOctets, PutsAreReadable}
+use Rattle.x25_layer.specs.World.{End, World, Move, Requests, Pulls, HandsUp, GoesDown, Event, requested, pulled_in, handed_up, moves_in, moves, turned, settings_of, happens, run, started, start}
+use Rattle.x25_station.specs.ReadLaw.{AreReadable, RequestsOctets, MovesOctets, BringOctets, PutsAreReadable}
 use Rattle.x25_station.proofs.FieldLemmas.{Fits, IsOn, moved_fits, moved_on, readable}
 use Rattle.x25_station.proofs.CircuitLemmas.{CircuitFits, MayGive, AnswerFits, answers_fit, OutcomeFits, outcome_fits, PulledFits, pulled_fits}
 
@@ -79,6 +77,7 @@ channel_answers c restarts circuits h p few all = test (is_channel c.channels h)
   where
     a : AnswerFits (answers c.circuit (circuits h) p)
     a = answers_fit c.circuit (circuits h) p (all h)
+
     test : (b : Bool) → is_channel c.channels h ≡ b → LayerFits (if b then answers_on restarts circuits h (answers c.circuit (circuits h) p) else drops false restarts circuits)
     test true is = record { next = put_fits circuits h (answers c.circuit (circuits h) p).next all a.next; owed = on_fits h (answers c.circuit (circuits h) p).owed (channel_low c.channels h few is) a.owed }
     test false is = record { next = all; owed = tt }
@@ -187,7 +186,7 @@ outcome_ready_fits c full restarts circuits (Dials called calling user) few size
     by (Some h) r =
         room_fits full (outcome_on restarts circuits h (outcome c.circuit (circuits h) (Calls called calling user)))
         (outcome_on_fits restarts circuits h (outcome c.circuit (circuits h) (Calls called calling user)) (r.0, omega (arith, r.1, few)) all
-          (outcome_fits c.circuit (circuits h) (Calls called calling user) size (all h) octets))
+        (outcome_fits c.circuit (circuits h) (Calls called calling user) size (all h) octets))
 outcome_ready_fits c full restarts circuits Restarts few size all octets = room_fits full (Accepted (restarting_from restarts circuits) (Some (restart 0 0))) ((λ k. tt), (((omega arith, omega arith), on_restart 0 0), tt))
 
 layer_outcome_fits : (c : LayerSettings) (full : Bool) (l : Layer) (request : LayerRequest) → c.channels ≤ 16 → c.circuit.outgoing.size ≡ 128 → ChannelsFit l.circuits → RequestsOctets request
@@ -223,6 +222,7 @@ pulls_fit c w h few f = test (is_channel c.channels h) refl
   where
     p : PulledFits (pulled c.circuit (w.near.layer.circuits h))
     p = pulled_fits c.circuit (w.near.layer.circuits h) (f.near.layer h)
+
     test : (b : Bool) → is_channel c.channels h ≡ b → WorldFits (if b then pulled_in w (layer_pulled c w.near.layer h) else w)
     test true is = record {
       near = record {
