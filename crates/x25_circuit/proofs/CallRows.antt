@@ -1,44 +1,16 @@
 -- Answers to calls of the user, made by running another implementation, on the definition.
-use Rattle.std.proofs.Common.{◌≡◌, ℕ, zero, suc, List, [], ◌∷◌, Option, Some, None, Bool, true, false, refl}
-use Rattle.x25_bits.specs.declared.role.Role.TheVariants.{Dte, Dce}
-use Rattle.x25_packet.specs.PlainPacket.{PlainPacket, call, accept, clear, user_data, rr, rnr, interrupt, reset}
+use Rattle.std.proofs.Common.{◌≡◌, [], ◌∷◌, Some, None, true, false, refl}
+use Rattle.x25_packet.specs.PlainPacket.{call, accept, clear, user_data, rr, rnr, interrupt, reset}
 use Rattle.x25_circuit.specs.declared.error.CircuitError.{CircuitError}
 use Rattle.x25_circuit.specs.declared.error.CircuitError.TheVariants.{WrongState, Full, InterruptOutstanding}
 use Rattle.x25_circuit.specs.declared.error.CircuitError.TheVariants as error
-use Rattle.x25_circuit.specs.declared.state.State.{State}
 use Rattle.x25_circuit.specs.declared.state.State.TheVariants.{Free, Calling, Arriving, Open, Resetting, Clearing}
-use Rattle.x25_circuit.specs.Messages.{Piece, More, Last}
-use Rattle.x25_circuit.specs.Circuit.{Settings, Talk, silent, usual, Circuit}
-use Rattle.x25_circuit.specs.Notices.{PlainNotice}
-use Rattle.x25_circuit.specs.Table.{Answer}
+use Rattle.x25_circuit.specs.Messages.{More, Last}
 use Rattle.x25_circuit.specs.Calls.{Done, Refused, Calls, Accepts, Clears, Sends, Interrupts, Resets, SaysReady, SaysNotReady, outcome, pulled}
-
-abbrev dte : Settings
-dte = record { role = Dte; outgoing = usual; incoming = usual }
-
-abbrev dce : Settings
-dce = record { role = Dce; outgoing = usual; incoming = usual }
+use Rattle.x25_circuit.proofs.RowStates.{dce, still, opened, talk, zeros}
 
 abbrev refused_parameter : CircuitError
 refused_parameter = error.BadParameter
-
--- a state with nothing sent or taken, and counts of clears and resets
-abbrev still : State → ℕ → ℕ → Circuit
-still state clears resets = record { state = state; clears = clears; resets = resets; talk = silent }
-
-abbrev opened : ℕ → ℕ → Talk → Circuit
-opened clears resets talk = record { state = Open; clears = clears; resets = resets; talk = talk }
-
-abbrev talk : List Piece → List Piece → ℕ → List Piece → Bool → Bool → Bool → Talk
-talk sent taken acked rest int_out peer_ready own_ready =
-    record { sent = sent; taken = taken; acked = acked; rest = rest; int_out = int_out; peer_ready = peer_ready; own_ready = own_ready }
-
-abbrev gives : Circuit → Option PlainPacket → List PlainNotice → Answer
-gives next owed notices = record { next = next; owed = owed; notices = notices }
-
-abbrev zeros : ℕ → List ℕ
-zeros zero = []
-zeros (suc n) = 0 ∷ zeros n
 
 dce_p1_calls :
     (outcome dce (still Free 0 0) (Calls (49 ∷ []) (50 ∷ []) (7 ∷ [])) ≡ (Done (still Calling 0 0) (Some (call 1 (1 ∷ []) (2 ∷ []) [] (7 ∷ [])))))

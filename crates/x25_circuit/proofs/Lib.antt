@@ -1,4 +1,6 @@
-mod TableRows
+mod RowStates
+mod DteRows
+mod DceRows
 mod CallRows
 pub mod MessageLemmas
 pub mod RowLemmas

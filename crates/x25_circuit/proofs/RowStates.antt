@@ -1,0 +1,34 @@
+-- Settings and states of the rows that were made by running another implementation.
+use Rattle.std.proofs.Common.{ℕ, zero, suc, List, [], ◌∷◌, Option, Bool}
+use Rattle.x25_bits.specs.declared.role.Role.TheVariants.{Dte, Dce}
+use Rattle.x25_packet.specs.PlainPacket.{PlainPacket}
+use Rattle.x25_circuit.specs.declared.state.State.{State}
+use Rattle.x25_circuit.specs.declared.state.State.TheVariants.{Open}
+use Rattle.x25_circuit.specs.Messages.{Piece}
+use Rattle.x25_circuit.specs.Circuit.{Settings, Talk, silent, usual, Circuit}
+use Rattle.x25_circuit.specs.Notices.{PlainNotice}
+use Rattle.x25_circuit.specs.Table.{Answer}
+
+abbrev pub dte : Settings
+dte = record { role = Dte; outgoing = usual; incoming = usual }
+
+abbrev pub dce : Settings
+dce = record { role = Dce; outgoing = usual; incoming = usual }
+
+-- a state with nothing sent or taken, and counts of clears and resets
+abbrev pub still : State → ℕ → ℕ → Circuit
+still state clears resets = record { state = state; clears = clears; resets = resets; talk = silent }
+
+abbrev pub opened : ℕ → ℕ → Talk → Circuit
+opened clears resets talk = record { state = Open; clears = clears; resets = resets; talk = talk }
+
+abbrev pub talk : List Piece → List Piece → ℕ → List Piece → Bool → Bool → Bool → Talk
+talk sent taken acked rest int_out peer_ready own_ready =
+    record { sent = sent; taken = taken; acked = acked; rest = rest; int_out = int_out; peer_ready = peer_ready; own_ready = own_ready }
+
+abbrev pub gives : Circuit → Option PlainPacket → List PlainNotice → Answer
+gives next owed notices = record { next = next; owed = owed; notices = notices }
+
+abbrev pub zeros : ℕ → List ℕ
+zeros zero = []
+zeros (suc n) = 0 ∷ zeros n
