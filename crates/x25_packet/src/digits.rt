@@ -118,12 +118,7 @@ impl<'a> Digits<'a> {
     pub fn again(&self) -> Digits<'a>
         ensures { result ≡ self.now }
     {
-        Digits {
-            octets: self.octets,
-            start: self.start,
-            count: self.count,
-            in_text: self.in_text,
-        }
+        Digits { place: self.place }
     }
 
     /// How many digits there are, 0 to 15.
