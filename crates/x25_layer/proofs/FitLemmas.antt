@@ -1,5 +1,5 @@
 -- A layer's circuits, one by one.
-use Rattle.std.proofs.Common.{◌≡◌, ◌⊎◌, inl, inr, ℕ, zero, suc, ◌+◌, ◌-◌, ◌<◌, ◌≤◌, ◌*◌, List, [], ◌∷◌, ◌++◌, length, Option, Some, None, Bool, true, false, nat_le, nat_lt, ◌==◌, ◌&&◌, slice_get, set, take, if◌then◌else◌, refl, sym, ap, subst, ◌∙◌, arith, IfSome, MatchOption, Bor, drop, get_or, length-append}
+use Rattle.std.proofs.Common.{◌≡◌, ◌⊎◌, inl, inr, ℕ, zero, suc, ◌+◌, ◌-◌, ◌<◌, ◌≤◌, ◌*◌, List, [], ◌∷◌, ◌++◌, length, Option, Some, None, Bool, true, false, nat_le, nat_lt, ◌==◌, ◌&&◌, slice_get, set, take, if◌then◌else◌, refl, sym, ap, subst, ◌∙◌, arith, IfSome, MatchOption, Bor, Result, Ok, Err, OnErr, drop, get_or, length-append}
 use Rattle.std.proofs.lemmas.Option.{none-some, same_Some, slice_get_within, slice_get-get_or}
 use Rattle.std.proofs.lemmas.List.{append-nil, take_all}
 use Rattle.x25_circuit.specs.declared.circuit.Circuit as circuit_code
@@ -83,22 +83,22 @@ opened c v l h b fits is =
     let same : is_channel c.channels h ≡ b = subst (λ (n : ℕ). is_channel n h ≡ b) fits.channels is in
     sym (ap (λ (a : Bool). if a then is_open (l.circuits h) else false) same)
 
--- The circuits below a place are as if never used, and the others are as they were.
-pub record BegunBelow (c : LayerSettings) (n : ℕ) (vs : List circuit_code.Circuit) (f : ℕ → Circuit) : Type 0 where
-  pub below : (k : ℕ) (v : circuit_code.Circuit) → k < n → slice_get vs k ≡ Some v → FitsCircuit c.circuit v begun
+-- The circuits below a place have changed, and the others are as they were.
+pub record ChangedBelow (c : LayerSettings) (n : ℕ) (vs : List circuit_code.Circuit) (f g : ℕ → Circuit) : Type 0 where
+  pub below : (k : ℕ) (v : circuit_code.Circuit) → k < n → slice_get vs k ≡ Some v → FitsCircuit c.circuit v (g (suc k))
   pub above : (k : ℕ) (v : circuit_code.Circuit) → n ≤ k → slice_get vs k ≡ Some v → FitsCircuit c.circuit v (f (suc k))
 
-pub begun_none : (c : LayerSettings) (vs : List circuit_code.Circuit) (f : ℕ → Circuit) → FitsCircuits c vs f → BegunBelow c 0 vs f
-begun_none c vs f fits = record { below = λ k v less is. absurd (omega (arith, less)); above = λ k v least is. fits k v is }
+pub changed_none : (c : LayerSettings) (vs : List circuit_code.Circuit) (f g : ℕ → Circuit) → FitsCircuits c vs f → ChangedBelow c 0 vs f g
+changed_none c vs f g fits = record { below = λ k v less is. absurd (omega (arith, less)); above = λ k v least is. fits k v is }
 
-pub begun_more : (c : LayerSettings) (n : ℕ) (vs : List circuit_code.Circuit) (f : ℕ → Circuit) (y : circuit_code.Circuit) → BegunBelow c n vs f → FitsCircuit c.circuit y begun → BegunBelow c (n + 1) (set vs n y) f
-begun_more c n vs f y b fit = record {
+pub changed_more : (c : LayerSettings) (n : ℕ) (vs : List circuit_code.Circuit) (f g : ℕ → Circuit) (y : circuit_code.Circuit) → ChangedBelow c n vs f g → FitsCircuit c.circuit y (g (suc n)) → ChangedBelow c (n + 1) (set vs n y) f g
+changed_more c n vs f g y b fit = record {
   below = λ k v less is. under k v less (get_changed vs y v n k is);
   above = λ k v least is. over k v least (get_changed vs y v n k is);
 }
   where
-    under : (k : ℕ) (v : circuit_code.Circuit) → k < n + 1 → ((k ≡ n) × (y ≡ v)) ⊎ ((k ≡ n → ⊥) × (slice_get vs k ≡ Some v)) → FitsCircuit c.circuit v begun
-    under k v less (inl p) = subst (λ (x : circuit_code.Circuit). FitsCircuit c.circuit x begun) p.1 fit
+    under : (k : ℕ) (v : circuit_code.Circuit) → k < n + 1 → ((k ≡ n) × (y ≡ v)) ⊎ ((k ≡ n → ⊥) × (slice_get vs k ≡ Some v)) → FitsCircuit c.circuit v (g (suc k))
+    under k v less (inl p) = subst (λ (x : circuit_code.Circuit). FitsCircuit c.circuit x (g (suc k))) p.1 (subst (λ (m : ℕ). FitsCircuit c.circuit y (g (suc m))) (sym p.0) fit)
     under k v less (inr p) = b.below k v (let differs : k ≡ n → ⊥ = p.0 in let e : k < n = grind arith in e) p.1
 
     over : (k : ℕ) (v : circuit_code.Circuit) → n + 1 ≤ k → ((k ≡ n) × (y ≡ v)) ⊎ ((k ≡ n → ⊥) × (slice_get vs k ≡ Some v)) → FitsCircuit c.circuit v (f (suc k))
@@ -106,8 +106,8 @@ begun_more c n vs f y b fit = record {
     over k v least (inr p) = b.above k v (let e : n ≤ k = omega (arith, least) in e) p.1
 
 -- .. where that is all of them
-pub begun_all : (c : LayerSettings) (n : ℕ) (vs : List circuit_code.Circuit) (f : ℕ → Circuit) → BegunBelow c n vs f → length vs ≤ n → FitsCircuits c vs at_rest.circuits
-begun_all c n vs f b high k v is = let low : k < length vs = slice_get_within vs k v is in b.below k v (let e : k < n = omega (arith, low, high) in e) is
+pub changed_all : (c : LayerSettings) (n : ℕ) (vs : List circuit_code.Circuit) (f g : ℕ → Circuit) → ChangedBelow c n vs f g → length vs ≤ n → FitsCircuits c vs g
+changed_all c n vs f g b high k v is = let low : k < length vs = slice_get_within vs k v is in b.below k v (let e : k < n = omega (arith, low, high) in e) is
 
 -- how many messages wait in one channel more
 pub waits_more : (c : LayerSettings) (f : ℕ → Circuit) (n count more : ℕ) → count ≡ waits_up_to f n → more ≡ waits (f (suc n)) → count + more ≡ waits_up_to f (n + 1)
@@ -127,3 +127,12 @@ pub looked_up : (c : LayerSettings) (v : code.Layer) (l : Layer) (h : ℕ) (xs :
 looked_up c v l h xs None Y fits low same read within = tt
 looked_up c v l h xs (Some x) Y fits low same read within =
     fits_found c v l h x.now fits low (subst (λ (ys : List circuit_code.Circuit). slice_get ys (h - 1) ≡ Some x.now) same (read_at xs (h - 1) x.now within.0 read))
+
+-- memory alone has changed
+pub fits_memory : (c : LayerSettings) (v v₂ : code.Layer) (l : Layer) → v₂ ≡ record v { memory = v₂.memory } → FitsLayer c v l → FitsLayer c v₂ l
+fits_memory c v v₂ l same fits =
+    subst (λ (w : code.Layer). FitsLayer c w l) (sym same) (record { role = fits.role; channels = fits.channels; restarting = fits.restarting; restarts = fits.restarts; circuits = fits.circuits })
+
+pub on_err : {T E : Type 0} (r : Result T E) {P : Type 0} → P → OnErr r P
+on_err (Ok x) p = tt
+on_err (Err e) p = p

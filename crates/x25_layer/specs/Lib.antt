@@ -5,6 +5,7 @@ pub mod Quiet
 pub mod Rounds
 pub mod Transcript
 pub mod FitsLayer
+pub mod OverLink
 pub mod World
 pub mod Law
 pub mod RoundLaw

@@ -1,5 +1,5 @@
 ghost use Rattle.std.specs.Prelude.{◌≡◌, ℕ, ◌≤◌, ◌↔◌, List, length, vec_len, true, false, IfOk, IfErr, IfSome, IfNone, IsErrOf};
-ghost use Rattle.x25_circuit.specs.Circuit.{usual};
+ghost use Rattle.x25_circuit.specs.Circuit.{forgotten, usual};
 ghost use Rattle.x25_circuit.specs.Circuit.{Circuit as Channel};
 ghost use Rattle.x25_circuit.specs.FitsCircuit.{FitsCircuit};
 ghost use Rattle.x25_layer.specs.Layer.{LayerSettings, at_rest, is_channel};
@@ -131,13 +131,23 @@ impl Layer {
     }
 }
 
-// All circuits are as if never used.
-fn begin_all(circuits: &mut Vec<Circuit>)
+/// All circuits are as if never used.
+pub(crate) fn begin_all(circuits: &mut Vec<Circuit>)
     ensures fits { (c : LayerSettings) (f : ℕ → Channel) → FitsCircuits c circuits.old.items f → FitsCircuits c circuits.new.items at_rest.circuits }
     ensures count { length circuits.new.items ≡ length circuits.old.items }
 {
     for circuit in circuits.iter_mut() {
         circuit.forget();
         circuit.zero();
+    }
+}
+
+/// All circuits go to p1, with everything dropped. Their counts are as they were.
+pub(crate) fn forget_all(circuits: &mut Vec<Circuit>)
+    ensures fits { (c : LayerSettings) (f : ℕ → Channel) → FitsCircuits c circuits.old.items f → FitsCircuits c circuits.new.items (λ k. forgotten (f k)) }
+    ensures count { length circuits.new.items ≡ length circuits.old.items }
+{
+    for circuit in circuits.iter_mut() {
+        circuit.forget();
     }
 }

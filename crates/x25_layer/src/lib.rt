@@ -5,6 +5,8 @@
 mod error;
 mod law;
 mod layer;
+mod putting;
+mod restarting;
 mod stretch;
 
 pub use error::LayerError;
