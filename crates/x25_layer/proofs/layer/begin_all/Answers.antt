@@ -1,4 +1,4 @@
-use Rattle.std.proofs.Common.{suc, ◌≡◌, ◌≤◌, ◌∙◌, ℕ, List, length, sym, subst, ap, arith}
+use Rattle.std.proofs.Common.{suc, ◌≡◌, ◌≤◌, ◌∙◌, List, length, sym, subst, ap, arith}
 use Rattle.std.proofs.lemmas.Option.{slice_get-get_or}
 use Rattle.x25_circuit.specs.declared.circuit.Circuit as circuit_code
 use Rattle.x25_circuit.specs.Circuit.{Circuit, forgotten}

@@ -1,5 +1,5 @@
-use Rattle.std.proofs.Common.{◌≡◌, ℕ, length}
-use Rattle.x25_circuit.specs.Circuit.{Circuit, forgotten}
+use Rattle.std.proofs.Common.{ℕ}
+use Rattle.x25_circuit.specs.Circuit.{Circuit}
 use Rattle.x25_layer.specs.Layer.{LayerSettings, at_rest}
 use Rattle.x25_layer.specs.FitsLayer.{FitsCircuits}
 use Rattle.x25_layer.proofs.FitLemmas.{ChangedBelow}

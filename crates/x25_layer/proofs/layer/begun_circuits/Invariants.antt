@@ -1,4 +1,4 @@
-use Rattle.std.proofs.Common.{◌≡◌, ◌+◌, ◌≤◌, length, vec_len, vec_capacity}
+use Rattle.std.proofs.Common.{◌≡◌, ◌≤◌, vec_len, vec_capacity}
 use Rattle.x25_circuit.specs.Circuit.{usual}
 use Rattle.x25_layer.specs.Layer.{at_rest}
 use Rattle.x25_layer.specs.FitsLayer.{FitsCircuits}

@@ -1,8 +1,7 @@
-use Rattle.std.proofs.Common.{suc, ◌≡◌, ◌≤◌, ◌∙◌, ℕ, List, length, sym, subst, ap, arith}
+use Rattle.std.proofs.Common.{suc, ◌≡◌, ◌≤◌, ◌∙◌, List, length, sym, subst, ap, arith}
 use Rattle.std.proofs.lemmas.Option.{slice_get-get_or}
 use Rattle.x25_circuit.specs.declared.circuit.Circuit as circuit_code
 use Rattle.x25_circuit.specs.Circuit.{Circuit, forgotten}
-use Rattle.x25_layer.specs.Layer.{at_rest}
 use Rattle.x25_layer.specs.FitsLayer.{FitsCircuits}
 use Rattle.x25_layer.proofs.FitLemmas.{changed_none, changed_more, changed_all, written_back}
 use Rattle.x25_layer.proofs.layer.forget_all.Goals as goal

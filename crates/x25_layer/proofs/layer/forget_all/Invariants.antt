@@ -1,6 +1,6 @@
-use Rattle.std.proofs.Common.{◌≡◌, ℕ, length}
+use Rattle.std.proofs.Common.{ℕ}
 use Rattle.x25_circuit.specs.Circuit.{Circuit, forgotten}
-use Rattle.x25_layer.specs.Layer.{LayerSettings, at_rest}
+use Rattle.x25_layer.specs.Layer.{LayerSettings}
 use Rattle.x25_layer.specs.FitsLayer.{FitsCircuits}
 use Rattle.x25_layer.proofs.FitLemmas.{ChangedBelow}
 use Rattle.x25_layer.proofs.layer.forget_all.Given as goal

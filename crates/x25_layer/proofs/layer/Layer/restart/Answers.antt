@@ -1,9 +1,5 @@
-use Rattle.std.proofs.Common.{rules, ◌≡◌, ◌∙◌, ℕ, Ok, refl, sym, subst, true, false, arith}
-use Rattle.x25_packet.specs.PlainPacket.{restart}
-use Rattle.x25_packet.specs.Spelling.{spelling_of}
-use Rattle.x25_layer.specs.Layer.{Layer, LayerSettings}
-use Rattle.x25_layer.specs.FitsLayer.{FitsLayer}
-use Rattle.x25_layer.specs.OverLink.{view_of, after_all, LayerGives, LinkGives}
+use Rattle.std.proofs.Common.{rules, ◌≡◌, ◌∙◌, Ok, refl, sym, subst, true, false, arith}
+use Rattle.x25_layer.specs.OverLink.{view_of, LayerGives, LinkGives}
 use Rattle.x25_layer.specs.Rounds.{Answered, LinkView}
 use Rattle.x25_layer.proofs.FitLemmas.{fits_memory, on_err}
 use Rattle.x25_layer.proofs.SettleLemmas.{restart_goes}

@@ -1,7 +1,7 @@
 use Rattle.std.proofs.Common.{◌≡◌, ◌∙◌, ℕ, refl, sym, subst, true}
 use Rattle.x25_packet.specs.PlainPacket.{restart}
 use Rattle.x25_packet.specs.Spelling.{spelling_of}
-use Rattle.x25_layer.specs.Layer.{Layer, LayerSettings, restart_cause}
+use Rattle.x25_layer.specs.Layer.{restart_cause}
 use Rattle.x25_layer.specs.FitsLayer.{FitsLayer}
 use Rattle.x25_layer.specs.OverLink.{view_of, after_all}
 use Rattle.x25_layer.specs.Rounds.{Putting}

@@ -1,5 +1,4 @@
-use Rattle.std.proofs.Common.{◌≡◌, ◌≤◌, ◌∙◌, ℕ, suc, sym, subst, ap, arith, Some, slice_get}
-use Rattle.x25_circuit.specs.declared.circuit.Circuit as circuit_code
+use Rattle.std.proofs.Common.{◌≡◌, ◌∙◌, ℕ, suc, subst, ap, arith, Some, slice_get}
 use Rattle.x25_layer.specs.FitsLayer.{waits_up_to}
 use Rattle.x25_layer.proofs.FitLemmas.{waits_more, read_at}
 use Rattle.x25_layer.proofs.layer.Layer.waits.Goals as goal
