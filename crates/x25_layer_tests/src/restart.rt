@@ -25,7 +25,10 @@ fn link_up_sends_restart(rt: HostRuntime) -> Result<(), Fail> {
         let mut link = PlainLink::new(rt.alloc())?;
         came_up(&mut layer, &mut link)?;
         let restart = link.out().ok_or("a RESTART waits")?;
-        assert_eq!(rt; restart.as_slice(), [0x10, 0x00, 0xfb, cause, 0x00].as_slice());
+        assert_eq!(rt;
+            restart.as_slice(),
+            [0x10, 0x00, 0xfb, cause, 0x00].as_slice()
+        );
         assert_eq!(rt; link.waiting(), 0);
     }
     Ok(())
@@ -41,7 +44,10 @@ fn one_restart_at_a_time(rt: HostRuntime) -> Result<(), Fail> {
     layer.restart(&mut link)?;
     assert_eq!(rt; link.waiting(), 2);
     let restart = link.out().ok_or("a RESTART waits")?;
-    assert_eq!(rt; restart.as_slice(), [0x10, 0x00, 0xfb, 0x00, 0x00].as_slice());
+    assert_eq!(rt;
+        restart.as_slice(),
+        [0x10, 0x00, 0xfb, 0x00, 0x00].as_slice()
+    );
     Ok(())
 }
 
