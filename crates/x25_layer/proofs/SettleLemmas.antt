@@ -1,15 +1,16 @@
 -- Behind the rounds of a step, one round more gives nothing.
 use Rattle.std.proofs.Common.{◌≡◌, ◌⊎◌, inl, inr, ℕ, zero, suc, ◌+◌, ◌<◌, ◌≤◌, ◌%◌, List, [], ◌∷◌, ◌++◌, length, Option, Some, None, Bool, true, false, nat_lt, ◌==◌, ◌&&◌, if◌then◌else◌, refl, sym, ap, ◌∙◌, eq-eqb, arith}
 use Rattle.std.proofs.lemmas.Bool.{eqb-true}
-use Rattle.x25_packet.specs.PlainPacket.{PlainPacket}
+use Rattle.x25_packet.specs.PlainPacket.{PlainPacket, restart}
 use Rattle.x25_circuit.specs.declared.state.State.{State}
 use Rattle.x25_circuit.specs.declared.state.State.TheVariants.{Free, Calling, Arriving, Collision, Open, Resetting, Clearing}
 use Rattle.x25_circuit.specs.Messages.{Piece}
-use Rattle.x25_circuit.specs.Circuit.{Settings, Talk, Circuit, begun}
+use Rattle.x25_circuit.specs.Circuit.{Settings, Talk, Circuit, begun, forgotten}
 use Rattle.x25_circuit.specs.Calls.{Pulled, pulls_nothing, data_packet, pull_open, pull_in, pulled}
-use Rattle.x25_layer.specs.Layer.{LayerSettings, put_at, packet_on, goes_up}
-use Rattle.x25_layer.specs.Calls.{layer_pulled}
-use Rattle.x25_layer.specs.Rounds.{LinkView, Putting, begin, with_pulled, pull_one, round, rounds_of, backlog}
+use Rattle.x25_layer.specs.declared.error.LayerError.TheVariants as error
+use Rattle.x25_layer.specs.Layer.{LayerSettings, Layer, put_at, packet_on, restarting_from, goes_up}
+use Rattle.x25_layer.specs.Calls.{Restarts, outcome_in, layer_outcome, layer_pulled}
+use Rattle.x25_layer.specs.Rounds.{LinkView, Putting, begin, with_pulled, pull_one, round, rounds_of, rounds, backlog, Went, Refuses, went, calls}
 use Rattle.x25_layer.specs.RoundLaw.{RoundsSettle, ComesUpAlone}
 
 none_some : {T : Type 0} (x : T) → None ≡ Some x → ⊥
@@ -158,3 +159,32 @@ begun_backlog (suc n) = let e : backlog (λ k. begun) n ≡ 0 = begun_backlog n 
 
 pub comes_up_alone : ComesUpAlone
 comes_up_alone link c = ap (λ (n : ℕ). rounds_of n link c (begin (goes_up c).next (goes_up c).owed)) (begun_backlog c.channels)
+
+-- .. and neither have those that forget
+forgotten_backlog : (f : ℕ → Circuit) (n : ℕ) → backlog (λ k. forgotten (f k)) n ≡ 0
+forgotten_backlog f zero = refl
+forgotten_backlog f (suc n) = let e : backlog (λ k. forgotten (f k)) n ≡ 0 = forgotten_backlog f n in omega (arith, e)
+
+-- a restart of the user puts RESTART alone
+restart_alone : (link : LinkView) (c : LayerSettings) (restarts : ℕ) (f : ℕ → Circuit) → rounds link c (begin (restarting_from restarts f) (Some (restart 0 0))) ≡ begin (restarting_from restarts f) (Some (restart 0 0))
+restart_alone link c restarts f = ap (λ (n : ℕ). rounds_of n link c (begin (restarting_from restarts f) (Some (restart 0 0)))) (forgotten_backlog f c.channels)
+
+restart_in : (link : LinkView) (c : LayerSettings) (l : Layer) (restarting full : Bool) → link.is_up ≡ true → l.restarting ≡ restarting → (link.waits [] == 256) ≡ full
+    → calls link c l Restarts ≡ went link c (outcome_in c full restarting l.restarts l.circuits Restarts)
+restart_in link c l restarting full up at_l is_full =
+    ap (λ (b : Bool). if b then went link c (layer_outcome c (link.waits [] == 256) l Restarts) else Refuses error.NotUp) up
+    ∙ ap (λ (b : Bool). went link c (outcome_in c b l.restarting l.restarts l.circuits Restarts)) is_full
+    ∙ ap (λ (b : Bool). went link c (outcome_in c full b l.restarts l.circuits Restarts)) at_l
+
+pub restart_not_up : (link : LinkView) (c : LayerSettings) (l : Layer) → link.is_up ≡ false → calls link c l Restarts ≡ Refuses error.NotUp
+restart_not_up link c l down = ap (λ (b : Bool). if b then went link c (layer_outcome c (link.waits [] == 256) l Restarts) else Refuses error.NotUp) down
+
+pub restart_restarting : (link : LinkView) (c : LayerSettings) (l : Layer) → link.is_up ≡ true → l.restarting ≡ true → calls link c l Restarts ≡ Refuses error.Restarting
+restart_restarting link c l up at_l = restart_in link c l true (link.waits [] == 256) up at_l refl
+
+pub restart_full : (link : LinkView) (c : LayerSettings) (l : Layer) → link.is_up ≡ true → l.restarting ≡ false → link.waits [] ≡ 256 → calls link c l Restarts ≡ Refuses error.QueueFull
+restart_full link c l up at_l full = restart_in link c l false true up at_l (eq-eqb (link.waits []) 256 full)
+
+pub restart_goes : (link : LinkView) (c : LayerSettings) (l : Layer) → link.is_up ≡ true → l.restarting ≡ false → (link.waits [] ≡ 256 → ⊥) → calls link c l Restarts ≡ Went (begin (restarting_from l.restarts l.circuits) (Some (restart 0 0)))
+restart_goes link c l up at_l free =
+    restart_in link c l false false up at_l (not_same (link.waits []) 256 free) ∙ ap (λ (s : Putting). Went s) (restart_alone link c l.restarts l.circuits)

@@ -4,6 +4,8 @@ pub mod Calls
 pub mod Quiet
 pub mod Rounds
 pub mod Transcript
+pub mod FitsLayer
+pub mod OverLink
 pub mod World
 pub mod Law
 pub mod RoundLaw

@@ -4,6 +4,13 @@
 
 mod error;
 mod law;
+mod layer;
+mod putting;
+mod restarting;
+mod stretch;
 
 pub use error::LayerError;
 pub use law::{calls_are_runs, two_layers_keep_order};
+pub use layer::Layer;
+pub use stretch::Stretch;
+pub use x25_bits::Role;

@@ -21,6 +21,7 @@ mod step;
 mod waiting_packets;
 
 pub use error::LinkError;
+pub use frame_memory::Blanks;
 pub use law::{follows_the_window, holds_few, notes_what_changes, sets_up_by_rows};
 pub use link::Link;
 pub use ordered_link::OrderedLink;

@@ -1,0 +1,153 @@
+ghost use Rattle.std.specs.Prelude.{◌≡◌, ℕ, ◌≤◌, ◌↔◌, List, length, vec_len, true, false, IfOk, IfErr, IfSome, IfNone, IsErrOf};
+ghost use Rattle.x25_circuit.specs.Circuit.{forgotten, usual};
+ghost use Rattle.x25_circuit.specs.Circuit.{Circuit as Channel};
+ghost use Rattle.x25_circuit.specs.FitsCircuit.{FitsCircuit};
+ghost use Rattle.x25_layer.specs.Layer.{LayerSettings, at_rest, is_channel};
+ghost use Rattle.x25_layer.specs.Layer.{Layer as State};
+ghost use Rattle.x25_layer.specs.FitsLayer.{FitsLayer, FitsCircuits, plain_stretch, name_at, is_open_at, waits_up_to, is_full};
+
+use crate::error::LayerError;
+use crate::stretch::Stretch;
+use std::alloc::Global;
+use x25_bits::Role;
+use x25_circuit::Circuit;
+use x25_link::Blanks;
+
+/// The most channels of a layer (profile).
+pub const CHANNELS: usize = 16;
+
+/// The most octets of a packet.
+pub const LONGEST_PACKET: usize = 4099;
+
+/// The packet layer of one end, DTE or DCE: its logical channels, numbered from 1, over a link that keeps order.
+///
+/// ITU-T X.25 (10/96), sections 3 and 4.
+#[derive(Drop)]
+pub struct Layer {
+    pub(crate) role: Role,
+    /// This end's RESTART isn't confirmed yet.
+    pub(crate) restarting: bool,
+    /// How many restarts were done since link set-up.
+    pub(crate) restarts: u64,
+    /// The first is on channel 1.
+    pub(crate) circuits: Vec<Circuit>,
+    /// Memory for packets that are sent.
+    pub(crate) memory: Blanks<LONGEST_PACKET>,
+}
+
+// So many circuits that were never used.
+fn begun_circuits(alloc: Global, role: Role, channels: usize) -> Result<Vec<Circuit>, LayerError>
+    ensures fits { IfOk result (λ v. FitsCircuits (record { channels = channels; circuit = record { role = role; outgoing = usual; incoming = usual } }) v.items at_rest.circuits) }
+    ensures count { IfOk result (λ v. length v.items ≡ channels) }
+    ensures err { IfErr result (λ e. e ≡ LayerError.NoMemory) }
+{
+    let Ok(mut circuits) = Vec::with_capacity(alloc, channels) else {
+        return Err(LayerError::NoMemory);
+    };
+    for _ in 0..channels {
+        let Ok(circuit) = Circuit::new(alloc, role) else {
+            return Err(LayerError::NoMemory);
+        };
+        circuits.push_reserved(circuit);
+    }
+    Ok(circuits)
+}
+
+impl Layer {
+    /// The layer of an end whose link isn't up, with so many channels, 1 to 16.
+    ///
+    /// 14 BadConfig for another number of channels, and else 70 alone.
+    pub fn new(alloc: Global, role: Role, channels: usize) -> Result<Layer, LayerError>
+        ensures fits { IfOk result (λ v. FitsLayer (record { channels = channels; circuit = record { role = role; outgoing = usual; incoming = usual } }) v at_rest) }
+        ensures config { IsErrOf result LayerError.BadConfig ↔ (is_channel 16 channels ≡ false) }
+        ensures memory { is_channel 16 channels ≡ true → IfErr result (λ e. e ≡ LayerError.NoMemory) }
+    {
+        if channels == 0 || channels > CHANNELS {
+            return Err(LayerError::BadConfig);
+        }
+        let circuits = begun_circuits(alloc, role, channels)?;
+        Ok(Layer {
+            role,
+            restarting: false,
+            restarts: 0,
+            circuits,
+            memory: Blanks::new(alloc),
+        })
+    }
+
+    /// The name of the stretch of a channel, where it is configured.
+    pub fn name(&self, channel: u16) -> Option<Stretch>
+        ensures { (c : LayerSettings) (l : State) → FitsLayer c self.now l → plain_stretch result ≡ name_at c l channel }
+    {
+        let circuit = self.circuit(channel)?;
+        let (clears, resets) = circuit.counts();
+        Some(Stretch {
+            restarts: self.restarts,
+            clears,
+            resets,
+        })
+    }
+
+    /// Whether a channel is configured and in p4 with d1.
+    pub fn is_open(&self, channel: u16) -> bool
+        ensures { (c : LayerSettings) (l : State) → FitsLayer c self.now l → result ≡ is_open_at c l channel }
+    {
+        match self.circuit(channel) {
+            Some(circuit) => circuit.is_open(),
+            None => false,
+        }
+    }
+
+    /// How many messages wait in all circuits.
+    pub fn waits(&self) -> usize
+        ensures { (c : LayerSettings) (l : State) → FitsLayer c self.now l → result ≡ waits_up_to l.circuits c.channels }
+    {
+        let mut waits = 0;
+        for circuit in self.circuits.iter() {
+            waits += circuit.waits();
+        }
+        waits
+    }
+
+    /// Drops everything, at LinkDown: no restart is under way, and all counts are 0.
+    pub fn down(&mut self)
+        ensures { (c : LayerSettings) (l : State) → FitsLayer c self.old l → FitsLayer c self.new at_rest }
+    {
+        self.restarting = false;
+        self.restarts = 0;
+        begin_all(&mut self.circuits);
+    }
+
+    // The circuit of a channel.
+    fn circuit(&self, channel: u16) -> Option<&Circuit>
+        ensures fits { (c : LayerSettings) (l : State) → FitsLayer c self.now l → IfSome result (λ circuit. FitsCircuit c.circuit circuit.now (l.circuits channel)) }
+        ensures some { IfSome result (λ circuit. is_channel (length self.now.circuits.items) channel ≡ true) }
+        ensures none { IfNone result (is_channel (length self.now.circuits.items) channel ≡ false) }
+    {
+        if channel == 0 {
+            return None;
+        }
+        self.circuits.get(channel as usize - 1)
+    }
+}
+
+/// All circuits are as if never used.
+pub(crate) fn begin_all(circuits: &mut Vec<Circuit>)
+    ensures fits { (c : LayerSettings) (f : ℕ → Channel) → FitsCircuits c circuits.old.items f → FitsCircuits c circuits.new.items at_rest.circuits }
+    ensures count { length circuits.new.items ≡ length circuits.old.items }
+{
+    for circuit in circuits.iter_mut() {
+        circuit.forget();
+        circuit.zero();
+    }
+}
+
+/// All circuits go to p1, with everything dropped. Their counts are as they were.
+pub(crate) fn forget_all(circuits: &mut Vec<Circuit>)
+    ensures fits { (c : LayerSettings) (f : ℕ → Channel) → FitsCircuits c circuits.old.items f → FitsCircuits c circuits.new.items (λ k. forgotten (f k)) }
+    ensures count { length circuits.new.items ≡ length circuits.old.items }
+{
+    for circuit in circuits.iter_mut() {
+        circuit.forget();
+    }
+}

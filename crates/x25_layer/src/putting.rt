@@ -1,0 +1,60 @@
+//! Packets that a layer puts into its link.
+ghost use Rattle.std.specs.Prelude.{◌≡◌, ℕ, ◌+◌, ◌-◌, ◌<◌, ◌≤◌, length, true, IfErr, OnOk, OnErr};
+ghost use Rattle.x25_packet.specs.PlainPacket.{plain};
+ghost use Rattle.x25_packet.specs.Spelling.{IsInRange, spelling_of};
+
+use crate::error::LayerError;
+use crate::layer::Layer;
+use x25_link::OrderedLink;
+use x25_packet::{Packet, encode};
+
+impl Layer {
+    /// Sets memory aside, here and in the link, for so many packets.
+    ///
+    /// 70 alone.
+    pub(crate) fn set_aside<L: OrderedLink>(
+        &mut self,
+        link: &mut L,
+        count: usize,
+    ) -> Result<(), LayerError>
+        ensures layer { self.new ≡ record self.old { memory = self.new.memory } }
+        ensures memory { OnOk result (count ≤ self.new.memory) }
+        ensures spares { OnOk result (count ≤ L.spares link.new) }
+        ensures link { (x : L.State) → L.fits link.old x → L.fits link.new x }
+        ensures longest { L.longest link.new ≡ L.longest link.old }
+        ensures waits { L.waits link.new ≡ L.waits link.old }
+        ensures up { L.up link.new ≡ L.up link.old }
+        ensures err { IfErr result (λ e. e ≡ LayerError.NoMemory) }
+    {
+        if self.memory.reserve(count).is_err() {
+            return Err(LayerError::NoMemory);
+        }
+        if link.room(count).is_err() {
+            return Err(LayerError::NoMemory);
+        }
+        Ok(())
+    }
+
+    /// Puts a packet of at most `most` octets into the link, in memory that was set aside.
+    pub(crate) fn put<L: OrderedLink>(&mut self, link: &mut L, packet: &Packet, most: usize)
+        requires range { IsInRange 16 (plain packet.now) }
+        requires short { length (spelling_of (plain packet.now)) ≤ most }
+        requires most { most ≤ 4099 }
+        requires memory { 0 < self.old.memory }
+        requires spares { 0 < L.spares link.old }
+        requires up { L.up link.old ≡ true }
+        requires free { L.waits link.old < 256 }
+        requires longest { 4099 ≤ L.longest link.old }
+        ensures layer { self.new ≡ record self.old { memory = self.new.memory } }
+        ensures memory { self.new.memory + 1 ≡ self.old.memory }
+        ensures link { (x : L.State) → L.fits link.old x → L.fits link.new (L.after_put x (spelling_of (plain packet.now))) }
+        ensures spares { L.spares link.new ≡ L.spares link.old - 1 }
+        ensures longest { L.longest link.new ≡ L.longest link.old }
+        ensures up { L.up link.new ≡ L.up link.old }
+        ensures waits { L.waits link.new ≤ L.waits link.old + 1 }
+    {
+        let mut octets = self.memory.take(most);
+        encode(packet, &mut octets).unwrap();
+        link.put(octets).unwrap();
+    }
+}
