@@ -1,0 +1,60 @@
+-- What a call answers, by what its link's call answers.
+use Rattle.std.proofs.Common.{◌≡◌, map, Option, Some, None, Result, Ok, Err, refl, ap, ◌∙◌}
+use Rattle.x25_frame.specs.Spelling.{spelling_of}
+use Rattle.x25_link.specs.declared.error.LinkError.{LinkError}
+use Rattle.x25_link.specs.declared.phase.Phase.{Phase}
+use Rattle.x25_link.specs.declared.phase.Phase.TheVariants.{Down, Waiting, Up, Closed}
+use Rattle.x25_link.specs.Steps as link
+use Rattle.x25_station.specs.declared.station.Station as code
+use Rattle.x25_station.specs.declared.step.Step as code_step
+use Rattle.x25_station.specs.declared.error.StationError.{StationError}
+use Rattle.x25_station.specs.declared.error.StationError.TheVariants as error
+use Rattle.x25_station.specs.StationError.{of_link}
+use Rattle.x25_station.specs.Settings.{Settings}
+use Rattle.x25_station.specs.Steps.{Step, unless}
+use Rattle.x25_station.specs.KeepLaw.{IsKept, KeptBy}
+use Rattle.x25_station.specs.PlainEntry.{plain_entry}
+use Rattle.x25_station.specs.FitsStation.{FitsStation, Leaves, Sends, Enters, RefusesExactly}
+
+-- ---- an accepted call, which the link may refuse
+
+pub leaves_unless : (c : Settings) (v : code.Station) (r : code_step.Step) (o : Option LinkError) (step : Step) → KeptBy (unless o step) → (IsKept step.near → FitsStation c v step.near)
+    → Leaves c v (Ok r) (unless o step)
+leaves_unless c v r None step kept fits = fits kept
+leaves_unless c v r (Some e) step kept fits = tt
+
+pub sends_unless : (c : Settings) (r : code_step.Step) (o : Option LinkError) (step : Step) → map (λ frame. frame.items) r.frames.items ≡ map (spelling_of c.role) step.out → Sends c (Ok r) (unless o step)
+sends_unless c r None step frames = frames
+sends_unless c r (Some e) step frames = tt
+
+pub enters_unless : (r : code_step.Step) (o : Option LinkError) (step : Step) → map plain_entry r.entries.items ≡ step.entries → Enters (Ok r) (unless o step)
+enters_unless r None step entries = entries
+enters_unless r (Some e) step entries = tt
+
+ok_err : {T E : Type 0} (x : T) (e : E) → Ok x ≡ Err e → ⊥
+ok_err x e is = cc
+
+-- ---- the link's refusal, or its want of memory
+
+pub goes_exactly : {T : Type 0} (k : T) (r : code_step.Step) (o : Option LinkError) (step : Step) → link.Refuses o (Ok k) → RefusesExactly (Ok r) (unless o step)
+goes_exactly k r None step h = tt
+goes_exactly k r (Some e) step h = absurd (ok_err k e h)
+
+-- the link's own refusals aren't want of memory
+abbrev pub IsNamed : Option LinkError → Type 0
+IsNamed None = Unit {0}
+IsNamed (Some e) = of_link e ≡ error.Link e
+
+err_is : (T : Type 0) (a b : LinkError) → (let x : Result T LinkError = Err a in x ≡ Err b) → a ≡ b
+err_is T a b is = cc
+
+pub refused_exactly : (T U : Type 0) (e : LinkError) (found : StationError) (o : Option LinkError) (step : Step) → IsNamed o → found ≡ of_link e → (let x : Result T LinkError = Err e in link.Refuses o x)
+    → (let x : Result U StationError = Err found in RefusesExactly x (unless o step))
+refused_exactly T U e found None step named is h = is ∙ ap of_link h
+refused_exactly T U e found (Some x) step named is h = ap (λ y. Err y) (is ∙ ap of_link (err_is T e x h) ∙ named)
+
+pub connect_named : (p : Phase) → IsNamed (link.connect_refusal p)
+connect_named Down = tt
+connect_named Waiting = refl
+connect_named Up = refl
+connect_named Closed = refl
