@@ -1,9 +1,11 @@
 -- What a call answers, by what its link's call answers.
-use Rattle.std.proofs.Common.{◌≡◌, map, Option, Some, None, Result, Ok, Err, refl, ap, ◌∙◌}
+use Rattle.std.proofs.Common.{◌≡◌, Bool, true, false, if◌then◌else◌, List, map, Option, Some, None, Result, Ok, Err, inl, refl, ap, ◌∙◌}
 use Rattle.x25_frame.specs.Spelling.{spelling_of}
 use Rattle.x25_link.specs.declared.error.LinkError.{LinkError}
+use Rattle.x25_link.specs.declared.error.LinkError.TheVariants as link_error
 use Rattle.x25_link.specs.declared.phase.Phase.{Phase}
 use Rattle.x25_link.specs.declared.phase.Phase.TheVariants.{Down, Waiting, Up, Closed}
+use Rattle.x25_link.specs.Station.{Station as LinkStation}
 use Rattle.x25_link.specs.Steps as link
 use Rattle.x25_station.specs.declared.station.Station as code
 use Rattle.x25_station.specs.declared.step.Step as code_step
@@ -14,7 +16,7 @@ use Rattle.x25_station.specs.Settings.{Settings}
 use Rattle.x25_station.specs.Steps.{Step, unless}
 use Rattle.x25_station.specs.KeepLaw.{IsKept, KeptBy}
 use Rattle.x25_station.specs.PlainEntry.{plain_entry}
-use Rattle.x25_station.specs.FitsStation.{FitsStation, Leaves, Sends, Enters, RefusesExactly}
+use Rattle.x25_station.specs.FitsStation.{FitsStation, Leaves, Sends, Enters, Refuses, RefusesExactly}
 
 -- ---- an accepted call, which the link may refuse
 
@@ -53,8 +55,31 @@ pub refused_exactly : (T U : Type 0) (e : LinkError) (found : StationError) (o :
 refused_exactly T U e found None step named is h = is ∙ ap of_link h
 refused_exactly T U e found (Some x) step named is h = ap (λ y. Err y) (is ∙ ap of_link (err_is T e x h) ∙ named)
 
+-- .. where memory was wanted first
+pub goes : {T : Type 0} (k : T) (r : code_step.Step) (o : Option LinkError) (step : Step) → link.Refuses o (Ok k) → Refuses (Ok r) (unless o step)
+goes k r None step h = tt
+goes k r (Some e) step h = absurd (ok_err k e h)
+
+pub refused : (T U : Type 0) (e : LinkError) (found : StationError) (o : Option LinkError) (step : Step) → IsNamed o → found ≡ of_link e → (let x : Result T LinkError = Err e in link.Refuses o x)
+    → (let x : Result U StationError = Err found in Refuses x (unless o step))
+refused T U e found None step named is h = is ∙ ap of_link h
+refused T U e found (Some x) step named is h = inl (is ∙ ap of_link (err_is T e x h) ∙ named)
+
 pub connect_named : (p : Phase) → IsNamed (link.connect_refusal p)
 connect_named Down = tt
 connect_named Waiting = refl
 connect_named Up = refl
 connect_named Closed = refl
+
+pub timer_named : (s : LinkStation) → IsNamed (link.timer_refusal s)
+timer_named s = test (link.timer_runs s.phase s)
+  where
+    test : (b : Bool) → IsNamed (if b then None else Some link_error.NotRunning)
+    test true = tt
+    test false = refl
+
+pub disconnect_named : (p : Phase) → IsNamed (link.disconnect_refusal p)
+disconnect_named Down = tt
+disconnect_named Waiting = tt
+disconnect_named Up = tt
+disconnect_named Closed = refl

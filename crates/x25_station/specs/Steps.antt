@@ -41,6 +41,11 @@ with_puts c t s entries =
 abbrev pub rests : Layer → Putting
 rests l = record { layer = l; put = [] }
 
+-- at rest where the link went down
+abbrev pub layer_down : Layer → Option Reason → Layer
+layer_down l None = l
+layer_down l (Some reason) = at_rest
+
 -- LinkDown; then LinkUp; else the packet that is handed up. Where there is none of these nothing is asked of the layer, so nothing is pulled.
 abbrev pub layer_at : LinkView → LayerSettings → Layer → Option (List ℕ) → Option Reason → Bool → Putting
 layer_at link c l packet down true = (comes_up link c).step

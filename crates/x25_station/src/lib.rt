@@ -6,6 +6,7 @@ mod config;
 mod entry;
 mod error;
 mod law;
+mod linking;
 mod station;
 mod step;
 

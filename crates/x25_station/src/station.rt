@@ -50,26 +50,6 @@ impl Station {
         Ok(Station { link, layer, alloc })
     }
 
-    /// Begins to set the link up. No entry is made.
-    ///
-    /// 12 where it is being set up, 13 where it is closed, 15 where it is up, and else 70 alone. The station is as before then.
-    pub fn connect(&mut self) -> Result<Step, StationError>
-        ensures state { (c : Settings) (s : State) → FitsStation c self.old s → Leaves c self.new result (connects c s) }
-        ensures frames { (c : Settings) (s : State) → FitsStation c self.old s → Sends c result (connects c s) }
-        ensures entries { (c : Settings) (s : State) → FitsStation c self.old s → Enters result (connects c s) }
-        ensures refused { (c : Settings) (s : State) → FitsStation c self.old s → RefusesExactly result (connects c s) }
-        ensures stays { (c : Settings) (s : State) → FitsStation c self.old s → OnErr result (FitsStation c self.new s) }
-    {
-        steps_keep_bounds();
-        match self.link.connect() {
-            Ok(step) => Ok(Step {
-                frames: step.frames,
-                entries: Vec::new(self.alloc),
-            }),
-            Err(error) => Err(StationError::of_link(error)),
-        }
-    }
-
     /// Whether the link is up, no packet waits in it, all that was sent is acknowledged, and no message waits in a circuit.
     pub fn idle(&self) -> bool
         ensures { (c : Settings) (s : State) → FitsStation c self.now s → result ≡ is_idle c s }
