@@ -1,22 +1,25 @@
 -- A step of the link that hands nothing up, and notes nothing but that it went down.
-use Rattle.std.proofs.Common.{◌≡◌, ℕ, ◌+◌, List, [], ◌∷◌, ◌++◌, map, Option, Some, None, Bool, true, false, if◌then◌else◌, nat_lt, refl, sym, ap, subst, ◌∙◌}
+use Rattle.std.proofs.Common.{◌≡◌, ℕ, ◌+◌, List, [], ◌++◌, map, Option, Some, None, Ok, Bool, true, false, if◌then◌else◌, nat_lt, refl, sym, ap, subst, ◌∙◌}
 use Rattle.x25_frame.specs.Spelling.{spelling_of}
+use Rattle.x25_link.specs.declared.error.LinkError.{LinkError}
 use Rattle.x25_link.specs.declared.phase.Reason.{Reason}
-use Rattle.x25_link.specs.declared.phase.Notes.{Notes}
 use Rattle.x25_link.specs.Station.{Settings as LinkSettings, Station as LinkStation, Side, with_near}
 use Rattle.x25_link.specs.MustSend.{Step as LinkStep, quiet, leaves}
 use Rattle.x25_link.specs.Steps.{alone, asks_again, timer_step, disconnect_step}
 use Rattle.x25_link.specs.declared.phase.Reason.TheVariants.{Retries}
-use Rattle.x25_link.specs.Link.{FitsLink}
+use Rattle.x25_link.specs.Link.{ShownLink, FitsLink}
 use Rattle.x25_layer.specs.Layer.{Layer}
 use Rattle.x25_layer.specs.FitsLayer.{FitsLayer}
-use Rattle.x25_station.specs.declared.station.Station as code
+use Rattle.x25_layer.specs.declared.layer.Layer as layer_code
+use Rattle.x25_station.specs.declared.step.Step as code_step
 use Rattle.x25_station.specs.Settings.{Settings, link_settings, layer_settings}
 use Rattle.x25_station.specs.Entries.{StationEntry, entries_down}
 use Rattle.x25_station.specs.Station.{Station}
-use Rattle.x25_station.specs.Steps.{Step, follows, layer_down}
-use Rattle.x25_station.specs.KeepLaw.{IsKept}
-use Rattle.x25_station.specs.FitsStation.{FitsStation}
+use Rattle.x25_station.specs.Steps.{Step, follows, layer_down, unless}
+use Rattle.x25_station.specs.KeepLaw.{IsKept, KeptBy}
+use Rattle.x25_station.specs.FitsParts.{FitsParts}
+use Rattle.x25_station.specs.FitsStation.{LeavesParts}
+use Rattle.x25_station.proofs.OutcomeLemmas.{leaves_unless}
 use Rattle.x25_station.proofs.KeepLemmas.{timer_none}
 
 -- the layer rests where it went down, and nothing is put
@@ -50,16 +53,20 @@ disconnect_down c l s = follows_down c l (disconnect_step (link_settings c) s) r
 
 -- ---- the station after it
 
-pub fits_down : (c : Settings) (v : code.Station) (l : Layer) (k : LinkStep) (step : Step) (down : Option Reason) → step.near ≡ (downs l k.side k.notes.down).near → down ≡ k.notes.down
-    → FitsLink (link_settings c) v.link k.side.near → FitsLayer (layer_settings c) v.layer (layer_down l down) → v.link.outgoing.made ≡ [] → IsKept step.near → FitsStation c v step.near
-fits_down c v l k step down near is link layer sent kept =
+pub fits_down : (c : Settings) (v : ShownLink) (y : layer_code.Layer) (l : Layer) (k : LinkStep) (step : Step) (down : Option Reason) → step.near ≡ (downs l k.side k.notes.down).near → down ≡ k.notes.down
+    → FitsLink (link_settings c) v k.side.near → FitsLayer (layer_settings c) y (layer_down l down) → v.outgoing.made ≡ [] → IsKept step.near → FitsParts c v y step.near
+fits_down c v y l k step down near is link layer sent kept =
     let moved : layer_down l down ≡ step.near.layer = ap (layer_down l) is ∙ sym (ap (λ (x : Station). x.layer) near) in
     record {
-      link = subst (λ (x : LinkStation). FitsLink (link_settings c) v.link x) (sym (ap (λ (x : Station). x.link) near)) link;
-      layer = subst (λ (x : Layer). FitsLayer (layer_settings c) v.layer x) moved layer;
+      link = subst (λ (x : LinkStation). FitsLink (link_settings c) v x) (sym (ap (λ (x : Station). x.link) near)) link;
+      layer = subst (λ (x : Layer). FitsLayer (layer_settings c) y x) moved layer;
       kept = kept;
       sent = sent;
     }
+
+pub leaves_down : (c : Settings) (v : ShownLink) (y : layer_code.Layer) (r : code_step.Step) (o : Option LinkError) (l : Layer) (k : LinkStep) (step : Step) (down : Option Reason) → step.near ≡ (downs l k.side k.notes.down).near
+    → down ≡ k.notes.down → FitsLink (link_settings c) v k.side.near → FitsLayer (layer_settings c) y (layer_down l down) → v.outgoing.made ≡ [] → KeptBy (unless o step) → LeavesParts c v y (Ok r) (unless o step)
+leaves_down c v y r o l k step down near is link layer sent kept = leaves_unless c v y r o step kept (λ now. fits_down c v y l k step down near is link layer sent now)
 
 -- ---- what it answers
 

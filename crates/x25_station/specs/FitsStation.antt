@@ -1,31 +1,30 @@
 -- Which states of the definition a station stands for, and what its calls answer.
-use Rattle.std.specs.Prelude.{◌≡◌, ◌⊎◌, [], map, Option, Some, None, Result, Err, OnOk, IfOk, IfErr, IsErrAnd}
+use Rattle.std.specs.Prelude.{◌≡◌, ◌⊎◌, map, Option, Some, None, Result, Err, OnOk, IfOk, IfErr, IsErrAnd}
 use Rattle.x25_frame.specs.Spelling.{spelling_of}
-use Rattle.x25_link.specs.Link.{FitsLink}
-use Rattle.x25_layer.specs.FitsLayer.{FitsLayer}
+use Rattle.x25_link.specs.Link.{ShownLink}
+use Rattle.x25_layer.specs.declared.layer.Layer as layer_code
 use Rattle.x25_station.specs.declared.station.Station as code
 use Rattle.x25_station.specs.declared.step.Step as code_step
 use Rattle.x25_station.specs.declared.error.StationError.{StationError}
 use Rattle.x25_station.specs.declared.error.StationError.TheVariants as error
-use Rattle.x25_station.specs.Settings.{Settings, link_settings, layer_settings}
+use Rattle.x25_station.specs.Settings.{Settings}
 use Rattle.x25_station.specs.Station.{Station}
 use Rattle.x25_station.specs.Steps.{Outcome, Did, Refused}
-use Rattle.x25_station.specs.KeepLaw.{IsKept}
+use Rattle.x25_station.specs.FitsParts.{FitsParts}
 use Rattle.x25_station.specs.PlainEntry.{plain_entry}
 
--- between calls no frame is kept in the link
-pub record FitsStation (c : Settings) (v : code.Station) (s : Station) : Type 0 where
-  pub link : FitsLink (link_settings c) v.link s.link
-  pub layer : FitsLayer (layer_settings c) v.layer s.layer
-  pub kept : IsKept s
-  pub sent : v.link.outgoing.made ≡ []
+abbrev pub FitsStation : Settings → code.Station → Station → Type 0
+FitsStation c v s = FitsParts c v.link v.layer s
 
 -- ---- what a call leaves and answers, by what the definition says of it
 
 -- an accepted call leaves the station of the step
+abbrev pub LeavesParts : {T : Type 0} → Settings → ShownLink → layer_code.Layer → Result T StationError → Outcome → Type 0
+LeavesParts c l y result (Did step) = OnOk result (FitsParts c l y step.near)
+LeavesParts c l y result (Refused e) = Unit {0}
+
 abbrev pub Leaves : {T : Type 0} → Settings → code.Station → Result T StationError → Outcome → Type 0
-Leaves c v result (Did step) = OnOk result (FitsStation c v step.near)
-Leaves c v result (Refused e) = Unit {0}
+Leaves c v result outcome = LeavesParts c v.link v.layer result outcome
 
 -- the frames are those of the step, as the octets that spell them
 abbrev pub Sends : Settings → Result code_step.Step StationError → Outcome → Type 0

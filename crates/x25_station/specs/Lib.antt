@@ -9,4 +9,5 @@ pub mod JoinLaw
 pub mod ReadLaw
 pub mod KeepLaw
 pub mod PlainEntry
+pub mod FitsParts
 pub mod FitsStation

@@ -1,15 +1,7 @@
-ghost use Rattle.std.specs.Prelude.{◌≡◌, IfOk, OnErr};
-ghost use Rattle.x25_station.specs.FitsStation.{FitsStation, Leaves, Sends, Enters, RefusesExactly, RefusesWith};
-ghost use Rattle.x25_station.specs.Settings.{Settings, settings_from, config_refusal};
-ghost use Rattle.x25_station.specs.Station.{Station as State, new_station};
-ghost use Rattle.x25_station.specs.Steps.{connects};
-ghost use Rattle.x25_station.specs.Told.{is_idle, stretch};
-ghost use Rattle.x25_layer.specs.FitsLayer.{plain_stretch};
+ghost use Rattle.x25_station.specs.FitsParts.{AreMeant};
 
 use crate::config::Cfg;
 use crate::error::StationError;
-use crate::law::steps_keep_bounds;
-use crate::step::Step;
 use std::alloc::Global;
 use x25_bits::Role;
 use x25_layer::{Layer, LayerError, Stretch};
@@ -26,9 +18,17 @@ pub struct Station {
     pub(crate) link: Link,
     pub(crate) layer: Layer,
     pub(crate) alloc: Global,
+    ghost meant: { AreMeant link layer },
 }
 
 impl Station {
+    ghost use Rattle.std.specs.Prelude.{◌≡◌, IfOk};
+    ghost use Rattle.x25_station.specs.FitsStation.{FitsStation, RefusesWith};
+    ghost use Rattle.x25_station.specs.Settings.{Settings, settings_from, config_refusal};
+    ghost use Rattle.x25_station.specs.Station.{Station as State, new_station};
+    ghost use Rattle.x25_station.specs.Told.{is_idle, stretch};
+    ghost use Rattle.x25_layer.specs.FitsLayer.{plain_stretch};
+
     /// A station whose link is down.
     ///
     /// 14 BadConfig where a setting is out of its range, and else 70 alone.
