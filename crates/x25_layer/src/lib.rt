@@ -2,11 +2,13 @@
 //! ITU-T X.25 (10/96), sections 3 and 4.
 #![tactic(auto)]
 
+mod circuits;
 mod error;
 mod law;
 mod layer;
 mod putting;
 mod restarting;
+mod rounds;
 mod stretch;
 
 pub use error::LayerError;

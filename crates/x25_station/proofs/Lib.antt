@@ -6,4 +6,7 @@ pub mod FieldLemmas
 pub mod CircuitLemmas
 pub mod ReadLemmas
 pub mod KeepLemmas
+pub mod DownLemmas
+pub mod ToldLemmas
+pub mod OutcomeLemmas
 pub mod StationRows

@@ -3,11 +3,18 @@
 
 mod command;
 mod config;
+mod entry;
 mod error;
 mod law;
+mod linking;
+mod station;
+mod step;
 
 pub use command::Cmd;
 pub use config::Cfg;
+pub use entry::{Asked, Entry, Said, Told};
 pub use error::StationError;
 pub use law::{puts_are_readable, steps_are_joined, steps_keep_bounds};
+pub use station::Station;
+pub use step::Step;
 pub use x25_bits::Role;
