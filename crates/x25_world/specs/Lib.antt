@@ -1,0 +1,2 @@
+pub mod WorldError
+pub mod World

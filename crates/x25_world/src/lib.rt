@@ -1,0 +1,10 @@
+//! Two stations of X.25 and a line between them that keeps order and may lose or visibly damage any frame.
+#![tactic(auto)]
+
+mod error;
+mod event;
+
+pub use error::WorldError;
+pub use event::Event;
+pub use x25_bits::Role;
+pub use x25_line::Direction;
