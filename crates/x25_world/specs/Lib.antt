@@ -1,2 +1,3 @@
 pub mod WorldError
 pub mod World
+pub mod Claims
