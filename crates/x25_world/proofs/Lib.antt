@@ -1,2 +1,3 @@
 pub mod Reaches
 pub mod Known
+pub mod Joined
