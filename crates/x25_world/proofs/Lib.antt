@@ -1,3 +1,4 @@
 pub mod Reaches
 pub mod Known
 pub mod Joined
+pub mod LinkSteps
