@@ -2,3 +2,4 @@ pub mod Reaches
 pub mod Known
 pub mod Joined
 pub mod LinkSteps
+pub mod Follows
