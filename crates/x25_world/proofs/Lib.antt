@@ -3,3 +3,4 @@ pub mod Known
 pub mod Joined
 pub mod LinkSteps
 pub mod Follows
+pub mod Timers
