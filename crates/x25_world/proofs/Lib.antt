@@ -4,3 +4,5 @@ pub mod Joined
 pub mod LinkSteps
 pub mod Follows
 pub mod Timers
+pub mod NoUps
+pub mod Requests
