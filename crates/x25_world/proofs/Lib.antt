@@ -6,3 +6,4 @@ pub mod Follows
 pub mod Timers
 pub mod NoUps
 pub mod Requests
+pub mod Receives
