@@ -7,3 +7,4 @@ pub mod Timers
 pub mod NoUps
 pub mod Requests
 pub mod Receives
+pub mod Runs
