@@ -8,3 +8,4 @@ pub mod NoUps
 pub mod Requests
 pub mod Receives
 pub mod Runs
+pub mod Start
