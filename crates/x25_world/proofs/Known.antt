@@ -97,16 +97,20 @@ usual_is_sound = record { window = omega arith; size = omega arith }
 -- ---- of a run
 
 module _ (laws : Laws) (cfg : Cfg) (fine : IsConfigured cfg) where
-  abbrev known_links : (P : _) → links.Always P → (end : Role) (v : line.Stations) → LinksReach cfg end v → P (link_of cfg Dte) (link_of cfg Dce) (links_at end v)
+  pub known_links : (P : _) → links.Always P → (end : Role) (v : line.Stations) → LinksReach cfg end v → P (link_of cfg Dte) (link_of cfg Dce) (links_at end v)
   known_links P law end v h = subst (λ (x : line.Stations). P (link_of cfg Dte) (link_of cfg Dce) x) h.run (law (link_of cfg Dte) (link_of cfg Dce) (links_joined cfg fine) h.events)
 
-  abbrev known_layers : (P : layer.World → Type 0) → layers.Always P cfg.channels → (end : Role) (u : layer.World) → LayersReach cfg end u → P (layers_at end u)
+  pub known_layers : (P : layer.World → Type 0) → layers.Always P cfg.channels → (end : Role) (u : layer.World) → LayersReach cfg end u → P (layers_at end u)
   known_layers P law end u h = subst (λ (x : layer.World). P x) h.run (law usual usual usual_is_sound usual_is_sound h.events)
 
   -- what an end was handed up is a beginning of what the other was handed down
   pub near_order : (end : Role) (v : line.Stations) → LinksReach cfg end v → InOrder v.far v.near
   near_order Dte v h = (known_links BothInOrder laws.order Dte v h).1
   near_order Dce v h = (known_links BothInOrder laws.order Dce v h).0
+
+  pub given_order : (end : Role) (v : line.Stations) → LinksReach cfg end v → InOrder v.near v.far
+  given_order Dte v h = (known_links BothInOrder laws.order Dte v h).0
+  given_order Dce v h = (known_links BothInOrder laws.order Dce v h).1
 
   -- LinkUp was never noted
   pub never_up : (end : Role) (v : line.Stations) → LinksReach cfg end v → v.near.came_up ≡ false

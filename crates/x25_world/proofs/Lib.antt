@@ -9,3 +9,4 @@ pub mod Requests
 pub mod Receives
 pub mod Runs
 pub mod Start
+pub mod Lawful
