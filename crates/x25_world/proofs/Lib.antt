@@ -10,3 +10,5 @@ pub mod Receives
 pub mod Runs
 pub mod Start
 pub mod Lawful
+pub mod QuietTap
+pub mod Headline

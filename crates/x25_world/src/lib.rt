@@ -3,8 +3,10 @@
 
 mod error;
 mod event;
+mod law;
 
 pub use error::WorldError;
 pub use event::Event;
+pub use law::two_stations_keep_order;
 pub use x25_bits::Role;
 pub use x25_line::Direction;
