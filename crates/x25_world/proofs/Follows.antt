@@ -1,7 +1,6 @@
 -- A step of the link that hands nothing up: nothing is noted, and nothing asked of the layer; or LinkDown, and the layer is at rest.
 use Rattle.std.proofs.Common.{◌≡◌, ℕ, List, [], ◌∷◌, ◌++◌, Bool, true, false, not, ◌||◌, Option, Some, None, option_to_list, refl, sym, ap, ap₂, ◌∙◌, subst, append-nil}
 use Rattle.x25_bits.specs.declared.role.Role.{Role}
-use Rattle.x25_packet.specs.PlainPacket.{PlainPacket}
 use Rattle.x25_link.specs.declared.phase.Reason.{Reason}
 use Rattle.x25_link.specs.declared.phase.Notes.{Notes}
 use Rattle.x25_link.specs.Station.{is_up}
@@ -12,17 +11,16 @@ use Rattle.x25_layer.specs.Layer.{LayerSettings, Layer, LayerNotice, at_rest}
 use Rattle.x25_layer.specs.Transcript.{Entry}
 use Rattle.x25_layer.specs.World as layer
 use Rattle.x25_station.specs.declared.config.Cfg.{Cfg}
-use Rattle.x25_station.specs.Settings.{Settings, settings_from}
+use Rattle.x25_station.specs.Settings.{settings_from}
 use Rattle.x25_station.specs.Entries.{StationEntry, disconnect_asked, link_down, layer_entries, layer_notices}
-use Rattle.x25_station.specs.Station.{Station}
 use Rattle.x25_station.specs.Steps.{Step, follows, led_by}
 use Rattle.x25_station.specs.KeepLaw.{IsKept}
 use Rattle.x25_station.specs.JoinLaw.{station_with}
 use Rattle.x25_world.specs.World.{World, after_step}
-use Rattle.x25_world.specs.Claims.{entries_at, link_of, ups_in}
-use Rattle.x25_world.proofs.Reaches.{LinksReach, LayersReach, layer_of, layer_moves}
+use Rattle.x25_world.specs.Claims.{link_of, ups_in}
+use Rattle.x25_world.proofs.Reaches.{LinksReach, layer_of, layer_moves}
 use Rattle.x25_world.proofs.Known.{Laws, IsConfigured, never_up}
-use Rattle.x25_world.proofs.Joined.{Joined, IsEnd, LinkGoes, LayerGoes, goes}
+use Rattle.x25_world.proofs.Joined.{Joined, LinkGoes, LayerGoes, goes}
 use Rattle.x25_world.proofs.LinkSteps.{own_step}
 
 pub true_false : {A : Type 0} → true ≡ false → A

@@ -1,10 +1,9 @@
 -- What the laws of two links and of two layers say of a run of either, as an end sees it.
-use Rattle.std.proofs.Common.{◌≡◌, ℕ, ◌≤◌, ◌++◌, Bool, true, false, ◌&&◌, nat_le, if◌then◌else◌, Option, Some, None, refl, sym, ap, ◌∙◌, subst, arith}
+use Rattle.std.proofs.Common.{◌≡◌, ℕ, ◌≤◌, ◌++◌, Bool, true, false, ◌&&◌, nat_le, if◌then◌else◌, Option, Some, None, refl, subst, arith}
 use Rattle.std.proofs.lemmas.Bool.{leb-true}
 use Rattle.x25_bits.specs.declared.role.Role.{Role}
 use Rattle.x25_bits.specs.declared.role.Role.TheVariants.{Dte, Dce}
 use Rattle.x25_frame.specs.ReadingLaw.{ReadsSpelled}
-use Rattle.x25_link.specs.MustSend.{other}
 use Rattle.x25_link.specs.NoteLaw.{TakeTells, TakeHandsUp, TimerTells, PutTells, DisconnectTells, AbandonTells}
 use Rattle.x25_link.specs.SetUp.{TakeWaits, TakeSetsUp}
 use Rattle.x25_line.specs.Stations as line

@@ -7,7 +7,6 @@ use Rattle.x25_bits.specs.declared.role.Role.TheVariants.{Dte, Dce}
 use Rattle.x25_link.specs.MustSend.{other}
 use Rattle.x25_link.specs.Steps as link
 use Rattle.x25_link.specs.Station.{Station as LinkStation}
-use Rattle.x25_line.specs.Stations as line
 use Rattle.x25_line.specs.StationClaims.{AreInWindow}
 use Rattle.x25_packet.specs.Spelling as packet
 use Rattle.x25_circuit.specs.Circuit.{Circuit, is_open, waits}
@@ -19,11 +18,10 @@ use Rattle.x25_layer.specs.Law as layers
 use Rattle.x25_layer.specs.Law.{IsLawfulWorld, HandsUpLawfully, HasAllOf, IsIdleTo}
 use Rattle.x25_station.specs.declared.config.Cfg.{Cfg}
 use Rattle.x25_station.specs.Settings.{settings_from}
-use Rattle.x25_station.specs.Station.{Station}
 use Rattle.x25_station.specs.Told.{messages_waiting, is_idle, stretch}
 use Rattle.x25_world.specs.World.{World, swapped}
-use Rattle.x25_world.specs.Claims.{handed_at, IsLawful, ArrivesAll, IsInWindow, IsUpOnce, entries_at}
-use Rattle.x25_world.proofs.Reaches.{LayersReach, layers_at}
+use Rattle.x25_world.specs.Claims.{handed_at, IsLawful, ArrivesAll, IsInWindow, IsUpOnce}
+use Rattle.x25_world.proofs.Reaches.{LayersReach}
 use Rattle.x25_world.proofs.Known.{Laws, IsConfigured, both_true, known_links, known_layers, given_order}
 use Rattle.x25_world.proofs.Joined.{Joined, joined_swapped, spelled}
 use Rattle.x25_world.proofs.Follows.{true_false}

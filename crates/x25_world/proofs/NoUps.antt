@@ -1,5 +1,5 @@
 -- No entry of a command to the layer, and none of what the layer tells, is LinkUp.
-use Rattle.std.proofs.Common.{◌≡◌, ℕ, List, [], ◌∷◌, ◌++◌, Bool, true, false, Option, Some, None, refl, sym, ap, subst, ◌∙◌}
+use Rattle.std.proofs.Common.{◌≡◌, ℕ, List, [], ◌∷◌, ◌++◌, Option, Some, refl, sym, ap, subst, ◌∙◌}
 use Rattle.x25_link.specs.declared.phase.Notes.{Notes}
 use Rattle.x25_link.specs.Station.{Side}
 use Rattle.x25_link.specs.MustSend.{Step as LinkStep}
@@ -13,7 +13,7 @@ use Rattle.x25_station.specs.declared.error.StationError.{StationError}
 use Rattle.x25_station.specs.declared.error.StationError.TheVariants as error
 use Rattle.x25_station.specs.Settings.{Settings, layer_settings}
 use Rattle.x25_station.specs.Entries.{StationEntry, entries_noted, of_channels, station_told}
-use Rattle.x25_station.specs.Steps.{Step, Outcome, Did, Refused, did, entries_of_outcome, entries_of_answer, layer_answer, entries_heard, follows}
+use Rattle.x25_station.specs.Steps.{Step, Outcome, Did, Refused, did, entries_of_outcome, layer_answer, entries_heard, follows}
 use Rattle.x25_world.specs.Claims.{ups_in}
 
 channel_ups : (es : List Entry) → ups_in (of_channels es) ≡ 0

@@ -1,5 +1,5 @@
 -- No error of procedure is ever put on the line, or told to a user.
-use Rattle.std.proofs.Common.{◌≡◌, ℕ, zero, suc, List, [], ◌∷◌, ◌++◌, ◌⊎◌, inl, inr, Result, Ok, Err, Contains, refl, sym, ap, ◌∙◌, subst, arith, slice_index_or}
+use Rattle.std.proofs.Common.{◌≡◌, ℕ, zero, suc, List, [], ◌∷◌, ◌++◌, inl, inr, Result, Ok, Contains, refl, sym, subst, arith}
 use Rattle.std.proofs.lemmas.List.Elements.{Contains-append_cases}
 use Rattle.x25_bits.specs.declared.role.Role.{Role}
 use Rattle.x25_bits.specs.declared.role.Role.TheVariants.{Dte, Dce}
@@ -12,8 +12,7 @@ use Rattle.x25_packet.specs.PlainPacket.{PlainPacket}
 use Rattle.x25_packet.specs.Spelling as packet
 use Rattle.x25_packet.specs.Reading.{packet_of}
 use Rattle.x25_packet.specs.declared.error.PacketError.{PacketError}
-use Rattle.x25_line.specs.StationClaims.{NoFrmr, NoFrmrSent, IsHandedDown, IsWhole, AreWhole, AllSentAreWhole}
-use Rattle.x25_layer.specs.Layer.{LayerNotice}
+use Rattle.x25_line.specs.StationClaims.{NoFrmr, NoFrmrSent, IsWhole, AreWhole, AllSentAreWhole}
 use Rattle.x25_layer.specs.Quiet.{AreQuiet, AreNoFaults}
 use Rattle.x25_layer.specs.Law.{IsQuietWorld}
 use Rattle.x25_layer.specs.Rounds.{longest_user}
@@ -35,9 +34,9 @@ quiet_one : (channels : ℕ) (p : PlainPacket) (ps : List PlainPacket) → AreQu
 quiet_one channels p ps quiet readable = subst (λ (r : Result PlainPacket PacketError). IsQuietRead channels r) (sym readable.0.reads) quiet.0
 
 quiet_octets : (channels : ℕ) (ps : List PlainPacket) → AreQuiet channels ps → AreReadable ps → (octets : List ℕ) → Contains (spelled ps) octets → IsQuietOctets channels octets
-quiet_octets channels [] quiet readable octets (k , low , is) = absurd (omega (arith, low))
-quiet_octets channels (p ∷ ps) quiet readable octets (zero , low , is) = subst (IsQuietOctets channels) is (quiet_one channels p ps quiet readable)
-quiet_octets channels (p ∷ ps) quiet readable octets (suc k , low , is) = quiet_octets channels ps quiet.1 readable.1 octets (k, omega (arith, low), is)
+quiet_octets channels [] quiet readable octets (k, low, is) = absurd (omega (arith, low))
+quiet_octets channels (p ∷ ps) quiet readable octets (zero, low, is) = subst (IsQuietOctets channels) is (quiet_one channels p ps quiet readable)
+quiet_octets channels (p ∷ ps) quiet readable octets (suc k, low, is) = quiet_octets channels ps quiet.1 readable.1 octets (k, omega (arith, low), is)
 
 -- ---- frames
 

@@ -1,5 +1,5 @@
 -- Octets come: the link takes them, and the layer the packet that the link hands up, which is the one in front of those in flight.
-use Rattle.std.proofs.Common.{◌≡◌, ℕ, List, [], ◌∷◌, ◌++◌, remove, Bool, true, false, not, ◌&&◌, if◌then◌else◌, Option, Some, None, Ok, option_to_list, refl, sym, ap, ◌∙◌, subst, append_assoc}
+use Rattle.std.proofs.Common.{◌≡◌, ℕ, List, [], ◌∷◌, ◌++◌, remove, Bool, true, false, not, if◌then◌else◌, Option, Some, None, Ok, option_to_list, refl, sym, ap, ◌∙◌, subst, append_assoc}
 use Rattle.std.proofs.lemmas.List.{append_cancel_left, map-append}
 use Rattle.x25_bits.specs.declared.role.Role.{Role}
 use Rattle.x25_packet.specs.PlainPacket.{PlainPacket}
@@ -16,7 +16,7 @@ use Rattle.x25_layer.specs.World as layer
 use Rattle.x25_layer.specs.World.{HandsUp}
 use Rattle.x25_layer.specs.RoundLaw.{moves_all, pulls_of}
 use Rattle.x25_station.specs.declared.config.Cfg.{Cfg}
-use Rattle.x25_station.specs.Settings.{Settings, settings_from, layer_settings}
+use Rattle.x25_station.specs.Settings.{Settings, settings_from}
 use Rattle.x25_station.specs.Steps.{Step, follows, abandons, receives, is_full}
 use Rattle.x25_station.specs.JoinLaw.{station_with, IsJoined}
 use Rattle.x25_station.specs.KeepLaw.{IsKept}
@@ -108,7 +108,7 @@ module _ (laws : Laws) (cfg : Cfg) (fine : IsConfigured cfg) (end : Role) (w : W
       let readable : IsReadable f.packet = (readable_behind h.layers.near.taken (f.packet ∷ f.others) far).0 in
       let reads : packet_of longest_user packet_octets ≡ Ok f.packet = ap (λ (o : List ℕ). packet_of longest_user o) f.spells ∙ readable.reads in
       let j = laws.receive c w.near.link h.layers octets packet_octets f.packet f.others (h.near.out ∙ ap not up) f.is
-          (ap (λ (l : Layer). abandons c (station_with w.near.link l)) h.near.layer ∙ none) some reads in
+      (ap (λ (l : Layer). abandons c (station_with w.near.link l)) h.near.layer ∙ none) some reads in
       let u : layer.World = moves_all (layer_of cfg end) h.layers (HandsUp ∷ pulls_of j.0) in
       let is : receives c (station_with w.near.link h.layers.near.layer) octets ≡ follows c w.near.layer taken =
       ap (λ (l : Layer). receives c (station_with w.near.link l) octets) h.near.layer

@@ -1,5 +1,5 @@
 -- A command to the layer: its own packet is put, and then what waits.
-use Rattle.std.proofs.Common.{◌≡◌, ℕ, ◌==◌, List, [], ◌∷◌, ◌++◌, map, append_assoc, Bool, true, false, not, if◌then◌else◌, Option, Some, None, refl, sym, ap, ◌∙◌, subst, append-nil}
+use Rattle.std.proofs.Common.{◌≡◌, ℕ, ◌==◌, List, [], ◌∷◌, ◌++◌, map, append_assoc, Bool, true, false, not, if◌then◌else◌, refl, sym, ap, ◌∙◌, subst, append-nil}
 use Rattle.std.proofs.lemmas.List.{append_cancel_right}
 use Rattle.x25_bits.specs.declared.role.Role.{Role}
 use Rattle.x25_frame.specs.PlainFrame.{PlainFrame}
@@ -12,7 +12,7 @@ use Rattle.x25_line.specs.Stations as line
 use Rattle.x25_layer.specs.Layer.{Layer}
 use Rattle.x25_layer.specs.Calls.{LayerRequest, layer_outcome}
 use Rattle.x25_layer.specs.declared.error.LayerError.TheVariants as layer_error
-use Rattle.x25_layer.specs.Rounds.{LinkView, calls, went, Refuses}
+use Rattle.x25_layer.specs.Rounds.{LinkView, went, Refuses}
 use Rattle.x25_layer.specs.World as layer
 use Rattle.x25_layer.specs.World.{Requests as Requested}
 use Rattle.x25_layer.specs.RoundLaw.{moves_all, pulls_of}
@@ -20,18 +20,17 @@ use Rattle.x25_station.specs.declared.config.Cfg.{Cfg}
 use Rattle.x25_station.specs.declared.error.StationError.TheVariants as error
 use Rattle.x25_station.specs.Settings.{Settings, settings_from, link_settings, layer_settings}
 use Rattle.x25_station.specs.Command.{Requests}
-use Rattle.x25_station.specs.Station.{Station, all_put, view_of}
+use Rattle.x25_station.specs.Station.{view_of}
 use Rattle.x25_station.specs.Steps.{Step, Outcome, Did, Refused, did, requests, entries_of_outcome}
-use Rattle.x25_station.specs.JoinLaw.{station_with, PutsBehind, IsJoined}
+use Rattle.x25_station.specs.JoinLaw.{station_with, IsJoined}
 use Rattle.x25_station.specs.KeepLaw.{IsKept, KeptBy}
 use Rattle.x25_station.specs.ReadLaw.{AreReadable, RequestsOctets}
 use Rattle.x25_world.specs.World.{World, of_station, after, after_step}
 use Rattle.x25_world.specs.Claims.{link_of, ups_in}
 use Rattle.x25_world.proofs.Reaches.{LinksReach, LayersReach, layer_of, layer_step}
 use Rattle.x25_world.proofs.Known.{Laws, IsConfigured, layers_order, near_readable}
-use Rattle.x25_world.proofs.Joined.{Joined, spelled, LinkGoes, LayerGoes, goes}
-use Rattle.x25_world.proofs.LinkSteps.{PutsGo, puts_go, puts_up}
-use Rattle.x25_world.proofs.Follows.{true_false}
+use Rattle.x25_world.proofs.Joined.{Joined, spelled, LinkGoes, goes}
+use Rattle.x25_world.proofs.LinkSteps.{puts_go, puts_up}
 use Rattle.x25_world.proofs.NoUps.{outcome_ups, did_entries, refused_did}
 
 pub readable_behind : (ps qs : List PlainPacket) → AreReadable (ps ++ qs) → AreReadable qs

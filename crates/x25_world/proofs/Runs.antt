@@ -1,15 +1,15 @@
 -- Each event keeps the runs of links and of layers, so each list of events does.
-use Rattle.std.proofs.Common.{◌≡◌, ℕ, List, [], ◌∷◌, length, remove, Bool, true, false, nat_lt, if◌then◌else◌, refl, sym, ap, subst}
+use Rattle.std.proofs.Common.{◌≡◌, ℕ, List, [], ◌∷◌, length, remove, Bool, true, false, nat_lt, if◌then◌else◌, refl, sym, subst}
 use Rattle.x25_bits.specs.declared.role.Role.{Role}
 use Rattle.x25_bits.specs.declared.role.Role.TheVariants.{Dte, Dce}
 use Rattle.x25_line.specs.Stations as line
 use Rattle.x25_line.specs.Stations.{is_visible, replaced}
 use Rattle.x25_station.specs.declared.config.Cfg.{Cfg}
 use Rattle.x25_station.specs.Settings.{settings_from}
-use Rattle.x25_station.specs.Command.{Command, Requests, Disconnects}
+use Rattle.x25_station.specs.Command.{Requests, Disconnects}
 use Rattle.x25_world.specs.World.{World, swapped, on_line, WorldOutcome, Happened, Declined, Act, Commands, Receives, Fires, Loses, Damages, lost, damaged, acts, swapped_back, Event, happens, after, run}
 use Rattle.x25_world.specs.declared.error.WorldError.TheVariants as error
-use Rattle.x25_world.specs.Claims.{link_of, ActsInOctets, AreInOctets}
+use Rattle.x25_world.specs.Claims.{ActsInOctets, AreInOctets}
 use Rattle.x25_world.proofs.Reaches.{LinksReach, link_acts}
 use Rattle.x25_world.proofs.Known.{Laws, IsConfigured}
 use Rattle.x25_world.proofs.Joined.{Joined, joined_swapped}

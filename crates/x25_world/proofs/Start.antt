@@ -1,34 +1,33 @@
 -- Set-up: SABM and UA are taken, both ends put RESTART, and so begin the run of two links and the run of two layers.
-use Rattle.std.proofs.Common.{◌≡◌, ℕ, ◌≤◌, List, [], ◌∷◌, ◌++◌, map, Bool, true, false, not, Option, Some, None, Result, Ok, refl, sym, ap, ap₂, ◌∙◌, subst, arith}
+use Rattle.std.proofs.Common.{◌≡◌, ℕ, List, [], ◌∷◌, ◌++◌, map, Bool, true, not, Option, None, Ok, refl, sym, ap, ap₂, ◌∙◌, subst, arith}
 use Rattle.x25_bits.specs.declared.role.Role.{Role}
 use Rattle.x25_bits.specs.declared.role.Role.TheVariants.{Dte, Dce}
 use Rattle.x25_frame.specs.PlainFrame.{PlainFrame, sabm, ua}
 use Rattle.x25_frame.specs.Spelling.{spelling_of}
 use Rattle.x25_frame.specs.Reading.{frame_of}
-use Rattle.x25_packet.specs.PlainPacket.{PlainPacket, restart}
+use Rattle.x25_packet.specs.PlainPacket.{restart}
 use Rattle.x25_packet.specs.Spelling as packet
-use Rattle.x25_link.specs.declared.phase.Notes.{Notes}
 use Rattle.x25_link.specs.declared.phase.Phase.TheVariants.{Down, Waiting}
 use Rattle.x25_link.specs.declared.phase.Reason.{Reason}
 use Rattle.x25_link.specs.SetUp.{Is}
-use Rattle.x25_link.specs.Station.{Settings as LinkSettings, Station as LinkStation, Side, with_nothing, fresh, is_up, pumped}
+use Rattle.x25_link.specs.Station.{Station as LinkStation, with_nothing, fresh, is_up, pumped}
 use Rattle.x25_link.specs.MustSend.{Step as LinkStep}
 use Rattle.x25_link.specs.Steps.{take_step, put_step}
 use Rattle.x25_line.specs.Stations as line
 use Rattle.x25_circuit.specs.Circuit.{usual}
-use Rattle.x25_layer.specs.Layer.{Layer, at_rest, goes_up, restart_cause}
+use Rattle.x25_layer.specs.Layer.{at_rest, goes_up, restart_cause}
 use Rattle.x25_layer.specs.World as layer
 use Rattle.x25_station.specs.declared.config.Cfg.{Cfg}
-use Rattle.x25_station.specs.Settings.{Settings, settings_from, longest_packet}
+use Rattle.x25_station.specs.Settings.{settings_from, longest_packet}
 use Rattle.x25_station.specs.Entries.{StationEntry, link_up, entries_noted, layer_entries, layer_notices}
-use Rattle.x25_station.specs.Station.{Station, new_station, all_put}
+use Rattle.x25_station.specs.Station.{Station, new_station}
 use Rattle.x25_station.specs.Steps.{Step, follows, receives}
 use Rattle.x25_station.specs.KeepLaw.{IsKept}
 use Rattle.x25_world.specs.World.{OnTap, AtEnd, World, swapped, tapped, entered, after_step, delivered, after, Event, Receives, happens, connected, start}
 use Rattle.x25_world.specs.Claims.{link_of, entries_at, ups_in}
 use Rattle.x25_world.proofs.Reaches.{layer_of}
 use Rattle.x25_world.proofs.Known.{Laws}
-use Rattle.x25_world.proofs.Joined.{Joined, IsEnd, AreOnTap, on_tap}
+use Rattle.x25_world.proofs.Joined.{Joined, AreOnTap, on_tap}
 use Rattle.x25_world.proofs.LinkSteps.{puts_up}
 
 -- ---- an end that comes up

@@ -1,5 +1,5 @@
 -- Timer T1 runs out, and the link is disconnected: the link's step, and then the layer.
-use Rattle.std.proofs.Common.{◌≡◌, ℕ, ◌+◌, List, [], ◌∷◌, Bool, true, false, nat_lt, if◌then◌else◌, Option, Some, None, refl, sym, ap, subst}
+use Rattle.std.proofs.Common.{◌≡◌, ℕ, ◌+◌, List, [], ◌∷◌, Bool, true, false, nat_lt, if◌then◌else◌, Option, Some, None, refl, subst}
 use Rattle.x25_bits.specs.declared.role.Role.{Role}
 use Rattle.x25_link.specs.declared.error.LinkError.{LinkError}
 use Rattle.x25_link.specs.declared.phase.Reason.TheVariants.{Retries}
@@ -8,10 +8,10 @@ use Rattle.x25_link.specs.MustSend.{Step as LinkStep, quiet, leaves}
 use Rattle.x25_link.specs.Steps.{alone, closed_by, asks_again, timer_refusal, timer_step, disconnect_refusal, disconnect_step}
 use Rattle.x25_line.specs.Stations as line
 use Rattle.x25_station.specs.declared.config.Cfg.{Cfg}
-use Rattle.x25_station.specs.Settings.{Settings, settings_from, link_settings}
+use Rattle.x25_station.specs.Settings.{settings_from}
 use Rattle.x25_station.specs.Command.{Disconnects}
 use Rattle.x25_station.specs.Entries.{disconnect_asked}
-use Rattle.x25_station.specs.Steps.{Step, Outcome, follows, led_by, fires, disconnects, unless}
+use Rattle.x25_station.specs.Steps.{Step, follows, led_by, fires, disconnects, unless}
 use Rattle.x25_station.specs.KeepLaw.{KeptBy}
 use Rattle.x25_world.specs.World.{World, of_station, after}
 use Rattle.x25_world.specs.Claims.{link_of}

@@ -18,13 +18,13 @@ use Rattle.x25_layer.specs.Transcript.{Entry}
 use Rattle.x25_layer.specs.Quiet.{IsQuietAt, AreNoFaults}
 use Rattle.x25_layer.specs.Law.{HandsUpLawfully, HasAllOf}
 use Rattle.x25_station.specs.declared.config.Cfg.{Cfg}
-use Rattle.x25_station.specs.Settings.{Settings, settings_from, config_refusal, longest_packet, link_settings}
+use Rattle.x25_station.specs.Settings.{settings_from, config_refusal, longest_packet, link_settings}
 use Rattle.x25_station.specs.Command.{Command, Requests, Disconnects}
 use Rattle.x25_station.specs.Entries.{StationEntry, link_up, layer_entries, layer_notices}
 use Rattle.x25_station.specs.ReadLaw.{RequestsOctets}
 use Rattle.x25_station.specs.Station.{Station}
 use Rattle.x25_station.specs.Told.{is_idle, stretch}
-use Rattle.x25_world.specs.World.{OnTap, AtEnd, World, Act, Commands, Receives, Fires, Loses, Damages, Event, run, start}
+use Rattle.x25_world.specs.World.{OnTap, AtEnd, World, Act, Commands, Event, run, start}
 
 -- ---- every list of events
 

@@ -1,11 +1,14 @@
 //! Two stations over a line, as laws about their definition. Each is the contract of a function that does nothing.
-ghost use Rattle.x25_world.specs.Claims.{Always, IsLawful, ArrivesAll, HasNoProcedureError, IsInWindow, IsUpOnce};
+ghost use Rattle.x25_station.specs.ReadLaw.{AreOctets};
+ghost use Rattle.x25_world.specs.World.{event_of};
+ghost use Rattle.x25_world.specs.Claims.{ActsInOctets, Always, IsLawful, ArrivesAll, HasNoProcedureError, IsInWindow, IsUpOnce};
 
+use crate::Event;
 use x25_frame::reads_what_is_spelled;
 use x25_layer::two_layers_keep_order;
 use x25_line::stations_keep_order;
 use x25_link::{notes_what_changes, sets_up_by_rows};
-use x25_station::{puts_are_readable, steps_are_joined, steps_keep_bounds};
+use x25_station::{Cmd, puts_are_readable, steps_are_joined, steps_keep_bounds};
 
 /// Two stations joined by a line of octets that keeps order and may lose or visibly damage any frame, the link set up once: what
 /// holds after each list of commands, deliveries, losses, damage and firings of timer T1, wherever an event is refused.
@@ -35,3 +38,19 @@ pub fn two_stations_keep_order()
     sets_up_by_rows();
     reads_what_is_spelled();
 }
+
+/// What an event hands down is octets, as the laws above want it.
+pub fn hands_down_octets(event: Event)
+    ensures { ActsInOctets (event_of event.entry).act }
+{
+    match event {
+        Event::Command(_, Cmd::Call { user, .. }) => are_octets(user),
+        Event::Command(_, Cmd::Send { user, .. }) => are_octets(user),
+        Event::Command(_, Cmd::Interrupt { user, .. }) => are_octets(user),
+        _ => {}
+    }
+}
+
+fn are_octets(octets: &[u8])
+    ensures { AreOctets octets.now }
+{}
