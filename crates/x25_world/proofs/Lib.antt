@@ -12,3 +12,4 @@ pub mod Start
 pub mod Lawful
 pub mod QuietTap
 pub mod Headline
+pub mod RowLemmas

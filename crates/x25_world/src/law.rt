@@ -1,6 +1,7 @@
 //! Two stations over a line, as laws about their definition. Each is the contract of a function that does nothing.
 ghost use Rattle.x25_station.specs.ReadLaw.{AreOctets};
 ghost use Rattle.x25_world.specs.World.{event_of};
+ghost use Rattle.x25_world.specs.WorldRows.{SetsUp, MessageArrives, LostArrives, DamagedArrives, DisconnectEndsBoth, IsRefused};
 ghost use Rattle.x25_world.specs.Claims.{ActsInOctets, Always, IsLawful, ArrivesAll, HasNoProcedureError, IsInWindow, IsUpOnce};
 
 use crate::Event;
@@ -38,6 +39,17 @@ pub fn two_stations_keep_order()
     sets_up_by_rows();
     reads_what_is_spelled();
 }
+
+/// Worked rows: the octets of set-up; a message that arrives, also where its frame is lost or damaged and goes again; `disconnect`,
+/// by which both ends go down; and refusals.
+pub fn two_stations_move()
+    ensures sets_up { SetsUp }
+    ensures arrives { MessageArrives }
+    ensures lost { LostArrives }
+    ensures damaged { DamagedArrives }
+    ensures disconnect { DisconnectEndsBoth }
+    ensures refused { IsRefused }
+{}
 
 /// What an event hands down is octets, as the laws above want it.
 pub fn hands_down_octets(event: Event)

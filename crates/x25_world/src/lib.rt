@@ -7,6 +7,6 @@ mod law;
 
 pub use error::WorldError;
 pub use event::Event;
-pub use law::two_stations_keep_order;
+pub use law::{hands_down_octets, two_stations_keep_order, two_stations_move};
 pub use x25_bits::Role;
 pub use x25_line::Direction;
