@@ -13,3 +13,6 @@ pub mod LawLemmas
 pub mod RoundLemmas
 pub mod SettleLemmas
 pub mod LayerRows
+pub mod ClearLemmas
+pub mod NameLemmas
+pub mod CountLemmas

@@ -9,3 +9,4 @@ pub mod OverLink
 pub mod World
 pub mod Law
 pub mod RoundLaw
+pub mod NameLaw

@@ -10,7 +10,7 @@ mod restarting;
 mod stretch;
 
 pub use error::LayerError;
-pub use law::{calls_are_runs, two_layers_keep_order};
+pub use law::{calls_are_runs, names_are_told, two_layers_keep_order};
 pub use layer::Layer;
 pub use stretch::Stretch;
 pub use x25_bits::Role;
