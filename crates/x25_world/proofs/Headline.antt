@@ -4,12 +4,12 @@ use Rattle.x25_bits.specs.declared.role.Role.TheVariants.{Dte}
 use Rattle.x25_station.specs.declared.config.Cfg.{Cfg}
 use Rattle.x25_station.specs.Settings.{config_refusal}
 use Rattle.x25_world.specs.World.{Event, run, start}
-use Rattle.x25_world.specs.Claims.{Always, AreInOctets, IsLawful, ArrivesAll, HasNoProcedureError, IsInWindow, IsUpOnce}
+use Rattle.x25_world.specs.Claims.{Always, AreInOctets, IsLawful, IsNamed, ArrivesAll, HasNoProcedureError, IsInWindow, IsUpOnce}
 use Rattle.x25_world.proofs.Known.{Laws, is_configured}
 use Rattle.x25_world.proofs.Joined.{Joined}
 use Rattle.x25_world.proofs.Runs.{run_joined}
 use Rattle.x25_world.proofs.Start.{start_joined}
-use Rattle.x25_world.proofs.Lawful.{is_lawful, arrives_all, is_in_window, is_up_once}
+use Rattle.x25_world.proofs.Lawful.{is_lawful, is_named, arrives_all, is_in_window, is_up_once}
 use Rattle.x25_world.proofs.QuietTap.{has_no_error}
 
 module _ (laws : Laws) where
@@ -18,6 +18,9 @@ module _ (laws : Laws) where
 
   pub always_lawful : Always IsLawful
   always_lawful cfg fine events octets = is_lawful laws cfg (is_configured cfg fine) (run cfg events (start cfg)) (joined_at cfg fine events octets)
+
+  pub always_named : Always IsNamed
+  always_named cfg fine events octets = is_named laws cfg (is_configured cfg fine) (run cfg events (start cfg)) (joined_at cfg fine events octets)
 
   pub always_arrives : Always ArrivesAll
   always_arrives cfg fine events octets = arrives_all laws cfg (is_configured cfg fine) (run cfg events (start cfg)) (joined_at cfg fine events octets)

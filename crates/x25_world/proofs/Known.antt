@@ -14,6 +14,7 @@ use Rattle.x25_epochs.specs.Terms.{IsSound}
 use Rattle.x25_layer.specs.World as layer
 use Rattle.x25_layer.specs.Law as layers
 use Rattle.x25_layer.specs.Law.{KeepsOrder, IsQuietWorld, IsLawfulWorld, ArrivesAll}
+use Rattle.x25_layer.specs.NameLaw.{NamesAreCounted}
 use Rattle.x25_station.specs.declared.config.Cfg.{Cfg}
 use Rattle.x25_station.specs.declared.error.StationError.{StationError}
 use Rattle.x25_station.specs.declared.error.StationError.TheVariants as error
@@ -34,6 +35,7 @@ pub record Laws : Type 0 where
   pub layers_order : (channels : ℕ) → layers.Always KeepsOrder channels
   pub layers_quiet : (channels : ℕ) → layers.Always (IsQuietWorld channels) channels
   pub layers_lawful : (channels : ℕ) → layers.Always IsLawfulWorld channels
+  pub layers_named : (channels : ℕ) → layers.Always NamesAreCounted channels
   pub layers_arrive : (channels : ℕ) → layers.Always ArrivesAll channels
   pub readable : PutsAreReadable
   pub request : RequestIsJoined

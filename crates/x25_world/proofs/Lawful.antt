@@ -1,26 +1,29 @@
 -- What a joined world says: the claims on order, on the window, on LinkUp, and that all arrives.
-use Rattle.std.proofs.Common.{◌≡◌, ℕ, zero, suc, ◌+◌, ◌≤◌, ◌==◌, nat_le, List, length, Bool, true, false, ◌&&◌, if◌then◌else◌, Option, Some, None, refl, sym, ap, ◌∙◌, subst, arith}
+use Rattle.std.proofs.Common.{◌≡◌, ℕ, zero, suc, ◌+◌, ◌≤◌, ◌==◌, nat_le, List, length, Bool, true, false, not, ◌&&◌, if◌then◌else◌, Option, Some, None, refl, sym, ap, ◌∙◌, subst, arith}
 use Rattle.std.proofs.lemmas.Bool.{eqb-true, eq-eqb, leb-true}
 use Rattle.std.proofs.lemmas.List.{length-map}
 use Rattle.x25_bits.specs.declared.role.Role.{Role}
 use Rattle.x25_bits.specs.declared.role.Role.TheVariants.{Dte, Dce}
 use Rattle.x25_link.specs.MustSend.{other}
 use Rattle.x25_link.specs.Steps as link
-use Rattle.x25_link.specs.Station.{Station as LinkStation}
+use Rattle.x25_link.specs.Station.{Station as LinkStation, is_up}
 use Rattle.x25_line.specs.StationClaims.{AreInWindow}
 use Rattle.x25_packet.specs.Spelling as packet
 use Rattle.x25_circuit.specs.Circuit.{Circuit, is_open, waits}
 use Rattle.x25_epochs.specs.Names.{Name}
-use Rattle.x25_layer.specs.Layer.{Layer, is_channel}
+use Rattle.x25_layer.specs.Layer.{Layer, LayerNotice, is_channel}
+use Rattle.x25_layer.specs.NameLaw.{first_name, counted, IsCounted, NamesAreCounted}
 use Rattle.x25_layer.specs.Transcript.{Entry, name_of}
 use Rattle.x25_layer.specs.World as layer
 use Rattle.x25_layer.specs.Law as layers
 use Rattle.x25_layer.specs.Law.{IsLawfulWorld, HandsUpLawfully, HasAllOf, IsIdleTo}
 use Rattle.x25_station.specs.declared.config.Cfg.{Cfg}
 use Rattle.x25_station.specs.Settings.{settings_from}
+use Rattle.x25_station.specs.Entries.{StationEntry, layer_notices}
+use Rattle.x25_station.specs.Station.{Station}
 use Rattle.x25_station.specs.Told.{messages_waiting, is_idle, stretch}
 use Rattle.x25_world.specs.World.{World, swapped}
-use Rattle.x25_world.specs.Claims.{handed_at, IsLawful, ArrivesAll, IsInWindow, IsUpOnce}
+use Rattle.x25_world.specs.Claims.{station_at, entries_at, handed_at, IsLawful, IsNamed, ArrivesAll, IsInWindow, IsUpOnce}
 use Rattle.x25_world.proofs.Reaches.{LayersReach}
 use Rattle.x25_world.proofs.Known.{Laws, IsConfigured, both_true, known_links, known_layers, given_order}
 use Rattle.x25_world.proofs.Joined.{Joined, joined_swapped, spelled}
@@ -76,6 +79,23 @@ module _ (laws : Laws) (cfg : Cfg) (fine : IsConfigured cfg) where
       by : (end : Role) → HandsUpLawfully (handed_at end w) (handed_at (other end) w)
       by Dte = subst (λ (e : List Entry). HandsUpLawfully e (handed_at Dce w)) h.near.entries (subst (λ (f : List Entry). HandsUpLawfully h.layers.near.entries f) h.far.entries law.near)
       by Dce = subst (λ (e : List Entry). HandsUpLawfully e (handed_at Dte w)) h.far.entries (subst (λ (f : List Entry). HandsUpLawfully h.layers.far.entries f) h.near.entries law.far)
+
+  -- ---- names
+
+  pub is_named : (w : World) → Joined cfg Dte w → IsNamed cfg w
+  is_named w h = by
+    where
+      law : NamesAreCounted h.layers
+      law = known_layers laws cfg fine NamesAreCounted (laws.layers_named cfg.channels) Dte h.layers h.layers_reach
+
+      counts : (s : Station) (l : layer.End) (es : List StationEntry) → l.layer ≡ s.layer → l.told ≡ layer_notices es → l.is_out ≡ not (is_up s.link.phase) → IsCounted l → (k : ℕ) → is_up s.link.phase ≡ true
+          → name_of s.layer k ≡ counted k first_name (layer_notices es)
+      counts s l es same told out counted_here k up =
+          sym (ap (λ (x : Layer). name_of x k) same) ∙ counted_here k (out ∙ ap not up) ∙ ap (λ (ns : List LayerNotice). counted k first_name ns) told
+
+      by : (end : Role) (k : ℕ) → is_up (station_at end w).link.phase ≡ true → name_of (station_at end w).layer k ≡ counted k first_name (layer_notices (entries_at end w.transcript))
+      by Dte k up = counts w.near h.layers.near (entries_at Dte w.transcript) h.near.layer h.near.told h.near.out law.near k up
+      by Dce k up = counts w.far h.layers.far (entries_at Dce w.transcript) h.far.layer h.far.told h.far.out law.far k up
 
   -- ---- all arrives
 

@@ -8,13 +8,14 @@ use Rattle.x25_packet.specs.declared.error.PacketError.{PacketError}
 use Rattle.x25_frame.specs.PlainFrame.{PlainFrame, info, frmr}
 use Rattle.x25_frame.specs.Reading.{frame_of}
 use Rattle.x25_frame.specs.declared.error.FrameError.{FrameError}
-use Rattle.x25_link.specs.Station.{Settings as LinkSettings}
+use Rattle.x25_link.specs.Station.{Settings as LinkSettings, is_up}
 use Rattle.x25_link.specs.MustSend.{other}
 use Rattle.x25_line.specs.Stations as line
 use Rattle.x25_line.specs.StationClaims.{AreInWindow}
 use Rattle.x25_epochs.specs.Names.{Name}
 use Rattle.x25_layer.specs.Rounds.{longest_user}
-use Rattle.x25_layer.specs.Transcript.{Entry}
+use Rattle.x25_layer.specs.Transcript.{Entry, name_of}
+use Rattle.x25_layer.specs.NameLaw.{first_name, counted}
 use Rattle.x25_layer.specs.Quiet.{IsQuietAt, AreNoFaults}
 use Rattle.x25_layer.specs.Law.{HandsUpLawfully, HasAllOf}
 use Rattle.x25_station.specs.declared.config.Cfg.{Cfg}
@@ -70,6 +71,12 @@ handed_at end w = layer_entries (entries_at end w.transcript)
 -- those that the other end handed down.
 abbrev pub IsLawful : Cfg → World → Type 0
 IsLawful cfg w = (end : Role) → HandsUpLawfully (handed_at end w) (handed_at (other end) w)
+
+-- The name of the stretch on a channel of an end whose link is up is the restarts, clears and resets that the transcript tells of. (So no
+-- CLEAR ever comes in p1, which would count and tell nothing.)
+abbrev pub IsNamed : Cfg → World → Type 0
+IsNamed cfg w = (end : Role) (channel : ℕ) → is_up (station_at end w).link.phase ≡ true →
+    name_of (station_at end w).layer channel ≡ counted channel first_name (layer_notices (entries_at end w.transcript))
 
 -- ---- .. and all of them
 

@@ -2,11 +2,11 @@
 ghost use Rattle.x25_station.specs.ReadLaw.{AreOctets};
 ghost use Rattle.x25_world.specs.World.{event_of};
 ghost use Rattle.x25_world.specs.WorldRows.{SetsUp, MessageArrives, LostArrives, DamagedArrives, DisconnectEndsBoth, IsRefused};
-ghost use Rattle.x25_world.specs.Claims.{ActsInOctets, Always, IsLawful, ArrivesAll, HasNoProcedureError, IsInWindow, IsUpOnce};
+ghost use Rattle.x25_world.specs.Claims.{ActsInOctets, Always, IsLawful, IsNamed, ArrivesAll, HasNoProcedureError, IsInWindow, IsUpOnce};
 
 use crate::Event;
 use x25_frame::reads_what_is_spelled;
-use x25_layer::two_layers_keep_order;
+use x25_layer::{names_are_told, two_layers_keep_order};
 use x25_line::stations_keep_order;
 use x25_link::{notes_what_changes, sets_up_by_rows};
 use x25_station::{Cmd, puts_are_readable, steps_are_joined, steps_keep_bounds};
@@ -16,7 +16,8 @@ use x25_station::{Cmd, puts_are_readable, steps_are_joined, steps_keep_bounds};
 ///
 /// - `lawful`: on each channel and under each name of a stretch, the messages, interrupts and calls that an end hands up are a
 ///   beginning of those that the other handed down: each comes once, in order, whole, and none of another call.
-/// - `arrives`: and they are all of the messages and interrupts, where the end that gives is idle and both ends have that stretch
+/// - `named`: the name of the stretch on a channel, where the link is up, is the restarts, clears and resets that the transcript tells of.
+/// - `arrives`: what is handed up is all of the messages and interrupts of a stretch, where the end that gives is idle and both ends have that stretch
 ///   open.
 /// - `quiet`: no FRMR, no CLEAR, RESET or RESTART with a cause of an error was ever put on the line, and no user was told of a fault.
 /// - `window`: the two links are a run of the window machine, with the unbounded numbers behind those on the line in its window.
@@ -25,6 +26,7 @@ use x25_station::{Cmd, puts_are_readable, steps_are_joined, steps_keep_bounds};
 /// Premises: k is 1 to 7, N2 1 to 255, channels 1 to 16, and the users hand down octets.
 pub fn two_stations_keep_order()
     ensures lawful { Always IsLawful }
+    ensures named { Always IsNamed }
     ensures arrives { Always ArrivesAll }
     ensures quiet { Always HasNoProcedureError }
     ensures window { Always IsInWindow }
@@ -32,6 +34,7 @@ pub fn two_stations_keep_order()
 {
     stations_keep_order();
     two_layers_keep_order();
+    names_are_told();
     steps_are_joined();
     steps_keep_bounds();
     puts_are_readable();

@@ -1,5 +1,5 @@
 use Rattle.x25_world.proofs.Known.{Laws}
-use Rattle.x25_world.proofs.Headline.{always_lawful, always_arrives, always_quiet, always_in_window, always_up_once}
+use Rattle.x25_world.proofs.Headline.{always_lawful, always_named, always_arrives, always_quiet, always_in_window, always_up_once}
 use Rattle.x25_world.proofs.law.two_stations_keep_order.Goals as goal
 
 -- the links, the layers and the stations, by their contracts
@@ -20,6 +20,7 @@ returns c =
       layers_order = layers.order;
       layers_quiet = layers.quiet;
       layers_lawful = layers.lawful;
+      layers_named = c.names_are_told.ensures.names;
       layers_arrive = layers.arrives;
       readable = c.puts_are_readable.ensures;
       request = joins.request;
@@ -40,4 +41,4 @@ returns c =
       take_sets_up = sets_up.sets_up;
       reads = c.reads_what_is_spelled.ensures.reads;
     } in
-    record { lawful = always_lawful laws; arrives = always_arrives laws; quiet = always_quiet laws; window = always_in_window laws; up_once = always_up_once laws }
+    record { lawful = always_lawful laws; named = always_named laws; arrives = always_arrives laws; quiet = always_quiet laws; window = always_in_window laws; up_once = always_up_once laws }
