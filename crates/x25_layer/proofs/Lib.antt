@@ -8,6 +8,7 @@ pub mod BookLemmas
 pub mod WorldLemmas
 pub mod RunLemmas
 pub mod ArrivalLemmas
+pub mod LengthLemmas
 pub mod FitLemmas
 pub mod LawLemmas
 pub mod RoundLemmas

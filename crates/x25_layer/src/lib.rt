@@ -7,6 +7,7 @@ mod law;
 mod layer;
 mod putting;
 mod restarting;
+mod sending;
 mod stretch;
 
 pub use error::LayerError;
