@@ -7,8 +7,9 @@ ghost use Rattle.x25_layer.specs.OverLink.{view_of, after_all, LayerGives, LinkG
 ghost use Rattle.x25_layer.specs.Calls.{Restarts};
 ghost use Rattle.x25_layer.specs.Rounds.{calls, comes_up};
 
+use crate::circuits::{begin_all, forget_all};
 use crate::error::LayerError;
-use crate::layer::{Layer, begin_all, forget_all};
+use crate::layer::Layer;
 use x25_bits::Role;
 use x25_link::OrderedLink;
 use x25_packet::Packet;
