@@ -13,4 +13,5 @@ pub mod FitLemmas
 pub mod LawLemmas
 pub mod RoundLemmas
 pub mod SettleLemmas
+pub mod PullLemmas
 pub mod LayerRows

@@ -6,6 +6,7 @@ pub mod Rounds
 pub mod Transcript
 pub mod FitsLayer
 pub mod OverLink
+pub mod Pulling
 pub mod World
 pub mod Law
 pub mod RoundLaw

@@ -8,6 +8,7 @@ mod law;
 mod layer;
 mod putting;
 mod restarting;
+mod rounds;
 mod sending;
 mod stretch;
 
