@@ -10,6 +10,7 @@ pub mod RunLemmas
 pub mod ArrivalLemmas
 pub mod LengthLemmas
 pub mod FitLemmas
+pub mod CallLemmas
 pub mod LawLemmas
 pub mod RoundLemmas
 pub mod SettleLemmas

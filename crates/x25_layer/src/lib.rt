@@ -2,6 +2,7 @@
 //! ITU-T X.25 (10/96), sections 3 and 4.
 #![tactic(auto)]
 
+mod asking;
 mod circuits;
 mod error;
 mod law;

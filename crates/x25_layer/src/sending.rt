@@ -1,8 +1,15 @@
 //! What a layer makes of a circuit's packet before it is put.
-ghost use Rattle.std.specs.Prelude.{◌≡◌, ℕ, ◌≤◌, length};
+ghost use Rattle.std.specs.Prelude.{◌≡◌, ℕ, ◌+◌, ◌<◌, ◌≤◌, length, true, option_to_list, IfSome};
 ghost use Rattle.x25_packet.specs.PlainPacket.{plain};
 ghost use Rattle.x25_packet.specs.Spelling.{IsChannel, IsInRange, moved_to, spelling_of};
+ghost use Rattle.x25_circuit.specs.Replies.{IsSendable, plain_owed};
+ghost use Rattle.x25_layer.specs.Layer.{LayerSettings, packet_on};
+ghost use Rattle.x25_layer.specs.Layer.{Layer as State};
+ghost use Rattle.x25_layer.specs.FitsLayer.{FitsLayer};
+ghost use Rattle.x25_layer.specs.OverLink.{after_all};
 
+use crate::layer::Layer;
+use x25_link::OrderedLink;
 use x25_packet::Packet;
 
 /// The octets of a data packet before its user data. ITU-T X.25 (10/96), section 5.3.1.
@@ -33,5 +40,36 @@ pub(crate) fn most_octets(packet: &Packet) -> usize
     match packet {
         Packet::Data { user, .. } => DATA_HEADER + user.len(),
         _ => MOST_OTHER,
+    }
+}
+
+impl Layer {
+    /// Puts a circuit's packet, where there is one, on its channel into the link, in memory that was set aside.
+    pub(crate) fn put_owed<L: OrderedLink>(
+        &mut self,
+        link: &mut L,
+        channel: u16,
+        packet: Option<Packet<'_>>,
+    )
+        requires channel { IsChannel channel }
+        requires range { IsSendable (plain_owed packet) }
+        requires memory { 0 < self.old.memory }
+        requires spares { 0 < L.spares link.old }
+        requires up { L.up link.old ≡ true }
+        requires free { IfSome packet (λ _. L.waits link.old < 256) }
+        requires longest { 4099 ≤ L.longest link.old }
+        ensures fits { (c : LayerSettings) (l : State) → FitsLayer c self.old l → FitsLayer c self.new l }
+        ensures memory { self.old.memory ≤ self.new.memory + 1 }
+        ensures link { (x : L.State) → L.fits link.old x → L.fits link.new (after_all L.after_put x (option_to_list (packet_on channel (plain_owed packet.entry)))) }
+        ensures spares { L.spares link.old ≤ L.spares link.new + 1 }
+        ensures longest { L.longest link.new ≡ L.longest link.old }
+        ensures up { L.up link.new ≡ L.up link.old }
+    {
+        let Some(packet) = packet else {
+            return;
+        };
+        let packet = on_channel(packet, channel);
+        let most = most_octets(&packet);
+        self.put(link, &packet, most);
     }
 }
