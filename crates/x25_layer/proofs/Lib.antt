@@ -15,4 +15,5 @@ pub mod LawLemmas
 pub mod RoundLemmas
 pub mod SettleLemmas
 pub mod PullLemmas
+pub mod FreeLemmas
 pub mod LayerRows

@@ -3,8 +3,10 @@
 #![tactic(auto)]
 
 mod asking;
+mod calls;
 mod circuits;
 mod error;
+mod free_channel;
 mod law;
 mod layer;
 mod putting;
