@@ -34,3 +34,8 @@ with_packet (Err e) = Err e
 abbrev pub AnswersRequest : Settings → circuit_code.Circuit → Result (Option Packet) CircuitError → Outcome → Type 0
 AnswersRequest c v result (Done next packet) = IsOkAnd result (λ p. FitsCircuit c v next × (plain_owed p ≡ packet))
 AnswersRequest c v result (Refused e) = result ≡ Err e
+
+-- a message waits, and there is no packet at once
+abbrev pub MayPut : Request → Option Packet → Type 0
+MayPut (Sends q user) packet = packet ≡ None
+MayPut request packet = Unit {0}

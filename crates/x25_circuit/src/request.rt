@@ -5,7 +5,7 @@ ghost use Rattle.x25_circuit.specs.Circuit.{Settings};
 ghost use Rattle.x25_circuit.specs.Circuit.{Circuit as Channel};
 ghost use Rattle.x25_circuit.specs.Calls.{outcome, call_in, accept_in, clear_in, send_in, interrupt_in, reset_in, ready_in};
 ghost use Rattle.x25_circuit.specs.FitsCircuit.{FitsCircuit, room_of};
-ghost use Rattle.x25_circuit.specs.Requests.{plain_request, refusal_of, with_packet, AnswersRequest};
+ghost use Rattle.x25_circuit.specs.Requests.{plain_request, refusal_of, with_packet, AnswersRequest, MayPut};
 ghost use Rattle.x25_circuit.specs.Replies.{IsSendable, plain_owed};
 
 use crate::circuit::Circuit;
@@ -57,6 +57,7 @@ impl Circuit {
     pub fn ask<'a>(&mut self, request: Request<'a>) -> Result<Option<Packet<'a>>, CircuitError>
         ensures outcome { (c : Settings) (x : Channel) → FitsCircuit c self.old x → AnswersRequest c self.new result (outcome c x (plain_request request.entry)) }
         ensures range { IfOk result (λ packet. IsSendable (plain_owed packet)) }
+        ensures at_once { IfOk result (λ packet. MayPut (plain_request request.entry) packet) }
         ensures room { room_of self.old ≤ room_of self.new }
         ensures unchanged { OnErr result (self.new ≡ self.old) }
     {

@@ -10,6 +10,7 @@ pub mod Pulling
 pub mod Room
 pub mod Told
 pub mod Receiving
+pub mod Asking
 pub mod World
 pub mod Law
 pub mod RoundLaw
