@@ -79,6 +79,7 @@ impl Layer {
             LinkGives (L.fits link.new) L.after_put x result (went (view_of L.up_in L.waits_in L.after_put x) c (outcome_on l.restarts l.circuits channel (outcome c.circuit (l.circuits channel) (plain_request request.entry)))) }
         ensures layer_stays { (c : LayerSettings) (l : State) → FitsLayer c self.old l → OnErr result (FitsLayer c self.new l) }
         ensures link_stays { (x : L.State) → L.fits link.old x → OnErr result (L.fits link.new x) }
+        ensures longest { L.longest link.new ≡ L.longest link.old }
         ensures missing { IsErrOf result LayerError.NoMemory → LacksMemory 16 self.old (L.spares link.old) }
     {
         if self.set_aside(link, MOST_PUT).is_err() {
@@ -90,8 +91,10 @@ impl Layer {
         Ok(())
     }
 
-    /// Asks the circuit of a channel, puts its packet, where there is one, and pulls.
-    pub(crate) fn ask<L: OrderedLink>(
+    /// Asks the circuit of a channel, puts its packet, where there is one, and pulls: all calls with a channel in one.
+    ///
+    /// 9 NotUp, 40 Restarting, 42 NoSuchChannel, 10 QueueFull but for a message, then as the circuit refuses it, and else 70 alone.
+    pub fn ask<L: OrderedLink>(
         &mut self,
         link: &mut L,
         channel: u16,
@@ -102,6 +105,7 @@ impl Layer {
         ensures link { (c : LayerSettings) (l : State) (x : L.State) → FitsLayer c self.old l → L.fits link.old x → LinkGives (L.fits link.new) L.after_put x result (calls (view_of L.up_in L.waits_in L.after_put x) c l (Asks channel (plain_request request.entry))) }
         ensures layer_stays { (c : LayerSettings) (l : State) → FitsLayer c self.old l → OnErr result (FitsLayer c self.new l) }
         ensures link_stays { (x : L.State) → L.fits link.old x → OnErr result (L.fits link.new x) }
+        ensures longest { L.longest link.new ≡ L.longest link.old }
         ensures missing { IsErrOf result LayerError.NoMemory → LacksMemory 16 self.old (L.spares link.old) }
     {
         if !link.is_up() {
