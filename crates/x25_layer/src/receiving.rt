@@ -87,7 +87,7 @@ impl Layer {
         ensures told { (c : LayerSettings) (l : State) → FitsLayer c self.old l → IfOk result (λ told. plain_told told ≡ (hears_on c l l.restarting channel (plain_read read.entry)).notices) }
         ensures memory { OnOk result (self.old.memory ≤ self.new.memory + 1) }
         ensures spares { OnOk result (L.spares link.old ≤ L.spares link.new + 1) }
-        ensures longest { OnOk result (L.longest link.new ≡ L.longest link.old) }
+        ensures longest { L.longest link.new ≡ L.longest link.old }
         ensures up { OnOk result (L.up link.new ≡ L.up link.old) }
         ensures err { IfErr result (λ e. e ≡ LayerError.NoMemory) }
         ensures layer_stays { (c : LayerSettings) (l : State) → FitsLayer c self.old l → OnErr result (FitsLayer c self.new l) }
@@ -131,7 +131,7 @@ impl Layer {
         ensures told { (c : LayerSettings) (l : State) → FitsLayer c self.old l → IfOk result (λ told. plain_told told ≡ (answer_to c l octets.now (packet_of 16 octets.now)).notices) }
         ensures memory { OnOk result (self.old.memory ≤ self.new.memory + 1) }
         ensures spares { OnOk result (L.spares link.old ≤ L.spares link.new + 1) }
-        ensures longest { OnOk result (L.longest link.new ≡ L.longest link.old) }
+        ensures longest { L.longest link.new ≡ L.longest link.old }
         ensures up { OnOk result (L.up link.new ≡ L.up link.old) }
         ensures err { IfErr result (λ e. e ≡ LayerError.NoMemory) }
         ensures layer_stays { (c : LayerSettings) (l : State) → FitsLayer c self.old l → OnErr result (FitsLayer c self.new l) }
@@ -172,6 +172,7 @@ impl Layer {
         ensures layer { (c : LayerSettings) (l : State) (x : L.State) → FitsLayer c self.old l → L.fits link.old x → OnOk result (FitsLayer c self.new (hears (view_of L.up_in L.waits_in L.after_put x) c l octets.now).step.layer) }
         ensures link { (c : LayerSettings) (l : State) (x : L.State) → FitsLayer c self.old l → L.fits link.old x → OnOk result (L.fits link.new (after_all L.after_put x (hears (view_of L.up_in L.waits_in L.after_put x) c l octets.now).step.put)) }
         ensures told { (c : LayerSettings) (l : State) (view : LinkView) → FitsLayer c self.old l → IfOk result (λ told. plain_told told ≡ (hears view c l octets.now).notices) }
+        ensures longest { L.longest link.new ≡ L.longest link.old }
         ensures err { IfErr result (λ e. e ≡ LayerError.NoMemory) }
         ensures enough { (len : ℕ) → length octets.now ≤ len → HasRoom len self.old (L.spares link.old) → IsOk result }
         ensures layer_stays { (c : LayerSettings) (l : State) → FitsLayer c self.old l → OnErr result (FitsLayer c self.new l) }
