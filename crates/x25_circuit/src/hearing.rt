@@ -96,8 +96,9 @@ impl Circuit {
             return self.reset_for(2);
         }
         let message = self.transfer.take(ps, q, m, user);
+        let owed = self.status();
         Reply {
-            packet: Some(self.status()),
+            packet: Some(owed),
             collided: false,
             notice: delivered(message),
         }
