@@ -20,7 +20,7 @@ const USAGE: u8 = 2;
 fn report<R: Eprint>(rt: &R, fault: Fault) -> u8
     ensures { result ≡ 3 }
 {
-    let _ = eprintln!(rt; "{fault}");
+    eprintln!(rt; "{fault}").ok();
     exit_status(&Err(fault))
 }
 
@@ -44,7 +44,7 @@ fn start<R: Input + Print + Eprint + AllocGlobal>(rt: &R, words: &[String]) -> u
         Ok(task) => run(rt, task),
         Err(SettingsError::NoMemory) => report(rt, Fault::NoMemory),
         Err(SettingsError::Usage(error)) => {
-            let _ = rt.eprint(&error);
+            rt.eprint(&error).ok();
             SettingsError::Usage(error).exit_status()
         }
     }
@@ -58,7 +58,7 @@ fn answer<R: Input + Print + Eprint + Env + AllocGlobal>(rt: &R) -> u8 {
             return report(rt, Fault::NoMemory);
         }
         Err(_) => {
-            let _ = eprintln!(rt; "the words are no text");
+            eprintln!(rt; "the words are no text").ok();
             return USAGE;
         }
     };

@@ -118,25 +118,48 @@ fn another_channel(rt: HostRuntime) -> Result<(), Fail> {
     Ok(())
 }
 
-/// Each error, its number and its diagnostic code.
-const NUMBERS: [(PacketError, u8, u8); 8] = [
-    (PacketError::TooShort, 20, 38),
-    (PacketError::BadFormat, 21, 40),
-    (PacketError::Unidentified, 22, 33),
-    (PacketError::TooLong, 23, 39),
-    (PacketError::BadDigit, 24, 0),
-    (PacketError::BadFacility, 25, 65),
-    (PacketError::BadParameter, 26, 66),
-    (PacketError::NoMemory, 70, 0),
+/// Each error, its number, its diagnostic code and its message.
+const ERRORS: [(PacketError, u8, u8, &str); 8] = [
+    (PacketError::TooShort, 20, 38, "too few octets"),
+    (
+        PacketError::BadFormat,
+        21,
+        40,
+        "a wrong general format identifier",
+    ),
+    (
+        PacketError::Unidentified,
+        22,
+        33,
+        "an unidentifiable packet type",
+    ),
+    (PacketError::TooLong, 23, 39, "too many octets"),
+    (PacketError::BadDigit, 24, 0, "a wrong digit of an address"),
+    (
+        PacketError::BadFacility,
+        25,
+        65,
+        "a facility that is not allowed",
+    ),
+    (
+        PacketError::BadParameter,
+        26,
+        66,
+        "a facility parameter that is not allowed",
+    ),
+    (PacketError::NoMemory, 70, 0, "no memory"),
 ];
 
 #[test]
-fn errors_have_numbers(rt: HostRuntime) {
-    for (error, number, diagnostic) in NUMBERS {
+fn has_a_number_a_diagnostic_and_a_message(rt: HostRuntime) -> Result<(), Fail> {
+    for (error, number, diagnostic, message) in ERRORS {
+        let told = format!(in rt.alloc(); "{error}")?;
+        assert_eq!(rt; told.as_str(), message);
         assert_eq!(rt;
             (error.number(), error.diagnostic()),
             (number, diagnostic),
-            "{error}"
+            "{message}"
         );
     }
+    Ok(())
 }

@@ -4,7 +4,7 @@ use Rattle.x25_circuit.specs.Circuit.{usual}
 use Rattle.x25_layer.specs.Layer.{at_rest, LayerSettings}
 use Rattle.x25_layer.specs.FitsLayer.{FitsCircuits}
 use Rattle.x25_layer.proofs.FitLemmas.{fits_push}
-use Rattle.x25_layer.proofs.layer.begun_circuits.Goals as goal
+use Rattle.x25_layer.proofs.circuits.begun_circuits.Goals as goal
 
 pub loop-preserved : goal.loop-preserved
 loop-preserved c =

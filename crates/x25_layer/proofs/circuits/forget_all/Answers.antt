@@ -4,7 +4,7 @@ use Rattle.x25_circuit.specs.declared.circuit.Circuit as circuit_code
 use Rattle.x25_circuit.specs.Circuit.{Circuit, forgotten}
 use Rattle.x25_layer.specs.FitsLayer.{FitsCircuits}
 use Rattle.x25_layer.proofs.FitLemmas.{changed_none, changed_more, changed_all, written_back}
-use Rattle.x25_layer.proofs.layer.forget_all.Goals as goal
+use Rattle.x25_layer.proofs.circuits.forget_all.Goals as goal
 
 pub loop-circuit-init : goal.loop-circuit-init
 loop-circuit-init c = λ s f fits. changed_none s _ f (λ k. forgotten (f k)) fits
