@@ -13,3 +13,5 @@ pub mod Lawful
 pub mod QuietTap
 pub mod Headline
 pub mod RowLemmas
+pub mod OnLineLemmas
+pub mod LetGoLemmas

@@ -4,9 +4,13 @@
 mod error;
 mod event;
 mod law;
+mod line;
+mod on_line;
+mod told;
 
 pub use error::WorldError;
 pub use event::Event;
 pub use law::{hands_down_octets, two_stations_keep_order, two_stations_move};
+pub use told::Tapped;
 pub use x25_bits::Role;
 pub use x25_line::Direction;
