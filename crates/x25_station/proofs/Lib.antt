@@ -7,6 +7,7 @@ pub mod CircuitLemmas
 pub mod ReadLemmas
 pub mod KeepLemmas
 pub mod DownLemmas
+pub mod LinkLemmas
 pub mod ToldLemmas
 pub mod OutcomeLemmas
 pub mod StationRows
