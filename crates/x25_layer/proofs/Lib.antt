@@ -8,9 +8,12 @@ pub mod BookLemmas
 pub mod WorldLemmas
 pub mod RunLemmas
 pub mod ArrivalLemmas
+pub mod LengthLemmas
 pub mod FitLemmas
+pub mod CallLemmas
 pub mod LawLemmas
 pub mod RoundLemmas
 pub mod SettleLemmas
 pub mod PullLemmas
+pub mod FreeLemmas
 pub mod LayerRows

@@ -7,6 +7,7 @@ pub mod Transcript
 pub mod FitsLayer
 pub mod OverLink
 pub mod Pulling
+pub mod Asking
 pub mod World
 pub mod Law
 pub mod RoundLaw

@@ -102,8 +102,8 @@ impl Layer {
         begin_all(&mut self.circuits);
     }
 
-    // The circuit of a channel.
-    fn circuit(&self, channel: u16) -> Option<&Circuit>
+    /// The circuit of a channel.
+    pub(crate) fn circuit(&self, channel: u16) -> Option<&Circuit>
         ensures fits { (c : LayerSettings) (l : State) → FitsLayer c self.now l → IfSome result (λ circuit. FitsCircuit c.circuit circuit.now (l.circuits channel)) }
         ensures some { IfSome result (λ circuit. is_channel (length self.now.circuits.items) channel ≡ true) }
         ensures none { IfNone result (is_channel (length self.now.circuits.items) channel ≡ false) }

@@ -2,13 +2,17 @@
 //! ITU-T X.25 (10/96), sections 3 and 4.
 #![tactic(auto)]
 
+mod asking;
+mod calls;
 mod circuits;
 mod error;
+mod free_channel;
 mod law;
 mod layer;
 mod putting;
 mod restarting;
 mod rounds;
+mod sending;
 mod stretch;
 
 pub use error::LayerError;
