@@ -92,8 +92,10 @@ impl Layer {
         Ok(())
     }
 
-    /// Asks the circuit of a channel, puts its packet, where there is one, and pulls.
-    pub(crate) fn ask<L: OrderedLink>(
+    /// Asks the circuit of a channel, puts its packet, where there is one, and pulls: all calls with a channel in one.
+    ///
+    /// 9 NotUp, 40 Restarting, 42 NoSuchChannel, 10 QueueFull but for a message, then as the circuit refuses it, and else 70 alone.
+    pub fn ask<L: OrderedLink>(
         &mut self,
         link: &mut L,
         channel: u16,

@@ -8,6 +8,7 @@ pub mod ReadLemmas
 pub mod KeepLemmas
 pub mod DownLemmas
 pub mod LinkLemmas
+pub mod NameLemmas
 pub mod ToldLemmas
 pub mod OutcomeLemmas
 pub mod StationRows
