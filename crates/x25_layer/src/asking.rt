@@ -13,12 +13,10 @@ ghost use Rattle.x25_layer.specs.Asking.{AsksCircuit, error_without_memory};
 
 use crate::error::LayerError;
 use crate::layer::Layer;
+use crate::putting::MOST_PUT;
 use x25_circuit::Request;
 use x25_link::OrderedLink;
 use x25_packet::Packet;
-
-/// The most packets that a call puts: its own, and the data packets pulled behind it.
-pub(crate) const MOST_PUT: usize = 16;
 
 // All but a message put a packet at once.
 fn puts_at_once(request: &Request<'_>) -> bool

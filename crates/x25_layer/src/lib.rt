@@ -11,12 +11,15 @@ mod law;
 mod layer;
 mod putting;
 mod restarting;
+mod room;
 mod rounds;
 mod sending;
 mod stretch;
+mod told;
 
 pub use error::LayerError;
 pub use law::{calls_are_runs, two_layers_keep_order};
 pub use layer::Layer;
 pub use stretch::Stretch;
+pub use told::Told;
 pub use x25_bits::Role;

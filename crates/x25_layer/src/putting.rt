@@ -12,6 +12,9 @@ use crate::layer::{LONGEST_PACKET, Layer};
 use x25_link::{Blanks, OrderedLink};
 use x25_packet::{Packet, encode};
 
+/// The most packets that a call puts: its own, and the data packets pulled behind it.
+pub(crate) const MOST_PUT: usize = 16;
+
 impl Layer {
     /// Sets memory aside, here and in the link, for so many packets.
     ///
