@@ -9,6 +9,9 @@ pub mod KeepLemmas
 pub mod DownLemmas
 pub mod LinkLemmas
 pub mod NameLemmas
+pub mod AskLemmas
+pub mod AskedEntryLemmas
+pub mod EnteredLemmas
 pub mod ToldLemmas
 pub mod OutcomeLemmas
 pub mod StationRows

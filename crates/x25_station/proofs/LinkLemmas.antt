@@ -1,16 +1,13 @@
 -- The link after packets were put one by one, as the packet layer sees it, is the link of the station's step.
-use Rattle.std.proofs.Common.{◌≡◌, ℕ, List, [], ◌∷◌, ◌++◌, map, Bool, refl, sym, ap, ◌∙◌}
+use Rattle.std.proofs.Common.{◌≡◌, ℕ, List, [], ◌∷◌, map, refl, sym, ap, ◌∙◌}
 use Rattle.std.proofs.Math.Path.{fun_ext}
 use Rattle.std.proofs.lemmas.List.{map-append}
 use Rattle.x25_packet.specs.PlainPacket.{PlainPacket}
 use Rattle.x25_packet.specs.Spelling as packet
-use Rattle.x25_frame.specs.PlainFrame.{PlainFrame}
 use Rattle.x25_frame.specs.Spelling.{spelling_of}
-use Rattle.x25_link.specs.Outgoing.{waits}
 use Rattle.x25_link.specs.Station.{Settings as LinkSettings, Station as LinkStation, Side, is_up}
 use Rattle.x25_link.specs.Steps.{alone, put_step}
 use Rattle.x25_link.specs.Link.{LinkState, up_at, waits_of, after_put_to}
-use Rattle.x25_layer.specs.Rounds.{LinkView}
 use Rattle.x25_layer.specs.OverLink as over
 use Rattle.x25_station.specs.Station.{put_on, all_put, view_of}
 

@@ -1,6 +1,7 @@
 //! A station of X.25: the LAPB link and the packet layer joined, at one end. ITU-T X.25 (10/96), sections 2 to 4.
 #![tactic(auto)]
 
+mod asking;
 mod command;
 mod config;
 mod entry;
