@@ -79,6 +79,7 @@ impl Layer {
             LinkGives (L.fits link.new) L.after_put x result (went (view_of L.up_in L.waits_in L.after_put x) c (outcome_on l.restarts l.circuits channel (outcome c.circuit (l.circuits channel) (plain_request request.entry)))) }
         ensures layer_stays { (c : LayerSettings) (l : State) → FitsLayer c self.old l → OnErr result (FitsLayer c self.new l) }
         ensures link_stays { (x : L.State) → L.fits link.old x → OnErr result (L.fits link.new x) }
+        ensures longest { L.longest link.new ≡ L.longest link.old }
         ensures missing { IsErrOf result LayerError.NoMemory → LacksMemory 16 self.old (L.spares link.old) }
     {
         if self.set_aside(link, MOST_PUT).is_err() {
@@ -104,6 +105,7 @@ impl Layer {
         ensures link { (c : LayerSettings) (l : State) (x : L.State) → FitsLayer c self.old l → L.fits link.old x → LinkGives (L.fits link.new) L.after_put x result (calls (view_of L.up_in L.waits_in L.after_put x) c l (Asks channel (plain_request request.entry))) }
         ensures layer_stays { (c : LayerSettings) (l : State) → FitsLayer c self.old l → OnErr result (FitsLayer c self.new l) }
         ensures link_stays { (x : L.State) → L.fits link.old x → OnErr result (L.fits link.new x) }
+        ensures longest { L.longest link.new ≡ L.longest link.old }
         ensures missing { IsErrOf result LayerError.NoMemory → LacksMemory 16 self.old (L.spares link.old) }
     {
         if !link.is_up() {

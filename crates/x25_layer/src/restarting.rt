@@ -60,6 +60,7 @@ impl Layer {
         ensures layer { (c : LayerSettings) (l : State) (x : L.State) → FitsLayer c self.old l → L.fits link.old x → OnOk result (FitsLayer c self.new (comes_up (view_of L.up_in L.waits_in L.after_put x) c).step.layer) }
         ensures link { (c : LayerSettings) (l : State) (x : L.State) → FitsLayer c self.old l → L.fits link.old x → OnOk result (L.fits link.new (after_all L.after_put x (comes_up (view_of L.up_in L.waits_in L.after_put x) c).step.put)) }
         ensures err { IfErr result (λ e. e ≡ LayerError.NoMemory) }
+        ensures longest { L.longest link.new ≡ L.longest link.old }
         ensures missing { OnErr result (LacksMemory 1 self.old (L.spares link.old)) }
         ensures enough { (len : ℕ) → HasRoom len self.old (L.spares link.old) → IsOk result }
         ensures layer_stays { (c : LayerSettings) (l : State) → FitsLayer c self.old l → OnErr result (FitsLayer c self.new l) }
@@ -86,6 +87,7 @@ impl Layer {
         requires { 4099 ≤ L.longest link.old }
         ensures layer { (c : LayerSettings) (l : State) (x : L.State) → FitsLayer c self.old l → L.fits link.old x → LayerGives c self.new result (calls (view_of L.up_in L.waits_in L.after_put x) c l Restarts) }
         ensures link { (c : LayerSettings) (l : State) (x : L.State) → FitsLayer c self.old l → L.fits link.old x → LinkGives (L.fits link.new) L.after_put x result (calls (view_of L.up_in L.waits_in L.after_put x) c l Restarts) }
+        ensures longest { L.longest link.new ≡ L.longest link.old }
         ensures missing { IsErrOf result LayerError.NoMemory → LacksMemory 1 self.old (L.spares link.old) }
         ensures layer_stays { (c : LayerSettings) (l : State) → FitsLayer c self.old l → OnErr result (FitsLayer c self.new l) }
         ensures link_stays { (x : L.State) → L.fits link.old x → OnErr result (L.fits link.new x) }
