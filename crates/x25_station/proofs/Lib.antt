@@ -6,4 +6,12 @@ pub mod FieldLemmas
 pub mod CircuitLemmas
 pub mod ReadLemmas
 pub mod KeepLemmas
+pub mod DownLemmas
+pub mod LinkLemmas
+pub mod NameLemmas
+pub mod AskLemmas
+pub mod AskedEntryLemmas
+pub mod EnteredLemmas
+pub mod ToldLemmas
+pub mod OutcomeLemmas
 pub mod StationRows
