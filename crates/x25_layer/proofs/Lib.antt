@@ -11,6 +11,7 @@ pub mod ArrivalLemmas
 pub mod LengthLemmas
 pub mod FitLemmas
 pub mod CallLemmas
+pub mod HearLemmas
 pub mod LawLemmas
 pub mod RoundLemmas
 pub mod SettleLemmas

@@ -10,6 +10,7 @@ mod free_channel;
 mod law;
 mod layer;
 mod putting;
+mod receiving;
 mod restarting;
 mod room;
 mod rounds;

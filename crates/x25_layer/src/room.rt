@@ -1,5 +1,5 @@
 //! What a layer is asked before a packet is handed up: whether its counts have room, and memory to be set aside.
-ghost use Rattle.std.specs.Prelude.{◌≡◌, ℕ, ◌≤◌, ◌||◌, length, false, IfErr, OnOk, OnErr};
+ghost use Rattle.std.specs.Prelude.{◌≡◌, ℕ, ◌≤◌, ◌||◌, length, false, IfErr, IsOk, OnOk, OnErr};
 ghost use Rattle.x25_circuit.specs.Circuit.{Settings};
 ghost use Rattle.x25_circuit.specs.Circuit.{Circuit as Channel};
 ghost use Rattle.x25_circuit.specs.FitsCircuit.{FitsCircuit};
@@ -42,6 +42,7 @@ fn room_in_all(circuits: &mut Vec<Circuit>, len: usize) -> Result<(), LayerError
     ensures left { HaveCountsLeft circuits.old.items → HaveCountsLeft circuits.new.items }
     ensures room { OnOk result (HaveRoom len circuits.new.items) }
     ensures err { IfErr result (λ e. e ≡ LayerError.NoMemory) }
+    ensures enough { HaveRoom len circuits.old.items → IsOk result }
 {
     for circuit in circuits.iter_mut() {
         if circuit.room(len).is_err() {
@@ -63,7 +64,7 @@ impl Layer {
     /// Sets memory aside, here and in the link, for one `packet` of at most `len` octets, or for `up`, or for `down` and then
     /// `up`, which are then not refused with 70. It changes nothing else.
     ///
-    /// 70 alone.
+    /// 70 alone, and only where less was set aside.
     pub fn room<L: OrderedLink>(&mut self, link: &mut L, len: usize) -> Result<(), LayerError>
         ensures layer { (c : LayerSettings) (l : State) → FitsLayer c self.old l → FitsLayer c self.new l }
         ensures link { (x : L.State) → L.fits link.old x → L.fits link.new x }
@@ -72,6 +73,7 @@ impl Layer {
         ensures longest { L.longest link.new ≡ L.longest link.old }
         ensures waits { L.waits link.new ≡ L.waits link.old }
         ensures up { L.up link.new ≡ L.up link.old }
+        ensures enough { HasRoom len self.old (L.spares link.old) → IsOk result }
         ensures err { IfErr result (λ e. e ≡ LayerError.NoMemory) }
     {
         room_in_all(&mut self.circuits, len)?;

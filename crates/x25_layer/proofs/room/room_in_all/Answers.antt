@@ -26,6 +26,11 @@ loop-circuit-preserved c =
       left = λ all.
           let before = c.loop-circuit.invariant.left all in
           all_changed (λ (k : ℕ) (v : circuit_code.Circuit). HasCountsLeft v) c.loop-circuit.circuit-items i c.room.new.self before (counts_left _ c.room.new.self c.room.ensures.clears c.room.ensures.resets (before i _ found));
+      enough = λ all.
+          let before = c.loop-circuit.invariant.enough all in
+          let here = before i _ found in
+          let grows = c.room.ensures.grows in
+          all_changed (λ (k : ℕ) (v : circuit_code.Circuit). c.args.len ≤ room_of v) c.loop-circuit.circuit-items i c.room.new.self before (omega (arith, here, grows));
       room = below_changed (λ (v : circuit_code.Circuit). c.args.len ≤ room_of v) c.loop-circuit.circuit-items i c.room.new.self c.loop-circuit.invariant.room (search rules);
     }
 
