@@ -29,7 +29,7 @@ fn run<R: Input + Print + Eprint + AllocGlobal>(rt: &R, task: Task) -> u8 {
     let result = match task {
         Task::Decode => {
             let mut reader = Device::new(rt.reader());
-            decode_lines(rt.alloc(), &mut reader, &mut writer)
+            decode_lines(rt.alloc(), false, &mut reader, &mut writer)
         }
         Task::Vectors => vectors(rt.alloc(), &mut writer),
     };
