@@ -18,3 +18,6 @@ pub mod SettleLemmas
 pub mod PullLemmas
 pub mod FreeLemmas
 pub mod LayerRows
+pub mod ClearLemmas
+pub mod NameLemmas
+pub mod CountLemmas

@@ -14,3 +14,4 @@ pub mod Asking
 pub mod World
 pub mod Law
 pub mod RoundLaw
+pub mod NameLaw

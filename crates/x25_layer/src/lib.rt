@@ -19,7 +19,7 @@ mod stretch;
 mod told;
 
 pub use error::LayerError;
-pub use law::{calls_are_runs, two_layers_keep_order};
+pub use law::{calls_are_runs, names_are_told, two_layers_keep_order};
 pub use layer::Layer;
 pub use stretch::Stretch;
 pub use told::Told;
