@@ -24,12 +24,21 @@ fn report<R: Eprint>(rt: &R, fault: Fault) -> u8
     exit_status(&Err(fault))
 }
 
+/// Tells on standard error that the words ask for what isn't there yet. Where that fails, nothing is told.
+fn report_absent<R: Eprint>(rt: &R) -> u8
+    ensures { result ≡ 2 }
+{
+    eprintln!(rt; "this isn't there yet").ok();
+    USAGE
+}
+
 fn run<R: Input + Print + Eprint + AllocGlobal>(rt: &R, task: Task) -> u8 {
     let mut writer = Device::new(io::writer(rt));
     let result = match task {
-        Task::Decode => {
+        Task::Sim(_) => return report_absent(rt),
+        Task::Decode { long } => {
             let mut reader = Device::new(rt.reader());
-            decode_lines(rt.alloc(), &mut reader, &mut writer)
+            decode_lines(rt.alloc(), long, &mut reader, &mut writer)
         }
         Task::Vectors => vectors(rt.alloc(), &mut writer),
     };

@@ -1,6 +1,8 @@
 use std::alloc::Global;
 use std::test::Fail;
-use x25_packet::{NoMemory, Packet, PacketError, channel, decode, encode};
+use x25_packet::{
+    NoMemory, Packet, PacketError, channel, decode, decode_long, decode_within, encode,
+};
 
 /// Octets in hexadecimal, and the number of their error, 0 where they spell a packet.
 const ROWS: [(&str, u8); 29] = [
@@ -89,6 +91,49 @@ fn longest_bodies(rt: HostRuntime) -> Result<(), Fail> {
                 "{head:?}"
             );
         }
+    }
+    Ok(())
+}
+
+/// The number of the error, 0 where there is none.
+fn number_in(read: Result<Packet, PacketError>) -> u8 {
+    match read {
+        Ok(_) => 0,
+        Err(error) => error.number(),
+    }
+}
+
+/// How many octets of user data a CALL has, and the errors that `decode` and `decode_long` tell of it.
+const USER_DATA: [(usize, u8, u8); 5] = [
+    (0, 0, 0),
+    (16, 0, 0),
+    (17, 23, 0),
+    (128, 23, 0),
+    (129, 23, 23),
+];
+
+#[test]
+fn user_data_of_a_call(rt: HostRuntime) -> Result<(), Fail> {
+    for (count, short, long) in USER_DATA {
+        let octets = lengthened(rt.alloc(), &[0x10, 0x01, 0x0B, 0, 0], count)?;
+        assert_eq!(rt; number_in(decode(octets.as_slice())), short, "{count}");
+        assert_eq!(rt; number_in(decode_long(octets.as_slice())), long, "{count}");
+        assert_eq!(rt; number_in(decode_within(count, octets.as_slice())), 0);
+        if let Some(fewer) = count.checked_sub(1) {
+            assert_eq!(rt; number_in(decode_within(fewer, octets.as_slice())), 23);
+        }
+        if let Ok(Packet::Call { user, .. }) = decode_long(octets.as_slice()) {
+            assert_eq!(rt; user, &octets[5..]);
+        }
+    }
+    Ok(())
+}
+
+#[test]
+fn long_reading_differs_in_user_data_alone(rt: HostRuntime) -> Result<(), Fail> {
+    for (text, number) in ROWS {
+        let octets = hex::decode(rt.alloc(), text)?;
+        assert_eq!(rt; number_in(decode_long(octets.as_slice())), number, "{text}");
     }
     Ok(())
 }

@@ -27,12 +27,13 @@ use Rattle.x25_station.specs.KeepLaw.{KeptBy}
 use Rattle.x25_station.specs.PlainEntry.{plain_entry}
 use Rattle.x25_station.specs.FitsParts.{FitsParts}
 use Rattle.x25_station.specs.FitsStation as station
-use Rattle.x25_station.proofs.LinkLemmas.{kept_of, put_by_put, same_view}
+use Rattle.x25_station.specs.Receiving.{kept_of}
+use Rattle.x25_station.proofs.LinkLemmas.{put_by_put, same_view}
 
 -- ---- the link after the packets of a step
 
 -- a link from which the frames were taken fits the same state
-taken_link : (c : LinkSettings) (m n : ShownLink) (s : LinkStation) → n.station ≡ m.station → FitsLink c m s → FitsLink c n s
+pub taken_link : (c : LinkSettings) (m n : ShownLink) (s : LinkStation) → n.station ≡ m.station → FitsLink c m s → FitsLink c n s
 taken_link c m n s same fits = subst (λ x. FitsLink c (record { station = x; outgoing = n.outgoing }) s) (sym same) (record { near = fits.near; settled = fits.settled; calm = fits.calm })
 
 pub after_puts : (c : LinkSettings) (m : ShownLink) (packets : List PlainPacket) (t : Side) → FitsWhole m (after_all after_put_to (kept_of c t) packets) → FitsWhole m (kept_of c (all_put c packets t))

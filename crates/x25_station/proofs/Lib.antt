@@ -12,6 +12,12 @@ pub mod NameLemmas
 pub mod AskLemmas
 pub mod AskedEntryLemmas
 pub mod EnteredLemmas
+pub mod TellLemmas
+pub mod ShortLemmas
+pub mod FrameLemmas
+pub mod TakeLemmas
+pub mod TookLemmas
+pub mod FollowLemmas
 pub mod ToldLemmas
 pub mod OutcomeLemmas
 pub mod StationRows

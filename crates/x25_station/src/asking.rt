@@ -15,6 +15,7 @@ ghost use Rattle.x25_station.specs.Station.{Station as State};
 ghost use Rattle.x25_station.specs.Steps.{commands, requests};
 
 use crate::command::Cmd;
+use crate::entering::enter;
 use crate::entry::{Asked, Entry, Said};
 use crate::error::StationError;
 use crate::law::steps_keep_bounds;
@@ -22,20 +23,16 @@ use crate::station::Station;
 use crate::step::Step;
 use std::alloc::Global;
 use x25_circuit::Request;
-use x25_layer::Layer;
 
 // A copy of octets, for an entry or a message.
 fn copied(alloc: Global, octets: &[u8]) -> Result<Vec<u8>, StationError>
     ensures ok { IfOk result (λ copy. copy.items ≡ octets.now) }
     ensures err { IfErr result (λ e. e ≡ StationError.NoMemory) }
 {
-    let Ok(mut copy) = Vec::with_capacity(alloc, octets.len()) else {
-        return Err(StationError::NoMemory);
-    };
-    if copy.extend_from_slice(octets).is_err() {
-        return Err(StationError::NoMemory);
+    match Vec::from_slice(alloc, octets) {
+        Ok(copy) => Ok(copy),
+        Err(_) => Err(StationError::NoMemory),
     }
-    Ok(copy)
 }
 
 // A copy of a text, for an entry.
@@ -93,21 +90,6 @@ fn asked_call(
         calling,
         user,
     })
-}
-
-/// Enters what was said on a configured channel, under the name of its stretch, behind the other entries.
-pub(crate) fn enter(layer: &Layer, entries: &mut Vec<Entry>, channel: u16, said: Said)
-    requires { vec_len entries.old < vec_capacity entries.old }
-    ensures { (c : LayerSettings) (l : LayerState) → FitsLayer c layer.now l → is_channel c.channels channel ≡ true →
-        map plain_entry entries.new.items ≡ map plain_entry entries.old.items ++ of_channel (record { channel = channel; name = name_of l channel; said = plain_said said }) ∷ [] }
-{
-    if let Some(name) = layer.name(channel) {
-        entries.push_reserved(Entry::OnChannel {
-            channel,
-            name,
-            said,
-        });
-    }
 }
 
 impl Station {

@@ -4,10 +4,12 @@
 mod asking;
 mod command;
 mod config;
+mod entering;
 mod entry;
 mod error;
 mod law;
 mod linking;
+mod receiving;
 mod station;
 mod step;
 

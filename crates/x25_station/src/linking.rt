@@ -1,7 +1,8 @@
 //! Calls that the link alone answers, and at LinkDown the packet layer.
-ghost use Rattle.std.specs.Prelude.{◌≡◌, ◌<◌, ◌++◌, map, vec_len, vec_capacity, OnErr};
+ghost use Rattle.std.specs.Prelude.{◌≡◌, ℕ, ◌+◌, ◌<◌, ◌≤◌, ◌++◌, map, None, vec_len, vec_capacity, OnErr};
 ghost use Rattle.x25_layer.specs.Layer.{Layer as LayerState, LayerSettings};
 ghost use Rattle.x25_layer.specs.FitsLayer.{FitsLayer};
+ghost use Rattle.x25_layer.specs.Room.{HasRoom};
 ghost use Rattle.x25_station.specs.Entries.{entries_down};
 ghost use Rattle.x25_station.specs.FitsStation.{FitsStation, Leaves, Sends, Enters, Refuses, RefusesExactly};
 ghost use Rattle.x25_station.specs.PlainEntry.{plain_entry};
@@ -93,6 +94,10 @@ impl Station {
 /// What the layer does where the link notes that it went down, or nothing. The entry goes behind the others.
 pub(crate) fn note_down(layer: &mut Layer, down: Option<Reason>, entries: &mut Vec<Entry>)
     requires { vec_len entries.old < vec_capacity entries.old }
+    ensures length { vec_len entries.new ≤ vec_len entries.old + 1 }
+    ensures capacity { vec_capacity entries.new ≡ vec_capacity entries.old }
+    ensures room { (len spares : ℕ) → HasRoom len layer.old spares → HasRoom len layer.new spares }
+    ensures same { down ≡ None → layer.new ≡ layer.old }
     ensures layer { (c : LayerSettings) (l : LayerState) → FitsLayer c layer.old l → FitsLayer c layer.new (layer_down l down) }
     ensures entries { map plain_entry entries.new.items ≡ map plain_entry entries.old.items ++ entries_down down }
 {

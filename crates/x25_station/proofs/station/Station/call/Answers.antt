@@ -47,7 +47,7 @@ pub returns-in-Ok-call-clause-entries : goal.returns-in-Ok-call-clause-entries
 returns-in-Ok-call-clause-entries c = λ c' s fits.
     let h = c.in-Ok-call.channel in
     dialled_enters c' _ _ c.call.new.self s (record { frames = c.sent-frames.result; entries = c.enter.new.entries }) h c.args.called.now c.args.calling.now c.args.user.now fits c.in-Ok-call.ensures.layer (c.in-Ok-call.ensures.channel (layer_settings c') s.layer fits.layer) (λ k after configured.
-    c.enter.ensures (layer_settings c') k after configured
+    c.enter.ensures.entered (layer_settings c') k after configured
     ∙ ap (λ es. map plain_entry es ++ of_channel (record { channel = h; name = name_of k h; said = plain_said (said.Asked c.in_ok-asked.asked) }) ∷ []) c.in-Ok.ensures.items
     ∙ ap (λ q. of_channel (record { channel = h; name = name_of k h; said = Asked q }) ∷ []) c.in_ok-asked.ensures.ok)
 
