@@ -15,3 +15,5 @@ pub mod Headline
 pub mod RowLemmas
 pub mod OnLineLemmas
 pub mod LetGoLemmas
+pub mod SideLemmas
+pub mod WorldLemmas

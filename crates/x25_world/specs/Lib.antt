@@ -5,3 +5,5 @@ pub mod WorldRows
 pub mod PlainTold
 pub mod OnLine
 pub mod ShownLine
+pub mod ShownWorld
+pub mod FitsWorld

@@ -1,4 +1,4 @@
-ghost use Rattle.std.specs.Prelude.{◌≡◌, ℕ, ◌+◌, ◌<◌, ◌≤◌, ◌++◌, [], length, map, remove, OnOk, List, ◌∷◌, All, option_copied, slice_get, slice_set, take, vec_len, vec_capacity};
+ghost use Rattle.std.specs.Prelude.{◌≡◌, ℕ, ◌+◌, ◌<◌, ◌≤◌, ◌++◌, [], length, map, remove, OnOk, OnErr, List, ◌∷◌, All, option_copied, slice_get, slice_set, take, vec_len, vec_capacity};
 ghost use Rattle.x25_line.specs.Stations.{replaced};
 ghost use Rattle.x25_world.specs.ShownLine.{ShownLine, line_to, with_line_to, put_by};
 ghost use Rattle.x25_world.specs.PlainTold.{plain_tapped};
@@ -88,7 +88,7 @@ impl Line {
 
     /// An end puts frames on the line, in room that there is.
     pub fn put(&mut self, from: Role, frames: Vec<Vec<u8>>)
-        requires room { length frames.items ≤ self.old.room }
+        requires room { vec_len frames ≤ self.old.room }
         ensures { self.new ≡ put_by self.old from (map (λ frame. frame.items) frames.items) }
     {
         for octets in frames {
@@ -138,15 +138,18 @@ impl Line {
         }
     }
 
-    /// These octets come in the place of the frame at this place on the line to this end, 0 at the front.
-    pub fn replace(&mut self, to: Role, place: usize, octets: Vec<u8>)
+    /// A copy of these octets comes in the place of the frame at this place on the line to this end, 0 at the front.
+    pub fn replace(&mut self, to: Role, place: usize, octets: &[u8]) -> Result<(), AllocError>
         requires { place < length (line_to self.old to) }
-        ensures { self.new ≡ with_line_to self.old to (replaced (line_to self.old to) place octets.items) }
+        ensures ok { OnOk result (self.new ≡ with_line_to self.old to (replaced (line_to self.old to) place octets.now)) }
+        ensures err { OnErr result (self.new ≡ self.old) }
     {
+        let own = Vec::from_slice(self.alloc, octets)?;
         match to {
-            Role::Dce => put_in(&mut self.to_dce, place, octets),
-            Role::Dte => put_in(&mut self.to_dte, place, octets),
+            Role::Dce => put_in(&mut self.to_dce, place, own),
+            Role::Dte => put_in(&mut self.to_dte, place, own),
         }
+        Ok(())
     }
 
     /// Lets go of all that the tap holds. What is on the line stays there.
