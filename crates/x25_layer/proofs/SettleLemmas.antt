@@ -66,7 +66,7 @@ backlog_below f h y (suc n) low =
 true_false : true ≡ false → ⊥
 true_false e = cc
 
-split : (k m : ℕ) → k ≤ suc m → (k ≤ m) ⊎ (k ≡ suc m)
+pub split : (k m : ℕ) → k ≤ suc m → (k ≤ m) ⊎ (k ≡ suc m)
 split zero m low = inl (omega arith)
 split (suc k) zero low = inr (omega (arith, low))
 split (suc k) (suc m) low = next (split k m (let e : k ≤ suc m = omega (arith, low) in e))

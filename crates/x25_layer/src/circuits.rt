@@ -4,6 +4,7 @@ ghost use Rattle.x25_circuit.specs.Circuit.{forgotten, usual};
 ghost use Rattle.x25_circuit.specs.Circuit.{Circuit as Channel};
 ghost use Rattle.x25_layer.specs.Layer.{LayerSettings, at_rest};
 ghost use Rattle.x25_layer.specs.FitsLayer.{FitsCircuits};
+ghost use Rattle.x25_layer.specs.Room.{HaveRoom};
 
 use crate::error::LayerError;
 use std::alloc::Global;
@@ -36,6 +37,7 @@ pub(crate) fn begun_circuits(
 pub(crate) fn begin_all(circuits: &mut Vec<Circuit>)
     ensures fits { (c : LayerSettings) (f : ℕ → Channel) → FitsCircuits c circuits.old.items f → FitsCircuits c circuits.new.items at_rest.circuits }
     ensures count { length circuits.new.items ≡ length circuits.old.items }
+    ensures room { (len : ℕ) → HaveRoom len circuits.old.items → HaveRoom len circuits.new.items }
 {
     for circuit in circuits.iter_mut() {
         circuit.forget();

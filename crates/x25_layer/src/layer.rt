@@ -36,6 +36,7 @@ impl Layer {
     ghost use Rattle.x25_circuit.specs.FitsCircuit.{FitsCircuit};
     ghost use Rattle.x25_layer.specs.Layer.{LayerSettings, at_rest, is_channel};
     ghost use Rattle.x25_layer.specs.Layer.{Layer as State};
+    ghost use Rattle.x25_layer.specs.Room.{HasRoom};
     ghost use Rattle.x25_layer.specs.FitsLayer.{FitsLayer, plain_stretch, name_at, is_open_at, waits_up_to, is_full};
 
     /// The layer of an end whose link isn't up, with so many channels, 1 to 16.
@@ -93,17 +94,18 @@ impl Layer {
         waits
     }
 
-    /// Drops everything, at LinkDown: no restart is under way, and all counts are 0.
+    /// Drops everything, at LinkDown: no restart is under way, and all counts are 0. Memory that was set aside is kept.
     pub fn down(&mut self)
-        ensures { (c : LayerSettings) (l : State) → FitsLayer c self.old l → FitsLayer c self.new at_rest }
+        ensures layer { (c : LayerSettings) (l : State) → FitsLayer c self.old l → FitsLayer c self.new at_rest }
+        ensures room { (len spares : ℕ) → HasRoom len self.old spares → HasRoom len self.new spares }
     {
         self.restarting = false;
         self.restarts = 0;
         begin_all(&mut self.circuits);
     }
 
-    // The circuit of a channel.
-    fn circuit(&self, channel: u16) -> Option<&Circuit>
+    /// The circuit of a channel.
+    pub(crate) fn circuit(&self, channel: u16) -> Option<&Circuit>
         ensures fits { (c : LayerSettings) (l : State) → FitsLayer c self.now l → IfSome result (λ circuit. FitsCircuit c.circuit circuit.now (l.circuits channel)) }
         ensures some { IfSome result (λ circuit. is_channel (length self.now.circuits.items) channel ≡ true) }
         ensures none { IfNone result (is_channel (length self.now.circuits.items) channel ≡ false) }

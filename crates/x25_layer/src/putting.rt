@@ -3,6 +3,7 @@ ghost use Rattle.std.specs.Prelude.{◌≡◌, ℕ, ◌+◌, ◌-◌, ◌<◌, �
 ghost use Rattle.x25_layer.specs.Layer.{LayerSettings};
 ghost use Rattle.x25_layer.specs.Layer.{Layer as State};
 ghost use Rattle.x25_layer.specs.FitsLayer.{FitsLayer};
+ghost use Rattle.x25_layer.specs.OverLink.{LacksMemory};
 ghost use Rattle.x25_packet.specs.PlainPacket.{plain};
 ghost use Rattle.x25_packet.specs.Spelling.{IsInRange, spelling_of};
 
@@ -11,10 +12,13 @@ use crate::layer::{LONGEST_PACKET, Layer};
 use x25_link::{Blanks, OrderedLink};
 use x25_packet::{Packet, encode};
 
+/// The most packets that a call puts: its own, and the data packets pulled behind it.
+pub(crate) const MOST_PUT: usize = 16;
+
 impl Layer {
     /// Sets memory aside, here and in the link, for so many packets.
     ///
-    /// 70 alone.
+    /// 70 alone, and only where memory is set aside for fewer.
     pub(crate) fn set_aside<L: OrderedLink>(
         &mut self,
         link: &mut L,
@@ -28,6 +32,7 @@ impl Layer {
         ensures longest { L.longest link.new ≡ L.longest link.old }
         ensures waits { L.waits link.new ≡ L.waits link.old }
         ensures up { L.up link.new ≡ L.up link.old }
+        ensures missing { OnErr result (LacksMemory count self.old (L.spares link.old)) }
         ensures err { IfErr result (λ e. e ≡ LayerError.NoMemory) }
     {
         if self.memory.reserve(count).is_err() {

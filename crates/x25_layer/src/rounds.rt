@@ -101,6 +101,7 @@ impl Layer {
         requires spares { 15 ≤ L.spares link.old }
         ensures layer { (c : LayerSettings) (s : Putting) (x : L.State) → FitsLayer c self.old s.layer → L.fits link.old (after_all L.after_put x s.put) → FitsLayer c self.new (rounds (view_of L.up_in L.waits_in L.after_put x) c s).layer }
         ensures link { (c : LayerSettings) (s : Putting) (x : L.State) → FitsLayer c self.old s.layer → L.fits link.old (after_all L.after_put x s.put) → L.fits link.new (after_all L.after_put x (rounds (view_of L.up_in L.waits_in L.after_put x) c s).put) }
+        ensures longest { L.longest link.new ≡ L.longest link.old }
     {
         while round(&mut self.circuits, link, &mut self.memory) {}
     }

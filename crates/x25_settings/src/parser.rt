@@ -59,13 +59,12 @@ pub(crate) fn command<'a>(alloc: Global) -> Result<Command<'a>, AllocError> {
     let long = Arg::new(alloc, "long")
         .long("long")
         .action(ArgAction::SetTrue)
-        .help("Take CALL with up to 128 octets of user data")
-        .hide(true);
+        .help("Take up to 128 octets of user data in a CALL, in place of 16");
     let decode = Command::new(alloc, "decode")
         .about(
             "Answer lines of octets, `> HEX` from the DTE and `< HEX` from the DCE, by lines of text",
         )
-        .override_usage("x25 decode < TRACE")
+        .override_usage("x25 decode [--long] < TRACE")
         .arg(long)?;
     let vectors = Command::new(alloc, "vectors")
         .about("Run the stored test vectors")

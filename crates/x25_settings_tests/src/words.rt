@@ -112,15 +112,20 @@ const RANGE: &str =
 const PLAIN: &str =
     "error: each option is one word, and its number the next one, without a sign and leading zeros: `--k 3`\n\nUsage: x25 <COMMAND>\n\nFor more information, try '--help'.\n";
 
+/// The help of `decode`.
+const DECODE: &str =
+    "Answer lines of octets, `> HEX` from the DTE and `< HEX` from the DCE, by lines of text\n\nUsage: x25 decode [--long] < TRACE\n\nOptions:\n      --long  Take up to 128 octets of user data in a CALL, in place of 16\n  -h, --help  Print help\n";
+
 /// The help of `sim`.
 const SIM: &str =
     "Run a script of two stations joined by a line, and write what each end is told\n\nUsage: x25 sim [OPTIONS] < SCRIPT\n\nOptions:\n      --tap           Tell the frames of each step behind its entries, as lines for `decode`\n      --k <N>         The window of the link: 1 to 7 [default: 7]\n      --n2 <N>        How often an unanswered command of the link is sent again: 1 to 255 [default: 10]\n      --channels <N>  The number of logical channels: 1 to 16 [default: 1]\n  -h, --help          Print help\n\nExamples:\n  x25 sim < examples/call.script\n  x25 sim --tap --channels 2 < examples/call.script | grep '^[<>]' | x25 decode\n";
 
 #[test]
 fn says_what_is_wrong(rt: HostRuntime) -> Result<(), Fail> {
-    let rows: [(&[&str], &str); 5] = [
+    let rows: [(&[&str], &str); 6] = [
         (&["trace"], SAYS),
         (&["--help"], HELP),
+        (&["decode", "--help"], DECODE),
         (&["sim", "--k", "8"], RANGE),
         (&["sim", "--k=3"], PLAIN),
         (&["sim", "--help"], SIM),

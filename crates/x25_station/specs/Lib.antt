@@ -11,3 +11,4 @@ pub mod KeepLaw
 pub mod PlainEntry
 pub mod FitsParts
 pub mod FitsStation
+pub mod Receiving

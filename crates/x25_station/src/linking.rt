@@ -1,7 +1,8 @@
 //! Calls that the link alone answers, and at LinkDown the packet layer.
-ghost use Rattle.std.specs.Prelude.{◌≡◌, ◌<◌, ◌++◌, map, vec_len, vec_capacity, OnErr};
+ghost use Rattle.std.specs.Prelude.{◌≡◌, ℕ, ◌+◌, ◌<◌, ◌≤◌, ◌++◌, map, None, vec_len, vec_capacity, IfOk, OnErr};
 ghost use Rattle.x25_layer.specs.Layer.{Layer as LayerState, LayerSettings};
 ghost use Rattle.x25_layer.specs.FitsLayer.{FitsLayer};
+ghost use Rattle.x25_layer.specs.Room.{HasRoom};
 ghost use Rattle.x25_station.specs.Entries.{entries_down};
 ghost use Rattle.x25_station.specs.FitsStation.{FitsStation, Leaves, Sends, Enters, Refuses, RefusesExactly};
 ghost use Rattle.x25_station.specs.PlainEntry.{plain_entry};
@@ -15,7 +16,7 @@ use crate::law::steps_keep_bounds;
 use crate::station::Station;
 use crate::step::Step;
 use x25_layer::Layer;
-use x25_link::Reason;
+use x25_link::{Reason, holds_few};
 
 impl Station {
     /// Begins to set the link up. No entry is made.
@@ -27,8 +28,11 @@ impl Station {
         ensures entries { (c : Settings) (s : State) → FitsStation c self.old s → Enters result (connects c s) }
         ensures refused { (c : Settings) (s : State) → FitsStation c self.old s → RefusesExactly result (connects c s) }
         ensures stays { (c : Settings) (s : State) → FitsStation c self.old s → OnErr result (FitsStation c self.new s) }
+        ensures few_frames { IfOk result (λ answer. vec_len answer.frames ≤ 17) }
+        ensures few_entries { IfOk result (λ answer. vec_len answer.entries ≤ 3) }
     {
         steps_keep_bounds();
+        holds_few();
         match self.link.connect() {
             Ok(step) => Ok(Step {
                 frames: step.frames,
@@ -47,8 +51,11 @@ impl Station {
         ensures entries { (c : Settings) (s : State) → FitsStation c self.old s → Enters result (fires c s) }
         ensures refused { (c : Settings) (s : State) → FitsStation c self.old s → Refuses result (fires c s) }
         ensures stays { (c : Settings) (s : State) → FitsStation c self.old s → OnErr result (FitsStation c self.new s) }
+        ensures few_frames { IfOk result (λ answer. vec_len answer.frames ≤ 17) }
+        ensures few_entries { IfOk result (λ answer. vec_len answer.entries ≤ 3) }
     {
         steps_keep_bounds();
+        holds_few();
         let Ok(mut entries) = Vec::with_capacity(self.alloc, 1) else {
             return Err(StationError::NoMemory);
         };
@@ -71,8 +78,11 @@ impl Station {
         ensures entries { (c : Settings) (s : State) → FitsStation c self.old s → Enters result (disconnects c s) }
         ensures refused { (c : Settings) (s : State) → FitsStation c self.old s → Refuses result (disconnects c s) }
         ensures stays { (c : Settings) (s : State) → FitsStation c self.old s → OnErr result (FitsStation c self.new s) }
+        ensures few_frames { IfOk result (λ answer. vec_len answer.frames ≤ 17) }
+        ensures few_entries { IfOk result (λ answer. vec_len answer.entries ≤ 3) }
     {
         steps_keep_bounds();
+        holds_few();
         let Ok(mut entries) = Vec::with_capacity(self.alloc, 2) else {
             return Err(StationError::NoMemory);
         };
@@ -93,6 +103,10 @@ impl Station {
 /// What the layer does where the link notes that it went down, or nothing. The entry goes behind the others.
 pub(crate) fn note_down(layer: &mut Layer, down: Option<Reason>, entries: &mut Vec<Entry>)
     requires { vec_len entries.old < vec_capacity entries.old }
+    ensures length { vec_len entries.new ≤ vec_len entries.old + 1 }
+    ensures capacity { vec_capacity entries.new ≡ vec_capacity entries.old }
+    ensures room { (len spares : ℕ) → HasRoom len layer.old spares → HasRoom len layer.new spares }
+    ensures same { down ≡ None → layer.new ≡ layer.old }
     ensures layer { (c : LayerSettings) (l : LayerState) → FitsLayer c layer.old l → FitsLayer c layer.new (layer_down l down) }
     ensures entries { map plain_entry entries.new.items ≡ map plain_entry entries.old.items ++ entries_down down }
 {

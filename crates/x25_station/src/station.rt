@@ -1,11 +1,12 @@
 ghost use Rattle.x25_station.specs.FitsParts.{AreMeant};
 
 use crate::config::Cfg;
+use crate::entering::LONGEST_TEXT;
 use crate::error::StationError;
 use std::alloc::Global;
 use x25_bits::Role;
 use x25_layer::{Layer, LayerError, Stretch};
-use x25_link::{Link, LinkError};
+use x25_link::{Blanks, Link, LinkError};
 
 /// The most octets of a packet: those of the longest data packet.
 const LONGEST_PACKET: usize = 4099;
@@ -17,6 +18,8 @@ const LONGEST_PACKET: usize = 4099;
 pub struct Station {
     pub(crate) link: Link,
     pub(crate) layer: Layer,
+    /// Memory for texts of entries.
+    pub(crate) texts: Blanks<LONGEST_TEXT>,
     pub(crate) alloc: Global,
     ghost meant: { AreMeant link layer },
 }
@@ -47,7 +50,12 @@ impl Station {
         let Ok(layer) = Layer::new(alloc, role, cfg.channels as usize) else {
             return Err(StationError::NoMemory);
         };
-        Ok(Station { link, layer, alloc })
+        Ok(Station {
+            link,
+            layer,
+            texts: Blanks::new(alloc),
+            alloc,
+        })
     }
 
     /// Whether the link is up, no packet waits in it, all that was sent is acknowledged, and no message waits in a circuit.

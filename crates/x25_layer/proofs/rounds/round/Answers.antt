@@ -1,21 +1,13 @@
-use Rattle.std.proofs.Common.{◌≡◌, ℕ, suc, ◌+◌, ◌<◌, ◌≤◌, ◌∙◌, ◌⊎◌, inl, inr, List, length, Bool, true, false, ◌||◌, set, nat_lt, option_to_list, refl, sym, ap, subst, arith}
+use Rattle.std.proofs.Common.{◌≡◌, ℕ, suc, ◌+◌, ◌<◌, ◌≤◌, ◌∙◌, ◌⊎◌, inl, inr, List, length, true, set, nat_lt, option_to_list, sym, ap, subst, arith}
 use Rattle.std.proofs.lemmas.Option.{slice_get-get_or}
 use Rattle.x25_circuit.specs.declared.circuit.Circuit as circuit_code
 use Rattle.x25_layer.specs.Layer.{packet_on}
 use Rattle.x25_layer.specs.OverLink.{view_of, after_all}
 use Rattle.x25_layer.specs.Rounds.{LinkView, Putting, round}
 use Rattle.x25_layer.specs.Pulling.{pulled_where, Stands}
-use Rattle.x25_layer.proofs.FitLemmas.{written_back}
+use Rattle.x25_layer.proofs.FitLemmas.{written_back, neither, either}
 use Rattle.x25_layer.proofs.PullLemmas.{stands_more, one_none}
 use Rattle.x25_layer.proofs.rounds.round.Goals as goal
-
-neither : (a b : Bool) → (a || b) ≡ false → (a ≡ false) × (b ≡ false)
-neither false b is = (refl, is)
-neither true b is = absurd (cc)
-
-either : (a b : Bool) → (a || b) ≡ true → (a ≡ true) ⊎ (b ≡ true)
-either true b is = inl refl
-either false b is = inr is
 
 pub loop-circuit-preserved : goal.loop-circuit-preserved
 loop-circuit-preserved g c =
