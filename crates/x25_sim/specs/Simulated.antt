@@ -11,7 +11,7 @@ use Rattle.x25_station.specs.Command.{Command, Requests, Disconnects}
 use Rattle.x25_script.specs.PlainLine.{PlainCommand, call, accept, clear, send, interrupt, reset, ready, not_ready, restart, disconnect, PlainLine, command, t1, deliver, lose, damage, drain}
 use Rattle.x25_script.specs.Reading.{line_in}
 use Rattle.x25_program.specs.Lines.{lines_of}
-use Rattle.x25_world.specs.World.{World, Event, Commands, Receives, Fires, Loses, Damages, WorldOutcome, Happened, Declined, happens, apart, connected}
+use Rattle.x25_world.specs.World.{World, OnTap, AtEnd, Event, Commands, Receives, Fires, Loses, Damages, WorldOutcome, Happened, Declined, happens, apart, connected}
 use Rattle.x25_sim.specs.Sayings.{Saying, enters, taps, reads_nothing, refuses, sayings_text, has_refusal}
 
 -- ---- turns
@@ -28,18 +28,22 @@ quiet w = record { next = w; sayings = [] }
 abbrev pub and_then : (World → Turn) → Turn → Turn
 and_then rest t = record { next = (rest t.next).next; sayings = t.sayings ++ (rest t.next).sayings }
 
--- the frames that were put on the line, where they are asked for
-abbrev pub frames_told : Bool → World → World → List Saying
-frames_told true w next = map taps (drop (length w.tap) next.tap)
-frames_told false w next = []
+-- frames that were put on the line, where they are asked for
+abbrev pub frames_told : Bool → List OnTap → List Saying
+frames_told true frames = map taps frames
+frames_told false frames = []
 
--- from a world to the next: its new entries, and behind these its new frames
-abbrev pub step_told : Bool → World → World → List Saying
-step_told tap w next = map enters (drop (length w.transcript) next.transcript) ++ frames_told tap w next
+-- entries, and behind these frames
+abbrev pub step_told : Bool → List AtEnd → List OnTap → List Saying
+step_told tap entries frames = map enters entries ++ frames_told tap frames
+
+-- from a world to the next: what is new in the transcript, and what was put on the line
+abbrev pub told_between : Bool → World → World → List Saying
+told_between tap w next = step_told tap (drop (length w.transcript) next.transcript) (drop (length w.tap) next.tap)
 
 -- what is refused changes nothing
 abbrev pub turn_of : Bool → World → WorldOutcome → Turn
-turn_of tap w (Happened next) = record { next = next; sayings = step_told tap w next }
+turn_of tap w (Happened next) = record { next = next; sayings = told_between tap w next }
 turn_of tap w (Declined error) = record { next = w; sayings = refuses error ∷ [] }
 
 unfoldable pub event_turn : Cfg → Bool → Event → World → Turn
@@ -109,7 +113,7 @@ turns cfg tap (line ∷ lines) w = and_then (turns cfg tap lines) (turn cfg tap 
 
 -- the DTE asks that the link be set up
 abbrev pub connecting : Cfg → Bool → Turn
-connecting cfg tap = record { next = connected cfg; sayings = step_told tap apart (connected cfg) }
+connecting cfg tap = record { next = connected cfg; sayings = told_between tap apart (connected cfg) }
 
 -- SABM and UA are delivered: both links are up
 unfoldable pub set_up : Cfg → Bool → Turn
