@@ -5,13 +5,17 @@
 #![tactic(auto)]
 
 ghost use Rattle.std.specs.Prelude.{◌≡◌};
+ghost use Rattle.x25_settings.specs.Simulation as options;
+ghost use Rattle.x25_settings.specs.Words.{AreInRange};
 
+use std::alloc::Global;
 use std::io::ErrorKind;
 use std::process::ExitCode;
 use std::rt::Env;
 use std::{env, io};
-use x25_program::{Device, Fault, decode_lines, exit_status, vectors};
-use x25_settings::{SettingsError, Task, settings};
+use x25_program::{Device, Fault, Sink, Source, decode_lines, exit_status, vectors};
+use x25_settings::{SettingsError, Simulation, Task, settings};
+use x25_sim::{Cfg, sim};
 
 /// The exit status of a usage fault.
 const USAGE: u8 = 2;
@@ -24,21 +28,36 @@ fn report<R: Eprint>(rt: &R, fault: Fault) -> u8
     exit_status(&Err(fault))
 }
 
-/// Tells on standard error that the words ask for what isn't there yet. Where that fails, nothing is told.
-fn report_absent<R: Eprint>(rt: &R) -> u8
-    ensures { result ≡ 2 }
+/// Runs the simulator as the words of the command line ask for.
+fn simulate<R: Source, W: Sink>(
+    alloc: Global,
+    simulation: Simulation,
+    reader: &mut R,
+    writer: &mut W,
+) -> Result<u8, Fault>
+    requires { options.AreInRange simulation }
 {
-    eprintln!(rt; "this isn't there yet").ok();
-    USAGE
+    let Simulation {
+        tap,
+        k,
+        n2,
+        channels,
+    } = simulation;
+    sim(alloc, Cfg { k, n2, channels }, tap, reader, writer)
 }
 
-fn run<R: Input + Print + Eprint + AllocGlobal>(rt: &R, task: Task) -> u8 {
+fn run<R: Input + Print + Eprint + AllocGlobal>(rt: &R, task: Task) -> u8
+    requires { AreInRange task }
+{
     let mut writer = Device::new(io::writer(rt));
     let result = match task {
-        Task::Sim(_) => return report_absent(rt),
         Task::Decode { long } => {
             let mut reader = Device::new(rt.reader());
             decode_lines(rt.alloc(), long, &mut reader, &mut writer)
+        }
+        Task::Sim(simulation) => {
+            let mut reader = Device::new(rt.reader());
+            simulate(rt.alloc(), simulation, &mut reader, &mut writer)
         }
         Task::Vectors => vectors(rt.alloc(), &mut writer),
     };

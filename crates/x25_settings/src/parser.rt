@@ -47,7 +47,6 @@ fn sim_command<'a>(alloc: Global) -> Result<Command<'a>, AllocError> {
         .about("Run a script of two stations joined by a line, and write what each end is told")
         .override_usage("x25 sim [OPTIONS] < SCRIPT")
         .after_help(EXAMPLES)
-        .hide(true)
         .arg(tap)?
         .arg(window)?
         .arg(tries)?
