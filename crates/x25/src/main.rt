@@ -20,16 +20,25 @@ const USAGE: u8 = 2;
 fn report<R: Eprint>(rt: &R, fault: Fault) -> u8
     ensures { result ≡ 3 }
 {
-    let _ = eprintln!(rt; "{fault}");
+    eprintln!(rt; "{fault}").ok();
     exit_status(&Err(fault))
+}
+
+/// Tells on standard error that the words ask for what isn't there yet. Where that fails, nothing is told.
+fn report_absent<R: Eprint>(rt: &R) -> u8
+    ensures { result ≡ 2 }
+{
+    eprintln!(rt; "this isn't there yet").ok();
+    USAGE
 }
 
 fn run<R: Input + Print + Eprint + AllocGlobal>(rt: &R, task: Task) -> u8 {
     let mut writer = Device::new(io::writer(rt));
     let result = match task {
-        Task::Decode => {
+        Task::Sim(_) => return report_absent(rt),
+        Task::Decode { long } => {
             let mut reader = Device::new(rt.reader());
-            decode_lines(rt.alloc(), &mut reader, &mut writer)
+            decode_lines(rt.alloc(), long, &mut reader, &mut writer)
         }
         Task::Vectors => vectors(rt.alloc(), &mut writer),
     };
@@ -44,7 +53,7 @@ fn start<R: Input + Print + Eprint + AllocGlobal>(rt: &R, words: &[String]) -> u
         Ok(task) => run(rt, task),
         Err(SettingsError::NoMemory) => report(rt, Fault::NoMemory),
         Err(SettingsError::Usage(error)) => {
-            let _ = rt.eprint(&error);
+            rt.eprint(&error).ok();
             SettingsError::Usage(error).exit_status()
         }
     }
@@ -58,7 +67,7 @@ fn answer<R: Input + Print + Eprint + Env + AllocGlobal>(rt: &R) -> u8 {
             return report(rt, Fault::NoMemory);
         }
         Err(_) => {
-            let _ = eprintln!(rt; "the words are no text");
+            eprintln!(rt; "the words are no text").ok();
             return USAGE;
         }
     };

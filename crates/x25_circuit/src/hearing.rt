@@ -84,7 +84,7 @@ impl Circuit {
 
     // A data packet that isn't refused, but perhaps for its P(R).
     fn join<'a>(&mut self, q: bool, m: bool, ps: Seq, pr: Seq, user: &[u8]) -> Reply<'a>
-        requires wanted { ps.number ≡ self.old.transfer.receiver.wanted.number }
+        requires wanted { ps.number ≡ self.old.transfer.receiver.number }
         requires room { length user.now ≤ room_of self.old }
         requires short { length self.old.transfer.partial.part.user + length user.now ≤ 65535 }
         ensures next { (c : Settings) (x : Channel) → FitsCircuit c self.old x → FitsCircuit c self.new (unless c x (number_ground x.talk pr.number) (takes x x.talk pr.number (piece_of q m user.now))).next }
@@ -96,8 +96,9 @@ impl Circuit {
             return self.reset_for(2);
         }
         let message = self.transfer.take(ps, q, m, user);
+        let owed = self.status();
         Reply {
-            packet: Some(self.status()),
+            packet: Some(owed),
             collided: false,
             notice: delivered(message),
         }

@@ -48,7 +48,8 @@ fn count_sent(sender: &mut Sender<()>) -> Seq
     ensures fits { (n m : ℕ) → FitsNumbers sender.old n m → FitsNumbers sender.new n (m + 1) }
 {
     let ps = sender.top();
-    let _ = sender.offer(());
+    // Fewer than seven stand unacknowledged, so this isn't refused.
+    sender.offer(()).ok();
     ps
 }
 
@@ -102,7 +103,7 @@ impl Transfer {
     /// The diagnostic for which a data packet is refused, whatever its P(R), if any: 1, 39 or 83.
     pub fn ground(&self, size: usize, ps: Seq, q: bool, count: usize) -> Option<u8>
         ensures value { (out : ℕ) (t : Talk) → FitsTalk out self.now t → result ≡ (if ps.number == length t.taken % 8 then ground_of size (joining no_part t.taken) count q else Some 1) }
-        ensures wanted { IfNone result (ps.number ≡ self.now.receiver.wanted.number) }
+        ensures wanted { IfNone result (ps.number ≡ self.now.receiver.number) }
         ensures short { IfNone result (length self.now.partial.part.user + count ≤ 65535) }
     {
         if ps != self.receiver.wanted() {
@@ -113,7 +114,7 @@ impl Transfer {
 
     /// Takes a data packet that isn't refused, and gives the message that ends with it, if one does.
     pub fn take(&mut self, ps: Seq, q: bool, m: bool, user: &[u8]) -> Option<Message>
-        requires wanted { ps.number ≡ self.old.receiver.wanted.number }
+        requires wanted { ps.number ≡ self.old.receiver.number }
         requires room { length user.now ≤ self.old.partial.room }
         requires short { length self.old.partial.part.user + length user.now ≤ 65535 }
         ensures fits { (size : ℕ) (t : Talk) → FitsTalk size self.old t → FitsTalk size self.new (with_taken (piece_of q m user.now) t) }

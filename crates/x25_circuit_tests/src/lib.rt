@@ -4,4 +4,6 @@
 #[cfg(test)]
 mod play;
 #[cfg(test)]
+mod requests;
+#[cfg(test)]
 mod tests;

@@ -1,5 +1,5 @@
 use std::test::Fail;
-use x25_frame::{Role, decode};
+use x25_frame::{FrameError, Role, decode};
 
 /// Octets sent by the DTE, and the number of their error where an I frame has at most 4 octets of information.
 const ROWS: [(&[u8], u8); 6] = [
@@ -16,6 +16,48 @@ fn tells_the_first_error(rt: HostRuntime) -> Result<(), Fail> {
     for (octets, number) in ROWS {
         let error = decode(Role::Dte, 4, octets).err().ok_or("no frame")?;
         assert_eq!(rt; error.number(), number, "{octets:?}");
+    }
+    Ok(())
+}
+
+/// Each error, its number and its message.
+const MESSAGES: [(FrameError, u8, &str); 8] = [
+    (FrameError::Short, 1, "fewer than four octets"),
+    (FrameError::BadFcs, 2, "a wrong frame check sequence"),
+    (
+        FrameError::BadAddress,
+        3,
+        "an address that is neither A nor B",
+    ),
+    (
+        FrameError::Undefined { control: 0x0F },
+        4,
+        "an undefined control 0x0f",
+    ),
+    (
+        FrameError::Undefined { control: 0xEF },
+        4,
+        "an undefined control 0xef",
+    ),
+    (
+        FrameError::NoInfoAllowed { control: 0x01 },
+        5,
+        "information that is not allowed behind the control 0x01",
+    ),
+    (
+        FrameError::NoInfoAllowed { control: 0x3F },
+        5,
+        "information that is not allowed behind the control 0x3f",
+    ),
+    (FrameError::TooLong, 6, "more than N1 octets of information"),
+];
+
+#[test]
+fn has_a_number_and_a_message(rt: HostRuntime) -> Result<(), Fail> {
+    for (error, number, message) in MESSAGES {
+        let told = format!(in rt.alloc(); "{error}")?;
+        assert_eq!(rt; told.as_str(), message);
+        assert_eq!(rt; error.number(), number, "{message}");
     }
     Ok(())
 }

@@ -1,7 +1,12 @@
-//! Tests of `x25_layer`: the numbers of its errors, LinkUp, LinkDown and restart.
+//! Tests of `x25_layer`: the numbers of its errors, the user's calls, LinkUp, LinkDown and restart, what
+//! the link hands up, and the rounds of pulls.
 #![tactic(auto)]
 
 #[cfg(test)]
+mod calls;
+#[cfg(test)]
 mod errors;
+#[cfg(test)]
+mod hearing;
 #[cfg(test)]
 mod restart;

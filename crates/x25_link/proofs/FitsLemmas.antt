@@ -1,5 +1,5 @@
 -- What the code's variables stand for after a small change.
-use Rattle.std.proofs.Common.{◌≡◌, ℕ, ◌%◌, List, [], ◌∷◌, ◌++◌, length, Bool, true, false, None, if◌then◌else◌, refl, sym, ap, ◌∙◌, append_assoc, add-one, ◌+◌, ◌<◌, ◌==◌, arith}
+use Rattle.std.proofs.Common.{◌≡◌, ℕ, ◌%◌, List, [], ◌∷◌, ◌++◌, length, Bool, true, false, None, if◌then◌else◌, refl, sym, ap, ◌∙◌, append_assoc, add-one, ◌+◌, ◌<◌, ◌≤◌, ◌==◌, arith}
 use Rattle.std.proofs.lemmas.Bool.{eq-eqb, ne_eqb}
 use Rattle.std.proofs.lemmas.List.{length_push}
 use Rattle.x25_window.specs.Modulo.{resolved}
@@ -267,3 +267,8 @@ recovery_fits c v s b fits = record {
   rejecting = fits.rejecting;
   said_busy = fits.said_busy;
 }
+
+-- a frame that is sent uses memory for one, and moves the place to send from on
+pub room_kept : (b : Bool) (k long left before after : ℕ) → k ≤ long + before → after ≡ (if b then before + 1 else before) → long ≡ (if b then left + 1 else left) → k ≤ left + after
+room_kept true k long left before after room place used = omega (arith, room, place, used)
+room_kept false k long left before after room place used = omega (arith, room, place, used)

@@ -3,6 +3,7 @@ ghost use Rattle.std.specs.Prelude.{◌≡◌, ℕ, ◌+◌, ◌*◌, ◌/◌, �
 ghost use Rattle.x25_frame.specs.PlainFrame.{plain};
 ghost use Rattle.x25_frame.specs.Spelling.{address_of, information_of};
 ghost use Rattle.x25_link.specs.Station.{Settings, Station as StationState, Side};
+ghost use Rattle.x25_link.specs.Backlog.{window_of};
 ghost use Rattle.x25_link.specs.Fits.{FitsStation, FitsSide, FitsHeard};
 ghost use Rattle.x25_link.specs.MustSend.{rejects, reject_of};
 
@@ -39,6 +40,7 @@ impl Station {
     pub fn reject<'a>(&mut self, octets: &[u8], why: u8, out: &mut Outbox) -> Heard<'a>
         requires { 0 < out.old.short }
         ensures step { (c : Settings) (before : List (List ℕ)) (t : Side) → FitsSide c self.old before out.old.made t → FitsHeard c self.new before out.new.made result (rejects c octets.now why t) }
+        ensures window { window_of self.new.backlog ≡ window_of self.old.backlog }
         ensures long { out.new.long ≡ out.old.long }
         ensures short { out.old.short ≤ out.new.short + 1 }
     {

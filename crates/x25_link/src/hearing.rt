@@ -4,6 +4,7 @@ ghost use Rattle.x25_frame.specs.PlainFrame.{plain};
 ghost use Rattle.x25_frame.specs.Reading.{frame_of};
 ghost use Rattle.x25_frame.specs.Spelling.{is_command};
 ghost use Rattle.x25_link.specs.Station.{Settings, Station as StationState, Side, may_send, owes_ready};
+ghost use Rattle.x25_link.specs.Backlog.{window_of, before_in};
 ghost use Rattle.x25_link.specs.Fits.{FitsStation, FitsSide, FitsHeard};
 ghost use Rattle.x25_link.specs.MustSend.{numbered, hears_info, polls, peer_is, goes_back, quiet, row_of_frame, row_of, other};
 ghost use Rattle.x25_link.specs.Steps.{poll_of, declines, when_down, when_waiting, hears, alone, take_step};
@@ -41,11 +42,11 @@ impl Station {
         info: &'a [u8],
         out: &mut Outbox,
     ) -> Heard<'a>
-        requires long { 0 < out.old.long }
+        requires room { window_of self.old.backlog ≤ out.old.long }
         requires short { 0 < out.old.short }
         ensures step { (c : Settings) (before : List (List ℕ)) (t : Side) → FitsSide c self.old before out.old.made t →
             FitsHeard c self.new before out.new.made result (numbered c octets.now nr.number (hears_info c.window ns.number p info.now) t) }
-        ensures long { out.old.long ≤ out.new.long + 1 }
+        ensures room { window_of self.new.backlog ≤ out.new.long + before_in self.new.backlog }
         ensures short { out.old.short ≤ out.new.short + 1 }
     {
         if !self.acknowledge(nr) {
@@ -70,6 +71,7 @@ impl Station {
         requires { 0 < out.old.short }
         ensures step { (c : Settings) (before : List (List ℕ)) (t : Side) → FitsSide c self.old before out.old.made t →
             FitsHeard c self.new before out.new.made result (numbered c octets.now nr.number (λ u. quiet (polls command pf (peer_is busy u))) t) }
+        ensures window { window_of self.new.backlog ≡ window_of self.old.backlog }
         ensures long { out.new.long ≡ out.old.long }
         ensures short { out.old.short ≤ out.new.short + 1 }
     {
@@ -93,6 +95,7 @@ impl Station {
         requires { 0 < out.old.short }
         ensures step { (c : Settings) (before : List (List ℕ)) (t : Side) → FitsSide c self.old before out.old.made t →
             FitsHeard c self.new before out.new.made result (numbered c octets.now nr.number (λ u. quiet (polls command pf (goes_back (peer_is false u)))) t) }
+        ensures window { window_of self.new.backlog ≡ window_of self.old.backlog }
         ensures long { out.new.long ≡ out.old.long }
         ensures short { out.old.short ≤ out.new.short + 1 }
     {
@@ -107,11 +110,11 @@ impl Station {
 
     // A frame, in Up.
     fn hear_frame<'a>(&mut self, octets: &[u8], frame: Frame<'a>, out: &mut Outbox) -> Heard<'a>
-        requires long { 0 < out.old.long }
+        requires room { window_of self.old.backlog ≤ out.old.long }
         requires short { 0 < out.old.short }
         ensures step { (c : Settings) (before : List (List ℕ)) (t : Side) → FitsSide c self.old before out.old.made t →
             FitsHeard c self.new before out.new.made result (row_of_frame c octets.now (plain frame.entry) t) }
-        ensures long { out.old.long ≤ out.new.long + 1 }
+        ensures room { window_of self.new.backlog ≤ out.new.long + before_in self.new.backlog }
         ensures short { out.old.short ≤ out.new.short + 1 }
     {
         match frame {
@@ -139,6 +142,7 @@ impl Station {
         requires { 0 < out.old.short }
         ensures step { (c : Settings) (before : List (List ℕ)) (t : Side) → FitsSide c self.old before out.old.made t →
             FitsHeard c self.new before out.new.made result (row_of c octets.now (Err error) t) }
+        ensures window { window_of self.new.backlog ≡ window_of self.old.backlog }
         ensures long { out.new.long ≡ out.old.long }
         ensures short { out.old.short ≤ out.new.short + 1 }
     {
@@ -170,6 +174,7 @@ impl Station {
         requires { 0 < out.old.short }
         ensures step { (c : Settings) (before : List (List ℕ)) (t : Side) → FitsSide c self.old before out.old.made t →
             FitsHeard c self.new before out.new.made result (when_down (plain frame.now) t) }
+        ensures window { window_of self.new.backlog ≡ window_of self.old.backlog }
         ensures long { out.new.long ≡ out.old.long }
         ensures short { out.old.short ≤ out.new.short + 1 }
     {
@@ -195,6 +200,7 @@ impl Station {
         requires { 0 < out.old.short }
         ensures step { (c : Settings) (before : List (List ℕ)) (t : Side) → FitsSide c self.old before out.old.made t →
             FitsHeard c self.new before out.new.made result (when_waiting (plain frame.now) t) }
+        ensures window { window_of self.new.backlog ≡ window_of self.old.backlog }
         ensures long { out.new.long ≡ out.old.long }
         ensures short { out.old.short ≤ out.new.short + 1 }
     {
@@ -222,6 +228,7 @@ impl Station {
         requires { 0 < out.old.short }
         ensures step { (c : Settings) (before : List (List ℕ)) (t : Side) → FitsSide c self.old before out.old.made t →
             FitsHeard c self.new before out.new.made result (hears c octets.now (Err error) t.near.phase t) }
+        ensures window { window_of self.new.backlog ≡ window_of self.old.backlog }
         ensures long { out.new.long ≡ out.old.long }
         ensures short { out.old.short ≤ out.new.short + 1 }
     {
@@ -233,11 +240,11 @@ impl Station {
 
     // A frame.
     fn hear_read<'a>(&mut self, octets: &[u8], frame: Frame<'a>, out: &mut Outbox) -> Heard<'a>
-        requires long { 0 < out.old.long }
+        requires room { window_of self.old.backlog ≤ out.old.long }
         requires short { 0 < out.old.short }
         ensures step { (c : Settings) (before : List (List ℕ)) (t : Side) → FitsSide c self.old before out.old.made t →
             FitsHeard c self.new before out.new.made result (hears c octets.now (Ok (plain frame.entry)) t.near.phase t) }
-        ensures long { out.old.long ≤ out.new.long + 1 }
+        ensures room { window_of self.new.backlog ≤ out.new.long + before_in self.new.backlog }
         ensures short { out.old.short ≤ out.new.short + 1 }
     {
         match self.phase {
@@ -253,11 +260,11 @@ impl Station {
 
     // What the octets bring, before the sending rule.
     fn hear_octets<'a>(&mut self, octets: &'a [u8], out: &mut Outbox) -> Heard<'a>
-        requires long { 0 < out.old.long }
+        requires room { window_of self.old.backlog ≤ out.old.long }
         requires short { 0 < out.old.short }
         ensures step { (c : Settings) (before : List (List ℕ)) (t : Side) → FitsSide c self.old before out.old.made t →
             FitsHeard c self.new before out.new.made result (hears c octets.now (frame_of (other c.role) c.longest octets.now) t.near.phase t) }
-        ensures long { out.old.long ≤ out.new.long + 1 }
+        ensures room { window_of self.new.backlog ≤ out.new.long + before_in self.new.backlog }
         ensures short { out.old.short ≤ out.new.short + 1 }
     {
         match decode(other(self.role), self.parameters.n1, octets) {
@@ -268,7 +275,7 @@ impl Station {
 
     /// Takes octets, and sends what they ask for.
     pub fn hear<'a>(&mut self, octets: &'a [u8], out: &mut Outbox) -> Heard<'a>
-        requires long { 8 ≤ out.old.long }
+        requires long { window_of self.old.backlog ≤ out.old.long }
         requires short { 2 ≤ out.old.short }
         ensures step { (c : Settings) (before : List (List ℕ)) (s : StationState) → FitsSide c self.old before out.old.made (alone s) →
             FitsHeard c self.new before out.new.made result (take_step c octets.now s) }

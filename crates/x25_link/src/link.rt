@@ -22,9 +22,6 @@ use std::marker::Model;
 use x25_bits::Role;
 use x25_window::Receiver;
 
-/// The most I frames that one call sends, and one more.
-const LONG_FRAMES: usize = 8;
-
 /// The most other frames that one call sends.
 const SHORT_FRAMES: usize = 2;
 
@@ -114,7 +111,8 @@ impl Link {
         ensures outgoing { self.new.outgoing ≡ self.old.outgoing }
         ensures err { OnErr result (self.new ≡ self.old) }
     {
-        self.answers.reserve(LONG_FRAMES, SHORT_FRAMES)?;
+        let window = self.station.backlog.window() as usize;
+        self.answers.reserve(window, SHORT_FRAMES)?;
         let heard = self.station.hear(octets, &mut self.answers);
         Ok(self.answers.answered(heard))
     }

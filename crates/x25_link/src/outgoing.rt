@@ -1,7 +1,7 @@
 ghost use Rattle.std.specs.Prelude.{◌≡◌, ℕ, ◌+◌, ◌%◌, ◌<◌, ◌≤◌, ◌&&◌, nat_lt, max, List, [], ◌∷◌, ◌++◌, length, slice_get, slice_index_or, IfOk, IfErr, OnOk, OnErr, MatchOption, true, false, if◌then◌else◌};
 ghost use Rattle.x25_window.specs.Modulo.{resolved};
 ghost use Rattle.x25_window.specs.Sending.{Sending, moved_on, offered};
-ghost use Rattle.x25_window.specs.Held.{Fits};
+ghost use Rattle.x25_window.specs.Held.{Fits, with_item};
 ghost use Rattle.x25_frame.specs.PlainFrame.{info};
 ghost use Rattle.x25_frame.specs.Spelling.{spelling_of};
 ghost use Rattle.x25_link.specs.Outgoing.{Outgoing as OutgoingState, no_packet, added, acknowledged_to, gone_back, is_open, next_packet, waits};
@@ -23,7 +23,7 @@ pub struct Outgoing {
 }
 
 impl Outgoing {
-    ghost use Rattle.x25_link.specs.Backlog.{FitsBacklog};
+    ghost use Rattle.x25_link.specs.Backlog.{FitsBacklog, window_of, before_in};
 
     pub fn new(alloc: Global, window: u8) -> Result<Option<Outgoing>, LinkError>
         ensures fits { IfOk result (λ made. MatchOption made (¬ ((1 ≤ window) × (window ≤ 7))) (λ b. FitsBacklog window b no_packet)) }
@@ -43,6 +43,14 @@ impl Outgoing {
         ensures few { result ≤ 256 }
     {
         self.queue.len()
+    }
+
+    /// The window k, 1 to 7.
+    pub fn window(&self) -> u8
+        ensures value { result ≡ window_of self.now }
+        ensures few { result ≤ 7 }
+    {
+        self.sender.window()
     }
 
     /// How many frames were sent and aren't acknowledged.
@@ -65,6 +73,7 @@ impl Outgoing {
     pub fn add(&mut self, packet: Octets)
         requires { length self.old.queue < 256 }
         ensures queue { length self.new.queue ≡ length self.old.queue + 1 }
+        ensures sender { self.new.sender ≡ self.old.sender }
         ensures state { (k : ℕ) (o : OutgoingState) → FitsBacklog k self.old o → FitsBacklog k self.new (added packet o) }
     {
         self.queue.push(packet);
@@ -77,6 +86,7 @@ impl Outgoing {
         ensures number { (k : ℕ) (o : OutgoingState) → FitsBacklog k self.old o → IfOk result (λ count. o.acked + count ≡ resolved o.acked nr.number) }
         ensures within { (k : ℕ) (o : OutgoingState) → FitsBacklog k self.old o → IfOk result (λ count. o.acked + count ≤ o.sent) }
         ensures beyond { (k : ℕ) (o : OutgoingState) → FitsBacklog k self.old o → OnErr result (o.sent < resolved o.acked nr.number) }
+        ensures window { window_of self.new ≡ window_of self.old }
         ensures err { OnErr result (self.new ≡ self.old) }
     {
         self.sender.ack(nr)
@@ -84,14 +94,16 @@ impl Outgoing {
 
     /// Moves the place to send from back to the first frame that isn't acknowledged.
     pub fn go_back(&mut self)
-        ensures { (k : ℕ) (o : OutgoingState) → FitsBacklog k self.old o → FitsBacklog k self.new (gone_back o) }
+        ensures state { (k : ℕ) (o : OutgoingState) → FitsBacklog k self.old o → FitsBacklog k self.new (gone_back o) }
+        ensures window { window_of self.new ≡ window_of self.old }
     {
         self.sender.again();
     }
 
     /// Drops all packets.
     pub fn clear(&mut self)
-        ensures { (k : ℕ) (o : OutgoingState) → FitsBacklog k self.old o → FitsBacklog k self.new no_packet }
+        ensures state { (k : ℕ) (o : OutgoingState) → FitsBacklog k self.old o → FitsBacklog k self.new no_packet }
+        ensures window { window_of self.new ≡ window_of self.old }
     {
         self.sender.clear();
         self.queue.clear();
@@ -99,19 +111,22 @@ impl Outgoing {
 
     /// Sends the next packet, again or new, where the window is open and there is one. It says whether it did.
     pub fn send_next(&mut self, from: Role, nr: Seq, out: &mut Outbox) -> bool
-        requires { 0 < out.old.long }
+        requires { before_in self.old < window_of self.old → 0 < out.old.long }
         ensures sent { (k : ℕ) (o : OutgoingState) → FitsBacklog k self.old o → result ≡ is_open k o }
         ensures step { (k : ℕ) (o : OutgoingState) → FitsBacklog k self.old o → FitsBacklog k self.new (if result then sent_on o else o) }
         ensures made { (k : ℕ) (o : OutgoingState) → FitsBacklog k self.old o →
             out.new.made ≡ (if result then out.old.made ++ spelling_of from (info (o.place % 8) nr.number false (next_packet o)) ∷ [] else out.old.made) }
         ensures queue { length self.new.queue ≤ length self.old.queue }
+        ensures window { window_of self.new ≡ window_of self.old }
+        ensures before { before_in self.new ≡ (if result then before_in self.old + 1 else before_in self.old) }
         ensures long { out.old.long ≡ (if result then out.new.long + 1 else out.new.long) }
         ensures short { out.new.short ≡ out.old.short }
     {
+        let is_closed = self.sender.is_full();
         if send_again(&mut self.sender, from, nr, out) {
             return true;
         }
-        if self.sender.is_full() {
+        if is_closed {
             return false;
         }
         let Some(packet) = self.queue.pop() else {
@@ -124,11 +139,14 @@ impl Outgoing {
 
 // Sends the packet at the place to send from again, where it was sent before. It says whether it did.
 fn send_again(sender: &mut Sender<Octets>, from: Role, nr: Seq, out: &mut Outbox) -> bool
-    requires { 0 < out.old.long }
+    requires few { length sender.old.items ≤ sender.old.window }
+    requires long { sender.old.before < sender.old.window → 0 < out.old.long }
     ensures sent { (w : Sending (List ℕ)) → Fits sender.old w → result ≡ nat_lt w.place (length w.given) }
     ensures step { (w : Sending (List ℕ)) → Fits sender.old w → Fits sender.new (if result then moved_on w else w) }
     ensures made { (w : Sending (List ℕ)) → Fits sender.old w →
         out.new.made ≡ (if result then out.old.made ++ spelling_of from (info (w.place % 8) nr.number false (slice_index_or w.given w.place [])) ∷ [] else out.old.made) }
+    ensures held { sender.new ≡ (if result then record sender.old { before = sender.old.before + 1 } else sender.old) }
+    ensures last { result ≡ false → sender.old.before ≡ length sender.old.items }
     ensures long { out.old.long ≡ (if result then out.new.long + 1 else out.new.long) }
     ensures short { out.new.short ≡ out.old.short }
 {
@@ -146,6 +164,7 @@ fn send_new(sender: &mut Sender<Octets>, packet: Octets, from: Role, nr: Seq, ou
     ensures step { (w : Sending (List ℕ)) → Fits sender.old w → length w.given < w.acked + w.window → Fits sender.new (offered w packet) }
     ensures made { (w : Sending (List ℕ)) → Fits sender.old w →
         out.new.made ≡ out.old.made ++ spelling_of from (info (length w.given % 8) nr.number false packet) ∷ [] }
+    ensures held { sender.new ≡ with_item sender.old packet }
     ensures long { out.old.long ≡ out.new.long + 1 }
     ensures short { out.new.short ≡ out.old.short }
 {

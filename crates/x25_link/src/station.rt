@@ -53,6 +53,7 @@ pub fn other(role: Role) -> Role
 }
 
 impl Station {
+    ghost use Rattle.x25_link.specs.Backlog.{window_of, before_in};
     ghost use Rattle.x25_link.specs.Fits.{FitsStation, FitsSide, FitsHeard};
 
     /// Whether the station is busy, and takes no I frame.
@@ -78,6 +79,7 @@ impl Station {
     pub fn ready(&mut self, command: bool, pf: bool, out: &mut Outbox)
         requires { 0 < out.old.short }
         ensures step { (c : Settings) (before : List (List ℕ)) (t : Side) → FitsSide c self.old before out.old.made t → FitsSide c self.new before out.new.made (ready command pf t) }
+        ensures backlog { self.new.backlog ≡ self.old.backlog }
         ensures short { out.old.short ≡ out.new.short + 1 }
         ensures long { out.new.long ≡ out.old.long }
     {
@@ -94,7 +96,7 @@ impl Station {
     /// Sends by the sending rule, for at most seven frames, and then an RR where RNR was the last and the station is no
     /// longer busy.
     pub fn end(&mut self, out: &mut Outbox)
-        requires long { 7 ≤ out.old.long }
+        requires long { window_of self.old.backlog ≤ out.old.long + before_in self.old.backlog }
         requires short { 0 < out.old.short }
         ensures { (c : Settings) (before : List (List ℕ)) (t : Side) → FitsSide c self.old before out.old.made t → FitsSide c self.new before out.new.made (ended c.window t) }
     {
@@ -106,12 +108,14 @@ impl Station {
 
     /// The sending rule, once. It says whether a frame was sent.
     pub fn pump_once(&mut self, out: &mut Outbox) -> bool
-        requires { 0 < out.old.long }
+        requires { before_in self.old.backlog < window_of self.old.backlog → 0 < out.old.long }
         ensures sent { (c : Settings) (s : StationState) → FitsStation c self.old s → result ≡ may_send c.window s }
         ensures step { (c : Settings) (before : List (List ℕ)) (t : Side) → FitsSide c self.old before out.old.made t → FitsSide c self.new before out.new.made (pumped_once c.window t) }
         ensures long { out.old.long ≤ out.new.long + 1 }
         ensures kept { self.new ≡ record self.old { backlog = self.new.backlog } }
         ensures queue { length self.new.backlog.queue ≤ length self.old.backlog.queue }
+        ensures window { window_of self.new.backlog ≡ window_of self.old.backlog }
+        ensures before { before_in self.new.backlog ≡ (if result then before_in self.old.backlog + 1 else before_in self.old.backlog) }
         ensures used { out.old.long ≡ (if result then out.new.long + 1 else out.new.long) }
         ensures short { out.new.short ≡ out.old.short }
     {
@@ -134,7 +138,8 @@ impl Station {
 
     /// Drops all packets, and sets all variables but `tries` to 0.
     pub fn clear(&mut self, phase: Phase)
-        ensures { (c : Settings) (before made : List (List ℕ)) (t : Side) → FitsSide c self.old before made t → FitsSide c self.new before made (with_near t (with_nothing phase t.near.tries)) }
+        ensures step { (c : Settings) (before made : List (List ℕ)) (t : Side) → FitsSide c self.old before made t → FitsSide c self.new before made (with_near t (with_nothing phase t.near.tries)) }
+        ensures window { window_of self.new.backlog ≡ window_of self.old.backlog }
     {
         self.phase = phase;
         self.backlog.clear();
@@ -147,7 +152,8 @@ impl Station {
 
     /// The link is set up: all variables are 0.
     pub fn set_up(&mut self)
-        ensures { (c : Settings) (before made : List (List ℕ)) (t : Side) → FitsSide c self.old before made t → FitsSide c self.new before made (with_near t fresh) }
+        ensures step { (c : Settings) (before made : List (List ℕ)) (t : Side) → FitsSide c self.old before made t → FitsSide c self.new before made (with_near t fresh) }
+        ensures window { window_of self.new.backlog ≡ window_of self.old.backlog }
     {
         self.clear(Phase::Up);
         self.tries = 0;
@@ -155,7 +161,8 @@ impl Station {
 
     /// Leaves Up.
     pub fn leave<'a>(&mut self, reason: Reason) -> Heard<'a>
-        ensures { (c : Settings) (before made : List (List ℕ)) (t : Side) → FitsSide c self.old before made t → FitsHeard c self.new before made result (leaves reason t) }
+        ensures step { (c : Settings) (before made : List (List ℕ)) (t : Side) → FitsSide c self.old before made t → FitsHeard c self.new before made result (leaves reason t) }
+        ensures window { window_of self.new.backlog ≡ window_of self.old.backlog }
     {
         self.clear(Phase::Down);
         Heard::down(reason)

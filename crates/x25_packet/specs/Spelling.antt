@@ -100,7 +100,8 @@ spelling_of v = header_of v ++ body_of v
 abbrev pub IsChannel : ℕ → Type 0
 IsChannel channel = (1 ≤ channel) × (channel ≤ 4095)
 
--- The fields are in their ranges, with at most `most` octets of user data in a CALL (section 5.2.1: 16).
+-- The fields are in their ranges, with at most `most` octets of user data in a CALL (section 5.2.1: 16; with fast
+-- select, section 6.16: 128).
 abbrev pub IsInRange : ℕ → PlainPacket → Type 0
 IsInRange most (call channel called calling facilities user) = IsChannel channel × IsAddress called × IsAddress calling
     × IsFacilityField facilities × (length user ≤ most)

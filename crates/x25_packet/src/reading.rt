@@ -14,6 +14,9 @@ use x25_bits::Seq;
 /// The most octets of user data in a CALL, section 5.2.1.
 pub const CALL_OCTETS: usize = 16;
 
+/// The most octets of user data in a CALL where it may be long: as with fast select, section 6.16.
+pub const LONG_CALL_OCTETS: usize = 128;
+
 /// The most octets of user data in a data packet.
 const DATA_OCTETS: usize = 4096;
 
@@ -167,19 +170,42 @@ fn read<'a>(most: usize, octets: &'a [u8]) -> Result<Packet<'a>, PacketError>
     }
 }
 
-/// The packet that the octets spell, with at most 16 octets of user data in a CALL.
+/// The packet that the octets spell, with at most `most` octets of user data in a CALL.
 ///
 /// ITU-T X.25 (10/96), section 5. Errors 20 to 26, the first that applies: fewer than three octets (20), the general
 /// format identifier (21), the type on this channel (22), then the body from its front to its end: octets missing (20),
 /// digits (24), facilities (25 and 26), octets left over (23).
+pub fn decode_within<'a>(most: usize, octets: &'a [u8]) -> Result<Packet<'a>, PacketError>
+    ensures exact { Gives result (packet_of most octets.now) }
+    // The first error, from the front.
+    ensures fault { IfErr result (IsFirstError most octets.now) }
+    // What is read is spelled so.
+    ensures found { IfOk result (λ v. Spells most (plain v) octets.now) }
+    // What is spelled so is read.
+    ensures only { (v : PlainPacket) → Spells most v octets.now → IsOkAnd result (λ w. plain w ≡ v) }
+{
+    read(most, octets)
+}
+
+/// The packet that the octets spell, with at most 16 octets of user data in a CALL. Errors are as in `decode_within`.
 pub fn decode<'a>(octets: &'a [u8]) -> Result<Packet<'a>, PacketError>
     ensures exact { Gives result (packet_of 16 octets.now) }
-    // The first error, from the front.
     ensures fault { IfErr result (IsFirstError 16 octets.now) }
-    // What is read is spelled so.
     ensures found { IfOk result (λ v. Spells 16 (plain v) octets.now) }
-    // What is spelled so is read.
     ensures only { (v : PlainPacket) → Spells 16 v octets.now → IsOkAnd result (λ w. plain w ≡ v) }
 {
-    read(CALL_OCTETS, octets)
+    decode_within(CALL_OCTETS, octets)
+}
+
+/// The packet that the octets spell, with at most 128 octets of user data in a CALL. Errors are as in `decode_within`.
+///
+/// 128 is what a CALL has with the facility fast select (ITU-T X.25 (10/96), section 6.16); here it has them without
+/// (profile).
+pub fn decode_long<'a>(octets: &'a [u8]) -> Result<Packet<'a>, PacketError>
+    ensures exact { Gives result (packet_of 128 octets.now) }
+    ensures fault { IfErr result (IsFirstError 128 octets.now) }
+    ensures found { IfOk result (λ v. Spells 128 (plain v) octets.now) }
+    ensures only { (v : PlainPacket) → Spells 128 v octets.now → IsOkAnd result (λ w. plain w ≡ v) }
+{
+    decode_within(LONG_CALL_OCTETS, octets)
 }

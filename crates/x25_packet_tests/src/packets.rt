@@ -1,6 +1,8 @@
 use std::alloc::Global;
 use std::test::Fail;
-use x25_packet::{NoMemory, Packet, PacketError, channel, decode, encode};
+use x25_packet::{
+    NoMemory, Packet, PacketError, channel, decode, decode_long, decode_within, encode,
+};
 
 /// Octets in hexadecimal, and the number of their error, 0 where they spell a packet.
 const ROWS: [(&str, u8); 29] = [
@@ -93,6 +95,49 @@ fn longest_bodies(rt: HostRuntime) -> Result<(), Fail> {
     Ok(())
 }
 
+/// The number of the error, 0 where there is none.
+fn number_in(read: Result<Packet, PacketError>) -> u8 {
+    match read {
+        Ok(_) => 0,
+        Err(error) => error.number(),
+    }
+}
+
+/// How many octets of user data a CALL has, and the errors that `decode` and `decode_long` tell of it.
+const USER_DATA: [(usize, u8, u8); 5] = [
+    (0, 0, 0),
+    (16, 0, 0),
+    (17, 23, 0),
+    (128, 23, 0),
+    (129, 23, 23),
+];
+
+#[test]
+fn user_data_of_a_call(rt: HostRuntime) -> Result<(), Fail> {
+    for (count, short, long) in USER_DATA {
+        let octets = lengthened(rt.alloc(), &[0x10, 0x01, 0x0B, 0, 0], count)?;
+        assert_eq!(rt; number_in(decode(octets.as_slice())), short, "{count}");
+        assert_eq!(rt; number_in(decode_long(octets.as_slice())), long, "{count}");
+        assert_eq!(rt; number_in(decode_within(count, octets.as_slice())), 0);
+        if let Some(fewer) = count.checked_sub(1) {
+            assert_eq!(rt; number_in(decode_within(fewer, octets.as_slice())), 23);
+        }
+        if let Ok(Packet::Call { user, .. }) = decode_long(octets.as_slice()) {
+            assert_eq!(rt; user, &octets[5..]);
+        }
+    }
+    Ok(())
+}
+
+#[test]
+fn long_reading_differs_in_user_data_alone(rt: HostRuntime) -> Result<(), Fail> {
+    for (text, number) in ROWS {
+        let octets = hex::decode(rt.alloc(), text)?;
+        assert_eq!(rt; number_in(decode_long(octets.as_slice())), number, "{text}");
+    }
+    Ok(())
+}
+
 #[test]
 fn channels(rt: HostRuntime) {
     let rows: [(&[u8], Option<u16>); 3] = [
@@ -118,25 +163,48 @@ fn another_channel(rt: HostRuntime) -> Result<(), Fail> {
     Ok(())
 }
 
-/// Each error, its number and its diagnostic code.
-const NUMBERS: [(PacketError, u8, u8); 8] = [
-    (PacketError::TooShort, 20, 38),
-    (PacketError::BadFormat, 21, 40),
-    (PacketError::Unidentified, 22, 33),
-    (PacketError::TooLong, 23, 39),
-    (PacketError::BadDigit, 24, 0),
-    (PacketError::BadFacility, 25, 65),
-    (PacketError::BadParameter, 26, 66),
-    (PacketError::NoMemory, 70, 0),
+/// Each error, its number, its diagnostic code and its message.
+const ERRORS: [(PacketError, u8, u8, &str); 8] = [
+    (PacketError::TooShort, 20, 38, "too few octets"),
+    (
+        PacketError::BadFormat,
+        21,
+        40,
+        "a wrong general format identifier",
+    ),
+    (
+        PacketError::Unidentified,
+        22,
+        33,
+        "an unidentifiable packet type",
+    ),
+    (PacketError::TooLong, 23, 39, "too many octets"),
+    (PacketError::BadDigit, 24, 0, "a wrong digit of an address"),
+    (
+        PacketError::BadFacility,
+        25,
+        65,
+        "a facility that is not allowed",
+    ),
+    (
+        PacketError::BadParameter,
+        26,
+        66,
+        "a facility parameter that is not allowed",
+    ),
+    (PacketError::NoMemory, 70, 0, "no memory"),
 ];
 
 #[test]
-fn errors_have_numbers(rt: HostRuntime) {
-    for (error, number, diagnostic) in NUMBERS {
+fn has_a_number_a_diagnostic_and_a_message(rt: HostRuntime) -> Result<(), Fail> {
+    for (error, number, diagnostic, message) in ERRORS {
+        let told = format!(in rt.alloc(); "{error}")?;
+        assert_eq!(rt; told.as_str(), message);
         assert_eq!(rt;
             (error.number(), error.diagnostic()),
             (number, diagnostic),
-            "{error}"
+            "{message}"
         );
     }
+    Ok(())
 }

@@ -50,9 +50,9 @@ pub held_long : (begun line : List ℕ) → HoldsLine begun line true → is_ref
 unfolding is_refused
 held_long begun line h = ap (λ sent. not (is_some sent)) (long_is begun line h)
 
-pub held_text : (begun line : List ℕ) → HoldsLine begun line true → answer_to begun ≡ codes "? 60\n"
+pub held_text : (long_data : Bool) (begun line : List ℕ) → HoldsLine begun line true → answer_to long_data begun ≡ codes "? 60\n"
 unfolding answer_to
-held_text begun line h = ap (λ sent. sent_text sent ++ codes "\n") (long_is begun line h)
+held_text long_data begun line h = ap (λ sent. sent_text long_data sent ++ codes "\n") (long_is begun line h)
 
 pub or_true : (b : Bool) → (b || true) ≡ true
 or_true true = refl

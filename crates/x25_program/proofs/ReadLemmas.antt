@@ -45,16 +45,16 @@ fewer counter count rest buffer more input split fits some before =
     took (suc n) (b ∷ buffer) h = let rest = took n buffer (omega arith) in omega (arith, rest)
 
 -- before anything is read
-pub start : (old : Option (List ℕ)) (line : List ℕ) (long : Bool) (text : List ℕ) (refused : Bool) (input : List ℕ)
+pub start : (long_data : Bool) (old : Option (List ℕ)) (line : List ℕ) (long : Bool) (text : List ℕ) (refused : Bool) (input : List ℕ)
     → line ≡ [] → long ≡ false → text ≡ [] → refused ≡ false
-    → Leads old old line long text refused input (output_of input) (has_refused input)
-start old line long text refused input no_line not_long no_text none = record {
+    → Leads long_data old old line long text refused input (output_of long_data input) (has_refused input)
+start long_data old line long text refused input no_line not_long no_text none = record {
   begun = [];
   is_open = tt;
   holds = (no_line, not_long);
   written = [];
   appends = appends_none old;
-  same = ap (λ t. t ++ output_of input) no_text;
+  same = ap (λ t. t ++ output_of long_data input) no_text;
   status = ap (λ b. b || has_refused input) none;
 }
 
@@ -62,8 +62,10 @@ pub if_some : (o : Option (List ℕ)) (P : List ℕ → Type 0) → ((input : Li
 if_some None P f = tt
 if_some (Some input) P f = f input refl
 
-pub nothing_written : (o w : Option (List ℕ)) (K : List ℕ → Type 0) → IfSome o (λ input. K input → AppendsBeginning w w (output_of input))
-nothing_written o w K = if_some o (λ input. K input → AppendsBeginning w w (output_of input)) (λ input e few. ([], output_of input, refl, appends_none w))
+pub nothing_written : (long_data : Bool) (o w : Option (List ℕ)) (K : List ℕ → Type 0)
+    → IfSome o (λ input. K input → AppendsBeginning w w (output_of long_data input))
+nothing_written long_data o w K =
+    if_some o (λ input. K input → AppendsBeginning w w (output_of long_data input)) (λ input e few. ([], output_of long_data input, refl, appends_none w))
 
 module _ (o : Option (List ℕ)) (r : Result ℕ Fault) (K A C : List ℕ → Type 0) (status : List ℕ → ℕ)
     (told : (input : List ℕ) → o ≡ Some input → K input → MatchResult r (λ n. A input × (n ≡ status input)) (λ _. C input)) where

@@ -33,25 +33,26 @@ sent_in (mark ∷ space ∷ digits) = if space == 32
 abbrev pub n1 : ℕ
 n1 = 4099
 
-abbrev pub sent_text : Option (Role × List ℕ) → List ℕ
-sent_text None = codes "? 60"
-sent_text (Some sent) = mark_of sent.0 ++ reading_text (frame_of sent.0 n1 sent.1)
+-- by whether the user data of a CALL may be long
+abbrev pub sent_text : Bool → Option (Role × List ℕ) → List ℕ
+sent_text long_data None = codes "? 60"
+sent_text long_data (Some sent) = mark_of sent.0 ++ reading_text long_data (frame_of sent.0 n1 sent.1)
 
 -- the line that answers a line
-unfoldable pub answer_to : List ℕ → List ℕ
-answer_to line = sent_text (sent_in line) ++ codes "\n"
+unfoldable pub answer_to : Bool → List ℕ → List ℕ
+answer_to long_data line = sent_text long_data (sent_in line) ++ codes "\n"
 
 -- the line is none of these
 unfoldable pub is_refused : List ℕ → Bool
 is_refused line = not (is_some (sent_in line))
 
 -- the text that answers the octets read
-abbrev pub output_of : List ℕ → List ℕ
-output_of input = flat_map answer_to (lines_of input)
+abbrev pub output_of : Bool → List ℕ → List ℕ
+output_of long_data input = flat_map (answer_to long_data) (lines_of input)
 
 abbrev pub has_refused : List ℕ → Bool
 has_refused input = list_any is_refused (lines_of input)
 
--- the status that `decode` ends with
+-- the status that `decode` ends with, whether user data may be long or not
 abbrev pub status_of : List ℕ → ℕ
 status_of input = if has_refused input then 1 else 0

@@ -15,22 +15,22 @@ HoldsLine begun line is_long = (line ≡ take most_line begun) × (is_long ≡ n
 
 -- The writer held `old` at first and holds `now`. `text` waits to be written, `line` is what is held of the open line, and
 -- with `rest` to come the writer gets `all` in the end; `any` then says whether a line was refused.
-pub record Leads (old now : Option (List ℕ)) (line : List ℕ) (is_long : Bool) (text : List ℕ) (refused : Bool) (rest all : List ℕ) (any : Bool) : Type 0 where
+pub record Leads (long_data : Bool) (old now : Option (List ℕ)) (line : List ℕ) (is_long : Bool) (text : List ℕ) (refused : Bool) (rest all : List ℕ) (any : Bool) : Type 0 where
   pub begun : List ℕ
   pub is_open : IsOpen begun
   pub holds : HoldsLine begun line is_long
   pub written : List ℕ
   pub appends : Appends old now written
-  pub same : written ++ text ++ output_of (begun ++ rest) ≡ all
+  pub same : written ++ text ++ output_of long_data (begun ++ rest) ≡ all
   pub status : (refused || has_refused (begun ++ rest)) ≡ any
 
 abbrev pub LeadsFrom : Option (List ℕ) → Option (List ℕ) → Decoder → List ℕ → List ℕ → Bool → Type 0
-LeadsFrom old now d rest all any = Leads old now d.line d.is_long d.text d.is_refused rest all any
+LeadsFrom old now d rest all any = Leads d.long_data old now d.line d.is_long d.text d.is_refused rest all any
 
 -- Written is all of the text but the answers to the open line and to the rest.
-pub record WritesEnded (old now : Option (List ℕ)) (rest all : List ℕ) : Type 0 where
+pub record WritesEnded (long_data : Bool) (old now : Option (List ℕ)) (rest all : List ℕ) : Type 0 where
   pub begun : List ℕ
   pub is_open : IsOpen begun
   pub part : List ℕ
   pub appends : Appends old now part
-  pub same : part ++ output_of (begun ++ rest) ≡ all
+  pub same : part ++ output_of long_data (begun ++ rest) ≡ all

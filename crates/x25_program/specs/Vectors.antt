@@ -1,6 +1,6 @@
 -- What `vectors` writes: a line for the check value of the FCS and for each stored vector, its name and `ok` or `bad`
 -- (profile).
-use Rattle.std.specs.Prelude.{ℕ, ◌==◌, ◌&&◌, Bool, List, [], ◌∷◌, ◌++◌, codes, if◌then◌else◌}
+use Rattle.std.specs.Prelude.{ℕ, ◌==◌, ◌&&◌, Bool, false, List, [], ◌∷◌, ◌++◌, codes, if◌then◌else◌}
 use Rattle.std.specs.List.{flat_map, list_all}
 use Rattle.std.specs.Str.{bytes_eq}
 use Rattle.x25_bits.specs.Fcs.{fcs_of}
@@ -42,7 +42,7 @@ verdict name is_right = name ++ (if is_right then codes " ok\n" else codes " bad
 
 -- the line is answered by the answer
 abbrev pub is_right : Stored → Bool
-is_right v = bytes_eq (answer_to v.line) v.answer
+is_right v = bytes_eq (answer_to false v.line) v.answer
 
 -- the check value of the FCS, 0x906E
 abbrev pub is_check_right : Bool

@@ -62,23 +62,25 @@ fn read_line(line: &[u8], octets: &mut [u8]) -> Option<(Role, usize)>
 }
 
 /// Appends what the octets read as.
-fn push_reading(from: Role, octets: &[u8], text: &mut Text)
+fn push_reading(long_data: bool, from: Role, octets: &[u8], text: &mut Text)
     requires room { length text.old + MOST_TEXT ≤ ROOM }
-    ensures text { text.new ≡ text.old ++ reading_text (frame_of from n1 octets.now) }
+    ensures text { text.new ≡ text.old ++ reading_text long_data (frame_of from n1 octets.now) }
     ensures size { length text.new ≤ length text.old + MOST_TEXT }
 {
     match decode(from, N1, octets) {
-        Ok(frame) => push_frame(&frame, text),
+        Ok(frame) => push_frame(long_data, &frame, text),
         Err(error) => push_fault(error, text),
     }
 }
 
 /// Appends the line that answers a line, and says whether that line was refused. `octets` is overwritten.
+///
+/// With `long_data` the user data of a CALL has at most 128 octets, else at most 16.
 #[tactic(auto, unfolding(crate::specs::Decoded::answer_to, crate::specs::Decoded::is_refused))]
-pub fn answer(line: &[u8], octets: &mut [u8], text: &mut Text) -> bool
+pub fn answer(long_data: bool, line: &[u8], octets: &mut [u8], text: &mut Text) -> bool
     requires octets { length octets.old ≡ MOST_OCTETS }
     requires room { length text.old + MOST_ANSWER ≤ ROOM }
-    ensures text { text.new ≡ text.old ++ answer_to line.now }
+    ensures text { text.new ≡ text.old ++ answer_to long_data line.now }
     ensures refused { result ≡ is_refused line.now }
 {
     match read_line(line, octets) {
@@ -87,7 +89,7 @@ pub fn answer(line: &[u8], octets: &mut [u8], text: &mut Text) -> bool
                 Role::Dte => text.push(b"> "),
                 Role::Dce => text.push(b"< "),
             }
-            push_reading(from, &octets[..count], text);
+            push_reading(long_data, from, &octets[..count], text);
             text.push(b"\n");
             false
         }

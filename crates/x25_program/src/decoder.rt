@@ -21,6 +21,7 @@ pub struct Decoder {
     octets: [u8; MOST_OCTETS],
     text: Text,
     is_refused: bool,
+    long_data: bool,
     ghost fits: { length line ≤ 8208 },
 }
 
@@ -33,9 +34,12 @@ impl Decoder {
     ghost use Rattle.x25_program.specs.Written.{AppendsBeginning};
 
     /// Nothing is held and nothing waits.
-    pub fn new(alloc: Global) -> Result<Decoder, AllocError>
+    ///
+    /// With `long_data` the user data of a CALL has at most 128 octets, else at most 16.
+    pub fn new(alloc: Global, long_data: bool) -> Result<Decoder, AllocError>
         ensures fresh { IfOk result (λ d. (old : Option (List ℕ)) (input : List ℕ)
-            → LeadsFrom old old d input (output_of input) (has_refused input)) }
+            → LeadsFrom old old d input (output_of long_data input) (has_refused input)) }
+        ensures long_data { IfOk result (λ d. d.long_data ≡ long_data) }
     {
         let line = Text::new(alloc)?;
         let text = Text::new(alloc)?;
@@ -45,6 +49,7 @@ impl Decoder {
             octets: [0; MOST_OCTETS],
             text,
             is_refused: false,
+            long_data,
         })
     }
 
@@ -58,6 +63,7 @@ impl Decoder {
         ensures line { self.new.line ≡ self.old.line }
         ensures is_long { self.new.is_long ≡ self.old.is_long }
         ensures is_refused { self.new.is_refused ≡ self.old.is_refused }
+        ensures long_data { self.new.long_data ≡ self.old.long_data }
     {
         write_all(writer, self.text.as_slice())?;
         self.text.clear();
@@ -70,6 +76,7 @@ impl Decoder {
             → HoldsLine (begun ++ part.now) self.new.line self.new.is_long }
         ensures text { self.new.text ≡ self.old.text }
         ensures is_refused { self.new.is_refused ≡ self.old.is_refused }
+        ensures long_data { self.new.long_data ≡ self.old.long_data }
     {
         let room = MOST_LINE - self.line.len();
         if part.len() > room {
@@ -84,11 +91,12 @@ impl Decoder {
     fn answer_held(&mut self)
         requires room { length self.old.text + MOST_ANSWER ≤ ROOM }
         ensures text { (begun : List ℕ) → HoldsLine begun self.old.line self.old.is_long
-            → self.new.text ≡ self.old.text ++ answer_to begun }
+            → self.new.text ≡ self.old.text ++ answer_to self.old.long_data begun }
         ensures refused { (begun : List ℕ) → HoldsLine begun self.old.line self.old.is_long
             → self.new.is_refused ≡ (self.old.is_refused || is_refused begun) }
         ensures line { self.new.line ≡ [] }
         ensures is_long { self.new.is_long ≡ false }
+        ensures long_data { self.new.long_data ≡ self.old.long_data }
     {
         if self.is_long {
             self.text.push(b"? 60\n");
@@ -96,7 +104,12 @@ impl Decoder {
             self.line.clear();
             self.is_long = false;
         } else {
-            let refused = answer(self.line.as_slice(), &mut self.octets, &mut self.text);
+            let refused = answer(
+                self.long_data,
+                self.line.as_slice(),
+                &mut self.octets,
+                &mut self.text,
+            );
             self.is_refused |= refused;
             self.line.clear();
         }
@@ -112,6 +125,7 @@ impl Decoder {
             (λ _. AppendsBeginning old (W.contents writer.new) all) }
         ensures marked { OnErr result (W.is_marked writer.new ≡ true) }
         ensures line { self.new.line ≡ self.old.line }
+        ensures long_data { self.new.long_data ≡ self.old.long_data }
     {
         if self.text.len() > ROOM - MOST_ANSWER {
             return match self.flush(writer) {
@@ -131,12 +145,13 @@ impl Decoder {
             → MatchResult result (λ _. LeadsFrom old (W.contents writer.new) self.new rest all any)
             (λ _. AppendsBeginning old (W.contents writer.new) all) }
         ensures marked { OnErr result (W.is_marked writer.new ≡ true) }
+        ensures long_data { self.new.long_data ≡ self.old.long_data }
     {
         if let Err(failed) = self.make_room(writer) {
             return Err(failed);
         }
         if self.line.is_empty() {
-            let refused = answer(tail, &mut self.octets, &mut self.text);
+            let refused = answer(self.long_data, tail, &mut self.octets, &mut self.text);
             self.is_refused |= refused;
             return Ok(());
         }
@@ -154,6 +169,7 @@ impl Decoder {
             → MatchResult result (λ _. LeadsFrom old (W.contents writer.new) self.new rest all any)
             (λ _. AppendsBeginning old (W.contents writer.new) all) }
         ensures marked { OnErr result (W.is_marked writer.new ≡ true) }
+        ensures long_data { self.new.long_data ≡ self.old.long_data }
     {
         let mut left = piece;
         while let Some((tail, after)) = split_line(left) {
@@ -212,7 +228,7 @@ impl Decoder {
             → AppendsBeginning old (W.contents writer.new) all }
         ensures ended { (old : Option (List ℕ)) (rest all : List ℕ) (any : Bool)
             → LeadsFrom old (W.contents writer.old) self.old rest all any
-            → result ≡ Fault.Read → WritesEnded old (W.contents writer.new) rest all }
+            → result ≡ Fault.Read → WritesEnded self.old.long_data old (W.contents writer.new) rest all }
         ensures memory { result ≢ Fault.NoMemory }
         ensures marked { result ≡ Fault.Write → W.is_marked writer.new ≡ true }
     {

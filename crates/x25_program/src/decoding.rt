@@ -33,7 +33,7 @@ fn decode_pieces<R: Source, W: Sink>(
     ensures ended { (old : Option (List ℕ)) (input all : List ℕ) (any : Bool) → R.remaining reader.old ≡ Some input
         → LeadsFrom old (W.contents writer.old) decoder.old input all any
         → IsErrOf result Fault.Read
-        → (rest : List ℕ) × (R.remaining reader.new ≡ Some rest) × WritesEnded old (W.contents writer.new) rest all }
+        → (rest : List ℕ) × (R.remaining reader.new ≡ Some rest) × WritesEnded decoder.old.long_data old (W.contents writer.new) rest all }
     ensures memory { IsErrOf result Fault.NoMemory → ⊥ }
     ensures read { IsErrOf result Fault.Read → R.is_marked reader.new ≡ true }
     ensures write { IsErrOf result Fault.Write → W.is_marked writer.new ≡ true }
@@ -55,11 +55,13 @@ fn decode_pieces<R: Source, W: Sink>(
 /// Answers each line that the reader gives by a line to the writer, and answers the status: 1 where a line was refused,
 /// else 0.
 ///
-/// At most one line of 8,208 characters is held, and after each read the answers to the lines that have ended are
-/// written. The buffers are made first: `NoMemory` comes with nothing read and nothing written. A reader is called at
-/// most 2^64 - 1 times; the clauses on the text speak of inputs of fewer octets than that. Profile.
+/// With `long` the user data of a CALL has at most 128 octets, else at most 16. At most one line of 8,208 characters is
+/// held, and after each read the answers to the lines that have ended are written. The buffers are made first: `NoMemory`
+/// comes with nothing read and nothing written. A reader is called at most 2^64 - 1 times; the clauses on the text speak
+/// of inputs of fewer octets than that. Profile.
 pub fn decode_lines<R: Source, W: Sink>(
     alloc: Global,
+    long: bool,
     reader: &mut R,
     writer: &mut W,
 ) -> Result<u8, Fault>
@@ -68,17 +70,17 @@ pub fn decode_lines<R: Source, W: Sink>(
     ensures zero_or_one { IfOk result (λ status. status ≤ 1) }
     // What is written is the text of all that was read.
     ensures text { OnOk result (IfSome (R.remaining reader.old) (λ input. length input < 2 ^ 64 - 1
-        → Appends (W.contents writer.old) (W.contents writer.new) (output_of input))) }
+        → Appends (W.contents writer.old) (W.contents writer.new) (output_of long input))) }
     ensures status { IfOk result (λ status. IfSome (R.remaining reader.old) (λ input. length input < 2 ^ 64 - 1
         → status ≡ status_of input)) }
 
     // What was written before a fault is a beginning of it.
     ensures fault { OnErr result (IfSome (R.remaining reader.old) (λ input. length input < 2 ^ 64 - 1
-        → AppendsBeginning (W.contents writer.old) (W.contents writer.new) (output_of input))) }
+        → AppendsBeginning (W.contents writer.old) (W.contents writer.new) (output_of long input))) }
     // At a failed read the answers to all lines that had ended are written.
     ensures ended { IsErrOf result Fault.Read → IfSome (R.remaining reader.old) (λ input.
         (rest : List ℕ) × (R.remaining reader.new ≡ Some rest)
-        × WritesEnded (W.contents writer.old) (W.contents writer.new) rest (output_of input)) }
+        × WritesEnded long (W.contents writer.old) (W.contents writer.new) rest (output_of long input)) }
 
     ensures memory { IsErrOf result Fault.NoMemory → (reader.new ≡ reader.old) × (writer.new ≡ writer.old) }
     ensures read { IsErrOf result Fault.Read → R.is_marked reader.new ≡ true }
@@ -87,7 +89,7 @@ pub fn decode_lines<R: Source, W: Sink>(
     let Ok(mut piece) = vec![in alloc; 0u8; PIECE] else {
         return Err(Fault::NoMemory);
     };
-    let Ok(mut decoder) = Decoder::new(alloc) else {
+    let Ok(mut decoder) = Decoder::new(alloc, long) else {
         return Err(Fault::NoMemory);
     };
     decode_pieces(&mut decoder, piece.as_mut_slice(), reader, writer)

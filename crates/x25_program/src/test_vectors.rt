@@ -128,7 +128,7 @@ fn holds(vector: &Vector, octets: &mut [u8], text: &mut Text) -> bool
     ensures { result ≡ is_right (shown vector.now) }
 {
     text.clear();
-    answer(vector.line.as_bytes(), octets, text);
+    answer(false, vector.line.as_bytes(), octets, text);
     text.as_slice() == vector.answer.as_bytes()
 }
 

@@ -23,7 +23,7 @@ fn tells_the_read_that_fails(rt: HostRuntime) -> Result<(), Fail> {
     for before in 0..READS + 3 {
         let mut reader = FailingReader::new(TRACE.as_bytes(), 7, before);
         let mut writer = Device::new(Vec::new(rt.alloc()));
-        let result = decode_lines(rt.alloc(), &mut reader, &mut writer);
+        let result = decode_lines(rt.alloc(), false, &mut reader, &mut writer);
         let written = writer.into_inner();
         assert_eq!(rt; result, wanted(before < READS, Fault::Read));
         assert!(rt; ANSWERS.as_bytes().starts_with(written.as_slice()));
@@ -37,7 +37,7 @@ fn tells_the_read_of_a_device_that_fails(rt: HostRuntime) -> Result<(), Fail> {
     for before in 0..READS + 3 {
         let mut reader = Device::new(FailingReader::new(TRACE.as_bytes(), 7, before));
         let mut writer = Device::new(Vec::new(rt.alloc()));
-        let result = decode_lines(rt.alloc(), &mut reader, &mut writer);
+        let result = decode_lines(rt.alloc(), false, &mut reader, &mut writer);
         let written = writer.into_inner();
         assert_eq!(rt; result, wanted(before < READS, Fault::Read));
         assert!(rt; ANSWERS.as_bytes().starts_with(written.as_slice()));
@@ -50,7 +50,7 @@ fn tells_the_write_that_fails(rt: HostRuntime) -> Result<(), Fail> {
     for before in 0..WRITES + 3 {
         let mut reader = Device::new(TRACE.as_bytes());
         let mut writer = FailingWriter::new(Vec::new(rt.alloc()), 9, before);
-        let result = decode_lines(rt.alloc(), &mut reader, &mut writer);
+        let result = decode_lines(rt.alloc(), false, &mut reader, &mut writer);
         assert_eq!(rt; result, wanted(before < WRITES, Fault::Write));
         assert!(rt; ANSWERS.as_bytes().starts_with(writer.octets()));
         assert_eq!(rt; writer.octets().len(), ANSWERS.len().min(9 * before));
@@ -63,7 +63,7 @@ fn tells_the_write_of_a_device_that_fails(rt: HostRuntime) -> Result<(), Fail> {
     for before in 0..WRITES + 3 {
         let mut reader = Device::new(TRACE.as_bytes());
         let mut writer = Device::new(FailingWriter::new(Vec::new(rt.alloc()), 9, before));
-        let result = decode_lines(rt.alloc(), &mut reader, &mut writer);
+        let result = decode_lines(rt.alloc(), false, &mut reader, &mut writer);
         let written = writer.into_inner();
         assert_eq!(rt; result, wanted(before < WRITES, Fault::Write));
         assert!(rt; ANSWERS.as_bytes().starts_with(written.octets()));
@@ -78,7 +78,10 @@ fn answers_in_any_pieces(rt: HostRuntime) -> Result<(), Fail> {
     for most in 1..7 {
         let mut reader = FailingReader::new(TRACE.as_bytes(), most, 1000);
         let mut writer = FailingWriter::new(Vec::new(rt.alloc()), most, 1000);
-        assert_eq!(rt; decode_lines(rt.alloc(), &mut reader, &mut writer), Ok(1));
+        assert_eq!(rt;
+            decode_lines(rt.alloc(), false, &mut reader, &mut writer),
+            Ok(1)
+        );
         assert_eq!(rt; writer.octets(), ANSWERS.as_bytes());
     }
     Ok(())

@@ -1,1 +1,3 @@
-pub mod ProgramLemmas
+pub mod NumberLemmas
+pub mod ChoiceLemmas
+pub mod TaskLemmas

@@ -1,9 +1,21 @@
 -- The plain words of the command line, and what they say (profile).
-use Rattle.std.specs.Prelude.{◌≡◌, ℕ, List, [], ◌∷◌, codes}
+use Rattle.std.specs.Prelude.{◌≡◌, ℕ, Bool, true, false, List, [], ◌∷◌, codes}
 use Rattle.x25_settings.specs.declared.words.Task.{Task}
-use Rattle.x25_settings.specs.declared.words.Task.TheVariants.{Decode, Vectors}
+use Rattle.x25_settings.specs.declared.words.Task.TheVariants.{Decode, Vectors, Sim}
+use Rattle.x25_settings.specs.Simulation as simulation
+
+abbrev pub long_words : Bool → List (List ℕ)
+long_words true = codes "--long" ∷ []
+long_words false = []
 
 -- the words are plain, and they say the task
 abbrev pub Say : List (List ℕ) → Task → Type 0
-Say words Decode = words ≡ codes "decode" ∷ []
+Say words (Decode long) = words ≡ codes "decode" ∷ long_words long
 Say words Vectors = words ≡ codes "vectors" ∷ []
+Say words (Sim s) = (rest : List (List ℕ)) × (words ≡ codes "sim" ∷ rest) × simulation.SaySimulation rest s
+
+-- the numbers of a task
+abbrev pub AreInRange : Task → Type 0
+AreInRange (Decode long) = Unit {0}
+AreInRange Vectors = Unit {0}
+AreInRange (Sim s) = simulation.AreInRange s

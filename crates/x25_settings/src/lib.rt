@@ -1,6 +1,9 @@
 //! What the words of the command line of `x25` ask for.
 #![tactic(auto)]
 
+mod options;
+mod parser;
 mod words;
 
+pub use options::Simulation;
 pub use words::{SettingsError, Task, settings};

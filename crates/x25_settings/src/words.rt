@@ -1,12 +1,12 @@
 //! What the words of the command line ask for.
-ghost use Rattle.std.specs.Prelude.{◌≡◌, ◌↔◌, ◌∷◌, [], IfOk, IsTrue, MatchResult, map};
-ghost use Rattle.clap.specs.Simple.{app_of};
-ghost use Rattle.x25_settings.specs.Program.{program};
-ghost use Rattle.x25_settings.specs.Words.{Say};
+ghost use Rattle.std.specs.Prelude.{◌≡◌, Ok, IfOk, map};
+ghost use Rattle.x25_settings.specs.Choosing.{decode_in, task_behind, task_in, vectors_in};
+ghost use Rattle.x25_settings.specs.Words.{AreInRange, Say};
 ghost use Rattle.x25_settings.specs.declared.words.SettingsError.TheVariants.{NoMemory};
-ghost use Rattle.x25_settings.specs.declared.words.Task.{Task};
+ghost use Rattle.x25_settings.specs.declared.words.Task.{Task as TaskValue};
 
-use clap::Command;
+use crate::options::{Simulation, is, read_simulation, split_word};
+use crate::parser::command;
 use clap::error::ErrorKind;
 use std::alloc::{AllocError, Global};
 use std::convert::AsStr;
@@ -14,8 +14,12 @@ use std::convert::AsStr;
 /// What to run.
 #[derive(Clone, Copy, Debug, PartialEq, Eq)]
 pub enum Task {
-    Decode,
+    Decode {
+        /// A CALL may have 128 octets of user data, and else 16.
+        long: bool,
+    },
     Vectors,
+    Sim(Simulation),
 }
 
 /// Why nothing runs.
@@ -59,64 +63,81 @@ impl From<AllocError> for SettingsError {
     }
 }
 
-fn command<'a>(alloc: Global) -> Result<Command<'a>, AllocError>
-    ensures { IfOk result (λ c. app_of c ≡ program) }
-{
-    let decode = Command::new(alloc, "decode").about(
-        "Answer lines of octets, `> HEX` from the DTE and `< HEX` from the DCE, by lines of text",
-    );
-    let vectors = Command::new(alloc, "vectors").about("Run the stored test vectors");
-    Command::new(alloc, "x25")
-        .about("X.25 packet layer over LAPB, on lines of text")
-        .no_binary_name(true)
-        .subcommand_required(true)
-        .subcommand(decode)?
-        .subcommand(vectors)
-}
-
-/// Whether this is the only word.
-fn is_alone<S: AsStr>(words: &[S], name: &str) -> bool
-    ensures { IsTrue result ↔ (map S.text words.now ≡ name.now ∷ []) }
+/// What the words behind `decode` say, where they are plain.
+fn read_decode<S: AsStr>(words: &[S]) -> Option<Task>
+    ensures { result ≡ decode_in (map S.text words.now) }
 {
     match words {
-        [word] => word.as_str() == name,
-        _ => false,
+        [] => Some(Task::Decode { long: false }),
+        [word] if is(word.as_str(), "--long") => Some(Task::Decode { long: true }),
+        _ => None,
     }
 }
 
-/// The usage fault of words that the parser takes and that are not plain, as a lone `--`.
-fn not_plain(alloc: Global) -> SettingsError {
-    let Ok(mut program) = command(alloc) else {
+/// What the words behind `vectors` say, where they are plain.
+fn read_vectors<S: AsStr>(words: &[S]) -> Option<Task>
+    ensures { result ≡ vectors_in (map S.text words.now) }
+{
+    match words {
+        [] => Some(Task::Vectors),
+        _ => None,
+    }
+}
+
+/// What a word and those behind it say, where they are plain.
+fn read_behind<S: AsStr>(word: &str, words: &[S]) -> Option<Task>
+    ensures { result ≡ task_behind word.now (map S.text words.now) }
+{
+    if is(word, "decode") {
+        read_decode(words)
+    } else if is(word, "vectors") {
+        read_vectors(words)
+    } else if is(word, "sim") {
+        Some(Task::Sim(read_simulation(words)?))
+    } else {
+        None
+    }
+}
+
+/// What the words say, where they are plain.
+fn read_task<S: AsStr>(words: &[S]) -> Option<Task>
+    ensures { result ≡ task_in (map S.text words.now) }
+{
+    let (word, behind) = split_word(words)?;
+    read_behind(word, behind)
+}
+
+/// What is told of words that the parser takes and that aren't plain.
+const NOT_PLAIN: &str =
+    "each option is one word, and its number the next one, without a sign and leading zeros: `--k 3`";
+
+/// The usage fault of words that aren't plain: the parser's, or one for words that the parser takes, as `--k=3`.
+fn usage_fault<'a, S: AsStr>(alloc: Global, words: &'a [S]) -> SettingsError {
+    let (Ok(parser), Ok(mut program)) = (command(alloc), command(alloc)) else {
         return SettingsError::NoMemory;
     };
-    match program.error(ErrorKind::UnknownArgument, "unexpected words") {
-        Ok(error) => SettingsError::Usage(error),
-        Err(_) => SettingsError::NoMemory,
+    let error = match parser.try_get_matches_from(words) {
+        Ok(_) => program.error(ErrorKind::UnknownArgument, NOT_PLAIN),
+        Err(error) => Ok(error),
+    };
+    match error {
+        Ok(error) if error.kind() != ErrorKind::OutOfMemory => SettingsError::Usage(error),
+        _ => SettingsError::NoMemory,
     }
 }
 
 /// What the words after the program's name ask for.
 ///
-/// Plain words are `decode` or `vectors`; all others are a usage fault, help words too. Profile.
+/// Plain words are `decode`, which `--long` may follow, `vectors`, or `sim` and then each at most once and in any order
+/// `--tap`, `--k N`, `--n2 N` and `--channels N`, with N in decimal without leading zeros, from 1 to 7, 255 and 16; what
+/// isn't said is 7, 10 and 1. All others are a usage fault, help words too. Plain words take no memory. Profile.
 pub fn settings<'a, S: AsStr>(alloc: Global, words: &'a [S]) -> Result<Task, SettingsError>
-    ensures plain { (task : Task) → Say (map S.text words.now) task
-        → MatchResult result (λ t. t ≡ task) (λ e. e ≡ SettingsError.NoMemory) }
+    ensures plain { (task : TaskValue) → Say (map S.text words.now) task → result ≡ Ok task }
     ensures only { IfOk result (Say (map S.text words.now)) }
+    ensures range { IfOk result AreInRange }
 {
-    let program = command(alloc)?;
-    match program.try_get_matches_from(words) {
-        Ok(_) => {
-            if is_alone(words, "decode") {
-                Ok(Task::Decode)
-            } else if is_alone(words, "vectors") {
-                Ok(Task::Vectors)
-            } else {
-                Err(not_plain(alloc))
-            }
-        }
-        Err(error) => match error.kind() {
-            ErrorKind::OutOfMemory => Err(SettingsError::NoMemory),
-            _ => Err(SettingsError::Usage(error)),
-        },
+    match read_task(words) {
+        Some(task) => Ok(task),
+        None => Err(usage_fault(alloc, words)),
     }
 }

@@ -1,9 +1,57 @@
 use std::test::Fail;
-use x25_settings::{SettingsError, Task, settings};
+use x25_settings::{SettingsError, Simulation, Task, settings};
+
+const DEFAULTS: Simulation = Simulation {
+    tap: false,
+    k: 7,
+    n2: 10,
+    channels: 1,
+};
 
 #[test]
 fn takes_plain_words_alone(rt: HostRuntime) {
-    let plain: [(&[&str], Task); 2] = [(&["decode"], Task::Decode), (&["vectors"], Task::Vectors)];
+    let plain: [(&[&str], Task); 8] = [
+        (&["decode"], Task::Decode { long: false }),
+        (&["decode", "--long"], Task::Decode { long: true }),
+        (&["vectors"], Task::Vectors),
+        (&["sim"], Task::Sim(DEFAULTS)),
+        (
+            &["sim", "--tap"],
+            Task::Sim(Simulation {
+                tap: true,
+                ..DEFAULTS
+            }),
+        ),
+        (
+            &["sim", "--n2", "1"],
+            Task::Sim(Simulation { n2: 1, ..DEFAULTS }),
+        ),
+        (
+            &[
+                "sim",
+                "--channels",
+                "16",
+                "--n2",
+                "255",
+                "--tap",
+                "--k",
+                "1",
+            ],
+            Task::Sim(Simulation {
+                tap: true,
+                k: 1,
+                n2: 255,
+                channels: 16,
+            }),
+        ),
+        (
+            &["sim", "--k", "7", "--channels", "3"],
+            Task::Sim(Simulation {
+                channels: 3,
+                ..DEFAULTS
+            }),
+        ),
+    ];
     for (words, task) in plain {
         let Ok(answer) = settings(rt.alloc(), words) else {
             assert!(rt; false, "plain words");
@@ -11,36 +59,79 @@ fn takes_plain_words_alone(rt: HostRuntime) {
         };
         assert_eq!(rt; answer, task);
     }
-    let others: [&[&str]; 9] = [
+}
+
+#[test]
+fn takes_no_other_words(rt: HostRuntime) {
+    let others: [&[&str]; 26] = [
         &[],
-        &["sim"],
         &["dec"],
         &["decode", "decode"],
         &["decode", "--"],
         &["--", "decode"],
         &["decode", "--k=3"],
+        &["decode", "--long", "--long"],
+        &["vectors", "--long"],
         &["help"],
         &["--help"],
+        &["sim", "--k", "8"],
+        &["sim", "--k", "0"],
+        &["sim", "--k", "03"],
+        &["sim", "--k", "+3"],
+        &["sim", "--k", "-3"],
+        &["sim", "--k", ""],
+        &["sim", "--k=3"],
+        &["sim", "--k"],
+        &["sim", "--k", "3", "--k", "3"],
+        &["sim", "--tap", "--tap"],
+        &["sim", "--n2", "256"],
+        &["sim", "--channels", "17"],
+        &["sim", "--chan", "2"],
+        &["sim", "--tap", "--"],
+        &["sim", "script"],
+        &["sim", "--help"],
     ];
     for words in others {
         let is_usage = matches!(settings(rt.alloc(), words), Err(SettingsError::Usage(_)));
         assert!(rt; is_usage);
     }
 }
-
 /// What a usage fault says, in the words of `clap`.
 const SAYS: &str =
-    "error: unrecognized subcommand 'sim'\n\nUsage: x25 <COMMAND>\n\nFor more information, try '--help'.\n";
+    "error: unrecognized subcommand 'trace'\n\nUsage: x25 <COMMAND>\n\nFor more information, try '--help'.\n";
 
 /// What asks for help is told.
 const HELP: &str =
     "X.25 packet layer over LAPB, on lines of text\n\nUsage: x25 <COMMAND>\n\nCommands:\n  decode   Answer lines of octets, `> HEX` from the DTE and `< HEX` from the DCE, by lines of text\n  vectors  Run the stored test vectors\n  help     Print this message or the help of the given subcommand(s)\n\nOptions:\n  -h, --help  Print help\n";
 
+/// A number that is out of its range.
+const RANGE: &str =
+    "error: invalid value '8' for '--k <N>': 8 is not in 1..=7\n\nFor more information, try '--help'.\n";
+
+/// Words that the parser takes.
+const PLAIN: &str =
+    "error: each option is one word, and its number the next one, without a sign and leading zeros: `--k 3`\n\nUsage: x25 <COMMAND>\n\nFor more information, try '--help'.\n";
+
+/// The help of `decode`.
+const DECODE: &str =
+    "Answer lines of octets, `> HEX` from the DTE and `< HEX` from the DCE, by lines of text\n\nUsage: x25 decode [--long] < TRACE\n\nOptions:\n      --long  Take up to 128 octets of user data in a CALL, in place of 16\n  -h, --help  Print help\n";
+
+/// The help of `sim`.
+const SIM: &str =
+    "Run a script of two stations joined by a line, and write what each end is told\n\nUsage: x25 sim [OPTIONS] < SCRIPT\n\nOptions:\n      --tap           Tell the frames of each step behind its entries, as lines for `decode`\n      --k <N>         The window of the link: 1 to 7 [default: 7]\n      --n2 <N>        How often an unanswered command of the link is sent again: 1 to 255 [default: 10]\n      --channels <N>  The number of logical channels: 1 to 16 [default: 1]\n  -h, --help          Print help\n\nExamples:\n  x25 sim < examples/call.script\n  x25 sim --tap --channels 2 < examples/call.script | grep '^[<>]' | x25 decode\n";
+
 #[test]
 fn says_what_is_wrong(rt: HostRuntime) -> Result<(), Fail> {
-    let rows = [("sim", SAYS), ("--help", HELP)];
-    for (word, text) in rows {
-        let Err(error) = settings(rt.alloc(), &[word]) else {
+    let rows: [(&[&str], &str); 6] = [
+        (&["trace"], SAYS),
+        (&["--help"], HELP),
+        (&["decode", "--help"], DECODE),
+        (&["sim", "--k", "8"], RANGE),
+        (&["sim", "--k=3"], PLAIN),
+        (&["sim", "--help"], SIM),
+    ];
+    for (words, text) in rows {
+        let Err(error) = settings(rt.alloc(), words) else {
             return Err("these words ask for nothing".into());
         };
         assert_eq!(rt; error.number(), 63);

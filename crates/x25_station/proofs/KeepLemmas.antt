@@ -172,7 +172,7 @@ take_keeps laws c octets s few =
       room = λ packet is. (let low : waits (take_step c octets s).side.near.outgoing ≤ 254 = h.few_after packet is in omega (arith, low));
     }
 
-timer_none : (c : LinkSettings) (s : LinkStation) → (timer_step c s).packet ≡ None
+pub timer_none : (c : LinkSettings) (s : LinkStation) → (timer_step c s).packet ≡ None
 timer_none c s = test (nat_lt s.tries c.retries)
   where
     test : (b : Bool) → (let k : LinkStep = if b then quiet (asks_again s.phase (with_near (alone s) (record s { tries = s.tries + 1 }))) else leaves Retries (alone s) in k.packet) ≡ None

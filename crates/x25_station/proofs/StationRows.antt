@@ -23,7 +23,7 @@ use Rattle.x25_station.specs.Settings.{Settings, layer_settings}
 use Rattle.x25_station.specs.Command.{Requests, Disconnects}
 use Rattle.x25_station.specs.Entries.{StationEntry, of_channel, restart_asked, disconnect_asked, link_up, link_down, was_restarted}
 use Rattle.x25_station.specs.Station.{Station, new_station}
-use Rattle.x25_station.specs.Steps.{Outcome, Did, Refused, follows, connects, fires, receives, commands, most_count}
+use Rattle.x25_station.specs.Steps.{Outcome, Did, Refused, follows, connects, fires, receives, commands}
 use Rattle.x25_station.specs.Told.{is_idle, stretch}
 
 abbrev dte : Settings
@@ -134,11 +134,11 @@ row_closed = refl
 
 -- ---- a full count
 
-row_full : (receives dte (record { link = fresh; layer = layer.is_ready most_count (λ k. begun) }) (1 ∷ 2 ∷ [])).entries ≡ link_down Counts ∷ []
+row_full : (receives dte (record { link = fresh; layer = layer.is_ready 18446744073709551615 (λ k. begun) }) (1 ∷ 2 ∷ [])).entries ≡ link_down Counts ∷ []
 unfolding pumped
 row_full = refl
 
-row_full_sends : (receives dte (record { link = fresh; layer = layer.is_ready most_count (λ k. begun) }) (1 ∷ 2 ∷ [])).out ≡ []
+row_full_sends : (receives dte (record { link = fresh; layer = layer.is_ready 18446744073709551615 (λ k. begun) }) (1 ∷ 2 ∷ [])).out ≡ []
 unfolding pumped
 row_full_sends = refl
 

@@ -8,3 +8,7 @@ pub mod Told
 pub mod JoinLaw
 pub mod ReadLaw
 pub mod KeepLaw
+pub mod PlainEntry
+pub mod FitsParts
+pub mod FitsStation
+pub mod Receiving

@@ -1,6 +1,6 @@
 -- Each call of a station: when it is refused, and what it does. A call of the link is a step of the link, and then what the layer does at
 -- what that hands up or notes; a command to the layer is the layer's call. What the layer puts is handed down to the link in the same step.
-use Rattle.std.specs.Prelude.{ℕ, zero, suc, nat_le, ◌==◌, Bool, true, false, ◌&&◌, ◌||◌, if◌then◌else◌, List, [], ◌∷◌, ◌++◌, Option, Some, None}
+use Rattle.std.specs.Prelude.{ℕ, ◌==◌, Bool, true, false, ◌&&◌, if◌then◌else◌, List, [], ◌∷◌, ◌++◌, Option, Some, None}
 use Rattle.x25_packet.specs.Reading.{packet_of}
 use Rattle.x25_frame.specs.PlainFrame.{PlainFrame}
 use Rattle.x25_link.specs.declared.error.LinkError.{LinkError}
@@ -8,9 +8,9 @@ use Rattle.x25_link.specs.declared.phase.Reason.{Reason}
 use Rattle.x25_link.specs.Station.{Station as LinkStation, Side, is_up}
 use Rattle.x25_link.specs.MustSend.{Step as LinkStep}
 use Rattle.x25_link.specs.Steps.{alone, take_step, timer_refusal, timer_step, connect_refusal, connect_step, disconnect_refusal, disconnect_step, abandon_step}
-use Rattle.x25_circuit.specs.Circuit.{Circuit}
 use Rattle.x25_layer.specs.Layer.{LayerSettings, Layer, LayerAnswer, at_rest}
 use Rattle.x25_layer.specs.Calls.{LayerRequest, LayerOutcome, Accepted, Declined, layer_outcome}
+use Rattle.x25_layer.specs.FitsLayer.{is_full}
 use Rattle.x25_layer.specs.Rounds.{LinkView, Putting, Answered, Went, Refuses, calls, hears, comes_up, answer_to, longest_user}
 use Rattle.x25_station.specs.declared.error.StationError.{StationError}
 use Rattle.x25_station.specs.declared.error.StationError.TheVariants as error
@@ -40,6 +40,11 @@ with_puts c t s entries =
 -- nothing is put
 abbrev pub rests : Layer → Putting
 rests l = record { layer = l; put = [] }
+
+-- at rest where the link went down
+abbrev pub layer_down : Layer → Option Reason → Layer
+layer_down l None = l
+layer_down l (Some reason) = at_rest
 
 -- LinkDown; then LinkUp; else the packet that is handed up. Where there is none of these nothing is asked of the layer, so nothing is pulled.
 abbrev pub layer_at : LinkView → LayerSettings → Layer → Option (List ℕ) → Option Reason → Bool → Putting
@@ -89,23 +94,9 @@ disconnects c s = unless (disconnect_refusal s.link.phase) (led_by (disconnect_a
 
 -- ---- octets that come
 
--- a count of restarts, clears or resets beyond which it can't be told
-abbrev pub most_count : ℕ
-most_count = 18446744073709551615
-
-abbrev pub is_full_circuit : Circuit → Bool
-is_full_circuit x = nat_le most_count x.clears || nat_le most_count x.resets
-
-abbrev pub any_full : (ℕ → Circuit) → ℕ → Bool
-any_full circuits zero = false
-any_full circuits (suc n) = any_full circuits n || is_full_circuit (circuits (suc n))
-
-abbrev pub is_full : ℕ → Layer → Bool
-is_full channels l = nat_le most_count l.restarts || any_full l.circuits channels
-
--- where the link is up and a count is full, before the octets are looked at
+-- where the link is up and a count of restarts, clears or resets is at its most, before the octets are looked at
 abbrev pub abandons : Settings → Station → Bool
-abandons c s = is_up s.link.phase && is_full c.channels s.layer
+abandons c s = is_up s.link.phase && is_full (layer_settings c) s.layer
 
 abbrev pub link_receives : Settings → Station → List ℕ → LinkStep
 link_receives c s octets = if abandons c s then abandon_step (link_settings c) s.link else take_step (link_settings c) octets s.link

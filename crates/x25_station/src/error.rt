@@ -1,5 +1,5 @@
 ghost use Rattle.std.specs.Prelude.{◌≡◌};
-ghost use Rattle.x25_station.specs.StationError.{number_of};
+ghost use Rattle.x25_station.specs.StationError.{number_of, of_link, of_layer};
 
 use thiserror::Error;
 use x25_layer::LayerError;
@@ -23,6 +23,26 @@ pub enum StationError {
 }
 
 impl StationError {
+    /// Why a call is refused where the link refuses it so.
+    pub(crate) fn of_link(error: LinkError) -> StationError
+        ensures { result ≡ of_link error }
+    {
+        match error {
+            LinkError::NoMemory => StationError::NoMemory,
+            _ => StationError::Link(error),
+        }
+    }
+
+    /// Why a call is refused where the packet layer refuses it so.
+    pub(crate) fn of_layer(error: LayerError) -> StationError
+        ensures { result ≡ of_layer error }
+    {
+        match error {
+            LayerError::NoMemory => StationError::NoMemory,
+            _ => StationError::Layer(error),
+        }
+    }
+
     /// The number of this error, the same in all crates.
     pub fn number(self) -> u8
         ensures { result ≡ number_of self }

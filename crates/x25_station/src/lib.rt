@@ -1,13 +1,23 @@
 //! A station of X.25: the LAPB link and the packet layer joined, at one end. ITU-T X.25 (10/96), sections 2 to 4.
 #![tactic(auto)]
 
+mod asking;
 mod command;
 mod config;
+mod entering;
+mod entry;
 mod error;
 mod law;
+mod linking;
+mod receiving;
+mod station;
+mod step;
 
 pub use command::Cmd;
 pub use config::Cfg;
+pub use entry::{Asked, Entry, Said, Told};
 pub use error::StationError;
 pub use law::{puts_are_readable, steps_are_joined, steps_keep_bounds};
+pub use station::Station;
+pub use step::Step;
 pub use x25_bits::Role;

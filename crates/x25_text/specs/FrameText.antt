@@ -16,18 +16,18 @@ supervisory_text false pf nr = codes "rsp F=" ++ decimal (bit pf) ++ codes " R="
 abbrev pub why_text : List ℕ → List ℕ
 why_text why = octet_text (slice_index why 0) ++ octet_text (slice_index why 1) ++ octet_text (slice_index why 2)
 
--- a frame on one line
-abbrev pub frame_text : PlainFrame → List ℕ
-frame_text (info ns nr p octets) = codes "I cmd P=" ++ decimal (bit p) ++ codes " S=" ++ decimal ns ++ codes " R=" ++ decimal nr
-    ++ codes " | " ++ information_text octets
-frame_text (rr command nr pf) = codes "RR " ++ supervisory_text command pf nr
-frame_text (rnr command nr pf) = codes "RNR " ++ supervisory_text command pf nr
-frame_text (rej command nr pf) = codes "REJ " ++ supervisory_text command pf nr
-frame_text (sabm p) = codes "SABM cmd P=" ++ decimal (bit p)
-frame_text (disc p) = codes "DISC cmd P=" ++ decimal (bit p)
-frame_text (ua f) = codes "UA rsp F=" ++ decimal (bit f)
-frame_text (dm f) = codes "DM rsp F=" ++ decimal (bit f)
-frame_text (frmr f why) = codes "FRMR rsp F=" ++ decimal (bit f) ++ (codes " why=" ++ why_text why)
+-- a frame on one line, by whether the user data of a CALL may be long
+abbrev pub frame_text : Bool → PlainFrame → List ℕ
+frame_text long_data (info ns nr p octets) = codes "I cmd P=" ++ decimal (bit p) ++ codes " S=" ++ decimal ns ++ codes " R=" ++ decimal nr
+    ++ codes " | " ++ information_text long_data octets
+frame_text long_data (rr command nr pf) = codes "RR " ++ supervisory_text command pf nr
+frame_text long_data (rnr command nr pf) = codes "RNR " ++ supervisory_text command pf nr
+frame_text long_data (rej command nr pf) = codes "REJ " ++ supervisory_text command pf nr
+frame_text long_data (sabm p) = codes "SABM cmd P=" ++ decimal (bit p)
+frame_text long_data (disc p) = codes "DISC cmd P=" ++ decimal (bit p)
+frame_text long_data (ua f) = codes "UA rsp F=" ++ decimal (bit f)
+frame_text long_data (dm f) = codes "DM rsp F=" ++ decimal (bit f)
+frame_text long_data (frmr f why) = codes "FRMR rsp F=" ++ decimal (bit f) ++ (codes " why=" ++ why_text why)
 
 abbrev pub fault_text : FrameError → List ℕ
 fault_text Short = codes "fault 1 short"
@@ -38,6 +38,6 @@ fault_text (NoInfoAllowed control) = codes "fault 5 info ctl=" ++ octet_text con
 fault_text TooLong = codes "fault 6 long"
 
 -- what octets read as, on one line
-abbrev pub reading_text : Result PlainFrame FrameError → List ℕ
-reading_text (Ok v) = frame_text v
-reading_text (Err error) = fault_text error
+abbrev pub reading_text : Bool → Result PlainFrame FrameError → List ℕ
+reading_text long_data (Ok v) = frame_text long_data v
+reading_text long_data (Err error) = fault_text error

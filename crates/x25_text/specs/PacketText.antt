@@ -1,5 +1,5 @@
 -- The text that a trace shows of a packet and of its error (profile).
-use Rattle.std.specs.Prelude.{ℕ, ◌+◌, Bool, List, [], ◌∷◌, ◌++◌, map, codes, decimal, Result, Ok, Err}
+use Rattle.std.specs.Prelude.{ℕ, ◌+◌, Bool, List, [], ◌∷◌, ◌++◌, map, codes, decimal, if◌then◌else◌, Result, Ok, Err}
 use Rattle.x25_packet.specs.PlainPacket.{PlainPacket, call, accept, clear, clear_conf, user_data, rr, rnr, interrupt, interrupt_conf, reset, reset_conf, restart, restart_conf}
 use Rattle.x25_packet.specs.Reading.{packet_of}
 use Rattle.x25_packet.specs.Spelling.{bit}
@@ -51,7 +51,10 @@ abbrev pub packet_reading_text : Result PlainPacket PacketError → List ℕ
 packet_reading_text (Ok v) = packet_text v
 packet_reading_text (Err error) = packet_fault_text error
 
--- what stands behind the bar of an I frame: the packet that its information spells, with at most 16 octets of user data in
--- a CALL, or the first error
-abbrev pub information_text : List ℕ → List ℕ
-information_text octets = packet_reading_text (packet_of 16 octets)
+-- the most octets of user data in a CALL: 16, or 128 where it may be long
+abbrev pub most_user : Bool → ℕ
+most_user long_data = if long_data then 128 else 16
+
+-- what stands behind the bar of an I frame: the packet that its information spells, or the first error
+abbrev pub information_text : Bool → List ℕ → List ℕ
+information_text long_data octets = packet_reading_text (packet_of (most_user long_data) octets)

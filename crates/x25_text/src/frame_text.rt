@@ -40,17 +40,17 @@ fn push_labelled(label: &[u8], octets: &[u8], text: &mut Text)
     text.push_hexadecimal(octets);
 }
 
-fn push_info(ns: Seq, nr: Seq, p: bool, information: &[u8], text: &mut Text)
+fn push_info(long_data: bool, ns: Seq, nr: Seq, p: bool, information: &[u8], text: &mut Text)
     requires { length text.old + MOST_TEXT ≤ ROOM }
     ensures text { text.new ≡ text.old ++ (codes "I cmd P=" ++ decimal (bit p) ++ codes " S=" ++ decimal ns.number
-        ++ codes " R=" ++ decimal nr.number ++ codes " | " ++ information_text information.now) }
+        ++ codes " R=" ++ decimal nr.number ++ codes " | " ++ information_text long_data information.now) }
     ensures size { length text.new ≤ length text.old + MOST_TEXT }
 {
     text.push_bit(b"I cmd P=", p);
     text.push_seq(b" S=", ns);
     text.push_seq(b" R=", nr);
     text.push(b" | ");
-    push_information(information, text);
+    push_information(long_data, information, text);
 }
 
 fn push_frame_reject(f: bool, why: [u8; 3], text: &mut Text)
@@ -63,13 +63,15 @@ fn push_frame_reject(f: bool, why: [u8; 3], text: &mut Text)
 }
 
 /// Appends a frame on one line.
-pub fn push_frame(frame: &Frame, text: &mut Text)
+///
+/// With `long_data` the user data of a CALL in it has at most 128 octets, else at most 16.
+pub fn push_frame(long_data: bool, frame: &Frame, text: &mut Text)
     requires { length text.old + MOST_TEXT ≤ ROOM }
-    ensures text { text.new ≡ text.old ++ frame_text (plain frame.now) }
+    ensures text { text.new ≡ text.old ++ frame_text long_data (plain frame.now) }
     ensures size { length text.new ≤ length text.old + MOST_TEXT }
 {
     match frame {
-        Frame::I { ns, nr, p, info } => push_info(*ns, *nr, *p, info, text),
+        Frame::I { ns, nr, p, info } => push_info(long_data, *ns, *nr, *p, info, text),
         Frame::Rr { command, nr, pf } => push_supervisory(b"RR ", *command, *pf, *nr, text),
         Frame::Rnr { command, nr, pf } => push_supervisory(b"RNR ", *command, *pf, *nr, text),
         Frame::Rej { command, nr, pf } => push_supervisory(b"REJ ", *command, *pf, *nr, text),

@@ -3,11 +3,11 @@ ghost use Rattle.std.specs.Prelude.{◌≡◌, ◌+◌, ◌*◌, ◌≤◌, ◌<
 ghost use Rattle.x25_packet.specs.PlainPacket.{plain};
 ghost use Rattle.x25_packet.specs.Spelling.{IsInRange};
 ghost use Rattle.x25_text.specs.OctetText.{octets_text};
-ghost use Rattle.x25_text.specs.PacketText.{addresses_text, digits_text, fields_text, information_text, marks_text, numbers_text, packet_fault_text, packet_text, reason_text};
+ghost use Rattle.x25_text.specs.PacketText.{addresses_text, digits_text, fields_text, information_text, marks_text, most_user, numbers_text, packet_fault_text, packet_text, reason_text};
 
 use crate::text::{MOST_OCTETS, ROOM, Text};
 use x25_frame::Seq;
-use x25_packet::{Digits, Packet, PacketError, decode};
+use x25_packet::{CALL_OCTETS, Digits, LONG_CALL_OCTETS, Packet, PacketError, decode_within};
 
 /// The most characters of a packet or of its error on one line.
 pub const MOST_PACKET_TEXT: usize = 8_260;
@@ -68,10 +68,10 @@ fn push_addresses(called: &Digits, calling: &Digits, text: &mut Text)
 
 fn push_fields(facilities: &[u8], user: &[u8], text: &mut Text)
     requires facilities { length facilities.now ≤ 6 }
-    requires user { length user.now ≤ 16 }
-    requires room { length text.old + 57 ≤ ROOM }
+    requires user { length user.now ≤ 128 }
+    requires room { length text.old + 281 ≤ ROOM }
     ensures text { text.new ≡ text.old ++ fields_text facilities.now user.now }
-    ensures size { length text.new ≤ length text.old + 57 }
+    ensures size { length text.new ≤ length text.old + 281 }
 {
     push_field(b" fac=", facilities, text);
     push_field(b" data=", user, text);
@@ -95,10 +95,10 @@ fn push_numbers(ps: Seq, pr: Seq, text: &mut Text)
     text.push_seq(b" R=", pr);
 }
 
-/// Appends a packet on one line. A CALL has at most 16 octets of user data.
+/// Appends a packet on one line. A CALL has at most 128 octets of user data.
 #[tactic(auto, using(crate::proofs::FacilityLength::few_facilities))]
 pub fn push_packet(packet: &Packet, text: &mut Text)
-    requires range { IsInRange 16 (plain packet.now) }
+    requires range { IsInRange 128 (plain packet.now) }
     requires room { length text.old + MOST_PACKET_TEXT ≤ ROOM }
     ensures text { text.new ≡ text.old ++ packet_text (plain packet.now) }
     ensures size { length text.new ≤ length text.old + MOST_PACKET_TEXT }
@@ -184,13 +184,26 @@ fn push_packet_fault(error: PacketError, text: &mut Text)
     text.push_number(b" diag=", u16::from(error.diagnostic()));
 }
 
+/// The most octets of user data in a CALL.
+fn most_user(long_data: bool) -> usize
+    ensures { result ≡ most_user long_data }
+{
+    if long_data {
+        LONG_CALL_OCTETS
+    } else {
+        CALL_OCTETS
+    }
+}
+
 /// Appends what the information of an I frame is: a packet, or its error.
-pub fn push_information(information: &[u8], text: &mut Text)
+///
+/// With `long_data` the user data of a CALL has at most 128 octets, else at most 16.
+pub fn push_information(long_data: bool, information: &[u8], text: &mut Text)
     requires room { length text.old + MOST_PACKET_TEXT ≤ ROOM }
-    ensures text { text.new ≡ text.old ++ information_text information.now }
+    ensures text { text.new ≡ text.old ++ information_text long_data information.now }
     ensures size { length text.new ≤ length text.old + MOST_PACKET_TEXT }
 {
-    match decode(information) {
+    match decode_within(most_user(long_data), information) {
         Ok(packet) => push_packet(&packet, text),
         Err(error) => push_packet_fault(error, text),
     }

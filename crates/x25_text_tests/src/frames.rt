@@ -21,7 +21,7 @@ fn shows_frames_and_their_errors(rt: HostRuntime) -> Result<(), Fail> {
         let octets = hex::decode(rt.alloc(), octets)?;
         text.clear();
         match decode(from, 4_099, octets.as_slice()) {
-            Ok(frame) => push_frame(&frame, &mut text),
+            Ok(frame) => push_frame(false, &frame, &mut text),
             Err(error) => push_fault(error, &mut text),
         }
         assert_eq!(rt; text.as_slice(), shown.as_bytes());

@@ -1,3 +1,4 @@
+use std::alloc::Global;
 use std::test::Fail;
 use x25_text::{Text, push_information};
 
@@ -40,14 +41,42 @@ const ROWS: [(&str, &str); 29] = [
     ("100141", "RR ch=1 R=2"),
 ];
 
+/// A CALL with 17 octets of user data, its error, and its text where user data may be long.
+const LONG_ROW: (&str, &str, &str) = (
+    "10010b0000000102030405060708090a0b0c0d0e0f10",
+    "fault 23 diag=39",
+    "CALL ch=1 called=- calling=- fac=- data=000102030405060708090a0b0c0d0e0f10",
+);
+
+/// The text of the octets in hexadecimal.
+fn shown(alloc: Global, long_data: bool, octets: &str) -> Result<Text, Fail> {
+    let mut text = Text::new(alloc)?;
+    let octets = hex::decode(alloc, octets)?;
+    push_information(long_data, octets.as_slice(), &mut text);
+    Ok(text)
+}
+
 #[test]
 fn shows_packets_and_their_errors(rt: HostRuntime) -> Result<(), Fail> {
-    let mut text = Text::new(rt.alloc())?;
-    for (octets, shown) in ROWS {
-        let octets = hex::decode(rt.alloc(), octets)?;
-        text.clear();
-        push_information(octets.as_slice(), &mut text);
-        assert_eq!(rt; text.as_slice(), shown.as_bytes());
+    for (octets, wanted) in ROWS {
+        for long_data in [false, true] {
+            let text = shown(rt.alloc(), long_data, octets)?;
+            assert_eq!(rt; text.as_slice(), wanted.as_bytes());
+        }
     }
+    Ok(())
+}
+
+#[test]
+fn shows_long_user_data_where_it_may_be_long(rt: HostRuntime) -> Result<(), Fail> {
+    let (octets, short, long) = LONG_ROW;
+    assert_eq!(rt;
+        shown(rt.alloc(), false, octets)?.as_slice(),
+        short.as_bytes()
+    );
+    assert_eq!(rt;
+        shown(rt.alloc(), true, octets)?.as_slice(),
+        long.as_bytes()
+    );
     Ok(())
 }

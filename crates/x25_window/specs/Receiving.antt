@@ -4,4 +4,4 @@ use Rattle.x25_window.specs.declared.receiver.Receiver.{Receiver}
 
 -- the number held is that of the item after those taken
 abbrev pub FitsTaken : Receiver → ℕ → Type 0
-FitsTaken r taken = r.wanted.number ≡ taken % 8
+FitsTaken r taken = r.number ≡ taken % 8

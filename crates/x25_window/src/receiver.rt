@@ -1,6 +1,7 @@
 ghost use Rattle.std.specs.Prelude.{ℕ, ◌≡◌, ◌+◌, ◌%◌, ◌↔◌, IsTrue, if◌then◌else◌};
 ghost use Rattle.x25_window.specs.Receiving.{FitsTaken};
 
+use std::marker::Model;
 use x25_bits::Seq;
 
 /// The receiving half of a window: the number of the item that is awaited, V(R) modulo 8.
@@ -9,7 +10,17 @@ use x25_bits::Seq;
 /// ITU-T X.25 (10/96), sections 2.3.2 and 2.4.5.2; for packets 4.4.1.
 #[derive(Clone, Copy, Debug, PartialEq, Eq)]
 pub struct Receiver {
-    pub wanted: Seq,
+    wanted: Seq,
+}
+
+impl Model for Receiver {
+    ghost use Rattle.x25_bits.specs.declared.seq.Seq.{Seq};
+
+    ghost Value = { Seq };
+
+    ghost view = { λ r. r.wanted };
+
+    ghost inverse = { λ s. record { wanted = s } };
 }
 
 impl Receiver {
@@ -23,7 +34,7 @@ impl Receiver {
     /// The number of the item that is awaited, V(R) modulo 8. It is the N(R) of each frame sent now.
     pub fn wanted(&self) -> Seq
         ensures state { (taken : ℕ) → FitsTaken self.now taken → result.number ≡ taken % 8 }
-        ensures field { result ≡ self.now.wanted }
+        ensures held { result ≡ self.now }
     {
         self.wanted
     }
@@ -32,7 +43,7 @@ impl Receiver {
     pub fn accept(&mut self, number: Seq) -> bool
         ensures wanted { (taken : ℕ) → FitsTaken self.old taken → IsTrue result ↔ (number.number ≡ taken % 8) }
         ensures step { (taken : ℕ) → FitsTaken self.old taken → FitsTaken self.new (if result then taken + 1 else taken) }
-        ensures field { IsTrue result ↔ (number.number ≡ self.old.wanted.number) }
+        ensures held { IsTrue result ↔ (number.number ≡ self.old.number) }
     {
         if number != self.wanted {
             return false;

@@ -1,7 +1,7 @@
 ghost use Rattle.std.specs.Prelude.{ℕ, ◌≡◌, ◌+◌, ◌-◌, ◌%◌, ◌<◌, ◌≤◌, ◌↔◌, IsTrue, IsErr, OnOk, OnErr, OnSome, IfOk, IfErr, IfSome, IfNone, MatchOption, length, drop, slice_get};
 ghost use Rattle.x25_window.specs.Modulo.{resolved};
 ghost use Rattle.x25_window.specs.Sending.{Sending, Acknowledges, fresh, offered, acknowledged, from_acked, moved_on};
-ghost use Rattle.x25_window.specs.Held.{Fits, advanced};
+ghost use Rattle.x25_window.specs.Held.{Fits, advanced, with_item, without};
 
 use crate::window_error::WindowError;
 use circular_buffer::HeapCircularBuffer;
@@ -56,6 +56,15 @@ impl<T> Sender<T> {
         }))
     }
 
+    /// How many items may stand unacknowledged, k, 1 to 7.
+    pub fn window(&self) -> u8
+        ensures state { (w : Sending T) → Fits self.now w → result ≡ w.window }
+        ensures held { result ≡ self.now.window }
+        ensures range { (1 ≤ result) × (result ≤ 7) }
+    {
+        self.window
+    }
+
     /// How many items aren't acknowledged, at most 7.
     #[tactic(auto, using(crate::proofs::Fitting::Fits_length))]
     pub fn unacked(&self) -> u8
@@ -79,6 +88,7 @@ impl<T> Sender<T> {
     pub fn is_full(&self) -> bool
         ensures state { (w : Sending T) → Fits self.now w → IsTrue result ↔ (length w.given ≡ w.acked + w.window) }
         ensures held { IsTrue result ↔ (length self.now.items ≡ self.now.window) }
+        ensures few { length self.now.items ≤ self.now.window }
     {
         self.unacked() == self.window
     }
@@ -96,6 +106,7 @@ impl<T> Sender<T> {
         ensures open { (w : Sending T) → Fits self.old w → OnOk result (length w.given < w.acked + w.window) }
         ensures full { (w : Sending T) → Fits self.old w → OnErr result (length w.given ≡ w.acked + w.window) }
         ensures refused { IsErr result ↔ (length self.old.items ≡ self.old.window) }
+        ensures held { OnOk result (self.new ≡ with_item self.old item) }
         ensures error { IfErr result (λ error. error ≡ WindowError.Full) }
         ensures unchanged { OnErr result (self.new ≡ self.old) }
     {
@@ -172,6 +183,7 @@ impl<T> Sender<T> {
         // the same by computing
         ensures resolves { (w : Sending T) → Fits self.old w → IfOk result (λ count. w.acked + count ≡ resolved w.acked number.number) }
         ensures beyond { (w : Sending T) → Fits self.old w → OnErr result (length w.given < resolved w.acked number.number) }
+        ensures held { IfOk result (λ count. self.new ≡ without self.old count number.number) }
         ensures error { IfErr result (λ error. error ≡ WindowError.BadAck) }
         ensures unchanged { OnErr result (self.new ≡ self.old) }
     {

@@ -103,6 +103,7 @@ fn sends_and_sends_again(rt: HostRuntime) -> Result<(), Fail> {
             assert_eq!(rt; play(&mut sender, *call), *wanted, "{call:?}");
             assert_eq!(rt; sender.unacked(), *unacked, "{call:?}");
             assert_eq!(rt; sender.is_full(), *unacked == run.window);
+            assert_eq!(rt; sender.window(), run.window);
         }
     }
     Ok(())

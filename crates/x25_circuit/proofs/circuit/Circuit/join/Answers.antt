@@ -20,6 +20,6 @@ returns-clause-says c = λ d x fits.
     let now = with_transfer d c.args.self.now x _ _ fits (c.take-message.ensures.fits d.outgoing.size _ acked) in
     let piece = piece_of c.args.q c.args.m c.args.user.now in
     rw (sym (c.ack.ensures.valid d.outgoing.size x.talk fits.talk) ∙ c.if-not-ack.false) (record {
-      owed = ap Some (c.status.ensures.value d _ now ∙ ap (λ (n : ℕ). status x.talk.own_ready n) (length_push x.talk.taken piece));
+      owed = ap Some (c.status-owed.ensures.value d _ now ∙ ap (λ (n : ℕ). status x.talk.own_ready n) (length_push x.talk.taken piece));
       notices = c.delivered.ensures ∙ ap deliveries (c.take-message.ensures.message d.outgoing.size _ acked);
     })

@@ -10,7 +10,7 @@ returns-clause-fits c = λ size t fits.
     let piece = piece_of c.args.q c.args.m c.args.user.now in
     record {
       numbers = fits.numbers;
-      taken = taken_more c.accept.new.self c.accept.result (length t.taken) _ (c.accept.ensures.field.1 c.requires.wanted) (c.accept.ensures.step (length t.taken) fits.taken) (length_push t.taken piece);
+      taken = taken_more c.accept.new.self c.accept.result (length t.taken) _ (c.accept.ensures.held.1 c.requires.wanted) (c.accept.ensures.step (length t.taken) fits.taken) (length_push t.taken piece);
       rest = fits.rest;
       part = c.join.ensures.part ∙ ap (λ (j : Partial). joined j piece) fits.part ∙ sym (joining_push no_part t.taken piece);
       int_out = fits.int_out;

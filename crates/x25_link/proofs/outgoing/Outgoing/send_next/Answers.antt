@@ -1,4 +1,4 @@
-use Rattle.std.proofs.Common.{length, ℕ, ◌%◌, List, [], ◌∷◌, ◌++◌, false, sym, ap, ◌∙◌, refl, arith}
+use Rattle.std.proofs.Common.{length, ℕ, ◌%◌, List, [], ◌∷◌, ◌++◌, false, sym, ap, ◌∙◌, arith}
 use Rattle.x25_frame.specs.PlainFrame.{PlainFrame, info}
 use Rattle.x25_frame.specs.Spelling.{spelling_of}
 use Rattle.x25_link.specs.Outgoing.{next_packet}
@@ -20,19 +20,19 @@ returns-then-send_again-clause-made c = λ k o fits.
     let again = again_is k _ o fits (c.if-send_again.ensures.sent (sending_of k o) fits.sender) in
     rw again.packet at (c.if-send_again.ensures.made (sending_of k o) fits.sender)
 
-pub returns-then-is_full-clause-sent : goal.returns-then-is_full-clause-sent
-returns-then-is_full-clause-sent c = λ k o fits.
+pub returns-then-is_closed-clause-sent : goal.returns-then-is_closed-clause-sent
+returns-then-is_closed-clause-sent c = λ k o fits.
     let l = sent_length k _ o fits in
     let all = all_sent k _ o fits (c.if-send_again.ensures.sent (sending_of k o) fits.sender) in
-    let full = (c.if-is_full.ensures.state (sending_of k o) (c.if-send_again.ensures.step (sending_of k o) fits.sender)).0 refl in
+    let full = (c.is_full-is_closed.ensures.state (sending_of k o) fits.sender).0 c.if-is_closed.true in
     sym (full_closed k o (omega arith))
 
-pub returns-then-is_full-clause-step : goal.returns-then-is_full-clause-step
-returns-then-is_full-clause-step c = λ k o fits.
+pub returns-then-is_closed-clause-step : goal.returns-then-is_closed-clause-step
+returns-then-is_closed-clause-step c = λ k o fits.
     same_fits k _ _ o fits (c.if-send_again.ensures.step (sending_of k o) fits.sender)
 
-pub returns-then-is_full-clause-made : goal.returns-then-is_full-clause-made
-returns-then-is_full-clause-made c = λ k o fits. c.if-send_again.ensures.made (sending_of k o) fits.sender
+pub returns-then-is_closed-clause-made : goal.returns-then-is_closed-clause-made
+returns-then-is_closed-clause-made c = λ k o fits. c.if-send_again.ensures.made (sending_of k o) fits.sender
 
 pub returns-in_default-clause-sent : goal.returns-in_default-clause-sent
 returns-in_default-clause-sent c = λ k o fits.
@@ -54,7 +54,7 @@ returns-clause-sent c = λ k o fits.
     let sender = c.if-send_again.ensures.step (sending_of k o) fits.sender in
     let all = all_sent k _ o fits (c.if-send_again.ensures.sent (sending_of k o) fits.sender) in
     let next = next_is k _ o _ _ fits c.in-Some.ensures in
-    let room = below_of _ _ sender.sound.room (c.if-is_full.ensures.state (sending_of k o) sender).1 in
+    let room = below_of _ _ sender.sound.room (λ e. sym c.if-is_closed.false ∙ (c.is_full-is_closed.ensures.state (sending_of k o) fits.sender).1 e) in
     sym (next_open k _ o _ _ fits all next (omega arith))
 
 pub returns-clause-step : goal.returns-clause-step
@@ -62,7 +62,7 @@ returns-clause-step c = λ k o fits.
     let sender = c.if-send_again.ensures.step (sending_of k o) fits.sender in
     let all = all_sent k _ o fits (c.if-send_again.ensures.sent (sending_of k o) fits.sender) in
     let next = next_is k _ o _ _ fits c.in-Some.ensures in
-    let room = below_of _ _ sender.sound.room (c.if-is_full.ensures.state (sending_of k o) sender).1 in
+    let room = below_of _ _ sender.sound.room (λ e. sym c.if-is_closed.false ∙ (c.is_full-is_closed.ensures.state (sending_of k o) fits.sender).1 e) in
     new_fits k _ _ o _ _ fits all next (omega (arith, fits.few, ap length c.in-Some.ensures)) (c.send_new.ensures.step (sending_of k o) sender room)
 
 pub returns-clause-made : goal.returns-clause-made

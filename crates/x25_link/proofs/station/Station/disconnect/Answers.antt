@@ -13,7 +13,7 @@ returns c = λ d before t fits.
       | else-is_up w ↦ w.down-is ∙ rw (sym phase, sym w.if-is_up.ensures) refl
     ] in
     record {
-      side = c.send.ensures.step d before (with_near t (with_nothing Closed t.near.tries)) (c.clear.ensures d before _ t fits);
+      side = c.send.ensures.step d before (with_near t (with_nothing Closed t.near.tries)) (c.clear.ensures.step d before _ t fits);
       packet = rw c.noted.ensures.packet refl;
       notes = rw (sym down) (c.noted.ensures.notes);
     }

@@ -1,6 +1,6 @@
 use Rattle.std.proofs.Common.{◌≡◌, arith}
 use Rattle.x25_link.specs.Station.{pumped}
-use Rattle.x25_link.proofs.FitsLemmas.{pumped_more}
+use Rattle.x25_link.proofs.FitsLemmas.{pumped_more, room_kept}
 use Rattle.x25_link.proofs.station.Station.end.Goals as goal
 
 pub loop-frame-init : goal.loop-frame-init
@@ -10,7 +10,9 @@ loop-frame-init c = record { step = λ d before t fits. fits; long = omega arith
 pub loop-frame-preserved : goal.loop-frame-preserved
 loop-frame-preserved c = record {
   step = λ d before t fits. rw pumped_more (c.pump_once.ensures.step d before (pumped c.loop-frame._frame d.window t) (c.loop-frame.invariant.step d before t fits));
-  long = omega arith;
+  long =
+      let room = room_kept c.pump_once.result _ _ _ _ _ c.loop-frame.invariant.long c.pump_once.ensures.before c.pump_once.ensures.used in
+      omega (arith, room, c.pump_once.ensures.window);
   short = omega arith;
 }
 

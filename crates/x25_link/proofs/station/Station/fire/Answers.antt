@@ -9,7 +9,7 @@ pub returns-then-self : goal.returns-then-self
 returns-then-self c = λ d before t fits.
     let near = fits.near in
     let last : nat_lt t.near.tries d.retries ≡ false = le-ltb _ _ (omega arith) in
-    rw last (c.leave.ensures d before _ t fits)
+    rw last (c.leave.ensures.step d before _ t fits)
 
 pub returns : goal.returns
 returns c = λ d before t fits.

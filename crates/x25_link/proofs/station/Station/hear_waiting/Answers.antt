@@ -5,7 +5,7 @@ pub returns-in-Ua-true-clause-step : goal.returns-in-Ua-true-clause-step
 returns-in-Ua-true-clause-step c = λ d before t fits.
     let final : c.in-Ua-true.f ≡ true = sym c.in-Ua-true.f-is ∙ c.in-Ua-true.f-test in
     rw (c.in-Ua-true.is, final) (record {
-      side = c.set_up.ensures d before _ t fits;
+      side = c.set_up.ensures.step d before _ t fits;
       packet = rw c.noted.ensures.packet refl;
       notes = c.noted.ensures.notes;
     })

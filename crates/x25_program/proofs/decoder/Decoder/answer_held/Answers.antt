@@ -7,7 +7,7 @@ use Rattle.x25_program.proofs.decoder.Decoder.answer_held.Goals as goal
 pub returns-then-self-clause-text : goal.returns-then-self-clause-text
 returns-then-self-clause-text c = λ begun h.
     let long = subst (HoldsLine begun c.args.self.now.line) c.if-self.true h in
-    c.push.ensures.text ∙ ap (λ t. c.args.self.now.text ++ t) (sym (held_text begun _ long))
+    c.push.ensures.text ∙ ap (λ t. c.args.self.now.text ++ t) (sym (held_text c.args.self.now.long_data begun _ long))
 
 pub returns-then-self-clause-refused : goal.returns-then-self-clause-refused
 returns-then-self-clause-refused c = λ begun h.
@@ -17,7 +17,7 @@ returns-then-self-clause-refused c = λ begun h.
 pub returns-else-self-clause-text : goal.returns-else-self-clause-text
 returns-else-self-clause-text c = λ begun h.
     let short = subst (HoldsLine begun c.args.self.now.line) c.if-self.false h in
-    c.answer-refused.ensures.text ∙ ap (λ l. c.args.self.now.text ++ answer_to l) (c.as_slice.ensures ∙ held_short begun _ short)
+    c.answer-refused.ensures.text ∙ ap (λ l. c.args.self.now.text ++ answer_to c.args.self.now.long_data l) (c.as_slice.ensures ∙ held_short begun _ short)
 
 pub returns-else-self-clause-refused : goal.returns-else-self-clause-refused
 returns-else-self-clause-refused c = λ begun h.

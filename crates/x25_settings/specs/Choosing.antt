@@ -1,0 +1,70 @@
+-- What the words say, read one after another (profile).
+use Rattle.std.specs.Prelude.{ℕ, ◌&&◌, nat_le, true, false, List, [], ◌∷◌, Option, Some, None, codes, decimal, if◌then◌else◌, option_map, option_and_then}
+use Rattle.std.specs.Str.{bytes_eq}
+use Rattle.std.specs.Str.Parse.{digits_value}
+use Rattle.x25_settings.specs.declared.options.Chosen.{Chosen}
+use Rattle.x25_settings.specs.declared.options.Numbered.{Numbered}
+use Rattle.x25_settings.specs.declared.options.Numbered.TheVariants.{Window, Tries, Channels}
+use Rattle.x25_settings.specs.declared.options.Simulation.{Simulation}
+use Rattle.x25_settings.specs.declared.words.Task.{Task}
+use Rattle.x25_settings.specs.declared.words.Task.TheVariants.{Decode, Vectors, Sim}
+use Rattle.x25_settings.specs.Simulation.{most_of, nothing, chosen_number, with_tap, with_number, settled}
+
+abbrev pub numbered_in : List ℕ → Option Numbered
+numbered_in word = if bytes_eq word (codes "--k") then Some Window
+    else if bytes_eq word (codes "--n2") then Some Tries
+    else if bytes_eq word (codes "--channels") then Some Channels else None
+
+-- the number that the text writes, without leading zeros and in its range
+unfoldable pub number_in : ℕ → List ℕ → Option ℕ
+number_in most text = let n = digits_value 10 text in
+    if nat_le 1 n && nat_le n most && bytes_eq (decimal n) text then Some n else None
+
+abbrev pub put_tap : Chosen → Option Chosen
+put_tap c = if c.tap then None else Some (with_tap c)
+
+abbrev pub put_fresh : Chosen → Numbered → ℕ → Option ℕ → Option Chosen
+put_fresh c x n None = Some (with_number c x n)
+put_fresh c x n (Some before) = None
+
+abbrev pub put_read : Chosen → Numbered → Option ℕ → Option Chosen
+put_read c x None = None
+put_read c x (Some n) = put_fresh c x n (chosen_number c x)
+
+abbrev pub put_text : Chosen → List ℕ → Option Numbered → Option Chosen
+put_text c text None = None
+put_text c text (Some x) = put_read c x (number_in (most_of x) text)
+
+-- an option and its number
+abbrev pub put_number : Chosen → List ℕ → List ℕ → Option Chosen
+put_number c word text = put_text c text (numbered_in word)
+
+unfoldable pub chosen_in : Chosen → List (List ℕ) → Option Chosen
+chosen_in c [] = Some c
+chosen_in c (word ∷ []) = if bytes_eq word (codes "--tap") then put_tap c else None
+chosen_in c (word ∷ text ∷ rest) = if bytes_eq word (codes "--tap")
+    then option_and_then (λ c. chosen_in c (text ∷ rest)) (put_tap c)
+    else option_and_then (λ c. chosen_in c rest) (put_number c word text)
+
+abbrev pub simulation_in : List (List ℕ) → Option Simulation
+simulation_in words = option_map settled (chosen_in nothing words)
+
+-- the words behind `decode`
+abbrev pub decode_in : List (List ℕ) → Option Task
+decode_in [] = Some (Decode false)
+decode_in (word ∷ []) = if bytes_eq word (codes "--long") then Some (Decode true) else None
+decode_in (word ∷ next ∷ words) = None
+
+-- those behind `vectors`
+abbrev pub vectors_in : List (List ℕ) → Option Task
+vectors_in [] = Some Vectors
+vectors_in (word ∷ words) = None
+
+abbrev pub task_behind : List ℕ → List (List ℕ) → Option Task
+task_behind word words = if bytes_eq word (codes "decode") then decode_in words
+    else if bytes_eq word (codes "vectors") then vectors_in words
+    else if bytes_eq word (codes "sim") then option_map (λ s. Sim s) (simulation_in words) else None
+
+unfoldable pub task_in : List (List ℕ) → Option Task
+task_in [] = None
+task_in (word ∷ words) = task_behind word words

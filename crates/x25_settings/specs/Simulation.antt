@@ -1,0 +1,75 @@
+-- The words behind `sim`, and what plain ones say (profile).
+use Rattle.std.specs.Prelude.{◌≡◌, ◌≤◌, ℕ, true, false, List, [], ◌∷◌, Option, Some, None, unwrap_or, codes, decimal}
+use Rattle.std.specs.List.{flat_map}
+use Rattle.x25_settings.specs.declared.options.Simulation.{Simulation}
+use Rattle.x25_settings.specs.declared.options.Chosen.{Chosen}
+use Rattle.x25_settings.specs.declared.options.Numbered.{Numbered}
+use Rattle.x25_settings.specs.declared.options.Numbered.TheVariants.{Window, Tries, Channels}
+
+abbrev pub word_of : Numbered → List ℕ
+word_of Window = codes "--k"
+word_of Tries = codes "--n2"
+word_of Channels = codes "--channels"
+
+-- the most that it may be; the least is 1
+abbrev pub most_of : Numbered → ℕ
+most_of Window = 7
+most_of Tries = 255
+most_of Channels = 16
+
+-- an option, with its number
+pub data Choice : Type 0 where
+  tap : Choice
+  number : Numbered → ℕ → Choice
+
+abbrev pub words_of : Choice → List (List ℕ)
+words_of tap = codes "--tap" ∷ []
+words_of (number x n) = word_of x ∷ decimal n ∷ []
+
+abbrev pub nothing : Chosen
+nothing = record { tap = false; k = None; n2 = None; channels = None }
+
+abbrev pub chosen_number : Chosen → Numbered → Option ℕ
+chosen_number c Window = c.k
+chosen_number c Tries = c.n2
+chosen_number c Channels = c.channels
+
+abbrev pub with_tap : Chosen → Chosen
+with_tap c = record { tap = true; k = c.k; n2 = c.n2; channels = c.channels }
+
+abbrev pub with_number : Chosen → Numbered → ℕ → Chosen
+with_number c Window n = record { tap = c.tap; k = Some n; n2 = c.n2; channels = c.channels }
+with_number c Tries n = record { tap = c.tap; k = c.k; n2 = Some n; channels = c.channels }
+with_number c Channels n = record { tap = c.tap; k = c.k; n2 = c.n2; channels = Some n }
+
+abbrev pub with_choice : Chosen → Choice → Chosen
+with_choice c tap = with_tap c
+with_choice c (number x n) = with_number c x n
+
+abbrev pub IsInRange : Numbered → ℕ → Type 0
+IsInRange x n = (1 ≤ n) × (n ≤ most_of x)
+
+-- the option wasn't chosen before, and its number is in its range
+abbrev pub IsOpen : Chosen → Choice → Type 0
+IsOpen c tap = c.tap ≡ false
+IsOpen c (number x n) = (chosen_number c x ≡ None) × IsInRange x n
+
+-- one after another, each once, in any order
+abbrev pub Leads : Chosen → List Choice → Chosen → Type 0
+Leads c [] end = end ≡ c
+Leads c (choice ∷ choices) end = IsOpen c choice × Leads (with_choice c choice) choices end
+
+-- the defaults for the rest
+abbrev pub settled : Chosen → Simulation
+settled c = record { tap = c.tap; k = unwrap_or c.k 7; n2 = unwrap_or c.n2 10; channels = unwrap_or c.channels 1 }
+
+-- these words choose this
+abbrev pub Choose : List (List ℕ) → Chosen → Type 0
+Choose words end = (choices : List Choice) × (words ≡ flat_map words_of choices) × Leads nothing choices end
+
+-- the words are plain, and they say this
+abbrev pub SaySimulation : List (List ℕ) → Simulation → Type 0
+SaySimulation words s = (end : Chosen) × Choose words end × (s ≡ settled end)
+
+abbrev pub AreInRange : Simulation → Type 0
+AreInRange s = ((1 ≤ s.k) × (s.k ≤ 7)) × ((1 ≤ s.n2) × (s.n2 ≤ 255)) × ((1 ≤ s.channels) × (s.channels ≤ 16))

@@ -1,0 +1,178 @@
+//! The words behind `sim`.
+ghost use Rattle.std.specs.Prelude.{◌≡◌, ◌<◌, ◌↔◌, ◌∷◌, [], IfSome, MatchOption, IsTrue, decimal, map, length};
+ghost use Rattle.std.specs.Str.{bytes_eq};
+ghost use Rattle.x25_settings.specs.Choosing.{chosen_in, number_in, numbered_in, put_number, put_tap, simulation_in};
+ghost use Rattle.x25_settings.specs.Simulation.{nothing, settled};
+
+use itoa::Buffer;
+use std::convert::AsStr;
+
+/// What `sim` is run with.
+#[derive(Clone, Copy, Debug, PartialEq, Eq)]
+pub struct Simulation {
+    /// The frames of each step are told behind its entries.
+    pub tap: bool,
+    /// The window of the link, 1 to 7.
+    pub k: u8,
+    /// How often a command of the link that isn't answered is sent again, 1 to 255.
+    pub n2: u8,
+    /// The number of channels, 1 to 16.
+    pub channels: u8,
+}
+
+/// The options that have a number.
+#[derive(Clone, Copy)]
+enum Numbered {
+    Window,
+    Tries,
+    Channels,
+}
+
+/// What was chosen so far.
+#[derive(Clone, Copy)]
+struct Chosen {
+    tap: bool,
+    k: Option<u8>,
+    n2: Option<u8>,
+    channels: Option<u8>,
+}
+
+pub(crate) fn is(text: &str, word: &str) -> bool
+    ensures { result ≡ bytes_eq text.now word.now }
+{
+    text == word
+}
+
+fn numbered_option(word: &str) -> Option<Numbered>
+    ensures { result ≡ numbered_in word.now }
+{
+    if is(word, "--k") {
+        Some(Numbered::Window)
+    } else if is(word, "--n2") {
+        Some(Numbered::Tries)
+    } else if is(word, "--channels") {
+        Some(Numbered::Channels)
+    } else {
+        None
+    }
+}
+
+/// Whether the text writes the number in decimal without leading zeros.
+fn is_decimal(n: u8, text: &str) -> bool
+    ensures { IsTrue result ↔ (decimal n ≡ text.now) }
+{
+    let mut buffer = Buffer::new();
+    buffer.format(n) == text
+}
+
+/// The number from 1 to `most` that the text writes in decimal without leading zeros.
+fn number(text: &str, most: u8) -> Option<u8>
+    ensures { result ≡ number_in most text.now }
+{
+    let n = text.parse::<u8>().ok()?;
+    if 1 <= n && n <= most && is_decimal(n, text) {
+        Some(n)
+    } else {
+        None
+    }
+}
+
+impl Chosen {
+    fn with_tap(self) -> Option<Chosen>
+        ensures { result ≡ put_tap self }
+    {
+        if self.tap {
+            None
+        } else {
+            Some(Chosen { tap: true, ..self })
+        }
+    }
+
+    fn with_number(self, word: &str, text: &str) -> Option<Chosen>
+        ensures { result ≡ put_number self word.now text.now }
+    {
+        match numbered_option(word)? {
+            Numbered::Window => {
+                let n = number(text, 7)?;
+                match self.k {
+                    None => Some(Chosen { k: Some(n), ..self }),
+                    Some(_) => None,
+                }
+            }
+            Numbered::Tries => {
+                let n = number(text, 255)?;
+                match self.n2 {
+                    None => Some(Chosen {
+                        n2: Some(n),
+                        ..self
+                    }),
+                    Some(_) => None,
+                }
+            }
+            Numbered::Channels => {
+                let n = number(text, 16)?;
+                match self.channels {
+                    None => Some(Chosen {
+                        channels: Some(n),
+                        ..self
+                    }),
+                    Some(_) => None,
+                }
+            }
+        }
+    }
+
+    /// The defaults for the rest.
+    fn with_defaults(self) -> Simulation
+        ensures { result ≡ settled self }
+    {
+        Simulation {
+            tap: self.tap,
+            k: self.k.unwrap_or(7),
+            n2: self.n2.unwrap_or(10),
+            channels: self.channels.unwrap_or(1),
+        }
+    }
+}
+
+/// The first word and those behind it, where there is one.
+pub(crate) fn split_word<S: AsStr>(words: &[S]) -> Option<(&str, &[S])>
+    ensures parts { MatchOption result (words.now ≡ []) (λ parts. map S.text words.now ≡ parts.0.now ∷ map S.text parts.1.now) }
+    ensures shorter { IfSome result (λ parts. length parts.1.now < length words.now) }
+{
+    match words.split_first() {
+        Some((word, after)) => Some((word.as_str(), after)),
+        None => None,
+    }
+}
+
+fn choose<S: AsStr>(words: &[S]) -> Option<Chosen>
+    ensures { result ≡ chosen_in nothing (map S.text words.now) }
+{
+    let mut chosen = Chosen {
+        tap: false,
+        k: None,
+        n2: None,
+        channels: None,
+    };
+    let mut rest = words;
+    while let Some((word, after)) = split_word(rest) {
+        if is(word, "--tap") {
+            chosen = chosen.with_tap()?;
+            rest = after;
+        } else {
+            let (text, after) = split_word(after)?;
+            chosen = chosen.with_number(word, text)?;
+            rest = after;
+        }
+    }
+    Some(chosen)
+}
+
+/// What the words behind `sim` say, where they are plain.
+pub(crate) fn read_simulation<S: AsStr>(words: &[S]) -> Option<Simulation>
+    ensures { result ≡ simulation_in (map S.text words.now) }
+{
+    let chosen = choose(words)?;
+    Some(chosen.with_defaults())
+}

@@ -1,0 +1,79 @@
+//! The parser that says what is wrong with words, and what asks for help is told.
+use clap::{Arg, ArgAction, Command, value_parser};
+use std::alloc::{AllocError, Global};
+
+/// What is told behind the options of `sim`.
+const EXAMPLES: &str = "Examples:
+  x25 sim < examples/call.script
+  x25 sim --tap --channels 2 < examples/call.script | grep '^[<>]' | x25 decode";
+
+/// An option with a number.
+fn number_option<'a>(
+    alloc: Global,
+    name: &'a str,
+    most: i64,
+    default: &'a str,
+    help: &'a str,
+) -> Arg<'a> {
+    Arg::new(alloc, name)
+        .long(name)
+        .value_name("N")
+        .value_parser(value_parser!(u8).range(1..=most))
+        .default_value(default)
+        .help(help)
+}
+
+fn sim_command<'a>(alloc: Global) -> Result<Command<'a>, AllocError> {
+    let tap = Arg::new(alloc, "tap")
+        .long("tap")
+        .action(ArgAction::SetTrue)
+        .help("Tell the frames of each step behind its entries, as lines for `decode`");
+    let window = number_option(alloc, "k", 7, "7", "The window of the link: 1 to 7");
+    let tries = number_option(
+        alloc,
+        "n2",
+        255,
+        "10",
+        "How often an unanswered command of the link is sent again: 1 to 255",
+    );
+    let channels = number_option(
+        alloc,
+        "channels",
+        16,
+        "1",
+        "The number of logical channels: 1 to 16",
+    );
+    Command::new(alloc, "sim")
+        .about("Run a script of two stations joined by a line, and write what each end is told")
+        .override_usage("x25 sim [OPTIONS] < SCRIPT")
+        .after_help(EXAMPLES)
+        .hide(true)
+        .arg(tap)?
+        .arg(window)?
+        .arg(tries)?
+        .arg(channels)
+}
+
+/// The command line of the program.
+pub(crate) fn command<'a>(alloc: Global) -> Result<Command<'a>, AllocError> {
+    let long = Arg::new(alloc, "long")
+        .long("long")
+        .action(ArgAction::SetTrue)
+        .help("Take up to 128 octets of user data in a CALL, in place of 16");
+    let decode = Command::new(alloc, "decode")
+        .about(
+            "Answer lines of octets, `> HEX` from the DTE and `< HEX` from the DCE, by lines of text",
+        )
+        .override_usage("x25 decode [--long] < TRACE")
+        .arg(long)?;
+    let vectors = Command::new(alloc, "vectors")
+        .about("Run the stored test vectors")
+        .override_usage("x25 vectors");
+    Command::new(alloc, "x25")
+        .about("X.25 packet layer over LAPB, on lines of text")
+        .no_binary_name(true)
+        .subcommand_required(true)
+        .subcommand(decode)?
+        .subcommand(vectors)?
+        .subcommand(sim_command(alloc)?)
+}

@@ -1,0 +1,194 @@
+-- What a station answers to a command, by what its layer answers.
+use Rattle.std.proofs.Common.{◌≡◌, ℕ, List, [], map, Option, Some, None, Result, Ok, Err, Bool, true, false, ◌==◌, if◌then◌else◌, inl, refl, ap, sym, subst, ◌∙◌}
+use Rattle.x25_packet.specs.PlainPacket.{PlainPacket}
+use Rattle.x25_link.specs.Station.{Settings as LinkSettings, Station as LinkStation, Side}
+use Rattle.x25_link.specs.Steps.{alone}
+use Rattle.x25_link.specs.Link.{ShownLink, LinkState, FitsWhole, FitsLink, up_at, waits_of, after_put_to}
+use Rattle.x25_circuit.specs.Circuit.{Circuit}
+use Rattle.x25_circuit.specs.Calls as circuit
+use Rattle.x25_layer.specs.declared.layer.Layer as layer_code
+use Rattle.x25_layer.specs.declared.error.LayerError.{LayerError}
+use Rattle.x25_layer.specs.declared.error.LayerError.TheVariants as layer_error
+use Rattle.x25_layer.specs.Layer.{LayerSettings, Layer, is_channel}
+use Rattle.x25_layer.specs.Calls.{LayerRequest, Asks, Dials, Restarts, LayerOutcome, Accepted, Declined, layer_outcome, outcome_in, outcome_ready, outcome_on, where_room, if_at_once, puts_at_once, dialled, free_channel}
+use Rattle.x25_layer.specs.Rounds.{LinkView, Putting, Answered, Went, Refuses, went, calls}
+use Rattle.x25_layer.specs.OverLink as over
+use Rattle.x25_layer.specs.OverLink.{after_all, LayerGives, LinkGives}
+use Rattle.x25_layer.specs.FitsLayer.{FitsLayer}
+use Rattle.x25_station.specs.declared.step.Step as code_step
+use Rattle.x25_station.specs.declared.error.StationError.{StationError}
+use Rattle.x25_station.specs.declared.error.StationError.TheVariants as error
+use Rattle.x25_station.specs.StationError.{of_layer}
+use Rattle.x25_station.specs.Settings.{Settings, link_settings, layer_settings}
+use Rattle.x25_station.specs.Entries.{StationEntry}
+use Rattle.x25_station.specs.Station.{Station, all_put, view_of, waiting_after}
+use Rattle.x25_station.specs.Steps.{Outcome, did, requests, entries_of_outcome}
+use Rattle.x25_station.specs.KeepLaw.{KeptBy}
+use Rattle.x25_station.specs.PlainEntry.{plain_entry}
+use Rattle.x25_station.specs.FitsParts.{FitsParts}
+use Rattle.x25_station.specs.FitsStation as station
+use Rattle.x25_station.specs.Receiving.{kept_of}
+use Rattle.x25_station.proofs.LinkLemmas.{put_by_put, same_view}
+
+-- ---- the link after the packets of a step
+
+-- a link from which the frames were taken fits the same state
+pub taken_link : (c : LinkSettings) (m n : ShownLink) (s : LinkStation) → n.station ≡ m.station → FitsLink c m s → FitsLink c n s
+taken_link c m n s same fits = subst (λ x. FitsLink c (record { station = x; outgoing = n.outgoing }) s) (sym same) (record { near = fits.near; settled = fits.settled; calm = fits.calm })
+
+pub after_puts : (c : LinkSettings) (m : ShownLink) (packets : List PlainPacket) (t : Side) → FitsWhole m (after_all after_put_to (kept_of c t) packets) → FitsWhole m (kept_of c (all_put c packets t))
+after_puts c m packets t fits = subst (λ (x : LinkState). FitsWhole m x) (put_by_put c packets t) fits
+
+-- ---- an accepted call
+
+ok_err : {T : Type 0} (x : T) (e : LayerError) → Ok x ≡ Err e → ⊥
+ok_err x e is = cc
+
+pub leaves_did : {T : Type 0} (u : T) (c : Settings) (s : LinkStation) (m n : ShownLink) (z : layer_code.Layer) (r : code_step.Step) (entries : List StationEntry) (a : Answered) → LayerGives (layer_settings c) z (Ok u) a
+    → LinkGives (FitsWhole m) after_put_to (kept_of (link_settings c) (alone s)) (Ok u) a → n.station ≡ m.station → n.outgoing.made ≡ [] → KeptBy (did c (alone s) entries a)
+    → station.LeavesParts c n z (Ok r) (did c (alone s) entries a)
+leaves_did u c s m n z r entries (Went p) layer link same none kept = record {
+  link = taken_link (link_settings c) m n _ same (after_puts (link_settings c) m p.put (alone s) link).link;
+  layer = layer;
+  kept = kept;
+  sent = none;
+}
+leaves_did u c s m n z r entries (Refuses e) layer link same none kept = absurd (ok_err u e layer)
+
+pub sends_did : {T : Type 0} (u : T) (c : Settings) (s : LinkStation) (m : ShownLink) (r : code_step.Step) (entries : List StationEntry) (a : Answered)
+    → LinkGives (FitsWhole m) after_put_to (kept_of (link_settings c) (alone s)) (Ok u) a → map (λ frame. frame.items) r.frames.items ≡ m.outgoing.made → station.Sends c (Ok r) (did c (alone s) entries a)
+sends_did u c s m r entries (Went p) link made = made ∙ (after_puts (link_settings c) m p.put (alone s) link).kept
+sends_did u c s m r entries (Refuses e) link made = tt
+
+pub enters_did : (c : Settings) (s : LinkStation) (r : code_step.Step) (entries : List StationEntry) (a : Answered) → ((p : Putting) → a ≡ Went p → map plain_entry r.entries.items ≡ entries) → station.Enters (Ok r) (did c (alone s) entries a)
+enters_did c s r entries (Went p) entered = entered p refl
+enters_did c s r entries (Refuses e) entered = tt
+
+pub goes_did : {T : Type 0} (u : T) (c : Settings) (s : LinkStation) (z : layer_code.Layer) (r : code_step.Step) (entries : List StationEntry) (a : Answered) → LayerGives (layer_settings c) z (Ok u) a → station.Refuses (Ok r) (did c (alone s) entries a)
+goes_did u c s z r entries (Went p) layer = tt
+goes_did u c s z r entries (Refuses e) layer = absurd (ok_err u e layer)
+
+-- ---- a refused call
+
+err_is : (T : Type 0) (a b : LayerError) → (let x : Result T LayerError = Err a in x ≡ Err b) → a ≡ b
+err_is T a b is = cc
+
+-- the layer's own refusals aren't want of memory
+abbrev pub IsNamed : Answered → Type 0
+IsNamed (Went p) = Unit {0}
+IsNamed (Refuses e) = of_layer e ≡ error.Layer e
+
+pub refused_did : (T U : Type 0) (e : LayerError) (found : StationError) (c : Settings) (s : LinkStation) (z : layer_code.Layer) (entries : List StationEntry) (a : Answered) → IsNamed a → found ≡ of_layer e
+    → (let x : Result T LayerError = Err e in LayerGives (layer_settings c) z x a) → (let x : Result U StationError = Err found in station.Refuses x (did c (alone s) entries a))
+refused_did T U e found c s z entries (Went p) named is layer = is ∙ ap of_layer layer
+refused_did T U e found c s z entries (Refuses x) named is layer = inl (is ∙ ap of_layer (err_is T e x layer) ∙ named)
+
+abbrev IsNamedOutcome : LayerOutcome → Type 0
+IsNamedOutcome (Accepted next packet) = Unit {0}
+IsNamedOutcome (Declined e) = of_layer e ≡ error.Layer e
+
+room_named : (full : Bool) (o : LayerOutcome) → IsNamedOutcome o → IsNamedOutcome (where_room full o)
+room_named true o named = refl
+room_named false o named = named
+
+at_once_named : (b full : Bool) (o : LayerOutcome) → IsNamedOutcome o → IsNamedOutcome (if_at_once b full o)
+at_once_named true full o named = room_named full o named
+at_once_named false full o named = named
+
+on_named : (restarts : ℕ) (circuits : ℕ → Circuit) (h : ℕ) (o : circuit.Outcome) → IsNamedOutcome (outcome_on restarts circuits h o)
+on_named restarts circuits h (circuit.Done next packet) = tt
+on_named restarts circuits h (circuit.Refused e) = refl
+
+dialled_named : (c : LayerSettings) (full : Bool) (restarts : ℕ) (circuits : ℕ → Circuit) (o : Option ℕ) (called calling user : List ℕ) → IsNamedOutcome (dialled c full restarts circuits o called calling user)
+dialled_named c full restarts circuits None called calling user = refl
+dialled_named c full restarts circuits (Some h) called calling user = room_named full _ (on_named restarts circuits h (circuit.outcome c.circuit (circuits h) (circuit.Calls called calling user)))
+
+ready_named : (c : LayerSettings) (full : Bool) (restarts : ℕ) (circuits : ℕ → Circuit) (request : LayerRequest) → IsNamedOutcome (outcome_ready c full restarts circuits request)
+ready_named c full restarts circuits (Asks h request) = test (is_channel c.channels h)
+  where
+    good : LayerOutcome
+    good = if_at_once (puts_at_once request) full (outcome_on restarts circuits h (circuit.outcome c.circuit (circuits h) request))
+
+    test : (b : Bool) → IsNamedOutcome (if b then good else Declined layer_error.NoSuchChannel)
+    test true = at_once_named (puts_at_once request) full _ (on_named restarts circuits h (circuit.outcome c.circuit (circuits h) request))
+    test false = refl
+ready_named c full restarts circuits (Dials called calling user) = dialled_named c full restarts circuits (free_channel c.circuit.role circuits c.channels) called calling user
+ready_named c full restarts circuits Restarts = room_named full _ tt
+
+outcome_named : (c : LayerSettings) (full busy : Bool) (restarts : ℕ) (circuits : ℕ → Circuit) (request : LayerRequest) → IsNamedOutcome (outcome_in c full busy restarts circuits request)
+outcome_named c full true restarts circuits request = refl
+outcome_named c full false restarts circuits request = ready_named c full restarts circuits request
+
+pub calls_named : (view : LinkView) (c : LayerSettings) (l : Layer) (request : LayerRequest) → IsNamed (calls view c l request)
+calls_named view c l request = test view.is_up
+  where
+    goes : (o : LayerOutcome) → IsNamedOutcome o → IsNamed (went view c o)
+    goes (Accepted next packet) named = tt
+    goes (Declined e) named = named
+
+    test : (b : Bool) → IsNamed (if b then went view c (layer_outcome c (view.waits [] == 256) l request) else Refuses layer_error.NotUp)
+    test true = goes (layer_outcome c (view.waits [] == 256) l request) (outcome_named c (view.waits [] == 256) l.restarting l.restarts l.circuits request)
+    test false = refl
+
+-- ---- the calls, by the layer's clauses
+
+abbrev pub Layers : {T : Type 0} → ShownLink → layer_code.Layer → layer_code.Layer → Result T LayerError → LayerRequest → Type 0
+Layers l y z result request = (d : LayerSettings) (k : Layer) (x : LinkState) → FitsLayer d y k → FitsWhole l x → LayerGives d z result (calls (over.view_of up_at waits_of after_put_to x) d k request)
+
+abbrev pub Links : {T : Type 0} → ShownLink → ShownLink → layer_code.Layer → Result T LayerError → LayerRequest → Type 0
+Links l m y result request =
+    (d : LayerSettings) (k : Layer) (x : LinkState) → FitsLayer d y k → FitsWhole l x → LinkGives (FitsWhole m) after_put_to x result (calls (over.view_of up_at waits_of after_put_to x) d k request)
+
+-- the frames are kept from nothing on
+whole : (c : Settings) (l : ShownLink) (y : layer_code.Layer) (s : Station) → FitsParts c l y s → FitsWhole l (kept_of (link_settings c) (alone s.link))
+whole c l y s fits = record { link = fits.link; kept = fits.sent }
+
+abbrev pub answered_by : Settings → Station → LayerRequest → Answered
+answered_by c s request = calls (view_of (link_settings c) s.link) (layer_settings c) s.layer request
+
+pub layer_gives : {T : Type 0} (result : Result T LayerError) (c : Settings) (l : ShownLink) (y z : layer_code.Layer) (s : Station) (request : LayerRequest) → FitsParts c l y s → Layers l y z result request
+    → LayerGives (layer_settings c) z result (answered_by c s request)
+layer_gives result c l y z s request fits clause =
+    subst (λ (view : LinkView). LayerGives (layer_settings c) z result (calls view (layer_settings c) s.layer request)) (same_view (link_settings c) s.link)
+    (clause (layer_settings c) s.layer (kept_of (link_settings c) (alone s.link)) fits.layer (whole c l y s fits))
+
+pub link_gives : {T : Type 0} (result : Result T LayerError) (c : Settings) (l m : ShownLink) (y : layer_code.Layer) (s : Station) (request : LayerRequest) → FitsParts c l y s → Links l m y result request
+    → LinkGives (FitsWhole m) after_put_to (kept_of (link_settings c) (alone s.link)) result (answered_by c s request)
+link_gives result c l m y s request fits clause =
+    subst (λ (view : LinkView). LinkGives (FitsWhole m) after_put_to (kept_of (link_settings c) (alone s.link)) result (calls view (layer_settings c) s.layer request)) (same_view (link_settings c) s.link)
+    (clause (layer_settings c) s.layer (kept_of (link_settings c) (alone s.link)) fits.layer (whole c l y s fits))
+
+pub record Answers (c : Settings) (n : ShownLink) (z : layer_code.Layer) (r : code_step.Step) (outcome : Outcome) : Type 0 where
+  pub state : station.LeavesParts c n z (Ok r) outcome
+  pub frames : station.Sends c (Ok r) outcome
+  pub refused : station.Refuses (Ok r) outcome
+
+-- an accepted call of the layer, from the link l and the layer y to m and z, and then to n, from which the frames are taken
+pub answers : {T : Type 0} (u : T) (c : Settings) (l m n : ShownLink) (y z : layer_code.Layer) (r : code_step.Step) (s : Station) (request : LayerRequest) → FitsParts c l y s → Layers l y z (Ok u) request → Links l m y (Ok u) request
+    → n.station ≡ m.station → n.outgoing.made ≡ [] → map (λ frame. frame.items) r.frames.items ≡ m.outgoing.made → KeptBy (requests c s request) → Answers c n z r (requests c s request)
+answers u c l m n y z r s request fits layers links same none made kept =
+    let a : Answered = answered_by c s request in
+    let layer = layer_gives (Ok u) c l y z s request fits layers in
+    let link = link_gives (Ok u) c l m y s request fits links in
+    let lc : LayerSettings = layer_settings c in
+    let entries : List StationEntry = entries_of_outcome lc s.layer request (layer_outcome lc (waiting_after (link_settings c) s.link [] == 256) s.layer request) in
+    record {
+      state = leaves_did u c s.link m n z r entries a layer link same none kept;
+      frames = sends_did u c s.link m r entries a link made;
+      refused = goes_did u c s.link z r entries a layer;
+    }
+
+-- a call of the layer that is refused, or finds no memory
+pub refuses : (T U : Type 0) (e : LayerError) (found : StationError) (c : Settings) (l : ShownLink) (y z : layer_code.Layer) (s : Station) (request : LayerRequest) → FitsParts c l y s → found ≡ of_layer e
+    → (let x : Result T LayerError = Err e in Layers l y z x request) → (let x : Result U StationError = Err found in station.Refuses x (requests c s request))
+refuses T U e found c l y z s request fits is layers =
+    let x : Result T LayerError = Err e in
+    let lc : LayerSettings = layer_settings c in
+    let entries : List StationEntry = entries_of_outcome lc s.layer request (layer_outcome lc (waiting_after (link_settings c) s.link [] == 256) s.layer request) in
+    refused_did T U e found c s.link z entries (answered_by c s request) (calls_named (view_of (link_settings c) s.link) lc s.layer request) is (layer_gives x c l y z s request fits layers)
+
+-- then the station is as before
+pub still_fits : (c : Settings) (l m : ShownLink) (y z : layer_code.Layer) (s : Station) → FitsParts c l y s → FitsLayer (layer_settings c) z s.layer → ((x : LinkState) → FitsWhole l x → FitsWhole m x) → FitsParts c m z s
+still_fits c l m y z s fits layer links =
+    let after : FitsWhole m (kept_of (link_settings c) (alone s.link)) = links (kept_of (link_settings c) (alone s.link)) (whole c l y s fits) in
+    record { link = after.link; layer = layer; kept = fits.kept; sent = after.kept }

@@ -1,0 +1,140 @@
+-- The entry of an accepted command stands under the name that the layer has after the whole call.
+use Rattle.std.proofs.Common.{◌≡◌, ℕ, zero, suc, ◌≤◌, nat_le, ◌&&◌, List, [], ◌∷◌, Option, Some, None, Bool, true, false, ◌==◌, if◌then◌else◌, refl, ap, sym, subst, ◌∙◌, arith}
+use Rattle.std.proofs.lemmas.Bool.{le-leb}
+use Rattle.x25_bits.specs.declared.role.Role.{Role}
+use Rattle.x25_bits.specs.declared.role.Role.TheVariants.{Dte, Dce}
+use Rattle.x25_packet.specs.PlainPacket.{PlainPacket}
+use Rattle.x25_circuit.specs.Circuit.{Circuit, is_free}
+use Rattle.x25_circuit.specs.Calls as circuit
+use Rattle.x25_layer.specs.declared.error.LayerError.{LayerError}
+use Rattle.x25_layer.specs.declared.error.LayerError.TheVariants as layer_error
+use Rattle.x25_layer.specs.Layer.{LayerSettings, Layer, is_channel}
+use Rattle.x25_layer.specs.Calls.{LayerRequest, Asks, Dials, Restarts, LayerOutcome, Accepted, Declined, layer_outcome, outcome_in, outcome_on, if_at_once, puts_at_once, first_of, lowest_free, highest_free, free_channel}
+use Rattle.x25_layer.specs.Rounds.{LinkView, Putting, begin, rounds, Answered, Went, Refuses, went, calls}
+use Rattle.x25_layer.specs.Transcript.{Asked, name_of}
+use Rattle.x25_layer.specs.World.{entry_of_dial}
+use Rattle.x25_station.specs.Entries.{StationEntry, of_channel, of_channels, restart_asked, station_asked}
+use Rattle.x25_station.specs.Steps.{entries_of_outcome}
+use Rattle.x25_station.proofs.NameLemmas.{rounds_name}
+
+-- ---- a call that went was accepted
+
+refuses_went : (e : LayerError) (p : Putting) → Refuses e ≡ Went p → ⊥
+refuses_went e p is = subst (λ (a : Answered). elim a as (λ _. Type 0) [ Went x ↦ ⊥ | Refuses y ↦ Unit {0} ]) is tt
+
+step_in : Putting → Answered → Putting
+step_in d (Went p) = p
+step_in d (Refuses e) = d
+
+went_is : (a b : Putting) → Went a ≡ Went b → a ≡ b
+unfolding step_in
+went_is a b is = ap (step_in a) is
+
+record IsAccepted (view : LinkView) (c : LayerSettings) (l : Layer) (request : LayerRequest) (p : Putting) : Type 0 where
+  next : Layer
+  packet : Option PlainPacket
+  outcome : layer_outcome c (view.waits [] == 256) l request ≡ Accepted next packet
+  step : rounds view c (begin next packet) ≡ p
+
+accepted : (view : LinkView) (c : LayerSettings) (l : Layer) (request : LayerRequest) (p : Putting) → calls view c l request ≡ Went p → IsAccepted view c l request p
+accepted view c l request p is = test view.is_up is
+  where
+    by : (o : LayerOutcome) → layer_outcome c (view.waits [] == 256) l request ≡ o → went view c o ≡ Went p → IsAccepted view c l request p
+    by (Accepted next packet) found same = record { next = next; packet = packet; outcome = found; step = went_is (rounds view c (begin next packet)) p same }
+    by (Declined e) found same = absurd (refuses_went e p same)
+
+    test : (b : Bool) → (if b then went view c (layer_outcome c (view.waits [] == 256) l request) else Refuses layer_error.NotUp) ≡ Went p → IsAccepted view c l request p
+    test true same = by (layer_outcome c (view.waits [] == 256) l request) refl same
+    test false same = absurd (refuses_went layer_error.NotUp p same)
+
+-- ---- the entry
+
+entries_are : (view : LinkView) (c : LayerSettings) (l : Layer) (request : LayerRequest) (p : Putting) (a : IsAccepted view c l request p)
+    → entries_of_outcome c l request (layer_outcome c (view.waits [] == 256) l request) ≡ station_asked c l a.next request
+entries_are view c l request p a = ap (entries_of_outcome c l request) a.outcome
+
+next_name : (view : LinkView) (c : LayerSettings) (l : Layer) (request : LayerRequest) (p : Putting) (h : ℕ) (a : IsAccepted view c l request p) → name_of a.next h ≡ name_of p.layer h
+next_name view c l request p h a = sym (rounds_name view c (begin a.next a.packet) h) ∙ ap (λ (s : Putting). name_of s.layer h) a.step
+
+pub asked_entry : (view : LinkView) (c : LayerSettings) (l : Layer) (h : ℕ) (request : circuit.Request) (p : Putting) → calls view c l (Asks h request) ≡ Went p
+    → entries_of_outcome c l (Asks h request) (layer_outcome c (view.waits [] == 256) l (Asks h request)) ≡ of_channel (record { channel = h; name = name_of p.layer h; said = Asked request }) ∷ []
+asked_entry view c l h request p is =
+    let a = accepted view c l (Asks h request) p is in
+    entries_are view c l (Asks h request) p a ∙ ap (λ n. of_channel (record { channel = h; name = n; said = Asked request }) ∷ []) (next_name view c l (Asks h request) p h a)
+
+pub dialled_entry : (view : LinkView) (c : LayerSettings) (l : Layer) (h : ℕ) (called calling user : List ℕ) (p : Putting) → calls view c l (Dials called calling user) ≡ Went p → free_channel c.circuit.role l.circuits c.channels ≡ Some h
+    → entries_of_outcome c l (Dials called calling user) (layer_outcome c (view.waits [] == 256) l (Dials called calling user))
+    ≡ of_channel (record { channel = h; name = name_of p.layer h; said = Asked (circuit.Calls called calling user) }) ∷ []
+dialled_entry view c l h called calling user p is free =
+    let a = accepted view c l (Dials called calling user) p is in
+    entries_are view c l (Dials called calling user) p a
+    ∙ ap (λ (o : Option ℕ). of_dial a.next o) free
+    ∙ ap (λ n. of_channel (record { channel = h; name = n; said = Asked (circuit.Calls called calling user) }) ∷ []) (next_name view c l (Dials called calling user) p h a)
+  where
+    of_dial : Layer → Option ℕ → List StationEntry
+    of_dial next o = of_channels (entry_of_dial next o (circuit.Calls called calling user))
+
+pub restart_entry : (view : LinkView) (c : LayerSettings) (l : Layer) (p : Putting) → calls view c l Restarts ≡ Went p → entries_of_outcome c l Restarts (layer_outcome c (view.waits [] == 256) l Restarts) ≡ restart_asked ∷ []
+restart_entry view c l p is = entries_are view c l Restarts p (accepted view c l Restarts p is)
+
+-- ---- the channel of an accepted command is configured
+
+declined_accepted : (e : LayerError) (next : Layer) (packet : Option PlainPacket) → Declined e ≡ Accepted next packet → ⊥
+declined_accepted e next packet is = subst (λ (o : LayerOutcome). elim o as (λ _. Type 0) [ Accepted x y ↦ ⊥ | Declined z ↦ Unit {0} ]) is tt
+
+pub asked_channel : (view : LinkView) (c : LayerSettings) (l : Layer) (h : ℕ) (request : circuit.Request) (p : Putting) → calls view c l (Asks h request) ≡ Went p → is_channel c.channels h ≡ true
+asked_channel view c l h request p is = let a = accepted view c l (Asks h request) p is in at l.restarting (is_channel c.channels h) refl a.next a.packet a.outcome
+  where
+    full : Bool
+    full = view.waits [] == 256
+
+    good : LayerOutcome
+    good = if_at_once (puts_at_once request) full (outcome_on l.restarts l.circuits h (circuit.outcome c.circuit (l.circuits h) request))
+
+    at : (busy b : Bool) → is_channel c.channels h ≡ b → (next : Layer) (packet : Option PlainPacket) → outcome_in c full busy l.restarts l.circuits (Asks h request) ≡ Accepted next packet → is_channel c.channels h ≡ true
+    at true b same next packet found = absurd (declined_accepted layer_error.Restarting next packet found)
+    at false true same next packet found = same
+    at false false same next packet found = absurd (declined_accepted layer_error.NoSuchChannel next packet (sym (ap (λ (x : Bool). if x then good else Declined layer_error.NoSuchChannel) same) ∙ found))
+
+some_is : (a b : ℕ) → Some a ≡ Some b → a ≡ b
+some_is a b is = cc
+
+none_some : (h : ℕ) → None ≡ Some h → ⊥
+none_some h is = cc
+
+record LiesIn (n h : ℕ) : Type 0 where
+  low : 1 ≤ h
+  high : h ≤ n
+
+lies_further : (n h : ℕ) → LiesIn n h → LiesIn (suc n) h
+lies_further n h in_n = record { low = in_n.low; high = omega (arith, in_n.high) }
+
+highest_lies : (f : ℕ → Circuit) (n h : ℕ) → highest_free f n ≡ Some h → LiesIn n h
+highest_lies f zero h is = absurd (none_some h is)
+highest_lies f (suc n) h is = test (is_free (f (suc n))) is (highest_lies f n h)
+  where
+    test : (b : Bool) → (if b then Some (suc n) else highest_free f n) ≡ Some h → (highest_free f n ≡ Some h → LiesIn n h) → LiesIn (suc n) h
+    test true same below = subst (λ (k : ℕ). LiesIn (suc n) k) (some_is (suc n) h same) (record { low = omega arith; high = omega arith })
+    test false same below = lies_further n h (below same)
+
+lowest_lies : (f : ℕ → Circuit) (n h : ℕ) → lowest_free f n ≡ Some h → LiesIn n h
+lowest_lies f zero h is = absurd (none_some h is)
+lowest_lies f (suc n) h is = first (lowest_free f n) refl is (lowest_lies f n h)
+  where
+    test : (b : Bool) → (if b then Some (suc n) else None) ≡ Some h → LiesIn (suc n) h
+    test true same = subst (λ (k : ℕ). LiesIn (suc n) k) (some_is (suc n) h same) (record { low = omega arith; high = omega arith })
+    test false same = absurd (none_some h same)
+
+    first : (o : Option ℕ) → lowest_free f n ≡ o → first_of o (is_free (f (suc n))) (suc n) ≡ Some h → (lowest_free f n ≡ Some h → LiesIn n h) → LiesIn (suc n) h
+    first (Some k) found same below = lies_further n h (below (found ∙ same))
+    first None found same below = test (is_free (f (suc n))) same
+
+pub free_is_channel : (role : Role) (f : ℕ → Circuit) (n h : ℕ) → free_channel role f n ≡ Some h → is_channel n h ≡ true
+free_is_channel role f n h is = both (lies role is)
+  where
+    lies : (r : Role) → free_channel r f n ≡ Some h → LiesIn n h
+    lies Dte same = highest_lies f n h same
+    lies Dce same = lowest_lies f n h same
+
+    both : LiesIn n h → is_channel n h ≡ true
+    both x = ap (λ (b : Bool). b && nat_le h n) (le-leb 1 h x.low) ∙ le-leb h n x.high

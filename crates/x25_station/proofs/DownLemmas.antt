@@ -1,0 +1,79 @@
+-- A step of the link that hands nothing up, and notes nothing but that it went down.
+use Rattle.std.proofs.Common.{◌≡◌, ℕ, ◌+◌, List, [], ◌++◌, map, Option, Some, None, Ok, Bool, true, false, if◌then◌else◌, nat_lt, refl, sym, ap, subst, ◌∙◌}
+use Rattle.x25_frame.specs.Spelling.{spelling_of}
+use Rattle.x25_link.specs.declared.error.LinkError.{LinkError}
+use Rattle.x25_link.specs.declared.phase.Reason.{Reason}
+use Rattle.x25_link.specs.Station.{Settings as LinkSettings, Station as LinkStation, Side, with_near}
+use Rattle.x25_link.specs.MustSend.{Step as LinkStep, quiet, leaves}
+use Rattle.x25_link.specs.Steps.{alone, asks_again, timer_step, disconnect_step}
+use Rattle.x25_link.specs.declared.phase.Reason.TheVariants.{Retries}
+use Rattle.x25_link.specs.Link.{ShownLink, FitsLink}
+use Rattle.x25_layer.specs.Layer.{Layer}
+use Rattle.x25_layer.specs.FitsLayer.{FitsLayer}
+use Rattle.x25_layer.specs.declared.layer.Layer as layer_code
+use Rattle.x25_station.specs.declared.step.Step as code_step
+use Rattle.x25_station.specs.Settings.{Settings, link_settings, layer_settings}
+use Rattle.x25_station.specs.Entries.{StationEntry, entries_down}
+use Rattle.x25_station.specs.Station.{Station}
+use Rattle.x25_station.specs.Steps.{Step, follows, layer_down, unless}
+use Rattle.x25_station.specs.KeepLaw.{IsKept, KeptBy}
+use Rattle.x25_station.specs.FitsParts.{FitsParts}
+use Rattle.x25_station.specs.FitsStation.{LeavesParts}
+use Rattle.x25_station.proofs.OutcomeLemmas.{leaves_unless}
+use Rattle.x25_station.proofs.KeepLemmas.{timer_none}
+
+-- the layer rests where it went down, and nothing is put
+abbrev pub downs : Layer → Side → Option Reason → Step
+downs l t down = record { near = record { link = t.near; layer = layer_down l down }; out = t.out; entries = entries_down down }
+
+noted_down : (c : Settings) (l : Layer) (t : Side) (down : Option Reason) → follows c l (record { side = t; packet = None; notes = record { down = down; up = false } }) ≡ downs l t down
+noted_down c l t None = refl
+noted_down c l t (Some reason) = refl
+
+pub follows_down : (c : Settings) (l : Layer) (k : LinkStep) → k.packet ≡ None → k.notes.up ≡ false → follows c l k ≡ downs l k.side k.notes.down
+follows_down c l k none not_up =
+    ap (λ (o : Option (List ℕ)). follows c l (record { side = k.side; packet = o; notes = k.notes })) none
+    ∙ ap (λ (b : Bool). follows c l (record { side = k.side; packet = None; notes = record { down = k.notes.down; up = b } })) not_up
+    ∙ noted_down c l k.side k.notes.down
+
+-- ---- timer T1, and disconnect
+
+pub timer_stays : (c : LinkSettings) (s : LinkStation) → (timer_step c s).notes.up ≡ false
+timer_stays c s = test (nat_lt s.tries c.retries)
+  where
+    test : (b : Bool) → (let k : LinkStep = if b then quiet (asks_again s.phase (with_near (alone s) (record s { tries = s.tries + 1 }))) else leaves Retries (alone s) in k.notes.up) ≡ false
+    test true = refl
+    test false = refl
+
+pub timer_down : (c : Settings) (l : Layer) (s : LinkStation) → (let k : LinkStep = timer_step (link_settings c) s in follows c l k ≡ downs l k.side k.notes.down)
+timer_down c l s = follows_down c l (timer_step (link_settings c) s) (timer_none (link_settings c) s) (timer_stays (link_settings c) s)
+
+pub disconnect_down : (c : Settings) (l : Layer) (s : LinkStation) → (let k : LinkStep = disconnect_step (link_settings c) s in follows c l k ≡ downs l k.side k.notes.down)
+disconnect_down c l s = follows_down c l (disconnect_step (link_settings c) s) refl refl
+
+-- ---- the station after it
+
+pub fits_down : (c : Settings) (v : ShownLink) (y : layer_code.Layer) (l : Layer) (k : LinkStep) (step : Step) (down : Option Reason) → step.near ≡ (downs l k.side k.notes.down).near → down ≡ k.notes.down
+    → FitsLink (link_settings c) v k.side.near → FitsLayer (layer_settings c) y (layer_down l down) → v.outgoing.made ≡ [] → IsKept step.near → FitsParts c v y step.near
+fits_down c v y l k step down near is link layer sent kept =
+    let moved : layer_down l down ≡ step.near.layer = ap (layer_down l) is ∙ sym (ap (λ (x : Station). x.layer) near) in
+    record {
+      link = subst (λ (x : LinkStation). FitsLink (link_settings c) v x) (sym (ap (λ (x : Station). x.link) near)) link;
+      layer = subst (λ (x : Layer). FitsLayer (layer_settings c) y x) moved layer;
+      kept = kept;
+      sent = sent;
+    }
+
+pub leaves_down : (c : Settings) (v : ShownLink) (y : layer_code.Layer) (r : code_step.Step) (o : Option LinkError) (l : Layer) (k : LinkStep) (step : Step) (down : Option Reason) → step.near ≡ (downs l k.side k.notes.down).near
+    → down ≡ k.notes.down → FitsLink (link_settings c) v k.side.near → FitsLayer (layer_settings c) y (layer_down l down) → v.outgoing.made ≡ [] → KeptBy (unless o step) → LeavesParts c v y (Ok r) (unless o step)
+leaves_down c v y r o l k step down near is link layer sent kept = leaves_unless c v y r o step kept (λ now. fits_down c v y l k step down near is link layer sent now)
+
+-- ---- what it answers
+
+pub frames_down : (c : Settings) (l : Layer) (k : LinkStep) (frames : List (List ℕ)) (step : Step) → step ≡ downs l k.side k.notes.down → frames ≡ map (spelling_of c.role) k.side.out → frames ≡ map (spelling_of c.role) step.out
+frames_down c l k frames step is made = made ∙ ap (λ (x : Step). map (spelling_of c.role) x.out) (sym is)
+
+pub entries_noted_down : (l : Layer) (k : LinkStep) (before after : List StationEntry) (down : Option Reason) (step : Step) → step ≡ downs l k.side k.notes.down → down ≡ k.notes.down → after ≡ before ++ entries_down down
+    → after ≡ before ++ step.entries
+entries_noted_down l k before after down step is same noted =
+    noted ∙ ap (λ (o : Option Reason). before ++ entries_down o) same ∙ ap (λ (x : Step). before ++ x.entries) (sym is)

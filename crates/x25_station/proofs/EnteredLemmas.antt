@@ -1,0 +1,54 @@
+-- The entries of an accepted command are those of the definition.
+use Rattle.std.proofs.Common.{◌≡◌, ℕ, List, [], ◌∷◌, ◌==◌, Some, Ok, map, true, sym, subst, ◌∙◌}
+use Rattle.x25_link.specs.Link.{ShownLink}
+use Rattle.x25_circuit.specs.Calls as circuit
+use Rattle.x25_layer.specs.declared.layer.Layer as layer_code
+use Rattle.x25_layer.specs.Layer.{LayerSettings, Layer, is_channel}
+use Rattle.x25_layer.specs.Calls.{LayerRequest, Asks, Dials, Restarts, layer_outcome, free_channel}
+use Rattle.x25_layer.specs.Rounds.{LinkView, Putting, Answered, Went}
+use Rattle.x25_layer.specs.OverLink.{LayerGives}
+use Rattle.x25_layer.specs.FitsLayer.{FitsLayer}
+use Rattle.x25_layer.specs.Transcript.{Asked, name_of}
+use Rattle.x25_station.specs.declared.step.Step as code_step
+use Rattle.x25_station.specs.Settings.{Settings, link_settings, layer_settings}
+use Rattle.x25_station.specs.Entries.{StationEntry, of_channel, restart_asked}
+use Rattle.x25_station.specs.Station.{Station, view_of, waiting_after}
+use Rattle.x25_station.specs.Steps.{requests, entries_of_outcome}
+use Rattle.x25_station.specs.PlainEntry.{plain_entry}
+use Rattle.x25_station.specs.FitsParts.{FitsParts}
+use Rattle.x25_station.specs.FitsStation.{Enters}
+use Rattle.x25_station.proofs.AskLemmas.{Layers, answered_by, layer_gives, enters_did}
+use Rattle.x25_station.proofs.AskedEntryLemmas.{asked_entry, dialled_entry, restart_entry, asked_channel, free_is_channel}
+
+abbrev entries_by : Settings → Station → LayerRequest → List StationEntry
+entries_by c s request = entries_of_outcome (layer_settings c) s.layer request (layer_outcome (layer_settings c) (waiting_after (link_settings c) s.link [] == 256) s.layer request)
+
+-- the layer after a call that went
+went_fits : {T : Type 0} (u : T) (c : Settings) (z : layer_code.Layer) (a : Answered) (p : Putting) → LayerGives (layer_settings c) z (Ok u) a → a ≡ Went p → FitsLayer (layer_settings c) z p.layer
+went_fits u c z a p gives is = subst (λ (x : Answered). LayerGives (layer_settings c) z (Ok u) x) is gives
+
+pub asked_enters : {T : Type 0} (u : T) (c : Settings) (l : ShownLink) (y z : layer_code.Layer) (s : Station) (r : code_step.Step) (h : ℕ) (request : circuit.Request) → FitsParts c l y s → Layers l y z (Ok u) (Asks h request)
+    → ((k : Layer) → FitsLayer (layer_settings c) z k → is_channel c.channels h ≡ true → map plain_entry r.entries.items ≡ of_channel (record { channel = h; name = name_of k h; said = Asked request }) ∷ [])
+    → Enters (Ok r) (requests c s (Asks h request))
+asked_enters u c l y z s r h request fits layers entered =
+    let view : LinkView = view_of (link_settings c) s.link in
+    let lc : LayerSettings = layer_settings c in
+    enters_did c s.link r (entries_by c s (Asks h request)) (answered_by c s (Asks h request)) (λ p is.
+    entered p.layer (went_fits u c z _ p (layer_gives (Ok u) c l y z s (Asks h request) fits layers) is) (asked_channel view lc s.layer h request p is) ∙ sym (asked_entry view lc s.layer h request p is))
+
+pub dialled_enters : (c : Settings) (l : ShownLink) (y z : layer_code.Layer) (s : Station) (r : code_step.Step) (h : ℕ) (called calling user : List ℕ) → FitsParts c l y s → Layers l y z (Ok h) (Dials called calling user)
+    → free_channel c.role s.layer.circuits c.channels ≡ Some h
+    → ((k : Layer) → FitsLayer (layer_settings c) z k → is_channel c.channels h ≡ true →
+    map plain_entry r.entries.items ≡ of_channel (record { channel = h; name = name_of k h; said = Asked (circuit.Calls called calling user) }) ∷ [])
+    → Enters (Ok r) (requests c s (Dials called calling user))
+dialled_enters c l y z s r h called calling user fits layers free entered =
+    let view : LinkView = view_of (link_settings c) s.link in
+    let lc : LayerSettings = layer_settings c in
+    let request : LayerRequest = Dials called calling user in
+    enters_did c s.link r (entries_by c s request) (answered_by c s request) (λ p is.
+    entered p.layer (went_fits h c z _ p (layer_gives (Ok h) c l y z s request fits layers) is) (free_is_channel c.role s.layer.circuits c.channels h free)
+    ∙ sym (dialled_entry view lc s.layer h called calling user p is free))
+
+pub restart_enters : (c : Settings) (s : Station) (r : code_step.Step) → map plain_entry r.entries.items ≡ restart_asked ∷ [] → Enters (Ok r) (requests c s Restarts)
+restart_enters c s r entered =
+    enters_did c s.link r (entries_by c s Restarts) (answered_by c s Restarts) (λ p is. entered ∙ sym (restart_entry (view_of (link_settings c) s.link) (layer_settings c) s.layer p is))

@@ -1,0 +1,100 @@
+-- Packets that are handed down in one step are answered by few frames: each I frame takes a place in the window, and one RR at most ends an RNR.
+use Rattle.std.proofs.Common.{◌≡◌, ℕ, zero, suc, ◌+◌, ◌-◌, ◌<◌, ◌≤◌, List, [], ◌∷◌, ◌++◌, Bool, true, false, not, ◌&&◌, if◌then◌else◌, nat_lt, length, refl, ap, sym, ◌∙◌, arith}
+use Rattle.std.proofs.Math.Nat.{le_trans}
+use Rattle.std.proofs.lemmas.Bool.{and_parts, ltb-true}
+use Rattle.std.proofs.lemmas.List.{length-append, append_assoc, append-nil}
+use Rattle.x25_packet.specs.PlainPacket.{PlainPacket}
+use Rattle.x25_packet.specs.Spelling as packet
+use Rattle.x25_frame.specs.PlainFrame.{PlainFrame, rr, rnr}
+use Rattle.x25_link.specs.Outgoing.{is_open, added}
+use Rattle.x25_link.specs.Station.{Settings as LinkSettings, Station as LinkStation, Side, is_up, is_busy, with_near, sends, wanted, ready, send_next, next_frame, may_send, pumped, owes_ready, finished, ended}
+use Rattle.x25_link.specs.Steps.{alone, put_step}
+use Rattle.x25_station.specs.Station.{put_on, all_put}
+
+-- the places left in the window, and one where RNR was said
+abbrev said : Bool → ℕ
+said true = 1
+said false = 0
+
+abbrev left_of : ℕ → LinkStation → ℕ
+left_of k s = (s.outgoing.acked + k - s.outgoing.place) + said s.said_busy
+
+abbrev count_of : ℕ → Side → ℕ
+count_of k t = length t.out + left_of k t.near
+
+lower_if : (k : ℕ) (b : Bool) (u v t : Side) → (b ≡ true → count_of k u ≤ count_of k t) → count_of k v ≤ count_of k t → count_of k (if b then u else v) ≤ count_of k t
+lower_if k true u v t p q = p refl
+lower_if k false u v t p q = q
+
+one_more : (out : List PlainFrame) (frame : PlainFrame) → length (out ++ frame ∷ []) ≡ length out + 1
+one_more out frame = length-append out (frame ∷ [])
+
+-- an I frame takes a place
+next_lower : (k : ℕ) (t : Side) → may_send k t.near ≡ true → count_of k (send_next t) ≤ count_of k t
+next_lower k t may =
+    let s = t.near in
+    let low : is_open k s.outgoing ≡ true = (and_parts (not s.peer_busy) (is_open k s.outgoing) (and_parts (not s.recovery) (not s.peer_busy && is_open k s.outgoing) (and_parts (is_up s.phase) (not s.recovery && (not s.peer_busy && is_open k s.outgoing)) may).1).1).1 in
+    let place : s.outgoing.place < s.outgoing.acked + k = ltb-true _ _ (and_parts (nat_lt s.outgoing.place (s.outgoing.acked + k)) (nat_lt s.outgoing.place (length s.outgoing.given)) low).0 in
+    let more = one_more t.out (next_frame s) in
+    omega (arith, more, place)
+
+pumped_lower : (n k : ℕ) (t : Side) → count_of k (pumped n k t) ≤ count_of k t
+unfolding pumped
+pumped_lower zero k t = omega arith
+pumped_lower (suc n) k t =
+    le_trans (lower_if k (may_send k (pumped n k t).near) (send_next (pumped n k t)) (pumped n k t) (pumped n k t) (λ may. next_lower k (pumped n k t) may) (omega arith)) (pumped_lower n k t)
+
+-- the RR that ends an RNR
+ready_lower : (k : ℕ) (t : Side) → owes_ready t.near ≡ true → count_of k (ready false false t) ≤ count_of k t
+ready_lower k t owes = by (is_busy t.near) refl (and_parts t.near.said_busy (not (is_busy t.near)) (and_parts (is_up t.near.phase) (t.near.said_busy && not (is_busy t.near)) owes).1)
+  where
+    true_false : false ≡ true → ⊥
+    true_false e = cc
+
+    spoke : (b : Bool) → b ≡ true → said b ≡ 1
+    spoke true is = refl
+    spoke false is = absurd (true_false is)
+
+    quiet : Side
+    quiet = sends (rr false (wanted t.near) false) (with_near t (record t.near { said_busy = false }))
+
+    loud : Side
+    loud = sends (rnr false (wanted t.near) false) (with_near t (record t.near { said_busy = true }))
+
+    by : (b : Bool) → is_busy t.near ≡ b → (t.near.said_busy ≡ true) × (not (is_busy t.near) ≡ true) → count_of k (if b then loud else quiet) ≤ count_of k t
+    by true is both = absurd (true_false (sym (ap not is) ∙ both.1))
+    by false is both = let more = one_more t.out (rr false (wanted t.near) false) in let one : said t.near.said_busy ≡ 1 = spoke t.near.said_busy both.0 in omega (arith, more, one)
+
+finished_lower : (k : ℕ) (t : Side) → count_of k (finished t) ≤ count_of k t
+finished_lower k t = lower_if k (owes_ready t.near) (ready false false t) t t (λ owes. ready_lower k t owes) (omega arith)
+
+ended_lower : (k : ℕ) (t : Side) → count_of k (ended k t) ≤ count_of k t
+ended_lower k t = le_trans (finished_lower k (pumped 7 k t)) (pumped_lower 7 k t)
+
+put_lower : (c : LinkSettings) (p : PlainPacket) (t : Side) → count_of c.window (put_on c p t) ≤ count_of c.window t
+put_lower c p t =
+    let u : Side = with_near (alone t.near) (record t.near { outgoing = added (packet.spelling_of p) t.near.outgoing }) in
+    let lower : count_of c.window (ended c.window u) ≤ count_of c.window u = ended_lower c.window u in
+    let more : length (t.out ++ (ended c.window u).out) ≡ length t.out + length (ended c.window u).out = length-append t.out (ended c.window u).out in
+    omega (arith, lower, more)
+
+all_lower : (c : LinkSettings) (packets : List PlainPacket) (t : Side) → count_of c.window (all_put c packets t) ≤ count_of c.window t
+all_lower c [] t = omega arith
+all_lower c (p ∷ packets) t = le_trans (all_lower c packets (put_on c p t)) (put_lower c p t)
+
+pub few_put : (c : LinkSettings) (packets : List PlainPacket) (s : LinkStation) → c.window ≤ 7 → s.outgoing.acked ≤ s.outgoing.place → length (all_put c packets (alone s)).out ≤ 8
+few_put c packets s small low = let lower = all_lower c packets (alone s) in let one : said s.said_busy ≤ 1 = few s.said_busy in omega (arith, lower, small, low, one)
+  where
+    few : (b : Bool) → said b ≤ 1
+    few true = omega arith
+    few false = omega arith
+
+-- ---- the frames of the link's own step go before them
+
+pub out_behind : (c : LinkSettings) (packets : List PlainPacket) (t : Side) → (all_put c packets t).out ≡ t.out ++ (all_put c packets (alone t.near)).out
+out_behind c [] t = sym (append-nil t.out)
+out_behind c (p ∷ packets) t =
+    let u : Side = (put_step c (packet.spelling_of p) t.near).side in
+    out_behind c packets (put_on c p t)
+    ∙ append_assoc t.out u.out (all_put c packets (alone u.near)).out
+    ∙ ap (λ (frames : List PlainFrame). t.out ++ frames) (sym (out_behind c packets u))

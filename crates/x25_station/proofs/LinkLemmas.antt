@@ -1,0 +1,33 @@
+-- The link after packets were put one by one, as the packet layer sees it, is the link of the station's step.
+use Rattle.std.proofs.Common.{Result, Ok, OnOk, subst, ◌≡◌, ℕ, List, [], ◌∷◌, refl, sym, ap, ◌∙◌}
+use Rattle.std.proofs.Math.Path.{fun_ext}
+use Rattle.std.proofs.lemmas.List.{map-append}
+use Rattle.x25_packet.specs.PlainPacket.{PlainPacket}
+use Rattle.x25_packet.specs.Spelling as packet
+use Rattle.x25_frame.specs.Spelling.{spelling_of}
+use Rattle.x25_link.specs.Station.{Settings as LinkSettings, Station as LinkStation, Side, is_up}
+use Rattle.x25_link.specs.Steps.{alone, put_step}
+use Rattle.x25_link.specs.Link.{up_at, waits_of, after_put_to}
+use Rattle.x25_layer.specs.Rounds.{LinkView}
+use Rattle.x25_layer.specs.OverLink as over
+use Rattle.x25_station.specs.Receiving.{kept_of}
+use Rattle.x25_station.specs.Station.{put_on, all_put, view_of}
+
+pub put_by_put : (c : LinkSettings) (packets : List PlainPacket) (t : Side) → over.after_all after_put_to (kept_of c t) packets ≡ kept_of c (all_put c packets t)
+put_by_put c [] t = refl
+put_by_put c (p ∷ packets) t =
+    let step = put_step c (packet.spelling_of p) t.near in
+    ap (λ (kept : List (List ℕ)). over.after_all after_put_to (record { settings = c; station = step.side.near; kept = kept }) packets)
+    (sym (map-append (spelling_of c.role) t.out step.side.out))
+    ∙ put_by_put c packets (put_on c p t)
+
+-- what the layer sees of the link
+abbrev pub seen_by : LinkSettings → LinkStation → LinkView
+seen_by c s = over.view_of up_at waits_of after_put_to (kept_of c (alone s))
+
+pub same_view : (c : LinkSettings) (s : LinkStation) → seen_by c s ≡ view_of c s
+same_view c s = ap (λ (f : List PlainPacket → ℕ). record { is_up = is_up s.phase; waits = f }) (fun_ext (λ packets. ap waits_of (put_by_put c packets (alone s))))
+
+-- what holds of an answer that isn't an error
+pub on_ok : {T E : Type 0} (r : Result T E) (u : T) (X : Type 0) → r ≡ Ok u → OnOk r X → X
+on_ok {T = T} {E = E} r u X is h = subst (λ (x : Result T E). OnOk x X) is h

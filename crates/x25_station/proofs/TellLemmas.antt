@@ -1,0 +1,48 @@
+-- What a circuit tells is entered one notice after another.
+use Rattle.std.proofs.Common.{◌≡◌, ℕ, List, [], ◌∷◌, ◌++◌, Option, Some, Result, Ok, IfOk, Bool, true, false, if◌then◌else◌, refl, ap, sym, subst, ◌∙◌}
+use Rattle.std.proofs.lemmas.List.{append_assoc}
+use Rattle.x25_circuit.specs.declared.notice.Notice.{Notice}
+use Rattle.x25_circuit.specs.Notices.{collided}
+use Rattle.x25_circuit.specs.Replies.{plain_notice, notices_of}
+use Rattle.x25_epochs.specs.Names.{Name}
+use Rattle.x25_layer.specs.declared.told.Told.{Told as Heard}
+use Rattle.x25_layer.specs.Told.{plain_told as plain_heard}
+use Rattle.x25_layer.specs.Transcript.{Told, name_of}
+use Rattle.x25_layer.specs.Layer.{LayerSettings, Layer, LayerNotice, on_channel, restarted, restart_done, layer_fault, notices_on}
+use Rattle.x25_station.specs.Entries.{StationEntry, of_channel, was_restarted, restart_confirmed, at_fault, entry_told, station_told}
+use Rattle.x25_station.specs.Receiving.{IsTellable, AreTellable}
+
+abbrev pub told_first : ℕ → Layer → Bool → List StationEntry
+told_first h l b = if b then entry_told l (on_channel h collided) ∷ [] else []
+
+pub told_both : (l : Layer) (h : ℕ) (b : Bool) (o : Option Notice) (n : Notice) (before mid after : List StationEntry) → o ≡ Some n → mid ≡ before ++ told_first h l b → after ≡ mid ++ entry_told l (on_channel h (plain_notice n)) ∷ []
+    → after ≡ before ++ station_told l (notices_on h (notices_of b o))
+told_both l h b o n before mid after is first second = second ∙ ap (λ (es : List StationEntry). es ++ entry_told l (on_channel h (plain_notice n)) ∷ []) first ∙ at b ∙ ap (λ (x : Option Notice). before ++ station_told l (notices_on h (notices_of b x))) (sym is)
+  where
+    at : (b : Bool) → (before ++ told_first h l b) ++ entry_told l (on_channel h (plain_notice n)) ∷ [] ≡ before ++ station_told l (notices_on h (notices_of b (Some n)))
+    at true = append_assoc before (entry_told l (on_channel h collided) ∷ []) (entry_told l (on_channel h (plain_notice n)) ∷ [])
+    at false = append_assoc before [] (entry_told l (on_channel h (plain_notice n)) ∷ [])
+
+-- each of them may be told
+pub notice_tellable : (c : LayerSettings) (h : ℕ) (b : Bool) (o : Option Notice) (n : Notice) → o ≡ Some n → AreTellable c (notices_on h (notices_of b o)) → IsTellable c (on_channel h (plain_notice n))
+notice_tellable c h b o n is all = at b (subst (λ (x : Option Notice). AreTellable c (notices_on h (notices_of b x))) is all)
+  where
+    at : (b : Bool) → AreTellable c (notices_on h (notices_of b (Some n))) → IsTellable c (on_channel h (plain_notice n))
+    at true x = x.1.0
+    at false x = x.0
+
+pub first_tellable : (c : LayerSettings) (h : ℕ) (b : Bool) (o : Option Notice) → b ≡ true → AreTellable c (notices_on h (notices_of b o)) → IsTellable c (on_channel h collided)
+first_tellable c h b o is all = (subst (λ (x : Bool). AreTellable c (notices_on h (notices_of x o))) is all).0
+
+-- what is told stands under the names alone
+pub same_told : (l m : Layer) (notices : List LayerNotice) → ((h : ℕ) → name_of l h ≡ name_of m h) → station_told l notices ≡ station_told m notices
+same_told l m [] same = refl
+same_told l m (on_channel h notice ∷ notices) same =
+    ap (λ (n : Name). of_channel (record { channel = h; name = n; said = Told notice }) ∷ station_told l notices) (same h)
+    ∙ ap (λ (es : List StationEntry). entry_told m (on_channel h notice) ∷ es) (same_told l m notices same)
+same_told l m (restarted cause diagnostic ∷ notices) same = ap (λ (es : List StationEntry). was_restarted cause diagnostic ∷ es) (same_told l m notices same)
+same_told l m (restart_done ∷ notices) same = ap (λ (es : List StationEntry). restart_confirmed ∷ es) (same_told l m notices same)
+same_told l m (layer_fault diagnostic ∷ notices) same = ap (λ (es : List StationEntry). at_fault diagnostic ∷ es) (same_told l m notices same)
+
+pub told_is : {E : Type 0} (r : Result Heard E) (told : Heard) (notices : List LayerNotice) → r ≡ Ok told → IfOk r (λ t. plain_heard t ≡ notices) → plain_heard told ≡ notices
+told_is {E = E} r told notices is h = subst (λ (x : Result Heard E). IfOk x (λ t. plain_heard t ≡ notices)) is h

@@ -1,0 +1,91 @@
+-- What the link's step and what the layer does behind it are together is what the definition says of octets that come.
+use Rattle.std.proofs.Common.{◌≡◌, ℕ, List, [], ◌++◌, map, Option, Bool, true, false, if◌then◌else◌, refl, ap, sym, subst, ◌∙◌}
+use Rattle.std.proofs.lemmas.List.{map-append}
+use Rattle.x25_frame.specs.PlainFrame.{PlainFrame}
+use Rattle.x25_frame.specs.Spelling.{spelling_of}
+use Rattle.x25_link.specs.declared.phase.Notes.{Notes}
+use Rattle.x25_link.specs.Station.{Station as LinkStation}
+use Rattle.x25_link.specs.MustSend.{Step as LinkStep}
+use Rattle.x25_link.specs.Steps.{alone, take_step, abandon_step}
+use Rattle.x25_link.specs.Link.{ShownLink, FitsLink, FitsWhole}
+use Rattle.x25_layer.specs.declared.layer.Layer as layer_code
+use Rattle.x25_layer.specs.FitsLayer.{FitsLayer}
+use Rattle.x25_layer.specs.Rounds.{Putting}
+use Rattle.x25_station.specs.Settings.{Settings, link_settings, layer_settings}
+use Rattle.x25_station.specs.Entries.{StationEntry, entries_noted}
+use Rattle.x25_station.specs.Station.{Station, view_of, all_put}
+use Rattle.x25_station.specs.Steps.{Step, layer_at, entries_heard, follows, abandons, receives}
+use Rattle.x25_station.specs.KeepLaw.{IsKept}
+use Rattle.x25_station.specs.FitsParts.{FitsParts}
+use Rattle.x25_station.specs.Receiving.{kept_of}
+use Rattle.x25_station.proofs.PutLemmas.{near_alone}
+use Rattle.x25_station.proofs.FrameLemmas.{out_behind}
+use Rattle.x25_station.proofs.AskLemmas.{taken_link}
+use Rattle.x25_station.proofs.DownLemmas.{downs, follows_down}
+
+-- what the layer does behind this step, by what the step handed up and noted
+abbrev pub put_behind : Settings → Station → LinkStep → Option (List ℕ) → Notes → Putting
+put_behind c s k o notes = layer_at (view_of (link_settings c) k.side.near) (layer_settings c) s.layer o notes.down notes.up
+
+pub takes_on : (c : Settings) (s : Station) (octets : List ℕ) → abandons c s ≡ false → receives c s octets ≡ follows c s.layer (take_step (link_settings c) octets s.link)
+takes_on c s octets on = ap (λ (b : Bool). follows c s.layer (if b then abandon_step (link_settings c) s.link else take_step (link_settings c) octets s.link)) on
+
+pub gives_up : (c : Settings) (s : Station) (octets : List ℕ) → abandons c s ≡ true → (let k : LinkStep = abandon_step (link_settings c) s.link in receives c s octets ≡ downs s.layer k.side k.notes.down)
+gives_up c s octets full =
+    ap (λ (b : Bool). follows c s.layer (if b then abandon_step (link_settings c) s.link else take_step (link_settings c) octets s.link)) full ∙ follows_down c s.layer (abandon_step (link_settings c) s.link) refl refl
+
+-- ---- the step, by an answer of the link
+
+record IsBehind (c : Settings) (s : Station) (k : LinkStep) (o : Option (List ℕ)) (notes : Notes) (step : Step) : Type 0 where
+  link : (all_put (link_settings c) (put_behind c s k o notes).put (alone k.side.near)).near ≡ step.near.link
+  layer : (put_behind c s k o notes).layer ≡ step.near.layer
+  out : k.side.out ++ (all_put (link_settings c) (put_behind c s k o notes).put (alone k.side.near)).out ≡ step.out
+  entries : entries_noted notes ++ entries_heard (layer_settings c) s.layer o notes.down notes.up ≡ step.entries
+
+is_behind : (c : Settings) (s : Station) (k : LinkStep) (o : Option (List ℕ)) (notes : Notes) → o ≡ k.packet → notes ≡ k.notes → IsBehind c s k o notes (follows c s.layer k)
+is_behind c s k o notes packet noted =
+    subst (λ (x : Option (List ℕ)). IsBehind c s k x notes (follows c s.layer k)) (sym packet) (subst (λ (n : Notes). IsBehind c s k k.packet n (follows c s.layer k)) (sym noted) (record {
+      link = near_alone (link_settings c) (put_behind c s k k.packet k.notes).put (alone k.side.near) k.side refl;
+      layer = refl;
+      out = sym (out_behind (link_settings c) (put_behind c s k k.packet k.notes).put k.side);
+      entries = refl;
+    }))
+
+took : (c : Settings) (s : Station) (octets : List ℕ) (o : Option (List ℕ)) (notes : Notes) → abandons c s ≡ false
+    → (let k : LinkStep = take_step (link_settings c) octets s.link in (o ≡ k.packet) × (notes ≡ k.notes)) → IsBehind c s (take_step (link_settings c) octets s.link) o notes (receives c s octets)
+took c s octets o notes on same =
+    let k : LinkStep = take_step (link_settings c) octets s.link in
+    subst (λ (step : Step). IsBehind c s k o notes step) (sym (takes_on c s octets on)) (is_behind c s k o notes same.0 same.1)
+
+pub took_fits : (c : Settings) (s : Station) (octets : List ℕ) (o : Option (List ℕ)) (notes : Notes) (m n : ShownLink) (z : layer_code.Layer) → abandons c s ≡ false
+    → (let k : LinkStep = take_step (link_settings c) octets s.link in (o ≡ k.packet) × (notes ≡ k.notes))
+    → (let k : LinkStep = take_step (link_settings c) octets s.link in FitsWhole m (kept_of (link_settings c) (all_put (link_settings c) (put_behind c s k o notes).put (alone k.side.near))))
+    → (let k : LinkStep = take_step (link_settings c) octets s.link in FitsLayer (layer_settings c) z (put_behind c s k o notes).layer)
+    → n.station ≡ m.station → n.outgoing.made ≡ [] → IsKept (receives c s octets).near → FitsParts c n z (receives c s octets).near
+took_fits c s octets o notes m n z on same link layer station none kept =
+    let b = took c s octets o notes on same in
+    record {
+      link = subst (λ (x : LinkStation). FitsLink (link_settings c) n x) b.link (taken_link (link_settings c) m n _ station link.link);
+      layer = subst (λ x. FitsLayer (layer_settings c) z x) b.layer layer;
+      kept = kept;
+      sent = none;
+    }
+
+pub took_sends : (c : Settings) (s : Station) (octets : List ℕ) (o : Option (List ℕ)) (notes : Notes) (own more : List (List ℕ)) → abandons c s ≡ false
+    → (let k : LinkStep = take_step (link_settings c) octets s.link in (o ≡ k.packet) × (notes ≡ k.notes))
+    → (let k : LinkStep = take_step (link_settings c) octets s.link in own ≡ map (spelling_of c.role) k.side.out)
+    → (let k : LinkStep = take_step (link_settings c) octets s.link in more ≡ map (spelling_of c.role) (all_put (link_settings c) (put_behind c s k o notes).put (alone k.side.near)).out)
+    → own ++ more ≡ map (spelling_of c.role) (receives c s octets).out
+took_sends c s octets o notes own more on same first second =
+    let k : LinkStep = take_step (link_settings c) octets s.link in
+    let b = took c s octets o notes on same in
+    let behind : List PlainFrame = (all_put (link_settings c) (put_behind c s k o notes).put (alone k.side.near)).out in
+    ap (λ (x : List (List ℕ)). x ++ more) first
+    ∙ ap (λ (x : List (List ℕ)). map (spelling_of c.role) k.side.out ++ x) second
+    ∙ sym (map-append (spelling_of c.role) k.side.out behind)
+    ∙ ap (λ (x : List PlainFrame). map (spelling_of c.role) x) b.out
+
+pub took_enters : (c : Settings) (s : Station) (octets : List ℕ) (o : Option (List ℕ)) (notes : Notes) (entries : List StationEntry) → abandons c s ≡ false
+    → (let k : LinkStep = take_step (link_settings c) octets s.link in (o ≡ k.packet) × (notes ≡ k.notes)) → entries ≡ entries_noted notes ++ entries_heard (layer_settings c) s.layer o notes.down notes.up
+    → entries ≡ (receives c s octets).entries
+took_enters c s octets o notes entries on same entered = entered ∙ (took c s octets o notes on same).entries

@@ -1,0 +1,29 @@
+use Rattle.std.proofs.Common.{Bool, [], ◌∷◌, ◌++◌, map, if◌then◌else◌, ap, sym, ◌∙◌}
+use Rattle.std.proofs.lemmas.List.{append-nil}
+use Rattle.x25_circuit.specs.Notices.{PlainNotice, collided}
+use Rattle.x25_layer.specs.Layer.{on_channel}
+use Rattle.x25_station.specs.Entries.{entry_told}
+use Rattle.x25_station.specs.PlainEntry.{plain_entry}
+use Rattle.x25_station.proofs.TellLemmas.{told_both, notice_tellable, first_tellable}
+use Rattle.x25_station.proofs.entering.enter_notices.Goals as goal
+use Rattle.x25_station.proofs.entering.enter_notices.Goals.{then-collided, else-collided}
+
+pub returns-in-Some : goal.returns-in-Some
+returns-in-Some c = λ c' l fits all.
+    let h = c.args.channel in
+    let n = c.in-Some.notice in
+    let before = map plain_entry c.args.entries.now.items in
+    let tellable = notice_tellable c' h c.args.collided c.args.notice n c.in-Some.is all in
+    told_both l h c.args.collided c.args.notice n before (map plain_entry c.if-collided.entries.items) _ c.in-Some.is
+    (elim c.if-collided.branch [
+      | then-collided w ↦
+          ap (λ es. map plain_entry es.items) w.entries-is
+          ∙ w.enter.ensures.entered c' l fits (first_tellable c' h c.args.collided c.args.notice w.if-collided.true all).0
+          ∙ ap (λ (b : Bool). before ++ (if b then entry_told l (on_channel h collided) ∷ [] else [])) (sym w.if-collided.true)
+      | else-collided w ↦
+          ap (λ es. map plain_entry es.items) w.entries-is
+          ∙ sym (append-nil before)
+          ∙ ap (λ (b : Bool). before ++ (if b then entry_told l (on_channel h collided) ∷ [] else [])) (sym w.if-collided.false)
+    ])
+    (c.enter-in-Some.ensures.entered c' l fits tellable.0
+    ∙ ap (λ (p : PlainNotice). map plain_entry c.if-collided.entries.items ++ entry_told l (on_channel h p) ∷ []) (c.told_of-told.ensures tellable.1))

@@ -1,0 +1,7 @@
+use Rattle.std.proofs.Common.{sym, subst}
+use Rattle.x25_layer.specs.FitsLayer.{FitsLayer}
+use Rattle.x25_station.specs.Steps.{layer_down}
+use Rattle.x25_station.proofs.linking.note_down.Goals as goal
+
+pub returns-in-Some-clause-layer : goal.returns-in-Some-clause-layer
+returns-in-Some-clause-layer c = λ s l fits. subst (λ down. FitsLayer s c.down.new.self (layer_down l down)) (sym c.in-Some.is) (c.down.ensures.layer s l fits)

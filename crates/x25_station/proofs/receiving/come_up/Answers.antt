@@ -1,0 +1,24 @@
+use Rattle.std.proofs.Common.{subst}
+use Rattle.x25_link.specs.Link.{FitsWhole}
+use Rattle.x25_link.specs.Steps.{alone}
+use Rattle.x25_layer.specs.FitsLayer.{FitsLayer}
+use Rattle.x25_layer.specs.Rounds.{LinkView, comes_up}
+use Rattle.x25_station.specs.Settings.{link_settings, layer_settings}
+use Rattle.x25_station.specs.Receiving.{kept_of}
+use Rattle.x25_station.specs.Station.{all_put}
+use Rattle.x25_station.proofs.AskLemmas.{after_puts}
+use Rattle.x25_station.proofs.LinkLemmas.{seen_by, same_view, on_ok}
+use Rattle.x25_station.proofs.receiving.come_up.Goals as goal
+
+pub returns-clause-layer : goal.returns-clause-layer
+returns-clause-layer c = λ c' l t fits link.
+    let lc = layer_settings c' in
+    subst (λ (view : LinkView). FitsLayer lc c.up.new.self (comes_up view lc).step.layer) (same_view (link_settings c') t.near)
+    (on_ok c.up.result c.unwrap.result _ c.unwrap.ensures (c.up.ensures.layer lc l (kept_of (link_settings c') (alone t.near)) fits link))
+
+pub returns-clause-link : goal.returns-clause-link
+returns-clause-link c = λ c' l t fits link.
+    let lc = layer_settings c' in
+    let lk = link_settings c' in
+    subst (λ (view : LinkView). FitsWhole c.up.new.link (kept_of lk (all_put lk (comes_up view lc).step.put (alone t.near)))) (same_view lk t.near)
+    (after_puts lk c.up.new.link (comes_up (seen_by lk t.near) lc).step.put (alone t.near) (on_ok c.up.result c.unwrap.result _ c.unwrap.ensures (c.up.ensures.link lc l (kept_of lk (alone t.near)) fits link)))

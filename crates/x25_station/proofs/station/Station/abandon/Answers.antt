@@ -1,0 +1,50 @@
+use Rattle.std.proofs.Common.{[], ◌++◌, map, ap, ◌∙◌}
+use Rattle.x25_link.specs.MustSend.{Step as LinkStep}
+use Rattle.x25_link.specs.Steps.{abandon_step}
+use Rattle.x25_station.specs.Entries.{entries_down}
+use Rattle.x25_station.specs.PlainEntry.{plain_entry}
+use Rattle.x25_station.specs.Settings.{link_settings, layer_settings}
+use Rattle.x25_station.specs.Steps.{Step, receives}
+use Rattle.x25_station.proofs.DownLemmas.{fits_down, frames_down, entries_noted_down}
+use Rattle.x25_station.proofs.OutcomeLemmas.{still_meant}
+use Rattle.x25_station.proofs.TookLemmas.{gives_up}
+use Rattle.x25_station.proofs.station.Station.abandon.Goals as goal
+
+pub invariant_of-self : goal.invariant_of-self
+invariant_of-self c = record {
+  meant = still_meant _ _ _ _ c.args.self.now.meant (λ c' s fits.
+      let k : LinkStep = abandon_step (link_settings c') s.link in
+      let step : Step = receives c' s c.args.octets.now in (
+        c',
+        step.near,
+        fits_down c' _ _ s.layer k step _ (ap (λ (x : Step). x.near) (gives_up c' s c.args.octets.now (c.requires.full c' s fits)))
+            (ap (λ n. n.down) (c.abandon-step.ensures.answer (link_settings c') s.link fits.link).notes)
+            (c.abandon-step.ensures.state (link_settings c') s.link fits.link)
+            (c.note_down.ensures.layer (layer_settings c') s.layer fits.layer)
+            (ap (λ o. o.made) c.abandon-step.ensures.outgoing ∙ fits.sent)
+            (c.steps_keep_bounds.ensures.receive c' s c.args.octets.now fits.kept),
+      ));
+}
+
+pub returns-clause-state : goal.returns-clause-state
+returns-clause-state c = λ c' s fits.
+    let k : LinkStep = abandon_step (link_settings c') s.link in
+    let step : Step = receives c' s c.args.octets.now in
+    fits_down c' _ _ s.layer k step _ (ap (λ (x : Step). x.near) (gives_up c' s c.args.octets.now (c.requires.full c' s fits)))
+    (ap (λ n. n.down) (c.abandon-step.ensures.answer (link_settings c') s.link fits.link).notes)
+    (c.abandon-step.ensures.state (link_settings c') s.link fits.link)
+    (c.note_down.ensures.layer (layer_settings c') s.layer fits.layer)
+    (ap (λ o. o.made) c.abandon-step.ensures.outgoing ∙ fits.sent)
+    (c.steps_keep_bounds.ensures.receive c' s c.args.octets.now fits.kept)
+
+pub returns-clause-frames : goal.returns-clause-frames
+returns-clause-frames c = λ c' s fits.
+    let k : LinkStep = abandon_step (link_settings c') s.link in
+    frames_down c' s.layer k _ (receives c' s c.args.octets.now) (gives_up c' s c.args.octets.now (c.requires.full c' s fits)) (c.abandon-step.ensures.answer (link_settings c') s.link fits.link).frames
+
+pub returns-clause-entries : goal.returns-clause-entries
+returns-clause-entries c = λ c' s fits.
+    let k : LinkStep = abandon_step (link_settings c') s.link in
+    let answer = c.abandon-step.ensures.answer (link_settings c') s.link fits.link in
+    entries_noted_down s.layer k [] _ _ (receives c' s c.args.octets.now) (gives_up c' s c.args.octets.now (c.requires.full c' s fits)) (ap (λ n. n.down) answer.notes)
+    (c.note_down.ensures.entries ∙ ap (λ es. map plain_entry es ++ entries_down c.abandon-step.result.notes.down) c.in-Ok.ensures.items)

@@ -1,0 +1,60 @@
+use Rattle.std.proofs.Common.{[], ◌∷◌, ◌++◌, ap, ◌∙◌, map}
+use Rattle.x25_layer.specs.Calls.{Restarts}
+use Rattle.x25_station.specs.declared.entry.Entry.TheVariants.{RestartAsked}
+use Rattle.x25_station.specs.declared.step.Step as code_step
+use Rattle.x25_station.specs.Command.{Requests}
+use Rattle.x25_station.specs.PlainEntry.{plain_entry}
+use Rattle.x25_station.specs.Settings.{layer_settings}
+use Rattle.x25_station.specs.Steps.{requests}
+use Rattle.x25_station.proofs.OutcomeLemmas.{leaves_some, still_meant}
+use Rattle.x25_station.proofs.AskLemmas.{answers, refuses, still_fits}
+use Rattle.x25_station.proofs.EnteredLemmas.{restart_enters}
+use Rattle.x25_station.proofs.station.Station.restart.Goals as goal
+
+pub invariant_of-self : goal.invariant_of-self
+invariant_of-self c = record {
+  meant = still_meant _ _ _ _ c.args.self.now.meant (λ c' s fits.
+      let request = Restarts in
+      let a = answers c.in-Ok-restart.field-0 c' _ c.restart.new.link c.sent-frames.new.self _ c.restart.new.self (record { frames = c.sent-frames.result; entries = c.push_reserved.new.self }) s request fits
+      c.in-Ok-restart.ensures.layer c.in-Ok-restart.ensures.link c.sent-frames.ensures.station (ap (λ o. o.made) c.sent-frames.ensures.outgoing) c.sent-frames.ensures.frames
+      (c.steps_keep_bounds.ensures.command c' s (Requests request) fits.kept) in
+      leaves_some c' _ _ (record { frames = c.sent-frames.result; entries = c.push_reserved.new.self }) (requests c' s request) a.state a.refused);
+}
+
+pub invariant_of-self-in-Err-restart : goal.invariant_of-self-in-Err-restart
+invariant_of-self-in-Err-restart c = record {
+  meant = still_meant _ _ _ _ c.args.self.now.meant (λ c' s fits.
+      (c', s, still_fits c' c.args.self.now.link c.restart.new.link _ c.restart.new.self s fits (c.in-Err.ensures.layer_stays (layer_settings c') s.layer fits.layer) c.in-Err.ensures.link_stays));
+}
+
+pub returns-in-Ok-restart-clause-state : goal.returns-in-Ok-restart-clause-state
+returns-in-Ok-restart-clause-state c = λ c' s fits.
+    let request = Restarts in
+    (answers c.in-Ok-restart.field-0 c' _ c.restart.new.link c.sent-frames.new.self _ c.restart.new.self (record { frames = c.sent-frames.result; entries = c.push_reserved.new.self }) s request fits
+    c.in-Ok-restart.ensures.layer c.in-Ok-restart.ensures.link c.sent-frames.ensures.station (ap (λ o. o.made) c.sent-frames.ensures.outgoing) c.sent-frames.ensures.frames
+    (c.steps_keep_bounds.ensures.command c' s (Requests request) fits.kept)).state
+
+pub returns-in-Ok-restart-clause-frames : goal.returns-in-Ok-restart-clause-frames
+returns-in-Ok-restart-clause-frames c = λ c' s fits.
+    let request = Restarts in
+    (answers c.in-Ok-restart.field-0 c' _ c.restart.new.link c.sent-frames.new.self _ c.restart.new.self (record { frames = c.sent-frames.result; entries = c.push_reserved.new.self }) s request fits
+    c.in-Ok-restart.ensures.layer c.in-Ok-restart.ensures.link c.sent-frames.ensures.station (ap (λ o. o.made) c.sent-frames.ensures.outgoing) c.sent-frames.ensures.frames
+    (c.steps_keep_bounds.ensures.command c' s (Requests request) fits.kept)).frames
+
+pub returns-in-Ok-restart-clause-entries : goal.returns-in-Ok-restart-clause-entries
+returns-in-Ok-restart-clause-entries c = λ c' s fits.
+    restart_enters c' s (record { frames = c.sent-frames.result; entries = c.push_reserved.new.self })
+    (ap (λ es. map plain_entry es) (c.push_reserved.ensures.items ∙ ap (λ es. es ++ RestartAsked ∷ []) c.in-Ok.ensures.items))
+
+pub returns-in-Ok-restart-clause-refused : goal.returns-in-Ok-restart-clause-refused
+returns-in-Ok-restart-clause-refused c = λ c' s fits.
+    let request = Restarts in
+    (answers c.in-Ok-restart.field-0 c' _ c.restart.new.link c.sent-frames.new.self _ c.restart.new.self (record { frames = c.sent-frames.result; entries = c.push_reserved.new.self }) s request fits
+    c.in-Ok-restart.ensures.layer c.in-Ok-restart.ensures.link c.sent-frames.ensures.station (ap (λ o. o.made) c.sent-frames.ensures.outgoing) c.sent-frames.ensures.frames
+    (c.steps_keep_bounds.ensures.command c' s (Requests request) fits.kept)).refused
+
+pub returns-in-Err-clause-refused : goal.returns-in-Err-clause-refused
+returns-in-Err-clause-refused c = λ c' s fits. refuses _ code_step.Step c.in-Err.error _ c' _ _ c.restart.new.self s Restarts fits c.of_layer.ensures c.in-Err.ensures.layer
+
+pub returns-in-Err-clause-stays : goal.returns-in-Err-clause-stays
+returns-in-Err-clause-stays c = λ c' s fits. still_fits c' c.args.self.now.link c.restart.new.link _ c.restart.new.self s fits (c.in-Err.ensures.layer_stays (layer_settings c') s.layer fits.layer) c.in-Err.ensures.link_stays

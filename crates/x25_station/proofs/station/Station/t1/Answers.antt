@@ -1,0 +1,63 @@
+use Rattle.std.proofs.Common.{[], sym, subst, ap, ◌∙◌, ◌++◌, map}
+use Rattle.x25_link.specs.Steps.{timer_refusal, timer_step}
+use Rattle.x25_link.specs.declared.step.Step as link_step
+use Rattle.x25_station.specs.FitsParts.{AreMeant}
+use Rattle.x25_station.specs.Settings.{link_settings, layer_settings}
+use Rattle.x25_station.specs.Entries.{entries_down}
+use Rattle.x25_station.specs.PlainEntry.{plain_entry}
+use Rattle.x25_station.specs.declared.step.Step as code_step
+use Rattle.x25_station.specs.Steps.{Step, unless, follows}
+use Rattle.x25_station.proofs.DownLemmas.{timer_down, leaves_down, frames_down, entries_noted_down}
+use Rattle.x25_station.proofs.OutcomeLemmas.{leaves_some, still_meant, sends_unless, enters_unless, goes, refused, timer_named}
+use Rattle.x25_station.proofs.station.Station.t1.Goals as goal
+
+pub invariant_of-self : goal.invariant_of-self
+invariant_of-self c = record {
+  meant = still_meant _ _ _ _ c.args.self.now.meant (λ c' s fits.
+      let k = timer_step (link_settings c') s.link in
+      let step : Step = follows c' s.layer k in
+      leaves_some c' _ _ (record { frames = c.in-Ok-t1.step.frames; entries = c.note_down.new.entries }) (unless (timer_refusal s.link) step)
+      (leaves_down c' _ _ (record { frames = c.in-Ok-t1.step.frames; entries = c.note_down.new.entries }) (timer_refusal s.link) s.layer k step _ (ap (λ (x : Step). x.near) (timer_down c' s.layer s.link))
+      (ap (λ n. n.down) (c.in-Ok-t1.ensures.answer (link_settings c') s.link fits.link).notes)
+      (c.in-Ok-t1.ensures.state (link_settings c') s.link fits.link)
+      (c.note_down.ensures.layer (layer_settings c') s.layer fits.layer)
+      (ap (λ o. o.made) c.in-Ok-t1.ensures.outgoing ∙ fits.sent)
+      (c.steps_keep_bounds.ensures.timer c' s fits.kept))
+      (goes _ (record { frames = c.in-Ok-t1.step.frames; entries = c.note_down.new.entries }) (timer_refusal s.link) step (c.in-Ok-t1.ensures.refused (link_settings c') s.link fits.link)));
+}
+
+pub invariant_of-self-in-Err-t1 : goal.invariant_of-self-in-Err-t1
+invariant_of-self-in-Err-t1 c = record { meant = subst (λ l. AreMeant l c.args.self.now.layer) (sym c.in-Err.ensures.err) c.args.self.now.meant }
+
+pub returns-in-Ok-t1-clause-state : goal.returns-in-Ok-t1-clause-state
+returns-in-Ok-t1-clause-state c = λ c' s fits.
+    let k = timer_step (link_settings c') s.link in
+    let step : Step = follows c' s.layer k in
+    leaves_down c' _ _ (record { frames = c.in-Ok-t1.step.frames; entries = c.note_down.new.entries }) (timer_refusal s.link) s.layer k step _ (ap (λ (x : Step). x.near) (timer_down c' s.layer s.link))
+    (ap (λ n. n.down) (c.in-Ok-t1.ensures.answer (link_settings c') s.link fits.link).notes)
+    (c.in-Ok-t1.ensures.state (link_settings c') s.link fits.link)
+    (c.note_down.ensures.layer (layer_settings c') s.layer fits.layer)
+    (ap (λ o. o.made) c.in-Ok-t1.ensures.outgoing ∙ fits.sent)
+    (c.steps_keep_bounds.ensures.timer c' s fits.kept)
+
+pub returns-in-Ok-t1-clause-frames : goal.returns-in-Ok-t1-clause-frames
+returns-in-Ok-t1-clause-frames c = λ c' s fits.
+    let k = timer_step (link_settings c') s.link in
+    sends_unless c' (record { frames = c.in-Ok-t1.step.frames; entries = c.note_down.new.entries }) (timer_refusal s.link) (follows c' s.layer k)
+    (frames_down c' s.layer k _ (follows c' s.layer k) (timer_down c' s.layer s.link) (c.in-Ok-t1.ensures.answer (link_settings c') s.link fits.link).frames)
+
+pub returns-in-Ok-t1-clause-entries : goal.returns-in-Ok-t1-clause-entries
+returns-in-Ok-t1-clause-entries c = λ c' s fits.
+    let k = timer_step (link_settings c') s.link in
+    enters_unless (record { frames = c.in-Ok-t1.step.frames; entries = c.note_down.new.entries }) (timer_refusal s.link) (follows c' s.layer k)
+    (entries_noted_down s.layer k [] _ _ (follows c' s.layer k) (timer_down c' s.layer s.link) (ap (λ n. n.down) (c.in-Ok-t1.ensures.answer (link_settings c') s.link fits.link).notes)
+    (c.note_down.ensures.entries ∙ ap (λ es. map plain_entry es ++ entries_down c.in-Ok-t1.step.notes.down) c.in-Ok.ensures.items))
+
+pub returns-in-Ok-t1-clause-refused : goal.returns-in-Ok-t1-clause-refused
+returns-in-Ok-t1-clause-refused c = λ c' s fits.
+    goes _ (record { frames = c.in-Ok-t1.step.frames; entries = c.note_down.new.entries }) (timer_refusal s.link) (follows c' s.layer (timer_step (link_settings c') s.link)) (c.in-Ok-t1.ensures.refused (link_settings c') s.link fits.link)
+
+pub returns-in-Err-clause-refused : goal.returns-in-Err-clause-refused
+returns-in-Err-clause-refused c = λ c' s fits.
+    refused link_step.Step code_step.Step c.in-Err.error _ (timer_refusal s.link) (follows c' s.layer (timer_step (link_settings c') s.link)) (timer_named s.link) c.of_link.ensures
+    (c.in-Err.ensures.refused (link_settings c') s.link fits.link)

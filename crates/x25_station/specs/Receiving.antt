@@ -1,0 +1,32 @@
+-- What a station is sure of while octets are received.
+use Rattle.std.specs.Prelude.{◌≡◌, ◌<◌, ◌≤◌, List, [], ◌∷◌, length, map, true}
+use Rattle.x25_frame.specs.Spelling.{spelling_of}
+use Rattle.x25_link.specs.Station.{Settings as LinkSettings, Side}
+use Rattle.x25_link.specs.Link.{ShownLink, LinkState, limit_of, up_of, waiting_of}
+use Rattle.x25_circuit.specs.Notices.{PlainNotice, incoming, interrupted}
+use Rattle.x25_layer.specs.Layer.{LayerSettings, LayerNotice, on_channel, is_channel}
+
+-- a side of a step of the link, as the state of a link that keeps its frames
+abbrev pub kept_of : LinkSettings → Side → LinkState
+kept_of c t = record { settings = c; station = t.near; kept = map (spelling_of c.role) t.out }
+
+-- the link takes a packet of the layer
+pub record CanPut (l : ShownLink) : Type 0 where
+  pub up : up_of l ≡ true
+  pub free : waiting_of l < 256
+  pub longest : 4099 ≤ limit_of l
+
+-- the texts of a notice are at most 32 octets (messages aside)
+abbrev pub IsShort : PlainNotice → Type 0
+IsShort (incoming request) = length request.user ≤ 32
+IsShort (interrupted user) = length user ≤ 32
+IsShort notice = Unit {0}
+
+-- .. and its channel is configured
+abbrev pub IsTellable : LayerSettings → LayerNotice → Type 0
+IsTellable c (on_channel h notice) = (is_channel c.channels h ≡ true) × IsShort notice
+IsTellable c notice = Unit {0}
+
+abbrev pub AreTellable : LayerSettings → List LayerNotice → Type 0
+AreTellable c [] = Unit {0}
+AreTellable c (notice ∷ notices) = IsTellable c notice × AreTellable c notices

@@ -1,0 +1,206 @@
+//! What the user asks of the packet layer: the layer's call, and its entry.
+ghost use Rattle.std.specs.Prelude.{◌≡◌, ◌<◌, ◌++◌, [], ◌∷◌, map, vec_len, vec_capacity, true, string_bytes, IfOk, IfErr, OnErr};
+ghost use Rattle.x25_circuit.specs.Calls.{Calls, Sends as CircuitSends};
+ghost use Rattle.x25_circuit.specs.Requests.{plain_request};
+ghost use Rattle.x25_layer.specs.Layer.{Layer as LayerState, LayerSettings, is_channel};
+ghost use Rattle.x25_layer.specs.Calls.{Asks, Dials, Restarts};
+ghost use Rattle.x25_layer.specs.FitsLayer.{FitsLayer};
+ghost use Rattle.x25_layer.specs.Transcript.{name_of};
+ghost use Rattle.x25_station.specs.Command.{command_of};
+ghost use Rattle.x25_station.specs.Entries.{of_channel};
+ghost use Rattle.x25_station.specs.FitsStation.{FitsStation, Leaves, Sends, Enters, Refuses};
+ghost use Rattle.x25_station.specs.PlainEntry.{plain_entry, plain_asked, plain_said};
+ghost use Rattle.x25_station.specs.Settings.{Settings};
+ghost use Rattle.x25_station.specs.Station.{Station as State};
+ghost use Rattle.x25_station.specs.Steps.{commands, requests};
+
+use crate::command::Cmd;
+use crate::entering::enter;
+use crate::entry::{Asked, Entry, Said};
+use crate::error::StationError;
+use crate::law::steps_keep_bounds;
+use crate::station::Station;
+use crate::step::Step;
+use std::alloc::Global;
+use x25_circuit::Request;
+
+// A copy of octets, for an entry or a message.
+fn copied(alloc: Global, octets: &[u8]) -> Result<Vec<u8>, StationError>
+    ensures ok { IfOk result (λ copy. copy.items ≡ octets.now) }
+    ensures err { IfErr result (λ e. e ≡ StationError.NoMemory) }
+{
+    match Vec::from_slice(alloc, octets) {
+        Ok(copy) => Ok(copy),
+        Err(_) => Err(StationError::NoMemory),
+    }
+}
+
+// A copy of a text, for an entry.
+fn copied_text(alloc: Global, text: &str) -> Result<String, StationError>
+    ensures ok { IfOk result (λ copy. string_bytes copy ≡ text.now) }
+    ensures err { IfErr result (λ e. e ≡ StationError.NoMemory) }
+{
+    match String::from_str(alloc, text) {
+        Ok(copy) => Ok(copy),
+        Err(_) => Err(StationError::NoMemory),
+    }
+}
+
+// What is asked of a channel, for an entry.
+fn asked_of(alloc: Global, request: &Request<'_>) -> Result<Asked, StationError>
+    ensures ok { IfOk result (λ asked. plain_asked asked ≡ plain_request request.now) }
+    ensures err { IfErr result (λ e. e ≡ StationError.NoMemory) }
+{
+    match request {
+        Request::Call {
+            called,
+            calling,
+            user,
+        } => asked_call(alloc, called, calling, user),
+        Request::Accept => Ok(Asked::Accept),
+        Request::Clear => Ok(Asked::Clear),
+        Request::Send { q, user } => Ok(Asked::Send {
+            q: *q,
+            user: copied(alloc, user)?,
+        }),
+        Request::Interrupt { user } => Ok(Asked::Interrupt {
+            user: copied(alloc, user)?,
+        }),
+        Request::Reset => Ok(Asked::Reset),
+        Request::Ready => Ok(Asked::Ready),
+        Request::NotReady => Ok(Asked::NotReady),
+    }
+}
+
+// A call that is asked, for an entry.
+fn asked_call(
+    alloc: Global,
+    called: &str,
+    calling: &str,
+    user: &[u8],
+) -> Result<Asked, StationError>
+    ensures ok { IfOk result (λ asked. plain_asked asked ≡ Calls called.now calling.now user.now) }
+    ensures err { IfErr result (λ e. e ≡ StationError.NoMemory) }
+{
+    let called = copied_text(alloc, called)?;
+    let calling = copied_text(alloc, calling)?;
+    let user = copied(alloc, user)?;
+    Ok(Asked::Call {
+        called,
+        calling,
+        user,
+    })
+}
+
+impl Station {
+    /// Does what the user asks.
+    ///
+    /// `Disconnect` is refused with 13 where the link is closed. The others are refused with 9 where the link isn't up, then with
+    /// 40 while a restart is under way; one with a channel then with 42 where it isn't configured and a call with 41 where no
+    /// channel is free; then, but for a message, with 10 where 256 packets wait; and then as the circuit refuses it, with 30 to 34.
+    /// Else 70 alone, and 70 may come in place of each of these. The station is as before then.
+    pub fn command(&mut self, command: Cmd<'_>) -> Result<Step, StationError>
+        ensures state { (c : Settings) (s : State) → FitsStation c self.old s → Leaves c self.new result (commands c s (command_of command.entry)) }
+        ensures frames { (c : Settings) (s : State) → FitsStation c self.old s → Sends c result (commands c s (command_of command.entry)) }
+        ensures entries { (c : Settings) (s : State) → FitsStation c self.old s → Enters result (commands c s (command_of command.entry)) }
+        ensures refused { (c : Settings) (s : State) → FitsStation c self.old s → Refuses result (commands c s (command_of command.entry)) }
+        ensures stays { (c : Settings) (s : State) → FitsStation c self.old s → OnErr result (FitsStation c self.new s) }
+    {
+        match command {
+            Cmd::Call {
+                called,
+                calling,
+                user,
+            } => self.call(called, calling, user),
+            Cmd::Accept { channel } => self.ask(channel, Request::Accept),
+            Cmd::Clear { channel } => self.ask(channel, Request::Clear),
+            Cmd::Send { channel, q, user } => self.send(channel, q, user),
+            Cmd::Interrupt { channel, user } => self.ask(channel, Request::Interrupt { user }),
+            Cmd::Reset { channel } => self.ask(channel, Request::Reset),
+            Cmd::Ready { channel } => self.ask(channel, Request::Ready),
+            Cmd::NotReady { channel } => self.ask(channel, Request::NotReady),
+            Cmd::Restart => self.restart(),
+            Cmd::Disconnect => self.disconnect(),
+        }
+    }
+
+    // A call, on a channel that is free.
+    fn call(&mut self, called: &str, calling: &str, user: &[u8]) -> Result<Step, StationError>
+        ensures state { (c : Settings) (s : State) → FitsStation c self.old s → Leaves c self.new result (requests c s (Dials called.now calling.now user.now)) }
+        ensures frames { (c : Settings) (s : State) → FitsStation c self.old s → Sends c result (requests c s (Dials called.now calling.now user.now)) }
+        ensures entries { (c : Settings) (s : State) → FitsStation c self.old s → Enters result (requests c s (Dials called.now calling.now user.now)) }
+        ensures refused { (c : Settings) (s : State) → FitsStation c self.old s → Refuses result (requests c s (Dials called.now calling.now user.now)) }
+        ensures stays { (c : Settings) (s : State) → FitsStation c self.old s → OnErr result (FitsStation c self.new s) }
+    {
+        steps_keep_bounds();
+        let asked = asked_call(self.alloc, called, calling, user)?;
+        let Ok(mut entries) = Vec::with_capacity(self.alloc, 1) else {
+            return Err(StationError::NoMemory);
+        };
+        match self.layer.call(&mut self.link, called, calling, user) {
+            Ok(channel) => {
+                enter(&self.layer, &mut entries, channel, Said::Asked(asked));
+                let frames = self.link.sent();
+                Ok(Step { frames, entries })
+            }
+            Err(error) => Err(StationError::of_layer(error)),
+        }
+    }
+
+    // A message, which is handed to the layer as a copy.
+    fn send(&mut self, channel: u16, q: bool, user: &[u8]) -> Result<Step, StationError>
+        ensures state { (c : Settings) (s : State) → FitsStation c self.old s → Leaves c self.new result (requests c s (Asks channel (CircuitSends q user.now))) }
+        ensures frames { (c : Settings) (s : State) → FitsStation c self.old s → Sends c result (requests c s (Asks channel (CircuitSends q user.now))) }
+        ensures entries { (c : Settings) (s : State) → FitsStation c self.old s → Enters result (requests c s (Asks channel (CircuitSends q user.now))) }
+        ensures refused { (c : Settings) (s : State) → FitsStation c self.old s → Refuses result (requests c s (Asks channel (CircuitSends q user.now))) }
+        ensures stays { (c : Settings) (s : State) → FitsStation c self.old s → OnErr result (FitsStation c self.new s) }
+    {
+        let user = copied(self.alloc, user)?;
+        self.ask(channel, Request::Send { q, user })
+    }
+
+    // What is asked of the circuit of a channel.
+    fn ask(&mut self, channel: u16, request: Request<'_>) -> Result<Step, StationError>
+        ensures state { (c : Settings) (s : State) → FitsStation c self.old s → Leaves c self.new result (requests c s (Asks channel (plain_request request.entry))) }
+        ensures frames { (c : Settings) (s : State) → FitsStation c self.old s → Sends c result (requests c s (Asks channel (plain_request request.entry))) }
+        ensures entries { (c : Settings) (s : State) → FitsStation c self.old s → Enters result (requests c s (Asks channel (plain_request request.entry))) }
+        ensures refused { (c : Settings) (s : State) → FitsStation c self.old s → Refuses result (requests c s (Asks channel (plain_request request.entry))) }
+        ensures stays { (c : Settings) (s : State) → FitsStation c self.old s → OnErr result (FitsStation c self.new s) }
+    {
+        steps_keep_bounds();
+        let asked = asked_of(self.alloc, &request)?;
+        let Ok(mut entries) = Vec::with_capacity(self.alloc, 1) else {
+            return Err(StationError::NoMemory);
+        };
+        match self.layer.ask(&mut self.link, channel, request) {
+            Ok(()) => {
+                enter(&self.layer, &mut entries, channel, Said::Asked(asked));
+                let frames = self.link.sent();
+                Ok(Step { frames, entries })
+            }
+            Err(error) => Err(StationError::of_layer(error)),
+        }
+    }
+
+    // A restart of the packet layer.
+    fn restart(&mut self) -> Result<Step, StationError>
+        ensures state { (c : Settings) (s : State) → FitsStation c self.old s → Leaves c self.new result (requests c s Restarts) }
+        ensures frames { (c : Settings) (s : State) → FitsStation c self.old s → Sends c result (requests c s Restarts) }
+        ensures entries { (c : Settings) (s : State) → FitsStation c self.old s → Enters result (requests c s Restarts) }
+        ensures refused { (c : Settings) (s : State) → FitsStation c self.old s → Refuses result (requests c s Restarts) }
+        ensures stays { (c : Settings) (s : State) → FitsStation c self.old s → OnErr result (FitsStation c self.new s) }
+    {
+        steps_keep_bounds();
+        let Ok(mut entries) = Vec::with_capacity(self.alloc, 1) else {
+            return Err(StationError::NoMemory);
+        };
+        match self.layer.restart(&mut self.link) {
+            Ok(()) => {
+                entries.push_reserved(Entry::RestartAsked);
+                let frames = self.link.sent();
+                Ok(Step { frames, entries })
+            }
+            Err(error) => Err(StationError::of_layer(error)),
+        }
+    }
+}

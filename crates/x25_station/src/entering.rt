@@ -1,0 +1,150 @@
+//! Entries of what the packet layer tells, in memory that was set aside.
+ghost use Rattle.std.specs.Prelude.{◌≡◌, ℕ, ◌+◌, ◌<◌, ◌≤◌, ◌++◌, [], ◌∷◌, map, take, true, vec_len, vec_capacity};
+ghost use Rattle.x25_circuit.specs.Replies.{plain_notice, notices_of};
+ghost use Rattle.x25_layer.specs.Layer.{Layer as LayerState, LayerSettings, is_channel, notices_on};
+ghost use Rattle.x25_layer.specs.FitsLayer.{FitsLayer};
+ghost use Rattle.x25_layer.specs.Transcript.{name_of};
+ghost use Rattle.x25_layer.specs.Told.{plain_told as plain_heard};
+ghost use Rattle.x25_station.specs.Entries.{of_channel, station_told};
+ghost use Rattle.x25_station.specs.PlainEntry.{plain_entry, plain_said, plain_told};
+ghost use Rattle.x25_station.specs.Receiving.{IsShort, AreTellable};
+
+use crate::entry::{Entry, Said, Told};
+use x25_circuit::Notice;
+use x25_layer::{Layer, Told as Heard};
+use x25_link::Blanks;
+use x25_packet::Digits;
+
+/// The most octets of a text in an entry: those of an interrupt. User data of a call and addresses have fewer.
+pub(crate) const LONGEST_TEXT: usize = 32;
+
+/// The most texts in an entry: the two addresses of a call, and its user data.
+pub(crate) const MOST_TEXTS: usize = 3;
+
+/// Enters what was said on a configured channel, under the name of its stretch, behind the other entries.
+pub(crate) fn enter(layer: &Layer, entries: &mut Vec<Entry>, channel: u16, said: Said)
+    requires { vec_len entries.old < vec_capacity entries.old }
+    ensures length { vec_len entries.new ≤ vec_len entries.old + 1 }
+    ensures capacity { vec_capacity entries.new ≡ vec_capacity entries.old }
+    ensures entered { (c : LayerSettings) (l : LayerState) → FitsLayer c layer.now l → is_channel c.channels channel ≡ true →
+        map plain_entry entries.new.items ≡ map plain_entry entries.old.items ++ of_channel (record { channel = channel; name = name_of l channel; said = plain_said said }) ∷ [] }
+{
+    if let Some(name) = layer.name(channel) {
+        entries.push_reserved(Entry::OnChannel {
+            channel,
+            name,
+            said,
+        });
+    }
+}
+
+// A copy of the first 32 octets.
+fn kept(texts: &mut Blanks<LONGEST_TEXT>, octets: &[u8]) -> Vec<u8>
+    requires { 0 < texts.old }
+    ensures copy { result.items ≡ take 32 octets.now }
+    ensures fewer { texts.new + 1 ≡ texts.old }
+{
+    let count = LONGEST_TEXT.min(octets.len());
+    let mut copy = texts.take(count);
+    copy.extend_from_slice(&octets[..count]).unwrap();
+    copy
+}
+
+// The digits of an address.
+fn kept_digits(texts: &mut Blanks<LONGEST_TEXT>, digits: &Digits<'_>) -> Vec<u8>
+    requires { 0 < texts.old }
+    ensures copy { result.items ≡ digits.now }
+    ensures fewer { texts.new + 1 ≡ texts.old }
+{
+    let count = digits.len();
+    let mut copy = texts.take(count);
+    for place in 0..count {
+        copy.push_reserved(digits.get(place));
+    }
+    copy
+}
+
+// What a notice tells the user of a channel, where its user data are at most 32 octets.
+fn told_of(texts: &mut Blanks<LONGEST_TEXT>, notice: Notice<'_>) -> Told
+    requires { 3 ≤ texts.old }
+    ensures { IsShort (plain_notice notice.entry) → plain_told result ≡ plain_notice notice.entry }
+{
+    match notice {
+        Notice::Incoming {
+            called,
+            calling,
+            user,
+        } => {
+            let called = kept_digits(texts, &called);
+            let calling = kept_digits(texts, &calling);
+            let user = kept(texts, user);
+            Told::Incoming {
+                called,
+                calling,
+                user,
+            }
+        }
+        Notice::Connected => Told::Connected,
+        Notice::Cleared { cause, diagnostic } => Told::Cleared { cause, diagnostic },
+        Notice::ClearDone => Told::ClearDone,
+        Notice::WasReset { cause, diagnostic } => Told::WasReset { cause, diagnostic },
+        Notice::ResetDone => Told::ResetDone,
+        Notice::Delivered(message) => Told::Delivered(message),
+        Notice::Interrupted { user } => {
+            let user = kept(texts, user);
+            Told::Interrupted { user }
+        }
+        Notice::InterruptDone => Told::InterruptDone,
+        Notice::Fault { diagnostic } => Told::Fault { diagnostic },
+    }
+}
+
+// Enters what the user of a channel is told: first that this end's own call was dropped, where it was, and then the notice.
+fn enter_notices(
+    layer: &Layer,
+    texts: &mut Blanks<LONGEST_TEXT>,
+    channel: u16,
+    collided: bool,
+    notice: Option<Notice<'_>>,
+    entries: &mut Vec<Entry>,
+)
+    requires texts { 3 ≤ texts.old }
+    requires room { vec_len entries.old + 2 ≤ vec_capacity entries.old }
+    ensures { (c : LayerSettings) (l : LayerState) → FitsLayer c layer.now l → AreTellable c (notices_on channel (notices_of collided notice.entry)) →
+        map plain_entry entries.new.items ≡ map plain_entry entries.old.items ++ station_told l (notices_on channel (notices_of collided notice.entry)) }
+{
+    if collided {
+        enter(layer, entries, channel, Said::Told(Told::Collided));
+    }
+    if let Some(notice) = notice {
+        let told = told_of(texts, notice);
+        enter(layer, entries, channel, Said::Told(told));
+    }
+}
+
+/// Enters what the layer told.
+pub(crate) fn enter_told(
+    layer: &Layer,
+    texts: &mut Blanks<LONGEST_TEXT>,
+    told: Heard<'_>,
+    entries: &mut Vec<Entry>,
+)
+    requires texts { 3 ≤ texts.old }
+    requires room { vec_len entries.old + 2 ≤ vec_capacity entries.old }
+    ensures { (c : LayerSettings) (l : LayerState) → FitsLayer c layer.now l → AreTellable c (plain_heard told.entry) →
+        map plain_entry entries.new.items ≡ map plain_entry entries.old.items ++ station_told l (plain_heard told.entry) }
+{
+    match told {
+        Heard::Nothing => {}
+        Heard::Channel {
+            channel,
+            collided,
+            notice,
+        } => enter_notices(layer, texts, channel, collided, notice, entries),
+        Heard::Restarted { cause, diagnostic } => {
+            entries.push_reserved(Entry::WasRestarted { cause, diagnostic });
+        }
+        Heard::RestartDone => entries.push_reserved(Entry::RestartDone),
+        Heard::Fault { diagnostic } => entries.push_reserved(Entry::Fault { diagnostic }),
+    }
+}

@@ -1,0 +1,114 @@
+use x25_circuit::Message;
+use x25_layer::Stretch;
+use x25_link::Reason;
+
+/// An entry of the transcript of a station (profile): what its user asked, what the link noted, or what the packet layer told.
+/// It owns what it says.
+#[derive(Debug, Drop)]
+pub enum Entry {
+    /// What the user of a channel asked or was told, under the name of the stretch that stood then.
+    OnChannel {
+        channel: u16,
+        name: Stretch,
+        said: Said,
+    },
+    /// The user asked for a restart.
+    RestartAsked,
+    /// The user asked that the link be disconnected.
+    DisconnectAsked,
+    /// The link came up.
+    LinkUp,
+    /// The link went down.
+    LinkDown(Reason),
+    /// The other end restarted the packet layer.
+    WasRestarted {
+        cause: u8,
+        diagnostic: u8,
+    },
+    /// This end's restart is confirmed.
+    RestartDone,
+    /// A packet on channel 0 was an error of procedure, which this end reports to the other by this diagnostic.
+    Fault {
+        diagnostic: u8,
+    },
+}
+
+/// What is said on a channel.
+#[derive(Debug, Drop)]
+pub enum Said {
+    /// By the user.
+    Asked(Asked),
+    /// To the user.
+    Told(Told),
+}
+
+/// What the user of a channel asked.
+#[derive(Debug, Drop)]
+pub enum Asked {
+    /// A call, with addresses of 0 to 15 figures and at most 16 octets of user data.
+    Call {
+        called: String,
+        calling: String,
+        user: Vec<u8>,
+    },
+    /// That the incoming call be accepted.
+    Accept,
+    /// That the call be cleared.
+    Clear,
+    /// That a message be sent: its qualifier, and at most 65,535 octets.
+    Send {
+        q: bool,
+        user: Vec<u8>,
+    },
+    /// That an interrupt of 1 to 32 octets be sent.
+    Interrupt {
+        user: Vec<u8>,
+    },
+    /// That the call be reset.
+    Reset,
+    /// That the other end send data packets.
+    Ready,
+    /// That the other end send no data packets for now.
+    NotReady,
+}
+
+/// What the user of a channel was told.
+#[derive(Debug, Drop)]
+pub enum Told {
+    /// The other end calls. Addresses are lists of 0 to 15 digits, each 0 to 9.
+    Incoming {
+        called: Vec<u8>,
+        calling: Vec<u8>,
+        user: Vec<u8>,
+    },
+    /// The other end accepted the call.
+    Connected,
+    /// This end's own call was dropped for the incoming one.
+    Collided,
+    /// The other end cleared the call.
+    Cleared {
+        cause: u8,
+        diagnostic: u8,
+    },
+    /// This end's clearing is confirmed.
+    ClearDone,
+    /// The other end reset the call.
+    WasReset {
+        cause: u8,
+        diagnostic: u8,
+    },
+    /// This end's reset is confirmed.
+    ResetDone,
+    /// A message came.
+    Delivered(Message),
+    /// An interrupt came.
+    Interrupted {
+        user: Vec<u8>,
+    },
+    /// This end's interrupt is confirmed.
+    InterruptDone,
+    /// A packet was an error of procedure, which this end reports to the other by this diagnostic.
+    Fault {
+        diagnostic: u8,
+    },
+}

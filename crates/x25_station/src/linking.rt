@@ -1,0 +1,108 @@
+//! Calls that the link alone answers, and at LinkDown the packet layer.
+ghost use Rattle.std.specs.Prelude.{◌≡◌, ℕ, ◌+◌, ◌<◌, ◌≤◌, ◌++◌, map, None, vec_len, vec_capacity, OnErr};
+ghost use Rattle.x25_layer.specs.Layer.{Layer as LayerState, LayerSettings};
+ghost use Rattle.x25_layer.specs.FitsLayer.{FitsLayer};
+ghost use Rattle.x25_layer.specs.Room.{HasRoom};
+ghost use Rattle.x25_station.specs.Entries.{entries_down};
+ghost use Rattle.x25_station.specs.FitsStation.{FitsStation, Leaves, Sends, Enters, Refuses, RefusesExactly};
+ghost use Rattle.x25_station.specs.PlainEntry.{plain_entry};
+ghost use Rattle.x25_station.specs.Settings.{Settings};
+ghost use Rattle.x25_station.specs.Station.{Station as State};
+ghost use Rattle.x25_station.specs.Steps.{connects, disconnects, fires, layer_down};
+
+use crate::entry::Entry;
+use crate::error::StationError;
+use crate::law::steps_keep_bounds;
+use crate::station::Station;
+use crate::step::Step;
+use x25_layer::Layer;
+use x25_link::Reason;
+
+impl Station {
+    /// Begins to set the link up. No entry is made.
+    ///
+    /// 12 where it is being set up, 13 where it is closed, 15 where it is up, and else 70 alone. The station is as before then.
+    pub fn connect(&mut self) -> Result<Step, StationError>
+        ensures state { (c : Settings) (s : State) → FitsStation c self.old s → Leaves c self.new result (connects c s) }
+        ensures frames { (c : Settings) (s : State) → FitsStation c self.old s → Sends c result (connects c s) }
+        ensures entries { (c : Settings) (s : State) → FitsStation c self.old s → Enters result (connects c s) }
+        ensures refused { (c : Settings) (s : State) → FitsStation c self.old s → RefusesExactly result (connects c s) }
+        ensures stays { (c : Settings) (s : State) → FitsStation c self.old s → OnErr result (FitsStation c self.new s) }
+    {
+        steps_keep_bounds();
+        match self.link.connect() {
+            Ok(step) => Ok(Step {
+                frames: step.frames,
+                entries: Vec::new(self.alloc),
+            }),
+            Err(error) => Err(StationError::of_link(error)),
+        }
+    }
+
+    /// A firing of timer T1 of the link.
+    ///
+    /// 11 where the timer doesn't run, and else 70 alone; 70 may come in place of 11. The station is as before then.
+    pub fn t1(&mut self) -> Result<Step, StationError>
+        ensures state { (c : Settings) (s : State) → FitsStation c self.old s → Leaves c self.new result (fires c s) }
+        ensures frames { (c : Settings) (s : State) → FitsStation c self.old s → Sends c result (fires c s) }
+        ensures entries { (c : Settings) (s : State) → FitsStation c self.old s → Enters result (fires c s) }
+        ensures refused { (c : Settings) (s : State) → FitsStation c self.old s → Refuses result (fires c s) }
+        ensures stays { (c : Settings) (s : State) → FitsStation c self.old s → OnErr result (FitsStation c self.new s) }
+    {
+        steps_keep_bounds();
+        let Ok(mut entries) = Vec::with_capacity(self.alloc, 1) else {
+            return Err(StationError::NoMemory);
+        };
+        match self.link.t1() {
+            Ok(step) => {
+                note_down(&mut self.layer, step.notes.down, &mut entries);
+                Ok(Step {
+                    frames: step.frames,
+                    entries,
+                })
+            }
+            Err(error) => Err(StationError::of_link(error)),
+        }
+    }
+
+    /// Disconnects the link, for good.
+    pub(crate) fn disconnect(&mut self) -> Result<Step, StationError>
+        ensures state { (c : Settings) (s : State) → FitsStation c self.old s → Leaves c self.new result (disconnects c s) }
+        ensures frames { (c : Settings) (s : State) → FitsStation c self.old s → Sends c result (disconnects c s) }
+        ensures entries { (c : Settings) (s : State) → FitsStation c self.old s → Enters result (disconnects c s) }
+        ensures refused { (c : Settings) (s : State) → FitsStation c self.old s → Refuses result (disconnects c s) }
+        ensures stays { (c : Settings) (s : State) → FitsStation c self.old s → OnErr result (FitsStation c self.new s) }
+    {
+        steps_keep_bounds();
+        let Ok(mut entries) = Vec::with_capacity(self.alloc, 2) else {
+            return Err(StationError::NoMemory);
+        };
+        match self.link.disconnect() {
+            Ok(step) => {
+                entries.push_reserved(Entry::DisconnectAsked);
+                note_down(&mut self.layer, step.notes.down, &mut entries);
+                Ok(Step {
+                    frames: step.frames,
+                    entries,
+                })
+            }
+            Err(error) => Err(StationError::of_link(error)),
+        }
+    }
+}
+
+/// What the layer does where the link notes that it went down, or nothing. The entry goes behind the others.
+pub(crate) fn note_down(layer: &mut Layer, down: Option<Reason>, entries: &mut Vec<Entry>)
+    requires { vec_len entries.old < vec_capacity entries.old }
+    ensures length { vec_len entries.new ≤ vec_len entries.old + 1 }
+    ensures capacity { vec_capacity entries.new ≡ vec_capacity entries.old }
+    ensures room { (len spares : ℕ) → HasRoom len layer.old spares → HasRoom len layer.new spares }
+    ensures same { down ≡ None → layer.new ≡ layer.old }
+    ensures layer { (c : LayerSettings) (l : LayerState) → FitsLayer c layer.old l → FitsLayer c layer.new (layer_down l down) }
+    ensures entries { map plain_entry entries.new.items ≡ map plain_entry entries.old.items ++ entries_down down }
+{
+    if let Some(reason) = down {
+        layer.down();
+        entries.push_reserved(Entry::LinkDown(reason));
+    }
+}

@@ -1,0 +1,226 @@
+//! Octets that come: the step of the link, and what the packet layer does at it.
+ghost use Rattle.std.specs.Prelude.{◌≡◌, ℕ, ◌+◌, ◌<◌, ◌≤◌, ◌++◌, List, [], length, map, true, false, None, option_copied, vec_len, vec_capacity, IfSome, IfOk, IfErr, OnOk, OnErr};
+ghost use Rattle.x25_link.specs.Station.{Side};
+ghost use Rattle.x25_link.specs.Steps.{alone};
+ghost use Rattle.x25_link.specs.Link.{FitsWhole, up_of};
+ghost use Rattle.x25_layer.specs.Layer.{Layer as LayerState};
+ghost use Rattle.x25_layer.specs.FitsLayer.{FitsLayer};
+ghost use Rattle.x25_layer.specs.Room.{HasRoom, IsNotFull};
+ghost use Rattle.x25_layer.specs.Rounds.{Putting, hears, comes_up};
+ghost use Rattle.x25_station.specs.Entries.{entries_up, entries_noted};
+ghost use Rattle.x25_station.specs.FitsStation.{FitsStation, Leaves, Sends, Enters};
+ghost use Rattle.x25_station.specs.PlainEntry.{plain_entry};
+ghost use Rattle.x25_station.specs.Receiving.{kept_of, CanPut};
+ghost use Rattle.x25_station.specs.Settings.{Settings, link_settings, layer_settings};
+ghost use Rattle.x25_station.specs.Station.{Station as State, view_of, all_put};
+ghost use Rattle.x25_station.specs.Steps.{Did, abandons, receives, layer_at, layer_answer, entries_heard, entries_of_answer};
+
+use crate::entering::{LONGEST_TEXT, MOST_TEXTS, enter_told};
+use crate::entry::Entry;
+use crate::error::StationError;
+use crate::law::steps_keep_bounds;
+use crate::linking::note_down;
+use crate::station::Station;
+use crate::step::Step;
+use x25_frame::reading_is_the_grammar as reads_frames;
+use x25_layer::Layer;
+use x25_link::{Blanks, Link, Notes, OrderedLink, holds_few, notes_what_changes};
+use x25_packet::reading_is_the_grammar;
+
+/// The most frames that octets are answered by: nine in the link's step, seven I frames of the layer's packets, and an RR.
+const MOST_FRAMES: usize = 17;
+
+/// The most entries that octets make, and one more: LinkDown and LinkUp, or two that the layer tells.
+const MOST_ENTRIES: usize = 3;
+
+// Puts frames behind others, in memory that was set aside.
+fn append(frames: &mut Vec<Vec<u8>>, more: Vec<Vec<u8>>)
+    requires { vec_len frames.old + vec_len more ≤ vec_capacity frames.old }
+    ensures items { frames.new.items ≡ frames.old.items ++ more.items }
+    ensures capacity { vec_capacity frames.new ≡ vec_capacity frames.old }
+{
+    for frame in more {
+        frames.push_reserved(frame);
+    }
+}
+
+// What the layer does at LinkUp.
+fn come_up(layer: &mut Layer, link: &mut Link, entries: &mut Vec<Entry>)
+    requires put { CanPut link.old }
+    requires room { HasRoom 0 layer.old link.old.outgoing.long }
+    requires entries { vec_len entries.old < vec_capacity entries.old }
+    ensures layer { (c : Settings) (l : LayerState) (t : Side) → FitsLayer (layer_settings c) layer.old l → FitsWhole link.old (kept_of (link_settings c) (alone t.near)) →
+        FitsLayer (layer_settings c) layer.new (comes_up (view_of (link_settings c) t.near) (layer_settings c)).step.layer }
+    ensures link { (c : Settings) (l : LayerState) (t : Side) → FitsLayer (layer_settings c) layer.old l → FitsWhole link.old (kept_of (link_settings c) (alone t.near)) →
+        FitsWhole link.new (kept_of (link_settings c) (all_put (link_settings c) (comes_up (view_of (link_settings c) t.near) (layer_settings c)).step.put (alone t.near))) }
+    ensures entries { map plain_entry entries.new.items ≡ map plain_entry entries.old.items ++ entries_up true }
+{
+    entries.push_reserved(Entry::LinkUp);
+    layer.up(link).unwrap();
+}
+
+// What the layer does with a packet that the link hands up.
+fn hear(
+    layer: &mut Layer,
+    link: &mut Link,
+    texts: &mut Blanks<LONGEST_TEXT>,
+    packet: &[u8],
+    entries: &mut Vec<Entry>,
+)
+    requires put { CanPut link.old }
+    requires left { IsNotFull layer.old }
+    requires room { HasRoom (length packet.now) layer.old link.old.outgoing.long }
+    requires texts { 3 ≤ texts.old }
+    requires entries { vec_len entries.old + 2 ≤ vec_capacity entries.old }
+    ensures layer { (c : Settings) (l : LayerState) (t : Side) → FitsLayer (layer_settings c) layer.old l → FitsWhole link.old (kept_of (link_settings c) (alone t.near)) →
+        FitsLayer (layer_settings c) layer.new (hears (view_of (link_settings c) t.near) (layer_settings c) l packet.now).step.layer }
+    ensures link { (c : Settings) (l : LayerState) (t : Side) → FitsLayer (layer_settings c) layer.old l → FitsWhole link.old (kept_of (link_settings c) (alone t.near)) →
+        FitsWhole link.new (kept_of (link_settings c) (all_put (link_settings c) (hears (view_of (link_settings c) t.near) (layer_settings c) l packet.now).step.put (alone t.near))) }
+    ensures entries { (c : Settings) (l : LayerState) (t : Side) → FitsLayer (layer_settings c) layer.old l → FitsWhole link.old (kept_of (link_settings c) (alone t.near)) →
+        map plain_entry entries.new.items ≡ map plain_entry entries.old.items ++ entries_of_answer (layer_answer (layer_settings c) l packet.now) }
+{
+    reading_is_the_grammar();
+    let told = layer.packet(link, packet).unwrap();
+    enter_told(layer, texts, told, entries);
+}
+
+// What the layer does at a step of the link that noted this and handed this up.
+fn follow(
+    layer: &mut Layer,
+    link: &mut Link,
+    texts: &mut Blanks<LONGEST_TEXT>,
+    notes: Notes,
+    packet: Option<&[u8]>,
+    entries: &mut Vec<Entry>,
+)
+    requires up { notes.up ≡ true → CanPut link.old }
+    requires put { IfSome packet (λ _. CanPut link.old) }
+    requires left { IfSome packet (λ _. IsNotFull layer.old) }
+    requires begun { HasRoom 0 layer.old link.old.outgoing.long }
+    requires room { IfSome packet (λ p. HasRoom (length p.now) layer.old link.old.outgoing.long) }
+    requires texts { 3 ≤ texts.old }
+    requires entries { vec_len entries.old + 3 ≤ vec_capacity entries.old }
+    ensures layer { (c : Settings) (l : LayerState) (t : Side) → FitsLayer (layer_settings c) layer.old l → FitsWhole link.old (kept_of (link_settings c) (alone t.near)) →
+        FitsLayer (layer_settings c) layer.new (layer_at (view_of (link_settings c) t.near) (layer_settings c) l (option_copied packet.entry) notes.down notes.up).layer }
+    ensures link { (c : Settings) (l : LayerState) (t : Side) → FitsLayer (layer_settings c) layer.old l → FitsWhole link.old (kept_of (link_settings c) (alone t.near)) →
+        FitsWhole link.new (kept_of (link_settings c) (all_put (link_settings c) (layer_at (view_of (link_settings c) t.near) (layer_settings c) l (option_copied packet.entry) notes.down notes.up).put (alone t.near))) }
+    ensures entries { (c : Settings) (l : LayerState) (t : Side) → FitsLayer (layer_settings c) layer.old l → FitsWhole link.old (kept_of (link_settings c) (alone t.near)) →
+        map plain_entry entries.new.items ≡ map plain_entry entries.old.items ++ (entries_noted notes ++ entries_heard (layer_settings c) l (option_copied packet.entry) notes.down notes.up) }
+{
+    note_down(layer, notes.down, entries);
+    if notes.up {
+        come_up(layer, link, entries);
+        return;
+    }
+    if notes.down.is_some() {
+        return;
+    }
+    if let Some(packet) = packet {
+        hear(layer, link, texts, packet, entries);
+    }
+}
+
+impl Station {
+    /// Takes octets that came, frame check sequence included, whatever they are: the link's step, and then what the packet layer
+    /// does at what that hands up or notes. Where the link is up and a count of the layer is at 2^64 - 1, the octets are dropped
+    /// and the link goes down.
+    ///
+    /// 70 alone. The octets aren't taken then, and the station is as before.
+    pub fn receive(&mut self, octets: &[u8]) -> Result<Step, StationError>
+        ensures state { (c : Settings) (s : State) → FitsStation c self.old s → Leaves c self.new result (Did (receives c s octets.now)) }
+        ensures frames { (c : Settings) (s : State) → FitsStation c self.old s → Sends c result (Did (receives c s octets.now)) }
+        ensures entries { (c : Settings) (s : State) → FitsStation c self.old s → Enters result (Did (receives c s octets.now)) }
+        ensures refused { IfErr result (λ e. e ≡ StationError.NoMemory) }
+        ensures stays { (c : Settings) (s : State) → FitsStation c self.old s → OnErr result (FitsStation c self.new s) }
+    {
+        if !self.link.is_up() {
+            return self.take(octets);
+        }
+        if self.layer.full() {
+            return self.abandon(octets);
+        }
+        self.take(octets)
+    }
+
+    // A count is at its most: the octets are dropped, and the link goes down.
+    fn abandon(&mut self, octets: &[u8]) -> Result<Step, StationError>
+        requires up { up_of self.old.link ≡ true }
+        requires full { (c : Settings) (s : State) → FitsStation c self.old s → abandons c s ≡ true }
+        ensures state { (c : Settings) (s : State) → FitsStation c self.old s → Leaves c self.new result (Did (receives c s octets.now)) }
+        ensures frames { (c : Settings) (s : State) → FitsStation c self.old s → Sends c result (Did (receives c s octets.now)) }
+        ensures entries { (c : Settings) (s : State) → FitsStation c self.old s → Enters result (Did (receives c s octets.now)) }
+        ensures refused { IfErr result (λ e. e ≡ StationError.NoMemory) }
+        ensures stays { (c : Settings) (s : State) → FitsStation c self.old s → OnErr result (FitsStation c self.new s) }
+    {
+        steps_keep_bounds();
+        let Ok(mut entries) = Vec::with_capacity(self.alloc, 1) else {
+            return Err(StationError::NoMemory);
+        };
+        let step = self.link.abandon();
+        note_down(&mut self.layer, step.notes.down, &mut entries);
+        Ok(Step {
+            frames: step.frames,
+            entries,
+        })
+    }
+
+    // Sets memory aside for all that octets may bring: room for frames and entries, and their texts.
+    fn set_aside(&mut self, len: usize) -> Result<(Vec<Vec<u8>>, Vec<Entry>), StationError>
+        ensures fits { (c : Settings) (s : State) → FitsStation c self.old s → FitsStation c self.new s }
+        ensures left { IsNotFull self.old.layer → IsNotFull self.new.layer }
+        ensures room { OnOk result (HasRoom len self.new.layer self.new.link.outgoing.long) }
+        ensures texts { OnOk result (3 ≤ self.new.texts) }
+        ensures frames { IfOk result (λ made. made.0.items ≡ []) }
+        ensures frames_room { IfOk result (λ made. 17 ≤ vec_capacity made.0) }
+        ensures entries { IfOk result (λ made. made.1.items ≡ []) }
+        ensures entries_room { IfOk result (λ made. 3 ≤ vec_capacity made.1) }
+        ensures refused { IfErr result (λ e. e ≡ StationError.NoMemory) }
+    {
+        let Ok(frames) = Vec::with_capacity(self.alloc, MOST_FRAMES) else {
+            return Err(StationError::NoMemory);
+        };
+        let Ok(entries) = Vec::with_capacity(self.alloc, MOST_ENTRIES) else {
+            return Err(StationError::NoMemory);
+        };
+        if self.texts.reserve(MOST_TEXTS).is_err() {
+            return Err(StationError::NoMemory);
+        }
+        match self.layer.room(&mut self.link, len) {
+            Ok(()) => Ok((frames, entries)),
+            Err(error) => Err(StationError::of_layer(error)),
+        }
+    }
+
+    // Octets that the link takes.
+    fn take(&mut self, octets: &[u8]) -> Result<Step, StationError>
+        requires left { up_of self.old.link ≡ true → IsNotFull self.old.layer }
+        requires goes_on { (c : Settings) (s : State) → FitsStation c self.old s → abandons c s ≡ false }
+        ensures state { (c : Settings) (s : State) → FitsStation c self.old s → Leaves c self.new result (Did (receives c s octets.now)) }
+        ensures frames { (c : Settings) (s : State) → FitsStation c self.old s → Sends c result (Did (receives c s octets.now)) }
+        ensures entries { (c : Settings) (s : State) → FitsStation c self.old s → Enters result (Did (receives c s octets.now)) }
+        ensures refused { IfErr result (λ e. e ≡ StationError.NoMemory) }
+        ensures stays { (c : Settings) (s : State) → FitsStation c self.old s → OnErr result (FitsStation c self.new s) }
+    {
+        steps_keep_bounds();
+        notes_what_changes();
+        holds_few();
+        reads_frames();
+        let (mut frames, mut entries) = self.set_aside(octets.len())?;
+        match self.link.take(octets) {
+            Ok(step) => {
+                append(&mut frames, step.frames);
+                follow(
+                    &mut self.layer,
+                    &mut self.link,
+                    &mut self.texts,
+                    step.notes,
+                    step.packet,
+                    &mut entries,
+                );
+                append(&mut frames, self.link.sent());
+                Ok(Step { frames, entries })
+            }
+            Err(error) => Err(StationError::of_link(error)),
+        }
+    }
+}

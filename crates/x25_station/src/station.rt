@@ -1,0 +1,77 @@
+ghost use Rattle.x25_station.specs.FitsParts.{AreMeant};
+
+use crate::config::Cfg;
+use crate::entering::LONGEST_TEXT;
+use crate::error::StationError;
+use std::alloc::Global;
+use x25_bits::Role;
+use x25_layer::{Layer, LayerError, Stretch};
+use x25_link::{Blanks, Link, LinkError};
+
+/// The most octets of a packet: those of the longest data packet.
+const LONGEST_PACKET: usize = 4099;
+
+/// A station of X.25, DTE or DCE: its link and its packet layer.
+///
+/// ITU-T X.25 (10/96), sections 2 to 4.
+#[derive(Drop)]
+pub struct Station {
+    pub(crate) link: Link,
+    pub(crate) layer: Layer,
+    /// Memory for texts of entries.
+    pub(crate) texts: Blanks<LONGEST_TEXT>,
+    pub(crate) alloc: Global,
+    ghost meant: { AreMeant link layer },
+}
+
+impl Station {
+    ghost use Rattle.std.specs.Prelude.{◌≡◌, IfOk};
+    ghost use Rattle.x25_station.specs.FitsStation.{FitsStation, RefusesWith};
+    ghost use Rattle.x25_station.specs.Settings.{Settings, settings_from, config_refusal};
+    ghost use Rattle.x25_station.specs.Station.{Station as State, new_station};
+    ghost use Rattle.x25_station.specs.Told.{is_idle, stretch};
+    ghost use Rattle.x25_layer.specs.FitsLayer.{plain_stretch};
+
+    /// A station whose link is down.
+    ///
+    /// 14 BadConfig where a setting is out of its range, and else 70 alone.
+    pub fn new(alloc: Global, role: Role, cfg: Cfg) -> Result<Station, StationError>
+        ensures fits { IfOk result (λ v. FitsStation (settings_from role cfg) v new_station) }
+        ensures refused { RefusesWith result (config_refusal cfg) }
+    {
+        if cfg.channels < 1 || cfg.channels > 16 {
+            return Err(StationError::BadConfig);
+        }
+        let link = match Link::new(alloc, role, cfg.k, LONGEST_PACKET, cfg.n2) {
+            Ok(link) => link,
+            Err(LinkError::BadConfig) => return Err(StationError::BadConfig),
+            Err(_) => return Err(StationError::NoMemory),
+        };
+        let Ok(layer) = Layer::new(alloc, role, cfg.channels as usize) else {
+            return Err(StationError::NoMemory);
+        };
+        Ok(Station {
+            link,
+            layer,
+            texts: Blanks::new(alloc),
+            alloc,
+        })
+    }
+
+    /// Whether the link is up, no packet waits in it, all that was sent is acknowledged, and no message waits in a circuit.
+    pub fn idle(&self) -> bool
+        ensures { (c : Settings) (s : State) → FitsStation c self.now s → result ≡ is_idle c s }
+    {
+        self.link.idle() && self.layer.waits() == 0
+    }
+
+    /// The name of the stretch that is open on a channel, in p4 with d1, where one is.
+    pub fn stretch(&self, channel: u16) -> Option<Stretch>
+        ensures { (c : Settings) (s : State) → FitsStation c self.now s → plain_stretch result ≡ stretch c s channel }
+    {
+        if !self.layer.is_open(channel) {
+            return None;
+        }
+        self.layer.name(channel)
+    }
+}
