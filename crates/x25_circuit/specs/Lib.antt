@@ -16,3 +16,4 @@ pub mod FitsCircuit
 pub mod Pulling
 pub mod DataPacket
 pub mod MessageLaws
+pub mod Requests

@@ -112,6 +112,8 @@ impl Circuit {
     pub fn room(&mut self, count: usize) -> Result<(), CircuitError>
         ensures fits { (c : Settings) (x : Channel) → FitsCircuit c self.old x → FitsCircuit c self.new x }
         ensures ok { OnOk result (count ≤ room_of self.new) }
+        ensures clears { clears_of self.new ≡ clears_of self.old }
+        ensures resets { resets_of self.new ≡ resets_of self.old }
         ensures grows { room_of self.old ≤ room_of self.new }
         ensures missing { OnErr result (room_of self.old < count) }
         ensures err { IfErr result (λ e. e ≡ CircuitError.NoMemory) }

@@ -16,7 +16,7 @@ use crate::state::State;
 use x25_packet::Packet;
 
 /// The most octets of an interrupt's user data.
-const INTERRUPT_OCTETS: usize = 32;
+pub(crate) const INTERRUPT_OCTETS: usize = 32;
 
 impl Circuit {
     /// Lets a message of at most 65,535 octets wait, with this qualifier. It takes no memory.

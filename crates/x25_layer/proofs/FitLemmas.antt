@@ -1,7 +1,8 @@
 -- A layer's circuits, one by one.
-use Rattle.std.proofs.Common.{◌≡◌, ◌⊎◌, inl, inr, ℕ, zero, suc, ◌+◌, ◌-◌, ◌<◌, ◌≤◌, List, [], ◌∷◌, ◌++◌, length, Option, Some, None, Bool, true, false, slice_get, set, take, if◌then◌else◌, refl, sym, ap, subst, ◌∙◌, arith, IfSome, MatchOption, Bor, Result, Ok, Err, OnErr, drop, get_or}
+use Rattle.std.proofs.Common.{◌≡◌, ◌⊎◌, inl, inr, ℕ, zero, suc, ◌+◌, ◌-◌, ◌<◌, ◌≤◌, List, [], ◌∷◌, ◌++◌, length, Option, Some, None, Bool, true, false, slice_get, set, take, if◌then◌else◌, refl, sym, ap, subst, ◌∙◌, arith, IfSome, MatchOption, Bor, Result, Ok, Err, OnErr, drop, get_or, ◌||◌, ◌==◌, eq-eqb}
 use Rattle.std.proofs.lemmas.Option.{none-some, same_Some, slice_get_within, slice_get-get_or}
 use Rattle.std.proofs.lemmas.List.{append-nil, take_all}
+use Rattle.std.proofs.lemmas.Bool.{eqb-true}
 use Rattle.x25_circuit.specs.declared.circuit.Circuit as circuit_code
 use Rattle.x25_circuit.specs.Circuit.{Circuit, is_open, waits}
 use Rattle.x25_circuit.specs.FitsCircuit.{FitsCircuit}
@@ -10,6 +11,9 @@ use Rattle.x25_layer.specs.Layer.{LayerSettings, Layer, is_channel}
 use Rattle.x25_epochs.specs.Names.{Name}
 use Rattle.x25_layer.specs.Transcript.{name_of}
 use Rattle.x25_layer.specs.FitsLayer.{FitsCircuits, FitsLayer, name_at, is_open_at, waits_up_to}
+
+not_false : true ≡ false → ⊥
+not_false e = cc
 
 -- an element of a list with one more
 pub get_push : {X : Type 0} (xs : List X) (y v : X) (k : ℕ) → slice_get (xs ++ y ∷ []) k ≡ Some v → (slice_get xs k ≡ Some v) ⊎ ((k ≡ length xs) × (y ≡ v))
@@ -136,3 +140,37 @@ fits_memory c v v₂ l same fits =
 pub on_err : {T E : Type 0} (r : Result T E) {P : Type 0} → P → OnErr r P
 on_err (Ok x) p = tt
 on_err (Err e) p = p
+
+-- what holds of each element holds with one changed
+pub all_changed : {X : Type 0} (P : ℕ → X → Type 0) (xs : List X) (i : ℕ) (y : X) → ((k : ℕ) (v : X) → slice_get xs k ≡ Some v → P k v) → P i y → (k : ℕ) (v : X) → slice_get (set xs i y) k ≡ Some v → P k v
+all_changed P xs i y all here k v is = by (get_changed xs y v i k is)
+  where
+    by : ((k ≡ i) × (y ≡ v)) ⊎ ((k ≡ i → ⊥) × (slice_get xs k ≡ Some v)) → P k v
+    by (inl p) = subst (λ (u : _). P k u) p.1 (subst (λ (n : ℕ). P n y) (sym p.0) here)
+    by (inr p) = all k v p.1
+
+pub neither : (a b : Bool) → (a || b) ≡ false → (a ≡ false) × (b ≡ false)
+neither false b is = (refl, is)
+neither true b is = absurd (cc)
+
+pub either : (a b : Bool) → (a || b) ≡ true → (a ≡ true) ⊎ (b ≡ true)
+either true b is = inl refl
+either false b is = inr is
+
+-- what holds of each element below a place, and of the one there
+pub below_next : {X : Type 0} (P : X → Type 0) (xs : List X) (i : ℕ) (y : X) → slice_get xs i ≡ Some y → ((k : ℕ) (v : X) → k < i → slice_get xs k ≡ Some v → P v) → P y → (k : ℕ) (v : X) → k < i + 1 → slice_get xs k ≡ Some v → P v
+below_next {X} P xs i y at below here k v low is = by (k == i) refl
+  where
+    by : (b : Bool) → (k == i) ≡ b → P v
+    by true e =
+        let same : k ≡ i = eqb-true k i e in
+        subst P (same_Some y v (sym at ∙ ap (λ (n : ℕ). slice_get xs n) (sym same) ∙ is)) here
+    by false e = below k v (let differs : k ≡ i → ⊥ = λ same. absurd (not_false (sym (eq-eqb k i same) ∙ e)) in let less : k < i = grind (arith, low, differs) in less) is
+
+-- .. with that one changed
+pub below_changed : {X : Type 0} (P : X → Type 0) (xs : List X) (i : ℕ) (y : X) → ((k : ℕ) (v : X) → k < i → slice_get xs k ≡ Some v → P v) → P y → (k : ℕ) (v : X) → k < i + 1 → slice_get (set xs i y) k ≡ Some v → P v
+below_changed P xs i y below here k v low is = by (get_changed xs y v i k is)
+  where
+    by : ((k ≡ i) × (y ≡ v)) ⊎ ((k ≡ i → ⊥) × (slice_get xs k ≡ Some v)) → P v
+    by (inl p) = subst P p.1 here
+    by (inr p) = below k v (let differs : k ≡ i → ⊥ = p.0 in let less : k < i = grind (arith, low, differs) in less) p.1

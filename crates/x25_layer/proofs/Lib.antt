@@ -8,8 +8,16 @@ pub mod BookLemmas
 pub mod WorldLemmas
 pub mod RunLemmas
 pub mod ArrivalLemmas
+pub mod LengthLemmas
 pub mod FitLemmas
+pub mod CallLemmas
+pub mod HearLemmas
 pub mod LawLemmas
 pub mod RoundLemmas
 pub mod SettleLemmas
+pub mod PullLemmas
+pub mod FreeLemmas
 pub mod LayerRows
+pub mod ClearLemmas
+pub mod NameLemmas
+pub mod CountLemmas

@@ -26,7 +26,7 @@ pub record Premises : Type 0 where
 
 -- one event more
 
-run_more : (t b : Terms) (es : List nested.Event) (e : nested.Event) (w : Pair) → pair_run t b (es ++ e ∷ []) w ≡ pair_happens t b (pair_run t b es w) e
+pub run_more : (t b : Terms) (es : List nested.Event) (e : nested.Event) (w : Pair) → pair_run t b (es ++ e ∷ []) w ≡ pair_happens t b (pair_run t b es w) e
 run_more t b [] e w = refl
 run_more t b (d ∷ es) e w = run_more t b es e (pair_happens t b w d)
 

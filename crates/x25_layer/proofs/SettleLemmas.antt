@@ -13,7 +13,7 @@ use Rattle.x25_layer.specs.Calls.{Restarts, outcome_in, layer_outcome, layer_pul
 use Rattle.x25_layer.specs.Rounds.{LinkView, Putting, begin, with_pulled, pull_one, round, rounds_of, rounds, backlog, Went, Refuses, went, calls}
 use Rattle.x25_layer.specs.RoundLaw.{RoundsSettle, ComesUpAlone}
 
-none_some : {T : Type 0} (x : T) → None ≡ Some x → ⊥
+pub none_some : {T : Type 0} (x : T) → None ≡ Some x → ⊥
 none_some x e = cc
 
 -- a pull that gives a packet leaves one fewer
@@ -46,10 +46,10 @@ shorter c x p found = at x.state found
 
 -- what is still to be sent, with another circuit on one channel
 
-put_other : (b : Bool) (y z : Circuit) → b ≡ false → (if b then y else z) ≡ z
+pub put_other : (b : Bool) (y z : Circuit) → b ≡ false → (if b then y else z) ≡ z
 put_other b y z is = ap (λ (a : Bool). if a then y else z) is
 
-not_same : (k h : ℕ) → (k ≡ h → ⊥) → (k == h) ≡ false
+pub not_same : (k h : ℕ) → (k ≡ h → ⊥) → (k == h) ≡ false
 not_same k h differ = test (k == h) refl
   where
     test : (b : Bool) → (k == h) ≡ b → b ≡ false
@@ -66,7 +66,7 @@ backlog_below f h y (suc n) low =
 true_false : true ≡ false → ⊥
 true_false e = cc
 
-split : (k m : ℕ) → k ≤ suc m → (k ≤ m) ⊎ (k ≡ suc m)
+pub split : (k m : ℕ) → k ≤ suc m → (k ≤ m) ⊎ (k ≡ suc m)
 split zero m low = inl (omega arith)
 split (suc k) zero low = inr (omega (arith, low))
 split (suc k) (suc m) low = next (split k m (let e : k ≤ suc m = omega (arith, low) in e))
@@ -148,6 +148,30 @@ settled (suc j) link c s enough = by (round_lessens link c c.channels (let e : c
         let end : rounds_of j link c (round link c c.channels s) ≡ s = stays (suc j) link c s is in
         ap (λ (t : Putting). round link c c.channels t) end ∙ is ∙ sym end
     by (inr less) again = again (let e : left c (round link c c.channels s) ≤ j = omega (arith, enough, less) in e)
+
+-- rounds behind one that gives nothing
+stays_on : (n k : ℕ) (link : LinkView) (c : LayerSettings) (s : Putting) → n ≤ k → round link c c.channels (rounds_of n link c s) ≡ rounds_of n link c s → rounds_of k link c s ≡ rounds_of n link c s
+stays_on zero k link c s low is = stays k link c s is
+stays_on (suc n) zero link c s low is = absurd (omega (arith, low))
+stays_on (suc n) (suc k) link c s low is = stays_on n k link c (round link c c.channels s) (let e : n ≤ k = omega (arith, low) in e) is
+
+-- more rounds than there are packets to be sent do no more
+more_rounds : (k : ℕ) (link : LinkView) (c : LayerSettings) (s : Putting) → left c s ≤ k → rounds_of k link c s ≡ rounds link c s
+more_rounds k link c s enough = stays_on (left c s) k link c s enough (settled (left c s) link c s (let e : left c s ≤ left c s = omega arith in e))
+
+-- a round leads to where all of them do
+pub rounds_behind : (link : LinkView) (c : LayerSettings) (s : Putting) → rounds link c (round link c c.channels s) ≡ rounds link c s
+rounds_behind link c s = by (round_lessens link c c.channels (let e : c.channels ≤ c.channels = omega arith in e) s)
+  where
+    by : Lessens c s (round link c c.channels s) → rounds link c (round link c c.channels s) ≡ rounds link c s
+    by (inl is) = ap (λ (t : Putting). rounds link c t) is
+    by (inr less) =
+        sym (more_rounds (left c s) link c (round link c c.channels s) (let e : left c (round link c c.channels s) ≤ left c s = omega (arith, less) in e))
+        ∙ more_rounds (suc (left c s)) link c s (let e : left c s ≤ suc (left c s) = omega arith in e)
+
+-- where a round gives nothing, that is where all of them lead
+pub rounds_at_end : (link : LinkView) (c : LayerSettings) (s : Putting) → round link c c.channels s ≡ s → rounds link c s ≡ s
+rounds_at_end link c s is = stays (left c s) link c s is
 
 pub rounds_settle : RoundsSettle
 rounds_settle link c s = settled (left c s) link c s (let e : left c s ≤ left c s = omega arith in e)

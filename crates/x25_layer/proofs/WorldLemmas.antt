@@ -59,7 +59,7 @@ no_faults_more (x ∷ L) o p q = (p.0, no_faults_more L o p.1 q)
 some_none : (n : ℕ) → Some n ≡ None → ⊥
 some_none n e = cc
 
-second : (e f : Option ℕ) → first_error e f ≡ None → f ≡ None
+pub second : (e f : Option ℕ) → first_error e f ≡ None → f ≡ None
 second None f q = q
 second (Some n) f q = absurd (some_none n q)
 

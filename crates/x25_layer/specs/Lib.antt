@@ -6,6 +6,12 @@ pub mod Rounds
 pub mod Transcript
 pub mod FitsLayer
 pub mod OverLink
+pub mod Pulling
+pub mod Room
+pub mod Told
+pub mod Receiving
+pub mod Asking
 pub mod World
 pub mod Law
 pub mod RoundLaw
+pub mod NameLaw

@@ -1,5 +1,5 @@
 -- A layer over any link that keeps order: what it sees of the link, and the link after packets were put.
-use Rattle.std.specs.Prelude.{◌≡◌, ℕ, List, [], ◌∷◌, Bool, Result, Err, OnOk, MatchResult}
+use Rattle.std.specs.Prelude.{◌≡◌, ℕ, ◌<◌, ◌⊎◌, List, [], ◌∷◌, Bool, Result, Err, OnOk, MatchResult}
 use Rattle.x25_packet.specs.PlainPacket.{PlainPacket}
 use Rattle.x25_packet.specs.Spelling.{spelling_of}
 use Rattle.x25_layer.specs.declared.error.LayerError.{LayerError}
@@ -29,3 +29,7 @@ LayerGives c v result (Refuses e) = result ≡ Err e
 abbrev pub LinkGives : {T X : Type 0} → (X → Type 0) → (X → List ℕ → X) → X → Result T LayerError → Answered → Type 0
 LinkGives fits after x result (Went s) = OnOk result (fits (after_all after x s.put))
 LinkGives fits after x result (Refuses e) = result ≡ Err e
+
+-- memory for fewer packets than so many is set aside, in the layer or in its link
+abbrev pub LacksMemory : ℕ → code.Layer → ℕ → Type 0
+LacksMemory count v spares = (v.memory < count) ⊎ (spares < count)

@@ -1,5 +1,6 @@
 ghost use Rattle.std.specs.Prelude.{ℕ};
 ghost use Rattle.x25_layer.specs.Law.{Always, IsQuietWorld, IsLawfulWorld, ArrivesAll, KeepsOrder};
+ghost use Rattle.x25_layer.specs.NameLaw.{NamesAreCounted, NoClearComesInP1};
 ghost use Rattle.x25_layer.specs.RoundLaw.{CallsRun, HearsRun, RoundsSettle, ComesUpAlone};
 
 /// Two layers over links that keep order, whatever their users ask and whenever a link goes down: after every event,
@@ -15,6 +16,15 @@ pub fn two_layers_keep_order()
     ensures quiet { (channels : ℕ) → Always (IsQuietWorld channels) channels }
     ensures lawful { (channels : ℕ) → Always IsLawfulWorld channels }
     ensures arrives { (channels : ℕ) → Always ArrivesAll channels }
+{
+    x25_epochs::keeps_order();
+}
+
+/// The same two layers: where an end's link is up, the name of the stretch on each channel is the restarts, clears and resets that
+/// its user was told of. No CLEAR comes in p1, which would count and tell nothing.
+pub fn names_are_told()
+    ensures names { (channels : ℕ) → Always NamesAreCounted channels }
+    ensures clear { (channels : ℕ) → Always NoClearComesInP1 channels }
 {
     x25_epochs::keeps_order();
 }

@@ -1,11 +1,6 @@
-ghost use Rattle.std.specs.Prelude.{◌≡◌, ℕ, ◌≤◌, ◌↔◌, List, length, vec_len, true, false, IfOk, IfErr, IfSome, IfNone, IsErrOf};
-ghost use Rattle.x25_circuit.specs.Circuit.{forgotten, usual};
-ghost use Rattle.x25_circuit.specs.Circuit.{Circuit as Channel};
-ghost use Rattle.x25_circuit.specs.FitsCircuit.{FitsCircuit};
-ghost use Rattle.x25_layer.specs.Layer.{LayerSettings, at_rest, is_channel};
-ghost use Rattle.x25_layer.specs.Layer.{Layer as State};
-ghost use Rattle.x25_layer.specs.FitsLayer.{FitsLayer, FitsCircuits, plain_stretch, name_at, is_open_at, waits_up_to, is_full};
+ghost use Rattle.std.specs.Prelude.{◌≡◌, ℕ, ◌≤◌, ◌↔◌, length, true, false, IfOk, IfErr, IfSome, IfNone, IsErrOf};
 
+use crate::circuits::{begin_all, begun_circuits};
 use crate::error::LayerError;
 use crate::stretch::Stretch;
 use std::alloc::Global;
@@ -31,29 +26,19 @@ pub struct Layer {
     pub(crate) restarts: u64,
     /// The first is on channel 1.
     pub(crate) circuits: Vec<Circuit>,
+    ghost few: { length circuits.items ≤ 16 },
     /// Memory for packets that are sent.
     pub(crate) memory: Blanks<LONGEST_PACKET>,
 }
 
-// So many circuits that were never used.
-fn begun_circuits(alloc: Global, role: Role, channels: usize) -> Result<Vec<Circuit>, LayerError>
-    ensures fits { IfOk result (λ v. FitsCircuits (record { channels = channels; circuit = record { role = role; outgoing = usual; incoming = usual } }) v.items at_rest.circuits) }
-    ensures count { IfOk result (λ v. length v.items ≡ channels) }
-    ensures err { IfErr result (λ e. e ≡ LayerError.NoMemory) }
-{
-    let Ok(mut circuits) = Vec::with_capacity(alloc, channels) else {
-        return Err(LayerError::NoMemory);
-    };
-    for _ in 0..channels {
-        let Ok(circuit) = Circuit::new(alloc, role) else {
-            return Err(LayerError::NoMemory);
-        };
-        circuits.push_reserved(circuit);
-    }
-    Ok(circuits)
-}
-
 impl Layer {
+    ghost use Rattle.x25_circuit.specs.Circuit.{usual};
+    ghost use Rattle.x25_circuit.specs.FitsCircuit.{FitsCircuit};
+    ghost use Rattle.x25_layer.specs.Layer.{LayerSettings, at_rest, is_channel};
+    ghost use Rattle.x25_layer.specs.Layer.{Layer as State};
+    ghost use Rattle.x25_layer.specs.Room.{HasRoom};
+    ghost use Rattle.x25_layer.specs.FitsLayer.{FitsLayer, plain_stretch, name_at, is_open_at, waits_up_to, is_full};
+
     /// The layer of an end whose link isn't up, with so many channels, 1 to 16.
     ///
     /// 14 BadConfig for another number of channels, and else 70 alone.
@@ -109,17 +94,18 @@ impl Layer {
         waits
     }
 
-    /// Drops everything, at LinkDown: no restart is under way, and all counts are 0.
+    /// Drops everything, at LinkDown: no restart is under way, and all counts are 0. Memory that was set aside is kept.
     pub fn down(&mut self)
-        ensures { (c : LayerSettings) (l : State) → FitsLayer c self.old l → FitsLayer c self.new at_rest }
+        ensures layer { (c : LayerSettings) (l : State) → FitsLayer c self.old l → FitsLayer c self.new at_rest }
+        ensures room { (len spares : ℕ) → HasRoom len self.old spares → HasRoom len self.new spares }
     {
         self.restarting = false;
         self.restarts = 0;
         begin_all(&mut self.circuits);
     }
 
-    // The circuit of a channel.
-    fn circuit(&self, channel: u16) -> Option<&Circuit>
+    /// The circuit of a channel.
+    pub(crate) fn circuit(&self, channel: u16) -> Option<&Circuit>
         ensures fits { (c : LayerSettings) (l : State) → FitsLayer c self.now l → IfSome result (λ circuit. FitsCircuit c.circuit circuit.now (l.circuits channel)) }
         ensures some { IfSome result (λ circuit. is_channel (length self.now.circuits.items) channel ≡ true) }
         ensures none { IfNone result (is_channel (length self.now.circuits.items) channel ≡ false) }
@@ -128,26 +114,5 @@ impl Layer {
             return None;
         }
         self.circuits.get(channel as usize - 1)
-    }
-}
-
-/// All circuits are as if never used.
-pub(crate) fn begin_all(circuits: &mut Vec<Circuit>)
-    ensures fits { (c : LayerSettings) (f : ℕ → Channel) → FitsCircuits c circuits.old.items f → FitsCircuits c circuits.new.items at_rest.circuits }
-    ensures count { length circuits.new.items ≡ length circuits.old.items }
-{
-    for circuit in circuits.iter_mut() {
-        circuit.forget();
-        circuit.zero();
-    }
-}
-
-/// All circuits go to p1, with everything dropped. Their counts are as they were.
-pub(crate) fn forget_all(circuits: &mut Vec<Circuit>)
-    ensures fits { (c : LayerSettings) (f : ℕ → Channel) → FitsCircuits c circuits.old.items f → FitsCircuits c circuits.new.items (λ k. forgotten (f k)) }
-    ensures count { length circuits.new.items ≡ length circuits.old.items }
-{
-    for circuit in circuits.iter_mut() {
-        circuit.forget();
     }
 }

@@ -2,15 +2,25 @@
 //! ITU-T X.25 (10/96), sections 3 and 4.
 #![tactic(auto)]
 
+mod asking;
+mod calls;
+mod circuits;
 mod error;
+mod free_channel;
 mod law;
 mod layer;
 mod putting;
+mod receiving;
 mod restarting;
+mod room;
+mod rounds;
+mod sending;
 mod stretch;
+mod told;
 
 pub use error::LayerError;
-pub use law::{calls_are_runs, two_layers_keep_order};
+pub use law::{calls_are_runs, names_are_told, two_layers_keep_order};
 pub use layer::Layer;
 pub use stretch::Stretch;
+pub use told::Told;
 pub use x25_bits::Role;

@@ -1,29 +1,38 @@
 //! Packets that a layer puts into its link.
 ghost use Rattle.std.specs.Prelude.{◌≡◌, ℕ, ◌+◌, ◌-◌, ◌<◌, ◌≤◌, length, true, IfErr, OnOk, OnErr};
+ghost use Rattle.x25_layer.specs.Layer.{LayerSettings};
+ghost use Rattle.x25_layer.specs.Layer.{Layer as State};
+ghost use Rattle.x25_layer.specs.FitsLayer.{FitsLayer};
+ghost use Rattle.x25_layer.specs.OverLink.{LacksMemory};
 ghost use Rattle.x25_packet.specs.PlainPacket.{plain};
 ghost use Rattle.x25_packet.specs.Spelling.{IsInRange, spelling_of};
 
 use crate::error::LayerError;
-use crate::layer::Layer;
-use x25_link::OrderedLink;
+use crate::layer::{LONGEST_PACKET, Layer};
+use x25_link::{Blanks, OrderedLink};
 use x25_packet::{Packet, encode};
+
+/// The most packets that a call puts: its own, and the data packets pulled behind it.
+pub(crate) const MOST_PUT: usize = 16;
 
 impl Layer {
     /// Sets memory aside, here and in the link, for so many packets.
     ///
-    /// 70 alone.
+    /// 70 alone, and only where memory is set aside for fewer.
     pub(crate) fn set_aside<L: OrderedLink>(
         &mut self,
         link: &mut L,
         count: usize,
     ) -> Result<(), LayerError>
         ensures layer { self.new ≡ record self.old { memory = self.new.memory } }
+        ensures fits { (c : LayerSettings) (l : State) → FitsLayer c self.old l → FitsLayer c self.new l }
         ensures memory { OnOk result (count ≤ self.new.memory) }
         ensures spares { OnOk result (count ≤ L.spares link.new) }
         ensures link { (x : L.State) → L.fits link.old x → L.fits link.new x }
         ensures longest { L.longest link.new ≡ L.longest link.old }
         ensures waits { L.waits link.new ≡ L.waits link.old }
         ensures up { L.up link.new ≡ L.up link.old }
+        ensures missing { OnErr result (LacksMemory count self.old (L.spares link.old)) }
         ensures err { IfErr result (λ e. e ≡ LayerError.NoMemory) }
     {
         if self.memory.reserve(count).is_err() {
@@ -46,6 +55,7 @@ impl Layer {
         requires free { L.waits link.old < 256 }
         requires longest { 4099 ≤ L.longest link.old }
         ensures layer { self.new ≡ record self.old { memory = self.new.memory } }
+        ensures fits { (c : LayerSettings) (l : State) → FitsLayer c self.old l → FitsLayer c self.new l }
         ensures memory { self.new.memory + 1 ≡ self.old.memory }
         ensures link { (x : L.State) → L.fits link.old x → L.fits link.new (L.after_put x (spelling_of (plain packet.now))) }
         ensures spares { L.spares link.new ≡ L.spares link.old - 1 }
@@ -53,8 +63,33 @@ impl Layer {
         ensures up { L.up link.new ≡ L.up link.old }
         ensures waits { L.waits link.new ≤ L.waits link.old + 1 }
     {
-        let mut octets = self.memory.take(most);
-        encode(packet, &mut octets).unwrap();
-        link.put(octets).unwrap();
+        put(&mut self.memory, link, packet, most);
     }
+}
+
+/// Puts a packet of at most `most` octets into the link, in memory that was set aside.
+pub(crate) fn put<L: OrderedLink>(
+    memory: &mut Blanks<LONGEST_PACKET>,
+    link: &mut L,
+    packet: &Packet,
+    most: usize,
+)
+    requires range { IsInRange 16 (plain packet.now) }
+    requires short { length (spelling_of (plain packet.now)) ≤ most }
+    requires most { most ≤ 4099 }
+    requires memory { 0 < memory.old }
+    requires spares { 0 < L.spares link.old }
+    requires up { L.up link.old ≡ true }
+    requires free { L.waits link.old < 256 }
+    requires longest { 4099 ≤ L.longest link.old }
+    ensures memory { memory.new + 1 ≡ memory.old }
+    ensures link { (x : L.State) → L.fits link.old x → L.fits link.new (L.after_put x (spelling_of (plain packet.now))) }
+    ensures spares { L.spares link.new ≡ L.spares link.old - 1 }
+    ensures longest { L.longest link.new ≡ L.longest link.old }
+    ensures up { L.up link.new ≡ L.up link.old }
+    ensures waits { L.waits link.new ≤ L.waits link.old + 1 }
+{
+    let mut octets = memory.take(most);
+    encode(packet, &mut octets).unwrap();
+    link.put(octets).unwrap();
 }

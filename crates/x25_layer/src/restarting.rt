@@ -1,20 +1,31 @@
 //! Restart. ITU-T X.25 (10/96), section 3.3.
-ghost use Rattle.std.specs.Prelude.{◌≡◌, ℕ, ◌<◌, ◌≤◌, true, IfErr, OnOk, OnErr};
-ghost use Rattle.x25_layer.specs.Layer.{LayerSettings, restart_cause};
+ghost use Rattle.std.specs.Prelude.{◌≡◌, ℕ, suc, ◌+◌, ◌-◌, ◌^◌, ◌<◌, ◌≤◌, true, false, option_to_list, IfErr, OnOk, OnErr, IsOk, IsErrOf};
+ghost use Rattle.x25_packet.specs.PlainPacket.{restart, restart_conf};
+ghost use Rattle.x25_packet.specs.Spelling.{spelling_of};
+ghost use Rattle.x25_circuit.specs.Circuit.{begun};
+ghost use Rattle.x25_circuit.specs.Table.{cause_at};
+ghost use Rattle.x25_layer.specs.Layer.{LayerSettings, restart_cause, is_ready, restarting_from, layer_answers};
 ghost use Rattle.x25_layer.specs.Layer.{Layer as State};
 ghost use Rattle.x25_layer.specs.FitsLayer.{FitsLayer};
-ghost use Rattle.x25_layer.specs.OverLink.{view_of, after_all, LayerGives, LinkGives};
+ghost use Rattle.x25_layer.specs.OverLink.{view_of, after_all, LayerGives, LinkGives, LacksMemory};
 ghost use Rattle.x25_layer.specs.Calls.{Restarts};
 ghost use Rattle.x25_layer.specs.Rounds.{calls, comes_up};
+ghost use Rattle.x25_layer.specs.Room.{HasRoom};
+ghost use Rattle.x25_layer.specs.Told.{plain_told};
 
+use crate::circuits::{begin_all, forget_all};
 use crate::error::LayerError;
-use crate::layer::{Layer, begin_all, forget_all};
+use crate::layer::Layer;
+use crate::told::Told;
 use x25_bits::Role;
 use x25_link::OrderedLink;
 use x25_packet::Packet;
 
-/// The octets of a RESTART.
+/// The octets of a RESTART, of which its confirmation has fewer.
 const RESTART_OCTETS: usize = 5;
+
+/// The diagnostic of a RESTART CONFIRMATION of no restart.
+const NO_RESTART: u8 = 17;
 
 // The cause of the RESTART at LinkUp (profile): 7 is network operational.
 fn restart_cause(role: Role) -> u8
@@ -26,11 +37,22 @@ fn restart_cause(role: Role) -> u8
     }
 }
 
+// The cause of the RESTART that answers a RESTART CONFIRMATION of no restart: 1 is local procedure error, in place of which a DTE
+// sends 128 (profile).
+fn fault_cause(role: Role) -> u8
+    ensures { result ≡ cause_at role 1 }
+{
+    match role {
+        Role::Dte => 128,
+        Role::Dce => 1,
+    }
+}
+
 impl Layer {
     /// Begins afresh with a RESTART, at LinkUp. The link is up, fewer than 256 packets wait in it, and it takes packets of 4,099
     /// octets.
     ///
-    /// 70 alone, and then the layer and the link are as before.
+    /// 70 alone, and not where `room` set memory aside. The layer and the link are as before then.
     pub fn up<L: OrderedLink>(&mut self, link: &mut L) -> Result<(), LayerError>
         requires up { L.up link.old ≡ true }
         requires free { L.waits link.old < 256 }
@@ -38,6 +60,9 @@ impl Layer {
         ensures layer { (c : LayerSettings) (l : State) (x : L.State) → FitsLayer c self.old l → L.fits link.old x → OnOk result (FitsLayer c self.new (comes_up (view_of L.up_in L.waits_in L.after_put x) c).step.layer) }
         ensures link { (c : LayerSettings) (l : State) (x : L.State) → FitsLayer c self.old l → L.fits link.old x → OnOk result (L.fits link.new (after_all L.after_put x (comes_up (view_of L.up_in L.waits_in L.after_put x) c).step.put)) }
         ensures err { IfErr result (λ e. e ≡ LayerError.NoMemory) }
+        ensures longest { L.longest link.new ≡ L.longest link.old }
+        ensures missing { OnErr result (LacksMemory 1 self.old (L.spares link.old)) }
+        ensures enough { (len : ℕ) → HasRoom len self.old (L.spares link.old) → IsOk result }
         ensures layer_stays { (c : LayerSettings) (l : State) → FitsLayer c self.old l → OnErr result (FitsLayer c self.new l) }
         ensures link_stays { (x : L.State) → L.fits link.old x → OnErr result (L.fits link.new x) }
     {
@@ -56,12 +81,14 @@ impl Layer {
     /// Restarts all channels of this end: each goes to p1, and RESTART with cause and diagnostic 0 is sent. The link takes
     /// packets of 4,099 octets.
     ///
-    /// 9 NotUp, then 40 Restarting, then 10 QueueFull where 256 packets wait, and else 70 alone. The layer and the link are as
-    /// before then.
+    /// 9 NotUp, then 40 Restarting, then 10 QueueFull where 256 packets wait, and else 70 alone, and that only where memory
+    /// for no packet is set aside. The layer and the link are as before then.
     pub fn restart<L: OrderedLink>(&mut self, link: &mut L) -> Result<(), LayerError>
         requires { 4099 ≤ L.longest link.old }
         ensures layer { (c : LayerSettings) (l : State) (x : L.State) → FitsLayer c self.old l → L.fits link.old x → LayerGives c self.new result (calls (view_of L.up_in L.waits_in L.after_put x) c l Restarts) }
         ensures link { (c : LayerSettings) (l : State) (x : L.State) → FitsLayer c self.old l → L.fits link.old x → LinkGives (L.fits link.new) L.after_put x result (calls (view_of L.up_in L.waits_in L.after_put x) c l Restarts) }
+        ensures longest { L.longest link.new ≡ L.longest link.old }
+        ensures missing { IsErrOf result LayerError.NoMemory → LacksMemory 1 self.old (L.spares link.old) }
         ensures layer_stays { (c : LayerSettings) (l : State) → FitsLayer c self.old l → OnErr result (FitsLayer c self.new l) }
         ensures link_stays { (x : L.State) → L.fits link.old x → OnErr result (L.fits link.new x) }
     {
@@ -75,13 +102,94 @@ impl Layer {
             return Err(LayerError::QueueFull);
         }
         self.set_aside(link, 1)?;
+        self.send_restart(link, 0, 0);
+        Ok(())
+    }
+
+    // Restarts all channels of this end by a RESTART.
+    fn send_restart<L: OrderedLink>(&mut self, link: &mut L, cause: u8, diagnostic: u8)
+        requires memory { 0 < self.old.memory }
+        requires spares { 0 < L.spares link.old }
+        requires up { L.up link.old ≡ true }
+        requires free { L.waits link.old < 256 }
+        requires longest { 4099 ≤ L.longest link.old }
+        ensures layer { (c : LayerSettings) (l : State) → FitsLayer c self.old l → FitsLayer c self.new (restarting_from l.restarts l.circuits) }
+        ensures link { (x : L.State) → L.fits link.old x → L.fits link.new (L.after_put x (spelling_of (restart cause diagnostic))) }
+        ensures memory { self.new.memory + 1 ≡ self.old.memory }
+        ensures spares { L.spares link.new ≡ L.spares link.old - 1 }
+        ensures longest { L.longest link.new ≡ L.longest link.old }
+        ensures up { L.up link.new ≡ L.up link.old }
+    {
         self.restarting = true;
         forget_all(&mut self.circuits);
-        let packet = Packet::Restart {
-            cause: 0,
-            diagnostic: 0,
-        };
+        let packet = Packet::Restart { cause, diagnostic };
         self.put(link, &packet, RESTART_OCTETS);
-        Ok(())
+    }
+
+    // One restart more is done: all circuits begin afresh.
+    fn restart_is_done(&mut self)
+        requires { self.old.restarts < 2 ^ 64 - 1 }
+        ensures layer { (c : LayerSettings) (l : State) → FitsLayer c self.old l → FitsLayer c self.new (is_ready (suc l.restarts) (λ k. begun)) }
+        ensures memory { self.new.memory ≡ self.old.memory }
+    {
+        self.restarting = false;
+        self.restarts += 1;
+        begin_all(&mut self.circuits);
+    }
+
+    /// RESTART. It confirms this end's RESTART, or else it is confirmed (section 3.3.2 and 3.3.3).
+    pub(crate) fn hear_restart<'a, L: OrderedLink>(
+        &mut self,
+        link: &mut L,
+        cause: u8,
+        diagnostic: u8,
+    ) -> Told<'a>
+        requires restarts { self.old.restarts < 2 ^ 64 - 1 }
+        requires memory { 0 < self.old.memory }
+        requires spares { 0 < L.spares link.old }
+        requires up { L.up link.old ≡ true }
+        requires free { L.waits link.old < 256 }
+        requires longest { 4099 ≤ L.longest link.old }
+        ensures layer { (c : LayerSettings) (l : State) → FitsLayer c self.old l → FitsLayer c self.new (layer_answers c l (restart cause diagnostic)).next }
+        ensures link { (c : LayerSettings) (l : State) (x : L.State) → FitsLayer c self.old l → L.fits link.old x → L.fits link.new (after_all L.after_put x (option_to_list (layer_answers c l (restart cause diagnostic)).owed)) }
+        ensures told { (c : LayerSettings) (l : State) → FitsLayer c self.old l → plain_told result ≡ (layer_answers c l (restart cause diagnostic)).notices }
+        ensures memory { self.old.memory ≤ self.new.memory + 1 }
+        ensures spares { L.spares link.old ≤ L.spares link.new + 1 }
+        ensures longest { L.longest link.new ≡ L.longest link.old }
+        ensures up { L.up link.new ≡ L.up link.old }
+    {
+        if self.restarting {
+            self.restart_is_done();
+            return Told::Restarted { cause, diagnostic };
+        }
+        self.restart_is_done();
+        self.put(link, &Packet::RestartConf, RESTART_OCTETS);
+        Told::Restarted { cause, diagnostic }
+    }
+
+    /// RESTART CONFIRMATION. Where this end restarts nothing, it is an error of procedure, answered by RESTART (profile).
+    pub(crate) fn hear_restart_conf<'a, L: OrderedLink>(&mut self, link: &mut L) -> Told<'a>
+        requires restarts { self.old.restarts < 2 ^ 64 - 1 }
+        requires memory { 0 < self.old.memory }
+        requires spares { 0 < L.spares link.old }
+        requires up { L.up link.old ≡ true }
+        requires free { L.waits link.old < 256 }
+        requires longest { 4099 ≤ L.longest link.old }
+        ensures layer { (c : LayerSettings) (l : State) → FitsLayer c self.old l → FitsLayer c self.new (layer_answers c l restart_conf).next }
+        ensures link { (c : LayerSettings) (l : State) (x : L.State) → FitsLayer c self.old l → L.fits link.old x → L.fits link.new (after_all L.after_put x (option_to_list (layer_answers c l restart_conf).owed)) }
+        ensures told { (c : LayerSettings) (l : State) → FitsLayer c self.old l → plain_told result ≡ (layer_answers c l restart_conf).notices }
+        ensures memory { self.old.memory ≤ self.new.memory + 1 }
+        ensures spares { L.spares link.old ≤ L.spares link.new + 1 }
+        ensures longest { L.longest link.new ≡ L.longest link.old }
+        ensures up { L.up link.new ≡ L.up link.old }
+    {
+        if self.restarting {
+            self.restart_is_done();
+            return Told::RestartDone;
+        }
+        self.send_restart(link, fault_cause(self.role), NO_RESTART);
+        Told::Fault {
+            diagnostic: NO_RESTART,
+        }
     }
 }

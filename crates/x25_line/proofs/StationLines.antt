@@ -1,6 +1,8 @@
 -- The octets on a line, and the frames of the window machine that they show.
 use Rattle.std.proofs.Common.{◌≡◌, ℕ, zero, suc, ◌%◌, List, [], ◌∷◌, ◌++◌, ◌⊎◌, inl, inr, length, map, remove, Bool, true, false, not, if◌then◌else◌, Option, Some, None, Result, Ok, Err, refl, sym, ap, ◌∙◌, subst}
 use Rattle.std.specs.Prelude.{◌||◌, nat_lt, option_to_list}
+use Rattle.std.specs.List.{Contains}
+use Rattle.std.proofs.lemmas.List.Elements.{Contains-append_left, Contains-append_right, Contains-append_cases}
 use Rattle.x25_bits.specs.Sealed.{is_sealed}
 use Rattle.x25_bits.specs.declared.role.Role.{Role}
 use Rattle.x25_frame.specs.PlainFrame.{PlainFrame, info, rr, rnr, rej, sabm, disc, ua, dm, frmr}
@@ -12,7 +14,7 @@ use Rattle.x25_window.specs.Window.{Numbered, Frame}
 use Rattle.x25_frame.specs.ReadingLaw.{ReadsSpelled}
 use Rattle.x25_link.specs.WindowMachine.{ShowsItem, Shows, ShowAll}
 use Rattle.x25_line.specs.Stations.{replaced, is_visible}
-use Rattle.x25_line.specs.StationClaims.{number_in, numbered_on, NoFrmr}
+use Rattle.x25_line.specs.StationClaims.{number_in, numbered_on, NoFrmr, IsHandedDown, AreWhole}
 
 -- ---- frames by frames
 
@@ -144,6 +146,69 @@ parting_no_frmr (rnr command nr pf ∷ fs) h = absurd h
 parting_no_frmr (rej command nr pf ∷ fs) h = absurd h
 parting_no_frmr (sabm p ∷ fs) h = absurd h
 parting_no_frmr (frmr f why ∷ fs) h = absurd h
+
+-- ---- whole frames
+
+abbrev pub AllHandedDown : List (List ℕ) → List PlainFrame → Type 0
+AllHandedDown given [] = Unit {0}
+AllHandedDown given (f ∷ fs) = IsHandedDown given f × AllHandedDown given fs
+
+pub handed_append : (given : List (List ℕ)) (fs es : List PlainFrame) → AllHandedDown given fs → AllHandedDown given es → AllHandedDown given (fs ++ es)
+handed_append given [] es h g = g
+handed_append given (f ∷ fs) es h g = (h.0, handed_append given fs es h.1 g)
+
+handed_more : (xs ys : List (List ℕ)) → ((x : List ℕ) → Contains xs x → Contains ys x) → (f : PlainFrame) → IsHandedDown xs f → IsHandedDown ys f
+handed_more xs ys more (info ns nr p x) h = more x h
+handed_more xs ys more (rr command nr pf) h = tt
+handed_more xs ys more (rnr command nr pf) h = tt
+handed_more xs ys more (rej command nr pf) h = tt
+handed_more xs ys more (sabm p) h = tt
+handed_more xs ys more (disc p) h = tt
+handed_more xs ys more (ua f) h = tt
+handed_more xs ys more (dm f) h = tt
+handed_more xs ys more (frmr f why) h = tt
+
+-- where more was handed down
+pub whole_more : (n1 : ℕ) (xs ys : List (List ℕ)) → ((x : List ℕ) → Contains xs x → Contains ys x) → (fs : List PlainFrame) → AreWhole n1 xs fs → AreWhole n1 ys fs
+whole_more n1 xs ys more [] h = tt
+whole_more n1 xs ys more (f ∷ fs) h =
+    (record { in_range = h.0.in_range; carries = h.0.carries; within = h.0.within; packet = handed_more xs ys more f h.0.packet }, whole_more n1 xs ys more fs h.1)
+
+pub whole_append : (n1 : ℕ) (given : List (List ℕ)) (fs es : List PlainFrame) → AreWhole n1 given fs → AreWhole n1 given es → AreWhole n1 given (fs ++ es)
+whole_append n1 given [] es h g = g
+whole_append n1 given (f ∷ fs) es h g = (h.0, whole_append n1 given fs es h.1 g)
+
+pub good_whole : (n1 : ℕ) (given more : List (List ℕ)) (fs : List PlainFrame) → AllGood n1 fs → AllHandedDown given fs → AreWhole n1 (given ++ more) fs
+good_whole n1 given more [] g h = tt
+good_whole n1 given more (f ∷ fs) g h = (
+  record { in_range = g.0.in_range; carries = g.0.carries; within = g.0.within; packet = handed_more given (given ++ more) (λ x k. Contains-append_left given more x k) f h.0 },
+  good_whole n1 given more fs g.1 h.1,
+)
+
+pub parting_whole : (n1 : ℕ) (given : List (List ℕ)) (fs : List PlainFrame) → AreParting fs → AreWhole n1 given fs
+parting_whole n1 given [] h = tt
+parting_whole n1 given (disc p ∷ fs) h = (record { in_range = tt; carries = refl; within = tt; packet = tt }, parting_whole n1 given fs h)
+parting_whole n1 given (ua f ∷ fs) h = (record { in_range = tt; carries = refl; within = tt; packet = tt }, parting_whole n1 given fs h)
+parting_whole n1 given (dm f ∷ fs) h = (record { in_range = tt; carries = refl; within = tt; packet = tt }, parting_whole n1 given fs h)
+parting_whole n1 given (info ns nr p x ∷ fs) h = absurd h
+parting_whole n1 given (rr command nr pf ∷ fs) h = absurd h
+parting_whole n1 given (rnr command nr pf ∷ fs) h = absurd h
+parting_whole n1 given (rej command nr pf ∷ fs) h = absurd h
+parting_whole n1 given (sabm p ∷ fs) h = absurd h
+parting_whole n1 given (frmr f why ∷ fs) h = absurd h
+
+-- what was handed down at either end, and then more at the first
+pub first_more : (xs ys more : List (List ℕ)) (x : List ℕ) → Contains (xs ++ ys) x → Contains ((xs ++ more) ++ ys) x
+first_more xs ys more x h = elim (Contains-append_cases xs ys x h) [
+  | inl there ↦ Contains-append_left (xs ++ more) ys x (Contains-append_left xs more x there)
+  | inr there ↦ Contains-append_right (xs ++ more) ys x there
+]
+
+pub either_way : (xs ys : List (List ℕ)) (x : List ℕ) → Contains (xs ++ ys) x → Contains (ys ++ xs) x
+either_way xs ys x h = elim (Contains-append_cases xs ys x h) [
+  | inl there ↦ Contains-append_right ys xs x there
+  | inr there ↦ Contains-append_left ys xs x there
+]
 
 module _ (reads : ReadsSpelled) (from : Role) (n1 : ℕ) where
   good_reads : (f : PlainFrame) → IsGood n1 f → frame_of from n1 (spelling_of from f) ≡ Ok f

@@ -25,9 +25,9 @@ use Rattle.x25_line.specs.Line.{Line, moved, swapped as line_swapped}
 use Rattle.x25_line.specs.Line.Move.{HandsDown, Loses}
 use Rattle.x25_line.specs.InWindow.{Begins}
 use Rattle.x25_line.specs.Stations.{StationEnd, Stations, Act, Put, Deliver, T1, Disconnect, Abandon, Lose, Damage, Event, Near, Far, after_step, unless, delivered, replaced, is_visible, acts, swapped, happens, run, fresh_station, start}
-use Rattle.x25_line.specs.StationClaims.{AreJoined, Always, InOrder, BothInOrder, HasItsLists, BothHaveTheirLists, NotesItsEnd, BothNoteTheirEnds, number_in, numbered_on, IsReached, at_start, near_moves, far_moves, AreInWindow, NoFrmrSent}
+use Rattle.x25_line.specs.StationClaims.{AreJoined, Always, InOrder, BothInOrder, HasItsLists, BothHaveTheirLists, NotesItsEnd, BothNoteTheirEnds, number_in, numbered_on, IsReached, at_start, near_moves, far_moves, AreInWindow, NoFrmrSent, AreWhole, AllSentAreWhole}
 use Rattle.x25_line.proofs.Kept.{Kept, Way, Kept-moved, Kept-swapped, Way-acked, InWindow-from_Kept}
-use Rattle.x25_line.proofs.StationLines.{IsOrderly, AreOrderly, AreParting, taken_out, place_of, shows_lost, shows_damaged, orderly_lost, orderly_damaged, visible_reads}
+use Rattle.x25_line.proofs.StationLines.{IsOrderly, AreOrderly, AreParting, taken_out, place_of, shows_lost, shows_damaged, orderly_lost, orderly_damaged, visible_reads, whole_more, either_way}
 use Rattle.x25_line.proofs.StationSends.{AllWithin, within_push}
 use Rattle.x25_line.proofs.StationSteps.{AsUp, FitsEnd, Joint, Holds, J-stays, out_is_not_up, not_both, quiet_notes, quiet_joint, parts_joint, ends_joint, read_joint, out_joint}
 
@@ -187,6 +187,7 @@ module _ (c d : Settings) (joined : AreJoined c d) (reads : ReadsSpelled) (laws 
       near_notes = h.near_notes;
       far_notes = h.far_notes;
       no_frmr = h.no_frmr;
+      whole = h.whole;
     },
   )
 
@@ -225,8 +226,8 @@ joined_swapped : (c d : Settings) → AreJoined c d → AreJoined d c
 joined_swapped c d j =
     record { near_role = j.far_role; far_role = j.near_role; longest = sym j.longest; near_low = j.far_low; near_high = j.far_high; far_low = j.near_low; far_high = j.near_high }
 
-holds_swapped : (c d : Settings) (w : Stations) → Holds c d w → Holds d c (swapped w)
-holds_swapped c d w holds =
+holds_swapped : (c d : Settings) → c.longest ≡ d.longest → (w : Stations) → Holds c d w → Holds d c (swapped w)
+holds_swapped c d same w holds =
     let l = holds.0 in
     let h = holds.1 in (
       line_swapped l,
@@ -248,13 +249,14 @@ holds_swapped c d w holds =
         near_notes = h.far_notes;
         far_notes = h.near_notes;
         no_frmr = h.no_frmr;
+        whole = whole_more c.longest (w.near.down ++ w.far.down) (w.far.down ++ w.near.down) (either_way w.near.down w.far.down) w.sent (subst (λ (n : ℕ). AreWhole n (w.near.down ++ w.far.down) w.sent) (sym same) h.whole);
       },
     )
 
 event_joint : (c d : Settings) → AreJoined c d → ReadsSpelled → Laws → (e : Event) (w : Stations) → Holds c d w → Holds c d (happens c d e w)
 event_joint c d joined reads laws (Near act) w h = acts_joint c d joined reads laws act w h
 event_joint c d joined reads laws (Far act) w h =
-    holds_swapped d c (acts d act (swapped w)) (acts_joint d c (joined_swapped c d joined) reads laws act (swapped w) (holds_swapped c d w h))
+    holds_swapped d c (sym joined.longest) (acts d act (swapped w)) (acts_joint d c (joined_swapped c d joined) reads laws act (swapped w) (holds_swapped c d joined.longest w h))
 
 run_joint : (c d : Settings) → AreJoined c d → ReadsSpelled → Laws → (es : List Event) (w : Stations) → Holds c d w → Holds c d (run c d es w)
 run_joint c d joined reads laws [] w h = h
@@ -291,6 +293,7 @@ start_joint c d joined =
         near_notes = fresh_notes;
         far_notes = fresh_notes;
         no_frmr = tt;
+        whole = tt;
       },
     )
 
@@ -421,3 +424,8 @@ module _ (reads : ReadsSpelled) (laws : Laws) where
 
   pub sends_no_frmr : Always NoFrmrSent
   sends_no_frmr c d joined events = (reached c d joined events).1.no_frmr
+
+  pub sends_whole : Always AllSentAreWhole
+  sends_whole c d joined events =
+      let w = run c d events start in
+      subst (λ (n : ℕ). AreWhole n (w.near.down ++ w.far.down) w.sent) (sym joined.longest) (reached c d joined events).1.whole

@@ -1,15 +1,16 @@
 -- A run of a station that only sends is moves of the window machine that it allows, and its frames show those of the machine.
 use Rattle.std.proofs.Common.{◌≡◌, ℕ, zero, suc, ◌%◌, ◌<◌, ◌≤◌, List, [], ◌∷◌, ◌++◌, length, Option, Some, None, refl, sym, ap, ◌∙◌, subst, arith, append_assoc, append-nil}
 use Rattle.std.specs.List.{slice_get}
+use Rattle.std.proofs.lemmas.Option.{slice_get_within, get_or_from_slice_get}
 use Rattle.x25_frame.specs.PlainFrame.{PlainFrame, info, rr, rnr, rej, sabm, disc, ua, dm, frmr}
 use Rattle.x25_window.specs.Window.{Step, Frame, Allows, after, frame_of, frames_of, numbered}
 use Rattle.x25_window.specs.Window.Step.{HandDown, Send, Tell, Hear, Take}
 use Rattle.x25_link.specs.WindowMachine.{Window, ShowsItem, Shows, ShowAll, IsSent, Runs, rests, goes_on}
 use Rattle.x25_line.specs.Line.{Line, steps}
 use Rattle.x25_line.specs.Line.Move.{Sends, Tells}
-use Rattle.x25_line.specs.StationClaims.{IsReached, near_moves}
+use Rattle.x25_line.specs.StationClaims.{IsReached, near_moves, IsHandedDown}
 use Rattle.x25_line.proofs.Kept.{Kept, Kept-moved}
-use Rattle.x25_line.proofs.StationLines.{shows_append, IsGood, AllGood, good_append}
+use Rattle.x25_line.proofs.StationLines.{shows_append, IsGood, AllGood, good_append, AllHandedDown, handed_append}
 
 -- ---- packets
 
@@ -77,6 +78,37 @@ send_good n1 n w i (ua p) h = absurd h
 send_good n1 n w i (dm p) h = absurd h
 send_good n1 n w i (frmr p why) h = absurd h
 
+-- the packet that goes was handed down
+
+single_handed : (given : List (List ℕ)) (g : Frame (List ℕ)) → ((f : PlainFrame) → Shows f g → IsHandedDown given f) → (fs : List PlainFrame) → ShowAll fs (g ∷ []) → AllHandedDown given fs
+single_handed given g handed [] h = absurd h
+single_handed given g handed (f ∷ []) h = (handed f h.0, tt)
+single_handed given g handed (f ∷ e ∷ fs) h = absurd h.1
+
+tell_handed : (given : List (List ℕ)) (w : Window) (f : PlainFrame) → Shows f (frame_of w None) → IsHandedDown given f
+tell_handed given w (info ns nr p x) h = absurd h.0
+tell_handed given w (rr command nr pf) h = tt
+tell_handed given w (rnr command nr pf) h = tt
+tell_handed given w (rej command nr pf) h = tt
+tell_handed given w (sabm p) h = tt
+tell_handed given w (disc p) h = tt
+tell_handed given w (ua p) h = tt
+tell_handed given w (dm p) h = tt
+tell_handed given w (frmr p why) h = tt
+
+send_handed : (n1 n : ℕ) (w : Window) → Item n1 w.given n → (f : PlainFrame) → Shows f (frame_of (after w (Send n)) (numbered n (slice_get w.given n))) → IsHandedDown w.given f
+send_handed n1 n w i (info ns nr p x) h =
+    let shown : ShowsItem (numbered n (Some i.item)) ns x = subst (λ (o : Option (List ℕ)). ShowsItem (numbered n o) ns x) i.is h.0 in
+    (n, slice_get_within w.given n i.item i.is, get_or_from_slice_get w.given n i.item x i.is ∙ sym shown.1)
+send_handed n1 n w i (rr command nr pf) h = tt
+send_handed n1 n w i (rnr command nr pf) h = tt
+send_handed n1 n w i (rej command nr pf) h = tt
+send_handed n1 n w i (sabm p) h = tt
+send_handed n1 n w i (disc p) h = tt
+send_handed n1 n w i (ua p) h = tt
+send_handed n1 n w i (dm p) h = tt
+send_handed n1 n w i (frmr p why) h = tt
+
 -- ---- runs
 
 -- the line once the frames of a run are on it
@@ -91,14 +123,15 @@ pub record Sent (k j n1 : ℕ) (l : Line (List ℕ)) (from w : Window) (frames :
   pub out : line.out ≡ l.out ++ behind
   pub shows : ShowAll frames behind
   pub good : AllGood n1 frames
+  pub handed : AllHandedDown from.given frames
   pub given : w.given ≡ from.given
   pub taken : w.taken ≡ from.taken
 
 -- one step more
 sent_more : (k j n1 : ℕ) (l : Line (List ℕ)) (from w : Window) (frames : List PlainFrame) (h : Sent k j n1 l from w frames) (s : Step (List ℕ)) (fs : List PlainFrame)
     → IsReached k j (steps h.line s) → Kept (steps h.line s) → (after w s).given ≡ w.given → (after w s).taken ≡ w.taken → ShowAll fs (frames_of w s) → AllGood n1 fs
-    → Sent k j n1 l from (after w s) (frames ++ fs)
-sent_more k j n1 l from w frames h s fs reached kept given taken shows good =
+    → AllHandedDown from.given fs → Sent k j n1 l from (after w s) (frames ++ fs)
+sent_more k j n1 l from w frames h s fs reached kept given taken shows good handed =
     record {
       line = steps h.line s;
       reached = reached;
@@ -110,6 +143,7 @@ sent_more k j n1 l from w frames h s fs reached kept given taken shows good =
       out = ap (λ (gs : List (Frame (List ℕ))). gs ++ frames_of h.line.near s) h.out ∙ append_assoc l.out h.behind (frames_of h.line.near s);
       shows = shows_append frames fs h.behind (frames_of h.line.near s) h.shows (subst (λ (z : Window). ShowAll fs (frames_of z s)) (sym h.near) shows);
       good = good_append n1 frames fs h.good good;
+      handed = handed_append from.given frames fs h.handed handed;
       given = given ∙ h.given;
       taken = taken ∙ h.taken;
     }
@@ -122,11 +156,14 @@ more k j n1 l from w frames within (Take n x) fs sends may shows h = absurd send
 more k j n1 l from w frames within Tell fs sends may shows h =
     sent_more k j n1 l from w frames h Tell fs (near_moves h.line Tells h.reached tt) (Kept-moved Tells h.line tt h.kept) refl refl shows
     (single_good n1 (frame_of w None) (tell_good n1 w) fs shows)
+    (single_handed from.given (frame_of w None) (tell_handed from.given w) fs shows)
 more k j n1 l from w frames within (Send n) fs sends may shows h =
     let ok : Allows h.line.near (Send n) = subst (λ (z : Window). Allows z (Send n)) (sym h.near) may in
     let item = item_at n1 w.given n may.3 (subst (AllWithin n1) (sym h.given) within) in
     sent_more k j n1 l from w frames h (Send n) fs (near_moves h.line (Sends n) h.reached ok) (Kept-moved (Sends n) h.line ok h.kept) refl refl shows
     (single_good n1 (frame_of (after w (Send n)) (numbered n (slice_get w.given n))) (send_good n1 n w item) fs shows)
+    (subst (λ (given : List (List ℕ)). AllHandedDown given fs) h.given
+    (single_handed w.given (frame_of (after w (Send n)) (numbered n (slice_get w.given n))) (send_handed n1 n w item) fs shows))
 
 pub runs_sent : (k j n1 : ℕ) (l : Line (List ℕ)) (from : Window) → IsReached k j l → Kept l → l.near ≡ from → AllWithin n1 from.given
     → (w : Window) (frames : List PlainFrame) → Runs from w frames → Sent k j n1 l from w frames
@@ -142,6 +179,7 @@ runs_sent k j n1 l from reached kept near within w frames rests =
       out = sym (append-nil l.out);
       shows = tt;
       good = tt;
+      handed = tt;
       given = refl;
       taken = refl;
     }

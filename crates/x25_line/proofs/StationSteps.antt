@@ -25,9 +25,9 @@ use Rattle.x25_link.specs.WindowLaw.{IsSound, window_of, brought_by, after_input
 use Rattle.x25_line.specs.Line.{Line, MayTake, FrontMayBeTaken, arrived, front_arrived, takes_item}
 use Rattle.x25_line.specs.Line.Move.{Arrives, Loses}
 use Rattle.x25_line.specs.Stations.{Stations, after_step}
-use Rattle.x25_line.specs.StationClaims.{AreJoined, IsReached, near_moves, number_in, numbered_on, NotesItsEnd, NoFrmr}
+use Rattle.x25_line.specs.StationClaims.{AreJoined, IsReached, near_moves, number_in, numbered_on, NotesItsEnd, NoFrmr, AreWhole}
 use Rattle.x25_line.proofs.Kept.{Kept, Way, Kept-moved, hears_valid}
-use Rattle.x25_line.proofs.StationLines.{shows_append, Front, front_of, carried_of, IsOrderly, AreOrderly, consed, numbered_append, orderly_append, AllGood, AreParting, no_frmr_append, good_no_frmr, parting_no_frmr, good_numbered, good_orderly, parting_numbered, parting_orderly}
+use Rattle.x25_line.proofs.StationLines.{shows_append, Front, front_of, carried_of, IsOrderly, AreOrderly, consed, numbered_append, orderly_append, AllGood, AreParting, no_frmr_append, good_no_frmr, parting_no_frmr, good_numbered, good_orderly, parting_numbered, parting_orderly, AllHandedDown, whole_more, whole_append, good_whole, parting_whole, first_more}
 use Rattle.x25_line.proofs.StationSends.{AllWithin, runs_sent}
 
 pub out_is_not_up : (p : Phase) → IsOut p → is_up p ≡ false
@@ -76,6 +76,7 @@ pub record Joint (c d : Settings) (w : Stations) (l : Line (List ℕ)) : Type 0 
   pub near_notes : NotesItsEnd w.near
   pub far_notes : NotesItsEnd w.far
   pub no_frmr : NoFrmr w.sent
+  pub whole : AreWhole d.longest (w.near.down ++ w.far.down) w.sent
 
 abbrev pub Holds : Settings → Settings → Stations → Type 0
 Holds c d w = (l : Line (List ℕ)) × Joint c d w l
@@ -184,6 +185,9 @@ module _ (c d : Settings) (joined : AreJoined c d) (reads : ReadsSpelled) where
           near_notes = quiet_notes c w back down step h.near_notes stays.quiet (stays.up ∙ sym was_up);
           far_notes = h.far_notes;
           no_frmr = no_frmr_append w.sent step.side.out h.no_frmr (good_no_frmr d.longest step.side.out t.good);
+          whole = whole_append d.longest ((w.near.down ++ down) ++ w.far.down) w.sent step.side.out
+              (whole_more d.longest (w.near.down ++ w.far.down) ((w.near.down ++ down) ++ w.far.down) (first_more w.near.down w.far.down down) w.sent h.whole)
+              (good_whole d.longest (w.near.down ++ down) w.far.down step.side.out t.good (subst (λ (given : List (List ℕ)). AllHandedDown given step.side.out) (sym g.given) t.handed));
         },
       )
 
@@ -323,6 +327,9 @@ module _ (c d : Settings) (joined : AreJoined c d) (reads : ReadsSpelled) where
       near_notes = notes;
       far_notes = h.far_notes;
       no_frmr = no_frmr_append w.sent step.side.out h.no_frmr (parting_no_frmr step.side.out parting);
+      whole = whole_append d.longest ((w.near.down ++ []) ++ w.far.down) w.sent step.side.out
+          (whole_more d.longest (w.near.down ++ w.far.down) ((w.near.down ++ []) ++ w.far.down) (first_more w.near.down w.far.down []) w.sent h.whole)
+          (parting_whole d.longest ((w.near.down ++ []) ++ w.far.down) step.side.out parting);
     },
   )
 

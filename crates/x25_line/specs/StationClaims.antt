@@ -1,7 +1,9 @@
 -- What holds of two link stations and the line between them after each list of events, the link set up once.
 use Rattle.std.specs.Prelude.{◌≡◌, ℕ, ◌≤◌, Bool, true, false, if◌then◌else◌, List, [], ◌∷◌, ◌++◌, take, Option, Some, None, option_to_list, Result, Ok, Err}
+use Rattle.std.specs.List.{Contains}
 use Rattle.x25_bits.specs.declared.role.Role.{Role}
 use Rattle.x25_frame.specs.PlainFrame.{PlainFrame, info, rr, rnr, rej, frmr}
+use Rattle.x25_frame.specs.Spelling.{information_of, IsInRange, MayCarry, IsWithin}
 use Rattle.x25_frame.specs.Reading.{frame_of}
 use Rattle.x25_frame.specs.declared.error.FrameError.{FrameError}
 use Rattle.x25_window.specs.Window.{End, fresh_end}
@@ -109,6 +111,27 @@ NoFrmr (frame ∷ frames) = NoFrmr frames
 
 abbrev pub NoFrmrSent : Settings → Settings → Stations → Type 0
 NoFrmrSent c d w = NoFrmr w.sent
+
+-- ---- each frame ever sent is whole
+
+-- the packet of an I frame was handed down
+abbrev pub IsHandedDown : List (List ℕ) → PlainFrame → Type 0
+IsHandedDown given (info ns nr p packet) = Contains given packet
+IsHandedDown given frame = Unit {0}
+
+-- it may be spelled, so that its octets read as the frame
+pub record IsWhole (n1 : ℕ) (given : List (List ℕ)) (frame : PlainFrame) : Type 0 where
+  pub in_range : IsInRange frame
+  pub carries : MayCarry frame (information_of frame)
+  pub within : IsWithin n1 frame (information_of frame)
+  pub packet : IsHandedDown given frame
+
+abbrev pub AreWhole : ℕ → List (List ℕ) → List PlainFrame → Type 0
+AreWhole n1 given [] = Unit {0}
+AreWhole n1 given (frame ∷ frames) = IsWhole n1 given frame × AreWhole n1 given frames
+
+abbrev pub AllSentAreWhole : Settings → Settings → Stations → Type 0
+AllSentAreWhole c d w = AreWhole c.longest (w.near.down ++ w.far.down) w.sent
 
 -- ---- what one event hands up and down
 

@@ -1,5 +1,5 @@
 //! Two link stations over a line, as laws about their definition. Each is the contract of a function that does nothing.
-ghost use Rattle.x25_line.specs.StationClaims.{Always, BothInOrder, BothHaveTheirLists, BothNoteTheirEnds, AreInWindow, NoFrmrSent, EachEventHandsOne};
+ghost use Rattle.x25_line.specs.StationClaims.{Always, BothInOrder, BothHaveTheirLists, BothNoteTheirEnds, AreInWindow, NoFrmrSent, AllSentAreWhole, EachEventHandsOne};
 ghost use Rattle.x25_line.specs.StationRows.{PacketGoes, PacketsCross, LostComesAgain, DamagedComesAgain, DisconnectEnds, AbandonEnds};
 
 use x25_frame::reads_what_is_spelled;
@@ -9,13 +9,15 @@ use x25_link::{follows_the_window, notes_what_changes};
 /// lose or visibly damage any frame, the link set up once: what holds after each list of events at either end.
 ///
 /// What one end handed up is a beginning of what the other was handed down, and the same where the giver is idle. What an
-/// end counts as acknowledged was handed up. The link never resets, the window holds all along, and no FRMR is ever sent.
+/// end counts as acknowledged was handed up. The link never resets, the window holds all along, and no FRMR is ever sent. Each
+/// frame ever sent may be spelled, and the packet of an I frame is one that was handed down.
 pub fn stations_keep_order()
     ensures order { Always BothInOrder }
     ensures lists { Always BothHaveTheirLists }
     ensures notes { Always BothNoteTheirEnds }
     ensures window { Always AreInWindow }
     ensures no_frmr { Always NoFrmrSent }
+    ensures whole { Always AllSentAreWhole }
 {
     follows_the_window();
     notes_what_changes();

@@ -1,4 +1,4 @@
-use Rattle.x25_line.proofs.StationRuns.{Laws, keeps_order, keeps_lists, keeps_notes, keeps_window, sends_no_frmr}
+use Rattle.x25_line.proofs.StationRuns.{Laws, keeps_order, keeps_lists, keeps_notes, keeps_window, sends_no_frmr, sends_whole}
 use Rattle.x25_line.proofs.law.stations_keep_order.Goals as goal
 
 pub returns : goal.returns
@@ -13,4 +13,4 @@ returns c =
       disconnect_tells = notes.disconnect;
       abandon_tells = notes.abandon;
     } in
-    record { order = keeps_order reads laws; lists = keeps_lists reads laws; notes = keeps_notes reads laws; window = keeps_window reads laws; no_frmr = sends_no_frmr reads laws }
+    record { order = keeps_order reads laws; lists = keeps_lists reads laws; notes = keeps_notes reads laws; window = keeps_window reads laws; no_frmr = sends_no_frmr reads laws; whole = sends_whole reads laws }

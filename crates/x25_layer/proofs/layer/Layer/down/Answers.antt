@@ -1,11 +1,14 @@
 use Rattle.std.proofs.Common.{◌∙◌, refl}
 use Rattle.x25_layer.proofs.layer.Layer.down.Goals as goal
 
-pub returns : goal.returns
-returns c = λ s l fits. record {
+pub returns-clause-layer : goal.returns-clause-layer
+returns-clause-layer c = λ s l fits. record {
   role = fits.role;
   channels = c.begin_all.ensures.count ∙ fits.channels;
   restarting = refl;
   restarts = refl;
   circuits = c.begin_all.ensures.fits s l.circuits fits.circuits;
 }
+
+pub returns-clause-room : goal.returns-clause-room
+returns-clause-room c = λ len spares has. record { memory = has.memory; spares = has.spares; circuits = c.begin_all.ensures.room len has.circuits }

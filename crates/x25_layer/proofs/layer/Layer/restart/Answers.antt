@@ -1,30 +1,24 @@
-use Rattle.std.proofs.Common.{rules, ◌≡◌, ◌∙◌, Ok, refl, sym, subst, true, false, arith}
+use Rattle.std.proofs.Common.{rules, ◌≡◌, ◌∙◌, Ok, sym, subst, true, false, arith}
 use Rattle.x25_layer.specs.OverLink.{view_of, LayerGives, LinkGives}
 use Rattle.x25_layer.specs.Rounds.{Answered, LinkView}
-use Rattle.x25_layer.proofs.FitLemmas.{fits_memory, on_err}
+use Rattle.x25_layer.proofs.FitLemmas.{on_err}
 use Rattle.x25_layer.proofs.SettleLemmas.{restart_goes}
 use Rattle.x25_layer.proofs.layer.Layer.restart.Goals as goal
 
 pub returns-in_err-set_aside-clause-layer_stays : goal.returns-in_err-set_aside-clause-layer_stays
-returns-in_err-set_aside-clause-layer_stays g c = λ s l fits. on_err c.from_residual.result (fits_memory s _ c.set_aside.new.self l c.set_aside.ensures.layer fits)
+returns-in_err-set_aside-clause-layer_stays g c = λ s l fits. on_err c.from_residual.result (c.set_aside.ensures.fits s l fits)
 
 pub returns-clause-layer : goal.returns-clause-layer
 returns-clause-layer g c = λ s l x fits link.
-    let before = fits_memory s _ c.set_aside.new.self l c.set_aside.ensures.layer fits in
+    let before = c.set_aside.ensures.fits s l fits in
     let view : LinkView = view_of g.L.OrderedLink.up_in g.L.OrderedLink.waits_in g.L.OrderedLink.after_put x in
     let up_law = g.met.L.OrderedLink.up_is c.args.link.now x link in
     let waits_law = g.met.L.OrderedLink.waits_are c.args.link.now x link in
     let up : g.L.OrderedLink.up_in x ≡ true = search rules in
     let at_l : l.restarting ≡ false = sym fits.restarting ∙ c.if-self.false in
     let free : g.L.OrderedLink.waits_in x ≡ 256 → ⊥ = λ full. grind (arith, full, waits_law, c.waiting.ensures.value, c.if-waiting-eq256.false) in
-    subst (λ (a : Answered). LayerGives s c.put.new.self (Ok tt) a) (sym (restart_goes view s l up at_l free))
-    (fits_memory s (record c.set_aside.new.self { restarting = true; circuits = c.forget_all.new.circuits }) c.put.new.self _ c.put.ensures.layer (record {
-      role = before.role;
-      channels = c.forget_all.ensures.count ∙ before.channels;
-      restarting = refl;
-      restarts = before.restarts;
-      circuits = c.forget_all.ensures.fits s l.circuits before.circuits;
-    }))
+    subst (λ (a : Answered). LayerGives s c.send_restart.new.self (Ok tt) a) (sym (restart_goes view s l up at_l free))
+    (c.send_restart.ensures.layer s l before)
 
 pub returns-clause-link : goal.returns-clause-link
 returns-clause-link g c = λ s l x fits link.
@@ -34,5 +28,5 @@ returns-clause-link g c = λ s l x fits link.
     let up : g.L.OrderedLink.up_in x ≡ true = search rules in
     let at_l : l.restarting ≡ false = sym fits.restarting ∙ c.if-self.false in
     let free : g.L.OrderedLink.waits_in x ≡ 256 → ⊥ = λ full. grind (arith, full, waits_law, c.waiting.ensures.value, c.if-waiting-eq256.false) in
-    subst (λ (a : Answered). LinkGives (g.L.OrderedLink.fits c.put.new.link) g.L.OrderedLink.after_put x (Ok tt) a) (sym (restart_goes view s l up at_l free))
-    (c.put.ensures.link x (c.set_aside.ensures.link x link))
+    subst (λ (a : Answered). LinkGives (g.L.OrderedLink.fits c.send_restart.new.link) g.L.OrderedLink.after_put x (Ok tt) a) (sym (restart_goes view s l up at_l free))
+    (c.send_restart.ensures.link x (c.set_aside.ensures.link x link))

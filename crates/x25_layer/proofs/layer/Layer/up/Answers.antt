@@ -1,22 +1,22 @@
-use Rattle.std.proofs.Common.{◌≡◌, ◌∙◌, ℕ, refl, sym, subst, true}
+use Rattle.std.proofs.Common.{◌≡◌, ◌∙◌, ℕ, refl, sym, subst}
 use Rattle.x25_packet.specs.PlainPacket.{restart}
 use Rattle.x25_packet.specs.Spelling.{spelling_of}
 use Rattle.x25_layer.specs.Layer.{restart_cause}
 use Rattle.x25_layer.specs.FitsLayer.{FitsLayer}
 use Rattle.x25_layer.specs.OverLink.{view_of, after_all}
 use Rattle.x25_layer.specs.Rounds.{Putting}
-use Rattle.x25_layer.proofs.FitLemmas.{fits_memory, on_err}
+use Rattle.x25_layer.proofs.FitLemmas.{on_err}
 use Rattle.x25_layer.proofs.SettleLemmas.{comes_up_alone}
 use Rattle.x25_layer.proofs.layer.Layer.up.Goals as goal
 
 pub returns-in_err-set_aside-clause-layer_stays : goal.returns-in_err-set_aside-clause-layer_stays
-returns-in_err-set_aside-clause-layer_stays g c = λ s l fits. on_err c.from_residual.result (fits_memory s _ c.set_aside.new.self l c.set_aside.ensures.layer fits)
+returns-in_err-set_aside-clause-layer_stays g c = λ s l fits. on_err c.from_residual.result (c.set_aside.ensures.fits s l fits)
 
 pub returns-clause-layer : goal.returns-clause-layer
 returns-clause-layer g c = λ s l x fits link.
-    let before = fits_memory s _ c.set_aside.new.self l c.set_aside.ensures.layer fits in
+    let before = c.set_aside.ensures.fits s l fits in
     subst (λ (p : Putting). FitsLayer s c.put.new.self p.layer) (sym (comes_up_alone (view_of g.L.OrderedLink.up_in g.L.OrderedLink.waits_in g.L.OrderedLink.after_put x) s))
-    (fits_memory s (record c.set_aside.new.self { restarting = true; restarts = 0; circuits = c.begin_all.new.circuits }) c.put.new.self _ c.put.ensures.layer (record {
+    (c.put.ensures.fits s _ (record {
       role = before.role;
       channels = c.begin_all.ensures.count ∙ before.channels;
       restarting = refl;
@@ -26,7 +26,7 @@ returns-clause-layer g c = λ s l x fits link.
 
 pub returns-clause-link : goal.returns-clause-link
 returns-clause-link g c = λ s l x fits link.
-    let before = fits_memory s _ c.set_aside.new.self l c.set_aside.ensures.layer fits in
+    let before = c.set_aside.ensures.fits s l fits in
     let cause : c.restart_cause.result ≡ restart_cause s.circuit.role = subst (λ r. c.restart_cause.result ≡ restart_cause r) before.role c.restart_cause.ensures in
     subst (λ (p : Putting). g.L.OrderedLink.fits c.put.new.link (after_all g.L.OrderedLink.after_put x p.put)) (sym (comes_up_alone (view_of g.L.OrderedLink.up_in g.L.OrderedLink.waits_in g.L.OrderedLink.after_put x) s))
     (subst (λ (n : ℕ). g.L.OrderedLink.fits c.put.new.link (g.L.OrderedLink.after_put x (spelling_of (restart n 0)))) cause (c.put.ensures.link x (c.set_aside.ensures.link x link)))

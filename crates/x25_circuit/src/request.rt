@@ -1,0 +1,174 @@
+//! What the user of a circuit asks for, as one type.
+ghost use Rattle.std.specs.Prelude.{◌≡◌, ◌≤◌, Bool, OnErr, IfOk};
+ghost use Rattle.x25_packet.specs.PlainPacket.{plain};
+ghost use Rattle.x25_circuit.specs.Circuit.{Settings};
+ghost use Rattle.x25_circuit.specs.Circuit.{Circuit as Channel};
+ghost use Rattle.x25_circuit.specs.Calls.{outcome, call_in, accept_in, clear_in, send_in, interrupt_in, reset_in, ready_in};
+ghost use Rattle.x25_circuit.specs.FitsCircuit.{FitsCircuit, room_of};
+ghost use Rattle.x25_circuit.specs.Requests.{plain_request, refusal_of, with_packet, AnswersRequest, MayPut};
+ghost use Rattle.x25_circuit.specs.Replies.{IsSendable, plain_owed};
+
+use crate::circuit::Circuit;
+use crate::error::CircuitError;
+use crate::octets::LONGEST_MESSAGE;
+use crate::queue::PLACES;
+use crate::state::State;
+use crate::talking::INTERRUPT_OCTETS;
+use x25_packet::{CALL_OCTETS, Digits, Packet};
+
+/// A call of the user of a circuit. Addresses and user data are borrowed; the octets of a message are handed over.
+#[derive(Debug, Drop)]
+pub enum Request<'a> {
+    Call {
+        called: &'a str,
+        calling: &'a str,
+        user: &'a [u8],
+    },
+    Accept,
+    Clear,
+    Send {
+        q: bool,
+        user: Vec<u8>,
+    },
+    Interrupt {
+        user: &'a [u8],
+    },
+    Reset,
+    Ready,
+    NotReady,
+}
+
+// A packet that is sent is one that there may be.
+fn with_packet<'a>(
+    answer: Result<Packet<'a>, CircuitError>,
+) -> Result<Option<Packet<'a>>, CircuitError>
+    ensures { result ≡ with_packet answer.entry }
+{
+    match answer {
+        Ok(packet) => Ok(Some(packet)),
+        Err(error) => Err(error),
+    }
+}
+
+impl Circuit {
+    /// Does what is asked, as the call of that name. It answers the packet to send, where there is one.
+    ///
+    /// Refused as that call, and then the circuit is as before.
+    pub fn ask<'a>(&mut self, request: Request<'a>) -> Result<Option<Packet<'a>>, CircuitError>
+        ensures outcome { (c : Settings) (x : Channel) → FitsCircuit c self.old x → AnswersRequest c self.new result (outcome c x (plain_request request.entry)) }
+        ensures range { IfOk result (λ packet. IsSendable (plain_owed packet)) }
+        ensures at_once { IfOk result (λ packet. MayPut (plain_request request.entry) packet) }
+        ensures room { room_of self.old ≤ room_of self.new }
+        ensures unchanged { OnErr result (self.new ≡ self.old) }
+    {
+        match request {
+            Request::Call {
+                called,
+                calling,
+                user,
+            } => with_packet(self.call(called, calling, user)),
+            Request::Accept => with_packet(self.accept()),
+            Request::Clear => with_packet(self.clear()),
+            Request::Send { q, user } => match self.send(q, user) {
+                Ok(()) => Ok(None),
+                Err(error) => Err(error),
+            },
+            Request::Interrupt { user } => with_packet(self.interrupt(user)),
+            Request::Reset => with_packet(self.reset()),
+            Request::Ready => with_packet(self.ready()),
+            Request::NotReady => with_packet(self.not_ready()),
+        }
+    }
+
+    /// Why `ask` would refuse this now, if it would.
+    pub fn refusal(&self, request: &Request<'_>) -> Option<CircuitError>
+        ensures { (c : Settings) (x : Channel) → FitsCircuit c self.now x → result ≡ refusal_of (outcome c x (plain_request request.now)) }
+    {
+        match request {
+            Request::Call {
+                called,
+                calling,
+                user,
+            } => self.call_refusal(called, calling, user),
+            Request::Accept => self.accept_refusal(),
+            Request::Clear => self.clear_refusal(),
+            Request::Send { q, user } => self.send_refusal(*q, user),
+            Request::Interrupt { user } => self.interrupt_refusal(user),
+            Request::Reset | Request::Ready | Request::NotReady => self.closed(),
+        }
+    }
+
+    fn call_refusal(&self, called: &str, calling: &str, user: &[u8]) -> Option<CircuitError>
+        ensures { (c : Settings) (x : Channel) → FitsCircuit c self.now x → result ≡ refusal_of (call_in x x.state called.now calling.now user.now) }
+    {
+        if self.state != State::Free {
+            return Some(CircuitError::WrongState);
+        }
+        if Digits::of(called).is_none()
+            || Digits::of(calling).is_none()
+            || user.len() > CALL_OCTETS
+        {
+            return Some(CircuitError::BadParameter);
+        }
+        None
+    }
+
+    fn accept_refusal(&self) -> Option<CircuitError>
+        ensures { (c : Settings) (x : Channel) → FitsCircuit c self.now x → result ≡ refusal_of (accept_in x x.state) }
+    {
+        match self.state {
+            State::Arriving => None,
+            _ => Some(CircuitError::WrongState),
+        }
+    }
+
+    fn clear_refusal(&self) -> Option<CircuitError>
+        ensures { (c : Settings) (x : Channel) → FitsCircuit c self.now x → result ≡ refusal_of (clear_in x x.state) }
+    {
+        match self.state {
+            State::Free | State::Clearing => Some(CircuitError::WrongState),
+            _ => None,
+        }
+    }
+
+    fn send_refusal(&self, q: bool, user: &Vec<u8>) -> Option<CircuitError>
+        ensures { (c : Settings) (x : Channel) → FitsCircuit c self.now x → result ≡ refusal_of (send_in c x x.state q user.now.items) }
+    {
+        if self.state != State::Open {
+            return Some(CircuitError::WrongState);
+        }
+        if user.len() > LONGEST_MESSAGE {
+            return Some(CircuitError::TooLong);
+        }
+        if self.waits() == PLACES {
+            return Some(CircuitError::Full);
+        }
+        None
+    }
+
+    fn interrupt_refusal(&self, user: &[u8]) -> Option<CircuitError>
+        ensures { (c : Settings) (x : Channel) → FitsCircuit c self.now x → result ≡ refusal_of (interrupt_in x x.state user.now) }
+    {
+        if self.state != State::Open {
+            return Some(CircuitError::WrongState);
+        }
+        if user.is_empty() || user.len() > INTERRUPT_OCTETS {
+            return Some(CircuitError::BadParameter);
+        }
+        if self.transfer.interrupt_out {
+            return Some(CircuitError::InterruptOutstanding);
+        }
+        None
+    }
+
+    // Where it isn't in p4 with d1.
+    fn closed(&self) -> Option<CircuitError>
+        ensures reset { (c : Settings) (x : Channel) → FitsCircuit c self.now x → result ≡ refusal_of (reset_in x x.state) }
+        ensures ready { (c : Settings) (x : Channel) (is_ready : Bool) → FitsCircuit c self.now x → result ≡ refusal_of (ready_in x x.state is_ready) }
+    {
+        match self.state {
+            State::Open => None,
+            _ => Some(CircuitError::WrongState),
+        }
+    }
+}

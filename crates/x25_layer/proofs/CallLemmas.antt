@@ -1,0 +1,114 @@
+-- The calls of the user: the circuit of a channel is asked, and its packet goes on that channel.
+use Rattle.std.proofs.Common.{◌≡◌, ℕ, suc, ◌-◌, ◌<◌, ◌≤◌, List, length, Option, Bool, true, false, nat_le, get_or, set, sym, ap, subst, ◌∙◌, arith, Result, Ok, Err, IsErrAnd}
+use Rattle.std.proofs.Math.ListN.{length-set}
+use Rattle.std.proofs.lemmas.Bool.{leb-true, and_parts}
+use Rattle.x25_packet.specs.declared.packet.Packet.{Packet}
+use Rattle.x25_packet.specs.PlainPacket.{PlainPacket}
+use Rattle.x25_circuit.specs.declared.circuit.Circuit as circuit_code
+use Rattle.x25_circuit.specs.declared.error.CircuitError.{CircuitError}
+use Rattle.x25_circuit.specs.Circuit.{Circuit}
+use Rattle.x25_circuit.specs.Calls.{Outcome, Done, Refused}
+use Rattle.x25_circuit.specs.Replies.{plain_owed}
+use Rattle.x25_circuit.specs.Requests.{AnswersRequest}
+use Rattle.x25_circuit.specs.FitsCircuit.{FitsCircuit}
+use Rattle.x25_layer.specs.declared.layer.Layer as code
+use Rattle.x25_layer.specs.declared.error.LayerError.{LayerError}
+use Rattle.x25_layer.specs.declared.error.LayerError.TheVariants as error
+use Rattle.x25_layer.specs.Layer.{LayerSettings, Layer, is_channel, put_at, packet_on, is_ready}
+use Rattle.x25_layer.specs.Calls.{Accepted, outcome_on}
+use Rattle.x25_layer.specs.Rounds.{LinkView, went}
+use Rattle.x25_layer.specs.FitsLayer.{FitsCircuits, FitsLayer}
+use Rattle.x25_layer.specs.OverLink.{LayerGives, LinkGives}
+use Rattle.x25_layer.specs.Asking.{with_circuit, AsksCircuit, error_without_memory}
+use Rattle.x25_layer.proofs.FitLemmas.{read_at}
+use Rattle.x25_layer.proofs.PullLemmas.{fits_put, fits_same}
+
+pub configured : (n h : ℕ) → is_channel n h ≡ true → (1 ≤ h) × (h ≤ n)
+configured n h is = (leb-true 1 h (and_parts (nat_le 1 h) (nat_le h n) is).0, leb-true h n (and_parts (nat_le 1 h) (nat_le h n) is).1)
+
+-- the circuit that a look-up for a channel finds
+pub found_at : (c : LayerSettings) (v : code.Layer) (l : Layer) (h place : ℕ) (x : circuit_code.Circuit) → FitsLayer c v l → is_channel (length v.circuits.items) h ≡ true → place ≡ h → x ≡ get_or v.circuits.items (place - 1) x
+    → (suc (place - 1) ≡ h) × FitsCircuit c.circuit x (l.circuits h)
+found_at c v l h place x fits is same read =
+    let within = configured (length v.circuits.items) h is in
+    let at : suc (place - 1) ≡ h = omega (arith, within, same) in
+    let low : place - 1 < length v.circuits.items = omega (arith, within, same) in
+    (at, subst (λ (k : ℕ). FitsCircuit c.circuit x (l.circuits k)) at (fits.circuits (place - 1) x (read_at v.circuits.items (place - 1) x low read)))
+
+-- ---- another circuit at one place
+
+-- a layer, all else of which but its memory and its circuits is as it was
+pub record IsLike (v v₂ : code.Layer) : Type 0 where
+  pub role : v₂.role ≡ v.role
+  pub restarting : v₂.restarting ≡ v.restarting
+  pub restarts : v₂.restarts ≡ v.restarts
+
+pub layer_put : (c : LayerSettings) (v v₂ : code.Layer) (l : Layer) (h : ℕ) (i : ℕ) (y : circuit_code.Circuit) (next : Circuit) → FitsLayer c v l → suc i ≡ h → IsLike v v₂ → v₂.circuits.items ≡ set v.circuits.items i y
+    → FitsCircuit c.circuit y next → FitsLayer c v₂ (with_circuit l h next)
+layer_put c v v₂ l h i y next fits at like items fit = record {
+  role = like.role ∙ fits.role;
+  channels = ap (λ (vs : List circuit_code.Circuit). length vs) items ∙ length-set v.circuits.items i y ∙ fits.channels;
+  restarting = like.restarting ∙ fits.restarting;
+  restarts = like.restarts ∙ fits.restarts;
+  circuits = subst (λ (vs : List circuit_code.Circuit). FitsCircuits c vs (put_at l.circuits h next)) (sym items)
+      (subst (λ (k : ℕ). FitsCircuits c (set v.circuits.items i y) (put_at l.circuits k next)) at (fits_put c v.circuits.items l.circuits i y next fits.circuits fit));
+}
+
+pub layer_kept : (c : LayerSettings) (v v₂ : code.Layer) (l : Layer) (h i : ℕ) (y : circuit_code.Circuit) → FitsLayer c v l → suc i ≡ h → IsLike v v₂ → v₂.circuits.items ≡ set v.circuits.items i y
+    → FitsCircuit c.circuit y (l.circuits h) → FitsLayer c v₂ l
+layer_kept c v v₂ l h i y fits at like items fit = record {
+  role = like.role ∙ fits.role;
+  channels = ap (λ (vs : List circuit_code.Circuit). length vs) items ∙ length-set v.circuits.items i y ∙ fits.channels;
+  restarting = like.restarting ∙ fits.restarting;
+  restarts = like.restarts ∙ fits.restarts;
+  circuits = subst (λ (vs : List circuit_code.Circuit). FitsCircuits c vs l.circuits) (sym items)
+      (fits_same c v.circuits.items l.circuits i y fits.circuits (subst (λ (k : ℕ). FitsCircuit c.circuit y (l.circuits k)) (sym at) fit));
+}
+
+-- ---- what the circuit answers
+
+pub asks_ok : (c : LayerSettings) (v v₂ : code.Layer) (l : Layer) (h i : ℕ) (y : circuit_code.Circuit) (packet : Option Packet) (o : Outcome) → FitsLayer c v l → suc i ≡ h → IsLike v v₂ → v₂.circuits.items ≡ set v.circuits.items i y
+    → AnswersRequest c.circuit y (Ok packet) o → AsksCircuit c v₂ (Ok packet) l h o
+asks_ok c v v₂ l h i y packet (Done next p) fits at like items a = (layer_put c v v₂ l h i y next fits at like items a.0, a.1)
+asks_ok c v v₂ l h i y packet (Refused e) fits at like items a = cc
+
+pub asks_err : (c : LayerSettings) (v : code.Layer) (l : Layer) (h : ℕ) (y : circuit_code.Circuit) (e : CircuitError) (o : Outcome) → AnswersRequest c.circuit y (Err e) o → AsksCircuit c v (Err (error.Circuit e)) l h o
+asks_err c v l h y e (Done next p) a = absurd a
+asks_err c v l h y e (Refused f) a = cc
+
+-- the layer after an accepted call, before the pulls
+pub record IsAccepted (c : LayerSettings) (v : code.Layer) (l : Layer) (h : ℕ) (packet : Option Packet) (o : Outcome) : Type 0 where
+  pub next : Layer
+  pub fits : FitsLayer c v next
+  pub accepted : outcome_on l.restarts l.circuits h o ≡ Accepted next (packet_on h (plain_owed packet))
+
+pub is_accepted : (c : LayerSettings) (v : code.Layer) (l : Layer) (h : ℕ) (packet : Option Packet) (o : Outcome) → l.restarting ≡ false → AsksCircuit c v (Ok packet) l h o → IsAccepted c v l h packet o
+is_accepted c v l h packet (Done next p) ready a = record {
+  next = is_ready l.restarts (put_at l.circuits h next);
+  fits = subst (λ (b : Bool). FitsLayer c v (record { restarting = b; restarts = l.restarts; circuits = put_at l.circuits h next })) ready a.0;
+  accepted = ap (λ (q : Option PlainPacket). Accepted (is_ready l.restarts (put_at l.circuits h next)) (packet_on h q)) (sym a.1);
+}
+is_accepted c v l h packet (Refused e) ready a = cc
+
+-- a refusal of the circuit is one of the layer, as it is handed on
+pub declined_layer : {T : Type 0} (r : Result T LayerError) (c : LayerSettings) (view : LinkView) (v v₂ : code.Layer) (l : Layer) (h : ℕ) (e : LayerError) (o : Outcome) → AsksCircuit c v (Err e) l h o → IsErrAnd r (λ f. f ≡ e)
+    → LayerGives c v₂ r (went view c (outcome_on l.restarts l.circuits h o))
+declined_layer (Ok x) c view v v₂ l h e o a is = absurd is
+declined_layer (Err f) c view v v₂ l h e (Done next p) a is = absurd a
+declined_layer (Err f) c view v v₂ l h e (Refused d) a is = cc
+
+pub declined_link : {T X : Type 0} (r : Result T LayerError) (fits : X → Type 0) (after : X → List ℕ → X) (x : X) (c : LayerSettings) (view : LinkView) (v : code.Layer) (l : Layer) (h : ℕ) (e : LayerError) (o : Outcome) → AsksCircuit c v (Err e) l h o
+    → IsErrAnd r (λ f. f ≡ e) → LinkGives fits after x r (went view c (outcome_on l.restarts l.circuits h o))
+declined_link (Ok y) fits after x c view v l h e o a is = absurd is
+declined_link (Err f) fits after x c view v l h e (Done next p) a is = absurd a
+declined_link (Err f) fits after x c view v l h e (Refused d) a is = cc
+
+-- where memory is missing
+pub short_layer : (T : Type 0) (c : LayerSettings) (view : LinkView) (v : code.Layer) (l : Layer) (h : ℕ) (e : LayerError) (o : Outcome) → e ≡ error_without_memory o → LayerGives {T = T} c v (Err e) (went view c (outcome_on l.restarts l.circuits h o))
+short_layer t c view v l h e (Done next p) is = is
+short_layer t c view v l h e (Refused f) is = ap (λ (x : LayerError). Err x) is
+
+pub short_link : (T : Type 0) {X : Type 0} (fits : X → Type 0) (after : X → List ℕ → X) (x : X) (c : LayerSettings) (view : LinkView) (l : Layer) (h : ℕ) (e : LayerError) (o : Outcome) → e ≡ error_without_memory o
+    → LinkGives {T = T} fits after x (Err e) (went view c (outcome_on l.restarts l.circuits h o))
+short_link t fits after x c view l h e (Done next p) is = tt
+short_link t fits after x c view l h e (Refused f) is = ap (λ (x : LayerError). Err x) is

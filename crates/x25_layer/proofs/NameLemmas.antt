@@ -1,0 +1,261 @@
+-- What a circuit tells counts its clears and resets, where no CLEAR comes in p1; and so what a layer tells counts its restarts.
+use Rattle.std.proofs.Common.{◌≡◌, ℕ, List, [], ◌∷◌, ◌++◌, length, Option, Some, None, Bool, true, false, nat_lt, nat_le, ◌&&◌, if◌then◌else◌, refl}
+use Rattle.x25_bits.specs.declared.role.Role.{Role}
+use Rattle.x25_bits.specs.declared.role.Role.TheVariants.{Dte, Dce}
+use Rattle.x25_packet.specs.PlainPacket.{PlainPacket, call, accept, clear, clear_conf, user_data, rr, rnr, interrupt, interrupt_conf, reset, reset_conf, restart, restart_conf}
+use Rattle.x25_circuit.specs.declared.message.Message.{Message}
+use Rattle.x25_circuit.specs.declared.error.CircuitError.TheVariants.{Full, TooLong, InterruptOutstanding, BadParameter}
+use Rattle.x25_circuit.specs.declared.state.State.{State}
+use Rattle.x25_circuit.specs.declared.state.State.TheVariants.{Free, Calling, Arriving, Collision, Open, Resetting, Clearing}
+use Rattle.x25_circuit.specs.Messages.{Piece, piece_of, no_part, joining, completed, cut}
+use Rattle.x25_circuit.specs.Circuit.{Settings, Talk, Circuit, is_free, is_free_in, waits}
+use Rattle.x25_circuit.specs.Notices.{CallRequest, PlainNotice, deliveries}
+use Rattle.x25_circuit.specs.Table.{Answer, answers, unless_facilities, collides, row_call, row_accept, row_clear, row_clear_conf, row_reset, row_reset_conf, unless, takes, hears_status, confirms, row_open, row_data, data_ground, number_ground}
+use Rattle.x25_circuit.specs.Calls.{Outcome, Done, Refused, Request, Calls, Accepts, Clears, Sends, Interrupts, Resets, SaysReady, SaysNotReady, does, keeps_on, request_of, call_sent, may_call, call_in, accept_in, clear_in, send_in, interrupt_in, reset_in, ready_in, outcome, Pulled, pull_open, pull_in, pulled}
+use Rattle.x25_epochs.specs.Names.{Name}
+use Rattle.x25_layer.specs.NameLaw.{named_by}
+
+-- the name of the stretch of a circuit
+abbrev pub name_in : ℕ → Circuit → Name
+name_in restarts x = record { restarts = restarts; clears = x.clears; resets = x.resets }
+
+abbrev pub named_by_all : Name → List PlainNotice → Name
+named_by_all n [] = n
+named_by_all n (notice ∷ notices) = named_by_all (named_by n notice) notices
+
+-- what is told counts what was done
+abbrev Counts : ℕ → Circuit → Answer → Type 0
+Counts restarts x a = name_in restarts a.next ≡ named_by_all (name_in restarts x) a.notices
+
+deliveries_count : (n : Name) (ms : List Message) → n ≡ named_by_all n (deliveries ms)
+deliveries_count n [] = refl
+deliveries_count n (m ∷ ms) = deliveries_count n ms
+
+-- a CLEAR doesn't come in p1
+abbrev pub ClearsNotFree : Circuit → PlainPacket → Type 0
+ClearsNotFree x (clear channel cause diagnostic) = is_free x ≡ false
+ClearsNotFree x p = Unit {0}
+
+module _ (c : Settings) (e : ℕ) (x : Circuit) where
+  facilities_count : (facilities : List ℕ) (good : Answer) → Counts e x good → Counts e x (unless_facilities c x facilities good)
+  facilities_count [] good h = h
+  facilities_count (code ∷ rest) good h = refl
+
+  collides_count : (role : Role) (request : CallRequest) → Counts e x (collides role x request)
+  collides_count Dte request = refl
+  collides_count Dce request = refl
+
+  call_count : (s : State) (request : CallRequest) (facilities : List ℕ) → Counts e x (row_call c x s request facilities)
+  call_count Free request facilities = facilities_count facilities _ refl
+  call_count Calling request facilities = facilities_count facilities (collides c.role x request) (collides_count c.role request)
+  call_count Clearing request facilities = refl
+  call_count Arriving request facilities = refl
+  call_count Collision request facilities = refl
+  call_count Open request facilities = refl
+  call_count Resetting request facilities = refl
+
+  accept_count : (s : State) (facilities : List ℕ) → Counts e x (row_accept c x s facilities)
+  accept_count Calling facilities = facilities_count facilities _ refl
+  accept_count Collision facilities = facilities_count facilities _ refl
+  accept_count Clearing facilities = refl
+  accept_count Free facilities = refl
+  accept_count Arriving facilities = refl
+  accept_count Open facilities = refl
+  accept_count Resetting facilities = refl
+
+  clear_count : (s : State) (cause diagnostic : ℕ) → is_free_in s ≡ false → Counts e x (row_clear x s cause diagnostic)
+  clear_count Free cause diagnostic not_free = absurd (never not_free)
+    where
+      never : true ≡ false → ⊥
+      never same = cc
+  clear_count Clearing cause diagnostic not_free = refl
+  clear_count Calling cause diagnostic not_free = refl
+  clear_count Arriving cause diagnostic not_free = refl
+  clear_count Collision cause diagnostic not_free = refl
+  clear_count Open cause diagnostic not_free = refl
+  clear_count Resetting cause diagnostic not_free = refl
+
+  clear_conf_count : (s : State) → Counts e x (row_clear_conf c x s)
+  clear_conf_count Clearing = refl
+  clear_conf_count Free = refl
+  clear_conf_count Calling = refl
+  clear_conf_count Arriving = refl
+  clear_conf_count Collision = refl
+  clear_conf_count Open = refl
+  clear_conf_count Resetting = refl
+
+  reset_count : (s : State) (cause diagnostic : ℕ) → Counts e x (row_reset c x s cause diagnostic)
+  reset_count Open cause diagnostic = refl
+  reset_count Resetting cause diagnostic = refl
+  reset_count Clearing cause diagnostic = refl
+  reset_count Free cause diagnostic = refl
+  reset_count Calling cause diagnostic = refl
+  reset_count Arriving cause diagnostic = refl
+  reset_count Collision cause diagnostic = refl
+
+  reset_conf_count : (s : State) → Counts e x (row_reset_conf c x s)
+  reset_conf_count Open = refl
+  reset_conf_count Resetting = refl
+  reset_conf_count Clearing = refl
+  reset_conf_count Free = refl
+  reset_conf_count Calling = refl
+  reset_conf_count Arriving = refl
+  reset_conf_count Collision = refl
+
+  unless_count : (ground : Option ℕ) (good : Answer) → Counts e x good → Counts e x (unless c x ground good)
+  unless_count None good h = h
+  unless_count (Some diagnostic) good h = refl
+
+  confirms_count : (t : Talk) (b : Bool) → Counts e x (confirms c x t b)
+  confirms_count t true = refl
+  confirms_count t false = refl
+
+  open_count : (t : Talk) (p : PlainPacket) → Counts e x (row_open c x t p)
+  open_count t (user_data channel q m ps pr user) =
+      unless_count (data_ground c.incoming.size t ps pr (piece_of q m user)) (takes x t pr (piece_of q m user)) (deliveries_count (name_in e x) (completed (joining no_part t.taken) (piece_of q m user)))
+  open_count t (rr channel pr) = unless_count (number_ground t pr) (hears_status x t true pr) refl
+  open_count t (rnr channel pr) = unless_count (number_ground t pr) (hears_status x t false pr) refl
+  open_count t (interrupt channel user) = refl
+  open_count t (interrupt_conf channel) = confirms_count t t.int_out
+  open_count t other = refl
+
+  data_count : (s : State) (p : PlainPacket) → Counts e x (row_data c x s p)
+  data_count Open p = open_count x.talk p
+  data_count Resetting p = refl
+  data_count Clearing p = refl
+  data_count Free p = refl
+  data_count Calling p = refl
+  data_count Arriving p = refl
+  data_count Collision p = refl
+
+  pub circuit_counts : (p : PlainPacket) → ClearsNotFree x p → Counts e x (answers c x p)
+  circuit_counts (call channel called calling facilities user) ok = call_count x.state (record { called = called; calling = calling; user = user }) facilities
+  circuit_counts (accept channel facilities) ok = accept_count x.state facilities
+  circuit_counts (clear channel cause diagnostic) ok = clear_count x.state cause diagnostic ok
+  circuit_counts (clear_conf channel) ok = clear_conf_count x.state
+  circuit_counts (reset channel cause diagnostic) ok = reset_count x.state cause diagnostic
+  circuit_counts (reset_conf channel) ok = reset_conf_count x.state
+  circuit_counts (restart cause diagnostic) ok = refl
+  circuit_counts restart_conf ok = refl
+  circuit_counts (user_data channel q m ps pr user) ok = data_count x.state (user_data channel q m ps pr user)
+  circuit_counts (rr channel pr) ok = data_count x.state (rr channel pr)
+  circuit_counts (rnr channel pr) ok = data_count x.state (rnr channel pr)
+  circuit_counts (interrupt channel user) ok = data_count x.state (interrupt channel user)
+  circuit_counts (interrupt_conf channel) ok = data_count x.state (interrupt_conf channel)
+
+-- ---- calls of the user, and pulls, count nothing
+
+abbrev pub KeepsName : Circuit → Outcome → Type 0
+KeepsName x (Done next packet) = (e : ℕ) → name_in e next ≡ name_in e x
+KeepsName x (Refused error) = Unit {0}
+
+keeps_if : (x : Circuit) (b : Bool) (u v : Outcome) → KeepsName x u → KeepsName x v → KeepsName x (if b then u else v)
+keeps_if x true u v h g = h
+keeps_if x false u v h g = g
+
+module _ (c : Settings) (x : Circuit) where
+  call_keeps : (s : State) (called calling user : List ℕ) → KeepsName x (call_in x s called calling user)
+  call_keeps Free called calling user = keeps_if x (may_call called calling user) (does x Calling (call_sent (request_of called calling user))) (Refused BadParameter) (λ e. refl) tt
+  call_keeps Calling called calling user = tt
+  call_keeps Arriving called calling user = tt
+  call_keeps Collision called calling user = tt
+  call_keeps Open called calling user = tt
+  call_keeps Resetting called calling user = tt
+  call_keeps Clearing called calling user = tt
+
+  accept_keeps : (s : State) → KeepsName x (accept_in x s)
+  accept_keeps Arriving = λ e. refl
+  accept_keeps Free = tt
+  accept_keeps Calling = tt
+  accept_keeps Collision = tt
+  accept_keeps Open = tt
+  accept_keeps Resetting = tt
+  accept_keeps Clearing = tt
+
+  clear_keeps : (s : State) → KeepsName x (clear_in x s)
+  clear_keeps Free = tt
+  clear_keeps Clearing = tt
+  clear_keeps Calling = λ e. refl
+  clear_keeps Arriving = λ e. refl
+  clear_keeps Collision = λ e. refl
+  clear_keeps Open = λ e. refl
+  clear_keeps Resetting = λ e. refl
+
+  -- a message more waits; and an interrupt is out
+  abbrev sends : Talk → Bool → List ℕ → Outcome
+  sends t q user =
+      keeps_on x (record { sent = t.sent; taken = t.taken; acked = t.acked; rest = t.rest ++ cut c.outgoing.size q user; int_out = t.int_out; peer_ready = t.peer_ready; own_ready = t.own_ready }) None
+
+  abbrev interrupts : Talk → List ℕ → Outcome
+  interrupts t user =
+      keeps_on x (record { sent = t.sent; taken = t.taken; acked = t.acked; rest = t.rest; int_out = true; peer_ready = t.peer_ready; own_ready = t.own_ready }) (Some (interrupt 1 user))
+
+  send_keeps : (s : State) (q : Bool) (user : List ℕ) → KeepsName x (send_in c x s q user)
+  send_keeps Open q user =
+      keeps_if x (nat_le (length user) 65535) (if nat_lt (waits x) 8 then sends x.talk q user else Refused Full) (Refused TooLong)
+      (keeps_if x (nat_lt (waits x) 8) (sends x.talk q user) (Refused Full) (λ e. refl) tt) tt
+  send_keeps Free q user = tt
+  send_keeps Calling q user = tt
+  send_keeps Arriving q user = tt
+  send_keeps Collision q user = tt
+  send_keeps Resetting q user = tt
+  send_keeps Clearing q user = tt
+
+  interrupt_keeps : (s : State) (user : List ℕ) → KeepsName x (interrupt_in x s user)
+  interrupt_keeps Open user =
+      keeps_if x (nat_le 1 (length user) && nat_le (length user) 32) (if x.talk.int_out then Refused InterruptOutstanding else interrupts x.talk user) (Refused BadParameter)
+      (keeps_if x x.talk.int_out (Refused InterruptOutstanding) (interrupts x.talk user) tt (λ e. refl)) tt
+  interrupt_keeps Free user = tt
+  interrupt_keeps Calling user = tt
+  interrupt_keeps Arriving user = tt
+  interrupt_keeps Collision user = tt
+  interrupt_keeps Resetting user = tt
+  interrupt_keeps Clearing user = tt
+
+  reset_keeps : (s : State) → KeepsName x (reset_in x s)
+  reset_keeps Open = λ e. refl
+  reset_keeps Free = tt
+  reset_keeps Calling = tt
+  reset_keeps Arriving = tt
+  reset_keeps Collision = tt
+  reset_keeps Resetting = tt
+  reset_keeps Clearing = tt
+
+  ready_keeps : (s : State) (is_ready : Bool) → KeepsName x (ready_in x s is_ready)
+  ready_keeps Open is_ready = λ e. refl
+  ready_keeps Free is_ready = tt
+  ready_keeps Calling is_ready = tt
+  ready_keeps Arriving is_ready = tt
+  ready_keeps Collision is_ready = tt
+  ready_keeps Resetting is_ready = tt
+  ready_keeps Clearing is_ready = tt
+
+  pub outcome_keeps : (request : Request) → KeepsName x (outcome c x request)
+  outcome_keeps (Calls called calling user) = call_keeps x.state called calling user
+  outcome_keeps Accepts = accept_keeps x.state
+  outcome_keeps Clears = clear_keeps x.state
+  outcome_keeps (Sends q user) = send_keeps x.state q user
+  outcome_keeps (Interrupts user) = interrupt_keeps x.state user
+  outcome_keeps Resets = reset_keeps x.state
+  outcome_keeps SaysReady = ready_keeps x.state true
+  outcome_keeps SaysNotReady = ready_keeps x.state false
+
+  pull_if : (e : ℕ) (b : Bool) (u v : Pulled) → name_in e u.next ≡ name_in e x → name_in e v.next ≡ name_in e x → (let p : Pulled = if b then u else v in name_in e p.next) ≡ name_in e x
+  pull_if e true u v h g = h
+  pull_if e false u v h g = g
+
+  pull_open_keeps : (e : ℕ) (t : Talk) (rest : List Piece) → name_in e (pull_open c x t rest).next ≡ name_in e x
+  pull_open_keeps e t [] = refl
+  pull_open_keeps e t (piece ∷ rest) = pull_if e _ _ _ refl refl
+
+  pull_in_keeps : (e : ℕ) (s : State) → name_in e (pull_in c x s).next ≡ name_in e x
+  pull_in_keeps e Open = pull_open_keeps e x.talk x.talk.rest
+  pull_in_keeps e Free = refl
+  pull_in_keeps e Calling = refl
+  pull_in_keeps e Arriving = refl
+  pull_in_keeps e Collision = refl
+  pull_in_keeps e Resetting = refl
+  pull_in_keeps e Clearing = refl
+
+  pub pulled_keeps : (e : ℕ) → name_in e (pulled c x).next ≡ name_in e x
+  pulled_keeps e = pull_in_keeps e x.state

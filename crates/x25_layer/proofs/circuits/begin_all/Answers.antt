@@ -1,0 +1,49 @@
+use Rattle.std.proofs.Common.{ℕ, suc, ◌≡◌, ◌≤◌, ◌∙◌, List, length, sym, subst, ap, arith}
+use Rattle.std.proofs.lemmas.Option.{slice_get-get_or}
+use Rattle.x25_circuit.specs.declared.circuit.Circuit as circuit_code
+use Rattle.x25_circuit.specs.Circuit.{Circuit, forgotten}
+use Rattle.x25_layer.specs.Layer.{at_rest}
+use Rattle.x25_circuit.specs.FitsCircuit.{room_of}
+use Rattle.x25_layer.specs.FitsLayer.{FitsCircuits}
+use Rattle.x25_layer.specs.Room.{HaveRoom}
+use Rattle.x25_layer.proofs.FitLemmas.{changed_none, changed_more, changed_all, written_back, all_changed}
+use Rattle.x25_layer.proofs.circuits.begin_all.Goals as goal
+
+pub loop-circuit-init : goal.loop-circuit-init
+loop-circuit-init c = record {
+  fits = λ s f fits. changed_none s _ f at_rest.circuits fits;
+  room = λ len all. all;
+}
+
+pub loop-circuit-preserved : goal.loop-circuit-preserved
+loop-circuit-preserved c =
+    let i : ℕ = c.loop-circuit.circuit-index in
+    let read = slice_get-get_or c.loop-circuit.circuit-items i c.circuit-item.result (omega arith) in
+    record {
+      fits = λ s f fits.
+          let before = c.loop-circuit.invariant.fits s f fits in
+          let x : Circuit = f (suc i) in
+          let found = before.above i _ (omega arith) read in
+          changed_more s i _ f at_rest.circuits _ before (c.zero.ensures.fits s.circuit (forgotten x) (c.forget.ensures.fits s.circuit x found));
+      room = λ len all.
+          let before = c.loop-circuit.invariant.room len all in
+          let here = before i _ read in
+          let a = c.forget.ensures.room in
+          let b = c.zero.ensures.room in
+          all_changed (λ (k : ℕ) (v : circuit_code.Circuit). len ≤ room_of v) c.loop-circuit.circuit-items i c.zero.new.self before (omega (arith, here, a, b));
+    }
+
+pub returns : goal.returns
+returns c =
+    let high : length c.args.circuits.now.items ≤ c.args.circuits.now.len = omega arith in
+    let count : length c.loop-circuit.circuit-items ≡ length c.args.circuits.now.items = omega arith in
+    let all = written_back c.args.circuits.now.len c.args.circuits.now.items c.loop-circuit.circuit-items high count in
+    record {
+      fits = λ s f fits. subst (λ (vs : List circuit_code.Circuit). FitsCircuits s vs at_rest.circuits) (sym all)
+          (changed_all s c.loop-circuit.circuit-index c.loop-circuit.circuit-items f at_rest.circuits
+          (c.loop-circuit.invariant.fits s f (subst (λ (vs : List circuit_code.Circuit). FitsCircuits s vs f) (sym c.deref_mut-circuit-items.ensures.value) fits))
+          (omega arith));
+      count = ap length all ∙ count;
+      room = λ len have. subst (λ (vs : List circuit_code.Circuit). HaveRoom len vs) (sym all)
+          (c.loop-circuit.invariant.room len (subst (λ (vs : List circuit_code.Circuit). HaveRoom len vs) (sym c.deref_mut-circuit-items.ensures.value) have));
+    }

@@ -1,0 +1,20 @@
+use Rattle.x25_layer.proofs.RunLemmas.{Premises}
+use Rattle.x25_layer.proofs.ClearLemmas.{never_in_p1}
+use Rattle.x25_layer.proofs.CountLemmas.{always_counted}
+use Rattle.x25_layer.proofs.law.names_are_told.Goals as goal
+
+-- the nested handshakes, by their contract
+known : goal.After-keeps_order → Premises
+known c = record {
+  quiet = c.keeps_order.ensures.quiet;
+  messages = c.keeps_order.ensures.messages;
+  interrupts = c.keeps_order.ensures.interrupts;
+  calls = c.keeps_order.ensures.calls;
+  arrived = c.keeps_order.ensures.arrived;
+}
+
+pub returns-clause-names : goal.returns-clause-names
+returns-clause-names c = λ channels. always_counted channels (never_in_p1 (known c) channels)
+
+pub returns-clause-clear : goal.returns-clause-clear
+returns-clause-clear c = never_in_p1 (known c)

@@ -1,0 +1,47 @@
+use Rattle.std.proofs.Common.{◌∙◌, Ok, sym, subst, ap}
+use Rattle.x25_circuit.specs.Calls.{Outcome, outcome}
+use Rattle.x25_circuit.specs.Requests.{plain_request}
+use Rattle.x25_layer.specs.OverLink.{view_of, LayerGives, LinkGives}
+use Rattle.x25_layer.specs.Rounds.{LinkView, Answered, begin, went}
+use Rattle.x25_layer.specs.Layer.{packet_on}
+use Rattle.x25_circuit.specs.Replies.{plain_owed}
+use Rattle.x25_layer.proofs.FitLemmas.{on_err}
+use Rattle.x25_layer.proofs.CallLemmas.{IsAccepted, is_accepted, declined_layer, declined_link, short_layer, short_link}
+use Rattle.x25_layer.proofs.layer.Layer.ask_ready.Goals as goal
+
+pub returns-then-is_err-clause-layer : goal.returns-then-is_err-clause-layer
+returns-then-is_err-clause-layer g c = λ s l x fits link.
+    short_layer (Unit {0}) s _ c.args.self.now l c.args.channel _ (outcome s.circuit (l.circuits c.args.channel) (plain_request c.args.request)) (c.without_memory.ensures s l (c.set_aside.ensures.fits s l fits))
+
+pub returns-then-is_err-clause-link : goal.returns-then-is_err-clause-link
+returns-then-is_err-clause-link g c = λ s l x fits link.
+    short_link (Unit {0}) (g.L.OrderedLink.fits c.set_aside.new.link) g.L.OrderedLink.after_put x s _ l c.args.channel _ (outcome s.circuit (l.circuits c.args.channel) (plain_request c.args.request)) (c.without_memory.ensures s l (c.set_aside.ensures.fits s l fits))
+
+pub returns-in_err-packet-clause-layer : goal.returns-in_err-packet-clause-layer
+returns-in_err-packet-clause-layer g c = λ s l x fits link.
+    declined_layer c.from_residual.result s _ c.ask_circuit.new.self c.ask_circuit.new.self l c.args.channel c.in_err-packet.field-0.0 (outcome s.circuit (l.circuits c.args.channel) (plain_request c.args.request))
+    (c.in_err-packet.ensures.outcome s l (c.set_aside.ensures.fits s l fits)) c.from_residual.ensures.1
+
+pub returns-in_err-packet-clause-link : goal.returns-in_err-packet-clause-link
+returns-in_err-packet-clause-link g c = λ s l x fits link.
+    declined_link c.from_residual.result (g.L.OrderedLink.fits c.set_aside.new.link) g.L.OrderedLink.after_put x s _ c.ask_circuit.new.self l c.args.channel c.in_err-packet.field-0.0 (outcome s.circuit (l.circuits c.args.channel) (plain_request c.args.request))
+    (c.in_err-packet.ensures.outcome s l (c.set_aside.ensures.fits s l fits)) c.from_residual.ensures.1
+
+pub returns-in_err-packet-clause-layer_stays : goal.returns-in_err-packet-clause-layer_stays
+returns-in_err-packet-clause-layer_stays g c = λ s l fits. on_err c.from_residual.result (c.in_err-packet.ensures.fits s l (c.set_aside.ensures.fits s l fits))
+
+pub returns-clause-layer : goal.returns-clause-layer
+returns-clause-layer g c = λ s l x fits link.
+    let view : LinkView = view_of g.L.OrderedLink.up_in g.L.OrderedLink.waits_in g.L.OrderedLink.after_put x in
+    let o : Outcome = outcome s.circuit (l.circuits c.args.channel) (plain_request c.args.request) in
+    let a : IsAccepted s c.ask_circuit.new.self l c.args.channel c.in_ok-packet.packet o = is_accepted s c.ask_circuit.new.self l c.args.channel c.in_ok-packet.packet o (sym fits.restarting ∙ c.requires.ready) (c.in_ok-packet.ensures.outcome s l (c.set_aside.ensures.fits s l fits)) in
+    subst (λ (r : Answered). LayerGives s c.pull_all.new.self (Ok tt) r) (sym (ap (went view s) a.accepted))
+    (c.pull_all.ensures.layer s (begin a.next (packet_on c.args.channel (plain_owed c.in_ok-packet.packet))) x (c.put_owed.ensures.fits s a.next a.fits) (c.put_owed.ensures.link x (c.set_aside.ensures.link x link)))
+
+pub returns-clause-link : goal.returns-clause-link
+returns-clause-link g c = λ s l x fits link.
+    let view : LinkView = view_of g.L.OrderedLink.up_in g.L.OrderedLink.waits_in g.L.OrderedLink.after_put x in
+    let o : Outcome = outcome s.circuit (l.circuits c.args.channel) (plain_request c.args.request) in
+    let a : IsAccepted s c.ask_circuit.new.self l c.args.channel c.in_ok-packet.packet o = is_accepted s c.ask_circuit.new.self l c.args.channel c.in_ok-packet.packet o (sym fits.restarting ∙ c.requires.ready) (c.in_ok-packet.ensures.outcome s l (c.set_aside.ensures.fits s l fits)) in
+    subst (λ (r : Answered). LinkGives (g.L.OrderedLink.fits c.pull_all.new.link) g.L.OrderedLink.after_put x (Ok tt) r) (sym (ap (went view s) a.accepted))
+    (c.pull_all.ensures.link s (begin a.next (packet_on c.args.channel (plain_owed c.in_ok-packet.packet))) x (c.put_owed.ensures.fits s a.next a.fits) (c.put_owed.ensures.link x (c.set_aside.ensures.link x link)))

@@ -1,0 +1,34 @@
+use Rattle.std.proofs.Common.{◌-◌, refl, sym, subst, arith}
+use Rattle.x25_circuit.specs.declared.circuit.Circuit as circuit_code
+use Rattle.x25_circuit.specs.FitsCircuit.{FitsCircuit}
+use Rattle.x25_layer.specs.Receiving.{plain_read, circuit_hears}
+use Rattle.x25_layer.proofs.CallLemmas.{found_at, layer_put, layer_kept}
+use Rattle.x25_layer.proofs.HearLemmas.{read_there}
+use Rattle.x25_layer.proofs.layer.Layer.hear_channel.Goals as goal
+
+pub hear_circuit-requires-clause-left : goal.hear_circuit-requires-clause-left
+hear_circuit-requires-clause-left c =
+    c.requires.left (c.from-place.result - 1) c.index_mut.result.now (read_there c.args.self.now.circuits.items c.args.channel c.from-place.result c.index_mut.result.now c.requires.channel c.from-place.ensures c.index_mut.ensures.value)
+
+pub returns-in-Ok-clause-layer : goal.returns-in-Ok-clause-layer
+returns-in-Ok-clause-layer c = λ s l fits.
+    let at = found_at s c.args.self.now l c.args.channel c.from-place.result c.index_mut.result.now fits c.requires.channel c.from-place.ensures c.index_mut.ensures.value in
+    layer_put s c.args.self.now _ l c.args.channel (c.from-place.result - 1) c.hear_circuit.new.circuit (circuit_hears s.circuit (l.circuits c.args.channel) (plain_read c.args.read)).next fits at.0 (record { role = refl; restarting = refl; restarts = refl }) refl
+    (c.in-Ok.ensures.next s.circuit (l.circuits c.args.channel) at.1)
+
+pub returns-in-Ok-clause-says : goal.returns-in-Ok-clause-says
+returns-in-Ok-clause-says c = λ s l fits.
+    let at = found_at s c.args.self.now l c.args.channel c.from-place.result c.index_mut.result.now fits c.requires.channel c.from-place.ensures c.index_mut.ensures.value in
+    c.in-Ok.ensures.says s.circuit (l.circuits c.args.channel) at.1
+
+pub returns-in-Err-clause-layer_stays : goal.returns-in-Err-clause-layer_stays
+returns-in-Err-clause-layer_stays c = λ s l fits.
+    let at = found_at s c.args.self.now l c.args.channel c.from-place.result c.index_mut.result.now fits c.requires.channel c.from-place.ensures c.index_mut.ensures.value in
+    layer_kept s c.args.self.now _ l c.args.channel (c.from-place.result - 1) c.hear_circuit.new.circuit fits at.0 (record { role = refl; restarting = refl; restarts = refl }) refl
+    (subst (λ (v : circuit_code.Circuit). FitsCircuit s.circuit v (l.circuits c.args.channel)) (sym c.in-Err.ensures.unchanged) at.1)
+
+pub returns-in-Err-clause-enough : goal.returns-in-Err-clause-enough
+returns-in-Err-clause-enough c = λ len short room.
+    let here = room (c.from-place.result - 1) c.index_mut.result.now (read_there c.args.self.now.circuits.items c.args.channel c.from-place.result c.index_mut.result.now c.requires.channel c.from-place.ensures c.index_mut.ensures.value) in
+    let missing = c.in-Err.ensures.missing in
+    absurd (omega (arith, here, short, missing))

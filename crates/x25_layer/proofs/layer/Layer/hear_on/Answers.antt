@@ -1,0 +1,14 @@
+use Rattle.std.proofs.Common.{rules, ◌≡◌, ◌∙◌, ℕ, length, true, false, sym, subst}
+use Rattle.x25_layer.specs.Layer.{Layer, is_channel}
+use Rattle.x25_layer.specs.FitsLayer.{FitsLayer}
+use Rattle.x25_layer.specs.Receiving.{plain_read}
+use Rattle.x25_layer.proofs.HearLemmas.{next_there}
+use Rattle.x25_layer.proofs.layer.Layer.hear_on.Goals as goal
+
+pub returns-clause-layer : goal.returns-clause-layer
+returns-clause-layer g c = λ s l fits.
+    let within : is_channel (length c.args.self.now.circuits.items) c.args.channel ≡ true = search rules in
+    let is : is_channel s.channels c.args.channel ≡ true = subst (λ (n : ℕ). is_channel n c.args.channel ≡ true) fits.channels within in
+    let ready : l.restarting ≡ false = sym fits.restarting ∙ c.if-self.false in
+    subst (λ (m : Layer). FitsLayer s c.put_owed.new.self m) (next_there s l c.args.channel (plain_read c.args.read) ready is)
+    (c.put_owed.ensures.fits s _ (c.in_ok-reply.ensures.layer s l fits))

@@ -1,0 +1,25 @@
+use Rattle.std.proofs.Common.{◌≡◌}
+use Rattle.x25_layer.specs.Layer.{LayerSettings}
+use Rattle.x25_layer.specs.OverLink.{view_of}
+use Rattle.x25_layer.specs.Rounds.{Putting, rounds}
+use Rattle.x25_layer.specs.Pulling.{Stands}
+use Rattle.x25_layer.proofs.PullLemmas.{KeepsRestarts}
+use Rattle.x25_layer.proofs.layer.Layer.pull_all.Given as goal
+
+-- the rounds so far lead to a step whose rounds end where all of them do
+abbrev pub invariant-loop : goal.invariant-loop
+invariant-loop g l = record {
+  role : l.self.role ≡ l.initial.self.role;
+  restarting : l.self.restarting ≡ l.initial.self.restarting;
+  restarts : l.self.restarts ≡ l.initial.self.restarts;
+  longest : g.L.OrderedLink.longest l.link ≡ g.L.OrderedLink.longest l.initial.link;
+  up : g.L.OrderedLink.up l.link ≡ g.L.OrderedLink.up l.initial.link;
+  stands : (c : LayerSettings) (x : g.L.OrderedLink.State) (s : Putting)
+      → Stands (g.L.OrderedLink.fits l.initial.link) g.L.OrderedLink.lists g.L.OrderedLink.after_put c l.initial.self.circuits.items l.initial.self.memory (g.L.OrderedLink.spares l.initial.link) x s
+      → (t : Putting) × KeepsRestarts s t
+      × Stands (g.L.OrderedLink.fits l.link) g.L.OrderedLink.lists g.L.OrderedLink.after_put c l.self.circuits.items l.self.memory (g.L.OrderedLink.spares l.link) x t
+      × (rounds (view_of g.L.OrderedLink.up_in g.L.OrderedLink.waits_in g.L.OrderedLink.after_put x) c t ≡ rounds (view_of g.L.OrderedLink.up_in g.L.OrderedLink.waits_in g.L.OrderedLink.after_put x) c s);
+}
+
+abbrev pub decreases-loop : goal.decreases-loop
+decreases-loop g l = l.self.memory

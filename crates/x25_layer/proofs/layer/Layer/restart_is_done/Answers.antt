@@ -1,0 +1,11 @@
+use Rattle.std.proofs.Common.{◌≡◌, suc, ◌+◌, ◌∙◌, refl, arith}
+use Rattle.x25_layer.proofs.layer.Layer.restart_is_done.Goals as goal
+
+pub returns-clause-layer : goal.returns-clause-layer
+returns-clause-layer c = λ s l fits. record {
+  role = fits.role;
+  channels = c.begin_all.ensures.count ∙ fits.channels;
+  restarting = refl;
+  restarts = (let same = fits.restarts in let e : c.args.self.now.restarts + 1 ≡ suc l.restarts = omega (arith, same) in e);
+  circuits = c.begin_all.ensures.fits s l.circuits fits.circuits;
+}

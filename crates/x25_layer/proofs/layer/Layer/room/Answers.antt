@@ -1,0 +1,20 @@
+use Rattle.std.proofs.Common.{◌∙◌}
+use Rattle.x25_layer.proofs.layer.Layer.room.Goals as goal
+
+pub returns-in_err-room_in_all-clause-layer : goal.returns-in_err-room_in_all-clause-layer
+returns-in_err-room_in_all-clause-layer g c = λ s l fits. record {
+  role = fits.role;
+  channels = c.room_in_all.ensures.count ∙ fits.channels;
+  restarting = fits.restarting;
+  restarts = fits.restarts;
+  circuits = c.room_in_all.ensures.fits s l.circuits fits.circuits;
+}
+
+pub returns-clause-layer : goal.returns-clause-layer
+returns-clause-layer g c = λ s l fits. c.set_aside.ensures.fits s l (record {
+  role = fits.role;
+  channels = c.room_in_all.ensures.count ∙ fits.channels;
+  restarting = fits.restarting;
+  restarts = fits.restarts;
+  circuits = c.room_in_all.ensures.fits s l.circuits fits.circuits;
+})

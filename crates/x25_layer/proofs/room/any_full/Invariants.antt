@@ -1,0 +1,13 @@
+use Rattle.std.proofs.Common.{◌≡◌, ℕ, ◌<◌, Some, false, slice_get}
+use Rattle.x25_circuit.specs.declared.circuit.Circuit as circuit_code
+use Rattle.x25_circuit.specs.Circuit.{Circuit}
+use Rattle.x25_layer.specs.Layer.{LayerSettings}
+use Rattle.x25_layer.specs.FitsLayer.{FitsCircuits, full_up_to}
+use Rattle.x25_layer.specs.Room.{HasCountsLeft}
+use Rattle.x25_layer.proofs.room.any_full.Given as goal
+
+abbrev pub invariant-loop-circuit : goal.invariant-loop-circuit
+invariant-loop-circuit l = record {
+  value : (c : LayerSettings) (f : ℕ → Circuit) → FitsCircuits c l.circuits f → l.any ≡ full_up_to f l.circuit-index;
+  left : l.any ≡ false → (k : ℕ) (v : circuit_code.Circuit) → k < l.circuit-index → slice_get l.circuits k ≡ Some v → HasCountsLeft v;
+}

@@ -1,0 +1,77 @@
+use Rattle.std.proofs.Common.{◌≡◌, ◌≤◌, ◌<◌, ℕ, suc, List, length, set, sym, subst, arith, rules}
+use Rattle.std.proofs.lemmas.List.{length-set}
+use Rattle.std.proofs.lemmas.Option.{slice_get_within, slice_get-get_or}
+use Rattle.x25_circuit.specs.declared.circuit.Circuit as circuit_code
+use Rattle.x25_circuit.specs.FitsCircuit.{FitsCircuit, room_of, clears_of, resets_of}
+use Rattle.x25_layer.specs.FitsLayer.{FitsCircuits}
+use Rattle.x25_layer.specs.Room.{HasCountsLeft, HaveCountsLeft, HaveRoom}
+use Rattle.x25_layer.proofs.FitLemmas.{written_back, all_changed, below_changed}
+use Rattle.x25_layer.proofs.room.room_in_all.Goals as goal
+
+-- the same counts
+counts_left : (v w : circuit_code.Circuit) → clears_of w ≡ clears_of v → resets_of w ≡ resets_of v → HasCountsLeft v → HasCountsLeft w
+counts_left v w clears resets left =
+    let a = left.clears in
+    let b = left.resets in
+    record { clears = omega (arith, a, clears); resets = omega (arith, b, resets) }
+
+pub loop-circuit-preserved : goal.loop-circuit-preserved
+loop-circuit-preserved c =
+    let i : ℕ = c.loop-circuit.circuit-index in
+    let found = slice_get-get_or c.loop-circuit.circuit-items i c.circuit-item.result (omega arith) in
+    record {
+      fits = λ s f fits.
+          let before = c.loop-circuit.invariant.fits s f fits in
+          all_changed (λ (k : ℕ) (v : circuit_code.Circuit). FitsCircuit s.circuit v (f (suc k))) c.loop-circuit.circuit-items i c.room.new.self before (c.room.ensures.fits s.circuit (f (suc i)) (before i _ found));
+      left = λ all.
+          let before = c.loop-circuit.invariant.left all in
+          all_changed (λ (k : ℕ) (v : circuit_code.Circuit). HasCountsLeft v) c.loop-circuit.circuit-items i c.room.new.self before (counts_left _ c.room.new.self c.room.ensures.clears c.room.ensures.resets (before i _ found));
+      enough = λ all.
+          let before = c.loop-circuit.invariant.enough all in
+          let here = before i _ found in
+          let grows = c.room.ensures.grows in
+          all_changed (λ (k : ℕ) (v : circuit_code.Circuit). c.args.len ≤ room_of v) c.loop-circuit.circuit-items i c.room.new.self before (omega (arith, here, grows));
+      room = below_changed (λ (v : circuit_code.Circuit). c.args.len ≤ room_of v) c.loop-circuit.circuit-items i c.room.new.self c.loop-circuit.invariant.room (search rules);
+    }
+
+-- ---- at a refusal
+
+pub returns-then-is_err-clause-fits : goal.returns-then-is_err-clause-fits
+returns-then-is_err-clause-fits c =
+    let i : ℕ = c.loop-circuit.circuit-index in
+    let items : List circuit_code.Circuit = set c.loop-circuit.circuit-items i c.room.new.self in
+    let found = slice_get-get_or c.loop-circuit.circuit-items i c.circuit-item.result (omega arith) in
+    let long : length items ≡ length c.loop-circuit.circuit-items = length-set c.loop-circuit.circuit-items i c.room.new.self in
+    let all = written_back c.args.circuits.now.len c.args.circuits.now.items items (omega arith) (omega (arith, long)) in
+    λ s f fits.
+    let before = c.loop-circuit.invariant.fits s f (subst (λ (vs : List circuit_code.Circuit). FitsCircuits s vs f) (sym c.deref_mut-circuit-items.ensures.value) fits) in
+    subst (λ (vs : List circuit_code.Circuit). FitsCircuits s vs f) (sym all)
+    (all_changed (λ (k : ℕ) (v : circuit_code.Circuit). FitsCircuit s.circuit v (f (suc k))) c.loop-circuit.circuit-items i c.room.new.self before (c.room.ensures.fits s.circuit (f (suc i)) (before i _ found)))
+
+pub returns-then-is_err-clause-left : goal.returns-then-is_err-clause-left
+returns-then-is_err-clause-left c =
+    let i : ℕ = c.loop-circuit.circuit-index in
+    let items : List circuit_code.Circuit = set c.loop-circuit.circuit-items i c.room.new.self in
+    let found = slice_get-get_or c.loop-circuit.circuit-items i c.circuit-item.result (omega arith) in
+    let long : length items ≡ length c.loop-circuit.circuit-items = length-set c.loop-circuit.circuit-items i c.room.new.self in
+    let all = written_back c.args.circuits.now.len c.args.circuits.now.items items (omega arith) (omega (arith, long)) in
+    λ left.
+    let before = c.loop-circuit.invariant.left (subst (λ (vs : List circuit_code.Circuit). HaveCountsLeft vs) (sym c.deref_mut-circuit-items.ensures.value) left) in
+    subst (λ (vs : List circuit_code.Circuit). HaveCountsLeft vs) (sym all)
+    (all_changed (λ (k : ℕ) (v : circuit_code.Circuit). HasCountsLeft v) c.loop-circuit.circuit-items i c.room.new.self before (counts_left _ c.room.new.self c.room.ensures.clears c.room.ensures.resets (before i _ found)))
+
+-- ---- at the end
+
+pub returns-clause-fits : goal.returns-clause-fits
+returns-clause-fits c =
+    let all = written_back c.args.circuits.now.len c.args.circuits.now.items c.loop-circuit.circuit-items (omega arith) (omega arith) in
+    λ s f fits. subst (λ (vs : List circuit_code.Circuit). FitsCircuits s vs f) (sym all)
+    (c.loop-circuit.invariant.fits s f (subst (λ (vs : List circuit_code.Circuit). FitsCircuits s vs f) (sym c.deref_mut-circuit-items.ensures.value) fits))
+
+pub returns-clause-room : goal.returns-clause-room
+returns-clause-room c =
+    let all = written_back c.args.circuits.now.len c.args.circuits.now.items c.loop-circuit.circuit-items (omega arith) (omega arith) in
+    subst (λ (vs : List circuit_code.Circuit). HaveRoom c.args.len vs) (sym all)
+    (λ k v at.
+    let low = slice_get_within c.loop-circuit.circuit-items k v at in
+    c.loop-circuit.invariant.room k v (let e : k < c.loop-circuit.circuit-index = omega (arith, low) in e) at)

@@ -1,0 +1,25 @@
+-- What the circuit of a channel answers to the user of its layer.
+use Rattle.std.specs.Prelude.{◌≡◌, ℕ, Option, Result, Err, IsOkAnd}
+use Rattle.x25_packet.specs.declared.packet.Packet.{Packet}
+use Rattle.x25_circuit.specs.Circuit.{Circuit}
+use Rattle.x25_circuit.specs.Calls.{Outcome, Done, Refused}
+use Rattle.x25_circuit.specs.Replies.{plain_owed}
+use Rattle.x25_layer.specs.declared.error.LayerError.{LayerError}
+use Rattle.x25_layer.specs.declared.error.LayerError.TheVariants as error
+use Rattle.x25_layer.specs.declared.layer.Layer as code
+use Rattle.x25_layer.specs.Layer.{LayerSettings, Layer, put_at}
+use Rattle.x25_layer.specs.FitsLayer.{FitsLayer}
+
+-- the layer with another circuit on one channel
+abbrev pub with_circuit : Layer → ℕ → Circuit → Layer
+with_circuit l h x = record { restarting = l.restarting; restarts = l.restarts; circuits = put_at l.circuits h x }
+
+-- the circuit has done what was asked and answers this packet, or it refused
+abbrev pub AsksCircuit : LayerSettings → code.Layer → Result (Option Packet) LayerError → Layer → ℕ → Outcome → Type 0
+AsksCircuit c v result l h (Done next packet) = IsOkAnd result (λ p. FitsLayer c v (with_circuit l h next) × (plain_owed p ≡ packet))
+AsksCircuit c v result l h (Refused e) = result ≡ Err (error.Circuit e)
+
+-- where memory is missing: a refusal of the circuit goes before 70
+abbrev pub error_without_memory : Outcome → LayerError
+error_without_memory (Done next packet) = error.NoMemory
+error_without_memory (Refused e) = error.Circuit e

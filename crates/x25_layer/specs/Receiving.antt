@@ -1,0 +1,38 @@
+-- What a layer makes of octets on a channel, read or not.
+use Rattle.std.specs.Prelude.{◌≢◌, ℕ, length, Bool, true, false, Result, Ok, Err, if◌then◌else◌}
+use Rattle.x25_packet.specs.declared.packet.Packet.{Packet}
+use Rattle.x25_packet.specs.declared.error.PacketError.{PacketError}
+use Rattle.x25_packet.specs.declared.error.PacketError.TheVariants as error
+use Rattle.x25_packet.specs.PlainPacket.{PlainPacket, plain}
+use Rattle.x25_packet.specs.Spelling.{HasChannel}
+use Rattle.x25_circuit.specs.Circuit.{Settings, Circuit}
+use Rattle.x25_circuit.specs.FitsCircuit.{user_octets}
+use Rattle.x25_circuit.specs.Table.{Answer, answers, undecoded}
+use Rattle.x25_layer.specs.Layer.{LayerSettings, Layer, LayerAnswer, is_channel, answers_on, drops}
+
+abbrev pub plain_read : Result Packet PacketError → Result PlainPacket PacketError
+plain_read (Ok packet) = Ok (plain packet)
+plain_read (Err e) = Err e
+
+-- a packet of a channel, or an error of octets
+abbrev pub IsOfChannel : Result PlainPacket PacketError → Type 0
+IsOfChannel (Ok packet) = HasChannel packet
+IsOfChannel (Err e) = e ≢ error.NoMemory
+
+-- how many octets of user data they bring for a message
+abbrev pub brings : Result PlainPacket PacketError → ℕ
+brings (Ok packet) = length (user_octets packet)
+brings (Err e) = 0
+
+abbrev pub circuit_hears : Settings → Circuit → Result PlainPacket PacketError → Answer
+circuit_hears c x (Ok packet) = answers c x packet
+circuit_hears c x (Err e) = undecoded c x e
+
+-- the circuit of the channel answers, in a layer that is ready
+abbrev pub channel_hears : LayerSettings → Layer → ℕ → Result PlainPacket PacketError → LayerAnswer
+channel_hears c l h read = answers_on l.restarts l.circuits h (circuit_hears c.circuit (l.circuits h) read)
+
+-- .. and where the layer isn't, or has no such channel, they are dropped
+abbrev pub hears_on : LayerSettings → Layer → Bool → ℕ → Result PlainPacket PacketError → LayerAnswer
+hears_on c l true h read = drops true l.restarts l.circuits
+hears_on c l false h read = if is_channel c.channels h then channel_hears c l h read else drops false l.restarts l.circuits

@@ -1,0 +1,29 @@
+-- What a layer is asked before a packet: whether its counts have room, and whether memory is set aside (profile).
+use Rattle.std.specs.Prelude.{◌≡◌, ℕ, ◌<◌, ◌≤◌, ◌^◌, ◌-◌, List, Some, slice_get}
+use Rattle.x25_circuit.specs.declared.circuit.Circuit as circuit_code
+use Rattle.x25_circuit.specs.FitsCircuit.{room_of, clears_of, resets_of}
+use Rattle.x25_layer.specs.declared.layer.Layer as code
+
+-- neither count of a circuit is at its most
+pub record HasCountsLeft (v : circuit_code.Circuit) : Type 0 where
+  pub clears : clears_of v < 2 ^ 64 - 1
+  pub resets : resets_of v < 2 ^ 64 - 1
+
+abbrev pub HaveCountsLeft : List circuit_code.Circuit → Type 0
+HaveCountsLeft vs = (k : ℕ) (v : circuit_code.Circuit) → slice_get vs k ≡ Some v → HasCountsLeft v
+
+-- no count of the layer is at its most
+pub record IsNotFull (v : code.Layer) : Type 0 where
+  pub restarts : v.restarts < 2 ^ 64 - 1
+  pub circuits : HaveCountsLeft v.circuits.items
+
+-- each circuit has memory for so many octets of user data of a packet
+abbrev pub HaveRoom : ℕ → List circuit_code.Circuit → Type 0
+HaveRoom len vs = (k : ℕ) (v : circuit_code.Circuit) → slice_get vs k ≡ Some v → len ≤ room_of v
+
+-- Memory is set aside for a packet of at most so many octets, or for LinkDown and LinkUp: for 16 packets that are put, in the layer
+-- and in its link (n), which are the owed one and 15 data packets, and in each circuit for the user data.
+pub record HasRoom (len : ℕ) (v : code.Layer) (n : ℕ) : Type 0 where
+  pub memory : 16 ≤ v.memory
+  pub spares : 16 ≤ n
+  pub circuits : HaveRoom len v.circuits.items

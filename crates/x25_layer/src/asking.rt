@@ -1,0 +1,125 @@
+//! What the user asks of the circuit of a channel: the steps that all calls with a channel share.
+ghost use Rattle.std.specs.Prelude.{◌≡◌, ◌≢◌, ℕ, ◌<◌, ◌≤◌, ◌&&◌, ◌==◌, length, true, false, IfErr, IfOk, OnOk, OnErr, IsErrOf};
+ghost use Rattle.x25_circuit.specs.Calls.{outcome};
+ghost use Rattle.x25_circuit.specs.Replies.{IsSendable, plain_owed};
+ghost use Rattle.x25_circuit.specs.Requests.{plain_request, MayPut};
+ghost use Rattle.x25_layer.specs.Layer.{LayerSettings, is_channel};
+ghost use Rattle.x25_layer.specs.Layer.{Layer as State};
+ghost use Rattle.x25_layer.specs.Calls.{Asks, puts_at_once, outcome_on};
+ghost use Rattle.x25_layer.specs.Rounds.{calls, went};
+ghost use Rattle.x25_layer.specs.FitsLayer.{FitsLayer};
+ghost use Rattle.x25_layer.specs.OverLink.{view_of, LayerGives, LinkGives, LacksMemory};
+ghost use Rattle.x25_layer.specs.Asking.{AsksCircuit, error_without_memory};
+
+use crate::error::LayerError;
+use crate::layer::Layer;
+use crate::putting::MOST_PUT;
+use x25_circuit::Request;
+use x25_link::OrderedLink;
+use x25_packet::Packet;
+
+// All but a message put a packet at once.
+fn puts_at_once(request: &Request<'_>) -> bool
+    ensures { result ≡ puts_at_once (plain_request request.now) }
+{
+    !matches!(request, Request::Send { .. })
+}
+
+impl Layer {
+    // The circuit of a channel does what is asked.
+    fn ask_circuit<'a>(
+        &mut self,
+        channel: u16,
+        request: Request<'a>,
+    ) -> Result<Option<Packet<'a>>, LayerError>
+        requires { is_channel (length self.old.circuits.items) channel ≡ true }
+        ensures outcome { (c : LayerSettings) (l : State) → FitsLayer c self.old l → AsksCircuit c self.new result l channel (outcome c.circuit (l.circuits channel) (plain_request request.entry)) }
+        ensures range { IfOk result (λ packet. IsSendable (plain_owed packet)) }
+        ensures at_once { IfOk result (λ packet. MayPut (plain_request request.entry) packet) }
+        ensures memory { self.new.memory ≡ self.old.memory }
+        ensures fits { (c : LayerSettings) (l : State) → FitsLayer c self.old l → OnErr result (FitsLayer c self.new l) }
+        ensures kinds { IfErr result (λ e. e ≢ LayerError.NoMemory) }
+    {
+        let place = usize::from(channel) - 1;
+        match self.circuits[place].ask(request) {
+            Ok(packet) => Ok(packet),
+            Err(error) => Err(LayerError::Circuit(error)),
+        }
+    }
+
+    // Where memory is missing for a call, a refusal of its circuit goes before 70.
+    fn without_memory(&self, channel: u16, request: &Request<'_>) -> LayerError
+        requires { is_channel (length self.now.circuits.items) channel ≡ true }
+        ensures { (c : LayerSettings) (l : State) → FitsLayer c self.now l → result ≡ error_without_memory (outcome c.circuit (l.circuits channel) (plain_request request.now)) }
+    {
+        let Some(circuit) = self.circuit(channel) else {
+            unreachable!();
+        };
+        match circuit.refusal(request) {
+            Some(error) => LayerError::Circuit(error),
+            None => LayerError::NoMemory,
+        }
+    }
+
+    /// Asks the circuit of a configured channel, where neither the link nor a restart nor a full queue refuses it.
+    pub(crate) fn ask_ready<L: OrderedLink>(
+        &mut self,
+        link: &mut L,
+        channel: u16,
+        request: Request<'_>,
+    ) -> Result<(), LayerError>
+        requires channel { is_channel (length self.old.circuits.items) channel ≡ true }
+        requires ready { self.old.restarting ≡ false }
+        requires up { L.up link.old ≡ true }
+        requires free { puts_at_once (plain_request request) ≡ true → L.waits link.old < 256 }
+        requires longest { 4099 ≤ L.longest link.old }
+        ensures layer { (c : LayerSettings) (l : State) (x : L.State) → FitsLayer c self.old l → L.fits link.old x →
+            LayerGives c self.new result (went (view_of L.up_in L.waits_in L.after_put x) c (outcome_on l.restarts l.circuits channel (outcome c.circuit (l.circuits channel) (plain_request request.entry)))) }
+        ensures link { (c : LayerSettings) (l : State) (x : L.State) → FitsLayer c self.old l → L.fits link.old x →
+            LinkGives (L.fits link.new) L.after_put x result (went (view_of L.up_in L.waits_in L.after_put x) c (outcome_on l.restarts l.circuits channel (outcome c.circuit (l.circuits channel) (plain_request request.entry)))) }
+        ensures layer_stays { (c : LayerSettings) (l : State) → FitsLayer c self.old l → OnErr result (FitsLayer c self.new l) }
+        ensures link_stays { (x : L.State) → L.fits link.old x → OnErr result (L.fits link.new x) }
+        ensures longest { L.longest link.new ≡ L.longest link.old }
+        ensures missing { IsErrOf result LayerError.NoMemory → LacksMemory 16 self.old (L.spares link.old) }
+    {
+        if self.set_aside(link, MOST_PUT).is_err() {
+            return Err(self.without_memory(channel, &request));
+        }
+        let packet = self.ask_circuit(channel, request)?;
+        self.put_owed(link, channel, packet);
+        self.pull_all(link);
+        Ok(())
+    }
+
+    /// Asks the circuit of a channel, puts its packet, where there is one, and pulls: all calls with a channel in one.
+    ///
+    /// 9 NotUp, 40 Restarting, 42 NoSuchChannel, 10 QueueFull but for a message, then as the circuit refuses it, and else 70 alone.
+    pub fn ask<L: OrderedLink>(
+        &mut self,
+        link: &mut L,
+        channel: u16,
+        request: Request<'_>,
+    ) -> Result<(), LayerError>
+        requires { 4099 ≤ L.longest link.old }
+        ensures layer { (c : LayerSettings) (l : State) (x : L.State) → FitsLayer c self.old l → L.fits link.old x → LayerGives c self.new result (calls (view_of L.up_in L.waits_in L.after_put x) c l (Asks channel (plain_request request.entry))) }
+        ensures link { (c : LayerSettings) (l : State) (x : L.State) → FitsLayer c self.old l → L.fits link.old x → LinkGives (L.fits link.new) L.after_put x result (calls (view_of L.up_in L.waits_in L.after_put x) c l (Asks channel (plain_request request.entry))) }
+        ensures layer_stays { (c : LayerSettings) (l : State) → FitsLayer c self.old l → OnErr result (FitsLayer c self.new l) }
+        ensures link_stays { (x : L.State) → L.fits link.old x → OnErr result (L.fits link.new x) }
+        ensures longest { L.longest link.new ≡ L.longest link.old }
+        ensures missing { IsErrOf result LayerError.NoMemory → LacksMemory 16 self.old (L.spares link.old) }
+    {
+        if !link.is_up() {
+            return Err(LayerError::NotUp);
+        }
+        if self.restarting {
+            return Err(LayerError::Restarting);
+        }
+        if self.circuit(channel).is_none() {
+            return Err(LayerError::NoSuchChannel);
+        }
+        if puts_at_once(&request) && link.waiting() == 256 {
+            return Err(LayerError::QueueFull);
+        }
+        self.ask_ready(link, channel, request)
+    }
+}

@@ -1,0 +1,186 @@
+//! Octets that the link handed up. ITU-T X.25 (10/96), sections 3.3 and 4, and Annex C.
+ghost use Rattle.std.specs.Prelude.{◌≡◌, ℕ, ◌+◌, ◌-◌, ◌^◌, ◌<◌, ◌≤◌, length, true, IfErr, IfOk, IsOk, OnOk, OnErr, option_to_list};
+ghost use Rattle.x25_packet.specs.Reading.{packet_of};
+ghost use Rattle.x25_circuit.specs.Circuit.{Settings};
+ghost use Rattle.x25_circuit.specs.Circuit.{Circuit as Channel};
+ghost use Rattle.x25_circuit.specs.FitsCircuit.{FitsCircuit, room_of};
+ghost use Rattle.x25_circuit.specs.Replies.{Says, IsSendable, plain_owed};
+ghost use Rattle.x25_layer.specs.Layer.{LayerSettings, is_channel};
+ghost use Rattle.x25_layer.specs.Layer.{Layer as State};
+ghost use Rattle.x25_layer.specs.FitsLayer.{FitsLayer};
+ghost use Rattle.x25_layer.specs.OverLink.{view_of, after_all};
+ghost use Rattle.x25_layer.specs.Rounds.{LinkView, answer_to, hears};
+ghost use Rattle.x25_layer.specs.Asking.{with_circuit};
+ghost use Rattle.x25_layer.specs.Room.{HasCountsLeft, HaveCountsLeft, IsNotFull, HaveRoom, HasRoom};
+ghost use Rattle.x25_layer.specs.Told.{plain_told};
+ghost use Rattle.x25_layer.specs.Receiving.{plain_read, IsOfChannel, brings, circuit_hears, hears_on};
+
+use crate::error::LayerError;
+use crate::layer::Layer;
+use crate::putting::MOST_PUT;
+use crate::told::Told;
+use x25_circuit::{Circuit, CircuitError, Reply};
+use x25_link::OrderedLink;
+use x25_packet::{Packet, PacketError, channel, decode};
+
+// The circuit takes a packet, or octets that spell none, by their error.
+fn hear_circuit<'a>(
+    circuit: &mut Circuit,
+    read: Result<Packet<'a>, PacketError>,
+) -> Result<Reply<'a>, CircuitError>
+    requires kind { IsOfChannel (plain_read read) }
+    requires left { HasCountsLeft circuit.old }
+    ensures next { (c : Settings) (x : Channel) → FitsCircuit c circuit.old x → OnOk result (FitsCircuit c circuit.new (circuit_hears c x (plain_read read.entry)).next) }
+    ensures says { (c : Settings) (x : Channel) → FitsCircuit c circuit.old x → IfOk result (λ reply. Says reply (circuit_hears c x (plain_read read.entry)).owed (circuit_hears c x (plain_read read.entry)).notices) }
+    ensures range { IfOk result (λ reply. IsSendable (plain_owed reply.packet)) }
+    ensures missing { OnErr result (room_of circuit.old < brings (plain_read read.entry)) }
+    ensures unchanged { OnErr result (circuit.new ≡ circuit.old) }
+{
+    match read {
+        Ok(packet) => circuit.packet(&packet),
+        Err(error) => Ok(circuit.undecoded(error)),
+    }
+}
+
+impl Layer {
+    // .. that of a configured channel.
+    fn hear_channel<'a>(
+        &mut self,
+        channel: u16,
+        read: Result<Packet<'a>, PacketError>,
+    ) -> Result<Reply<'a>, LayerError>
+        requires channel { is_channel (length self.old.circuits.items) channel ≡ true }
+        requires kind { IsOfChannel (plain_read read) }
+        requires left { HaveCountsLeft self.old.circuits.items }
+        ensures layer { (c : LayerSettings) (l : State) → FitsLayer c self.old l → OnOk result (FitsLayer c self.new (with_circuit l channel (circuit_hears c.circuit (l.circuits channel) (plain_read read.entry)).next)) }
+        ensures says { (c : LayerSettings) (l : State) → FitsLayer c self.old l → IfOk result (λ reply. Says reply (circuit_hears c.circuit (l.circuits channel) (plain_read read.entry)).owed (circuit_hears c.circuit (l.circuits channel) (plain_read read.entry)).notices) }
+        ensures range { IfOk result (λ reply. IsSendable (plain_owed reply.packet)) }
+        ensures memory { self.new.memory ≡ self.old.memory }
+        ensures err { IfErr result (λ e. e ≡ LayerError.NoMemory) }
+        ensures layer_stays { (c : LayerSettings) (l : State) → FitsLayer c self.old l → OnErr result (FitsLayer c self.new l) }
+        ensures enough { (len : ℕ) → brings (plain_read read.entry) ≤ len → HaveRoom len self.old.circuits.items → IsOk result }
+    {
+        let place = usize::from(channel) - 1;
+        match hear_circuit(&mut self.circuits[place], read) {
+            Ok(reply) => Ok(reply),
+            Err(_) => Err(LayerError::NoMemory),
+        }
+    }
+
+    // A packet of a channel, or octets that spell none. They are dropped while a restart is under way, and where the channel
+    // isn't configured.
+    fn hear_on<'a, L: OrderedLink>(
+        &mut self,
+        link: &mut L,
+        channel: u16,
+        read: Result<Packet<'a>, PacketError>,
+    ) -> Result<Told<'a>, LayerError>
+        requires kind { IsOfChannel (plain_read read) }
+        requires left { HaveCountsLeft self.old.circuits.items }
+        requires memory { 0 < self.old.memory }
+        requires spares { 0 < L.spares link.old }
+        requires up { L.up link.old ≡ true }
+        requires free { L.waits link.old < 256 }
+        requires longest { 4099 ≤ L.longest link.old }
+        ensures layer { (c : LayerSettings) (l : State) → FitsLayer c self.old l → OnOk result (FitsLayer c self.new (hears_on c l l.restarting channel (plain_read read.entry)).next) }
+        ensures link { (c : LayerSettings) (l : State) (x : L.State) → FitsLayer c self.old l → L.fits link.old x → OnOk result (L.fits link.new (after_all L.after_put x (option_to_list (hears_on c l l.restarting channel (plain_read read.entry)).owed))) }
+        ensures told { (c : LayerSettings) (l : State) → FitsLayer c self.old l → IfOk result (λ told. plain_told told ≡ (hears_on c l l.restarting channel (plain_read read.entry)).notices) }
+        ensures memory { OnOk result (self.old.memory ≤ self.new.memory + 1) }
+        ensures spares { OnOk result (L.spares link.old ≤ L.spares link.new + 1) }
+        ensures longest { L.longest link.new ≡ L.longest link.old }
+        ensures up { OnOk result (L.up link.new ≡ L.up link.old) }
+        ensures err { IfErr result (λ e. e ≡ LayerError.NoMemory) }
+        ensures layer_stays { (c : LayerSettings) (l : State) → FitsLayer c self.old l → OnErr result (FitsLayer c self.new l) }
+        ensures link_stays { (x : L.State) → L.fits link.old x → OnErr result (L.fits link.new x) }
+        ensures enough { (len : ℕ) → brings (plain_read read.entry) ≤ len → HaveRoom len self.old.circuits.items → IsOk result }
+    {
+        if self.restarting {
+            return Ok(Told::Nothing);
+        }
+        if self.circuit(channel).is_none() {
+            return Ok(Told::Nothing);
+        }
+        let reply = self.hear_channel(channel, read)?;
+        let Reply {
+            packet,
+            collided,
+            notice,
+        } = reply;
+        self.put_owed(link, channel, packet);
+        Ok(Told::Channel {
+            channel,
+            collided,
+            notice,
+        })
+    }
+
+    // Octets that the link handed up, whatever they are. The packet that is owed for them is put.
+    fn hear<'a, L: OrderedLink>(
+        &mut self,
+        link: &mut L,
+        octets: &'a [u8],
+    ) -> Result<Told<'a>, LayerError>
+        requires left { IsNotFull self.old }
+        requires memory { 0 < self.old.memory }
+        requires spares { 0 < L.spares link.old }
+        requires up { L.up link.old ≡ true }
+        requires free { L.waits link.old < 256 }
+        requires longest { 4099 ≤ L.longest link.old }
+        ensures layer { (c : LayerSettings) (l : State) → FitsLayer c self.old l → OnOk result (FitsLayer c self.new (answer_to c l octets.now (packet_of 16 octets.now)).next) }
+        ensures link { (c : LayerSettings) (l : State) (x : L.State) → FitsLayer c self.old l → L.fits link.old x → OnOk result (L.fits link.new (after_all L.after_put x (option_to_list (answer_to c l octets.now (packet_of 16 octets.now)).owed))) }
+        ensures told { (c : LayerSettings) (l : State) → FitsLayer c self.old l → IfOk result (λ told. plain_told told ≡ (answer_to c l octets.now (packet_of 16 octets.now)).notices) }
+        ensures memory { OnOk result (self.old.memory ≤ self.new.memory + 1) }
+        ensures spares { OnOk result (L.spares link.old ≤ L.spares link.new + 1) }
+        ensures longest { L.longest link.new ≡ L.longest link.old }
+        ensures up { OnOk result (L.up link.new ≡ L.up link.old) }
+        ensures err { IfErr result (λ e. e ≡ LayerError.NoMemory) }
+        ensures layer_stays { (c : LayerSettings) (l : State) → FitsLayer c self.old l → OnErr result (FitsLayer c self.new l) }
+        ensures link_stays { (x : L.State) → L.fits link.old x → OnErr result (L.fits link.new x) }
+        ensures enough { (len : ℕ) → length octets.now ≤ len → HaveRoom len self.old.circuits.items → IsOk result }
+    {
+        let Some(channel) = channel(octets) else {
+            return Ok(Told::Nothing);
+        };
+        let packet = match decode(octets) {
+            Ok(packet) => packet,
+            Err(error) => return self.hear_on(link, channel, Err(error)),
+        };
+        match packet {
+            Packet::Restart { cause, diagnostic } => Ok(self.hear_restart(link, cause, diagnostic)),
+            Packet::RestartConf => Ok(self.hear_restart_conf(link)),
+            _ => self.hear_on(link, channel, Ok(packet)),
+        }
+    }
+
+    /// Takes octets that the link handed up, puts the packet that is owed for them, and pulls data packets. It answers what
+    /// the users are told; a stretch has its name after the call.
+    ///
+    /// No count is full, the link is up, fewer than 256 packets wait in it, and it takes packets of 4,099 octets. Octets that
+    /// spell no packet go to the channel that the first two name. They are dropped where they name no configured channel, and,
+    /// but for RESTART and its confirmation, while this end's restart isn't confirmed.
+    ///
+    /// 70 alone, and not where `room` set memory aside. The layer and the link are as before then.
+    pub fn packet<'a, L: OrderedLink>(
+        &mut self,
+        link: &mut L,
+        octets: &'a [u8],
+    ) -> Result<Told<'a>, LayerError>
+        requires left { IsNotFull self.old }
+        requires up { L.up link.old ≡ true }
+        requires free { L.waits link.old < 256 }
+        requires longest { 4099 ≤ L.longest link.old }
+        ensures layer { (c : LayerSettings) (l : State) (x : L.State) → FitsLayer c self.old l → L.fits link.old x → OnOk result (FitsLayer c self.new (hears (view_of L.up_in L.waits_in L.after_put x) c l octets.now).step.layer) }
+        ensures link { (c : LayerSettings) (l : State) (x : L.State) → FitsLayer c self.old l → L.fits link.old x → OnOk result (L.fits link.new (after_all L.after_put x (hears (view_of L.up_in L.waits_in L.after_put x) c l octets.now).step.put)) }
+        ensures told { (c : LayerSettings) (l : State) (view : LinkView) → FitsLayer c self.old l → IfOk result (λ told. plain_told told ≡ (hears view c l octets.now).notices) }
+        ensures longest { L.longest link.new ≡ L.longest link.old }
+        ensures err { IfErr result (λ e. e ≡ LayerError.NoMemory) }
+        ensures enough { (len : ℕ) → length octets.now ≤ len → HasRoom len self.old (L.spares link.old) → IsOk result }
+        ensures layer_stays { (c : LayerSettings) (l : State) → FitsLayer c self.old l → OnErr result (FitsLayer c self.new l) }
+        ensures link_stays { (x : L.State) → L.fits link.old x → OnErr result (L.fits link.new x) }
+    {
+        self.set_aside(link, MOST_PUT)?;
+        let told = self.hear(link, octets)?;
+        self.pull_all(link);
+        Ok(told)
+    }
+}

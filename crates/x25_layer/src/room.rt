@@ -1,0 +1,82 @@
+//! What a layer is asked before a packet is handed up: whether its counts have room, and memory to be set aside.
+ghost use Rattle.std.specs.Prelude.{◌≡◌, ℕ, ◌≤◌, ◌||◌, length, false, IfErr, IsOk, OnOk, OnErr};
+ghost use Rattle.x25_circuit.specs.Circuit.{Settings};
+ghost use Rattle.x25_circuit.specs.Circuit.{Circuit as Channel};
+ghost use Rattle.x25_circuit.specs.FitsCircuit.{FitsCircuit};
+ghost use Rattle.x25_layer.specs.Layer.{LayerSettings};
+ghost use Rattle.x25_layer.specs.Layer.{Layer as State};
+ghost use Rattle.x25_layer.specs.FitsLayer.{FitsLayer, FitsCircuits, is_most, full_up_to, is_full};
+ghost use Rattle.x25_layer.specs.Room.{HasCountsLeft, HaveCountsLeft, IsNotFull, HaveRoom, HasRoom};
+
+use crate::error::LayerError;
+use crate::layer::Layer;
+use crate::putting::MOST_PUT;
+use x25_circuit::Circuit;
+use x25_link::OrderedLink;
+
+// Whether a count of the circuit is at its most.
+fn is_full(circuit: &Circuit) -> bool
+    ensures value { (c : Settings) (x : Channel) → FitsCircuit c circuit.now x → result ≡ (is_most x.clears || is_most x.resets) }
+    ensures left { result ≡ false → HasCountsLeft circuit.now }
+{
+    let (clears, resets) = circuit.counts();
+    clears == u64::MAX || resets == u64::MAX
+}
+
+// Whether a count of one of the circuits is at its most.
+fn any_full(circuits: &[Circuit]) -> bool
+    ensures value { (c : LayerSettings) (f : ℕ → Channel) → FitsCircuits c circuits.now f → result ≡ full_up_to f (length circuits.now) }
+    ensures left { result ≡ false → HaveCountsLeft circuits.now }
+{
+    let mut any = false;
+    for circuit in circuits.iter() {
+        any |= is_full(circuit);
+    }
+    any
+}
+
+// Sets memory aside in each circuit for so many octets of user data of a packet.
+fn room_in_all(circuits: &mut Vec<Circuit>, len: usize) -> Result<(), LayerError>
+    ensures fits { (c : LayerSettings) (f : ℕ → Channel) → FitsCircuits c circuits.old.items f → FitsCircuits c circuits.new.items f }
+    ensures count { length circuits.new.items ≡ length circuits.old.items }
+    ensures left { HaveCountsLeft circuits.old.items → HaveCountsLeft circuits.new.items }
+    ensures room { OnOk result (HaveRoom len circuits.new.items) }
+    ensures err { IfErr result (λ e. e ≡ LayerError.NoMemory) }
+    ensures enough { HaveRoom len circuits.old.items → IsOk result }
+{
+    for circuit in circuits.iter_mut() {
+        if circuit.room(len).is_err() {
+            return Err(LayerError::NoMemory);
+        }
+    }
+    Ok(())
+}
+
+impl Layer {
+    /// Whether a count of restarts, clears or resets is at 2^64 - 1.
+    pub fn full(&self) -> bool
+        ensures value { (c : LayerSettings) (l : State) → FitsLayer c self.now l → result ≡ is_full c l }
+        ensures left { result ≡ false → IsNotFull self.now }
+    {
+        self.restarts == u64::MAX || any_full(&self.circuits)
+    }
+
+    /// Sets memory aside, here and in the link, for one `packet` of at most `len` octets, or for `up`, or for `down` and then
+    /// `up`, which are then not refused with 70. It changes nothing else.
+    ///
+    /// 70 alone, and only where less was set aside.
+    pub fn room<L: OrderedLink>(&mut self, link: &mut L, len: usize) -> Result<(), LayerError>
+        ensures layer { (c : LayerSettings) (l : State) → FitsLayer c self.old l → FitsLayer c self.new l }
+        ensures link { (x : L.State) → L.fits link.old x → L.fits link.new x }
+        ensures room { OnOk result (HasRoom len self.new (L.spares link.new)) }
+        ensures left { IsNotFull self.old → IsNotFull self.new }
+        ensures longest { L.longest link.new ≡ L.longest link.old }
+        ensures waits { L.waits link.new ≡ L.waits link.old }
+        ensures up { L.up link.new ≡ L.up link.old }
+        ensures enough { HasRoom len self.old (L.spares link.old) → IsOk result }
+        ensures err { IfErr result (λ e. e ≡ LayerError.NoMemory) }
+    {
+        room_in_all(&mut self.circuits, len)?;
+        self.set_aside(link, MOST_PUT)
+    }
+}

@@ -1,0 +1,108 @@
+//! Rounds of pulls of data packets (profile): channels in rising order, one packet each, until a round gives none.
+ghost use Rattle.std.specs.Prelude.{◌≡◌, ℕ, ◌+◌, ◌<◌, ◌≤◌, length, Bool, true, false, nat_lt, None, option_to_list};
+ghost use Rattle.x25_packet.specs.Spelling.{IsChannel};
+ghost use Rattle.x25_circuit.specs.Circuit.{Settings};
+ghost use Rattle.x25_circuit.specs.Circuit.{Circuit as Channel};
+ghost use Rattle.x25_circuit.specs.FitsCircuit.{FitsCircuit};
+ghost use Rattle.x25_layer.specs.Layer.{LayerSettings, packet_on};
+ghost use Rattle.x25_layer.specs.FitsLayer.{FitsLayer};
+ghost use Rattle.x25_layer.specs.OverLink.{view_of, after_all};
+ghost use Rattle.x25_layer.specs.Rounds.{Putting, round, rounds};
+ghost use Rattle.x25_layer.specs.Pulling.{IsEnough, pulled_where, Stands};
+
+use crate::layer::{LONGEST_PACKET, Layer};
+use crate::putting::put;
+use x25_circuit::Circuit;
+use x25_link::{Blanks, OrderedLink};
+
+/// A data packet is pulled where fewer packets than these wait in the link.
+const FEW: usize = 8;
+
+/// The octets of a data packet before its user data.
+const HEADER_OCTETS: usize = 3;
+
+// Whether fewer than 8 packets wait in the link. Memory that was set aside for 15 packets lasts as long as that.
+fn may_pull<L: OrderedLink>(link: &L, memory: &Blanks<LONGEST_PACKET>) -> bool
+    ensures few { result ≡ true → L.waits link.now < 8 }
+    ensures memory { result ≡ true → 0 < memory.now }
+    ensures spares { result ≡ true → 0 < L.spares link.now }
+    ensures state { (y : L.State) → L.fits link.now y → IsEnough (L.lists y) memory.now → IsEnough (L.lists y) (L.spares link.now) → result ≡ nat_lt (L.waits_in y) 8 }
+{
+    link.waiting() < FEW && memory.promised() > 0 && link.spare() > 0
+}
+
+// Puts the next data packet of a circuit, where it may send one and fewer than 8 packets wait in the link: whether it did.
+fn pull_one<L: OrderedLink>(
+    circuit: &mut Circuit,
+    channel: u16,
+    link: &mut L,
+    memory: &mut Blanks<LONGEST_PACKET>,
+) -> bool
+    requires channel { IsChannel channel }
+    requires up { L.up link.old ≡ true }
+    requires longest { 4099 ≤ L.longest link.old }
+    ensures circuit { (c : Settings) (x : Channel) (y : L.State) → FitsCircuit c circuit.old x → L.fits link.old y → IsEnough (L.lists y) memory.old → IsEnough (L.lists y) (L.spares link.old) → FitsCircuit c circuit.new (pulled_where (nat_lt (L.waits_in y) 8) c x).next }
+    ensures link { (c : Settings) (x : Channel) (y : L.State) → FitsCircuit c circuit.old x → L.fits link.old y → IsEnough (L.lists y) memory.old → IsEnough (L.lists y) (L.spares link.old) → L.fits link.new (after_all L.after_put y (option_to_list (packet_on channel (pulled_where (nat_lt (L.waits_in y) 8) c x).packet))) }
+    ensures none { (c : Settings) (x : Channel) (y : L.State) → FitsCircuit c circuit.old x → L.fits link.old y → IsEnough (L.lists y) memory.old → IsEnough (L.lists y) (L.spares link.old) → result ≡ false → (pulled_where (nat_lt (L.waits_in y) 8) c x).packet ≡ None }
+    ensures memory { (c : Settings) (x : Channel) (y : L.State) → FitsCircuit c circuit.old x → L.fits link.old y → IsEnough (L.lists y) memory.old → IsEnough (L.lists y) (L.spares link.old) → memory.old ≤ memory.new + length (option_to_list (pulled_where (nat_lt (L.waits_in y) 8) c x).packet) }
+    ensures spares { (c : Settings) (x : Channel) (y : L.State) → FitsCircuit c circuit.old x → L.fits link.old y → IsEnough (L.lists y) memory.old → IsEnough (L.lists y) (L.spares link.old) → L.spares link.old ≤ L.spares link.new + length (option_to_list (pulled_where (nat_lt (L.waits_in y) 8) c x).packet) }
+    ensures no_more { memory.new ≤ memory.old }
+    ensures fewer { result ≡ true → memory.new < memory.old }
+    ensures longest { L.longest link.new ≡ L.longest link.old }
+    ensures up { L.up link.new ≡ L.up link.old }
+{
+    if !may_pull(link, memory) {
+        return false;
+    }
+    let Some(data) = circuit.pull() else {
+        return false;
+    };
+    let packet = data.packet().with_channel(channel);
+    put(memory, link, &packet, HEADER_OCTETS + data.user.len());
+    true
+}
+
+// One round: whether a packet was put.
+fn round<L: OrderedLink>(
+    circuits: &mut Vec<Circuit>,
+    link: &mut L,
+    memory: &mut Blanks<LONGEST_PACKET>,
+) -> bool
+    requires few { length circuits.old.items ≤ 16 }
+    requires up { L.up link.old ≡ true }
+    requires longest { 4099 ≤ L.longest link.old }
+    ensures stands { (c : LayerSettings) (x : L.State) (s : Putting) → Stands (L.fits link.old) L.lists L.after_put c circuits.old.items memory.old (L.spares link.old) x s →
+        Stands (L.fits link.new) L.lists L.after_put c circuits.new.items memory.new (L.spares link.new) x (round (view_of L.up_in L.waits_in L.after_put x) c c.channels s) }
+    ensures none { (c : LayerSettings) (x : L.State) (s : Putting) → Stands (L.fits link.old) L.lists L.after_put c circuits.old.items memory.old (L.spares link.old) x s →
+        result ≡ false → round (view_of L.up_in L.waits_in L.after_put x) c c.channels s ≡ s }
+    ensures count { length circuits.new.items ≡ length circuits.old.items }
+    ensures fewer { result ≡ true → memory.new < memory.old }
+    ensures longest { L.longest link.new ≡ L.longest link.old }
+    ensures up { L.up link.new ≡ L.up link.old }
+{
+    let mut channel = 0;
+    let mut is_put = false;
+    for circuit in circuits.iter_mut() {
+        channel += 1;
+        is_put |= pull_one(circuit, channel, link, memory);
+    }
+    is_put
+}
+
+impl Layer {
+    /// Puts the data packets of all channels, in rounds, while fewer than 8 packets wait in the link.
+    ///
+    /// There are at most 15: each is pulled where fewer than 8 packets wait, and of those that don't wait at most 7 aren't
+    /// acknowledged.
+    pub(crate) fn pull_all<L: OrderedLink>(&mut self, link: &mut L)
+        requires up { L.up link.old ≡ true }
+        requires longest { 4099 ≤ L.longest link.old }
+        requires memory { 15 ≤ self.old.memory }
+        requires spares { 15 ≤ L.spares link.old }
+        ensures layer { (c : LayerSettings) (s : Putting) (x : L.State) → FitsLayer c self.old s.layer → L.fits link.old (after_all L.after_put x s.put) → FitsLayer c self.new (rounds (view_of L.up_in L.waits_in L.after_put x) c s).layer }
+        ensures link { (c : LayerSettings) (s : Putting) (x : L.State) → FitsLayer c self.old s.layer → L.fits link.old (after_all L.after_put x s.put) → L.fits link.new (after_all L.after_put x (rounds (view_of L.up_in L.waits_in L.after_put x) c s).put) }
+        ensures longest { L.longest link.new ≡ L.longest link.old }
+    {
+        while round(&mut self.circuits, link, &mut self.memory) {}
+    }
+}

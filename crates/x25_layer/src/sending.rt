@@ -1,0 +1,75 @@
+//! What a layer makes of a circuit's packet before it is put.
+ghost use Rattle.std.specs.Prelude.{◌≡◌, ℕ, ◌+◌, ◌<◌, ◌≤◌, length, true, option_to_list, IfSome};
+ghost use Rattle.x25_packet.specs.PlainPacket.{plain};
+ghost use Rattle.x25_packet.specs.Spelling.{IsChannel, IsInRange, moved_to, spelling_of};
+ghost use Rattle.x25_circuit.specs.Replies.{IsSendable, plain_owed};
+ghost use Rattle.x25_layer.specs.Layer.{LayerSettings, packet_on};
+ghost use Rattle.x25_layer.specs.Layer.{Layer as State};
+ghost use Rattle.x25_layer.specs.FitsLayer.{FitsLayer};
+ghost use Rattle.x25_layer.specs.OverLink.{after_all};
+
+use crate::layer::Layer;
+use x25_link::OrderedLink;
+use x25_packet::Packet;
+
+/// The octets of a data packet before its user data. ITU-T X.25 (10/96), section 5.3.1.
+const DATA_HEADER: usize = 3;
+
+/// The most octets of a packet other than DATA, which are those of a CALL: 3, an address block of 16, a facility field of
+/// 6 behind its length, and 16 of user data.
+const MOST_OTHER: usize = 42;
+
+/// The packet on this channel. RESTART and its confirmation, which no circuit sends, stay on channel 0.
+pub(crate) fn on_channel<'a>(packet: Packet<'a>, channel: u16) -> Packet<'a>
+    requires { IsChannel channel }
+    ensures moved { plain result ≡ moved_to channel (plain packet.entry) }
+    ensures range { (most : ℕ) → IsInRange most (plain packet.entry) → IsInRange most (plain result) }
+{
+    match packet {
+        Packet::Restart { .. } | Packet::RestartConf => packet,
+        _ => packet.with_channel(channel),
+    }
+}
+
+/// For how many octets memory is taken for a packet.
+pub(crate) fn most_octets(packet: &Packet) -> usize
+    requires { IsInRange 16 (plain packet.now) }
+    ensures enough { length (spelling_of (plain packet.now)) ≤ result }
+    ensures short { result ≤ 4099 }
+{
+    match packet {
+        Packet::Data { user, .. } => DATA_HEADER + user.len(),
+        _ => MOST_OTHER,
+    }
+}
+
+impl Layer {
+    /// Puts a circuit's packet, where there is one, on its channel into the link, in memory that was set aside.
+    pub(crate) fn put_owed<L: OrderedLink>(
+        &mut self,
+        link: &mut L,
+        channel: u16,
+        packet: Option<Packet<'_>>,
+    )
+        requires channel { IsChannel channel }
+        requires range { IsSendable (plain_owed packet) }
+        requires memory { 0 < self.old.memory }
+        requires spares { 0 < L.spares link.old }
+        requires up { L.up link.old ≡ true }
+        requires free { IfSome packet (λ _. L.waits link.old < 256) }
+        requires longest { 4099 ≤ L.longest link.old }
+        ensures fits { (c : LayerSettings) (l : State) → FitsLayer c self.old l → FitsLayer c self.new l }
+        ensures memory { self.old.memory ≤ self.new.memory + 1 }
+        ensures link { (x : L.State) → L.fits link.old x → L.fits link.new (after_all L.after_put x (option_to_list (packet_on channel (plain_owed packet.entry)))) }
+        ensures spares { L.spares link.old ≤ L.spares link.new + 1 }
+        ensures longest { L.longest link.new ≡ L.longest link.old }
+        ensures up { L.up link.new ≡ L.up link.old }
+    {
+        let Some(packet) = packet else {
+            return;
+        };
+        let packet = on_channel(packet, channel);
+        let most = most_octets(&packet);
+        self.put(link, &packet, most);
+    }
+}

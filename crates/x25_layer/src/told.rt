@@ -1,0 +1,27 @@
+use x25_circuit::Notice;
+
+/// What octets that were handed up told the users. Addresses and user data are borrowed from the octets; a message is handed
+/// over whole.
+#[derive(Debug, Drop)]
+pub enum Told<'a> {
+    /// Nothing: they were dropped.
+    Nothing,
+    /// The user of a channel, by its notice, where there is one.
+    Channel {
+        channel: u16,
+        /// Before it: this end's own call was dropped for the one of the notice.
+        collided: bool,
+        notice: Option<Notice<'a>>,
+    },
+    /// The other end restarted all channels.
+    Restarted {
+        cause: u8,
+        diagnostic: u8,
+    },
+    /// This end's restart is confirmed.
+    RestartDone,
+    /// A RESTART CONFIRMATION of no restart, which this end reports to the other by this diagnostic.
+    Fault {
+        diagnostic: u8,
+    },
+}

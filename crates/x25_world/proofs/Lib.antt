@@ -1,0 +1,15 @@
+pub mod Reaches
+pub mod Known
+pub mod Joined
+pub mod LinkSteps
+pub mod Follows
+pub mod Timers
+pub mod NoUps
+pub mod Requests
+pub mod Receives
+pub mod Runs
+pub mod Start
+pub mod Lawful
+pub mod QuietTap
+pub mod Headline
+pub mod RowLemmas

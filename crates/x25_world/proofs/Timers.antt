@@ -1,0 +1,67 @@
+-- Timer T1 runs out, and the link is disconnected: the link's step, and then the layer.
+use Rattle.std.proofs.Common.{◌≡◌, ℕ, ◌+◌, List, [], ◌∷◌, Bool, true, false, nat_lt, if◌then◌else◌, Option, Some, None, refl, subst}
+use Rattle.x25_bits.specs.declared.role.Role.{Role}
+use Rattle.x25_link.specs.declared.error.LinkError.{LinkError}
+use Rattle.x25_link.specs.declared.phase.Reason.TheVariants.{Retries}
+use Rattle.x25_link.specs.Station.{Settings as LinkSettings, Station as LinkStation, with_near}
+use Rattle.x25_link.specs.MustSend.{Step as LinkStep, quiet, leaves}
+use Rattle.x25_link.specs.Steps.{alone, closed_by, asks_again, timer_refusal, timer_step, disconnect_refusal, disconnect_step}
+use Rattle.x25_line.specs.Stations as line
+use Rattle.x25_station.specs.declared.config.Cfg.{Cfg}
+use Rattle.x25_station.specs.Settings.{settings_from}
+use Rattle.x25_station.specs.Command.{Disconnects}
+use Rattle.x25_station.specs.Entries.{disconnect_asked}
+use Rattle.x25_station.specs.Steps.{Step, follows, led_by, fires, disconnects, unless}
+use Rattle.x25_station.specs.KeepLaw.{KeptBy}
+use Rattle.x25_world.specs.World.{World, of_station, after}
+use Rattle.x25_world.specs.Claims.{link_of}
+use Rattle.x25_world.proofs.Reaches.{LinksReach, link_acts}
+use Rattle.x25_world.proofs.Known.{Laws, IsConfigured}
+use Rattle.x25_world.proofs.Joined.{Joined}
+use Rattle.x25_world.proofs.Follows.{follows_joined}
+
+timer_packet : (c : LinkSettings) (s : LinkStation) → (timer_step c s).packet ≡ None
+timer_packet c s = by (nat_lt s.tries c.retries)
+  where
+    by : (b : Bool)
+        → (closed_by c.window (if b then quiet (asks_again s.phase (with_near (alone s) (record s { tries = s.tries + 1 }))) else leaves Retries (alone s))).packet ≡ None
+    by true = refl
+    by false = refl
+
+module _ (laws : Laws) (cfg : Cfg) (fine : IsConfigured cfg) (end : Role) (w : World) (h : Joined cfg end w) where
+  -- the link's act, where it isn't refused
+  reached_unless : (refusal : LinkStation → Option LinkError) (step : LinkStation → LinkStep)
+      → LinksReach cfg end (line.unless (refusal h.links.near.station) h.links (line.after_step (link_of cfg end) h.links h.links.back [] (step h.links.near.station)))
+      → refusal w.near.link ≡ None → LinksReach cfg end (line.after_step (link_of cfg end) h.links w.back [] (step w.near.link))
+  reached_unless refusal step reach none =
+      let there = subst (λ (s : LinkStation). LinksReach cfg end (line.unless (refusal s) h.links (line.after_step (link_of cfg end) h.links h.links.back [] (step s)))) h.near.link reach in
+      let done = subst (λ (o : Option LinkError). LinksReach cfg end (line.unless o h.links (line.after_step (link_of cfg end) h.links h.links.back [] (step w.near.link)))) none there in
+      subst (λ (back : List (List ℕ)). LinksReach cfg end (line.after_step (link_of cfg end) h.links back [] (step w.near.link))) h.back done
+
+  pub fires_joined : Joined cfg end (after w (of_station (settings_from end cfg) w (fires (settings_from end cfg) w.near)))
+  fires_joined = by (timer_refusal w.near.link) refl
+    where
+      step : Step
+      step = follows (settings_from end cfg) w.near.layer (timer_step (link_of cfg end) w.near.link)
+
+      by : (o : Option LinkError) → timer_refusal w.near.link ≡ o → Joined cfg end (after w (of_station (settings_from end cfg) w (unless o step)))
+      by (Some e) is = h
+      by None is =
+          follows_joined laws cfg fine end w h false w.back (timer_step (link_of cfg end) w.near.link)
+          (reached_unless timer_refusal (timer_step (link_of cfg end)) (link_acts cfg end line.T1 h.links h.links_reach) is)
+          (timer_packet (link_of cfg end) w.near.link) (laws.timer_tells (link_of cfg end) w.near.link)
+          (subst (λ (o : Option LinkError). KeptBy (unless o step)) is (laws.timer_keeps (settings_from end cfg) w.near h.near.kept))
+
+  pub disconnects_joined : Joined cfg end (after w (of_station (settings_from end cfg) w (disconnects (settings_from end cfg) w.near)))
+  disconnects_joined = by (disconnect_refusal w.near.link.phase) refl
+    where
+      step : Step
+      step = led_by (disconnect_asked ∷ []) (follows (settings_from end cfg) w.near.layer (disconnect_step (link_of cfg end) w.near.link))
+
+      by : (o : Option LinkError) → disconnect_refusal w.near.link.phase ≡ o → Joined cfg end (after w (of_station (settings_from end cfg) w (unless o step)))
+      by (Some e) is = h
+      by None is =
+          follows_joined laws cfg fine end w h true w.back (disconnect_step (link_of cfg end) w.near.link)
+          (reached_unless (λ (s : LinkStation). disconnect_refusal s.phase) (disconnect_step (link_of cfg end)) (link_acts cfg end line.Disconnect h.links h.links_reach) is)
+          refl (laws.disconnect_tells (link_of cfg end) w.near.link)
+          (subst (λ (o : Option LinkError). KeptBy (unless o step)) is (laws.command_keeps (settings_from end cfg) w.near Disconnects h.near.kept))

@@ -1,0 +1,4 @@
+pub mod WorldError
+pub mod World
+pub mod Claims
+pub mod WorldRows

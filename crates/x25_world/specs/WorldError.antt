@@ -1,0 +1,12 @@
+-- The number of each refusal of a world (profile).
+use Rattle.std.specs.Prelude.{ℕ}
+use Rattle.x25_world.specs.declared.error.WorldError.{WorldError}
+use Rattle.x25_world.specs.declared.error.WorldError.TheVariants.{BadConfig, Empty, NoSuchFrame, Unseen, Station, NoMemory}
+
+abbrev pub number_of : WorldError → ℕ
+number_of BadConfig = 14
+number_of Empty = 50
+number_of NoSuchFrame = 51
+number_of Unseen = 52
+number_of (Station error) = 53
+number_of NoMemory = 70

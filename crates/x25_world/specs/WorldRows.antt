@@ -1,0 +1,83 @@
+-- Worked rows of two stations over a line: their octets, a message that arrives, and what is lost, damaged or refused.
+use Rattle.std.specs.Prelude.{◌≡◌, ℕ, zero, suc, true, false, List, [], ◌∷◌, ◌++◌, Some, codes}
+use Rattle.x25_bits.specs.declared.role.Role.{Role}
+use Rattle.x25_bits.specs.declared.role.Role.TheVariants.{Dte, Dce}
+use Rattle.x25_link.specs.declared.error.LinkError.TheVariants as link_error
+use Rattle.x25_link.specs.declared.phase.Reason.TheVariants.{Local, Disc}
+use Rattle.x25_circuit.specs.Calls.{Accepts, Sends}
+use Rattle.x25_epochs.specs.Names.{Name}
+use Rattle.x25_layer.specs.Calls.{LayerRequest, Asks, Dials}
+use Rattle.x25_layer.specs.Transcript.{under, messages_in}
+use Rattle.x25_station.specs.declared.config.Cfg.{Cfg}
+use Rattle.x25_station.specs.declared.error.StationError.TheVariants as station_error
+use Rattle.x25_station.specs.Command.{Requests, Disconnects}
+use Rattle.x25_station.specs.Entries.{disconnect_asked, link_up, link_down, was_restarted}
+use Rattle.x25_station.specs.Settings.{settings_from}
+use Rattle.x25_station.specs.Told.{is_idle, stretch}
+use Rattle.x25_world.specs.declared.error.WorldError.TheVariants as error
+use Rattle.x25_world.specs.World.{World, Act, Commands, Receives, Fires, Loses, Damages, Event, happens, refusal_of, run, start}
+use Rattle.x25_world.specs.Claims.{handed_at}
+
+abbrev pub two_channels : Cfg
+two_channels = record { k = 7; n2 = 10; channels = 2 }
+
+abbrev pub event : Role → Act → Event
+event at act = record { at = at; act = act }
+
+abbrev pub asks : Role → LayerRequest → Event
+asks at request = event at (Commands (Requests request))
+
+-- so many deliveries at each end by turns; where nothing is on the line, nothing changes
+abbrev pub delivers : ℕ → List Event
+delivers zero = []
+delivers (suc n) = event Dce Receives ∷ event Dte Receives ∷ delivers n
+
+-- ---- set-up: SABM, UA, RESTART of the DCE with cause 7, and of the DTE with cause 0
+
+abbrev pub SetsUp : Type 0
+SetsUp =
+    (start two_channels).tap ≡ record { from = Dte; octets = 1 ∷ 63 ∷ 235 ∷ 223 ∷ [] } ∷ record { from = Dce; octets = 1 ∷ 115 ∷ 131 ∷ 87 ∷ [] }
+    ∷ record { from = Dce; octets = 3 ∷ 0 ∷ 16 ∷ 0 ∷ 251 ∷ 7 ∷ 0 ∷ 196 ∷ 120 ∷ [] } ∷ record { from = Dte; octets = 1 ∷ 0 ∷ 16 ∷ 0 ∷ 251 ∷ 0 ∷ 0 ∷ 119 ∷ 2 ∷ [] } ∷ []
+
+-- ---- a call of the DTE, on the highest channel, and a message
+
+abbrev pub called : World
+called = run two_channels (delivers 3 ++ asks Dte (Dials (codes "123") (codes "4567") (65 ∷ [])) ∷ delivers 2 ++ asks Dce (Asks 2 Accepts) ∷ delivers 2) (start two_channels)
+
+abbrev pub sends_hi : Event
+sends_hi = asks Dte (Asks 2 (Sends false (codes "hi")))
+
+abbrev pub first_name : Name
+first_name = record { restarts = 1; clears = 0; resets = 0 }
+
+-- the message was handed up at the DCE, once, and the DTE is idle in that stretch
+abbrev pub HasArrived : World → Type 0
+HasArrived w =
+    ((messages_in (under 2 first_name (handed_at Dce w))).up ≡ record { q = false; user = codes "hi" } ∷ []) × (is_idle (settings_from Dte two_channels) w.near ≡ true)
+    × (stretch (settings_from Dte two_channels) w.near 2 ≡ Some first_name) × (stretch (settings_from Dce two_channels) w.far 2 ≡ Some first_name)
+
+abbrev pub MessageArrives : Type 0
+MessageArrives = HasArrived (run two_channels (sends_hi ∷ delivers 2) called)
+
+-- its frame is lost, or damaged; timer T1 runs out, and it comes again
+abbrev pub LostArrives : Type 0
+LostArrives = HasArrived (run two_channels (sends_hi ∷ event Dce (Loses 0) ∷ event Dte Fires ∷ delivers 4) called)
+
+abbrev pub DamagedArrives : Type 0
+DamagedArrives = HasArrived (run two_channels (sends_hi ∷ event Dce (Damages 0 (1 ∷ 2 ∷ 3 ∷ 4 ∷ [])) ∷ event Dte Fires ∷ delivers 4) called)
+
+-- ---- `disconnect`: the link goes down at both ends, at the DCE behind the RESTART that came before
+
+abbrev pub DisconnectEndsBoth : Type 0
+DisconnectEndsBoth =
+    (run two_channels (event Dte (Commands Disconnects) ∷ delivers 2) (start two_channels)).transcript ≡ record { at = Dce; entry = link_up } ∷ record { at = Dte; entry = link_up }
+    ∷ record { at = Dte; entry = disconnect_asked } ∷ record { at = Dte; entry = link_down Local } ∷ record { at = Dce; entry = was_restarted 0 0 }
+    ∷ record { at = Dce; entry = link_down Disc } ∷ []
+
+-- ---- refusals: an empty line, no such frame, damage that can't be seen, and those of the station
+
+abbrev pub IsRefused : Type 0
+IsRefused =
+    (refusal_of (happens two_channels called (event Dce Receives)) ≡ Some error.Empty) × (refusal_of (happens two_channels called (event Dce (Loses 0))) ≡ Some error.NoSuchFrame)
+    × (refusal_of (happens two_channels (start two_channels) (event Dce (Damages 0 (1 ∷ 63 ∷ 235 ∷ 223 ∷ [])))) ≡ Some error.Unseen)
+    × (refusal_of (happens two_channels called (event Dte Fires)) ≡ Some (error.Station (station_error.Link link_error.NotRunning)))

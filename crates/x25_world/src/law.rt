@@ -1,0 +1,71 @@
+//! Two stations over a line, as laws about their definition. Each is the contract of a function that does nothing.
+ghost use Rattle.x25_station.specs.ReadLaw.{AreOctets};
+ghost use Rattle.x25_world.specs.World.{event_of};
+ghost use Rattle.x25_world.specs.WorldRows.{SetsUp, MessageArrives, LostArrives, DamagedArrives, DisconnectEndsBoth, IsRefused};
+ghost use Rattle.x25_world.specs.Claims.{ActsInOctets, Always, IsLawful, IsNamed, ArrivesAll, HasNoProcedureError, IsInWindow, IsUpOnce};
+
+use crate::Event;
+use x25_frame::reads_what_is_spelled;
+use x25_layer::{names_are_told, two_layers_keep_order};
+use x25_line::stations_keep_order;
+use x25_link::{notes_what_changes, sets_up_by_rows};
+use x25_station::{Cmd, puts_are_readable, steps_are_joined, steps_keep_bounds};
+
+/// Two stations joined by a line of octets that keeps order and may lose or visibly damage any frame, the link set up once: what
+/// holds after each list of commands, deliveries, losses, damage and firings of timer T1, wherever an event is refused.
+///
+/// - `lawful`: on each channel and under each name of a stretch, the messages, interrupts and calls that an end hands up are a
+///   beginning of those that the other handed down: each comes once, in order, whole, and none of another call.
+/// - `named`: the name of the stretch on a channel, where the link is up, is the restarts, clears and resets that the transcript tells of.
+/// - `arrives`: what is handed up is all of the messages and interrupts of a stretch, where the end that gives is idle and both ends have that stretch
+///   open.
+/// - `quiet`: no FRMR, no CLEAR, RESET or RESTART with a cause of an error was ever put on the line, and no user was told of a fault.
+/// - `window`: the two links are a run of the window machine, with the unbounded numbers behind those on the line in its window.
+/// - `up_once`: LinkUp is noted once at each end, in set-up.
+///
+/// Premises: k is 1 to 7, N2 1 to 255, channels 1 to 16, and the users hand down octets.
+pub fn two_stations_keep_order()
+    ensures lawful { Always IsLawful }
+    ensures named { Always IsNamed }
+    ensures arrives { Always ArrivesAll }
+    ensures quiet { Always HasNoProcedureError }
+    ensures window { Always IsInWindow }
+    ensures up_once { Always IsUpOnce }
+{
+    stations_keep_order();
+    two_layers_keep_order();
+    names_are_told();
+    steps_are_joined();
+    steps_keep_bounds();
+    puts_are_readable();
+    notes_what_changes();
+    sets_up_by_rows();
+    reads_what_is_spelled();
+}
+
+/// Worked rows: the octets of set-up; a message that arrives, also where its frame is lost or damaged and goes again; `disconnect`,
+/// by which both ends go down; and refusals.
+pub fn two_stations_move()
+    ensures sets_up { SetsUp }
+    ensures arrives { MessageArrives }
+    ensures lost { LostArrives }
+    ensures damaged { DamagedArrives }
+    ensures disconnect { DisconnectEndsBoth }
+    ensures refused { IsRefused }
+{}
+
+/// What an event hands down is octets, as the laws above want it.
+pub fn hands_down_octets(event: Event)
+    ensures { ActsInOctets (event_of event.entry).act }
+{
+    match event {
+        Event::Command(_, Cmd::Call { user, .. }) => are_octets(user),
+        Event::Command(_, Cmd::Send { user, .. }) => are_octets(user),
+        Event::Command(_, Cmd::Interrupt { user, .. }) => are_octets(user),
+        _ => {}
+    }
+}
+
+fn are_octets(octets: &[u8])
+    ensures { AreOctets octets.now }
+{}
