@@ -51,8 +51,8 @@ fn told_text(alloc: Global, told: &Told) -> Result<String, AllocError> {
     }
 }
 
-// Hands octets, in hexadecimal, up to a layer that may take them. The text says what its users are told.
-fn takes<L: OrderedLink>(
+/// Hands octets, in hexadecimal, up to a layer that may take them. The text says what its users are told.
+pub fn takes<L: OrderedLink>(
     alloc: Global,
     layer: &mut Layer,
     link: &mut L,
