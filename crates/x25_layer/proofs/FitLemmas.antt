@@ -61,9 +61,6 @@ fits_push c vs v f fits fit k w is = by (get_push vs v w k is)
     by (inl e) = fits k w e
     by (inr p) = subst (λ (x : circuit_code.Circuit). FitsCircuit c.circuit x (f (suc k))) p.1 (subst (λ (n : ℕ). FitsCircuit c.circuit v (f (suc n))) (sym p.0) fit)
 
-pub fits_nothing : (c : LayerSettings) (f : ℕ → Circuit) → FitsCircuits c [] f
-fits_nothing c f k w is = absurd (none-some w is)
-
 -- the name of a configured channel
 pub named : (c : LayerSettings) (v : code.Layer) (l : Layer) (h : ℕ) → FitsLayer c v l → is_channel (length v.circuits.items) h ≡ true → Some (name_of l h) ≡ name_at c l h
 named c v l h fits is =
@@ -131,11 +128,6 @@ pub looked_up : (c : LayerSettings) (v : code.Layer) (l : Layer) (h : ℕ) (xs :
 looked_up c v l h xs None Y fits low same read within = tt
 looked_up c v l h xs (Some x) Y fits low same read within =
     fits_found c v l h x.now fits low (subst (λ (ys : List circuit_code.Circuit). slice_get ys (h - 1) ≡ Some x.now) same (read_at xs (h - 1) x.now within.0 read))
-
--- memory alone has changed
-pub fits_memory : (c : LayerSettings) (v v₂ : code.Layer) (l : Layer) → v₂ ≡ record v { memory = v₂.memory } → FitsLayer c v l → FitsLayer c v₂ l
-fits_memory c v v₂ l same fits =
-    subst (λ (w : code.Layer). FitsLayer c w l) (sym same) (record { role = fits.role; channels = fits.channels; restarting = fits.restarting; restarts = fits.restarts; circuits = fits.circuits })
 
 pub on_err : {T E : Type 0} (r : Result T E) {P : Type 0} → P → OnErr r P
 on_err (Ok x) p = tt

@@ -1,10 +1,11 @@
 //! The user's calls with a channel, over links that keep order.
 ghost use Rattle.std.specs.Prelude.{◌≤◌};
 
+use crate::hearing::takes;
 use std::alloc::Global;
 use std::process::Abort;
 use std::test::Fail;
-use x25_circuit::CircuitError;
+use x25_circuit::{CircuitError, Request};
 use x25_layer::{Layer, LayerError, Role};
 use x25_link::{Link, OrderedLink, PlainLink};
 
@@ -207,5 +208,112 @@ fn a_call_is_cleared(rt: HostRuntime) -> Result<(), Fail> {
     for octets in ["10010b0000", "10020b0000", "1001130000", "1002130000"] {
         puts(&rt, rt.alloc(), &mut link, octets)?;
     }
+    Ok(())
+}
+
+// A layer with a call on channel 1, which the other end has accepted.
+fn opened(alloc: Global) -> Result<Layer, Fail> {
+    let mut layer = Layer::new(alloc, Role::Dce, 2)?;
+    let mut link = PlainLink::new(alloc)?;
+    layer.call(&mut link, "", "", &[])?;
+    takes(alloc, &mut layer, &mut link, "10010f")?;
+    Ok(layer)
+}
+
+#[test]
+fn each_call_puts_its_packet_on_its_channel(rt: HostRuntime) -> Result<(), Fail> {
+    for (ask, octets) in [
+        (Ask::Clear, "1001130000"),
+        (Ask::Send, "100100"),
+        (Ask::Interrupt, "10012307"),
+        (Ask::Reset, "10011b0000"),
+        (Ask::Ready, "100101"),
+        (Ask::NotReady, "100105"),
+    ] {
+        let mut layer = opened(rt.alloc())?;
+        let mut link = PlainLink::new(rt.alloc())?;
+        assert_eq!(rt;
+            asks(rt.alloc(), &mut layer, &mut link, 1, ask),
+            Ok(1),
+            "{ask:?}"
+        );
+        puts(&rt, rt.alloc(), &mut link, octets)?;
+        assert_eq!(rt; link.waiting(), 0);
+    }
+    Ok(())
+}
+
+#[test]
+fn a_call_that_came_is_accepted(rt: HostRuntime) -> Result<(), Fail> {
+    let mut layer = opened(rt.alloc())?;
+    let mut link = PlainLink::new(rt.alloc())?;
+    let told = takes(rt.alloc(), &mut layer, &mut link, "10020b111200")?;
+    assert_eq!(rt; told.as_str(), "2: incoming");
+    assert_eq!(rt; layer.ask(&mut link, 2, Request::Accept), Ok(()));
+    assert_eq!(rt; layer.accept(&mut link, 2), Err(WRONG_STATE));
+    puts(&rt, rt.alloc(), &mut link, "10020f")?;
+    assert_eq!(rt; layer.is_open(2), true);
+    Ok(())
+}
+
+#[test]
+fn messages_wait_behind_a_full_queue(rt: HostRuntime) -> Result<(), Fail> {
+    let mut layer = opened(rt.alloc())?;
+    let mut link = full_link(rt.alloc())?;
+    for waits in 1..=8 {
+        layer.send(&mut link, 1, true, Vec::new(rt.alloc()))?;
+        assert_eq!(rt; layer.waits(), waits);
+    }
+    assert_eq!(rt; link.waiting(), 256);
+    assert_eq!(rt;
+        layer.send(&mut link, 1, true, Vec::new(rt.alloc())),
+        Err(LayerError::Circuit(CircuitError::Full))
+    );
+    let mut long = Vec::new(rt.alloc());
+    for _ in 0..65_536u32 {
+        long.push(0)?;
+    }
+    assert_eq!(rt;
+        layer.send(&mut link, 1, true, long),
+        Err(LayerError::Circuit(CircuitError::TooLong))
+    );
+    Ok(())
+}
+
+#[test]
+fn one_interrupt_at_a_time(rt: HostRuntime) -> Result<(), Fail> {
+    let mut layer = opened(rt.alloc())?;
+    let mut link = PlainLink::new(rt.alloc())?;
+    assert_eq!(rt; layer.interrupt(&mut link, 1, &[]), Err(BAD_PARAMETER));
+    assert_eq!(rt; layer.interrupt(&mut link, 1, &[0; 33]), Err(BAD_PARAMETER));
+    layer.interrupt(&mut link, 1, &[0; 32])?;
+    assert_eq!(rt;
+        layer.interrupt(&mut link, 1, &[0]),
+        Err(LayerError::Circuit(CircuitError::InterruptOutstanding))
+    );
+    Ok(())
+}
+
+#[test]
+fn a_call_goes_over_a_station(rt: HostRuntime) -> Result<(), Fail> {
+    let mut layer = Layer::new(rt.alloc(), Role::Dte, 1)?;
+    let mut link = Link::new(rt.alloc(), Role::Dte, 7, 4099, 10)?;
+    link.connect()?;
+    // UA with F=1.
+    link.take(&[0x01, 0x73, 0x83, 0x57])?;
+    if link.limit() < 4099 {
+        return Err("a shorter limit")?;
+    }
+    assert_eq!(rt; layer.call(&mut link, "", "", &[]), Ok(1));
+    let frames = link.sent();
+    assert_eq!(rt; frames.len(), 1);
+    let frame = frames[0].as_slice();
+    // Address and control of the I frame, and the packet.
+    assert_eq!(rt;
+        hex::encode(rt.alloc(), frame)?
+            .as_str()
+            .starts_with("010010010b0000"),
+        true
+    );
     Ok(())
 }

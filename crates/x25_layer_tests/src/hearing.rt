@@ -1,5 +1,4 @@
 //! Octets that the link handed up: what the users are told, what is owed, and the data packets pulled behind it.
-ghost use Rattle.std.specs.Prelude.{◌≡◌, ◌≤◌};
 
 use std::alloc::{AllocError, Global};
 use std::process::Abort;
@@ -52,17 +51,14 @@ fn told_text(alloc: Global, told: &Told) -> Result<String, AllocError> {
     }
 }
 
-// Hands octets, in hexadecimal, up to a layer that may take them. The text says what its users are told.
-fn takes<L: OrderedLink>(
+/// Hands octets, in hexadecimal, up to a layer that may take them. The text says what its users are told.
+pub fn takes<L: OrderedLink>(
     alloc: Global,
     layer: &mut Layer,
     link: &mut L,
     octets: &str,
-) -> Result<String, Fail>
-    requires { 4099 ≤ L.longest link.old }
-    ensures { L.longest link.new ≡ L.longest link.old }
-{
-    if !link.is_up() || link.waiting() == 256 || layer.full() {
+) -> Result<String, Fail> {
+    if !link.is_up() || link.waiting() == 256 || link.limit() < 4099 || layer.full() {
         return Err("the layer takes no packet")?;
     }
     let octets = hex::decode(alloc, octets)?;
@@ -258,8 +254,8 @@ fn a_layer_over_a_link(rt: HostRuntime) -> Result<(), Fail> {
     layer.room(&mut link, 4099)?;
     assert!(rt; 16 <= link.spare(), "memory for 16 packets");
     layer.down();
-    if !link.is_up() || link.waiting() == 256 {
-        return Err("the link is up")?;
+    if !link.is_up() || link.waiting() == 256 || link.limit() < 4099 {
+        return Err("the link takes packets")?;
     }
     layer.up(&mut link)?;
     let rows = [
