@@ -16,6 +16,10 @@ abbrev said : Bool → ℕ
 said true = 1
 said false = 0
 
+said_few : (b : Bool) → said b ≤ 1
+said_few true = omega arith
+said_few false = omega arith
+
 abbrev left_of : ℕ → LinkStation → ℕ
 left_of k s = (s.outgoing.acked + k - s.outgoing.place) + said s.said_busy
 
@@ -83,11 +87,11 @@ all_lower c [] t = omega arith
 all_lower c (p ∷ packets) t = le_trans (all_lower c packets (put_on c p t)) (put_lower c p t)
 
 pub few_put : (c : LinkSettings) (packets : List PlainPacket) (s : LinkStation) → c.window ≤ 7 → s.outgoing.acked ≤ s.outgoing.place → length (all_put c packets (alone s)).out ≤ 8
-few_put c packets s small low = let lower = all_lower c packets (alone s) in let one : said s.said_busy ≤ 1 = few s.said_busy in omega (arith, lower, small, low, one)
-  where
-    few : (b : Bool) → said b ≤ 1
-    few true = omega arith
-    few false = omega arith
+few_put c packets s small low = let lower = all_lower c packets (alone s) in let one : said s.said_busy ≤ 1 = said_few s.said_busy in omega (arith, lower, small, low, one)
+
+-- the end of a step sends eight at most
+pub ended_few : (k : ℕ) (t : Side) → k ≤ 7 → t.near.outgoing.acked ≤ t.near.outgoing.place → length (ended k t).out ≤ length t.out + 8
+ended_few k t small low = let lower = ended_lower k t in let one : said t.near.said_busy ≤ 1 = said_few t.near.said_busy in omega (arith, lower, small, low, one)
 
 -- ---- the frames of the link's own step go before them
 

@@ -21,3 +21,4 @@ pub mod FollowLemmas
 pub mod ToldLemmas
 pub mod OutcomeLemmas
 pub mod StationRows
+pub mod FewLemmas

@@ -1,5 +1,5 @@
 //! What the user asks of the packet layer: the layer's call, and its entry.
-ghost use Rattle.std.specs.Prelude.{◌≡◌, ◌<◌, ◌++◌, [], ◌∷◌, map, vec_len, vec_capacity, true, string_bytes, IfOk, IfErr, OnErr};
+ghost use Rattle.std.specs.Prelude.{◌≡◌, ◌<◌, ◌≤◌, ◌++◌, [], ◌∷◌, map, vec_len, vec_capacity, true, string_bytes, IfOk, IfErr, OnErr};
 ghost use Rattle.x25_circuit.specs.Calls.{Calls, Sends as CircuitSends};
 ghost use Rattle.x25_circuit.specs.Requests.{plain_request};
 ghost use Rattle.x25_layer.specs.Layer.{Layer as LayerState, LayerSettings, is_channel};
@@ -23,6 +23,7 @@ use crate::station::Station;
 use crate::step::Step;
 use std::alloc::Global;
 use x25_circuit::Request;
+use x25_link::holds_few;
 
 // A copy of octets, for an entry or a message.
 fn copied(alloc: Global, octets: &[u8]) -> Result<Vec<u8>, StationError>
@@ -105,6 +106,8 @@ impl Station {
         ensures entries { (c : Settings) (s : State) → FitsStation c self.old s → Enters result (commands c s (command_of command.entry)) }
         ensures refused { (c : Settings) (s : State) → FitsStation c self.old s → Refuses result (commands c s (command_of command.entry)) }
         ensures stays { (c : Settings) (s : State) → FitsStation c self.old s → OnErr result (FitsStation c self.new s) }
+        ensures few_frames { IfOk result (λ answer. vec_len answer.frames ≤ 17) }
+        ensures few_entries { IfOk result (λ answer. vec_len answer.entries ≤ 3) }
     {
         match command {
             Cmd::Call {
@@ -131,8 +134,11 @@ impl Station {
         ensures entries { (c : Settings) (s : State) → FitsStation c self.old s → Enters result (requests c s (Dials called.now calling.now user.now)) }
         ensures refused { (c : Settings) (s : State) → FitsStation c self.old s → Refuses result (requests c s (Dials called.now calling.now user.now)) }
         ensures stays { (c : Settings) (s : State) → FitsStation c self.old s → OnErr result (FitsStation c self.new s) }
+        ensures few_frames { IfOk result (λ answer. vec_len answer.frames ≤ 17) }
+        ensures few_entries { IfOk result (λ answer. vec_len answer.entries ≤ 3) }
     {
         steps_keep_bounds();
+        holds_few();
         let asked = asked_call(self.alloc, called, calling, user)?;
         let Ok(mut entries) = Vec::with_capacity(self.alloc, 1) else {
             return Err(StationError::NoMemory);
@@ -154,6 +160,8 @@ impl Station {
         ensures entries { (c : Settings) (s : State) → FitsStation c self.old s → Enters result (requests c s (Asks channel (CircuitSends q user.now))) }
         ensures refused { (c : Settings) (s : State) → FitsStation c self.old s → Refuses result (requests c s (Asks channel (CircuitSends q user.now))) }
         ensures stays { (c : Settings) (s : State) → FitsStation c self.old s → OnErr result (FitsStation c self.new s) }
+        ensures few_frames { IfOk result (λ answer. vec_len answer.frames ≤ 17) }
+        ensures few_entries { IfOk result (λ answer. vec_len answer.entries ≤ 3) }
     {
         let user = copied(self.alloc, user)?;
         self.ask(channel, Request::Send { q, user })
@@ -166,8 +174,11 @@ impl Station {
         ensures entries { (c : Settings) (s : State) → FitsStation c self.old s → Enters result (requests c s (Asks channel (plain_request request.entry))) }
         ensures refused { (c : Settings) (s : State) → FitsStation c self.old s → Refuses result (requests c s (Asks channel (plain_request request.entry))) }
         ensures stays { (c : Settings) (s : State) → FitsStation c self.old s → OnErr result (FitsStation c self.new s) }
+        ensures few_frames { IfOk result (λ answer. vec_len answer.frames ≤ 17) }
+        ensures few_entries { IfOk result (λ answer. vec_len answer.entries ≤ 3) }
     {
         steps_keep_bounds();
+        holds_few();
         let asked = asked_of(self.alloc, &request)?;
         let Ok(mut entries) = Vec::with_capacity(self.alloc, 1) else {
             return Err(StationError::NoMemory);
@@ -189,8 +200,11 @@ impl Station {
         ensures entries { (c : Settings) (s : State) → FitsStation c self.old s → Enters result (requests c s Restarts) }
         ensures refused { (c : Settings) (s : State) → FitsStation c self.old s → Refuses result (requests c s Restarts) }
         ensures stays { (c : Settings) (s : State) → FitsStation c self.old s → OnErr result (FitsStation c self.new s) }
+        ensures few_frames { IfOk result (λ answer. vec_len answer.frames ≤ 17) }
+        ensures few_entries { IfOk result (λ answer. vec_len answer.entries ≤ 3) }
     {
         steps_keep_bounds();
+        holds_few();
         let Ok(mut entries) = Vec::with_capacity(self.alloc, 1) else {
             return Err(StationError::NoMemory);
         };

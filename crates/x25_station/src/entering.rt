@@ -110,7 +110,8 @@ fn enter_notices(
 )
     requires texts { 3 ≤ texts.old }
     requires room { vec_len entries.old + 2 ≤ vec_capacity entries.old }
-    ensures { (c : LayerSettings) (l : LayerState) → FitsLayer c layer.now l → AreTellable c (notices_on channel (notices_of collided notice.entry)) →
+    ensures length { vec_len entries.new ≤ vec_len entries.old + 2 }
+    ensures entered { (c : LayerSettings) (l : LayerState) → FitsLayer c layer.now l → AreTellable c (notices_on channel (notices_of collided notice.entry)) →
         map plain_entry entries.new.items ≡ map plain_entry entries.old.items ++ station_told l (notices_on channel (notices_of collided notice.entry)) }
 {
     if collided {
@@ -131,7 +132,8 @@ pub(crate) fn enter_told(
 )
     requires texts { 3 ≤ texts.old }
     requires room { vec_len entries.old + 2 ≤ vec_capacity entries.old }
-    ensures { (c : LayerSettings) (l : LayerState) → FitsLayer c layer.now l → AreTellable c (plain_heard told.entry) →
+    ensures length { vec_len entries.new ≤ vec_len entries.old + 2 }
+    ensures entered { (c : LayerSettings) (l : LayerState) → FitsLayer c layer.now l → AreTellable c (plain_heard told.entry) →
         map plain_entry entries.new.items ≡ map plain_entry entries.old.items ++ station_told l (plain_heard told.entry) }
 {
     match told {

@@ -1,5 +1,5 @@
 //! Calls that the link alone answers, and at LinkDown the packet layer.
-ghost use Rattle.std.specs.Prelude.{◌≡◌, ℕ, ◌+◌, ◌<◌, ◌≤◌, ◌++◌, map, None, vec_len, vec_capacity, OnErr};
+ghost use Rattle.std.specs.Prelude.{◌≡◌, ℕ, ◌+◌, ◌<◌, ◌≤◌, ◌++◌, map, None, vec_len, vec_capacity, IfOk, OnErr};
 ghost use Rattle.x25_layer.specs.Layer.{Layer as LayerState, LayerSettings};
 ghost use Rattle.x25_layer.specs.FitsLayer.{FitsLayer};
 ghost use Rattle.x25_layer.specs.Room.{HasRoom};
@@ -16,7 +16,7 @@ use crate::law::steps_keep_bounds;
 use crate::station::Station;
 use crate::step::Step;
 use x25_layer::Layer;
-use x25_link::Reason;
+use x25_link::{Reason, holds_few};
 
 impl Station {
     /// Begins to set the link up. No entry is made.
@@ -28,8 +28,11 @@ impl Station {
         ensures entries { (c : Settings) (s : State) → FitsStation c self.old s → Enters result (connects c s) }
         ensures refused { (c : Settings) (s : State) → FitsStation c self.old s → RefusesExactly result (connects c s) }
         ensures stays { (c : Settings) (s : State) → FitsStation c self.old s → OnErr result (FitsStation c self.new s) }
+        ensures few_frames { IfOk result (λ answer. vec_len answer.frames ≤ 17) }
+        ensures few_entries { IfOk result (λ answer. vec_len answer.entries ≤ 3) }
     {
         steps_keep_bounds();
+        holds_few();
         match self.link.connect() {
             Ok(step) => Ok(Step {
                 frames: step.frames,
@@ -48,8 +51,11 @@ impl Station {
         ensures entries { (c : Settings) (s : State) → FitsStation c self.old s → Enters result (fires c s) }
         ensures refused { (c : Settings) (s : State) → FitsStation c self.old s → Refuses result (fires c s) }
         ensures stays { (c : Settings) (s : State) → FitsStation c self.old s → OnErr result (FitsStation c self.new s) }
+        ensures few_frames { IfOk result (λ answer. vec_len answer.frames ≤ 17) }
+        ensures few_entries { IfOk result (λ answer. vec_len answer.entries ≤ 3) }
     {
         steps_keep_bounds();
+        holds_few();
         let Ok(mut entries) = Vec::with_capacity(self.alloc, 1) else {
             return Err(StationError::NoMemory);
         };
@@ -72,8 +78,11 @@ impl Station {
         ensures entries { (c : Settings) (s : State) → FitsStation c self.old s → Enters result (disconnects c s) }
         ensures refused { (c : Settings) (s : State) → FitsStation c self.old s → Refuses result (disconnects c s) }
         ensures stays { (c : Settings) (s : State) → FitsStation c self.old s → OnErr result (FitsStation c self.new s) }
+        ensures few_frames { IfOk result (λ answer. vec_len answer.frames ≤ 17) }
+        ensures few_entries { IfOk result (λ answer. vec_len answer.entries ≤ 3) }
     {
         steps_keep_bounds();
+        holds_few();
         let Ok(mut entries) = Vec::with_capacity(self.alloc, 2) else {
             return Err(StationError::NoMemory);
         };

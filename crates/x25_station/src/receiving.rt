@@ -21,17 +21,11 @@ use crate::error::StationError;
 use crate::law::steps_keep_bounds;
 use crate::linking::note_down;
 use crate::station::Station;
-use crate::step::Step;
+use crate::step::{MOST_ENTRIES, MOST_FRAMES, Step};
 use x25_frame::reading_is_the_grammar as reads_frames;
 use x25_layer::Layer;
 use x25_link::{Blanks, Link, Notes, OrderedLink, holds_few, notes_what_changes};
 use x25_packet::reading_is_the_grammar;
-
-/// The most frames that octets are answered by: nine in the link's step, seven I frames of the layer's packets, and an RR.
-const MOST_FRAMES: usize = 17;
-
-/// The most entries that octets make, and one more: LinkDown and LinkUp, or two that the layer tells.
-const MOST_ENTRIES: usize = 3;
 
 // Puts frames behind others, in memory that was set aside.
 fn append(frames: &mut Vec<Vec<u8>>, more: Vec<Vec<u8>>)
@@ -54,6 +48,7 @@ fn come_up(layer: &mut Layer, link: &mut Link, entries: &mut Vec<Entry>)
     ensures link { (c : Settings) (l : LayerState) (t : Side) → FitsLayer (layer_settings c) layer.old l → FitsWhole link.old (kept_of (link_settings c) (alone t.near)) →
         FitsWhole link.new (kept_of (link_settings c) (all_put (link_settings c) (comes_up (view_of (link_settings c) t.near) (layer_settings c)).step.put (alone t.near))) }
     ensures entries { map plain_entry entries.new.items ≡ map plain_entry entries.old.items ++ entries_up true }
+    ensures length { vec_len entries.new ≡ vec_len entries.old + 1 }
 {
     entries.push_reserved(Entry::LinkUp);
     layer.up(link).unwrap();
@@ -78,6 +73,7 @@ fn hear(
         FitsWhole link.new (kept_of (link_settings c) (all_put (link_settings c) (hears (view_of (link_settings c) t.near) (layer_settings c) l packet.now).step.put (alone t.near))) }
     ensures entries { (c : Settings) (l : LayerState) (t : Side) → FitsLayer (layer_settings c) layer.old l → FitsWhole link.old (kept_of (link_settings c) (alone t.near)) →
         map plain_entry entries.new.items ≡ map plain_entry entries.old.items ++ entries_of_answer (layer_answer (layer_settings c) l packet.now) }
+    ensures length { vec_len entries.new ≤ vec_len entries.old + 2 }
 {
     reading_is_the_grammar();
     let told = layer.packet(link, packet).unwrap();
@@ -106,6 +102,7 @@ fn follow(
         FitsWhole link.new (kept_of (link_settings c) (all_put (link_settings c) (layer_at (view_of (link_settings c) t.near) (layer_settings c) l (option_copied packet.entry) notes.down notes.up).put (alone t.near))) }
     ensures entries { (c : Settings) (l : LayerState) (t : Side) → FitsLayer (layer_settings c) layer.old l → FitsWhole link.old (kept_of (link_settings c) (alone t.near)) →
         map plain_entry entries.new.items ≡ map plain_entry entries.old.items ++ (entries_noted notes ++ entries_heard (layer_settings c) l (option_copied packet.entry) notes.down notes.up) }
+    ensures length { vec_len entries.new ≤ vec_len entries.old + 3 }
 {
     note_down(layer, notes.down, entries);
     if notes.up {
@@ -132,6 +129,8 @@ impl Station {
         ensures entries { (c : Settings) (s : State) → FitsStation c self.old s → Enters result (Did (receives c s octets.now)) }
         ensures refused { IfErr result (λ e. e ≡ StationError.NoMemory) }
         ensures stays { (c : Settings) (s : State) → FitsStation c self.old s → OnErr result (FitsStation c self.new s) }
+        ensures few_frames { IfOk result (λ answer. vec_len answer.frames ≤ 17) }
+        ensures few_entries { IfOk result (λ answer. vec_len answer.entries ≤ 3) }
     {
         if !self.link.is_up() {
             return self.take(octets);
@@ -151,8 +150,11 @@ impl Station {
         ensures entries { (c : Settings) (s : State) → FitsStation c self.old s → Enters result (Did (receives c s octets.now)) }
         ensures refused { IfErr result (λ e. e ≡ StationError.NoMemory) }
         ensures stays { (c : Settings) (s : State) → FitsStation c self.old s → OnErr result (FitsStation c self.new s) }
+        ensures few_frames { IfOk result (λ answer. vec_len answer.frames ≤ 17) }
+        ensures few_entries { IfOk result (λ answer. vec_len answer.entries ≤ 3) }
     {
         steps_keep_bounds();
+        holds_few();
         let Ok(mut entries) = Vec::with_capacity(self.alloc, 1) else {
             return Err(StationError::NoMemory);
         };
@@ -200,6 +202,8 @@ impl Station {
         ensures entries { (c : Settings) (s : State) → FitsStation c self.old s → Enters result (Did (receives c s octets.now)) }
         ensures refused { IfErr result (λ e. e ≡ StationError.NoMemory) }
         ensures stays { (c : Settings) (s : State) → FitsStation c self.old s → OnErr result (FitsStation c self.new s) }
+        ensures few_frames { IfOk result (λ answer. vec_len answer.frames ≤ 17) }
+        ensures few_entries { IfOk result (λ answer. vec_len answer.entries ≤ 3) }
     {
         steps_keep_bounds();
         notes_what_changes();

@@ -1,5 +1,5 @@
 -- What a joined world says: the claims on order, on the window, on LinkUp, and that all arrives.
-use Rattle.std.proofs.Common.{◌≡◌, ℕ, zero, suc, ◌+◌, ◌≤◌, ◌==◌, nat_le, List, length, Bool, true, false, not, ◌&&◌, if◌then◌else◌, Option, Some, None, refl, sym, ap, ◌∙◌, subst, arith}
+use Rattle.std.proofs.Common.{◌≡◌, ℕ, zero, suc, ◌+◌, ◌≤◌, ◌==◌, nat_le, List, length, Bool, true, false, not, if◌then◌else◌, Option, Some, None, refl, sym, ap, ◌∙◌, subst, arith}
 use Rattle.std.proofs.lemmas.Bool.{eqb-true, eq-eqb, leb-true}
 use Rattle.std.proofs.lemmas.List.{length-map}
 use Rattle.x25_bits.specs.declared.role.Role.{Role}
@@ -21,7 +21,8 @@ use Rattle.x25_station.specs.declared.config.Cfg.{Cfg}
 use Rattle.x25_station.specs.Settings.{settings_from}
 use Rattle.x25_station.specs.Entries.{StationEntry, layer_notices}
 use Rattle.x25_station.specs.Station.{Station}
-use Rattle.x25_station.specs.Told.{messages_waiting, is_idle, stretch}
+use Rattle.x25_layer.specs.FitsLayer.{waits_up_to}
+use Rattle.x25_station.specs.Told.{is_idle, stretch}
 use Rattle.x25_world.specs.World.{World, swapped}
 use Rattle.x25_world.specs.Claims.{station_at, entries_at, handed_at, IsLawful, IsNamed, ArrivesAll, IsInWindow, IsUpOnce}
 use Rattle.x25_world.proofs.Reaches.{LayersReach}
@@ -39,25 +40,27 @@ record IsStretch (channels : ℕ) (l : Layer) (k : ℕ) (name : Name) : Type 0 w
 abbrev name_if : Bool → Name → Option Name
 name_if b name = if b then Some name else None
 
-stretch_of : (channels : ℕ) (l : Layer) (k : ℕ) (name : Name) → name_if (is_channel channels k && is_open (l.circuits k)) (name_of l k) ≡ Some name → IsStretch channels l k name
-stretch_of channels l k name is = by (is_channel channels k && is_open (l.circuits k)) refl is
+abbrev open_if : Bool → Bool → Bool
+open_if b o = if b then o else false
+
+stretch_of : (channels : ℕ) (l : Layer) (k : ℕ) (name : Name) → name_if (open_if (is_channel channels k) (is_open (l.circuits k))) (name_of l k) ≡ Some name → IsStretch channels l k name
+stretch_of channels l k name is = by (is_channel channels k) (is_open (l.circuits k)) refl refl is
   where
     some_is : (m n : Name) → Some m ≡ Some n → m ≡ n
     some_is m n e = cc
 
-    by : (b : Bool) → (is_channel channels k && is_open (l.circuits k)) ≡ b → name_if b (name_of l k) ≡ Some name → IsStretch channels l k name
-    by true both there =
-        let p = both_true (is_channel channels k) (is_open (l.circuits k)) both in
-        record { channel = p.0; opened = p.1; named = some_is (name_of l k) name there }
-    by false both there = absurd (cc)
+    by : (b o : Bool) → is_channel channels k ≡ b → is_open (l.circuits k) ≡ o → name_if (open_if b o) (name_of l k) ≡ Some name → IsStretch channels l k name
+    by true true channel opened there = record { channel = channel; opened = opened; named = some_is (name_of l k) name there }
+    by true false channel opened there = absurd (cc)
+    by false o channel opened there = absurd (cc)
 
 none_of_sum : (a b : ℕ) → a + b ≡ 0 → (a ≡ 0) × (b ≡ 0)
 none_of_sum a b e = (omega arith, omega arith)
 
-none_waits : (circuits : ℕ → Circuit) (n k : ℕ) → messages_waiting circuits n ≡ 0 → 1 ≤ k → k ≤ n → waits (circuits k) ≡ 0
+none_waits : (circuits : ℕ → Circuit) (n k : ℕ) → waits_up_to circuits n ≡ 0 → 1 ≤ k → k ≤ n → waits (circuits k) ≡ 0
 none_waits circuits zero k none low high = absurd (omega arith)
 none_waits circuits (suc n) k none low high =
-    let parts = none_of_sum (messages_waiting circuits n) (waits (circuits (suc n))) none in
+    let parts = none_of_sum (waits_up_to circuits n) (waits (circuits (suc n))) none in
     by (k == suc n) refl (λ below. none_waits circuits n k parts.0 low below) parts.1
   where
     lower : k ≤ suc n → (k ≡ suc n → ⊥) → k ≤ n
@@ -107,12 +110,12 @@ module _ (laws : Laws) (cfg : Cfg) (fine : IsConfigured cfg) where
   arrives_from : (end : Role) (w : World) → Joined cfg end w → (k : ℕ) (name : Name) → is_idle (settings_from end cfg) w.near ≡ true → stretch (settings_from end cfg) w.near k ≡ Some name
       → stretch (settings_from (other end) cfg) w.far k ≡ Some name → HasAllOf k name (handed_at end w) (handed_at (other end) w)
   arrives_from end w h k name idle here there =
-      let both = both_true (link.is_idle w.near.link) (messages_waiting w.near.layer.circuits cfg.channels == 0) idle in
+      let both = both_true (link.is_idle w.near.link) (waits_up_to w.near.layer.circuits cfg.channels == 0) idle in
       let s = stretch_of cfg.channels w.near.layer k name here in
       let t = stretch_of cfg.channels w.far.layer k name there in
       let bounds = both_true (nat_le 1 k) (nat_le k cfg.channels) s.channel in
       let none : waits (w.near.layer.circuits k) ≡ 0 =
-      none_waits w.near.layer.circuits cfg.channels k (eqb-true (messages_waiting w.near.layer.circuits cfg.channels) 0 both.1) (leb-true 1 k bounds.0) (leb-true k cfg.channels bounds.1) in
+      none_waits w.near.layer.circuits cfg.channels k (eqb-true (waits_up_to w.near.layer.circuits cfg.channels) 0 both.1) (leb-true 1 k bounds.0) (leb-true k cfg.channels bounds.1) in
       let order = given_order laws cfg fine end h.links h.links_reach in
       let all : spelled h.layers.far.taken ≡ spelled h.layers.near.given = sym h.far.up ∙ order.idle (ap (λ (x : LinkStation). link.is_idle x) h.near.link ∙ both.0) ∙ h.near.down in
       let count : length h.layers.far.taken ≡ length h.layers.near.given =

@@ -13,3 +13,7 @@ pub mod Lawful
 pub mod QuietTap
 pub mod Headline
 pub mod RowLemmas
+pub mod OnLineLemmas
+pub mod LetGoLemmas
+pub mod SideLemmas
+pub mod WorldLemmas

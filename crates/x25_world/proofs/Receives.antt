@@ -16,8 +16,9 @@ use Rattle.x25_layer.specs.World as layer
 use Rattle.x25_layer.specs.World.{HandsUp}
 use Rattle.x25_layer.specs.RoundLaw.{moves_all, pulls_of}
 use Rattle.x25_station.specs.declared.config.Cfg.{Cfg}
-use Rattle.x25_station.specs.Settings.{Settings, settings_from}
-use Rattle.x25_station.specs.Steps.{Step, follows, abandons, receives, is_full}
+use Rattle.x25_station.specs.Settings.{Settings, settings_from, layer_settings}
+use Rattle.x25_layer.specs.FitsLayer.{is_full}
+use Rattle.x25_station.specs.Steps.{Step, follows, abandons, receives}
 use Rattle.x25_station.specs.JoinLaw.{station_with, IsJoined}
 use Rattle.x25_station.specs.KeepLaw.{IsKept}
 use Rattle.x25_station.specs.ReadLaw.{AreReadable, IsReadable}
@@ -65,7 +66,7 @@ module _ (laws : Laws) (cfg : Cfg) (fine : IsConfigured cfg) (end : Role) (w : W
   abandoned full kept =
       follows_joined laws cfg fine end w h false back (abandon_step (link_of cfg end) w.near.link)
       (dropped (link_acts cfg end (line.Lose 0) (line.acts (link_of cfg end) line.Abandon h.links) (link_acts cfg end line.Abandon h.links h.links_reach))
-      (both_true (is_up w.near.link.phase) (is_full cfg.channels w.near.layer) full).0)
+      (both_true (is_up w.near.link.phase) (is_full (layer_settings (settings_from end cfg)) w.near.layer) full).0)
       refl (laws.abandon_tells (link_of cfg end) w.near.link) kept
 
   -- ---- where the link takes the octets

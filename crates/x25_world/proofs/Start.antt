@@ -23,7 +23,7 @@ use Rattle.x25_station.specs.Entries.{StationEntry, link_up, entries_noted, laye
 use Rattle.x25_station.specs.Station.{Station, new_station}
 use Rattle.x25_station.specs.Steps.{Step, follows, receives}
 use Rattle.x25_station.specs.KeepLaw.{IsKept}
-use Rattle.x25_world.specs.World.{OnTap, AtEnd, World, swapped, tapped, entered, after_step, delivered, after, Event, Receives, happens, connected, start}
+use Rattle.x25_world.specs.World.{OnTap, AtEnd, World, swapped, tapped, entered, after_step, delivered, after, Event, Receives, happens, refusal_of, AreAccepted, connected, start}
 use Rattle.x25_world.specs.Claims.{link_of, entries_at, ups_in}
 use Rattle.x25_world.proofs.Reaches.{layer_of}
 use Rattle.x25_world.proofs.Known.{Laws}
@@ -119,6 +119,12 @@ module _ (laws : Laws) (cfg : Cfg) where
   start_is =
       ap (λ (x : World). after (after x (happens cfg x (comes_to Dce))) (happens cfg (after x (happens cfg x (comes_to Dce))) (comes_to Dte))) (connected_is cfg)
       ∙ ap (λ (l : List (List ℕ)). after (at_dce cfg) (delivered (settings_from Dte cfg) (at_dce cfg) l)) back_is
+
+  -- so neither is refused
+  pub set_up_accepted : AreAccepted cfg (comes_to Dce ∷ comes_to Dte ∷ []) (connected cfg)
+  set_up_accepted =
+      let ua_comes : refusal_of (happens cfg (at_dce cfg) (comes_to Dte)) ≡ None = ap (λ (l : List (List ℕ)). refusal_of (delivered (settings_from Dte cfg) (at_dce cfg) l)) back_is in
+      subst (λ (w : World). AreAccepted cfg (comes_to Dce ∷ comes_to Dte ∷ []) w) (sym (connected_is cfg)) (refl, (ua_comes, tt))
 
   -- the two links: each is handed RESTART
   abbrev two_links : line.Stations

@@ -1,5 +1,5 @@
 ghost use Rattle.std.specs.Prelude.{◌≡◌};
-ghost use Rattle.x25_world.specs.WorldError.{number_of};
+ghost use Rattle.x25_world.specs.WorldError.{number_of, error_of};
 
 use thiserror::Error;
 use x25_station::StationError;
@@ -28,6 +28,18 @@ pub enum WorldError {
 }
 
 impl WorldError {
+    /// The error of a world whose station refuses this.
+    pub(crate) fn of_station(error: StationError) -> WorldError
+        ensures { result ≡ error_of error }
+    {
+        match error {
+            StationError::NoMemory => WorldError::NoMemory,
+            StationError::BadConfig | StationError::Link(_) | StationError::Layer(_) => {
+                WorldError::Station(error)
+            }
+        }
+    }
+
     /// The number of this error, the same in all crates.
     pub fn number(self) -> u8
         ensures { result ≡ number_of self }
@@ -41,4 +53,11 @@ impl WorldError {
             WorldError::NoMemory => 70,
         }
     }
+}
+
+/// Why a list of events stops: the first of them that is refused, counted from 0, and its error.
+#[derive(Clone, Copy, Debug, PartialEq, Eq)]
+pub struct WorldRefused {
+    pub index: usize,
+    pub error: WorldError,
 }

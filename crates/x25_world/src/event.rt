@@ -1,3 +1,5 @@
+ghost use Rattle.std.specs.Prelude.{◌≡◌};
+
 use x25_bits::Role;
 use x25_line::Direction;
 use x25_station::Cmd;
@@ -15,4 +17,20 @@ pub enum Event<'a> {
     Damage(Direction, usize, &'a [u8]),
     /// Timer T1 of an end runs out. Refused as the station refuses it.
     T1(Role),
+}
+
+impl<'a> Event<'a> {
+    ghost use Rattle.x25_world.specs.World.{event_of};
+
+    /// The end at which it happens, or that its direction leads to.
+    pub(crate) fn at(self) -> Role
+        ensures { result ≡ (event_of self.entry).at }
+    {
+        match self {
+            Event::Command(at, _) | Event::T1(at) => at,
+            Event::Deliver(direction)
+            | Event::Lose(direction, _)
+            | Event::Damage(direction, _, _) => direction.end(),
+        }
+    }
 }

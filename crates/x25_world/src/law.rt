@@ -2,7 +2,7 @@
 ghost use Rattle.x25_station.specs.ReadLaw.{AreOctets};
 ghost use Rattle.x25_world.specs.World.{event_of};
 ghost use Rattle.x25_world.specs.WorldRows.{SetsUp, MessageArrives, LostArrives, DamagedArrives, DisconnectEndsBoth, IsRefused};
-ghost use Rattle.x25_world.specs.Claims.{ActsInOctets, Always, IsLawful, IsNamed, ArrivesAll, HasNoProcedureError, IsInWindow, IsUpOnce};
+ghost use Rattle.x25_world.specs.Claims.{ActsInOctets, Always, IsSetUp, IsLawful, IsNamed, ArrivesAll, HasNoProcedureError, IsInWindow, IsUpOnce};
 
 use crate::Event;
 use x25_frame::reads_what_is_spelled;
@@ -14,6 +14,7 @@ use x25_station::{Cmd, puts_are_readable, steps_are_joined, steps_keep_bounds};
 /// Two stations joined by a line of octets that keeps order and may lose or visibly damage any frame, the link set up once: what
 /// holds after each list of commands, deliveries, losses, damage and firings of timer T1, wherever an event is refused.
 ///
+/// - `set_up`: SABM is there to be delivered, and then UA.
 /// - `lawful`: on each channel and under each name of a stretch, the messages, interrupts and calls that an end hands up are a
 ///   beginning of those that the other handed down: each comes once, in order, whole, and none of another call.
 /// - `named`: the name of the stretch on a channel, where the link is up, is the restarts, clears and resets that the transcript tells of.
@@ -25,6 +26,7 @@ use x25_station::{Cmd, puts_are_readable, steps_are_joined, steps_keep_bounds};
 ///
 /// Premises: k is 1 to 7, N2 1 to 255, channels 1 to 16, and the users hand down octets.
 pub fn two_stations_keep_order()
+    ensures set_up { IsSetUp }
     ensures lawful { Always IsLawful }
     ensures named { Always IsNamed }
     ensures arrives { Always ArrivesAll }

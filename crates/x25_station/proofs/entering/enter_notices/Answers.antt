@@ -8,8 +8,8 @@ use Rattle.x25_station.proofs.TellLemmas.{told_both, notice_tellable, first_tell
 use Rattle.x25_station.proofs.entering.enter_notices.Goals as goal
 use Rattle.x25_station.proofs.entering.enter_notices.Goals.{then-collided, else-collided}
 
-pub returns-in-Some : goal.returns-in-Some
-returns-in-Some c = λ c' l fits all.
+pub returns-in-Some-clause-entered : goal.returns-in-Some-clause-entered
+returns-in-Some-clause-entered c = λ c' l fits all.
     let h = c.args.channel in
     let n = c.in-Some.notice in
     let before = map plain_entry c.args.entries.now.items in

@@ -40,6 +40,6 @@ returns-clause-entries c = λ c' l t fits link.
     let told = told_is c.packet.result c.unwrap-told.result a.notices c.unwrap-told.ensures (c.packet.ensures.told lc l view fits) in
     let bytes : All (λ octet. octet < 256) octets = All-from_get_or (λ octet. octet < 256) octets 0 (λ i low. omega (arith, c.type_inv.packet i)) in
     let tellable = told_tellable c.reading_is_the_grammar.ensures.spelled lc l octets bytes in
-    c.enter_told.ensures lc (hears view lc l octets).step.layer (returns-clause-layer c c' l t fits link) (subst (λ (ns : List LayerNotice). AreTellable lc ns) (sym told) tellable)
+    c.enter_told.ensures.entered lc (hears view lc l octets).step.layer (returns-clause-layer c c' l t fits link) (subst (λ (ns : List LayerNotice). AreTellable lc ns) (sym told) tellable)
     ∙ ap (λ ns. map plain_entry c.args.entries.now.items ++ station_told (hears view lc l octets).step.layer ns) told
     ∙ ap (λ es. map plain_entry c.args.entries.now.items ++ es) (same_told (hears view lc l octets).step.layer a.next a.notices (rounds_name view lc (begin a.next a.owed)))

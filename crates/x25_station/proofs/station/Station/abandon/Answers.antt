@@ -1,4 +1,4 @@
-use Rattle.std.proofs.Common.{[], ◌++◌, map, ap, ◌∙◌}
+use Rattle.std.proofs.Common.{arith, ◌≤◌, length, [], ◌++◌, map, ap, ◌∙◌}
 use Rattle.x25_link.specs.MustSend.{Step as LinkStep}
 use Rattle.x25_link.specs.Steps.{abandon_step}
 use Rattle.x25_station.specs.Entries.{entries_down}
@@ -8,6 +8,8 @@ use Rattle.x25_station.specs.Steps.{Step, receives}
 use Rattle.x25_station.proofs.DownLemmas.{fits_down, frames_down, entries_noted_down}
 use Rattle.x25_station.proofs.OutcomeLemmas.{still_meant}
 use Rattle.x25_station.proofs.TookLemmas.{gives_up}
+use Rattle.x25_station.proofs.TakeLemmas.{least_by_meaning, few_frames}
+use Rattle.x25_station.proofs.FewLemmas.{abandon_few}
 use Rattle.x25_station.proofs.station.Station.abandon.Goals as goal
 
 pub invariant_of-self : goal.invariant_of-self
@@ -48,3 +50,11 @@ returns-clause-entries c = λ c' s fits.
     let answer = c.abandon-step.ensures.answer (link_settings c') s.link fits.link in
     entries_noted_down s.layer k [] _ _ (receives c' s c.args.octets.now) (gives_up c' s c.args.octets.now (c.requires.full c' s fits)) (ap (λ n. n.down) answer.notes)
     (c.note_down.ensures.entries ∙ ap (λ es. map plain_entry es ++ entries_down c.abandon-step.result.notes.down) c.in-Ok.ensures.items)
+
+pub returns-clause-few_frames : goal.returns-clause-few_frames
+returns-clause-few_frames c =
+    let few : length c.abandon-step.result.frames.items ≤ 9 = least_by_meaning _ _ (length c.abandon-step.result.frames.items) 9 c.args.self.now.meant (λ c' s fits.
+    let lk = link_settings c' in
+    few_frames c'.role c.abandon-step.result.frames.items (λ frame. frame.items) (abandon_step lk s.link).side.out 9 (c.abandon-step.ensures.answer lk s.link fits.link).frames
+    (abandon_few lk s.link (c.holds_few.ensures.window lk c.args.self.now.link s.link fits.link))) in
+    grind (arith, few, c.abandon-step.result.frames.ok)

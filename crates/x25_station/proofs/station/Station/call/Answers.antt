@@ -1,4 +1,4 @@
-use Rattle.std.proofs.Common.{[], ◌∷◌, ◌++◌, ap, ◌∙◌, map}
+use Rattle.std.proofs.Common.{arith, ◌≤◌, length, [], ◌∷◌, ◌++◌, ap, ◌∙◌, map}
 use Rattle.x25_layer.specs.Calls.{Dials}
 use Rattle.x25_layer.specs.Transcript.{Asked, name_of}
 use Rattle.x25_station.specs.declared.entry.Said.TheVariants as said
@@ -6,11 +6,13 @@ use Rattle.x25_station.specs.declared.step.Step as code_step
 use Rattle.x25_station.specs.Command.{Requests}
 use Rattle.x25_station.specs.Entries.{of_channel}
 use Rattle.x25_station.specs.PlainEntry.{plain_entry, plain_said}
-use Rattle.x25_station.specs.Settings.{layer_settings}
+use Rattle.x25_station.specs.Settings.{link_settings, layer_settings}
 use Rattle.x25_station.specs.Steps.{requests}
 use Rattle.x25_station.proofs.OutcomeLemmas.{leaves_some, still_meant}
 use Rattle.x25_station.proofs.AskLemmas.{answers, refuses, still_fits}
 use Rattle.x25_station.proofs.EnteredLemmas.{dialled_enters}
+use Rattle.x25_station.proofs.TakeLemmas.{least_by_meaning}
+use Rattle.x25_station.proofs.FewLemmas.{few_asked}
 use Rattle.x25_station.proofs.station.Station.call.Goals as goal
 
 pub invariant_of-self : goal.invariant_of-self
@@ -63,3 +65,10 @@ returns-in-Err-clause-refused c = λ c' s fits. refuses _ code_step.Step c.in-Er
 
 pub returns-in-Err-clause-stays : goal.returns-in-Err-clause-stays
 returns-in-Err-clause-stays c = λ c' s fits. still_fits c' c.args.self.now.link c.call.new.link _ c.call.new.self s fits (c.in-Err.ensures.layer_stays (layer_settings c') s.layer fits.layer) c.in-Err.ensures.link_stays
+
+pub returns-in-Ok-call-clause-few_frames : goal.returns-in-Ok-call-clause-few_frames
+returns-in-Ok-call-clause-few_frames c =
+    let few : length c.sent-frames.result.items ≤ 8 = least_by_meaning _ _ (length c.sent-frames.result.items) 8 c.args.self.now.meant (λ c' s fits.
+    few_asked c' s (Dials c.args.called.now c.args.calling.now c.args.user.now) (record { frames = c.sent-frames.result; entries = c.enter.new.entries }) (c.holds_few.ensures.window (link_settings c') c.args.self.now.link s.link fits.link)
+    (c.holds_few.ensures.stand (link_settings c') c.args.self.now.link s.link fits.link).place_low ((returns-in-Ok-call-clause-frames c) c' s fits) ((returns-in-Ok-call-clause-refused c) c' s fits)) in
+    grind (arith, few, c.sent-frames.result.ok)

@@ -1,4 +1,4 @@
-use Rattle.std.proofs.Common.{[], sym, subst, ◌∷◌, ap, ◌∙◌, ◌++◌, map}
+use Rattle.std.proofs.Common.{arith, ◌≤◌, length, [], sym, subst, ◌∷◌, ap, ◌∙◌, ◌++◌, map}
 use Rattle.x25_link.specs.Steps.{disconnect_refusal, disconnect_step}
 use Rattle.x25_link.specs.declared.step.Step as link_step
 use Rattle.x25_station.specs.FitsParts.{AreMeant}
@@ -11,6 +11,8 @@ use Rattle.x25_station.specs.declared.step.Step as code_step
 use Rattle.x25_station.specs.Steps.{Step, unless, follows, led_by}
 use Rattle.x25_station.proofs.DownLemmas.{disconnect_down, leaves_down, frames_down, entries_noted_down}
 use Rattle.x25_station.proofs.OutcomeLemmas.{leaves_some, still_meant, sends_unless, enters_unless, goes, refused, disconnect_named}
+use Rattle.x25_station.proofs.TakeLemmas.{least_by_meaning, few_frames}
+use Rattle.x25_station.proofs.FewLemmas.{disconnect_few}
 use Rattle.x25_station.proofs.station.Station.disconnect.Goals as goal
 
 pub invariant_of-self : goal.invariant_of-self
@@ -67,3 +69,11 @@ returns-in-Err-clause-refused c = λ c' s fits.
     let step : Step = led_by (disconnect_asked ∷ []) (follows c' s.layer (disconnect_step (link_settings c') s.link)) in
     refused link_step.Step code_step.Step c.in-Err.error _ (disconnect_refusal s.link.phase) step (disconnect_named s.link.phase) c.of_link.ensures
     (c.in-Err.ensures.refused (link_settings c') s.link fits.link)
+
+pub returns-in-Ok-disconnect-clause-few_frames : goal.returns-in-Ok-disconnect-clause-few_frames
+returns-in-Ok-disconnect-clause-few_frames c =
+    let few : length c.in-Ok-disconnect.step.frames.items ≤ 9 = least_by_meaning _ _ (length c.in-Ok-disconnect.step.frames.items) 9 c.args.self.now.meant (λ c' s fits.
+    let lk = link_settings c' in
+    few_frames c'.role c.in-Ok-disconnect.step.frames.items (λ frame. frame.items) (disconnect_step lk s.link).side.out 9 (c.in-Ok-disconnect.ensures.answer lk s.link fits.link).frames
+    (disconnect_few lk s.link (c.holds_few.ensures.window lk c.args.self.now.link s.link fits.link))) in
+    grind (arith, few, c.in-Ok-disconnect.step.frames.ok)

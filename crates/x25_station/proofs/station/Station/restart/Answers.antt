@@ -1,14 +1,16 @@
-use Rattle.std.proofs.Common.{[], ◌∷◌, ◌++◌, ap, ◌∙◌, map}
+use Rattle.std.proofs.Common.{arith, ◌≤◌, length, [], ◌∷◌, ◌++◌, ap, ◌∙◌, map}
 use Rattle.x25_layer.specs.Calls.{Restarts}
 use Rattle.x25_station.specs.declared.entry.Entry.TheVariants.{RestartAsked}
 use Rattle.x25_station.specs.declared.step.Step as code_step
 use Rattle.x25_station.specs.Command.{Requests}
 use Rattle.x25_station.specs.PlainEntry.{plain_entry}
-use Rattle.x25_station.specs.Settings.{layer_settings}
+use Rattle.x25_station.specs.Settings.{link_settings, layer_settings}
 use Rattle.x25_station.specs.Steps.{requests}
 use Rattle.x25_station.proofs.OutcomeLemmas.{leaves_some, still_meant}
 use Rattle.x25_station.proofs.AskLemmas.{answers, refuses, still_fits}
 use Rattle.x25_station.proofs.EnteredLemmas.{restart_enters}
+use Rattle.x25_station.proofs.TakeLemmas.{least_by_meaning}
+use Rattle.x25_station.proofs.FewLemmas.{few_asked}
 use Rattle.x25_station.proofs.station.Station.restart.Goals as goal
 
 pub invariant_of-self : goal.invariant_of-self
@@ -58,3 +60,10 @@ returns-in-Err-clause-refused c = λ c' s fits. refuses _ code_step.Step c.in-Er
 
 pub returns-in-Err-clause-stays : goal.returns-in-Err-clause-stays
 returns-in-Err-clause-stays c = λ c' s fits. still_fits c' c.args.self.now.link c.restart.new.link _ c.restart.new.self s fits (c.in-Err.ensures.layer_stays (layer_settings c') s.layer fits.layer) c.in-Err.ensures.link_stays
+
+pub returns-in-Ok-restart-clause-few_frames : goal.returns-in-Ok-restart-clause-few_frames
+returns-in-Ok-restart-clause-few_frames c =
+    let few : length c.sent-frames.result.items ≤ 8 = least_by_meaning _ _ (length c.sent-frames.result.items) 8 c.args.self.now.meant (λ c' s fits.
+    few_asked c' s (Restarts) (record { frames = c.sent-frames.result; entries = c.push_reserved.new.self }) (c.holds_few.ensures.window (link_settings c') c.args.self.now.link s.link fits.link)
+    (c.holds_few.ensures.stand (link_settings c') c.args.self.now.link s.link fits.link).place_low ((returns-in-Ok-restart-clause-frames c) c' s fits) ((returns-in-Ok-restart-clause-refused c) c' s fits)) in
+    grind (arith, few, c.sent-frames.result.ok)

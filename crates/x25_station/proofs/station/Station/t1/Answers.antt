@@ -1,4 +1,4 @@
-use Rattle.std.proofs.Common.{[], sym, subst, ap, ◌∙◌, ◌++◌, map}
+use Rattle.std.proofs.Common.{arith, ◌≤◌, length, [], sym, subst, ap, ◌∙◌, ◌++◌, map}
 use Rattle.x25_link.specs.Steps.{timer_refusal, timer_step}
 use Rattle.x25_link.specs.declared.step.Step as link_step
 use Rattle.x25_station.specs.FitsParts.{AreMeant}
@@ -9,6 +9,8 @@ use Rattle.x25_station.specs.declared.step.Step as code_step
 use Rattle.x25_station.specs.Steps.{Step, unless, follows}
 use Rattle.x25_station.proofs.DownLemmas.{timer_down, leaves_down, frames_down, entries_noted_down}
 use Rattle.x25_station.proofs.OutcomeLemmas.{leaves_some, still_meant, sends_unless, enters_unless, goes, refused, timer_named}
+use Rattle.x25_station.proofs.TakeLemmas.{least_by_meaning, few_frames}
+use Rattle.x25_station.proofs.FewLemmas.{timer_few}
 use Rattle.x25_station.proofs.station.Station.t1.Goals as goal
 
 pub invariant_of-self : goal.invariant_of-self
@@ -61,3 +63,11 @@ pub returns-in-Err-clause-refused : goal.returns-in-Err-clause-refused
 returns-in-Err-clause-refused c = λ c' s fits.
     refused link_step.Step code_step.Step c.in-Err.error _ (timer_refusal s.link) (follows c' s.layer (timer_step (link_settings c') s.link)) (timer_named s.link) c.of_link.ensures
     (c.in-Err.ensures.refused (link_settings c') s.link fits.link)
+
+pub returns-in-Ok-t1-clause-few_frames : goal.returns-in-Ok-t1-clause-few_frames
+returns-in-Ok-t1-clause-few_frames c =
+    let few : length c.in-Ok-t1.step.frames.items ≤ 9 = least_by_meaning _ _ (length c.in-Ok-t1.step.frames.items) 9 c.args.self.now.meant (λ c' s fits.
+    let lk = link_settings c' in
+    few_frames c'.role c.in-Ok-t1.step.frames.items (λ frame. frame.items) (timer_step lk s.link).side.out 9 (c.in-Ok-t1.ensures.answer lk s.link fits.link).frames
+    (timer_few lk s.link (c.holds_few.ensures.window lk c.args.self.now.link s.link fits.link) (c.holds_few.ensures.stand lk c.args.self.now.link s.link fits.link).place_low)) in
+    grind (arith, few, c.in-Ok-t1.step.frames.ok)

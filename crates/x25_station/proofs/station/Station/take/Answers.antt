@@ -1,4 +1,4 @@
-use Rattle.std.proofs.Common.{◌<◌, ◌≤◌, ◌++◌, length, map, All, option_copied, arith, ap, sym, subst, ◌∙◌}
+use Rattle.std.proofs.Common.{◌≡◌, ◌+◌, length-append, ◌<◌, ◌≤◌, ◌++◌, length, map, All, option_copied, arith, ap, sym, subst, ◌∙◌}
 use Rattle.std.proofs.lemmas.List.{map-append}
 use Rattle.std.proofs.lemmas.List.Elements.{All-from_get_or}
 use Rattle.x25_link.specs.declared.phase.Notes.{Notes}
@@ -130,3 +130,25 @@ returns-in-Ok-clause-entries c = λ c' s fits.
     let noted = entries_noted c.in-Ok.step.notes ++ entries_heard (layer_settings c') s.layer (option_copied c.in-Ok.step.packet) c.in-Ok.step.notes.down c.in-Ok.step.notes.up in
     took_enters c' s c.args.octets.now (option_copied c.in-Ok.step.packet) c.in-Ok.step.notes _ (c.requires.goes_on c' s fits) (answer.packet, answer.notes)
     (c.follow.ensures.entries c' s.layer k.side before.layer whole ∙ ap (λ es. map plain_entry es ++ noted) c.in_ok-frames.ensures.entries)
+
+pub returns-in-Ok-clause-few_frames : goal.returns-in-Ok-clause-few_frames
+returns-in-Ok-clause-few_frames c =
+    let few : length c.in-Ok.step.frames.items ≤ 9 = least_by_meaning _ _ (length c.in-Ok.step.frames.items) 9 c.args.self.now.meant (λ c' s fits.
+    let lk = link_settings c' in
+    few_frames c'.role c.in-Ok.step.frames.items (λ frame. frame.items) (take_step lk c.args.octets.now s.link).side.out 9
+    (c.in-Ok.ensures.answer lk s.link (c.in_ok-frames.ensures.fits c' s fits).link).frames (c.holds_few.ensures.take lk c.args.octets.now s.link)) in
+    let more : length c.sent.result.items ≤ 8 = least_by_meaning _ _ (length c.sent.result.items) 8 c.args.self.now.meant (λ c' s fits.
+    let lk = link_settings c' in
+    let k : LinkStep = take_step lk c.args.octets.now s.link in
+    let before = c.in_ok-frames.ensures.fits c' s fits in
+    let answer = c.in-Ok.ensures.answer lk s.link before.link in
+    let whole : FitsWhole c.take.new.self (kept_of lk (alone k.side.near)) = record { link = c.in-Ok.ensures.state lk s.link before.link; kept = ap (λ o. o.made) c.in-Ok.ensures.outgoing ∙ before.sent } in
+    let step = put_behind c' s k (option_copied c.in-Ok.step.packet) c.in-Ok.step.notes in
+    let link = c.follow.ensures.link c' s.layer k.side before.layer whole in
+    few_frames c'.role c.sent.result.items (λ frame. frame.items) (all_put lk step.put (alone k.side.near)).out 8 (c.sent.ensures.frames ∙ link.kept)
+    (few_put lk step.put k.side.near (c.holds_few.ensures.window lk c.take.new.self k.side.near whole.link) (c.holds_few.ensures.stand lk c.take.new.self k.side.near whole.link).place_low)) in
+    let none : length c.in_ok-frames.frames.items ≡ 0 = ap length c.in_ok-frames.ensures.frames in
+    let own : length c.append.new.frames.items ≡ length c.in_ok-frames.frames.items + length c.in-Ok.step.frames.items = ap length c.append.ensures.items ∙ length-append _ _ in
+    let all : length c.append-in-Ok.new.frames.items ≡ length c.append.new.frames.items + length c.sent.result.items = ap length c.append-in-Ok.ensures.items ∙ length-append _ _ in
+    let held = c.append-in-Ok.new.frames.ok.0 in
+    omega (arith, few, more, none, own, all, held)

@@ -1,0 +1,216 @@
+-- An end that acts, in its world: the other end is as it was. And lists of events, one more at a time.
+use Rattle.std.proofs.Common.{◌≡◌, ℕ, ◌+◌, ◌<◌, ◌≤◌, nat_lt, Bool, true, false, if◌then◌else◌, List, [], ◌∷◌, ◌++◌, length, map, take, Option, Some, None, Result, Ok, Err, OnOk, OnErr, IfErr, ◌⊎◌, inl, inr, refl, ap, sym, ◌∙◌, subst, append_assoc}
+use Rattle.std.specs.List.{take-map}
+use Rattle.std.proofs.Math.ListN.{get_or}
+use Rattle.std.proofs.lemmas.Option.{slice_get-get_or}
+use Rattle.std.proofs.lemmas.List.{take_more, map-append, take_all, length-map, get_or-map}
+use Rattle.x25_bits.specs.declared.role.Role.{Role}
+use Rattle.x25_bits.specs.declared.role.Role.TheVariants.{Dte, Dce}
+use Rattle.x25_line.specs.Stations.{is_visible}
+use Rattle.x25_station.specs.declared.config.Cfg.{Cfg}
+use Rattle.x25_station.specs.declared.error.StationError.{StationError}
+use Rattle.x25_station.specs.declared.station.Station as code
+use Rattle.x25_station.specs.FitsStation.{FitsStation}
+use Rattle.x25_station.specs.Settings.{Settings, settings_from}
+use Rattle.x25_station.specs.Steps.{Outcome, Did, Refused, commands, fires}
+use Rattle.x25_world.specs.declared.event.Event as code_event
+use Rattle.x25_world.specs.declared.error.WorldError.{WorldError}
+use Rattle.x25_world.specs.declared.error.WorldError.TheVariants as error
+use Rattle.x25_world.specs.World.{World, swapped, Event, Act, Commands, Receives, Fires, Loses, Damages, WorldOutcome, Happened, Declined, of_station, delivered, acts, swapped_back, event_of, happens, after, refusal_of, run, AreAccepted, start}
+use Rattle.x25_world.specs.Claims.{ActsInOctets, AreInOctets, Always}
+use Rattle.x25_world.specs.ShownWorld.{ShownWorld, ShownSide}
+use Rattle.x25_world.specs.FitsWorld.{Gone, FitsWorld, FitsRun, and_then, FitsSide, HasHappened, IsRefusal, StopsAt, RefusesConfig}
+
+-- ---- the far end is as it was
+
+abbrev pub KeepsFar : World → WorldOutcome → Type 0
+KeepsFar w (Happened next) = next.far ≡ w.far
+KeepsFar w (Declined e) = Unit {0}
+
+pub station_keeps_far : (c : Settings) (w : World) (o : Outcome) → KeepsFar w (of_station c w o)
+station_keeps_far c w (Did step) = refl
+station_keeps_far c w (Refused e) = tt
+
+delivered_keeps_far : (c : Settings) (w : World) (back : List (List ℕ)) → KeepsFar w (delivered c w back)
+delivered_keeps_far c w [] = tt
+delivered_keeps_far c w (octets ∷ back) = refl
+
+keeps_if : (w : World) (b : Bool) (u v : WorldOutcome) → KeepsFar w u → KeepsFar w v → KeepsFar w (if b then u else v)
+keeps_if w true u v f g = f
+keeps_if w false u v f g = g
+
+acts_keep_far : (c : Settings) (w : World) (a : Act) → KeepsFar w (acts c w a)
+acts_keep_far c w (Commands command) = station_keeps_far c w (commands c w.near command)
+acts_keep_far c w Receives = delivered_keeps_far c w w.back
+acts_keep_far c w Fires = station_keeps_far c w (fires c w.near)
+acts_keep_far c w (Loses place) = keeps_if w (nat_lt place (length w.back)) _ _ refl tt
+acts_keep_far c w (Damages place octets) = keeps_if w (nat_lt place (length w.back)) _ _ (keeps_if w (is_visible octets) _ _ refl tt) tt
+
+-- ---- the DTE
+
+-- what the DTE's side holds, beside the DCE
+abbrev pub with_dte : ShownSide → code.Station → ShownWorld
+with_dte v dce = record { dte = v.near; dce = dce; to_dce = v.line.to_dce; to_dte = v.line.to_dte; tap = v.line.tap; transcript = v.transcript }
+
+pub dte_side : (cfg : Cfg) (v : ShownSide) (dce : code.Station) (w : World) (gone : Gone) → FitsWorld cfg (with_dte v dce) w gone → FitsSide cfg Dte v w gone
+dte_side cfg v dce w gone fits = record { near = fits.dte; out = fits.to_dce; back = fits.to_dte; tap = fits.tap; transcript = fits.transcript }
+
+dte_world : (cfg : Cfg) (v : ShownSide) (dce : code.Station) (w : World) (gone : Gone) (o : WorldOutcome) → KeepsFar w o → FitsStation (settings_from Dce cfg) dce w.far
+    → HasHappened cfg Dte v o gone → FitsWorld cfg (with_dte v dce) (after w o) gone
+dte_world cfg v dce w gone (Happened next) far fits h = record { dte = h.near; dce = rw far fits; to_dce = h.out; to_dte = h.back; tap = h.tap; transcript = h.transcript }
+dte_world cfg v dce w gone (Declined e) far fits h = absurd h
+
+pub dte_happened : (cfg : Cfg) (new : ShownSide) (dce : code.Station) (w : World) (gone : Gone) (r : Result (Unit {0}) WorldError) (o : WorldOutcome) → KeepsFar w o
+    → FitsStation (settings_from Dce cfg) dce w.far → OnOk r (HasHappened cfg Dte new o gone) → OnOk r (FitsWorld cfg (with_dte new dce) (after w o) gone)
+dte_happened cfg new dce w gone (Ok x) o far fits h = dte_world cfg new dce w gone o far fits h
+dte_happened cfg new dce w gone (Err e) o far fits h = tt
+
+pub dte_step : (cfg : Cfg) (new : ShownSide) (dce : code.Station) (w : World) (gone : Gone) (r : Result (Unit {0}) WorldError) (a : Act) → FitsStation (settings_from Dce cfg) dce w.far
+    → OnOk r (HasHappened cfg Dte new (acts (settings_from Dte cfg) w a) gone) → OnOk r (FitsWorld cfg (with_dte new dce) (after w (acts (settings_from Dte cfg) w a)) gone)
+dte_step cfg new dce w gone r a fits h = dte_happened cfg new dce w gone r (acts (settings_from Dte cfg) w a) (acts_keep_far (settings_from Dte cfg) w a) fits h
+
+pub dte_stays : (cfg : Cfg) (new : ShownSide) (dce : code.Station) (w : World) (gone : Gone) (r : Result (Unit {0}) WorldError) → FitsStation (settings_from Dce cfg) dce w.far
+    → OnErr r (FitsSide cfg Dte new w gone) → OnErr r (FitsWorld cfg (with_dte new dce) w gone)
+dte_stays cfg new dce w gone (Ok x) fits h = tt
+dte_stays cfg new dce w gone (Err e) fits h = record { dte = h.near; dce = fits; to_dce = h.out; to_dte = h.back; tap = h.tap; transcript = h.transcript }
+
+-- ---- the DCE
+
+abbrev pub with_dce : ShownSide → code.Station → ShownWorld
+with_dce v dte = record { dte = dte; dce = v.near; to_dce = v.line.to_dce; to_dte = v.line.to_dte; tap = v.line.tap; transcript = v.transcript }
+
+pub dce_side : (cfg : Cfg) (v : ShownSide) (dte : code.Station) (w : World) (gone : Gone) → FitsWorld cfg (with_dce v dte) w gone → FitsSide cfg Dce v (swapped w) gone
+dce_side cfg v dte w gone fits = record { near = fits.dce; out = fits.to_dte; back = fits.to_dce; tap = fits.tap; transcript = fits.transcript }
+
+dce_world : (cfg : Cfg) (v : ShownSide) (dte : code.Station) (w : World) (gone : Gone) (o : WorldOutcome) → KeepsFar (swapped w) o → FitsStation (settings_from Dte cfg) dte w.near
+    → HasHappened cfg Dce v o gone → FitsWorld cfg (with_dce v dte) (after w (swapped_back o)) gone
+dce_world cfg v dte w gone (Happened next) far fits h = record { dte = rw far fits; dce = h.near; to_dce = h.back; to_dte = h.out; tap = h.tap; transcript = h.transcript }
+dce_world cfg v dte w gone (Declined e) far fits h = absurd h
+
+pub dce_step : (cfg : Cfg) (new : ShownSide) (dte : code.Station) (w : World) (gone : Gone) (r : Result (Unit {0}) WorldError) (a : Act) → FitsStation (settings_from Dte cfg) dte w.near
+    → OnOk r (HasHappened cfg Dce new (acts (settings_from Dce cfg) (swapped w) a) gone) → OnOk r (FitsWorld cfg (with_dce new dte) (after w (swapped_back (acts (settings_from Dce cfg) (swapped w) a))) gone)
+dce_step cfg new dte w gone (Ok x) a fits h = dce_world cfg new dte w gone (acts (settings_from Dce cfg) (swapped w) a) (acts_keep_far (settings_from Dce cfg) (swapped w) a) fits h
+dce_step cfg new dte w gone (Err e) a fits h = tt
+
+pub dce_stays : (cfg : Cfg) (new : ShownSide) (dte : code.Station) (w : World) (gone : Gone) (r : Result (Unit {0}) WorldError) → FitsStation (settings_from Dte cfg) dte w.near
+    → OnErr r (FitsSide cfg Dce new (swapped w) gone) → OnErr r (FitsWorld cfg (with_dce new dte) w gone)
+dce_stays cfg new dte w gone (Ok x) fits h = tt
+dce_stays cfg new dte w gone (Err e) fits h = record { dte = fits; dce = h.near; to_dce = h.back; to_dte = h.out; tap = h.tap; transcript = h.transcript }
+
+-- ---- accepted and refused
+
+accepted_of : (cfg : Cfg) (at : Role) (v : ShownSide) (o : WorldOutcome) (gone : Gone) → HasHappened cfg at v o gone → refusal_of o ≡ None
+accepted_of cfg at v (Happened next) gone h = refl
+accepted_of cfg at v (Declined e) gone h = absurd h
+
+pub is_accepted : (cfg : Cfg) (at : Role) (v : ShownSide) (o : WorldOutcome) (gone : Gone) (r : Result (Unit {0}) WorldError) → OnOk r (HasHappened cfg at v o gone) → OnOk r (refusal_of o ≡ None)
+is_accepted cfg at v o gone (Ok x) h = accepted_of cfg at v o gone h
+is_accepted cfg at v o gone (Err e) h = tt
+
+refusal-swapped : (o : WorldOutcome) → refusal_of (swapped_back o) ≡ refusal_of o
+refusal-swapped (Happened next) = refl
+refusal-swapped (Declined e) = refl
+
+pub swapped_accepted : (o : WorldOutcome) (r : Result (Unit {0}) WorldError) → OnOk r (refusal_of o ≡ None) → OnOk r (refusal_of (swapped_back o) ≡ None)
+swapped_accepted o (Ok x) h = refusal-swapped o ∙ h
+swapped_accepted o (Err e) h = tt
+
+pub dce_refused : (cfg : Cfg) (w : World) (e : Event) (r : Result (Unit {0}) WorldError) → e.at ≡ Dce
+    → IfErr r (λ x. (refusal_of (acts (settings_from Dce cfg) (swapped w) e.act) ≡ Some x) ⊎ (x ≡ error.NoMemory)) → IfErr r (IsRefusal cfg w e)
+dce_refused cfg w e (Ok x) at h = tt
+dce_refused cfg w e (Err x) at h = rw (at, refusal-swapped) h
+
+-- what isn't refused by the definition is refused for want of memory alone
+pub only_memory : (o : Option WorldError) (r : Result (Unit {0}) WorldError) → o ≡ None → IfErr r (λ e. (o ≡ Some e) ⊎ (e ≡ error.NoMemory)) → IfErr r (λ e. e ≡ error.NoMemory)
+only_memory o (Ok x) none h = tt
+only_memory o (Err e) none h = elim h [ inl is ↦ cc | inr memory ↦ memory ]
+
+pub in_range : {T : Type 0} (o : Option StationError) (x : T) → RefusesConfig (let made : Result T WorldError = Ok x in made) o → o ≡ None
+in_range None x made = refl
+in_range (Some d) x made = cc
+
+-- the settings are in their ranges, so that only want of memory is left
+pub refused_later : {T : Type 0} (U : Type 0) (o : Option StationError) (x : T) (e : WorldError) → RefusesConfig (let made : Result T WorldError = Ok x in made) o → e ≡ error.NoMemory
+    → RefusesConfig (let made : Result U WorldError = Err e in made) o
+refused_later U None x e made memory = memory
+refused_later U (Some d) x e made memory = cc
+
+-- ---- one more event
+
+pub run-push : (cfg : Cfg) (es : List Event) (e : Event) (w : World) → run cfg (es ++ e ∷ []) w ≡ after (run cfg es w) (happens cfg (run cfg es w) e)
+run-push cfg [] e w = refl
+run-push cfg (x ∷ es) e w = run-push cfg es e (after w (happens cfg w x))
+
+pub AreAccepted-push : (cfg : Cfg) (es : List Event) (e : Event) (w : World) → AreAccepted cfg es w → refusal_of (happens cfg (run cfg es w) e) ≡ None → AreAccepted cfg (es ++ e ∷ []) w
+AreAccepted-push cfg [] e w h last = (last, tt)
+AreAccepted-push cfg (x ∷ es) e w h last = (h.0, AreAccepted-push cfg es e (after w (happens cfg w x)) h.1 last)
+
+-- ---- one more event of a list
+
+events_more : (events : List code_event.Event) (i : ℕ) (d : code_event.Event) → i < length events → map event_of (take (i + 1) events) ≡ map event_of (take i events) ++ event_of (get_or events i d) ∷ []
+events_more events i d within = ap (map event_of) (take_more events i d within) ∙ map-append event_of (take i events) (get_or events i d ∷ [])
+
+pub happened_more : (cfg : Cfg) (events : List code_event.Event) (i : ℕ) (d : code_event.Event) (v : ShownWorld) (w : World) (gone : Gone) → i < length events
+    → (let now = run cfg (map event_of (take i events)) w in FitsWorld cfg v (after now (happens cfg now (event_of (get_or events i d)))) gone)
+    → FitsWorld cfg v (run cfg (map event_of (take (i + 1) events)) w) gone
+happened_more cfg events i d v w gone within h = rw (events_more events i d within, run-push) h
+
+pub accepted_more : (cfg : Cfg) (events : List code_event.Event) (i : ℕ) (d : code_event.Event) (w : World) → i < length events → AreAccepted cfg (map event_of (take i events)) w
+    → refusal_of (happens cfg (run cfg (map event_of (take i events)) w) (event_of (get_or events i d))) ≡ None → AreAccepted cfg (map event_of (take (i + 1) events)) w
+accepted_more cfg events i d w within h last = rw (events_more events i d within) (AreAccepted-push cfg (map event_of (take i events)) (event_of (get_or events i d)) w h last)
+
+-- the list stops at this event
+pub stops_at : (cfg : Cfg) (events : List code_event.Event) (i : ℕ) (d : code_event.Event) (v : ShownWorld) (w : World) (gone : Gone) (error : WorldError) → i < length events
+    → AreAccepted cfg (map event_of (take i events)) w → FitsWorld cfg v (run cfg (map event_of (take i events)) w) gone
+    → IsRefusal cfg (run cfg (map event_of (take i events)) w) (event_of (get_or events i d)) error
+    → StopsAt cfg (map event_of events) w gone v (record { index = i; error = error })
+stops_at cfg events i d v w gone error within accepted fits refusal = record {
+  accepted = rw (take-map event_of i events) accepted;
+  fits = rw (take-map event_of i events) fits;
+  event = event_of (get_or events i d);
+  is = slice_get-get_or (map event_of events) i (event_of d) (rw (length-map events event_of) within) ∙ ap Some (get_or-map event_of events i d (event_of d) within);
+  refusal = rw (take-map event_of i events) refusal;
+}
+
+-- all events happened
+pub all_happened : (cfg : Cfg) (events : List code_event.Event) (i : ℕ) (v : ShownWorld) (w : World) (gone : Gone) → length events ≤ i
+    → FitsWorld cfg v (run cfg (map event_of (take i events)) w) gone → FitsWorld cfg v (run cfg (map event_of events) w) gone
+all_happened cfg events i v w gone beyond h = rw (take_all i events beyond) at h
+
+pub all_accepted : (cfg : Cfg) (events : List code_event.Event) (i : ℕ) (w : World) → length events ≤ i → AreAccepted cfg (map event_of (take i events)) w → AreAccepted cfg (map event_of events) w
+all_accepted cfg events i w beyond h = rw (take_all i events beyond) at h
+
+-- ---- runs
+
+octets_push : (es : List Event) (e : Event) → AreInOctets es → ActsInOctets e.act → AreInOctets (es ++ e ∷ [])
+octets_push [] e h last = (last, tt)
+octets_push (x ∷ es) e h last = (h.0, octets_push es e h.1 last)
+
+-- one more event, where it is accepted
+pub run_and_then : (cfg : Cfg) (old new : ShownWorld) (past : List Event) (gone : Gone) (e : Event) (r : Result (Unit {0}) WorldError) → FitsRun cfg old past gone → ActsInOctets e.act
+    → ((w : World) → FitsWorld cfg old w gone → OnOk r (FitsWorld cfg new (after w (happens cfg w e)) gone)) → ((w : World) → FitsWorld cfg old w gone → OnOk r (refusal_of (happens cfg w e) ≡ None))
+    → ((w : World) → FitsWorld cfg old w gone → OnErr r (FitsWorld cfg new w gone)) → FitsRun cfg new (and_then past e r) gone
+run_and_then cfg old new past gone e (Ok x) h octets step accepted stays = record {
+  settings = h.settings;
+  octets = octets_push past e h.octets octets;
+  accepted = AreAccepted-push cfg past e (start cfg) h.accepted (accepted (run cfg past (start cfg)) h.fits);
+  fits = rw run-push (step (run cfg past (start cfg)) h.fits);
+}
+run_and_then cfg old new past gone e (Err x) h octets step accepted stays = record { settings = h.settings; octets = h.octets; accepted = h.accepted; fits = stays (run cfg past (start cfg)) h.fits }
+
+-- so a law of all runs holds of it
+pub holds_after : (Holds : Cfg → World → Type 0) (v : ShownWorld) (cfg : Cfg) (events : List Event) (gone : Gone) → Always Holds → FitsRun cfg v events gone → Holds cfg (run cfg events (start cfg))
+holds_after Holds v cfg events gone law h = law cfg h.settings events h.octets
+
+pub run_more : (cfg : Cfg) (v : ShownWorld) (past : List Event) (gone : Gone) (events : List code_event.Event) (i : ℕ) (d : code_event.Event) → i < length events
+    → FitsRun cfg v ((past ++ map event_of (take i events)) ++ event_of (get_or events i d) ∷ []) gone → FitsRun cfg v (past ++ map event_of (take (i + 1) events)) gone
+run_more cfg v past gone events i d within h =
+    subst (λ (es : List Event). FitsRun cfg v es gone) (append_assoc past (map event_of (take i events)) (event_of (get_or events i d) ∷ []) ∙ ap (λ (es : List Event). past ++ es) (sym (events_more events i d within))) h
+
+pub run_all : (cfg : Cfg) (v : ShownWorld) (past : List Event) (gone : Gone) (events : List code_event.Event) (i : ℕ) → length events ≤ i
+    → FitsRun cfg v (past ++ map event_of (take i events)) gone → FitsRun cfg v (past ++ map event_of events) gone
+run_all cfg v past gone events i beyond h = rw (take_all i events beyond) at h
+
+pub run_stopped : (cfg : Cfg) (v : ShownWorld) (past : List Event) (gone : Gone) (events : List code_event.Event) (i : ℕ)
+    → FitsRun cfg v (past ++ map event_of (take i events)) gone → FitsRun cfg v (past ++ take i (map event_of events)) gone
+run_stopped cfg v past gone events i h = rw (take-map event_of i events) h

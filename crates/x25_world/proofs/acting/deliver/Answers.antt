@@ -1,0 +1,27 @@
+use Rattle.std.proofs.Common.{◌≡◌, ◌∙◌, Some, inr, slice_get, sym, ap}
+use Rattle.x25_world.specs.WorldError.{error_of}
+use Rattle.x25_world.proofs.SideLemmas.{shared_of, has_arrived, side_stays}
+use Rattle.x25_world.proofs.acting.deliver.Goals as goal
+
+pub returns-in-Ok : goal.returns-in-Ok
+returns-in-Ok c = λ cfg w gone side.
+    let fits = side.near in
+    let shared = rw (sym c.make_room.ensures.line) at (shared_of cfg c.args.at _ c.args.line.now _ w gone c.make_room.new.line.room side) in
+    let called = c.in-Ok.ensures in
+    let front : Some c.in-Some.octets.now ≡ slice_get w.back 0 = c.in-Some.ensures ∙ ap (λ l. slice_get l 0) shared.back in
+    record {
+      happened = rw (c.tell.ensures.line, c.tell.ensures.transcript, c.make_room.ensures.transcript, c.remove.ensures)
+          (has_arrived cfg c.args.at _ c.make_room.new.line _ w w.back gone c.in-Some.octets.now c.in-Ok.step shared front (called.state _ _ fits) (called.frames _ _ fits) (called.entries _ _ fits));
+      refused = tt;
+      stays = tt;
+    }
+
+pub returns-in-Err : goal.returns-in-Err
+returns-in-Err c = λ cfg w gone side.
+    let fits = side.near in
+    let called = c.in-Err.ensures in
+    record {
+      happened = tt;
+      refused = inr (c.of_station.ensures ∙ ap error_of called.refused);
+      stays = rw (c.make_room.ensures.line, c.make_room.ensures.transcript) (side_stays cfg c.args.at _ _ c.args.line.now _ w gone c.make_room.new.line.room side (called.stays _ _ fits));
+    }

@@ -1,0 +1,25 @@
+use Rattle.std.proofs.Common.{sym}
+use Rattle.x25_world.proofs.SideLemmas.{shared_of, has_happened, is_refusal, side_stays}
+use Rattle.x25_world.proofs.acting.fire.Goals as goal
+
+pub returns-in-Ok : goal.returns-in-Ok
+returns-in-Ok c = λ cfg w gone side.
+    let fits = side.near in
+    let shared = rw (sym c.make_room.ensures.line) at (shared_of cfg c.args.at _ c.args.line.now _ w gone c.make_room.new.line.room side) in
+    let called = c.in-Ok.ensures in
+    record {
+      happened = rw (c.tell.ensures.line, c.tell.ensures.transcript, c.make_room.ensures.transcript)
+          (has_happened cfg c.args.at _ _ _ w gone _ c.in-Ok.step shared (called.state _ _ fits) (called.frames _ _ fits) (called.entries _ _ fits) (called.refused _ _ fits));
+      refused = tt;
+      stays = tt;
+    }
+
+pub returns-in-Err : goal.returns-in-Err
+returns-in-Err c = λ cfg w gone side.
+    let fits = side.near in
+    let called = c.in-Err.ensures in
+    record {
+      happened = tt;
+      refused = rw c.of_station.ensures (is_refusal cfg c.args.at w _ c.in-Err.error (called.refused _ _ fits));
+      stays = rw (c.make_room.ensures.line, c.make_room.ensures.transcript) (side_stays cfg c.args.at _ _ c.args.line.now _ w gone c.make_room.new.line.room side (called.stays _ _ fits));
+    }

@@ -1,0 +1,246 @@
+ghost use Rattle.std.specs.Prelude.{◌≡◌, List, [], length, map, OnOk, OnErr, IfOk, IfErr};
+ghost use Rattle.x25_station.specs.declared.config.Cfg.{Cfg};
+ghost use Rattle.x25_station.specs.FitsStation.{FitsStation};
+ghost use Rattle.x25_station.specs.Settings.{settings_from, config_refusal};
+ghost use Rattle.x25_station.specs.Station as station;
+ghost use Rattle.x25_world.specs.PlainTold.{plain_tapped, plain_entered};
+ghost use Rattle.x25_world.specs.ShownWorld.{line_of, station_of};
+ghost use Rattle.x25_world.specs.FitsWorld.{Gone, all_of, nothing_gone, FitsWorld, FitsRun, and_then, and_all, HoldsAfter, IsRefusal, StopsAt, RefusesConfig};
+ghost use Rattle.x25_world.specs.Claims.{IsLawful, IsNamed, ArrivesAll, HasNoProcedureError, IsInWindow, IsUpOnce};
+ghost use Rattle.x25_world.specs.World as definition;
+ghost use Rattle.x25_world.specs.World.{event_of, happens, after, refusal_of, run, AreAccepted, apart, connected, start};
+
+use crate::acting::{act, connect};
+use crate::error::{WorldError, WorldRefused};
+use crate::event::Event;
+use crate::law::{hands_down_octets, two_stations_keep_order};
+use crate::line::Line;
+use crate::told::{Entered, Tapped};
+use std::alloc::Global;
+use std::marker::Model;
+use x25_bits::Role;
+use x25_line::Direction;
+use x25_station::{Cfg, Station, StationError};
+
+/// Two stations, the line between them, its tap, and the transcript of both ends.
+///
+/// The line keeps order, and may lose or visibly damage any frame. Tap and transcript hold all that was put on the line and told since
+/// `let_go` was last called, or else from the beginning.
+#[derive(Drop)]
+pub struct World {
+    dte: Station,
+    dce: Station,
+    line: Line,
+    transcript: Vec<Entered>,
+}
+
+impl Model for World {
+    ghost use Rattle.std.specs.Prelude.{map};
+    ghost use Rattle.x25_world.specs.PlainTold.{plain_entered};
+    ghost use Rattle.x25_world.specs.ShownWorld.{ShownWorld};
+
+    ghost Value = { ShownWorld };
+
+    ghost view = { λ w. record { dte = w.dte; dce = w.dce; to_dce = w.line.to_dce; to_dte = w.line.to_dte; tap = w.line.tap; transcript = map plain_entered w.transcript.items } };
+}
+
+impl World {
+    /// Two stations whose links are down, and the DTE has asked that the link be set up: its SABM is on the line.
+    ///
+    /// 14 where a setting is out of its range, and else 70 alone.
+    pub fn connecting(alloc: Global, cfg: Cfg) -> Result<World, WorldError>
+        ensures fits { IfOk result (λ v. FitsWorld cfg v (connected cfg) nothing_gone) }
+        ensures refused { RefusesConfig result (config_refusal cfg) }
+    {
+        let mut world = World {
+            dte: new_station(alloc, Role::Dte, cfg)?,
+            dce: new_station(alloc, Role::Dce, cfg)?,
+            line: Line::new(alloc),
+            transcript: Vec::new(alloc),
+        };
+        if let Err(error) = world.connect() {
+            return Err(error);
+        }
+        Ok(world)
+    }
+
+    // The DTE, which never was up, asks that the link be set up.
+    fn connect(&mut self) -> Result<(), WorldError>
+        ensures fits { (cfg : Cfg) → FitsWorld cfg self.old apart nothing_gone → OnOk result (FitsWorld cfg self.new (connected cfg) nothing_gone) }
+        ensures refused { (cfg : Cfg) → FitsWorld cfg self.old apart nothing_gone → IfErr result (λ e. e ≡ WorldError.NoMemory) }
+    {
+        connect(
+            Role::Dte,
+            &mut self.dte,
+            &mut self.line,
+            &mut self.transcript,
+        )
+    }
+
+    /// Two stations whose link was just set up: the DTE has asked, SABM and UA were delivered, and both RESTARTs are on the line.
+    ///
+    /// 14 where a setting is out of its range, and else 70 alone.
+    pub fn establish(alloc: Global, cfg: Cfg) -> Result<World, WorldError>
+        ensures fits { IfOk result (λ v. FitsWorld cfg v (start cfg) nothing_gone) }
+        ensures run { IfOk result (λ v. FitsRun cfg v [] nothing_gone) }
+        ensures refused { RefusesConfig result (config_refusal cfg) }
+        ensures lawful { OnOk result (IsLawful cfg (start cfg)) }
+        ensures named { OnOk result (IsNamed cfg (start cfg)) }
+        ensures arrives { OnOk result (ArrivesAll cfg (start cfg)) }
+        ensures quiet { OnOk result (HasNoProcedureError cfg (start cfg)) }
+        ensures window { OnOk result (IsInWindow cfg (start cfg)) }
+        ensures up_once { OnOk result (IsUpOnce cfg (start cfg)) }
+    {
+        two_stations_keep_order();
+        let mut world = World::connecting(alloc, cfg)?;
+        if let Err(error) = world.set_up() {
+            return Err(error);
+        }
+        Ok(world)
+    }
+
+    // SABM and UA are delivered.
+    fn set_up(&mut self) -> Result<(), WorldError>
+        ensures fits { (cfg : Cfg) → FitsWorld cfg self.old (connected cfg) nothing_gone → OnOk result (FitsWorld cfg self.new (start cfg) nothing_gone) }
+        ensures refused { (cfg : Cfg) → FitsWorld cfg self.old (connected cfg) nothing_gone → IfErr result (λ e. e ≡ WorldError.NoMemory) }
+    {
+        two_stations_keep_order();
+        if let Err(error) = self.apply(Event::Deliver(Direction::ToDce)) {
+            return Err(error);
+        }
+        self.apply(Event::Deliver(Direction::ToDte))
+    }
+
+    /// Lets the event happen.
+    ///
+    /// Refused with the one ground that applies, 50, 51, 52 or 53, and else accepted; 70 where memory is refused. Then the world is as
+    /// before.
+    pub fn apply(&mut self, event: Event) -> Result<(), WorldError>
+        ensures step { (cfg : Cfg) (w : definition.World) (gone : Gone) → FitsWorld cfg self.old w gone → OnOk result (FitsWorld cfg self.new (after w (happens cfg w (event_of event.entry))) gone) }
+        ensures accepted { (cfg : Cfg) (w : definition.World) (gone : Gone) → FitsWorld cfg self.old w gone → OnOk result (refusal_of (happens cfg w (event_of event.entry)) ≡ None) }
+        ensures refused { (cfg : Cfg) (w : definition.World) (gone : Gone) → FitsWorld cfg self.old w gone → IfErr result (IsRefusal cfg w (event_of event.entry)) }
+        ensures stays { (cfg : Cfg) (w : definition.World) (gone : Gone) → FitsWorld cfg self.old w gone → OnErr result (FitsWorld cfg self.new w gone) }
+
+        // The world is that of a run, and of each run this is proved.
+        ensures run { (cfg : Cfg) (past : List definition.Event) (gone : Gone) → FitsRun cfg self.old past gone → FitsRun cfg self.new (and_then past (event_of event.entry) result) gone }
+        ensures lawful { HoldsAfter IsLawful self.old (λ past. and_then past (event_of event.entry) result) }
+        ensures named { HoldsAfter IsNamed self.old (λ past. and_then past (event_of event.entry) result) }
+        ensures arrives { HoldsAfter ArrivesAll self.old (λ past. and_then past (event_of event.entry) result) }
+        ensures quiet { HoldsAfter HasNoProcedureError self.old (λ past. and_then past (event_of event.entry) result) }
+        ensures window { HoldsAfter IsInWindow self.old (λ past. and_then past (event_of event.entry) result) }
+        ensures up_once { HoldsAfter IsUpOnce self.old (λ past. and_then past (event_of event.entry) result) }
+    {
+        two_stations_keep_order();
+        hands_down_octets(event);
+        self.happen(event)
+    }
+
+    fn happen(&mut self, event: Event) -> Result<(), WorldError>
+        ensures step { (cfg : Cfg) (w : definition.World) (gone : Gone) → FitsWorld cfg self.old w gone → OnOk result (FitsWorld cfg self.new (after w (happens cfg w (event_of event.entry))) gone) }
+        ensures accepted { (cfg : Cfg) (w : definition.World) (gone : Gone) → FitsWorld cfg self.old w gone → OnOk result (refusal_of (happens cfg w (event_of event.entry)) ≡ None) }
+        ensures refused { (cfg : Cfg) (w : definition.World) (gone : Gone) → FitsWorld cfg self.old w gone → IfErr result (IsRefusal cfg w (event_of event.entry)) }
+        ensures stays { (cfg : Cfg) (w : definition.World) (gone : Gone) → FitsWorld cfg self.old w gone → OnErr result (FitsWorld cfg self.new w gone) }
+    {
+        match event.at() {
+            Role::Dte => act(
+                Role::Dte,
+                &mut self.dte,
+                &mut self.line,
+                &mut self.transcript,
+                event,
+            ),
+            Role::Dce => act(
+                Role::Dce,
+                &mut self.dce,
+                &mut self.line,
+                &mut self.transcript,
+                event,
+            ),
+        }
+    }
+
+    /// Lets the events happen in order, as by `apply`, up to the first that is refused. The events before it were accepted, and stand.
+    pub fn run(&mut self, events: &[Event]) -> Result<(), WorldRefused>
+        ensures step { (cfg : Cfg) (w : definition.World) (gone : Gone) → FitsWorld cfg self.old w gone → OnOk result (FitsWorld cfg self.new (run cfg (map event_of events.now) w) gone) }
+        ensures accepted { (cfg : Cfg) (w : definition.World) (gone : Gone) → FitsWorld cfg self.old w gone → OnOk result (AreAccepted cfg (map event_of events.now) w) }
+        ensures stopped { (cfg : Cfg) (w : definition.World) (gone : Gone) → FitsWorld cfg self.old w gone → IfErr result (StopsAt cfg (map event_of events.now) w gone self.new) }
+
+        // The world is that of a run, and of each run this is proved.
+        ensures run { (cfg : Cfg) (past : List definition.Event) (gone : Gone) → FitsRun cfg self.old past gone → FitsRun cfg self.new (and_all past (map event_of events.now) result) gone }
+        ensures lawful { HoldsAfter IsLawful self.old (λ past. and_all past (map event_of events.now) result) }
+        ensures named { HoldsAfter IsNamed self.old (λ past. and_all past (map event_of events.now) result) }
+        ensures arrives { HoldsAfter ArrivesAll self.old (λ past. and_all past (map event_of events.now) result) }
+        ensures quiet { HoldsAfter HasNoProcedureError self.old (λ past. and_all past (map event_of events.now) result) }
+        ensures window { HoldsAfter IsInWindow self.old (λ past. and_all past (map event_of events.now) result) }
+        ensures up_once { HoldsAfter IsUpOnce self.old (λ past. and_all past (map event_of events.now) result) }
+    {
+        two_stations_keep_order();
+        self.happen_all(events)
+    }
+
+    fn happen_all(&mut self, events: &[Event]) -> Result<(), WorldRefused>
+        ensures step { (cfg : Cfg) (w : definition.World) (gone : Gone) → FitsWorld cfg self.old w gone → OnOk result (FitsWorld cfg self.new (run cfg (map event_of events.now) w) gone) }
+        ensures accepted { (cfg : Cfg) (w : definition.World) (gone : Gone) → FitsWorld cfg self.old w gone → OnOk result (AreAccepted cfg (map event_of events.now) w) }
+        ensures stopped { (cfg : Cfg) (w : definition.World) (gone : Gone) → FitsWorld cfg self.old w gone → IfErr result (StopsAt cfg (map event_of events.now) w gone self.new) }
+        ensures run { (cfg : Cfg) (past : List definition.Event) (gone : Gone) → FitsRun cfg self.old past gone → FitsRun cfg self.new (and_all past (map event_of events.now) result) gone }
+    {
+        for index in 0..events.len() {
+            if let Err(error) = self.apply(events[index]) {
+                return Err(WorldRefused { index, error });
+            }
+        }
+        Ok(())
+    }
+
+    /// The entries of both ends that were told and not let go of, in order.
+    pub fn transcript(&self) -> &[Entered]
+        ensures { map plain_entered result.now ≡ self.now.transcript }
+    {
+        &self.transcript
+    }
+
+    /// The frames that were put on the line and not let go of, in order, as they were sent.
+    pub fn tap(&self) -> &[Tapped]
+        ensures { map plain_tapped result.now ≡ self.now.tap }
+    {
+        self.line.tap()
+    }
+
+    pub fn station(&self, role: Role) -> &Station
+        ensures { result.now ≡ station_of self.now role }
+    {
+        match role {
+            Role::Dte => &self.dte,
+            Role::Dce => &self.dce,
+        }
+    }
+
+    /// How many frames are on the line in this direction.
+    pub fn on_line(&self, direction: Direction) -> usize
+        ensures { result ≡ length (line_of self.now direction) }
+    {
+        self.line.len(direction.end())
+    }
+
+    /// Lets go of what was told: tap and transcript begin anew. The line and the stations are as before.
+    pub fn let_go(&mut self)
+        ensures fits { (cfg : Cfg) (w : definition.World) (gone : Gone) → FitsWorld cfg self.old w gone → FitsWorld cfg self.new w (all_of w) }
+        ensures run { (cfg : Cfg) (past : List definition.Event) (gone : Gone) → FitsRun cfg self.old past gone → FitsRun cfg self.new past (all_of (run cfg past (start cfg))) }
+        ensures empty { self.new ≡ record self.old { tap = []; transcript = [] } }
+    {
+        self.line.let_go();
+        self.transcript.clear();
+    }
+}
+
+// A station whose link is down.
+fn new_station(alloc: Global, role: Role, cfg: Cfg) -> Result<Station, WorldError>
+    ensures fits { IfOk result (λ v. FitsStation (settings_from role cfg) v station.new_station) }
+    ensures refused { RefusesConfig result (config_refusal cfg) }
+{
+    match Station::new(alloc, role, cfg) {
+        Ok(station) => Ok(station),
+        Err(StationError::BadConfig) => Err(WorldError::BadConfig),
+        Err(_) => Err(WorldError::NoMemory),
+    }
+}
