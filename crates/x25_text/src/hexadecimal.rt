@@ -1,10 +1,12 @@
-//! Octets from hexadecimal digits.
-ghost use Rattle.std.specs.Prelude.{◌≡◌, ◌+◌, ◌*◌, ◌≤◌, nat_lt, if◌then◌else◌, length, take, drop, map, Some, None, IsTrue};
-ghost use Rattle.std.specs.List.{list_all};
+//! Octets from hexadecimal digits, and as such.
+ghost use Rattle.std.specs.Prelude.{◌≡◌, ◌+◌, ◌*◌, ◌≤◌, nat_lt, if◌then◌else◌, length, take, drop, map, Some, None, IfOk, IsTrue, string_bytes};
+ghost use Rattle.std.specs.List.{flat_map, list_all};
 ghost use Rattle.std.specs.Result.{result_ok};
 ghost use Rattle.hex.specs.Hex.{decode_of};
 ghost use Rattle.x25_text.specs.Hexadecimal.{octets_of, paired, value_of};
+ghost use Rattle.x25_text.specs.OctetText.{octet_text};
 
+use std::alloc::{AllocError, Global};
 use std::simd::prelude::*;
 
 /// The value of each character that is a hexadecimal digit, 255 for the others.
@@ -114,4 +116,11 @@ pub fn read_hexadecimal(digits: &[u8], octets: &mut [u8]) -> bool
         }
     }
     read_eight(digits, octets, count - 8)
+}
+
+/// The octets as hexadecimal digits in lower case, two for each, in memory of their own.
+pub fn hexadecimal_digits(alloc: Global, octets: &[u8]) -> Result<String, AllocError>
+    ensures { IfOk result (λ digits. string_bytes digits ≡ flat_map octet_text octets.now) }
+{
+    hex::encode(alloc, octets)
 }

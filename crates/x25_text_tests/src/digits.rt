@@ -1,5 +1,5 @@
 use std::test::Fail;
-use x25_text::read_hexadecimal;
+use x25_text::{hexadecimal_digits, read_hexadecimal};
 
 const DIGITS: [u8; 58] = *b"0123456789abcdefABCDEF0011223344556677889900aaBBccDDeeFF12";
 
@@ -12,6 +12,17 @@ fn reads_digits_as_hex_does(rt: HostRuntime) -> Result<(), Fail> {
         let mut octets = [0u8; 29];
         assert!(rt; read_hexadecimal(digits, &mut octets[..count]));
         assert_eq!(rt; &octets[..count], wanted.as_slice());
+    }
+    Ok(())
+}
+
+#[test]
+fn writes_digits_as_hex_does(rt: HostRuntime) -> Result<(), Fail> {
+    for count in 0..30usize {
+        let octets = hex::decode(rt.alloc(), &DIGITS[..2 * count])?;
+        let wanted = hex::encode(rt.alloc(), octets.as_slice())?;
+        let digits = hexadecimal_digits(rt.alloc(), octets.as_slice())?;
+        assert_eq!(rt; digits.as_str(), wanted.as_str());
     }
     Ok(())
 }

@@ -1,0 +1,10 @@
+//! The text of the entries of a transcript: one line each.
+//!
+//! docs/FORMATS.md has the texts. Profile.
+#![tactic(auto)]
+
+mod entry_text;
+mod line;
+
+pub use entry_text::entry_line;
+pub use line::Line;

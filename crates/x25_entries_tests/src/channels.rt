@@ -1,0 +1,151 @@
+ghost use Rattle.std.specs.Prelude.{◌≡◌, IfOk, length, vec_len};
+
+use std::alloc::{AllocError, Global};
+use std::test::Fail;
+use x25_circuit::{Message, Octets};
+use x25_entries::entry_line;
+use x25_layer::Stretch;
+use x25_station::{Asked, Entry, Role, Said, Told};
+
+const FIRST: Stretch = Stretch {
+    restarts: 1,
+    clears: 0,
+    resets: 0,
+};
+
+/// A count may have 20 digits.
+const LATE: Stretch = Stretch {
+    restarts: 18_446_744_073_709_551_615,
+    clears: 10,
+    resets: 260,
+};
+
+fn text(alloc: Global, figures: &str) -> Result<String, AllocError> {
+    String::from_str(alloc, figures)
+}
+
+fn octets(alloc: Global, octets: &[u8]) -> Result<Vec<u8>, AllocError>
+    ensures { IfOk result (λ v. vec_len v ≡ length octets.now) }
+{
+    Vec::from_slice(alloc, octets)
+}
+
+fn asked(alloc: Global) -> Result<Vec<(Asked, &'static str)>, AllocError> {
+    Ok(vec![in alloc;
+        (
+            Asked::Call {
+                called: text(alloc, "123")?,
+                calling: text(alloc, "4567")?,
+                user: octets(alloc, b"A")?,
+            },
+            "dte call ch=1 at 1.0.0 called=123 calling=4567 data=41\n",
+        ),
+        (
+            Asked::Call {
+                called: text(alloc, "")?,
+                calling: text(alloc, "2")?,
+                user: octets(alloc, b"")?,
+            },
+            "dte call ch=1 at 1.0.0 called=- calling=2 data=-\n",
+        ),
+        (Asked::Accept, "dte accept ch=1\n"),
+        (Asked::Clear, "dte clear ch=1\n"),
+        (
+            Asked::Send {
+                q: false,
+                user: octets(alloc, b"hi")?,
+            },
+            "dte send ch=1 at 1.0.0 q=0 data=6869\n",
+        ),
+        (
+            Asked::Send {
+                q: true,
+                user: octets(alloc, b"")?,
+            },
+            "dte send ch=1 at 1.0.0 q=1 data=-\n",
+        ),
+        (
+            Asked::Interrupt {
+                user: octets(alloc, &[0, 255])?
+            },
+            "dte int ch=1 at 1.0.0 data=00ff\n",
+        ),
+        (Asked::Reset, "dte reset ch=1\n"),
+        (Asked::Ready, "dte ready ch=1\n"),
+        (Asked::NotReady, "dte notready ch=1\n"),
+    ]?)
+}
+
+#[test]
+fn shows_what_the_user_asked(rt: HostRuntime) -> Result<(), Fail> {
+    for (asked, shown) in asked(rt.alloc())? {
+        let entry = Entry::OnChannel {
+            channel: 1,
+            name: FIRST,
+            said: Said::Asked(asked),
+        };
+        let line = entry_line(rt.alloc(), Role::Dte, &entry)?;
+        assert_eq!(rt; line.as_slice(), shown.as_bytes());
+    }
+    Ok(())
+}
+
+fn told(alloc: Global) -> Result<Vec<(Told, &'static str)>, AllocError> {
+    Ok(vec![in alloc;
+        (
+            Told::Incoming {
+                called: octets(alloc, &[1, 2, 3])?,
+                calling: octets(alloc, &[])?,
+                user: octets(alloc, b"A")?,
+            },
+            "dce incoming ch=16 at 18446744073709551615.10.260 called=123 calling=- data=41\n",
+        ),
+        (Told::Connected, "dce connected ch=16\n"),
+        (Told::Collided, "dce collided ch=16\n"),
+        (
+            Told::Cleared {
+                cause: 19,
+                diagnostic: 255,
+            },
+            "dce cleared ch=16 cause=19 diag=255\n",
+        ),
+        (Told::ClearDone, "dce cleardone ch=16\n"),
+        (
+            Told::WasReset {
+                cause: 0,
+                diagnostic: 0,
+            },
+            "dce wasreset ch=16 cause=0 diag=0\n",
+        ),
+        (Told::ResetDone, "dce resetdone ch=16\n"),
+        (
+            Told::Delivered(Message {
+                q: true,
+                user: Octets::of(octets(alloc, b"hi")?),
+            }),
+            "dce message ch=16 at 18446744073709551615.10.260 q=1 data=6869\n",
+        ),
+        (
+            Told::Interrupted {
+                user: octets(alloc, &[0])?
+            },
+            "dce interrupt ch=16 at 18446744073709551615.10.260 data=00\n",
+        ),
+        (Told::InterruptDone, "dce intdone ch=16\n"),
+        (Told::Fault { diagnostic: 27 }, "dce fault ch=16 diag=27\n"),
+    ]?)
+}
+
+#[test]
+fn shows_what_the_user_was_told(rt: HostRuntime) -> Result<(), Fail> {
+    for (told, shown) in told(rt.alloc())? {
+        let entry = Entry::OnChannel {
+            channel: 16,
+            name: LATE,
+            said: Said::Told(told),
+        };
+        let line = entry_line(rt.alloc(), Role::Dce, &entry)?;
+        assert_eq!(rt; line.as_slice(), shown.as_bytes());
+    }
+    Ok(())
+}
