@@ -14,5 +14,6 @@ mod test_vectors;
 pub use decoding::decode_lines;
 pub use device::{Device, Failed, Sink, Source, write_all};
 pub use fault::Fault;
+pub use lines::split_line;
 pub use status::exit_status;
 pub use test_vectors::{vectors, vectors_hold};

@@ -1,0 +1,27 @@
+-- Deliveries, one after another.
+use Rattle.std.proofs.Common.{◌≡◌, ◌∙◌, ℕ, zero, suc, Bool, Some, None, ap, refl}
+use Rattle.x25_bits.specs.declared.role.Role.{Role}
+use Rattle.x25_station.specs.declared.config.Cfg.{Cfg}
+use Rattle.x25_world.specs.World.{World, Receives}
+use Rattle.x25_world.specs.ShownWorld.{ShownWorld}
+use Rattle.x25_world.specs.FitsWorld.{Gone, FitsWorld}
+use Rattle.x25_sim.specs.Simulated.{quiet, and_then, event_turn, next_end, delivered_to, drained}
+
+module _ (cfg : Cfg) (tap : Bool) where
+  pub drained_all : (n : ℕ) (w : World) → n ≡ 0 → drained cfg tap n w ≡ quiet w
+  unfolding drained
+  drained_all n w e = ap (λ m. drained cfg tap m w) e
+
+  pub drained_empty : (n : ℕ) (w : World) → next_end w.out w.back ≡ None → drained cfg tap n w ≡ quiet w
+  unfolding drained
+  drained_empty zero w e = refl
+  drained_empty (suc n) w e = ap (delivered_to cfg tap (drained cfg tap n) w) e
+
+  pub drained_more : (n m : ℕ) (w : World) (at : Role) → n ≡ suc m → next_end w.out w.back ≡ Some at
+      → drained cfg tap n w ≡ and_then (drained cfg tap m) (event_turn cfg tap (record { at = at; act = Receives }) w)
+  unfolding drained
+  drained_more n m w at e here = ap (λ n. drained cfg tap n w) e ∙ ap (delivered_to cfg tap (drained cfg tap m) w) here
+
+-- what the world tells of its line
+pub line_is : (cfg : Cfg) (v : ShownWorld) (w : World) (gone : Gone) → FitsWorld cfg v w gone → next_end v.to_dce v.to_dte ≡ next_end w.out w.back
+line_is cfg v w gone f = ap (λ front. next_end front v.to_dte) f.to_dce ∙ ap (next_end w.out) f.to_dte

@@ -1,0 +1,63 @@
+-- A turn that is made in parts.
+use Rattle.std.proofs.Common.{◌≡◌, ◌∙◌, ℕ, Bool, List, ◌++◌, Option, ap, sym, subst}
+use Rattle.std.specs.Prelude.{◌||◌}
+use Rattle.std.proofs.lemmas.List.{append-nil}
+use Rattle.x25_program.specs.Written.{AppendsBeginning}
+use Rattle.x25_station.specs.declared.config.Cfg.{Cfg}
+use Rattle.x25_world.specs.World.{World}
+use Rattle.x25_sim.specs.declared.stage.Stage.{Stage}
+use Rattle.x25_sim.specs.Sayings.{sayings_text, has_refusal}
+use Rattle.x25_sim.specs.Simulated.{Turn, quiet, and_then}
+use Rattle.x25_sim.specs.Stands.{Stands}
+use Rattle.x25_sim.specs.Leaves.{Leaves}
+use Rattle.x25_sim.proofs.ToldLemmas.{beginning_more, begins}
+use Rattle.x25_sim.proofs.StepLemmas.{or_false}
+use Rattle.x25_sim.proofs.StandLemmas.{StandsAt, BeginsAt, parts_text, parts_refused}
+
+module _ (cfg : Cfg) (tap : Bool) (old now next : Option (List ℕ)) (s u : Stage) (told : List ℕ) (refused : Bool) (whole : Turn) where
+  -- all of it is left
+  pub all_left : (rest : World → Turn) (w : World) → Stands cfg tap old now s w told refused → rest w ≡ whole → Leaves cfg tap old now s rest told refused whole
+  all_left rest w h e = record {
+    at = w;
+    text = told;
+    status = refused;
+    stands = h;
+    next = ap (λ t. t.next) e;
+    same = ap (λ t. told ++ sayings_text t.sayings) e;
+    any = ap (λ t. refused || has_refusal t.sayings) e;
+  }
+
+  -- nothing of it is left
+  pub none_left : (rest : World → Turn) (l : Leaves cfg tap old now s rest told refused whole) → rest l.at ≡ quiet l.at → StandsAt cfg tap old now s told refused whole
+  none_left rest l is =
+      let at : l.at ≡ whole.next = sym (ap (λ t. t.next) is) ∙ l.next in
+      let text : l.text ≡ told ++ sayings_text whole.sayings = sym (append-nil l.text) ∙ sym (ap (λ t. l.text ++ sayings_text t.sayings) is) ∙ l.same in
+      let any : l.status ≡ (refused || has_refusal whole.sayings) = sym (or_false l.status) ∙ sym (ap (λ t. l.status || has_refusal t.sayings) is) ∙ l.any in
+      subst (λ w. Stands cfg tap old now s w (told ++ sayings_text whole.sayings) (refused || has_refusal whole.sayings)) at
+      (subst (λ t. Stands cfg tap old now s l.at t (refused || has_refusal whole.sayings)) text
+      (subst (Stands cfg tap old now s l.at l.text) any l.stands))
+
+  -- a part of it is done
+  pub part_done : (all first rest : World → Turn) (l : Leaves cfg tap old now s all told refused whole) → all l.at ≡ and_then rest (first l.at)
+      → StandsAt cfg tap old next u l.text l.status (first l.at) → Leaves cfg tap old next u rest told refused whole
+  part_done all first rest l e h = record {
+    at = (first l.at).next;
+    text = l.text ++ sayings_text (first l.at).sayings;
+    status = l.status || has_refusal (first l.at).sayings;
+    stands = h;
+    next = sym (ap (λ t. t.next) e) ∙ l.next;
+    same = parts_text l.text (first l.at).sayings (rest (first l.at).next).sayings ∙ sym (ap (λ t. l.text ++ sayings_text t.sayings) e) ∙ l.same;
+    any = parts_refused l.status (first l.at).sayings (rest (first l.at).next).sayings ∙ sym (ap (λ t. l.status || has_refusal t.sayings) e) ∙ l.any;
+  }
+
+  -- a part of it failed
+  pub part_failed : (all first rest : World → Turn) (l : Leaves cfg tap old now s all told refused whole) → all l.at ≡ and_then rest (first l.at)
+      → BeginsAt old next l.text (first l.at) → BeginsAt old next told whole
+  part_failed all first rest l e b =
+      subst (AppendsBeginning old next)
+      (parts_text l.text (first l.at).sayings (rest (first l.at).next).sayings ∙ sym (ap (λ t. l.text ++ sayings_text t.sayings) e) ∙ l.same)
+      (beginning_more old next (l.text ++ sayings_text (first l.at).sayings) (sayings_text (rest (first l.at).next).sayings) b)
+
+  -- nothing more is told
+  pub given_up : (rest : World → Turn) → Leaves cfg tap old now s rest told refused whole → BeginsAt old now told whole
+  given_up rest l = subst (AppendsBeginning old now) l.same (beginning_more old now l.text (sayings_text (rest l.at).sayings) (begins old now s.output l.text l.stands.tells))

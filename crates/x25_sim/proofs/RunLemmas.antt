@@ -1,0 +1,242 @@
+-- What is written for a script is the transcript of a run.
+use Rattle.std.proofs.Common.{◌≡◌, ◌∙◌, ℕ, zero, suc, nat_lt, Bool, true, false, List, [], ◌∷◌, ◌++◌, length, drop, map, remove, Option, Some, None, append_assoc, ap, sym, subst, refl}
+use Rattle.std.proofs.lemmas.List.{append-nil}
+use Rattle.std.proofs.Math.Seq.{drop-append_seam}
+use Rattle.std.specs.Prelude.{cond}
+use Rattle.x25_bits.specs.declared.role.Role.{Role}
+use Rattle.x25_bits.specs.declared.role.Role.TheVariants.{Dte, Dce}
+use Rattle.x25_line.specs.Stations.{is_visible, replaced}
+use Rattle.x25_station.specs.declared.config.Cfg.{Cfg}
+use Rattle.x25_station.specs.Settings.{Settings, settings_from}
+use Rattle.x25_station.specs.Steps.{Outcome, Did, Refused, fires, commands}
+use Rattle.x25_script.specs.PlainLine.{PlainLine, command, t1, deliver, lose, damage, drain}
+use Rattle.x25_program.specs.Lines.{lines_of}
+use Rattle.x25_world.specs.World.{World, OnTap, AtEnd, swapped, Act, Commands, Receives, Fires, Loses, Damages, Event, WorldOutcome, Happened, Declined, of_station, delivered, on_line, acts, swapped_back, acts_at, happens, refusal_of, after, run, AreAccepted, apart, connected, start}
+use Rattle.x25_sim.specs.Sayings.{Saying, enters, taps, reads_nothing, refuses}
+use Rattle.x25_sim.specs.Simulated.{Turn, and_then, step_told, told_between, turn_of, event_turn, next_end, delivered_to, drained, line_turn, asked_in, asked_turn, turn, turns, connecting, set_up, simulated}
+use Rattle.x25_sim.specs.RunLaw.{entries_in, frames_in, IsRun}
+
+-- ---- a world only grows
+
+record Grows (w next : World) : Type 0 where
+  entries : List AtEnd
+  frames : List OnTap
+  transcript : next.transcript ≡ w.transcript ++ entries
+  tap : next.tap ≡ w.tap ++ frames
+
+abbrev GrowsTo : World → WorldOutcome → Type 0
+GrowsTo w (Happened next) = Grows w next
+GrowsTo w (Declined error) = Unit {0}
+
+as_it_was : (w : World) (back : List (List ℕ)) → Grows w (on_line w back)
+as_it_was w back = record { entries = []; frames = []; transcript = sym (append-nil w.transcript); tap = sym (append-nil w.tap) }
+
+by_station : (c : Settings) (w : World) (o : Outcome) → GrowsTo w (of_station c w o)
+by_station c w (Did step) = record { entries = _; frames = _; transcript = refl; tap = refl }
+by_station c w (Refused error) = tt
+
+by_delivery : (c : Settings) (w : World) (back : List (List ℕ)) → GrowsTo w (delivered c w back)
+by_delivery c w [] = tt
+by_delivery c w (octets ∷ back) = record { entries = _; frames = _; transcript = refl; tap = refl }
+
+chosen : (w : World) (b : Bool) (o p : WorldOutcome) → GrowsTo w o → GrowsTo w p → GrowsTo w (cond b o p)
+chosen w true o p h k = h
+chosen w false o p h k = k
+
+by_act : (c : Settings) (w : World) (act : Act) → GrowsTo w (acts c w act)
+by_act c w (Commands asked) = by_station c w (commands c w.near asked)
+by_act c w Receives = by_delivery c w w.back
+by_act c w Fires = by_station c w (fires c w.near)
+by_act c w (Loses place) = chosen w (nat_lt place (length w.back)) _ _ (as_it_was w (remove w.back place)) tt
+by_act c w (Damages place octets) = chosen w (nat_lt place (length w.back)) _ _
+    (chosen w (is_visible octets) _ _ (as_it_was w (replaced w.back place octets)) tt) tt
+
+from_back : (w : World) (o : WorldOutcome) → GrowsTo (swapped w) o → GrowsTo w (swapped_back o)
+from_back w (Happened next) h = record { entries = h.entries; frames = h.frames; transcript = h.transcript; tap = h.tap }
+from_back w (Declined error) h = tt
+
+by_event : (cfg : Cfg) (w : World) (at : Role) (act : Act) → GrowsTo w (acts_at cfg w at act)
+by_event cfg w Dte act = by_act (settings_from Dte cfg) w act
+by_event cfg w Dce act = from_back w (acts (settings_from Dce cfg) (swapped w) act) (by_act (settings_from Dce cfg) (swapped w) act)
+
+-- ---- what is said
+
+entries-append : (xs ys : List Saying) → entries_in (xs ++ ys) ≡ entries_in xs ++ entries_in ys
+entries-append [] ys = refl
+entries-append (enters e ∷ xs) ys = ap (λ es. e ∷ es) (entries-append xs ys)
+entries-append (taps f ∷ xs) ys = entries-append xs ys
+entries-append (reads_nothing ∷ xs) ys = entries-append xs ys
+entries-append (refuses error ∷ xs) ys = entries-append xs ys
+
+frames-append : (xs ys : List Saying) → frames_in (xs ++ ys) ≡ frames_in xs ++ frames_in ys
+frames-append [] ys = refl
+frames-append (enters e ∷ xs) ys = frames-append xs ys
+frames-append (taps f ∷ xs) ys = ap (λ fs. f ∷ fs) (frames-append xs ys)
+frames-append (reads_nothing ∷ xs) ys = frames-append xs ys
+frames-append (refuses error ∷ xs) ys = frames-append xs ys
+
+entries_of_enters : (es : List AtEnd) → entries_in (map enters es) ≡ es
+entries_of_enters [] = refl
+entries_of_enters (e ∷ es) = ap (λ xs. e ∷ xs) (entries_of_enters es)
+
+frames_of_enters : (es : List AtEnd) → frames_in (map enters es) ≡ []
+frames_of_enters [] = refl
+frames_of_enters (e ∷ es) = frames_of_enters es
+
+entries_of_taps : (fs : List OnTap) → entries_in (map taps fs) ≡ []
+entries_of_taps [] = refl
+entries_of_taps (f ∷ fs) = entries_of_taps fs
+
+frames_of_taps : (fs : List OnTap) → frames_in (map taps fs) ≡ fs
+frames_of_taps [] = refl
+frames_of_taps (f ∷ fs) = ap (λ xs. f ∷ xs) (frames_of_taps fs)
+
+step_entries : (tap : Bool) (es : List AtEnd) (fs : List OnTap) → entries_in (step_told tap es fs) ≡ es
+step_entries true es fs = entries-append (map enters es) (map taps fs) ∙ ap (λ xs. entries_in (map enters es) ++ xs) (entries_of_taps fs) ∙ append-nil (entries_in (map enters es)) ∙ entries_of_enters es
+step_entries false es fs = entries-append (map enters es) [] ∙ append-nil (entries_in (map enters es)) ∙ entries_of_enters es
+
+step_frames : (tap : Bool) (es : List AtEnd) (fs : List OnTap) → tap ≡ true → frames_in (step_told tap es fs) ≡ fs
+step_frames true es fs e = frames-append (map enters es) (map taps fs) ∙ ap (λ xs. xs ++ frames_in (map taps fs)) (frames_of_enters es) ∙ frames_of_taps fs
+step_frames false es fs e = absurd (cc)
+
+-- ---- turns are runs
+
+record Runs (cfg : Cfg) (tap : Bool) (w : World) (t : Turn) : Type 0 where
+  events : List Event
+  accepted : AreAccepted cfg events w
+  next : t.next ≡ run cfg events w
+  entries : t.next.transcript ≡ w.transcript ++ entries_in t.sayings
+  frames : tap ≡ true → t.next.tap ≡ w.tap ++ frames_in t.sayings
+
+stays : (cfg : Cfg) (tap : Bool) (w : World) (sayings : List Saying) → entries_in sayings ≡ [] → frames_in sayings ≡ [] → Runs cfg tap w (record { next = w; sayings = sayings })
+stays cfg tap w sayings no_entries no_frames = record {
+  events = [];
+  accepted = tt;
+  next = refl;
+  entries = sym (append-nil w.transcript) ∙ ap (λ xs. w.transcript ++ xs) (sym no_entries);
+  frames = λ asked. sym (append-nil w.tap) ∙ ap (λ xs. w.tap ++ xs) (sym no_frames);
+}
+
+moves : (cfg : Cfg) (tap : Bool) (w : World) (e : Event) (o : WorldOutcome) → happens cfg w e ≡ o → GrowsTo w o → Runs cfg tap w (turn_of tap w o)
+moves cfg tap w e (Happened next) is g = record {
+  events = e ∷ [];
+  accepted = (ap refusal_of is, tt);
+  next = sym (ap (after w) is);
+  entries = g.transcript ∙ ap (λ xs. w.transcript ++ xs) (sym (step_entries tap _ _ ∙ ap (drop (length w.transcript)) g.transcript ∙ drop-append_seam w.transcript g.entries));
+  frames = λ asked. g.tap ∙ ap (λ xs. w.tap ++ xs) (sym (step_frames tap (drop (length w.transcript) next.transcript) _ asked ∙ ap (drop (length w.tap)) g.tap ∙ drop-append_seam w.tap g.frames));
+}
+moves cfg tap w e (Declined error) is g = stays cfg tap w (refuses error ∷ []) refl refl
+
+event_runs : (cfg : Cfg) (tap : Bool) (e : Event) (w : World) → Runs cfg tap w (event_turn cfg tap e w)
+unfolding event_turn
+event_runs cfg tap e w = moves cfg tap w e (happens cfg w e) refl (by_event cfg w e.at e.act)
+
+run-append : (cfg : Cfg) (events more : List Event) (w : World) → run cfg (events ++ more) w ≡ run cfg more (run cfg events w)
+run-append cfg [] more w = refl
+run-append cfg (e ∷ events) more w = run-append cfg events more (after w (happens cfg w e))
+
+accepted-append : (cfg : Cfg) (events more : List Event) (w : World) → AreAccepted cfg events w → AreAccepted cfg more (run cfg events w) → AreAccepted cfg (events ++ more) w
+accepted-append cfg [] more w h k = k
+accepted-append cfg (e ∷ events) more w h k = (h.0, accepted-append cfg events more (after w (happens cfg w e)) h.1 k)
+
+both_run : (cfg : Cfg) (tap : Bool) (w : World) (t : Turn) (rest : World → Turn) → Runs cfg tap w t → ((v : World) → Runs cfg tap v (rest v)) → Runs cfg tap w (and_then rest t)
+both_run cfg tap w t rest first second =
+    let then = second t.next in record {
+      events = first.events ++ then.events;
+      accepted = accepted-append cfg first.events then.events w first.accepted (subst (AreAccepted cfg then.events) first.next then.accepted);
+      next = then.next ∙ ap (run cfg then.events) first.next ∙ sym (run-append cfg first.events then.events w);
+      entries = then.entries ∙ ap (λ xs. xs ++ entries_in (rest t.next).sayings) first.entries ∙ append_assoc w.transcript (entries_in t.sayings) (entries_in (rest t.next).sayings)
+          ∙ ap (λ xs. w.transcript ++ xs) (sym (entries-append t.sayings (rest t.next).sayings));
+      frames = λ asked. then.frames asked ∙ ap (λ xs. xs ++ frames_in (rest t.next).sayings) (first.frames asked) ∙ append_assoc w.tap (frames_in t.sayings) (frames_in (rest t.next).sayings)
+          ∙ ap (λ xs. w.tap ++ xs) (sym (frames-append t.sayings (rest t.next).sayings));
+    }
+
+delivery_runs : (cfg : Cfg) (tap : Bool) (rest : World → Turn) (w : World) (at : Option Role) → ((v : World) → Runs cfg tap v (rest v)) → Runs cfg tap w (delivered_to cfg tap rest w at)
+delivery_runs cfg tap rest w None h = stays cfg tap w [] refl refl
+delivery_runs cfg tap rest w (Some at) h = both_run cfg tap w _ rest (event_runs cfg tap (record { at = at; act = Receives }) w) h
+
+drain_runs : (cfg : Cfg) (tap : Bool) (n : ℕ) (w : World) → Runs cfg tap w (drained cfg tap n w)
+unfolding drained
+drain_runs cfg tap zero w = stays cfg tap w [] refl refl
+drain_runs cfg tap (suc n) w = delivery_runs cfg tap (drained cfg tap n) w (next_end w.out w.back) (drain_runs cfg tap n)
+
+line_runs : (cfg : Cfg) (tap : Bool) (line : PlainLine) (w : World) → Runs cfg tap w (line_turn cfg tap line w)
+unfolding line_turn
+line_runs cfg tap (command end asked) w = event_runs cfg tap _ w
+line_runs cfg tap (t1 end) w = event_runs cfg tap _ w
+line_runs cfg tap (deliver from) w = event_runs cfg tap _ w
+line_runs cfg tap (lose from place) w = event_runs cfg tap _ w
+line_runs cfg tap (damage from place octets) w = event_runs cfg tap _ w
+line_runs cfg tap (drain count) w = drain_runs cfg tap count w
+
+asked_runs : (cfg : Cfg) (tap : Bool) (w : World) (asked : Option PlainLine) → Runs cfg tap w (asked_turn cfg tap w asked)
+asked_runs cfg tap w None = stays cfg tap w (reads_nothing ∷ []) refl refl
+asked_runs cfg tap w (Some line) = line_runs cfg tap line w
+
+turn_runs : (cfg : Cfg) (tap : Bool) (line : List ℕ) (w : World) → Runs cfg tap w (turn cfg tap line w)
+unfolding turn
+turn_runs cfg tap line w = asked_runs cfg tap w (asked_in line)
+
+lines_run : (cfg : Cfg) (tap : Bool) (lines : List (List ℕ)) (w : World) → Runs cfg tap w (turns cfg tap lines w)
+unfolding turns
+lines_run cfg tap [] w = stays cfg tap w [] refl refl
+lines_run cfg tap (line ∷ lines) w = both_run cfg tap w (turn cfg tap line w) (turns cfg tap lines) (turn_runs cfg tap line w) (lines_run cfg tap lines)
+
+-- ---- set-up
+
+-- what is said is all of the transcript and the tap
+record Says (tap : Bool) (t : Turn) : Type 0 where
+  entries : entries_in t.sayings ≡ t.next.transcript
+  frames : tap ≡ true → frames_in t.sayings ≡ t.next.tap
+
+says_more : (cfg : Cfg) (tap : Bool) (t : Turn) (rest : World → Turn) → Says tap t → Runs cfg tap t.next (rest t.next) → Says tap (and_then rest t)
+says_more cfg tap t rest s r = record {
+  entries = entries-append t.sayings (rest t.next).sayings ∙ ap (λ xs. xs ++ entries_in (rest t.next).sayings) s.entries ∙ sym r.entries;
+  frames = λ asked. frames-append t.sayings (rest t.next).sayings ∙ ap (λ xs. xs ++ frames_in (rest t.next).sayings) (s.frames asked) ∙ sym (r.frames asked);
+}
+
+says_connecting : (tap : Bool) (w : World) → Says tap (record { next = w; sayings = told_between tap apart w })
+says_connecting tap w = record { entries = step_entries tap w.transcript w.tap; frames = λ asked. step_frames tap w.transcript w.tap asked }
+
+turned : (tap : Bool) (w : World) (o : WorldOutcome) → (turn_of tap w o).next ≡ after w o
+turned tap w (Happened next) = refl
+turned tap w (Declined error) = refl
+
+event_turned : (cfg : Cfg) (tap : Bool) (e : Event) (w : World) → (event_turn cfg tap e w).next ≡ after w (happens cfg w e)
+unfolding event_turn
+event_turned cfg tap e w = turned tap w (happens cfg w e)
+
+abbrev to_dce : Event
+to_dce = record { at = Dce; act = Receives }
+
+abbrev to_dte : Event
+to_dte = record { at = Dte; act = Receives }
+
+two_turned : (cfg : Cfg) (tap : Bool) (w : World)
+    → (event_turn cfg tap to_dte (event_turn cfg tap to_dce w).next).next ≡ run cfg (to_dce ∷ to_dte ∷ []) w
+two_turned cfg tap w = event_turned cfg tap to_dte (event_turn cfg tap to_dce w).next ∙ ap (λ v. after v (happens cfg v to_dte)) (event_turned cfg tap to_dce w)
+
+up_at : (cfg : Cfg) (tap : Bool) → (set_up cfg tap).next ≡ start cfg
+unfolding set_up
+up_at cfg tap = two_turned cfg tap (connected cfg)
+
+says_up : (cfg : Cfg) (tap : Bool) → Says tap (set_up cfg tap)
+unfolding set_up
+says_up cfg tap =
+    says_more cfg tap (and_then (event_turn cfg tap to_dce) (connecting cfg tap)) (event_turn cfg tap to_dte)
+    (says_more cfg tap (connecting cfg tap) (event_turn cfg tap to_dce) (says_connecting tap (connected cfg)) (event_runs cfg tap to_dce (connected cfg)))
+    (event_runs cfg tap to_dte (event_turn cfg tap to_dce (connected cfg)).next)
+
+pub script_runs : (cfg : Cfg) (tap : Bool) (script : List ℕ) → IsRun cfg tap script
+unfolding simulated
+script_runs cfg tap script =
+    let up = set_up cfg tap in
+    let r = lines_run cfg tap (lines_of script) up.next in
+    let says = says_more cfg tap up (turns cfg tap (lines_of script)) (says_up cfg tap) r in
+    let at : (turns cfg tap (lines_of script) up.next).next ≡ run cfg r.events (start cfg) = r.next ∙ ap (run cfg r.events) (up_at cfg tap) in record {
+      events = r.events;
+      accepted = subst (AreAccepted cfg r.events) (up_at cfg tap) r.accepted;
+      next = at;
+      entries = says.entries ∙ ap (λ w. w.transcript) at;
+      frames = λ asked. says.frames asked ∙ ap (λ w. w.tap) at;
+    }

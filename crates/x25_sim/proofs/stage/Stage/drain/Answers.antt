@@ -1,0 +1,38 @@
+use Rattle.std.proofs.Common.{◌∙◌, ◌-◌, ◌+◌, sym, arith}
+use Rattle.x25_line.specs.RawMachine.{end_of}
+use Rattle.x25_world.specs.World.{Receives}
+use Rattle.x25_world.specs.FitsWorld.{all_of}
+use Rattle.x25_sim.specs.Simulated.{drained, event_turn}
+use Rattle.x25_sim.proofs.LeaveLemmas.{none_left, part_done, part_failed}
+use Rattle.x25_sim.proofs.DrainLemmas.{drained_all, drained_empty, drained_more, line_is}
+use Rattle.x25_sim.proofs.stage.Stage.drain.Goals as goal
+
+pub returns-in_default-clause-turns : goal.returns-in_default-clause-turns
+returns-in_default-clause-turns g c = λ cfg tap old w told refused h.
+    let l = c.loop.invariant.1 cfg tap old w told refused h in
+    none_left cfg tap old _ old c.loop.self c.loop.self told refused _ _ l
+    (drained_empty cfg tap _ l.at (sym (line_is cfg c.loop.self.world l.at (all_of l.at) l.stands.fits) ∙ sym c.in_default.ensures))
+
+pub returns-in-Err-clause-turns : goal.returns-in-Err-clause-turns
+returns-in-Err-clause-turns g c = λ cfg tap old w told refused h.
+    let l = c.loop.invariant.1 cfg tap old w told refused h in
+    let at = end_of c.in-Some.direction in
+    part_failed cfg tap old _ _ c.loop.self c.loop.self told refused _ _ (event_turn cfg tap (record { at = at; act = Receives })) (drained cfg tap (c.args.count - (c.loop.counter + 1))) l
+    (drained_more cfg tap _ _ l.at at (omega (arith, c.loop-test.true)) (sym (line_is cfg c.loop.self.world l.at (all_of l.at) l.stands.fits) ∙ sym c.in-Some.ensures))
+    (c.in-Err.ensures.turns cfg tap old l.at l.text l.status l.stands)
+
+pub loop-preserved : goal.loop-preserved
+loop-preserved g c = (
+  c.in_default-happen.ensures.kept ∙ c.loop.invariant.0,
+  λ cfg tap old w told refused h.
+      let l = c.loop.invariant.1 cfg tap old w told refused h in
+      let at = end_of c.in-Some.direction in
+      part_done cfg tap old _ _ c.loop.self c.happen.new.self told refused _ _ (event_turn cfg tap (record { at = at; act = Receives })) (drained cfg tap (c.args.count - (c.loop.counter + 1))) l
+      (drained_more cfg tap _ _ l.at at (omega (arith, c.loop-test.true)) (sym (line_is cfg c.loop.self.world l.at (all_of l.at) l.stands.fits) ∙ sym c.in-Some.ensures))
+      (c.in_default-happen.ensures.turns cfg tap old l.at l.text l.status l.stands),
+)
+
+pub returns-clause-turns : goal.returns-clause-turns
+returns-clause-turns g c = λ cfg tap old w told refused h.
+    let l = c.loop.invariant.1 cfg tap old w told refused h in
+    none_left cfg tap old _ old c.loop.self c.loop.self told refused _ _ l (drained_all cfg tap _ l.at (omega arith))

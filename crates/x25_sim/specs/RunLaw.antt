@@ -1,0 +1,34 @@
+-- What is written for a script is the transcript of a run of the world, beside what was refused.
+use Rattle.std.specs.Prelude.{◌≡◌, ℕ, Bool, true, List, [], ◌∷◌}
+use Rattle.x25_station.specs.declared.config.Cfg.{Cfg}
+use Rattle.x25_world.specs.World.{OnTap, AtEnd, Event, AreAccepted, run, start}
+use Rattle.x25_sim.specs.Sayings.{Saying, enters, taps, reads_nothing, refuses}
+use Rattle.x25_sim.specs.Simulated.{simulated}
+
+-- the entries among what is said
+abbrev pub entries_in : List Saying → List AtEnd
+entries_in [] = []
+entries_in (enters e ∷ sayings) = e ∷ entries_in sayings
+entries_in (taps frame ∷ sayings) = entries_in sayings
+entries_in (reads_nothing ∷ sayings) = entries_in sayings
+entries_in (refuses error ∷ sayings) = entries_in sayings
+
+-- the frames among it
+abbrev pub frames_in : List Saying → List OnTap
+frames_in [] = []
+frames_in (enters e ∷ sayings) = frames_in sayings
+frames_in (taps frame ∷ sayings) = frame ∷ frames_in sayings
+frames_in (reads_nothing ∷ sayings) = frames_in sayings
+frames_in (refuses error ∷ sayings) = frames_in sayings
+
+-- these events, each accepted, lead there from a world in which both links are up; and said are the transcript and, where it is asked for,
+-- the tap of that run
+pub record IsRun (cfg : Cfg) (tap : Bool) (script : List ℕ) : Type 0 where
+  pub events : List Event
+  pub accepted : AreAccepted cfg events (start cfg)
+  pub next : (simulated cfg tap script).next ≡ run cfg events (start cfg)
+  pub entries : entries_in (simulated cfg tap script).sayings ≡ (run cfg events (start cfg)).transcript
+  pub frames : tap ≡ true → frames_in (simulated cfg tap script).sayings ≡ (run cfg events (start cfg)).tap
+
+abbrev pub ScriptsAreRuns : Type 0
+ScriptsAreRuns = (cfg : Cfg) (tap : Bool) (script : List ℕ) → IsRun cfg tap script

@@ -1,0 +1,131 @@
+-- What the simulator does with a script (profile): each line is an event of a world of two stations, `drain` several deliveries, and
+-- what happens is said.
+use Rattle.std.specs.Prelude.{ℕ, zero, suc, nat_le, Bool, true, false, List, [], ◌∷◌, ◌++◌, length, drop, map, if◌then◌else◌, Option, Some, None}
+use Rattle.x25_bits.specs.Role.{other}
+use Rattle.x25_bits.specs.declared.role.Role.{Role}
+use Rattle.x25_bits.specs.declared.role.Role.TheVariants.{Dte, Dce}
+use Rattle.x25_circuit.specs.Calls.{Accepts, Clears, Sends, Interrupts, Resets, SaysReady, SaysNotReady}
+use Rattle.x25_layer.specs.Calls.{Asks, Dials, Restarts}
+use Rattle.x25_station.specs.declared.config.Cfg.{Cfg}
+use Rattle.x25_station.specs.Command.{Command, Requests, Disconnects}
+use Rattle.x25_script.specs.PlainLine.{PlainCommand, call, accept, clear, send, interrupt, reset, ready, not_ready, restart, disconnect, PlainLine, command, t1, deliver, lose, damage, drain}
+use Rattle.x25_script.specs.Reading.{line_in}
+use Rattle.x25_program.specs.Lines.{lines_of}
+use Rattle.x25_world.specs.World.{World, OnTap, AtEnd, Event, Commands, Receives, Fires, Loses, Damages, WorldOutcome, Happened, Declined, happens, apart, connected}
+use Rattle.x25_sim.specs.Sayings.{Saying, enters, taps, reads_nothing, refuses, sayings_text, has_refusal}
+
+-- ---- turns
+
+-- the world after a turn, and what is said of it
+pub record Turn : Type 0 where
+  pub next : World
+  pub sayings : List Saying
+
+abbrev pub quiet : World → Turn
+quiet w = record { next = w; sayings = [] }
+
+-- a turn, and then what is done from where it led
+abbrev pub and_then : (World → Turn) → Turn → Turn
+and_then rest t = record { next = (rest t.next).next; sayings = t.sayings ++ (rest t.next).sayings }
+
+-- frames that were put on the line, where they are asked for
+abbrev pub frames_told : Bool → List OnTap → List Saying
+frames_told true frames = map taps frames
+frames_told false frames = []
+
+-- entries, and behind these frames
+abbrev pub step_told : Bool → List AtEnd → List OnTap → List Saying
+step_told tap entries frames = map enters entries ++ frames_told tap frames
+
+-- from a world to the next: what is new in the transcript, and what was put on the line
+abbrev pub told_between : Bool → World → World → List Saying
+told_between tap w next = step_told tap (drop (length w.transcript) next.transcript) (drop (length w.tap) next.tap)
+
+-- what is refused changes nothing
+abbrev pub turn_of : Bool → World → WorldOutcome → Turn
+turn_of tap w (Happened next) = record { next = next; sayings = told_between tap w next }
+turn_of tap w (Declined error) = record { next = w; sayings = refuses error ∷ [] }
+
+unfoldable pub event_turn : Cfg → Bool → Event → World → Turn
+event_turn cfg tap e w = turn_of tap w (happens cfg w e)
+
+-- ---- deliveries
+
+-- the end to which the next frame of a drain is delivered: the DCE where one is on the line to it, else the DTE
+abbrev pub next_end : List (List ℕ) → List (List ℕ) → Option Role
+next_end (octets ∷ to_dce) to_dte = Some Dce
+next_end [] (octets ∷ to_dte) = Some Dte
+next_end [] [] = None
+
+abbrev pub delivered_to : Cfg → Bool → (World → Turn) → World → Option Role → Turn
+delivered_to cfg tap rest w None = quiet w
+delivered_to cfg tap rest w (Some at) = and_then rest (event_turn cfg tap (record { at = at; act = Receives }) w)
+
+-- at most so many deliveries, each a turn of its own
+unfoldable pub drained : Cfg → Bool → ℕ → World → Turn
+drained cfg tap zero w = quiet w
+drained cfg tap (suc n) w = delivered_to cfg tap (drained cfg tap n) w (next_end w.out w.back)
+
+-- ---- lines
+
+abbrev pub command_asked : PlainCommand → Command
+command_asked (call called calling user) = Requests (Dials called calling user)
+command_asked (accept channel) = Requests (Asks channel Accepts)
+command_asked (clear channel) = Requests (Asks channel Clears)
+command_asked (send channel q user) = Requests (Asks channel (Sends q user))
+command_asked (interrupt channel user) = Requests (Asks channel (Interrupts user))
+command_asked (reset channel) = Requests (Asks channel Resets)
+command_asked (ready channel) = Requests (Asks channel SaysReady)
+command_asked (not_ready channel) = Requests (Asks channel SaysNotReady)
+command_asked restart = Requests Restarts
+command_asked disconnect = Disconnects
+
+-- A direction leads away from an end, and frames are delivered, lost and damaged at the other one.
+unfoldable pub line_turn : Cfg → Bool → PlainLine → World → Turn
+line_turn cfg tap (command end asked) w = event_turn cfg tap (record { at = end; act = Commands (command_asked asked) }) w
+line_turn cfg tap (t1 end) w = event_turn cfg tap (record { at = end; act = Fires }) w
+line_turn cfg tap (deliver from) w = event_turn cfg tap (record { at = other from; act = Receives }) w
+line_turn cfg tap (lose from place) w = event_turn cfg tap (record { at = other from; act = Loses place }) w
+line_turn cfg tap (damage from place octets) w = event_turn cfg tap (record { at = other from; act = Damages place octets }) w
+line_turn cfg tap (drain count) w = drained cfg tap count w
+
+-- the most characters of a line, without its line feed
+abbrev pub most_line : ℕ
+most_line = 131200
+
+-- a longer line isn't in the grammar
+unfoldable pub asked_in : List ℕ → Option PlainLine
+asked_in line = if nat_le (length line) most_line then line_in line else None
+
+abbrev pub asked_turn : Cfg → Bool → World → Option PlainLine → Turn
+asked_turn cfg tap w None = record { next = w; sayings = reads_nothing ∷ [] }
+asked_turn cfg tap w (Some line) = line_turn cfg tap line w
+
+unfoldable pub turn : Cfg → Bool → List ℕ → World → Turn
+turn cfg tap line w = asked_turn cfg tap w (asked_in line)
+
+-- one line after another
+unfoldable pub turns : Cfg → Bool → List (List ℕ) → World → Turn
+turns cfg tap [] w = quiet w
+turns cfg tap (line ∷ lines) w = and_then (turns cfg tap lines) (turn cfg tap line w)
+
+-- ---- the whole
+
+-- the DTE asks that the link be set up
+abbrev pub connecting : Cfg → Bool → Turn
+connecting cfg tap = record { next = connected cfg; sayings = told_between tap apart (connected cfg) }
+
+-- SABM and UA are delivered: both links are up
+unfoldable pub set_up : Cfg → Bool → Turn
+set_up cfg tap = and_then (event_turn cfg tap (record { at = Dte; act = Receives })) (and_then (event_turn cfg tap (record { at = Dce; act = Receives })) (connecting cfg tap))
+
+unfoldable pub simulated : Cfg → Bool → List ℕ → Turn
+simulated cfg tap script = and_then (turns cfg tap (lines_of script)) (set_up cfg tap)
+
+-- what is written for a script
+abbrev pub sim_text : Cfg → Bool → List ℕ → List ℕ
+sim_text cfg tap script = sayings_text (simulated cfg tap script).sayings
+
+-- a line or an event was refused
+abbrev pub sim_status : Cfg → Bool → List ℕ → ℕ
+sim_status cfg tap script = if has_refusal (simulated cfg tap script).sayings then 1 else 0

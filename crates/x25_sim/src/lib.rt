@@ -1,0 +1,17 @@
+//! A simulator of two stations of X.25 and a line between them: scripts answered by transcripts, over any readers and writers.
+//!
+//! docs/MANUAL.md says how scripts are written. Profile.
+#![tactic(auto)]
+
+mod held_line;
+mod law;
+mod output;
+mod running;
+mod simulator;
+mod stage;
+mod telling;
+
+pub use law::scripts_are_runs;
+pub use running::sim;
+pub use x25_program::{Device, Failed, Fault, Sink, Source};
+pub use x25_station::Cfg;

@@ -1,0 +1,110 @@
+//! Scripts answered by transcripts.
+ghost use Rattle.std.specs.Prelude.{◌≡◌, ◌<◌, ◌≤◌, ◌-◌, ◌^◌, ℕ, Bool, true, List, Option, Some, None, if◌then◌else◌, IfOk, OnOk, OnErr, IfSome, IsErrOf, MatchResult, length};
+ghost use Rattle.std.specs.Io.KnownBytes.{Appends};
+ghost use Rattle.x25_program.specs.Written.{AppendsBeginning};
+ghost use Rattle.x25_station.specs.declared.config.Cfg.{Cfg as Settings};
+ghost use Rattle.x25_station.specs.Settings.{config_refusal};
+ghost use Rattle.x25_sim.specs.Sayings.{has_refusal, sayings_text};
+ghost use Rattle.x25_sim.specs.Simulated.{Turn, simulated, sim_status, sim_text};
+ghost use Rattle.x25_sim.specs.Stream.{Leads, WritesEnded};
+
+use crate::held_line::HeldLine;
+use crate::simulator::Simulator;
+use crate::stage::Stage;
+use std::alloc::Global;
+use x25_program::{Fault, Sink, Source};
+use x25_station::Cfg;
+
+/// The most octets that are read at once.
+const PIECE: usize = 65_536;
+
+/// Reads piece by piece, and answers the status at the end.
+///
+/// A reader is called at most 2^64 - 1 times; then its script counts as ended.
+fn simulate_pieces<R: Source, W: Sink>(
+    simulator: &mut Simulator,
+    piece: &mut [u8],
+    reader: &mut R,
+    writer: &mut W,
+) -> Result<u8, Fault>
+    requires room { 0 < length piece.old }
+    ensures clean { OnOk result ((R.is_marked reader.new ≡ R.is_marked reader.old) × (W.is_marked writer.new ≡ W.is_marked writer.old)) }
+    ensures zero_or_one { IfOk result (λ status. status ≤ 1) }
+    ensures text { (cfg : Settings) (tap : Bool) (old : Option (List ℕ)) (script : List ℕ) (whole : Turn) → R.remaining reader.old ≡ Some script
+        → length script < 2 ^ 64 - 1
+        → Leads cfg tap old (W.contents writer.old) simulator.old script whole
+        → MatchResult result (λ status. Appends old (W.contents writer.new) (sayings_text whole.sayings) × (status ≡ (if has_refusal whole.sayings then 1 else 0)))
+        (λ _. AppendsBeginning old (W.contents writer.new) (sayings_text whole.sayings)) }
+    ensures ended { (cfg : Settings) (tap : Bool) (old : Option (List ℕ)) (script : List ℕ) (whole : Turn) → R.remaining reader.old ≡ Some script
+        → Leads cfg tap old (W.contents writer.old) simulator.old script whole
+        → IsErrOf result Fault.Read
+        → (rest : List ℕ) × (R.remaining reader.new ≡ Some rest) × WritesEnded cfg tap old (W.contents writer.new) rest whole }
+    ensures read { IsErrOf result Fault.Read → R.is_marked reader.new ≡ true }
+    ensures write { IsErrOf result Fault.Write → W.is_marked writer.new ≡ true }
+{
+    for _ in 0..u64::MAX {
+        let Ok(count) = reader.read(piece) else {
+            return Err(simulator.give_up(writer));
+        };
+        if count == 0 {
+            return simulator.end(writer);
+        }
+        if let Err(fault) = simulator.take_piece(&piece[..count], writer) {
+            return Err(fault);
+        }
+    }
+    simulator.end(writer)
+}
+
+/// Sets two stations up over a line, does what the lines of the script that the reader gives ask for, and writes what
+/// happens: the entries of the transcript, and with `tap` behind the entries of each step the frames that were put on the
+/// line, as lines for `decode`. It answers the status: 1 where a line or an event was refused, else 0.
+///
+/// A line outside of the grammar, or of more than 131,200 characters, becomes `? 60`; an event that is refused `! ` and its
+/// number, which is the station's own where the station refuses. `drain` is several deliveries, each a step. What was told
+/// is let go of. Buffers are made first; a growth that is refused later ends the run with `NoMemory`. A reader is called at
+/// most 2^64 - 1 times; the clauses on the text speak of scripts of fewer octets than that. Profile.
+pub fn sim<R: Source, W: Sink>(
+    alloc: Global,
+    cfg: Cfg,
+    tap: bool,
+    reader: &mut R,
+    writer: &mut W,
+) -> Result<u8, Fault>
+    requires range { config_refusal cfg ≡ None }
+    // Where a status is answered, no call of the reader or of the writer failed.
+    ensures clean { OnOk result ((R.is_marked reader.new ≡ R.is_marked reader.old) × (W.is_marked writer.new ≡ W.is_marked writer.old)) }
+    ensures zero_or_one { IfOk result (λ status. status ≤ 1) }
+    // What is written is the text of all that was read.
+    ensures text { OnOk result (IfSome (R.remaining reader.old) (λ script. length script < 2 ^ 64 - 1
+        → Appends (W.contents writer.old) (W.contents writer.new) (sim_text cfg tap script))) }
+    ensures status { IfOk result (λ status. IfSome (R.remaining reader.old) (λ script. length script < 2 ^ 64 - 1
+        → status ≡ sim_status cfg tap script)) }
+
+    // What was written before a fault is a beginning of it.
+    ensures fault { OnErr result (IfSome (R.remaining reader.old) (λ script. length script < 2 ^ 64 - 1
+        → AppendsBeginning (W.contents writer.old) (W.contents writer.new) (sim_text cfg tap script))) }
+    // At a failed read what all lines that had ended gave is written.
+    ensures ended { IsErrOf result Fault.Read → IfSome (R.remaining reader.old) (λ script.
+        (rest : List ℕ) × (R.remaining reader.new ≡ Some rest)
+        × WritesEnded cfg tap (W.contents writer.old) (W.contents writer.new) rest (simulated cfg tap script)) }
+
+    ensures read { IsErrOf result Fault.Read → R.is_marked reader.new ≡ true }
+    ensures write { IsErrOf result Fault.Write → W.is_marked writer.new ≡ true }
+{
+    let Ok(mut piece) = vec![in alloc; 0u8; PIECE] else {
+        return Err(Fault::NoMemory);
+    };
+    let Ok(held) = HeldLine::new(alloc) else {
+        return Err(Fault::NoMemory);
+    };
+    let mut stage = match Stage::new(alloc, cfg, tap) {
+        Ok(stage) => stage,
+        Err(fault) => return Err(fault),
+    };
+    if let Err(fault) = stage.set_up(writer) {
+        return Err(fault);
+    }
+    let mut simulator = Simulator::new(held, stage);
+    simulate_pieces(&mut simulator, piece.as_mut_slice(), reader, writer)
+}

@@ -1,0 +1,184 @@
+//! A script, a piece at a time.
+ghost use Rattle.std.specs.Prelude.{ℕ, List};
+ghost use Rattle.x25_script.specs.Reading.{GivesLine};
+ghost use Rattle.x25_sim.specs.HeldLine.{HoldsLine};
+ghost use Rattle.x25_sim.specs.Simulated.{asked_in};
+
+use crate::held_line::HeldLine;
+use crate::stage::Stage;
+use x25_program::{Fault, Sink, split_line};
+use x25_script::{ScriptLine, read_line};
+
+/// The line that has begun, and the stations.
+#[derive(Drop)]
+pub(crate) struct Simulator {
+    held: HeldLine,
+    stage: Stage,
+}
+
+/// The line that is held, where it is in the grammar.
+#[tactic(auto, unfolding(crate::specs::Simulated::asked_in))]
+fn script_line(held: &HeldLine) -> Option<ScriptLine<'_>>
+    ensures { (begun : List ℕ) → HoldsLine begun held.now → GivesLine result (asked_in begun) }
+{
+    let line = held.line()?;
+    read_line(line)
+}
+
+impl Simulator {
+    ghost use Rattle.std.specs.Prelude.{◌≡◌, ◌≢◌, ◌≤◌, ◌++◌, ◌∷◌, [], true, false, Bool, Option, OnOk, IfOk, IsErrOf, MatchResult, if◌then◌else◌};
+    ghost use Rattle.std.specs.Io.KnownBytes.{Appends};
+    ghost use Rattle.x25_program.specs.Lines.{IsOpen, lines_of};
+    ghost use Rattle.x25_program.specs.Written.{AppendsBeginning};
+    ghost use Rattle.x25_station.specs.declared.config.Cfg.{Cfg as Settings};
+    ghost use Rattle.x25_sim.specs.Sayings.{has_refusal, sayings_text};
+    ghost use Rattle.x25_sim.specs.Simulated.{Turn, turn, turns};
+    ghost use Rattle.x25_sim.specs.Leaves.{Leaves};
+    ghost use Rattle.x25_sim.specs.Stands.{Turns};
+    ghost use Rattle.x25_sim.specs.Stream.{Leads, WritesEnded};
+
+    /// No line has begun.
+    pub(crate) fn new(held: HeldLine, stage: Stage) -> Simulator
+        ensures held { result.held ≡ held }
+        ensures stage { result.stage ≡ stage }
+    {
+        Simulator { held, stage }
+    }
+
+    /// What the held line asks for happens.
+    #[tactic(auto, unfolding(crate::specs::Simulated::turn))]
+    fn obey_line<W: Sink>(&mut self, writer: &mut W) -> Result<(), Fault>
+        ensures kept { OnOk result (W.is_marked writer.new ≡ W.is_marked writer.old) }
+        ensures turns { (cfg : Settings) (tap : Bool) (old : Option (List ℕ)) (begun : List ℕ) → HoldsLine begun self.old.held
+            → Turns cfg tap old (W.contents writer.old) (W.contents writer.new) self.old.stage self.new.stage result (turn cfg tap begun) }
+        ensures held { self.new.held ≡ self.old.held }
+        ensures write { IsErrOf result Fault.Write → W.is_marked writer.new ≡ true }
+        ensures read { IsErrOf result Fault.Read → ⊥ }
+    {
+        match script_line(&self.held) {
+            Some(line) => self.stage.obey(line, writer),
+            None => self.stage.read_nothing(writer),
+        }
+    }
+
+    /// The held line has ended.
+    fn take_line<W: Sink>(&mut self, writer: &mut W) -> Result<(), Fault>
+        ensures kept { OnOk result (W.is_marked writer.new ≡ W.is_marked writer.old) }
+        ensures turns { (cfg : Settings) (tap : Bool) (old : Option (List ℕ)) (begun : List ℕ) → HoldsLine begun self.old.held
+            → Turns cfg tap old (W.contents writer.old) (W.contents writer.new) self.old.stage self.new.stage result (turn cfg tap begun) }
+        ensures cleared { OnOk result (HoldsLine [] self.new.held) }
+        ensures write { IsErrOf result Fault.Write → W.is_marked writer.new ≡ true }
+        ensures read { IsErrOf result Fault.Read → ⊥ }
+    {
+        if let Err(fault) = self.obey_line(writer) {
+            return Err(fault);
+        }
+        self.held.clear();
+        Ok(())
+    }
+
+    /// The line that has begun ends behind `tail`.
+    fn close<W: Sink>(&mut self, tail: &[u8], writer: &mut W) -> Result<(), Fault>
+        requires { IsOpen tail.now }
+        ensures kept { OnOk result (W.is_marked writer.new ≡ W.is_marked writer.old) }
+        ensures leads { (cfg : Settings) (tap : Bool) (old : Option (List ℕ)) (rest : List ℕ) (whole : Turn)
+            → Leads cfg tap old (W.contents writer.old) self.old (tail.now ++ 10 ∷ rest) whole
+            → MatchResult result (λ _. Leads cfg tap old (W.contents writer.new) self.new rest whole) (λ _. AppendsBeginning old (W.contents writer.new) (sayings_text whole.sayings)) }
+        ensures write { IsErrOf result Fault.Write → W.is_marked writer.new ≡ true }
+        ensures read { IsErrOf result Fault.Read → ⊥ }
+    {
+        self.held.hold(tail);
+        match self.take_line(writer) {
+            Ok(()) => Ok(()),
+            Err(fault) => Err(fault),
+        }
+    }
+
+    /// Takes a piece of the script, and writes what is said of the lines that have ended.
+    pub(crate) fn take_piece<W: Sink>(&mut self, piece: &[u8], writer: &mut W) -> Result<(), Fault>
+        ensures kept { OnOk result (W.is_marked writer.new ≡ W.is_marked writer.old) }
+        ensures leads { (cfg : Settings) (tap : Bool) (old : Option (List ℕ)) (rest : List ℕ) (whole : Turn)
+            → Leads cfg tap old (W.contents writer.old) self.old (piece.now ++ rest) whole
+            → MatchResult result (λ _. Leads cfg tap old (W.contents writer.new) self.new rest whole) (λ _. AppendsBeginning old (W.contents writer.new) (sayings_text whole.sayings)) }
+        ensures write { IsErrOf result Fault.Write → W.is_marked writer.new ≡ true }
+        ensures read { IsErrOf result Fault.Read → ⊥ }
+    {
+        let mut left = piece;
+        while let Some((tail, after)) = split_line(left) {
+            if let Err(fault) = self.close(tail, writer) {
+                return Err(fault);
+            }
+            left = after;
+        }
+        self.held.hold(left);
+        match self.stage.flush(writer) {
+            Ok(()) => Ok(()),
+            Err(fault) => Err(fault),
+        }
+    }
+
+    /// Writes what waits behind the last line.
+    fn write_rest<W: Sink>(&mut self, writer: &mut W) -> Result<(), Fault>
+        ensures kept { OnOk result (W.is_marked writer.new ≡ W.is_marked writer.old) }
+        ensures text { (cfg : Settings) (tap : Bool) (old : Option (List ℕ)) (whole : Turn)
+            → Leaves cfg tap old (W.contents writer.old) self.old.stage (turns cfg tap (lines_of [])) [] false whole
+            → MatchResult result (λ _. Appends old (W.contents writer.new) (sayings_text whole.sayings) × (self.new.stage.is_refused ≡ has_refusal whole.sayings))
+            (λ _. AppendsBeginning old (W.contents writer.new) (sayings_text whole.sayings)) }
+        ensures write { IsErrOf result Fault.Write → W.is_marked writer.new ≡ true }
+        ensures read { IsErrOf result Fault.Read → ⊥ }
+    {
+        match self.stage.flush(writer) {
+            Ok(()) => Ok(()),
+            Err(fault) => Err(fault),
+        }
+    }
+
+    /// The last line has ended, where it has no line feed.
+    fn finish<W: Sink>(&mut self, writer: &mut W) -> Result<(), Fault>
+        ensures kept { OnOk result (W.is_marked writer.new ≡ W.is_marked writer.old) }
+        ensures text { (cfg : Settings) (tap : Bool) (old : Option (List ℕ)) (whole : Turn) → Leads cfg tap old (W.contents writer.old) self.old [] whole
+            → MatchResult result (λ _. Appends old (W.contents writer.new) (sayings_text whole.sayings) × (self.new.stage.is_refused ≡ has_refusal whole.sayings))
+            (λ _. AppendsBeginning old (W.contents writer.new) (sayings_text whole.sayings)) }
+        ensures write { IsErrOf result Fault.Write → W.is_marked writer.new ≡ true }
+        ensures read { IsErrOf result Fault.Read → ⊥ }
+    {
+        if self.held.is_empty() {
+            return self.write_rest(writer);
+        }
+        if let Err(fault) = self.take_line(writer) {
+            return Err(fault);
+        }
+        self.write_rest(writer)
+    }
+
+    /// Writes what waits at the end of the script, and answers the status.
+    pub(crate) fn end<W: Sink>(&mut self, writer: &mut W) -> Result<u8, Fault>
+        ensures zero_or_one { IfOk result (λ status. status ≤ 1) }
+        ensures kept { OnOk result (W.is_marked writer.new ≡ W.is_marked writer.old) }
+        ensures text { (cfg : Settings) (tap : Bool) (old : Option (List ℕ)) (whole : Turn) → Leads cfg tap old (W.contents writer.old) self.old [] whole
+            → MatchResult result (λ status. Appends old (W.contents writer.new) (sayings_text whole.sayings) × (status ≡ (if has_refusal whole.sayings then 1 else 0)))
+            (λ _. AppendsBeginning old (W.contents writer.new) (sayings_text whole.sayings)) }
+        ensures write { IsErrOf result Fault.Write → W.is_marked writer.new ≡ true }
+        ensures read { IsErrOf result Fault.Read → ⊥ }
+    {
+        match self.finish(writer) {
+            Ok(()) => Ok(u8::from(self.stage.is_refused())),
+            Err(fault) => Err(fault),
+        }
+    }
+
+    /// Writes what waits after a failed read, and answers the fault: `Write` where that fails too.
+    pub(crate) fn give_up<W: Sink>(&mut self, writer: &mut W) -> Fault
+        ensures text { (cfg : Settings) (tap : Bool) (old : Option (List ℕ)) (rest : List ℕ) (whole : Turn) → Leads cfg tap old (W.contents writer.old) self.old rest whole
+            → AppendsBeginning old (W.contents writer.new) (sayings_text whole.sayings) }
+        ensures ended { (cfg : Settings) (tap : Bool) (old : Option (List ℕ)) (rest : List ℕ) (whole : Turn) → Leads cfg tap old (W.contents writer.old) self.old rest whole
+            → result ≡ Fault.Read → WritesEnded cfg tap old (W.contents writer.new) rest whole }
+        ensures memory { result ≢ Fault.NoMemory }
+        ensures marked { result ≡ Fault.Write → W.is_marked writer.new ≡ true }
+    {
+        match self.stage.flush(writer) {
+            Ok(()) => Fault::Read,
+            Err(_) => Fault::Write,
+        }
+    }
+}

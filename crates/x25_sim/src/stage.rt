@@ -1,0 +1,366 @@
+//! Two stations, a line between them, and what is told of them.
+ghost use Rattle.std.specs.Prelude.{◌≡◌, ◌↔◌, IfOk, IsTrue};
+ghost use Rattle.x25_bits.specs.Role.{other};
+ghost use Rattle.x25_line.specs.RawMachine.{end_of};
+
+use crate::output::Output;
+use crate::telling::{tell, tell_entries, tell_frames, tell_refusal};
+use std::alloc::{AllocError, Global};
+use x25_program::{Fault, Sink};
+use x25_script::{Command, HexDigits, ScriptLine};
+use x25_station::{Cfg, Cmd};
+use x25_world::{Direction, Event, Role, World, WorldError};
+
+/// A world whose transcript and frames were told and let go of, and what waits to be written.
+#[derive(Drop)]
+pub(crate) struct Stage {
+    alloc: Global,
+    world: World,
+    tap: bool,
+    output: Output,
+    is_refused: bool,
+}
+
+/// Whether memory was refused.
+fn is_memory(error: WorldError) -> bool
+    ensures { IsTrue result ↔ (error ≡ WorldError.NoMemory) }
+{
+    matches!(error, WorldError::NoMemory)
+}
+
+/// The direction that leads away from an end.
+fn away_from(end: Role) -> Direction
+    ensures { end_of result ≡ other end }
+{
+    match end {
+        Role::Dte => Direction::ToDce,
+        Role::Dce => Direction::ToDte,
+    }
+}
+
+/// The octets that the digits write.
+fn octets_of(alloc: Global, digits: &HexDigits) -> Result<Vec<u8>, AllocError>
+    ensures { IfOk result (λ octets. octets.items ≡ digits.now) }
+{
+    let mut octets = vec![in alloc; 0u8; digits.len()]?;
+    digits.write_to(octets.as_mut_slice());
+    Ok(octets)
+}
+
+impl Stage {
+    ghost use Rattle.std.specs.Prelude.{◌≡◌, ◌⊎◌, ◌++◌, true, ℕ, List, Bool, Option, Some, None, [], false, OnOk, OnErr, IfErr, IsErrOf, MatchResult, option_map};
+    ghost use Rattle.x25_script.specs.PlainLine.{plain, plain_command};
+    ghost use Rattle.x25_program.specs.Written.{AppendsBeginning};
+    ghost use Rattle.x25_station.specs.declared.config.Cfg.{Cfg as Settings};
+    ghost use Rattle.x25_world.specs.World.{World as State, Commands, WorldOutcome, event_of, refusal_of};
+    ghost use Rattle.x25_world.specs.FitsWorld.{FitsWorld, all_of};
+    ghost use Rattle.x25_sim.specs.Sayings.{sayings_text};
+    ghost use Rattle.x25_sim.specs.Simulated.{asked_turn, command_asked, drained, event_turn, line_turn, next_end, set_up, step_told, told_between, turn_of};
+    ghost use Rattle.x25_sim.specs.Stands.{IsConnecting, Stands, Stood, Turns};
+    ghost use Rattle.x25_sim.specs.Written.{Tells};
+
+    /// Two stations, of which the DTE has asked that the link be set up.
+    #[tactic(auto, unfolding(crate::specs::Stands::IsConnecting))]
+    pub(crate) fn new(alloc: Global, cfg: Cfg, tap: bool) -> Result<Stage, Fault>
+        ensures connecting { IfOk result (IsConnecting cfg) }
+        ensures tap { IfOk result (λ s. s.tap ≡ tap) }
+        ensures empty { IfOk result (λ s. s.output ≡ []) }
+        ensures is_refused { IfOk result (λ s. s.is_refused ≡ false) }
+        ensures memory { IfErr result (λ fault. fault ≡ Fault.NoMemory) }
+    {
+        let Ok(output) = Output::new(alloc) else {
+            return Err(Fault::NoMemory);
+        };
+        let Ok(world) = World::connecting(alloc, cfg) else {
+            return Err(Fault::NoMemory);
+        };
+        Ok(Stage {
+            alloc,
+            world,
+            tap,
+            output,
+            is_refused: false,
+        })
+    }
+
+    /// Tells what the world holds of a step: its entries, and behind these its frames where they are asked for.
+    fn tell_step<W: Sink>(&mut self, writer: &mut W) -> Result<(), Fault>
+        ensures kept { OnOk result (W.is_marked writer.new ≡ W.is_marked writer.old) }
+        ensures tells { (old : Option (List ℕ)) (told : List ℕ) → Tells old (W.contents writer.old) self.old.output told
+            → let sayings = step_told self.old.tap self.old.world.transcript self.old.world.tap in
+            MatchResult result (λ _. Tells old (W.contents writer.new) self.new.output (told ++ sayings_text sayings)) (λ _. AppendsBeginning old (W.contents writer.new) (told ++ sayings_text sayings)) }
+        ensures world { self.new.world ≡ self.old.world }
+        ensures tap { self.new.tap ≡ self.old.tap }
+        ensures is_refused { self.new.is_refused ≡ self.old.is_refused }
+        ensures write { IsErrOf result Fault.Write → W.is_marked writer.new ≡ true }
+        ensures read { IsErrOf result Fault.Read → ⊥ }
+    {
+        if let Err(fault) = tell_entries(
+            self.alloc,
+            self.world.transcript(),
+            &mut self.output,
+            writer,
+        ) {
+            return Err(fault);
+        }
+        if !self.tap {
+            return Ok(());
+        }
+        match tell_frames(self.alloc, self.world.tap(), &mut self.output, writer) {
+            Ok(()) => Ok(()),
+            Err(fault) => Err(fault),
+        }
+    }
+
+    /// Tells a step, and lets go of its entries and frames.
+    fn end_step<W: Sink>(&mut self, writer: &mut W) -> Result<(), Fault>
+        ensures kept { OnOk result (W.is_marked writer.new ≡ W.is_marked writer.old) }
+        ensures tells { (cfg : Settings) (old : Option (List ℕ)) (told : List ℕ) (w next : State) → FitsWorld cfg self.old.world next (all_of w)
+            → Tells old (W.contents writer.old) self.old.output told → let sayings = told_between self.old.tap w next in
+            MatchResult result (λ _. Tells old (W.contents writer.new) self.new.output (told ++ sayings_text sayings)) (λ _. AppendsBeginning old (W.contents writer.new) (told ++ sayings_text sayings)) }
+        ensures world { (cfg : Settings) (w next : State) → FitsWorld cfg self.old.world next (all_of w) → OnOk result (FitsWorld cfg self.new.world next (all_of next)) }
+        ensures tap { self.new.tap ≡ self.old.tap }
+        ensures is_refused { self.new.is_refused ≡ self.old.is_refused }
+        ensures write { IsErrOf result Fault.Write → W.is_marked writer.new ≡ true }
+        ensures read { IsErrOf result Fault.Read → ⊥ }
+    {
+        if let Err(fault) = self.tell_step(writer) {
+            return Err(fault);
+        }
+        self.world.let_go();
+        Ok(())
+    }
+
+    /// Tells that an event is refused; want of memory is a fault.
+    fn refuse<W: Sink>(&mut self, error: WorldError, writer: &mut W) -> Result<(), Fault>
+        ensures kept { OnOk result (W.is_marked writer.new ≡ W.is_marked writer.old) }
+        ensures stood { (cfg : Settings) (tap : Bool) (old : Option (List ℕ)) (w : State) (outcome : WorldOutcome) (told : List ℕ) (refused : Bool)
+            → Stands cfg tap old (W.contents writer.old) self.old w told refused → ((refusal_of outcome ≡ Some error) ⊎ (error ≡ WorldError.NoMemory))
+            → Stood cfg tap old (W.contents writer.new) self.new told refused result (turn_of tap w outcome) }
+        ensures write { IsErrOf result Fault.Write → W.is_marked writer.new ≡ true }
+        ensures read { IsErrOf result Fault.Read → ⊥ }
+    {
+        if is_memory(error) {
+            return Err(Fault::NoMemory);
+        }
+        self.is_refused = true;
+        match tell_refusal(self.alloc, error, &mut self.output, writer) {
+            Ok(()) => Ok(()),
+            Err(fault) => Err(fault),
+        }
+    }
+
+    /// An event happens, and is told, or it is told that it is refused.
+    pub(crate) fn happen<W: Sink>(&mut self, event: Event, writer: &mut W) -> Result<(), Fault>
+        ensures kept { OnOk result (W.is_marked writer.new ≡ W.is_marked writer.old) }
+        ensures turns { (cfg : Settings) (tap : Bool) (old : Option (List ℕ))
+            → Turns cfg tap old (W.contents writer.old) (W.contents writer.new) self.old self.new result (event_turn cfg tap (event_of event.entry)) }
+        ensures write { IsErrOf result Fault.Write → W.is_marked writer.new ≡ true }
+        ensures read { IsErrOf result Fault.Read → ⊥ }
+    {
+        match self.world.apply(event) {
+            Ok(()) => match self.end_step(writer) {
+                Ok(()) => Ok(()),
+                Err(fault) => Err(fault),
+            },
+            Err(error) => match self.refuse(error, writer) {
+                Ok(()) => Ok(()),
+                Err(fault) => Err(fault),
+            },
+        }
+    }
+
+    /// Where the next frame of a drain is delivered: to the DCE where one is on the line to it, else to the DTE.
+    fn next_direction(&self) -> Option<Direction>
+        ensures { option_map end_of result ≡ next_end self.now.world.to_dce self.now.world.to_dte }
+    {
+        if self.world.on_line(Direction::ToDce) > 0 {
+            Some(Direction::ToDce)
+        } else if self.world.on_line(Direction::ToDte) > 0 {
+            Some(Direction::ToDte)
+        } else {
+            None
+        }
+    }
+
+    /// At most so many frames are delivered.
+    pub(crate) fn drain<W: Sink>(&mut self, count: u16, writer: &mut W) -> Result<(), Fault>
+        ensures kept { OnOk result (W.is_marked writer.new ≡ W.is_marked writer.old) }
+        ensures turns { (cfg : Settings) (tap : Bool) (old : Option (List ℕ))
+            → Turns cfg tap old (W.contents writer.old) (W.contents writer.new) self.old self.new result (drained cfg tap count) }
+        ensures write { IsErrOf result Fault.Write → W.is_marked writer.new ≡ true }
+        ensures read { IsErrOf result Fault.Read → ⊥ }
+    {
+        for _ in 0..count {
+            let Some(direction) = self.next_direction() else {
+                return Ok(());
+            };
+            if let Err(fault) = self.happen(Event::Deliver(direction), writer) {
+                return Err(fault);
+            }
+        }
+        Ok(())
+    }
+
+    /// Tells that a line isn't in the grammar.
+    pub(crate) fn read_nothing<W: Sink>(&mut self, writer: &mut W) -> Result<(), Fault>
+        ensures kept { OnOk result (W.is_marked writer.new ≡ W.is_marked writer.old) }
+        ensures turns { (cfg : Settings) (tap : Bool) (old : Option (List ℕ))
+            → Turns cfg tap old (W.contents writer.old) (W.contents writer.new) self.old self.new result (λ w. asked_turn cfg tap w None) }
+        ensures write { IsErrOf result Fault.Write → W.is_marked writer.new ≡ true }
+        ensures read { IsErrOf result Fault.Read → ⊥ }
+    {
+        self.is_refused = true;
+        match tell(b"? 60\n", &mut self.output, writer) {
+            Ok(()) => Ok(()),
+            Err(fault) => Err(fault),
+        }
+    }
+
+    /// What the user of an end asks for happens.
+    fn command<W: Sink>(&mut self, end: Role, command: Command, writer: &mut W) -> Result<(), Fault>
+        ensures kept { OnOk result (W.is_marked writer.new ≡ W.is_marked writer.old) }
+        ensures turns { (cfg : Settings) (tap : Bool) (old : Option (List ℕ))
+            → Turns cfg tap old (W.contents writer.old) (W.contents writer.new) self.old self.new result
+            (event_turn cfg tap (record { at = end; act = Commands (command_asked (plain_command command.entry)) })) }
+        ensures write { IsErrOf result Fault.Write → W.is_marked writer.new ≡ true }
+        ensures read { IsErrOf result Fault.Read → ⊥ }
+    {
+        match command {
+            Command::Call {
+                called,
+                calling,
+                user,
+            } => {
+                let Ok(user) = octets_of(self.alloc, &user) else {
+                    return Err(Fault::NoMemory);
+                };
+                let call = Cmd::Call {
+                    called,
+                    calling,
+                    user: user.as_slice(),
+                };
+                self.happen(Event::Command(end, call), writer)
+            }
+            Command::Send { channel, q, user } => {
+                let Ok(user) = octets_of(self.alloc, &user) else {
+                    return Err(Fault::NoMemory);
+                };
+                let send = Cmd::Send {
+                    channel,
+                    q,
+                    user: user.as_slice(),
+                };
+                self.happen(Event::Command(end, send), writer)
+            }
+            Command::Interrupt { channel, user } => {
+                let Ok(user) = octets_of(self.alloc, &user) else {
+                    return Err(Fault::NoMemory);
+                };
+                let interrupt = Cmd::Interrupt {
+                    channel,
+                    user: user.as_slice(),
+                };
+                self.happen(Event::Command(end, interrupt), writer)
+            }
+            Command::Accept { channel } => self.happen(
+                Event::Command(end, Cmd::Accept { channel }),
+                writer,
+            ),
+            Command::Clear { channel } => self.happen(
+                Event::Command(end, Cmd::Clear { channel }),
+                writer,
+            ),
+            Command::Reset { channel } => self.happen(
+                Event::Command(end, Cmd::Reset { channel }),
+                writer,
+            ),
+            Command::Ready { channel } => self.happen(
+                Event::Command(end, Cmd::Ready { channel }),
+                writer,
+            ),
+            Command::NotReady { channel } => self.happen(
+                Event::Command(end, Cmd::NotReady { channel }),
+                writer,
+            ),
+            Command::Restart => self.happen(Event::Command(end, Cmd::Restart), writer),
+            Command::Disconnect => self.happen(Event::Command(end, Cmd::Disconnect), writer),
+        }
+    }
+
+    /// What a line of the script asks for happens.
+    #[tactic(auto, unfolding(crate::specs::Simulated::line_turn))]
+    pub(crate) fn obey<W: Sink>(&mut self, line: ScriptLine, writer: &mut W) -> Result<(), Fault>
+        ensures kept { OnOk result (W.is_marked writer.new ≡ W.is_marked writer.old) }
+        ensures turns { (cfg : Settings) (tap : Bool) (old : Option (List ℕ))
+            → Turns cfg tap old (W.contents writer.old) (W.contents writer.new) self.old self.new result (line_turn cfg tap (plain line.entry)) }
+        ensures write { IsErrOf result Fault.Write → W.is_marked writer.new ≡ true }
+        ensures read { IsErrOf result Fault.Read → ⊥ }
+    {
+        match line {
+            ScriptLine::Command { end, command } => self.command(end, command, writer),
+            ScriptLine::T1 { end } => self.happen(Event::T1(end), writer),
+            ScriptLine::Deliver { from } => self.happen(Event::Deliver(away_from(from)), writer),
+            ScriptLine::Lose { from, place } => {
+                self.happen(Event::Lose(away_from(from), usize::from(place)), writer)
+            }
+            ScriptLine::Damage {
+                from,
+                place,
+                octets,
+            } => {
+                let Ok(octets) = octets_of(self.alloc, &octets) else {
+                    return Err(Fault::NoMemory);
+                };
+                let damage = Event::Damage(away_from(from), usize::from(place), octets.as_slice());
+                self.happen(damage, writer)
+            }
+            ScriptLine::Drain { count } => self.drain(count, writer),
+        }
+    }
+
+    /// Whether a line or an event was refused.
+    pub(crate) fn is_refused(&self) -> bool
+        ensures { result ≡ self.now.is_refused }
+    {
+        self.is_refused
+    }
+
+    /// Writes what waits.
+    pub(crate) fn flush<W: Sink>(&mut self, writer: &mut W) -> Result<(), Fault>
+        ensures kept { OnOk result (W.is_marked writer.new ≡ W.is_marked writer.old) }
+        ensures stands { (cfg : Settings) (tap : Bool) (old : Option (List ℕ)) (w : State) (told : List ℕ) (refused : Bool)
+            → Stands cfg tap old (W.contents writer.old) self.old w told refused
+            → MatchResult result (λ _. Stands cfg tap old (W.contents writer.new) self.new w told refused) (λ _. AppendsBeginning old (W.contents writer.new) told) }
+        ensures empty { OnOk result (self.new.output ≡ []) }
+        ensures is_refused { self.new.is_refused ≡ self.old.is_refused }
+        ensures write { IfErr result (λ fault. fault ≡ Fault.Write) }
+        ensures marked { OnErr result (W.is_marked writer.new ≡ true) }
+    {
+        match self.output.flush(writer) {
+            Ok(()) => Ok(()),
+            Err(_) => Err(Fault::Write),
+        }
+    }
+
+    /// The link is set up, and that is told: the step of the DTE, the delivery of its SABM, and that of the UA.
+    pub(crate) fn set_up<W: Sink>(&mut self, writer: &mut W) -> Result<(), Fault>
+        ensures kept { OnOk result (W.is_marked writer.new ≡ W.is_marked writer.old) }
+        ensures stood { (cfg : Settings) (old : Option (List ℕ)) → IsConnecting cfg self.old
+            → self.old.is_refused ≡ false → Tells old (W.contents writer.old) self.old.output []
+            → Stood cfg self.old.tap old (W.contents writer.new) self.new [] false result (set_up cfg self.old.tap) }
+        ensures write { IsErrOf result Fault.Write → W.is_marked writer.new ≡ true }
+        ensures read { IsErrOf result Fault.Read → ⊥ }
+    {
+        if let Err(fault) = self.end_step(writer) {
+            return Err(fault);
+        }
+        if let Err(fault) = self.happen(Event::Deliver(Direction::ToDce), writer) {
+            return Err(fault);
+        }
+        match self.happen(Event::Deliver(Direction::ToDte), writer) {
+            Ok(()) => Ok(()),
+            Err(fault) => Err(fault),
+        }
+    }
+}

@@ -1,0 +1,163 @@
+//! What is told of a step: a line for each entry, and for each frame where frames are asked for.
+ghost use Rattle.std.specs.Prelude.{◌≡◌, ◌++◌, true, ℕ, List, Option, IfOk, OnOk, IsErrOf, MatchResult, map};
+ghost use Rattle.x25_program.specs.Written.{AppendsBeginning};
+ghost use Rattle.x25_world.specs.PlainTold.{plain_entered, plain_tapped};
+ghost use Rattle.x25_sim.specs.Sayings.{enters, taps, frame_line as line_of_frame, refusal_line as line_of_refusal, refusal_number as number_of_refusal, saying_line, sayings_text};
+ghost use Rattle.x25_sim.specs.Written.{Tells};
+
+use crate::output::Output;
+use std::alloc::{AllocError, Global};
+use x25_entries::{Line, entry_line};
+use x25_program::{Fault, Sink};
+use x25_world::{Entered, Role, Tapped, WorldError};
+
+/// A frame that was put on the line, as a line for `decode`.
+#[tactic(auto, unfolding(crate::specs::Sayings::frame_line))]
+fn frame_line(alloc: Global, frame: &Tapped) -> Result<Line, AllocError>
+    ensures { IfOk result (λ line. line ≡ line_of_frame (plain_tapped frame.now)) }
+{
+    let mut line = Line::new(alloc)?;
+    line.push(match frame.from {
+        Role::Dte => b"> ",
+        Role::Dce => b"< ",
+    })?;
+    line.push_hexadecimal(frame.octets.as_slice())?;
+    line.push(b"\n")?;
+    Ok(line)
+}
+
+/// The number of a refusal, the station's own where the station refuses.
+fn refusal_number(error: WorldError) -> u8
+    ensures { result ≡ number_of_refusal error }
+{
+    match error {
+        WorldError::Station(error) => error.number(),
+        _ => error.number(),
+    }
+}
+
+#[tactic(auto, unfolding(crate::specs::Sayings::refusal_line))]
+fn refusal_line(alloc: Global, error: WorldError) -> Result<Line, AllocError>
+    ensures { IfOk result (λ line. line ≡ line_of_refusal error) }
+{
+    let mut line = Line::new(alloc)?;
+    line.push_number(b"! ", u64::from(refusal_number(error)))?;
+    line.push(b"\n")?;
+    Ok(line)
+}
+
+/// Tells a line.
+pub(crate) fn tell<W: Sink>(line: &[u8], output: &mut Output, writer: &mut W) -> Result<(), Fault>
+    ensures kept { OnOk result (W.is_marked writer.new ≡ W.is_marked writer.old) }
+    ensures tells { (old : Option (List ℕ)) (told : List ℕ) → Tells old (W.contents writer.old) output.old told
+        → MatchResult result (λ _. Tells old (W.contents writer.new) output.new (told ++ line.now)) (λ _. AppendsBeginning old (W.contents writer.new) (told ++ line.now)) }
+    ensures write { IsErrOf result Fault.Write → W.is_marked writer.new ≡ true }
+    ensures read { IsErrOf result Fault.Read → ⊥ }
+{
+    match output.tell(line, writer) {
+        Ok(()) => Ok(()),
+        Err(_) => Err(Fault::Write),
+    }
+}
+
+#[tactic(auto, unfolding(crate::specs::Sayings::saying_line))]
+fn tell_entry<W: Sink>(
+    alloc: Global,
+    entered: &Entered,
+    output: &mut Output,
+    writer: &mut W,
+) -> Result<(), Fault>
+    ensures kept { OnOk result (W.is_marked writer.new ≡ W.is_marked writer.old) }
+    ensures tells { (old : Option (List ℕ)) (told : List ℕ) → Tells old (W.contents writer.old) output.old told
+        → MatchResult result (λ _. Tells old (W.contents writer.new) output.new (told ++ saying_line (enters (plain_entered entered.now))))
+        (λ _. AppendsBeginning old (W.contents writer.new) (told ++ saying_line (enters (plain_entered entered.now)))) }
+    ensures write { IsErrOf result Fault.Write → W.is_marked writer.new ≡ true }
+    ensures read { IsErrOf result Fault.Read → ⊥ }
+{
+    let Ok(line) = entry_line(alloc, entered.at, &entered.entry) else {
+        return Err(Fault::NoMemory);
+    };
+    tell(line.as_slice(), output, writer)
+}
+
+#[tactic(auto, unfolding(crate::specs::Sayings::saying_line))]
+fn tell_frame<W: Sink>(
+    alloc: Global,
+    frame: &Tapped,
+    output: &mut Output,
+    writer: &mut W,
+) -> Result<(), Fault>
+    ensures kept { OnOk result (W.is_marked writer.new ≡ W.is_marked writer.old) }
+    ensures tells { (old : Option (List ℕ)) (told : List ℕ) → Tells old (W.contents writer.old) output.old told
+        → MatchResult result (λ _. Tells old (W.contents writer.new) output.new (told ++ saying_line (taps (plain_tapped frame.now))))
+        (λ _. AppendsBeginning old (W.contents writer.new) (told ++ saying_line (taps (plain_tapped frame.now)))) }
+    ensures write { IsErrOf result Fault.Write → W.is_marked writer.new ≡ true }
+    ensures read { IsErrOf result Fault.Read → ⊥ }
+{
+    let Ok(line) = frame_line(alloc, frame) else {
+        return Err(Fault::NoMemory);
+    };
+    tell(line.as_slice(), output, writer)
+}
+
+pub(crate) fn tell_entries<W: Sink>(
+    alloc: Global,
+    entries: &[Entered],
+    output: &mut Output,
+    writer: &mut W,
+) -> Result<(), Fault>
+    ensures kept { OnOk result (W.is_marked writer.new ≡ W.is_marked writer.old) }
+    ensures tells { (old : Option (List ℕ)) (told : List ℕ) → Tells old (W.contents writer.old) output.old told
+        → MatchResult result (λ _. Tells old (W.contents writer.new) output.new (told ++ sayings_text (map enters (map plain_entered entries.now))))
+        (λ _. AppendsBeginning old (W.contents writer.new) (told ++ sayings_text (map enters (map plain_entered entries.now)))) }
+    ensures write { IsErrOf result Fault.Write → W.is_marked writer.new ≡ true }
+    ensures read { IsErrOf result Fault.Read → ⊥ }
+{
+    for entered in entries {
+        if let Err(fault) = tell_entry(alloc, entered, output, writer) {
+            return Err(fault);
+        }
+    }
+    Ok(())
+}
+
+pub(crate) fn tell_frames<W: Sink>(
+    alloc: Global,
+    frames: &[Tapped],
+    output: &mut Output,
+    writer: &mut W,
+) -> Result<(), Fault>
+    ensures kept { OnOk result (W.is_marked writer.new ≡ W.is_marked writer.old) }
+    ensures tells { (old : Option (List ℕ)) (told : List ℕ) → Tells old (W.contents writer.old) output.old told
+        → MatchResult result (λ _. Tells old (W.contents writer.new) output.new (told ++ sayings_text (map taps (map plain_tapped frames.now))))
+        (λ _. AppendsBeginning old (W.contents writer.new) (told ++ sayings_text (map taps (map plain_tapped frames.now)))) }
+    ensures write { IsErrOf result Fault.Write → W.is_marked writer.new ≡ true }
+    ensures read { IsErrOf result Fault.Read → ⊥ }
+{
+    for frame in frames {
+        if let Err(fault) = tell_frame(alloc, frame, output, writer) {
+            return Err(fault);
+        }
+    }
+    Ok(())
+}
+
+/// Tells that an event is refused.
+pub(crate) fn tell_refusal<W: Sink>(
+    alloc: Global,
+    error: WorldError,
+    output: &mut Output,
+    writer: &mut W,
+) -> Result<(), Fault>
+    ensures kept { OnOk result (W.is_marked writer.new ≡ W.is_marked writer.old) }
+    ensures tells { (old : Option (List ℕ)) (told : List ℕ) → Tells old (W.contents writer.old) output.old told
+        → MatchResult result (λ _. Tells old (W.contents writer.new) output.new (told ++ line_of_refusal error))
+        (λ _. AppendsBeginning old (W.contents writer.new) (told ++ line_of_refusal error)) }
+    ensures write { IsErrOf result Fault.Write → W.is_marked writer.new ≡ true }
+    ensures read { IsErrOf result Fault.Read → ⊥ }
+{
+    let Ok(line) = refusal_line(alloc, error) else {
+        return Err(Fault::NoMemory);
+    };
+    tell(line.as_slice(), output, writer)
+}
