@@ -1,5 +1,5 @@
 # make x25   leaves the proved program at build/x25
-# make demo  builds it and decodes the traces of examples/
+# make demo  builds it, decodes the traces of examples/, and runs its scripts
 # make test  the gate: every proof from nothing, the must-fail edits, the tests and the programs, the golden cases, the tools
 # make golden       runs the stored cases of tests/golden on the program
 # make check-tools  runs the tests of tools/, without the kit too; those that need the program are left out where it isn't built
@@ -20,6 +20,11 @@ demo: build/x25
 	@for trace in examples/*.trace; do \
 	    echo "$$ x25 decode < $$trace"; \
 	    build/x25 decode < $$trace || exit $$?; \
+	    echo; \
+	done
+	@for script in examples/*.script; do \
+	    echo "$$ x25 sim < $$script"; \
+	    build/x25 sim < $$script || exit $$?; \
 	    echo; \
 	done
 

@@ -4,8 +4,7 @@
     losses.py SEED LINES [--loss P] [--damage P] [--t1 P] [--channels N] | x25 sim --channels N
 
 P is the probability that a line is of that kind. The same numbers give the same script, on any machine and any Python. The
-script doesn't know what the stations do with it, so some of its lines are refused (`! N`); that is meant. (The program has no
-`sim` yet.)
+script doesn't know what the stations do with it, so some of its lines are refused (`! N`); that is meant.
 
 Exit status: 0, or 2 for bad words.
 """

@@ -5,8 +5,7 @@
     x25 sim --tap < script | x25pcap.py -o run.pcapng
 
 Reads `> HEX` and `< HEX` lines, also with a time in seconds and a tab before them. The other lines of a run of `x25 sim --tap`
-(entries, `! N`, `? 60`) are passed over; the program has no `sim` yet. A line without a time gets its number as
-milliseconds, so that it is found again.
+(entries, `! N`, `? 60`) are passed over. A line without a time gets its number as milliseconds, so that it is found again.
 
 The link type is SITA (196) and not LAPB_WITH_DIR (207), which Wireshark 4.0 doesn't open; the direction stands in the flags
 of each packet, outbound being from the DTE to the DCE. The frame check sequence is cut off, as the dissector expects. A line

@@ -1,0 +1,32 @@
+"""Runs a program and says what it used: processor time, time on the clock and peak memory."""
+import os
+import subprocess
+import sys
+import time
+
+
+def peak_memory(pid):
+    """The most memory that the process has held, in kB, or 0 where it has ended."""
+    try:
+        with open(f"/proc/{pid}/status") as status:
+            return next((int(line.split()[1]) for line in status if line.startswith("VmHWM")), 0)
+    except OSError:
+        return 0
+
+
+def timed(words, file, statuses=(0,)):
+    """Runs the words on the file: the seconds of processor time, those on the clock, and the peak memory in kB."""
+    file.seek(0)
+    start = time.perf_counter()
+    child = subprocess.Popen(words, stdin=file, stdout=subprocess.DEVNULL)
+    peak = 0
+    while True:
+        peak = max(peak, peak_memory(child.pid))
+        ended, status, used = os.wait4(child.pid, os.WNOHANG)
+        if ended:
+            break
+        time.sleep(0.002)
+    child.returncode = os.waitstatus_to_exitcode(status)
+    if child.returncode not in statuses:
+        sys.exit(f"{words[0]} ended with status {child.returncode}")
+    return used.ru_utime + used.ru_stime, time.perf_counter() - start, peak
