@@ -18,6 +18,7 @@ pub mod FrameLemmas
 pub mod TakeLemmas
 pub mod TookLemmas
 pub mod FollowLemmas
+pub mod HoldLemmas
 pub mod ToldLemmas
 pub mod OutcomeLemmas
 pub mod StationRows

@@ -12,3 +12,4 @@ pub mod PlainEntry
 pub mod FitsParts
 pub mod FitsStation
 pub mod Receiving
+pub mod HoldLaw

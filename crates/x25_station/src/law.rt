@@ -1,10 +1,11 @@
-//! A station is its link and its packet layer joined, as laws about the definition: each is the contract of a function that does nothing.
+//! A station is its link and its packet layer joined, and what it holds: laws, each the contract of a function that does nothing.
 ghost use Rattle.x25_station.specs.JoinLaw.{RequestIsJoined, ReceiveIsJoined, QuietIsJoined, DownIsJoined, UpIsJoined};
 ghost use Rattle.x25_station.specs.KeepLaw.{ConnectKeeps, TimerKeeps, CommandKeeps, ReceiveKeeps};
 ghost use Rattle.x25_station.specs.ReadLaw.{PutsAreReadable};
+ghost use Rattle.x25_station.specs.HoldLaw.{FewWait, FewStand, FewMessages};
 
 use x25_layer::calls_are_runs;
-use x25_link::notes_what_changes;
+use x25_link::{holds_few, notes_what_changes};
 use x25_packet::reading_is_the_grammar;
 
 /// Each step of a station is a step of its link, and then packets that are handed down to the link, each accepted. They are the packets
@@ -38,4 +39,14 @@ pub fn steps_keep_bounds()
     ensures receive { ReceiveKeeps }
 {
     notes_what_changes();
+}
+
+/// What a station holds at most: 256 packets that wait in its link, 7 that were sent and aren't acknowledged, and for each channel
+/// 8 messages that wait.
+pub fn stations_hold_few()
+    ensures wait { FewWait }
+    ensures stand { FewStand }
+    ensures messages { FewMessages }
+{
+    holds_few();
 }

@@ -7,7 +7,7 @@ use Rattle.x25_station.specs.declared.config.Cfg.{Cfg}
 use Rattle.x25_station.specs.declared.error.StationError.{StationError}
 use Rattle.x25_station.specs.Settings.{settings_from, config_refusal}
 use Rattle.x25_station.specs.FitsStation.{FitsStation}
-use Rattle.x25_world.specs.World.{OnTap, AtEnd, World, Event, WorldOutcome, Happened, Declined, happens, refusal_of, run, AreAccepted, start}
+use Rattle.x25_world.specs.World.{OnTap, AtEnd, World, Event, Act, Loses, WorldOutcome, Happened, Declined, happens, refusal_of, run, AreAccepted, start}
 use Rattle.x25_world.specs.Claims.{AreInOctets}
 use Rattle.x25_world.specs.ShownLine.{line_to}
 use Rattle.x25_world.specs.ShownWorld.{ShownWorld, ShownSide}
@@ -38,6 +38,11 @@ pub record FitsWorld (cfg : Cfg) (v : ShownWorld) (w : World) (gone : Gone) : Ty
 -- an event is refused by its ground alone, or for want of memory
 abbrev pub IsRefusal : Cfg → World → Event → WorldError → Type 0
 IsRefusal cfg w e error = (refusal_of (happens cfg w e) ≡ Some error) ⊎ (error ≡ NoMemory)
+
+-- what is lost takes no memory
+abbrev pub TakesMemory : Act → Type 0
+TakesMemory (Loses place) = ⊥
+TakesMemory act = Unit {0}
 
 -- the events before the one that was refused were accepted and have happened
 pub record StopsAt (cfg : Cfg) (events : List Event) (w : World) (gone : Gone) (v : ShownWorld) (refused : WorldRefused) : Type 0 where

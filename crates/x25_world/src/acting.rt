@@ -1,5 +1,5 @@
 //! What happens at one end, and on the line to it.
-ghost use Rattle.std.specs.Prelude.{◌≡◌, ◌+◌, ◌≤◌, ◌++◌, ◌⊎◌, length, map, vec_len, vec_capacity, IfErr, OnOk, OnErr};
+ghost use Rattle.std.specs.Prelude.{◌≡◌, ◌+◌, ◌≤◌, ◌++◌, ◌⊎◌, length, map, vec_len, vec_capacity, IfErr, OnOk, OnErr, IsErrOf};
 ghost use Rattle.x25_line.specs.Stations.{is_visible};
 ghost use Rattle.x25_station.specs.Command.{command_of};
 ghost use Rattle.x25_station.specs.PlainEntry.{plain_entry};
@@ -10,7 +10,7 @@ ghost use Rattle.x25_world.specs.World as definition;
 ghost use Rattle.x25_world.specs.World.{Happened, Declined, of_station, delivered, on_line, lost, damaged, acts, entered, event_of};
 ghost use Rattle.x25_world.specs.PlainTold.{plain_entered};
 ghost use Rattle.x25_world.specs.ShownLine.{put_by, line_to, with_line_to};
-ghost use Rattle.x25_world.specs.FitsWorld.{Gone, FitsSide, HasActed};
+ghost use Rattle.x25_world.specs.FitsWorld.{Gone, FitsSide, HasActed, TakesMemory};
 
 use crate::error::WorldError;
 use crate::event::Event;
@@ -27,7 +27,8 @@ pub fn act(
     transcript: &mut Vec<Entered>,
     event: Event,
 ) -> Result<(), WorldError>
-    ensures { (cfg : Cfg) (w : definition.World) (gone : Gone) →
+    ensures memory { IsErrOf result WorldError.NoMemory → TakesMemory (event_of event.entry).act }
+    ensures acted { (cfg : Cfg) (w : definition.World) (gone : Gone) →
         FitsSide cfg at (record { near = near.old; line = line.old; transcript = map plain_entered transcript.old.items }) w gone →
         HasActed cfg at (record { near = near.new; line = line.new; transcript = map plain_entered transcript.new.items }) result w gone (acts (settings_from at cfg) w (event_of event.entry).act) }
 {
@@ -161,6 +162,7 @@ fn lose(to: Role, line: &mut Line, place: usize) -> Result<(), WorldError>
     ensures happened { (w : definition.World) → line_to line.old to ≡ w.back → OnOk result (lost w place ≡ Happened (on_line w (line_to line.new to))) }
     ensures only { line.new ≡ with_line_to line.old to (line_to line.new to) }
     ensures refused { (w : definition.World) → line_to line.old to ≡ w.back → IfErr result (λ e. lost w place ≡ Declined e) }
+    ensures kinds { IfErr result (λ e. e ≡ WorldError.NoSuchFrame) }
     ensures unchanged { OnErr result (line.new ≡ line.old) }
 {
     if place >= line.len(to) {

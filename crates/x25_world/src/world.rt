@@ -1,11 +1,11 @@
-ghost use Rattle.std.specs.Prelude.{◌≡◌, List, [], length, map, OnOk, OnErr, IfOk, IfErr};
+ghost use Rattle.std.specs.Prelude.{◌≡◌, List, [], length, map, OnOk, OnErr, IfOk, IfErr, IsErrOf};
 ghost use Rattle.x25_station.specs.declared.config.Cfg.{Cfg};
 ghost use Rattle.x25_station.specs.FitsStation.{FitsStation};
 ghost use Rattle.x25_station.specs.Settings.{settings_from, config_refusal};
 ghost use Rattle.x25_station.specs.Station as station;
 ghost use Rattle.x25_world.specs.PlainTold.{plain_tapped, plain_entered};
 ghost use Rattle.x25_world.specs.ShownWorld.{line_of, station_of};
-ghost use Rattle.x25_world.specs.FitsWorld.{Gone, all_of, nothing_gone, FitsWorld, FitsRun, and_then, and_all, HoldsAfter, IsRefusal, StopsAt, RefusesConfig};
+ghost use Rattle.x25_world.specs.FitsWorld.{Gone, all_of, nothing_gone, FitsWorld, FitsRun, and_then, and_all, HoldsAfter, IsRefusal, TakesMemory, StopsAt, RefusesConfig};
 ghost use Rattle.x25_world.specs.Claims.{IsLawful, IsNamed, ArrivesAll, HasNoProcedureError, IsInWindow, IsUpOnce};
 ghost use Rattle.x25_world.specs.World as definition;
 ghost use Rattle.x25_world.specs.World.{event_of, happens, after, refusal_of, run, AreAccepted, apart, connected, start};
@@ -113,13 +113,14 @@ impl World {
 
     /// Lets the event happen.
     ///
-    /// Refused with the one ground that applies, 50, 51, 52 or 53, and else accepted; 70 where memory is refused. Then the world is as
-    /// before.
+    /// Refused with the one ground that applies, 50, 51, 52 or 53, and else accepted; 70 where memory is refused, which `Lose` takes none of. Then the
+    /// world is as before.
     pub fn apply(&mut self, event: Event) -> Result<(), WorldError>
         ensures step { (cfg : Cfg) (w : definition.World) (gone : Gone) → FitsWorld cfg self.old w gone → OnOk result (FitsWorld cfg self.new (after w (happens cfg w (event_of event.entry))) gone) }
         ensures accepted { (cfg : Cfg) (w : definition.World) (gone : Gone) → FitsWorld cfg self.old w gone → OnOk result (refusal_of (happens cfg w (event_of event.entry)) ≡ None) }
         ensures refused { (cfg : Cfg) (w : definition.World) (gone : Gone) → FitsWorld cfg self.old w gone → IfErr result (IsRefusal cfg w (event_of event.entry)) }
         ensures stays { (cfg : Cfg) (w : definition.World) (gone : Gone) → FitsWorld cfg self.old w gone → OnErr result (FitsWorld cfg self.new w gone) }
+        ensures memory { IsErrOf result WorldError.NoMemory → TakesMemory (event_of event.entry).act }
 
         // The world is that of a run, and of each run this is proved.
         ensures run { (cfg : Cfg) (past : List definition.Event) (gone : Gone) → FitsRun cfg self.old past gone → FitsRun cfg self.new (and_then past (event_of event.entry) result) gone }
@@ -140,6 +141,7 @@ impl World {
         ensures accepted { (cfg : Cfg) (w : definition.World) (gone : Gone) → FitsWorld cfg self.old w gone → OnOk result (refusal_of (happens cfg w (event_of event.entry)) ≡ None) }
         ensures refused { (cfg : Cfg) (w : definition.World) (gone : Gone) → FitsWorld cfg self.old w gone → IfErr result (IsRefusal cfg w (event_of event.entry)) }
         ensures stays { (cfg : Cfg) (w : definition.World) (gone : Gone) → FitsWorld cfg self.old w gone → OnErr result (FitsWorld cfg self.new w gone) }
+        ensures memory { IsErrOf result WorldError.NoMemory → TakesMemory (event_of event.entry).act }
     {
         match event.at() {
             Role::Dte => act(

@@ -1,8 +1,8 @@
 use Rattle.x25_world.proofs.SideLemmas.{line_changes, line_stays, loses_or_not, damages_or_not}
 use Rattle.x25_world.proofs.acting.act.Goals as goal
 
-pub returns-in-Lose : goal.returns-in-Lose
-returns-in-Lose c = λ cfg w gone side.
+pub returns-in-Lose-clause-acted : goal.returns-in-Lose-clause-acted
+returns-in-Lose-clause-acted c = λ cfg w gone side.
     let called = c.lose.ensures in
     rw c.in-Lose.is (record {
       happened = line_changes cfg c.args.at _ _ _ _ w gone c.lose.result _ side (called.happened w side.back) called.only;
@@ -10,8 +10,8 @@ returns-in-Lose c = λ cfg w gone side.
       stays = line_stays cfg c.args.at _ _ _ _ w gone c.lose.result side called.unchanged;
     })
 
-pub returns-in-Damage : goal.returns-in-Damage
-returns-in-Damage c = λ cfg w gone side.
+pub returns-in-Damage-clause-acted : goal.returns-in-Damage-clause-acted
+returns-in-Damage-clause-acted c = λ cfg w gone side.
     let called = c.damage.ensures in
     rw c.in-Damage.is (record {
       happened = line_changes cfg c.args.at _ _ _ _ w gone c.damage.result _ side (called.happened w side.back) called.only;

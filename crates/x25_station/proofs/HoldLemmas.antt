@@ -1,0 +1,74 @@
+-- What a station holds at most: as many messages wait in a circuit as its queue has.
+use Rattle.std.proofs.Common.{◌≡◌, ℕ, zero, suc, ◌+◌, ◌<◌, ◌≤◌, nat_le, List, [], ◌∷◌, ◌++◌, length, take, drop, Some, Bool, true, false, if◌then◌else◌, refl, ap, arith}
+use Rattle.std.specs.List.{slice_get}
+use Rattle.std.proofs.lemmas.Bool.{and_parts, leb-true}
+use Rattle.std.proofs.lemmas.List.{length-append}
+use Rattle.x25_circuit.specs.declared.circuit.Circuit as circuit_code
+use Rattle.x25_circuit.specs.declared.message.Message.{Message}
+use Rattle.x25_circuit.specs.Messages.{Piece, More, Last, cut_from, cut_all, wholes}
+use Rattle.x25_circuit.specs.Circuit as circuit
+use Rattle.x25_circuit.specs.FitsCircuit.{FitsCircuit}
+use Rattle.x25_link.specs.Bounds.{FewStand as LinkStands, WindowIsSmall}
+use Rattle.x25_station.specs.Settings.{Settings, link_settings, layer_settings}
+use Rattle.x25_station.specs.HoldLaw as law
+
+wholes_append : (a b : List Piece) → wholes (a ++ b) ≡ wholes a + wholes b
+wholes_append [] b = omega arith
+wholes_append (p ∷ a) b = let e : wholes (a ++ b) ≡ wholes a + wholes b = wholes_append a b in omega (arith, e)
+
+-- a message ends once
+cut_whole : (n size : ℕ) (q : Bool) (user : List ℕ) → wholes (cut_from n size q user) ≡ 1
+cut_whole zero size q user = refl
+cut_whole (suc n) size q user = test (nat_le (length user) size) (cut_whole n size q (drop size user))
+  where
+    test : (b : Bool) → wholes (cut_from n size q (drop size user)) ≡ 1 → wholes (if b then Last q user ∷ [] else More q (take size user) ∷ cut_from n size q (drop size user)) ≡ 1
+    test true rest = refl
+    test false rest = omega (arith, rest)
+
+all_whole : (size : ℕ) (messages : List Message) → wholes (cut_all size messages) ≡ length messages
+all_whole size [] = refl
+all_whole size (m ∷ messages) =
+    let one : wholes (cut_from (length m.user) size m.q m.user) ≡ 1 = cut_whole (length m.user) size m.q m.user in
+    let rest : wholes (cut_all size messages) ≡ length messages = all_whole size messages in
+    let both = wholes_append (cut_from (length m.user) size m.q m.user) (cut_all size messages) in
+    omega (arith, one, rest, both)
+
+record Found {T : Type 0} (xs : List T) (k : ℕ) : Type 0 where
+  item : T
+  is : slice_get xs k ≡ Some item
+
+found : {T : Type 0} (xs : List T) (k : ℕ) → k < length xs → Found xs k
+found [] k low = absurd (below_none k low)
+  where
+    below_none : (n : ℕ) → n < 0 → ⊥
+    below_none n low = omega (arith, low)
+found (x ∷ xs) zero low = record { item = x; is = refl }
+found (x ∷ xs) (suc k) low = let f = found xs k (omega (arith, low)) in record { item = f.item; is = f.is }
+
+of_circuit : (c : Settings) (v : circuit_code.Circuit) (x : circuit.Circuit) → FitsCircuit (layer_settings c).circuit v x → circuit.waits x ≤ 8
+of_circuit c v x fits =
+    let q = v.transfer.queue in
+    let same : wholes x.talk.rest ≡ wholes (cut_all (layer_settings c).circuit.outgoing.size (q.cutter.left ++ q.ring.items)) = ap wholes fits.talk.rest in
+    let all = all_whole (layer_settings c).circuit.outgoing.size (q.cutter.left ++ q.ring.items) in
+    let size : length (q.cutter.left ++ q.ring.items) ≡ length q.cutter.left + length q.ring.items = length-append q.cutter.left q.ring.items in
+    omega (arith, same, all, size, q.few)
+
+pub few_messages : law.FewMessages
+few_messages c v s zero fits is = absurd (zero_true is)
+  where
+    zero_true : false ≡ true → ⊥
+    zero_true e = cc
+few_messages c v s (suc k) fits is =
+    let high : suc k ≤ c.channels = leb-true (suc k) c.channels (and_parts (nat_le 1 (suc k)) (nat_le (suc k) c.channels) is).1 in
+    let n = fits.layer.channels in
+    let f = found v.layer.circuits.items k (omega (arith, high, n)) in
+    of_circuit c f.item (s.layer.circuits (suc k)) (fits.layer.circuits k f.item f.is)
+
+pub few_stand : LinkStands → WindowIsSmall → law.FewStand
+few_stand stands small c v s fits =
+    let room = (stands (link_settings c) v.link s.link fits.link).room in
+    let low = small (link_settings c) v.link s.link fits.link in
+    omega (arith, room, low)
+
+pub few_wait : law.FewWait
+few_wait c v s fits = fits.kept.few

@@ -1,0 +1,21 @@
+-- What a station holds at most (profile).
+use Rattle.std.specs.Prelude.{◌≡◌, ℕ, ◌+◌, ◌≤◌, true}
+use Rattle.x25_link.specs.Outgoing.{waits}
+use Rattle.x25_circuit.specs.Circuit as circuit
+use Rattle.x25_layer.specs.Layer.{is_channel}
+use Rattle.x25_station.specs.declared.station.Station as code
+use Rattle.x25_station.specs.Settings.{Settings}
+use Rattle.x25_station.specs.Station.{Station}
+use Rattle.x25_station.specs.FitsStation.{FitsStation}
+
+-- packets that wait in the link
+abbrev pub FewWait : Type 0
+FewWait = (c : Settings) (v : code.Station) (s : Station) → FitsStation c v s → waits s.link.outgoing ≤ 256
+
+-- packets that were sent and aren't acknowledged
+abbrev pub FewStand : Type 0
+FewStand = (c : Settings) (v : code.Station) (s : Station) → FitsStation c v s → s.link.outgoing.sent ≤ s.link.outgoing.acked + 7
+
+-- messages that wait in the circuit of each channel
+abbrev pub FewMessages : Type 0
+FewMessages = (c : Settings) (v : code.Station) (s : Station) (h : ℕ) → FitsStation c v s → is_channel c.channels h ≡ true → circuit.waits (s.layer.circuits h) ≤ 8
