@@ -11,8 +11,9 @@ use Rattle.x25_circuit.specs.FitsCircuit.{FitsCircuit}
 use Rattle.x25_circuit.specs.Replies.{plain_owed}
 
 abbrev pub plain_request : declared.Request → Request
-plain_request (code.Call called calling user) = Calls called.now calling.now user.now
-plain_request code.Accept = Accepts
+plain_request (code.Call called calling user proposal) = Calls called.now calling.now user.now proposal.now
+plain_request (code.Accept None) = Accepts None
+plain_request (code.Accept (Some proposal)) = Accepts (Some proposal.now)
 plain_request code.Clear = Clears
 plain_request (code.Send q user) = Sends q user.items
 plain_request (code.Interrupt user) = Interrupts user.now

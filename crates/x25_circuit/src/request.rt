@@ -1,5 +1,5 @@
 //! What the user of a circuit asks for, as one type.
-ghost use Rattle.std.specs.Prelude.{◌≡◌, ◌≤◌, Bool, OnErr, IfOk};
+ghost use Rattle.std.specs.Prelude.{◌≡◌, ◌≤◌, Bool, OnErr, IfOk, Some, None};
 ghost use Rattle.x25_packet.specs.PlainPacket.{plain};
 ghost use Rattle.x25_circuit.specs.Circuit.{Settings};
 ghost use Rattle.x25_circuit.specs.Circuit.{Circuit as Channel};
@@ -11,6 +11,8 @@ ghost use Rattle.x25_circuit.specs.Replies.{IsSendable, plain_owed};
 use crate::circuit::Circuit;
 use crate::error::CircuitError;
 use crate::octets::LONGEST_MESSAGE;
+use crate::params::Params;
+use crate::proposal::Proposal;
 use crate::queue::PLACES;
 use crate::state::State;
 use crate::talking::INTERRUPT_OCTETS;
@@ -23,8 +25,12 @@ pub enum Request<'a> {
         called: &'a str,
         calling: &'a str,
         user: &'a [u8],
+        proposal: &'a Proposal,
     },
-    Accept,
+    /// None accepts what is proposed.
+    Accept {
+        answer: Option<&'a Proposal>,
+    },
     Clear,
     Send {
         q: bool,
@@ -66,8 +72,10 @@ impl Circuit {
                 called,
                 calling,
                 user,
-            } => with_packet(self.call(called, calling, user)),
-            Request::Accept => with_packet(self.accept()),
+                proposal,
+            } => with_packet(self.call_with(called, calling, user, proposal)),
+            Request::Accept { answer: None } => with_packet(self.accept()),
+            Request::Accept { answer: Some(answer) } => with_packet(self.accept_with(answer)),
             Request::Clear => with_packet(self.clear()),
             Request::Send { q, user } => match self.send(q, user) {
                 Ok(()) => Ok(None),
@@ -89,8 +97,10 @@ impl Circuit {
                 called,
                 calling,
                 user,
-            } => self.call_refusal(called, calling, user),
-            Request::Accept => self.accept_refusal(),
+                proposal,
+            } => self.call_refusal(called, calling, user, proposal.params()),
+            Request::Accept { answer: None } => self.accept_refusal(),
+            Request::Accept { answer: Some(answer) } => self.answer_refusal(answer.params()),
             Request::Clear => self.clear_refusal(),
             Request::Send { q, user } => self.send_refusal(*q, user),
             Request::Interrupt { user } => self.interrupt_refusal(user),
@@ -98,8 +108,14 @@ impl Circuit {
         }
     }
 
-    fn call_refusal(&self, called: &str, calling: &str, user: &[u8]) -> Option<CircuitError>
-        ensures { (c : Settings) (x : Channel) → FitsCircuit c self.now x → result ≡ refusal_of (call_in x x.state called.now calling.now user.now) }
+    fn call_refusal(
+        &self,
+        called: &str,
+        calling: &str,
+        user: &[u8],
+        params: Params,
+    ) -> Option<CircuitError>
+        ensures { (c : Settings) (x : Channel) → FitsCircuit c self.now x → result ≡ refusal_of (call_in x x.state called.now calling.now user.now params) }
     {
         if self.state != State::Free {
             return Some(CircuitError::WrongState);
@@ -107,6 +123,7 @@ impl Circuit {
         if Digits::of(called).is_none()
             || Digits::of(calling).is_none()
             || user.len() > CALL_OCTETS
+            || !params.may_be_proposed()
         {
             return Some(CircuitError::BadParameter);
         }
@@ -114,10 +131,20 @@ impl Circuit {
     }
 
     fn accept_refusal(&self) -> Option<CircuitError>
-        ensures { (c : Settings) (x : Channel) → FitsCircuit c self.now x → result ≡ refusal_of (accept_in x x.state) }
+        ensures { (c : Settings) (x : Channel) → FitsCircuit c self.now x → result ≡ refusal_of (accept_in x x.state None) }
     {
         match self.state {
             State::Arriving => None,
+            _ => Some(CircuitError::WrongState),
+        }
+    }
+
+    fn answer_refusal(&self, answer: Params) -> Option<CircuitError>
+        ensures { (c : Settings) (x : Channel) → FitsCircuit c self.now x → result ≡ refusal_of (accept_in x x.state (Some answer)) }
+    {
+        match self.state {
+            State::Arriving if answer.may_answer(self.flow.params) => None,
+            State::Arriving => Some(CircuitError::BadParameter),
             _ => Some(CircuitError::WrongState),
         }
     }
