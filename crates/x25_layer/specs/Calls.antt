@@ -3,16 +3,17 @@ use Rattle.std.specs.Prelude.{ℕ, zero, suc, List, Option, Some, None, Bool, tr
 use Rattle.x25_bits.specs.declared.role.Role.{Role}
 use Rattle.x25_bits.specs.declared.role.Role.TheVariants.{Dte, Dce}
 use Rattle.x25_packet.specs.PlainPacket.{PlainPacket, restart}
+use Rattle.x25_circuit.specs.declared.params.Params.{Params}
 use Rattle.x25_circuit.specs.Circuit.{Circuit, is_free}
 use Rattle.x25_circuit.specs.Calls.{Outcome, Done, Refused, Request, Calls, Sends, outcome, Pulled, pulled}
 use Rattle.x25_layer.specs.declared.error.LayerError.{LayerError}
 use Rattle.x25_layer.specs.declared.error.LayerError.TheVariants as error
 use Rattle.x25_layer.specs.Layer.{LayerSettings, Layer, is_channel, put_at, packet_on, is_ready, restarting_from}
 
--- a call of a circuit on a channel; a new call, which takes a free channel; a restart
+-- a call of a circuit on a channel; a new call, which takes a free channel, with the packet sizes and windows that it proposes; a restart
 pub data LayerRequest : Type 0 where
   Asks : (channel : ℕ) → (request : Request) → LayerRequest
-  Dials : (called : List ℕ) → (calling : List ℕ) → (user : List ℕ) → LayerRequest
+  Dials : (called : List ℕ) → (calling : List ℕ) → (user : List ℕ) → (params : Params) → LayerRequest
   Restarts : LayerRequest
 
 -- the layer after the call, and the packet to send, where there is one; or why it is refused
@@ -57,16 +58,18 @@ abbrev pub outcome_on : ℕ → (ℕ → Circuit) → ℕ → Outcome → LayerO
 outcome_on restarts circuits h (Done next packet) = Accepted (is_ready restarts (put_at circuits h next)) (packet_on h packet)
 outcome_on restarts circuits h (Refused e) = Declined (error.Circuit e)
 
-abbrev pub dialled : LayerSettings → Bool → ℕ → (ℕ → Circuit) → Option ℕ → List ℕ → List ℕ → List ℕ → LayerOutcome
-dialled c is_full restarts circuits None called calling user = Declined error.NoFreeChannel
-dialled c is_full restarts circuits (Some h) called calling user = where_room is_full (outcome_on restarts circuits h (outcome c.circuit (circuits h) (Calls called calling user)))
+abbrev pub dialled : LayerSettings → Bool → ℕ → (ℕ → Circuit) → Option ℕ → List ℕ → List ℕ → List ℕ → Params → LayerOutcome
+dialled c is_full restarts circuits None called calling user params = Declined error.NoFreeChannel
+dialled c is_full restarts circuits (Some h) called calling user params =
+    where_room is_full (outcome_on restarts circuits h (outcome c.circuit (circuits h) (Calls called calling user params)))
 
 abbrev pub outcome_ready : LayerSettings → Bool → ℕ → (ℕ → Circuit) → LayerRequest → LayerOutcome
 outcome_ready c is_full restarts circuits (Asks h request) =
     if is_channel c.channels h
     then if_at_once (puts_at_once request) is_full (outcome_on restarts circuits h (outcome c.circuit (circuits h) request))
     else Declined error.NoSuchChannel
-outcome_ready c is_full restarts circuits (Dials called calling user) = dialled c is_full restarts circuits (free_channel c.circuit.role circuits c.channels) called calling user
+outcome_ready c is_full restarts circuits (Dials called calling user params) =
+    dialled c is_full restarts circuits (free_channel c.circuit.role circuits c.channels) called calling user params
 outcome_ready c is_full restarts circuits Restarts = where_room is_full (Accepted (restarting_from restarts circuits) (Some (restart 0 0)))
 
 abbrev pub outcome_in : LayerSettings → Bool → Bool → ℕ → (ℕ → Circuit) → LayerRequest → LayerOutcome

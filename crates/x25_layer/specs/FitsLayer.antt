@@ -1,6 +1,7 @@
 -- Which states of the definition a layer stands for, and what it tells of them.
 use Rattle.std.specs.Prelude.{◌≡◌, ℕ, zero, suc, ◌+◌, ◌^◌, ◌-◌, ◌==◌, ◌||◌, List, length, Option, Some, None, Bool, false, slice_get, if◌then◌else◌}
 use Rattle.x25_circuit.specs.declared.circuit.Circuit as circuit_code
+use Rattle.x25_circuit.specs.declared.params.Params.{Params}
 use Rattle.x25_circuit.specs.Circuit.{Circuit, is_open, waits}
 use Rattle.x25_circuit.specs.FitsCircuit.{FitsCircuit}
 use Rattle.x25_epochs.specs.Names.{Name}
@@ -29,6 +30,10 @@ plain_stretch (Some s) = Some (record { restarts = s.restarts; clears = s.clears
 -- the name of the stretch of a configured channel
 abbrev pub name_at : LayerSettings → Layer → ℕ → Option Name
 name_at c l h = if is_channel c.channels h then Some (name_of l h) else None
+
+-- the packet sizes and windows of the call on a configured channel: those in force, or else those proposed
+abbrev pub params_at : LayerSettings → Layer → ℕ → Option Params
+params_at c l h = if is_channel c.channels h then Some (l.circuits h).params else None
 
 -- a configured channel is in p4 with d1
 abbrev pub is_open_at : LayerSettings → Layer → ℕ → Bool

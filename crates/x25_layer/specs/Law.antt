@@ -1,7 +1,6 @@
 -- What holds of two layers over links that keep order, after any events.
 use Rattle.std.specs.Prelude.{◌≡◌, ℕ, ◌≤◌, List, ◌++◌, length, true}
-use Rattle.x25_circuit.specs.Circuit.{Terms, is_open, waits}
-use Rattle.x25_epochs.specs.Terms.{IsSound}
+use Rattle.x25_circuit.specs.Circuit.{is_open, waits}
 use Rattle.x25_epochs.specs.Names.{Name}
 use Rattle.x25_epochs.specs.Books.{Begins}
 use Rattle.x25_layer.specs.Quiet.{AreQuiet, AreNoFaults}
@@ -10,7 +9,7 @@ use Rattle.x25_layer.specs.World.{End, World, Event, run, start}
 
 -- whatever happened to two ends
 abbrev pub Always : (World → Type 0) → ℕ → Type 0
-Always P channels = (t b : Terms) → IsSound t → IsSound b → (events : List Event) → P (run channels t b events (start channels t b))
+Always P channels = (events : List Event) → P (run channels events (start channels))
 
 -- no end told the other or its user of an error of procedure
 pub record IsQuietEnd (channels : ℕ) (e : End) : Type 0 where

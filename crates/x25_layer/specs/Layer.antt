@@ -9,7 +9,7 @@ use Rattle.x25_circuit.specs.Circuit.{Settings, Circuit, begun, forgotten}
 use Rattle.x25_circuit.specs.Notices.{PlainNotice}
 use Rattle.x25_circuit.specs.Table.{Answer, answers, undecoded, cause_at, by_role}
 
--- channels 1 to the first number are configured, all on the same terms
+-- channels 1 to the first number are configured
 pub record LayerSettings : Type 0 where
   pub channels : ℕ
   pub circuit : Settings

@@ -2,13 +2,15 @@
 use Rattle.std.specs.Prelude.{◌≡◌, ◌⊎◌, ℕ, List, [], ◌∷◌, true}
 use Rattle.x25_packet.specs.PlainPacket.{PlainPacket, call, accept, clear, reset, restart}
 use Rattle.x25_packet.specs.Spelling.{channel_of, HasChannel}
+use Rattle.x25_packet.specs.Facilities.{IsFacilityField}
 use Rattle.x25_circuit.specs.Notices.{PlainNotice, fault}
 use Rattle.x25_layer.specs.Layer.{is_channel, LayerNotice, on_channel, layer_fault}
 
--- A CLEAR or RESET has the cause 0 of the user, and a RESTART 0 or 7, network operational; no facility is named.
+-- A CLEAR or RESET has the cause 0 of the user, and a RESTART 0 or 7, network operational; the facilities of a CALL and of its
+-- acceptance are packet sizes and windows that are allowed.
 abbrev pub IsQuiet : PlainPacket → Type 0
-IsQuiet (call channel called calling facilities user) = facilities ≡ []
-IsQuiet (accept channel facilities) = facilities ≡ []
+IsQuiet (call channel called calling facilities user) = IsFacilityField facilities
+IsQuiet (accept channel facilities) = IsFacilityField facilities
 IsQuiet (clear channel cause diagnostic) = cause ≡ 0
 IsQuiet (reset channel cause diagnostic) = cause ≡ 0
 IsQuiet (restart cause diagnostic) = (cause ≡ 0) ⊎ (cause ≡ 7)

@@ -40,7 +40,7 @@ told_by_all [] = nothing_handed
 told_by_all (notice ∷ notices) = added (told_by notice) (told_by_all notices)
 
 abbrev pub asked_by : Request → Handed
-asked_by (Calls called calling user) = record { made = request_of called calling user ∷ []; indicated = []; down = []; up = []; int_down = []; int_up = [] }
+asked_by (Calls called calling user params) = record { made = request_of called calling user params ∷ []; indicated = []; down = []; up = []; int_down = []; int_up = [] }
 asked_by (Sends q user) = record { made = []; indicated = []; down = record { q = q; user = user } ∷ []; up = []; int_down = []; int_up = [] }
 asked_by (Interrupts user) = record { made = []; indicated = []; down = []; up = []; int_down = user ∷ []; int_up = [] }
 asked_by request = nothing_handed

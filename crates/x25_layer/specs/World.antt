@@ -4,7 +4,6 @@ use Rattle.std.specs.Prelude.{ℕ, List, [], ◌∷◌, ◌++◌, option_to_list
 use Rattle.x25_bits.specs.declared.role.Role.{Role}
 use Rattle.x25_bits.specs.declared.role.Role.TheVariants.{Dte, Dce}
 use Rattle.x25_packet.specs.PlainPacket.{PlainPacket}
-use Rattle.x25_circuit.specs.Circuit.{Terms}
 use Rattle.x25_circuit.specs.Calls.{Request, Calls}
 use Rattle.x25_layer.specs.Layer.{LayerSettings, Layer, LayerNotice, on_channel, LayerAnswer, is_channel, layer_answers, at_rest, goes_up}
 use Rattle.x25_layer.specs.Calls.{LayerRequest, Asks, Dials, Restarts, LayerOutcome, Accepted, Declined, free_channel, layer_outcome, LayerPulled, layer_pulled}
@@ -39,7 +38,7 @@ entry_of_dial l (Some h) request = entry_of_request l h request
 -- of an accepted call, by the layer before and after it
 abbrev pub entries_asked : LayerSettings → Layer → Layer → LayerRequest → List Entry
 entries_asked c l next (Asks h request) = entry_of_request next h request
-entries_asked c l next (Dials called calling user) = entry_of_dial next (free_channel c.circuit.role l.circuits c.channels) (Calls called calling user)
+entries_asked c l next (Dials called calling user params) = entry_of_dial next (free_channel c.circuit.role l.circuits c.channels) (Calls called calling user params)
 entries_asked c l next Restarts = []
 
 abbrev pub entries_told : Layer → List LayerNotice → List Entry
@@ -122,24 +121,24 @@ moves c w move = moves_in c w w.near.is_out move
 abbrev pub turned : World → World
 turned w = record { near = w.far; far = w.near; out = w.back; back = w.out }
 
--- the settings of an end, by its role, and the terms of what it sends and of what it takes
-abbrev pub settings_of : Role → ℕ → Terms → Terms → LayerSettings
-settings_of role channels outgoing incoming = record { channels = channels; circuit = record { role = role; outgoing = outgoing; incoming = incoming } }
+-- the settings of an end, by its role
+abbrev pub settings_of : Role → ℕ → LayerSettings
+settings_of role channels = record { channels = channels; circuit = record { role = role } }
 
--- the first end is the DTE, which sends on the first terms
-abbrev pub happens : ℕ → Terms → Terms → World → Event → World
-happens channels t b w e = if e.first then moves (settings_of Dte channels t b) w e.what else turned (moves (settings_of Dce channels b t) (turned w) e.what)
+-- the first end is the DTE
+abbrev pub happens : ℕ → World → Event → World
+happens channels w e = if e.first then moves (settings_of Dte channels) w e.what else turned (moves (settings_of Dce channels) (turned w) e.what)
 
-abbrev pub run : ℕ → Terms → Terms → List Event → World → World
-run channels t b [] w = w
-run channels t b (e ∷ events) w = run channels t b events (happens channels t b w e)
+abbrev pub run : ℕ → List Event → World → World
+run channels [] w = w
+run channels (e ∷ events) w = run channels events (happens channels w e)
 
 -- both links have come up, and each end has sent its RESTART
 abbrev pub started : LayerAnswer → End
 started a = record { layer = a.next; is_out = false; given = option_to_list a.owed; taken = []; told = []; entries = [] }
 
-abbrev pub start : ℕ → Terms → Terms → World
-start channels t b =
-    let near = started (goes_up (settings_of Dte channels t b)) in
-    let far = started (goes_up (settings_of Dce channels b t)) in
+abbrev pub start : ℕ → World
+start channels =
+    let near = started (goes_up (settings_of Dte channels)) in
+    let far = started (goes_up (settings_of Dce channels)) in
     record { near = near; far = far; out = near.given; back = far.given }
