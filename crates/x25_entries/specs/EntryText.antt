@@ -1,5 +1,5 @@
 -- The text of the entries of a transcript (profile).
-use Rattle.std.specs.Prelude.{ℕ, List, [], ◌∷◌, ◌++◌, codes, decimal}
+use Rattle.std.specs.Prelude.{ℕ, ◌==◌, ◌&&◌, Bool, List, [], ◌∷◌, ◌++◌, if◌then◌else◌, Some, None, codes, decimal}
 use Rattle.std.specs.List.{flat_map}
 use Rattle.x25_bits.specs.declared.role.Role.{Role}
 use Rattle.x25_bits.specs.declared.role.Role.TheVariants.{Dte, Dce}
@@ -7,6 +7,8 @@ use Rattle.x25_packet.specs.Spelling.{bit}
 use Rattle.x25_link.specs.declared.phase.Reason.{Reason}
 use Rattle.x25_link.specs.declared.phase.Reason.TheVariants.{Retries, Disc, Dm, FrmrSent, FrmrGot, Reset, Local, Counts}
 use Rattle.x25_circuit.specs.declared.message.Message.{Message}
+use Rattle.x25_circuit.specs.declared.params.Params.{Params}
+use Rattle.x25_circuit.specs.Params.{default_params}
 use Rattle.x25_circuit.specs.Notices.{PlainNotice, incoming, connected, collided, cleared, clear_done, was_reset, reset_done, delivered, interrupted, interrupt_done, fault}
 use Rattle.x25_circuit.specs.Calls.{Request, Calls, Accepts, Clears, Sends, Interrupts, Resets, SaysReady, SaysNotReady}
 use Rattle.x25_epochs.specs.Names.{Name}
@@ -44,11 +46,26 @@ user_text user = codes " data=" ++ octets_text user
 abbrev pub message_text : Message → List ℕ
 message_text message = (codes " q=" ++ decimal (bit message.q)) ++ user_text message.user
 
+abbrev pub are_same : Params → Params → Bool
+are_same p q = p.size_called == q.size_called && (p.size_calling == q.size_calling && (p.win_called == q.win_called && p.win_calling == q.win_calling))
+
+-- of the called end, then of the calling one
+abbrev pub pair_text : ℕ → ℕ → List ℕ
+pair_text called calling = decimal called ++ (codes "," ++ decimal calling)
+
+-- the codes of packet sizes, and windows, where one of them isn't the default
+abbrev pub params_text : Params → List ℕ
+params_text p =
+    if are_same p default_params
+    then []
+    else (codes " size=" ++ pair_text p.size_called p.size_calling) ++ (codes " win=" ++ pair_text p.win_called p.win_calling)
+
 -- what its user asked
 abbrev pub request_text : ℕ → Name → Request → List ℕ
-request_text channel name (Calls called calling user) = codes "call" ++ stretch_text channel name ++ (codes " called=" ++ address_text called)
-    ++ (codes " calling=" ++ address_text calling) ++ user_text user
-request_text channel name Accepts = codes "accept" ++ channel_text channel
+request_text channel name (Calls called calling user params) = codes "call" ++ stretch_text channel name ++ (codes " called=" ++ address_text called)
+    ++ (codes " calling=" ++ address_text calling) ++ user_text user ++ params_text params
+request_text channel name (Accepts None) = codes "accept" ++ channel_text channel
+request_text channel name (Accepts (Some params)) = codes "accept" ++ channel_text channel ++ params_text params
 request_text channel name Clears = codes "clear" ++ channel_text channel
 request_text channel name (Sends q user) = codes "send" ++ stretch_text channel name ++ (codes " q=" ++ decimal (bit q)) ++ user_text user
 request_text channel name (Interrupts user) = codes "int" ++ stretch_text channel name ++ user_text user
@@ -59,8 +76,8 @@ request_text channel name SaysNotReady = codes "notready" ++ channel_text channe
 -- what its user was told
 abbrev pub notice_text : ℕ → Name → PlainNotice → List ℕ
 notice_text channel name (incoming request) = codes "incoming" ++ stretch_text channel name ++ (codes " called=" ++ digits_text request.called)
-    ++ (codes " calling=" ++ digits_text request.calling) ++ user_text request.user
-notice_text channel name connected = codes "connected" ++ channel_text channel
+    ++ (codes " calling=" ++ digits_text request.calling) ++ user_text request.user ++ params_text request.params
+notice_text channel name (connected params) = codes "connected" ++ channel_text channel ++ params_text params
 notice_text channel name collided = codes "collided" ++ channel_text channel
 notice_text channel name (cleared cause diagnostic) = codes "cleared" ++ channel_text channel ++ reason_text cause diagnostic
 notice_text channel name clear_done = codes "cleardone" ++ channel_text channel

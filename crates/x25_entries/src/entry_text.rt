@@ -1,13 +1,13 @@
 //! Entries of a transcript as text.
 ghost use Rattle.std.specs.Prelude.{◌≡◌, ◌++◌, IfOk, OnOk, codes, decimal, string_bytes};
-ghost use Rattle.x25_entries.specs.EntryText.{address_text, channel_text, digits_text, down_text, end_text, entry_line as line_of, entry_text, message_text, name_text, notice_text, request_text, said_text, stretch_text, user_text};
+ghost use Rattle.x25_entries.specs.EntryText.{address_text, channel_text, digits_text, down_text, end_text, entry_line as line_of, entry_text, message_text, name_text, notice_text, params_text, request_text, said_text, stretch_text, user_text};
 ghost use Rattle.x25_station.specs.PlainEntry.{plain_asked, plain_entry, plain_name, plain_said, plain_told};
 ghost use Rattle.x25_text.specs.PacketText.{reason_text};
 
 use crate::line::Line;
 use std::alloc::{AllocError, Global};
 use x25_circuit::Message;
-use x25_layer::Stretch;
+use x25_layer::{Params, Stretch};
 use x25_link::Reason;
 use x25_station::{Asked, Entry, Role, Said, Told};
 
@@ -71,6 +71,19 @@ fn push_reason(cause: u8, diagnostic: u8, line: &mut Line) -> Result<(), AllocEr
     line.push_number(b" diag=", u64::from(diagnostic))
 }
 
+// Appends the packet sizes and windows, where one of them isn't the default.
+fn push_params(params: Params, line: &mut Line) -> Result<(), AllocError>
+    ensures { OnOk result (line.new ≡ line.old ++ params_text params) }
+{
+    if params == Params::default() {
+        return Ok(());
+    }
+    line.push_number(b" size=", u64::from(params.size_called))?;
+    line.push_number(b",", u64::from(params.size_calling))?;
+    line.push_number(b" win=", u64::from(params.win_called))?;
+    line.push_number(b",", u64::from(params.win_calling))
+}
+
 /// Appends a word and then a channel.
 fn push_at(word: &[u8], channel: u16, line: &mut Line) -> Result<(), AllocError>
     ensures { OnOk result (line.new ≡ line.old ++ (word.now ++ channel_text channel)) }
@@ -101,13 +114,18 @@ fn push_asked(
             called,
             calling,
             user,
+            params,
         } => {
             push_under(b"call", channel, name, line)?;
             push_address(b" called=", called.as_str(), line)?;
             push_address(b" calling=", calling.as_str(), line)?;
-            push_user(user.as_slice(), line)
+            push_user(user.as_slice(), line)?;
+            push_params(*params, line)
         }
-        Asked::Accept => push_at(b"accept", channel, line),
+        Asked::Accept { params } => {
+            push_at(b"accept", channel, line)?;
+            push_params(*params, line)
+        }
         Asked::Clear => push_at(b"clear", channel, line),
         Asked::Send { q, user } => {
             push_under(b"send", channel, name, line)?;
@@ -133,13 +151,18 @@ fn push_told(channel: u16, name: &Stretch, told: &Told, line: &mut Line) -> Resu
             called,
             calling,
             user,
+            params,
         } => {
             push_under(b"incoming", channel, name, line)?;
             push_digits(b" called=", called.as_slice(), line)?;
             push_digits(b" calling=", calling.as_slice(), line)?;
-            push_user(user.as_slice(), line)
+            push_user(user.as_slice(), line)?;
+            push_params(*params, line)
         }
-        Told::Connected => push_at(b"connected", channel, line),
+        Told::Connected { params } => {
+            push_at(b"connected", channel, line)?;
+            push_params(*params, line)
+        }
         Told::Collided => push_at(b"collided", channel, line),
         Told::Cleared { cause, diagnostic } => {
             push_at(b"cleared", channel, line)?;

@@ -4,10 +4,13 @@ use Rattle.std.specs.Prelude.{ℕ, zero, suc, nat_le, Bool, true, false, List, [
 use Rattle.x25_bits.specs.Role.{other}
 use Rattle.x25_bits.specs.declared.role.Role.{Role}
 use Rattle.x25_bits.specs.declared.role.Role.TheVariants.{Dte, Dce}
+use Rattle.x25_circuit.specs.declared.params.Params.{Params}
+use Rattle.x25_circuit.specs.Params.{default_params}
 use Rattle.x25_circuit.specs.Calls.{Accepts, Clears, Sends, Interrupts, Resets, SaysReady, SaysNotReady}
 use Rattle.x25_layer.specs.Calls.{Asks, Dials, Restarts}
 use Rattle.x25_station.specs.declared.config.Cfg.{Cfg}
 use Rattle.x25_station.specs.Command.{Command, Requests, Disconnects}
+use Rattle.x25_script.specs.declared.params.Params as script
 use Rattle.x25_script.specs.PlainLine.{PlainCommand, call, accept, clear, send, interrupt, reset, ready, not_ready, restart, disconnect, PlainLine, command, t1, deliver, lose, damage, drain}
 use Rattle.x25_script.specs.Reading.{line_in}
 use Rattle.x25_program.specs.Lines.{lines_of}
@@ -68,9 +71,15 @@ drained cfg tap (suc n) w = delivered_to cfg tap (drained cfg tap n) w (next_end
 
 -- ---- lines
 
+-- the four numbers of a line
+abbrev pub params_of : script.Params → Params
+params_of p = record { size_called = p.size_called; size_calling = p.size_calling; win_called = p.win_called; win_calling = p.win_calling }
+
 abbrev pub command_asked : PlainCommand → Command
-command_asked (call called calling user) = Requests (Dials called calling user)
-command_asked (accept channel) = Requests (Asks channel Accepts)
+command_asked (call called calling user None) = Requests (Dials called calling user default_params)
+command_asked (call called calling user (Some four)) = Requests (Dials called calling user (params_of four))
+command_asked (accept channel None) = Requests (Asks channel (Accepts None))
+command_asked (accept channel (Some four)) = Requests (Asks channel (Accepts (Some (params_of four))))
 command_asked (clear channel) = Requests (Asks channel Clears)
 command_asked (send channel q user) = Requests (Asks channel (Sends q user))
 command_asked (interrupt channel user) = Requests (Asks channel (Interrupts user))

@@ -1,5 +1,5 @@
 -- Which entry of the definition an entry of the code is.
-use Rattle.std.specs.Prelude.{string_bytes}
+use Rattle.std.specs.Prelude.{string_bytes, Some}
 use Rattle.x25_circuit.specs.Notices.{PlainNotice, incoming, connected, collided, cleared, clear_done, was_reset, reset_done, delivered, interrupted, interrupt_done, fault}
 use Rattle.x25_circuit.specs.Calls.{Request, Calls, Accepts, Clears, Sends, Interrupts, Resets, SaysReady, SaysNotReady}
 use Rattle.x25_epochs.specs.Names.{Name}
@@ -19,8 +19,8 @@ abbrev pub plain_name : Stretch → Name
 plain_name s = record { restarts = s.restarts; clears = s.clears; resets = s.resets }
 
 abbrev pub plain_asked : Asked → Request
-plain_asked (asked.Call called calling user) = Calls (string_bytes called) (string_bytes calling) user.items
-plain_asked asked.Accept = Accepts
+plain_asked (asked.Call called calling user params) = Calls (string_bytes called) (string_bytes calling) user.items params
+plain_asked (asked.Accept params) = Accepts (Some params)
 plain_asked asked.Clear = Clears
 plain_asked (asked.Send q user) = Sends q user.items
 plain_asked (asked.Interrupt user) = Interrupts user.items
@@ -29,8 +29,8 @@ plain_asked asked.Ready = SaysReady
 plain_asked asked.NotReady = SaysNotReady
 
 abbrev pub plain_told : Told → PlainNotice
-plain_told (told.Incoming called calling user) = incoming (record { called = called.items; calling = calling.items; user = user.items })
-plain_told told.Connected = connected
+plain_told (told.Incoming called calling user params) = incoming (record { called = called.items; calling = calling.items; user = user.items; params = params })
+plain_told (told.Connected params) = connected params
 plain_told told.Collided = collided
 plain_told (told.Cleared cause diagnostic) = cleared cause diagnostic
 plain_told told.ClearDone = clear_done

@@ -3,7 +3,6 @@ use Rattle.std.specs.Prelude.{◌≡◌, ℕ, ◌<◌, ◌≤◌, List, [], ◌�
 use Rattle.x25_packet.specs.PlainPacket.{PlainPacket}
 use Rattle.x25_packet.specs.Spelling.{spelling_of}
 use Rattle.x25_packet.specs.Reading.{packet_of}
-use Rattle.x25_circuit.specs.Circuit.{usual}
 use Rattle.x25_circuit.specs.Calls.{Request, Calls, Sends, Interrupts}
 use Rattle.x25_layer.specs.Calls.{LayerRequest, Asks, Dials, Restarts}
 use Rattle.x25_layer.specs.Rounds.{longest_user}
@@ -25,14 +24,14 @@ AreReadable (packet ∷ packets) = IsReadable packet × AreReadable packets
 -- ---- what users hand down is octets
 
 abbrev pub AsksOctets : Request → Type 0
-AsksOctets (Calls called calling user) = AreOctets user
+AsksOctets (Calls called calling user params) = AreOctets user
 AsksOctets (Sends q user) = AreOctets user
 AsksOctets (Interrupts user) = AreOctets user
 AsksOctets request = Unit {0}
 
 abbrev pub RequestsOctets : LayerRequest → Type 0
 RequestsOctets (Asks h request) = AsksOctets request
-RequestsOctets (Dials called calling user) = AreOctets user
+RequestsOctets (Dials called calling user params) = AreOctets user
 RequestsOctets Restarts = Unit {0}
 
 abbrev pub MovesOctets : Move → Type 0
@@ -43,7 +42,7 @@ abbrev pub BringOctets : List Event → Type 0
 BringOctets [] = Unit {0}
 BringOctets (e ∷ events) = MovesOctets e.what × BringOctets events
 
--- whatever happens to two layers of at most 16 channels, on the usual terms
+-- whatever happens to two layers of at most 16 channels
 abbrev pub PutsAreReadable : Type 0
 PutsAreReadable = (channels : ℕ) → channels ≤ 16 → (events : List Event) → BringOctets events →
-    let w : World = run channels usual usual events (start channels usual usual) in AreReadable w.near.given × AreReadable w.far.given
+    let w : World = run channels events (start channels) in AreReadable w.near.given × AreReadable w.far.given

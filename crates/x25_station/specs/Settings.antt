@@ -2,7 +2,6 @@
 use Rattle.std.specs.Prelude.{ℕ, nat_le, ◌&&◌, if◌then◌else◌, Option, Some, None}
 use Rattle.x25_bits.specs.declared.role.Role.{Role}
 use Rattle.x25_link.specs.Station.{Settings as LinkSettings}
-use Rattle.x25_circuit.specs.Circuit.{usual}
 use Rattle.x25_layer.specs.Layer.{LayerSettings}
 use Rattle.x25_layer.specs.World.{settings_of}
 use Rattle.x25_station.specs.declared.config.Cfg.{Cfg}
@@ -30,6 +29,5 @@ longest_packet = 4099
 abbrev pub link_settings : Settings → LinkSettings
 link_settings c = record { role = c.role; window = c.window; longest = longest_packet; retries = c.retries }
 
--- nothing is negotiated: all channels are on the usual terms in both directions
 abbrev pub layer_settings : Settings → LayerSettings
-layer_settings c = settings_of c.role c.channels usual usual
+layer_settings c = settings_of c.role c.channels

@@ -1,3 +1,5 @@
+use x25_layer::Params;
+
 /// What the user of a station asks for. Channels are 1 to the number configured; addresses are texts of digits, and user data
 /// octets.
 #[derive(Clone, Copy, Debug)]
@@ -8,9 +10,21 @@ pub enum Cmd<'a> {
         calling: &'a str,
         user: &'a [u8],
     },
-    /// Accepts an incoming call.
+    /// Calls, and proposes packet sizes and windows.
+    CallWith {
+        called: &'a str,
+        calling: &'a str,
+        user: &'a [u8],
+        params: Params,
+    },
+    /// Accepts an incoming call, with the packet sizes and windows that it proposes.
     Accept {
         channel: u16,
+    },
+    /// Accepts an incoming call with these packet sizes and windows, each from the one proposed to the default.
+    AcceptWith {
+        channel: u16,
+        params: Params,
     },
     /// Clears a call.
     Clear {

@@ -74,6 +74,7 @@ fn told_of(texts: &mut Blanks<LONGEST_TEXT>, notice: Notice<'_>) -> Told
             called,
             calling,
             user,
+            params,
         } => {
             let called = kept_digits(texts, &called);
             let calling = kept_digits(texts, &calling);
@@ -82,9 +83,10 @@ fn told_of(texts: &mut Blanks<LONGEST_TEXT>, notice: Notice<'_>) -> Told
                 called,
                 calling,
                 user,
+                params,
             }
         }
-        Notice::Connected => Told::Connected,
+        Notice::Connected { params } => Told::Connected { params },
         Notice::Cleared { cause, diagnostic } => Told::Cleared { cause, diagnostic },
         Notice::ClearDone => Told::ClearDone,
         Notice::WasReset { cause, diagnostic } => Told::WasReset { cause, diagnostic },

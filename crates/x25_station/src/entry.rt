@@ -1,5 +1,5 @@
 use x25_circuit::Message;
-use x25_layer::Stretch;
+use x25_layer::{Params, Stretch};
 use x25_link::Reason;
 
 /// An entry of the transcript of a station (profile): what its user asked, what the link noted, or what the packet layer told.
@@ -45,14 +45,18 @@ pub enum Said {
 /// What the user of a channel asked.
 #[derive(Debug, Drop)]
 pub enum Asked {
-    /// A call, with addresses of 0 to 15 figures and at most 16 octets of user data.
+    /// A call, with addresses of 0 to 15 figures and at most 16 octets of user data, and the packet sizes and windows that it
+    /// proposes.
     Call {
         called: String,
         calling: String,
         user: Vec<u8>,
+        params: Params,
     },
-    /// That the incoming call be accepted.
-    Accept,
+    /// That the incoming call be accepted, with the packet sizes and windows that are then in force.
+    Accept {
+        params: Params,
+    },
     /// That the call be cleared.
     Clear,
     /// That a message be sent: its qualifier, and at most 65,535 octets.
@@ -75,14 +79,17 @@ pub enum Asked {
 /// What the user of a channel was told.
 #[derive(Debug, Drop)]
 pub enum Told {
-    /// The other end calls. Addresses are lists of 0 to 15 digits, each 0 to 9.
+    /// The other end calls, and proposes packet sizes and windows. Addresses are lists of 0 to 15 digits, each 0 to 9.
     Incoming {
         called: Vec<u8>,
         calling: Vec<u8>,
         user: Vec<u8>,
+        params: Params,
     },
-    /// The other end accepted the call.
-    Connected,
+    /// The other end accepted the call, with the packet sizes and windows in force.
+    Connected {
+        params: Params,
+    },
     /// This end's own call was dropped for the incoming one.
     Collided,
     /// The other end cleared the call.
