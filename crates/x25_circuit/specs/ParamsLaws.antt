@@ -1,6 +1,7 @@
 -- What is said in a facility field is what is understood, and what is proposed and answered stays within bounds.
 -- ITU-T X.25 (10/96), section 6.12.
 use Rattle.std.specs.Prelude.{◌≡◌, ◌≤◌, ℕ, true, List, []}
+use Rattle.x25_packet.specs.Facilities.{IsFacilityField}
 use Rattle.x25_circuit.specs.declared.params.Params.{Params}
 use Rattle.x25_circuit.specs.Params.{Terms, default_params, may_propose, may_answer, field_for, said_in, called_terms, calling_terms}
 
@@ -14,6 +15,10 @@ NoFieldIsKnown = (known : Params) → said_in known [] ≡ known
 
 abbrev pub KnownIsNoField : Type 0
 KnownIsNoField = (known : Params) → field_for known known ≡ []
+
+-- what is said is a field of facilities that are allowed
+abbrev pub FieldIsAllowed : Type 0
+FieldIsAllowed = (known said : Params) → may_propose said ≡ true → IsFacilityField (field_for known said)
 
 -- whatever the octets of a field are
 abbrev pub SaidIsAllowed : Type 0

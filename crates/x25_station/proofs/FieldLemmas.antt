@@ -1,5 +1,5 @@
 -- A packet whose fields fit is read again from its octets.
-use Rattle.std.proofs.Common.{◌≡◌, ℕ, ◌+◌, ◌*◌, ◌/◌, ◌%◌, ◌<◌, ◌≤◌, List, [], ◌∷◌, ◌++◌, length, None, Bool, true, false, refl, sym, ap, subst, ◌∙◌, arith, length-append}
+use Rattle.std.proofs.Common.{◌≡◌, ℕ, ◌+◌, ◌*◌, ◌/◌, ◌%◌, ◌<◌, ◌≤◌, List, [], ◌∷◌, ◌++◌, length, Option, Some, None, Bool, true, false, refl, sym, ap, subst, ◌∙◌, arith, length-append}
 use Rattle.std.specs.List.{list_all}
 use Rattle.std.specs.Prelude.{◌&&◌}
 use Rattle.std.proofs.lemmas.Bool.{and_parts, leb-true}
@@ -9,7 +9,8 @@ use Rattle.x25_bits.specs.Bit.{bit}
 use Rattle.x25_packet.specs.Digits.{packed, is_digit, IsAddress}
 use Rattle.x25_packet.specs.PlainPacket.{PlainPacket, call, accept, clear, clear_conf, user_data, rr, rnr, interrupt, interrupt_conf, reset, reset_conf, restart, restart_conf}
 use Rattle.x25_packet.specs.Spelling.{channel_of, HasChannel, moved_to, format_of, type_of, call_body, accept_body, body_of, header_of, spelling_of, IsInRange}
-use Rattle.x25_packet.specs.Facilities.{IsFacilityField}
+use Rattle.x25_packet.specs.declared.facilities.Directions.{Directions}
+use Rattle.x25_packet.specs.Facilities.{facility, field_of, AreWithin, IfGiven, IsFacilityField}
 use Rattle.x25_packet.specs.ReadingLaw.{ReadsWhatIsSpelled}
 use Rattle.x25_station.specs.ReadLaw.{AreOctets, IsReadable}
 
@@ -17,11 +18,11 @@ abbrev IsOctet : ℕ → Type 0
 IsOctet octet = octet < 256
 
 abbrev pub Fits : PlainPacket → Type 0
-Fits (call h called calling facilities user) = IsAddress called × IsAddress calling × (facilities ≡ []) × (length user ≤ 16) × AreOctets user
-Fits (accept h facilities) = facilities ≡ []
+Fits (call h called calling facilities user) = IsAddress called × IsAddress calling × IsFacilityField facilities × (length user ≤ 16) × AreOctets user
+Fits (accept h facilities) = IsFacilityField facilities
 Fits (clear h cause diagnostic) = (cause < 256) × (diagnostic < 256)
 Fits (clear_conf h) = Unit {0}
-Fits (user_data h q m ps pr user) = (ps < 8) × (pr < 8) × (length user ≤ 128) × AreOctets user
+Fits (user_data h q m ps pr user) = (ps < 8) × (pr < 8) × (length user ≤ 4096) × AreOctets user
 Fits (rr h pr) = pr < 8
 Fits (rnr h pr) = pr < 8
 Fits (interrupt h user) = (1 ≤ length user) × (length user ≤ 32) × AreOctets user
@@ -67,18 +68,15 @@ moved_on h restart_conf has low high there = absurd has
 
 -- ---- in range
 
-no_facility : (facilities : List ℕ) → facilities ≡ [] → IsFacilityField facilities
-no_facility facilities none = (record { packet_size = None; window_size = None }, record { sizes = tt; windows = tt }, none)
-
 channel_in_range : (h : ℕ) → (1 ≤ h) × (h ≤ 16) → (1 ≤ h) × (h ≤ 4095)
 channel_in_range h on = (on.0, omega (arith, on.1))
 
 in_range : (p : PlainPacket) → Fits p → IsOn p → IsInRange 16 p
-in_range (call h called calling facilities user) f on = (channel_in_range h (on tt), f.0, f.1, no_facility facilities f.2, f.3)
-in_range (accept h facilities) f on = (channel_in_range h (on tt), no_facility facilities f)
+in_range (call h called calling facilities user) f on = (channel_in_range h (on tt), f.0, f.1, f.2, f.3)
+in_range (accept h facilities) f on = (channel_in_range h (on tt), f)
 in_range (clear h cause diagnostic) f on = channel_in_range h (on tt)
 in_range (clear_conf h) f on = channel_in_range h (on tt)
-in_range (user_data h q m ps pr user) f on = (channel_in_range h (on tt), f.0, f.1, omega (arith, f.2))
+in_range (user_data h q m ps pr user) f on = (channel_in_range h (on tt), f.0, f.1, f.2)
 in_range (rr h pr) f on = (channel_in_range h (on tt), f)
 in_range (rnr h pr) f on = (channel_in_range h (on tt), f)
 in_range (interrupt h user) f on = (channel_in_range h (on tt), f.0, f.1)
@@ -122,15 +120,48 @@ length_packed [] = refl
 length_packed (high ∷ []) = refl
 length_packed (high ∷ low ∷ digits) = let rest = length_packed digits in omega arith
 
-call_octets : (called calling user : List ℕ) → IsAddress called → IsAddress calling → length user ≤ 16 → AreOctets user → AreOctets (call_body called calling [] user)
-call_octets called calling user a b short octets =
+-- a facility is three octets or none, and each is low
+facility_octets : (code least most : ℕ) (values : Option Directions) → code < 256 → most < 256 → IfGiven values (AreWithin least most) → AreOctets (facility code values)
+facility_octets code least most None low high within = no_octets
+facility_octets code least most (Some values) low high within =
+    octets_more code (values.called ∷ values.calling ∷ []) low (two values.called values.calling (omega (arith, within.called_most, high)) (omega (arith, within.calling_most, high)))
+
+facility_short : (code : ℕ) (values : Option Directions) → length (facility code values) ≤ 3
+facility_short code None = omega arith
+facility_short code (Some values) = omega arith
+
+field_octets : (field : List ℕ) → IsFacilityField field → AreOctets field
+field_octets field is =
+    subst AreOctets (sym is.2)
+    (All-append IsOctet (facility 66 is.0.packet_size) (facility 67 is.0.window_size)
+    (facility_octets 66 4 12 is.0.packet_size (omega arith) (omega arith) is.1.sizes) (facility_octets 67 1 7 is.0.window_size (omega arith) (omega arith) is.1.windows))
+
+field_short : (field : List ℕ) → IsFacilityField field → length field ≤ 6
+field_short field is =
+    subst (λ (x : List ℕ). length x ≤ 6) (sym is.2)
+    (let a : length (field_of is.0) ≡ length (facility 66 is.0.packet_size) + length (facility 67 is.0.window_size) = length-append (facility 66 is.0.packet_size) (facility 67 is.0.window_size) in
+    let b : length (facility 66 is.0.packet_size) ≤ 3 = facility_short 66 is.0.packet_size in
+    let d : length (facility 67 is.0.window_size) ≤ 3 = facility_short 67 is.0.window_size in
+    omega (arith, a, b, d))
+
+call_octets : (called calling facilities user : List ℕ) → IsAddress called → IsAddress calling → IsFacilityField facilities → length user ≤ 16 → AreOctets user → AreOctets (call_body called calling facilities user)
+call_octets called calling facilities user a b field short octets =
+    let few : length facilities ≤ 6 = field_short facilities field in
     let both : list_all is_digit (called ++ calling) ≡ true = list_all-append is_digit called calling ∙ ap (λ (x : Bool). x && list_all is_digit calling) a.decimal ∙ b.decimal in
-    octets_more (16 * length calling + length called) (packed (called ++ calling) ++ (0 ∷ user)) (omega (arith, a.short, b.short))
-    (All-append IsOctet (packed (called ++ calling)) (0 ∷ user) (packed_octets (called ++ calling) both) (octets_more 0 user (omega arith) octets))
+    octets_more (16 * length calling + length called) (packed (called ++ calling) ++ (length facilities ∷ facilities ++ user)) (omega (arith, a.short, b.short))
+    (All-append IsOctet (packed (called ++ calling)) (length facilities ∷ facilities ++ user) (packed_octets (called ++ calling) both)
+    (octets_more (length facilities) (facilities ++ user) (omega (arith, few)) (All-append IsOctet facilities user (field_octets facilities field) octets)))
+
+accept_octets : (facilities : List ℕ) → IsFacilityField facilities → AreOctets (accept_body facilities)
+accept_octets [] field = no_octets
+accept_octets (octet ∷ facilities) field =
+    let few : length (octet ∷ facilities) ≤ 6 = field_short (octet ∷ facilities) field in
+    octets_more 0 (length (octet ∷ facilities) ∷ octet ∷ facilities) (omega arith)
+    (octets_more (length (octet ∷ facilities)) (octet ∷ facilities) (omega (arith, few)) (field_octets (octet ∷ facilities) field))
 
 body_octets : (p : PlainPacket) → Fits p → AreOctets (body_of p)
-body_octets (call h called calling facilities user) f = subst (λ (x : List ℕ). AreOctets (call_body called calling x user)) (sym f.2) (call_octets called calling user f.0 f.1 f.3 f.4)
-body_octets (accept h facilities) f = subst (λ (x : List ℕ). AreOctets (accept_body x)) (sym f) no_octets
+body_octets (call h called calling facilities user) f = call_octets called calling facilities user f.0 f.1 f.2 f.3 f.4
+body_octets (accept h facilities) f = accept_octets facilities f
 body_octets (clear h cause diagnostic) f = two cause diagnostic f.0 f.1
 body_octets (clear_conf h) f = no_octets
 body_octets (user_data h q m ps pr user) f = f.3
@@ -199,13 +230,20 @@ header_octets p f on =
 
 -- ---- length
 
-body_short : (p : PlainPacket) → Fits p → length (body_of p) ≤ 128
-body_short (call h called calling facilities user) f = subst (λ (x : List ℕ). length (call_body called calling x user) ≤ 128) (sym f.2)
-    (let a : length (packed (called ++ calling)) ≡ (length (called ++ calling) + 1) / 2 = length_packed (called ++ calling) in
+accept_short : (facilities : List ℕ) → length facilities ≤ 6 → length (accept_body facilities) ≤ 4096
+accept_short [] few = omega arith
+accept_short (octet ∷ facilities) few = omega (arith, few)
+
+body_short : (p : PlainPacket) → Fits p → length (body_of p) ≤ 4096
+body_short (call h called calling facilities user) f =
+    let a : length (packed (called ++ calling)) ≡ (length (called ++ calling) + 1) / 2 = length_packed (called ++ calling) in
     let b : length (called ++ calling) ≡ length called + length calling = length-append called calling in
-    let d : length (packed (called ++ calling) ++ (0 ∷ user)) ≡ length (packed (called ++ calling)) + length (0 ∷ user) = length-append (packed (called ++ calling)) (0 ∷ user) in
-    omega (arith, a, b, d, f.0.short, f.1.short, f.3))
-body_short (accept h facilities) f = subst (λ (x : List ℕ). length (accept_body x) ≤ 128) (sym f) (omega arith)
+    let d : length (packed (called ++ calling) ++ (length facilities ∷ facilities ++ user)) ≡ length (packed (called ++ calling)) + length (length facilities ∷ facilities ++ user) =
+        length-append (packed (called ++ calling)) (length facilities ∷ facilities ++ user) in
+    let e : length (facilities ++ user) ≡ length facilities + length user = length-append facilities user in
+    let few : length facilities ≤ 6 = field_short facilities f.2 in
+    omega (arith, a, b, d, e, few, f.0.short, f.1.short, f.3)
+body_short (accept h facilities) f = accept_short facilities (field_short facilities f)
 body_short (clear h cause diagnostic) f = omega arith
 body_short (clear_conf h) f = omega arith
 body_short (user_data h q m ps pr user) f = f.2
@@ -223,7 +261,7 @@ body_short restart_conf f = omega arith
 pub readable : ReadsWhatIsSpelled → (p : PlainPacket) → Fits p → IsOn p → IsReadable p
 readable reads p f on =
     let octets : AreOctets (spelling_of p) = All-append IsOctet (header_of p) (body_of p) (header_octets p f on) (body_octets p f) in
-    let short : length (body_of p) ≤ 128 = body_short p f in
+    let short : length (body_of p) ≤ 4096 = body_short p f in
     record {
       octets = octets;
       short = omega (arith, short);

@@ -1,11 +1,11 @@
--- Whatever happens to two layers on the usual terms, what they put fits, and so is read again.
+-- Whatever happens to two layers, what they put fits, and so is read again.
 use Rattle.std.proofs.Common.{◌≡◌, ℕ, zero, suc, ◌<◌, ◌≤◌, List, [], ◌∷◌, ◌++◌, option_to_list, Option, Some, None, Bool, true, false, nat_le, ◌==◌, if◌then◌else◌, refl, arith}
 use Rattle.std.proofs.lemmas.Bool.{and_parts, leb-true}
 use Rattle.x25_bits.specs.declared.role.Role.{Role}
 use Rattle.x25_bits.specs.declared.role.Role.TheVariants.{Dte, Dce}
 use Rattle.x25_packet.specs.PlainPacket.{PlainPacket, call, accept, clear, clear_conf, user_data, rr, rnr, interrupt, interrupt_conf, reset, reset_conf, restart, restart_conf}
 use Rattle.x25_packet.specs.ReadingLaw.{ReadsWhatIsSpelled}
-use Rattle.x25_circuit.specs.Circuit.{Circuit, usual, begun}
+use Rattle.x25_circuit.specs.Circuit.{Circuit, begun}
 use Rattle.x25_circuit.specs.Table.{answers, cause_at}
 use Rattle.x25_circuit.specs.Calls.{Outcome, Done, Refused, Calls, outcome, pulled}
 use Rattle.x25_layer.specs.Layer.{LayerSettings, Layer, LayerAnswer, is_channel, put_at, packet_on, restarting_from, answers_on, drops, answers_ready, answers_restarting, answers_in, layer_answers, goes_up, restart_cause}
@@ -14,7 +14,7 @@ use Rattle.x25_layer.specs.declared.error.LayerError.TheVariants as error
 use Rattle.x25_layer.specs.World.{End, World, Move, Requests, Pulls, HandsUp, GoesDown, Event, requested, pulled_in, handed_up, moves_in, moves, turned, settings_of, happens, run, started, start}
 use Rattle.x25_station.specs.ReadLaw.{AreReadable, RequestsOctets, MovesOctets, BringOctets, PutsAreReadable}
 use Rattle.x25_station.proofs.FieldLemmas.{Fits, IsOn, moved_fits, moved_on, readable}
-use Rattle.x25_station.proofs.CircuitLemmas.{CircuitFits, MayGive, AnswerFits, answers_fit, OutcomeFits, outcome_fits, PulledFits, pulled_fits}
+use Rattle.x25_station.proofs.CircuitLemmas.{Agreed, CircuitFits, MayGive, AnswerFits, answers_fit, OutcomeFits, outcome_fits, PulledFits, pulled_fits}
 
 -- each channel's circuit fits, and so does each packet
 abbrev ChannelsFit : (ℕ → Circuit) → Type 0
@@ -59,7 +59,7 @@ record LayerFits (a : LayerAnswer) : Type 0 where
   owed : OneFits a.owed
 
 begun_fits : ChannelsFit (λ k. begun)
-begun_fits k = tt
+begun_fits k = (tt, refl)
 
 on_restart : (cause diagnostic : ℕ) → IsOn (restart cause diagnostic)
 on_restart cause diagnostic has = absurd has
@@ -71,31 +71,31 @@ cause_low : (r : Role) → cause_at r 1 < 256
 cause_low Dte = omega arith
 cause_low Dce = omega arith
 
-channel_answers : (c : LayerSettings) (restarts : ℕ) (circuits : ℕ → Circuit) (h : ℕ) (p : PlainPacket) → c.channels ≤ 16 → ChannelsFit circuits
+channel_answers : Agreed → (c : LayerSettings) (restarts : ℕ) (circuits : ℕ → Circuit) (h : ℕ) (p : PlainPacket) → c.channels ≤ 16 → ChannelsFit circuits
     → LayerFits (if is_channel c.channels h then answers_on restarts circuits h (answers c.circuit (circuits h) p) else drops false restarts circuits)
-channel_answers c restarts circuits h p few all = test (is_channel c.channels h) refl
+channel_answers laws c restarts circuits h p few all = test (is_channel c.channels h) refl
   where
     a : AnswerFits (answers c.circuit (circuits h) p)
-    a = answers_fit c.circuit (circuits h) p (all h)
+    a = answers_fit laws c.circuit (circuits h) p (all h)
 
     test : (b : Bool) → is_channel c.channels h ≡ b → LayerFits (if b then answers_on restarts circuits h (answers c.circuit (circuits h) p) else drops false restarts circuits)
     test true is = record { next = put_fits circuits h (answers c.circuit (circuits h) p).next all a.next; owed = on_fits h (answers c.circuit (circuits h) p).owed (channel_low c.channels h few is) a.owed }
     test false is = record { next = all; owed = tt }
 
-ready_answers : (c : LayerSettings) (restarts : ℕ) (circuits : ℕ → Circuit) (p : PlainPacket) → c.channels ≤ 16 → ChannelsFit circuits → LayerFits (answers_ready c restarts circuits p)
-ready_answers c restarts circuits (restart cause diagnostic) few all = record { next = begun_fits; owed = ((tt, on_restart_conf), tt) }
-ready_answers c restarts circuits restart_conf few all = record { next = λ k. tt; owed = (((cause_low c.circuit.role, omega arith), on_restart (cause_at c.circuit.role 1) 17), tt) }
-ready_answers c restarts circuits (call h called calling facilities user) few all = channel_answers c restarts circuits h (call h called calling facilities user) few all
-ready_answers c restarts circuits (accept h facilities) few all = channel_answers c restarts circuits h (accept h facilities) few all
-ready_answers c restarts circuits (clear h cause diagnostic) few all = channel_answers c restarts circuits h (clear h cause diagnostic) few all
-ready_answers c restarts circuits (clear_conf h) few all = channel_answers c restarts circuits h (clear_conf h) few all
-ready_answers c restarts circuits (user_data h q m ps pr user) few all = channel_answers c restarts circuits h (user_data h q m ps pr user) few all
-ready_answers c restarts circuits (rr h pr) few all = channel_answers c restarts circuits h (rr h pr) few all
-ready_answers c restarts circuits (rnr h pr) few all = channel_answers c restarts circuits h (rnr h pr) few all
-ready_answers c restarts circuits (interrupt h user) few all = channel_answers c restarts circuits h (interrupt h user) few all
-ready_answers c restarts circuits (interrupt_conf h) few all = channel_answers c restarts circuits h (interrupt_conf h) few all
-ready_answers c restarts circuits (reset h cause diagnostic) few all = channel_answers c restarts circuits h (reset h cause diagnostic) few all
-ready_answers c restarts circuits (reset_conf h) few all = channel_answers c restarts circuits h (reset_conf h) few all
+ready_answers : Agreed → (c : LayerSettings) (restarts : ℕ) (circuits : ℕ → Circuit) (p : PlainPacket) → c.channels ≤ 16 → ChannelsFit circuits → LayerFits (answers_ready c restarts circuits p)
+ready_answers laws c restarts circuits (restart cause diagnostic) few all = record { next = begun_fits; owed = ((tt, on_restart_conf), tt) }
+ready_answers laws c restarts circuits restart_conf few all = record { next = begun_fits; owed = (((cause_low c.circuit.role, omega arith), on_restart (cause_at c.circuit.role 1) 17), tt) }
+ready_answers laws c restarts circuits (call h called calling facilities user) few all = channel_answers laws c restarts circuits h (call h called calling facilities user) few all
+ready_answers laws c restarts circuits (accept h facilities) few all = channel_answers laws c restarts circuits h (accept h facilities) few all
+ready_answers laws c restarts circuits (clear h cause diagnostic) few all = channel_answers laws c restarts circuits h (clear h cause diagnostic) few all
+ready_answers laws c restarts circuits (clear_conf h) few all = channel_answers laws c restarts circuits h (clear_conf h) few all
+ready_answers laws c restarts circuits (user_data h q m ps pr user) few all = channel_answers laws c restarts circuits h (user_data h q m ps pr user) few all
+ready_answers laws c restarts circuits (rr h pr) few all = channel_answers laws c restarts circuits h (rr h pr) few all
+ready_answers laws c restarts circuits (rnr h pr) few all = channel_answers laws c restarts circuits h (rnr h pr) few all
+ready_answers laws c restarts circuits (interrupt h user) few all = channel_answers laws c restarts circuits h (interrupt h user) few all
+ready_answers laws c restarts circuits (interrupt_conf h) few all = channel_answers laws c restarts circuits h (interrupt_conf h) few all
+ready_answers laws c restarts circuits (reset h cause diagnostic) few all = channel_answers laws c restarts circuits h (reset h cause diagnostic) few all
+ready_answers laws c restarts circuits (reset_conf h) few all = channel_answers laws c restarts circuits h (reset_conf h) few all
 
 dropped : (restarts : ℕ) (circuits : ℕ → Circuit) → ChannelsFit circuits → LayerFits (drops true restarts circuits)
 dropped restarts circuits all = record { next = all; owed = tt }
@@ -115,12 +115,12 @@ restarting_answers restarts circuits (interrupt_conf h) all = dropped restarts c
 restarting_answers restarts circuits (reset h cause diagnostic) all = dropped restarts circuits all
 restarting_answers restarts circuits (reset_conf h) all = dropped restarts circuits all
 
-layer_fits : (c : LayerSettings) (l : Layer) (p : PlainPacket) → c.channels ≤ 16 → ChannelsFit l.circuits → LayerFits (layer_answers c l p)
-layer_fits c l p few all = by l.restarting
+layer_fits : Agreed → (c : LayerSettings) (l : Layer) (p : PlainPacket) → c.channels ≤ 16 → ChannelsFit l.circuits → LayerFits (layer_answers c l p)
+layer_fits laws c l p few all = by l.restarting
   where
     by : (b : Bool) → LayerFits (answers_in c b l.restarts l.circuits p)
     by true = restarting_answers l.restarts l.circuits p all
-    by false = ready_answers c l.restarts l.circuits p few all
+    by false = ready_answers laws c l.restarts l.circuits p few all
 
 -- ---- calls
 
@@ -169,33 +169,33 @@ free_in : (r : Role) (circuits : ℕ → Circuit) (n : ℕ) → InRange n (free_
 free_in Dte circuits n = highest_in circuits n
 free_in Dce circuits n = lowest_in circuits n
 
-outcome_ready_fits : (c : LayerSettings) (full : Bool) (restarts : ℕ) (circuits : ℕ → Circuit) (request : LayerRequest) → c.channels ≤ 16 → c.circuit.outgoing.size ≡ 128 → ChannelsFit circuits → RequestsOctets request
+outcome_ready_fits : Agreed → (c : LayerSettings) (full : Bool) (restarts : ℕ) (circuits : ℕ → Circuit) (request : LayerRequest) → c.channels ≤ 16 → ChannelsFit circuits → RequestsOctets request
     → LayerOutcomeFits (outcome_ready c full restarts circuits request)
-outcome_ready_fits c full restarts circuits (Asks h request) few size all octets = test (is_channel c.channels h) refl
+outcome_ready_fits laws c full restarts circuits (Asks h request) few all octets = test (is_channel c.channels h) refl
   where
     test : (b : Bool) → is_channel c.channels h ≡ b
         → LayerOutcomeFits (if b then if_at_once (puts_at_once request) full (outcome_on restarts circuits h (outcome c.circuit (circuits h) request)) else Declined error.NoSuchChannel)
     test true is =
         at_once_fits (puts_at_once request) full (outcome_on restarts circuits h (outcome c.circuit (circuits h) request))
-        (outcome_on_fits restarts circuits h (outcome c.circuit (circuits h) request) (channel_low c.channels h few is) all (outcome_fits c.circuit (circuits h) request size (all h) octets))
+        (outcome_on_fits restarts circuits h (outcome c.circuit (circuits h) request) (channel_low c.channels h few is) all (outcome_fits laws c.circuit (circuits h) request (all h) octets))
     test false is = tt
-outcome_ready_fits c full restarts circuits (Dials called calling user) few size all octets = by (free_channel c.circuit.role circuits c.channels) (free_in c.circuit.role circuits c.channels)
+outcome_ready_fits laws c full restarts circuits (Dials called calling user params) few all octets = by (free_channel c.circuit.role circuits c.channels) (free_in c.circuit.role circuits c.channels)
   where
-    by : (o : Option ℕ) → InRange c.channels o → LayerOutcomeFits (dialled c full restarts circuits o called calling user)
+    by : (o : Option ℕ) → InRange c.channels o → LayerOutcomeFits (dialled c full restarts circuits o called calling user params)
     by None r = tt
     by (Some h) r =
-        room_fits full (outcome_on restarts circuits h (outcome c.circuit (circuits h) (Calls called calling user)))
-        (outcome_on_fits restarts circuits h (outcome c.circuit (circuits h) (Calls called calling user)) (r.0, omega (arith, r.1, few)) all
-        (outcome_fits c.circuit (circuits h) (Calls called calling user) size (all h) octets))
-outcome_ready_fits c full restarts circuits Restarts few size all octets = room_fits full (Accepted (restarting_from restarts circuits) (Some (restart 0 0))) ((λ k. tt), (((omega arith, omega arith), on_restart 0 0), tt))
+        room_fits full (outcome_on restarts circuits h (outcome c.circuit (circuits h) (Calls called calling user params)))
+        (outcome_on_fits restarts circuits h (outcome c.circuit (circuits h) (Calls called calling user params)) (r.0, omega (arith, r.1, few)) all
+        (outcome_fits laws c.circuit (circuits h) (Calls called calling user params) (all h) octets))
+outcome_ready_fits laws c full restarts circuits Restarts few all octets = room_fits full (Accepted (restarting_from restarts circuits) (Some (restart 0 0))) (begun_fits, (((omega arith, omega arith), on_restart 0 0), tt))
 
-layer_outcome_fits : (c : LayerSettings) (full : Bool) (l : Layer) (request : LayerRequest) → c.channels ≤ 16 → c.circuit.outgoing.size ≡ 128 → ChannelsFit l.circuits → RequestsOctets request
+layer_outcome_fits : Agreed → (c : LayerSettings) (full : Bool) (l : Layer) (request : LayerRequest) → c.channels ≤ 16 → ChannelsFit l.circuits → RequestsOctets request
     → LayerOutcomeFits (layer_outcome c full l request)
-layer_outcome_fits c full l request few size all octets = by l.restarting
+layer_outcome_fits laws c full l request few all octets = by l.restarting
   where
     by : (b : Bool) → LayerOutcomeFits (outcome_in c full b l.restarts l.circuits request)
     by true = tt
-    by false = outcome_ready_fits c full l.restarts l.circuits request few size all octets
+    by false = outcome_ready_fits laws c full l.restarts l.circuits request few all octets
 
 -- ---- worlds
 
@@ -211,10 +211,10 @@ requested_fits : (c : LayerSettings) (w : World) (request : LayerRequest) (o : L
 requested_fits c w request (Accepted next packet) f g = record { near = record { layer = g.0; given = all_fit_append w.near.given (option_to_list packet) f.near.given g.1 }; far = f.far }
 requested_fits c w request (Declined e) f g = f
 
-handed_up_fits : (c : LayerSettings) (w : World) (back : List PlainPacket) → c.channels ≤ 16 → WorldFits w → WorldFits (handed_up c w back)
-handed_up_fits c w [] few f = f
-handed_up_fits c w (packet ∷ back) few f =
-    let a : LayerFits (layer_answers c w.near.layer packet) = layer_fits c w.near.layer packet few f.near.layer in
+handed_up_fits : Agreed → (c : LayerSettings) (w : World) (back : List PlainPacket) → c.channels ≤ 16 → WorldFits w → WorldFits (handed_up c w back)
+handed_up_fits laws c w [] few f = f
+handed_up_fits laws c w (packet ∷ back) few f =
+    let a : LayerFits (layer_answers c w.near.layer packet) = layer_fits laws c w.near.layer packet few f.near.layer in
     record { near = record { layer = a.next; given = all_fit_append w.near.given (option_to_list (layer_answers c w.near.layer packet).owed) f.near.given a.owed }; far = f.far }
 
 pulls_fit : (c : LayerSettings) (w : World) (h : ℕ) → c.channels ≤ 16 → WorldFits w → WorldFits (if is_channel c.channels h then pulled_in w (layer_pulled c w.near.layer h) else w)
@@ -233,41 +233,41 @@ pulls_fit c w h few f = test (is_channel c.channels h) refl
     }
     test false is = f
 
-moves_fit : (c : LayerSettings) (w : World) (move : Move) → c.channels ≤ 16 → c.circuit.outgoing.size ≡ 128 → MovesOctets move → WorldFits w → WorldFits (moves c w move)
-moves_fit c w move few size octets f = by w.near.is_out move octets
+moves_fit : Agreed → (c : LayerSettings) (w : World) (move : Move) → c.channels ≤ 16 → MovesOctets move → WorldFits w → WorldFits (moves c w move)
+moves_fit laws c w move few octets f = by w.near.is_out move octets
   where
     by : (b : Bool) (m : Move) → MovesOctets m → WorldFits (moves_in c w b m)
     by true m octets = f
-    by false (Requests full request) octets = requested_fits c w request (layer_outcome c full w.near.layer request) f (layer_outcome_fits c full w.near.layer request few size f.near.layer octets)
+    by false (Requests full request) octets = requested_fits c w request (layer_outcome c full w.near.layer request) f (layer_outcome_fits laws c full w.near.layer request few f.near.layer octets)
     by false (Pulls h) octets = pulls_fit c w h few f
-    by false HandsUp octets = handed_up_fits c w w.back few f
-    by false GoesDown octets = record { near = record { layer = λ k. tt; given = f.near.given }; far = f.far }
+    by false HandsUp octets = handed_up_fits laws c w w.back few f
+    by false GoesDown octets = record { near = record { layer = begun_fits; given = f.near.given }; far = f.far }
 
 turned_fits : (w : World) → WorldFits w → WorldFits (turned w)
 turned_fits w f = record { near = f.far; far = f.near }
 
-happens_fits : (n : ℕ) → n ≤ 16 → (w : World) (e : Event) → MovesOctets e.what → WorldFits w → WorldFits (happens n usual usual w e)
-happens_fits n few w e octets f = test e.first
+happens_fits : Agreed → (n : ℕ) → n ≤ 16 → (w : World) (e : Event) → MovesOctets e.what → WorldFits w → WorldFits (happens n w e)
+happens_fits laws n few w e octets f = test e.first
   where
-    test : (b : Bool) → WorldFits (if b then moves (settings_of Dte n usual usual) w e.what else turned (moves (settings_of Dce n usual usual) (turned w) e.what))
-    test true = moves_fit (settings_of Dte n usual usual) w e.what few refl octets f
-    test false = turned_fits (moves (settings_of Dce n usual usual) (turned w) e.what) (moves_fit (settings_of Dce n usual usual) (turned w) e.what few refl octets (turned_fits w f))
+    test : (b : Bool) → WorldFits (if b then moves (settings_of Dte n) w e.what else turned (moves (settings_of Dce n) (turned w) e.what))
+    test true = moves_fit laws (settings_of Dte n) w e.what few octets f
+    test false = turned_fits (moves (settings_of Dce n) (turned w) e.what) (moves_fit laws (settings_of Dce n) (turned w) e.what few octets (turned_fits w f))
 
-run_fits : (n : ℕ) → n ≤ 16 → (events : List Event) (w : World) → BringOctets events → WorldFits w → WorldFits (run n usual usual events w)
-run_fits n few [] w octets f = f
-run_fits n few (e ∷ events) w octets f = run_fits n few events (happens n usual usual w e) octets.1 (happens_fits n few w e octets.0 f)
+run_fits : Agreed → (n : ℕ) → n ≤ 16 → (events : List Event) (w : World) → BringOctets events → WorldFits w → WorldFits (run n events w)
+run_fits laws n few [] w octets f = f
+run_fits laws n few (e ∷ events) w octets f = run_fits laws n few events (happens n w e) octets.1 (happens_fits laws n few w e octets.0 f)
 
 started_fits : (c : LayerSettings) → restart_cause c.circuit.role < 256 → EndFits (started (goes_up c))
-started_fits c low = record { layer = λ k. tt; given = (((low, omega arith), on_restart (restart_cause c.circuit.role) 0), tt) }
+started_fits c low = record { layer = begun_fits; given = (((low, omega arith), on_restart (restart_cause c.circuit.role) 0), tt) }
 
-start_fits : (n : ℕ) → WorldFits (start n usual usual)
-start_fits n = record { near = started_fits (settings_of Dte n usual usual) (omega arith); far = started_fits (settings_of Dce n usual usual) (omega arith) }
+start_fits : (n : ℕ) → WorldFits (start n)
+start_fits n = record { near = started_fits (settings_of Dte n) (omega arith); far = started_fits (settings_of Dce n) (omega arith) }
 
 all_readable : ReadsWhatIsSpelled → (ps : List PlainPacket) → AllFit ps → AreReadable ps
 all_readable reads [] f = tt
 all_readable reads (p ∷ ps) f = (readable reads p f.0.0 f.0.1, all_readable reads ps f.1)
 
-pub puts_are_readable : ReadsWhatIsSpelled → PutsAreReadable
-puts_are_readable reads n few events octets =
-    let f : WorldFits (run n usual usual events (start n usual usual)) = run_fits n few events (start n usual usual) octets (start_fits n) in
-    (all_readable reads (run n usual usual events (start n usual usual)).near.given f.near.given, all_readable reads (run n usual usual events (start n usual usual)).far.given f.far.given)
+pub puts_are_readable : ReadsWhatIsSpelled → Agreed → PutsAreReadable
+puts_are_readable reads laws n few events octets =
+    let f : WorldFits (run n events (start n)) = run_fits laws n few events (start n) octets (start_fits n) in
+    (all_readable reads (run n events (start n)).near.given f.near.given, all_readable reads (run n events (start n)).far.given f.far.given)

@@ -4,6 +4,7 @@ ghost use Rattle.x25_station.specs.KeepLaw.{ConnectKeeps, TimerKeeps, CommandKee
 ghost use Rattle.x25_station.specs.ReadLaw.{PutsAreReadable};
 ghost use Rattle.x25_station.specs.HoldLaw.{FewWait, FewStand, FewMessages};
 
+use x25_circuit::values_are_agreed;
 use x25_layer::calls_are_runs;
 use x25_link::{holds_few, notes_what_changes};
 use x25_packet::reading_is_the_grammar;
@@ -28,6 +29,7 @@ pub fn puts_are_readable()
     ensures { PutsAreReadable }
 {
     reading_is_the_grammar();
+    values_are_agreed();
 }
 
 /// What each step of a station keeps, whatever comes: at most 256 packets wait in the link, and the packet layer is at rest where the
