@@ -4,7 +4,8 @@ use Rattle.std.specs.Prelude.{ℕ, List, [], ◌∷◌, ◌++◌, option_to_list
 use Rattle.x25_bits.specs.declared.role.Role.{Role}
 use Rattle.x25_bits.specs.declared.role.Role.TheVariants.{Dte, Dce}
 use Rattle.x25_packet.specs.PlainPacket.{PlainPacket}
-use Rattle.x25_circuit.specs.Calls.{Request, Calls}
+use Rattle.x25_circuit.specs.Circuit.{Circuit}
+use Rattle.x25_circuit.specs.Calls.{Request, Calls, Accepts}
 use Rattle.x25_layer.specs.Layer.{LayerSettings, Layer, LayerNotice, on_channel, LayerAnswer, is_channel, layer_answers, at_rest, goes_up}
 use Rattle.x25_layer.specs.Calls.{LayerRequest, Asks, Dials, Restarts, LayerOutcome, Accepted, Declined, free_channel, layer_outcome, LayerPulled, layer_pulled}
 use Rattle.x25_layer.specs.Transcript.{Entry, Asked, Told, name_of}
@@ -28,8 +29,13 @@ pub record World : Type 0 where
 
 -- ---- entries: each stands under the name after the step
 
+-- an acceptance is entered with the packet sizes and windows in force, by the circuit after it
+abbrev pub shown : Circuit → Request → Request
+shown x (Accepts answer) = Accepts (Some x.params)
+shown x request = request
+
 abbrev pub entry_of_request : Layer → ℕ → Request → List Entry
-entry_of_request l h request = record { channel = h; name = name_of l h; said = Asked request } ∷ []
+entry_of_request l h request = record { channel = h; name = name_of l h; said = Asked (shown (l.circuits h) request) } ∷ []
 
 abbrev pub entry_of_dial : Layer → Option ℕ → Request → List Entry
 entry_of_dial l None request = []
