@@ -8,8 +8,10 @@ use Rattle.x25_circuit.specs.declared.error.CircuitError.{CircuitError}
 use Rattle.x25_circuit.specs.declared.error.CircuitError.TheVariants.{WrongState, Full, TooLong, InterruptOutstanding, BadParameter}
 use Rattle.x25_circuit.specs.declared.state.State.{State}
 use Rattle.x25_circuit.specs.declared.state.State.TheVariants.{Free, Calling, Arriving, Open, Resetting, Clearing}
+use Rattle.x25_circuit.specs.declared.params.Params.{Params}
+use Rattle.x25_circuit.specs.Params.{default_params, may_propose, may_answer, field_for}
 use Rattle.x25_circuit.specs.Messages.{Piece, More, Last, cut}
-use Rattle.x25_circuit.specs.Circuit.{Settings, Talk, silent, Circuit, waits}
+use Rattle.x25_circuit.specs.Circuit.{Settings, Talk, Circuit, entered, talking, outgoing, waits}
 use Rattle.x25_circuit.specs.Notices.{CallRequest}
 use Rattle.x25_circuit.specs.Table.{status}
 
@@ -18,10 +20,10 @@ pub data Outcome : Type 0 where
   Done : (next : Circuit) → (packet : Option PlainPacket) → Outcome
   Refused : (error : CircuitError) → Outcome
 
--- the addresses of a call are texts
+-- the addresses of a call are texts; an acceptance without packet sizes and windows accepts those that are proposed
 pub data Request : Type 0 where
-  Calls : (called : List ℕ) → (calling : List ℕ) → (user : List ℕ) → Request
-  Accepts : Request
+  Calls : (called : List ℕ) → (calling : List ℕ) → (user : List ℕ) → (params : Params) → Request
+  Accepts : (answer : Option Params) → Request
   Clears : Request
   Sends : (q : Bool) → (user : List ℕ) → Request
   Interrupts : (user : List ℕ) → Request
@@ -30,12 +32,12 @@ pub data Request : Type 0 where
   SaysNotReady : Request
 
 -- to another state, in which nothing is kept
-abbrev pub does : Circuit → State → PlainPacket → Outcome
-does x state packet = Done (record { state = state; clears = x.clears; resets = x.resets; talk = silent }) (Some packet)
+abbrev pub does : Circuit → State → Params → Bool → PlainPacket → Outcome
+does x state params calls packet = Done (entered x state params calls) (Some packet)
 
 -- the state is as it was
 abbrev pub keeps_on : Circuit → Talk → Option PlainPacket → Outcome
-keeps_on x talk packet = Done (record { state = x.state; clears = x.clears; resets = x.resets; talk = talk }) packet
+keeps_on x talk packet = Done (talking x talk) packet
 
 -- ---- setting up and clearing
 
@@ -43,29 +45,35 @@ keeps_on x talk packet = Done (record { state = x.state; clears = x.clears; rese
 abbrev pub is_address_text : List ℕ → Bool
 is_address_text text = nat_le (length text) 15 && list_all is_figure text
 
--- the digits of the texts, and the user data
-abbrev pub request_of : List ℕ → List ℕ → List ℕ → CallRequest
-request_of called calling user = record { called = digits_of_text called; calling = digits_of_text calling; user = user }
+-- the digits of the texts, the user data, and what is proposed
+abbrev pub request_of : List ℕ → List ℕ → List ℕ → Params → CallRequest
+request_of called calling user params = record { called = digits_of_text called; calling = digits_of_text calling; user = user; params = params }
 
+-- what is the default isn't said
 abbrev pub call_sent : CallRequest → PlainPacket
-call_sent request = call 1 request.called request.calling [] request.user
+call_sent request = call 1 request.called request.calling (field_for default_params request.params) request.user
 
--- both addresses are texts of digits, and there are at most 16 octets of user data (section 5.2.1)
-abbrev pub may_call : List ℕ → List ℕ → List ℕ → Bool
-may_call called calling user = is_address_text called && (is_address_text calling && nat_le (length user) 16)
+-- both addresses are texts of digits, there are at most 16 octets of user data (section 5.2.1), and what is proposed is in range
+abbrev pub may_call : List ℕ → List ℕ → List ℕ → Params → Bool
+may_call called calling user params = is_address_text called && (is_address_text calling && (nat_le (length user) 16 && may_propose params))
 
-abbrev pub call_in : Circuit → State → List ℕ → List ℕ → List ℕ → Outcome
-call_in x Free called calling user = if may_call called calling user then does x Calling (call_sent (request_of called calling user)) else Refused BadParameter
-call_in x state called calling user = Refused WrongState
+abbrev pub call_in : Circuit → State → List ℕ → List ℕ → List ℕ → Params → Outcome
+call_in x Free called calling user params = if may_call called calling user params then does x Calling params true (call_sent (request_of called calling user params)) else Refused BadParameter
+call_in x state called calling user params = Refused WrongState
 
-abbrev pub accept_in : Circuit → State → Outcome
-accept_in x Arriving = does x Open (accept 1 [])
-accept_in x state = Refused WrongState
+-- what is as proposed isn't said
+abbrev pub accept_with : Circuit → Option Params → Outcome
+accept_with x None = does x Open x.params false (accept 1 [])
+accept_with x (Some answer) = if may_answer x.params answer then does x Open answer false (accept 1 (field_for x.params answer)) else Refused BadParameter
+
+abbrev pub accept_in : Circuit → State → Option Params → Outcome
+accept_in x Arriving answer = accept_with x answer
+accept_in x state answer = Refused WrongState
 
 abbrev pub clear_in : Circuit → State → Outcome
 clear_in x Free = Refused WrongState
 clear_in x Clearing = Refused WrongState
-clear_in x state = does x Clearing (clear 1 0 0)
+clear_in x state = does x Clearing default_params false (clear 1 0 0)
 
 -- ---- in p4 with d1
 
@@ -74,7 +82,7 @@ abbrev pub send_open : Settings → Circuit → Talk → Bool → List ℕ → O
 send_open c x t q user =
     if nat_le (length user) 65535
     then (if nat_lt (waits x) 8
-    then keeps_on x (record { sent = t.sent; taken = t.taken; acked = t.acked; rest = t.rest ++ cut c.outgoing.size q user; int_out = t.int_out; peer_ready = t.peer_ready; own_ready = t.own_ready }) None
+    then keeps_on x (record { sent = t.sent; taken = t.taken; acked = t.acked; rest = t.rest ++ cut (outgoing x).size q user; int_out = t.int_out; peer_ready = t.peer_ready; own_ready = t.own_ready }) None
     else Refused Full)
     else Refused TooLong
 
@@ -103,7 +111,7 @@ interrupt_in x state user = Refused WrongState
 
 -- section 4.4.3.1
 abbrev pub reset_in : Circuit → State → Outcome
-reset_in x Open = does x Resetting (reset 1 0 0)
+reset_in x Open = does x Resetting x.params x.calls (reset 1 0 0)
 reset_in x state = Refused WrongState
 
 abbrev pub ready_in : Circuit → State → Bool → Outcome
@@ -113,8 +121,8 @@ ready_in x state is_ready = Refused WrongState
 -- ---- the calls
 
 abbrev pub outcome : Settings → Circuit → Request → Outcome
-outcome c x (Calls called calling user) = call_in x x.state called calling user
-outcome c x Accepts = accept_in x x.state
+outcome c x (Calls called calling user params) = call_in x x.state called calling user params
+outcome c x (Accepts answer) = accept_in x x.state answer
 outcome c x Clears = clear_in x x.state
 outcome c x (Sends q user) = send_in c x x.state q user
 outcome c x (Interrupts user) = interrupt_in x x.state user
@@ -139,9 +147,9 @@ data_packet ps pr (Last q user) = user_data 1 q false ps pr user
 abbrev pub pull_open : Settings → Circuit → Talk → List Piece → Pulled
 pull_open c x t [] = pulls_nothing x
 pull_open c x t (piece ∷ rest) =
-    if t.peer_ready && nat_lt (length t.sent) (t.acked + c.outgoing.window)
+    if t.peer_ready && nat_lt (length t.sent) (t.acked + (outgoing x).window)
     then record {
-      next = record { state = x.state; clears = x.clears; resets = x.resets; talk = record { sent = t.sent ++ piece ∷ []; taken = t.taken; acked = t.acked; rest = rest; int_out = t.int_out; peer_ready = t.peer_ready; own_ready = t.own_ready } };
+      next = talking x (record { sent = t.sent ++ piece ∷ []; taken = t.taken; acked = t.acked; rest = rest; int_out = t.int_out; peer_ready = t.peer_ready; own_ready = t.own_ready });
       packet = Some (data_packet (length t.sent % 8) (length t.taken % 8) piece);
     }
     else pulls_nothing x

@@ -1,24 +1,15 @@
 -- The state of one logical channel at one end. ITU-T X.25 (10/96), sections 4.1, 4.3.1 and 4.4.
-use Rattle.std.specs.Prelude.{ℕ, List, [], Bool, true, false}
+use Rattle.std.specs.Prelude.{ℕ, List, [], Bool, true, false, if◌then◌else◌}
 use Rattle.x25_bits.specs.declared.role.Role.{Role}
 use Rattle.x25_circuit.specs.declared.state.State.{State}
 use Rattle.x25_circuit.specs.declared.state.State.TheVariants.{Free, Open}
+use Rattle.x25_circuit.specs.declared.params.Params.{Params}
+use Rattle.x25_circuit.specs.Params.{Terms, default_params, called_terms, calling_terms}
 use Rattle.x25_circuit.specs.Messages.{Piece, wholes}
 
--- of one direction: the window, and the most octets of user data in a data packet (sections 4.3.2 and 4.4.1.2)
-pub record Terms : Type 0 where
-  pub window : ℕ
-  pub size : ℕ
-
--- what is used where nothing is negotiated
-abbrev pub usual : Terms
-usual = record { window = 2; size = 128 }
-
--- which end this is, and the terms of the data packets that it sends and of those that it takes
+-- which end this is
 pub record Settings : Type 0 where
   pub role : Role
-  pub outgoing : Terms
-  pub incoming : Terms
 
 -- What belongs to the present stretch, from a call or a reset on: the data packets sent, of which P(S) of the next is the
 -- number; those taken, of which P(R) is the number; how many of those sent the other end acknowledged; the packets that
@@ -37,24 +28,46 @@ pub record Talk : Type 0 where
 abbrev pub silent : Talk
 silent = record { sent = []; taken = []; acked = 0; rest = []; int_out = false; peer_ready = true; own_ready = true }
 
--- with the numbers of clears done, and of resets done since the last of these (profile)
+-- With the numbers of clears done, and of resets done since the last of these (profile); with packet sizes and windows, which
+-- are proposed by this end until its call is accepted, proposed by the other end where that one called, and in force from
+-- there on; and whether this end called. Where there is no call, these two are the defaults and false.
 pub record Circuit : Type 0 where
   pub state : State
   pub clears : ℕ
   pub resets : ℕ
+  pub params : Params
+  pub calls : Bool
   pub talk : Talk
 
 -- a channel that was never used
 abbrev pub begun : Circuit
-begun = record { state = Free; clears = 0; resets = 0; talk = silent }
+begun = record { state = Free; clears = 0; resets = 0; params = default_params; calls = false; talk = silent }
+
+-- in this state, in which nothing is kept
+abbrev pub entered : Circuit → State → Params → Bool → Circuit
+entered x state params calls = record { state = state; clears = x.clears; resets = x.resets; params = params; calls = calls; talk = silent }
 
 -- p1 with everything dropped; the counts are as they were
 abbrev pub forgotten : Circuit → Circuit
-forgotten x = record { state = Free; clears = x.clears; resets = x.resets; talk = silent }
+forgotten x = entered x Free default_params false
 
 -- both counts are 0
 abbrev pub zeroed : Circuit → Circuit
-zeroed x = record { state = x.state; clears = 0; resets = 0; talk = x.talk }
+zeroed x = record { state = x.state; clears = 0; resets = 0; params = x.params; calls = x.calls; talk = x.talk }
+
+-- in the same state
+abbrev pub talking : Circuit → Talk → Circuit
+talking x talk = record { state = x.state; clears = x.clears; resets = x.resets; params = x.params; calls = x.calls; talk = talk }
+
+-- ---- the terms of data packets
+
+-- of those that this end sends
+abbrev pub outgoing : Circuit → Terms
+outgoing x = if x.calls then calling_terms x.params else called_terms x.params
+
+-- of those that it takes
+abbrev pub incoming : Circuit → Terms
+incoming x = if x.calls then called_terms x.params else calling_terms x.params
 
 -- ---- what a circuit tells
 

@@ -4,20 +4,18 @@ use Rattle.x25_packet.specs.declared.packet.Packet.{Packet}
 use Rattle.x25_packet.specs.PlainPacket.{PlainPacket, plain, user_data}
 use Rattle.x25_circuit.specs.declared.circuit.Circuit as code
 use Rattle.x25_circuit.specs.declared.error.CircuitError.{CircuitError}
-use Rattle.x25_circuit.specs.Circuit.{Settings, Circuit}
+use Rattle.x25_circuit.specs.Circuit.{Settings, Circuit, outgoing}
 use Rattle.x25_circuit.specs.Fits.{FitsTalk}
 use Rattle.x25_circuit.specs.Calls.{Outcome, Done, Refused}
 
 pub record FitsCircuit (c : Settings) (v : code.Circuit) (x : Circuit) : Type 0 where
   pub role : v.role ≡ c.role
-  pub window_out : v.outgoing.window ≡ c.outgoing.window
-  pub size_out : v.outgoing.size ≡ c.outgoing.size
-  pub window_in : v.incoming.window ≡ c.incoming.window
-  pub size_in : v.incoming.size ≡ c.incoming.size
   pub state : v.state ≡ x.state
   pub clears : v.clears ≡ x.clears
   pub resets : v.resets ≡ x.resets
-  pub talk : FitsTalk c.outgoing.size v.transfer x.talk
+  pub params : v.flow.params ≡ x.params
+  pub calls : v.calls ≡ x.calls
+  pub talk : FitsTalk (outgoing x).size v.transfer x.talk
 
 -- for how many octets of user data of a packet memory is set aside
 abbrev pub room_of : code.Circuit → ℕ

@@ -1,4 +1,6 @@
 pub mod CircuitError
+pub mod Params
+pub mod ParamsLaws
 pub mod Messages
 pub mod Circuit
 pub mod Notices

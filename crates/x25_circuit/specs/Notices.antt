@@ -1,17 +1,20 @@
 -- What a circuit tells the user.
 use Rattle.std.specs.Prelude.{ℕ, List, [], ◌∷◌}
 use Rattle.x25_circuit.specs.declared.message.Message.{Message}
+use Rattle.x25_circuit.specs.declared.params.Params.{Params}
 
--- what a call says: the digits of the called and of the calling address, and the user data
+-- what a call says: the digits of the called and of the calling address, the user data, and the packet sizes and windows that
+-- are proposed
 pub record CallRequest : Type 0 where
   pub called : List ℕ
   pub calling : List ℕ
   pub user : List ℕ
+  pub params : Params
 
--- causes go before diagnostics
+-- causes go before diagnostics; `connected` tells the packet sizes and windows in force
 pub data PlainNotice : Type 0 where
   incoming : (request : CallRequest) → PlainNotice
-  connected : PlainNotice
+  connected : (params : Params) → PlainNotice
   collided : PlainNotice
   cleared : (cause : ℕ) → (diagnostic : ℕ) → PlainNotice
   clear_done : PlainNotice

@@ -9,8 +9,8 @@ use Rattle.x25_circuit.specs.declared.notice.Reply.{Reply}
 use Rattle.x25_circuit.specs.Notices.{PlainNotice, incoming, connected, collided, cleared, clear_done, was_reset, reset_done, delivered, interrupted, interrupt_done, fault}
 
 abbrev pub plain_notice : Notice → PlainNotice
-plain_notice (code.Incoming called calling user) = incoming (record { called = called; calling = calling; user = user.now })
-plain_notice code.Connected = connected
+plain_notice (code.Incoming called calling user params) = incoming (record { called = called; calling = calling; user = user.now; params = params })
+plain_notice (code.Connected params) = connected params
 plain_notice (code.Cleared cause diagnostic) = cleared cause diagnostic
 plain_notice code.ClearDone = clear_done
 plain_notice (code.WasReset cause diagnostic) = was_reset cause diagnostic

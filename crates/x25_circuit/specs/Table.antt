@@ -12,8 +12,10 @@ use Rattle.x25_packet.specs.PlainPacket.{PlainPacket, call, accept, clear, clear
 use Rattle.x25_window.specs.Modulo.{resolved}
 use Rattle.x25_circuit.specs.declared.state.State.{State}
 use Rattle.x25_circuit.specs.declared.state.State.TheVariants.{Free, Calling, Arriving, Collision, Open, Resetting, Clearing}
+use Rattle.x25_circuit.specs.declared.params.Params.{Params}
+use Rattle.x25_circuit.specs.Params.{default_params, may_answer, said_in}
 use Rattle.x25_circuit.specs.Messages.{Piece, piece_of, no_part, joining, completed, piece_ground}
-use Rattle.x25_circuit.specs.Circuit.{Settings, Talk, silent, Circuit}
+use Rattle.x25_circuit.specs.Circuit.{Settings, Talk, silent, Circuit, entered, talking, incoming as terms_in}
 use Rattle.x25_circuit.specs.Notices.{CallRequest, PlainNotice, incoming, connected, collided, cleared, clear_done, was_reset, reset_done, interrupted, interrupt_done, fault, deliveries}
 
 -- what a packet does: the circuit after it, the packet owed, and what the user is told
@@ -25,8 +27,8 @@ pub record Answer : Type 0 where
 -- ---- ways to answer
 
 -- to another state, in which nothing is kept
-abbrev pub goes : Circuit → State → Option PlainPacket → List PlainNotice → Answer
-goes x state owed notices = record { next = record { state = state; clears = x.clears; resets = x.resets; talk = silent }; owed = owed; notices = notices }
+abbrev pub goes : Circuit → State → Params → Bool → Option PlainPacket → List PlainNotice → Answer
+goes x state params calls owed notices = record { next = entered x state params calls; owed = owed; notices = notices }
 
 -- the packet is dropped
 abbrev pub ignores : Circuit → Answer
@@ -34,15 +36,15 @@ ignores x = record { next = x; owed = None; notices = [] }
 
 -- to p1, by a clear that is counted
 abbrev pub clears_to : Circuit → Option PlainPacket → List PlainNotice → Answer
-clears_to x owed notices = record { next = record { state = Free; clears = suc x.clears; resets = 0; talk = silent }; owed = owed; notices = notices }
+clears_to x owed notices = record { next = record { state = Free; clears = suc x.clears; resets = 0; params = default_params; calls = false; talk = silent }; owed = owed; notices = notices }
 
--- to d1, by a reset that is counted
+-- to d1, by a reset that is counted; packet sizes and windows stay
 abbrev pub resets_to : Circuit → Option PlainPacket → List PlainNotice → Answer
-resets_to x owed notices = record { next = record { state = Open; clears = x.clears; resets = suc x.resets; talk = silent }; owed = owed; notices = notices }
+resets_to x owed notices = record { next = record { state = Open; clears = x.clears; resets = suc x.resets; params = x.params; calls = x.calls; talk = silent }; owed = owed; notices = notices }
 
 -- the state is as it was
 abbrev pub talks : Circuit → Talk → Option PlainPacket → List PlainNotice → Answer
-talks x talk owed notices = record { next = record { state = x.state; clears = x.clears; resets = x.resets; talk = talk }; owed = owed; notices = notices }
+talks x talk owed notices = record { next = talking x talk; owed = owed; notices = notices }
 
 -- ---- errors of procedure
 
@@ -53,11 +55,11 @@ cause_at Dce cause = cause
 
 -- the call is cleared
 abbrev pub clears_for : Settings → Circuit → ℕ → ℕ → Answer
-clears_for c x cause diagnostic = goes x Clearing (Some (clear 1 (cause_at c.role cause) diagnostic)) (fault diagnostic ∷ [])
+clears_for c x cause diagnostic = goes x Clearing default_params false (Some (clear 1 (cause_at c.role cause) diagnostic)) (fault diagnostic ∷ [])
 
 -- the call is reset: cause 5, local procedure error
 abbrev pub resets_for : Settings → Circuit → ℕ → Answer
-resets_for c x diagnostic = goes x Resetting (Some (reset 1 (cause_at c.role 5) diagnostic)) (fault diagnostic ∷ [])
+resets_for c x diagnostic = goes x Resetting x.params x.calls (Some (reset 1 (cause_at c.role 5) diagnostic)) (fault diagnostic ∷ [])
 
 abbrev pub by_role : Role → ℕ → ℕ → ℕ
 by_role Dte dte dce = dte
@@ -77,29 +79,29 @@ diagnostic_in role Clearing = 0
 abbrev pub unexpected : Settings → Circuit → State → Answer
 unexpected c x state = clears_for c x 19 (diagnostic_in c.role state)
 
--- no facility is allowed yet: cause 3, invalid facility request
-abbrev pub unless_facilities : Settings → Circuit → List ℕ → Answer → Answer
-unless_facilities c x [] good = good
-unless_facilities c x (code ∷ rest) good = clears_for c x 3 65
-
 -- ---- setting up and clearing
 
--- CALL against a call of this end: the DTE waits for the DCE's answer, and the DCE gives its own call up (section 4.1.6)
+-- CALL against a call of this end: the DTE waits for the DCE's answer, and the DCE gives its own call up, with what that
+-- proposed (section 4.1.6)
 abbrev pub collides : Role → Circuit → CallRequest → Answer
-collides Dte x request = goes x Collision None []
-collides Dce x request = goes x Arriving None (collided ∷ incoming request ∷ [])
+collides Dte x request = goes x Collision x.params true None []
+collides Dce x request = goes x Arriving request.params false None (collided ∷ incoming request ∷ [])
 
 -- CALL (sections 4.1.2 and 4.1.3)
-abbrev pub row_call : Settings → Circuit → State → CallRequest → List ℕ → Answer
-row_call c x Free request facilities = unless_facilities c x facilities (goes x Arriving None (incoming request ∷ []))
-row_call c x Calling request facilities = unless_facilities c x facilities (collides c.role x request)
-row_call c x Clearing request facilities = ignores x
-row_call c x state request facilities = unexpected c x state
+abbrev pub row_call : Settings → Circuit → State → CallRequest → Answer
+row_call c x Free request = goes x Arriving request.params false None (incoming request ∷ [])
+row_call c x Calling request = collides c.role x request
+row_call c x Clearing request = ignores x
+row_call c x state request = unexpected c x state
 
--- CALL ACCEPTED (sections 4.1.4 and 4.1.5)
+-- what is answered is in force, where it may be answered (section 6.12): cause 3, invalid facility request, and diagnostic 66
+abbrev pub connects : Settings → Circuit → Params → Answer
+connects c x answered = if may_answer x.params answered then goes x Open answered true None (connected answered ∷ []) else clears_for c x 3 66
+
+-- CALL ACCEPTED (sections 4.1.4 and 4.1.5). What it doesn't say is answered as it was proposed.
 abbrev pub row_accept : Settings → Circuit → State → List ℕ → Answer
-row_accept c x Calling facilities = unless_facilities c x facilities (goes x Open None (connected ∷ []))
-row_accept c x Collision facilities = unless_facilities c x facilities (goes x Open None (connected ∷ []))
+row_accept c x Calling facilities = connects c x (said_in x.params facilities)
+row_accept c x Collision facilities = connects c x (said_in x.params facilities)
 row_accept c x Clearing facilities = ignores x
 row_accept c x state facilities = unexpected c x state
 
@@ -175,7 +177,7 @@ confirms c x t false = resets_for c x 43
 
 abbrev pub row_open : Settings → Circuit → Talk → PlainPacket → Answer
 row_open c x t (user_data channel q m ps pr user) =
-    unless c x (data_ground c.incoming.size t ps pr (piece_of q m user)) (takes x t pr (piece_of q m user))
+    unless c x (data_ground (terms_in x).size t ps pr (piece_of q m user)) (takes x t pr (piece_of q m user))
 row_open c x t (rr channel pr) = unless c x (number_ground t pr) (hears_status x t true pr)
 row_open c x t (rnr channel pr) = unless c x (number_ground t pr) (hears_status x t false pr)
 row_open c x t (interrupt channel user) = talks x t (Some (interrupt_conf 1)) (interrupted user ∷ [])
@@ -191,8 +193,12 @@ row_data c x state packet = unexpected c x state
 
 -- ---- the table
 
+-- what a CALL doesn't say is proposed as the default
+abbrev pub request_in : List ℕ → List ℕ → List ℕ → List ℕ → CallRequest
+request_in called calling facilities user = record { called = called; calling = calling; user = user; params = said_in default_params facilities }
+
 abbrev pub answers : Settings → Circuit → PlainPacket → Answer
-answers c x (call channel called calling facilities user) = row_call c x x.state (record { called = called; calling = calling; user = user }) facilities
+answers c x (call channel called calling facilities user) = row_call c x x.state (request_in called calling facilities user)
 answers c x (accept channel facilities) = row_accept c x x.state facilities
 answers c x (clear channel cause diagnostic) = row_clear x x.state cause diagnostic
 answers c x (clear_conf channel) = row_clear_conf c x x.state

@@ -1,16 +1,19 @@
 //! The user's calls that set up and clear. ITU-T X.25 (10/96), sections 4.1.2, 4.1.4 and 4.1.7.
-ghost use Rattle.std.specs.Prelude.{◌≡◌, ◌≤◌, OnErr, IfSome, IfNone, true, false, IfOk};
+ghost use Rattle.std.specs.Prelude.{◌≡◌, ◌≤◌, OnErr, IfSome, IfNone, Some, None, true, false, IfOk};
 ghost use Rattle.x25_packet.specs.PlainPacket.{plain};
 ghost use Rattle.x25_packet.specs.Spelling.{IsInRange};
 ghost use Rattle.x25_packet.specs.Digits.{IsAddress, digits_of_text};
 ghost use Rattle.x25_circuit.specs.declared.state.State.TheVariants.{Free};
 ghost use Rattle.x25_circuit.specs.Circuit.{Settings};
 ghost use Rattle.x25_circuit.specs.Circuit.{Circuit as Channel};
-ghost use Rattle.x25_circuit.specs.Calls.{outcome, Calls, Accepts, Clears, call_in, is_address_text};
+ghost use Rattle.x25_circuit.specs.Params.{default_params, field_for};
+ghost use Rattle.x25_circuit.specs.Calls.{outcome, Calls, Accepts, Clears, call_in, accept_with, is_address_text};
 ghost use Rattle.x25_circuit.specs.FitsCircuit.{FitsCircuit, Sends, room_of};
 
 use crate::circuit::Circuit;
 use crate::error::CircuitError;
+use crate::params::{FlowControl, Params};
+use crate::proposal::Proposal;
 use crate::state::State;
 use x25_packet::{CALL_OCTETS, Digits, Packet};
 
@@ -25,7 +28,8 @@ fn address<'a>(text: &'a str) -> Option<Digits<'a>>
 }
 
 impl Circuit {
-    /// Calls the other end, with addresses of 0 to 15 digits and at most 16 octets of user data. It answers CALL.
+    /// Calls the other end, with addresses of 0 to 15 digits and at most 16 octets of user data, and proposes the default
+    /// packet sizes and windows. It answers CALL.
     ///
     /// 30 WrongState outside of p1, then 34 BadParameter where an address or the user data is none of these.
     pub fn call<'a>(
@@ -34,25 +38,56 @@ impl Circuit {
         calling: &'a str,
         user: &'a [u8],
     ) -> Result<Packet<'a>, CircuitError>
-        ensures outcome { (c : Settings) (x : Channel) → FitsCircuit c self.old x → Sends c self.new result (outcome c x (Calls called.now calling.now user.now)) }
+        ensures outcome { (c : Settings) (x : Channel) → FitsCircuit c self.old x → Sends c self.new result (outcome c x (Calls called.now calling.now user.now default_params)) }
         ensures range { IfOk result (λ packet. IsInRange 16 (plain packet)) }
         ensures room { room_of self.old ≤ room_of self.new }
         ensures unchanged { OnErr result (self.new ≡ self.old) }
     {
         match self.state {
-            State::Free => self.call_out(called, calling, user),
+            State::Free => self.call_out(called, calling, user, Params::default(), &[]),
             _ => Err(CircuitError::WrongState),
         }
     }
 
-    // Calls, in p1.
+    /// Calls as `call`, and proposes these packet sizes and windows: sizes of 4 to 12, and windows of 1 to 7. What isn't the
+    /// default stands in the CALL. ITU-T X.25 (10/96), section 6.12.
+    ///
+    /// 30 WrongState outside of p1, then 34 BadParameter where an address, the user data, a size or a window is none of these.
+    pub fn call_with<'a>(
+        &mut self,
+        called: &'a str,
+        calling: &'a str,
+        user: &'a [u8],
+        proposal: &'a Proposal,
+    ) -> Result<Packet<'a>, CircuitError>
+        ensures outcome { (c : Settings) (x : Channel) → FitsCircuit c self.old x → Sends c self.new result (outcome c x (Calls called.now calling.now user.now proposal.now)) }
+        ensures range { IfOk result (λ packet. IsInRange 16 (plain packet)) }
+        ensures room { room_of self.old ≤ room_of self.new }
+        ensures unchanged { OnErr result (self.new ≡ self.old) }
+    {
+        match self.state {
+            State::Free => self.call_out(
+                called,
+                calling,
+                user,
+                proposal.params(),
+                proposal.field_for(Params::default()),
+            ),
+            _ => Err(CircuitError::WrongState),
+        }
+    }
+
+    // Calls, in p1, with the facility field that says what is proposed.
     fn call_out<'a>(
         &mut self,
         called: &'a str,
         calling: &'a str,
         user: &'a [u8],
+        params: Params,
+        facilities: &'a [u8],
     ) -> Result<Packet<'a>, CircuitError>
-        ensures outcome { (c : Settings) (x : Channel) → FitsCircuit c self.old x → Sends c self.new result (call_in x Free called.now calling.now user.now) }
+        requires { facilities.now ≡ field_for default_params params }
+        ensures outcome { (c : Settings) (x : Channel) → FitsCircuit c self.old x → Sends c self.new result (call_in x Free called.now calling.now user.now params) }
         ensures range { IfOk result (λ packet. IsInRange 16 (plain packet)) }
         ensures room { room_of self.old ≤ room_of self.new }
         ensures unchanged { OnErr result (self.new ≡ self.old) }
@@ -66,28 +101,31 @@ impl Circuit {
         if user.len() > CALL_OCTETS {
             return Err(CircuitError::BadParameter);
         }
-        self.enter(State::Calling);
+        let Some(flow) = FlowControl::of(params) else {
+            return Err(CircuitError::BadParameter);
+        };
+        self.enter(State::Calling, flow, true);
         Ok(Packet::Call {
             channel: 1,
             called,
             calling,
-            facilities: &[],
+            facilities,
             user,
         })
     }
 
-    /// Accepts the call of the other end. It answers CALL ACCEPTED.
+    /// Accepts the call of the other end, with the packet sizes and windows that it proposes. It answers CALL ACCEPTED.
     ///
     /// 30 WrongState where no call came.
     pub fn accept<'a>(&mut self) -> Result<Packet<'a>, CircuitError>
-        ensures outcome { (c : Settings) (x : Channel) → FitsCircuit c self.old x → Sends c self.new result (outcome c x Accepts) }
+        ensures outcome { (c : Settings) (x : Channel) → FitsCircuit c self.old x → Sends c self.new result (outcome c x (Accepts None)) }
         ensures range { IfOk result (λ packet. IsInRange 16 (plain packet)) }
         ensures room { room_of self.old ≤ room_of self.new }
         ensures unchanged { OnErr result (self.new ≡ self.old) }
     {
         match self.state {
             State::Arriving => {
-                self.enter(State::Open);
+                self.enter(State::Open, self.flow, false);
                 Ok(Packet::Accept {
                     channel: 1,
                     facilities: &[],
@@ -95,6 +133,40 @@ impl Circuit {
             }
             _ => Err(CircuitError::WrongState),
         }
+    }
+
+    /// Accepts the call of the other end, with these packet sizes and windows, each from the proposed value to the default. What
+    /// isn't as proposed stands in the CALL ACCEPTED that it answers. ITU-T X.25 (10/96), section 6.12.
+    ///
+    /// 30 WrongState where no call came, then 34 BadParameter where a value is out of this range.
+    pub fn accept_with<'a>(&mut self, answer: &'a Proposal) -> Result<Packet<'a>, CircuitError>
+        ensures outcome { (c : Settings) (x : Channel) → FitsCircuit c self.old x → Sends c self.new result (outcome c x (Accepts (Some answer.now))) }
+        ensures range { IfOk result (λ packet. IsInRange 16 (plain packet)) }
+        ensures room { room_of self.old ≤ room_of self.new }
+        ensures unchanged { OnErr result (self.new ≡ self.old) }
+    {
+        match self.state {
+            State::Arriving => self.answer(answer),
+            _ => Err(CircuitError::WrongState),
+        }
+    }
+
+    // Accepts the call that came.
+    fn answer<'a>(&mut self, answer: &'a Proposal) -> Result<Packet<'a>, CircuitError>
+        ensures outcome { (c : Settings) (x : Channel) → FitsCircuit c self.old x → Sends c self.new result (accept_with x (Some answer.now)) }
+        ensures range { IfOk result (λ packet. IsInRange 16 (plain packet)) }
+        ensures room { room_of self.old ≤ room_of self.new }
+        ensures unchanged { OnErr result (self.new ≡ self.old) }
+    {
+        let proposed = self.flow.params;
+        let Some(flow) = self.flow.answered(answer.params()) else {
+            return Err(CircuitError::BadParameter);
+        };
+        self.enter(State::Open, flow, false);
+        Ok(Packet::Accept {
+            channel: 1,
+            facilities: answer.field_for(proposed),
+        })
     }
 
     /// Clears the call, and drops everything. It answers CLEAR with cause and diagnostic 0.
@@ -109,7 +181,7 @@ impl Circuit {
         match self.state {
             State::Free | State::Clearing => Err(CircuitError::WrongState),
             _ => {
-                self.enter(State::Clearing);
+                self.end_call(State::Clearing);
                 Ok(Packet::Clear {
                     channel: 1,
                     cause: 0,

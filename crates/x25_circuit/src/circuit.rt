@@ -1,10 +1,12 @@
-ghost use Rattle.std.specs.Prelude.{◌≡◌, ℕ, ◌<◌, ◌≤◌, length, IfOk, IfErr, OnOk, OnErr};
+ghost use Rattle.std.specs.Prelude.{◌≡◌, ℕ, ◌<◌, ◌≤◌, false, length, IfOk, IfErr, OnOk, OnErr};
 ghost use Rattle.x25_circuit.specs.declared.state.State.{State};
 ghost use Rattle.x25_circuit.specs.Messages.{no_part, joining};
-ghost use Rattle.x25_circuit.specs.Circuit.{Settings, begun, forgotten, zeroed, is_free, is_open, waits, usual, silent};
+ghost use Rattle.x25_circuit.specs.Params.{default_params};
+ghost use Rattle.x25_circuit.specs.Circuit.{Settings, begun, entered, forgotten, zeroed, is_free, is_open, waits, outgoing, incoming};
 ghost use Rattle.x25_circuit.specs.Circuit.{Circuit as Channel};
 
 use crate::error::CircuitError;
+use crate::params::{FlowControl, Params};
 use crate::state::State;
 use crate::terms::Terms;
 use crate::transfer::Transfer;
@@ -21,20 +23,20 @@ pub struct Circuit {
     /// How many clears were done, and how many resets since the last of them.
     pub(crate) clears: u64,
     pub(crate) resets: u64,
-    /// The terms of the data packets that this end sends, and of those that it takes.
-    pub(crate) outgoing: Terms,
-    pub(crate) incoming: Terms,
+    /// Packet sizes and windows: proposed until a call is accepted, then in force; and whether this end called.
+    pub(crate) flow: FlowControl,
+    pub(crate) calls: bool,
     pub(crate) transfer: Transfer,
 }
 
 impl Circuit {
     ghost use Rattle.x25_circuit.specs.FitsCircuit.{FitsCircuit, room_of, clears_of, resets_of};
 
-    /// A channel that was never used: p1, with window 2 and packets of at most 128 octets in both directions.
+    /// A channel that was never used: p1.
     ///
     /// 70 alone.
     pub fn new(alloc: Global, role: Role) -> Result<Circuit, CircuitError>
-        ensures fits { IfOk result (λ v. FitsCircuit (record { role = role; outgoing = usual; incoming = usual }) v begun) }
+        ensures fits { IfOk result (λ v. FitsCircuit (record { role = role }) v begun) }
         ensures err { IfErr result (λ e. e ≡ CircuitError.NoMemory) }
     {
         let transfer = Transfer::new(alloc)?;
@@ -43,8 +45,8 @@ impl Circuit {
             state: State::Free,
             clears: 0,
             resets: 0,
-            outgoing: Terms::usual(),
-            incoming: Terms::usual(),
+            flow: FlowControl::usual(),
+            calls: false,
             transfer,
         })
     }
@@ -73,7 +75,39 @@ impl Circuit {
         ensures fits { (c : Settings) (x : Channel) → FitsCircuit c self.old x → FitsCircuit c self.new (forgotten x) }
         ensures room { room_of self.old ≤ room_of self.new }
     {
-        self.enter(State::Free);
+        self.end_call(State::Free);
+    }
+
+    /// Packet sizes and windows: those that are proposed, until the call is accepted, and then those in force; the defaults
+    /// where there is no call.
+    pub fn params(&self) -> Params
+        ensures { (c : Settings) (x : Channel) → FitsCircuit c self.now x → result ≡ x.params }
+    {
+        self.flow.params
+    }
+
+    /// Of the data packets that this end sends.
+    pub(crate) fn outgoing(&self) -> Terms
+        ensures window { (c : Settings) (x : Channel) → FitsCircuit c self.now x → result.window ≡ (outgoing x).window }
+        ensures size { (c : Settings) (x : Channel) → FitsCircuit c self.now x → result.size ≡ (outgoing x).size }
+    {
+        if self.calls {
+            self.flow.calling()
+        } else {
+            self.flow.called()
+        }
+    }
+
+    /// Of the data packets that this end takes.
+    pub(crate) fn incoming(&self) -> Terms
+        ensures window { (c : Settings) (x : Channel) → FitsCircuit c self.now x → result.window ≡ (incoming x).window }
+        ensures size { (c : Settings) (x : Channel) → FitsCircuit c self.now x → result.size ≡ (incoming x).size }
+    {
+        if self.calls {
+            self.flow.called()
+        } else {
+            self.flow.calling()
+        }
     }
 
     /// Whether it is in p1.
@@ -123,13 +157,35 @@ impl Circuit {
         Ok(())
     }
 
-    /// Goes to this state, in which nothing is kept.
-    pub(crate) fn enter(&mut self, state: State)
-        ensures fits { (c : Settings) (x : Channel) → FitsCircuit c self.old x → FitsCircuit c self.new (record { state = state; clears = x.clears; resets = x.resets; talk = silent }) }
-        ensures kept { self.new ≡ record self.old { state = state; transfer = self.new.transfer } }
+    /// Goes to this state, with these packet sizes and windows, and nothing kept.
+    pub(crate) fn enter(&mut self, state: State, flow: FlowControl, calls: bool)
+        ensures fits { (c : Settings) (x : Channel) → FitsCircuit c self.old x → FitsCircuit c self.new (entered x state flow.params calls) }
+        ensures kept { self.new ≡ record self.old { state = state; flow = flow; calls = calls; transfer = self.new.transfer } }
         ensures room { room_of self.old ≤ room_of self.new }
     {
         self.state = state;
+        self.flow = flow;
+        self.calls = calls;
         self.transfer.clear();
+    }
+
+    /// Goes to this state, in which there is no call.
+    pub(crate) fn end_call(&mut self, state: State)
+        ensures fits { (c : Settings) (x : Channel) → FitsCircuit c self.old x → FitsCircuit c self.new (entered x state default_params false) }
+        ensures role { self.new.role ≡ self.old.role }
+        ensures clears { clears_of self.new ≡ clears_of self.old }
+        ensures room { room_of self.old ≤ room_of self.new }
+    {
+        self.enter(state, FlowControl::usual(), false);
+    }
+
+    /// Goes to this state, in which the call goes on with nothing kept.
+    pub(crate) fn begin_stretch(&mut self, state: State)
+        ensures fits { (c : Settings) (x : Channel) → FitsCircuit c self.old x → FitsCircuit c self.new (entered x state x.params x.calls) }
+        ensures role { self.new.role ≡ self.old.role }
+        ensures resets { resets_of self.new ≡ resets_of self.old }
+        ensures room { room_of self.old ≤ room_of self.new }
+    {
+        self.enter(state, self.flow, self.calls);
     }
 }

@@ -66,7 +66,7 @@ impl Circuit {
         ensures range { IsSendable (plain_owed result.packet) }
         ensures room { room_of self.old ≤ room_of self.new }
     {
-        self.enter(State::Clearing);
+        self.end_call(State::Clearing);
         Reply::both(
             Packet::Clear {
                 channel: 1,
@@ -84,7 +84,7 @@ impl Circuit {
         ensures range { IsSendable (plain_owed result.packet) }
         ensures room { room_of self.old ≤ room_of self.new }
     {
-        self.enter(State::Resetting);
+        self.begin_stretch(State::Resetting);
         Reply::both(
             Packet::Reset {
                 channel: 1,
@@ -111,7 +111,7 @@ impl Circuit {
         ensures fits { (c : Settings) (x : Channel) → FitsCircuit c self.old x → FitsCircuit c self.new (clears_to x None []).next }
         ensures room { room_of self.old ≤ room_of self.new }
     {
-        self.enter(State::Free);
+        self.end_call(State::Free);
         self.clears += 1;
         self.resets = 0;
     }
@@ -122,7 +122,7 @@ impl Circuit {
         ensures fits { (c : Settings) (x : Channel) → FitsCircuit c self.old x → FitsCircuit c self.new (resets_to x None []).next }
         ensures room { room_of self.old ≤ room_of self.new }
     {
-        self.enter(State::Open);
+        self.begin_stretch(State::Open);
         self.resets += 1;
     }
 

@@ -3,6 +3,7 @@ ghost use Rattle.x25_packet.specs.PlainPacket.{plain};
 ghost use Rattle.x25_packet.specs.Spelling.{IsInRange};
 
 use crate::message::Message;
+use crate::params::Params;
 use x25_packet::{Digits, Packet};
 
 /// What a packet brought the user. Addresses and user data are borrowed from the packet; a message is handed over whole.
@@ -13,9 +14,13 @@ pub enum Notice<'a> {
         called: Digits<'a>,
         calling: Digits<'a>,
         user: &'a [u8],
+        /// The packet sizes and windows that it proposes.
+        params: Params,
     },
-    /// The other end accepted the call.
-    Connected,
+    /// The other end accepted the call, with these packet sizes and windows.
+    Connected {
+        params: Params,
+    },
     /// The other end cleared the call.
     Cleared {
         cause: u8,

@@ -61,7 +61,10 @@ impl Circuit {
         ensures room { room_of self.old ≤ room_of self.new }
     {
         match self.state {
-            State::Open => self.transfer.advance(self.outgoing),
+            State::Open => {
+                let terms = self.outgoing();
+                self.transfer.advance(terms)
+            }
             _ => None,
         }
     }

@@ -1,21 +1,22 @@
 //! CALL and CALL ACCEPTED. ITU-T X.25 (10/96), sections 4.1.2 to 4.1.6.
-ghost use Rattle.std.specs.Prelude.{◌≡◌, [], ◌∷◌, None};
-ghost use Rattle.x25_circuit.specs.declared.state.State.TheVariants.{Open};
+ghost use Rattle.std.specs.Prelude.{◌≡◌};
 ghost use Rattle.x25_circuit.specs.Circuit.{Settings};
 ghost use Rattle.x25_circuit.specs.Circuit.{Circuit as Channel};
-ghost use Rattle.x25_circuit.specs.Notices.{connected, incoming};
+ghost use Rattle.x25_circuit.specs.Notices.{incoming};
+ghost use Rattle.x25_circuit.specs.Params.{said_in};
 ghost use Rattle.x25_circuit.specs.Replies.{Says, IsSendable, plain_owed, plain_notice};
-ghost use Rattle.x25_circuit.specs.Table.{collides, goes, row_call, row_accept, unless_facilities};
+ghost use Rattle.x25_circuit.specs.Table.{collides, connects, request_in, row_call, row_accept};
 ghost use Rattle.x25_circuit.specs.FitsCircuit.{FitsCircuit};
 
 use crate::circuit::Circuit;
 use crate::notice::{Notice, Reply};
+use crate::params::{FlowControl, Params};
 use crate::state::State;
 use x25_bits::Role;
 use x25_packet::Digits;
 
-/// Invalid facility request, and the diagnostic for a facility that isn't allowed (profile).
-const FACILITIES: (u8, u8) = (3, 65);
+/// The cause invalid facility request, and the diagnostic for an answer that isn't allowed (profile).
+const NOT_ALLOWED: (u8, u8) = (3, 66);
 
 impl Circuit {
     pub(crate) fn hear_call<'a>(
@@ -25,51 +26,48 @@ impl Circuit {
         facilities: &[u8],
         user: &'a [u8],
     ) -> Reply<'a>
-        ensures next { (c : Settings) (x : Channel) → FitsCircuit c self.old x → FitsCircuit c self.new (row_call c x self.old.state (record { called = called.now; calling = calling.now; user = user.now }) facilities.now).next }
-        ensures says { (c : Settings) (x : Channel) → FitsCircuit c self.old x → Says result (row_call c x self.old.state (record { called = called.now; calling = calling.now; user = user.now }) facilities.now).owed (row_call c x self.old.state (record { called = called.now; calling = calling.now; user = user.now }) facilities.now).notices }
+        ensures next { (c : Settings) (x : Channel) → FitsCircuit c self.old x → FitsCircuit c self.new (row_call c x self.old.state (request_in called.now calling.now facilities.now user.now)).next }
+        ensures says { (c : Settings) (x : Channel) → FitsCircuit c self.old x → Says result (row_call c x self.old.state (request_in called.now calling.now facilities.now user.now)).owed (row_call c x self.old.state (request_in called.now calling.now facilities.now user.now)).notices }
         ensures range { IsSendable (plain_owed result.packet) }
     {
         match self.state {
             State::Free => {
-                if !facilities.is_empty() {
-                    return self.clear_for(FACILITIES.0, FACILITIES.1);
-                }
-                self.enter(State::Arriving);
-                Reply::tells(incoming(called, calling, user))
+                let flow = FlowControl::usual().said(facilities);
+                self.enter(State::Arriving, flow, false);
+                Reply::tells(incoming(called, calling, user, flow.params))
             }
             State::Calling => {
-                if !facilities.is_empty() {
-                    return self.clear_for(FACILITIES.0, FACILITIES.1);
-                }
-                self.collide(called, calling, user)
+                let flow = FlowControl::usual().said(facilities);
+                self.collide(called, calling, user, flow)
             }
             State::Clearing => Reply::nothing(),
             _ => self.unexpected(),
         }
     }
 
-    // A call of each end: the DTE waits for the DCE's answer, and the DCE gives its own call up.
+    // A call of each end: the DTE waits for the DCE's answer to what it proposed, and the DCE gives its own call up.
     fn collide<'a>(
         &mut self,
         called: &Digits<'a>,
         calling: &Digits<'a>,
         user: &'a [u8],
+        flow: FlowControl,
     ) -> Reply<'a>
-        ensures next { (c : Settings) (x : Channel) → FitsCircuit c self.old x → FitsCircuit c self.new (collides c.role x (record { called = called.now; calling = calling.now; user = user.now })).next }
-        ensures says { (c : Settings) (x : Channel) → FitsCircuit c self.old x → Says result (collides c.role x (record { called = called.now; calling = calling.now; user = user.now })).owed (collides c.role x (record { called = called.now; calling = calling.now; user = user.now })).notices }
+        ensures next { (c : Settings) (x : Channel) → FitsCircuit c self.old x → FitsCircuit c self.new (collides c.role x (record { called = called.now; calling = calling.now; user = user.now; params = flow.params })).next }
+        ensures says { (c : Settings) (x : Channel) → FitsCircuit c self.old x → Says result (collides c.role x (record { called = called.now; calling = calling.now; user = user.now; params = flow.params })).owed (collides c.role x (record { called = called.now; calling = calling.now; user = user.now; params = flow.params })).notices }
         ensures range { IsSendable (plain_owed result.packet) }
     {
         match self.role {
             Role::Dte => {
-                self.enter(State::Collision);
+                self.enter(State::Collision, self.flow, true);
                 Reply::nothing()
             }
             Role::Dce => {
-                self.enter(State::Arriving);
+                self.enter(State::Arriving, flow, false);
                 Reply {
                     packet: None,
                     collided: true,
-                    notice: Some(incoming(called, calling, user)),
+                    notice: Some(incoming(called, calling, user, flow.params)),
                 }
             }
         }
@@ -91,25 +89,34 @@ impl Circuit {
 impl Circuit {
     // The other end accepted the call.
     fn connect<'a>(&mut self, facilities: &[u8]) -> Reply<'a>
-        ensures next { (c : Settings) (x : Channel) → FitsCircuit c self.old x → FitsCircuit c self.new (unless_facilities c x facilities.now (goes x Open None (connected ∷ []))).next }
+        ensures next { (c : Settings) (x : Channel) → FitsCircuit c self.old x → FitsCircuit c self.new (connects c x (said_in x.params facilities.now)).next }
         ensures says { (c : Settings) (x : Channel) → FitsCircuit c self.old x →
-            Says result (unless_facilities c x facilities.now (goes x Open None (connected ∷ []))).owed (unless_facilities c x facilities.now (goes x Open None (connected ∷ []))).notices }
+            Says result (connects c x (said_in x.params facilities.now)).owed (connects c x (said_in x.params facilities.now)).notices }
         ensures range { IsSendable (plain_owed result.packet) }
     {
-        if !facilities.is_empty() {
-            return self.clear_for(FACILITIES.0, FACILITIES.1);
-        }
-        self.enter(State::Open);
-        Reply::tells(Notice::Connected)
+        let answer = self.flow.said(facilities).params;
+        let Some(flow) = self.flow.answered(answer) else {
+            return self.clear_for(NOT_ALLOWED.0, NOT_ALLOWED.1);
+        };
+        self.enter(State::Open, flow, true);
+        Reply::tells(Notice::Connected {
+            params: flow.params,
+        })
     }
 }
 
-fn incoming<'a>(called: &Digits<'a>, calling: &Digits<'a>, user: &'a [u8]) -> Notice<'a>
-    ensures { plain_notice result ≡ incoming (record { called = called.now; calling = calling.now; user = user.now }) }
+fn incoming<'a>(
+    called: &Digits<'a>,
+    calling: &Digits<'a>,
+    user: &'a [u8],
+    params: Params,
+) -> Notice<'a>
+    ensures { plain_notice result ≡ incoming (record { called = called.now; calling = calling.now; user = user.now; params = params }) }
 {
     Notice::Incoming {
         called: called.again(),
         calling: calling.again(),
         user,
+        params,
     }
 }

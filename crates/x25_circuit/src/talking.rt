@@ -91,7 +91,7 @@ impl Circuit {
     {
         match self.state {
             State::Open => {
-                self.enter(State::Resetting);
+                self.begin_stretch(State::Resetting);
                 Ok(Packet::Reset {
                     channel: 1,
                     cause: 0,

@@ -1,4 +1,4 @@
-ghost use Rattle.std.specs.Prelude.{◌≡◌, ◌≤◌};
+ghost use Rattle.std.specs.Prelude.{◌≡◌, ◌^◌, ◌≤◌};
 
 /// Of one direction: the window, and the most octets of user data in a data packet. ITU-T X.25 (10/96), sections 4.3.2 and
 /// 4.4.1.2.
@@ -13,14 +13,18 @@ pub struct Terms {
 }
 
 impl Terms {
-    /// What is used where nothing is negotiated.
-    pub fn usual() -> Terms
-        ensures window { result.window ≡ 2 }
-        ensures size { result.size ≡ 128 }
+    /// Of this window, and of packets of 2 to the power `code` octets.
+    pub fn of(window: u8, code: u8) -> Terms
+        requires window_least { 1 ≤ window }
+        requires window_most { window ≤ 7 }
+        requires code_least { 4 ≤ code }
+        requires code_most { code ≤ 12 }
+        ensures window { result.window ≡ window }
+        ensures size { result.size ≡ 2 ^ code }
     {
         Terms {
-            window: 2,
-            size: 128,
+            window,
+            size: 1 << code,
         }
     }
 }

@@ -77,7 +77,7 @@ impl Transfer {
 
     /// Drops everything. Memory that was set aside is kept.
     pub fn clear(&mut self)
-        ensures fits { (size : ℕ) (t : Talk) → FitsTalk size self.old t → FitsTalk size self.new silent }
+        ensures fits { (size other : ℕ) (t : Talk) → FitsTalk size self.old t → FitsTalk other self.new silent }
         ensures room { self.old.partial.room ≤ self.new.partial.room }
     {
         self.sender.clear();

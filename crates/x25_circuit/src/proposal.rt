@@ -1,0 +1,68 @@
+//! What a facility field says of packet sizes and windows. ITU-T X.25 (10/96), sections 6.12 and 7.2.2.1.
+ghost use Rattle.std.specs.Prelude.{◌≡◌};
+ghost use Rattle.x25_circuit.specs.Params.{field_for};
+
+use crate::params::Params;
+use std::marker::Model;
+
+const PACKET_SIZE: u8 = 0x42;
+
+const WINDOW_SIZE: u8 = 0x43;
+
+/// Packet sizes and windows that a CALL proposes or an ACCEPT answers, with the octets that say them, which a packet borrows.
+#[derive(Debug, Drop)]
+pub struct Proposal {
+    params: Params,
+    /// The packet sizes, three octets, and the windows, three octets.
+    field: [u8; 6],
+}
+
+impl Model for Proposal {
+    ghost use Rattle.std.specs.Prelude.{◌≡◌, [], ◌∷◌};
+    ghost use Rattle.x25_circuit.specs.declared.params.Params.{Params};
+
+    ghost Value = { Params };
+
+    ghost view = { λ p. p.params };
+
+    ghost invariant = { λ p. p.field ≡ 66 ∷ p.params.size_called ∷ p.params.size_calling ∷ 67 ∷ p.params.win_called ∷ p.params.win_calling ∷ [] };
+}
+
+impl Proposal {
+    /// These values, whatever they are.
+    pub fn new(params: Params) -> Proposal
+        ensures { result ≡ params }
+    {
+        Proposal {
+            params,
+            field: [
+                PACKET_SIZE,
+                params.size_called,
+                params.size_calling,
+                WINDOW_SIZE,
+                params.win_called,
+                params.win_calling,
+            ],
+        }
+    }
+
+    pub fn params(&self) -> Params
+        ensures { result ≡ self.now }
+    {
+        self.params
+    }
+
+    /// The facility field that says them to an end that knows these.
+    pub(crate) fn field_for(&self, known: Params) -> &[u8]
+        ensures { result.now ≡ field_for known self.now }
+    {
+        let sizes = self.params.sizes() != known.sizes();
+        let windows = self.params.windows() != known.windows();
+        match (sizes, windows) {
+            (true, true) => &self.field,
+            (true, false) => &self.field[..3],
+            (false, true) => &self.field[3..],
+            (false, false) => &[],
+        }
+    }
+}
