@@ -1,15 +1,17 @@
 -- Rows of the table at a DCE, made by running another implementation of it, on the definition.
 use Rattle.std.proofs.Common.{◌≡◌, [], ◌∷◌, Some, None, true, false, refl}
 use Rattle.x25_packet.specs.declared.error.PacketError.TheVariants.{TooShort, BadFormat, Unidentified, TooLong, BadDigit, BadFacility, BadParameter}
+use Rattle.x25_packet.specs.Facilities.{facilities_of}
 use Rattle.x25_packet.specs.PlainPacket.{call, accept, clear, clear_conf, user_data, rr, rnr, interrupt, interrupt_conf, reset, reset_conf}
 use Rattle.x25_circuit.specs.declared.state.State.TheVariants.{Free, Calling, Arriving, Open, Resetting, Clearing}
+use Rattle.x25_circuit.specs.Params.{default_params}
 use Rattle.x25_circuit.specs.Messages.{More, Last}
 use Rattle.x25_circuit.specs.Notices.{incoming, connected, collided, cleared, clear_done, was_reset, reset_done, delivered, interrupted, interrupt_done, fault}
 use Rattle.x25_circuit.specs.Table.{answers, undecoded}
-use Rattle.x25_circuit.proofs.RowStates.{dce, still, opened, talk, gives, zeros}
+use Rattle.x25_circuit.proofs.RowStates.{dce, dialled, still, opened, talk, gives, zeros}
 
 dce_p1_packets :
-    (answers dce (still Free 0 0) (call 1 (1 ∷ []) (2 ∷ []) [] (7 ∷ [])) ≡ gives (still Arriving 0 0) None (incoming (record { called = (1 ∷ []); calling = (2 ∷ []); user = (7 ∷ []) }) ∷ []))
+    (answers dce (still Free 0 0) (call 1 (1 ∷ []) (2 ∷ []) [] (7 ∷ [])) ≡ gives (still Arriving 0 0) None (incoming (record { called = (1 ∷ []); calling = (2 ∷ []); user = (7 ∷ []); params = default_params }) ∷ []))
     × (answers dce (still Free 0 0) (accept 1 []) ≡ gives (still Clearing 0 0) (Some (clear 1 19 20)) (fault 20 ∷ []))
     × (answers dce (still Free 0 0) (clear 1 5 6) ≡ gives (still Free 1 0) (Some (clear_conf 1)) [])
     × (answers dce (still Free 0 0) (clear_conf 1) ≡ gives (still Clearing 0 0) (Some (clear 1 19 20)) (fault 20 ∷ []))
@@ -34,11 +36,12 @@ dce_p1_packets :
     × (undecoded dce (still Free 0 0) BadDigit ≡ gives (still Clearing 0 0) (Some (clear 1 19 0)) (fault 0 ∷ []))
     × (undecoded dce (still Free 0 0) BadFacility ≡ gives (still Clearing 0 0) (Some (clear 1 3 65)) (fault 65 ∷ []))
     × (undecoded dce (still Free 0 0) BadParameter ≡ gives (still Clearing 0 0) (Some (clear 1 3 66)) (fault 66 ∷ []))
+unfolding facilities_of
 dce_p1_packets = (refl, refl, refl, refl, refl, refl, refl, refl, refl, refl, refl, refl, refl, refl, refl, refl, refl, refl, refl, refl, refl, refl, refl, refl, refl)
 
 dce_calling_packets :
-    (answers dce (still Calling 0 0) (call 1 (1 ∷ []) (2 ∷ []) [] (7 ∷ [])) ≡ gives (still Arriving 0 0) None (collided ∷ incoming (record { called = (1 ∷ []); calling = (2 ∷ []); user = (7 ∷ []) }) ∷ []))
-    × (answers dce (still Calling 0 0) (accept 1 []) ≡ gives (still Open 0 0) None (connected ∷ []))
+    (answers dce (still Calling 0 0) (call 1 (1 ∷ []) (2 ∷ []) [] (7 ∷ [])) ≡ gives (still Arriving 0 0) None (collided ∷ incoming (record { called = (1 ∷ []); calling = (2 ∷ []); user = (7 ∷ []); params = default_params }) ∷ []))
+    × (answers dce (still Calling 0 0) (accept 1 []) ≡ gives (dialled Open 0 0) None (connected default_params ∷ []))
     × (answers dce (still Calling 0 0) (clear 1 5 6) ≡ gives (still Free 1 0) (Some (clear_conf 1)) (cleared 5 6 ∷ []))
     × (answers dce (still Calling 0 0) (clear_conf 1) ≡ gives (still Clearing 0 0) (Some (clear 1 19 22)) (fault 22 ∷ []))
     × (answers dce (still Calling 0 0) (reset 1 7 8) ≡ gives (still Clearing 0 0) (Some (clear 1 19 22)) (fault 22 ∷ []))
@@ -62,6 +65,7 @@ dce_calling_packets :
     × (undecoded dce (still Calling 0 0) BadDigit ≡ gives (still Clearing 0 0) (Some (clear 1 19 0)) (fault 0 ∷ []))
     × (undecoded dce (still Calling 0 0) BadFacility ≡ gives (still Clearing 0 0) (Some (clear 1 3 65)) (fault 65 ∷ []))
     × (undecoded dce (still Calling 0 0) BadParameter ≡ gives (still Clearing 0 0) (Some (clear 1 3 66)) (fault 66 ∷ []))
+unfolding facilities_of
 dce_calling_packets = (refl, refl, refl, refl, refl, refl, refl, refl, refl, refl, refl, refl, refl, refl, refl, refl, refl, refl, refl, refl, refl, refl, refl, refl, refl)
 
 dce_arriving_packets :

@@ -1,15 +1,17 @@
 -- Rows of the table at a DTE, made by running another implementation of it, on the definition.
 use Rattle.std.proofs.Common.{◌≡◌, [], ◌∷◌, Some, None, true, false, refl}
 use Rattle.x25_packet.specs.declared.error.PacketError.TheVariants.{TooShort, BadFormat, Unidentified, TooLong, BadDigit, BadFacility, BadParameter}
+use Rattle.x25_packet.specs.Facilities.{facilities_of}
 use Rattle.x25_packet.specs.PlainPacket.{call, accept, clear, clear_conf, user_data, rr, rnr, interrupt, interrupt_conf, reset, reset_conf}
 use Rattle.x25_circuit.specs.declared.state.State.TheVariants.{Free, Calling, Arriving, Collision, Open, Resetting, Clearing}
+use Rattle.x25_circuit.specs.Params.{default_params}
 use Rattle.x25_circuit.specs.Messages.{More, Last}
 use Rattle.x25_circuit.specs.Notices.{incoming, connected, cleared, clear_done, was_reset, reset_done, delivered, interrupted, interrupt_done, fault}
 use Rattle.x25_circuit.specs.Table.{answers, undecoded}
-use Rattle.x25_circuit.proofs.RowStates.{dte, still, opened, talk, gives, zeros}
+use Rattle.x25_circuit.proofs.RowStates.{dte, dialled, still, opened, talk, gives, zeros}
 
 dte_p1_packets :
-    (answers dte (still Free 0 0) (call 1 (1 ∷ []) (2 ∷ []) [] (7 ∷ [])) ≡ gives (still Arriving 0 0) None (incoming (record { called = (1 ∷ []); calling = (2 ∷ []); user = (7 ∷ []) }) ∷ []))
+    (answers dte (still Free 0 0) (call 1 (1 ∷ []) (2 ∷ []) [] (7 ∷ [])) ≡ gives (still Arriving 0 0) None (incoming (record { called = (1 ∷ []); calling = (2 ∷ []); user = (7 ∷ []); params = default_params }) ∷ []))
     × (answers dte (still Free 0 0) (accept 1 []) ≡ gives (still Clearing 0 0) (Some (clear 1 128 20)) (fault 20 ∷ []))
     × (answers dte (still Free 0 0) (clear 1 5 6) ≡ gives (still Free 1 0) (Some (clear_conf 1)) [])
     × (answers dte (still Free 0 0) (clear_conf 1) ≡ gives (still Clearing 0 0) (Some (clear 1 128 20)) (fault 20 ∷ []))
@@ -34,11 +36,12 @@ dte_p1_packets :
     × (undecoded dte (still Free 0 0) BadDigit ≡ gives (still Clearing 0 0) (Some (clear 1 128 0)) (fault 0 ∷ []))
     × (undecoded dte (still Free 0 0) BadFacility ≡ gives (still Clearing 0 0) (Some (clear 1 128 65)) (fault 65 ∷ []))
     × (undecoded dte (still Free 0 0) BadParameter ≡ gives (still Clearing 0 0) (Some (clear 1 128 66)) (fault 66 ∷ []))
+unfolding facilities_of
 dte_p1_packets = (refl, refl, refl, refl, refl, refl, refl, refl, refl, refl, refl, refl, refl, refl, refl, refl, refl, refl, refl, refl, refl, refl, refl, refl, refl)
 
 dte_calling_packets :
     (answers dte (still Calling 0 0) (call 1 (1 ∷ []) (2 ∷ []) [] (7 ∷ [])) ≡ gives (still Collision 0 0) None [])
-    × (answers dte (still Calling 0 0) (accept 1 []) ≡ gives (still Open 0 0) None (connected ∷ []))
+    × (answers dte (still Calling 0 0) (accept 1 []) ≡ gives (dialled Open 0 0) None (connected default_params ∷ []))
     × (answers dte (still Calling 0 0) (clear 1 5 6) ≡ gives (still Free 1 0) (Some (clear_conf 1)) (cleared 5 6 ∷ []))
     × (answers dte (still Calling 0 0) (clear_conf 1) ≡ gives (still Clearing 0 0) (Some (clear 1 128 21)) (fault 21 ∷ []))
     × (answers dte (still Calling 0 0) (reset 1 7 8) ≡ gives (still Clearing 0 0) (Some (clear 1 128 21)) (fault 21 ∷ []))
@@ -62,6 +65,7 @@ dte_calling_packets :
     × (undecoded dte (still Calling 0 0) BadDigit ≡ gives (still Clearing 0 0) (Some (clear 1 128 0)) (fault 0 ∷ []))
     × (undecoded dte (still Calling 0 0) BadFacility ≡ gives (still Clearing 0 0) (Some (clear 1 128 65)) (fault 65 ∷ []))
     × (undecoded dte (still Calling 0 0) BadParameter ≡ gives (still Clearing 0 0) (Some (clear 1 128 66)) (fault 66 ∷ []))
+unfolding facilities_of
 dte_calling_packets = (refl, refl, refl, refl, refl, refl, refl, refl, refl, refl, refl, refl, refl, refl, refl, refl, refl, refl, refl, refl, refl, refl, refl, refl, refl)
 
 dte_arriving_packets :
@@ -122,7 +126,7 @@ dte_open_packets = (refl, refl, refl, refl, refl, refl, refl, refl, refl, refl, 
 
 dte_collision_packets :
     (answers dte (still Collision 0 0) (call 1 (1 ∷ []) (2 ∷ []) [] (7 ∷ [])) ≡ gives (still Clearing 0 0) (Some (clear 1 128 24)) (fault 24 ∷ []))
-    × (answers dte (still Collision 0 0) (accept 1 []) ≡ gives (still Open 0 0) None (connected ∷ []))
+    × (answers dte (still Collision 0 0) (accept 1 []) ≡ gives (dialled Open 0 0) None (connected default_params ∷ []))
     × (answers dte (still Collision 0 0) (clear 1 5 6) ≡ gives (still Free 1 0) (Some (clear_conf 1)) (cleared 5 6 ∷ []))
     × (answers dte (still Collision 0 0) (clear_conf 1) ≡ gives (still Clearing 0 0) (Some (clear 1 128 24)) (fault 24 ∷ []))
     × (answers dte (still Collision 0 0) (reset 1 7 8) ≡ gives (still Clearing 0 0) (Some (clear 1 128 24)) (fault 24 ∷ []))
@@ -146,6 +150,7 @@ dte_collision_packets :
     × (undecoded dte (still Collision 0 0) BadDigit ≡ gives (still Clearing 0 0) (Some (clear 1 128 0)) (fault 0 ∷ []))
     × (undecoded dte (still Collision 0 0) BadFacility ≡ gives (still Clearing 0 0) (Some (clear 1 128 65)) (fault 65 ∷ []))
     × (undecoded dte (still Collision 0 0) BadParameter ≡ gives (still Clearing 0 0) (Some (clear 1 128 66)) (fault 66 ∷ []))
+unfolding facilities_of
 dte_collision_packets = (refl, refl, refl, refl, refl, refl, refl, refl, refl, refl, refl, refl, refl, refl, refl, refl, refl, refl, refl, refl, refl, refl, refl, refl, refl)
 
 dte_resetting_packets :

@@ -2,7 +2,9 @@ mod RowStates
 mod DteRows
 mod DceRows
 mod CallRows
+pub mod ParamsLemmas
 pub mod MessageLemmas
+pub mod AskLemmas
 pub mod RowLemmas
 pub mod TalkLemmas
 pub mod PullLemmas

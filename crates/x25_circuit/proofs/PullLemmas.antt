@@ -4,10 +4,11 @@ use Rattle.x25_packet.specs.PlainPacket.{user_data}
 use Rattle.x25_circuit.specs.declared.circuit.Circuit as code
 use Rattle.x25_circuit.specs.declared.state.State.{State}
 use Rattle.x25_circuit.specs.declared.state.State.TheVariants.{Free, Calling, Arriving, Collision, Open, Resetting, Clearing}
+use Rattle.x25_circuit.specs.declared.terms.Terms.{Terms}
 use Rattle.x25_circuit.specs.declared.transfer.Transfer.{Transfer}
 use Rattle.x25_circuit.specs.declared.transfer.Header.{Header}
 use Rattle.x25_circuit.specs.Messages.{Piece, piece_of}
-use Rattle.x25_circuit.specs.Circuit.{Settings, Circuit}
+use Rattle.x25_circuit.specs.Circuit.{Settings, Circuit, outgoing}
 use Rattle.x25_circuit.specs.Changes.{with_sent}
 use Rattle.x25_circuit.specs.Calls.{Pulled, pulled, pull_in, pull_open, pulls_nothing, data_packet}
 use Rattle.x25_circuit.specs.Fits.{FitsTalk, IsHeld, IsSent}
@@ -35,16 +36,16 @@ sent_on x piece others = record {
 }
 
 pulled_is : (c : Settings) (x : Circuit) (piece : Piece) (others : List Piece) → x.state ≡ Open → x.talk.rest ≡ piece ∷ others
-    → (x.talk.peer_ready && nat_lt (length x.talk.sent) (x.talk.acked + c.outgoing.window)) ≡ true → pulled c x ≡ sent_on x piece others
+    → (x.talk.peer_ready && nat_lt (length x.talk.sent) (x.talk.acked + (outgoing x).window)) ≡ true → pulled c x ≡ sent_on x piece others
 pulled_is c x piece others is_open first allowed =
     ap (λ (s : State). pull_in c x s) is_open ∙ ap (λ (ps : List Piece). pull_open c x x.talk ps) first ∙ rw allowed refl
 
 held_back : (c : Settings) (x : Circuit) (rest : List Piece)
-    → (x.talk.peer_ready && nat_lt (length x.talk.sent) (x.talk.acked + c.outgoing.window)) ≡ false → pull_open c x x.talk rest ≡ pulls_nothing x
+    → (x.talk.peer_ready && nat_lt (length x.talk.sent) (x.talk.acked + (outgoing x).window)) ≡ false → pull_open c x x.talk rest ≡ pulls_nothing x
 held_back c x [] e = refl
 held_back c x (p ∷ ps) e = rw e refl
 
-nothing_is : (c : Settings) (x : Circuit) → x.state ≡ Open → IsHeld c.outgoing.window x.talk → pulled c x ≡ pulls_nothing x
+nothing_is : (c : Settings) (x : Circuit) → x.state ≡ Open → IsHeld (outgoing x).window x.talk → pulled c x ≡ pulls_nothing x
 nothing_is c x is_open (inl e) = ap (λ (s : State). pull_in c x s) is_open ∙ ap (λ (ps : List Piece). pull_open c x x.talk ps) e
 nothing_is c x is_open (inr e) = ap (λ (s : State). pull_in c x s) is_open ∙ held_back c x x.talk.rest e
 
@@ -53,50 +54,52 @@ data_packet_of ps pr q true user = refl
 data_packet_of ps pr q false user = refl
 
 pub pulls_next : (c : Settings) (v : code.Circuit) (x : Circuit) (u : Transfer) (header : Header) → FitsCircuit c v x → x.state ≡ Open
-    → IsSent c.outgoing.window c.outgoing.size x.talk u header → FitsCircuit c (record v { transfer = u }) (pulled c x).next
+    → IsSent (outgoing x).window (outgoing x).size x.talk u header → FitsCircuit c (record v { transfer = u }) (pulled c x).next
 pulls_next c v x u header fits is_open sent =
     let piece = piece_of header.q header.m u.queue.cutter.lent in
     subst (λ (p : Pulled). FitsCircuit c (record v { transfer = u }) p.next) (sym (pulled_is c x piece sent.others is_open sent.first sent.allowed))
     (with_transfer c v x u _ fits sent.fits)
 
 pub pulls_packet : (c : Settings) (x : Circuit) (u : Transfer) (header : Header) → x.state ≡ Open
-    → IsSent c.outgoing.window c.outgoing.size x.talk u header → packet_with (Some header) u.queue.cutter.lent ≡ (pulled c x).packet
+    → IsSent (outgoing x).window (outgoing x).size x.talk u header → packet_with (Some header) u.queue.cutter.lent ≡ (pulled c x).packet
 pulls_packet c x u header is_open sent =
     let piece = piece_of header.q header.m u.queue.cutter.lent in
     let e = pulled_is c x piece sent.others is_open sent.first sent.allowed in
     rw (sent.ps, sent.pr) (ap Some (sym (data_packet_of _ _ header.q header.m u.queue.cutter.lent)) ∙ ap (λ (p : Pulled). p.packet) (sym e))
 
 pub holds_next : (c : Settings) (v : code.Circuit) (x : Circuit) (u : Transfer) → FitsCircuit c v x → x.state ≡ Open
-    → IsHeld c.outgoing.window x.talk → FitsTalk c.outgoing.size u x.talk → FitsCircuit c (record v { transfer = u }) (pulled c x).next
+    → IsHeld (outgoing x).window x.talk → FitsTalk (outgoing x).size u x.talk → FitsCircuit c (record v { transfer = u }) (pulled c x).next
 holds_next c v x u fits is_open held talk =
     subst (λ (p : Pulled). FitsCircuit c (record v { transfer = u }) p.next) (sym (nothing_is c x is_open held)) (with_transfer c v x u x.talk fits talk)
 
-pub holds_packet : (c : Settings) (x : Circuit) → x.state ≡ Open → IsHeld c.outgoing.window x.talk → (pulled c x).packet ≡ None
+pub holds_packet : (c : Settings) (x : Circuit) → x.state ≡ Open → IsHeld (outgoing x).window x.talk → (pulled c x).packet ≡ None
 holds_packet c x is_open held = ap (λ (p : Pulled). p.packet) (nothing_is c x is_open held)
 
 -- ---- by what the transfer sends
 
--- the transfer by the circuit's own terms
-pub own_talk : (c : Settings) (v : code.Circuit) (x : Circuit) → FitsCircuit c v x → FitsTalk v.outgoing.size v.transfer x.talk
-own_talk c v x fits = subst (λ (n : ℕ). FitsTalk n v.transfer x.talk) (sym fits.size_out) fits.talk
+-- the transfer by the terms that the code has
+pub own_talk : (c : Settings) (v : code.Circuit) (x : Circuit) (terms : Terms) → FitsCircuit c v x → terms.size ≡ (outgoing x).size → FitsTalk terms.size v.transfer x.talk
+own_talk c v x terms fits e = subst (λ (n : ℕ). FitsTalk n v.transfer x.talk) (sym e) fits.talk
 
-sent_by_terms : (c : Settings) (v : code.Circuit) (x : Circuit) (u : Transfer) (h : Header) → FitsCircuit c v x
-    → IsSent v.outgoing.window v.outgoing.size x.talk u h → IsSent c.outgoing.window c.outgoing.size x.talk u h
-sent_by_terms c v x u h fits sent =
-    subst (λ (n : ℕ). IsSent c.outgoing.window n x.talk u h) fits.size_out (subst (λ (n : ℕ). IsSent n v.outgoing.size x.talk u h) fits.window_out sent)
+sent_by_terms : (x : Circuit) (terms : Terms) (u : Transfer) (h : Header) → terms.window ≡ (outgoing x).window → terms.size ≡ (outgoing x).size
+    → IsSent terms.window terms.size x.talk u h → IsSent (outgoing x).window (outgoing x).size x.talk u h
+sent_by_terms x terms u h f g sent =
+    subst (λ (n : ℕ). IsSent (outgoing x).window n x.talk u h) g (subst (λ (n : ℕ). IsSent n terms.size x.talk u h) f sent)
 
-pub advances_next : (c : Settings) (v : code.Circuit) (x : Circuit) (u : Transfer) (r : Option Header) → FitsCircuit c v x → v.state ≡ Open
-    → IfSome r (λ h. IsSent v.outgoing.window v.outgoing.size x.talk u h) → IfNone r (FitsTalk v.outgoing.size u x.talk) → IfNone r (IsHeld v.outgoing.window x.talk)
+pub advances_next : (c : Settings) (v : code.Circuit) (x : Circuit) (terms : Terms) (u : Transfer) (r : Option Header) → FitsCircuit c v x → v.state ≡ Open
+    → terms.window ≡ (outgoing x).window → terms.size ≡ (outgoing x).size
+    → IfSome r (λ h. IsSent terms.window terms.size x.talk u h) → IfNone r (FitsTalk terms.size u x.talk) → IfNone r (IsHeld terms.window x.talk)
     → FitsCircuit c (record v { transfer = u }) (pulled c x).next
-advances_next c v x u None fits e some none held =
-    holds_next c v x u fits (sym fits.state ∙ e) (subst (λ (n : ℕ). IsHeld n x.talk) fits.window_out held) (subst (λ (n : ℕ). FitsTalk n u x.talk) fits.size_out none)
-advances_next c v x u (Some h) fits e some none held = pulls_next c v x u h fits (sym fits.state ∙ e) (sent_by_terms c v x u h fits some)
+advances_next c v x terms u None fits e f g some none held =
+    holds_next c v x u fits (sym fits.state ∙ e) (subst (λ (n : ℕ). IsHeld n x.talk) f held) (subst (λ (n : ℕ). FitsTalk n u x.talk) g none)
+advances_next c v x terms u (Some h) fits e f g some none held = pulls_next c v x u h fits (sym fits.state ∙ e) (sent_by_terms x terms u h f g some)
 
-pub advances_packet : (c : Settings) (v : code.Circuit) (x : Circuit) (u : Transfer) (r : Option Header) → FitsCircuit c v x → v.state ≡ Open
-    → IfSome r (λ h. IsSent v.outgoing.window v.outgoing.size x.talk u h) → IfNone r (IsHeld v.outgoing.window x.talk)
+pub advances_packet : (c : Settings) (v : code.Circuit) (x : Circuit) (terms : Terms) (u : Transfer) (r : Option Header) → FitsCircuit c v x → v.state ≡ Open
+    → terms.window ≡ (outgoing x).window → terms.size ≡ (outgoing x).size
+    → IfSome r (λ h. IsSent terms.window terms.size x.talk u h) → IfNone r (IsHeld terms.window x.talk)
     → packet_with r u.queue.cutter.lent ≡ (pulled c x).packet
-advances_packet c v x u None fits e some held = sym (holds_packet c x (sym fits.state ∙ e) (subst (λ (n : ℕ). IsHeld n x.talk) fits.window_out held))
-advances_packet c v x u (Some h) fits e some held = pulls_packet c x u h (sym fits.state ∙ e) (sent_by_terms c v x u h fits some)
+advances_packet c v x terms u None fits e f g some held = sym (holds_packet c x (sym fits.state ∙ e) (subst (λ (n : ℕ). IsHeld n x.talk) f held))
+advances_packet c v x terms u (Some h) fits e f g some held = pulls_packet c x u h (sym fits.state ∙ e) (sent_by_terms x terms u h f g some)
 
 pub closed_at : (c : Settings) (v : code.Circuit) (x : Circuit) → FitsCircuit c v x → v.state ≢ Open → pulled c x ≡ pulls_nothing x
 closed_at c v x fits h = pulls_closed c x x.state (λ e. h (fits.state ∙ e))

@@ -1,26 +1,37 @@
 -- Settings and states of the rows that were made by running another implementation.
-use Rattle.std.proofs.Common.{ℕ, zero, suc, List, [], ◌∷◌, Option, Bool}
+use Rattle.std.proofs.Common.{ℕ, zero, suc, List, [], ◌∷◌, Option, Bool, true, false}
 use Rattle.x25_bits.specs.declared.role.Role.TheVariants.{Dte, Dce}
 use Rattle.x25_packet.specs.PlainPacket.{PlainPacket}
 use Rattle.x25_circuit.specs.declared.state.State.{State}
-use Rattle.x25_circuit.specs.declared.state.State.TheVariants.{Open}
+use Rattle.x25_circuit.specs.declared.state.State.TheVariants.{Calling, Collision, Open}
+use Rattle.x25_circuit.specs.Params.{default_params}
 use Rattle.x25_circuit.specs.Messages.{Piece}
-use Rattle.x25_circuit.specs.Circuit.{Settings, Talk, silent, usual, Circuit}
+use Rattle.x25_circuit.specs.Circuit.{Settings, Talk, silent, Circuit}
 use Rattle.x25_circuit.specs.Notices.{PlainNotice}
 use Rattle.x25_circuit.specs.Table.{Answer}
 
 abbrev pub dte : Settings
-dte = record { role = Dte; outgoing = usual; incoming = usual }
+dte = record { role = Dte }
 
 abbrev pub dce : Settings
-dce = record { role = Dce; outgoing = usual; incoming = usual }
+dce = record { role = Dce }
 
--- a state with nothing sent or taken, and counts of clears and resets
+-- this end called, in a state before the call is accepted
+abbrev pub has_called : State → Bool
+has_called Calling = true
+has_called Collision = true
+has_called state = false
+
+-- nothing sent or taken, the defaults, and counts of clears and resets; an accepted call is one of the other end
 abbrev pub still : State → ℕ → ℕ → Circuit
-still state clears resets = record { state = state; clears = clears; resets = resets; talk = silent }
+still state clears resets = record { state = state; clears = clears; resets = resets; params = default_params; calls = has_called state; talk = silent }
+
+-- an accepted call is one of this end
+abbrev pub dialled : State → ℕ → ℕ → Circuit
+dialled state clears resets = record { state = state; clears = clears; resets = resets; params = default_params; calls = true; talk = silent }
 
 abbrev pub opened : ℕ → ℕ → Talk → Circuit
-opened clears resets talk = record { state = Open; clears = clears; resets = resets; talk = talk }
+opened clears resets talk = record { state = Open; clears = clears; resets = resets; params = default_params; calls = false; talk = talk }
 
 abbrev pub talk : List Piece → List Piece → ℕ → List Piece → Bool → Bool → Bool → Talk
 talk sent taken acked rest int_out peer_ready own_ready =

@@ -11,28 +11,26 @@ use Rattle.x25_circuit.specs.PartialMessage.{ShownPartial}
 use Rattle.x25_circuit.specs.Queue.{waiting}
 use Rattle.x25_circuit.specs.Table.{data_ground, number_ground}
 use Rattle.x25_circuit.proofs.MessageLemmas.{wholes_all}
-use Rattle.x25_circuit.specs.Circuit.{Settings, Talk, Circuit}
+use Rattle.x25_circuit.specs.Circuit.{Settings, Talk, Circuit, outgoing}
 use Rattle.x25_circuit.specs.Changes.{with_interrupt, with_peer, with_own}
 use Rattle.x25_circuit.specs.Fits.{FitsTalk, first_ground}
 use Rattle.x25_circuit.specs.FitsCircuit.{FitsCircuit}
 
-pub with_transfer : (c : Settings) (v : code.Circuit) (x : Circuit) (u : Transfer) (t : Talk) → FitsCircuit c v x → FitsTalk c.outgoing.size u t
+pub with_transfer : (c : Settings) (v : code.Circuit) (x : Circuit) (u : Transfer) (t : Talk) → FitsCircuit c v x → FitsTalk (outgoing x).size u t
     → FitsCircuit c (record v { transfer = u }) (record x { talk = t })
 with_transfer c v x u t fits talk = record {
   role = fits.role;
-  window_out = fits.window_out;
-  size_out = fits.size_out;
-  window_in = fits.window_in;
-  size_in = fits.size_in;
   state = fits.state;
   clears = fits.clears;
   resets = fits.resets;
+  params = fits.params;
+  calls = fits.calls;
   talk = talk;
 }
 
 -- a transfer that was left as it is
 pub same_transfer : (c : Settings) (v : code.Circuit) (x : Circuit) (u : Transfer) → FitsCircuit c v x → u ≡ v.transfer → FitsCircuit c (record v { transfer = u }) x
-same_transfer c v x u fits same = with_transfer c v x u x.talk fits (subst (λ (w : Transfer). FitsTalk c.outgoing.size w x.talk) (sym same) fits.talk)
+same_transfer c v x u fits same = with_transfer c v x u x.talk fits (subst (λ (w : Transfer). FitsTalk (outgoing x).size w x.talk) (sym same) fits.talk)
 
 pub own_fits : (size : ℕ) (v : Transfer) (t : Talk) (b : Bool) → FitsTalk size v t → FitsTalk size (record v { own_ready = b }) (with_own b t)
 own_fits size v t b fits = record { numbers = fits.numbers; taken = fits.taken; rest = fits.rest; part = fits.part; int_out = fits.int_out; peer_ready = fits.peer_ready; own_ready = refl }

@@ -1,8 +1,10 @@
 -- What the user asks, as a value alone, and what the circuit answers.
 use Rattle.std.specs.Prelude.{◌≡◌, Option, Some, None, Result, Ok, Err, IsOkAnd}
+use denote.Ref.{Bor}
 use Rattle.x25_packet.specs.declared.packet.Packet.{Packet}
 use Rattle.x25_circuit.specs.declared.circuit.Circuit as circuit_code
 use Rattle.x25_circuit.specs.declared.error.CircuitError.{CircuitError}
+use Rattle.x25_circuit.specs.declared.params.Params.{Params}
 use Rattle.x25_circuit.specs.declared.request.Request as declared
 use Rattle.x25_circuit.specs.declared.request.Request.TheVariants as code
 use Rattle.x25_circuit.specs.Circuit.{Settings}
@@ -10,10 +12,14 @@ use Rattle.x25_circuit.specs.Calls.{Outcome, Done, Refused, Request, Calls, Acce
 use Rattle.x25_circuit.specs.FitsCircuit.{FitsCircuit}
 use Rattle.x25_circuit.specs.Replies.{plain_owed}
 
+-- where there is one
+abbrev pub plain_answer : Option (Bor Params) → Option Params
+plain_answer None = None
+plain_answer (Some answer) = Some answer.now
+
 abbrev pub plain_request : declared.Request → Request
 plain_request (code.Call called calling user proposal) = Calls called.now calling.now user.now proposal.now
-plain_request (code.Accept None) = Accepts None
-plain_request (code.Accept (Some proposal)) = Accepts (Some proposal.now)
+plain_request (code.Accept answer) = Accepts (plain_answer answer)
 plain_request code.Clear = Clears
 plain_request (code.Send q user) = Sends q user.items
 plain_request (code.Interrupt user) = Interrupts user.now

@@ -1,4 +1,5 @@
 ghost use Rattle.x25_circuit.specs.MessageLaws.{CutCarries, CutIsSound, SendAdds, SendStaysWhole, TakeAdds};
+ghost use Rattle.x25_circuit.specs.ParamsLaws.{FieldIsSaid, NoFieldIsKnown, KnownIsNoField, SaidIsAllowed, ProposalIsAnswer, DefaultIsAnswer, AnswerIsAllowed, TermsAreAllowed};
 
 /// What the packets sent, and behind them those that wait, carry are the messages of `send`, and what the packets taken
 /// carry are the messages told. ITU-T X.25 (10/96), sections 4.3.4 to 4.3.6.
@@ -8,4 +9,17 @@ pub fn messages_are_carried()
     ensures sends { SendAdds }
     ensures whole { SendStaysWhole }
     ensures takes { TakeAdds }
+{}
+
+/// What a facility field says is what the end that reads it understands, and what may be proposed and answered stays within
+/// bounds. ITU-T X.25 (10/96), section 6.12.
+pub fn values_are_agreed()
+    ensures said { FieldIsSaid }
+    ensures no_field { NoFieldIsKnown }
+    ensures known { KnownIsNoField }
+    ensures allowed { SaidIsAllowed }
+    ensures proposal { ProposalIsAnswer }
+    ensures usual { DefaultIsAnswer }
+    ensures answer { AnswerIsAllowed }
+    ensures terms { TermsAreAllowed }
 {}

@@ -25,7 +25,7 @@ mod transfer;
 
 pub use circuit::Circuit;
 pub use error::CircuitError;
-pub use law::messages_are_carried;
+pub use law::{messages_are_carried, values_are_agreed};
 pub use message::Message;
 pub use notice::{Notice, Reply};
 pub use octets::{LONGEST_MESSAGE, Octets};

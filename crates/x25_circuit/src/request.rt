@@ -1,11 +1,12 @@
 //! What the user of a circuit asks for, as one type.
 ghost use Rattle.std.specs.Prelude.{◌≡◌, ◌≤◌, Bool, OnErr, IfOk, Some, None};
 ghost use Rattle.x25_packet.specs.PlainPacket.{plain};
+ghost use Rattle.x25_packet.specs.Spelling.{IsInRange};
 ghost use Rattle.x25_circuit.specs.Circuit.{Settings};
 ghost use Rattle.x25_circuit.specs.Circuit.{Circuit as Channel};
-ghost use Rattle.x25_circuit.specs.Calls.{outcome, call_in, accept_in, clear_in, send_in, interrupt_in, reset_in, ready_in};
-ghost use Rattle.x25_circuit.specs.FitsCircuit.{FitsCircuit, room_of};
-ghost use Rattle.x25_circuit.specs.Requests.{plain_request, refusal_of, with_packet, AnswersRequest, MayPut};
+ghost use Rattle.x25_circuit.specs.Calls.{outcome, Accepts, is_address_text, may_call, call_in, accept_in, accept_with, clear_in, send_in, interrupt_in, reset_in, ready_in};
+ghost use Rattle.x25_circuit.specs.FitsCircuit.{FitsCircuit, Sends, room_of};
+ghost use Rattle.x25_circuit.specs.Requests.{plain_answer, plain_request, refusal_of, with_packet, AnswersRequest, MayPut};
 ghost use Rattle.x25_circuit.specs.Replies.{IsSendable, plain_owed};
 
 use crate::circuit::Circuit;
@@ -56,6 +57,22 @@ fn with_packet<'a>(
     }
 }
 
+fn is_address(text: &str) -> bool
+    ensures { result ≡ is_address_text text.now }
+{
+    Digits::of(text).is_some()
+}
+
+// Whether a call may be made of these.
+fn may_call(called: &str, calling: &str, user: &[u8], params: Params) -> bool
+    ensures { result ≡ may_call called.now calling.now user.now params }
+{
+    is_address(called)
+        && is_address(calling)
+        && user.len() <= CALL_OCTETS
+        && params.may_be_proposed()
+}
+
 impl Circuit {
     /// Does what is asked, as the call of that name. It answers the packet to send, where there is one.
     ///
@@ -74,8 +91,7 @@ impl Circuit {
                 user,
                 proposal,
             } => with_packet(self.call_with(called, calling, user, proposal)),
-            Request::Accept { answer: None } => with_packet(self.accept()),
-            Request::Accept { answer: Some(answer) } => with_packet(self.accept_with(answer)),
+            Request::Accept { answer } => with_packet(self.accept_as(answer)),
             Request::Clear => with_packet(self.clear()),
             Request::Send { q, user } => match self.send(q, user) {
                 Ok(()) => Ok(None),
@@ -85,6 +101,19 @@ impl Circuit {
             Request::Reset => with_packet(self.reset()),
             Request::Ready => with_packet(self.ready()),
             Request::NotReady => with_packet(self.not_ready()),
+        }
+    }
+
+    // Accepts with this answer, where there is one.
+    fn accept_as<'a>(&mut self, answer: Option<&'a Proposal>) -> Result<Packet<'a>, CircuitError>
+        ensures outcome { (c : Settings) (x : Channel) → FitsCircuit c self.old x → Sends c self.new result (outcome c x (Accepts (plain_answer answer.entry))) }
+        ensures range { IfOk result (λ packet. IsInRange 16 (plain packet)) }
+        ensures room { room_of self.old ≤ room_of self.new }
+        ensures unchanged { OnErr result (self.new ≡ self.old) }
+    {
+        match answer {
+            Some(answer) => self.accept_with(answer),
+            None => self.accept(),
         }
     }
 
@@ -99,8 +128,7 @@ impl Circuit {
                 user,
                 proposal,
             } => self.call_refusal(called, calling, user, proposal.params()),
-            Request::Accept { answer: None } => self.accept_refusal(),
-            Request::Accept { answer: Some(answer) } => self.answer_refusal(answer.params()),
+            Request::Accept { answer } => self.accept_refusal(*answer),
             Request::Clear => self.clear_refusal(),
             Request::Send { q, user } => self.send_refusal(*q, user),
             Request::Interrupt { user } => self.interrupt_refusal(user),
@@ -120,33 +148,32 @@ impl Circuit {
         if self.state != State::Free {
             return Some(CircuitError::WrongState);
         }
-        if Digits::of(called).is_none()
-            || Digits::of(calling).is_none()
-            || user.len() > CALL_OCTETS
-            || !params.may_be_proposed()
-        {
+        if !may_call(called, calling, user, params) {
             return Some(CircuitError::BadParameter);
         }
         None
     }
 
-    fn accept_refusal(&self) -> Option<CircuitError>
-        ensures { (c : Settings) (x : Channel) → FitsCircuit c self.now x → result ≡ refusal_of (accept_in x x.state None) }
+    fn accept_refusal(&self, answer: Option<&Proposal>) -> Option<CircuitError>
+        ensures { (c : Settings) (x : Channel) → FitsCircuit c self.now x → result ≡ refusal_of (accept_in x x.state (plain_answer answer.entry)) }
     {
         match self.state {
-            State::Arriving => None,
+            State::Arriving => match answer {
+                Some(answer) => self.answer_refusal(answer.params()),
+                None => None,
+            },
             _ => Some(CircuitError::WrongState),
         }
     }
 
+    // Where a call came.
     fn answer_refusal(&self, answer: Params) -> Option<CircuitError>
-        ensures { (c : Settings) (x : Channel) → FitsCircuit c self.now x → result ≡ refusal_of (accept_in x x.state (Some answer)) }
+        ensures { (c : Settings) (x : Channel) → FitsCircuit c self.now x → result ≡ refusal_of (accept_with x (Some answer)) }
     {
-        match self.state {
-            State::Arriving if answer.may_answer(self.flow.params) => None,
-            State::Arriving => Some(CircuitError::BadParameter),
-            _ => Some(CircuitError::WrongState),
+        if !answer.may_answer(self.flow.params) {
+            return Some(CircuitError::BadParameter);
         }
+        None
     }
 
     fn clear_refusal(&self) -> Option<CircuitError>
@@ -161,16 +188,12 @@ impl Circuit {
     fn send_refusal(&self, q: bool, user: &Vec<u8>) -> Option<CircuitError>
         ensures { (c : Settings) (x : Channel) → FitsCircuit c self.now x → result ≡ refusal_of (send_in c x x.state q user.now.items) }
     {
-        if self.state != State::Open {
-            return Some(CircuitError::WrongState);
+        match self.state {
+            State::Open if user.len() > LONGEST_MESSAGE => Some(CircuitError::TooLong),
+            State::Open if self.waits() == PLACES => Some(CircuitError::Full),
+            State::Open => None,
+            _ => Some(CircuitError::WrongState),
         }
-        if user.len() > LONGEST_MESSAGE {
-            return Some(CircuitError::TooLong);
-        }
-        if self.waits() == PLACES {
-            return Some(CircuitError::Full);
-        }
-        None
     }
 
     fn interrupt_refusal(&self, user: &[u8]) -> Option<CircuitError>

@@ -99,7 +99,9 @@ impl Circuit {
             return self.clear_for(NOT_ALLOWED.0, NOT_ALLOWED.1);
         };
         self.enter(State::Open, flow, true);
-        Reply::tells(Notice::Connected { params: answer })
+        Reply::tells(Notice::Connected {
+            params: flow.params,
+        })
     }
 }
 

@@ -3,6 +3,7 @@ use Rattle.std.proofs.Common.{◌≡◌, ℕ, ◌+◌, ◌≤◌, List, [], ◌�
 use Rattle.x25_packet.specs.PlainPacket.{PlainPacket}
 use Rattle.x25_circuit.specs.declared.message.Message.{Message}
 use Rattle.x25_circuit.specs.Messages.{wholes}
+use Rattle.x25_circuit.specs.Params.{Terms}
 use Rattle.x25_circuit.specs.Circuit.{Circuit, is_open, waits}
 use Rattle.x25_epochs.specs.Handshake.{Side, Live, Left, At, state_of}
 use Rattle.x25_epochs.specs.Stretch.{Stretch}
@@ -15,8 +16,8 @@ use Rattle.x25_layer.specs.Layer.{Layer}
 use Rattle.x25_layer.specs.Transcript.{under, messages_in, interrupts_in, name_of}
 use Rattle.x25_layer.specs.World.{End}
 use Rattle.x25_layer.specs.Law.{HasAllOf, IsIdleTo}
-use Rattle.x25_layer.proofs.Sees.{view}
-use Rattle.x25_layer.proofs.LayerSees.{view_at}
+use Rattle.x25_layer.proofs.Sees.{Agreed, view}
+use Rattle.x25_layer.proofs.LayerSees.{ShowsAt}
 use Rattle.x25_layer.proofs.StepLemmas.{name_eq}
 use Rattle.x25_layer.proofs.WorldLemmas.{SeesEnd}
 
@@ -31,32 +32,32 @@ none_in_flight given taken out acked order all low =
     no_length out (let e : length out ≡ 0 = omega (arith, l, all, low) in e)
 
 -- the stretch that is open on a channel of a circuit
-record OpenCircuit (x : At Connection) : Type 0 where
+record OpenCircuit (a : Agreed) (x : At Connection) : Type 0 where
   stretch : Stretch
   opened : open_call x.side ≡ Some stretch
-  no_more : waits (view x) ≡ wholes stretch.rest
+  no_more : waits (view a x) ≡ wholes stretch.rest
   messages_held : held_in (λ y. y.down) (λ y. y.up) (state_of x.side).phase ≡ record { down = stretch.down; up = stretch.up }
   interrupts_held : held_in (λ y. y.int_down) (λ y. y.int_up) (state_of x.side).phase ≡ record { down = stretch.int_down; up = stretch.int_up }
 
 false_true : false ≡ true → ⊥
 false_true e = cc
 
-open_circuit : (x : At Connection) → is_open (view x) ≡ true → OpenCircuit x
-open_circuit x is = side x.epoch x.side is
+open_circuit : (a : Agreed) (x : At Connection) → is_open (view a x) ≡ true → OpenCircuit a x
+open_circuit a x is = side x.epoch x.side is
   where
-    transfer : (e : ℕ) (c : Connection) (s : ℕ) (z : Side Stretch) → let y : At Connection = record { epoch = e; side = Live (record { phase = Talking (record { epoch = s; side = z }); made = c.made; indicated = c.indicated }) } in
-        is_open (view y) ≡ true → OpenCircuit y
-    transfer e c s (Live x) opened = record { stretch = x; opened = refl; no_more = refl; messages_held = refl; interrupts_held = refl }
-    transfer e c s (Left x) opened = absurd (false_true opened)
+    transfer : (e : ℕ) (c : Connection) (t b : Terms) (s : ℕ) (z : Side Stretch) → let y : At Connection = record { epoch = e; side = Live (record { phase = Talking t b (record { epoch = s; side = z }); made = c.made; indicated = c.indicated }) } in
+        is_open (view a y) ≡ true → OpenCircuit a y
+    transfer e c t b s (Live x) opened = record { stretch = x; opened = refl; no_more = refl; messages_held = refl; interrupts_held = refl }
+    transfer e c t b s (Left x) opened = absurd (false_true opened)
 
-    phase : (e : ℕ) (c : Connection) (a : Phase) → let y : At Connection = record { epoch = e; side = Live (record { phase = a; made = c.made; indicated = c.indicated }) } in is_open (view y) ≡ true → OpenCircuit y
-    phase e c (Talking at) opened = transfer e c at.epoch at.side opened
+    phase : (e : ℕ) (c : Connection) (p : Phase) → let y : At Connection = record { epoch = e; side = Live (record { phase = p; made = c.made; indicated = c.indicated }) } in is_open (view a y) ≡ true → OpenCircuit a y
+    phase e c (Talking t b at) opened = transfer e c t b at.epoch at.side opened
     phase e c Unused opened = absurd (false_true opened)
-    phase e c Waiting opened = absurd (false_true opened)
-    phase e c Offered opened = absurd (false_true opened)
-    phase e c Crossed opened = absurd (false_true opened)
+    phase e c (Waiting mine) opened = absurd (false_true opened)
+    phase e c (Offered theirs) opened = absurd (false_true opened)
+    phase e c (Crossed mine) opened = absurd (false_true opened)
 
-    side : (e : ℕ) (z : Side Connection) → is_open (view (record { epoch = e; side = z })) ≡ true → OpenCircuit (record { epoch = e; side = z })
+    side : (e : ℕ) (z : Side Connection) → is_open (view a (record { epoch = e; side = z })) ≡ true → OpenCircuit a (record { epoch = e; side = z })
     side e (Live c) opened = phase e c c.phase opened
     side e (Left c) opened = absurd (false_true opened)
 
@@ -73,15 +74,15 @@ open_end : (e : End) (s : Side (At Channels)) (k : ℕ) → SeesEnd e s → is_o
 open_end e (Left z) k sees opened = absurd (false_true (sym (ap (λ (l : Layer). is_open (l.circuits k)) sees.1) ∙ opened))
 open_end e (Live z) k sees opened = ready z.epoch z.side sees.1.restarts sees.1.circuits
   where
-    ready : (epoch : ℕ) (y : Side Channels) → e.layer.restarts ≡ epoch → ((j : ℕ) → e.layer.circuits j ≡ view_at y j) → OpenEnd e (Live (record { epoch = epoch; side = y })) k
+    ready : (epoch : ℕ) (y : Side Channels) → e.layer.restarts ≡ epoch → ((j : ℕ) → ShowsAt y j (e.layer.circuits j)) → OpenEnd e (Live (record { epoch = epoch; side = y })) k
     ready epoch (Left x) same each = absurd (false_true (sym (ap is_open (each k)) ∙ opened))
     ready epoch (Live x) same each =
-        let o : OpenCircuit (x k) = open_circuit (x k) (sym (ap is_open (each k)) ∙ opened) in
+        let o : OpenCircuit (each k).agreed (x k) = open_circuit (each k).agreed (x k) (sym (ap is_open (each k).is) ∙ opened) in
         record {
           stretch = o.stretch;
           opened = o.opened;
-          no_more = ap waits (each k) ∙ o.no_more;
-          named = name_eq (name_of e.layer k) (name_at messages (record { epoch = epoch; side = Live x }) k) same (ap (λ (c : Circuit). c.clears) (each k)) (ap (λ (c : Circuit). c.resets) (each k));
+          no_more = ap waits (each k).is ∙ o.no_more;
+          named = name_eq (name_of e.layer k) (name_at messages (record { epoch = epoch; side = Live x }) k) same (ap (λ (c : Circuit). c.clears) (each k).is) (ap (λ (c : Circuit). c.resets) (each k).is);
           messages_held = o.messages_held;
           interrupts_held = o.interrupts_held;
         }

@@ -116,11 +116,11 @@ stretch_listed {M} down up lists nothing more held = record { nothing = nothing;
     moved k x y h (Afresh e holds empty) = GrowsAt (inl e) (sym (held (circuit_at y k)) ∙ ap lists holds ∙ nothing) (ap lists empty ∙ nothing)
 
 messages_held : (made indicated : List CallRequest) (a : Phase) → messages_in (held_phase made indicated a) ≡ held_in (λ x. x.down) (λ x. x.up) a
-messages_held made indicated (Talking at) = refl
+messages_held made indicated (Talking t b at) = refl
 messages_held made indicated other = refl
 
 interrupts_held : (made indicated : List CallRequest) (a : Phase) → interrupts_in (held_phase made indicated a) ≡ held_in (λ x. x.int_down) (λ x. x.int_up) a
-interrupts_held made indicated (Talking at) = refl
+interrupts_held made indicated (Talking t b at) = refl
 interrupts_held made indicated other = refl
 
 pub messages_listed : IsListed messages messages_in
@@ -132,7 +132,7 @@ interrupts_listed = stretch_listed (λ x. x.int_down) (λ x. x.int_up) interrupt
 -- ---- calls
 
 calls_held : (made indicated : List CallRequest) (a : Phase) → calls_in (held_phase made indicated a) ≡ record { down = made; up = indicated }
-calls_held made indicated (Talking at) = refl
+calls_held made indicated (Talking t b at) = refl
 calls_held made indicated other = refl
 
 circuit_calls : (z : At Connection) → calls_in (held_of z) ≡ record { down = (state_of z.side).made; up = (state_of z.side).indicated }

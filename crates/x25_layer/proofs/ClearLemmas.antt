@@ -3,7 +3,7 @@ use Rattle.std.proofs.Common.{◌≡◌, ℕ, List, [], ◌∷◌, ◌++◌, Opt
 use Rattle.x25_bits.specs.declared.role.Role.{Role}
 use Rattle.x25_bits.specs.declared.role.Role.TheVariants.{Dte, Dce}
 use Rattle.x25_packet.specs.PlainPacket.{PlainPacket, clear}
-use Rattle.x25_circuit.specs.Circuit.{Terms, Circuit, is_free, is_free_in}
+use Rattle.x25_circuit.specs.Circuit.{Circuit, is_free, is_free_in}
 use Rattle.x25_epochs.specs.Handshake.{Side, Live, Left, has_left, At}
 use Rattle.x25_epochs.specs.Stretch.{Stretch, Clear}
 use Rattle.x25_epochs.specs.Calls.{Phase, Unused, Waiting, Offered, Crossed, Talking, Connection}
@@ -12,9 +12,9 @@ use Rattle.x25_epochs.specs.Layers.{LayerPacket, On, Channels, LayerStep, Pair, 
 use Rattle.x25_layer.specs.World.{End, World, turned, run, start}
 use Rattle.x25_layer.specs.Law.{Always}
 use Rattle.x25_layer.specs.NameLaw.{IsNoClearInP1, FrontIsNoClearInP1, NoClearComesInP1}
-use Rattle.x25_layer.proofs.Sees.{state_in_transfer, state_in, state_at, view}
+use Rattle.x25_layer.proofs.Sees.{Agreed, state_in_transfer, state_in, state_at, view}
 use Rattle.x25_layer.proofs.ViewLemmas.{some_none}
-use Rattle.x25_layer.proofs.LayerSees.{bare_layer, bare_layers, SeesLayer, view_at}
+use Rattle.x25_layer.proofs.LayerSees.{bare_layer, bare_layers, SeesLayer, ShowsAt}
 use Rattle.x25_layer.proofs.LayerLemmas.{true≢false}
 use Rattle.x25_layer.proofs.WorldLemmas.{Sees, second, sees_turned}
 use Rattle.x25_layer.proofs.RunLemmas.{Premises, run_more, in_run}
@@ -25,52 +25,52 @@ not_free_in_transfer (Left x) = refl
 
 not_free_in : (phase : Phase) → in_p1 phase ≡ None → is_free_in (state_in phase) ≡ false
 not_free_in Unused clean = absurd (some_none 20 clean)
-not_free_in Waiting clean = refl
-not_free_in Offered clean = refl
-not_free_in Crossed clean = refl
-not_free_in (Talking at) clean = not_free_in_transfer at.side
+not_free_in (Waiting mine) clean = refl
+not_free_in (Offered theirs) clean = refl
+not_free_in (Crossed mine) clean = refl
+not_free_in (Talking t b at) clean = not_free_in_transfer at.side
 
-not_free_at : (r : Role) (size e : ℕ) (y : Side Connection) → (channel_side_takes r size e y Clear).error ≡ None → is_free_in (state_at y) ≡ false
-not_free_at r size e (Live x) clean = not_free_in x.phase clean
-not_free_at r size e (Left x) clean = refl
+not_free_at : (r : Role) (e : ℕ) (y : Side Connection) → (channel_side_takes r e y Clear).error ≡ None → is_free_in (state_at y) ≡ false
+not_free_at r e (Live x) clean = not_free_in x.phase clean
+not_free_at r e (Left x) clean = refl
 
-not_free : (r : Role) (size : ℕ) (y : At Connection) → (channel_takes r size y Clear).error ≡ None → is_free (view y) ≡ false
-not_free r size y clean = not_free_at r size y.epoch y.side clean
+not_free : (r : Role) (a : Agreed) (y : At Connection) → (channel_takes r y Clear).error ≡ None → is_free (view a y) ≡ false
+not_free r a y clean = not_free_at r y.epoch y.side clean
 
-in_ready : (r : Role) (size g h : ℕ) (b : Bool) (circuits : ℕ → Circuit) (side : Side Channels) → b ≡ has_left side → ((k : ℕ) → circuits k ≡ view_at side k)
-    → (layer_side_takes r size g side (On h Clear)).error ≡ None → b ≡ false → is_free (circuits h) ≡ false
-in_ready r size g h b circuits (Live x) is each clean ready = ap (λ (y : Circuit). is_free y) (each h) ∙ not_free r size (x h) clean
-in_ready r size g h b circuits (Left x) is each clean ready = absurd (true≢false (sym is ∙ ready))
+in_ready : (r : Role) (g h : ℕ) (b : Bool) (circuits : ℕ → Circuit) (side : Side Channels) → b ≡ has_left side → ((k : ℕ) → ShowsAt side k (circuits k))
+    → (layer_side_takes r g side (On h Clear)).error ≡ None → b ≡ false → is_free (circuits h) ≡ false
+in_ready r g h b circuits (Live x) is each clean ready = ap (λ (y : Circuit). is_free y) (each h).is ∙ not_free r (each h).agreed (x h) clean
+in_ready r g h b circuits (Left x) is each clean ready = absurd (true≢false (sym is ∙ ready))
 
-at_end : (r : Role) (size : ℕ) (e : End) (z : At Channels) (p : PlainPacket) → SeesLayer e.layer z → (layer_takes r size z (bare_layer p)).error ≡ None → IsNoClearInP1 e p
-at_end r size e z (clear h cause diagnostic) s clean = λ up ready. in_ready r size z.epoch h e.layer.restarting e.layer.circuits z.side s.restarting s.circuits clean ready
-at_end r size e z other s clean = tt
+at_end : (r : Role) (e : End) (z : At Channels) (p : PlainPacket) → SeesLayer e.layer z → (layer_takes r z (bare_layer p)).error ≡ None → IsNoClearInP1 e p
+at_end r e z (clear h cause diagnostic) s clean = λ up ready. in_ready r z.epoch h e.layer.restarting e.layer.circuits z.side s.restarting s.circuits clean ready
+at_end r e z other s clean = tt
 
 -- an end that is out takes nothing
 out_takes_none : (e : End) (p : PlainPacket) → e.is_out ≡ true → IsNoClearInP1 e p
 out_takes_none e (clear h cause diagnostic) out = λ up ready. absurd (true≢false (sym out ∙ up))
 out_takes_none e other out = tt
 
-front_is : (r : Role) (t b : Terms) (channels : ℕ) (w : World) (near far : Side (At Channels)) (out back : List LayerPacket) (error : Option ℕ)
-    → let j : Pair = record { near = near; far = far; out = out; back = back; error = error } in Sees channels w j → (pair_moves r t b j near Takes).error ≡ None
+front_is : (r : Role) (channels : ℕ) (w : World) (near far : Side (At Channels)) (out back : List LayerPacket) (error : Option ℕ)
+    → let j : Pair = record { near = near; far = far; out = out; back = back; error = error } in Sees channels w j → (pair_moves r j near Takes).error ≡ None
     → (K : List PlainPacket) → w.back ≡ K → FrontIsNoClearInP1 w.near K
-front_is r t b channels w near far out back error sees quiet [] front = tt
-front_is r t b channels w (Left z) far out back error sees quiet (p ∷ K) front = out_takes_none w.near p sees.near.0
-front_is r t b channels w (Live z) far out back error sees quiet (p ∷ K) front =
+front_is r channels w near far out back error sees quiet [] front = tt
+front_is r channels w (Left z) far out back error sees quiet (p ∷ K) front = out_takes_none w.near p sees.near.0
+front_is r channels w (Live z) far out back error sees quiet (p ∷ K) front =
     let same : bare_layer p ∷ bare_layers K ≡ back = ap bare_layers (sym front) ∙ sees.back in
-    let s : LayerStep = layer_takes r b.size z (bare_layer p) in
-    at_end r b.size w.near z p sees.near.1
-    (second error s.error (subst (λ (l : List LayerPacket). (pair_moves r t b (record { near = Live z; far = far; out = out; back = l; error = error }) (Live z) Takes).error ≡ None) (sym same) quiet))
+    let s : LayerStep = layer_takes r z (bare_layer p) in
+    at_end r w.near z p sees.near.1
+    (second error s.error (subst (λ (l : List LayerPacket). (pair_moves r (record { near = Live z; far = far; out = out; back = l; error = error }) (Live z) Takes).error ≡ None) (sym same) quiet))
 
 pub never_in_p1 : Premises → (channels : ℕ) → Always NoClearComesInP1 channels
-never_in_p1 p channels t b st sb es =
-    let w : World = run channels t b es (start channels t b) in
-    let h = in_run p channels t b st sb es in
-    let j : Pair = pair_run t b h.events pair_start in
-    let quiet : (first : Bool) → (pair_run t b (h.events ++ record { first = first; what = Takes } ∷ []) pair_start).error ≡ None = λ first. p.quiet t b (h.events ++ record { first = first; what = Takes } ∷ []) st sb in
+never_in_p1 p channels es =
+    let w : World = run channels es (start channels) in
+    let h = in_run p channels es in
+    let j : Pair = pair_run h.events pair_start in
+    let quiet : (first : Bool) → (pair_run (h.events ++ record { first = first; what = Takes } ∷ []) pair_start).error ≡ None = λ first. p.quiet (h.events ++ record { first = first; what = Takes } ∷ []) in
     record {
-      near = front_is Dte t b channels w j.near j.far j.out j.back j.error h.sees
-          (ap (λ (q : Pair). q.error) (sym (run_more t b h.events (record { first = true; what = Takes }) pair_start)) ∙ quiet true) w.back refl;
-      far = front_is Dce b t channels (turned w) j.far j.near j.back j.out j.error (sees_turned channels w j h.sees)
-          (ap (λ (q : Pair). q.error) (sym (run_more t b h.events (record { first = false; what = Takes }) pair_start)) ∙ quiet false) w.out refl;
+      near = front_is Dte channels w j.near j.far j.out j.back j.error h.sees
+          (ap (λ (q : Pair). q.error) (sym (run_more h.events (record { first = true; what = Takes }) pair_start)) ∙ quiet true) w.back refl;
+      far = front_is Dce channels (turned w) j.far j.near j.back j.out j.error (sees_turned channels w j h.sees)
+          (ap (λ (q : Pair). q.error) (sym (run_more h.events (record { first = false; what = Takes }) pair_start)) ∙ quiet false) w.out refl;
     }

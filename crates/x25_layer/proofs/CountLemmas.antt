@@ -4,11 +4,11 @@ use Rattle.std.proofs.lemmas.Bool.{eqb-true}
 use Rattle.x25_bits.specs.declared.role.Role.TheVariants.{Dte, Dce}
 use Rattle.x25_packet.specs.PlainPacket.{PlainPacket, clear, restart, restart_conf}
 use Rattle.x25_packet.specs.Spelling.{channel_of}
-use Rattle.x25_circuit.specs.Circuit.{Terms, Circuit}
+use Rattle.x25_circuit.specs.declared.params.Params.{Params}
+use Rattle.x25_circuit.specs.Circuit.{Circuit}
 use Rattle.x25_circuit.specs.Notices.{PlainNotice}
 use Rattle.x25_circuit.specs.Table.{Answer, answers}
 use Rattle.x25_circuit.specs.Calls.{Outcome, Done, Refused, Calls, outcome, pulled}
-use Rattle.x25_epochs.specs.Terms.{IsSound}
 use Rattle.x25_epochs.specs.Names.{Name}
 use Rattle.x25_layer.specs.declared.error.LayerError.{LayerError}
 use Rattle.x25_layer.specs.declared.error.LayerError.TheVariants as error
@@ -94,18 +94,18 @@ kept_if : (l : Layer) (b : Bool) (good : LayerOutcome) (e : LayerError) → Keep
 kept_if l true good e keeps = keeps
 kept_if l false good e keeps = tt
 
-kept_dial : (c : LayerSettings) (full : Bool) (l : Layer) (o : Option ℕ) (called calling user : List ℕ) → KeepsNames l (dialled c full l.restarts l.circuits o called calling user)
-kept_dial c full l None called calling user = tt
-kept_dial c full l (Some h) called calling user =
-    kept_room l full (outcome_on l.restarts l.circuits h (outcome c.circuit (l.circuits h) (Calls called calling user)))
-    (kept_on l h (outcome c.circuit (l.circuits h) (Calls called calling user)) (outcome_keeps c.circuit (l.circuits h) (Calls called calling user)))
+kept_dial : (c : LayerSettings) (full : Bool) (l : Layer) (o : Option ℕ) (called calling user : List ℕ) (params : Params) → KeepsNames l (dialled c full l.restarts l.circuits o called calling user params)
+kept_dial c full l None called calling user params = tt
+kept_dial c full l (Some h) called calling user params =
+    kept_room l full (outcome_on l.restarts l.circuits h (outcome c.circuit (l.circuits h) (Calls called calling user params)))
+    (kept_on l h (outcome c.circuit (l.circuits h) (Calls called calling user params)) (outcome_keeps c.circuit (l.circuits h) (Calls called calling user params)))
 
 kept_ready : (c : LayerSettings) (full : Bool) (l : Layer) (request : LayerRequest) → KeepsNames l (outcome_ready c full l.restarts l.circuits request)
 kept_ready c full l (Asks h request) =
     kept_if l (is_channel c.channels h) (if_at_once (puts_at_once request) full (outcome_on l.restarts l.circuits h (outcome c.circuit (l.circuits h) request))) error.NoSuchChannel
     (kept_at_once l (puts_at_once request) full (outcome_on l.restarts l.circuits h (outcome c.circuit (l.circuits h) request))
     (kept_on l h (outcome c.circuit (l.circuits h) request) (outcome_keeps c.circuit (l.circuits h) request)))
-kept_ready c full l (Dials called calling user) = kept_dial c full l (free_channel c.circuit.role l.circuits c.channels) called calling user
+kept_ready c full l (Dials called calling user params) = kept_dial c full l (free_channel c.circuit.role l.circuits c.channels) called calling user params
 kept_ready c full l Restarts = kept_room l full _ (λ k. refl)
 
 names_kept : (c : LayerSettings) (full : Bool) (l : Layer) (request : LayerRequest) → KeepsNames l (layer_outcome c full l request)
@@ -156,25 +156,25 @@ move_counted c w (Pulls k) false is h front = pulled_counted c w h is k (is_chan
 move_counted c w HandsUp false is h front = handed_counted c w h is w.back front
 move_counted c w GoesDown false is h front = record { near = λ k on. absurd (true≢false on); far = h.far }
 
-event_counted : (channels : ℕ) (t b : Terms) (w : World) (first : Bool) (what : Move) → NamesAreCounted w → NoClearComesInP1 w → NamesAreCounted (happens channels t b w (record { first = first; what = what }))
-event_counted channels t b w true what h front = move_counted (settings_of Dte channels t b) w what w.near.is_out refl h front.near
-event_counted channels t b w false what h front =
-    let r = move_counted (settings_of Dce channels b t) (turned w) what w.far.is_out refl (record { near = h.far; far = h.near }) front.far in
+event_counted : (channels : ℕ) (w : World) (first : Bool) (what : Move) → NamesAreCounted w → NoClearComesInP1 w → NamesAreCounted (happens channels w (record { first = first; what = what }))
+event_counted channels w true what h front = move_counted (settings_of Dte channels) w what w.near.is_out refl h front.near
+event_counted channels w false what h front =
+    let r = move_counted (settings_of Dce channels) (turned w) what w.far.is_out refl (record { near = h.far; far = h.near }) front.far in
     record { near = r.far; far = r.near }
 
-run_more : (channels : ℕ) (t b : Terms) (es : List Event) (e : Event) (w : World) → run channels t b (es ++ e ∷ []) w ≡ happens channels t b (run channels t b es w) e
-run_more channels t b [] e w = refl
-run_more channels t b (x ∷ es) e w = run_more channels t b es e (happens channels t b w x)
+run_more : (channels : ℕ) (es : List Event) (e : Event) (w : World) → run channels (es ++ e ∷ []) w ≡ happens channels (run channels es w) e
+run_more channels [] e w = refl
+run_more channels (x ∷ es) e w = run_more channels es e (happens channels w x)
 
 -- .. behind those that came before
-run_counted : (channels : ℕ) → Always NoClearComesInP1 channels → (t b : Terms) → IsSound t → IsSound b → (done es : List Event) → NamesAreCounted (run channels t b done (start channels t b))
-    → NamesAreCounted (run channels t b (done ++ es) (start channels t b))
-run_counted channels front t b st sb done [] h = subst (λ (l : List Event). NamesAreCounted (run channels t b l (start channels t b))) (sym (append-nil done)) h
-run_counted channels front t b st sb done (e ∷ es) h =
-    subst (λ (l : List Event). NamesAreCounted (run channels t b l (start channels t b))) (append_assoc done (e ∷ []) es)
-    (run_counted channels front t b st sb (done ++ e ∷ []) es
-    (subst (λ (w : World). NamesAreCounted w) (sym (run_more channels t b done e (start channels t b)))
-    (event_counted channels t b (run channels t b done (start channels t b)) e.first e.what h (front t b st sb done))))
+run_counted : (channels : ℕ) → Always NoClearComesInP1 channels → (done es : List Event) → NamesAreCounted (run channels done (start channels))
+    → NamesAreCounted (run channels (done ++ es) (start channels))
+run_counted channels front done [] h = subst (λ (l : List Event). NamesAreCounted (run channels l (start channels))) (sym (append-nil done)) h
+run_counted channels front done (e ∷ es) h =
+    subst (λ (l : List Event). NamesAreCounted (run channels l (start channels))) (append_assoc done (e ∷ []) es)
+    (run_counted channels front (done ++ e ∷ []) es
+    (subst (λ (w : World). NamesAreCounted w) (sym (run_more channels done e (start channels)))
+    (event_counted channels (run channels done (start channels)) e.first e.what h (front done))))
 
 pub always_counted : (channels : ℕ) → Always NoClearComesInP1 channels → Always NamesAreCounted channels
-always_counted channels front t b st sb es = run_counted channels front t b st sb [] es (record { near = λ k on. refl; far = λ k on. refl })
+always_counted channels front es = run_counted channels front [] es (record { near = λ k on. refl; far = λ k on. refl })

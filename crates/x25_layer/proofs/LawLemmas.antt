@@ -12,11 +12,11 @@ use Rattle.x25_layer.proofs.RunLemmas.{Premises, ledger_pair, AreBooks, InRun, i
 use Rattle.x25_layer.proofs.ArrivalLemmas.{none_in_flight, AtPresent, has_all}
 
 pub always_in_order : Premises → (channels : ℕ) → Always KeepsOrder channels
-always_in_order p channels t b st sb es = (in_run p channels t b st sb es).sees.order
+always_in_order p channels es = (in_run p channels es).sees.order
 
 pub always_quiet : Premises → (channels : ℕ) → Always (IsQuietWorld channels) channels
-always_quiet p channels t b st sb es =
-    let h = in_run p channels t b st sb es in
+always_quiet p channels es =
+    let h = in_run p channels es in
     record { near = h.sees.near_quiet; far = h.sees.far_quiet }
 
 near_begins : {M : Type 0} (kind : Kind M) (lists : Handed → Lists M) (w : World) (g : Ledger M) → AreBooks kind lists w g
@@ -34,15 +34,15 @@ far_begins {M} kind lists w g books law k m =
     (subst (λ (l : Lists M). Begins (g.far k m).up l.down) (sym (books.near k m)) ((law k).begins_there m))
 
 pub always_lawful : Premises → (channels : ℕ) → Always IsLawfulWorld channels
-always_lawful p channels t b st sb es =
-    let w : World = run channels t b es (start channels t b) in
-    let h : InRun channels t b w = in_run p channels t b st sb es in
-    let order_m = p.messages t b st sb h.events in
-    let order_i = p.interrupts t b st sb h.events in
-    let order_c = p.calls t b st sb h.events in
-    let ledger_m : Ledger _ = ledger_run messages t b h.events ledger_start in
-    let ledger_i : Ledger _ = ledger_run interrupts t b h.events ledger_start in
-    let ledger_c : Ledger _ = ledger_run calls t b h.events ledger_start in
+always_lawful p channels es =
+    let w : World = run channels es (start channels) in
+    let h : InRun channels w = in_run p channels es in
+    let order_m = p.messages h.events in
+    let order_i = p.interrupts h.events in
+    let order_c = p.calls h.events in
+    let ledger_m : Ledger _ = ledger_run messages h.events ledger_start in
+    let ledger_i : Ledger _ = ledger_run interrupts h.events ledger_start in
+    let ledger_c : Ledger _ = ledger_run calls h.events ledger_start in
     record {
       near = record {
         messages = near_begins messages messages_in w ledger_m h.messages order_m;
@@ -70,25 +70,25 @@ far_present kind lists w j g books same k held =
     subst (λ (q : Pair). lists (under k (name_at kind (state_of q.far) k) w.far.entries) ≡ held_at kind (state_of q.far) k) same (books.far k (name_at kind (state_of g.pair.far) k) ∙ held)
 
 pub always_arrives : Premises → (channels : ℕ) → Always ArrivesAll channels
-always_arrives p channels t b st sb es =
-    let w : World = run channels t b es (start channels t b) in
-    let h : InRun channels t b w = in_run p channels t b st sb es in
-    let j : Pair = pair_run t b h.events pair_start in
+always_arrives p channels es =
+    let w : World = run channels es (start channels) in
+    let h : InRun channels w = in_run p channels es in
+    let j : Pair = pair_run h.events pair_start in
     let near : (k : ℕ) → AtPresent w.near j.near k = λ k. record {
-      of_messages = near_present messages messages_in w j (ledger_run messages t b h.events ledger_start) h.messages (ledger_pair messages t b h.events ledger_start) k (p.messages t b st sb h.events k).held;
-      of_interrupts = near_present interrupts interrupts_in w j (ledger_run interrupts t b h.events ledger_start) h.interrupts (ledger_pair interrupts t b h.events ledger_start) k (p.interrupts t b st sb h.events k).held;
+      of_messages = near_present messages messages_in w j (ledger_run messages h.events ledger_start) h.messages (ledger_pair messages h.events ledger_start) k (p.messages h.events k).held;
+      of_interrupts = near_present interrupts interrupts_in w j (ledger_run interrupts h.events ledger_start) h.interrupts (ledger_pair interrupts h.events ledger_start) k (p.interrupts h.events k).held;
     } in
     let far : (k : ℕ) → AtPresent w.far j.far k = λ k. record {
-      of_messages = far_present messages messages_in w j (ledger_run messages t b h.events ledger_start) h.messages (ledger_pair messages t b h.events ledger_start) k (p.messages t b st sb h.events k).held_there;
-      of_interrupts = far_present interrupts interrupts_in w j (ledger_run interrupts t b h.events ledger_start) h.interrupts (ledger_pair interrupts t b h.events ledger_start) k (p.interrupts t b st sb h.events k).held_there;
+      of_messages = far_present messages messages_in w j (ledger_run messages h.events ledger_start) h.messages (ledger_pair messages h.events ledger_start) k (p.messages h.events k).held_there;
+      of_interrupts = far_present interrupts interrupts_in w j (ledger_run interrupts h.events ledger_start) h.interrupts (ledger_pair interrupts h.events ledger_start) k (p.interrupts h.events k).held_there;
     } in
     record {
       near = λ k acked idle. has_all w.near w.far j.near j.far k acked h.sees.near h.sees.far (near k) (far k) idle
           (λ x y open_x open_y same.
-          (p.arrived t b st sb h.events k x y open_x open_y same).0
+          (p.arrived h.events k x y open_x open_y same).0
           (sym h.sees.out ∙ ap bare_layers (none_in_flight w.near.given w.far.taken w.out acked h.sees.order.near idle.all_acked idle.acked_taken)));
       far = λ k acked idle. has_all w.far w.near j.far j.near k acked h.sees.far h.sees.near (far k) (near k) idle
           (λ x y open_x open_y same.
-          (p.arrived t b st sb h.events k y x open_y open_x (sym same)).1
+          (p.arrived h.events k y x open_y open_x (sym same)).1
           (sym h.sees.back ∙ ap bare_layers (none_in_flight w.far.given w.near.taken w.back acked h.sees.order.far idle.all_acked idle.acked_taken)));
     }

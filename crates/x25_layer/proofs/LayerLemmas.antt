@@ -5,28 +5,34 @@ use Rattle.x25_bits.specs.declared.role.Role.{Role}
 use Rattle.x25_bits.specs.declared.role.Role.TheVariants.{Dte, Dce}
 use Rattle.x25_packet.specs.PlainPacket.{PlainPacket, call, accept, clear, clear_conf, user_data, rr, rnr, interrupt, interrupt_conf, reset, reset_conf, restart, restart_conf}
 use Rattle.x25_packet.specs.Spelling.{channel_of, HasChannel, moved_to}
+use Rattle.x25_circuit.specs.declared.params.Params.{Params}
 use Rattle.x25_circuit.specs.Circuit.{Circuit, begun, forgotten, is_free}
 use Rattle.x25_circuit.specs.Notices.{PlainNotice}
 use Rattle.x25_circuit.specs.Table.{Answer, answers}
-use Rattle.x25_circuit.specs.Calls.{Outcome, Done, Refused, Request, Calls, outcome, Pulled, pulled}
+use Rattle.x25_circuit.specs.Calls.{Outcome, Done, Refused, Request, Calls, Accepts, outcome, Pulled, pulled}
 use Rattle.x25_epochs.specs.Handshake.{Side, Live, Left, has_left, At}
 use Rattle.x25_epochs.specs.Calls.{Connection}
-use Rattle.x25_epochs.specs.Channel.{ChannelStep, channel_takes, channel_acts}
+use Rattle.x25_epochs.specs.Channel.{ChannelStep, channel_takes, channel_acts, fresh_channel}
 use Rattle.x25_epochs.specs.Layers.{LayerPacket, On, Restart, Channels, put, addressed, on_channel, ready, restarting, all_fresh, LayerStep, layer_takes, layer_side_takes, layer_acts, layer_side_acts, OnChannel}
+use Rattle.x25_epochs.specs.Names.{both, same_name}
 use Rattle.x25_layer.specs.Layer.{LayerSettings, Layer, LayerAnswer, is_channel, put_at, packet_on, notices_on, is_ready, answers_on, drops, answers_ready, answers_restarting, answers_in, layer_answers}
 use Rattle.x25_layer.specs.Layer as flat
 use Rattle.x25_layer.specs.Calls.{LayerRequest, Asks, Dials, Restarts, LayerOutcome, Accepted, Declined, first_of, lowest_free, highest_free, free_channel, puts_at_once, where_room, if_at_once, outcome_on, dialled, outcome_ready, outcome_in, layer_outcome, LayerPulled, layer_pulled}
 use Rattle.x25_layer.specs.Quiet.{IsQuiet, IsQuietAt, AreQuiet, AreNoFaults}
-use Rattle.x25_layer.specs.Transcript.{nothing_handed, told_by_all, asked_by, Entry, Asked, name_of}
-use Rattle.x25_layer.specs.World.{entries_asked, entry_of_request, entry_of_dial, entries_told}
-use Rattle.x25_layer.proofs.Sees.{view, bare, bare_if, IsQuietIf, TellNoFault, Follows, Does, Heeds, act_of, pull_act, Notes, NotesOutcome}
+use Rattle.x25_layer.specs.Transcript.{Handed, nothing_handed, added, told_by_all, asked_by, Entry, Asked, name_of}
+use Rattle.x25_layer.specs.World.{shown, entries_asked, entry_of_request, entry_of_dial, entries_told}
+use Rattle.x25_layer.proofs.Sees.{unagreed, view, Shows, ParamsLaws, bare, bare_if, IsQuietIf, TellNoFault, Follows, Does, Heeds, act_of, pull_act, Notes, NotesOutcome}
 use Rattle.x25_layer.proofs.ViewLemmas.{some_none, follows, heeds, pulls_as}
 use Rattle.x25_layer.proofs.NoteLemmas.{still, notes_taken, notes_asked, notes_pulled}
-use Rattle.x25_layer.proofs.LayerSees.{bare_layer, bare_layers, view_at, SeesLayer, StepOf, FollowsLayer, DoesLayer, dial_act, layer_act, HeedsLayer}
+use Rattle.x25_layer.proofs.LayerSees.{bare_layer, bare_layers, ShowsAt, SeesLayer, StepOf, FollowsLayer, DoesLayer, dial_act, layer_act, HeedsLayer}
 use Rattle.x25_layer.proofs.StepLemmas.{quiet_step, restart_step, step_on, under_one, told_under}
 
 pub true≢false : true ≡ false → ⊥
 true≢false e = subst (λ (b : Bool). elim b as (λ _. Type 0) [ true ↦ Unit {0} | false ↦ ⊥ ]) e tt
+
+-- a channel that was never used
+pub begun_shown : Shows begun fresh_channel
+begun_shown = record { agreed = unagreed; is = refl; fits = tt }
 
 -- ---- a circuit's packet, on its channel
 
@@ -56,16 +62,16 @@ on_no_fault : (h : ℕ) (ns : List PlainNotice) → TellNoFault ns → AreNoFaul
 on_no_fault h [] q = tt
 on_no_fault h (n ∷ ns) q = (q.0, on_no_fault h ns q.1)
 
-put_same : (b : Bool) (c d : Circuit) (s z : At Connection) → c ≡ view s → d ≡ view z → (if b then c else d) ≡ view (if b then s else z)
+put_same : (b : Bool) (c d : Circuit) (s z : At Connection) → Shows c s → Shows d z → Shows (if b then c else d) (if b then s else z)
 put_same true c d s z p q = p
 put_same false c d s z p q = q
 
-sees_put : (e : ℕ) (f : ℕ → Circuit) (x : Channels) (h : ℕ) (c : Circuit) (s : At Connection) → ((k : ℕ) → f k ≡ view (x k)) → c ≡ view s → SeesLayer (is_ready e (put_at f h c)) (ready e (put x h s))
+sees_put : (e : ℕ) (f : ℕ → Circuit) (x : Channels) (h : ℕ) (c : Circuit) (s : At Connection) → ((k : ℕ) → Shows (f k) (x k)) → Shows c s → SeesLayer (is_ready e (put_at f h c)) (ready e (put x h s))
 sees_put e f x h c s each is = record { restarting = refl; restarts = refl; circuits = λ k. put_same (k == h) c (f k) s (x k) is (each k) }
 
 -- ---- packets handed up
 
-answers_follow : (channels e : ℕ) (f : ℕ → Circuit) (x : Channels) (h : ℕ) (a : Answer) (s : ChannelStep) → is_channel channels h ≡ true → ((k : ℕ) → f k ≡ view (x k)) → Follows a s
+answers_follow : (channels e : ℕ) (f : ℕ → Circuit) (x : Channels) (h : ℕ) (a : Answer) (s : ChannelStep) → is_channel channels h ≡ true → ((k : ℕ) → Shows (f k) (x k)) → Follows a s
     → Notes (x h) s.next (told_by_all a.notices) → FollowsLayer channels (answers_on e f h a) (ready e x) (on_channel e x h s)
 answers_follow channels e f x h a s is each g notes =
     let sees : SeesLayer (is_ready e (put_at f h a.next)) (ready e (put x h s.next)) = sees_put e f x h a.next s.next each g.next in
@@ -82,49 +88,49 @@ if_channel : (channels : ℕ) (b : Bool) (u v : LayerAnswer) (z : At Channels) (
 if_channel channels true u v z s is g = g
 if_channel channels false u v z s is g = absurd (true≢false (sym is))
 
-on_its_channel : (c : LayerSettings) (e : ℕ) (f : ℕ → Circuit) (x : Channels) (p : PlainPacket) (has : HasChannel p) → ((k : ℕ) → f k ≡ view (x k)) → IsQuietAt c.channels p
-    → (channel_takes c.circuit.role c.circuit.incoming.size (x (channel_of p)) (bare p)).error ≡ None
+on_its_channel : ParamsLaws → (c : LayerSettings) (e : ℕ) (f : ℕ → Circuit) (x : Channels) (p : PlainPacket) (has : HasChannel p) → ((k : ℕ) → Shows (f k) (x k)) → IsQuietAt c.channels p
+    → (channel_takes c.circuit.role (x (channel_of p)) (bare p)).error ≡ None
     → FollowsLayer c.channels (if is_channel c.channels (channel_of p) then answers_on e f (channel_of p) (answers c.circuit (f (channel_of p)) p) else drops false e f) (ready e x)
-    (on_channel e x (channel_of p) (channel_takes c.circuit.role c.circuit.incoming.size (x (channel_of p)) (bare p)))
-on_its_channel c e f x p has each ok q =
+    (on_channel e x (channel_of p) (channel_takes c.circuit.role (x (channel_of p)) (bare p)))
+on_its_channel laws c e f x p has each ok q =
     let h : ℕ = channel_of p in
-    let s : ChannelStep = channel_takes c.circuit.role c.circuit.incoming.size (x h) (bare p) in
+    let s : ChannelStep = channel_takes c.circuit.role (x h) (bare p) in
     if_channel c.channels (is_channel c.channels h) (answers_on e f h (answers c.circuit (f h) p)) (drops false e f) (ready e x) (on_channel e x h s) (ok.1 has)
     (answers_follow c.channels e f x h (answers c.circuit (f h) p) s (ok.1 has) each
-    (subst (λ (y : Circuit). Follows (answers c.circuit y p) s) (sym (each h)) (follows c.circuit (x h) p ok.0 has q))
-    (subst (λ (y : Circuit). Notes (x h) s.next (told_by_all (answers c.circuit y p).notices)) (sym (each h)) (notes_taken c.circuit (x h) p ok.0 has q)))
+    (subst (λ (y : Circuit). Follows (answers c.circuit y p) s) (sym (each h).is) (follows laws c.circuit (each h).agreed (x h) p (each h).fits has q))
+    (subst (λ (y : Circuit). Notes (x h) s.next (told_by_all (answers c.circuit y p).notices)) (sym (each h).is) (notes_taken c.circuit (each h).agreed (x h) p (each h).fits has q)))
 
 abbrev Taken : LayerSettings → ℕ → Side Channels → PlainPacket → LayerStep
-Taken c e z p = layer_side_takes c.circuit.role c.circuit.incoming.size e z (bare_layer p)
+Taken c e z p = layer_side_takes c.circuit.role e z (bare_layer p)
 
-row_ready : (c : LayerSettings) (e : ℕ) (f : ℕ → Circuit) (x : Channels) (p : PlainPacket) → ((k : ℕ) → f k ≡ view (x k)) → IsQuietAt c.channels p → (Taken c e (Live x) p).error ≡ None
+row_ready : ParamsLaws → (c : LayerSettings) (e : ℕ) (f : ℕ → Circuit) (x : Channels) (p : PlainPacket) → ((k : ℕ) → Shows (f k) (x k)) → IsQuietAt c.channels p → (Taken c e (Live x) p).error ≡ None
     → FollowsLayer c.channels (answers_ready c e f p) (ready e x) (Taken c e (Live x) p)
-row_ready c e f x (restart cause diagnostic) each ok q =
-    record { next = record { restarting = refl; restarts = refl; circuits = λ k. refl }; owed = refl; quiet = ((tt, λ no. absurd no), tt); no_fault = (tt, tt); step = restart_step e (Live x) }
-row_ready c e f x restart_conf each ok q = absurd (some_none 17 q)
-row_ready c e f x (call h called calling facilities user) each ok q = on_its_channel c e f x (call h called calling facilities user) tt each ok q
-row_ready c e f x (accept h facilities) each ok q = on_its_channel c e f x (accept h facilities) tt each ok q
-row_ready c e f x (clear h cause diagnostic) each ok q = on_its_channel c e f x (clear h cause diagnostic) tt each ok q
-row_ready c e f x (clear_conf h) each ok q = on_its_channel c e f x (clear_conf h) tt each ok q
-row_ready c e f x (user_data h qualifier more ps pr user) each ok q = on_its_channel c e f x (user_data h qualifier more ps pr user) tt each ok q
-row_ready c e f x (rr h pr) each ok q = on_its_channel c e f x (rr h pr) tt each ok q
-row_ready c e f x (rnr h pr) each ok q = on_its_channel c e f x (rnr h pr) tt each ok q
-row_ready c e f x (interrupt h user) each ok q = on_its_channel c e f x (interrupt h user) tt each ok q
-row_ready c e f x (interrupt_conf h) each ok q = on_its_channel c e f x (interrupt_conf h) tt each ok q
-row_ready c e f x (reset h cause diagnostic) each ok q = on_its_channel c e f x (reset h cause diagnostic) tt each ok q
-row_ready c e f x (reset_conf h) each ok q = on_its_channel c e f x (reset_conf h) tt each ok q
+row_ready laws c e f x (restart cause diagnostic) each ok q =
+    record { next = record { restarting = refl; restarts = refl; circuits = λ k. begun_shown }; owed = refl; quiet = ((tt, λ no. absurd no), tt); no_fault = (tt, tt); step = restart_step e (Live x) }
+row_ready laws c e f x restart_conf each ok q = absurd (some_none 17 q)
+row_ready laws c e f x (call h called calling facilities user) each ok q = on_its_channel laws c e f x (call h called calling facilities user) tt each ok q
+row_ready laws c e f x (accept h facilities) each ok q = on_its_channel laws c e f x (accept h facilities) tt each ok q
+row_ready laws c e f x (clear h cause diagnostic) each ok q = on_its_channel laws c e f x (clear h cause diagnostic) tt each ok q
+row_ready laws c e f x (clear_conf h) each ok q = on_its_channel laws c e f x (clear_conf h) tt each ok q
+row_ready laws c e f x (user_data h qualifier more ps pr user) each ok q = on_its_channel laws c e f x (user_data h qualifier more ps pr user) tt each ok q
+row_ready laws c e f x (rr h pr) each ok q = on_its_channel laws c e f x (rr h pr) tt each ok q
+row_ready laws c e f x (rnr h pr) each ok q = on_its_channel laws c e f x (rnr h pr) tt each ok q
+row_ready laws c e f x (interrupt h user) each ok q = on_its_channel laws c e f x (interrupt h user) tt each ok q
+row_ready laws c e f x (interrupt_conf h) each ok q = on_its_channel laws c e f x (interrupt_conf h) tt each ok q
+row_ready laws c e f x (reset h cause diagnostic) each ok q = on_its_channel laws c e f x (reset h cause diagnostic) tt each ok q
+row_ready laws c e f x (reset_conf h) each ok q = on_its_channel laws c e f x (reset_conf h) tt each ok q
 
 restarted : (channels e : ℕ) (x : Side Channels) (notices : List flat.LayerNotice) → AreNoFaults notices → entries_told (is_ready (suc e) (λ k. begun)) notices ≡ []
     → FollowsLayer channels (flat.restarts_to e None notices) (record { epoch = e; side = x }) (record { next = ready (suc e) all_fresh; out = []; error = None })
 restarted channels e x notices clean none = record {
-  next = record { restarting = refl; restarts = refl; circuits = λ k. refl };
+  next = record { restarting = refl; restarts = refl; circuits = λ k. begun_shown };
   owed = refl;
   quiet = tt;
   no_fault = clean;
   step = subst (λ (es : List Entry). StepOf (record { epoch = e; side = x }) (ready (suc e) all_fresh) es) (sym none) (restart_step e x);
 }
 
-dropped : (channels e : ℕ) (f : ℕ → Circuit) (x : Channels) → ((k : ℕ) → f k ≡ forgotten (view (x k)))
+dropped : (channels e : ℕ) (f : ℕ → Circuit) (x : Channels) → ((k : ℕ) → f k ≡ forgotten (view unagreed (x k)))
     → FollowsLayer channels (drops true e f) (restarting e x) (record { next = restarting e x; out = []; error = None })
 dropped channels e f x each = record {
   next = record { restarting = refl; restarts = refl; circuits = each };
@@ -134,29 +140,34 @@ dropped channels e f x each = record {
   step = quiet_step (restarting e x) (restarting e x) refl (λ k. still (x k));
 }
 
-row_restarting : (c : LayerSettings) (e : ℕ) (f : ℕ → Circuit) (x : Channels) (p : PlainPacket) → ((k : ℕ) → f k ≡ forgotten (view (x k)))
+row_restarting : (c : LayerSettings) (e : ℕ) (f : ℕ → Circuit) (x : Channels) (p : PlainPacket) → ((k : ℕ) → f k ≡ forgotten (view unagreed (x k)))
     → FollowsLayer c.channels (answers_restarting e f p) (restarting e x) (Taken c e (Left x) p)
 row_restarting c e f x (restart cause diagnostic) each = restarted c.channels e (Left x) (flat.restarted cause diagnostic ∷ []) (tt, tt) refl
 row_restarting c e f x restart_conf each = restarted c.channels e (Left x) (flat.restart_done ∷ []) (tt, tt) refl
 row_restarting c e f x other each = dropped c.channels e f x each
 
-row_side : (c : LayerSettings) (b : Bool) (e g : ℕ) (f : ℕ → Circuit) (z : Side Channels) (p : PlainPacket) → b ≡ has_left z → e ≡ g → ((k : ℕ) → f k ≡ view_at z k) → IsQuietAt c.channels p
+row_side : ParamsLaws → (c : LayerSettings) (b : Bool) (e g : ℕ) (f : ℕ → Circuit) (z : Side Channels) (p : PlainPacket) → b ≡ has_left z → e ≡ g → ((k : ℕ) → ShowsAt z k (f k)) → IsQuietAt c.channels p
     → (Taken c g z p).error ≡ None → FollowsLayer c.channels (answers_in c b e f p) (record { epoch = g; side = z }) (Taken c g z p)
-row_side c false e g f (Live x) p is same each ok q =
-    subst (λ (m : ℕ). FollowsLayer c.channels (answers_in c false m f p) (ready g x) (Taken c g (Live x) p)) (sym same) (row_ready c g f x p each ok q)
-row_side c true e g f (Left x) p is same each ok q =
+row_side laws c false e g f (Live x) p is same each ok q =
+    subst (λ (m : ℕ). FollowsLayer c.channels (answers_in c false m f p) (ready g x) (Taken c g (Live x) p)) (sym same) (row_ready laws c g f x p each ok q)
+row_side laws c true e g f (Left x) p is same each ok q =
     subst (λ (m : ℕ). FollowsLayer c.channels (answers_in c true m f p) (restarting g x) (Taken c g (Left x) p)) (sym same) (row_restarting c g f x p each)
-row_side c true e g f (Live x) p is same each ok q = absurd (true≢false is)
-row_side c false e g f (Left x) p is same each ok q = absurd (true≢false (sym is))
+row_side laws c true e g f (Live x) p is same each ok q = absurd (true≢false is)
+row_side laws c false e g f (Left x) p is same each ok q = absurd (true≢false (sym is))
 
 -- A packet handed up.
-pub layer_follows : (c : LayerSettings) (l : Layer) (z : At Channels) (p : PlainPacket) → SeesLayer l z → IsQuietAt c.channels p
-    → (layer_takes c.circuit.role c.circuit.incoming.size z (bare_layer p)).error ≡ None → FollowsLayer c.channels (layer_answers c l p) z (layer_takes c.circuit.role c.circuit.incoming.size z (bare_layer p))
-layer_follows c l z p s ok q = row_side c l.restarting l.restarts z.epoch l.circuits z.side p s.restarting s.restarts s.circuits ok q
+pub layer_follows : ParamsLaws → (c : LayerSettings) (l : Layer) (z : At Channels) (p : PlainPacket) → SeesLayer l z → IsQuietAt c.channels p
+    → (layer_takes c.circuit.role z (bare_layer p)).error ≡ None → FollowsLayer c.channels (layer_answers c l p) z (layer_takes c.circuit.role z (bare_layer p))
+layer_follows laws c l z p s ok q = row_side laws c l.restarting l.restarts z.epoch l.circuits z.side p s.restarting s.restarts s.circuits ok q
 
 -- ---- calls of the user
 
-asked_on : (c : LayerSettings) (e : ℕ) (f : ℕ → Circuit) (x : Channels) (h : ℕ) (request : Request) (d : Outcome) (s : ChannelStep) → is_channel c.channels h ≡ true → ((k : ℕ) → f k ≡ view (x k)) → Heeds d s
+-- the values that an acceptance is entered with are handed to nobody
+asked_shown : (x : Circuit) (request : Request) → asked_by (shown x request) ≡ asked_by request
+asked_shown x (Accepts answer) = refl
+asked_shown x other = refl
+
+asked_on : (c : LayerSettings) (e : ℕ) (f : ℕ → Circuit) (x : Channels) (h : ℕ) (request : Request) (d : Outcome) (s : ChannelStep) → is_channel c.channels h ≡ true → ((k : ℕ) → Shows (f k) (x k)) → Heeds d s
     → NotesOutcome d (x h) s.next (asked_by request) → (l : Layer) (r : LayerRequest) → ((n : Layer) → entries_asked c l n r ≡ entry_of_request n h request)
     → HeedsLayer c l r (outcome_on e f h d) (ready e x) (on_channel e x h s)
 asked_on c e f x h request (Done next packet) s is each g notes l r same =
@@ -168,7 +179,8 @@ asked_on c e f x h request (Done next packet) s is each g notes l r same =
       quiet = on_quiet c.channels h packet is g.quiet;
       step = subst (λ (es : List Entry). StepOf (ready e x) (ready e (put x h s.next)) es) (sym (same n))
           (step_on e x h s.next n (asked_by request) (entry_of_request n h request) sees notes
-          (λ k m. sym (under_one k m (record { channel = h; name = name_of n h; said = Asked request }) (asked_by request))));
+          (λ k m. ap (λ (said : Handed). added (if both (k == h) (same_name m (name_of n h)) then said else nothing_handed) nothing_handed) (asked_shown (n.circuits h) request)
+          ∙ sym (under_one k m (record { channel = h; name = name_of n h; said = Asked request }) (asked_by request))));
     }
 asked_on c e f x h request (Refused error) s is each g notes l r same = tt
 
@@ -215,81 +227,81 @@ free_in Dte f n h e = let r = highest_in f n h e in is_between n h r.0 r.1
 free_in Dce f n h e = let r = lowest_in f n h e in is_between n h r.0 r.1
 
 -- the circuit of a configured channel does what is asked
-circuit_asked : (c : LayerSettings) (e : ℕ) (f : ℕ → Circuit) (x : Channels) (h : ℕ) (request : Request) → is_channel c.channels h ≡ true → ((k : ℕ) → f k ≡ view (x k))
+circuit_asked : ParamsLaws → (c : LayerSettings) (e : ℕ) (f : ℕ → Circuit) (x : Channels) (h : ℕ) (request : Request) → is_channel c.channels h ≡ true → ((k : ℕ) → Shows (f k) (x k))
     → (l : Layer) (r : LayerRequest) → ((n : Layer) → entries_asked c l n r ≡ entry_of_request n h request)
-    → HeedsLayer c l r (outcome_on e f h (outcome c.circuit (f h) request)) (ready e x) (on_channel e x h (channel_acts c.circuit.outgoing (x h) (act_of request)))
-circuit_asked c e f x h request is each l r same =
-    asked_on c e f x h request (outcome c.circuit (f h) request) (channel_acts c.circuit.outgoing (x h) (act_of request)) is each
-    (subst (λ (y : Circuit). Heeds (outcome c.circuit y request) (channel_acts c.circuit.outgoing (x h) (act_of request))) (sym (each h)) (heeds c.circuit (x h) request))
-    (subst (λ (y : Circuit). NotesOutcome (outcome c.circuit y request) (x h) (channel_acts c.circuit.outgoing (x h) (act_of request)).next (asked_by request)) (sym (each h)) (notes_asked c.circuit (x h) request))
+    → HeedsLayer c l r (outcome_on e f h (outcome c.circuit (f h) request)) (ready e x) (on_channel e x h (channel_acts (x h) (act_of request)))
+circuit_asked laws c e f x h request is each l r same =
+    asked_on c e f x h request (outcome c.circuit (f h) request) (channel_acts (x h) (act_of request)) is each
+    (subst (λ (y : Circuit). Heeds (outcome c.circuit y request) (channel_acts (x h) (act_of request))) (sym (each h).is) (heeds laws c.circuit (each h).agreed (x h) request (each h).fits))
+    (subst (λ (y : Circuit). NotesOutcome (outcome c.circuit y request) (x h) (channel_acts (x h) (act_of request)).next (asked_by request)) (sym (each h).is) (notes_asked c.circuit (each h).agreed (x h) request (each h).fits))
     l r same
 
-dial : (c : LayerSettings) (full : Bool) (e : ℕ) (f : ℕ → Circuit) (x : Channels) (called calling user : List ℕ) → ((k : ℕ) → f k ≡ view (x k)) → (l : Layer) → l.circuits ≡ f
-    → HeedsLayer c l (Dials called calling user) (dialled c full e f (free_channel c.circuit.role f c.channels) called calling user) (ready e x)
-    (layer_side_acts c.circuit.outgoing e (Live x) (dial_act (free_channel c.circuit.role f c.channels) called calling user))
-dial c full e f x called calling user each l same = found (free_channel c.circuit.role f c.channels) refl
+dial : ParamsLaws → (c : LayerSettings) (full : Bool) (e : ℕ) (f : ℕ → Circuit) (x : Channels) (called calling user : List ℕ) (params : Params) → ((k : ℕ) → Shows (f k) (x k)) → (l : Layer) → l.circuits ≡ f
+    → HeedsLayer c l (Dials called calling user params) (dialled c full e f (free_channel c.circuit.role f c.channels) called calling user params) (ready e x)
+    (layer_side_acts e (Live x) (dial_act (free_channel c.circuit.role f c.channels) called calling user params))
+dial laws c full e f x called calling user params each l same = found (free_channel c.circuit.role f c.channels) refl
   where
     found : (o : Option ℕ) → free_channel c.circuit.role f c.channels ≡ o
-        → HeedsLayer c l (Dials called calling user) (dialled c full e f o called calling user) (ready e x) (layer_side_acts c.circuit.outgoing e (Live x) (dial_act o called calling user))
+        → HeedsLayer c l (Dials called calling user params) (dialled c full e f o called calling user params) (ready e x) (layer_side_acts e (Live x) (dial_act o called calling user params))
     found None is = tt
     found (Some h) is =
-        room c l (Dials called calling user) full (outcome_on e f h (outcome c.circuit (f h) (Calls called calling user))) (ready e x)
-        (on_channel e x h (channel_acts c.circuit.outgoing (x h) (act_of (Calls called calling user))))
-        (circuit_asked c e f x h (Calls called calling user) (free_in c.circuit.role f c.channels h is) each l (Dials called calling user)
-        (λ n. ap (λ o. entry_of_dial n o (Calls called calling user)) (ap (λ (g : ℕ → Circuit). free_channel c.circuit.role g c.channels) same ∙ is)))
+        room c l (Dials called calling user params) full (outcome_on e f h (outcome c.circuit (f h) (Calls called calling user params))) (ready e x)
+        (on_channel e x h (channel_acts (x h) (act_of (Calls called calling user params))))
+        (circuit_asked laws c e f x h (Calls called calling user params) (free_in c.circuit.role f c.channels h is) each l (Dials called calling user params)
+        (λ n. ap (λ o. entry_of_dial n o (Calls called calling user params)) (ap (λ (g : ℕ → Circuit). free_channel c.circuit.role g c.channels) same ∙ is)))
 
-asked_ready : (c : LayerSettings) (full : Bool) (e : ℕ) (l : Layer) (x : Channels) (r : LayerRequest) → ((k : ℕ) → l.circuits k ≡ view (x k))
-    → HeedsLayer c l r (outcome_ready c full e l.circuits r) (ready e x) (layer_side_acts c.circuit.outgoing e (Live x) (layer_act c l.circuits r))
-asked_ready c full e l x (Asks h request) each =
+asked_ready : ParamsLaws → (c : LayerSettings) (full : Bool) (e : ℕ) (l : Layer) (x : Channels) (r : LayerRequest) → ((k : ℕ) → Shows (l.circuits k) (x k))
+    → HeedsLayer c l r (outcome_ready c full e l.circuits r) (ready e x) (layer_side_acts e (Live x) (layer_act c l.circuits r))
+asked_ready laws c full e l x (Asks h request) each =
     if_there c l (Asks h request) (is_channel c.channels h) (if_at_once (puts_at_once request) full (outcome_on e l.circuits h (outcome c.circuit (l.circuits h) request))) _ (ready e x)
-    (on_channel e x h (channel_acts c.circuit.outgoing (x h) (act_of request)))
+    (on_channel e x h (channel_acts (x h) (act_of request)))
     (λ is. at_once c l (Asks h request) (puts_at_once request) full (outcome_on e l.circuits h (outcome c.circuit (l.circuits h) request)) (ready e x)
-    (on_channel e x h (channel_acts c.circuit.outgoing (x h) (act_of request)))
-    (circuit_asked c e l.circuits x h request is each l (Asks h request) (λ n. refl)))
-asked_ready c full e l x (Dials called calling user) each = dial c full e l.circuits x called calling user each l refl
-asked_ready c full e l x Restarts each =
+    (on_channel e x h (channel_acts (x h) (act_of request)))
+    (circuit_asked laws c e l.circuits x h request is each l (Asks h request) (λ n. refl)))
+asked_ready laws c full e l x (Dials called calling user params) each = dial laws c full e l.circuits x called calling user params each l refl
+asked_ready laws c full e l x Restarts each =
     room c l Restarts full (Accepted (flat.restarting_from e l.circuits) (Some (restart 0 0))) (ready e x) (record { next = restarting e x; out = Restart ∷ []; error = None })
     (record {
-      next = record { restarting = refl; restarts = refl; circuits = λ k. ap forgotten (each k) };
+      next = record { restarting = refl; restarts = refl; circuits = λ k. ap forgotten (each k).is };
       put = refl;
       quiet = ((inl refl, λ no. absurd no), tt);
       step = quiet_step (ready e x) (restarting e x) refl (λ k. still (x k));
     })
 
 -- A call of the user.
-pub layer_heeds : (c : LayerSettings) (full : Bool) (l : Layer) (z : At Channels) (r : LayerRequest) → SeesLayer l z
-    → HeedsLayer c l r (layer_outcome c full l r) z (layer_acts c.circuit.outgoing z (layer_act c l.circuits r))
-layer_heeds c full l z r s = side l.restarting z.side s.restarting s.circuits
+pub layer_heeds : ParamsLaws → (c : LayerSettings) (full : Bool) (l : Layer) (z : At Channels) (r : LayerRequest) → SeesLayer l z
+    → HeedsLayer c l r (layer_outcome c full l r) z (layer_acts z (layer_act c l.circuits r))
+layer_heeds laws c full l z r s = side l.restarting z.side s.restarting s.circuits
   where
-    side : (b : Bool) (w : Side Channels) → b ≡ has_left w → ((k : ℕ) → l.circuits k ≡ view_at w k)
-        → HeedsLayer c l r (outcome_in c full b l.restarts l.circuits r) (record { epoch = z.epoch; side = w }) (layer_side_acts c.circuit.outgoing z.epoch w (layer_act c l.circuits r))
+    side : (b : Bool) (w : Side Channels) → b ≡ has_left w → ((k : ℕ) → ShowsAt w k (l.circuits k))
+        → HeedsLayer c l r (outcome_in c full b l.restarts l.circuits r) (record { epoch = z.epoch; side = w }) (layer_side_acts z.epoch w (layer_act c l.circuits r))
     side true w is each = tt
     side false (Left x) is each = absurd (true≢false (sym is))
     side false (Live x) is each =
-        subst (λ (m : ℕ). HeedsLayer c l r (outcome_ready c full m l.circuits r) (ready z.epoch x) (layer_side_acts c.circuit.outgoing z.epoch (Live x) (layer_act c l.circuits r))) (sym s.restarts)
-        (asked_ready c full z.epoch l x r each)
+        subst (λ (m : ℕ). HeedsLayer c l r (outcome_ready c full m l.circuits r) (ready z.epoch x) (layer_side_acts z.epoch (Live x) (layer_act c l.circuits r))) (sym s.restarts)
+        (asked_ready laws c full z.epoch l x r each)
 
 -- ---- pulls
 
-pulled_forgotten : (k h : ℕ) (f : ℕ → Circuit) (x : Channels) → ((j : ℕ) → f j ≡ forgotten (view (x j))) → (y : Circuit) → y ≡ forgotten (view (x h)) → (b : Bool) → (k == h) ≡ b → (if b then y else f k) ≡ forgotten (view (x k))
-pulled_forgotten k h f x each y is true at = is ∙ ap (λ (j : ℕ). forgotten (view (x j))) (sym (eqb-true k h at))
+pulled_forgotten : (k h : ℕ) (f : ℕ → Circuit) (x : Channels) → ((j : ℕ) → f j ≡ forgotten (view unagreed (x j))) → (y : Circuit) → y ≡ forgotten (view unagreed (x h)) → (b : Bool) → (k == h) ≡ b → (if b then y else f k) ≡ forgotten (view unagreed (x k))
+pulled_forgotten k h f x each y is true at = is ∙ ap (λ (j : ℕ). forgotten (view unagreed (x j))) (sym (eqb-true k h at))
 pulled_forgotten k h f x each y is false at = each k
 
-pulled_note : (c : LayerSettings) (x : Channels) (h k : ℕ) (b : Bool) → (k == h) ≡ b → Notes (x k) (if b then (channel_acts c.circuit.outgoing (x h) pull_act).next else x k) nothing_handed
-pulled_note c x h k true at = subst (λ (j : ℕ). Notes (x j) (channel_acts c.circuit.outgoing (x h) pull_act).next nothing_handed) (sym (eqb-true k h at)) (notes_pulled c.circuit (x h))
-pulled_note c x h k false at = still (x k)
+pulled_note : (x : Channels) (h k : ℕ) (b : Bool) → (k == h) ≡ b → Notes (x k) (if b then (channel_acts (x h) pull_act).next else x k) nothing_handed
+pulled_note x h k true at = subst (λ (j : ℕ). Notes (x j) (channel_acts (x h) pull_act).next nothing_handed) (sym (eqb-true k h at)) (notes_pulled (x h))
+pulled_note x h k false at = still (x k)
 
 pub layer_pulls : (c : LayerSettings) (l : Layer) (z : At Channels) (h : ℕ) → is_channel c.channels h ≡ true → SeesLayer l z
-    → DoesLayer c.channels (layer_pulled c l h).next (layer_pulled c l h).packet [] z (layer_acts c.circuit.outgoing z (OnChannel h pull_act))
+    → DoesLayer c.channels (layer_pulled c l h).next (layer_pulled c l h).packet [] z (layer_acts z (OnChannel h pull_act))
 layer_pulls c l z h is s = side l.restarting z.side s.restarting s.circuits
   where
-    side : (b : Bool) (w : Side Channels) → b ≡ has_left w → ((k : ℕ) → l.circuits k ≡ view_at w k)
+    side : (b : Bool) (w : Side Channels) → b ≡ has_left w → ((k : ℕ) → ShowsAt w k (l.circuits k))
         → let p : LayerPulled = record { next = record { restarting = b; restarts = l.restarts; circuits = put_at l.circuits h (pulled c.circuit (l.circuits h)).next }; packet = packet_on h (pulled c.circuit (l.circuits h)).packet } in
-        DoesLayer c.channels p.next p.packet [] (record { epoch = z.epoch; side = w }) (layer_side_acts c.circuit.outgoing z.epoch w (OnChannel h pull_act))
+        DoesLayer c.channels p.next p.packet [] (record { epoch = z.epoch; side = w }) (layer_side_acts z.epoch w (OnChannel h pull_act))
     side true (Live x) differ each = absurd (true≢false differ)
     side false (Left x) differ each = absurd (true≢false (sym differ))
     side true (Left x) both each =
-        let kept : pulled c.circuit (l.circuits h) ≡ record { next = forgotten (view (x h)); packet = None } = ap (λ (y : Circuit). pulled c.circuit y) (each h) in
+        let kept : pulled c.circuit (l.circuits h) ≡ record { next = forgotten (view unagreed (x h)); packet = None } = ap (λ (y : Circuit). pulled c.circuit y) (each h) in
         record {
           next = record { restarting = refl; restarts = s.restarts; circuits = λ k. pulled_forgotten k h l.circuits x each (pulled c.circuit (l.circuits h)).next (ap (λ (p : Pulled). p.next) kept) (k == h) refl };
           put = ap (λ (p : Pulled). bare_layers (option_to_list (packet_on h p.packet))) kept;
@@ -297,12 +309,12 @@ layer_pulls c l z h is s = side l.restarting z.side s.restarting s.circuits
           step = quiet_step (restarting z.epoch x) (restarting z.epoch x) refl (λ k. still (x k));
         }
     side false (Live x) both each =
-        let t : ChannelStep = channel_acts c.circuit.outgoing (x h) pull_act in
+        let t : ChannelStep = channel_acts (x h) pull_act in
         let g : Does (pulled c.circuit (l.circuits h)).next (pulled c.circuit (l.circuits h)).packet t =
-        subst (λ (y : Circuit). Does (pulled c.circuit y).next (pulled c.circuit y).packet t) (sym (each h)) (pulls_as c.circuit (x h)) in
+        subst (λ (y : Circuit). Does (pulled c.circuit y).next (pulled c.circuit y).packet t) (sym (each h).is) (pulls_as c.circuit (each h).agreed (x h) (each h).fits) in
         record {
           next = record { restarting = refl; restarts = s.restarts; circuits = λ k. put_same (k == h) (pulled c.circuit (l.circuits h)).next (l.circuits k) t.next (x k) g.next (each k) };
           put = on_bare h (pulled c.circuit (l.circuits h)).packet g.quiet ∙ ap (λ o. addressed h o) g.packet;
           quiet = on_quiet c.channels h (pulled c.circuit (l.circuits h)).packet is g.quiet;
-          step = quiet_step (ready z.epoch x) (ready z.epoch (put x h t.next)) refl (λ k. pulled_note c x h k (k == h) refl);
+          step = quiet_step (ready z.epoch x) (ready z.epoch (put x h t.next)) refl (λ k. pulled_note x h k (k == h) refl);
         }

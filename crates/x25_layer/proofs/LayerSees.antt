@@ -2,6 +2,7 @@
 use Rattle.std.proofs.Common.{◌≡◌, ℕ, ◌<◌, List, [], ◌∷◌, Option, None, Some, if◌then◌else◌, option_to_list}
 use Rattle.x25_packet.specs.PlainPacket.{PlainPacket, restart, restart_conf}
 use Rattle.x25_packet.specs.Spelling.{channel_of}
+use Rattle.x25_circuit.specs.declared.params.Params.{Params}
 use Rattle.x25_circuit.specs.Circuit.{Circuit, forgotten}
 use Rattle.x25_circuit.specs.Calls.{Calls}
 use Rattle.x25_epochs.specs.Handshake.{Side, Live, Left, has_left, At}
@@ -13,7 +14,7 @@ use Rattle.x25_layer.specs.Calls.{LayerRequest, Asks, Dials, Restarts, LayerOutc
 use Rattle.x25_layer.specs.Quiet.{AreQuiet, AreNoFaults}
 use Rattle.x25_layer.specs.Transcript.{Handed, nothing_handed, Entry, under}
 use Rattle.x25_layer.specs.World.{entries_told, entries_asked}
-use Rattle.x25_layer.proofs.Sees.{view, bare, held_of, resets_of, Notes, act_of}
+use Rattle.x25_layer.proofs.Sees.{unagreed, view, Shows, bare, held_of, resets_of, Notes, act_of}
 
 abbrev pub bare_layer : PlainPacket → LayerPacket
 bare_layer (restart cause diagnostic) = Restart
@@ -24,14 +25,15 @@ abbrev pub bare_layers : List PlainPacket → List LayerPacket
 bare_layers [] = []
 bare_layers (packet ∷ packets) = bare_layer packet ∷ bare_layers packets
 
-abbrev pub view_at : Side Channels → ℕ → Circuit
-view_at (Live x) k = view (x k)
-view_at (Left x) k = forgotten (view (x k))
+-- of a channel in a layer that restarts nothing but its counts is kept
+abbrev pub ShowsAt : Side Channels → ℕ → Circuit → Type 0
+ShowsAt (Live x) k c = Shows c (x k)
+ShowsAt (Left x) k c = c ≡ forgotten (view unagreed (x k))
 
 pub record SeesLayer (l : Layer) (z : At Channels) : Type 0 where
   pub restarting : l.restarting ≡ has_left z.side
   pub restarts : l.restarts ≡ z.epoch
-  pub circuits : (k : ℕ) → l.circuits k ≡ view_at z.side k
+  pub circuits : (k : ℕ) → ShowsAt z.side k (l.circuits k)
 
 -- the name of the stretch that stands on a channel
 abbrev pub present : At Channels → ℕ → Name
@@ -61,14 +63,14 @@ pub record DoesLayer (channels : ℕ) (l : Layer) (packet : Option PlainPacket) 
   pub quiet : AreQuiet channels (option_to_list packet)
   pub step : StepOf z s.next es
 
-abbrev pub dial_act : Option ℕ → List ℕ → List ℕ → List ℕ → LayerAct
-dial_act None called calling user = SendsRestart
-dial_act (Some h) called calling user = OnChannel h (act_of (Calls called calling user))
+abbrev pub dial_act : Option ℕ → List ℕ → List ℕ → List ℕ → Params → LayerAct
+dial_act None called calling user params = SendsRestart
+dial_act (Some h) called calling user params = OnChannel h (act_of (Calls called calling user params))
 
 -- (of a dial that finds no free channel nothing is said)
 abbrev pub layer_act : LayerSettings → (ℕ → Circuit) → LayerRequest → LayerAct
 layer_act c circuits (Asks h request) = OnChannel h (act_of request)
-layer_act c circuits (Dials called calling user) = dial_act (free_channel c.circuit.role circuits c.channels) called calling user
+layer_act c circuits (Dials called calling user params) = dial_act (free_channel c.circuit.role circuits c.channels) called calling user params
 layer_act c circuits Restarts = SendsRestart
 
 abbrev pub HeedsLayer : LayerSettings → Layer → LayerRequest → LayerOutcome → At Channels → LayerStep → Type 0

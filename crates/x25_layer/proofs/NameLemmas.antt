@@ -7,11 +7,13 @@ use Rattle.x25_circuit.specs.declared.message.Message.{Message}
 use Rattle.x25_circuit.specs.declared.error.CircuitError.TheVariants.{Full, TooLong, InterruptOutstanding, BadParameter}
 use Rattle.x25_circuit.specs.declared.state.State.{State}
 use Rattle.x25_circuit.specs.declared.state.State.TheVariants.{Free, Calling, Arriving, Collision, Open, Resetting, Clearing}
+use Rattle.x25_circuit.specs.declared.params.Params.{Params}
+use Rattle.x25_circuit.specs.Params.{may_answer, field_for, said_in}
 use Rattle.x25_circuit.specs.Messages.{Piece, piece_of, no_part, joining, completed, cut}
-use Rattle.x25_circuit.specs.Circuit.{Settings, Talk, Circuit, is_free, is_free_in, waits}
-use Rattle.x25_circuit.specs.Notices.{CallRequest, PlainNotice, deliveries}
-use Rattle.x25_circuit.specs.Table.{Answer, answers, unless_facilities, collides, row_call, row_accept, row_clear, row_clear_conf, row_reset, row_reset_conf, unless, takes, hears_status, confirms, row_open, row_data, data_ground, number_ground}
-use Rattle.x25_circuit.specs.Calls.{Outcome, Done, Refused, Request, Calls, Accepts, Clears, Sends, Interrupts, Resets, SaysReady, SaysNotReady, does, keeps_on, request_of, call_sent, may_call, call_in, accept_in, clear_in, send_in, interrupt_in, reset_in, ready_in, outcome, Pulled, pull_open, pull_in, pulled}
+use Rattle.x25_circuit.specs.Circuit.{Settings, Talk, Circuit, outgoing, incoming as terms_in, is_free, is_free_in, waits}
+use Rattle.x25_circuit.specs.Notices.{CallRequest, PlainNotice, connected, deliveries}
+use Rattle.x25_circuit.specs.Table.{Answer, answers, goes, clears_for, request_in, collides, connects, row_call, row_accept, row_clear, row_clear_conf, row_reset, row_reset_conf, unless, takes, hears_status, confirms, row_open, row_data, data_ground, number_ground}
+use Rattle.x25_circuit.specs.Calls.{Outcome, Done, Refused, Request, Calls, Accepts, Clears, Sends, Interrupts, Resets, SaysReady, SaysNotReady, does, keeps_on, request_of, call_sent, may_call, call_in, accept_with, accept_in, clear_in, send_in, interrupt_in, reset_in, ready_in, outcome, Pulled, pull_open, pull_in, pulled}
 use Rattle.x25_epochs.specs.Names.{Name}
 use Rattle.x25_layer.specs.NameLaw.{named_by}
 
@@ -37,26 +39,29 @@ ClearsNotFree x (clear channel cause diagnostic) = is_free x ≡ false
 ClearsNotFree x p = Unit {0}
 
 module _ (c : Settings) (e : ℕ) (x : Circuit) where
-  facilities_count : (facilities : List ℕ) (good : Answer) → Counts e x good → Counts e x (unless_facilities c x facilities good)
-  facilities_count [] good h = h
-  facilities_count (code ∷ rest) good h = refl
-
   collides_count : (role : Role) (request : CallRequest) → Counts e x (collides role x request)
   collides_count Dte request = refl
   collides_count Dce request = refl
 
-  call_count : (s : State) (request : CallRequest) (facilities : List ℕ) → Counts e x (row_call c x s request facilities)
-  call_count Free request facilities = facilities_count facilities _ refl
-  call_count Calling request facilities = facilities_count facilities (collides c.role x request) (collides_count c.role request)
-  call_count Clearing request facilities = refl
-  call_count Arriving request facilities = refl
-  call_count Collision request facilities = refl
-  call_count Open request facilities = refl
-  call_count Resetting request facilities = refl
+  call_count : (s : State) (request : CallRequest) → Counts e x (row_call c x s request)
+  call_count Free request = refl
+  call_count Calling request = collides_count c.role request
+  call_count Clearing request = refl
+  call_count Arriving request = refl
+  call_count Collision request = refl
+  call_count Open request = refl
+  call_count Resetting request = refl
+
+  connects_count : (answered : Params) → Counts e x (connects c x answered)
+  connects_count answered = by (may_answer x.params answered)
+    where
+      by : (b : Bool) → Counts e x (if b then goes x Open answered true None (connected answered ∷ []) else clears_for c x 3 66)
+      by true = refl
+      by false = refl
 
   accept_count : (s : State) (facilities : List ℕ) → Counts e x (row_accept c x s facilities)
-  accept_count Calling facilities = facilities_count facilities _ refl
-  accept_count Collision facilities = facilities_count facilities _ refl
+  accept_count Calling facilities = connects_count (said_in x.params facilities)
+  accept_count Collision facilities = connects_count (said_in x.params facilities)
   accept_count Clearing facilities = refl
   accept_count Free facilities = refl
   accept_count Arriving facilities = refl
@@ -112,7 +117,7 @@ module _ (c : Settings) (e : ℕ) (x : Circuit) where
 
   open_count : (t : Talk) (p : PlainPacket) → Counts e x (row_open c x t p)
   open_count t (user_data channel q m ps pr user) =
-      unless_count (data_ground c.incoming.size t ps pr (piece_of q m user)) (takes x t pr (piece_of q m user)) (deliveries_count (name_in e x) (completed (joining no_part t.taken) (piece_of q m user)))
+      unless_count (data_ground (terms_in x).size t ps pr (piece_of q m user)) (takes x t pr (piece_of q m user)) (deliveries_count (name_in e x) (completed (joining no_part t.taken) (piece_of q m user)))
   open_count t (rr channel pr) = unless_count (number_ground t pr) (hears_status x t true pr) refl
   open_count t (rnr channel pr) = unless_count (number_ground t pr) (hears_status x t false pr) refl
   open_count t (interrupt channel user) = refl
@@ -129,7 +134,7 @@ module _ (c : Settings) (e : ℕ) (x : Circuit) where
   data_count Collision p = refl
 
   pub circuit_counts : (p : PlainPacket) → ClearsNotFree x p → Counts e x (answers c x p)
-  circuit_counts (call channel called calling facilities user) ok = call_count x.state (record { called = called; calling = calling; user = user }) facilities
+  circuit_counts (call channel called calling facilities user) ok = call_count x.state (request_in called calling facilities user)
   circuit_counts (accept channel facilities) ok = accept_count x.state facilities
   circuit_counts (clear channel cause diagnostic) ok = clear_count x.state cause diagnostic ok
   circuit_counts (clear_conf channel) ok = clear_conf_count x.state
@@ -154,23 +159,28 @@ keeps_if x true u v h g = h
 keeps_if x false u v h g = g
 
 module _ (c : Settings) (x : Circuit) where
-  call_keeps : (s : State) (called calling user : List ℕ) → KeepsName x (call_in x s called calling user)
-  call_keeps Free called calling user = keeps_if x (may_call called calling user) (does x Calling (call_sent (request_of called calling user))) (Refused BadParameter) (λ e. refl) tt
-  call_keeps Calling called calling user = tt
-  call_keeps Arriving called calling user = tt
-  call_keeps Collision called calling user = tt
-  call_keeps Open called calling user = tt
-  call_keeps Resetting called calling user = tt
-  call_keeps Clearing called calling user = tt
+  call_keeps : (s : State) (called calling user : List ℕ) (params : Params) → KeepsName x (call_in x s called calling user params)
+  call_keeps Free called calling user params =
+      keeps_if x (may_call called calling user params) (does x Calling params true (call_sent (request_of called calling user params))) (Refused BadParameter) (λ e. refl) tt
+  call_keeps Calling called calling user params = tt
+  call_keeps Arriving called calling user params = tt
+  call_keeps Collision called calling user params = tt
+  call_keeps Open called calling user params = tt
+  call_keeps Resetting called calling user params = tt
+  call_keeps Clearing called calling user params = tt
 
-  accept_keeps : (s : State) → KeepsName x (accept_in x s)
-  accept_keeps Arriving = λ e. refl
-  accept_keeps Free = tt
-  accept_keeps Calling = tt
-  accept_keeps Collision = tt
-  accept_keeps Open = tt
-  accept_keeps Resetting = tt
-  accept_keeps Clearing = tt
+  answer_keeps : (answer : Option Params) → KeepsName x (accept_with x answer)
+  answer_keeps None = λ e. refl
+  answer_keeps (Some answer) = keeps_if x (may_answer x.params answer) (does x Open answer false (accept 1 (field_for x.params answer))) (Refused BadParameter) (λ e. refl) tt
+
+  accept_keeps : (s : State) (answer : Option Params) → KeepsName x (accept_in x s answer)
+  accept_keeps Arriving answer = answer_keeps answer
+  accept_keeps Free answer = tt
+  accept_keeps Calling answer = tt
+  accept_keeps Collision answer = tt
+  accept_keeps Open answer = tt
+  accept_keeps Resetting answer = tt
+  accept_keeps Clearing answer = tt
 
   clear_keeps : (s : State) → KeepsName x (clear_in x s)
   clear_keeps Free = tt
@@ -184,7 +194,7 @@ module _ (c : Settings) (x : Circuit) where
   -- a message more waits; and an interrupt is out
   abbrev sends : Talk → Bool → List ℕ → Outcome
   sends t q user =
-      keeps_on x (record { sent = t.sent; taken = t.taken; acked = t.acked; rest = t.rest ++ cut c.outgoing.size q user; int_out = t.int_out; peer_ready = t.peer_ready; own_ready = t.own_ready }) None
+      keeps_on x (record { sent = t.sent; taken = t.taken; acked = t.acked; rest = t.rest ++ cut (outgoing x).size q user; int_out = t.int_out; peer_ready = t.peer_ready; own_ready = t.own_ready }) None
 
   abbrev interrupts : Talk → List ℕ → Outcome
   interrupts t user =
@@ -231,8 +241,8 @@ module _ (c : Settings) (x : Circuit) where
   ready_keeps Clearing is_ready = tt
 
   pub outcome_keeps : (request : Request) → KeepsName x (outcome c x request)
-  outcome_keeps (Calls called calling user) = call_keeps x.state called calling user
-  outcome_keeps Accepts = accept_keeps x.state
+  outcome_keeps (Calls called calling user params) = call_keeps x.state called calling user params
+  outcome_keeps (Accepts answer) = accept_keeps x.state answer
   outcome_keeps Clears = clear_keeps x.state
   outcome_keeps (Sends q user) = send_keeps x.state q user
   outcome_keeps (Interrupts user) = interrupt_keeps x.state user

@@ -1,5 +1,5 @@
 -- What a circuit tells and what its user asks is what its channel gains, in the nested handshakes, under its present name; or the name grows, and nothing is said.
-use Rattle.std.proofs.Common.{◌≡◌, inl, inr, ℕ, ◌+◌, ◌%◌, List, [], ◌∷◌, ◌++◌, length, Option, Some, None, Bool, true, false, nat_lt, nat_le, ◌&&◌, if◌then◌else◌, refl, sym, ap, ◌∙◌, arith}
+use Rattle.std.proofs.Common.{◌≡◌, inl, inr, ℕ, ◌+◌, ◌%◌, List, [], ◌∷◌, ◌++◌, length, Option, Some, None, Bool, true, false, nat_lt, nat_le, ◌&&◌, if◌then◌else◌, refl, sym, ap, subst, ◌∙◌, arith}
 use Rattle.std.proofs.lemmas.Grind.{common_steps}
 use Rattle.x25_bits.specs.declared.role.Role.{Role}
 use Rattle.x25_bits.specs.declared.role.Role.TheVariants.{Dte, Dce}
@@ -7,18 +7,24 @@ use Rattle.x25_packet.specs.PlainPacket.{PlainPacket, call, accept, clear, clear
 use Rattle.x25_packet.specs.Spelling.{HasChannel}
 use Rattle.x25_circuit.specs.declared.message.Message.{Message}
 use Rattle.x25_circuit.specs.Messages.{Piece, piece_of, no_part, joining, completed, wholes}
-use Rattle.x25_circuit.specs.Circuit.{Settings}
-use Rattle.x25_circuit.specs.Notices.{CallRequest, deliveries}
-use Rattle.x25_circuit.specs.Table.{answers, unless, takes, hears_status, confirms, collides}
-use Rattle.x25_circuit.specs.Calls.{Outcome, Request, Calls, Accepts, Clears, Sends, Interrupts, may_call, request_of, outcome}
+use Rattle.x25_circuit.specs.declared.params.Params.{Params}
+use Rattle.x25_circuit.specs.declared.error.CircuitError.TheVariants.{BadParameter}
+use Rattle.x25_circuit.specs.declared.state.State.TheVariants.{Calling, Open}
+use Rattle.x25_circuit.specs.Params.{Terms, may_answer, field_for, said_in}
+use Rattle.x25_circuit.specs.Circuit.{Settings, Circuit}
+use Rattle.x25_circuit.specs.Notices.{CallRequest, connected, deliveries}
+use Rattle.x25_circuit.specs.Table.{answers, unless, takes, hears_status, confirms, request_in, goes, clears_for, collides}
+use Rattle.x25_circuit.specs.Calls.{Outcome, Refused, Request, Calls, Accepts, Clears, Sends, Interrupts, does, call_sent, may_call, request_of, outcome}
 use Rattle.x25_epochs.specs.Handshake.{Side, Live, Left, At}
-use Rattle.x25_epochs.specs.Stretch.{Data, Stretch, StretchStep, stretch_does, stretch_fails, by_ground, takes_data, takes_status, data_ground, ack_ground, pulls}
-use Rattle.x25_epochs.specs.Calls.{Phase, Unused, Waiting, Offered, Crossed, Talking, Connection, call_crosses}
+use Rattle.x25_epochs.specs.Stretch.{Data, Call, Accept, Stretch, StretchStep, stretch_does, stretch_fails, by_ground, takes_data, takes_status, data_ground, ack_ground, pulls}
+use Rattle.x25_epochs.specs.Transfer.{d1, lifted}
+use Rattle.x25_epochs.specs.Calls.{Phase, Unused, Waiting, Offered, Crossed, Talking, Connection, CallStep, in_transfer, call_crosses, calling_talk, called_talk}
+use Rattle.x25_epochs.specs.Calls as nested_calls
 use Rattle.x25_epochs.specs.Channel.{clr, lifted_call, channel_takes, channel_acts}
-use Rattle.x25_layer.specs.Quiet.{IsQuiet}
 use Rattle.x25_layer.specs.Transcript.{Handed, nothing_handed, added, told_by_all, asked_by}
-use Rattle.x25_layer.proofs.Sees.{talk_of, view, bare, act_of, pull_act, held_stretch, held_of, resets_of, Notes, Adds, AfterReset, AfterClear, NotesOutcome}
-use Rattle.x25_layer.proofs.ViewLemmas.{some_none, channel_step, in_open, in_resetting, in_call}
+use Rattle.x25_layer.proofs.Sees.{talk_of, Agreed, sent_on, taken_on, AreAgreedIn, AreAgreed, view, bare, act_of, pull_act, held_stretch, held_of, resets_of, Notes, Adds, AfterReset, AfterClear, NotesOutcome}
+use Rattle.x25_layer.proofs.ParamsLemmas.{call_proposes}
+use Rattle.x25_layer.proofs.ViewLemmas.{some_none, channel_step, in_open, in_resetting, in_talk, in_call, on_terms}
 
 pub append_nil : {A : Type 0} (a : List A) → a ++ [] ≡ a
 append_nil a = grind (arith, common_steps)
@@ -54,122 +60,131 @@ told_deliveries : (ms : List Message) → told_by_all (deliveries ms) ≡ record
 told_deliveries [] = refl
 told_deliveries (m ∷ ms) = ap (λ (s : Handed). added (record { made = []; indicated = []; down = []; up = m ∷ []; int_down = []; int_up = [] }) s) (told_deliveries ms)
 
-data_notes : (c : Settings) (e : ℕ) (m i : List CallRequest) (s : ℕ) (x : Stretch) (pr : ℕ) (p : Piece) (g : Option ℕ) → (channel_step e m i s (by_ground g x (takes_data x pr p))).error ≡ None
-    → Notes (in_open e m i s x) (channel_step e m i s (by_ground g x (takes_data x pr p))).next (told_by_all (unless c (view (in_open e m i s x)) g (takes (view (in_open e m i s x)) (talk_of x) pr p)).notices)
-data_notes c e m i s x pr p None q =
+data_notes : (c : Settings) (g : Agreed) (e : ℕ) (m i : List CallRequest) (s : ℕ) (x : Stretch) (pr : ℕ) (p : Piece) (ground : Option ℕ) → (channel_step g e m i s (by_ground ground x (takes_data x pr p))).error ≡ None
+    → Notes (in_open g e m i s x) (channel_step g e m i s (by_ground ground x (takes_data x pr p))).next (told_by_all (unless c (view g (in_open g e m i s x)) ground (takes (view g (in_open g e m i s x)) (talk_of x) pr p)).notices)
+data_notes c g e m i s x pr p None q =
     Adds refl refl
     (handed_is m _ (none m) i _ (none i) x.down _ (none x.down) (x.up ++ completed (joining no_part x.taken) p) _ refl x.int_down _ (none x.int_down) x.int_up _ (none x.int_up)
     ∙ ap (λ (t : Handed). added (held_stretch m i x) t) (sym (told_deliveries (completed (joining no_part x.taken) p))))
     (inl (ap (λ (t : Handed). t.made) (told_deliveries (completed (joining no_part x.taken) p)), ap (λ (t : Handed). t.indicated) (told_deliveries (completed (joining no_part x.taken) p))))
-data_notes c e m i s x pr p (Some n) q = absurd (some_none n q)
+data_notes c g e m i s x pr p (Some n) q = absurd (some_none n q)
 
-status_notes : (c : Settings) (e : ℕ) (m i : List CallRequest) (s : ℕ) (x : Stretch) (b : Bool) (pr : ℕ) (g : Option ℕ) → (channel_step e m i s (by_ground g x (takes_status x b pr))).error ≡ None
-    → Notes (in_open e m i s x) (channel_step e m i s (by_ground g x (takes_status x b pr))).next (told_by_all (unless c (view (in_open e m i s x)) g (hears_status (view (in_open e m i s x)) (talk_of x) b pr)).notices)
-status_notes c e m i s x b pr None q = silent (in_open e m i s x) (channel_step e m i s (takes_status x b pr)).next (refl, refl, refl)
-status_notes c e m i s x b pr (Some n) q = absurd (some_none n q)
+status_notes : (c : Settings) (g : Agreed) (e : ℕ) (m i : List CallRequest) (s : ℕ) (x : Stretch) (b : Bool) (pr : ℕ) (ground : Option ℕ) → (channel_step g e m i s (by_ground ground x (takes_status x b pr))).error ≡ None
+    → Notes (in_open g e m i s x) (channel_step g e m i s (by_ground ground x (takes_status x b pr))).next (told_by_all (unless c (view g (in_open g e m i s x)) ground (hears_status (view g (in_open g e m i s x)) (talk_of x) b pr)).notices)
+status_notes c g e m i s x b pr None q = silent (in_open g e m i s x) (channel_step g e m i s (takes_status x b pr)).next (refl, refl, refl)
+status_notes c g e m i s x b pr (Some n) q = absurd (some_none n q)
 
-confirmed_notes : (c : Settings) (e : ℕ) (m i : List CallRequest) (s : ℕ) (x : Stretch) (b : Bool)
-    → (channel_step e m i s (if b then stretch_does (record x { int_out = false }) [] else stretch_fails x 43)).error ≡ None
-    → Notes (in_open e m i s x) (channel_step e m i s (if b then stretch_does (record x { int_out = false }) [] else stretch_fails x 43)).next (told_by_all (confirms c (view (in_open e m i s x)) (talk_of x) b).notices)
-confirmed_notes c e m i s x true q = silent (in_open e m i s x) (channel_step e m i s (stretch_does (record x { int_out = false }) [])).next (refl, refl, refl)
-confirmed_notes c e m i s x false q = absurd (some_none 43 q)
+confirmed_notes : (c : Settings) (g : Agreed) (e : ℕ) (m i : List CallRequest) (s : ℕ) (x : Stretch) (b : Bool)
+    → (channel_step g e m i s (if b then stretch_does (record x { int_out = false }) [] else stretch_fails x 43)).error ≡ None
+    → Notes (in_open g e m i s x) (channel_step g e m i s (if b then stretch_does (record x { int_out = false }) [] else stretch_fails x 43)).next (told_by_all (confirms c (view g (in_open g e m i s x)) (talk_of x) b).notices)
+confirmed_notes c g e m i s x true q = silent (in_open g e m i s x) (channel_step g e m i s (stretch_does (record x { int_out = false }) [])).next (refl, refl, refl)
+confirmed_notes c g e m i s x false q = absurd (some_none 43 q)
 
 -- the claim of a row
-abbrev Row : Settings → At Connection → PlainPacket → Type 0
-Row c n p = IsQuiet p → HasChannel p → (channel_takes c.role c.incoming.size n (bare p)).error ≡ None
-    → Notes n (channel_takes c.role c.incoming.size n (bare p)).next (told_by_all (answers c (view n) p).notices)
+abbrev Row : Settings → Agreed → At Connection → PlainPacket → Type 0
+Row c g n p = HasChannel p → (channel_takes c.role n (bare p)).error ≡ None → Notes n (channel_takes c.role n (bare p)).next (told_by_all (answers c (view g n) p).notices)
 
-row_open : (c : Settings) (e : ℕ) (m i : List CallRequest) (s : ℕ) (x : Stretch) (p : PlainPacket) → Row c (in_open e m i s x) p
-row_open c e m i s x (call h called calling fac user) ok has q = absurd (some_none 0 q)
-row_open c e m i s x (accept h fac) ok has q = absurd (some_none 0 q)
-row_open c e m i s x (clear h cause n) ok has q = AfterClear (omega arith) refl refl
-row_open c e m i s x (clear_conf h) ok has q = absurd (some_none 0 q)
-row_open c e m i s x (user_data h qualifier more ps pr user) ok has q = data_notes c e m i s x pr (piece_of qualifier more user) (data_ground c.incoming.size x ps pr (piece_of qualifier more user)) q
-row_open c e m i s x (rr h pr) ok has q = status_notes c e m i s x true pr (ack_ground x pr) q
-row_open c e m i s x (rnr h pr) ok has q = status_notes c e m i s x false pr (ack_ground x pr) q
-row_open c e m i s x (interrupt h user) ok has q =
+row_open : (c : Settings) (g : Agreed) (e : ℕ) (m i : List CallRequest) (s : ℕ) (x : Stretch) (p : PlainPacket) → Row c g (in_open g e m i s x) p
+row_open c g e m i s x (call h called calling fac user) has q = absurd (some_none 0 q)
+row_open c g e m i s x (accept h fac) has q = absurd (some_none 0 q)
+row_open c g e m i s x (clear h cause n) has q = AfterClear (omega arith) refl refl
+row_open c g e m i s x (clear_conf h) has q = absurd (some_none 0 q)
+row_open c g e m i s x (user_data h qualifier more ps pr user) has q = data_notes c g e m i s x pr (piece_of qualifier more user) (data_ground (taken_on g).size x ps pr (piece_of qualifier more user)) q
+row_open c g e m i s x (rr h pr) has q = status_notes c g e m i s x true pr (ack_ground x pr) q
+row_open c g e m i s x (rnr h pr) has q = status_notes c g e m i s x false pr (ack_ground x pr) q
+row_open c g e m i s x (interrupt h user) has q =
     Adds refl refl (handed_is m _ (none m) i _ (none i) x.down _ (none x.down) x.up _ (none x.up) x.int_down _ (none x.int_down) (x.int_up ++ user ∷ []) _ refl) (inl (refl, refl))
-row_open c e m i s x (interrupt_conf h) ok has q = confirmed_notes c e m i s x x.int_out q
-row_open c e m i s x (reset h cause n) ok has q = AfterReset refl (omega arith) refl refl
-row_open c e m i s x (reset_conf h) ok has q = absurd (some_none 27 q)
-row_open c e m i s x (restart cause n) ok has q = absurd has
-row_open c e m i s x restart_conf ok has q = absurd has
+row_open c g e m i s x (interrupt_conf h) has q = confirmed_notes c g e m i s x x.int_out q
+row_open c g e m i s x (reset h cause n) has q = AfterReset refl (omega arith) refl refl
+row_open c g e m i s x (reset_conf h) has q = absurd (some_none 27 q)
+row_open c g e m i s x (restart cause n) has q = absurd has
+row_open c g e m i s x restart_conf has q = absurd has
 
-row_resetting : (c : Settings) (e : ℕ) (m i : List CallRequest) (s : ℕ) (x : Stretch) (p : PlainPacket) → Row c (in_resetting e m i s x) p
-row_resetting c e m i s x (call h called calling fac user) ok has q = absurd (some_none 0 q)
-row_resetting c e m i s x (accept h fac) ok has q = absurd (some_none 0 q)
-row_resetting c e m i s x (clear h cause n) ok has q = AfterClear (omega arith) refl refl
-row_resetting c e m i s x (clear_conf h) ok has q = absurd (some_none 0 q)
-row_resetting c e m i s x (reset h cause n) ok has q = AfterReset refl (omega arith) refl refl
-row_resetting c e m i s x (reset_conf h) ok has q = AfterReset refl (omega arith) refl refl
-row_resetting c e m i s x (restart cause n) ok has q = absurd has
-row_resetting c e m i s x restart_conf ok has q = absurd has
-row_resetting c e m i s x other ok has q = still (in_resetting e m i s x)
+row_resetting : (c : Settings) (g : Agreed) (e : ℕ) (m i : List CallRequest) (s : ℕ) (x : Stretch) (p : PlainPacket) → Row c g (in_resetting g e m i s x) p
+row_resetting c g e m i s x (call h called calling fac user) has q = absurd (some_none 0 q)
+row_resetting c g e m i s x (accept h fac) has q = absurd (some_none 0 q)
+row_resetting c g e m i s x (clear h cause n) has q = AfterClear (omega arith) refl refl
+row_resetting c g e m i s x (clear_conf h) has q = absurd (some_none 0 q)
+row_resetting c g e m i s x (reset h cause n) has q = AfterReset refl (omega arith) refl refl
+row_resetting c g e m i s x (reset_conf h) has q = AfterReset refl (omega arith) refl refl
+row_resetting c g e m i s x (restart cause n) has q = absurd has
+row_resetting c g e m i s x restart_conf has q = absurd has
+row_resetting c g e m i s x other has q = still (in_resetting g e m i s x)
 
-row_free : (c : Settings) (e : ℕ) (m i : List CallRequest) (p : PlainPacket) → Row c (in_call e m i Unused) p
-row_free c e m i (call h called calling [] user) ok has q =
-    Adds refl refl (handed_is m _ (none m) (i ++ record { called = called; calling = calling; user = user } ∷ []) _ refl [] _ refl [] _ refl [] _ refl [] _ refl) (inr refl)
-row_free c e m i (call h called calling (f ∷ fs) user) ok has q = absurd (cc)
-row_free c e m i (clear h cause n) ok has q = absurd (some_none 20 q)
-row_free c e m i (restart cause n) ok has q = absurd has
-row_free c e m i restart_conf ok has q = absurd has
-row_free c e m i other ok has q = absurd (some_none 0 q)
+row_free : (c : Settings) (g : Agreed) (e : ℕ) (m i : List CallRequest) (p : PlainPacket) → Row c g (in_call e m i Unused) p
+row_free c g e m i (call h called calling fac user) has q =
+    Adds refl refl (handed_is m _ (none m) (i ++ request_in called calling fac user ∷ []) _ refl [] _ refl [] _ refl [] _ refl [] _ refl) (inr refl)
+row_free c g e m i (clear h cause n) has q = absurd (some_none 20 q)
+row_free c g e m i (restart cause n) has q = absurd has
+row_free c g e m i restart_conf has q = absurd has
+row_free c g e m i other has q = absurd (some_none 0 q)
 
-collision_notes : (r : Role) (e : ℕ) (m i : List CallRequest) (request : CallRequest)
-    → Notes (in_call e m i Waiting) (lifted_call e (call_crosses r m i request) (call_crosses r m i request).error).next (told_by_all (collides r (view (in_call e m i Waiting)) request).notices)
-collision_notes Dte e m i request = silent (in_call e m i Waiting) (in_call e m i Crossed) (refl, refl, refl)
-collision_notes Dce e m i request = Adds refl refl (handed_is m _ (none m) (i ++ request ∷ []) _ refl [] _ refl [] _ refl [] _ refl [] _ refl) (inr refl)
+collision_notes : (r : Role) (g : Agreed) (e : ℕ) (m i : List CallRequest) (mine : Params) (request : CallRequest)
+    → Notes (in_call e m i (Waiting mine)) (lifted_call e (call_crosses r mine m i request) (call_crosses r mine m i request).error).next (told_by_all (collides r (view g (in_call e m i (Waiting mine))) request).notices)
+collision_notes Dte g e m i mine request = silent (in_call e m i (Waiting mine)) (in_call e m i (Crossed mine)) (refl, refl, refl)
+collision_notes Dce g e m i mine request = Adds refl refl (handed_is m _ (none m) (i ++ request ∷ []) _ refl [] _ refl [] _ refl [] _ refl [] _ refl) (inr refl)
 
-row_calling : (c : Settings) (e : ℕ) (m i : List CallRequest) (p : PlainPacket) → Row c (in_call e m i Waiting) p
-row_calling c e m i (call h called calling [] user) ok has q = collision_notes c.role e m i (record { called = called; calling = calling; user = user })
-row_calling c e m i (call h called calling (f ∷ fs) user) ok has q = absurd (cc)
-row_calling c e m i (accept h []) ok has q = Adds refl refl (added_nothing (held_of (in_call e m i Waiting))) (inl (refl, refl))
-row_calling c e m i (accept h (f ∷ fs)) ok has q = absurd (cc)
-row_calling c e m i (clear h cause n) ok has q = AfterClear (omega arith) refl refl
-row_calling c e m i (restart cause n) ok has q = absurd has
-row_calling c e m i restart_conf ok has q = absurd has
-row_calling c e m i other ok has q = absurd (some_none 0 q)
+-- a call that isn't of p4 yet holds nothing else
+abbrev IsBefore : Phase → Type 0
+IsBefore a = (e : ℕ) (m i : List CallRequest) → (held_of (in_call e m i a) ≡ held_of (in_call e m i Unused)) × (resets_of (in_call e m i a) ≡ 0)
 
-row_collision : (c : Settings) (e : ℕ) (m i : List CallRequest) (p : PlainPacket) → Row c (in_call e m i Crossed) p
-row_collision c e m i (accept h []) ok has q = Adds refl refl (added_nothing (held_of (in_call e m i Crossed))) (inl (refl, refl))
-row_collision c e m i (accept h (f ∷ fs)) ok has q = absurd (cc)
-row_collision c e m i (clear h cause n) ok has q = AfterClear (omega arith) refl refl
-row_collision c e m i (restart cause n) ok has q = absurd has
-row_collision c e m i restart_conf ok has q = absurd has
-row_collision c e m i other ok has q = absurd (some_none 0 q)
+answered_notes : (c : Settings) (x : Circuit) (e : ℕ) (m i : List CallRequest) (a : Phase) (answer : Params) → IsBefore a → (b : Bool)
+    → let s : CallStep = if b then nested_calls.goes (calling_talk answer) m i [] else nested_calls.unexpected a m i in
+    (lifted_call e s s.error).error ≡ None
+    → Notes (in_call e m i a) (lifted_call e s s.error).next (told_by_all (if b then goes x Open answer true None (connected answer ∷ []) else clears_for c x 3 66).notices)
+answered_notes c x e m i a answer before true q =
+    silent (in_call e m i a) (in_call e m i (calling_talk answer)) (refl, sym (before e m i).1, sym (before e m i).0)
+answered_notes c x e m i a answer before false q = absurd (some_none 0 q)
 
-row_arriving : (c : Settings) (e : ℕ) (m i : List CallRequest) (p : PlainPacket) → Row c (in_call e m i Offered) p
-row_arriving c e m i (clear h cause n) ok has q = AfterClear (omega arith) refl refl
-row_arriving c e m i (restart cause n) ok has q = absurd has
-row_arriving c e m i restart_conf ok has q = absurd has
-row_arriving c e m i other ok has q = absurd (some_none 0 q)
+row_calling : (c : Settings) (g : Agreed) (e : ℕ) (m i : List CallRequest) (mine : Params) (p : PlainPacket) → Row c g (in_call e m i (Waiting mine)) p
+row_calling c g e m i mine (call h called calling fac user) has q = collision_notes c.role g e m i mine (request_in called calling fac user)
+row_calling c g e m i mine (accept h fac) has q =
+    answered_notes c (view g (in_call e m i (Waiting mine))) e m i (Waiting mine) (said_in mine fac) (λ e m i. (refl, refl)) (may_answer mine (said_in mine fac)) q
+row_calling c g e m i mine (clear h cause n) has q = AfterClear (omega arith) refl refl
+row_calling c g e m i mine (restart cause n) has q = absurd has
+row_calling c g e m i mine restart_conf has q = absurd has
+row_calling c g e m i mine other has q = absurd (some_none 0 q)
 
-row_in_transfer : (c : Settings) (e : ℕ) (m i : List CallRequest) (s : ℕ) (x : Side Stretch) (p : PlainPacket) → Row c (in_call e m i (Talking (record { epoch = s; side = x }))) p
-row_in_transfer c e m i s (Live x) p ok has q = row_open c e m i s x p ok has q
-row_in_transfer c e m i s (Left x) p ok has q = row_resetting c e m i s x p ok has q
+row_collision : (c : Settings) (g : Agreed) (e : ℕ) (m i : List CallRequest) (mine : Params) (p : PlainPacket) → Row c g (in_call e m i (Crossed mine)) p
+row_collision c g e m i mine (accept h fac) has q =
+    answered_notes c (view g (in_call e m i (Crossed mine))) e m i (Crossed mine) (said_in mine fac) (λ e m i. (refl, refl)) (may_answer mine (said_in mine fac)) q
+row_collision c g e m i mine (clear h cause n) has q = AfterClear (omega arith) refl refl
+row_collision c g e m i mine (restart cause n) has q = absurd has
+row_collision c g e m i mine restart_conf has q = absurd has
+row_collision c g e m i mine other has q = absurd (some_none 0 q)
 
-row_in_call : (c : Settings) (e : ℕ) (m i : List CallRequest) (a : Phase) (p : PlainPacket) → Row c (in_call e m i a) p
-row_in_call c e m i Unused p ok has q = row_free c e m i p ok has q
-row_in_call c e m i Waiting p ok has q = row_calling c e m i p ok has q
-row_in_call c e m i Offered p ok has q = row_arriving c e m i p ok has q
-row_in_call c e m i Crossed p ok has q = row_collision c e m i p ok has q
-row_in_call c e m i (Talking at) p ok has q = row_in_transfer c e m i at.epoch at.side p ok has q
+row_arriving : (c : Settings) (g : Agreed) (e : ℕ) (m i : List CallRequest) (theirs : Params) (p : PlainPacket) → Row c g (in_call e m i (Offered theirs)) p
+row_arriving c g e m i theirs (clear h cause n) has q = AfterClear (omega arith) refl refl
+row_arriving c g e m i theirs (restart cause n) has q = absurd has
+row_arriving c g e m i theirs restart_conf has q = absurd has
+row_arriving c g e m i theirs other has q = absurd (some_none 0 q)
 
-row_clearing : (c : Settings) (e : ℕ) (x : Connection) (p : PlainPacket) → Row c (clr e x) p
-row_clearing c e x (clear h cause n) ok has q = AfterClear (omega arith) refl refl
-row_clearing c e x (clear_conf h) ok has q = AfterClear (omega arith) refl refl
-row_clearing c e x (restart cause n) ok has q = absurd has
-row_clearing c e x restart_conf ok has q = absurd has
-row_clearing c e x other ok has q = still (clr e x)
+row_in_transfer : (c : Settings) (g : Agreed) (e : ℕ) (m i : List CallRequest) (s : ℕ) (x : Side Stretch) (p : PlainPacket) → Row c g (in_talk g e m i (record { epoch = s; side = x })) p
+row_in_transfer c g e m i s (Live x) p has q = row_open c g e m i s x p has q
+row_in_transfer c g e m i s (Left x) p has q = row_resetting c g e m i s x p has q
 
-row_side : (c : Settings) (e : ℕ) (x : Side Connection) (p : PlainPacket) → Row c (record { epoch = e; side = x }) p
-row_side c e (Live x) p ok has q = row_in_call c e x.made x.indicated x.phase p ok has q
-row_side c e (Left x) p ok has q = row_clearing c e x p ok has q
+row_in_call : (c : Settings) (g : Agreed) (e : ℕ) (m i : List CallRequest) (a : Phase) (p : PlainPacket) → AreAgreedIn g a → Row c g (in_call e m i a) p
+row_in_call c g e m i Unused p fits = row_free c g e m i p
+row_in_call c g e m i (Waiting mine) p fits = row_calling c g e m i mine p
+row_in_call c g e m i (Offered theirs) p fits = row_arriving c g e m i theirs p
+row_in_call c g e m i (Crossed mine) p fits = row_collision c g e m i mine p
+row_in_call c g e m i (Talking t b at) p fits = on_terms (λ a. Row c g (in_call e m i a) p) g t b at fits (row_in_transfer c g e m i at.epoch at.side p)
+
+row_clearing : (c : Settings) (g : Agreed) (e : ℕ) (x : Connection) (p : PlainPacket) → Row c g (clr e x) p
+row_clearing c g e x (clear h cause n) has q = AfterClear (omega arith) refl refl
+row_clearing c g e x (clear_conf h) has q = AfterClear (omega arith) refl refl
+row_clearing c g e x (restart cause n) has q = absurd has
+row_clearing c g e x restart_conf has q = absurd has
+row_clearing c g e x other has q = still (clr e x)
+
+row_side : (c : Settings) (g : Agreed) (e : ℕ) (x : Side Connection) (p : PlainPacket) → AreAgreed g x → Row c g (record { epoch = e; side = x }) p
+row_side c g e (Live x) p fits = row_in_call c g e x.made x.indicated x.phase p fits
+row_side c g e (Left x) p fits = row_clearing c g e x p
 
 -- A packet taken.
-pub notes_taken : (c : Settings) (n : At Connection) (p : PlainPacket) → IsQuiet p → HasChannel p → (channel_takes c.role c.incoming.size n (bare p)).error ≡ None
-    → Notes n (channel_takes c.role c.incoming.size n (bare p)).next (told_by_all (answers c (view n) p).notices)
-notes_taken c n p ok has q = row_side c n.epoch n.side p ok has q
+pub notes_taken : (c : Settings) (g : Agreed) (n : At Connection) (p : PlainPacket) → AreAgreed g n.side → HasChannel p → (channel_takes c.role n (bare p)).error ≡ None
+    → Notes n (channel_takes c.role n (bare p)).next (told_by_all (answers c (view g n) p).notices)
+notes_taken c g n p fits has q = row_side c g n.epoch n.side p fits has q
 
 -- ---- calls of the user
 
@@ -184,90 +199,114 @@ if_both true true u v n f s w h p q = p
 if_both true false u v n f s w h p q = q
 if_both false b u v n f s w h p q = q
 
-if_asked : (b : Bool) (u v : Outcome) (n k : At Connection) (h : Handed) → NotesOutcome u n k h → NotesOutcome v n k h → NotesOutcome (if b then u else v) n k h
-if_asked true u v n k h p q = p
-if_asked false u v n k h p q = q
+abbrev Asked : Settings → Agreed → At Connection → Request → Type 0
+Asked c g n request = NotesOutcome (outcome c (view g n) request) n (channel_acts n (act_of request)).next (asked_by request)
 
-abbrev Asked : Settings → At Connection → Request → Type 0
-Asked c n request = NotesOutcome (outcome c (view n) request) n (channel_acts c.outgoing n (act_of request)).next (asked_by request)
-
-asked_send : (c : Settings) (e : ℕ) (m i : List CallRequest) (s : ℕ) (x : Stretch) (q : Bool) (user : List ℕ) → Asked c (in_open e m i s x) (Sends q user)
-asked_send c e m i s x q user =
-    if_notes (nat_le (length user) 65535) _ _ (in_open e m i s x) (λ st. (channel_step e m i s st).next) _ _ _
-    (if_notes (nat_lt (wholes x.rest) 8) _ _ (in_open e m i s x) (λ st. (channel_step e m i s st).next) _ _ _
+asked_send : (c : Settings) (g : Agreed) (e : ℕ) (m i : List CallRequest) (s : ℕ) (x : Stretch) (q : Bool) (user : List ℕ) → Asked c g (in_open g e m i s x) (Sends q user)
+asked_send c g e m i s x q user =
+    if_notes (nat_le (length user) 65535) _ _ (in_open g e m i s x) (λ st. (channel_step g e m i s st).next) _ _ _
+    (if_notes (nat_lt (wholes x.rest) 8) _ _ (in_open g e m i s x) (λ st. (channel_step g e m i s st).next) _ _ _
     (Adds refl refl
     (handed_is m _ (none m) i _ (none i) (x.down ++ record { q = q; user = user } ∷ []) _ refl x.up _ (none x.up) x.int_down _ (none x.int_down) x.int_up _ (none x.int_up)) (inl (refl, refl)))
     tt)
     tt
 
-asked_interrupt : (c : Settings) (e : ℕ) (m i : List CallRequest) (s : ℕ) (x : Stretch) (user : List ℕ) → Asked c (in_open e m i s x) (Interrupts user)
-asked_interrupt c e m i s x user =
-    if_both (nat_le 1 (length user)) (nat_le (length user) 32) _ _ (in_open e m i s x) (λ st. (channel_step e m i s st).next) _ _ _
-    (if_notes x.int_out _ _ (in_open e m i s x) (λ st. (channel_step e m i s st).next) _ _ _ tt
+asked_interrupt : (c : Settings) (g : Agreed) (e : ℕ) (m i : List CallRequest) (s : ℕ) (x : Stretch) (user : List ℕ) → Asked c g (in_open g e m i s x) (Interrupts user)
+asked_interrupt c g e m i s x user =
+    if_both (nat_le 1 (length user)) (nat_le (length user) 32) _ _ (in_open g e m i s x) (λ st. (channel_step g e m i s st).next) _ _ _
+    (if_notes x.int_out _ _ (in_open g e m i s x) (λ st. (channel_step g e m i s st).next) _ _ _ tt
     (Adds refl refl (handed_is m _ (none m) i _ (none i) x.down _ (none x.down) x.up _ (none x.up) (x.int_down ++ user ∷ []) _ refl x.int_up _ (none x.int_up)) (inl (refl, refl))))
     tt
 
-asked_open : (c : Settings) (e : ℕ) (m i : List CallRequest) (s : ℕ) (x : Stretch) (request : Request) → Asked c (in_open e m i s x) request
-asked_open c e m i s x (Calls called calling user) = tt
-asked_open c e m i s x Accepts = tt
-asked_open c e m i s x (Sends q user) = asked_send c e m i s x q user
-asked_open c e m i s x (Interrupts user) = asked_interrupt c e m i s x user
-asked_open c e m i s x other = Adds refl refl (added_nothing (held_stretch m i x)) (inl (refl, refl))
+asked_open : (c : Settings) (g : Agreed) (e : ℕ) (m i : List CallRequest) (s : ℕ) (x : Stretch) (request : Request) → Asked c g (in_open g e m i s x) request
+asked_open c g e m i s x (Calls called calling user params) = tt
+asked_open c g e m i s x (Accepts answer) = tt
+asked_open c g e m i s x (Sends q user) = asked_send c g e m i s x q user
+asked_open c g e m i s x (Interrupts user) = asked_interrupt c g e m i s x user
+asked_open c g e m i s x other = Adds refl refl (added_nothing (held_stretch m i x)) (inl (refl, refl))
 
-asked_resetting : (c : Settings) (e : ℕ) (m i : List CallRequest) (s : ℕ) (x : Stretch) (request : Request) → Asked c (in_resetting e m i s x) request
-asked_resetting c e m i s x Clears = Adds refl refl (added_nothing (held_stretch m i x)) (inl (refl, refl))
-asked_resetting c e m i s x other = tt
+asked_resetting : (c : Settings) (g : Agreed) (e : ℕ) (m i : List CallRequest) (s : ℕ) (x : Stretch) (request : Request) → Asked c g (in_resetting g e m i s x) request
+asked_resetting c g e m i s x Clears = Adds refl refl (added_nothing (held_stretch m i x)) (inl (refl, refl))
+asked_resetting c g e m i s x other = tt
 
-asked_in_transfer : (c : Settings) (e : ℕ) (m i : List CallRequest) (s : ℕ) (x : Side Stretch) (request : Request) → Asked c (in_call e m i (Talking (record { epoch = s; side = x }))) request
-asked_in_transfer c e m i s (Live x) request = asked_open c e m i s x request
-asked_in_transfer c e m i s (Left x) request = asked_resetting c e m i s x request
+asked_in_transfer : (c : Settings) (g : Agreed) (e : ℕ) (m i : List CallRequest) (s : ℕ) (x : Side Stretch) (request : Request) → Asked c g (in_talk g e m i (record { epoch = s; side = x })) request
+asked_in_transfer c g e m i s (Live x) request = asked_open c g e m i s x request
+asked_in_transfer c g e m i s (Left x) request = asked_resetting c g e m i s x request
 
-asked_in_call : (c : Settings) (e : ℕ) (m i : List CallRequest) (a : Phase) (request : Request) → Asked c (in_call e m i a) request
-asked_in_call c e m i Unused (Calls called calling user) =
-    if_asked (may_call called calling user) _ _ (in_call e m i Unused) _ _
-    (Adds refl refl (handed_is (m ++ request_of called calling user ∷ []) _ refl i _ (none i) [] _ refl [] _ refl [] _ refl [] _ refl) (inr refl)) tt
-asked_in_call c e m i Unused other = tt
-asked_in_call c e m i Waiting Clears = Adds refl refl (added_nothing (held_of (in_call e m i Waiting))) (inl (refl, refl))
-asked_in_call c e m i Waiting other = tt
-asked_in_call c e m i Offered Accepts = Adds refl refl (added_nothing (held_of (in_call e m i Offered))) (inl (refl, refl))
-asked_in_call c e m i Offered Clears = Adds refl refl (added_nothing (held_of (in_call e m i Offered))) (inl (refl, refl))
-asked_in_call c e m i Offered other = tt
-asked_in_call c e m i Crossed Clears = Adds refl refl (added_nothing (held_of (in_call e m i Crossed))) (inl (refl, refl))
-asked_in_call c e m i Crossed other = tt
-asked_in_call c e m i (Talking at) request = asked_in_transfer c e m i at.epoch at.side request
+asked_call : (c : Settings) (g : Agreed) (e : ℕ) (m i : List CallRequest) (called calling user : List ℕ) (params : Params) → Asked c g (in_call e m i Unused) (Calls called calling user params)
+asked_call c g e m i called calling user params = test (may_call called calling user params) refl
+  where
+    placed : Bool → CallStep
+    placed b = if b then nested_calls.goes (Waiting params) (m ++ request_of called calling user params ∷ []) i (Call (request_of called calling user params) ∷ []) else nested_calls.goes Unused m i []
 
-asked_side : (c : Settings) (e : ℕ) (x : Side Connection) (request : Request) → Asked c (record { epoch = e; side = x }) request
-asked_side c e (Live x) request = asked_in_call c e x.made x.indicated x.phase request
-asked_side c e (Left x) Accepts = tt
-asked_side c e (Left x) other = tt
+    test : (b : Bool) → may_call called calling user params ≡ b
+        → NotesOutcome (if b then does (view g (in_call e m i Unused)) Calling params true (call_sent (request_of called calling user params)) else Refused BadParameter) (in_call e m i Unused)
+        (channel_acts (in_call e m i Unused) (act_of (Calls called calling user params))).next (asked_by (Calls called calling user params))
+    test true is =
+        subst (λ (b : Bool). Notes (in_call e m i Unused) (lifted_call e (placed b) (placed b).error).next (asked_by (Calls called calling user params))) (sym (call_proposes called calling user params is))
+        (Adds refl refl (handed_is (m ++ request_of called calling user params ∷ []) _ refl i _ (none i) [] _ refl [] _ refl [] _ refl [] _ refl) (inr refl))
+    test false is = tt
 
-pub notes_asked : (c : Settings) (n : At Connection) (request : Request) → NotesOutcome (outcome c (view n) request) n (channel_acts c.outgoing n (act_of request)).next (asked_by request)
-notes_asked c n request = asked_side c n.epoch n.side request
+asked_answer : (c : Settings) (g : Agreed) (e : ℕ) (m i : List CallRequest) (theirs answer : Params) → Asked c g (in_call e m i (Offered theirs)) (Accepts (Some answer))
+asked_answer c g e m i theirs answer = test (may_answer theirs answer)
+  where
+    answered : Bool → CallStep
+    answered b = if b then nested_calls.goes (called_talk answer) m i (Accept (field_for theirs answer) ∷ []) else nested_calls.goes (Offered theirs) m i []
+
+    test : (b : Bool)
+        → NotesOutcome (if b then does (view g (in_call e m i (Offered theirs))) Open answer false (accept 1 (field_for theirs answer)) else Refused BadParameter) (in_call e m i (Offered theirs))
+        (lifted_call e (answered b) (answered b).error).next (asked_by (Accepts (Some answer)))
+    test true = Adds refl refl (added_nothing (held_of (in_call e m i (Offered theirs)))) (inl (refl, refl))
+    test false = tt
+
+asked_in_call : (c : Settings) (g : Agreed) (e : ℕ) (m i : List CallRequest) (a : Phase) (request : Request) → AreAgreedIn g a → Asked c g (in_call e m i a) request
+asked_in_call c g e m i Unused (Calls called calling user params) fits = asked_call c g e m i called calling user params
+asked_in_call c g e m i Unused other fits = tt
+asked_in_call c g e m i (Waiting mine) Clears fits = Adds refl refl (added_nothing (held_of (in_call e m i (Waiting mine)))) (inl (refl, refl))
+asked_in_call c g e m i (Waiting mine) other fits = tt
+asked_in_call c g e m i (Offered theirs) (Accepts None) fits = Adds refl refl (added_nothing (held_of (in_call e m i (Offered theirs)))) (inl (refl, refl))
+asked_in_call c g e m i (Offered theirs) (Accepts (Some answer)) fits = asked_answer c g e m i theirs answer
+asked_in_call c g e m i (Offered theirs) Clears fits = Adds refl refl (added_nothing (held_of (in_call e m i (Offered theirs)))) (inl (refl, refl))
+asked_in_call c g e m i (Offered theirs) other fits = tt
+asked_in_call c g e m i (Crossed mine) Clears fits = Adds refl refl (added_nothing (held_of (in_call e m i (Crossed mine)))) (inl (refl, refl))
+asked_in_call c g e m i (Crossed mine) other fits = tt
+asked_in_call c g e m i (Talking t b at) request fits = on_terms (λ a. Asked c g (in_call e m i a) request) g t b at fits (asked_in_transfer c g e m i at.epoch at.side request)
+
+asked_side : (c : Settings) (g : Agreed) (e : ℕ) (x : Side Connection) (request : Request) → AreAgreed g x → Asked c g (record { epoch = e; side = x }) request
+asked_side c g e (Live x) request fits = asked_in_call c g e x.made x.indicated x.phase request fits
+asked_side c g e (Left x) (Accepts answer) fits = tt
+asked_side c g e (Left x) other fits = tt
+
+pub notes_asked : (c : Settings) (g : Agreed) (n : At Connection) (request : Request) → AreAgreed g n.side → NotesOutcome (outcome c (view g n) request) n (channel_acts n (act_of request)).next (asked_by request)
+notes_asked c g n request fits = asked_side c g n.epoch n.side request fits
 
 -- ---- a pull says nothing
 
-pulled_open : (c : Settings) (e : ℕ) (m i : List CallRequest) (s : ℕ) (x : Stretch) (rest : List Piece) → Silent (in_open e m i s x) (channel_step e m i s (pulls c.outgoing x rest)).next
-pulled_open c e m i s x [] = (refl, refl, refl)
-pulled_open c e m i s x (p ∷ ps) = test x.peer_ready (nat_lt (length x.sent) (x.acked + c.outgoing.window))
+pulled_open : (t b : Terms) (e : ℕ) (m i : List CallRequest) (s : ℕ) (x : Stretch) (rest : List Piece)
+    → Silent (in_call e m i (Talking t b (d1 s x))) (lifted_call e (in_transfer t b m i (lifted s (pulls t x rest) (pulls t x rest).error)) (lifted s (pulls t x rest) (pulls t x rest).error).error).next
+pulled_open t b e m i s x [] = (refl, refl, refl)
+pulled_open t b e m i s x (p ∷ ps) = test x.peer_ready (nat_lt (length x.sent) (x.acked + t.window))
   where
-    test : (a b : Bool)
-        → Silent (in_open e m i s x) (channel_step e m i s (if a then (if b then stretch_does (record x { sent = x.sent ++ p ∷ []; rest = ps }) (Data (length x.sent % 8) (length x.taken % 8) p ∷ []) else stretch_does x []) else stretch_does x [])).next
+    step : StretchStep → At Connection
+    step st = (lifted_call e (in_transfer t b m i (lifted s st st.error)) (lifted s st st.error).error).next
+
+    test : (a c : Bool)
+        → Silent (in_call e m i (Talking t b (d1 s x))) (step (if a then (if c then stretch_does (record x { sent = x.sent ++ p ∷ []; rest = ps }) (Data (length x.sent % 8) (length x.taken % 8) p ∷ []) else stretch_does x []) else stretch_does x []))
     test true true = (refl, refl, refl)
     test true false = (refl, refl, refl)
-    test false b = (refl, refl, refl)
+    test false c = (refl, refl, refl)
 
-pulled_in_call : (c : Settings) (e : ℕ) (m i : List CallRequest) (a : Phase) → Silent (in_call e m i a) (channel_acts c.outgoing (in_call e m i a) pull_act).next
-pulled_in_call c e m i (Talking at) = side at.epoch at.side
+pulled_in_call : (e : ℕ) (m i : List CallRequest) (a : Phase) → Silent (in_call e m i a) (channel_acts (in_call e m i a) pull_act).next
+pulled_in_call e m i (Talking t b at) = side at.epoch at.side
   where
-    side : (s : ℕ) (x : Side Stretch)
-        → Silent (in_call e m i (Talking (record { epoch = s; side = x }))) (channel_acts c.outgoing (in_call e m i (Talking (record { epoch = s; side = x }))) pull_act).next
-    side s (Live x) = pulled_open c e m i s x x.rest
+    side : (s : ℕ) (x : Side Stretch) → Silent (in_call e m i (Talking t b (record { epoch = s; side = x }))) (channel_acts (in_call e m i (Talking t b (record { epoch = s; side = x }))) pull_act).next
+    side s (Live x) = pulled_open t b e m i s x x.rest
     side s (Left x) = (refl, refl, refl)
-pulled_in_call c e m i other = (refl, refl, refl)
+pulled_in_call e m i other = (refl, refl, refl)
 
-pub notes_pulled : (c : Settings) (n : At Connection) → Notes n (channel_acts c.outgoing n pull_act).next nothing_handed
-notes_pulled c n = silent n (channel_acts c.outgoing n pull_act).next (side n.epoch n.side)
+pub notes_pulled : (n : At Connection) → Notes n (channel_acts n pull_act).next nothing_handed
+notes_pulled n = silent n (channel_acts n pull_act).next (side n.epoch n.side)
   where
-    side : (e : ℕ) (x : Side Connection) → Silent (record { epoch = e; side = x }) (channel_acts c.outgoing (record { epoch = e; side = x }) pull_act).next
-    side e (Live x) = pulled_in_call c e x.made x.indicated x.phase
+    side : (e : ℕ) (x : Side Connection) → Silent (record { epoch = e; side = x }) (channel_acts (record { epoch = e; side = x }) pull_act).next
+    side e (Live x) = pulled_in_call e x.made x.indicated x.phase
     side e (Left x) = (refl, refl, refl)

@@ -7,7 +7,7 @@ use Rattle.x25_circuit.specs.declared.circuit.Circuit as circuit_code
 use Rattle.x25_circuit.specs.declared.state.State.{State}
 use Rattle.x25_circuit.specs.declared.state.State.TheVariants.{Free, Calling, Arriving, Collision, Open, Resetting, Clearing}
 use Rattle.x25_circuit.specs.Messages.{Piece}
-use Rattle.x25_circuit.specs.Circuit.{Settings, Talk, Circuit}
+use Rattle.x25_circuit.specs.Circuit.{Settings, Talk, Circuit, outgoing}
 use Rattle.x25_circuit.specs.Calls.{Pulled, pulls_nothing, pull_open, pull_in, pulled}
 use Rattle.x25_circuit.specs.FitsCircuit.{FitsCircuit}
 use Rattle.x25_layer.specs.Layer.{LayerSettings, put_at, packet_on}
@@ -32,7 +32,7 @@ kept_if false next x p some none = refl
 
 none_kept_open : (c : Settings) (x : Circuit) (t : Talk) (rest : List Piece) → (pull_open c x t rest).packet ≡ None → (pull_open c x t rest).next ≡ x
 none_kept_open c x t [] none = refl
-none_kept_open c x t (piece ∷ rest) none = kept_if (t.peer_ready && nat_lt (length t.sent) (t.acked + c.outgoing.window)) _ x _ refl none
+none_kept_open c x t (piece ∷ rest) none = kept_if (t.peer_ready && nat_lt (length t.sent) (t.acked + (outgoing x).window)) _ x _ refl none
 
 pub none_kept : (c : Settings) (x : Circuit) → (pulled c x).packet ≡ None → (pulled c x).next ≡ x
 none_kept c x none = at x.state none

@@ -1,13 +1,17 @@
--- What a circuit of the table is of a channel of the nested handshakes: the lists that no row needs are forgotten.
-use Rattle.std.proofs.Common.{◌≡◌, ◌⊎◌, ℕ, ◌<◌, List, [], ◌∷◌, Option, Some, None}
+-- What a circuit of the table is of a channel of the nested handshakes: the lists that no row needs are forgotten, and of packet sizes
+-- and windows in force the terms of data packets alone are known there.
+use Rattle.std.proofs.Common.{◌≡◌, ◌⊎◌, ℕ, ◌<◌, List, [], ◌∷◌, Option, Some, None, Bool, true, false, if◌then◌else◌}
 use Rattle.x25_packet.specs.PlainPacket.{PlainPacket, call, accept, clear, clear_conf, user_data, rr, rnr, interrupt, interrupt_conf, reset, reset_conf, restart, restart_conf}
 use Rattle.x25_packet.specs.Spelling.{HasChannel}
 use Rattle.x25_circuit.specs.declared.state.State.{State}
 use Rattle.x25_circuit.specs.declared.state.State.TheVariants.{Free, Calling, Arriving, Collision, Open, Resetting, Clearing}
 use Rattle.x25_circuit.specs.Messages.{piece_of}
+use Rattle.x25_circuit.specs.declared.params.Params.{Params}
+use Rattle.x25_circuit.specs.Params.{Terms, default_params, may_propose, called_terms, calling_terms}
+use Rattle.x25_circuit.specs.ParamsLaws.{FieldIsSaid, SaidIsAllowed, AnswerIsAllowed}
 use Rattle.x25_circuit.specs.Circuit.{Talk, silent, Circuit}
 use Rattle.x25_circuit.specs.Notices.{CallRequest, PlainNotice}
-use Rattle.x25_circuit.specs.Table.{Answer}
+use Rattle.x25_circuit.specs.Table.{Answer, request_in}
 use Rattle.x25_circuit.specs.Calls.{Outcome, Done, Refused, Request, Calls, Accepts, Clears, Sends, Interrupts, Resets, SaysReady, SaysNotReady, request_of}
 use Rattle.x25_epochs.specs.Handshake.{Side, Live, Left, At, state_of}
 use Rattle.x25_epochs.specs.Stretch.{Packet, Data, Rr, Rnr, Int, IntConf, Reset, ResetConf, Call, Accept, Clear, ClearConf, Stretch, Send, Pull, Ready, NotReady, Interrupt}
@@ -27,10 +31,10 @@ state_in_transfer (Left x) = Resetting
 
 abbrev pub state_in : Phase → State
 state_in Unused = Free
-state_in Waiting = Calling
-state_in Offered = Arriving
-state_in Crossed = Collision
-state_in (Talking at) = state_in_transfer at.side
+state_in (Waiting mine) = Calling
+state_in (Offered theirs) = Arriving
+state_in (Crossed mine) = Collision
+state_in (Talking t b at) = state_in_transfer at.side
 
 abbrev pub state_at : Side Connection → State
 state_at (Live x) = state_in x.phase
@@ -41,20 +45,76 @@ talk_in_transfer (Live x) = talk_of x
 talk_in_transfer (Left x) = silent
 
 abbrev pub talk_in : Phase → Talk
-talk_in (Talking at) = talk_in_transfer at.side
+talk_in (Talking t b at) = talk_in_transfer at.side
 talk_in other = silent
 
 abbrev pub talk_at : Side Connection → Talk
 talk_at (Live x) = talk_in x.phase
 talk_at (Left x) = silent
 
-abbrev pub view : At Connection → Circuit
-view n = record { state = state_at n.side; clears = n.epoch; resets = resets_in (state_of n.side).phase; talk = talk_at n.side }
+-- packet sizes and windows, and whether this end called
+pub record Agreed : Type 0 where
+  pub params : Params
+  pub calls : Bool
 
--- a packet of a channel without channel, cause, diagnostic and facilities (of a RESTART nothing is said)
+-- where there is no call
+abbrev pub unagreed : Agreed
+unagreed = record { params = default_params; calls = false }
+
+-- the terms of what an end sends, and of what it takes
+abbrev pub sent_on : Agreed → Terms
+sent_on g = if g.calls then calling_terms g.params else called_terms g.params
+
+abbrev pub taken_on : Agreed → Terms
+taken_on g = if g.calls then called_terms g.params else calling_terms g.params
+
+-- those in force are told; others stand in the phase
+abbrev pub agreed_in : Agreed → Phase → Agreed
+agreed_in g Unused = unagreed
+agreed_in g (Waiting mine) = record { params = mine; calls = true }
+agreed_in g (Offered theirs) = record { params = theirs; calls = false }
+agreed_in g (Crossed mine) = record { params = mine; calls = true }
+agreed_in g (Talking t b at) = g
+
+abbrev pub agreed_at : Agreed → Side Connection → Agreed
+agreed_at g (Live x) = agreed_in g x.phase
+agreed_at g (Left x) = unagreed
+
+-- the terms in force are these, and what the other end proposes may be proposed
+abbrev pub AreAgreedIn : Agreed → Phase → Type 0
+AreAgreedIn g (Talking t b at) = (t ≡ sent_on g) × (b ≡ taken_on g)
+AreAgreedIn g (Offered theirs) = may_propose theirs ≡ true
+AreAgreedIn g other = Unit {0}
+
+abbrev pub AreAgreed : Agreed → Side Connection → Type 0
+AreAgreed g (Live x) = AreAgreedIn g x.phase
+AreAgreed g (Left x) = Unit {0}
+
+abbrev pub view : Agreed → At Connection → Circuit
+view g n = record {
+  state = state_at n.side;
+  clears = n.epoch;
+  resets = resets_in (state_of n.side).phase;
+  params = (agreed_at g n.side).params;
+  calls = (agreed_at g n.side).calls;
+  talk = talk_at n.side;
+}
+
+pub record Shows (x : Circuit) (n : At Connection) : Type 0 where
+  pub agreed : Agreed
+  pub is : x ≡ view agreed n
+  pub fits : AreAgreed agreed n.side
+
+-- what is known of packet sizes and windows
+pub record ParamsLaws : Type 0 where
+  pub said : FieldIsSaid
+  pub allowed : SaidIsAllowed
+  pub answered : AnswerIsAllowed
+
+-- a packet of a channel without channel, cause and diagnostic, and of a CALL's facilities what they say (of a RESTART nothing is said)
 abbrev pub bare : PlainPacket → Packet
-bare (call channel called calling facilities user) = Call (record { called = called; calling = calling; user = user })
-bare (accept channel facilities) = Accept
+bare (call channel called calling facilities user) = Call (request_in called calling facilities user)
+bare (accept channel facilities) = Accept facilities
 bare (clear channel cause diagnostic) = Clear
 bare (clear_conf channel) = ClearConf
 bare (user_data channel q m ps pr user) = Data ps pr (piece_of q m user)
@@ -81,14 +141,14 @@ TellNoFault (notice ∷ notices) = IsNoFault notice × TellNoFault notices
 
 -- the answer of the table is the step of the channel, and tells of no error of procedure
 pub record Follows (a : Answer) (s : ChannelStep) : Type 0 where
-  pub next : a.next ≡ view s.next
+  pub next : Shows a.next s.next
   pub owed : bare_if a.owed ≡ s.out
   pub quiet : IsQuietIf a.owed
   pub no_fault : TellNoFault a.notices
 
 -- the same of a call of the user that isn't refused, and of a pull
 pub record Does (x : Circuit) (owed : Option PlainPacket) (s : ChannelStep) : Type 0 where
-  pub next : x ≡ view s.next
+  pub next : Shows x s.next
   pub packet : bare_if owed ≡ s.out
   pub quiet : IsQuietIf owed
 
@@ -97,8 +157,8 @@ Heeds (Done next packet) s = Does next packet s
 Heeds (Refused e) s = Unit {0}
 
 abbrev pub act_of : Request → ChannelAct
-act_of (Calls called calling user) = Within (PlacesCall (request_of called calling user))
-act_of Accepts = Within AcceptsCall
+act_of (Calls called calling user params) = Within (PlacesCall (request_of called calling user params))
+act_of (Accepts answer) = Within (AcceptsCall answer)
 act_of Clears = SendsClear
 act_of (Sends q user) = Within (Talks (Inside (Send q user)))
 act_of (Interrupts user) = Within (Talks (Inside (Interrupt user)))
@@ -115,7 +175,7 @@ abbrev pub held_stretch : List CallRequest → List CallRequest → Stretch → 
 held_stretch made indicated x = record { made = made; indicated = indicated; down = x.down; up = x.up; int_down = x.int_down; int_up = x.int_up }
 
 abbrev pub held_phase : List CallRequest → List CallRequest → Phase → Handed
-held_phase made indicated (Talking at) = held_stretch made indicated (state_of at.side)
+held_phase made indicated (Talking t b at) = held_stretch made indicated (state_of at.side)
 held_phase made indicated other = record { made = made; indicated = indicated; down = []; up = []; int_down = []; int_up = [] }
 
 abbrev pub held_of : At Connection → Handed

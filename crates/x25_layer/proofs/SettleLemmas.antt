@@ -5,7 +5,7 @@ use Rattle.x25_packet.specs.PlainPacket.{PlainPacket, restart}
 use Rattle.x25_circuit.specs.declared.state.State.{State}
 use Rattle.x25_circuit.specs.declared.state.State.TheVariants.{Free, Calling, Arriving, Collision, Open, Resetting, Clearing}
 use Rattle.x25_circuit.specs.Messages.{Piece}
-use Rattle.x25_circuit.specs.Circuit.{Settings, Talk, Circuit, begun, forgotten}
+use Rattle.x25_circuit.specs.Circuit.{Settings, Talk, Circuit, begun, forgotten, talking, outgoing}
 use Rattle.x25_circuit.specs.Calls.{Pulled, pulls_nothing, data_packet, pull_open, pull_in, pulled}
 use Rattle.x25_layer.specs.declared.error.LayerError.TheVariants as error
 use Rattle.x25_layer.specs.Layer.{LayerSettings, Layer, put_at, packet_on, restarting_from, goes_up}
@@ -20,11 +20,11 @@ none_some x e = cc
 
 shorter_open : (c : Settings) (x : Circuit) (t : Talk) (rest : List Piece) (p : PlainPacket) → x.talk.rest ≡ rest → (pull_open c x t rest).packet ≡ Some p → suc (length (pull_open c x t rest).next.talk.rest) ≡ length x.talk.rest
 shorter_open c x t [] p same found = absurd (none_some p found)
-shorter_open c x t (piece ∷ rest) p same found = test (t.peer_ready && nat_lt (length t.sent) (t.acked + c.outgoing.window)) found
+shorter_open c x t (piece ∷ rest) p same found = test (t.peer_ready && nat_lt (length t.sent) (t.acked + (outgoing x).window)) found
   where
     next : Pulled
     next = record {
-      next = record { state = x.state; clears = x.clears; resets = x.resets; talk = record { sent = t.sent ++ piece ∷ []; taken = t.taken; acked = t.acked; rest = rest; int_out = t.int_out; peer_ready = t.peer_ready; own_ready = t.own_ready } };
+      next = talking x (record { sent = t.sent ++ piece ∷ []; taken = t.taken; acked = t.acked; rest = rest; int_out = t.int_out; peer_ready = t.peer_ready; own_ready = t.own_ready });
       packet = Some (data_packet (length t.sent % 8) (length t.taken % 8) piece);
     }
 

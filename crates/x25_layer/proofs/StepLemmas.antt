@@ -41,7 +41,7 @@ fix true c d s f = ap (λ (e : Bool). if e then s else nothing_handed) (f refl)
 fix false c d s f = nothing_if d
 
 name_seen : (l : Layer) (e : ℕ) (y : Channels) (h : ℕ) → SeesLayer l (ready e y) → name_of l h ≡ present (ready e y) h
-name_seen l e y h s = name_eq (name_of l h) (present (ready e y) h) s.restarts (ap (λ (c : Circuit). c.clears) (s.circuits h)) (ap (λ (c : Circuit). c.resets) (s.circuits h))
+name_seen l e y h s = name_eq (name_of l h) (present (ready e y) h) s.restarts (ap (λ (c : Circuit). c.clears) (s.circuits h).is) (ap (λ (c : Circuit). c.resets) (s.circuits h).is)
 
 -- a step on channel h
 pub step_on : (e : ℕ) (x : Channels) (h : ℕ) (c : At Connection) (l : Layer) (s : Handed) (es : List Entry) → SeesLayer l (ready e (put x h c)) → Notes (x h) c s

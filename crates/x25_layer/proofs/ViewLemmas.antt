@@ -1,46 +1,56 @@
 -- Each row of a circuit's table is a step of its channel in the nested handshakes, where that is no error of procedure.
-use Rattle.std.proofs.Common.{◌≡◌, ℕ, ◌+◌, ◌%◌, List, [], ◌∷◌, length, Option, Some, None, Bool, true, false, nat_lt, nat_le, ◌&&◌, if◌then◌else◌, refl}
+use Rattle.std.proofs.Common.{◌≡◌, ℕ, ◌+◌, ◌%◌, List, [], ◌∷◌, ◌++◌, length, Option, Some, None, Bool, true, false, nat_lt, nat_le, ◌&&◌, if◌then◌else◌, refl, sym, ap, subst, ◌∙◌}
 use Rattle.x25_bits.specs.declared.role.Role.{Role}
 use Rattle.x25_bits.specs.declared.role.Role.TheVariants.{Dte, Dce}
 use Rattle.x25_packet.specs.PlainPacket.{PlainPacket, call, accept, clear, clear_conf, user_data, rr, rnr, interrupt, interrupt_conf, reset, reset_conf, restart, restart_conf}
 use Rattle.x25_packet.specs.Spelling.{HasChannel}
+use Rattle.x25_packet.specs.Digits.{digits_of_text}
 use Rattle.x25_circuit.specs.declared.message.Message.{Message}
 use Rattle.x25_circuit.specs.Messages.{Piece, More, Last, piece_of, no_part, joining, completed, wholes}
-use Rattle.x25_circuit.specs.Circuit.{Settings}
-use Rattle.x25_circuit.specs.Notices.{CallRequest, deliveries}
-use Rattle.x25_circuit.specs.Table.{answers, unless, takes, hears_status, confirms, status, collides}
-use Rattle.x25_circuit.specs.Calls.{Outcome, Request, Calls, Accepts, Clears, Sends, Interrupts, Resets, SaysReady, SaysNotReady, may_call, outcome, Pulled, pulled, pull_open, data_packet}
+use Rattle.x25_circuit.specs.declared.params.Params.{Params}
+use Rattle.x25_circuit.specs.declared.error.CircuitError.TheVariants.{BadParameter}
+use Rattle.x25_circuit.specs.declared.state.State.TheVariants.{Calling, Open}
+use Rattle.x25_circuit.specs.Params.{Terms, default_params, may_propose, may_answer, field_for, said_in}
+use Rattle.x25_circuit.specs.Circuit.{Settings, silent, Circuit, entered}
+use Rattle.x25_circuit.specs.Notices.{CallRequest, connected, deliveries}
+use Rattle.x25_circuit.specs.Table.{answers, unless, takes, hears_status, confirms, status, request_in, goes, clears_for, collides, connects}
+use Rattle.x25_circuit.specs.Calls.{Outcome, Refused, Request, Calls, Accepts, Clears, Sends, Interrupts, Resets, SaysReady, SaysNotReady, does, request_of, call_sent, may_call, outcome, Pulled, pulled, pull_open, data_packet}
 use Rattle.x25_epochs.specs.Handshake.{Side, Live, Left, At}
-use Rattle.x25_epochs.specs.Stretch.{Data, Stretch, StretchStep, stretch_does, stretch_fails, Send, Interrupt, pulls, stretch_acts, by_ground, takes_data, takes_status, data_ground, ack_ground}
+use Rattle.x25_epochs.specs.Stretch.{Data, Call, Accept, Stretch, StretchStep, stretch_does, stretch_fails, Send, Interrupt, pulls, stretch_acts, by_ground, takes_data, takes_status, data_ground, ack_ground}
 use Rattle.x25_epochs.specs.Stretch as nested
 use Rattle.x25_epochs.specs.Transfer.{d1, rst, lifted}
-use Rattle.x25_epochs.specs.Calls.{Phase, Unused, Waiting, Offered, Crossed, Talking, Connection, CallStep, in_transfer, call_crosses}
+use Rattle.x25_epochs.specs.Calls.{Phase, Unused, Waiting, Offered, Crossed, Talking, Connection, CallStep, in_transfer, call_crosses, calling_talk, called_talk}
+use Rattle.x25_epochs.specs.Calls as nested_calls
 use Rattle.x25_epochs.specs.Channel.{ChannelStep, live, clr, lifted_call, channel_takes, channel_acts}
-use Rattle.x25_layer.specs.Quiet.{IsQuiet}
-use Rattle.x25_layer.proofs.Sees.{talk_of, view, bare, bare_if, IsQuietIf, TellNoFault, Follows, Does, Heeds, act_of, pull_act}
+use Rattle.x25_layer.proofs.Sees.{talk_of, Agreed, unagreed, sent_on, taken_on, AreAgreedIn, AreAgreed, view, Shows, ParamsLaws, bare, bare_if, IsQuietIf, TellNoFault, Follows, Does, Heeds, act_of, pull_act}
+use Rattle.x25_layer.proofs.ParamsLemmas.{no_field, field_allowed, call_proposes}
 
 pub some_none : (n : ℕ) → Some n ≡ None → ⊥
 some_none n e = cc
 
 -- a step in d1, seen from the channel
 
-abbrev pub call_step : List CallRequest → List CallRequest → ℕ → StretchStep → CallStep
-call_step m i s st = in_transfer m i (lifted s st st.error)
+abbrev pub call_step : Agreed → List CallRequest → List CallRequest → ℕ → StretchStep → CallStep
+call_step g m i s st = in_transfer (sent_on g) (taken_on g) m i (lifted s st st.error)
 
-abbrev pub channel_step : ℕ → List CallRequest → List CallRequest → ℕ → StretchStep → ChannelStep
-channel_step e m i s st = lifted_call e (call_step m i s st) (call_step m i s st).error
-
-abbrev pub in_open : ℕ → List CallRequest → List CallRequest → ℕ → Stretch → At Connection
-in_open e m i s x = live e (record { phase = Talking (d1 s x); made = m; indicated = i })
-
-abbrev pub in_resetting : ℕ → List CallRequest → List CallRequest → ℕ → Stretch → At Connection
-in_resetting e m i s x = live e (record { phase = Talking (rst s x); made = m; indicated = i })
+abbrev pub channel_step : Agreed → ℕ → List CallRequest → List CallRequest → ℕ → StretchStep → ChannelStep
+channel_step g e m i s st = lifted_call e (call_step g m i s st) (call_step g m i s st).error
 
 abbrev pub in_call : ℕ → List CallRequest → List CallRequest → Phase → At Connection
 in_call e m i a = live e (record { phase = a; made = m; indicated = i })
 
-no_failure : (e : ℕ) (m i : List CallRequest) (s : ℕ) (x : Stretch) (n : ℕ) → (channel_step e m i s (stretch_fails x n)).error ≡ None → ⊥
-no_failure e m i s x n q = some_none n q
+-- p4, on the terms agreed
+abbrev pub in_talk : Agreed → ℕ → List CallRequest → List CallRequest → At Stretch → At Connection
+in_talk g e m i at = in_call e m i (Talking (sent_on g) (taken_on g) at)
+
+abbrev pub in_open : Agreed → ℕ → List CallRequest → List CallRequest → ℕ → Stretch → At Connection
+in_open g e m i s x = in_talk g e m i (d1 s x)
+
+abbrev pub in_resetting : Agreed → ℕ → List CallRequest → List CallRequest → ℕ → Stretch → At Connection
+in_resetting g e m i s x = in_talk g e m i (rst s x)
+
+no_failure : (g : Agreed) (e : ℕ) (m i : List CallRequest) (s : ℕ) (x : Stretch) (n : ℕ) → (channel_step g e m i s (stretch_fails x n)).error ≡ None → ⊥
+no_failure g e m i s x n q = some_none n q
 
 bare_status : (b : Bool) (n : ℕ) → bare_if (Some (status b n)) ≡ nested.status b n ∷ []
 bare_status true n = refl
@@ -54,122 +64,144 @@ deliveries_quiet : (ms : List Message) → TellNoFault (deliveries ms)
 deliveries_quiet [] = tt
 deliveries_quiet (m ∷ ms) = (tt, deliveries_quiet ms)
 
-data_row : (c : Settings) (e : ℕ) (m i : List CallRequest) (s : ℕ) (x : Stretch) (pr : ℕ) (p : Piece) (g : Option ℕ)
-    → (channel_step e m i s (by_ground g x (takes_data x pr p))).error ≡ None
-    → Follows (unless c (view (in_open e m i s x)) g (takes (view (in_open e m i s x)) (talk_of x) pr p)) (channel_step e m i s (by_ground g x (takes_data x pr p)))
-data_row c e m i s x pr p None q = record {
-  next = refl;
+data_row : (c : Settings) (g : Agreed) (e : ℕ) (m i : List CallRequest) (s : ℕ) (x : Stretch) (pr : ℕ) (p : Piece) (ground : Option ℕ)
+    → (channel_step g e m i s (by_ground ground x (takes_data x pr p))).error ≡ None
+    → Follows (unless c (view g (in_open g e m i s x)) ground (takes (view g (in_open g e m i s x)) (talk_of x) pr p)) (channel_step g e m i s (by_ground ground x (takes_data x pr p)))
+data_row c g e m i s x pr p None q = record {
+  next = record { agreed = g; is = refl; fits = (refl, refl) };
   owed = bare_status x.own_ready (length x.taken + 1);
   quiet = quiet_status x.own_ready (length x.taken + 1);
   no_fault = deliveries_quiet (completed (joining no_part x.taken) p);
 }
-data_row c e m i s x pr p (Some n) q = absurd (no_failure e m i s x n q)
+data_row c g e m i s x pr p (Some n) q = absurd (no_failure g e m i s x n q)
 
-status_row : (c : Settings) (e : ℕ) (m i : List CallRequest) (s : ℕ) (x : Stretch) (b : Bool) (pr : ℕ) (g : Option ℕ)
-    → (channel_step e m i s (by_ground g x (takes_status x b pr))).error ≡ None
-    → Follows (unless c (view (in_open e m i s x)) g (hears_status (view (in_open e m i s x)) (talk_of x) b pr)) (channel_step e m i s (by_ground g x (takes_status x b pr)))
-status_row c e m i s x b pr None q = record { next = refl; owed = refl; quiet = tt; no_fault = tt }
-status_row c e m i s x b pr (Some n) q = absurd (no_failure e m i s x n q)
+status_row : (c : Settings) (g : Agreed) (e : ℕ) (m i : List CallRequest) (s : ℕ) (x : Stretch) (b : Bool) (pr : ℕ) (ground : Option ℕ)
+    → (channel_step g e m i s (by_ground ground x (takes_status x b pr))).error ≡ None
+    → Follows (unless c (view g (in_open g e m i s x)) ground (hears_status (view g (in_open g e m i s x)) (talk_of x) b pr)) (channel_step g e m i s (by_ground ground x (takes_status x b pr)))
+status_row c g e m i s x b pr None q = record { next = record { agreed = g; is = refl; fits = (refl, refl) }; owed = refl; quiet = tt; no_fault = tt }
+status_row c g e m i s x b pr (Some n) q = absurd (no_failure g e m i s x n q)
 
-confirmed_row : (c : Settings) (e : ℕ) (m i : List CallRequest) (s : ℕ) (x : Stretch) (b : Bool)
-    → (channel_step e m i s (if b then stretch_does (record x { int_out = false }) [] else stretch_fails x 43)).error ≡ None
-    → Follows (confirms c (view (in_open e m i s x)) (talk_of x) b) (channel_step e m i s (if b then stretch_does (record x { int_out = false }) [] else stretch_fails x 43))
-confirmed_row c e m i s x true q = record { next = refl; owed = refl; quiet = tt; no_fault = (tt, tt) }
-confirmed_row c e m i s x false q = absurd (no_failure e m i s x 43 q)
+confirmed_row : (c : Settings) (g : Agreed) (e : ℕ) (m i : List CallRequest) (s : ℕ) (x : Stretch) (b : Bool)
+    → (channel_step g e m i s (if b then stretch_does (record x { int_out = false }) [] else stretch_fails x 43)).error ≡ None
+    → Follows (confirms c (view g (in_open g e m i s x)) (talk_of x) b) (channel_step g e m i s (if b then stretch_does (record x { int_out = false }) [] else stretch_fails x 43))
+confirmed_row c g e m i s x true q = record { next = record { agreed = g; is = refl; fits = (refl, refl) }; owed = refl; quiet = tt; no_fault = (tt, tt) }
+confirmed_row c g e m i s x false q = absurd (no_failure g e m i s x 43 q)
 
 -- the claim of a row
-abbrev Row : Settings → At Connection → PlainPacket → Type 0
-Row c n p = IsQuiet p → HasChannel p → (channel_takes c.role c.incoming.size n (bare p)).error ≡ None → Follows (answers c (view n) p) (channel_takes c.role c.incoming.size n (bare p))
+abbrev Row : Settings → Agreed → At Connection → PlainPacket → Type 0
+Row c g n p = HasChannel p → (channel_takes c.role n (bare p)).error ≡ None → Follows (answers c (view g n) p) (channel_takes c.role n (bare p))
 
-row_open : (c : Settings) (e : ℕ) (m i : List CallRequest) (s : ℕ) (x : Stretch) (p : PlainPacket) → Row c (in_open e m i s x) p
-row_open c e m i s x (call h called calling fac user) ok has q = absurd (some_none 0 q)
-row_open c e m i s x (accept h fac) ok has q = absurd (some_none 0 q)
-row_open c e m i s x (clear h cause n) ok has q = record { next = refl; owed = refl; quiet = (tt, tt); no_fault = (tt, tt) }
-row_open c e m i s x (clear_conf h) ok has q = absurd (some_none 0 q)
-row_open c e m i s x (user_data h qualifier more ps pr user) ok has q = data_row c e m i s x pr (piece_of qualifier more user) (data_ground c.incoming.size x ps pr (piece_of qualifier more user)) q
-row_open c e m i s x (rr h pr) ok has q = status_row c e m i s x true pr (ack_ground x pr) q
-row_open c e m i s x (rnr h pr) ok has q = status_row c e m i s x false pr (ack_ground x pr) q
-row_open c e m i s x (interrupt h user) ok has q = record { next = refl; owed = refl; quiet = (tt, tt); no_fault = (tt, tt) }
-row_open c e m i s x (interrupt_conf h) ok has q = confirmed_row c e m i s x x.int_out q
-row_open c e m i s x (reset h cause n) ok has q = record { next = refl; owed = refl; quiet = (tt, tt); no_fault = (tt, tt) }
-row_open c e m i s x (reset_conf h) ok has q = absurd (some_none 27 q)
-row_open c e m i s x (restart cause n) ok has q = absurd has
-row_open c e m i s x restart_conf ok has q = absurd has
+row_open : (c : Settings) (g : Agreed) (e : ℕ) (m i : List CallRequest) (s : ℕ) (x : Stretch) (p : PlainPacket) → Row c g (in_open g e m i s x) p
+row_open c g e m i s x (call h called calling fac user) has q = absurd (some_none 0 q)
+row_open c g e m i s x (accept h fac) has q = absurd (some_none 0 q)
+row_open c g e m i s x (clear h cause n) has q = record { next = record { agreed = g; is = refl; fits = tt }; owed = refl; quiet = (tt, tt); no_fault = (tt, tt) }
+row_open c g e m i s x (clear_conf h) has q = absurd (some_none 0 q)
+row_open c g e m i s x (user_data h qualifier more ps pr user) has q = data_row c g e m i s x pr (piece_of qualifier more user) (data_ground (taken_on g).size x ps pr (piece_of qualifier more user)) q
+row_open c g e m i s x (rr h pr) has q = status_row c g e m i s x true pr (ack_ground x pr) q
+row_open c g e m i s x (rnr h pr) has q = status_row c g e m i s x false pr (ack_ground x pr) q
+row_open c g e m i s x (interrupt h user) has q = record { next = record { agreed = g; is = refl; fits = (refl, refl) }; owed = refl; quiet = (tt, tt); no_fault = (tt, tt) }
+row_open c g e m i s x (interrupt_conf h) has q = confirmed_row c g e m i s x x.int_out q
+row_open c g e m i s x (reset h cause n) has q = record { next = record { agreed = g; is = refl; fits = (refl, refl) }; owed = refl; quiet = (tt, tt); no_fault = (tt, tt) }
+row_open c g e m i s x (reset_conf h) has q = absurd (some_none 27 q)
+row_open c g e m i s x (restart cause n) has q = absurd has
+row_open c g e m i s x restart_conf has q = absurd has
 
-row_resetting : (c : Settings) (e : ℕ) (m i : List CallRequest) (s : ℕ) (x : Stretch) (p : PlainPacket) → Row c (in_resetting e m i s x) p
-row_resetting c e m i s x (call h called calling fac user) ok has q = absurd (some_none 0 q)
-row_resetting c e m i s x (accept h fac) ok has q = absurd (some_none 0 q)
-row_resetting c e m i s x (clear h cause n) ok has q = record { next = refl; owed = refl; quiet = (tt, tt); no_fault = (tt, tt) }
-row_resetting c e m i s x (clear_conf h) ok has q = absurd (some_none 0 q)
-row_resetting c e m i s x (reset h cause n) ok has q = record { next = refl; owed = refl; quiet = tt; no_fault = (tt, tt) }
-row_resetting c e m i s x (reset_conf h) ok has q = record { next = refl; owed = refl; quiet = tt; no_fault = (tt, tt) }
-row_resetting c e m i s x (restart cause n) ok has q = absurd has
-row_resetting c e m i s x restart_conf ok has q = absurd has
-row_resetting c e m i s x other ok has q = record { next = refl; owed = refl; quiet = tt; no_fault = tt }
+row_resetting : (c : Settings) (g : Agreed) (e : ℕ) (m i : List CallRequest) (s : ℕ) (x : Stretch) (p : PlainPacket) → Row c g (in_resetting g e m i s x) p
+row_resetting c g e m i s x (call h called calling fac user) has q = absurd (some_none 0 q)
+row_resetting c g e m i s x (accept h fac) has q = absurd (some_none 0 q)
+row_resetting c g e m i s x (clear h cause n) has q = record { next = record { agreed = g; is = refl; fits = tt }; owed = refl; quiet = (tt, tt); no_fault = (tt, tt) }
+row_resetting c g e m i s x (clear_conf h) has q = absurd (some_none 0 q)
+row_resetting c g e m i s x (reset h cause n) has q = record { next = record { agreed = g; is = refl; fits = (refl, refl) }; owed = refl; quiet = tt; no_fault = (tt, tt) }
+row_resetting c g e m i s x (reset_conf h) has q = record { next = record { agreed = g; is = refl; fits = (refl, refl) }; owed = refl; quiet = tt; no_fault = (tt, tt) }
+row_resetting c g e m i s x (restart cause n) has q = absurd has
+row_resetting c g e m i s x restart_conf has q = absurd has
+row_resetting c g e m i s x other has q = record { next = record { agreed = g; is = refl; fits = (refl, refl) }; owed = refl; quiet = tt; no_fault = tt }
 
-row_free : (c : Settings) (e : ℕ) (m i : List CallRequest) (p : PlainPacket) → Row c (in_call e m i Unused) p
-row_free c e m i (call h called calling [] user) ok has q = record { next = refl; owed = refl; quiet = tt; no_fault = (tt, tt) }
-row_free c e m i (call h called calling (f ∷ fs) user) ok has q = absurd (cc)
-row_free c e m i (clear h cause n) ok has q = absurd (some_none 20 q)
-row_free c e m i (restart cause n) ok has q = absurd has
-row_free c e m i restart_conf ok has q = absurd has
-row_free c e m i other ok has q = absurd (some_none 0 q)
+row_free : ParamsLaws → (c : Settings) (g : Agreed) (e : ℕ) (m i : List CallRequest) (p : PlainPacket) → Row c g (in_call e m i Unused) p
+row_free laws c g e m i (call h called calling fac user) has q =
+    record { next = record { agreed = g; is = refl; fits = laws.allowed default_params fac refl }; owed = refl; quiet = tt; no_fault = (tt, tt) }
+row_free laws c g e m i (clear h cause n) has q = absurd (some_none 20 q)
+row_free laws c g e m i (restart cause n) has q = absurd has
+row_free laws c g e m i restart_conf has q = absurd has
+row_free laws c g e m i other has q = absurd (some_none 0 q)
 
-collision_row : (r : Role) (e : ℕ) (m i : List CallRequest) (request : CallRequest)
-    → Follows (collides r (view (in_call e m i Waiting)) request) (lifted_call e (call_crosses r m i request) (call_crosses r m i request).error)
-collision_row Dte e m i request = record { next = refl; owed = refl; quiet = tt; no_fault = tt }
-collision_row Dce e m i request = record { next = refl; owed = refl; quiet = tt; no_fault = (tt, (tt, tt)) }
+collision_row : (r : Role) (g : Agreed) (e : ℕ) (m i : List CallRequest) (mine : Params) (request : CallRequest) → may_propose request.params ≡ true
+    → Follows (collides r (view g (in_call e m i (Waiting mine))) request) (lifted_call e (call_crosses r mine m i request) (call_crosses r mine m i request).error)
+collision_row Dte g e m i mine request allowed = record { next = record { agreed = g; is = refl; fits = tt }; owed = refl; quiet = tt; no_fault = tt }
+collision_row Dce g e m i mine request allowed = record { next = record { agreed = g; is = refl; fits = allowed }; owed = refl; quiet = tt; no_fault = (tt, (tt, tt)) }
 
-row_calling : (c : Settings) (e : ℕ) (m i : List CallRequest) (p : PlainPacket) → Row c (in_call e m i Waiting) p
-row_calling c e m i (call h called calling [] user) ok has q = collision_row c.role e m i (record { called = called; calling = calling; user = user })
-row_calling c e m i (call h called calling (f ∷ fs) user) ok has q = absurd (cc)
-row_calling c e m i (accept h []) ok has q = record { next = refl; owed = refl; quiet = tt; no_fault = (tt, tt) }
-row_calling c e m i (accept h (f ∷ fs)) ok has q = absurd (cc)
-row_calling c e m i (clear h cause n) ok has q = record { next = refl; owed = refl; quiet = (tt, tt); no_fault = (tt, tt) }
-row_calling c e m i (restart cause n) ok has q = absurd has
-row_calling c e m i restart_conf ok has q = absurd has
-row_calling c e m i other ok has q = absurd (some_none 0 q)
+-- an acceptance of what this end proposed, where it answers what may be answered
+answered_row : (c : Settings) (x : Circuit) (e : ℕ) (m i : List CallRequest) (a : Phase) (answer : Params) → x.clears ≡ e → x.resets ≡ 0 → (b : Bool)
+    → let s : CallStep = if b then nested_calls.goes (calling_talk answer) m i [] else nested_calls.unexpected a m i in
+    (lifted_call e s s.error).error ≡ None
+    → Follows (if b then goes x Open answer true None (connected answer ∷ []) else clears_for c x 3 66) (lifted_call e s s.error)
+answered_row c x e m i a answer clears resets true q = record {
+  next = record {
+    agreed = record { params = answer; calls = true };
+    is = ap (λ (n : ℕ). record { state = Open; clears = n; resets = x.resets; params = answer; calls = true; talk = silent }) clears
+        ∙ ap (λ (n : ℕ). record { state = Open; clears = e; resets = n; params = answer; calls = true; talk = silent }) resets;
+    fits = (refl, refl);
+  };
+  owed = refl;
+  quiet = tt;
+  no_fault = (tt, tt);
+}
+answered_row c x e m i a answer clears resets false q = absurd (some_none 0 q)
 
-row_collision : (c : Settings) (e : ℕ) (m i : List CallRequest) (p : PlainPacket) → Row c (in_call e m i Crossed) p
-row_collision c e m i (accept h []) ok has q = record { next = refl; owed = refl; quiet = tt; no_fault = (tt, tt) }
-row_collision c e m i (accept h (f ∷ fs)) ok has q = absurd (cc)
-row_collision c e m i (clear h cause n) ok has q = record { next = refl; owed = refl; quiet = (tt, tt); no_fault = (tt, tt) }
-row_collision c e m i (restart cause n) ok has q = absurd has
-row_collision c e m i restart_conf ok has q = absurd has
-row_collision c e m i other ok has q = absurd (some_none 0 q)
+row_calling : ParamsLaws → (c : Settings) (g : Agreed) (e : ℕ) (m i : List CallRequest) (mine : Params) (p : PlainPacket) → Row c g (in_call e m i (Waiting mine)) p
+row_calling laws c g e m i mine (call h called calling fac user) has q = collision_row c.role g e m i mine (request_in called calling fac user) (laws.allowed default_params fac refl)
+row_calling laws c g e m i mine (accept h fac) has q =
+    answered_row c (view g (in_call e m i (Waiting mine))) e m i (Waiting mine) (said_in mine fac) refl refl (may_answer mine (said_in mine fac)) q
+row_calling laws c g e m i mine (clear h cause n) has q = record { next = record { agreed = g; is = refl; fits = tt }; owed = refl; quiet = (tt, tt); no_fault = (tt, tt) }
+row_calling laws c g e m i mine (restart cause n) has q = absurd has
+row_calling laws c g e m i mine restart_conf has q = absurd has
+row_calling laws c g e m i mine other has q = absurd (some_none 0 q)
 
-row_arriving : (c : Settings) (e : ℕ) (m i : List CallRequest) (p : PlainPacket) → Row c (in_call e m i Offered) p
-row_arriving c e m i (clear h cause n) ok has q = record { next = refl; owed = refl; quiet = (tt, tt); no_fault = (tt, tt) }
-row_arriving c e m i (restart cause n) ok has q = absurd has
-row_arriving c e m i restart_conf ok has q = absurd has
-row_arriving c e m i other ok has q = absurd (some_none 0 q)
+row_collision : (c : Settings) (g : Agreed) (e : ℕ) (m i : List CallRequest) (mine : Params) (p : PlainPacket) → Row c g (in_call e m i (Crossed mine)) p
+row_collision c g e m i mine (accept h fac) has q =
+    answered_row c (view g (in_call e m i (Crossed mine))) e m i (Crossed mine) (said_in mine fac) refl refl (may_answer mine (said_in mine fac)) q
+row_collision c g e m i mine (clear h cause n) has q = record { next = record { agreed = g; is = refl; fits = tt }; owed = refl; quiet = (tt, tt); no_fault = (tt, tt) }
+row_collision c g e m i mine (restart cause n) has q = absurd has
+row_collision c g e m i mine restart_conf has q = absurd has
+row_collision c g e m i mine other has q = absurd (some_none 0 q)
 
-row_in_transfer : (c : Settings) (e : ℕ) (m i : List CallRequest) (s : ℕ) (x : Side Stretch) (p : PlainPacket) → Row c (in_call e m i (Talking (record { epoch = s; side = x }))) p
-row_in_transfer c e m i s (Live x) p ok has q = row_open c e m i s x p ok has q
-row_in_transfer c e m i s (Left x) p ok has q = row_resetting c e m i s x p ok has q
+row_arriving : (c : Settings) (g : Agreed) (e : ℕ) (m i : List CallRequest) (theirs : Params) (p : PlainPacket) → Row c g (in_call e m i (Offered theirs)) p
+row_arriving c g e m i theirs (clear h cause n) has q = record { next = record { agreed = g; is = refl; fits = tt }; owed = refl; quiet = (tt, tt); no_fault = (tt, tt) }
+row_arriving c g e m i theirs (restart cause n) has q = absurd has
+row_arriving c g e m i theirs restart_conf has q = absurd has
+row_arriving c g e m i theirs other has q = absurd (some_none 0 q)
 
-row_in_call : (c : Settings) (e : ℕ) (m i : List CallRequest) (a : Phase) (p : PlainPacket) → Row c (in_call e m i a) p
-row_in_call c e m i Unused p ok has q = row_free c e m i p ok has q
-row_in_call c e m i Waiting p ok has q = row_calling c e m i p ok has q
-row_in_call c e m i Offered p ok has q = row_arriving c e m i p ok has q
-row_in_call c e m i Crossed p ok has q = row_collision c e m i p ok has q
-row_in_call c e m i (Talking at) p ok has q = row_in_transfer c e m i at.epoch at.side p ok has q
+row_in_transfer : (c : Settings) (g : Agreed) (e : ℕ) (m i : List CallRequest) (s : ℕ) (x : Side Stretch) (p : PlainPacket) → Row c g (in_talk g e m i (record { epoch = s; side = x })) p
+row_in_transfer c g e m i s (Live x) p has q = row_open c g e m i s x p has q
+row_in_transfer c g e m i s (Left x) p has q = row_resetting c g e m i s x p has q
 
-row_clearing : (c : Settings) (e : ℕ) (x : Connection) (p : PlainPacket) → Row c (clr e x) p
-row_clearing c e x (clear h cause n) ok has q = record { next = refl; owed = refl; quiet = tt; no_fault = (tt, tt) }
-row_clearing c e x (clear_conf h) ok has q = record { next = refl; owed = refl; quiet = tt; no_fault = (tt, tt) }
-row_clearing c e x (restart cause n) ok has q = absurd has
-row_clearing c e x restart_conf ok has q = absurd has
-row_clearing c e x other ok has q = record { next = refl; owed = refl; quiet = tt; no_fault = tt }
+-- what holds on the terms agreed holds on these
+pub on_terms : (P : Phase → Type 0) (g : Agreed) (t b : Terms) (at : At Stretch) → AreAgreedIn g (Talking t b at) → P (Talking (sent_on g) (taken_on g) at) → P (Talking t b at)
+on_terms P g t b at fits h =
+    subst (λ (u : Terms). P (Talking u b at)) (sym fits.0) (subst (λ (u : Terms). P (Talking (sent_on g) u at)) (sym fits.1) h)
 
-row_side : (c : Settings) (e : ℕ) (x : Side Connection) (p : PlainPacket) → Row c (record { epoch = e; side = x }) p
-row_side c e (Live x) p ok has q = row_in_call c e x.made x.indicated x.phase p ok has q
-row_side c e (Left x) p ok has q = row_clearing c e x p ok has q
+row_in_call : ParamsLaws → (c : Settings) (g : Agreed) (e : ℕ) (m i : List CallRequest) (a : Phase) (p : PlainPacket) → AreAgreedIn g a → Row c g (in_call e m i a) p
+row_in_call laws c g e m i Unused p fits = row_free laws c g e m i p
+row_in_call laws c g e m i (Waiting mine) p fits = row_calling laws c g e m i mine p
+row_in_call laws c g e m i (Offered theirs) p fits = row_arriving c g e m i theirs p
+row_in_call laws c g e m i (Crossed mine) p fits = row_collision c g e m i mine p
+row_in_call laws c g e m i (Talking t b at) p fits = on_terms (λ a. Row c g (in_call e m i a) p) g t b at fits (row_in_transfer c g e m i at.epoch at.side p)
+
+row_clearing : (c : Settings) (g : Agreed) (e : ℕ) (x : Connection) (p : PlainPacket) → Row c g (clr e x) p
+row_clearing c g e x (clear h cause n) has q = record { next = record { agreed = g; is = refl; fits = tt }; owed = refl; quiet = tt; no_fault = (tt, tt) }
+row_clearing c g e x (clear_conf h) has q = record { next = record { agreed = g; is = refl; fits = tt }; owed = refl; quiet = tt; no_fault = (tt, tt) }
+row_clearing c g e x (restart cause n) has q = absurd has
+row_clearing c g e x restart_conf has q = absurd has
+row_clearing c g e x other has q = record { next = record { agreed = g; is = refl; fits = tt }; owed = refl; quiet = tt; no_fault = tt }
+
+row_side : ParamsLaws → (c : Settings) (g : Agreed) (e : ℕ) (x : Side Connection) (p : PlainPacket) → AreAgreed g x → Row c g (record { epoch = e; side = x }) p
+row_side laws c g e (Live x) p fits = row_in_call laws c g e x.made x.indicated x.phase p fits
+row_side laws c g e (Left x) p fits = row_clearing c g e x p
 
 -- A packet taken.
-pub follows : (c : Settings) (n : At Connection) (p : PlainPacket) → IsQuiet p → HasChannel p → (channel_takes c.role c.incoming.size n (bare p)).error ≡ None
-    → Follows (answers c (view n) p) (channel_takes c.role c.incoming.size n (bare p))
-follows c n p ok has q = row_side c n.epoch n.side p ok has q
+pub follows : ParamsLaws → (c : Settings) (g : Agreed) (n : At Connection) (p : PlainPacket) → AreAgreed g n.side → HasChannel p → (channel_takes c.role n (bare p)).error ≡ None
+    → Follows (answers c (view g n) p) (channel_takes c.role n (bare p))
+follows laws c g n p fits has q = row_side laws c g n.epoch n.side p fits has q
 
 -- ---- calls of the user
 
@@ -183,62 +215,96 @@ if_both true true u v f s w h g = h
 if_both true false u v f s w h g = g
 if_both false b u v f s w h g = g
 
-if_asked : (b : Bool) (u v : Outcome) (s : ChannelStep) → Heeds u s → Heeds v s → Heeds (if b then u else v) s
-if_asked true u v s h g = h
-if_asked false u v s h g = g
+abbrev Asked : Settings → Agreed → At Connection → Request → Type 0
+Asked c g n request = Heeds (outcome c (view g n) request) (channel_acts n (act_of request))
 
-abbrev Asked : Settings → At Connection → Request → Type 0
-Asked c n request = Heeds (outcome c (view n) request) (channel_acts c.outgoing n (act_of request))
-
-asked_send : (c : Settings) (e : ℕ) (m i : List CallRequest) (s : ℕ) (x : Stretch) (q : Bool) (user : List ℕ) → Asked c (in_open e m i s x) (Sends q user)
-asked_send c e m i s x q user =
-    if_heeds (nat_le (length user) 65535) _ _ (λ st. channel_step e m i s st) _ _
-    (if_heeds (nat_lt (wholes x.rest) 8) _ _ (λ st. channel_step e m i s st) _ _ (record { next = refl; packet = refl; quiet = tt }) tt)
+asked_send : (c : Settings) (g : Agreed) (e : ℕ) (m i : List CallRequest) (s : ℕ) (x : Stretch) (q : Bool) (user : List ℕ) → Asked c g (in_open g e m i s x) (Sends q user)
+asked_send c g e m i s x q user =
+    if_heeds (nat_le (length user) 65535) _ _ (λ st. channel_step g e m i s st) _ _
+    (if_heeds (nat_lt (wholes x.rest) 8) _ _ (λ st. channel_step g e m i s st) _ _ (record { next = record { agreed = g; is = refl; fits = (refl, refl) }; packet = refl; quiet = tt }) tt)
     tt
 
-asked_interrupt : (c : Settings) (e : ℕ) (m i : List CallRequest) (s : ℕ) (x : Stretch) (user : List ℕ) → Asked c (in_open e m i s x) (Interrupts user)
-asked_interrupt c e m i s x user =
-    if_both (nat_le 1 (length user)) (nat_le (length user) 32) _ _ (λ st. channel_step e m i s st) _ _
-    (if_heeds x.int_out _ _ (λ st. channel_step e m i s st) _ _ tt (record { next = refl; packet = refl; quiet = (tt, tt) }))
+asked_interrupt : (c : Settings) (g : Agreed) (e : ℕ) (m i : List CallRequest) (s : ℕ) (x : Stretch) (user : List ℕ) → Asked c g (in_open g e m i s x) (Interrupts user)
+asked_interrupt c g e m i s x user =
+    if_both (nat_le 1 (length user)) (nat_le (length user) 32) _ _ (λ st. channel_step g e m i s st) _ _
+    (if_heeds x.int_out _ _ (λ st. channel_step g e m i s st) _ _ tt (record { next = record { agreed = g; is = refl; fits = (refl, refl) }; packet = refl; quiet = (tt, tt) }))
     tt
 
-asked_open : (c : Settings) (e : ℕ) (m i : List CallRequest) (s : ℕ) (x : Stretch) (request : Request) → Asked c (in_open e m i s x) request
-asked_open c e m i s x (Calls called calling user) = tt
-asked_open c e m i s x Accepts = tt
-asked_open c e m i s x Clears = record { next = refl; packet = refl; quiet = (refl, tt) }
-asked_open c e m i s x (Sends q user) = asked_send c e m i s x q user
-asked_open c e m i s x (Interrupts user) = asked_interrupt c e m i s x user
-asked_open c e m i s x Resets = record { next = refl; packet = refl; quiet = (refl, tt) }
-asked_open c e m i s x SaysReady = record { next = refl; packet = refl; quiet = (tt, tt) }
-asked_open c e m i s x SaysNotReady = record { next = refl; packet = refl; quiet = (tt, tt) }
+asked_open : (c : Settings) (g : Agreed) (e : ℕ) (m i : List CallRequest) (s : ℕ) (x : Stretch) (request : Request) → Asked c g (in_open g e m i s x) request
+asked_open c g e m i s x (Calls called calling user params) = tt
+asked_open c g e m i s x (Accepts answer) = tt
+asked_open c g e m i s x Clears = record { next = record { agreed = g; is = refl; fits = tt }; packet = refl; quiet = (refl, tt) }
+asked_open c g e m i s x (Sends q user) = asked_send c g e m i s x q user
+asked_open c g e m i s x (Interrupts user) = asked_interrupt c g e m i s x user
+asked_open c g e m i s x Resets = record { next = record { agreed = g; is = refl; fits = (refl, refl) }; packet = refl; quiet = (refl, tt) }
+asked_open c g e m i s x SaysReady = record { next = record { agreed = g; is = refl; fits = (refl, refl) }; packet = refl; quiet = (tt, tt) }
+asked_open c g e m i s x SaysNotReady = record { next = record { agreed = g; is = refl; fits = (refl, refl) }; packet = refl; quiet = (tt, tt) }
 
-asked_resetting : (c : Settings) (e : ℕ) (m i : List CallRequest) (s : ℕ) (x : Stretch) (request : Request) → Asked c (in_resetting e m i s x) request
-asked_resetting c e m i s x Clears = record { next = refl; packet = refl; quiet = (refl, tt) }
-asked_resetting c e m i s x other = tt
+asked_resetting : (c : Settings) (g : Agreed) (e : ℕ) (m i : List CallRequest) (s : ℕ) (x : Stretch) (request : Request) → Asked c g (in_resetting g e m i s x) request
+asked_resetting c g e m i s x Clears = record { next = record { agreed = g; is = refl; fits = tt }; packet = refl; quiet = (refl, tt) }
+asked_resetting c g e m i s x other = tt
 
-asked_in_transfer : (c : Settings) (e : ℕ) (m i : List CallRequest) (s : ℕ) (x : Side Stretch) (request : Request) → Asked c (in_call e m i (Talking (record { epoch = s; side = x }))) request
-asked_in_transfer c e m i s (Live x) request = asked_open c e m i s x request
-asked_in_transfer c e m i s (Left x) request = asked_resetting c e m i s x request
+asked_in_transfer : (c : Settings) (g : Agreed) (e : ℕ) (m i : List CallRequest) (s : ℕ) (x : Side Stretch) (request : Request) → Asked c g (in_talk g e m i (record { epoch = s; side = x })) request
+asked_in_transfer c g e m i s (Live x) request = asked_open c g e m i s x request
+asked_in_transfer c g e m i s (Left x) request = asked_resetting c g e m i s x request
 
-asked_in_call : (c : Settings) (e : ℕ) (m i : List CallRequest) (a : Phase) (request : Request) → Asked c (in_call e m i a) request
-asked_in_call c e m i Unused (Calls called calling user) = if_asked (may_call called calling user) _ _ _ (record { next = refl; packet = refl; quiet = (refl, tt) }) tt
-asked_in_call c e m i Unused other = tt
-asked_in_call c e m i Waiting Clears = record { next = refl; packet = refl; quiet = (refl, tt) }
-asked_in_call c e m i Waiting other = tt
-asked_in_call c e m i Offered Accepts = record { next = refl; packet = refl; quiet = (refl, tt) }
-asked_in_call c e m i Offered Clears = record { next = refl; packet = refl; quiet = (refl, tt) }
-asked_in_call c e m i Offered other = tt
-asked_in_call c e m i Crossed Clears = record { next = refl; packet = refl; quiet = (refl, tt) }
-asked_in_call c e m i Crossed other = tt
-asked_in_call c e m i (Talking at) request = asked_in_transfer c e m i at.epoch at.side request
+-- a call goes where what it proposes may be proposed
+asked_call : ParamsLaws → (c : Settings) (g : Agreed) (e : ℕ) (m i : List CallRequest) (called calling user : List ℕ) (params : Params) → Asked c g (in_call e m i Unused) (Calls called calling user params)
+asked_call laws c g e m i called calling user params = test (may_call called calling user params) refl
+  where
+    placed : Bool → CallStep
+    placed b = if b then nested_calls.goes (Waiting params) (m ++ request_of called calling user params ∷ []) i (Call (request_of called calling user params) ∷ []) else nested_calls.goes Unused m i []
 
-asked_side : (c : Settings) (e : ℕ) (x : Side Connection) (request : Request) → Asked c (record { epoch = e; side = x }) request
-asked_side c e (Live x) request = asked_in_call c e x.made x.indicated x.phase request
-asked_side c e (Left x) Accepts = tt
-asked_side c e (Left x) other = tt
+    test : (b : Bool) → may_call called calling user params ≡ b
+        → Heeds (if b then does (view g (in_call e m i Unused)) Calling params true (call_sent (request_of called calling user params)) else Refused BadParameter)
+        (channel_acts (in_call e m i Unused) (act_of (Calls called calling user params)))
+    test true is =
+        let allowed : may_propose params ≡ true = call_proposes called calling user params is in
+        subst (λ (b : Bool). Does (entered (view g (in_call e m i Unused)) Calling params true) (Some (call_sent (request_of called calling user params))) (lifted_call e (placed b) (placed b).error)) (sym allowed)
+        (record {
+          next = record { agreed = g; is = refl; fits = tt };
+          packet = ap (λ (p : Params). Call (record { called = digits_of_text called; calling = digits_of_text calling; user = user; params = p }) ∷ []) (laws.said default_params params allowed);
+          quiet = (field_allowed default_params params allowed, tt);
+        })
+    test false is = tt
 
-pub heeds : (c : Settings) (n : At Connection) (request : Request) → Heeds (outcome c (view n) request) (channel_acts c.outgoing n (act_of request))
-heeds c n request = asked_side c n.epoch n.side request
+-- an answer goes where it may be answered to what is proposed
+asked_answer : ParamsLaws → (c : Settings) (g : Agreed) (e : ℕ) (m i : List CallRequest) (theirs answer : Params) → may_propose theirs ≡ true → Asked c g (in_call e m i (Offered theirs)) (Accepts (Some answer))
+asked_answer laws c g e m i theirs answer allowed = test (may_answer theirs answer) refl
+  where
+    answered : Bool → CallStep
+    answered b = if b then nested_calls.goes (called_talk answer) m i (Accept (field_for theirs answer) ∷ []) else nested_calls.goes (Offered theirs) m i []
+
+    test : (b : Bool) → may_answer theirs answer ≡ b
+        → Heeds (if b then does (view g (in_call e m i (Offered theirs))) Open answer false (accept 1 (field_for theirs answer)) else Refused BadParameter) (lifted_call e (answered b) (answered b).error)
+    test true is = record {
+      next = record { agreed = record { params = answer; calls = false }; is = refl; fits = (refl, refl) };
+      packet = refl;
+      quiet = (field_allowed theirs answer (laws.answered theirs answer allowed is), tt);
+    }
+    test false is = tt
+
+asked_in_call : ParamsLaws → (c : Settings) (g : Agreed) (e : ℕ) (m i : List CallRequest) (a : Phase) (request : Request) → AreAgreedIn g a → Asked c g (in_call e m i a) request
+asked_in_call laws c g e m i Unused (Calls called calling user params) fits = asked_call laws c g e m i called calling user params
+asked_in_call laws c g e m i Unused other fits = tt
+asked_in_call laws c g e m i (Waiting mine) Clears fits = record { next = record { agreed = g; is = refl; fits = tt }; packet = refl; quiet = (refl, tt) }
+asked_in_call laws c g e m i (Waiting mine) other fits = tt
+asked_in_call laws c g e m i (Offered theirs) (Accepts None) fits =
+    record { next = record { agreed = record { params = theirs; calls = false }; is = refl; fits = (refl, refl) }; packet = refl; quiet = (no_field, tt) }
+asked_in_call laws c g e m i (Offered theirs) (Accepts (Some answer)) fits = asked_answer laws c g e m i theirs answer fits
+asked_in_call laws c g e m i (Offered theirs) Clears fits = record { next = record { agreed = g; is = refl; fits = tt }; packet = refl; quiet = (refl, tt) }
+asked_in_call laws c g e m i (Offered theirs) other fits = tt
+asked_in_call laws c g e m i (Crossed mine) Clears fits = record { next = record { agreed = g; is = refl; fits = tt }; packet = refl; quiet = (refl, tt) }
+asked_in_call laws c g e m i (Crossed mine) other fits = tt
+asked_in_call laws c g e m i (Talking t b at) request fits = on_terms (λ a. Asked c g (in_call e m i a) request) g t b at fits (asked_in_transfer c g e m i at.epoch at.side request)
+
+asked_side : ParamsLaws → (c : Settings) (g : Agreed) (e : ℕ) (x : Side Connection) (request : Request) → AreAgreed g x → Asked c g (record { epoch = e; side = x }) request
+asked_side laws c g e (Live x) request fits = asked_in_call laws c g e x.made x.indicated x.phase request fits
+asked_side laws c g e (Left x) (Accepts answer) fits = tt
+asked_side laws c g e (Left x) other fits = tt
+
+pub heeds : ParamsLaws → (c : Settings) (g : Agreed) (n : At Connection) (request : Request) → AreAgreed g n.side → Heeds (outcome c (view g n) request) (channel_acts n (act_of request))
+heeds laws c g n request fits = asked_side laws c g n.epoch n.side request fits
 
 -- ---- the next data packet
 
@@ -258,26 +324,28 @@ quiet_data : (ps pr : ℕ) (p : Piece) → IsQuietIf (Some (data_packet ps pr p)
 quiet_data ps pr (More q user) = (tt, tt)
 quiet_data ps pr (Last q user) = (tt, tt)
 
-pulls_open : (c : Settings) (e : ℕ) (m i : List CallRequest) (s : ℕ) (x : Stretch) (rest : List Piece)
-    → DoesPull (pull_open c (view (in_open e m i s x)) (talk_of x) rest) (channel_step e m i s (pulls c.outgoing x rest))
-pulls_open c e m i s x [] = record { next = refl; packet = refl; quiet = tt }
-pulls_open c e m i s x (p ∷ ps) =
-    if_pulled x.peer_ready (nat_lt (length x.sent) (x.acked + c.outgoing.window)) _ _ (λ st. channel_step e m i s st) _ _
-    (record { next = refl; packet = bare_data (length x.sent % 8) (length x.taken % 8) p; quiet = quiet_data (length x.sent % 8) (length x.taken % 8) p })
-    (record { next = refl; packet = refl; quiet = tt })
+abbrev PullsAs : Settings → Agreed → At Connection → Type 0
+PullsAs c g n = DoesPull (pulled c (view g n)) (channel_acts n pull_act)
 
-pulls_side : (c : Settings) (e : ℕ) (m i : List CallRequest) (s : ℕ) (x : Side Stretch)
-    → let n : At Connection = in_call e m i (Talking (record { epoch = s; side = x })) in DoesPull (pulled c (view n)) (channel_acts c.outgoing n pull_act)
-pulls_side c e m i s (Live x) = pulls_open c e m i s x x.rest
-pulls_side c e m i s (Left x) = record { next = refl; packet = refl; quiet = tt }
+pulls_open : (c : Settings) (g : Agreed) (e : ℕ) (m i : List CallRequest) (s : ℕ) (x : Stretch) (rest : List Piece)
+    → DoesPull (pull_open c (view g (in_open g e m i s x)) (talk_of x) rest) (channel_step g e m i s (pulls (sent_on g) x rest))
+pulls_open c g e m i s x [] = record { next = record { agreed = g; is = refl; fits = (refl, refl) }; packet = refl; quiet = tt }
+pulls_open c g e m i s x (p ∷ ps) =
+    if_pulled x.peer_ready (nat_lt (length x.sent) (x.acked + (sent_on g).window)) _ _ (λ st. channel_step g e m i s st) _ _
+    (record { next = record { agreed = g; is = refl; fits = (refl, refl) }; packet = bare_data (length x.sent % 8) (length x.taken % 8) p; quiet = quiet_data (length x.sent % 8) (length x.taken % 8) p })
+    (record { next = record { agreed = g; is = refl; fits = (refl, refl) }; packet = refl; quiet = tt })
 
-pulls_in_call : (c : Settings) (e : ℕ) (m i : List CallRequest) (a : Phase) → DoesPull (pulled c (view (in_call e m i a))) (channel_acts c.outgoing (in_call e m i a) pull_act)
-pulls_in_call c e m i (Talking at) = pulls_side c e m i at.epoch at.side
-pulls_in_call c e m i other = record { next = refl; packet = refl; quiet = tt }
+pulls_in_transfer : (c : Settings) (g : Agreed) (e : ℕ) (m i : List CallRequest) (s : ℕ) (x : Side Stretch) → PullsAs c g (in_talk g e m i (record { epoch = s; side = x }))
+pulls_in_transfer c g e m i s (Live x) = pulls_open c g e m i s x x.rest
+pulls_in_transfer c g e m i s (Left x) = record { next = record { agreed = g; is = refl; fits = (refl, refl) }; packet = refl; quiet = tt }
 
-pub pulls_as : (c : Settings) (n : At Connection) → DoesPull (pulled c (view n)) (channel_acts c.outgoing n pull_act)
-pulls_as c n = side n.epoch n.side
+pulls_in_call : (c : Settings) (g : Agreed) (e : ℕ) (m i : List CallRequest) (a : Phase) → AreAgreedIn g a → PullsAs c g (in_call e m i a)
+pulls_in_call c g e m i (Talking t b at) fits = on_terms (λ a. PullsAs c g (in_call e m i a)) g t b at fits (pulls_in_transfer c g e m i at.epoch at.side)
+pulls_in_call c g e m i other fits = record { next = record { agreed = g; is = refl; fits = fits }; packet = refl; quiet = tt }
+
+pub pulls_as : (c : Settings) (g : Agreed) (n : At Connection) → AreAgreed g n.side → PullsAs c g n
+pulls_as c g n fits = side n.epoch n.side fits
   where
-    side : (e : ℕ) (x : Side Connection) → DoesPull (pulled c (view (record { epoch = e; side = x }))) (channel_acts c.outgoing (record { epoch = e; side = x }) pull_act)
-    side e (Live x) = pulls_in_call c e x.made x.indicated x.phase
-    side e (Left x) = record { next = refl; packet = refl; quiet = tt }
+    side : (e : ℕ) (x : Side Connection) → AreAgreed g x → PullsAs c g (record { epoch = e; side = x })
+    side e (Live x) fits = pulls_in_call c g e x.made x.indicated x.phase fits
+    side e (Left x) fits = record { next = record { agreed = g; is = refl; fits = tt }; packet = refl; quiet = tt }

@@ -2,7 +2,6 @@
 use Rattle.std.proofs.Common.{◌≡◌, ◌⊎◌, inl, inr, ℕ, List, [], ◌∷◌, ◌++◌, Option, Some, None, Bool, true, false, if◌then◌else◌, option_to_list, refl, sym, ap, subst, ◌∙◌, append_assoc}
 use Rattle.x25_bits.specs.declared.role.Role.{Role}
 use Rattle.x25_packet.specs.PlainPacket.{PlainPacket}
-use Rattle.x25_circuit.specs.Circuit.{Terms}
 use Rattle.x25_epochs.specs.Handshake.{Side, Live, Left, At, state_of}
 use Rattle.x25_epochs.specs.Layers.{LayerPacket, Channels, LayerStep, OnChannel, Pair, Acts, Takes, LinkDown, first_error, pair_moves, layer_acts, layer_takes}
 use Rattle.x25_epochs.specs.Layers as nested
@@ -13,7 +12,7 @@ use Rattle.x25_layer.specs.Quiet.{AreQuiet, AreNoFaults}
 use Rattle.x25_layer.specs.Transcript.{Entry}
 use Rattle.x25_layer.specs.World.{End, World, entries_asked, entries_told, Move, Requests, Pulls, HandsUp, GoesDown, puts, requested, pulled_in, answered, handed_up, moves_in, turned, settings_of}
 use Rattle.x25_layer.specs.Law.{IsQuietEnd, KeepsOrder}
-use Rattle.x25_layer.proofs.Sees.{pull_act}
+use Rattle.x25_layer.proofs.Sees.{ParamsLaws, pull_act}
 use Rattle.x25_layer.proofs.NoteLemmas.{still, append_nil}
 use Rattle.x25_layer.proofs.LayerSees.{bare_layer, bare_layers, SeesLayer, StepOf, FollowsLayer, DoesLayer, layer_act, HeedsLayer}
 use Rattle.x25_layer.proofs.StepLemmas.{quiet_step}
@@ -36,13 +35,13 @@ pub record Sees (channels : ℕ) (w : World) (j : Pair) : Type 0 where
   pub order : KeepsOrder w
 
 -- an event of the nested handshakes that a step of the near end is, with the entries that it makes
-pub record Stepped (r : Role) (t b : Terms) (channels : ℕ) (w : World) (j : Pair) (w₂ : World) : Type 0 where
+pub record Stepped (r : Role) (channels : ℕ) (w : World) (j : Pair) (w₂ : World) : Type 0 where
   pub move : nested.Move
-  pub sees : Sees channels w₂ (pair_moves r t b j j.near move)
+  pub sees : Sees channels w₂ (pair_moves r j j.near move)
   pub entries : List Entry
   pub near_entries : w₂.near.entries ≡ w.near.entries ++ entries
   pub far_entries : w₂.far.entries ≡ w.far.entries
-  pub step : StepOf (state_of j.near) (state_of (pair_moves r t b j j.near move).near) entries
+  pub step : StepOf (state_of j.near) (state_of (pair_moves r j j.near move).near) entries
 
 bare_more : (L o : List PlainPacket) (u v : List LayerPacket) → bare_layers L ≡ u → bare_layers o ≡ v → bare_layers (L ++ o) ≡ u ++ v
 bare_more [] o u v p q = q ∙ ap (λ l. l ++ v) p
@@ -105,59 +104,59 @@ same_entries : (es : List Entry) → es ≡ es ++ []
 same_entries es = sym (append_nil es)
 
 -- An event at the near end, with the settings of its role.
-pub world_moves : (r : Role) (t b : Terms) (channels : ℕ) (w : World) (near far : Side (At Channels)) (out back : List LayerPacket) (error : Option ℕ) (what : Move)
-    → let j : Pair = record { near = near; far = far; out = out; back = back; error = error } in Sees channels w j → ((m : nested.Move) → (pair_moves r t b j near m).error ≡ None)
-    → (gone : Bool) → gone ≡ w.near.is_out → (moves_in (settings_of r channels t b) w gone what ≡ w) ⊎ Stepped r t b channels w j (moves_in (settings_of r channels t b) w gone what)
-world_moves r t b channels w near far out back error what sees quiet true is = inl refl
-world_moves r t b channels w (Left z) far out back error what sees quiet false is = absurd (true≢false (sym (is ∙ sees.near.0)))
-world_moves r t b channels w (Live z) far out back error (Requests full request) sees quiet false is =
-    did (layer_outcome (settings_of r channels t b) full w.near.layer request) (layer_heeds (settings_of r channels t b) full w.near.layer z request sees.near.1)
+pub world_moves : ParamsLaws → (r : Role) (channels : ℕ) (w : World) (near far : Side (At Channels)) (out back : List LayerPacket) (error : Option ℕ) (what : Move)
+    → let j : Pair = record { near = near; far = far; out = out; back = back; error = error } in Sees channels w j → ((m : nested.Move) → (pair_moves r j near m).error ≡ None)
+    → (gone : Bool) → gone ≡ w.near.is_out → (moves_in (settings_of r channels) w gone what ≡ w) ⊎ Stepped r channels w j (moves_in (settings_of r channels) w gone what)
+world_moves laws r channels w near far out back error what sees quiet true is = inl refl
+world_moves laws r channels w (Left z) far out back error what sees quiet false is = absurd (true≢false (sym (is ∙ sees.near.0)))
+world_moves laws r channels w (Live z) far out back error (Requests full request) sees quiet false is =
+    did (layer_outcome (settings_of r channels) full w.near.layer request) (layer_heeds laws (settings_of r channels) full w.near.layer z request sees.near.1)
   where
-    did : (d : LayerOutcome) → HeedsLayer (settings_of r channels t b) w.near.layer request d z (layer_acts t z (layer_act (settings_of r channels t b) w.near.layer.circuits request))
-        → (requested (settings_of r channels t b) w request d ≡ w)
-        ⊎ Stepped r t b channels w (record { near = Live z; far = far; out = out; back = back; error = error }) (requested (settings_of r channels t b) w request d)
+    did : (d : LayerOutcome) → HeedsLayer (settings_of r channels) w.near.layer request d z (layer_acts z (layer_act (settings_of r channels) w.near.layer.circuits request))
+        → (requested (settings_of r channels) w request d ≡ w)
+        ⊎ Stepped r channels w (record { near = Live z; far = far; out = out; back = back; error = error }) (requested (settings_of r channels) w request d)
     did (Accepted next packet) g = inr (record {
-      move = Acts (layer_act (settings_of r channels t b) w.near.layer.circuits request);
+      move = Acts (layer_act (settings_of r channels) w.near.layer.circuits request);
       sees = put_sees channels w (record { near = Live z; far = far; out = out; back = back; error = error }) next (option_to_list packet)
-          (entries_asked (settings_of r channels t b) w.near.layer next request) (layer_acts t z (layer_act (settings_of r channels t b) w.near.layer.circuits request)) _ sees g.next g.put g.quiet;
-      entries = entries_asked (settings_of r channels t b) w.near.layer next request;
+          (entries_asked (settings_of r channels) w.near.layer next request) (layer_acts z (layer_act (settings_of r channels) w.near.layer.circuits request)) _ sees g.next g.put g.quiet;
+      entries = entries_asked (settings_of r channels) w.near.layer next request;
       near_entries = refl;
       far_entries = refl;
       step = g.step;
     })
     did (Declined e) g = inl refl
-world_moves r t b channels w (Live z) far out back error (Pulls h) sees quiet false is = test (is_channel channels h) refl
+world_moves laws r channels w (Live z) far out back error (Pulls h) sees quiet false is = test (is_channel channels h) refl
   where
     test : (c : Bool) → is_channel channels h ≡ c
-        → ((if c then pulled_in w (layer_pulled (settings_of r channels t b) w.near.layer h) else w) ≡ w)
-        ⊎ Stepped r t b channels w (record { near = Live z; far = far; out = out; back = back; error = error }) (if c then pulled_in w (layer_pulled (settings_of r channels t b) w.near.layer h) else w)
+        → ((if c then pulled_in w (layer_pulled (settings_of r channels) w.near.layer h) else w) ≡ w)
+        ⊎ Stepped r channels w (record { near = Live z; far = far; out = out; back = back; error = error }) (if c then pulled_in w (layer_pulled (settings_of r channels) w.near.layer h) else w)
     test false other = inl refl
     test true there =
-        let p : LayerPulled = layer_pulled (settings_of r channels t b) w.near.layer h in
-        let g : DoesLayer channels p.next p.packet [] z (layer_acts t z (OnChannel h pull_act)) = layer_pulls (settings_of r channels t b) w.near.layer z h there sees.near.1 in
+        let p : LayerPulled = layer_pulled (settings_of r channels) w.near.layer h in
+        let g : DoesLayer channels p.next p.packet [] z (layer_acts z (OnChannel h pull_act)) = layer_pulls (settings_of r channels) w.near.layer z h there sees.near.1 in
         inr (record {
           move = Acts (OnChannel h pull_act);
-          sees = put_sees channels w (record { near = Live z; far = far; out = out; back = back; error = error }) p.next (option_to_list p.packet) [] (layer_acts t z (OnChannel h pull_act)) _ sees g.next g.put g.quiet;
+          sees = put_sees channels w (record { near = Live z; far = far; out = out; back = back; error = error }) p.next (option_to_list p.packet) [] (layer_acts z (OnChannel h pull_act)) _ sees g.next g.put g.quiet;
           entries = [];
           near_entries = refl;
           far_entries = refl;
           step = g.step;
         })
-world_moves r t b channels w (Live z) far out back error HandsUp sees quiet false is = handed w.back refl
+world_moves laws r channels w (Live z) far out back error HandsUp sees quiet false is = handed w.back refl
   where
     handed : (K : List PlainPacket) → w.back ≡ K
-        → (handed_up (settings_of r channels t b) w K ≡ w)
-        ⊎ Stepped r t b channels w (record { near = Live z; far = far; out = out; back = back; error = error }) (handed_up (settings_of r channels t b) w K)
+        → (handed_up (settings_of r channels) w K ≡ w)
+        ⊎ Stepped r channels w (record { near = Live z; far = far; out = out; back = back; error = error }) (handed_up (settings_of r channels) w K)
     handed [] front = inl refl
     handed (p ∷ K) front =
-        let c : LayerSettings = settings_of r channels t b in
+        let c : LayerSettings = settings_of r channels in
         let same : bare_layer p ∷ bare_layers K ≡ back = ap bare_layers (sym front) ∙ sees.back in
-        let s : LayerStep = layer_takes r b.size z (bare_layer p) in
+        let s : LayerStep = layer_takes r z (bare_layer p) in
         let clean : s.error ≡ None =
-        second error s.error (subst (λ (l : List LayerPacket). (pair_moves r t b (record { near = Live z; far = far; out = out; back = l; error = error }) (Live z) Takes).error ≡ None) (sym same) (quiet Takes)) in
+        second error s.error (subst (λ (l : List LayerPacket). (pair_moves r (record { near = Live z; far = far; out = out; back = l; error = error }) (Live z) Takes).error ≡ None) (sym same) (quiet Takes)) in
         let ok = subst (λ (l : List PlainPacket). AreQuiet channels l) front sees.back_quiet in
-        let g : FollowsLayer channels (layer_answers c w.near.layer p) z s = layer_follows c w.near.layer z p sees.near.1 ok.0 clean in
-        inr (subst (λ (l : List LayerPacket). Stepped r t b channels w (record { near = Live z; far = far; out = out; back = l; error = error }) (answered w p K (layer_answers c w.near.layer p))) same
+        let g : FollowsLayer channels (layer_answers c w.near.layer p) z s = layer_follows laws c w.near.layer z p sees.near.1 ok.0 clean in
+        inr (subst (λ (l : List LayerPacket). Stepped r channels w (record { near = Live z; far = far; out = out; back = l; error = error }) (answered w p K (layer_answers c w.near.layer p))) same
         (record {
           move = Takes;
           sees = answered_sees channels w (record { near = Live z; far = far; out = out; back = back; error = error }) p K (layer_answers c w.near.layer p) s _ sees front z g;
@@ -166,7 +165,7 @@ world_moves r t b channels w (Live z) far out back error HandsUp sees quiet fals
           far_entries = refl;
           step = g.step;
         }))
-world_moves r t b channels w (Live z) far out back error GoesDown sees quiet false is = inr (record {
+world_moves laws r channels w (Live z) far out back error GoesDown sees quiet false is = inr (record {
   move = LinkDown;
   sees = record {
     near = (refl, refl);

@@ -3,4 +3,4 @@ use Rattle.x25_circuit.proofs.RowLemmas.{clear_done}
 use Rattle.x25_circuit.proofs.circuit.Circuit.clear.Goals as goal
 
 pub returns-in_default-clause-outcome : goal.returns-in_default-clause-outcome
-returns-in_default-clause-outcome c = λ d x fits. rw (sym fits.state, clear_done x _ c.in_default.not-Free c.in_default.not-Clearing) ((c.enter.ensures.fits d x fits, refl))
+returns-in_default-clause-outcome c = λ d x fits. rw (sym fits.state, clear_done x _ c.in_default.not-Free c.in_default.not-Clearing) ((c.end_call.ensures.fits d x fits, refl))

@@ -1,12 +1,26 @@
-use Rattle.std.proofs.Common.{sym, ◌∙◌}
-use Rattle.x25_circuit.proofs.RowLemmas.{some_facilities, no_facilities}
+use Rattle.std.proofs.Common.{sym, ap, ◌∙◌}
+use Rattle.x25_circuit.specs.Params.{may_answer}
+use Rattle.x25_circuit.proofs.RowLemmas.{answer_in_force, answer_out_of_range}
 use Rattle.x25_circuit.proofs.circuit.Circuit.connect.Goals as goal
 
+pub returns-in_default-clause-next : goal.returns-in_default-clause-next
+returns-in_default-clause-next c = λ d x fits.
+    rw (answer_out_of_range d x c.args.self.now.flow.params c.said.result.params c.args.facilities.now fits.params c.said.ensures c.in_default.ensures.none)
+    (c.clear_for.ensures.next d x fits)
+
+pub returns-in_default-clause-says : goal.returns-in_default-clause-says
+returns-in_default-clause-says c = λ d x fits.
+    rw (answer_out_of_range d x c.args.self.now.flow.params c.said.result.params c.args.facilities.now fits.params c.said.ensures c.in_default.ensures.none)
+    (c.clear_for.ensures.says d x fits)
+
 pub returns-clause-next : goal.returns-clause-next
-returns-clause-next c = λ d x fits. rw (no_facilities d x c.args.facilities.now _ (sym c.is_empty.ensures ∙ c.if-not-is_empty.false)) (c.enter.ensures.fits d x fits)
+returns-clause-next c = λ d x fits.
+    rw (answer_in_force d x c.args.self.now.flow.params c.in-Some.flow.params c.args.facilities.now fits.params (c.in-Some.ensures.some ∙ c.said.ensures)
+      (ap (may_answer c.args.self.now.flow.params) c.in-Some.ensures.some ∙ c.in-Some.ensures.allowed))
+    (c.enter.ensures.fits d x fits)
 
-pub returns-then-not-is_empty-clause-next : goal.returns-then-not-is_empty-clause-next
-returns-then-not-is_empty-clause-next c = λ d x fits. rw (some_facilities d x c.args.facilities.now _ (sym c.is_empty.ensures ∙ c.if-not-is_empty.true)) (c.clear_for.ensures.next d x fits)
-
-pub returns-then-not-is_empty-clause-says : goal.returns-then-not-is_empty-clause-says
-returns-then-not-is_empty-clause-says c = λ d x fits. rw (some_facilities d x c.args.facilities.now _ (sym c.is_empty.ensures ∙ c.if-not-is_empty.true)) (c.clear_for.ensures.says d x fits)
+pub returns-clause-says : goal.returns-clause-says
+returns-clause-says c = λ d x fits.
+    rw (answer_in_force d x c.args.self.now.flow.params c.in-Some.flow.params c.args.facilities.now fits.params (c.in-Some.ensures.some ∙ c.said.ensures)
+      (ap (may_answer c.args.self.now.flow.params) c.in-Some.ensures.some ∙ c.in-Some.ensures.allowed))
+    c.tells.ensures.says

@@ -1,9 +1,10 @@
 use Rattle.std.proofs.Common.{sym, ap, ◌∙◌}
 use Rattle.x25_circuit.specs.Messages.{wholes}
+use Rattle.x25_circuit.specs.Circuit.{outgoing}
 use Rattle.x25_circuit.specs.Queue.{waiting}
 use Rattle.x25_circuit.proofs.MessageLemmas.{wholes_all}
 use Rattle.x25_circuit.proofs.circuit.Circuit.waits.Goals as goal
 
 pub returns-clause-value : goal.returns-clause-value
 returns-clause-value c = λ d x fits.
-    c.len.ensures.value ∙ sym (ap wholes fits.talk.rest ∙ wholes_all d.outgoing.size (waiting c.args.self.now.transfer.queue))
+    c.len.ensures.value ∙ sym (ap wholes fits.talk.rest ∙ wholes_all (outgoing x).size (waiting c.args.self.now.transfer.queue))
