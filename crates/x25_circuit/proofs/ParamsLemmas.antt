@@ -9,7 +9,7 @@ use Rattle.x25_packet.specs.declared.facilities.Directions.{Directions}
 use Rattle.x25_packet.specs.Facilities.{AreAllowed, AreWithin, IfGiven, IsFacilityField, facilities_of, facility, field_of, is_within, last, with_sizes, windows_of as windows_in}
 use Rattle.x25_circuit.specs.declared.params.Params.{Params}
 use Rattle.x25_circuit.specs.Params.{default_params, may_propose, is_toward, may_answer, sizes_of, windows_of, params_of, news, field_for, said_or, said_by, said_in, terms_of, called_terms, calling_terms}
-use Rattle.x25_circuit.specs.ParamsLaws.{FieldIsSaid, NoFieldIsKnown, KnownIsNoField, SaidIsAllowed, ProposalIsAnswer, DefaultIsAnswer, AnswerIsAllowed, AreTerms, TermsAreAllowed}
+use Rattle.x25_circuit.specs.ParamsLaws.{FieldIsSaid, NoFieldIsKnown, KnownIsNoField, FieldIsAllowed, SaidIsAllowed, ProposalIsAnswer, DefaultIsAnswer, AnswerIsAllowed, AreTerms, TermsAreAllowed}
 
 -- ---- tests
 
@@ -167,7 +167,7 @@ known_is_no_field known = ap (λ (s : Option Directions). field_of (record { pac
     ∙ ap (λ (w : Option Directions). field_of (record { packet_size = None; window_size = w })) (no_news (windows_of known))
 
 -- a field that says what may be proposed may stand in a packet
-pub field_is_allowed : (known said : Params) → may_propose said ≡ true → IsFacilityField (field_for known said)
+pub field_is_allowed : FieldIsAllowed
 field_is_allowed known said allowed =
     let inside = are_inside said allowed in
     (record { packet_size = news (sizes_of known) (sizes_of said); window_size = news (windows_of known) (windows_of said) },
