@@ -3,7 +3,7 @@ use Rattle.std.proofs.Common.{◌≡◌, ℕ, List, [], ◌∷◌, ◌++◌, Som
 use Rattle.x25_circuit.specs.Messages.{Piece, More, Last, Partial, no_part, joined, joining, wholes}
 use Rattle.x25_bits.specs.declared.role.Role.{Role}
 use Rattle.x25_bits.specs.declared.role.Role.TheVariants.{Dte, Dce}
-use Rattle.x25_circuit.specs.Circuit.{Terms}
+use Rattle.x25_circuit.specs.Params.{Terms}
 use Rattle.x25_circuit.specs.Notices.{CallRequest}
 use Rattle.x25_epochs.specs.Handshake.{Side, Live, Left, At, state_of}
 use Rattle.x25_epochs.specs.Stretch.{Stretch}
@@ -14,6 +14,7 @@ use Rattle.x25_epochs.specs.Layers.{LayerPacket, Channels, ready, Pair, turned, 
 use Rattle.x25_epochs.specs.Names.{Name}
 use Rattle.x25_epochs.specs.Books.{messages, name_at}
 use Rattle.x25_epochs.specs.Arrivals.{open_in, open_phase, open_call, open_channel, open_at, HasArrived, AllArrives}
+use Rattle.x25_epochs.proofs.TermsLemmas.{Laws}
 use Rattle.x25_epochs.proofs.LayersRelation.{EndsRelated}
 use Rattle.x25_epochs.proofs.StretchRelation.{FollowsFrom}
 use Rattle.x25_epochs.proofs.LayerLemmas.{Stands, Stands-turned, Stands-run, Stands-start}
@@ -27,10 +28,12 @@ record Opened (s : Side (At Channels)) (k : ℕ) (x : Stretch) : Type 0 where
   channels : Channels
   clears : ℕ
   resets : ℕ
+  sends : Terms
+  takes : Terms
   made : List CallRequest
   indicated : List CallRequest
   end : s ≡ Live (ready restarts channels)
-  circuit : channels k ≡ live clears (record { phase = Talking (d1 resets x); made = made; indicated = indicated })
+  circuit : channels k ≡ live clears (record { phase = Talking sends takes (d1 resets x); made = made; indicated = indicated })
 
 some_is : {T : Type 0} (x y : T) → Some x ≡ Some y → x ≡ y
 some_is x y e = cc
@@ -45,12 +48,18 @@ in_transfer at x is = ap (λ (s : Side Stretch). record { epoch = at.epoch; side
     side (Live y) e = ap (λ (z : Stretch). Live z) (some_is y x e)
     side (Left y) e = absurd (none_some x e)
 
-in_phase : (a : Phase) (x : Stretch) → open_phase a ≡ Some x → (ss : ℕ) × (a ≡ Talking (d1 ss x))
-in_phase (Talking at) x is = (at.epoch, ap (λ (z : At Stretch). Talking z) (in_transfer at x is))
+record InPhase (a : Phase) (x : Stretch) : Type 0 where
+  resets : ℕ
+  sends : Terms
+  takes : Terms
+  phase : a ≡ Talking sends takes (d1 resets x)
+
+in_phase : (a : Phase) (x : Stretch) → open_phase a ≡ Some x → InPhase a x
+in_phase (Talking t b at) x is = record { resets = at.epoch; sends = t; takes = b; phase = ap (λ (z : At Stretch). Talking t b z) (in_transfer at x is) }
 in_phase Unused x is = absurd (none_some x is)
-in_phase Waiting x is = absurd (none_some x is)
-in_phase Offered x is = absurd (none_some x is)
-in_phase Crossed x is = absurd (none_some x is)
+in_phase (Waiting p) x is = absurd (none_some x is)
+in_phase (Offered p) x is = absurd (none_some x is)
+in_phase (Crossed p) x is = absurd (none_some x is)
 
 opened : (s : Side (At Channels)) (k : ℕ) (x : Stretch) → open_at s k ≡ Some x → Opened s k x
 opened (Left z) k x is = absurd (none_some x is)
@@ -59,17 +68,19 @@ opened (Live z) k x is = ends z.epoch z.side is
     calls : (e : ℕ) (y : Channels) (c : Side Connection) → (y k).side ≡ c → open_call c ≡ Some x → Opened (Live (ready e y)) k x
     calls e y (Left c) same is_open = absurd (none_some x is_open)
     calls e y (Live c) same is_open =
-        let phase = in_phase c.phase x is_open in
+        let phase : InPhase c.phase x = in_phase c.phase x is_open in
         record {
           restarts = e;
           channels = y;
           clears = (y k).epoch;
-          resets = phase.0;
+          resets = phase.resets;
+          sends = phase.sends;
+          takes = phase.takes;
           made = c.made;
           indicated = c.indicated;
           end = refl;
           circuit = ap (λ (s : Side Connection). record { epoch = (y k).epoch; side = s })
-              (same ∙ ap (λ (a : Phase). Live (record { phase = a; made = c.made; indicated = c.indicated })) phase.1);
+              (same ∙ ap (λ (a : Phase). Live (record { phase = a; made = c.made; indicated = c.indicated })) phase.phase);
         }
 
     ends : (e : ℕ) (y : Side Channels) → open_channel y k ≡ Some x → Opened (Live (record { epoch = e; side = y })) k x
@@ -99,28 +110,28 @@ whole_rest j (Last q user ∷ ps) whole none = absurd (omega (arith, none))
 nothing_waits : (sent rest : List Piece) → joining no_part (sent ++ rest) ≡ no_part → wholes rest ≡ 0 → rest ≡ []
 nothing_waits sent rest whole none = whole_rest (joining no_part sent) rest (sym (joining-append no_part sent rest) ∙ whole) none
 
-arrived : (r : Role) (t b : Terms) (w : Pair) (k : ℕ) (x y : Stretch) → Stands r t b w → (o : Opened w.near k x) (p : Opened w.far k y)
+arrived : (r : Role) (w : Pair) (k : ℕ) (x y : Stretch) → Stands r w → (o : Opened w.near k x) (p : Opened w.far k y)
     → ◌≡◌ {A = Name} (record { restarts = o.restarts; clears = o.clears; resets = o.resets }) (record { restarts = p.restarts; clears = p.clears; resets = p.resets })
     → w.out ≡ [] → HasArrived x y
-arrived r t b w k x y stands o p same none =
-    let top : EndsRelated r t b (Live (ready o.restarts o.channels)) [] w.back (Live (ready o.restarts p.channels)) =
-    subst (λ (rs : ℕ). EndsRelated r t b (Live (ready o.restarts o.channels)) [] w.back (Live (ready rs p.channels))) (sym (ap (λ (n : Name). n.restarts) same))
-    (subst (λ (s : Side (At Channels)). EndsRelated r t b (Live (ready o.restarts o.channels)) [] w.back s) p.end
-    (subst (λ (s : Side (At Channels)). EndsRelated r t b s [] w.back w.far) o.end
-    (subst (λ (l : List LayerPacket). EndsRelated r t b w.near l w.back w.far) none stands.top))) in
-    let there : p.channels k ≡ live o.clears (record { phase = Talking (d1 o.resets y); made = p.made; indicated = p.indicated }) =
-    p.circuit ∙ ap (λ (n : Name). live n.clears (record { phase = Talking (d1 n.resets y); made = p.made; indicated = p.indicated })) (sym same) in
-    let got = open_stretch r t b o.restarts o.clears o.resets o.channels p.channels k o.made o.indicated p.made p.indicated x y w.back o.circuit there top in
-    let all : FollowsFrom x [] y = FollowsFrom-from_Dir t x [] got.0 y got.1.there in
+arrived r w k x y stands o p same none =
+    let top : EndsRelated r (Live (ready o.restarts o.channels)) [] w.back (Live (ready o.restarts p.channels)) =
+    subst (λ (rs : ℕ). EndsRelated r (Live (ready o.restarts o.channels)) [] w.back (Live (ready rs p.channels))) (sym (ap (λ (n : Name). n.restarts) same))
+    (subst (λ (s : Side (At Channels)). EndsRelated r (Live (ready o.restarts o.channels)) [] w.back s) p.end
+    (subst (λ (s : Side (At Channels)). EndsRelated r s [] w.back w.far) o.end
+    (subst (λ (l : List LayerPacket). EndsRelated r w.near l w.back w.far) none stands.top))) in
+    let there : p.channels k ≡ live o.clears (record { phase = Talking p.sends p.takes (d1 o.resets y); made = p.made; indicated = p.indicated }) =
+    p.circuit ∙ ap (λ (n : Name). live n.clears (record { phase = Talking p.sends p.takes (d1 n.resets y); made = p.made; indicated = p.indicated })) (sym same) in
+    let got = open_stretch r o.sends o.takes p.sends p.takes o.restarts o.clears o.resets o.channels p.channels k o.made o.indicated p.made p.indicated x y w.back o.circuit there top in
+    let all : FollowsFrom x [] y = FollowsFrom-from_Dir o.sends x [] got.0 y got.1.there in
     record { messages = λ waits. all.all refl (nothing_waits x.sent x.rest got.1.there.text.whole waits); interrupts = all.int_all refl }
 
-pub all_arrives : AllArrives
-all_arrives t b st sb events k x y near far same =
-    let w = pair_run t b events pair_start in
-    let stands : Stands Dte t b w = Stands-run t b st sb events pair_start (Stands-start t b) in
+pub all_arrives : Laws → AllArrives
+all_arrives laws events k x y near far same =
+    let w = pair_run events pair_start in
+    let stands : Stands Dte w = Stands-run laws events pair_start Stands-start in
     let o : Opened w.near k x = opened w.near k x near in
     let p : Opened w.far k y = opened w.far k y far in
     let named = sym (name_opened w.near k x o) ∙ same ∙ name_opened w.far k y p in (
-      λ none. arrived Dte t b w k x y stands o p named none,
-      λ none. arrived Dce b t (turned w) k y x (Stands-turned Dte t b w stands) p o (sym named) none,
+      λ none. arrived Dte w k x y stands o p named none,
+      λ none. arrived Dce (turned w) k y x (Stands-turned Dte w stands) p o (sym named) none,
     )

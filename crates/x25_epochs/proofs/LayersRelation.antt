@@ -2,7 +2,6 @@
 use Rattle.std.proofs.Common.{◌≡◌, ℕ, List, [], ◌∷◌, ◌++◌, None, Bool, true, false, ◌==◌}
 use Rattle.x25_epochs.specs.Handshake.{Mark, Inner, Request, Confirm, Side, At}
 use Rattle.x25_bits.specs.declared.role.Role.{Role}
-use Rattle.x25_circuit.specs.Circuit.{Terms}
 use Rattle.x25_epochs.specs.Stretch.{Packet}
 use Rattle.x25_epochs.specs.Layers.{LayerPacket, On, Restart, RestartConf, Channels, all_fresh, LayerStep}
 use Rattle.x25_epochs.proofs.HandshakeRelation.{Extended, Level, Handshake}
@@ -19,24 +18,24 @@ on h (On k p ∷ L) = kept_on (h == k) p (on h L)
 on h (Restart ∷ L) = on h L
 on h (RestartConf ∷ L) = on h L
 
-pub record ChannelsRelated (r : Role) (t b : Terms) (x : Channels) (L K : List LayerPacket) (y : Channels) : Type 0 where
-  pub each : (h : ℕ) → ChannelRelated r t b (x h) (on h L) (on h K) (y h)
+pub record ChannelsRelated (r : Role) (x : Channels) (L K : List LayerPacket) (y : Channels) : Type 0 where
+  pub each : (h : ℕ) → ChannelRelated r (x h) (on h L) (on h K) (y h)
 
 abbrev pub restart_mark : LayerPacket → Mark
 restart_mark (On h p) = Inner
 restart_mark Restart = Request
 restart_mark RestartConf = Confirm
 
-abbrev pub channels_level : Role → Terms → Terms → Level Channels LayerPacket
-channels_level r t b = record { mark = restart_mark; fresh = all_fresh; gone = λ x. Unit {0}; related = ChannelsRelated r t b }
+abbrev pub channels_level : Role → Level Channels LayerPacket
+channels_level r = record { mark = restart_mark; fresh = all_fresh; gone = λ x. Unit {0}; related = ChannelsRelated r }
 
-pub record LayersRelated (r : Role) (t b : Terms) (x : At Channels) (L K : List LayerPacket) (y : At Channels) : Type 0 where
-  pub hand : Handshake (channels_level r t b) x.epoch y.epoch x.side y.side L K
+pub record LayersRelated (r : Role) (x : At Channels) (L K : List LayerPacket) (y : At Channels) : Type 0 where
+  pub hand : Handshake (channels_level r) x.epoch y.epoch x.side y.side L K
 
-pub record GoodLayer (r : Role) (t b : Terms) (s : LayerStep) (L K : List LayerPacket) (y : At Channels) : Type 0 where
+pub record GoodLayer (r : Role) (s : LayerStep) (L K : List LayerPacket) (y : At Channels) : Type 0 where
   pub quiet : s.error ≡ None
-  pub kept : LayersRelated r t b s.next (L ++ s.out) K y
+  pub kept : LayersRelated r s.next (L ++ s.out) K y
 
 -- what is kept of the two ends
-abbrev pub EndsRelated : Role → Terms → Terms → Side (At Channels) → List LayerPacket → List LayerPacket → Side (At Channels) → Type 0
-EndsRelated r t b x L K y = Extended (λ (z : At Channels). Unit {0}) (LayersRelated r t b) x L K y
+abbrev pub EndsRelated : Role → Side (At Channels) → List LayerPacket → List LayerPacket → Side (At Channels) → Type 0
+EndsRelated r x L K y = Extended (λ (z : At Channels). Unit {0}) (LayersRelated r) x L K y

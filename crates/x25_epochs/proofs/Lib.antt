@@ -1,3 +1,4 @@
+pub mod TermsLemmas
 pub mod HandshakeRelation
 pub mod HandshakeLemmas
 pub mod StretchRelation
@@ -21,3 +22,4 @@ pub mod StretchKindLemmas
 pub mod CallKindLemmas
 pub mod LawLemmas
 pub mod ArrivalLemmas
+mod CallRun

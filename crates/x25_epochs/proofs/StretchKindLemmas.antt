@@ -3,21 +3,23 @@ use Rattle.std.proofs.Common.{◌≡◌, inl, inr, ℕ, ◌+◌, List, [], ◌�
 use Rattle.x25_circuit.specs.Messages.{Piece, wholes}
 use Rattle.x25_bits.specs.declared.role.Role.{Role}
 use Rattle.x25_bits.specs.declared.role.Role.TheVariants.{Dte, Dce}
-use Rattle.x25_circuit.specs.Circuit.{Terms}
+use Rattle.x25_circuit.specs.declared.params.Params.{Params}
+use Rattle.x25_circuit.specs.Params.{Terms, may_propose, may_answer, field_for, said_in}
 use Rattle.x25_circuit.specs.Notices.{CallRequest}
-use Rattle.x25_epochs.specs.Terms.{IsSound}
+use Rattle.x25_epochs.proofs.TermsLemmas.{IsSound}
 use Rattle.x25_epochs.specs.Handshake.{Inner, Side, Live, Left, At, state_of}
 use Rattle.x25_epochs.specs.Stretch.{Packet, Data, Rr, Rnr, Int, IntConf, Reset, ResetConf, Call, Accept, Clear, ClearConf, Stretch, fresh, StretchStep, stretch_does, stretch_fails, StretchAct, Send, Pull, Ready, NotReady, Interrupt, pulls, stretch_acts, by_ground, data_ground, ack_ground, takes_data, takes_status, stretch_takes}
 use Rattle.x25_epochs.specs.Transfer.{d1, rst, fresh_transfer, lifted, transfer_side_takes, transfer_takes, TransferAct, Inside, SendsReset, transfer_side_acts}
-use Rattle.x25_epochs.specs.Calls.{Phase, Unused, Waiting, Offered, Crossed, Talking, Connection, phase_takes, call_takes, CallAct, PlacesCall, AcceptsCall, Talks, phase_acts}
+use Rattle.x25_epochs.specs.Calls.{Phase, Unused, Waiting, Offered, Crossed, Talking, Connection, CallStep, goes, unexpected, calling_talk, called_talk, is_answered, accepts, phase_takes, call_takes, CallAct, PlacesCall, AcceptsCall, Talks, phase_acts}
 use Rattle.x25_epochs.specs.Books.{Lists, none, resets_in, held_in, of_stretch, messages, interrupts, Begins}
 use Rattle.x25_epochs.proofs.HandshakeLemmas.{meets}
 use Rattle.x25_epochs.proofs.StretchRelation.{InFlowControl, FollowsFrom, GoodStretch}
 use Rattle.x25_epochs.proofs.TransferRelation.{reset_mark, stretch_level, TransfersRelated}
 use Rattle.x25_epochs.proofs.ChannelRelation.{clear_mark, Seen}
 use Rattle.x25_epochs.proofs.StretchLemmas.{GoodStretch-takes, FollowsFrom-from_Dir}
-use Rattle.x25_epochs.proofs.ClaimLemmas.{Seen-joint}
+use Rattle.x25_epochs.proofs.ClaimLemmas.{BothTalk, Seen-joint}
 use Rattle.x25_epochs.proofs.LineLemmas.{append_nil}
+use Rattle.x25_epochs.proofs.TextLemmas.{by_if}
 use Rattle.x25_epochs.proofs.BookLemmas.{Change, Stays, MoreResets}
 use Rattle.x25_epochs.proofs.TurnLemmas.{MayIndicate, WithinCall, IsHandled}
 
@@ -38,8 +40,12 @@ lists_are {M} d d₂ u u₂ p q = ap (λ (a : List M). record { down = a; up = u
 held_fresh : {M : Type 0} (down up : Stretch → List M) → IsKept down up → ◌≡◌ {A = Lists M} (record { down = down fresh; up = up fresh }) none
 held_fresh down up k = lists_are (down fresh) [] (up fresh) [] k.down_fresh k.up_fresh
 
+-- in p4, whatever the terms
+abbrev held_of : {M : Type 0} → (Stretch → List M) → (Stretch → List M) → At Stretch → Lists M
+held_of down up x = record { down = down (state_of x.side); up = up (state_of x.side) }
+
 abbrev TransferChange : {M : Type 0} → (Stretch → List M) → (Stretch → List M) → (List M → Type 0) → ℕ → At Stretch → At Stretch → Type 0
-TransferChange down up A e x y = Change A e x.epoch (held_in down up (Talking x)) e y.epoch (held_in down up (Talking y))
+TransferChange down up A e x y = Change A e x.epoch (held_of down up x) e y.epoch (held_of down up y)
 
 still : {M : Type 0} (down up : Stretch → List M) (A : List M → Type 0) (e : ℕ) (x : At Stretch) → TransferChange down up A e x x
 still down up A e x = Stays refl refl (alike (down (state_of x.side))) (inl refl)
@@ -54,14 +60,14 @@ transfer_taken : {M : Type 0} (down up : Stretch → List M) → IsKept down up 
 transfer_taken down up k A size e s (Live x) Reset f = MoreResets refl (omega arith) (held_fresh down up k)
 transfer_taken down up k A size e s (Live x) ResetConf f = still down up A e (d1 s x)
 transfer_taken down up k A size e s (Live x) (Call i) f = still down up A e (d1 s x)
-transfer_taken down up k A size e s (Live x) Accept f = still down up A e (d1 s x)
+transfer_taken down up k A size e s (Live x) (Accept field) f = still down up A e (d1 s x)
 transfer_taken down up k A size e s (Live x) Clear f = still down up A e (d1 s x)
 transfer_taken down up k A size e s (Live x) ClearConf f = still down up A e (d1 s x)
 transfer_taken down up k A size e s (Live x) other f = lifted_taken down up A e s x (stretch_takes size x other) (stretch_takes size x other).error (k.takes size x other) (f x refl tt)
 transfer_taken down up k A size e s (Left x) Reset f = MoreResets refl (omega arith) (held_fresh down up k)
 transfer_taken down up k A size e s (Left x) ResetConf f = MoreResets refl (omega arith) (held_fresh down up k)
 transfer_taken down up k A size e s (Left x) (Call i) f = still down up A e (rst s x)
-transfer_taken down up k A size e s (Left x) Accept f = still down up A e (rst s x)
+transfer_taken down up k A size e s (Left x) (Accept field) f = still down up A e (rst s x)
 transfer_taken down up k A size e s (Left x) Clear f = still down up A e (rst s x)
 transfer_taken down up k A size e s (Left x) ClearConf f = still down up A e (rst s x)
 transfer_taken down up k A size e s (Left x) other f = still down up A e (rst s x)
@@ -89,60 +95,79 @@ in_its_stretch down up k t b sound e x u p v z h =
 idle : {M : Type 0} (down up : Stretch → List M) (A : List M → Type 0) (e : ℕ) → Change A e 0 none e 0 none
 idle down up A e = Stays refl refl ([], refl) (inl refl)
 
-connects : {M : Type 0} (down up : Stretch → List M) → IsKept down up → (A : List M → Type 0) (e : ℕ) → Change A e 0 none e 0 (held_in down up (Talking fresh_transfer))
+connects : {M : Type 0} (down up : Stretch → List M) → IsKept down up → (A : List M → Type 0) (e : ℕ) → Change A e 0 none e 0 (held_of down up fresh_transfer)
 connects down up k A e = Stays refl refl (down fresh, refl) (inl k.up_fresh)
 
--- the change by a packet within a call, where the other end is y
-phase_taken : {M : Type 0} (down up : Stretch → List M) → IsKept down up → (r : Role) (t b : Terms) → IsSound b → (e : ℕ) (a : Phase) (m i : List CallRequest) (u : List Packet) (p : Packet) (v : List Packet) (y : Connection)
-    → Seen r t b (record { phase = a; made = m; indicated = i }) u (p ∷ v) y
-    → WithinCall (of_stretch down up) (MayIndicate (of_stretch down up) (record { phase = a; made = m; indicated = i }) y) e (record { phase = a; made = m; indicated = i }) (phase_takes r b.size a m i p).next
-phase_taken down up k r t b sound e Unused m i u (Call n) v y h = idle down up _ e
-phase_taken down up k r t b sound e Unused m i u other v y h = idle down up _ e
-phase_taken down up k Dte t b sound e Waiting m i u (Call n) v y h = idle down up _ e
-phase_taken down up k Dce t b sound e Waiting m i u (Call n) v y h = idle down up _ e
-phase_taken down up k r t b sound e Waiting m i u Accept v y h = connects down up k _ e
-phase_taken down up k r t b sound e Waiting m i u other v y h = idle down up _ e
-phase_taken down up k r t b sound e Offered m i u p v y h = idle down up _ e
-phase_taken down up k r t b sound e Crossed m i u Accept v y h = connects down up k _ e
-phase_taken down up k r t b sound e Crossed m i u other v y h = idle down up _ e
-phase_taken {M} down up k r t b sound e (Talking x) m i u p v y h =
-    let joint = Seen-joint r t b m i x y u p v h in
-    subst (λ (a : Phase). Change (λ (l : List M). (resets_in a ≡ x.epoch) × Begins l (held_in down up a).down) e x.epoch (held_in down up (Talking x)) e (transfer_takes b.size x p).next.epoch
-    (held_in down up (Talking (transfer_takes b.size x p).next))) (sym joint.1)
-    (in_its_stretch down up k t b sound e x u p v joint.0 joint.2)
+-- the start of p4, or none
+answered : {M : Type 0} (down up : Stretch → List M) → IsKept down up → (A : List M → Type 0) (e : ℕ) (a : Phase) (mine : Params) (m i : List CallRequest) (q : Params) → resets_in a ≡ 0 → held_in down up a ≡ none
+    → Change A e 0 none e (resets_in (is_answered a mine m i q).next.phase) (held_in down up (is_answered a mine m i q).next.phase)
+answered {M} down up k A e a mine m i q resets held =
+    by_if (λ (s : CallStep). Change A e 0 none e (resets_in s.next.phase) (held_in down up s.next.phase)) (may_answer mine q) (goes (calling_talk q) m i []) (unexpected a m i)
+    (λ _. connects down up k A e)
+    (λ _. subst (λ (n : ℕ). Change A e 0 none e n (held_in down up a)) (sym resets) (subst (λ (l : Lists M). Change A e 0 none e 0 l) (sym held) (idle down up A e)))
 
-call_taken : {M : Type 0} (down up : Stretch → List M) → IsKept down up → (r : Role) (t b : Terms) → IsSound b → (e : ℕ) (c : Connection) (u : List Packet) (p : Packet) (v : List Packet) (y : Connection)
-    → clear_mark p ≡ Inner → Seen r t b c u (p ∷ v) y → WithinCall (of_stretch down up) (MayIndicate (of_stretch down up) c y) e c (call_takes r b.size c p).next
-call_taken down up k r t b sound e c u p v y inner h = phase_taken down up k r t b sound e c.phase c.made c.indicated u p v y h
+-- the change by a packet within a call, where the other end is y
+phase_taken : {M : Type 0} (down up : Stretch → List M) → IsKept down up → (r : Role) (e : ℕ) (a : Phase) (m i : List CallRequest) (u : List Packet) (p : Packet) (v : List Packet) (y : Connection)
+    → Seen r (record { phase = a; made = m; indicated = i }) u (p ∷ v) y
+    → WithinCall (of_stretch down up) (MayIndicate (of_stretch down up) (record { phase = a; made = m; indicated = i }) y) e (record { phase = a; made = m; indicated = i }) (phase_takes r a m i p).next
+phase_taken down up k r e Unused m i u (Call n) v y h = idle down up _ e
+phase_taken down up k r e Unused m i u other v y h = idle down up _ e
+phase_taken down up k Dte e (Waiting mine) m i u (Call n) v y h = idle down up _ e
+phase_taken down up k Dce e (Waiting mine) m i u (Call n) v y h = idle down up _ e
+phase_taken down up k r e (Waiting mine) m i u (Accept field) v y h = answered down up k _ e (Waiting mine) mine m i (said_in mine field) refl refl
+phase_taken down up k r e (Waiting mine) m i u other v y h = idle down up _ e
+phase_taken down up k r e (Offered theirs) m i u p v y h = idle down up _ e
+phase_taken down up k r e (Crossed mine) m i u (Accept field) v y h = answered down up k _ e (Crossed mine) mine m i (said_in mine field) refl refl
+phase_taken down up k r e (Crossed mine) m i u other v y h = idle down up _ e
+phase_taken {M} down up k r e (Talking t b x) m i u p v y h =
+    let joint : BothTalk t b x u (p ∷ v) y.phase = Seen-joint r t b m i x y u p v h in
+    subst (λ (a : Phase). Change (λ (l : List M). (resets_in a ≡ x.epoch) × Begins l (held_in down up a).down) e x.epoch (held_of down up x) e (transfer_takes b.size x p).next.epoch
+    (held_of down up (transfer_takes b.size x p).next)) (sym joint.phase)
+    (in_its_stretch down up k t b joint.talks.sound_back e x u p v joint.other joint.talks.related)
+
+call_taken : {M : Type 0} (down up : Stretch → List M) → IsKept down up → (r : Role) (e : ℕ) (c : Connection) (u : List Packet) (p : Packet) (v : List Packet) (y : Connection)
+    → clear_mark p ≡ Inner → Seen r c u (p ∷ v) y → WithinCall (of_stretch down up) (MayIndicate (of_stretch down up) c y) e c (call_takes r c p).next
+call_taken down up k r e c u p v y inner h = phase_taken down up k r e c.phase c.made c.indicated u p v y h
 
 abbrev Acted : {M : Type 0} → (Stretch → List M) → (Stretch → List M) → Phase → Phase → Type 0
 Acted down up a z = (resets_in z ≡ resets_in a) × Begins (held_in down up a).down (held_in down up z).down × ((held_in down up z).up ≡ (held_in down up a).up)
 
-lifted_acted : {M : Type 0} (down up : Stretch → List M) (s : ℕ) (x : Stretch) (st : StretchStep) (n : Option ℕ) → Begins (down x) (down st.next) × (up st.next ≡ up x) → Acted down up (Talking (d1 s x)) (Talking (lifted s st n).next)
-lifted_acted down up s x st None h = (refl, h.0, h.1)
-lifted_acted down up s x st (Some n) h = (refl, h.0, h.1)
+lifted_acted : {M : Type 0} (down up : Stretch → List M) (t b : Terms) (s : ℕ) (x : Stretch) (st : StretchStep) (n : Option ℕ) → Begins (down x) (down st.next) × (up st.next ≡ up x)
+    → Acted down up (Talking t b (d1 s x)) (Talking t b (lifted s st n).next)
+lifted_acted down up t b s x st None h = (refl, h.0, h.1)
+lifted_acted down up t b s x st (Some n) h = (refl, h.0, h.1)
 
-transfer_acted : {M : Type 0} (down up : Stretch → List M) → IsKept down up → (t : Terms) (s : ℕ) (x : Side Stretch) (a : TransferAct)
-    → Acted down up (Talking (record { epoch = s; side = x })) (Talking (transfer_side_acts t s x a).next)
-transfer_acted down up k t s (Live x) (Inside a) = lifted_acted down up s x (stretch_acts t x a) (stretch_acts t x a).error (k.acts t x a)
-transfer_acted down up k t s (Live x) SendsReset = (refl, alike (down x), refl)
-transfer_acted down up k t s (Left x) a = (refl, alike (down x), refl)
+transfer_acted : {M : Type 0} (down up : Stretch → List M) → IsKept down up → (t b : Terms) (s : ℕ) (x : Side Stretch) (a : TransferAct)
+    → Acted down up (Talking t b (record { epoch = s; side = x })) (Talking t b (transfer_side_acts t s x a).next)
+transfer_acted down up k t b s (Live x) (Inside a) = lifted_acted down up t b s x (stretch_acts t x a) (stretch_acts t x a).error (k.acts t x a)
+transfer_acted down up k t b s (Live x) SendsReset = (refl, alike (down x), refl)
+transfer_acted down up k t b s (Left x) a = (refl, alike (down x), refl)
 
 unmoved : {M : Type 0} (down up : Stretch → List M) (a : Phase) → Acted down up a a
 unmoved down up a = (refl, alike (held_in down up a).down, refl)
 
-phase_acted : {M : Type 0} (down up : Stretch → List M) → IsKept down up → (t : Terms) (a : Phase) (m i : List CallRequest) (act : CallAct) → Acted down up a (phase_acts t a m i act).next.phase
-phase_acted down up k t Unused m i (PlacesCall n) = (refl, ([], refl), refl)
-phase_acted down up k t Unused m i other = unmoved down up Unused
-phase_acted down up k t Waiting m i act = unmoved down up Waiting
-phase_acted down up k t Offered m i AcceptsCall = (refl, (down fresh, refl), k.up_fresh)
-phase_acted down up k t Offered m i other = unmoved down up Offered
-phase_acted down up k t Crossed m i act = unmoved down up Crossed
-phase_acted down up k t (Talking x) m i (Talks a) = transfer_acted down up k t x.epoch x.side a
-phase_acted down up k t (Talking x) m i other = unmoved down up (Talking x)
+accepted : {M : Type 0} (down up : Stretch → List M) → IsKept down up → (theirs : Params) (m i : List CallRequest) (answer : Option Params) → Acted down up (Offered theirs) (accepts theirs m i answer).next.phase
+accepted down up k theirs m i None = (refl, (down fresh, refl), k.up_fresh)
+accepted down up k theirs m i (Some q) =
+    by_if (λ (s : CallStep). Acted down up (Offered theirs) s.next.phase) (may_answer theirs q) (goes (called_talk q) m i (Accept (field_for theirs q) ∷ [])) (goes (Offered theirs) m i [])
+    (λ _. (refl, (down fresh, refl), k.up_fresh))
+    (λ _. unmoved down up (Offered theirs))
+
+phase_acted : {M : Type 0} (down up : Stretch → List M) → IsKept down up → (a : Phase) (m i : List CallRequest) (act : CallAct) → Acted down up a (phase_acts a m i act).next.phase
+phase_acted down up k Unused m i (PlacesCall n) =
+    by_if (λ (s : CallStep). Acted down up Unused s.next.phase) (may_propose n.params) (goes (Waiting n.params) (m ++ n ∷ []) i (Call n ∷ [])) (goes Unused m i [])
+    (λ _. (refl, ([], refl), refl))
+    (λ _. unmoved down up Unused)
+phase_acted down up k Unused m i other = unmoved down up Unused
+phase_acted down up k (Waiting mine) m i act = unmoved down up (Waiting mine)
+phase_acted down up k (Offered theirs) m i (AcceptsCall answer) = accepted down up k theirs m i answer
+phase_acted down up k (Offered theirs) m i other = unmoved down up (Offered theirs)
+phase_acted down up k (Crossed mine) m i act = unmoved down up (Crossed mine)
+phase_acted down up k (Talking t b x) m i (Talks a) = transfer_acted down up k t b x.epoch x.side a
+phase_acted down up k (Talking t b x) m i other = unmoved down up (Talking t b x)
 
 handled : {M : Type 0} (down up : Stretch → List M) → IsKept down up → IsHandled (of_stretch down up)
-handled down up k = record { fresh = refl; takes = call_taken down up k; acts = λ t c a. phase_acted down up k t c.phase c.made c.indicated a }
+handled down up k = record { fresh = refl; takes = call_taken down up k; acts = λ c a. phase_acted down up k c.phase c.made c.indicated a }
 
 -- messages and interrupts are such lists
 

@@ -4,8 +4,8 @@ use Rattle.std.proofs.lemmas.List.{length_push}
 use Rattle.std.proofs.lemmas.Bool.{le-leb, leb-true, ltb-true}
 use Rattle.x25_circuit.specs.Messages.{Piece, no_part, joining, carried_from, carried, piece_ground, cut, wholes}
 use Rattle.x25_window.specs.Modulo.{resolved}
-use Rattle.x25_circuit.specs.Circuit.{Terms}
-use Rattle.x25_epochs.specs.Terms.{IsSound}
+use Rattle.x25_circuit.specs.Params.{Terms}
+use Rattle.x25_epochs.proofs.TermsLemmas.{IsSound}
 use Rattle.x25_epochs.specs.Stretch.{Packet, Data, Rr, Rnr, Int, IntConf, Reset, ResetConf, Call, Accept, Clear, ClearConf, Stretch, fresh, StretchStep, stretch_does, stretch_fails, StretchAct, Send, Pull, Ready, NotReady, Interrupt, status, sends, pulls, interrupts, stretch_acts, ack_ground, data_ground, by_ground, takes_data, takes_status, stretch_takes}
 use Rattle.x25_epochs.specs.Layers.{ready}
 use Rattle.x25_epochs.proofs.StretchRelation.{numbering, ack_in, int_in, conf_in, InFlowControl, pieces, heard, ints, Ints, Text, Direction, StretchesRelated, GoodStretch, FollowsFrom}
@@ -293,7 +293,7 @@ GoodStretch-takes t b sound x u IntConf v y h =
 GoodStretch-takes t b sound x u Reset v y h = absurd h.back.kinds.0
 GoodStretch-takes t b sound x u ResetConf v y h = absurd h.back.kinds.0
 GoodStretch-takes t b sound x u (Call i) v y h = absurd h.back.kinds.0
-GoodStretch-takes t b sound x u Accept v y h = absurd h.back.kinds.0
+GoodStretch-takes t b sound x u (Accept field) v y h = absurd h.back.kinds.0
 GoodStretch-takes t b sound x u Clear v y h = absurd h.back.kinds.0
 GoodStretch-takes t b sound x u ClearConf v y h = absurd h.back.kinds.0
 

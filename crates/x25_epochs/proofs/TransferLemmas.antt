@@ -1,8 +1,8 @@
 -- p4 keeps its relation, and has no procedure error.
 use Rattle.std.proofs.Common.{◌≡◌, ℕ, suc, List, [], ◌∷◌, ◌++◌, Option, None, refl, sym, subst}
 use Rattle.x25_epochs.specs.Handshake.{Inner, Side, Live, Left, At}
-use Rattle.x25_circuit.specs.Circuit.{Terms}
-use Rattle.x25_epochs.specs.Terms.{IsSound}
+use Rattle.x25_circuit.specs.Params.{Terms}
+use Rattle.x25_epochs.proofs.TermsLemmas.{IsSound}
 use Rattle.x25_epochs.specs.Stretch.{Packet, Data, Rr, Rnr, Int, IntConf, Reset, ResetConf, Call, Accept, Clear, ClearConf, Stretch, fresh, StretchStep, StretchAct, stretch_acts, stretch_takes}
 use Rattle.x25_epochs.specs.Transfer.{d1, rst, fresh_transfer, lifted, takes_d1, takes_rst, transfer_side_takes, transfer_takes, TransferAct, Inside, SendsReset, transfer_side_acts, transfer_acts}
 use Rattle.x25_epochs.proofs.HandshakeRelation.{AllInner}
@@ -21,7 +21,7 @@ inner_mark IntConf is = refl
 inner_mark Reset is = absurd is
 inner_mark ResetConf is = absurd is
 inner_mark (Call i) is = absurd is
-inner_mark Accept is = absurd is
+inner_mark (Accept field) is = absurd is
 inner_mark Clear is = absurd is
 inner_mark ClearConf is = absurd is
 
@@ -34,7 +34,7 @@ in_transfer IntConf is = tt
 in_transfer Reset is = absurd is
 in_transfer ResetConf is = absurd is
 in_transfer (Call i) is = absurd is
-in_transfer Accept is = absurd is
+in_transfer (Accept field) is = absurd is
 in_transfer Clear is = absurd is
 in_transfer ClearConf is = absurd is
 
@@ -116,7 +116,7 @@ GoodTransfer-d1 t b sound e x L Reset K y h = record {
 }
 GoodTransfer-d1 t b sound e x L ResetConf K y h = absurd (confirm_never (stretch_level t b) ResetConf refl e y.epoch x y.side L K h.hand)
 GoodTransfer-d1 t b sound e x L (Call i) K y h = absurd h.back.0
-GoodTransfer-d1 t b sound e x L Accept K y h = absurd h.back.0
+GoodTransfer-d1 t b sound e x L (Accept field) K y h = absurd h.back.0
 GoodTransfer-d1 t b sound e x L Clear K y h = absurd h.back.0
 GoodTransfer-d1 t b sound e x L ClearConf K y h = absurd h.back.0
 
@@ -139,7 +139,7 @@ GoodTransfer-rst t b e x L IntConf K y h = TransfersRelated-drops t b e x L IntC
 GoodTransfer-rst t b e x L Reset K y h = TransfersRelated-mark t b e x L Reset K y (λ q. cc) h
 GoodTransfer-rst t b e x L ResetConf K y h = TransfersRelated-mark t b e x L ResetConf K y (λ q. cc) h
 GoodTransfer-rst t b e x L (Call i) K y h = absurd h.back.0
-GoodTransfer-rst t b e x L Accept K y h = absurd h.back.0
+GoodTransfer-rst t b e x L (Accept field) K y h = absurd h.back.0
 GoodTransfer-rst t b e x L Clear K y h = absurd h.back.0
 GoodTransfer-rst t b e x L ClearConf K y h = absurd h.back.0
 

@@ -1,7 +1,7 @@
 -- What is kept of two circuits in p4.
 use Rattle.std.proofs.Common.{◌≡◌, List, [], ◌∷◌, ◌++◌, None}
 use Rattle.x25_epochs.specs.Handshake.{Mark, Inner, Request, Confirm, At}
-use Rattle.x25_circuit.specs.Circuit.{Terms}
+use Rattle.x25_circuit.specs.Params.{Terms}
 use Rattle.x25_epochs.specs.Stretch.{Packet, Reset, ResetConf, Call, Accept, Clear, ClearConf, Stretch, fresh}
 use Rattle.x25_epochs.specs.Transfer.{TransferStep}
 use Rattle.x25_epochs.proofs.HandshakeRelation.{Level, Handshake}
@@ -18,7 +18,7 @@ stretch_level t b = record { mark = reset_mark; fresh = fresh; gone = λ x. Unit
 -- what kinds pass in p4, also in what will be dropped
 abbrev pub InTransfer : Packet → Type 0
 InTransfer (Call i) = ⊥
-InTransfer Accept = ⊥
+InTransfer (Accept field) = ⊥
 InTransfer Clear = ⊥
 InTransfer ClearConf = ⊥
 InTransfer other = Unit {0}

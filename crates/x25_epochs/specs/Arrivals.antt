@@ -1,8 +1,6 @@
 -- Where nothing is on the way and nothing waits, everything of a stretch has arrived.
 use Rattle.std.specs.Prelude.{◌≡◌, ℕ, List, [], Option, Some, None}
-use Rattle.x25_circuit.specs.Circuit.{Terms}
 use Rattle.x25_circuit.specs.Messages.{wholes}
-use Rattle.x25_epochs.specs.Terms.{IsSound}
 use Rattle.x25_epochs.specs.Handshake.{Side, Live, Left, At, state_of}
 use Rattle.x25_epochs.specs.Stretch.{Stretch}
 use Rattle.x25_epochs.specs.Calls.{Phase, Talking, Connection}
@@ -14,7 +12,7 @@ open_in (Live x) = Some x
 open_in (Left x) = None
 
 abbrev pub open_phase : Phase → Option Stretch
-open_phase (Talking at) = open_in at.side
+open_phase (Talking t b at) = open_in at.side
 open_phase other = None
 
 abbrev pub open_call : Side Connection → Option Stretch
@@ -37,7 +35,7 @@ pub record HasArrived (giver taker : Stretch) : Type 0 where
 
 -- in every run, where a stretch is open at both ends under one name and nothing is on the way
 abbrev pub AllArrives : Type 0
-AllArrives = (t b : Terms) → IsSound t → IsSound b → (events : List Event) (k : ℕ) (x y : Stretch) →
-    let w = pair_run t b events pair_start in
+AllArrives = (events : List Event) (k : ℕ) (x y : Stretch) →
+    let w = pair_run events pair_start in
     open_at w.near k ≡ Some x → open_at w.far k ≡ Some y → name_at messages (state_of w.near) k ≡ name_at messages (state_of w.far) k
     → (w.out ≡ [] → HasArrived x y) × (w.back ≡ [] → HasArrived y x)

@@ -3,9 +3,7 @@ use Rattle.std.specs.Prelude.{◌≡◌, ℕ, List, [], ◌∷◌, ◌++◌, if�
 use Rattle.x25_circuit.specs.declared.message.Message.{Message}
 use Rattle.x25_bits.specs.declared.role.Role.{Role}
 use Rattle.x25_bits.specs.declared.role.Role.TheVariants.{Dte, Dce}
-use Rattle.x25_circuit.specs.Circuit.{Terms}
 use Rattle.x25_circuit.specs.Notices.{CallRequest}
-use Rattle.x25_epochs.specs.Terms.{IsSound}
 use Rattle.x25_epochs.specs.Handshake.{At, state_of}
 use Rattle.x25_epochs.specs.Stretch.{Stretch}
 use Rattle.x25_epochs.specs.Calls.{Phase, Talking, Connection}
@@ -26,11 +24,11 @@ pub record Kind (M : Type 0) : Type 0 where
   pub held : Connection → Lists M
 
 abbrev pub resets_in : Phase → ℕ
-resets_in (Talking at) = at.epoch
+resets_in (Talking t b at) = at.epoch
 resets_in other = 0
 
 abbrev pub held_in : {M : Type 0} → (Stretch → List M) → (Stretch → List M) → Phase → Lists M
-held_in down up (Talking at) = record { down = down (state_of at.side); up = up (state_of at.side) }
+held_in down up (Talking t b at) = record { down = down (state_of at.side); up = up (state_of at.side) }
 held_in down up other = none
 
 -- what belongs to a stretch
@@ -92,23 +90,23 @@ abbrev pub turned_ledger : {M : Type 0} → Ledger M → Ledger M
 turned_ledger g = record { pair = turned g.pair; near = g.far; far = g.near }
 
 -- the end that moves writes what it then holds under its name
-abbrev pub ledger_moves : {M : Type 0} → Kind M → Role → Terms → Terms → Ledger M → Move → Ledger M
-ledger_moves kind r t b g what =
-    let pair = pair_moves r t b g.pair g.pair.near what in
+abbrev pub ledger_moves : {M : Type 0} → Kind M → Role → Ledger M → Move → Ledger M
+ledger_moves kind r g what =
+    let pair = pair_moves r g.pair g.pair.near what in
     record { pair = pair; near = λ k. written (g.near k) (name_at kind (state_of pair.near) k) (held_at kind (state_of pair.near) k); far = g.far }
 
-abbrev pub ledger_happens : {M : Type 0} → Kind M → Terms → Terms → Ledger M → Event → Ledger M
-ledger_happens kind t b g e = if e.first then ledger_moves kind Dte t b g e.what else turned_ledger (ledger_moves kind Dce b t (turned_ledger g) e.what)
+abbrev pub ledger_happens : {M : Type 0} → Kind M → Ledger M → Event → Ledger M
+ledger_happens kind g e = if e.first then ledger_moves kind Dte g e.what else turned_ledger (ledger_moves kind Dce (turned_ledger g) e.what)
 
-abbrev pub ledger_run : {M : Type 0} → Kind M → Terms → Terms → List Event → Ledger M → Ledger M
-ledger_run kind t b [] g = g
-ledger_run kind t b (e ∷ es) g = ledger_run kind t b es (ledger_happens kind t b g e)
+abbrev pub ledger_run : {M : Type 0} → Kind M → List Event → Ledger M → Ledger M
+ledger_run kind [] g = g
+ledger_run kind (e ∷ es) g = ledger_run kind es (ledger_happens kind g e)
 
 abbrev pub ledger_start : {M : Type 0} → Ledger M
 ledger_start = record { pair = pair_start; near = λ k n. none; far = λ k n. none }
 
 -- of a kind: in every run, the books of the two ends are lawful on each channel
 abbrev pub AreInOrder : {M : Type 0} → Kind M → Type 0
-AreInOrder kind = (t b : Terms) → IsSound t → IsSound b → (events : List Event) (k : ℕ) →
-    let g = ledger_run kind t b events ledger_start in
+AreInOrder kind = (events : List Event) (k : ℕ) →
+    let g = ledger_run kind events ledger_start in
     IsLawful (desk kind (state_of g.pair.near) k (g.near k)) (desk kind (state_of g.pair.far) k (g.far k))

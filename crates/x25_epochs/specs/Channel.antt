@@ -2,7 +2,6 @@
 use Rattle.std.specs.Prelude.{ℕ, suc, List, [], ◌∷◌, Option, Some, None}
 use Rattle.x25_epochs.specs.Handshake.{Side, Live, Left, At}
 use Rattle.x25_bits.specs.declared.role.Role.{Role}
-use Rattle.x25_circuit.specs.Circuit.{Terms}
 use Rattle.x25_epochs.specs.Stretch.{Packet, Clear, ClearConf}
 use Rattle.x25_epochs.specs.Calls.{Phase, Unused, Connection, CallStep, call_takes, CallAct, call_acts, fresh_call}
 
@@ -27,22 +26,22 @@ abbrev pub in_p1 : Phase → Option ℕ
 in_p1 Unused = Some 20
 in_p1 other = None
 
-abbrev pub live_takes : Role → ℕ → ℕ → Connection → Packet → ChannelStep
-live_takes r size e x Clear = record { next = live (suc e) fresh_call; out = ClearConf ∷ []; error = in_p1 x.phase }
-live_takes r size e x ClearConf = record { next = clr e x; out = Clear ∷ []; error = Some 0 }
-live_takes r size e x other = lifted_call e (call_takes r size x other) (call_takes r size x other).error
+abbrev pub live_takes : Role → ℕ → Connection → Packet → ChannelStep
+live_takes r e x Clear = record { next = live (suc e) fresh_call; out = ClearConf ∷ []; error = in_p1 x.phase }
+live_takes r e x ClearConf = record { next = clr e x; out = Clear ∷ []; error = Some 0 }
+live_takes r e x other = lifted_call e (call_takes r x other) (call_takes r x other).error
 
 abbrev pub clr_takes : ℕ → Connection → Packet → ChannelStep
 clr_takes e x Clear = record { next = live (suc e) fresh_call; out = []; error = None }
 clr_takes e x ClearConf = record { next = live (suc e) fresh_call; out = []; error = None }
 clr_takes e x other = record { next = clr e x; out = []; error = None }
 
-abbrev pub channel_side_takes : Role → ℕ → ℕ → Side Connection → Packet → ChannelStep
-channel_side_takes r size e (Live x) p = live_takes r size e x p
-channel_side_takes r size e (Left x) p = clr_takes e x p
+abbrev pub channel_side_takes : Role → ℕ → Side Connection → Packet → ChannelStep
+channel_side_takes r e (Live x) p = live_takes r e x p
+channel_side_takes r e (Left x) p = clr_takes e x p
 
-abbrev pub channel_takes : Role → ℕ → At Connection → Packet → ChannelStep
-channel_takes r size x p = channel_side_takes r size x.epoch x.side p
+abbrev pub channel_takes : Role → At Connection → Packet → ChannelStep
+channel_takes r x p = channel_side_takes r x.epoch x.side p
 
 pub data ChannelAct : Type 0 where
   Within : (act : CallAct) → ChannelAct
@@ -53,13 +52,13 @@ abbrev pub clears : ℕ → Connection → Phase → ChannelStep
 clears e x Unused = record { next = live e x; out = []; error = None }
 clears e x other = record { next = clr e x; out = Clear ∷ []; error = None }
 
-abbrev pub channel_side_acts : Terms → ℕ → Side Connection → ChannelAct → ChannelStep
-channel_side_acts t e (Live x) (Within a) = lifted_call e (call_acts t x a) (call_acts t x a).error
-channel_side_acts t e (Live x) SendsClear = clears e x x.phase
-channel_side_acts t e (Left x) a = record { next = clr e x; out = []; error = None }
+abbrev pub channel_side_acts : ℕ → Side Connection → ChannelAct → ChannelStep
+channel_side_acts e (Live x) (Within a) = lifted_call e (call_acts x a) (call_acts x a).error
+channel_side_acts e (Live x) SendsClear = clears e x x.phase
+channel_side_acts e (Left x) a = record { next = clr e x; out = []; error = None }
 
-abbrev pub channel_acts : Terms → At Connection → ChannelAct → ChannelStep
-channel_acts t x a = channel_side_acts t x.epoch x.side a
+abbrev pub channel_acts : At Connection → ChannelAct → ChannelStep
+channel_acts x a = channel_side_acts x.epoch x.side a
 
 abbrev pub fresh_channel : At Connection
 fresh_channel = live 0 fresh_call

@@ -3,12 +3,11 @@ use Rattle.std.specs.Prelude.{ℕ, suc, List, [], ◌∷◌, ◌++◌, Option, S
 use Rattle.x25_epochs.specs.Handshake.{Side, Live, Left, At}
 use Rattle.x25_bits.specs.declared.role.Role.{Role}
 use Rattle.x25_bits.specs.declared.role.Role.TheVariants.{Dte, Dce}
-use Rattle.x25_circuit.specs.Circuit.{Terms}
 use Rattle.x25_epochs.specs.Stretch.{Packet}
 use Rattle.x25_epochs.specs.Calls.{Connection}
 use Rattle.x25_epochs.specs.Channel.{ChannelStep, channel_takes, ChannelAct, channel_acts, fresh_channel}
 
--- a packet of a channel, without its cause, diagnostic and facilities; RESTART and its confirmation
+-- a packet of a channel; RESTART and its confirmation
 pub data LayerPacket : Type 0 where
   On : (channel : ℕ) → (packet : Packet) → LayerPacket
   Restart : LayerPacket
@@ -44,30 +43,30 @@ restarting e x = record { epoch = e; side = Left x }
 abbrev pub on_channel : ℕ → Channels → ℕ → ChannelStep → LayerStep
 on_channel e x h s = record { next = ready e (put x h s.next); out = addressed h s.out; error = s.error }
 
-abbrev pub layer_side_takes : Role → ℕ → ℕ → Side Channels → LayerPacket → LayerStep
-layer_side_takes r size e (Live x) (On h p) = on_channel e x h (channel_takes r size (x h) p)
-layer_side_takes r size e (Live x) Restart = record { next = ready (suc e) all_fresh; out = RestartConf ∷ []; error = None }
-layer_side_takes r size e (Live x) RestartConf = record { next = restarting e x; out = Restart ∷ []; error = Some 17 }
-layer_side_takes r size e (Left x) (On h p) = record { next = restarting e x; out = []; error = None }
-layer_side_takes r size e (Left x) Restart = record { next = ready (suc e) all_fresh; out = []; error = None }
-layer_side_takes r size e (Left x) RestartConf = record { next = ready (suc e) all_fresh; out = []; error = None }
+abbrev pub layer_side_takes : Role → ℕ → Side Channels → LayerPacket → LayerStep
+layer_side_takes r e (Live x) (On h p) = on_channel e x h (channel_takes r (x h) p)
+layer_side_takes r e (Live x) Restart = record { next = ready (suc e) all_fresh; out = RestartConf ∷ []; error = None }
+layer_side_takes r e (Live x) RestartConf = record { next = restarting e x; out = Restart ∷ []; error = Some 17 }
+layer_side_takes r e (Left x) (On h p) = record { next = restarting e x; out = []; error = None }
+layer_side_takes r e (Left x) Restart = record { next = ready (suc e) all_fresh; out = []; error = None }
+layer_side_takes r e (Left x) RestartConf = record { next = ready (suc e) all_fresh; out = []; error = None }
 
 -- a packet taken
-abbrev pub layer_takes : Role → ℕ → At Channels → LayerPacket → LayerStep
-layer_takes r size x p = layer_side_takes r size x.epoch x.side p
+abbrev pub layer_takes : Role → At Channels → LayerPacket → LayerStep
+layer_takes r x p = layer_side_takes r x.epoch x.side p
 
 -- what an end may do by itself: on a channel, or to all
 pub data LayerAct : Type 0 where
   OnChannel : (channel : ℕ) → (act : ChannelAct) → LayerAct
   SendsRestart : LayerAct
 
-abbrev pub layer_side_acts : Terms → ℕ → Side Channels → LayerAct → LayerStep
-layer_side_acts t e (Live x) (OnChannel h a) = on_channel e x h (channel_acts t (x h) a)
-layer_side_acts t e (Live x) SendsRestart = record { next = restarting e x; out = Restart ∷ []; error = None }
-layer_side_acts t e (Left x) a = record { next = restarting e x; out = []; error = None }
+abbrev pub layer_side_acts : ℕ → Side Channels → LayerAct → LayerStep
+layer_side_acts e (Live x) (OnChannel h a) = on_channel e x h (channel_acts (x h) a)
+layer_side_acts e (Live x) SendsRestart = record { next = restarting e x; out = Restart ∷ []; error = None }
+layer_side_acts e (Left x) a = record { next = restarting e x; out = []; error = None }
 
-abbrev pub layer_acts : Terms → At Channels → LayerAct → LayerStep
-layer_acts t x a = layer_side_acts t x.epoch x.side a
+abbrev pub layer_acts : At Channels → LayerAct → LayerStep
+layer_acts x a = layer_side_acts x.epoch x.side a
 
 -- The end that moves and the other one, each of which may be out (Left); the packets on the way from the one that moves, and those
 -- to it; and the number of the first error of procedure, if there was one.
@@ -96,29 +95,29 @@ first_error (Some n) e = Some n
 abbrev pub stepped : Pair → List LayerPacket → LayerStep → Pair
 stepped w back s = record { near = Live s.next; far = w.far; out = w.out ++ s.out; back = back; error = first_error w.error s.error }
 
-abbrev pub pair_takes : Role → ℕ → Pair → At Channels → List LayerPacket → Pair
-pair_takes r size w x [] = w
-pair_takes r size w x (p ∷ K) = stepped w K (layer_takes r size x p)
+abbrev pub pair_takes : Role → Pair → At Channels → List LayerPacket → Pair
+pair_takes r w x [] = w
+pair_takes r w x (p ∷ K) = stepped w K (layer_takes r x p)
 
--- an end that is out does nothing more; the terms are of the direction from the end that moves, and of that to it
-abbrev pub pair_moves : Role → Terms → Terms → Pair → Side (At Channels) → Move → Pair
-pair_moves r t b w (Live x) (Acts a) = stepped w w.back (layer_acts t x a)
-pair_moves r t b w (Live x) Takes = pair_takes r b.size w x w.back
-pair_moves r t b w (Live x) LinkDown = record { near = Left x; far = w.far; out = w.out; back = w.back; error = w.error }
-pair_moves r t b w (Left x) what = w
+-- an end that is out does nothing more
+abbrev pub pair_moves : Role → Pair → Side (At Channels) → Move → Pair
+pair_moves r w (Live x) (Acts a) = stepped w w.back (layer_acts x a)
+pair_moves r w (Live x) Takes = pair_takes r w x w.back
+pair_moves r w (Live x) LinkDown = record { near = Left x; far = w.far; out = w.out; back = w.back; error = w.error }
+pair_moves r w (Left x) what = w
 
 -- a move of the first end, or of the second
 pub record Event : Type 0 where
   pub first : Bool
   pub what : Move
 
-abbrev pub pair_happens : Terms → Terms → Pair → Event → Pair
-pair_happens t b w e =
-    if e.first then pair_moves Dte t b w w.near e.what else turned (pair_moves Dce b t (turned w) w.far e.what)
+abbrev pub pair_happens : Pair → Event → Pair
+pair_happens w e =
+    if e.first then pair_moves Dte w w.near e.what else turned (pair_moves Dce (turned w) w.far e.what)
 
-abbrev pub pair_run : Terms → Terms → List Event → Pair → Pair
-pair_run t b [] w = w
-pair_run t b (e ∷ events) w = pair_run t b events (pair_happens t b w e)
+abbrev pub pair_run : List Event → Pair → Pair
+pair_run [] w = w
+pair_run (e ∷ events) w = pair_run events (pair_happens w e)
 
 -- both links are up, and each end has sent its RESTART
 abbrev pub pair_start : Pair

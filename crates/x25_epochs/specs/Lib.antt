@@ -1,4 +1,3 @@
-pub mod Terms
 pub mod Handshake
 pub mod Stretch
 pub mod Transfer

@@ -4,10 +4,11 @@ use Rattle.std.specs.Prelude.{ℕ, ◌+◌, ◌%◌, List, [], ◌∷◌, ◌++�
 use Rattle.x25_circuit.specs.declared.message.Message.{Message}
 use Rattle.x25_circuit.specs.Messages.{Piece, no_part, joining, completed, piece_ground, cut, wholes}
 use Rattle.x25_window.specs.Modulo.{resolved}
-use Rattle.x25_circuit.specs.Circuit.{Terms}
+use Rattle.x25_circuit.specs.Params.{Terms}
 use Rattle.x25_circuit.specs.Notices.{CallRequest}
 
--- the packets of a channel, with what the two ends' order depends on: no channel, cause, diagnostic or facilities
+-- the packets of a channel, with what the two ends' order depends on: no channel, cause or diagnostic. A CALL has what its
+-- facilities say, an ACCEPT its facility field.
 pub data Packet : Type 0 where
   Data : (ns : ℕ) → (nr : ℕ) → (piece : Piece) → Packet
   Rr : (nr : ℕ) → Packet
@@ -17,7 +18,7 @@ pub data Packet : Type 0 where
   Reset : Packet
   ResetConf : Packet
   Call : (item : CallRequest) → Packet
-  Accept : Packet
+  Accept : (field : List ℕ) → Packet
   Clear : Packet
   ClearConf : Packet
 
@@ -143,6 +144,6 @@ stretch_takes size x IntConf = if x.int_out then stretch_does (record x { int_ou
 stretch_takes size x Reset = stretch_fails x 0
 stretch_takes size x ResetConf = stretch_fails x 0
 stretch_takes size x (Call i) = stretch_fails x 0
-stretch_takes size x Accept = stretch_fails x 0
+stretch_takes size x (Accept field) = stretch_fails x 0
 stretch_takes size x Clear = stretch_fails x 0
 stretch_takes size x ClearConf = stretch_fails x 0

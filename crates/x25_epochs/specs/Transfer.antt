@@ -1,7 +1,7 @@
 -- p4 (data transfer): a circuit in d1, or one that has sent RESET; a stretch within the handshake of RESET.
 use Rattle.std.specs.Prelude.{ℕ, suc, List, [], ◌∷◌, Option, Some, None}
 use Rattle.x25_epochs.specs.Handshake.{Side, Live, Left, At}
-use Rattle.x25_circuit.specs.Circuit.{Terms}
+use Rattle.x25_circuit.specs.Params.{Terms}
 use Rattle.x25_epochs.specs.Stretch.{Packet, Reset, ResetConf, Call, Accept, Clear, ClearConf, Stretch, fresh, StretchStep, StretchAct, stretch_acts, stretch_takes}
 
 -- what a step leaves, the packets that it sends, and the number of the error of procedure, if it is one
@@ -33,7 +33,7 @@ abbrev pub takes_d1 : ℕ → ℕ → Stretch → Packet → TransferStep
 takes_d1 size e x Reset = record { next = d1 (suc e) fresh; out = ResetConf ∷ []; error = None }
 takes_d1 size e x ResetConf = record { next = rst e x; out = Reset ∷ []; error = Some 27 }
 takes_d1 size e x (Call i) = stray (d1 e x)
-takes_d1 size e x Accept = stray (d1 e x)
+takes_d1 size e x (Accept field) = stray (d1 e x)
 takes_d1 size e x Clear = stray (d1 e x)
 takes_d1 size e x ClearConf = stray (d1 e x)
 takes_d1 size e x other = lifted e (stretch_takes size x other) (stretch_takes size x other).error
@@ -42,7 +42,7 @@ abbrev pub takes_rst : ℕ → Stretch → Packet → TransferStep
 takes_rst e x Reset = record { next = d1 (suc e) fresh; out = []; error = None }
 takes_rst e x ResetConf = record { next = d1 (suc e) fresh; out = []; error = None }
 takes_rst e x (Call i) = stray (rst e x)
-takes_rst e x Accept = stray (rst e x)
+takes_rst e x (Accept field) = stray (rst e x)
 takes_rst e x Clear = stray (rst e x)
 takes_rst e x ClearConf = stray (rst e x)
 takes_rst e x other = record { next = rst e x; out = []; error = None }
