@@ -9,8 +9,6 @@ use Rattle.x25_link.specs.SetUp.{TakeWaits, TakeSetsUp}
 use Rattle.x25_line.specs.Stations as line
 use Rattle.x25_line.specs.StationClaims as links
 use Rattle.x25_line.specs.StationClaims.{AreJoined, InOrder, BothInOrder, BothNoteTheirEnds, AreInWindow, NoFrmrSent, AllSentAreWhole}
-use Rattle.x25_circuit.specs.Circuit.{usual}
-use Rattle.x25_epochs.specs.Terms.{IsSound}
 use Rattle.x25_layer.specs.World as layer
 use Rattle.x25_layer.specs.Law as layers
 use Rattle.x25_layer.specs.Law.{KeepsOrder, IsQuietWorld, IsLawfulWorld, ArrivesAll}
@@ -92,9 +90,6 @@ is_configured cfg fine = found (all_fine cfg) refl fine
 pub links_joined : (cfg : Cfg) → IsConfigured cfg → AreJoined (link_of cfg Dte) (link_of cfg Dce)
 links_joined cfg fine = record { near_role = refl; far_role = refl; longest = refl; near_low = fine.low; near_high = fine.high; far_low = fine.low; far_high = fine.high }
 
-usual_is_sound : IsSound usual
-usual_is_sound = record { window = omega arith; size = omega arith }
-
 -- ---- of a run
 
 module _ (laws : Laws) (cfg : Cfg) (fine : IsConfigured cfg) where
@@ -102,7 +97,7 @@ module _ (laws : Laws) (cfg : Cfg) (fine : IsConfigured cfg) where
   known_links P law end v h = subst (λ (x : line.Stations). P (link_of cfg Dte) (link_of cfg Dce) x) h.run (law (link_of cfg Dte) (link_of cfg Dce) (links_joined cfg fine) h.events)
 
   pub known_layers : (P : layer.World → Type 0) → layers.Always P cfg.channels → (end : Role) (u : layer.World) → LayersReach cfg end u → P (layers_at end u)
-  known_layers P law end u h = subst (λ (x : layer.World). P x) h.run (law usual usual usual_is_sound usual_is_sound h.events)
+  known_layers P law end u h = subst (λ (x : layer.World). P x) h.run (law h.events)
 
   -- what an end was handed up is a beginning of what the other was handed down
   pub near_order : (end : Role) (v : line.Stations) → LinksReach cfg end v → InOrder v.far v.near

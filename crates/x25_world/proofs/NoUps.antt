@@ -22,7 +22,7 @@ channel_ups (e ∷ es) = channel_ups es
 
 pub outcome_ups : (c : LayerSettings) (l : Layer) (request : LayerRequest) (o : LayerOutcome) → ups_in (entries_of_outcome c l request o) ≡ 0
 outcome_ups c l (Asks h request) (Accepted next packet) = channel_ups (entries_asked c l next (Asks h request))
-outcome_ups c l (Dials called calling user) (Accepted next packet) = channel_ups (entries_asked c l next (Dials called calling user))
+outcome_ups c l (Dials called calling user params) (Accepted next packet) = channel_ups (entries_asked c l next (Dials called calling user params))
 outcome_ups c l Restarts (Accepted next packet) = refl
 outcome_ups c l request (Declined e) = refl
 

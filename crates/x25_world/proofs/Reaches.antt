@@ -4,7 +4,6 @@ use Rattle.x25_bits.specs.declared.role.Role.{Role}
 use Rattle.x25_bits.specs.declared.role.Role.TheVariants.{Dte, Dce}
 use Rattle.x25_link.specs.Station.{Settings as LinkSettings}
 use Rattle.x25_line.specs.Stations as line
-use Rattle.x25_circuit.specs.Circuit.{usual}
 use Rattle.x25_layer.specs.Layer.{LayerSettings}
 use Rattle.x25_layer.specs.World as layer
 use Rattle.x25_layer.specs.RoundLaw.{moves_all, pulls_of}
@@ -49,11 +48,11 @@ layers_at Dce u = layer.turned u
 pub record LayersReach (cfg : Cfg) (end : Role) (u : layer.World) : Type 0 where
   pub events : List layer.Event
   pub octets : BringOctets events
-  pub run : layer.run cfg.channels usual usual events (layer.start cfg.channels usual usual) ≡ layers_at end u
+  pub run : layer.run cfg.channels events (layer.start cfg.channels) ≡ layers_at end u
 
-more_layers : (n : ℕ) (es : List layer.Event) (e : layer.Event) (u : layer.World) → layer.run n usual usual (es ++ e ∷ []) u ≡ layer.happens n usual usual (layer.run n usual usual es u) e
+more_layers : (n : ℕ) (es : List layer.Event) (e : layer.Event) (u : layer.World) → layer.run n (es ++ e ∷ []) u ≡ layer.happens n (layer.run n es u) e
 more_layers n [] e u = refl
-more_layers n (x ∷ es) e u = more_layers n es e (layer.happens n usual usual u x)
+more_layers n (x ∷ es) e u = more_layers n es e (layer.happens n u x)
 
 more_octets : (es : List layer.Event) (e : layer.Event) → BringOctets es → MovesOctets e.what → BringOctets (es ++ e ∷ [])
 more_octets [] e h g = (g, tt)
@@ -67,12 +66,12 @@ pub layer_moves : (cfg : Cfg) (end : Role) (move : layer.Move) (u : layer.World)
 layer_moves cfg Dte move u octets h = record {
   events = h.events ++ event Dte move ∷ [];
   octets = more_octets h.events (event Dte move) h.octets octets;
-  run = more_layers cfg.channels h.events (event Dte move) (layer.start cfg.channels usual usual) ∙ ap (λ (x : layer.World). layer.happens cfg.channels usual usual x (event Dte move)) h.run;
+  run = more_layers cfg.channels h.events (event Dte move) (layer.start cfg.channels) ∙ ap (λ (x : layer.World). layer.happens cfg.channels x (event Dte move)) h.run;
 }
 layer_moves cfg Dce move u octets h = record {
   events = h.events ++ event Dce move ∷ [];
   octets = more_octets h.events (event Dce move) h.octets octets;
-  run = more_layers cfg.channels h.events (event Dce move) (layer.start cfg.channels usual usual) ∙ ap (λ (x : layer.World). layer.happens cfg.channels usual usual x (event Dce move)) h.run;
+  run = more_layers cfg.channels h.events (event Dce move) (layer.start cfg.channels) ∙ ap (λ (x : layer.World). layer.happens cfg.channels x (event Dce move)) h.run;
 }
 
 -- a move, and then pulls

@@ -14,7 +14,6 @@ use Rattle.x25_link.specs.Station.{Station as LinkStation, with_nothing, fresh, 
 use Rattle.x25_link.specs.MustSend.{Step as LinkStep}
 use Rattle.x25_link.specs.Steps.{take_step, put_step}
 use Rattle.x25_line.specs.Stations as line
-use Rattle.x25_circuit.specs.Circuit.{usual}
 use Rattle.x25_layer.specs.Layer.{at_rest, goes_up, restart_cause}
 use Rattle.x25_layer.specs.World as layer
 use Rattle.x25_station.specs.declared.config.Cfg.{Cfg}
@@ -131,7 +130,7 @@ module _ (laws : Laws) (cfg : Cfg) where
   two_links = line.run (link_of cfg Dte) (link_of cfg Dce) (line.Far (line.Put (restart_of Dce)) ∷ line.Near (line.Put (restart_of Dte)) ∷ []) line.start
 
   abbrev two_layers : layer.World
-  two_layers = layer.start cfg.channels usual usual
+  two_layers = layer.start cfg.channels
 
   abbrev started : World
   started = at_dte cfg (map (spelling_of Dce) (restarted cfg Dce).side.out)

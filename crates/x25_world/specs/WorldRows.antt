@@ -1,9 +1,10 @@
 -- Worked rows of two stations over a line: their octets, a message that arrives, and what is lost, damaged or refused.
-use Rattle.std.specs.Prelude.{◌≡◌, ℕ, zero, suc, true, false, List, [], ◌∷◌, ◌++◌, Some, codes}
+use Rattle.std.specs.Prelude.{◌≡◌, ℕ, zero, suc, true, false, List, [], ◌∷◌, ◌++◌, Some, None, codes}
 use Rattle.x25_bits.specs.declared.role.Role.{Role}
 use Rattle.x25_bits.specs.declared.role.Role.TheVariants.{Dte, Dce}
 use Rattle.x25_link.specs.declared.error.LinkError.TheVariants as link_error
 use Rattle.x25_link.specs.declared.phase.Reason.TheVariants.{Local, Disc}
+use Rattle.x25_circuit.specs.Params.{default_params}
 use Rattle.x25_circuit.specs.Calls.{Accepts, Sends}
 use Rattle.x25_epochs.specs.Names.{Name}
 use Rattle.x25_layer.specs.Calls.{LayerRequest, Asks, Dials}
@@ -42,7 +43,7 @@ SetsUp =
 -- ---- a call of the DTE, on the highest channel, and a message
 
 abbrev pub called : World
-called = run two_channels (delivers 3 ++ asks Dte (Dials (codes "123") (codes "4567") (65 ∷ [])) ∷ delivers 2 ++ asks Dce (Asks 2 Accepts) ∷ delivers 2) (start two_channels)
+called = run two_channels (delivers 3 ++ asks Dte (Dials (codes "123") (codes "4567") (65 ∷ []) default_params) ∷ delivers 2 ++ asks Dce (Asks 2 (Accepts None)) ∷ delivers 2) (start two_channels)
 
 abbrev pub sends_hi : Event
 sends_hi = asks Dte (Asks 2 (Sends false (codes "hi")))
