@@ -1,4 +1,4 @@
-use Rattle.std.proofs.Common.{rules, ◌≡◌, ℕ, ◌∙◌, Some, Err, sym, ap, subst, true, false, arith}
+use Rattle.std.proofs.Common.{rules, ◌≡◌, ℕ, ◌∙◌, Some, Err, sym, subst, true, false, arith}
 use Rattle.x25_circuit.specs.declared.params.Params.{Params}
 use Rattle.x25_circuit.specs.Calls.{Calls, outcome}
 use Rattle.x25_layer.specs.Calls.{free_channel, outcome_on}

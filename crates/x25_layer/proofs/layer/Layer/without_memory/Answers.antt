@@ -1,4 +1,4 @@
-use Rattle.std.proofs.Common.{◌∙◌, Some, None, sym}
+use Rattle.std.proofs.Common.{◌∙◌, sym}
 use Rattle.x25_circuit.specs.Calls.{outcome}
 use Rattle.x25_circuit.specs.Requests.{plain_request}
 use Rattle.x25_layer.proofs.CallLemmas.{refused_short, accepted_short}
