@@ -17,6 +17,7 @@ use Rattle.x25_layer.specs.World.{shown, entry_of_dial}
 use Rattle.x25_station.specs.Entries.{StationEntry, of_channel, of_channels, restart_asked, station_asked}
 use Rattle.x25_station.specs.Steps.{entries_of_outcome}
 use Rattle.x25_station.proofs.NameLemmas.{rounds_name, rounds_params}
+use Rattle.x25_station.proofs.ShownLemmas.{same_shown}
 
 -- ---- a call that went was accepted
 
@@ -59,16 +60,6 @@ next_name view c l request p h a = sym (rounds_name view c (begin a.next a.packe
 
 next_params : (view : LinkView) (c : LayerSettings) (l : Layer) (request : LayerRequest) (p : Putting) (h : ℕ) (a : IsAccepted view c l request p) → (a.next.circuits h).params ≡ (p.layer.circuits h).params
 next_params view c l request p h a = sym (rounds_params view c (begin a.next a.packet) h) ∙ ap (λ (s : Putting). (s.layer.circuits h).params) a.step
-
-same_shown : (x y : Circuit) (request : circuit.Request) → x.params ≡ y.params → shown x request ≡ shown y request
-same_shown x y (circuit.Accepts answer) same = ap (λ (q : Params). circuit.Accepts (Some q)) same
-same_shown x y (circuit.Calls called calling user params) same = refl
-same_shown x y circuit.Clears same = refl
-same_shown x y (circuit.Sends q user) same = refl
-same_shown x y (circuit.Interrupts user) same = refl
-same_shown x y circuit.Resets same = refl
-same_shown x y circuit.SaysReady same = refl
-same_shown x y circuit.SaysNotReady same = refl
 
 pub asked_entry : (view : LinkView) (c : LayerSettings) (l : Layer) (h : ℕ) (request : circuit.Request) (p : Putting) → calls view c l (Asks h request) ≡ Went p
     → entries_of_outcome c l (Asks h request) (layer_outcome c (view.waits [] == 256) l (Asks h request)) ≡ of_channel (record { channel = h; name = name_of p.layer h; said = Asked (shown (p.layer.circuits h) request) }) ∷ []

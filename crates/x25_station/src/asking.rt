@@ -105,9 +105,11 @@ fn asked_call(
 fn as_shown(layer: &Layer, channel: u16, asked: Asked) -> Asked
     ensures { (c : LayerSettings) (l : LayerState) → FitsLayer c layer.now l → is_channel c.channels channel ≡ true → plain_asked result ≡ shown (l.circuits channel) (plain_asked asked) }
 {
-    match (asked, layer.params(channel)) {
-        (Asked::Accept { .. }, Some(params)) => Asked::Accept { params },
-        (asked, _) => asked,
+    match asked {
+        Asked::Accept { params } => Asked::Accept {
+            params: layer.params(channel).unwrap_or(params),
+        },
+        asked => asked,
     }
 }
 
