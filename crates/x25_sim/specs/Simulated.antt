@@ -80,6 +80,13 @@ command_asked (not_ready channel) = Requests (Asks channel SaysNotReady)
 command_asked restart = Requests Restarts
 command_asked disconnect = Disconnects
 
+-- the user data of a command, none where it has no such field
+abbrev pub user_in : PlainCommand → List ℕ
+user_in (call called calling user) = user
+user_in (send channel q user) = user
+user_in (interrupt channel user) = user
+user_in asked = []
+
 -- A direction leads away from an end, and frames are delivered, lost and damaged at the other one.
 unfoldable pub line_turn : Cfg → Bool → PlainLine → World → Turn
 line_turn cfg tap (command end asked) w = event_turn cfg tap (record { at = end; act = Commands (command_asked asked) }) w

@@ -3,12 +3,13 @@ ghost use Rattle.std.specs.Prelude.{◌≡◌, ◌↔◌, IfOk, IsTrue};
 ghost use Rattle.x25_bits.specs.Role.{other};
 ghost use Rattle.x25_line.specs.RawMachine.{end_of};
 
+use crate::commands::{octets_of, station_command, user_octets};
 use crate::output::Output;
 use crate::telling::{tell, tell_entries, tell_frames, tell_refusal};
-use std::alloc::{AllocError, Global};
+use std::alloc::Global;
 use x25_program::{Fault, Sink};
-use x25_script::{Command, HexDigits, ScriptLine};
-use x25_station::{Cfg, Cmd};
+use x25_script::{Command, ScriptLine};
+use x25_station::Cfg;
 use x25_world::{Direction, Event, Role, World, WorldError};
 
 /// A world whose transcript and frames were told and let go of, and what waits to be written.
@@ -36,15 +37,6 @@ fn away_from(end: Role) -> Direction
         Role::Dte => Direction::ToDce,
         Role::Dce => Direction::ToDte,
     }
-}
-
-/// The octets that the digits write.
-fn octets_of(alloc: Global, digits: &HexDigits) -> Result<Vec<u8>, AllocError>
-    ensures { IfOk result (λ octets. octets.items ≡ digits.now) }
-{
-    let mut octets = vec![in alloc; 0u8; digits.len()]?;
-    digits.write_to(octets.as_mut_slice());
-    Ok(octets)
 }
 
 impl Stage {
@@ -226,66 +218,11 @@ impl Stage {
         ensures write { IsErrOf result Fault.Write → W.is_marked writer.new ≡ true }
         ensures read { IsErrOf result Fault.Read → ⊥ }
     {
-        match command {
-            Command::Call {
-                called,
-                calling,
-                user,
-            } => {
-                let Ok(user) = octets_of(self.alloc, &user) else {
-                    return Err(Fault::NoMemory);
-                };
-                let call = Cmd::Call {
-                    called,
-                    calling,
-                    user: user.as_slice(),
-                };
-                self.happen(Event::Command(end, call), writer)
-            }
-            Command::Send { channel, q, user } => {
-                let Ok(user) = octets_of(self.alloc, &user) else {
-                    return Err(Fault::NoMemory);
-                };
-                let send = Cmd::Send {
-                    channel,
-                    q,
-                    user: user.as_slice(),
-                };
-                self.happen(Event::Command(end, send), writer)
-            }
-            Command::Interrupt { channel, user } => {
-                let Ok(user) = octets_of(self.alloc, &user) else {
-                    return Err(Fault::NoMemory);
-                };
-                let interrupt = Cmd::Interrupt {
-                    channel,
-                    user: user.as_slice(),
-                };
-                self.happen(Event::Command(end, interrupt), writer)
-            }
-            Command::Accept { channel } => self.happen(
-                Event::Command(end, Cmd::Accept { channel }),
-                writer,
-            ),
-            Command::Clear { channel } => self.happen(
-                Event::Command(end, Cmd::Clear { channel }),
-                writer,
-            ),
-            Command::Reset { channel } => self.happen(
-                Event::Command(end, Cmd::Reset { channel }),
-                writer,
-            ),
-            Command::Ready { channel } => self.happen(
-                Event::Command(end, Cmd::Ready { channel }),
-                writer,
-            ),
-            Command::NotReady { channel } => self.happen(
-                Event::Command(end, Cmd::NotReady { channel }),
-                writer,
-            ),
-            Command::Restart => self.happen(Event::Command(end, Cmd::Restart), writer),
-            Command::Disconnect => self.happen(Event::Command(end, Cmd::Disconnect), writer),
-        }
+        let Ok(user) = user_octets(self.alloc, &command) else {
+            return Err(Fault::NoMemory);
+        };
+        let command = station_command(&command, user.as_slice());
+        self.happen(Event::Command(end, command), writer)
     }
 
     /// What a line of the script asks for happens.
