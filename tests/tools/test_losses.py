@@ -18,6 +18,11 @@ NO_LINES = """|dte| dte restart|dte restart |dte  restart|dte\trestart|DTE resta
 dte accept 01|dte accept -1|dte accept +1|dte accept 65536|dte accept 1 |dte send 1 2 -|dte send 1 0|dte int 1 0g|t1|t1 both|deliver|deliver =
 deliver > 0|lose >|lose > 70000|damage > 0|damage > 0 0|drain|drain 0|drain 00|drain 65536|drain 1.5|dte restart\r|dte restart\n"""
 
+# What may follow a call or its acceptance, and what may not.
+PARAMS = ["7 7 2 2", "7 8 3 2", "0 255 0 255", "3 9 99 199", "12 10 249 250"]
+NO_PARAMS = ["", "7", "7 7", "7 7 2", "7 7 2 ", "7 7 2 2 ", " 7 7 2 2", "7  7 2 2", "7 7 2 2 2", "256 7 2 2", "7 7 2 256", "7 300 2 2", "7 7 1000 2",
+             "03 7 2 2", "7 7 2 00", "+7 7 2 2", "7 7 -2 2", "- - - -", "7 7 2 a", "7,7 2,2"]
+
 
 def script(*words):
     done = support.run("losses.py", *words)
@@ -42,6 +47,15 @@ class Grammar(unittest.TestCase):
     def test_numbers(self):
         taken = [number for number in range(70_000) if simscript.is_line(f"lose > {number}")]
         self.assertEqual(taken, list(range(65_536)))
+
+    def test_sizes_and_windows(self):
+        for front in "dte call 1 2 -", "dce call - - 0A", "dce accept 0":
+            for params in PARAMS:
+                self.assertTrue(simscript.is_line(f"{front} {params}"), params)
+            for params in NO_PARAMS:
+                self.assertFalse(simscript.is_line(f"{front} {params}"), params)
+        for front in "dte clear 1", "dte send 1 0 -", "dte int 1 00", "dte call 1 2", "dte restart", "dte accept":
+            self.assertFalse(simscript.is_line(f"{front} 7 7 2 2"), front)
 
     def test_the_longest_line(self):
         line = "dte send 1 0 " + "00" * 65_593

@@ -1,16 +1,17 @@
 -- A line that is spelled is read.
-use Rattle.std.proofs.Common.{ℕ, ◌≤◌, ◌≡◌, ◌∙◌, Bool, true, false, List, ◌∷◌, ◌++◌, Option, Some, None, refl, ap, arith}
+use Rattle.std.proofs.Common.{ℕ, ◌≤◌, ◌≡◌, ◌∙◌, Bool, true, false, List, ◌∷◌, ◌++◌, Option, Some, None, refl, ap, arith, append-nil}
 use Rattle.std.specs.Prelude.{cond, option_and_then, decimal}
 use Rattle.std.specs.List.{list_all}
-use Rattle.std.proofs.lemmas.Bool.{ne_eqb}
+use Rattle.std.proofs.lemmas.Bool.{lt-ltb, ne_eqb}
 use Rattle.std.proofs.lemmas.Fmt.{digits_decimal}
 use Rattle.x25_bits.specs.declared.role.Role.{Role}
 use Rattle.x25_bits.specs.declared.role.Role.TheVariants.{Dte, Dce}
+use Rattle.x25_script.specs.declared.params.Params.{Params}
 use Rattle.x25_script.specs.PlainLine.{PlainCommand, call, accept, clear, send, interrupt, reset, ready, not_ready, restart, disconnect, PlainLine, command, t1, deliver, lose, damage, drain}
-use Rattle.x25_script.specs.Spelling.{end_text, direction_text, q_text, address_text, IsAddress, IsNumber, Writes, SpellsCommand, Spells}
-use Rattle.x25_script.specs.Reading.{parts_of, number_in, call_in, send_in, interrupt_in, on_channel, with_fields, command_in, lose_in, damage_in, drain_in, line_in}
+use Rattle.x25_script.specs.Spelling.{end_text, direction_text, q_text, address_text, IsAddress, IsNumber, Writes, AreParams, params_text, SpellsCommand, Spells}
+use Rattle.x25_script.specs.Reading.{parts_of, number_in, small_number_in, params_in, with_params_of, with_params_in, call_in, accept_in, send_in, interrupt_in, on_channel, with_fields, command_in, lose_in, damage_in, drain_in, line_in}
 use Rattle.x25_script.proofs.NumberLemmas.{own, number_again}
-use Rattle.x25_script.proofs.PartLemmas.{parts_again, no_blank, digits_no_blank, address_no_blank, end_again, from_again, q_again, address_again, octets_again}
+use Rattle.x25_script.proofs.PartLemmas.{parts_again, whole_again, no_blank, octets_no_blank, digits_no_blank, address_no_blank, end_again, from_again, q_again, address_again, octets_again}
 
 -- a step after one that reads
 bind_again : {A B : Type 0} (read : Option A) (f : A → Option B) (x : A) (y : B) → read ≡ Some x → f x ≡ Some y → option_and_then f read ≡ Some y
@@ -30,15 +31,49 @@ from_no_blank : (from : Role) → list_all no_blank (direction_text from) ≡ tr
 from_no_blank Dte = refl
 from_no_blank Dce = refl
 
-call_again : (called calling user digits : List ℕ) → IsAddress called → IsAddress calling → Writes digits user
-    → call_in (address_text called ++ (32 ∷ (address_text calling ++ (32 ∷ digits)))) ≡ Some (call called calling user)
+small_read : (n : ℕ) → n ≤ 255 → small_number_in (decimal n) ≡ Some n
+unfolding small_number_in
+small_read n h = bind_again _ _ n n (number_read n (omega (arith, h))) (ap (λ b. cond b (Some n) None) (lt-ltb n 256 (omega (arith, h))))
+
+small_no_blank : (n : ℕ) → n ≤ 255 → list_all no_blank (decimal n) ≡ true
+small_no_blank n h = decimal_no_blank n (omega (arith, h))
+
+params_again : (p : Params) → AreParams (Some p)
+    → params_in (decimal p.size_called ++ (32 ∷ (decimal p.size_calling ++ (32 ∷ (decimal p.win_called ++ (32 ∷ decimal p.win_calling)))))) ≡ Some p
+unfolding params_in
+params_again p (called, calling, called_window, calling_window) =
+    bind_again _ _ (decimal p.size_called, _) _ (parts_again (decimal p.size_called) _ (small_no_blank p.size_called called))
+    (bind_again _ _ (decimal p.size_calling, _) _ (parts_again (decimal p.size_calling) _ (small_no_blank p.size_calling calling))
+    (bind_again _ _ (decimal p.win_called, decimal p.win_calling) _ (parts_again (decimal p.win_called) _ (small_no_blank p.win_called called_window))
+    (bind_again _ _ p.size_called _ (small_read p.size_called called)
+    (bind_again _ _ p.size_calling _ (small_read p.size_calling calling)
+    (bind_again _ _ p.win_called _ (small_read p.win_called called_window)
+    (bind_again _ _ p.win_calling _ (small_read p.win_calling calling_window) refl))))))
+
+with_params_again : (field : List ℕ) (params : Option Params) → list_all no_blank field ≡ true → AreParams params
+    → with_params_in (field ++ params_text params) ≡ Some (field, params)
+unfolding with_params_in
+with_params_again field None h k = ap with_params_in (append-nil field) ∙ ap (with_params_of field) (whole_again field h)
+with_params_again field (Some p) h k =
+    ap (with_params_of (field ++ params_text (Some p))) (parts_again field _ h) ∙ bind_again _ _ p _ (params_again p k) refl
+
+call_again : (called calling user digits : List ℕ) (params : Option Params) → IsAddress called → IsAddress calling → AreParams params → Writes digits user
+    → call_in (address_text called ++ (32 ∷ (address_text calling ++ (32 ∷ (digits ++ params_text params))))) ≡ Some (call called calling user params)
 unfolding call_in
-call_again called calling user digits h k w =
-    bind_again _ _ (address_text called, address_text calling ++ (32 ∷ digits)) _ (parts_again (address_text called) _ (address_no_blank called h))
-    (bind_again _ _ (address_text calling, digits) _ (parts_again (address_text calling) digits (address_no_blank calling k))
+call_again called calling user digits params h k l w =
+    bind_again _ _ (address_text called, _) _ (parts_again (address_text called) _ (address_no_blank called h))
+    (bind_again _ _ (address_text calling, digits ++ params_text params) _ (parts_again (address_text calling) _ (address_no_blank calling k))
+    (bind_again _ _ (digits, params) _ (with_params_again digits params (octets_no_blank digits user w) l)
     (bind_again _ _ called _ (address_again called h)
     (bind_again _ _ calling _ (address_again calling k)
-    (bind_again _ _ user _ (octets_again digits user w) refl))))
+    (bind_again _ _ user _ (octets_again digits user w) refl)))))
+
+accept_again : (channel : ℕ) (params : Option Params) → IsNumber channel → AreParams params
+    → accept_in (decimal channel ++ params_text params) ≡ Some (accept channel params)
+unfolding accept_in
+accept_again channel params h k =
+    bind_again _ _ (decimal channel, params) _ (with_params_again (decimal channel) params (decimal_no_blank channel h) k)
+    (bind_again _ _ channel _ (number_read channel h) refl)
 
 send_again : (channel : ℕ) (q : Bool) (user digits : List ℕ) → IsNumber channel → Writes digits user
     → send_in (decimal channel ++ (32 ∷ (q_text q ++ (32 ∷ digits)))) ≡ Some (send channel q user)
@@ -63,8 +98,8 @@ channel_again asked channel h = bind_again _ _ channel _ (number_read channel h)
 
 pub command_again : (v : PlainCommand) (text : List ℕ) → SpellsCommand v text → command_in text ≡ Some v
 unfolding command_in parts_of with_fields
-command_again (call called calling user) text s = ap command_in s.2.2 ∙ call_again called calling user s.2.0 s.0 s.1 s.2.1
-command_again (accept channel) text s = ap command_in s.1 ∙ channel_again accept channel s.0
+command_again (call called calling user params) text s = ap command_in s.3.2 ∙ call_again called calling user s.3.0 params s.0 s.1 s.2 s.3.1
+command_again (accept channel params) text s = ap command_in s.2 ∙ accept_again channel params s.0 s.1
 command_again (clear channel) text s = ap command_in s.1 ∙ channel_again clear channel s.0
 command_again (send channel q user) text s = ap command_in s.1.2 ∙ send_again channel q user s.1.0 s.0 s.1.1
 command_again (interrupt channel user) text s = ap command_in s.1.2 ∙ interrupt_again channel user s.1.0 s.0 s.1.1

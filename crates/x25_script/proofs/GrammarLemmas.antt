@@ -1,17 +1,18 @@
 -- A line is read exactly where it is spelled.
-use Rattle.std.proofs.Common.{ℕ, ◌==◌, ◌≤◌, ◌≡◌, ◌∙◌, inl, inr, List, ◌∷◌, ◌++◌, Option, Some, None, refl, ap, sym, subst, arith}
-use Rattle.std.specs.Prelude.{cond, option_map, codes, decimal}
+use Rattle.std.proofs.Common.{ℕ, ◌==◌, ◌≤◌, ◌≡◌, ◌∙◌, inl, inr, List, ◌∷◌, ◌++◌, Option, Some, None, refl, ap, sym, subst, arith, append-nil}
+use Rattle.std.specs.Prelude.{cond, option_map, codes, decimal, nat_lt}
 use Rattle.std.specs.Str.{bytes_eq}
-use Rattle.std.proofs.lemmas.Bool.{eqb-false}
+use Rattle.std.proofs.lemmas.Bool.{eqb-false, ltb-true}
 use Rattle.x25_bits.specs.declared.role.Role.{Role}
 use Rattle.x25_script.specs.declared.words.Keyword.{Keyword}
 use Rattle.x25_script.specs.declared.words.Keyword.TheVariants.{End, T1, Deliver, Lose, Damage, Drain}
 use Rattle.x25_script.specs.declared.words.Verb.{Verb}
 use Rattle.x25_script.specs.declared.words.Verb.TheVariants.{Call, Accept, Clear, Send, Interrupt, Reset, Ready, NotReady}
-use Rattle.x25_script.specs.PlainLine.{PlainCommand, accept, clear, reset, ready, not_ready, PlainLine}
-use Rattle.x25_script.specs.Spelling.{end_text, direction_text, q_text, address_text, IsNumber, SpellsCommand, Spells}
-use Rattle.x25_script.specs.Reading.{parts_of, end_in, from_in, q_in, number_in, address_in, octets_in, verb_in, keyword_in, call_in, send_in, interrupt_in, on_channel, with_fields, bare_command_in, command_of, command_in, lose_in, damage_in, drain_in, after, line_in}
-use Rattle.x25_script.proofs.NumberLemmas.{number_found}
+use Rattle.x25_script.specs.declared.params.Params.{Params}
+use Rattle.x25_script.specs.PlainLine.{PlainCommand, clear, reset, ready, not_ready, PlainLine}
+use Rattle.x25_script.specs.Spelling.{end_text, direction_text, q_text, address_text, IsNumber, AreParams, params_text, SpellsCommand, Spells}
+use Rattle.x25_script.specs.Reading.{parts_of, end_in, from_in, q_in, number_in, address_in, octets_in, verb_in, keyword_in, small_number_in, params_in, with_params_of, with_params_in, call_in, accept_in, send_in, interrupt_in, on_channel, with_fields, bare_command_in, command_of, command_in, lose_in, damage_in, drain_in, after, line_in}
+use Rattle.x25_script.proofs.NumberLemmas.{number_found, when_some}
 use Rattle.x25_script.proofs.PartLemmas.{chosen, same_some, none_some, bind_found, bytes_same, parts_joined, end_found, from_found, q_found, address_found, octets_found}
 
 -- ---- what is read is spelled so
@@ -84,20 +85,76 @@ number_spelled text n e = let found = number_found text n e in let small = found
 fields_two : (text a b c d : List ℕ) → text ≡ a ++ (32 ∷ b) → a ≡ c → b ≡ d → text ≡ c ++ (32 ∷ d)
 fields_two text a b c d e f g = e ∙ ap (λ x. x ++ (32 ∷ b)) f ∙ ap (λ x. c ++ (32 ∷ x)) g
 
+-- a number of 8 bits that is read
+small_spelled : (text : List ℕ) (n : ℕ) → small_number_in text ≡ Some n → (n ≤ 255) × (text ≡ decimal n)
+unfolding small_number_in
+small_spelled text n e =
+    let read = bind_found (number_in text) _ n e in
+    let test = when_some (nat_lt read.0 256) read.0 n read.2 in
+    let small = ltb-true read.0 256 test.0 in
+    subst (λ m. (m ≤ 255) × (text ≡ decimal m)) test.1 (omega (arith, small), (number_spelled text read.0 read.1).1)
+
+params_found : (text : List ℕ) (p : Params) → params_in text ≡ Some p → AreParams (Some p) × (32 ∷ text ≡ params_text (Some p))
+unfolding params_in
+params_found text p e =
+    let first = bind_found (parts_of text) _ p e in
+    let second = bind_found (parts_of first.0.1) _ p first.2 in
+    let third = bind_found (parts_of second.0.1) _ p second.2 in
+    let size_called = bind_found (small_number_in first.0.0) _ p third.2 in
+    let size_calling = bind_found (small_number_in second.0.0) _ p size_called.2 in
+    let win_called = bind_found (small_number_in third.0.0) _ p size_calling.2 in
+    let win_calling = bind_found (small_number_in third.0.1) _ p win_called.2 in
+    let one = small_spelled first.0.0 size_called.0 size_called.1 in
+    let two = small_spelled second.0.0 size_calling.0 size_calling.1 in
+    let three = small_spelled third.0.0 win_called.0 win_called.1 in
+    let four = small_spelled third.0.1 win_calling.0 win_calling.1 in
+    let windows = fields_two second.0.1 third.0.0 third.0.1 (decimal win_called.0) _ (parts_joined second.0.1 third.0 third.1) three.1 four.1 in
+    let rest = fields_two first.0.1 second.0.0 second.0.1 (decimal size_calling.0) _ (parts_joined first.0.1 second.0 second.1) two.1 windows in
+    let all = fields_two text first.0.0 first.0.1 (decimal size_called.0) _ (parts_joined text first.0 first.1) one.1 rest in
+    subst (λ (q : Params). AreParams (Some q) × (32 ∷ text ≡ params_text (Some q))) (same_some win_calling.2)
+    ((one.0, two.0, three.0, four.0), ap (λ t. 32 ∷ t) all)
+
+with_params_parts : (text : List ℕ) (parts : Option (List ℕ × List ℕ)) (last : List ℕ × Option Params) → parts_of text ≡ parts
+    → with_params_of text parts ≡ Some last → AreParams last.1 × (text ≡ last.0 ++ params_text last.1)
+with_params_parts text None last same e =
+    subst (λ (l : List ℕ × Option Params). AreParams l.1 × (text ≡ l.0 ++ params_text l.1)) (same_some e) (tt, sym (append-nil text))
+with_params_parts text (Some parts) last same e =
+    let params = bind_found (params_in parts.1) _ last e in
+    let found = params_found parts.1 params.0 params.1 in
+    subst (λ (l : List ℕ × Option Params). AreParams l.1 × (text ≡ l.0 ++ params_text l.1)) (same_some params.2)
+    (found.0, parts_joined text parts same ∙ ap (λ t. parts.0 ++ t) found.1)
+
+with_params_found : (text : List ℕ) (last : List ℕ × Option Params) → with_params_in text ≡ Some last → AreParams last.1 × (text ≡ last.0 ++ params_text last.1)
+unfolding with_params_in
+with_params_found text last e = with_params_parts text (parts_of text) last refl e
+
 call_found : (fields : List ℕ) (v : PlainCommand) → call_in fields ≡ Some v → SpellsCommand v (codes "call " ++ fields)
 unfolding call_in
 call_found fields v e =
     let first = bind_found (parts_of fields) _ v e in
     let second = bind_found (parts_of first.0.1) _ v first.2 in
-    let called = bind_found (address_in first.0.0) _ v second.2 in
+    let last = bind_found (with_params_in second.0.1) _ v second.2 in
+    let called = bind_found (address_in first.0.0) _ v last.2 in
     let calling = bind_found (address_in second.0.0) _ v called.2 in
-    let user = bind_found (octets_in second.0.1) _ v calling.2 in
+    let user = bind_found (octets_in last.0.0) _ v calling.2 in
+    let behind = with_params_found second.0.1 last.0 last.1 in
     let one = address_found first.0.0 called.0 called.1 in
     let two = address_found second.0.0 calling.0 calling.1 in
-    let rest = fields_two first.0.1 second.0.0 second.0.1 (address_text calling.0) second.0.1 (parts_joined first.0.1 second.0 second.1) two.1 refl in
+    let rest = fields_two first.0.1 second.0.0 second.0.1 (address_text calling.0) _ (parts_joined first.0.1 second.0 second.1) two.1 behind.1 in
     let all = fields_two fields first.0.0 first.0.1 (address_text called.0) _ (parts_joined fields first.0 first.1) one.1 rest in
     subst (λ (w : PlainCommand). SpellsCommand w (codes "call " ++ fields)) (same_some user.2)
-    (one.0, two.0, (second.0.1, octets_found second.0.1 user.0 user.1, ap (λ t. codes "call " ++ t) all))
+    (one.0, two.0, behind.0, (last.0.0, octets_found last.0.0 user.0 user.1, ap (λ t. codes "call " ++ t) all))
+
+accept_found : (fields : List ℕ) (v : PlainCommand) → accept_in fields ≡ Some v → SpellsCommand v (codes "accept " ++ fields)
+unfolding accept_in
+accept_found fields v e =
+    let last = bind_found (with_params_in fields) _ v e in
+    let channel = bind_found (number_in last.0.0) _ v last.2 in
+    let one = number_spelled last.0.0 channel.0 channel.1 in
+    let behind = with_params_found fields last.0 last.1 in
+    let all = behind.1 ∙ ap (λ t. t ++ params_text last.0.1) one.1 in
+    subst (λ (w : PlainCommand). SpellsCommand w (codes "accept " ++ fields)) (same_some channel.2)
+    (one.0, behind.0, ap (λ t. codes "accept " ++ t) all)
 
 send_found : (fields : List ℕ) (v : PlainCommand) → send_in fields ≡ Some v → SpellsCommand v (codes "send " ++ fields)
 unfolding send_in
@@ -136,7 +193,7 @@ channel_found asked word fields v e spell =
 with_fields_found : (verb : Verb) (fields : List ℕ) (v : PlainCommand) → with_fields verb fields ≡ Some v → SpellsCommand v (verb_text verb ++ (32 ∷ fields))
 unfolding with_fields
 with_fields_found Call fields v e = call_found fields v e
-with_fields_found Accept fields v e = channel_found accept (codes "accept ") fields v e (λ n h. (h, refl))
+with_fields_found Accept fields v e = accept_found fields v e
 with_fields_found Clear fields v e = channel_found clear (codes "clear ") fields v e (λ n h. (h, refl))
 with_fields_found Send fields v e = send_found fields v e
 with_fields_found Interrupt fields v e = interrupt_found fields v e

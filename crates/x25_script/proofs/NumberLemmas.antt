@@ -15,7 +15,7 @@ use Rattle.x25_script.specs.Reading.{number_in}
 pub own : IsNumeralModel (λ digits. list_all is_ascii_digit digits ≡ true) (digits_value 10)
 own = numerals_by_value _ (search rules)
 
-when_some : (b : Bool) (n m : ℕ) → cond b (Some n) None ≡ Some m → (b ≡ true) × (n ≡ m)
+pub when_some : (b : Bool) (n m : ℕ) → cond b (Some n) None ≡ Some m → (b ≡ true) × (n ≡ m)
 when_some true n m e = (refl, cc)
 when_some false n m e = absurd (cc)
 

@@ -1,7 +1,7 @@
 -- Fields apart by a blank.
 use Rattle.std.proofs.Common.{ℕ, ◌==◌, ◌≡◌, ◌∙◌, ◌⊎◌, inl, inr, Bool, true, false, List, [], ◌∷◌, ◌++◌, length, Option, Some, None, Result, Ok, Err, refl, ap, sym, arith}
 use Rattle.std.specs.Prelude.{cond, not, option_map, option_and_then, ◌&&◌, codes, nat_eq}
-use Rattle.std.specs.Char.{is_ascii_digit}
+use Rattle.std.specs.Char.{is_ascii_digit, is_ascii_hexdigit}
 use Rattle.std.specs.List.{list_all}
 use Rattle.std.specs.Str.{bytes_eq}
 use Rattle.std.proofs.lemmas.Bool.{and_parts, and_from, eqb-true, eqb-false}
@@ -16,6 +16,7 @@ use Rattle.hex.specs.declared.error.FromHexError.{FromHexError}
 use Rattle.hex.specs.Hex.{decode_of}
 use Rattle.hex.proofs.HexLemmas.{decode_of-ok}
 use Rattle.std.specs.Result.{result_ok}
+use Rattle.x25_script.proofs.OctetLemmas.{passes_digits}
 
 -- which way a test went
 pub chosen : {A : Type 0} (b : Bool) (x y z : A) → cond b x y ≡ z → ((b ≡ true) × (x ≡ z)) ⊎ ((b ≡ false) × (y ≡ z))
@@ -58,18 +59,28 @@ parts_joined (c ∷ text) parts e = elim (chosen (c == 32) (Some ([], text)) (op
 abbrev pub no_blank : ℕ → Bool
 no_blank c = not (c == 32)
 
+not_blank : (c : ℕ) → no_blank c ≡ true → (c == 32) ≡ false
+not_blank c h = turned (c == 32) h
+  where
+    turned : (b : Bool) → not b ≡ true → b ≡ false
+    turned true h = absurd (cc)
+    turned false h = refl
+
 pub parts_again : (front rest : List ℕ) → list_all no_blank front ≡ true → parts_of (front ++ (32 ∷ rest)) ≡ Some (front, rest)
 unfolding parts_of
 parts_again [] rest h = refl
 parts_again (c ∷ front) rest h =
     let parts = and_parts (no_blank c) (list_all no_blank front) h in
-    let other : (c == 32) ≡ false = turned (c == 32) parts.0 in
-    ap (λ b. cond b (Some ([], front ++ (32 ∷ rest))) (option_map (onto_first c) (parts_of (front ++ (32 ∷ rest))))) other
+    ap (λ b. cond b (Some ([], front ++ (32 ∷ rest))) (option_map (onto_first c) (parts_of (front ++ (32 ∷ rest))))) (not_blank c parts.0)
     ∙ ap (option_map (onto_first c)) (parts_again front rest parts.1)
-  where
-    turned : (b : Bool) → not b ≡ true → b ≡ false
-    turned true h = absurd (cc)
-    turned false h = refl
+
+pub whole_again : (text : List ℕ) → list_all no_blank text ≡ true → parts_of text ≡ None
+unfolding parts_of
+whole_again [] h = refl
+whole_again (c ∷ text) h =
+    let parts = and_parts (no_blank c) (list_all no_blank text) h in
+    ap (λ b. cond b (Some ([], text)) (option_map (onto_first c) (parts_of text))) (not_blank c parts.0)
+    ∙ ap (option_map (onto_first c)) (whole_again text parts.1)
 
 digit_no_blank : (c : ℕ) → is_ascii_digit c ≡ true → no_blank c ≡ true
 digit_no_blank c h = grind (arith, nat_tests, h)
@@ -83,6 +94,19 @@ digits_no_blank (c ∷ text) h =
 pub address_no_blank : (digits : List ℕ) → IsAddress digits → list_all no_blank (address_text digits) ≡ true
 address_no_blank [] h = refl
 address_no_blank (c ∷ digits) h = digits_no_blank (c ∷ digits) h
+
+hex_no_blank : (c : ℕ) → is_ascii_hexdigit c ≡ true → no_blank c ≡ true
+hex_no_blank c h = grind (arith, nat_tests, h)
+
+hexes_no_blank : (text : List ℕ) → list_all is_ascii_hexdigit text ≡ true → list_all no_blank text ≡ true
+hexes_no_blank [] h = refl
+hexes_no_blank (c ∷ text) h =
+    let parts = and_parts (is_ascii_hexdigit c) (list_all is_ascii_hexdigit text) h in
+    and_from _ _ (hex_no_blank c parts.0) (hexes_no_blank text parts.1)
+
+pub octets_no_blank : (text octets : List ℕ) → Writes text octets → list_all no_blank text ≡ true
+octets_no_blank text [] h = ap (list_all no_blank) h
+octets_no_blank text (c ∷ octets) h = hexes_no_blank text (passes_digits text (decode_of-ok text (c ∷ octets) h).1)
 
 -- ---- ends, directions, Q
 

@@ -1,16 +1,17 @@
 -- A line of a script as a value alone, without where its characters lie (profile).
-use Rattle.std.specs.Prelude.{ℕ, Bool, List}
+use Rattle.std.specs.Prelude.{ℕ, Bool, List, Option}
 use Rattle.x25_bits.specs.declared.role.Role.{Role}
+use Rattle.x25_script.specs.declared.params.Params.{Params}
 use Rattle.x25_script.specs.declared.script_line.Command.{Command}
 use Rattle.x25_script.specs.declared.script_line.Command.TheVariants as command_code
 use Rattle.x25_script.specs.declared.script_line.ScriptLine.{ScriptLine}
 use Rattle.x25_script.specs.declared.script_line.ScriptLine.TheVariants as line_code
 
 -- A call has the characters of the called address, those of the calling one, and the user data; the others begin with
--- their channel, before Q and the user data.
+-- their channel, before Q and the user data. A call and its acceptance may have packet sizes and windows.
 pub data PlainCommand : Type 0 where
-  call : List ℕ → List ℕ → List ℕ → PlainCommand
-  accept : ℕ → PlainCommand
+  call : List ℕ → List ℕ → List ℕ → Option Params → PlainCommand
+  accept : ℕ → Option Params → PlainCommand
   clear : ℕ → PlainCommand
   send : ℕ → Bool → List ℕ → PlainCommand
   interrupt : ℕ → List ℕ → PlainCommand
@@ -30,8 +31,8 @@ pub data PlainLine : Type 0 where
   drain : ℕ → PlainLine
 
 abbrev pub plain_command : Command → PlainCommand
-plain_command (command_code.Call called calling user) = call called.now calling.now user
-plain_command (command_code.Accept channel) = accept channel
+plain_command (command_code.Call called calling user params) = call called.now calling.now user params
+plain_command (command_code.Accept channel params) = accept channel params
 plain_command (command_code.Clear channel) = clear channel
 plain_command (command_code.Send channel q user) = send channel q user
 plain_command (command_code.Interrupt channel user) = interrupt channel user

@@ -7,6 +7,7 @@ use Rattle.std.specs.Str.Parse.{digits_value}
 use denote.Ref.{Bor}
 use Rattle.x25_bits.specs.declared.role.Role.{Role}
 use Rattle.x25_bits.specs.declared.role.Role.TheVariants.{Dte, Dce}
+use Rattle.x25_script.specs.declared.params.Params.{Params}
 use Rattle.x25_script.specs.declared.script_line.Command.{Command}
 use Rattle.x25_script.specs.declared.script_line.ScriptLine.{ScriptLine}
 use Rattle.x25_script.specs.declared.words.Keyword.{Keyword}
@@ -44,6 +45,12 @@ q_in text = if bytes_eq text (codes "0") then Some false else if bytes_eq text (
 unfoldable pub number_in : List ℕ → Option ℕ
 number_in text = let n = digits_value 10 text in if nat_lt n 65536 && bytes_eq (decimal n) text then Some n else None
 
+-- the number of 8 bits that is written so
+unfoldable pub small_number_in : List ℕ → Option ℕ
+small_number_in text = do
+  n ← number_in text
+  if nat_lt n 256 then Some n else None
+
 -- a text of digits `0` to `9`
 abbrev pub digits_in : List ℕ → Option (List ℕ)
 digits_in text = if list_all is_ascii_digit text then Some text else None
@@ -77,14 +84,44 @@ keyword_in text =
     else if bytes_eq text (codes "drain") then Some Drain
     else option_map (λ end. End end) (end_in text)
 
+-- four numbers
+unfoldable pub params_in : List ℕ → Option Params
+params_in text = do
+  first ← parts_of text
+  second ← parts_of first.1
+  third ← parts_of second.1
+  size_called ← small_number_in first.0
+  size_calling ← small_number_in second.0
+  win_called ← small_number_in third.0
+  win_calling ← small_number_in third.1
+  Some (record { size_called = size_called; size_calling = size_calling; win_called = win_called; win_calling = win_calling })
+
+-- of a text and its parts at the first blank
+abbrev pub with_params_of : List ℕ → Option (List ℕ × List ℕ) → Option (List ℕ × Option Params)
+with_params_of text None = Some (text, None)
+with_params_of text (Some parts) = do
+  params ← params_in parts.1
+  Some (parts.0, Some params)
+
+-- the last field that has to stand, and the four numbers where a blank follows it
+unfoldable pub with_params_in : List ℕ → Option (List ℕ × Option Params)
+with_params_in text = with_params_of text (parts_of text)
+
 unfoldable pub call_in : List ℕ → Option PlainCommand
 call_in text = do
   first ← parts_of text
   second ← parts_of first.1
+  last ← with_params_in second.1
   called ← address_in first.0
   calling ← address_in second.0
-  user ← octets_in second.1
-  Some (call called calling user)
+  user ← octets_in last.0
+  Some (call called calling user last.1)
+
+unfoldable pub accept_in : List ℕ → Option PlainCommand
+accept_in text = do
+  last ← with_params_in text
+  channel ← number_in last.0
+  Some (accept channel last.1)
 
 unfoldable pub send_in : List ℕ → Option PlainCommand
 send_in text = do
@@ -110,7 +147,7 @@ on_channel asked text = do
 
 unfoldable pub with_fields : Verb → List ℕ → Option PlainCommand
 with_fields Call text = call_in text
-with_fields Accept text = on_channel accept text
+with_fields Accept text = accept_in text
 with_fields Clear text = on_channel clear text
 with_fields Send text = send_in text
 with_fields Interrupt text = interrupt_in text
@@ -183,6 +220,10 @@ GivesParts (Some parts) read = read ≡ Some (parts.0.now, parts.1.now)
 abbrev pub GivesText : Option (Bor (List ℕ)) → Option (List ℕ) → Type 0
 GivesText None read = read ≡ None
 GivesText (Some text) read = read ≡ Some text.now
+
+abbrev pub GivesWithParams : Option (Bor (List ℕ) × Option Params) → Option (List ℕ × Option Params) → Type 0
+GivesWithParams None read = read ≡ None
+GivesWithParams (Some last) read = read ≡ Some (last.0.now, last.1)
 
 abbrev pub GivesCommand : Option Command → Option PlainCommand → Type 0
 GivesCommand None read = read ≡ None

@@ -1,10 +1,11 @@
 -- The grammar of a script's lines: which characters spell which line (profile).
-use Rattle.std.specs.Prelude.{ℕ, ◌≡◌, ◌≤◌, ◌∷◌, [], List, ◌++◌, Bool, true, false, codes, decimal, Ok}
+use Rattle.std.specs.Prelude.{ℕ, ◌≡◌, ◌≤◌, ◌∷◌, [], List, ◌++◌, Bool, true, false, codes, decimal, Option, Some, None, Ok}
 use Rattle.std.specs.Char.{is_ascii_digit}
 use Rattle.std.specs.List.{list_all}
 use Rattle.hex.specs.Hex.{decode_of}
 use Rattle.x25_bits.specs.declared.role.Role.{Role}
 use Rattle.x25_bits.specs.declared.role.Role.TheVariants.{Dte, Dce}
+use Rattle.x25_script.specs.declared.params.Params.{Params}
 use Rattle.x25_script.specs.PlainLine.{PlainCommand, call, accept, clear, send, interrupt, reset, ready, not_ready, restart, disconnect, PlainLine, command, t1, deliver, lose, damage, drain}
 
 -- an end
@@ -39,12 +40,25 @@ abbrev pub Writes : List ℕ → List ℕ → Type 0
 Writes text [] = text ≡ codes "-"
 Writes text (octet ∷ octets) = decode_of text ≡ Ok (octet ∷ octets)
 
+-- four numbers of 8 bits, or none
+abbrev pub AreParams : Option Params → Type 0
+AreParams None = Unit
+AreParams (Some p) = (p.size_called ≤ 255) × (p.size_calling ≤ 255) × (p.win_called ≤ 255) × (p.win_calling ≤ 255)
+
+-- each behind a blank
+abbrev pub params_text : Option Params → List ℕ
+params_text None = []
+params_text (Some p) = codes " " ++ (decimal p.size_called ++ (codes " " ++ (decimal p.size_calling
+    ++ (codes " " ++ (decimal p.win_called ++ (codes " " ++ decimal p.win_calling))))))
+
 -- what follows the end that is commanded
 abbrev pub SpellsCommand : PlainCommand → List ℕ → Type 0
-SpellsCommand (call called calling user) text = IsAddress called × IsAddress calling
+SpellsCommand (call called calling user params) text = IsAddress called × IsAddress calling × AreParams params
     × ((digits : List ℕ) × Writes digits user
-    × (text ≡ codes "call " ++ (address_text called ++ (codes " " ++ (address_text calling ++ (codes " " ++ digits))))))
-SpellsCommand (accept channel) text = IsNumber channel × (text ≡ codes "accept " ++ decimal channel)
+    × (text ≡ codes "call " ++ (address_text called ++ (codes " " ++ (address_text calling
+    ++ (codes " " ++ (digits ++ params_text params)))))))
+SpellsCommand (accept channel params) text = IsNumber channel × AreParams params
+    × (text ≡ codes "accept " ++ (decimal channel ++ params_text params))
 SpellsCommand (clear channel) text = IsNumber channel × (text ≡ codes "clear " ++ decimal channel)
 SpellsCommand (send channel q user) text = IsNumber channel
     × ((digits : List ℕ) × Writes digits user

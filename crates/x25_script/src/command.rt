@@ -1,7 +1,8 @@
 //! What the user of an end asks for.
-ghost use Rattle.x25_script.specs.Reading.{bare_command_in, call_in, command_in, interrupt_in, send_in, with_fields, GivesCommand};
+ghost use Rattle.x25_script.specs.Reading.{accept_in, bare_command_in, call_in, command_in, interrupt_in, send_in, with_fields, GivesCommand};
 
 use crate::fields::{address, is, number, octets, q, split_blank, verb};
+use crate::params::with_params;
 use crate::script_line::Command;
 use crate::words::Verb;
 
@@ -10,11 +11,24 @@ fn call(text: &[u8]) -> Option<Command<'_>>
     ensures { GivesCommand result (call_in text.now) }
 {
     let (called, rest) = split_blank(text)?;
-    let (calling, user) = split_blank(rest)?;
+    let (calling, rest) = split_blank(rest)?;
+    let (user, params) = with_params(rest)?;
     Some(Command::Call {
         called: address(called)?,
         calling: address(calling)?,
         user: octets(user)?,
+        params,
+    })
+}
+
+#[tactic(auto, unfolding(crate::specs::Reading::accept_in))]
+fn accept(text: &[u8]) -> Option<Command<'_>>
+    ensures { GivesCommand result (accept_in text.now) }
+{
+    let (channel, params) = with_params(text)?;
+    Some(Command::Accept {
+        channel: number(channel)?,
+        params,
     })
 }
 
@@ -51,10 +65,7 @@ fn command_with(word: Verb, fields: &[u8]) -> Option<Command<'_>>
         Verb::Call => call(fields),
         Verb::Send => send(fields),
         Verb::Interrupt => interrupt(fields),
-        Verb::Accept => {
-            let channel = number(fields)?;
-            Some(Command::Accept { channel })
-        }
+        Verb::Accept => accept(fields),
         Verb::Clear => {
             let channel = number(fields)?;
             Some(Command::Clear { channel })

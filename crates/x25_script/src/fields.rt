@@ -3,7 +3,7 @@ ghost use Rattle.std.specs.Prelude.{◌≡◌, ◌==◌};
 ghost use Rattle.std.specs.Char.{is_ascii_digit};
 ghost use Rattle.std.specs.List.{list_all, position};
 ghost use Rattle.std.specs.Str.{bytes_eq};
-ghost use Rattle.x25_script.specs.Reading.{address_in, end_in, from_in, keyword_in, digits_in, number_in, octets_in, parts_of, q_in, verb_in, GivesParts, GivesText};
+ghost use Rattle.x25_script.specs.Reading.{address_in, end_in, from_in, keyword_in, digits_in, number_in, octets_in, parts_of, q_in, small_number_in, verb_in, GivesParts, GivesText};
 
 use crate::hex_digits::HexDigits;
 use crate::words::{Keyword, Verb};
@@ -95,6 +95,14 @@ pub(crate) fn number(text: &[u8]) -> Option<u16>
         return None;
     }
     digits(text)?.parse::<u16>().ok()
+}
+
+/// A number of 8 bits, without leading zeros.
+#[tactic(auto, unfolding(crate::specs::Reading::small_number_in))]
+pub(crate) fn small_number(text: &[u8]) -> Option<u8>
+    ensures { result ≡ small_number_in text.now }
+{
+    u8::try_from(number(text)?).ok()
 }
 
 /// The digits of an address, one at least or `-`.

@@ -7,12 +7,14 @@ mod command;
 mod fields;
 mod hex_digits;
 mod law;
+mod params;
 mod reading;
 mod script_line;
 mod words;
 
 pub use hex_digits::HexDigits;
 pub use law::reading_is_the_grammar;
+pub use params::Params;
 pub use reading::read_line;
 pub use script_line::{Command, ScriptLine};
 pub use x25_bits::Role;

@@ -1,19 +1,23 @@
 use crate::hex_digits::HexDigits;
+use crate::params::Params;
 use x25_bits::Role;
 
 /// What the user of an end asks for.
 ///
 /// Addresses are digits `0` to `9`, any number of them; whether a call may have them is judged by the call. `user` is user
-/// data as octets. `channel` is any number of 16 bits; whether there is such a channel is judged by the call.
+/// data as octets. `channel` is any number of 16 bits; whether there is such a channel is judged by the call. `params` are the
+/// packet sizes and windows that are proposed, or answered, where the line has them.
 #[derive(Debug, Drop)]
 pub enum Command<'a> {
     Call {
         called: &'a str,
         calling: &'a str,
         user: HexDigits<'a>,
+        params: Option<Params>,
     },
     Accept {
         channel: u16,
+        params: Option<Params>,
     },
     Clear {
         channel: u16,

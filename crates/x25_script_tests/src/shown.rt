@@ -1,6 +1,6 @@
 //! What a line reads as, in words of the tests' own.
 use std::alloc::{AllocError, Global};
-use x25_script::{Command, HexDigits, Role, ScriptLine};
+use x25_script::{Command, HexDigits, Params, Role, ScriptLine};
 
 fn end_name(end: Role) -> &'static str {
     match end {
@@ -19,17 +19,38 @@ fn octets_shown(alloc: Global, octets: &HexDigits<'_>) -> Result<String, AllocEr
     hex::encode(alloc, written.as_slice())
 }
 
+/// Of each end the size and the window, where there are any.
+fn params_shown(alloc: Global, params: Option<Params>) -> Result<String, AllocError> {
+    let Some(params) = params else {
+        return String::from_str(alloc, "");
+    };
+    let Params {
+        size_called,
+        size_calling,
+        win_called,
+        win_calling,
+    } = params;
+    format!(in alloc;
+        ", called {size_called} by {win_called}, calling {size_calling} by {win_calling}"
+    )
+}
+
 fn command_shown(alloc: Global, command: &Command<'_>) -> Result<String, AllocError> {
     match command {
         Command::Call {
             called,
             calling,
             user,
+            params,
         } => {
             let user = octets_shown(alloc, user)?;
-            format!(in alloc; "call of [{called}] from [{calling}] with {user}")
+            let params = params_shown(alloc, *params)?;
+            format!(in alloc; "call of [{called}] from [{calling}] with {user}{params}")
         }
-        Command::Accept { channel } => format!(in alloc; "accepts {channel}"),
+        Command::Accept { channel, params } => {
+            let params = params_shown(alloc, *params)?;
+            format!(in alloc; "accepts {channel}{params}")
+        }
         Command::Clear { channel } => format!(in alloc; "clears {channel}"),
         Command::Send { channel, q, user } => {
             let user = octets_shown(alloc, user)?;

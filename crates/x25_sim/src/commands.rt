@@ -2,9 +2,10 @@
 ghost use Rattle.std.specs.Prelude.{◌≡◌, IfOk};
 ghost use Rattle.x25_script.specs.PlainLine.{plain_command};
 ghost use Rattle.x25_station.specs.Command.{command_of};
-ghost use Rattle.x25_sim.specs.Simulated.{command_asked, user_in};
+ghost use Rattle.x25_sim.specs.Simulated.{command_asked, params_of, user_in};
 
 use std::alloc::{AllocError, Global};
+use x25_circuit::Params;
 use x25_script::{Command, HexDigits};
 use x25_station::Cmd;
 
@@ -28,6 +29,18 @@ pub(crate) fn user_octets(alloc: Global, command: &Command) -> Result<Vec<u8>, A
     }
 }
 
+/// Packet sizes and windows, from the four numbers of a line.
+fn params_of(numbers: &x25_script::Params) -> Params
+    ensures { result ≡ params_of numbers.now }
+{
+    Params {
+        size_called: numbers.size_called,
+        size_calling: numbers.size_calling,
+        win_called: numbers.win_called,
+        win_calling: numbers.win_calling,
+    }
+}
+
 /// The command with its octets of user data.
 pub(crate) fn station_command<'a>(command: &Command<'a>, user: &'a [u8]) -> Cmd<'a>
     requires { user.now ≡ user_in (plain_command command.now) }
@@ -37,13 +50,35 @@ pub(crate) fn station_command<'a>(command: &Command<'a>, user: &'a [u8]) -> Cmd<
         Command::Call {
             called,
             calling,
+            params: None,
             ..
         } => Cmd::Call {
             called,
             calling,
             user,
         },
-        Command::Accept { channel } => Cmd::Accept { channel: *channel },
+        Command::Call {
+            called,
+            calling,
+            params: Some(numbers),
+            ..
+        } => Cmd::CallWith {
+            called,
+            calling,
+            user,
+            params: params_of(numbers),
+        },
+        Command::Accept {
+            channel,
+            params: None,
+        } => Cmd::Accept { channel: *channel },
+        Command::Accept {
+            channel,
+            params: Some(numbers),
+        } => Cmd::AcceptWith {
+            channel: *channel,
+            params: params_of(numbers),
+        },
         Command::Clear { channel } => Cmd::Clear { channel: *channel },
         Command::Send { channel, q, .. } => Cmd::Send {
             channel: *channel,
