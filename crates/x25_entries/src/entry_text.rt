@@ -92,6 +92,19 @@ fn push_at(word: &[u8], channel: u16, line: &mut Line) -> Result<(), AllocError>
     push_channel(channel, line)
 }
 
+// Appends a word, a channel, and the packet sizes and windows of its call.
+fn push_agreed(
+    word: &[u8],
+    channel: u16,
+    params: Params,
+    line: &mut Line,
+) -> Result<(), AllocError>
+    ensures { OnOk result (line.new ≡ line.old ++ (word.now ++ channel_text channel ++ params_text params)) }
+{
+    push_at(word, channel, line)?;
+    push_params(params, line)
+}
+
 /// Appends a word, and then a channel and the name of its stretch.
 fn push_under(word: &[u8], channel: u16, name: &Stretch, line: &mut Line) -> Result<(), AllocError>
     ensures { OnOk result (line.new ≡ line.old ++ (word.now ++ stretch_text channel (plain_name name.now))) }
@@ -122,10 +135,7 @@ fn push_asked(
             push_user(user.as_slice(), line)?;
             push_params(*params, line)
         }
-        Asked::Accept { params } => {
-            push_at(b"accept", channel, line)?;
-            push_params(*params, line)
-        }
+        Asked::Accept { params } => push_agreed(b"accept", channel, *params, line),
         Asked::Clear => push_at(b"clear", channel, line),
         Asked::Send { q, user } => {
             push_under(b"send", channel, name, line)?;
@@ -159,10 +169,7 @@ fn push_told(channel: u16, name: &Stretch, told: &Told, line: &mut Line) -> Resu
             push_user(user.as_slice(), line)?;
             push_params(*params, line)
         }
-        Told::Connected { params } => {
-            push_at(b"connected", channel, line)?;
-            push_params(*params, line)
-        }
+        Told::Connected { params } => push_agreed(b"connected", channel, *params, line),
         Told::Collided => push_at(b"collided", channel, line),
         Told::Cleared { cause, diagnostic } => {
             push_at(b"cleared", channel, line)?;

@@ -1,5 +1,5 @@
 -- The calls of the user: the circuit of a channel is asked, and its packet goes on that channel.
-use Rattle.std.proofs.Common.{◌≡◌, ℕ, suc, ◌-◌, ◌<◌, ◌≤◌, List, length, Option, Bool, true, false, nat_le, get_or, set, sym, ap, subst, ◌∙◌, arith, Result, Ok, Err, IsErrAnd}
+use Rattle.std.proofs.Common.{◌≡◌, ℕ, suc, ◌-◌, ◌<◌, ◌≤◌, List, [], length, Option, Some, None, Bool, true, false, nat_le, ◌==◌, if◌then◌else◌, get_or, set, refl, sym, ap, subst, ◌∙◌, arith, Result, Ok, Err, IsErrAnd}
 use Rattle.std.proofs.Math.ListN.{length-set}
 use Rattle.std.proofs.lemmas.Bool.{leb-true, and_parts}
 use Rattle.x25_packet.specs.declared.packet.Packet.{Packet}
@@ -7,21 +7,23 @@ use Rattle.x25_packet.specs.PlainPacket.{PlainPacket}
 use Rattle.x25_circuit.specs.declared.circuit.Circuit as circuit_code
 use Rattle.x25_circuit.specs.declared.error.CircuitError.{CircuitError}
 use Rattle.x25_circuit.specs.Circuit.{Circuit}
-use Rattle.x25_circuit.specs.Calls.{Outcome, Done, Refused}
+use Rattle.x25_circuit.specs.declared.params.Params.{Params}
+use Rattle.x25_circuit.specs.Calls.{Outcome, Done, Refused, Calls, outcome}
 use Rattle.x25_circuit.specs.Replies.{plain_owed}
-use Rattle.x25_circuit.specs.Requests.{AnswersRequest}
+use Rattle.x25_circuit.specs.Requests.{refusal_of, AnswersRequest}
 use Rattle.x25_circuit.specs.FitsCircuit.{FitsCircuit}
 use Rattle.x25_layer.specs.declared.layer.Layer as code
 use Rattle.x25_layer.specs.declared.error.LayerError.{LayerError}
 use Rattle.x25_layer.specs.declared.error.LayerError.TheVariants as error
 use Rattle.x25_layer.specs.Layer.{LayerSettings, Layer, is_channel, put_at, packet_on, is_ready}
-use Rattle.x25_layer.specs.Calls.{Accepted, outcome_on}
-use Rattle.x25_layer.specs.Rounds.{LinkView, went}
+use Rattle.x25_layer.specs.Calls.{Dials, Accepted, free_channel, where_room, dialled, outcome_in, layer_outcome, outcome_on}
+use Rattle.x25_layer.specs.Rounds.{LinkView, Answered, Went, Refuses, went, calls}
 use Rattle.x25_layer.specs.FitsLayer.{FitsCircuits, FitsLayer}
 use Rattle.x25_layer.specs.OverLink.{LayerGives, LinkGives}
 use Rattle.x25_layer.specs.Asking.{with_circuit, AsksCircuit, error_without_memory}
 use Rattle.x25_layer.proofs.FitLemmas.{read_at}
 use Rattle.x25_layer.proofs.PullLemmas.{fits_put, fits_same}
+use Rattle.x25_layer.proofs.SettleLemmas.{not_same}
 
 pub configured : (n h : ℕ) → is_channel n h ≡ true → (1 ≤ h) × (h ≤ n)
 configured n h is = (leb-true 1 h (and_parts (nat_le 1 h) (nat_le h n) is).0, leb-true h n (and_parts (nat_le 1 h) (nat_le h n) is).1)
@@ -104,6 +106,14 @@ declined_link (Err f) fits after x c view v l h e (Done next p) a is = absurd a
 declined_link (Err f) fits after x c view v l h e (Refused d) a is = cc
 
 -- where memory is missing
+pub refused_short : (o : Outcome) (e : CircuitError) → Some e ≡ refusal_of o → error.Circuit e ≡ error_without_memory o
+refused_short (Done next p) e is = cc
+refused_short (Refused f) e is = cc
+
+pub accepted_short : (o : Outcome) → None ≡ refusal_of o → error.NoMemory ≡ error_without_memory o
+accepted_short (Done next p) is = refl
+accepted_short (Refused f) is = cc
+
 pub short_layer : (T : Type 0) (c : LayerSettings) (view : LinkView) (v : code.Layer) (l : Layer) (h : ℕ) (e : LayerError) (o : Outcome) → e ≡ error_without_memory o → LayerGives {T = T} c v (Err e) (went view c (outcome_on l.restarts l.circuits h o))
 short_layer t c view v l h e (Done next p) is = is
 short_layer t c view v l h e (Refused f) is = ap (λ (x : LayerError). Err x) is
@@ -112,3 +122,27 @@ pub short_link : (T : Type 0) {X : Type 0} (fits : X → Type 0) (after : X → 
     → LinkGives {T = T} fits after x (Err e) (went view c (outcome_on l.restarts l.circuits h o))
 short_link t fits after x c view l h e (Done next p) is = tt
 short_link t fits after x c view l h e (Refused f) is = ap (λ (x : LayerError). Err x) is
+
+-- ---- a new call
+
+-- where nothing of the link or layer refuses it, the circuit of the free channel is asked
+pub dial_goes : (view : LinkView) (c : LayerSettings) (l : Layer) (called calling user : List ℕ) (params : Params) (h : ℕ) → view.is_up ≡ true → l.restarting ≡ false → free_channel c.circuit.role l.circuits c.channels ≡ Some h
+    → (view.waits [] ≡ 256 → ⊥) → calls view c l (Dials called calling user params) ≡ went view c (outcome_on l.restarts l.circuits h (outcome c.circuit (l.circuits h) (Calls called calling user params)))
+dial_goes view c l called calling user params h up ready is free =
+    let f : Bool = view.waits [] == 256 in
+    ap (λ (b : Bool). if b then went view c (layer_outcome c f l (Dials called calling user params)) else Refuses error.NotUp) up
+    ∙ ap (λ (b : Bool). went view c (outcome_in c f b l.restarts l.circuits (Dials called calling user params))) ready
+    ∙ ap (λ (o : Option ℕ). went view c (dialled c f l.restarts l.circuits o called calling user params)) is
+    ∙ ap (λ (b : Bool). went view c (where_room b (outcome_on l.restarts l.circuits h (outcome c.circuit (l.circuits h) (Calls called calling user params))))) (not_same (view.waits []) 256 free)
+
+err_is : {T : Type 0} (e f : LayerError) → ◌≡◌ {A = Result T LayerError} (Err e) (Err f) → e ≡ f
+err_is e f same = cc
+
+-- a refusal answers no channel either
+pub dial_err_layer : (c : LayerSettings) (v : code.Layer) (e : LayerError) (a : Answered) → LayerGives {T = Unit {0}} c v (Err e) a → LayerGives {T = ℕ} c v (Err e) a
+dial_err_layer c v e (Went s) g = g
+dial_err_layer c v e (Refuses f) g = ap (λ (x : LayerError). Err x) (err_is e f g)
+
+pub dial_err_link : {X : Type 0} (fits : X → Type 0) (after : X → List ℕ → X) (x : X) (e : LayerError) (a : Answered) → LinkGives {T = Unit {0}} fits after x (Err e) a → LinkGives {T = ℕ} fits after x (Err e) a
+dial_err_link fits after x e (Went s) g = g
+dial_err_link fits after x e (Refuses f) g = ap (λ (x : LayerError). Err x) (err_is e f g)

@@ -10,7 +10,7 @@ use Rattle.x25_layer.specs.declared.layer.Layer as code
 use Rattle.x25_layer.specs.Layer.{LayerSettings, Layer, is_channel}
 use Rattle.x25_epochs.specs.Names.{Name}
 use Rattle.x25_layer.specs.Transcript.{name_of}
-use Rattle.x25_layer.specs.FitsLayer.{FitsCircuits, FitsLayer, name_at, is_open_at, waits_up_to}
+use Rattle.x25_layer.specs.FitsLayer.{FitsCircuits, FitsLayer, name_at, params_at, is_open_at, waits_up_to}
 
 not_false : true ≡ false → ⊥
 not_false e = cc
@@ -78,6 +78,12 @@ pub counted : (l : Layer) (h restarts clears resets : ℕ) → restarts ≡ l.re
 counted l h restarts clears resets e₁ e₂ e₃ =
     let n : (a b d : ℕ) → Option Name = λ a b d. Some (record { restarts = a; clears = b; resets = d }) in
     ap (λ (a : ℕ). n a clears resets) e₁ ∙ ap (λ (b : ℕ). n l.restarts b resets) e₂ ∙ ap (λ (d : ℕ). n l.restarts (l.circuits h).clears d) e₃
+
+-- packet sizes and windows on a configured channel
+pub agreed : (c : LayerSettings) (v : code.Layer) (l : Layer) (h : ℕ) → FitsLayer c v l → is_channel (length v.circuits.items) h ≡ true → Some (l.circuits h).params ≡ params_at c l h
+agreed c v l h fits is =
+    let same : is_channel c.channels h ≡ true = subst (λ (n : ℕ). is_channel n h ≡ true) fits.channels is in
+    sym (ap (λ (b : Bool). if b then Some (l.circuits h).params else None) same)
 
 pub opened : (c : LayerSettings) (v : code.Layer) (l : Layer) (h : ℕ) (b : Bool) → FitsLayer c v l → is_channel (length v.circuits.items) h ≡ b → (if b then is_open (l.circuits h) else false) ≡ is_open_at c l h
 opened c v l h b fits is =

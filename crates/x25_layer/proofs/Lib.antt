@@ -1,4 +1,5 @@
 pub mod Sees
+pub mod ParamsLemmas
 pub mod ViewLemmas
 pub mod NoteLemmas
 pub mod LayerSees

@@ -22,7 +22,7 @@ use Rattle.x25_epochs.specs.Calls.{Phase, Unused, Waiting, Offered, Crossed, Tal
 use Rattle.x25_epochs.specs.Calls as nested_calls
 use Rattle.x25_epochs.specs.Channel.{clr, lifted_call, channel_takes, channel_acts}
 use Rattle.x25_layer.specs.Transcript.{Handed, nothing_handed, added, told_by_all, asked_by}
-use Rattle.x25_layer.proofs.Sees.{talk_of, Agreed, sent_on, taken_on, AreAgreedIn, AreAgreed, view, bare, act_of, pull_act, held_stretch, held_of, resets_of, Notes, Adds, AfterReset, AfterClear, NotesOutcome}
+use Rattle.x25_layer.proofs.Sees.{talk_of, Agreed, taken_on, AreAgreedIn, AreAgreed, view, bare, act_of, pull_act, held_stretch, held_of, resets_of, Notes, Adds, AfterReset, AfterClear, NotesOutcome}
 use Rattle.x25_layer.proofs.ParamsLemmas.{call_proposes}
 use Rattle.x25_layer.proofs.ViewLemmas.{some_none, channel_step, in_open, in_resetting, in_talk, in_call, on_terms}
 

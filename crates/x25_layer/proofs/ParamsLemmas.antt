@@ -1,5 +1,5 @@
 -- Packet sizes and windows that are proposed and answered are said in facility fields that are allowed.
-use Rattle.std.proofs.Common.{◌≡◌, ℕ, Option, Some, None, Bool, true, false, ◌==◌, ◌&&◌, nat_le, if◌then◌else◌, List, [], length, refl}
+use Rattle.std.proofs.Common.{◌≡◌, ℕ, Some, None, Bool, true, false, ◌==◌, ◌&&◌, nat_le, if◌then◌else◌, List, [], length, refl}
 use Rattle.std.proofs.lemmas.Bool.{and_parts, leb-true}
 use Rattle.x25_packet.specs.declared.facilities.Directions.{Directions}
 use Rattle.x25_packet.specs.Facilities.{AreWithin, IfGiven, IsFacilityField, is_within}
@@ -27,8 +27,7 @@ pub field_allowed : (known said : Params) → may_propose said ≡ true → IsFa
 field_allowed known said e =
     let a = and_parts (is_within 4 12 said.size_called) (is_within 4 12 said.size_calling && (is_within 1 7 said.win_called && is_within 1 7 said.win_calling)) e in
     let b = and_parts (is_within 4 12 said.size_calling) (is_within 1 7 said.win_called && is_within 1 7 said.win_calling) a.1 in
-    let d = and_parts (is_within 1 7 said.win_called) (is_within 1 7 said.win_calling) b.1 in
-    (
+    let d = and_parts (is_within 1 7 said.win_called) (is_within 1 7 said.win_calling) b.1 in (
       record { packet_size = news (sizes_of known) (sizes_of said); window_size = news (windows_of known) (windows_of said) },
       record {
         sizes = news_within 4 12 (sizes_of known) (sizes_of said) (are_within 4 12 (sizes_of said) a.0 b.0);

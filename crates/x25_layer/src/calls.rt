@@ -7,7 +7,8 @@
 //!
 //! An accepted call puts its packet, and then the data packets of all channels in rounds, while fewer than 8 packets wait. The
 //! link takes packets of 4,099 octets.
-ghost use Rattle.std.specs.Prelude.{◌≡◌, ℕ, ◌≤◌, Some, IfOk, OnErr, IsErrOf};
+ghost use Rattle.std.specs.Prelude.{◌≡◌, ℕ, ◌≤◌, None, Some, IfOk, OnErr, IsErrOf};
+ghost use Rattle.x25_circuit.specs.Params.{default_params};
 ghost use Rattle.x25_circuit.specs.Calls.{Accepts, Clears, Sends, Interrupts, Resets, SaysReady, SaysNotReady};
 ghost use Rattle.x25_layer.specs.Layer.{LayerSettings};
 ghost use Rattle.x25_layer.specs.Layer.{Layer as State};
@@ -18,12 +19,12 @@ ghost use Rattle.x25_layer.specs.Rounds.{calls};
 
 use crate::error::LayerError;
 use crate::layer::Layer;
-use x25_circuit::Request;
+use x25_circuit::{Params, Proposal, Request};
 use x25_link::OrderedLink;
 
 impl Layer {
     /// Calls the other end, with addresses of 0 to 15 digits and at most 16 octets of user data, on the highest free channel at
-    /// a DTE and on the lowest at a DCE, which it answers.
+    /// a DTE and on the lowest at a DCE, which it answers. It proposes the default packet sizes and windows.
     ///
     /// 9 NotUp, 40 Restarting, 41 NoFreeChannel, 10 QueueFull, then 34 BadParameter of the circuit where an address or the user
     /// data is none of these, and else 70 alone.
@@ -35,8 +36,33 @@ impl Layer {
         user: &[u8],
     ) -> Result<u16, LayerError>
         requires { 4099 ≤ L.longest link.old }
-        ensures layer { (c : LayerSettings) (l : State) (x : L.State) → FitsLayer c self.old l → L.fits link.old x → LayerGives c self.new result (calls (view_of L.up_in L.waits_in L.after_put x) c l (Dials called.now calling.now user.now)) }
-        ensures link { (c : LayerSettings) (l : State) (x : L.State) → FitsLayer c self.old l → L.fits link.old x → LinkGives (L.fits link.new) L.after_put x result (calls (view_of L.up_in L.waits_in L.after_put x) c l (Dials called.now calling.now user.now)) }
+        ensures layer { (c : LayerSettings) (l : State) (x : L.State) → FitsLayer c self.old l → L.fits link.old x → LayerGives c self.new result (calls (view_of L.up_in L.waits_in L.after_put x) c l (Dials called.now calling.now user.now default_params)) }
+        ensures link { (c : LayerSettings) (l : State) (x : L.State) → FitsLayer c self.old l → L.fits link.old x → LinkGives (L.fits link.new) L.after_put x result (calls (view_of L.up_in L.waits_in L.after_put x) c l (Dials called.now calling.now user.now default_params)) }
+        ensures layer_stays { (c : LayerSettings) (l : State) → FitsLayer c self.old l → OnErr result (FitsLayer c self.new l) }
+        ensures link_stays { (x : L.State) → L.fits link.old x → OnErr result (L.fits link.new x) }
+        ensures longest { L.longest link.new ≡ L.longest link.old }
+        ensures missing { IsErrOf result LayerError.NoMemory → LacksMemory 16 self.old (L.spares link.old) }
+        ensures channel { (c : LayerSettings) (l : State) → FitsLayer c self.old l → IfOk result (λ channel. free_channel c.circuit.role l.circuits c.channels ≡ Some channel) }
+    {
+        self.call_with(link, called, calling, user, Params::default())
+    }
+
+    /// Calls as `call`, and proposes these packet sizes and windows: sizes of 4 to 12, and windows of 1 to 7. What isn't the
+    /// default stands in the CALL. ITU-T X.25 (10/96), section 6.12.
+    ///
+    /// 9 NotUp, 40 Restarting, 41 NoFreeChannel, 10 QueueFull, then 34 BadParameter of the circuit where an address, the user
+    /// data, a size or a window is none of these, and else 70 alone.
+    pub fn call_with<L: OrderedLink>(
+        &mut self,
+        link: &mut L,
+        called: &str,
+        calling: &str,
+        user: &[u8],
+        params: Params,
+    ) -> Result<u16, LayerError>
+        requires { 4099 ≤ L.longest link.old }
+        ensures layer { (c : LayerSettings) (l : State) (x : L.State) → FitsLayer c self.old l → L.fits link.old x → LayerGives c self.new result (calls (view_of L.up_in L.waits_in L.after_put x) c l (Dials called.now calling.now user.now params)) }
+        ensures link { (c : LayerSettings) (l : State) (x : L.State) → FitsLayer c self.old l → L.fits link.old x → LinkGives (L.fits link.new) L.after_put x result (calls (view_of L.up_in L.waits_in L.after_put x) c l (Dials called.now calling.now user.now params)) }
         ensures layer_stays { (c : LayerSettings) (l : State) → FitsLayer c self.old l → OnErr result (FitsLayer c self.new l) }
         ensures link_stays { (x : L.State) → L.fits link.old x → OnErr result (L.fits link.new x) }
         ensures longest { L.longest link.new ≡ L.longest link.old }
@@ -55,10 +81,12 @@ impl Layer {
         if link.waiting() == 256 {
             return Err(LayerError::QueueFull);
         }
+        let proposal = Proposal::new(params);
         let request = Request::Call {
             called,
             calling,
             user,
+            proposal: &proposal,
         };
         match self.ask_ready(link, channel, request) {
             Ok(()) => Ok(channel),
@@ -66,20 +94,49 @@ impl Layer {
         }
     }
 
-    /// Accepts the call that came on a channel: CALL ACCEPTED goes.
+    /// Accepts the call that came on a channel, with the packet sizes and windows that it proposes: CALL ACCEPTED goes.
     ///
     /// 9 NotUp, 40 Restarting, 42 NoSuchChannel, 10 QueueFull, then 30 WrongState of the circuit where no call came, and else 70
     /// alone.
     pub fn accept<L: OrderedLink>(&mut self, link: &mut L, channel: u16) -> Result<(), LayerError>
         requires { 4099 ≤ L.longest link.old }
-        ensures layer { (c : LayerSettings) (l : State) (x : L.State) → FitsLayer c self.old l → L.fits link.old x → LayerGives c self.new result (calls (view_of L.up_in L.waits_in L.after_put x) c l (Asks channel Accepts)) }
-        ensures link { (c : LayerSettings) (l : State) (x : L.State) → FitsLayer c self.old l → L.fits link.old x → LinkGives (L.fits link.new) L.after_put x result (calls (view_of L.up_in L.waits_in L.after_put x) c l (Asks channel Accepts)) }
+        ensures layer { (c : LayerSettings) (l : State) (x : L.State) → FitsLayer c self.old l → L.fits link.old x → LayerGives c self.new result (calls (view_of L.up_in L.waits_in L.after_put x) c l (Asks channel (Accepts None))) }
+        ensures link { (c : LayerSettings) (l : State) (x : L.State) → FitsLayer c self.old l → L.fits link.old x → LinkGives (L.fits link.new) L.after_put x result (calls (view_of L.up_in L.waits_in L.after_put x) c l (Asks channel (Accepts None))) }
         ensures layer_stays { (c : LayerSettings) (l : State) → FitsLayer c self.old l → OnErr result (FitsLayer c self.new l) }
         ensures link_stays { (x : L.State) → L.fits link.old x → OnErr result (L.fits link.new x) }
         ensures longest { L.longest link.new ≡ L.longest link.old }
         ensures missing { IsErrOf result LayerError.NoMemory → LacksMemory 16 self.old (L.spares link.old) }
     {
-        self.ask(link, channel, Request::Accept)
+        self.ask(link, channel, Request::Accept { answer: None })
+    }
+
+    /// Accepts the call that came on a channel with these packet sizes and windows, each from the proposed value to the
+    /// default. What isn't as proposed stands in the CALL ACCEPTED. ITU-T X.25 (10/96), section 6.12.
+    ///
+    /// 9 NotUp, 40 Restarting, 42 NoSuchChannel, 10 QueueFull, then 30 WrongState of the circuit where no call came and 34
+    /// BadParameter where a size or a window is none of these, and else 70 alone.
+    pub fn accept_with<L: OrderedLink>(
+        &mut self,
+        link: &mut L,
+        channel: u16,
+        params: Params,
+    ) -> Result<(), LayerError>
+        requires { 4099 ≤ L.longest link.old }
+        ensures layer { (c : LayerSettings) (l : State) (x : L.State) → FitsLayer c self.old l → L.fits link.old x → LayerGives c self.new result (calls (view_of L.up_in L.waits_in L.after_put x) c l (Asks channel (Accepts (Some params)))) }
+        ensures link { (c : LayerSettings) (l : State) (x : L.State) → FitsLayer c self.old l → L.fits link.old x → LinkGives (L.fits link.new) L.after_put x result (calls (view_of L.up_in L.waits_in L.after_put x) c l (Asks channel (Accepts (Some params)))) }
+        ensures layer_stays { (c : LayerSettings) (l : State) → FitsLayer c self.old l → OnErr result (FitsLayer c self.new l) }
+        ensures link_stays { (x : L.State) → L.fits link.old x → OnErr result (L.fits link.new x) }
+        ensures longest { L.longest link.new ≡ L.longest link.old }
+        ensures missing { IsErrOf result LayerError.NoMemory → LacksMemory 16 self.old (L.spares link.old) }
+    {
+        let answer = Proposal::new(params);
+        self.ask(
+            link,
+            channel,
+            Request::Accept {
+                answer: Some(&answer),
+            },
+        )
     }
 
     /// Clears the call on a channel, and drops everything on it: CLEAR with cause and diagnostic 0 goes.

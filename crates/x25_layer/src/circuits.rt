@@ -1,6 +1,6 @@
 //! All circuits of a layer at once.
 ghost use Rattle.std.specs.Prelude.{◌≡◌, ℕ, List, length, IfOk, IfErr};
-ghost use Rattle.x25_circuit.specs.Circuit.{forgotten, usual};
+ghost use Rattle.x25_circuit.specs.Circuit.{forgotten};
 ghost use Rattle.x25_circuit.specs.Circuit.{Circuit as Channel};
 ghost use Rattle.x25_layer.specs.Layer.{LayerSettings, at_rest};
 ghost use Rattle.x25_layer.specs.FitsLayer.{FitsCircuits};
@@ -17,7 +17,7 @@ pub(crate) fn begun_circuits(
     role: Role,
     channels: usize,
 ) -> Result<Vec<Circuit>, LayerError>
-    ensures fits { IfOk result (λ v. FitsCircuits (record { channels = channels; circuit = record { role = role; outgoing = usual; incoming = usual } }) v.items at_rest.circuits) }
+    ensures fits { IfOk result (λ v. FitsCircuits (record { channels = channels; circuit = record { role = role } }) v.items at_rest.circuits) }
     ensures count { IfOk result (λ v. length v.items ≡ channels) }
     ensures err { IfErr result (λ e. e ≡ LayerError.NoMemory) }
 {

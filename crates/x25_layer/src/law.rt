@@ -17,6 +17,7 @@ pub fn two_layers_keep_order()
     ensures lawful { (channels : ℕ) → Always IsLawfulWorld channels }
     ensures arrives { (channels : ℕ) → Always ArrivesAll channels }
 {
+    x25_circuit::values_are_agreed();
     x25_epochs::keeps_order();
 }
 
@@ -26,6 +27,7 @@ pub fn names_are_told()
     ensures names { (channels : ℕ) → Always NamesAreCounted channels }
     ensures clear { (channels : ℕ) → Always NoClearComesInP1 channels }
 {
+    x25_circuit::values_are_agreed();
     x25_epochs::keeps_order();
 }
 

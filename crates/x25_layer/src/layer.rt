@@ -5,7 +5,7 @@ use crate::error::LayerError;
 use crate::stretch::Stretch;
 use std::alloc::Global;
 use x25_bits::Role;
-use x25_circuit::Circuit;
+use x25_circuit::{Circuit, Params};
 use x25_link::Blanks;
 
 /// The most channels of a layer (profile).
@@ -32,18 +32,17 @@ pub struct Layer {
 }
 
 impl Layer {
-    ghost use Rattle.x25_circuit.specs.Circuit.{usual};
     ghost use Rattle.x25_circuit.specs.FitsCircuit.{FitsCircuit};
     ghost use Rattle.x25_layer.specs.Layer.{LayerSettings, at_rest, is_channel};
     ghost use Rattle.x25_layer.specs.Layer.{Layer as State};
     ghost use Rattle.x25_layer.specs.Room.{HasRoom};
-    ghost use Rattle.x25_layer.specs.FitsLayer.{FitsLayer, plain_stretch, name_at, is_open_at, waits_up_to, is_full};
+    ghost use Rattle.x25_layer.specs.FitsLayer.{FitsLayer, plain_stretch, name_at, params_at, is_open_at, waits_up_to, is_full};
 
     /// The layer of an end whose link isn't up, with so many channels, 1 to 16.
     ///
     /// 14 BadConfig for another number of channels, and else 70 alone.
     pub fn new(alloc: Global, role: Role, channels: usize) -> Result<Layer, LayerError>
-        ensures fits { IfOk result (λ v. FitsLayer (record { channels = channels; circuit = record { role = role; outgoing = usual; incoming = usual } }) v at_rest) }
+        ensures fits { IfOk result (λ v. FitsLayer (record { channels = channels; circuit = record { role = role } }) v at_rest) }
         ensures config { IsErrOf result LayerError.BadConfig ↔ (is_channel 16 channels ≡ false) }
         ensures memory { is_channel 16 channels ≡ true → IfErr result (λ e. e ≡ LayerError.NoMemory) }
     {
@@ -71,6 +70,15 @@ impl Layer {
             clears,
             resets,
         })
+    }
+
+    /// Packet sizes and windows on a channel, where it is configured: those that are proposed, until the call is accepted, and
+    /// then those in force; the defaults where there is no call.
+    pub fn params(&self, channel: u16) -> Option<Params>
+        ensures { (c : LayerSettings) (l : State) → FitsLayer c self.now l → result ≡ params_at c l channel }
+    {
+        let circuit = self.circuit(channel)?;
+        Some(circuit.params())
     }
 
     /// Whether a channel is configured and in p4 with d1.

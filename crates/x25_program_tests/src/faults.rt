@@ -1,5 +1,5 @@
-use crate::fakes::{FailingReader, FailingWriter};
 use std::test::Fail;
+use x25_fakes::{FailingReader, FailingWriter};
 use x25_program::{Device, Fault, decode_lines, exit_status};
 
 const TRACE: &str = "> 013febdf\n< 01738357\n> 01001000fb00007702\nx\n> 0101\n";

@@ -2,8 +2,6 @@
 #![tactic(auto)]
 
 #[cfg(test)]
-mod fakes;
-#[cfg(test)]
 mod faults;
 #[cfg(test)]
 mod lines;

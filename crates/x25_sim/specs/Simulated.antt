@@ -1,6 +1,6 @@
 -- What the simulator does with a script (profile): each line is an event of a world of two stations, `drain` several deliveries, and
 -- what happens is said.
-use Rattle.std.specs.Prelude.{ℕ, zero, suc, nat_le, Bool, true, false, List, [], ◌∷◌, ◌++◌, length, drop, map, if◌then◌else◌, Option, Some, None}
+use Rattle.std.specs.Prelude.{ℕ, zero, suc, nat_le, Bool, true, false, List, [], ◌∷◌, ◌++◌, length, drop, map, if◌then◌else◌, Option, Some, None, option_map, unwrap_or}
 use Rattle.x25_bits.specs.Role.{other}
 use Rattle.x25_bits.specs.declared.role.Role.{Role}
 use Rattle.x25_bits.specs.declared.role.Role.TheVariants.{Dte, Dce}
@@ -10,7 +10,7 @@ use Rattle.x25_circuit.specs.Calls.{Accepts, Clears, Sends, Interrupts, Resets, 
 use Rattle.x25_layer.specs.Calls.{Asks, Dials, Restarts}
 use Rattle.x25_station.specs.declared.config.Cfg.{Cfg}
 use Rattle.x25_station.specs.Command.{Command, Requests, Disconnects}
-use Rattle.x25_script.specs.declared.params.Params as script
+use Rattle.x25_script.specs.declared.params.Params.{Params as Numbers}
 use Rattle.x25_script.specs.PlainLine.{PlainCommand, call, accept, clear, send, interrupt, reset, ready, not_ready, restart, disconnect, PlainLine, command, t1, deliver, lose, damage, drain}
 use Rattle.x25_script.specs.Reading.{line_in}
 use Rattle.x25_program.specs.Lines.{lines_of}
@@ -71,15 +71,14 @@ drained cfg tap (suc n) w = delivered_to cfg tap (drained cfg tap n) w (next_end
 
 -- ---- lines
 
--- the four numbers of a line
-abbrev pub params_of : script.Params → Params
+-- packet sizes and windows, from the four numbers of a line
+abbrev pub params_of : Numbers → Params
 params_of p = record { size_called = p.size_called; size_calling = p.size_calling; win_called = p.win_called; win_calling = p.win_calling }
 
+-- A call without the four numbers proposes the default, and an acceptance without them accepts what was proposed.
 abbrev pub command_asked : PlainCommand → Command
-command_asked (call called calling user None) = Requests (Dials called calling user default_params)
-command_asked (call called calling user (Some four)) = Requests (Dials called calling user (params_of four))
-command_asked (accept channel None) = Requests (Asks channel (Accepts None))
-command_asked (accept channel (Some four)) = Requests (Asks channel (Accepts (Some (params_of four))))
+command_asked (call called calling user params) = Requests (Dials called calling user (unwrap_or (option_map params_of params) default_params))
+command_asked (accept channel params) = Requests (Asks channel (Accepts (option_map params_of params)))
 command_asked (clear channel) = Requests (Asks channel Clears)
 command_asked (send channel q user) = Requests (Asks channel (Sends q user))
 command_asked (interrupt channel user) = Requests (Asks channel (Interrupts user))
@@ -88,6 +87,13 @@ command_asked (ready channel) = Requests (Asks channel SaysReady)
 command_asked (not_ready channel) = Requests (Asks channel SaysNotReady)
 command_asked restart = Requests Restarts
 command_asked disconnect = Disconnects
+
+-- the user data of a command, none where it has no such field
+abbrev pub user_in : PlainCommand → List ℕ
+user_in (call called calling user params) = user
+user_in (send channel q user) = user
+user_in (interrupt channel user) = user
+user_in asked = []
 
 -- A direction leads away from an end, and frames are delivered, lost and damaged at the other one.
 unfoldable pub line_turn : Cfg → Bool → PlainLine → World → Turn

@@ -3,6 +3,7 @@
 //! docs/MANUAL.md says how scripts are written. Profile.
 #![tactic(auto)]
 
+mod commands;
 mod held_line;
 mod law;
 mod output;

@@ -41,6 +41,7 @@ fn simulate_pieces<R: Source, W: Sink>(
         → (rest : List ℕ) × (R.remaining reader.new ≡ Some rest) × WritesEnded cfg tap old (W.contents writer.new) rest whole }
     ensures read { IsErrOf result Fault.Read → R.is_marked reader.new ≡ true }
     ensures write { IsErrOf result Fault.Write → W.is_marked writer.new ≡ true }
+    ensures memory { IsErrOf result Fault.NoMemory → (R.is_marked reader.new ≡ R.is_marked reader.old) × (W.is_marked writer.new ≡ W.is_marked writer.old) }
 {
     for _ in 0..u64::MAX {
         let Ok(count) = reader.read(piece) else {
@@ -91,6 +92,8 @@ pub fn sim<R: Source, W: Sink>(
 
     ensures read { IsErrOf result Fault.Read → R.is_marked reader.new ≡ true }
     ensures write { IsErrOf result Fault.Write → W.is_marked writer.new ≡ true }
+    // Nor did any where want of memory is answered.
+    ensures memory { IsErrOf result Fault.NoMemory → (R.is_marked reader.new ≡ R.is_marked reader.old) × (W.is_marked writer.new ≡ W.is_marked writer.old) }
 {
     let Ok(mut piece) = vec![in alloc; 0u8; PIECE] else {
         return Err(Fault::NoMemory);

@@ -53,6 +53,7 @@ impl Simulator {
             → Turns cfg tap old (W.contents writer.old) (W.contents writer.new) self.old.stage self.new.stage result (turn cfg tap begun) }
         ensures held { self.new.held ≡ self.old.held }
         ensures write { IsErrOf result Fault.Write → W.is_marked writer.new ≡ true }
+        ensures memory { IsErrOf result Fault.NoMemory → W.is_marked writer.new ≡ W.is_marked writer.old }
         ensures read { IsErrOf result Fault.Read → ⊥ }
     {
         match script_line(&self.held) {
@@ -68,6 +69,7 @@ impl Simulator {
             → Turns cfg tap old (W.contents writer.old) (W.contents writer.new) self.old.stage self.new.stage result (turn cfg tap begun) }
         ensures cleared { OnOk result (HoldsLine [] self.new.held) }
         ensures write { IsErrOf result Fault.Write → W.is_marked writer.new ≡ true }
+        ensures memory { IsErrOf result Fault.NoMemory → W.is_marked writer.new ≡ W.is_marked writer.old }
         ensures read { IsErrOf result Fault.Read → ⊥ }
     {
         if let Err(fault) = self.obey_line(writer) {
@@ -85,6 +87,7 @@ impl Simulator {
             → Leads cfg tap old (W.contents writer.old) self.old (tail.now ++ 10 ∷ rest) whole
             → MatchResult result (λ _. Leads cfg tap old (W.contents writer.new) self.new rest whole) (λ _. AppendsBeginning old (W.contents writer.new) (sayings_text whole.sayings)) }
         ensures write { IsErrOf result Fault.Write → W.is_marked writer.new ≡ true }
+        ensures memory { IsErrOf result Fault.NoMemory → W.is_marked writer.new ≡ W.is_marked writer.old }
         ensures read { IsErrOf result Fault.Read → ⊥ }
     {
         self.held.hold(tail);
@@ -101,6 +104,7 @@ impl Simulator {
             → Leads cfg tap old (W.contents writer.old) self.old (piece.now ++ rest) whole
             → MatchResult result (λ _. Leads cfg tap old (W.contents writer.new) self.new rest whole) (λ _. AppendsBeginning old (W.contents writer.new) (sayings_text whole.sayings)) }
         ensures write { IsErrOf result Fault.Write → W.is_marked writer.new ≡ true }
+        ensures memory { IsErrOf result Fault.NoMemory → W.is_marked writer.new ≡ W.is_marked writer.old }
         ensures read { IsErrOf result Fault.Read → ⊥ }
     {
         let mut left = piece;
@@ -125,6 +129,7 @@ impl Simulator {
             → MatchResult result (λ _. Appends old (W.contents writer.new) (sayings_text whole.sayings) × (self.new.stage.is_refused ≡ has_refusal whole.sayings))
             (λ _. AppendsBeginning old (W.contents writer.new) (sayings_text whole.sayings)) }
         ensures write { IsErrOf result Fault.Write → W.is_marked writer.new ≡ true }
+        ensures memory { IsErrOf result Fault.NoMemory → W.is_marked writer.new ≡ W.is_marked writer.old }
         ensures read { IsErrOf result Fault.Read → ⊥ }
     {
         match self.stage.flush(writer) {
@@ -140,6 +145,7 @@ impl Simulator {
             → MatchResult result (λ _. Appends old (W.contents writer.new) (sayings_text whole.sayings) × (self.new.stage.is_refused ≡ has_refusal whole.sayings))
             (λ _. AppendsBeginning old (W.contents writer.new) (sayings_text whole.sayings)) }
         ensures write { IsErrOf result Fault.Write → W.is_marked writer.new ≡ true }
+        ensures memory { IsErrOf result Fault.NoMemory → W.is_marked writer.new ≡ W.is_marked writer.old }
         ensures read { IsErrOf result Fault.Read → ⊥ }
     {
         if self.held.is_empty() {
@@ -159,6 +165,7 @@ impl Simulator {
             → MatchResult result (λ status. Appends old (W.contents writer.new) (sayings_text whole.sayings) × (status ≡ (if has_refusal whole.sayings then 1 else 0)))
             (λ _. AppendsBeginning old (W.contents writer.new) (sayings_text whole.sayings)) }
         ensures write { IsErrOf result Fault.Write → W.is_marked writer.new ≡ true }
+        ensures memory { IsErrOf result Fault.NoMemory → W.is_marked writer.new ≡ W.is_marked writer.old }
         ensures read { IsErrOf result Fault.Read → ⊥ }
     {
         match self.finish(writer) {

@@ -3,12 +3,13 @@ ghost use Rattle.std.specs.Prelude.{◌≡◌, ◌↔◌, IfOk, IsTrue};
 ghost use Rattle.x25_bits.specs.Role.{other};
 ghost use Rattle.x25_line.specs.RawMachine.{end_of};
 
+use crate::commands::{octets_of, station_command, user_octets};
 use crate::output::Output;
 use crate::telling::{tell, tell_entries, tell_frames, tell_refusal};
-use std::alloc::{AllocError, Global};
+use std::alloc::Global;
 use x25_program::{Fault, Sink};
-use x25_script::{Command, HexDigits, ScriptLine};
-use x25_station::{Cfg, Cmd};
+use x25_script::{Command, ScriptLine};
+use x25_station::Cfg;
 use x25_world::{Direction, Event, Role, World, WorldError};
 
 /// A world whose transcript and frames were told and let go of, and what waits to be written.
@@ -36,15 +37,6 @@ fn away_from(end: Role) -> Direction
         Role::Dte => Direction::ToDce,
         Role::Dce => Direction::ToDte,
     }
-}
-
-/// The octets that the digits write.
-fn octets_of(alloc: Global, digits: &HexDigits) -> Result<Vec<u8>, AllocError>
-    ensures { IfOk result (λ octets. octets.items ≡ digits.now) }
-{
-    let mut octets = vec![in alloc; 0u8; digits.len()]?;
-    digits.write_to(octets.as_mut_slice());
-    Ok(octets)
 }
 
 impl Stage {
@@ -93,6 +85,7 @@ impl Stage {
         ensures tap { self.new.tap ≡ self.old.tap }
         ensures is_refused { self.new.is_refused ≡ self.old.is_refused }
         ensures write { IsErrOf result Fault.Write → W.is_marked writer.new ≡ true }
+        ensures memory { IsErrOf result Fault.NoMemory → W.is_marked writer.new ≡ W.is_marked writer.old }
         ensures read { IsErrOf result Fault.Read → ⊥ }
     {
         if let Err(fault) = tell_entries(
@@ -122,6 +115,7 @@ impl Stage {
         ensures tap { self.new.tap ≡ self.old.tap }
         ensures is_refused { self.new.is_refused ≡ self.old.is_refused }
         ensures write { IsErrOf result Fault.Write → W.is_marked writer.new ≡ true }
+        ensures memory { IsErrOf result Fault.NoMemory → W.is_marked writer.new ≡ W.is_marked writer.old }
         ensures read { IsErrOf result Fault.Read → ⊥ }
     {
         if let Err(fault) = self.tell_step(writer) {
@@ -138,6 +132,7 @@ impl Stage {
             → Stands cfg tap old (W.contents writer.old) self.old w told refused → ((refusal_of outcome ≡ Some error) ⊎ (error ≡ WorldError.NoMemory))
             → Stood cfg tap old (W.contents writer.new) self.new told refused result (turn_of tap w outcome) }
         ensures write { IsErrOf result Fault.Write → W.is_marked writer.new ≡ true }
+        ensures memory { IsErrOf result Fault.NoMemory → W.is_marked writer.new ≡ W.is_marked writer.old }
         ensures read { IsErrOf result Fault.Read → ⊥ }
     {
         if is_memory(error) {
@@ -156,6 +151,7 @@ impl Stage {
         ensures turns { (cfg : Settings) (tap : Bool) (old : Option (List ℕ))
             → Turns cfg tap old (W.contents writer.old) (W.contents writer.new) self.old self.new result (event_turn cfg tap (event_of event.entry)) }
         ensures write { IsErrOf result Fault.Write → W.is_marked writer.new ≡ true }
+        ensures memory { IsErrOf result Fault.NoMemory → W.is_marked writer.new ≡ W.is_marked writer.old }
         ensures read { IsErrOf result Fault.Read → ⊥ }
     {
         match self.world.apply(event) {
@@ -189,6 +185,7 @@ impl Stage {
         ensures turns { (cfg : Settings) (tap : Bool) (old : Option (List ℕ))
             → Turns cfg tap old (W.contents writer.old) (W.contents writer.new) self.old self.new result (drained cfg tap count) }
         ensures write { IsErrOf result Fault.Write → W.is_marked writer.new ≡ true }
+        ensures memory { IsErrOf result Fault.NoMemory → W.is_marked writer.new ≡ W.is_marked writer.old }
         ensures read { IsErrOf result Fault.Read → ⊥ }
     {
         for _ in 0..count {
@@ -208,6 +205,7 @@ impl Stage {
         ensures turns { (cfg : Settings) (tap : Bool) (old : Option (List ℕ))
             → Turns cfg tap old (W.contents writer.old) (W.contents writer.new) self.old self.new result (λ w. asked_turn cfg tap w None) }
         ensures write { IsErrOf result Fault.Write → W.is_marked writer.new ≡ true }
+        ensures memory { IsErrOf result Fault.NoMemory → W.is_marked writer.new ≡ W.is_marked writer.old }
         ensures read { IsErrOf result Fault.Read → ⊥ }
     {
         self.is_refused = true;
@@ -224,68 +222,14 @@ impl Stage {
             → Turns cfg tap old (W.contents writer.old) (W.contents writer.new) self.old self.new result
             (event_turn cfg tap (record { at = end; act = Commands (command_asked (plain_command command.entry)) })) }
         ensures write { IsErrOf result Fault.Write → W.is_marked writer.new ≡ true }
+        ensures memory { IsErrOf result Fault.NoMemory → W.is_marked writer.new ≡ W.is_marked writer.old }
         ensures read { IsErrOf result Fault.Read → ⊥ }
     {
-        match command {
-            Command::Call {
-                called,
-                calling,
-                user,
-            } => {
-                let Ok(user) = octets_of(self.alloc, &user) else {
-                    return Err(Fault::NoMemory);
-                };
-                let call = Cmd::Call {
-                    called,
-                    calling,
-                    user: user.as_slice(),
-                };
-                self.happen(Event::Command(end, call), writer)
-            }
-            Command::Send { channel, q, user } => {
-                let Ok(user) = octets_of(self.alloc, &user) else {
-                    return Err(Fault::NoMemory);
-                };
-                let send = Cmd::Send {
-                    channel,
-                    q,
-                    user: user.as_slice(),
-                };
-                self.happen(Event::Command(end, send), writer)
-            }
-            Command::Interrupt { channel, user } => {
-                let Ok(user) = octets_of(self.alloc, &user) else {
-                    return Err(Fault::NoMemory);
-                };
-                let interrupt = Cmd::Interrupt {
-                    channel,
-                    user: user.as_slice(),
-                };
-                self.happen(Event::Command(end, interrupt), writer)
-            }
-            Command::Accept { channel } => self.happen(
-                Event::Command(end, Cmd::Accept { channel }),
-                writer,
-            ),
-            Command::Clear { channel } => self.happen(
-                Event::Command(end, Cmd::Clear { channel }),
-                writer,
-            ),
-            Command::Reset { channel } => self.happen(
-                Event::Command(end, Cmd::Reset { channel }),
-                writer,
-            ),
-            Command::Ready { channel } => self.happen(
-                Event::Command(end, Cmd::Ready { channel }),
-                writer,
-            ),
-            Command::NotReady { channel } => self.happen(
-                Event::Command(end, Cmd::NotReady { channel }),
-                writer,
-            ),
-            Command::Restart => self.happen(Event::Command(end, Cmd::Restart), writer),
-            Command::Disconnect => self.happen(Event::Command(end, Cmd::Disconnect), writer),
-        }
+        let Ok(user) = user_octets(self.alloc, &command) else {
+            return Err(Fault::NoMemory);
+        };
+        let command = station_command(&command, user.as_slice());
+        self.happen(Event::Command(end, command), writer)
     }
 
     /// What a line of the script asks for happens.
@@ -295,6 +239,7 @@ impl Stage {
         ensures turns { (cfg : Settings) (tap : Bool) (old : Option (List ℕ))
             → Turns cfg tap old (W.contents writer.old) (W.contents writer.new) self.old self.new result (line_turn cfg tap (plain line.entry)) }
         ensures write { IsErrOf result Fault.Write → W.is_marked writer.new ≡ true }
+        ensures memory { IsErrOf result Fault.NoMemory → W.is_marked writer.new ≡ W.is_marked writer.old }
         ensures read { IsErrOf result Fault.Read → ⊥ }
     {
         match line {
@@ -350,6 +295,7 @@ impl Stage {
             → self.old.is_refused ≡ false → Tells old (W.contents writer.old) self.old.output []
             → Stood cfg self.old.tap old (W.contents writer.new) self.new [] false result (set_up cfg self.old.tap) }
         ensures write { IsErrOf result Fault.Write → W.is_marked writer.new ≡ true }
+        ensures memory { IsErrOf result Fault.NoMemory → W.is_marked writer.new ≡ W.is_marked writer.old }
         ensures read { IsErrOf result Fault.Read → ⊥ }
     {
         if let Err(fault) = self.end_step(writer) {

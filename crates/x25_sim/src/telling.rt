@@ -52,6 +52,7 @@ pub(crate) fn tell<W: Sink>(line: &[u8], output: &mut Output, writer: &mut W) ->
     ensures tells { (old : Option (List ℕ)) (told : List ℕ) → Tells old (W.contents writer.old) output.old told
         → MatchResult result (λ _. Tells old (W.contents writer.new) output.new (told ++ line.now)) (λ _. AppendsBeginning old (W.contents writer.new) (told ++ line.now)) }
     ensures write { IsErrOf result Fault.Write → W.is_marked writer.new ≡ true }
+    ensures memory { IsErrOf result Fault.NoMemory → W.is_marked writer.new ≡ W.is_marked writer.old }
     ensures read { IsErrOf result Fault.Read → ⊥ }
 {
     match output.tell(line, writer) {
@@ -72,6 +73,7 @@ fn tell_entry<W: Sink>(
         → MatchResult result (λ _. Tells old (W.contents writer.new) output.new (told ++ saying_line (enters (plain_entered entered.now))))
         (λ _. AppendsBeginning old (W.contents writer.new) (told ++ saying_line (enters (plain_entered entered.now)))) }
     ensures write { IsErrOf result Fault.Write → W.is_marked writer.new ≡ true }
+    ensures memory { IsErrOf result Fault.NoMemory → W.is_marked writer.new ≡ W.is_marked writer.old }
     ensures read { IsErrOf result Fault.Read → ⊥ }
 {
     let Ok(line) = entry_line(alloc, entered.at, &entered.entry) else {
@@ -92,6 +94,7 @@ fn tell_frame<W: Sink>(
         → MatchResult result (λ _. Tells old (W.contents writer.new) output.new (told ++ saying_line (taps (plain_tapped frame.now))))
         (λ _. AppendsBeginning old (W.contents writer.new) (told ++ saying_line (taps (plain_tapped frame.now)))) }
     ensures write { IsErrOf result Fault.Write → W.is_marked writer.new ≡ true }
+    ensures memory { IsErrOf result Fault.NoMemory → W.is_marked writer.new ≡ W.is_marked writer.old }
     ensures read { IsErrOf result Fault.Read → ⊥ }
 {
     let Ok(line) = frame_line(alloc, frame) else {
@@ -111,6 +114,7 @@ pub(crate) fn tell_entries<W: Sink>(
         → MatchResult result (λ _. Tells old (W.contents writer.new) output.new (told ++ sayings_text (map enters (map plain_entered entries.now))))
         (λ _. AppendsBeginning old (W.contents writer.new) (told ++ sayings_text (map enters (map plain_entered entries.now)))) }
     ensures write { IsErrOf result Fault.Write → W.is_marked writer.new ≡ true }
+    ensures memory { IsErrOf result Fault.NoMemory → W.is_marked writer.new ≡ W.is_marked writer.old }
     ensures read { IsErrOf result Fault.Read → ⊥ }
 {
     for entered in entries {
@@ -132,6 +136,7 @@ pub(crate) fn tell_frames<W: Sink>(
         → MatchResult result (λ _. Tells old (W.contents writer.new) output.new (told ++ sayings_text (map taps (map plain_tapped frames.now))))
         (λ _. AppendsBeginning old (W.contents writer.new) (told ++ sayings_text (map taps (map plain_tapped frames.now)))) }
     ensures write { IsErrOf result Fault.Write → W.is_marked writer.new ≡ true }
+    ensures memory { IsErrOf result Fault.NoMemory → W.is_marked writer.new ≡ W.is_marked writer.old }
     ensures read { IsErrOf result Fault.Read → ⊥ }
 {
     for frame in frames {
@@ -154,6 +159,7 @@ pub(crate) fn tell_refusal<W: Sink>(
         → MatchResult result (λ _. Tells old (W.contents writer.new) output.new (told ++ line_of_refusal error))
         (λ _. AppendsBeginning old (W.contents writer.new) (told ++ line_of_refusal error)) }
     ensures write { IsErrOf result Fault.Write → W.is_marked writer.new ≡ true }
+    ensures memory { IsErrOf result Fault.NoMemory → W.is_marked writer.new ≡ W.is_marked writer.old }
     ensures read { IsErrOf result Fault.Read → ⊥ }
 {
     let Ok(line) = refusal_line(alloc, error) else {

@@ -4,6 +4,7 @@ use Rattle.x25_packet.specs.PlainPacket.{PlainPacket}
 use Rattle.x25_link.specs.Station.{Settings as LinkSettings, Station as LinkStation, Side}
 use Rattle.x25_link.specs.Steps.{alone}
 use Rattle.x25_link.specs.Link.{ShownLink, LinkState, FitsWhole, FitsLink, up_at, waits_of, after_put_to}
+use Rattle.x25_circuit.specs.declared.params.Params.{Params}
 use Rattle.x25_circuit.specs.Circuit.{Circuit}
 use Rattle.x25_circuit.specs.Calls as circuit
 use Rattle.x25_layer.specs.declared.layer.Layer as layer_code
@@ -99,9 +100,9 @@ on_named : (restarts : ℕ) (circuits : ℕ → Circuit) (h : ℕ) (o : circuit.
 on_named restarts circuits h (circuit.Done next packet) = tt
 on_named restarts circuits h (circuit.Refused e) = refl
 
-dialled_named : (c : LayerSettings) (full : Bool) (restarts : ℕ) (circuits : ℕ → Circuit) (o : Option ℕ) (called calling user : List ℕ) → IsNamedOutcome (dialled c full restarts circuits o called calling user)
-dialled_named c full restarts circuits None called calling user = refl
-dialled_named c full restarts circuits (Some h) called calling user = room_named full _ (on_named restarts circuits h (circuit.outcome c.circuit (circuits h) (circuit.Calls called calling user)))
+dialled_named : (c : LayerSettings) (full : Bool) (restarts : ℕ) (circuits : ℕ → Circuit) (o : Option ℕ) (called calling user : List ℕ) (params : Params) → IsNamedOutcome (dialled c full restarts circuits o called calling user params)
+dialled_named c full restarts circuits None called calling user params = refl
+dialled_named c full restarts circuits (Some h) called calling user params = room_named full _ (on_named restarts circuits h (circuit.outcome c.circuit (circuits h) (circuit.Calls called calling user params)))
 
 ready_named : (c : LayerSettings) (full : Bool) (restarts : ℕ) (circuits : ℕ → Circuit) (request : LayerRequest) → IsNamedOutcome (outcome_ready c full restarts circuits request)
 ready_named c full restarts circuits (Asks h request) = test (is_channel c.channels h)
@@ -112,7 +113,7 @@ ready_named c full restarts circuits (Asks h request) = test (is_channel c.chann
     test : (b : Bool) → IsNamedOutcome (if b then good else Declined layer_error.NoSuchChannel)
     test true = at_once_named (puts_at_once request) full _ (on_named restarts circuits h (circuit.outcome c.circuit (circuits h) request))
     test false = refl
-ready_named c full restarts circuits (Dials called calling user) = dialled_named c full restarts circuits (free_channel c.circuit.role circuits c.channels) called calling user
+ready_named c full restarts circuits (Dials called calling user params) = dialled_named c full restarts circuits (free_channel c.circuit.role circuits c.channels) called calling user params
 ready_named c full restarts circuits Restarts = room_named full _ tt
 
 outcome_named : (c : LayerSettings) (full busy : Bool) (restarts : ℕ) (circuits : ℕ → Circuit) (request : LayerRequest) → IsNamedOutcome (outcome_in c full busy restarts circuits request)

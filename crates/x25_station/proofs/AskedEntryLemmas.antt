@@ -4,6 +4,7 @@ use Rattle.std.proofs.lemmas.Bool.{le-leb}
 use Rattle.x25_bits.specs.declared.role.Role.{Role}
 use Rattle.x25_bits.specs.declared.role.Role.TheVariants.{Dte, Dce}
 use Rattle.x25_packet.specs.PlainPacket.{PlainPacket}
+use Rattle.x25_circuit.specs.declared.params.Params.{Params}
 use Rattle.x25_circuit.specs.Circuit.{Circuit, is_free}
 use Rattle.x25_circuit.specs.Calls as circuit
 use Rattle.x25_layer.specs.declared.error.LayerError.{LayerError}
@@ -12,10 +13,11 @@ use Rattle.x25_layer.specs.Layer.{LayerSettings, Layer, is_channel}
 use Rattle.x25_layer.specs.Calls.{LayerRequest, Asks, Dials, Restarts, LayerOutcome, Accepted, Declined, layer_outcome, outcome_in, outcome_on, if_at_once, puts_at_once, first_of, lowest_free, highest_free, free_channel}
 use Rattle.x25_layer.specs.Rounds.{LinkView, Putting, begin, rounds, Answered, Went, Refuses, went, calls}
 use Rattle.x25_layer.specs.Transcript.{Asked, name_of}
-use Rattle.x25_layer.specs.World.{entry_of_dial}
+use Rattle.x25_layer.specs.World.{shown, entry_of_dial}
 use Rattle.x25_station.specs.Entries.{StationEntry, of_channel, of_channels, restart_asked, station_asked}
 use Rattle.x25_station.specs.Steps.{entries_of_outcome}
-use Rattle.x25_station.proofs.NameLemmas.{rounds_name}
+use Rattle.x25_station.proofs.NameLemmas.{rounds_name, rounds_params}
+use Rattle.x25_station.proofs.ShownLemmas.{same_shown}
 
 -- ---- a call that went was accepted
 
@@ -56,23 +58,28 @@ entries_are view c l request p a = ap (entries_of_outcome c l request) a.outcome
 next_name : (view : LinkView) (c : LayerSettings) (l : Layer) (request : LayerRequest) (p : Putting) (h : ℕ) (a : IsAccepted view c l request p) → name_of a.next h ≡ name_of p.layer h
 next_name view c l request p h a = sym (rounds_name view c (begin a.next a.packet) h) ∙ ap (λ (s : Putting). name_of s.layer h) a.step
 
+next_params : (view : LinkView) (c : LayerSettings) (l : Layer) (request : LayerRequest) (p : Putting) (h : ℕ) (a : IsAccepted view c l request p) → (a.next.circuits h).params ≡ (p.layer.circuits h).params
+next_params view c l request p h a = sym (rounds_params view c (begin a.next a.packet) h) ∙ ap (λ (s : Putting). (s.layer.circuits h).params) a.step
+
 pub asked_entry : (view : LinkView) (c : LayerSettings) (l : Layer) (h : ℕ) (request : circuit.Request) (p : Putting) → calls view c l (Asks h request) ≡ Went p
-    → entries_of_outcome c l (Asks h request) (layer_outcome c (view.waits [] == 256) l (Asks h request)) ≡ of_channel (record { channel = h; name = name_of p.layer h; said = Asked request }) ∷ []
+    → entries_of_outcome c l (Asks h request) (layer_outcome c (view.waits [] == 256) l (Asks h request)) ≡ of_channel (record { channel = h; name = name_of p.layer h; said = Asked (shown (p.layer.circuits h) request) }) ∷ []
 asked_entry view c l h request p is =
     let a = accepted view c l (Asks h request) p is in
-    entries_are view c l (Asks h request) p a ∙ ap (λ n. of_channel (record { channel = h; name = n; said = Asked request }) ∷ []) (next_name view c l (Asks h request) p h a)
+    entries_are view c l (Asks h request) p a
+    ∙ ap (λ n. of_channel (record { channel = h; name = n; said = Asked (shown (a.next.circuits h) request) }) ∷ []) (next_name view c l (Asks h request) p h a)
+    ∙ ap (λ q. of_channel (record { channel = h; name = name_of p.layer h; said = Asked q }) ∷ []) (same_shown (a.next.circuits h) (p.layer.circuits h) request (next_params view c l (Asks h request) p h a))
 
-pub dialled_entry : (view : LinkView) (c : LayerSettings) (l : Layer) (h : ℕ) (called calling user : List ℕ) (p : Putting) → calls view c l (Dials called calling user) ≡ Went p → free_channel c.circuit.role l.circuits c.channels ≡ Some h
-    → entries_of_outcome c l (Dials called calling user) (layer_outcome c (view.waits [] == 256) l (Dials called calling user))
-    ≡ of_channel (record { channel = h; name = name_of p.layer h; said = Asked (circuit.Calls called calling user) }) ∷ []
-dialled_entry view c l h called calling user p is free =
-    let a = accepted view c l (Dials called calling user) p is in
-    entries_are view c l (Dials called calling user) p a
+pub dialled_entry : (view : LinkView) (c : LayerSettings) (l : Layer) (h : ℕ) (called calling user : List ℕ) (params : Params) (p : Putting) → calls view c l (Dials called calling user params) ≡ Went p → free_channel c.circuit.role l.circuits c.channels ≡ Some h
+    → entries_of_outcome c l (Dials called calling user params) (layer_outcome c (view.waits [] == 256) l (Dials called calling user params))
+    ≡ of_channel (record { channel = h; name = name_of p.layer h; said = Asked (circuit.Calls called calling user params) }) ∷ []
+dialled_entry view c l h called calling user params p is free =
+    let a = accepted view c l (Dials called calling user params) p is in
+    entries_are view c l (Dials called calling user params) p a
     ∙ ap (λ (o : Option ℕ). of_dial a.next o) free
-    ∙ ap (λ n. of_channel (record { channel = h; name = n; said = Asked (circuit.Calls called calling user) }) ∷ []) (next_name view c l (Dials called calling user) p h a)
+    ∙ ap (λ n. of_channel (record { channel = h; name = n; said = Asked (circuit.Calls called calling user params) }) ∷ []) (next_name view c l (Dials called calling user params) p h a)
   where
     of_dial : Layer → Option ℕ → List StationEntry
-    of_dial next o = of_channels (entry_of_dial next o (circuit.Calls called calling user))
+    of_dial next o = of_channels (entry_of_dial next o (circuit.Calls called calling user params))
 
 pub restart_entry : (view : LinkView) (c : LayerSettings) (l : Layer) (p : Putting) → calls view c l Restarts ≡ Went p → entries_of_outcome c l Restarts (layer_outcome c (view.waits [] == 256) l Restarts) ≡ restart_asked ∷ []
 restart_entry view c l p is = entries_are view c l Restarts p (accepted view c l Restarts p is)

@@ -48,8 +48,8 @@ found (x ∷ xs) (suc k) low = let f = found xs k (omega (arith, low)) in record
 of_circuit : (c : Settings) (v : circuit_code.Circuit) (x : circuit.Circuit) → FitsCircuit (layer_settings c).circuit v x → circuit.waits x ≤ 8
 of_circuit c v x fits =
     let q = v.transfer.queue in
-    let same : wholes x.talk.rest ≡ wholes (cut_all (layer_settings c).circuit.outgoing.size (q.cutter.left ++ q.ring.items)) = ap wholes fits.talk.rest in
-    let all = all_whole (layer_settings c).circuit.outgoing.size (q.cutter.left ++ q.ring.items) in
+    let same : wholes x.talk.rest ≡ wholes (cut_all (circuit.outgoing x).size (q.cutter.left ++ q.ring.items)) = ap wholes fits.talk.rest in
+    let all = all_whole (circuit.outgoing x).size (q.cutter.left ++ q.ring.items) in
     let size : length (q.cutter.left ++ q.ring.items) ≡ length q.cutter.left + length q.ring.items = length-append q.cutter.left q.ring.items in
     omega (arith, same, all, size, q.few)
 

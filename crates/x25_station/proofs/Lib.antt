@@ -10,6 +10,7 @@ pub mod DownLemmas
 pub mod LinkLemmas
 pub mod NameLemmas
 pub mod AskLemmas
+pub mod ShownLemmas
 pub mod AskedEntryLemmas
 pub mod EnteredLemmas
 pub mod TellLemmas

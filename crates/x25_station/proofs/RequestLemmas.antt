@@ -3,7 +3,8 @@ use Rattle.std.proofs.Common.{◌≡◌, ℕ, List, ◌++◌, Option, Some, None
 use Rattle.x25_packet.specs.PlainPacket.{PlainPacket}
 use Rattle.x25_circuit.specs.declared.state.State.{State}
 use Rattle.x25_circuit.specs.declared.state.State.TheVariants.{Free, Calling, Arriving, Collision, Open, Resetting, Clearing}
-use Rattle.x25_circuit.specs.Circuit.{Settings, Talk, Circuit, waits}
+use Rattle.x25_circuit.specs.declared.params.Params.{Params}
+use Rattle.x25_circuit.specs.Circuit.{Settings, Talk, Circuit, outgoing, waits}
 use Rattle.x25_circuit.specs.Messages.{cut}
 use Rattle.x25_circuit.specs.declared.error.CircuitError.TheVariants as circuit
 use Rattle.x25_circuit.specs.Calls.{Outcome, Done, Refused, Request, Calls, Accepts, Clears, Sends, Interrupts, Resets, SaysReady, SaysNotReady, keeps_on, send_open, send_in, outcome}
@@ -35,7 +36,7 @@ send_open_none : (c : Settings) (x : Circuit) (q : Bool) (user : List ℕ) → G
 send_open_none c x q user = by_if (nat_le (length user) 65535) _ (Refused circuit.TooLong) (by_if (nat_lt (waits x) 8) (keeps_on x (sending c x q user) None) (Refused circuit.Full) tt tt) tt
   where
     sending : Settings → Circuit → Bool → List ℕ → Talk
-    sending c x q user = record { sent = x.talk.sent; taken = x.talk.taken; acked = x.talk.acked; rest = x.talk.rest ++ cut c.outgoing.size q user; int_out = x.talk.int_out; peer_ready = x.talk.peer_ready; own_ready = x.talk.own_ready }
+    sending c x q user = record { sent = x.talk.sent; taken = x.talk.taken; acked = x.talk.acked; rest = x.talk.rest ++ cut (outgoing x).size q user; int_out = x.talk.int_out; peer_ready = x.talk.peer_ready; own_ready = x.talk.own_ready }
 
 send_none : (c : Settings) (x : Circuit) (q : Bool) (user : List ℕ) → GivesNone (outcome c x (Sends q user))
 send_none c x q user = at x.state
@@ -58,8 +59,8 @@ if_channel false u none = tt
 asks_none : (c : LayerSettings) (restarts : ℕ) (circuits : ℕ → Circuit) (h : ℕ) (request : Request)
     → PutsNone (if_at_once (puts_at_once request) true (outcome_on restarts circuits h (outcome c.circuit (circuits h) request)))
 asks_none c restarts circuits h (Sends q user) = on_none restarts circuits h (outcome c.circuit (circuits h) (Sends q user)) (send_none c.circuit (circuits h) q user)
-asks_none c restarts circuits h (Calls called calling user) = tt
-asks_none c restarts circuits h Accepts = tt
+asks_none c restarts circuits h (Calls called calling user params) = tt
+asks_none c restarts circuits h (Accepts answer) = tt
 asks_none c restarts circuits h Clears = tt
 asks_none c restarts circuits h (Interrupts user) = tt
 asks_none c restarts circuits h Resets = tt
@@ -69,9 +70,9 @@ asks_none c restarts circuits h SaysNotReady = tt
 ready_none : (c : LayerSettings) (restarts : ℕ) (circuits : ℕ → Circuit) (request : LayerRequest) → PutsNone (outcome_ready c true restarts circuits request)
 ready_none c restarts circuits (Asks h request) =
     if_channel (is_channel c.channels h) (if_at_once (puts_at_once request) true (outcome_on restarts circuits h (outcome c.circuit (circuits h) request))) (asks_none c restarts circuits h request)
-ready_none c restarts circuits (Dials called calling user) = by (free_channel c.circuit.role circuits c.channels)
+ready_none c restarts circuits (Dials called calling user params) = by (free_channel c.circuit.role circuits c.channels)
   where
-    by : (o : Option ℕ) → PutsNone (dialled c true restarts circuits o called calling user)
+    by : (o : Option ℕ) → PutsNone (dialled c true restarts circuits o called calling user params)
     by None = tt
     by (Some h) = tt
 ready_none c restarts circuits Restarts = tt

@@ -10,10 +10,12 @@ use Rattle.x25_packet.specs.ReadingLaw.{ReadsWhatIsSpelled}
 use Rattle.x25_circuit.specs.declared.message.Message.{Message}
 use Rattle.x25_circuit.specs.declared.state.State.{State}
 use Rattle.x25_circuit.specs.declared.state.State.TheVariants.{Free, Calling, Arriving, Collision, Open, Resetting, Clearing}
-use Rattle.x25_circuit.specs.Circuit.{Settings as CircuitSettings, Circuit, Talk}
+use Rattle.x25_circuit.specs.declared.params.Params.{Params}
+use Rattle.x25_circuit.specs.Params.{default_params, may_answer, said_in}
+use Rattle.x25_circuit.specs.Circuit.{Settings as CircuitSettings, Circuit, Talk, incoming}
 use Rattle.x25_circuit.specs.Messages.{piece_of, no_part, joining, completed}
-use Rattle.x25_circuit.specs.Notices.{CallRequest, PlainNotice, deliveries}
-use Rattle.x25_circuit.specs.Table.{Answer, answers, undecoded, unless_facilities, collides, row_call, row_accept, row_clear, row_clear_conf, row_reset, row_reset_conf, row_open, row_data, row_undecoded, unless, data_ground, number_ground, takes, hears_status, confirms}
+use Rattle.x25_circuit.specs.Notices.{CallRequest, PlainNotice, connected, deliveries}
+use Rattle.x25_circuit.specs.Table.{Answer, answers, undecoded, collides, goes, clears_for, connects, row_call, row_accept, row_clear, row_clear_conf, row_reset, row_reset_conf, row_open, row_data, row_undecoded, unless, data_ground, number_ground, takes, hears_status, confirms}
 use Rattle.x25_layer.specs.Layer.{LayerSettings, Layer, LayerAnswer, is_channel, notices_on, answers_on, drops, answers_ready, answers_restarting, answers_in, undecoded_in}
 use Rattle.x25_layer.specs.Rounds.{longest_user, undecoded_at, answer_to}
 use Rattle.x25_station.specs.Receiving.{IsShort, AreTellable}
@@ -45,28 +47,31 @@ range_short restart_conf r = tt
 
 -- ---- the rows of a circuit
 
-facilities_short : (c : CircuitSettings) (x : Circuit) (facilities : List ℕ) (good : Answer) → AreShort good.notices → AreShort (unless_facilities c x facilities good).notices
-facilities_short c x [] good short = short
-facilities_short c x (code ∷ rest) good short = (tt, tt)
-
 collides_short : (role : Role) (x : Circuit) (request : CallRequest) → length request.user ≤ 32 → AreShort (collides role x request).notices
 collides_short Dte x request short = tt
 collides_short Dce x request short = (tt, (short, tt))
 
-call_short : (c : CircuitSettings) (x : Circuit) (state : State) (request : CallRequest) (facilities : List ℕ) → length request.user ≤ 32 → AreShort (row_call c x state request facilities).notices
-call_short c x Free request facilities short = facilities_short c x facilities _ (short, tt)
-call_short c x Calling request facilities short = facilities_short c x facilities _ (collides_short c.role x request short)
-call_short c x Arriving request facilities short = (tt, tt)
-call_short c x Collision request facilities short = (tt, tt)
-call_short c x Open request facilities short = (tt, tt)
-call_short c x Resetting request facilities short = (tt, tt)
-call_short c x Clearing request facilities short = tt
+call_short : (c : CircuitSettings) (x : Circuit) (state : State) (request : CallRequest) → length request.user ≤ 32 → AreShort (row_call c x state request).notices
+call_short c x Free request short = (short, tt)
+call_short c x Calling request short = collides_short c.role x request short
+call_short c x Arriving request short = (tt, tt)
+call_short c x Collision request short = (tt, tt)
+call_short c x Open request short = (tt, tt)
+call_short c x Resetting request short = (tt, tt)
+call_short c x Clearing request short = tt
+
+connects_short : (c : CircuitSettings) (x : Circuit) (answered : Params) → AreShort (connects c x answered).notices
+connects_short c x answered = test (may_answer x.params answered)
+  where
+    test : (b : Bool) → AreShort (let a : Answer = if b then goes x Open answered true None (connected answered ∷ []) else clears_for c x 3 66 in a.notices)
+    test true = (tt, tt)
+    test false = (tt, tt)
 
 accept_short : (c : CircuitSettings) (x : Circuit) (state : State) (facilities : List ℕ) → AreShort (row_accept c x state facilities).notices
 accept_short c x Free facilities = (tt, tt)
-accept_short c x Calling facilities = facilities_short c x facilities _ (tt, tt)
+accept_short c x Calling facilities = connects_short c x (said_in x.params facilities)
 accept_short c x Arriving facilities = (tt, tt)
-accept_short c x Collision facilities = facilities_short c x facilities _ (tt, tt)
+accept_short c x Collision facilities = connects_short c x (said_in x.params facilities)
 accept_short c x Open facilities = (tt, tt)
 accept_short c x Resetting facilities = (tt, tt)
 accept_short c x Clearing facilities = tt
@@ -130,7 +135,7 @@ IsOfData packet = ⊥
 
 open_short : (c : CircuitSettings) (x : Circuit) (t : Talk) (p : PlainPacket) → IsOfData p → IsShortPacket p → AreShort (row_open c x t p).notices
 open_short c x t (user_data channel q m ps pr user) kind short =
-    unless_short c x (data_ground c.incoming.size t ps pr (piece_of q m user)) (takes x t pr (piece_of q m user)) (deliveries_short (completed (joining no_part t.taken) (piece_of q m user)))
+    unless_short c x (data_ground (incoming x).size t ps pr (piece_of q m user)) (takes x t pr (piece_of q m user)) (deliveries_short (completed (joining no_part t.taken) (piece_of q m user)))
 open_short c x t (rr channel pr) kind short = unless_short c x (number_ground t pr) (hears_status x t true pr) tt
 open_short c x t (rnr channel pr) kind short = unless_short c x (number_ground t pr) (hears_status x t false pr) tt
 open_short c x t (interrupt channel user) kind short = (short, tt)
@@ -154,7 +159,7 @@ data_short c x Resetting p kind short = tt
 data_short c x Clearing p kind short = tt
 
 answers_short : (c : CircuitSettings) (x : Circuit) (p : PlainPacket) → IsShortPacket p → AreShort (answers c x p).notices
-answers_short c x (call channel called calling facilities user) short = call_short c x x.state (record { called = called; calling = calling; user = user }) facilities short
+answers_short c x (call channel called calling facilities user) short = call_short c x x.state (record { called = called; calling = calling; user = user; params = said_in default_params facilities }) short
 answers_short c x (accept channel facilities) short = accept_short c x x.state facilities
 answers_short c x (clear channel cause diagnostic) short = clear_short x x.state cause diagnostic
 answers_short c x (clear_conf channel) short = clear_conf_short c x x.state

@@ -11,6 +11,7 @@ use Rattle.x25_link.specs.Station.{with_nothing, fresh, pumped}
 use Rattle.x25_link.specs.MustSend.{Step as LinkStep}
 use Rattle.x25_link.specs.Steps.{alone, goes_up}
 use Rattle.x25_circuit.specs.declared.state.State.TheVariants.{Open}
+use Rattle.x25_circuit.specs.Params.{default_params}
 use Rattle.x25_circuit.specs.Circuit.{silent, begun}
 use Rattle.x25_circuit.specs.Calls.{Calls, Sends}
 use Rattle.x25_epochs.specs.Names.{Name}
@@ -87,11 +88,11 @@ ready = record { link = fresh; layer = layer.is_ready 1 (λ k. begun) }
 abbrev name_1 : Name
 name_1 = record { restarts = 1; clears = 0; resets = 0 }
 
-row_call : frames_in (commands dte ready (Requests (Dials (49 ∷ []) (50 ∷ []) (65 ∷ [])))) ≡ info 0 0 false (16 ∷ 1 ∷ 11 ∷ 17 ∷ 18 ∷ 0 ∷ 65 ∷ []) ∷ []
+row_call : frames_in (commands dte ready (Requests (Dials (49 ∷ []) (50 ∷ []) (65 ∷ []) default_params))) ≡ info 0 0 false (16 ∷ 1 ∷ 11 ∷ 17 ∷ 18 ∷ 0 ∷ 65 ∷ []) ∷ []
 unfolding pumped packed
 row_call = refl
 
-row_call_entry : entries_in (commands dte ready (Requests (Dials (49 ∷ []) (50 ∷ []) (65 ∷ [])))) ≡ of_channel (record { channel = 1; name = name_1; said = Asked (Calls (49 ∷ []) (50 ∷ []) (65 ∷ [])) }) ∷ []
+row_call_entry : entries_in (commands dte ready (Requests (Dials (49 ∷ []) (50 ∷ []) (65 ∷ []) default_params))) ≡ of_channel (record { channel = 1; name = name_1; said = Asked (Calls (49 ∷ []) (50 ∷ []) (65 ∷ []) default_params) }) ∷ []
 unfolding pumped packed
 row_call_entry = refl
 
@@ -100,7 +101,7 @@ unfolding pumped
 row_restart = refl
 
 abbrev with_call : Station
-with_call = record { link = fresh; layer = layer.is_ready 1 (λ k. record { state = Open; clears = 0; resets = 0; talk = silent }) }
+with_call = record { link = fresh; layer = layer.is_ready 1 (λ k. record { state = Open; clears = 0; resets = 0; params = default_params; calls = true; talk = silent }) }
 
 -- a message goes at once, in one packet
 row_send : frames_in (commands dte with_call (Requests (Asks 1 (Sends false (104 ∷ 105 ∷ []))))) ≡ info 0 0 false (16 ∷ 1 ∷ 0 ∷ 104 ∷ 105 ∷ []) ∷ []

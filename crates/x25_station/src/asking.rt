@@ -1,11 +1,13 @@
 //! What the user asks of the packet layer: the layer's call, and its entry.
-ghost use Rattle.std.specs.Prelude.{◌≡◌, ◌<◌, ◌≤◌, ◌++◌, [], ◌∷◌, map, vec_len, vec_capacity, true, string_bytes, IfOk, IfErr, OnErr};
-ghost use Rattle.x25_circuit.specs.Calls.{Calls, Sends as CircuitSends};
+ghost use Rattle.std.specs.Prelude.{◌≡◌, ◌<◌, ◌≤◌, ◌++◌, [], ◌∷◌, Some, map, vec_len, vec_capacity, true, string_bytes, IfOk, IfErr, OnErr};
+ghost use Rattle.x25_circuit.specs.Circuit.{Circuit};
+ghost use Rattle.x25_circuit.specs.Calls.{Calls, Accepts, Sends as CircuitSends};
 ghost use Rattle.x25_circuit.specs.Requests.{plain_request};
 ghost use Rattle.x25_layer.specs.Layer.{Layer as LayerState, LayerSettings, is_channel};
 ghost use Rattle.x25_layer.specs.Calls.{Asks, Dials, Restarts};
 ghost use Rattle.x25_layer.specs.FitsLayer.{FitsLayer};
 ghost use Rattle.x25_layer.specs.Transcript.{name_of};
+ghost use Rattle.x25_layer.specs.World.{shown};
 ghost use Rattle.x25_station.specs.Command.{command_of};
 ghost use Rattle.x25_station.specs.Entries.{of_channel};
 ghost use Rattle.x25_station.specs.FitsStation.{FitsStation, Leaves, Sends, Enters, Refuses};
@@ -22,7 +24,8 @@ use crate::law::steps_keep_bounds;
 use crate::station::Station;
 use crate::step::Step;
 use std::alloc::Global;
-use x25_circuit::Request;
+use x25_circuit::{Proposal, Request};
+use x25_layer::{Layer, Params};
 use x25_link::holds_few;
 
 // A copy of octets, for an entry or a message.
@@ -47,9 +50,9 @@ fn copied_text(alloc: Global, text: &str) -> Result<String, StationError>
     }
 }
 
-// What is asked of a channel, for an entry.
+// What is asked of a channel, for an entry. Which packet sizes and windows an acceptance shows is known once it is done.
 fn asked_of(alloc: Global, request: &Request<'_>) -> Result<Asked, StationError>
-    ensures ok { IfOk result (λ asked. plain_asked asked ≡ plain_request request.now) }
+    ensures ok { IfOk result (λ asked. (x : Circuit) → shown x (plain_asked asked) ≡ shown x (plain_request request.now)) }
     ensures err { IfErr result (λ e. e ≡ StationError.NoMemory) }
 {
     match request {
@@ -57,8 +60,11 @@ fn asked_of(alloc: Global, request: &Request<'_>) -> Result<Asked, StationError>
             called,
             calling,
             user,
-        } => asked_call(alloc, called, calling, user),
-        Request::Accept => Ok(Asked::Accept),
+            proposal,
+        } => asked_call(alloc, called, calling, user, proposal.params()),
+        Request::Accept { .. } => Ok(Asked::Accept {
+            params: Params::default(),
+        }),
         Request::Clear => Ok(Asked::Clear),
         Request::Send { q, user } => Ok(Asked::Send {
             q: *q,
@@ -79,8 +85,9 @@ fn asked_call(
     called: &str,
     calling: &str,
     user: &[u8],
+    params: Params,
 ) -> Result<Asked, StationError>
-    ensures ok { IfOk result (λ asked. plain_asked asked ≡ Calls called.now calling.now user.now) }
+    ensures ok { IfOk result (λ asked. plain_asked asked ≡ Calls called.now calling.now user.now params) }
     ensures err { IfErr result (λ e. e ≡ StationError.NoMemory) }
 {
     let called = copied_text(alloc, called)?;
@@ -90,7 +97,20 @@ fn asked_call(
         called,
         calling,
         user,
+        params,
     })
+}
+
+// An acceptance shows the packet sizes and windows in force on its channel.
+fn as_shown(layer: &Layer, channel: u16, asked: Asked) -> Asked
+    ensures { (c : LayerSettings) (l : LayerState) → FitsLayer c layer.now l → is_channel c.channels channel ≡ true → plain_asked result ≡ shown (l.circuits channel) (plain_asked asked) }
+{
+    match asked {
+        Asked::Accept { params } => Asked::Accept {
+            params: layer.params(channel).unwrap_or(params),
+        },
+        asked => asked,
+    }
 }
 
 impl Station {
@@ -114,8 +134,15 @@ impl Station {
                 called,
                 calling,
                 user,
-            } => self.call(called, calling, user),
-            Cmd::Accept { channel } => self.ask(channel, Request::Accept),
+            } => self.call(called, calling, user, Params::default()),
+            Cmd::CallWith {
+                called,
+                calling,
+                user,
+                params,
+            } => self.call(called, calling, user, params),
+            Cmd::Accept { channel } => self.ask(channel, Request::Accept { answer: None }),
+            Cmd::AcceptWith { channel, params } => self.accept_with(channel, params),
             Cmd::Clear { channel } => self.ask(channel, Request::Clear),
             Cmd::Send { channel, q, user } => self.send(channel, q, user),
             Cmd::Interrupt { channel, user } => self.ask(channel, Request::Interrupt { user }),
@@ -127,23 +154,51 @@ impl Station {
         }
     }
 
+    // An acceptance, with packet sizes and windows of its own.
+    fn accept_with(&mut self, channel: u16, params: Params) -> Result<Step, StationError>
+        ensures state { (c : Settings) (s : State) → FitsStation c self.old s → Leaves c self.new result (requests c s (Asks channel (Accepts (Some params)))) }
+        ensures frames { (c : Settings) (s : State) → FitsStation c self.old s → Sends c result (requests c s (Asks channel (Accepts (Some params)))) }
+        ensures entries { (c : Settings) (s : State) → FitsStation c self.old s → Enters result (requests c s (Asks channel (Accepts (Some params)))) }
+        ensures refused { (c : Settings) (s : State) → FitsStation c self.old s → Refuses result (requests c s (Asks channel (Accepts (Some params)))) }
+        ensures stays { (c : Settings) (s : State) → FitsStation c self.old s → OnErr result (FitsStation c self.new s) }
+        ensures few_frames { IfOk result (λ answer. vec_len answer.frames ≤ 17) }
+        ensures few_entries { IfOk result (λ answer. vec_len answer.entries ≤ 3) }
+    {
+        let answer = Proposal::new(params);
+        self.ask(
+            channel,
+            Request::Accept {
+                answer: Some(&answer),
+            },
+        )
+    }
+
     // A call, on a channel that is free.
-    fn call(&mut self, called: &str, calling: &str, user: &[u8]) -> Result<Step, StationError>
-        ensures state { (c : Settings) (s : State) → FitsStation c self.old s → Leaves c self.new result (requests c s (Dials called.now calling.now user.now)) }
-        ensures frames { (c : Settings) (s : State) → FitsStation c self.old s → Sends c result (requests c s (Dials called.now calling.now user.now)) }
-        ensures entries { (c : Settings) (s : State) → FitsStation c self.old s → Enters result (requests c s (Dials called.now calling.now user.now)) }
-        ensures refused { (c : Settings) (s : State) → FitsStation c self.old s → Refuses result (requests c s (Dials called.now calling.now user.now)) }
+    fn call(
+        &mut self,
+        called: &str,
+        calling: &str,
+        user: &[u8],
+        params: Params,
+    ) -> Result<Step, StationError>
+        ensures state { (c : Settings) (s : State) → FitsStation c self.old s → Leaves c self.new result (requests c s (Dials called.now calling.now user.now params)) }
+        ensures frames { (c : Settings) (s : State) → FitsStation c self.old s → Sends c result (requests c s (Dials called.now calling.now user.now params)) }
+        ensures entries { (c : Settings) (s : State) → FitsStation c self.old s → Enters result (requests c s (Dials called.now calling.now user.now params)) }
+        ensures refused { (c : Settings) (s : State) → FitsStation c self.old s → Refuses result (requests c s (Dials called.now calling.now user.now params)) }
         ensures stays { (c : Settings) (s : State) → FitsStation c self.old s → OnErr result (FitsStation c self.new s) }
         ensures few_frames { IfOk result (λ answer. vec_len answer.frames ≤ 17) }
         ensures few_entries { IfOk result (λ answer. vec_len answer.entries ≤ 3) }
     {
         steps_keep_bounds();
         holds_few();
-        let asked = asked_call(self.alloc, called, calling, user)?;
+        let asked = asked_call(self.alloc, called, calling, user, params)?;
         let Ok(mut entries) = Vec::with_capacity(self.alloc, 1) else {
             return Err(StationError::NoMemory);
         };
-        match self.layer.call(&mut self.link, called, calling, user) {
+        match self
+            .layer
+            .call_with(&mut self.link, called, calling, user, params)
+        {
             Ok(channel) => {
                 enter(&self.layer, &mut entries, channel, Said::Asked(asked));
                 let frames = self.link.sent();
@@ -185,6 +240,7 @@ impl Station {
         };
         match self.layer.ask(&mut self.link, channel, request) {
             Ok(()) => {
+                let asked = as_shown(&self.layer, channel, asked);
                 enter(&self.layer, &mut entries, channel, Said::Asked(asked));
                 let frames = self.link.sent();
                 Ok(Step { frames, entries })

@@ -1,10 +1,9 @@
 use Rattle.std.proofs.Common.{◌≡◌, ◌≤◌, vec_len, vec_capacity}
-use Rattle.x25_circuit.specs.Circuit.{usual}
 use Rattle.x25_layer.specs.Layer.{at_rest}
 use Rattle.x25_layer.specs.FitsLayer.{FitsCircuits}
 use Rattle.x25_layer.proofs.circuits.begun_circuits.Given as goal
 
 abbrev pub invariant-loop : goal.invariant-loop
-invariant-loop l = FitsCircuits (record { channels = l.channels; circuit = record { role = l.role; outgoing = usual; incoming = usual } }) l.circuits.items at_rest.circuits
+invariant-loop l = FitsCircuits (record { channels = l.channels; circuit = record { role = l.role } }) l.circuits.items at_rest.circuits
     × (vec_len l.circuits ≡ l.counter)
     × (l.channels ≤ vec_capacity l.circuits)

@@ -3,7 +3,7 @@ use Rattle.x25_layer.proofs.ClearLemmas.{never_in_p1}
 use Rattle.x25_layer.proofs.CountLemmas.{always_counted}
 use Rattle.x25_layer.proofs.law.names_are_told.Goals as goal
 
--- the nested handshakes, by their contract
+-- the nested handshakes, and packet sizes and windows, by their contracts
 known : goal.After-keeps_order → Premises
 known c = record {
   quiet = c.keeps_order.ensures.quiet;
@@ -11,6 +11,7 @@ known c = record {
   interrupts = c.keeps_order.ensures.interrupts;
   calls = c.keeps_order.ensures.calls;
   arrived = c.keeps_order.ensures.arrived;
+  params = record { said = c.values_are_agreed.ensures.said; allowed = c.values_are_agreed.ensures.allowed; answered = c.values_are_agreed.ensures.answer };
 }
 
 pub returns-clause-names : goal.returns-clause-names

@@ -2,7 +2,7 @@ use Rattle.x25_layer.proofs.RunLemmas.{Premises}
 use Rattle.x25_layer.proofs.LawLemmas.{always_in_order, always_quiet, always_lawful, always_arrives}
 use Rattle.x25_layer.proofs.law.two_layers_keep_order.Goals as goal
 
--- the nested handshakes, by their contract
+-- the nested handshakes, and packet sizes and windows, by their contracts
 known : goal.After-keeps_order → Premises
 known c = record {
   quiet = c.keeps_order.ensures.quiet;
@@ -10,6 +10,7 @@ known c = record {
   interrupts = c.keeps_order.ensures.interrupts;
   calls = c.keeps_order.ensures.calls;
   arrived = c.keeps_order.ensures.arrived;
+  params = record { said = c.values_are_agreed.ensures.said; allowed = c.values_are_agreed.ensures.allowed; answered = c.values_are_agreed.ensures.answer };
 }
 
 pub returns-clause-order : goal.returns-clause-order

@@ -60,6 +60,16 @@ returns-then-is_err-clause-left c =
     subst (λ (vs : List circuit_code.Circuit). HaveCountsLeft vs) (sym all)
     (all_changed (λ (k : ℕ) (v : circuit_code.Circuit). HasCountsLeft v) c.loop-circuit.circuit-items i c.room.new.self before (counts_left _ c.room.new.self c.room.ensures.clears c.room.ensures.resets (before i _ found)))
 
+-- no memory is taken where there is enough
+pub returns-then-is_err-clause-enough : goal.returns-then-is_err-clause-enough
+returns-then-is_err-clause-enough c = λ enough.
+    let i : ℕ = c.loop-circuit.circuit-index in
+    let found = slice_get-get_or c.loop-circuit.circuit-items i c.circuit-item.result (omega arith) in
+    let before = c.loop-circuit.invariant.enough (subst (λ (vs : List circuit_code.Circuit). HaveRoom c.args.len vs) (sym c.deref_mut-circuit-items.ensures.value) enough) in
+    let here = before i _ found in
+    let missing = c.room.ensures.missing in
+    search (rules, arith)
+
 -- ---- at the end
 
 pub returns-clause-fits : goal.returns-clause-fits
@@ -67,6 +77,12 @@ returns-clause-fits c =
     let all = written_back c.args.circuits.now.len c.args.circuits.now.items c.loop-circuit.circuit-items (omega arith) (omega arith) in
     λ s f fits. subst (λ (vs : List circuit_code.Circuit). FitsCircuits s vs f) (sym all)
     (c.loop-circuit.invariant.fits s f (subst (λ (vs : List circuit_code.Circuit). FitsCircuits s vs f) (sym c.deref_mut-circuit-items.ensures.value) fits))
+
+pub returns-clause-left : goal.returns-clause-left
+returns-clause-left c =
+    let all = written_back c.args.circuits.now.len c.args.circuits.now.items c.loop-circuit.circuit-items (omega arith) (omega arith) in
+    λ left. subst (λ (vs : List circuit_code.Circuit). HaveCountsLeft vs) (sym all)
+    (c.loop-circuit.invariant.left (subst (λ (vs : List circuit_code.Circuit). HaveCountsLeft vs) (sym c.deref_mut-circuit-items.ensures.value) left))
 
 pub returns-clause-room : goal.returns-clause-room
 returns-clause-room c =

@@ -1,21 +1,22 @@
 use Rattle.std.proofs.Common.{◌≡◌, ℕ, List, ap, sym, subst, ◌∙◌}
 use Rattle.std.proofs.lemmas.List.{take_all}
 use Rattle.x25_circuit.specs.declared.notice.Notice.{Notice}
+use Rattle.x25_circuit.specs.declared.params.Params.{Params}
 use Rattle.x25_circuit.specs.Notices.{incoming, interrupted}
 use Rattle.x25_circuit.specs.Replies.{plain_notice}
 use Rattle.x25_station.specs.Receiving.{IsShort}
 use Rattle.x25_station.proofs.entering.told_of.Goals as goal
 
-incoming_is : (a b k d u v : List ℕ) → a ≡ b → k ≡ d → u ≡ v → incoming (record { called = a; calling = k; user = u }) ≡ incoming (record { called = b; calling = d; user = v })
-incoming_is a b k d u v p q r =
-    ap (λ (x : List ℕ). incoming (record { called = x; calling = k; user = u })) p
-    ∙ ap (λ (x : List ℕ). incoming (record { called = b; calling = x; user = u })) q
-    ∙ ap (λ (x : List ℕ). incoming (record { called = b; calling = d; user = x })) r
+incoming_is : (a b k d u v : List ℕ) (params : Params) → a ≡ b → k ≡ d → u ≡ v → incoming (record { called = a; calling = k; user = u; params = params }) ≡ incoming (record { called = b; calling = d; user = v; params = params })
+incoming_is a b k d u v params p q r =
+    ap (λ (x : List ℕ). incoming (record { called = x; calling = k; user = u; params = params })) p
+    ∙ ap (λ (x : List ℕ). incoming (record { called = b; calling = x; user = u; params = params })) q
+    ∙ ap (λ (x : List ℕ). incoming (record { called = b; calling = d; user = x; params = params })) r
 
 pub returns-in-Incoming : goal.returns-in-Incoming
 returns-in-Incoming c = λ short.
     let now = subst (λ (n : Notice). IsShort (plain_notice n)) c.in-Incoming.is short in
-    incoming_is _ _ _ _ _ _ c.kept_digits-called.ensures.copy c.kept_digits-calling.ensures.copy (c.kept-user.ensures.copy ∙ take_all 32 c.in-Incoming.user.now now)
+    incoming_is _ _ _ _ _ _ c.in-Incoming.params c.kept_digits-called.ensures.copy c.kept_digits-calling.ensures.copy (c.kept-user.ensures.copy ∙ take_all 32 c.in-Incoming.user.now now)
     ∙ sym (ap plain_notice c.in-Incoming.is)
 
 pub returns-in-Interrupted : goal.returns-in-Interrupted

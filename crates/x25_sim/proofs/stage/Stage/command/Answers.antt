@@ -3,9 +3,3 @@ use Rattle.x25_sim.proofs.stage.Stage.command.Goals as goal
 
 pub returns-in_default-clause-turns : goal.returns-in_default-clause-turns
 returns-in_default-clause-turns g c = λ cfg tap old w told refused h. begins_more _ _ _ told _ h.tells
-
-pub returns-in_default-octets_of-clause-turns : goal.returns-in_default-octets_of-clause-turns
-returns-in_default-octets_of-clause-turns g c = λ cfg tap old w told refused h. begins_more _ _ _ told _ h.tells
-
-pub returns-in_default-octets_of-2-clause-turns : goal.returns-in_default-octets_of-2-clause-turns
-returns-in_default-octets_of-2-clause-turns g c = λ cfg tap old w told refused h. begins_more _ _ _ told _ h.tells

@@ -51,8 +51,8 @@ returns-in-Ok-ask-clause-entries c = λ c' s fits.
     let h = c.args.channel in
     asked_enters c.in-Ok-ask.field-0 c' _ _ c.ask.new.self s (record { frames = c.sent-frames.result; entries = c.enter.new.entries }) h (plain_request c.args.request) fits c.in-Ok-ask.ensures.layer (λ k after configured.
     c.enter.ensures.entered (layer_settings c') k after configured
-    ∙ ap (λ es. map plain_entry es ++ of_channel (record { channel = h; name = name_of k h; said = plain_said (said.Asked c.in_ok-asked.asked) }) ∷ []) c.in-Ok.ensures.items
-    ∙ ap (λ q. of_channel (record { channel = h; name = name_of k h; said = Asked q }) ∷ []) c.in_ok-asked.ensures.ok)
+    ∙ ap (λ es. map plain_entry es ++ of_channel (record { channel = h; name = name_of k h; said = plain_said (said.Asked c.as_shown-asked.result) }) ∷ []) c.in-Ok.ensures.items
+    ∙ ap (λ q. of_channel (record { channel = h; name = name_of k h; said = Asked q }) ∷ []) (c.as_shown-asked.ensures (layer_settings c') k after configured ∙ c.in_ok-asked.ensures.ok (k.circuits h)))
 
 pub returns-in-Ok-ask-clause-refused : goal.returns-in-Ok-ask-clause-refused
 returns-in-Ok-ask-clause-refused c = λ c' s fits.

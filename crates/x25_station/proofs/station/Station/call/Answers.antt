@@ -18,57 +18,57 @@ use Rattle.x25_station.proofs.station.Station.call.Goals as goal
 pub invariant_of-self : goal.invariant_of-self
 invariant_of-self c = record {
   meant = still_meant _ _ _ _ c.args.self.now.meant (λ c' s fits.
-      let request = Dials c.args.called.now c.args.calling.now c.args.user.now in
-      let a = answers c.in-Ok-call.channel c' _ c.call.new.link c.sent-frames.new.self _ c.call.new.self (record { frames = c.sent-frames.result; entries = c.enter.new.entries }) s request fits
-      c.in-Ok-call.ensures.layer c.in-Ok-call.ensures.link c.sent-frames.ensures.station (ap (λ o. o.made) c.sent-frames.ensures.outgoing) c.sent-frames.ensures.frames
+      let request = Dials c.args.called.now c.args.calling.now c.args.user.now c.args.params in
+      let a = answers c.in-Ok-call_with.channel c' _ c.call_with.new.link c.sent-frames.new.self _ c.call_with.new.self (record { frames = c.sent-frames.result; entries = c.enter.new.entries }) s request fits
+      c.in-Ok-call_with.ensures.layer c.in-Ok-call_with.ensures.link c.sent-frames.ensures.station (ap (λ o. o.made) c.sent-frames.ensures.outgoing) c.sent-frames.ensures.frames
       (c.steps_keep_bounds.ensures.command c' s (Requests request) fits.kept) in
       leaves_some c' _ _ (record { frames = c.sent-frames.result; entries = c.enter.new.entries }) (requests c' s request) a.state a.refused);
 }
 
-pub invariant_of-self-in-Err-call : goal.invariant_of-self-in-Err-call
-invariant_of-self-in-Err-call c = record {
+pub invariant_of-self-in-Err-call_with : goal.invariant_of-self-in-Err-call_with
+invariant_of-self-in-Err-call_with c = record {
   meant = still_meant _ _ _ _ c.args.self.now.meant (λ c' s fits.
-      (c', s, still_fits c' c.args.self.now.link c.call.new.link _ c.call.new.self s fits (c.in-Err.ensures.layer_stays (layer_settings c') s.layer fits.layer) c.in-Err.ensures.link_stays));
+      (c', s, still_fits c' c.args.self.now.link c.call_with.new.link _ c.call_with.new.self s fits (c.in-Err.ensures.layer_stays (layer_settings c') s.layer fits.layer) c.in-Err.ensures.link_stays));
 }
 
-pub returns-in-Ok-call-clause-state : goal.returns-in-Ok-call-clause-state
-returns-in-Ok-call-clause-state c = λ c' s fits.
-    let request = Dials c.args.called.now c.args.calling.now c.args.user.now in
-    (answers c.in-Ok-call.channel c' _ c.call.new.link c.sent-frames.new.self _ c.call.new.self (record { frames = c.sent-frames.result; entries = c.enter.new.entries }) s request fits
-    c.in-Ok-call.ensures.layer c.in-Ok-call.ensures.link c.sent-frames.ensures.station (ap (λ o. o.made) c.sent-frames.ensures.outgoing) c.sent-frames.ensures.frames
+pub returns-in-Ok-call_with-clause-state : goal.returns-in-Ok-call_with-clause-state
+returns-in-Ok-call_with-clause-state c = λ c' s fits.
+    let request = Dials c.args.called.now c.args.calling.now c.args.user.now c.args.params in
+    (answers c.in-Ok-call_with.channel c' _ c.call_with.new.link c.sent-frames.new.self _ c.call_with.new.self (record { frames = c.sent-frames.result; entries = c.enter.new.entries }) s request fits
+    c.in-Ok-call_with.ensures.layer c.in-Ok-call_with.ensures.link c.sent-frames.ensures.station (ap (λ o. o.made) c.sent-frames.ensures.outgoing) c.sent-frames.ensures.frames
     (c.steps_keep_bounds.ensures.command c' s (Requests request) fits.kept)).state
 
-pub returns-in-Ok-call-clause-frames : goal.returns-in-Ok-call-clause-frames
-returns-in-Ok-call-clause-frames c = λ c' s fits.
-    let request = Dials c.args.called.now c.args.calling.now c.args.user.now in
-    (answers c.in-Ok-call.channel c' _ c.call.new.link c.sent-frames.new.self _ c.call.new.self (record { frames = c.sent-frames.result; entries = c.enter.new.entries }) s request fits
-    c.in-Ok-call.ensures.layer c.in-Ok-call.ensures.link c.sent-frames.ensures.station (ap (λ o. o.made) c.sent-frames.ensures.outgoing) c.sent-frames.ensures.frames
+pub returns-in-Ok-call_with-clause-frames : goal.returns-in-Ok-call_with-clause-frames
+returns-in-Ok-call_with-clause-frames c = λ c' s fits.
+    let request = Dials c.args.called.now c.args.calling.now c.args.user.now c.args.params in
+    (answers c.in-Ok-call_with.channel c' _ c.call_with.new.link c.sent-frames.new.self _ c.call_with.new.self (record { frames = c.sent-frames.result; entries = c.enter.new.entries }) s request fits
+    c.in-Ok-call_with.ensures.layer c.in-Ok-call_with.ensures.link c.sent-frames.ensures.station (ap (λ o. o.made) c.sent-frames.ensures.outgoing) c.sent-frames.ensures.frames
     (c.steps_keep_bounds.ensures.command c' s (Requests request) fits.kept)).frames
 
-pub returns-in-Ok-call-clause-entries : goal.returns-in-Ok-call-clause-entries
-returns-in-Ok-call-clause-entries c = λ c' s fits.
-    let h = c.in-Ok-call.channel in
-    dialled_enters c' _ _ c.call.new.self s (record { frames = c.sent-frames.result; entries = c.enter.new.entries }) h c.args.called.now c.args.calling.now c.args.user.now fits c.in-Ok-call.ensures.layer (c.in-Ok-call.ensures.channel (layer_settings c') s.layer fits.layer) (λ k after configured.
+pub returns-in-Ok-call_with-clause-entries : goal.returns-in-Ok-call_with-clause-entries
+returns-in-Ok-call_with-clause-entries c = λ c' s fits.
+    let h = c.in-Ok-call_with.channel in
+    dialled_enters c' _ _ c.call_with.new.self s (record { frames = c.sent-frames.result; entries = c.enter.new.entries }) h c.args.called.now c.args.calling.now c.args.user.now c.args.params fits c.in-Ok-call_with.ensures.layer (c.in-Ok-call_with.ensures.channel (layer_settings c') s.layer fits.layer) (λ k after configured.
     c.enter.ensures.entered (layer_settings c') k after configured
     ∙ ap (λ es. map plain_entry es ++ of_channel (record { channel = h; name = name_of k h; said = plain_said (said.Asked c.in_ok-asked.asked) }) ∷ []) c.in-Ok.ensures.items
     ∙ ap (λ q. of_channel (record { channel = h; name = name_of k h; said = Asked q }) ∷ []) c.in_ok-asked.ensures.ok)
 
-pub returns-in-Ok-call-clause-refused : goal.returns-in-Ok-call-clause-refused
-returns-in-Ok-call-clause-refused c = λ c' s fits.
-    let request = Dials c.args.called.now c.args.calling.now c.args.user.now in
-    (answers c.in-Ok-call.channel c' _ c.call.new.link c.sent-frames.new.self _ c.call.new.self (record { frames = c.sent-frames.result; entries = c.enter.new.entries }) s request fits
-    c.in-Ok-call.ensures.layer c.in-Ok-call.ensures.link c.sent-frames.ensures.station (ap (λ o. o.made) c.sent-frames.ensures.outgoing) c.sent-frames.ensures.frames
+pub returns-in-Ok-call_with-clause-refused : goal.returns-in-Ok-call_with-clause-refused
+returns-in-Ok-call_with-clause-refused c = λ c' s fits.
+    let request = Dials c.args.called.now c.args.calling.now c.args.user.now c.args.params in
+    (answers c.in-Ok-call_with.channel c' _ c.call_with.new.link c.sent-frames.new.self _ c.call_with.new.self (record { frames = c.sent-frames.result; entries = c.enter.new.entries }) s request fits
+    c.in-Ok-call_with.ensures.layer c.in-Ok-call_with.ensures.link c.sent-frames.ensures.station (ap (λ o. o.made) c.sent-frames.ensures.outgoing) c.sent-frames.ensures.frames
     (c.steps_keep_bounds.ensures.command c' s (Requests request) fits.kept)).refused
 
 pub returns-in-Err-clause-refused : goal.returns-in-Err-clause-refused
-returns-in-Err-clause-refused c = λ c' s fits. refuses _ code_step.Step c.in-Err.error _ c' _ _ c.call.new.self s (Dials c.args.called.now c.args.calling.now c.args.user.now) fits c.of_layer.ensures c.in-Err.ensures.layer
+returns-in-Err-clause-refused c = λ c' s fits. refuses _ code_step.Step c.in-Err.error _ c' _ _ c.call_with.new.self s (Dials c.args.called.now c.args.calling.now c.args.user.now c.args.params) fits c.of_layer.ensures c.in-Err.ensures.layer
 
 pub returns-in-Err-clause-stays : goal.returns-in-Err-clause-stays
-returns-in-Err-clause-stays c = λ c' s fits. still_fits c' c.args.self.now.link c.call.new.link _ c.call.new.self s fits (c.in-Err.ensures.layer_stays (layer_settings c') s.layer fits.layer) c.in-Err.ensures.link_stays
+returns-in-Err-clause-stays c = λ c' s fits. still_fits c' c.args.self.now.link c.call_with.new.link _ c.call_with.new.self s fits (c.in-Err.ensures.layer_stays (layer_settings c') s.layer fits.layer) c.in-Err.ensures.link_stays
 
-pub returns-in-Ok-call-clause-few_frames : goal.returns-in-Ok-call-clause-few_frames
-returns-in-Ok-call-clause-few_frames c =
+pub returns-in-Ok-call_with-clause-few_frames : goal.returns-in-Ok-call_with-clause-few_frames
+returns-in-Ok-call_with-clause-few_frames c =
     let few : length c.sent-frames.result.items ≤ 8 = least_by_meaning _ _ (length c.sent-frames.result.items) 8 c.args.self.now.meant (λ c' s fits.
-    few_asked c' s (Dials c.args.called.now c.args.calling.now c.args.user.now) (record { frames = c.sent-frames.result; entries = c.enter.new.entries }) (c.holds_few.ensures.window (link_settings c') c.args.self.now.link s.link fits.link)
-    (c.holds_few.ensures.stand (link_settings c') c.args.self.now.link s.link fits.link).place_low ((returns-in-Ok-call-clause-frames c) c' s fits) ((returns-in-Ok-call-clause-refused c) c' s fits)) in
+    few_asked c' s (Dials c.args.called.now c.args.calling.now c.args.user.now c.args.params) (record { frames = c.sent-frames.result; entries = c.enter.new.entries }) (c.holds_few.ensures.window (link_settings c') c.args.self.now.link s.link fits.link)
+    (c.holds_few.ensures.stand (link_settings c') c.args.self.now.link s.link fits.link).place_low ((returns-in-Ok-call_with-clause-frames c) c' s fits) ((returns-in-Ok-call_with-clause-refused c) c' s fits)) in
     grind (arith, few, c.sent-frames.result.ok)

@@ -1,4 +1,6 @@
-//! Readers and writers in memory that fail at one call alone, and work again after it.
+//! For tests: readers and writers in memory that fail at one call alone, and work again after it.
+#![tactic(auto)]
+
 use std::io::{self, ErrorKind, Read, Write};
 use x25_program::{Failed, Sink, Source};
 

@@ -1,0 +1,14 @@
+use Rattle.std.proofs.Common.{◌∙◌, sym}
+use Rattle.x25_circuit.specs.Calls.{outcome}
+use Rattle.x25_circuit.specs.Requests.{plain_request}
+use Rattle.x25_layer.proofs.CallLemmas.{refused_short, accepted_short}
+use Rattle.x25_layer.proofs.layer.Layer.without_memory.Goals as goal
+
+pub returns-in-Some-refusal : goal.returns-in-Some-refusal
+returns-in-Some-refusal c = λ s l fits.
+    refused_short (outcome s.circuit (l.circuits c.args.channel) (plain_request c.args.request.now)) c.in-Some-refusal.error
+    (sym c.in-Some-refusal.is ∙ c.refusal.ensures s.circuit (l.circuits c.args.channel) (c.in-Some.ensures.fits s l fits))
+
+pub returns-in-None : goal.returns-in-None
+returns-in-None c = λ s l fits.
+    accepted_short (outcome s.circuit (l.circuits c.args.channel) (plain_request c.args.request.now)) (sym c.in-None.is ∙ c.refusal.ensures s.circuit (l.circuits c.args.channel) (c.in-Some.ensures.fits s l fits))

@@ -1,0 +1,98 @@
+//! Commands of a script, as a station takes them.
+ghost use Rattle.std.specs.Prelude.{◌≡◌, IfOk};
+ghost use Rattle.x25_script.specs.PlainLine.{plain_command};
+ghost use Rattle.x25_station.specs.Command.{command_of};
+ghost use Rattle.x25_sim.specs.Simulated.{command_asked, params_of, user_in};
+
+use std::alloc::{AllocError, Global};
+use x25_circuit::Params;
+use x25_script::{Command, HexDigits};
+use x25_station::Cmd;
+
+/// The octets that the digits write.
+pub(crate) fn octets_of(alloc: Global, digits: &HexDigits) -> Result<Vec<u8>, AllocError>
+    ensures { IfOk result (λ octets. octets.items ≡ digits.now) }
+{
+    let mut octets = vec![in alloc; 0u8; digits.len()]?;
+    digits.write_to(octets.as_mut_slice());
+    Ok(octets)
+}
+
+/// The octets of user data that a command has, none where it has no such field.
+pub(crate) fn user_octets(alloc: Global, command: &Command) -> Result<Vec<u8>, AllocError>
+    ensures { IfOk result (λ octets. octets.items ≡ user_in (plain_command command.now)) }
+{
+    match command {
+        Command::Call { user, .. } | Command::Send { user, .. } | Command::Interrupt { user, .. } =>
+            octets_of(alloc, user),
+        _ => Ok(Vec::new(alloc)),
+    }
+}
+
+/// Packet sizes and windows, from the four numbers of a line.
+fn params_of(numbers: &x25_script::Params) -> Params
+    ensures { result ≡ params_of numbers.now }
+{
+    Params {
+        size_called: numbers.size_called,
+        size_calling: numbers.size_calling,
+        win_called: numbers.win_called,
+        win_calling: numbers.win_calling,
+    }
+}
+
+/// The command with its octets of user data.
+pub(crate) fn station_command<'a>(command: &Command<'a>, user: &'a [u8]) -> Cmd<'a>
+    requires { user.now ≡ user_in (plain_command command.now) }
+    ensures { command_of result ≡ command_asked (plain_command command.now) }
+{
+    match command {
+        Command::Call {
+            called,
+            calling,
+            params: None,
+            ..
+        } => Cmd::Call {
+            called,
+            calling,
+            user,
+        },
+        Command::Call {
+            called,
+            calling,
+            params: Some(numbers),
+            ..
+        } => Cmd::CallWith {
+            called,
+            calling,
+            user,
+            params: params_of(numbers),
+        },
+        Command::Accept {
+            channel,
+            params: None,
+        } => Cmd::Accept { channel: *channel },
+        Command::Accept {
+            channel,
+            params: Some(numbers),
+        } => Cmd::AcceptWith {
+            channel: *channel,
+            params: params_of(numbers),
+        },
+        Command::Clear { channel } => Cmd::Clear { channel: *channel },
+        Command::Send { channel, q, .. } => Cmd::Send {
+            channel: *channel,
+            q: *q,
+            user,
+        },
+        Command::Interrupt { channel, .. } => Cmd::Interrupt {
+            channel: *channel,
+            user,
+        },
+        Command::Reset { channel } => Cmd::Reset { channel: *channel },
+        Command::Ready { channel } => Cmd::Ready { channel: *channel },
+        Command::NotReady { channel } => Cmd::NotReady { channel: *channel },
+        Command::Restart => Cmd::Restart,
+        Command::Disconnect => Cmd::Disconnect,
+    }
+}

@@ -1,0 +1,36 @@
+-- What is shown of a request: an acceptance with the packet sizes and windows in force.
+use Rattle.std.proofs.Common.{◌≡◌, Bool, true, if◌then◌else◌, Option, Some, None, refl, ap, sym, subst, ◌∙◌}
+use Rattle.std.specs.Option.{unwrap_or}
+use Rattle.x25_circuit.specs.declared.params.Params.{Params}
+use Rattle.x25_circuit.specs.Circuit.{Circuit}
+use Rattle.x25_circuit.specs.Calls as circuit
+use Rattle.x25_layer.specs.World.{shown}
+use Rattle.x25_station.specs.declared.entry.Asked.{Asked}
+use Rattle.x25_station.specs.declared.entry.Asked.TheVariants as asked
+use Rattle.x25_station.specs.PlainEntry.{plain_asked}
+
+-- it looks at packet sizes and windows alone
+pub same_shown : (x y : Circuit) (request : circuit.Request) → x.params ≡ y.params → shown x request ≡ shown y request
+same_shown x y (circuit.Calls called calling user params) same = refl
+same_shown x y (circuit.Accepts answer) same = ap (λ (q : Params). circuit.Accepts (Some q)) same
+same_shown x y circuit.Clears same = refl
+same_shown x y (circuit.Sends q user) same = refl
+same_shown x y (circuit.Interrupts user) same = refl
+same_shown x y circuit.Resets same = refl
+same_shown x y circuit.SaysReady same = refl
+same_shown x y circuit.SaysNotReady same = refl
+
+-- those of a configured channel
+pub in_force : (configured : Bool) (o : Option Params) (p q : Params) → configured ≡ true → o ≡ (if configured then Some p else None) → unwrap_or o q ≡ p
+in_force configured o p q is same = ap (λ (x : Option Params). unwrap_or x q) (same ∙ ap (λ (b : Bool). if b then Some p else None) is)
+
+-- what is no acceptance is shown as it is
+pub as_asked : (x : Circuit) (a : Asked) → ((p : Params) → a ≡ asked.Accept p → ⊥) → plain_asked a ≡ shown x (plain_asked a)
+as_asked x (asked.Call called calling user params) other = refl
+as_asked x (asked.Accept params) other = absurd (other params refl)
+as_asked x asked.Clear other = refl
+as_asked x (asked.Send q user) other = refl
+as_asked x (asked.Interrupt user) other = refl
+as_asked x asked.Reset other = refl
+as_asked x asked.Ready other = refl
+as_asked x asked.NotReady other = refl
