@@ -9,4 +9,12 @@ mod errors;
 #[cfg(test)]
 mod hearing;
 #[cfg(test)]
+mod play;
+#[cfg(test)]
 mod restart;
+#[cfg(test)]
+mod rounds;
+#[cfg(test)]
+mod station;
+#[cfg(test)]
+mod texts;
