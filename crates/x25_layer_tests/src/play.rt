@@ -1,13 +1,16 @@
 //! A layer, its link, and tables of what happens to them.
 ghost use Rattle.std.specs.Prelude.{◌≤◌};
 
-use crate::texts::{channel_text, done_text, put_text, state_text, told_text};
+use crate::texts::{agreed_text, channel_text, done_text, put_text, state_text, told_text};
 use std::alloc::{AllocError, Global};
 use std::process::Abort;
 use std::test::Fail;
 use x25_circuit::Request;
-use x25_layer::{Layer, LayerError, Role};
+use x25_layer::{Layer, LayerError, Params, Role};
 use x25_link::{OrderedLink, PlainLink};
+
+/// Packet sizes of the called and of the calling end, and then windows.
+type Values = [u8; 4];
 
 /// What happens to a layer, or to its link.
 #[derive(Clone, Copy)]
@@ -19,7 +22,11 @@ pub enum Event<'a> {
     Restart,
     /// The user calls, with the addresses called and calling, and user data.
     Call(&'a str, &'a str, &'a [u8]),
+    /// The user calls address 1 from address 2, and proposes these packet sizes and windows.
+    CallWith(Values),
     Accept(u16),
+    /// The user accepts a call, and answers these.
+    AcceptWith(u16, Values),
     /// The user accepts a call, by the call of the layer that takes any request.
     AskToAccept(u16),
     Clear(u16),
@@ -37,6 +44,8 @@ pub enum Event<'a> {
     Room,
     /// Nothing happens. The text is the channel's name, and whether it is open.
     State(u16),
+    /// Nothing happens. The text is the channel's packet sizes and windows.
+    Agreed(u16),
     /// Nothing happens. The text says how many messages wait.
     Waits,
     /// Nothing happens. The text says whether a count is full.
@@ -46,8 +55,8 @@ pub enum Event<'a> {
 }
 
 use Event::{
-    Accept, AskToAccept, Call, Clear, Down, Fill, Full, Interrupt, NotReady, Ready, Reset, Restart,
-    Room, Send, State, Take, Up, Waiting, Waits,
+    Accept, AcceptWith, Agreed, AskToAccept, Call, CallWith, Clear, Down, Fill, Full, Interrupt,
+    NotReady, Ready, Reset, Restart, Room, Send, State, Take, Up, Waiting, Waits,
 };
 
 /// What happens, and what it shows.
@@ -58,6 +67,15 @@ pub const STAY: &str = "stay";
 
 /// What happens, what it shows, and the packets that wait in the link then, which are taken out of it, or `STAY`.
 pub type Row = (Event<'static>, &'static str, &'static str);
+
+fn params_of(values: Values) -> Params {
+    Params {
+        size_called: values[0],
+        size_calling: values[1],
+        win_called: values[2],
+        win_calling: values[3],
+    }
+}
 
 fn zeros(alloc: Global, count: usize) -> Result<Vec<u8>, AllocError> {
     let mut octets = Vec::new(alloc);
@@ -120,7 +138,8 @@ fn asks<L: OrderedLink>(layer: &mut Layer, link: &mut L, event: Event) -> Result
         Up => came_up(layer, link),
         Restart => layer.restart(link),
         Accept(channel) => layer.accept(link, channel),
-        AskToAccept(channel) => layer.ask(link, channel, Request::Accept),
+        AcceptWith(channel, values) => layer.accept_with(link, channel, params_of(values)),
+        AskToAccept(channel) => layer.ask(link, channel, Request::Accept { answer: None }),
         Clear(channel) => layer.clear(link, channel),
         Interrupt(channel, user) => layer.interrupt(link, channel, user),
         Reset(channel) => layer.reset(link, channel),
@@ -139,6 +158,7 @@ fn looks<L: OrderedLink>(
 ) -> Result<String, AllocError> {
     match event {
         State(channel) => state_text(alloc, layer, channel),
+        Agreed(channel) => agreed_text(alloc, layer, channel),
         Waits => format!(in alloc; "{}", layer.waits()),
         Full => format!(in alloc; "{}", layer.full()),
         _ => format!(in alloc; "{}", link.waiting()),
@@ -162,9 +182,13 @@ fn happens<L: OrderedLink>(
             layer.down();
             Ok(String::new(alloc))
         }
-        State(_) | Waits | Full | Waiting => looks(alloc, layer, link, event),
+        State(_) | Agreed(_) | Waits | Full | Waiting => looks(alloc, layer, link, event),
         Call(called, calling, user) => {
             channel_text(alloc, layer.call(link, called, calling, user))
+        }
+        CallWith(values) => {
+            let params = params_of(values);
+            channel_text(alloc, layer.call_with(link, "1", "2", &[], params))
         }
         Send(channel, q, count) => {
             let user = zeros(alloc, count)?;

@@ -58,7 +58,7 @@ pub fn told_text(alloc: Global, told: &Told) -> Result<String, AllocError> {
 fn notice_text(alloc: Global, notice: &Notice) -> Result<String, AllocError> {
     match notice {
         Notice::Incoming { .. } => format!(in alloc; "incoming"),
-        Notice::Connected => format!(in alloc; "connected"),
+        Notice::Connected { .. } => format!(in alloc; "connected"),
         Notice::Cleared { cause, diagnostic } => format!(in alloc; "cleared {cause} {diagnostic}"),
         Notice::ClearDone => format!(in alloc; "clear done"),
         Notice::WasReset { cause, diagnostic } => format!(in alloc; "reset {cause} {diagnostic}"),
@@ -86,6 +86,18 @@ pub fn state_text(alloc: Global, layer: &Layer, channel: u16) -> Result<String, 
             format!(in alloc; "{restarts}.{clears}.{resets}, {state}")
         }
         None => format!(in alloc; "none, {state}"),
+    }
+}
+
+/// The packet sizes and windows of a channel: the called end's, then the calling end's.
+pub fn agreed_text(alloc: Global, layer: &Layer, channel: u16) -> Result<String, AllocError> {
+    match layer.params(channel) {
+        Some(params) => {
+            let (called, calling) = (params.size_called, params.size_calling);
+            let (win_called, win_calling) = (params.win_called, params.win_calling);
+            format!(in alloc; "size {called} {calling} window {win_called} {win_calling}")
+        }
+        None => format!(in alloc; "none"),
     }
 }
 
