@@ -4,7 +4,7 @@ use std::alloc::{AllocError, Global};
 use std::test::Fail;
 use x25_circuit::{Message, Octets};
 use x25_entries::entry_line;
-use x25_layer::Stretch;
+use x25_layer::{Params, Stretch};
 use x25_station::{Asked, Entry, Role, Said, Told};
 
 const FIRST: Stretch = Stretch {
@@ -18,6 +18,30 @@ const LATE: Stretch = Stretch {
     restarts: 18_446_744_073_709_551_615,
     clears: 10,
     resets: 260,
+};
+
+/// The default packet sizes and windows, which aren't shown.
+const USUAL: Params = Params {
+    size_called: 7,
+    size_calling: 7,
+    win_called: 2,
+    win_calling: 2,
+};
+
+/// Each of another value.
+const OTHERS: Params = Params {
+    size_called: 8,
+    size_calling: 12,
+    win_called: 3,
+    win_calling: 1,
+};
+
+/// All but one are the defaults.
+const ONE_WINDOW: Params = Params {
+    size_called: 7,
+    size_calling: 7,
+    win_called: 2,
+    win_calling: 7,
 };
 
 fn text(alloc: Global, figures: &str) -> Result<String, AllocError> {
@@ -37,6 +61,7 @@ fn asked(alloc: Global) -> Result<Vec<(Asked, &'static str)>, AllocError> {
                 called: text(alloc, "123")?,
                 calling: text(alloc, "4567")?,
                 user: octets(alloc, b"A")?,
+                params: USUAL,
             },
             "dte call ch=1 at 1.0.0 called=123 calling=4567 data=41\n",
         ),
@@ -45,10 +70,15 @@ fn asked(alloc: Global) -> Result<Vec<(Asked, &'static str)>, AllocError> {
                 called: text(alloc, "")?,
                 calling: text(alloc, "2")?,
                 user: octets(alloc, b"")?,
+                params: OTHERS,
             },
-            "dte call ch=1 at 1.0.0 called=- calling=2 data=-\n",
+            "dte call ch=1 at 1.0.0 called=- calling=2 data=- size=8,12 win=3,1\n",
         ),
-        (Asked::Accept, "dte accept ch=1\n"),
+        (Asked::Accept { params: USUAL }, "dte accept ch=1\n"),
+        (
+            Asked::Accept { params: ONE_WINDOW },
+            "dte accept ch=1 size=7,7 win=2,7\n",
+        ),
         (Asked::Clear, "dte clear ch=1\n"),
         (
             Asked::Send {
@@ -97,10 +127,24 @@ fn told(alloc: Global) -> Result<Vec<(Told, &'static str)>, AllocError> {
                 called: octets(alloc, &[1, 2, 3])?,
                 calling: octets(alloc, &[])?,
                 user: octets(alloc, b"A")?,
+                params: USUAL,
             },
             "dce incoming ch=16 at 18446744073709551615.10.260 called=123 calling=- data=41\n",
         ),
-        (Told::Connected, "dce connected ch=16\n"),
+        (
+            Told::Incoming {
+                called: octets(alloc, &[])?,
+                calling: octets(alloc, &[9])?,
+                user: octets(alloc, b"")?,
+                params: ONE_WINDOW,
+            },
+            "dce incoming ch=16 at 18446744073709551615.10.260 called=- calling=9 data=- size=7,7 win=2,7\n",
+        ),
+        (Told::Connected { params: USUAL }, "dce connected ch=16\n"),
+        (
+            Told::Connected { params: OTHERS },
+            "dce connected ch=16 size=8,12 win=3,1\n",
+        ),
         (Told::Collided, "dce collided ch=16\n"),
         (
             Told::Cleared {
