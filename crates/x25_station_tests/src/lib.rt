@@ -10,6 +10,8 @@ mod hearing;
 #[cfg(test)]
 mod linking;
 #[cfg(test)]
+mod octets;
+#[cfg(test)]
 mod peer;
 #[cfg(test)]
 mod rows;
