@@ -1,11 +1,11 @@
 -- What is asked for in one call.
-use Rattle.std.proofs.Common.{◌≡◌, Result, Ok, Err, Some, sym, ap}
+use Rattle.std.proofs.Common.{Result, Ok, Err, sym, ap}
 use Rattle.x25_packet.specs.declared.packet.Packet.{Packet}
 use Rattle.x25_circuit.specs.declared.circuit.Circuit as code
 use Rattle.x25_circuit.specs.declared.error.CircuitError.{CircuitError}
 use Rattle.x25_circuit.specs.Circuit.{Settings}
 use Rattle.x25_circuit.specs.Calls.{Outcome, Done, Refused}
-use Rattle.x25_circuit.specs.FitsCircuit.{FitsCircuit, Sends}
+use Rattle.x25_circuit.specs.FitsCircuit.{Sends}
 use Rattle.x25_circuit.specs.Requests.{AnswersRequest, with_packet}
 
 -- a call with a packet to send is one that may have a packet

@@ -2,6 +2,7 @@ mod RowStates
 mod DteRows
 mod DceRows
 mod CallRows
+mod ParamsRows
 pub mod ParamsLemmas
 pub mod MessageLemmas
 pub mod AskLemmas

@@ -1,14 +1,14 @@
 -- Packet sizes and windows that are proposed, said and answered.
-use Rattle.std.proofs.Common.{◌≡◌, ◌≤◌, ◌^◌, ℕ, List, [], ◌∷◌, ◌++◌, Option, Some, None, Result, Ok, Err, Bool, true, false, ◌==◌, ◌&&◌, ◌||◌, nat_le, if◌then◌else◌, refl, sym, ap, ◌∙◌, arith, lit≤}
+use Rattle.std.proofs.Common.{◌≡◌, ◌≤◌, ℕ, List, [], ◌∷◌, ◌++◌, Option, Some, None, Result, Ok, Err, Bool, true, false, ◌==◌, ◌&&◌, ◌||◌, nat_le, if◌then◌else◌, refl, sym, ap, ◌∙◌, arith, lit≤}
 use Rattle.std.proofs.lemmas.Bool.{le-leb, leb-true, leb-false, eqb-true, eq-eqb}
 use Rattle.std.proofs.Math.Nat.{pow-le-pow_right}
 use Rattle.x25_packet.specs.declared.error.PacketError.{PacketError}
 use Rattle.x25_packet.specs.declared.error.PacketError.TheVariants.{BadFacility, BadParameter}
 use Rattle.x25_packet.specs.declared.facilities.Facilities.{Facilities}
 use Rattle.x25_packet.specs.declared.facilities.Directions.{Directions}
-use Rattle.x25_packet.specs.Facilities.{AreAllowed, AreWithin, IfGiven, IsFacilityField, facilities_of, facility, field_of, is_within, last, with_sizes, windows_of as windows_in}
+use Rattle.x25_packet.specs.Facilities.{AreWithin, IfGiven, facilities_of, facility, field_of, is_within, last, with_sizes, windows_of as windows_in}
 use Rattle.x25_circuit.specs.declared.params.Params.{Params}
-use Rattle.x25_circuit.specs.Params.{default_params, may_propose, is_toward, may_answer, sizes_of, windows_of, params_of, news, field_for, said_or, said_by, said_in, terms_of, called_terms, calling_terms}
+use Rattle.x25_circuit.specs.Params.{may_propose, is_toward, sizes_of, windows_of, params_of, news, said_or, said_by, terms_of}
 use Rattle.x25_circuit.specs.ParamsLaws.{FieldIsSaid, NoFieldIsKnown, KnownIsNoField, FieldIsAllowed, SaidIsAllowed, ProposalIsAnswer, DefaultIsAnswer, AnswerIsAllowed, AreTerms, TermsAreAllowed}
 
 -- ---- tests
@@ -93,9 +93,9 @@ toward_inside least most usual proposed answered f g inside toward =
     let high = within_most least most proposed inside in
     one_holds (is_within usual proposed answered) (is_within proposed usual answered) toward
     (λ e. let a = within_least usual proposed answered e in let b = within_most usual proposed answered e in
-      is_inside least most answered (omega (arith, f, a)) (omega (arith, b, high)))
+    is_inside least most answered (omega (arith, f, a)) (omega (arith, b, high)))
     (λ e. let a = within_least proposed usual answered e in let b = within_most proposed usual answered e in
-      is_inside least most answered (omega (arith, low, a)) (omega (arith, b, g)))
+    is_inside least most answered (omega (arith, low, a)) (omega (arith, b, g)))
 
 pub answer_is_allowed : AnswerIsAllowed
 answer_is_allowed p q allowed answers =
@@ -150,8 +150,8 @@ field_is_said known said allowed =
     let windows = news (windows_of known) (windows_of said) in
     ap (said_by known)
     (field_is_read sizes windows
-      (news_given (said.size_called == known.size_called && said.size_calling == known.size_calling) (sizes_of said) (BothWithin 4 12) (both_within 4 12 said.size_called said.size_calling inside.size_called inside.size_calling))
-      (news_given (said.win_called == known.win_called && said.win_calling == known.win_calling) (windows_of said) (BothWithin 1 7) (both_within 1 7 said.win_called said.win_calling inside.win_called inside.win_calling)))
+    (news_given (said.size_called == known.size_called && said.size_calling == known.size_calling) (sizes_of said) (BothWithin 4 12) (both_within 4 12 said.size_called said.size_calling inside.size_called inside.size_calling))
+    (news_given (said.win_called == known.win_called && said.win_calling == known.win_calling) (windows_of said) (BothWithin 1 7) (both_within 1 7 said.win_called said.win_calling inside.win_called inside.win_calling)))
     ∙ ap (λ (d : Directions). params_of d (said_or (windows_of known) windows)) (said_news (sizes_of known) (sizes_of said))
     ∙ ap (params_of (sizes_of said)) (said_news (windows_of known) (windows_of said))
 
@@ -169,20 +169,22 @@ known_is_no_field known = ap (λ (s : Option Directions). field_of (record { pac
 -- a field that says what may be proposed may stand in a packet
 pub field_is_allowed : FieldIsAllowed
 field_is_allowed known said allowed =
-    let inside = are_inside said allowed in
-    (record { packet_size = news (sizes_of known) (sizes_of said); window_size = news (windows_of known) (windows_of said) },
-    record {
-      sizes = news_given (said.size_called == known.size_called && said.size_calling == known.size_calling) (sizes_of said) (AreWithin 4 12) (are_within 4 12 said.size_called said.size_calling inside.size_called inside.size_calling);
-      windows = news_given (said.win_called == known.win_called && said.win_calling == known.win_calling) (windows_of said) (AreWithin 1 7) (are_within 1 7 said.win_called said.win_calling inside.win_called inside.win_calling);
-    }, refl)
+    let inside = are_inside said allowed in (
+      record { packet_size = news (sizes_of known) (sizes_of said); window_size = news (windows_of known) (windows_of said) },
+      record {
+        sizes = news_given (said.size_called == known.size_called && said.size_calling == known.size_calling) (sizes_of said) (AreWithin 4 12) (are_within 4 12 said.size_called said.size_calling inside.size_called inside.size_calling);
+        windows = news_given (said.win_called == known.win_called && said.win_calling == known.win_calling) (windows_of said) (AreWithin 1 7) (are_within 1 7 said.win_called said.win_calling inside.win_called inside.win_calling);
+      },
+      refl,
+    )
   where
-  are_within : (least most a b : ℕ) → is_within least most a ≡ true → is_within least most b ≡ true → AreWithin least most (record { called = a; calling = b })
-  are_within least most a b e f = record {
-    called_least = within_least least most a e;
-    called_most = within_most least most a e;
-    calling_least = within_least least most b f;
-    calling_most = within_most least most b f;
-  }
+    are_within : (least most a b : ℕ) → is_within least most a ≡ true → is_within least most b ≡ true → AreWithin least most (record { called = a; calling = b })
+    are_within least most a b e f = record {
+      called_least = within_least least most a e;
+      called_most = within_most least most a e;
+      calling_least = within_least least most b f;
+      calling_most = within_most least most b f;
+    }
 
 -- ---- what is read is within the bounds
 
@@ -227,7 +229,7 @@ field_read (code ∷ called ∷ calling ∷ rest) =
     (if is_within 4 12 called && is_within 4 12 calling then with_sizes (Some d) (windows_in rest) else Err BadParameter)
     (with_sizes None (windows_in (code ∷ called ∷ calling ∷ rest)))
     (λ e. by_test FieldRead (is_within 4 12 called && is_within 4 12 calling) (with_sizes (Some d) (windows_in rest)) (Err BadParameter)
-      (λ f. sizes_read (Some d) (windows_in rest) f (windows_read rest)) (λ f. tt))
+    (λ f. sizes_read (Some d) (windows_in rest) f (windows_read rest)) (λ f. tt))
     (λ e. sizes_read None (windows_in (code ∷ called ∷ calling ∷ rest)) tt (windows_read (code ∷ called ∷ calling ∷ rest)))
 
 or_within : (least most : ℕ) (known : Directions) (said : Option Directions) → BothWithin least most known → IfGiven said (BothWithin least most) → BothWithin least most (said_or known said)
@@ -259,6 +261,7 @@ terms_are_allowed_of window code e f = record {
 
 pub terms_are_allowed : TermsAreAllowed
 terms_are_allowed p allowed =
-    let inside = are_inside p allowed in
-    (terms_are_allowed_of p.win_called p.size_called inside.win_called inside.size_called,
-    terms_are_allowed_of p.win_calling p.size_calling inside.win_calling inside.size_calling)
+    let inside = are_inside p allowed in (
+      terms_are_allowed_of p.win_called p.size_called inside.win_called inside.size_called,
+      terms_are_allowed_of p.win_calling p.size_calling inside.win_calling inside.size_calling,
+    )

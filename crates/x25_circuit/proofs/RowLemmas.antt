@@ -1,5 +1,5 @@
 -- The rows of the table for the states that a packet has in common.
-use Rattle.std.proofs.Common.{◌≡◌, ◌≢◌, ℕ, [], ◌∷◌, List, length, Option, Some, None, refl, sym, ap, ◌∙◌, arith, Bool, true, false, ◌==◌, ◌<◌, ◌≤◌, ◌++◌, eqb-true}
+use Rattle.std.proofs.Common.{◌≡◌, ◌≢◌, ℕ, [], ◌∷◌, List, length, Option, Some, None, refl, sym, ap, ◌∙◌, Bool, true, false, ◌<◌, ◌≤◌, ◌++◌}
 use Rattle.std.proofs.lemmas.Bool.{le-leb, lt-ltb}
 use Rattle.x25_bits.specs.declared.role.Role.{Role}
 use Rattle.x25_bits.specs.declared.role.Role.TheVariants.{Dte, Dce}
@@ -17,7 +17,7 @@ use Rattle.x25_circuit.specs.Messages.{cut}
 use Rattle.x25_circuit.specs.declared.error.CircuitError.TheVariants as error
 use Rattle.x25_circuit.specs.Notices.{CallRequest, cleared, collided, connected, incoming}
 use Rattle.x25_circuit.specs.Calls.{Refused, keeps_on, does, call_in, accept_in, accept_with, clear_in, is_address_text, may_call, ready_in, ready_open, send_in, send_open, interrupt_in, interrupt_open}
-use Rattle.x25_circuit.specs.Table.{Answer, goes, collides, connects, clears_for, clears_to, unexpected, cause_of, row_call, row_accept, row_clear, row_clear_conf, row_reset, row_reset_conf, row_data, row_undecoded}
+use Rattle.x25_circuit.specs.Table.{goes, collides, connects, clears_for, clears_to, unexpected, cause_of, row_call, row_accept, row_clear, row_clear_conf, row_reset, row_reset_conf, row_data, row_undecoded}
 
 pub collides_at_dte : (r : Role) (x : Circuit) (request : CallRequest) → r ≡ Dte → collides r x request ≡ goes x Collision x.params true None []
 collides_at_dte r x request e = ap (λ (s : Role). collides s x request) e

@@ -121,7 +121,10 @@ impl Circuit {
         ensures missing { OnErr result (room_of self.old < length user.now) }
         ensures unchanged { OnErr result (self.new ≡ self.old) }
     {
-        match self.transfer.ground(self.incoming().size, ps, q, user.len()) {
+        match self
+            .transfer
+            .ground(self.incoming().size, ps, q, user.len())
+        {
             Some(diagnostic) => Ok(self.refuse(pr, diagnostic)),
             None => {
                 self.transfer.partial.reserve(user.len())?;

@@ -6,7 +6,7 @@ ghost use Rattle.x25_packet.specs.Spelling.{HasChannel};
 use std::alloc::{AllocError, Global};
 use std::process::Abort;
 use std::test::Fail;
-use x25_circuit::{Circuit, CircuitError, DataPacket, Notice, Reply};
+use x25_circuit::{Circuit, CircuitError, DataPacket, Notice, Params, Proposal, Reply};
 use x25_packet::{Digits, Packet, PacketError, Seq, decode};
 
 /// What happens to a circuit.
@@ -14,7 +14,11 @@ use x25_packet::{Digits, Packet, PacketError, Seq, decode};
 pub enum Event<'a> {
     /// The user calls, with addresses and so many octets of user data.
     Call(&'a str, &'a str, usize),
+    /// The user at 2 calls 1 with these sizes and windows, in the order of `Params`.
+    CallWith([u8; 4]),
     Accept,
+    /// The user accepts with these.
+    AcceptWith([u8; 4]),
     Clear,
     /// A message with this qualifier and so many octets.
     Send(bool, usize),
@@ -34,14 +38,25 @@ pub enum Event<'a> {
     Zero,
     /// Nothing happens. The text says how many octets of a message in part have come.
     Joined,
-    /// Nothing happens. The text says how many messages wait, clears and resets, and whether the circuit is free or open.
+    /// Nothing happens. The text says how many messages wait, clears and resets, whether the circuit is free or open, and sizes
+    /// and windows.
     Ask,
 }
 
 use Event::{
-    Accept, Ask, Call, Clear, Data, Fill, Forget, Interrupt, Joined, NotReady, Pull, Ready, Reset,
-    Send, Take, Zero,
+    Accept, AcceptWith, Ask, Call, CallWith, Clear, Data, Fill, Forget, Interrupt, Joined,
+    NotReady, Pull, Ready, Reset, Send, Take, Zero,
 };
+
+/// What is proposed or answered.
+fn proposal(values: [u8; 4]) -> Proposal {
+    Proposal::new(Params {
+        size_called: values[0],
+        size_calling: values[1],
+        win_called: values[2],
+        win_calling: values[3],
+    })
+}
 
 fn zeros(alloc: Global, count: usize) -> Result<Vec<u8>, AllocError> {
     let mut octets = Vec::new(alloc);
@@ -84,13 +99,16 @@ fn packet_text(alloc: Global, packet: &Packet) -> Result<String, AllocError> {
         } => {
             let from = digits_text(alloc, calling)?;
             let to = digits_text(alloc, called)?;
+            let field = hex_text(alloc, facilities)?;
             format!(in alloc;
-                "CALL called={to} calling={from} fac={} data={}",
-                facilities.len(),
+                "CALL called={to} calling={from} fac={field} data={}",
                 user.len()
             )?
         }
-        Packet::Accept { facilities, .. } => format!(in alloc; "ACCEPT fac={}", facilities.len())?,
+        Packet::Accept { facilities, .. } => {
+            let field = hex_text(alloc, facilities)?;
+            format!(in alloc; "ACCEPT fac={field}")?
+        }
         Packet::Clear {
             cause,
             diagnostic,
@@ -113,19 +131,34 @@ fn packet_text(alloc: Global, packet: &Packet) -> Result<String, AllocError> {
     Ok(text)
 }
 
+/// Nothing for the defaults.
+fn values_text(alloc: Global, params: Params) -> Result<String, AllocError> {
+    if params == Params::default() {
+        return Ok(String::new(alloc));
+    }
+    let (size_called, size_calling) = (params.size_called, params.size_calling);
+    let (win_called, win_calling) = (params.win_called, params.win_calling);
+    format!(in alloc; " size={size_called},{size_calling} win={win_called},{win_calling}")
+}
+
 fn notice_text(alloc: Global, notice: &Notice) -> Result<String, AllocError> {
     match notice {
         Notice::Incoming {
             called,
             calling,
             user,
+            params,
         } => {
             let from = digits_text(alloc, calling)?;
             let to = digits_text(alloc, called)?;
             let data = hex_text(alloc, user)?;
-            format!(in alloc; "incoming called={to} calling={from} data={data}")
+            let values = values_text(alloc, *params)?;
+            format!(in alloc; "incoming called={to} calling={from} data={data}{values}")
         }
-        Notice::Connected => format!(in alloc; "connected"),
+        Notice::Connected { params } => {
+            let values = values_text(alloc, *params)?;
+            format!(in alloc; "connected{values}")
+        }
         Notice::Cleared { cause, diagnostic } => format!(in alloc;
             "cleared cause={cause} diag={diagnostic}"
         ),
@@ -263,7 +296,8 @@ impl Player {
             "between"
         };
         let waits = self.circuit.waits();
-        Ok(format!(in self.alloc; "{state} {clears}.{resets}, {waits} wait")?)
+        let values = values_text(self.alloc, self.circuit.params())?;
+        Ok(format!(in self.alloc; "{state} {clears}.{resets}, {waits} wait{values}")?)
     }
 
     fn interrupt(&mut self, count: usize) -> Result<String, Fail> {
@@ -279,9 +313,21 @@ impl Player {
         )?)
     }
 
+    fn call_with(&mut self, values: [u8; 4]) -> Result<String, Fail> {
+        let proposal = proposal(values);
+        Ok(sent_text(self.alloc, self.circuit.call_with("1", "2", &[], &proposal))?)
+    }
+
+    fn accept_with(&mut self, values: [u8; 4]) -> Result<String, Fail> {
+        let answer = proposal(values);
+        Ok(sent_text(self.alloc, self.circuit.accept_with(&answer))?)
+    }
+
     fn happens(&mut self, event: Event) -> Result<String, Fail> {
         match event {
             Call(called, calling, count) => self.call(called, calling, count),
+            CallWith(values) => self.call_with(values),
+            AcceptWith(values) => self.accept_with(values),
             Accept => Ok(sent_text(self.alloc, self.circuit.accept())?),
             Clear => Ok(sent_text(self.alloc, self.circuit.clear())?),
             Send(q, count) => self.send(q, count),

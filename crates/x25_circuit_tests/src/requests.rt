@@ -3,7 +3,7 @@
 use CircuitError::{BadParameter, WrongState};
 use std::alloc::Global;
 use std::test::Fail;
-use x25_circuit::{Circuit, CircuitError, Request, Role};
+use x25_circuit::{Circuit, CircuitError, Params, Proposal, Request, Role};
 use x25_packet::Packet;
 
 /// The refusals of the requests, in order, of a circuit in p1, of one that called, and of one in p4 with d1.
@@ -11,9 +11,11 @@ const REFUSALS: [(
     Option<CircuitError>,
     Option<CircuitError>,
     Option<CircuitError>,
-); 10] = [
+); 12] = [
     (None, Some(WrongState), Some(WrongState)),
     (Some(BadParameter), Some(WrongState), Some(WrongState)),
+    (Some(BadParameter), Some(WrongState), Some(WrongState)),
+    (Some(WrongState), Some(WrongState), Some(WrongState)),
     (Some(WrongState), Some(WrongState), Some(WrongState)),
     (Some(WrongState), None, None),
     (Some(WrongState), Some(WrongState), None),
@@ -24,35 +26,61 @@ const REFUSALS: [(
     (Some(WrongState), Some(WrongState), None),
 ];
 
-fn request(alloc: Global, index: usize) -> Request<'static> {
-    match index {
-        0 => Request::Call {
+/// What is proposed: one that may be, and one that may not.
+#[derive(Drop)]
+struct Proposals {
+    usual: Proposal,
+    size_3: Proposal,
+}
+
+impl Proposals {
+    fn new() -> Proposals {
+        Proposals {
+            usual: Proposal::new(Params::default()),
+            size_3: Proposal::new(Params {
+                size_called: 3,
+                size_calling: 7,
+                win_called: 2,
+                win_calling: 2,
+            }),
+        }
+    }
+
+    fn request(&self, alloc: Global, index: usize) -> Request<'_> {
+        match index {
+            0 => self.call("2", &self.usual),
+            1 => self.call("a", &self.usual),
+            2 => self.call("2", &self.size_3),
+            3 => Request::Accept { answer: None },
+            4 => Request::Accept {
+                answer: Some(&self.usual),
+            },
+            5 => Request::Clear,
+            6 => Request::Send {
+                q: false,
+                user: Vec::new(alloc),
+            },
+            7 => Request::Interrupt { user: b"1" },
+            8 => Request::Interrupt { user: &[] },
+            9 => Request::Reset,
+            10 => Request::Ready,
+            _ => Request::NotReady,
+        }
+    }
+
+    fn call<'a>(&self, calling: &'a str, proposal: &'a Proposal) -> Request<'a> {
+        Request::Call {
             called: "1",
-            calling: "2",
+            calling,
             user: &[],
-        },
-        1 => Request::Call {
-            called: "1",
-            calling: "a",
-            user: &[],
-        },
-        2 => Request::Accept,
-        3 => Request::Clear,
-        4 => Request::Send {
-            q: false,
-            user: Vec::new(alloc),
-        },
-        5 => Request::Interrupt { user: b"1" },
-        6 => Request::Interrupt { user: &[] },
-        7 => Request::Reset,
-        8 => Request::Ready,
-        _ => Request::NotReady,
+            proposal,
+        }
     }
 }
 
 fn called(alloc: Global) -> Result<Circuit, CircuitError> {
     let mut circuit = Circuit::new(alloc, Role::Dte)?;
-    circuit.ask(request(alloc, 0))?;
+    circuit.call("1", "2", &[])?;
     Ok(circuit)
 }
 
@@ -72,7 +100,7 @@ fn opened(alloc: Global) -> Result<Circuit, Fail> {
 // Why the request would be refused, and why it is.
 fn refusals(
     circuit: &mut Circuit,
-    request: Request<'static>,
+    request: Request<'_>,
 ) -> (Option<CircuitError>, Option<CircuitError>) {
     let told = circuit.refusal(&request);
     let refused = circuit.ask(request).err();
@@ -81,19 +109,20 @@ fn refusals(
 
 #[test]
 fn a_request_is_refused_as_was_told(rt: HostRuntime) -> Result<(), Fail> {
+    let proposals = Proposals::new();
     for (index, &(free, calling, open)) in REFUSALS.iter().enumerate() {
         let mut circuit = Circuit::new(rt.alloc(), Role::Dte)?;
-        let found = refusals(&mut circuit, request(rt.alloc(), index));
+        let found = refusals(&mut circuit, proposals.request(rt.alloc(), index));
         assert_eq!(rt; found, (free, free), "request {index} in p1");
         let mut circuit = called(rt.alloc())?;
-        let found = refusals(&mut circuit, request(rt.alloc(), index));
+        let found = refusals(&mut circuit, proposals.request(rt.alloc(), index));
         assert_eq!(rt;
             found,
             (calling, calling),
             "request {index} of one that called"
         );
         let mut circuit = opened(rt.alloc())?;
-        let found = refusals(&mut circuit, request(rt.alloc(), index));
+        let found = refusals(&mut circuit, proposals.request(rt.alloc(), index));
         assert_eq!(rt; found, (open, open), "request {index} in p4");
     }
     Ok(())
@@ -101,11 +130,12 @@ fn a_request_is_refused_as_was_told(rt: HostRuntime) -> Result<(), Fail> {
 
 #[test]
 fn an_asked_call_answers_call(rt: HostRuntime) -> Result<(), Fail> {
+    let proposals = Proposals::new();
     let mut circuit = Circuit::new(rt.alloc(), Role::Dte)?;
-    let packet = circuit.ask(request(rt.alloc(), 0))?;
+    let packet = circuit.ask(proposals.request(rt.alloc(), 0))?;
     assert!(rt; matches!(&packet, Some(Packet::Call { channel: 1, .. })));
     let mut circuit = opened(rt.alloc())?;
-    let packet = circuit.ask(request(rt.alloc(), 4))?;
+    let packet = circuit.ask(proposals.request(rt.alloc(), 6))?;
     assert!(rt; packet.is_none());
     assert_eq!(rt; circuit.waits(), 1);
     Ok(())

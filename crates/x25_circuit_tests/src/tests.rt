@@ -40,7 +40,7 @@ fn play_open(
         rt,
         &[
             (Take(CALL), "incoming called=1 calling=2 data=-"),
-            (Accept, "ACCEPT fac=0"),
+            (Accept, "ACCEPT fac=-"),
         ],
     )?;
     player.plays(rt, rows)
@@ -53,7 +53,7 @@ fn a_dte_calls_and_is_called(rt: HostRuntime) -> Result<(), Fail> {
         rt.alloc(),
         Role::Dte,
         &[
-            (Call("1", "2", 0), "CALL called=1 calling=2 fac=0 data=0"),
+            (Call("1", "2", 0), "CALL called=1 calling=2 fac=- data=0"),
             (Take(CALL), ""),
             (Ask, "between 0.0, 0 wait"),
             (Take(ACCEPT), "connected"),
@@ -69,9 +69,9 @@ fn a_dce_gives_its_call_up(rt: HostRuntime) -> Result<(), Fail> {
         rt.alloc(),
         Role::Dce,
         &[
-            (Call("1", "2", 0), "CALL called=1 calling=2 fac=0 data=0"),
+            (Call("1", "2", 0), "CALL called=1 calling=2 fac=- data=0"),
             (Take(CALL), "collided, incoming called=1 calling=2 data=-"),
-            (Accept, "ACCEPT fac=0"),
+            (Accept, "ACCEPT fac=-"),
         ],
     )
 }
@@ -95,22 +95,10 @@ fn packets_out_of_place(rt: HostRuntime) -> Result<(), Fail> {
         rt.alloc(),
         Role::Dce,
         &[
-            (Call("1", "2", 0), "CALL called=1 calling=2 fac=0 data=0"),
+            (Call("1", "2", 0), "CALL called=1 calling=2 fac=- data=0"),
             (Take(CLEAR_CONF), "fault 22, CLEAR cause=19 diag=22"),
         ],
     )
-}
-
-#[test]
-fn facilities_are_refused(rt: HostRuntime) -> Result<(), Fail> {
-    let call = "10010b111206420707430202";
-    for (role, text) in [
-        (Role::Dte, "fault 65, CLEAR cause=128 diag=65"),
-        (Role::Dce, "fault 65, CLEAR cause=3 diag=65"),
-    ] {
-        play(&rt, rt.alloc(), role, &[(Take(call), text)])?;
-    }
-    Ok(())
 }
 
 #[test]
@@ -123,7 +111,7 @@ fn calls_are_refused(rt: HostRuntime) -> Result<(), Fail> {
             (Call("1234567890123456", "2", 0), "refused 34"),
             (Call("1", "12a", 0), "refused 34"),
             (Call("1", "2", 17), "refused 34"),
-            (Call("1", "2", 16), "CALL called=1 calling=2 fac=0 data=16"),
+            (Call("1", "2", 16), "CALL called=1 calling=2 fac=- data=16"),
             (Call("1234567890123456", "2", 0), "refused 30"),
             (Call("1", "2", 17), "refused 30"),
             (Accept, "refused 30"),

@@ -1,5 +1,6 @@
 -- A layer's circuits, one by one.
 use Rattle.std.proofs.Common.{◌≡◌, ◌⊎◌, inl, inr, ℕ, zero, suc, ◌+◌, ◌-◌, ◌<◌, ◌≤◌, List, [], ◌∷◌, ◌++◌, length, Option, Some, None, Bool, true, false, slice_get, set, take, if◌then◌else◌, refl, sym, ap, subst, ◌∙◌, arith, IfSome, MatchOption, Bor, Result, Ok, Err, OnErr, drop, get_or, ◌||◌, ◌==◌, eq-eqb}
+use Rattle.std.specs.Result.{is_err}
 use Rattle.std.proofs.lemmas.Option.{none-some, same_Some, slice_get_within, slice_get-get_or}
 use Rattle.std.proofs.lemmas.List.{append-nil, take_all}
 use Rattle.std.proofs.lemmas.Bool.{eqb-true}
@@ -138,6 +139,11 @@ looked_up c v l h xs (Some x) Y fits low same read within =
 pub on_err : {T E : Type 0} (r : Result T E) {P : Type 0} → P → OnErr r P
 on_err (Ok x) p = tt
 on_err (Err e) p = p
+
+-- what holds at a refusal
+pub refused_with : {T E P : Type 0} (r : Result T E) → is_err r ≡ true → OnErr r P → P
+refused_with (Ok x) is err = absurd (cc)
+refused_with (Err e) is err = err
 
 -- what holds of each element holds with one changed
 pub all_changed : {X : Type 0} (P : ℕ → X → Type 0) (xs : List X) (i : ℕ) (y : X) → ((k : ℕ) (v : X) → slice_get xs k ≡ Some v → P k v) → P i y → (k : ℕ) (v : X) → slice_get (set xs i y) k ≡ Some v → P k v

@@ -1,9 +1,9 @@
 //! The calls of the user with a channel. ITU-T X.25 (10/96), sections 4.1, 4.3 and 4.4.
 //!
-//! Each is refused for the first of these grounds, numbers of the profile: 9 NotUp, 40 Restarting, 42 NoSuchChannel (`call`: 41
-//! NoFreeChannel), 10 QueueFull where 256 packets wait (not `send`, which puts no packet at once), and then as the circuit refuses
-//! it. 70 comes in place of acceptance alone, and only where the layer or its link has set memory aside for fewer than 16
-//! packets. Where a call is refused, the layer and the link are as before.
+//! Each is refused for the first of these grounds, numbers of the profile: 9 NotUp, 40 Restarting, 42 NoSuchChannel (a new
+//! call: 41 NoFreeChannel), 10 QueueFull where 256 packets wait (not `send`, which puts no packet at once), and then as the
+//! circuit refuses it. 70 comes in place of acceptance alone, and only where the layer or its link has set memory aside for
+//! fewer than 16 packets. Where a call is refused, the layer and the link are as before.
 //!
 //! An accepted call puts its packet, and then the data packets of all channels in rounds, while fewer than 8 packets wait. The
 //! link takes packets of 4,099 octets.

@@ -1,319 +1,226 @@
-//! The user's calls with a channel, over links that keep order.
-ghost use Rattle.std.specs.Prelude.{◌≤◌};
+//! The user's calls with a channel, over a plain link.
 
-use crate::hearing::takes;
-use std::alloc::Global;
-use std::process::Abort;
+use crate::play::Event::{
+    Accept, AskToAccept, Call, Clear, Fill, Interrupt, NotReady, Ready, Reset, Restart, Send,
+    State, Take, Waiting, Waits,
+};
+use crate::play::{Row, STAY, play};
 use std::test::Fail;
-use x25_circuit::{CircuitError, Request};
-use x25_layer::{Layer, LayerError, Role};
-use x25_link::{Link, OrderedLink, PlainLink};
+use x25_layer::Role;
 
-/// A call of the user, with some arguments.
-#[derive(Clone, Copy, Debug, PartialEq, Eq)]
-enum Ask {
-    Call,
-    Accept,
-    Clear,
-    Send,
-    Interrupt,
-    Reset,
-    Ready,
-    NotReady,
-}
-
-const ALL: [Ask; 8] = [
-    Ask::Call,
-    Ask::Accept,
-    Ask::Clear,
-    Ask::Send,
-    Ask::Interrupt,
-    Ask::Reset,
-    Ask::Ready,
-    Ask::NotReady,
+static RESTARTING: [Row; 11] = [
+    (Restart, "ok", "1000fb0000"),
+    (Fill(256), "", STAY),
+    (Call("1", "2", &[]), "refused 40", STAY),
+    (Accept(4), "refused 40", STAY),
+    (Clear(4), "refused 40", STAY),
+    (Send(4, false, 0), "refused 40", STAY),
+    (Interrupt(4, &[7]), "refused 40", STAY),
+    (Reset(4), "refused 40", STAY),
+    (Ready(4), "refused 40", STAY),
+    (NotReady(4), "refused 40", STAY),
+    (Waiting, "256", STAY),
 ];
-
-const WRONG_STATE: LayerError = LayerError::Circuit(CircuitError::WrongState);
-
-const BAD_PARAMETER: LayerError = LayerError::Circuit(CircuitError::BadParameter);
-
-// The user asks this on a channel. A call takes a channel of its own.
-fn asks<L: OrderedLink>(
-    alloc: Global,
-    layer: &mut Layer,
-    link: &mut L,
-    channel: u16,
-    ask: Ask,
-) -> Result<u16, LayerError>
-    requires { 4099 ≤ L.longest link.old }
-{
-    match ask {
-        Ask::Call => return layer.call(link, "1", "2", &[]),
-        Ask::Accept => layer.accept(link, channel)?,
-        Ask::Clear => layer.clear(link, channel)?,
-        Ask::Send => layer.send(link, channel, false, Vec::new(alloc))?,
-        Ask::Interrupt => layer.interrupt(link, channel, &[7])?,
-        Ask::Reset => layer.reset(link, channel)?,
-        Ask::Ready => layer.ready(link, channel)?,
-        Ask::NotReady => layer.not_ready(link, channel)?,
-    }
-    Ok(channel)
-}
-
-// A plain link in which 256 packets wait.
-fn full_link(alloc: Global) -> Result<PlainLink, Fail> {
-    let mut link = PlainLink::new(alloc)?;
-    for _ in 0..256u16 {
-        link.put(Vec::new(alloc))?;
-    }
-    Ok(link)
-}
-
-// The packet that was put first is these octets, in hexadecimal.
-fn puts(rt: &impl Abort, alloc: Global, link: &mut PlainLink, octets: &str) -> Result<(), Fail> {
-    let packet = link.out().ok_or("a packet waits")?;
-    assert_eq!(rt; hex::encode(alloc, packet.as_slice())?.as_str(), octets);
-    Ok(())
-}
-
-#[test]
-fn a_link_that_is_down_refuses_all(rt: HostRuntime) -> Result<(), Fail> {
-    let mut layer = Layer::new(rt.alloc(), Role::Dte, 3)?;
-    layer.restart(&mut PlainLink::new(rt.alloc())?)?;
-    for ask in ALL {
-        let mut link = Link::new(rt.alloc(), Role::Dte, 7, 4099, 10)?;
-        assert_eq!(rt;
-            asks(rt.alloc(), &mut layer, &mut link, 4, ask),
-            Err(LayerError::NotUp),
-            "{ask:?}"
-        );
-    }
-    Ok(())
-}
 
 #[test]
 fn a_restart_refuses_all(rt: HostRuntime) -> Result<(), Fail> {
-    let mut layer = Layer::new(rt.alloc(), Role::Dte, 3)?;
-    layer.restart(&mut PlainLink::new(rt.alloc())?)?;
-    let mut link = full_link(rt.alloc())?;
-    for ask in ALL {
-        assert_eq!(rt;
-            asks(rt.alloc(), &mut layer, &mut link, 4, ask),
-            Err(LayerError::Restarting),
-            "{ask:?}"
-        );
-    }
-    Ok(())
+    play(&rt, rt.alloc(), Role::Dte, 3, &[RESTARTING.as_slice()])
 }
+
+// The only channel has a call.
+static NO_SUCH_CHANNEL: [Row; 25] = [
+    (Call("", "", &[]), "channel 1", "10010b0000"),
+    (Fill(256), "", STAY),
+    (Call("1", "2", &[]), "refused 41", STAY),
+    (Accept(0), "refused 42", STAY),
+    (Clear(0), "refused 42", STAY),
+    (Send(0, false, 0), "refused 42", STAY),
+    (Interrupt(0, &[7]), "refused 42", STAY),
+    (Reset(0), "refused 42", STAY),
+    (Ready(0), "refused 42", STAY),
+    (NotReady(0), "refused 42", STAY),
+    (Accept(2), "refused 42", STAY),
+    (Clear(2), "refused 42", STAY),
+    (Send(2, false, 0), "refused 42", STAY),
+    (Interrupt(2, &[7]), "refused 42", STAY),
+    (Reset(2), "refused 42", STAY),
+    (Ready(2), "refused 42", STAY),
+    (NotReady(2), "refused 42", STAY),
+    (Accept(257), "refused 42", STAY),
+    (Clear(257), "refused 42", STAY),
+    (Send(257, false, 0), "refused 42", STAY),
+    (Interrupt(257, &[7]), "refused 42", STAY),
+    (Reset(257), "refused 42", STAY),
+    (Ready(257), "refused 42", STAY),
+    (NotReady(257), "refused 42", STAY),
+    (Waiting, "256", STAY),
+];
 
 #[test]
 fn a_channel_that_is_not_there_goes_before_a_full_queue(rt: HostRuntime) -> Result<(), Fail> {
-    let mut layer = Layer::new(rt.alloc(), Role::Dte, 1)?;
-    layer.call(&mut PlainLink::new(rt.alloc())?, "", "", &[])?;
-    let mut link = full_link(rt.alloc())?;
-    for ask in ALL {
-        let error = match ask {
-            Ask::Call => LayerError::NoFreeChannel,
-            _ => LayerError::NoSuchChannel,
-        };
-        for channel in [0, 2, 257] {
-            assert_eq!(rt;
-                asks(rt.alloc(), &mut layer, &mut link, channel, ask),
-                Err(error),
-                "{ask:?} on {channel}"
-            );
-        }
-    }
-    Ok(())
+    play(&rt, rt.alloc(), Role::Dte, 1, &[NO_SUCH_CHANNEL.as_slice()])
 }
+
+static FULL_QUEUE: [Row; 11] = [
+    (Fill(256), "", STAY),
+    (Call("1", "2", &[]), "refused 10", STAY),
+    (Call("x", "", &[]), "refused 10", STAY),
+    (Accept(1), "refused 10", STAY),
+    (Clear(1), "refused 10", STAY),
+    // It puts no packet at once.
+    (Send(1, false, 0), "refused 30", STAY),
+    (Interrupt(1, &[7]), "refused 10", STAY),
+    (Reset(1), "refused 10", STAY),
+    (Ready(1), "refused 10", STAY),
+    (NotReady(1), "refused 10", STAY),
+    (Waiting, "256", STAY),
+];
 
 #[test]
 fn a_full_queue_goes_before_the_circuit(rt: HostRuntime) -> Result<(), Fail> {
-    let mut layer = Layer::new(rt.alloc(), Role::Dte, 3)?;
-    let mut link = full_link(rt.alloc())?;
-    for ask in ALL {
-        let error = match ask {
-            // It puts no packet at once.
-            Ask::Send => WRONG_STATE,
-            _ => LayerError::QueueFull,
-        };
-        assert_eq!(rt;
-            asks(rt.alloc(), &mut layer, &mut link, 1, ask),
-            Err(error),
-            "{ask:?}"
-        );
-    }
-    assert_eq!(rt;
-        layer.call(&mut link, "x", "", &[]),
-        Err(LayerError::QueueFull)
-    );
-    Ok(())
+    play(&rt, rt.alloc(), Role::Dte, 3, &[FULL_QUEUE.as_slice()])
 }
+
+static NOT_ALLOWED: [Row; 10] = [
+    (Accept(1), "refused 30", ""),
+    (Clear(1), "refused 30", ""),
+    (Send(1, false, 0), "refused 30", ""),
+    (Interrupt(1, &[7]), "refused 30", ""),
+    (Reset(1), "refused 30", ""),
+    (Ready(1), "refused 30", ""),
+    (NotReady(1), "refused 30", ""),
+    (Call("x", "", &[]), "refused 34", ""),
+    (Call("", "1234567890123456", &[]), "refused 34", ""),
+    (Call("", "", &[0; 17]), "refused 34", ""),
+];
 
 #[test]
 fn the_circuit_refuses_what_its_state_does_not_allow(rt: HostRuntime) -> Result<(), Fail> {
-    let mut layer = Layer::new(rt.alloc(), Role::Dte, 3)?;
-    let mut link = PlainLink::new(rt.alloc())?;
-    for ask in ALL {
-        if ask != Ask::Call {
-            assert_eq!(rt;
-                asks(rt.alloc(), &mut layer, &mut link, 1, ask),
-                Err(WRONG_STATE),
-                "{ask:?}"
-            );
-        }
-    }
-    for (called, calling) in [("x", ""), ("", "1234567890123456")] {
-        assert_eq!(rt;
-            layer.call(&mut link, called, calling, &[]),
-            Err(BAD_PARAMETER)
-        );
-    }
-    assert_eq!(rt; layer.call(&mut link, "", "", &[0; 17]), Err(BAD_PARAMETER));
-    assert_eq!(rt; link.waiting(), 0);
-    Ok(())
+    play(&rt, rt.alloc(), Role::Dte, 3, &[NOT_ALLOWED.as_slice()])
 }
+
+static DTE_CALLS: [Row; 4] = [
+    (Call("1", "2", b"A"), "channel 3", "10030b11120041"),
+    (Call("1", "2", b"A"), "channel 2", "10020b11120041"),
+    (Call("1", "2", b"A"), "channel 1", "10010b11120041"),
+    (Call("1", "2", &[]), "refused 41", ""),
+];
+
+static DCE_CALLS: [Row; 4] = [
+    (Call("1", "2", b"A"), "channel 1", "10010b11120041"),
+    (Call("1", "2", b"A"), "channel 2", "10020b11120041"),
+    (Call("1", "2", b"A"), "channel 3", "10030b11120041"),
+    (Call("1", "2", &[]), "refused 41", ""),
+];
 
 #[test]
 fn a_call_takes_a_free_channel(rt: HostRuntime) -> Result<(), Fail> {
-    for (role, channels) in [(Role::Dte, [3, 2, 1]), (Role::Dce, [1, 2, 3])] {
-        let mut layer = Layer::new(rt.alloc(), role, 3)?;
-        let mut link = PlainLink::new(rt.alloc())?;
-        for channel in channels {
-            assert_eq!(rt; layer.call(&mut link, "1", "2", b"A"), Ok(channel));
-            let packet = link.out().ok_or("a CALL waits")?;
-            let [0x10, number, 0x0b, 0x11, 0x12, 0x00, 0x41] = packet.as_slice() else {
-                return Err("a CALL".into());
-            };
-            assert_eq!(rt; u16::from(*number), channel);
-        }
-        assert_eq!(rt;
-            layer.call(&mut link, "1", "2", &[]),
-            Err(LayerError::NoFreeChannel)
-        );
-        assert_eq!(rt; link.waiting(), 0);
-    }
-    Ok(())
+    play(&rt, rt.alloc(), Role::Dte, 3, &[DTE_CALLS.as_slice()])?;
+    play(&rt, rt.alloc(), Role::Dce, 3, &[DCE_CALLS.as_slice()])
 }
+
+static CLEARED: [Row; 5] = [
+    (Call("", "", &[]), "channel 1", "10010b0000"),
+    (Call("", "", &[]), "channel 2", "10020b0000"),
+    (Clear(1), "ok", "1001130000"),
+    (Clear(1), "refused 30", ""),
+    (Clear(2), "ok", "1002130000"),
+];
 
 #[test]
 fn a_call_is_cleared(rt: HostRuntime) -> Result<(), Fail> {
-    let mut layer = Layer::new(rt.alloc(), Role::Dce, 3)?;
-    let mut link = PlainLink::new(rt.alloc())?;
-    assert_eq!(rt; layer.call(&mut link, "", "", &[]), Ok(1));
-    assert_eq!(rt; layer.call(&mut link, "", "", &[]), Ok(2));
-    layer.clear(&mut link, 1)?;
-    assert_eq!(rt; layer.clear(&mut link, 1), Err(WRONG_STATE));
-    layer.clear(&mut link, 2)?;
-    for octets in ["10010b0000", "10020b0000", "1001130000", "1002130000"] {
-        puts(&rt, rt.alloc(), &mut link, octets)?;
-    }
-    Ok(())
+    play(&rt, rt.alloc(), Role::Dce, 3, &[CLEARED.as_slice()])
 }
 
-// A layer with a call on channel 1, which the other end has accepted.
-fn opened(alloc: Global) -> Result<Layer, Fail> {
-    let mut layer = Layer::new(alloc, Role::Dce, 2)?;
-    let mut link = PlainLink::new(alloc)?;
-    layer.call(&mut link, "", "", &[])?;
-    takes(alloc, &mut layer, &mut link, "10010f")?;
-    Ok(layer)
-}
+// A call on channel 1, which the other end accepts.
+static OPENED: [Row; 2] = [
+    (Call("", "", &[]), "channel 1", "10010b0000"),
+    (Take("10010f"), "1: connected", ""),
+];
+
+static EACH: [Row; 6] = [
+    (Clear(1), "ok", "1001130000"),
+    (Send(1, false, 0), "ok", "100100"),
+    (Interrupt(1, &[7]), "ok", "10012307"),
+    (Reset(1), "ok", "10011b0000"),
+    (Ready(1), "ok", "100101"),
+    (NotReady(1), "ok", "100105"),
+];
 
 #[test]
 fn each_call_puts_its_packet_on_its_channel(rt: HostRuntime) -> Result<(), Fail> {
-    for (ask, octets) in [
-        (Ask::Clear, "1001130000"),
-        (Ask::Send, "100100"),
-        (Ask::Interrupt, "10012307"),
-        (Ask::Reset, "10011b0000"),
-        (Ask::Ready, "100101"),
-        (Ask::NotReady, "100105"),
-    ] {
-        let mut layer = opened(rt.alloc())?;
-        let mut link = PlainLink::new(rt.alloc())?;
-        assert_eq!(rt;
-            asks(rt.alloc(), &mut layer, &mut link, 1, ask),
-            Ok(1),
-            "{ask:?}"
-        );
-        puts(&rt, rt.alloc(), &mut link, octets)?;
-        assert_eq!(rt; link.waiting(), 0);
+    for rows in EACH.chunks(1) {
+        play(&rt, rt.alloc(), Role::Dce, 2, &[OPENED.as_slice(), rows])?;
     }
     Ok(())
 }
+
+static ACCEPTED: [Row; 4] = [
+    (Take("10020b111200"), "2: incoming", ""),
+    (AskToAccept(2), "ok", "10020f"),
+    (Accept(2), "refused 30", ""),
+    (State(2), "0.0.0, open", ""),
+];
 
 #[test]
 fn a_call_that_came_is_accepted(rt: HostRuntime) -> Result<(), Fail> {
-    let mut layer = opened(rt.alloc())?;
-    let mut link = PlainLink::new(rt.alloc())?;
-    let told = takes(rt.alloc(), &mut layer, &mut link, "10020b111200")?;
-    assert_eq!(rt; told.as_str(), "2: incoming");
-    assert_eq!(rt; layer.ask(&mut link, 2, Request::Accept), Ok(()));
-    assert_eq!(rt; layer.accept(&mut link, 2), Err(WRONG_STATE));
-    puts(&rt, rt.alloc(), &mut link, "10020f")?;
-    assert_eq!(rt; layer.is_open(2), true);
-    Ok(())
+    play(
+        &rt,
+        rt.alloc(),
+        Role::Dce,
+        2,
+        &[OPENED.as_slice(), ACCEPTED.as_slice()],
+    )
 }
+
+static WAITING: [Row; 20] = [
+    (Fill(256), "", STAY),
+    (Send(1, true, 0), "ok", STAY),
+    (Waits, "1", STAY),
+    (Send(1, true, 0), "ok", STAY),
+    (Waits, "2", STAY),
+    (Send(1, true, 0), "ok", STAY),
+    (Waits, "3", STAY),
+    (Send(1, true, 0), "ok", STAY),
+    (Waits, "4", STAY),
+    (Send(1, true, 0), "ok", STAY),
+    (Waits, "5", STAY),
+    (Send(1, true, 0), "ok", STAY),
+    (Waits, "6", STAY),
+    (Send(1, true, 0), "ok", STAY),
+    (Waits, "7", STAY),
+    (Send(1, true, 0), "ok", STAY),
+    (Waits, "8", STAY),
+    (Send(1, true, 0), "refused 31", STAY),
+    (Send(1, true, 65_536), "refused 32", STAY),
+    (Waiting, "256", STAY),
+];
 
 #[test]
 fn messages_wait_behind_a_full_queue(rt: HostRuntime) -> Result<(), Fail> {
-    let mut layer = opened(rt.alloc())?;
-    let mut link = full_link(rt.alloc())?;
-    for waits in 1..=8 {
-        layer.send(&mut link, 1, true, Vec::new(rt.alloc()))?;
-        assert_eq!(rt; layer.waits(), waits);
-    }
-    assert_eq!(rt; link.waiting(), 256);
-    assert_eq!(rt;
-        layer.send(&mut link, 1, true, Vec::new(rt.alloc())),
-        Err(LayerError::Circuit(CircuitError::Full))
-    );
-    let mut long = Vec::new(rt.alloc());
-    for _ in 0..65_536u32 {
-        long.push(0)?;
-    }
-    assert_eq!(rt;
-        layer.send(&mut link, 1, true, long),
-        Err(LayerError::Circuit(CircuitError::TooLong))
-    );
-    Ok(())
+    play(
+        &rt,
+        rt.alloc(),
+        Role::Dce,
+        2,
+        &[OPENED.as_slice(), WAITING.as_slice()],
+    )
 }
+
+static INTERRUPTS: [Row; 4] = [
+    (Interrupt(1, &[]), "refused 34", ""),
+    (Interrupt(1, &[0; 33]), "refused 34", ""),
+    (Interrupt(1, &[0; 32]), "ok", "1001230000"),
+    (Interrupt(1, &[0]), "refused 33", ""),
+];
 
 #[test]
 fn one_interrupt_at_a_time(rt: HostRuntime) -> Result<(), Fail> {
-    let mut layer = opened(rt.alloc())?;
-    let mut link = PlainLink::new(rt.alloc())?;
-    assert_eq!(rt; layer.interrupt(&mut link, 1, &[]), Err(BAD_PARAMETER));
-    assert_eq!(rt; layer.interrupt(&mut link, 1, &[0; 33]), Err(BAD_PARAMETER));
-    layer.interrupt(&mut link, 1, &[0; 32])?;
-    assert_eq!(rt;
-        layer.interrupt(&mut link, 1, &[0]),
-        Err(LayerError::Circuit(CircuitError::InterruptOutstanding))
-    );
-    Ok(())
-}
-
-#[test]
-fn a_call_goes_over_a_station(rt: HostRuntime) -> Result<(), Fail> {
-    let mut layer = Layer::new(rt.alloc(), Role::Dte, 1)?;
-    let mut link = Link::new(rt.alloc(), Role::Dte, 7, 4099, 10)?;
-    link.connect()?;
-    // UA with F=1.
-    link.take(&[0x01, 0x73, 0x83, 0x57])?;
-    if link.limit() < 4099 {
-        return Err("a shorter limit")?;
-    }
-    assert_eq!(rt; layer.call(&mut link, "", "", &[]), Ok(1));
-    let frames = link.sent();
-    assert_eq!(rt; frames.len(), 1);
-    let frame = frames[0].as_slice();
-    // Address and control of the I frame, and the packet.
-    assert_eq!(rt;
-        hex::encode(rt.alloc(), frame)?
-            .as_str()
-            .starts_with("010010010b0000"),
-        true
-    );
-    Ok(())
+    play(
+        &rt,
+        rt.alloc(),
+        Role::Dce,
+        2,
+        &[OPENED.as_slice(), INTERRUPTS.as_slice()],
+    )
 }

@@ -3,7 +3,7 @@
 use x25_circuit::CircuitError;
 use x25_layer::LayerError;
 
-const NUMBERS: [(LayerError, u8); 9] = [
+static NUMBERS: [(LayerError, u8); 9] = [
     (LayerError::NotUp, 9),
     (LayerError::QueueFull, 10),
     (LayerError::BadConfig, 14),
@@ -17,7 +17,7 @@ const NUMBERS: [(LayerError, u8); 9] = [
 
 #[test]
 fn each_refusal_has_its_number(rt: HostRuntime) {
-    for (error, number) in NUMBERS {
+    for &(error, number) in NUMBERS.iter() {
         assert_eq!(rt; error.number(), number, "{error:?}");
     }
 }

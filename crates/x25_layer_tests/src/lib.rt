@@ -3,10 +3,20 @@
 #![tactic(auto)]
 
 #[cfg(test)]
+mod agreeing;
+#[cfg(test)]
 mod calls;
 #[cfg(test)]
 mod errors;
 #[cfg(test)]
 mod hearing;
 #[cfg(test)]
+mod play;
+#[cfg(test)]
 mod restart;
+#[cfg(test)]
+mod rounds;
+#[cfg(test)]
+mod station;
+#[cfg(test)]
+mod texts;

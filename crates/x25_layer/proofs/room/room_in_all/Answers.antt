@@ -1,12 +1,18 @@
-use Rattle.std.proofs.Common.{◌≡◌, ◌≤◌, ◌<◌, ℕ, suc, List, length, set, sym, subst, arith, rules}
+use Rattle.std.proofs.Common.{◌≡◌, ◌≤◌, ◌∙◌, ◌<◌, ℕ, suc, List, length, set, sym, subst, arith, false, Result, Ok, Err, OnOk}
+use Rattle.std.specs.Result.{is_err}
 use Rattle.std.proofs.lemmas.List.{length-set}
 use Rattle.std.proofs.lemmas.Option.{slice_get_within, slice_get-get_or}
 use Rattle.x25_circuit.specs.declared.circuit.Circuit as circuit_code
 use Rattle.x25_circuit.specs.FitsCircuit.{FitsCircuit, room_of, clears_of, resets_of}
 use Rattle.x25_layer.specs.FitsLayer.{FitsCircuits}
 use Rattle.x25_layer.specs.Room.{HasCountsLeft, HaveCountsLeft, HaveRoom}
-use Rattle.x25_layer.proofs.FitLemmas.{written_back, all_changed, below_changed}
+use Rattle.x25_layer.proofs.FitLemmas.{refused_with, written_back, all_changed, below_changed}
 use Rattle.x25_layer.proofs.room.room_in_all.Goals as goal
+
+-- what holds where a call isn't refused
+kept_ok : {T E P : Type 0} (r : Result T E) → is_err r ≡ false → OnOk r P → P
+kept_ok (Ok x) is ok = ok
+kept_ok (Err e) is ok = absurd (cc)
 
 -- the same counts
 counts_left : (v w : circuit_code.Circuit) → clears_of w ≡ clears_of v → resets_of w ≡ resets_of v → HasCountsLeft v → HasCountsLeft w
@@ -31,7 +37,8 @@ loop-circuit-preserved c =
           let here = before i _ found in
           let grows = c.room.ensures.grows in
           all_changed (λ (k : ℕ) (v : circuit_code.Circuit). c.args.len ≤ room_of v) c.loop-circuit.circuit-items i c.room.new.self before (omega (arith, here, grows));
-      room = below_changed (λ (v : circuit_code.Circuit). c.args.len ≤ room_of v) c.loop-circuit.circuit-items i c.room.new.self c.loop-circuit.invariant.room (search rules);
+      room = below_changed (λ (v : circuit_code.Circuit). c.args.len ≤ room_of v) c.loop-circuit.circuit-items i c.room.new.self c.loop-circuit.invariant.room
+          (kept_ok c.room.result (sym c.is_err.ensures.value ∙ c.if-is_err.false) c.room.ensures.ok);
     }
 
 -- ---- at a refusal
@@ -67,8 +74,8 @@ returns-then-is_err-clause-enough c = λ enough.
     let found = slice_get-get_or c.loop-circuit.circuit-items i c.circuit-item.result (omega arith) in
     let before = c.loop-circuit.invariant.enough (subst (λ (vs : List circuit_code.Circuit). HaveRoom c.args.len vs) (sym c.deref_mut-circuit-items.ensures.value) enough) in
     let here = before i _ found in
-    let missing = c.room.ensures.missing in
-    search (rules, arith)
+    let missing = refused_with c.room.result (sym c.is_err.ensures.value ∙ c.if-is_err.true) c.room.ensures.missing in
+    absurd (omega (arith, here, missing))
 
 -- ---- at the end
 

@@ -1,4 +1,4 @@
-use Rattle.std.proofs.Common.{refl, sym, subst, arith, lit≤, true, List, ℕ, ◌∙◌}
+use Rattle.std.proofs.Common.{refl, sym, subst, arith, lit≤, true}
 use Rattle.x25_packet.specs.Facilities.{IsFacilityField}
 use Rattle.x25_circuit.specs.declared.params.Params.{Params}
 use Rattle.x25_circuit.specs.declared.state.State.TheVariants.{Calling}
@@ -10,12 +10,18 @@ use Rattle.x25_circuit.proofs.ParamsLemmas.{field_is_allowed}
 use Rattle.x25_circuit.proofs.circuit.Circuit.call_out.Goals as goal
 
 pub returns-clause-range : goal.returns-clause-range
-returns-clause-range c =
-    ((lit≤ tt, lit≤ tt), c.in-Some.ensures.address, c.in-Some-address.ensures.address,
-    subst IsFacilityField (sym c.requires) (field_is_allowed default_params c.args.params c.in-Some-of.ensures.allowed), omega (arith))
+returns-clause-range c = (
+  (lit≤ tt, lit≤ tt),
+  c.in-Some.ensures.address,
+  c.in-Some-address.ensures.address,
+  subst IsFacilityField (sym c.requires) (field_is_allowed default_params c.args.params c.in-Some-of.ensures.allowed),
+  omega (arith),
+)
 
 pub returns-clause-outcome : goal.returns-clause-outcome
 returns-clause-outcome c = λ d x fits.
     rw (calls_with c.args.called.now c.args.calling.now c.args.user.now c.args.params c.in-Some.ensures.some c.in-Some-address.ensures.some (omega arith) c.in-Some-of.ensures.allowed)
-    ((subst (λ (p : Params). FitsCircuit d c.enter.new.self (entered x Calling p true)) c.in-Some-of.ensures.some (c.enter.ensures.fits d x fits),
-    rw (c.in-Some.ensures.digits, c.in-Some-address.ensures.digits, c.requires) refl))
+    ((
+      subst (λ (p : Params). FitsCircuit d c.enter.new.self (entered x Calling p true)) c.in-Some-of.ensures.some (c.enter.ensures.fits d x fits),
+      rw (c.in-Some.ensures.digits, c.in-Some-address.ensures.digits, c.requires) refl,
+    ))

@@ -1,4 +1,4 @@
-use Rattle.std.proofs.Common.{sym, refl, ◌∙◌}
+use Rattle.std.proofs.Common.{sym, ◌∙◌}
 use Rattle.x25_circuit.proofs.circuit.Circuit.call_with.Goals as goal
 
 pub returns-in-Free-clause-outcome : goal.returns-in-Free-clause-outcome

@@ -1,0 +1,255 @@
+//! A layer, its link, and tables of what happens to them.
+ghost use Rattle.std.specs.Prelude.{◌≤◌};
+
+use crate::texts::{agreed_text, channel_text, done_text, put_text, state_text, told_text};
+use std::alloc::{AllocError, Global};
+use std::process::Abort;
+use std::test::Fail;
+use x25_circuit::Request;
+use x25_layer::{Layer, LayerError, Params, Role};
+use x25_link::{OrderedLink, PlainLink};
+
+/// Packet sizes of the called and of the calling end, and then windows.
+type Values = [u8; 4];
+
+/// What happens to a layer, or to its link.
+#[derive(Clone, Copy)]
+pub enum Event<'a> {
+    /// The link came up.
+    Up,
+    /// The link went down.
+    Down,
+    Restart,
+    /// The user calls, with the addresses called and calling, and user data.
+    Call(&'a str, &'a str, &'a [u8]),
+    /// The user calls address 1 from address 2, and proposes these packet sizes and windows.
+    CallWith(Values),
+    Accept(u16),
+    /// The user accepts a call, and answers these.
+    AcceptWith(u16, Values),
+    /// The user accepts a call, by the call of the layer that takes any request.
+    AskToAccept(u16),
+    Clear(u16),
+    /// A message with this qualifier and so many octets, all 0.
+    Send(u16, bool, usize),
+    Interrupt(u16, &'a [u8]),
+    Reset(u16),
+    Ready(u16),
+    NotReady(u16),
+    /// Octets, in hexadecimal, are handed up by the link.
+    Take(&'a str),
+    /// So many packets of the octet 7 are handed down to the link, by another than the layer.
+    Fill(usize),
+    /// Memory is set aside for what comes. The text is that for 16 packets is.
+    Room,
+    /// Nothing happens. The text is the channel's name, and whether it is open.
+    State(u16),
+    /// Nothing happens. The text is the channel's packet sizes and windows.
+    Agreed(u16),
+    /// Nothing happens. The text says how many messages wait.
+    Waits,
+    /// Nothing happens. The text says whether a count is full.
+    Full,
+    /// Nothing happens. The text says how many packets wait in the link.
+    Waiting,
+}
+
+use Event::{
+    Accept, AcceptWith, Agreed, AskToAccept, Call, CallWith, Clear, Down, Fill, Full, Interrupt,
+    NotReady, Ready, Reset, Restart, Room, Send, State, Take, Up, Waiting, Waits,
+};
+
+/// What happens, and what it shows.
+pub type Shown = (Event<'static>, &'static str);
+
+/// The packets that wait in the link stay there, and aren't looked at.
+pub const STAY: &str = "stay";
+
+/// What happens, what it shows, and the packets that wait in the link then, which are taken out of it, or `STAY`.
+pub type Row = (Event<'static>, &'static str, &'static str);
+
+fn params_of(values: Values) -> Params {
+    Params {
+        size_called: values[0],
+        size_calling: values[1],
+        win_called: values[2],
+        win_calling: values[3],
+    }
+}
+
+fn zeros(alloc: Global, count: usize) -> Result<Vec<u8>, AllocError> {
+    let mut octets = Vec::new(alloc);
+    for _ in 0..count {
+        octets.push(0)?;
+    }
+    Ok(octets)
+}
+
+// Tells the layer that a link came up, of which that is asked first.
+fn came_up<L: OrderedLink>(layer: &mut Layer, link: &mut L) -> Result<(), LayerError>
+    requires { 4099 ≤ L.longest link.old }
+{
+    if !link.is_up() {
+        return Err(LayerError::NotUp);
+    }
+    if link.waiting() == 256 {
+        return Err(LayerError::QueueFull);
+    }
+    layer.up(link)
+}
+
+fn fill<L: OrderedLink>(alloc: Global, link: &mut L, count: usize) -> Result<String, Fail> {
+    for _ in 0..count {
+        if link.limit() == 0 {
+            return Err("the link takes no octet")?;
+        }
+        link.put(vec![in alloc; 7u8]?)?;
+    }
+    Ok(String::new(alloc))
+}
+
+// Hands octets up to a layer that may take them.
+fn take<L: OrderedLink>(
+    alloc: Global,
+    layer: &mut Layer,
+    link: &mut L,
+    octets: &str,
+) -> Result<String, Fail> {
+    if !link.is_up() || link.waiting() == 256 || link.limit() < 4099 || layer.full() {
+        return Err("the layer takes no packet")?;
+    }
+    let octets = hex::decode(alloc, octets)?;
+    let told = layer.packet(link, octets.as_slice())?;
+    Ok(told_text(alloc, &told)?)
+}
+
+// Sets memory aside for packets of 4,099 octets.
+fn room<L: OrderedLink>(alloc: Global, layer: &mut Layer, link: &mut L) -> Result<String, Fail> {
+    layer.room(link, 4099)?;
+    let enough = link.spare() >= 16;
+    Ok(format!(in alloc; "{enough}")?)
+}
+
+// The user asks this, which answers no value. Of other events nothing happens.
+fn asks<L: OrderedLink>(layer: &mut Layer, link: &mut L, event: Event) -> Result<(), LayerError>
+    requires { 4099 ≤ L.longest link.old }
+{
+    match event {
+        Up => came_up(layer, link),
+        Restart => layer.restart(link),
+        Accept(channel) => layer.accept(link, channel),
+        AcceptWith(channel, values) => layer.accept_with(link, channel, params_of(values)),
+        AskToAccept(channel) => layer.ask(link, channel, Request::Accept { answer: None }),
+        Clear(channel) => layer.clear(link, channel),
+        Interrupt(channel, user) => layer.interrupt(link, channel, user),
+        Reset(channel) => layer.reset(link, channel),
+        Ready(channel) => layer.ready(link, channel),
+        NotReady(channel) => layer.not_ready(link, channel),
+        _ => Ok(()),
+    }
+}
+
+// What is asked where nothing happens.
+fn looks<L: OrderedLink>(
+    alloc: Global,
+    layer: &Layer,
+    link: &L,
+    event: Event,
+) -> Result<String, AllocError> {
+    match event {
+        State(channel) => state_text(alloc, layer, channel),
+        Agreed(channel) => agreed_text(alloc, layer, channel),
+        Waits => format!(in alloc; "{}", layer.waits()),
+        Full => format!(in alloc; "{}", layer.full()),
+        _ => format!(in alloc; "{}", link.waiting()),
+    }
+}
+
+fn happens<L: OrderedLink>(
+    alloc: Global,
+    layer: &mut Layer,
+    link: &mut L,
+    event: Event,
+) -> Result<String, Fail> {
+    if link.limit() < 4099 {
+        return Err("the link takes no packet of 4,099 octets")?;
+    }
+    let text = match event {
+        Take(octets) => return take(alloc, layer, link, octets),
+        Fill(count) => return fill(alloc, link, count),
+        Room => return room(alloc, layer, link),
+        Down => {
+            layer.down();
+            Ok(String::new(alloc))
+        }
+        State(_) | Agreed(_) | Waits | Full | Waiting => looks(alloc, layer, link, event),
+        Call(called, calling, user) => {
+            channel_text(alloc, layer.call(link, called, calling, user))
+        }
+        CallWith(values) => {
+            let params = params_of(values);
+            channel_text(alloc, layer.call_with(link, "1", "2", &[], params))
+        }
+        Send(channel, q, count) => {
+            let user = zeros(alloc, count)?;
+            done_text(alloc, layer.send(link, channel, q, user))
+        }
+        _ => done_text(alloc, asks(layer, link, event)),
+    };
+    Ok(text?)
+}
+
+/// Each event shows its text, over any link.
+pub fn plays_over<L: OrderedLink>(
+    rt: &impl Abort,
+    alloc: Global,
+    layer: &mut Layer,
+    link: &mut L,
+    rows: &[Shown],
+) -> Result<(), Fail> {
+    for (row, &(event, text)) in rows.iter().enumerate() {
+        assert_eq!(rt;
+            happens(alloc, layer, link, event)?.as_str(),
+            text,
+            "row {row}"
+        );
+    }
+    Ok(())
+}
+
+/// Each event shows its text and puts its packets.
+fn plays(
+    rt: &impl Abort,
+    alloc: Global,
+    layer: &mut Layer,
+    link: &mut PlainLink,
+    rows: &[Row],
+) -> Result<(), Fail> {
+    for (row, &(event, text, packets)) in rows.iter().enumerate() {
+        assert_eq!(rt;
+            happens(alloc, layer, link, event)?.as_str(),
+            text,
+            "row {row}"
+        );
+        if packets != STAY {
+            assert_eq!(rt; put_text(alloc, link)?.as_str(), packets, "row {row}");
+        }
+    }
+    Ok(())
+}
+
+/// Plays tables at a layer of so many channels, each over a plain link of its own.
+pub fn play(
+    rt: &impl Abort,
+    alloc: Global,
+    role: Role,
+    channels: usize,
+    tables: &[&[Row]],
+) -> Result<(), Fail> {
+    let mut layer = Layer::new(alloc, role, channels)?;
+    for rows in tables {
+        let mut link = PlainLink::new(alloc)?;
+        plays(rt, alloc, &mut layer, &mut link, rows)?;
+    }
+    Ok(())
+}

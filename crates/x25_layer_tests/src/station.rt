@@ -1,0 +1,104 @@
+//! A layer over a link station.
+
+use crate::play::Event::{
+    Accept, Call, Clear, Down, Interrupt, NotReady, Ready, Reset, Restart, Room, Send, Take, Up,
+};
+use crate::play::{Shown, plays_over};
+use crate::texts::append;
+use std::alloc::{AllocError, Global};
+use std::process::Abort;
+use std::test::Fail;
+use x25_layer::{Layer, Role};
+use x25_link::{Link, LinkError, PlainLink};
+
+// Brings a DTE up: its SABM is lost, and UA with F=1 comes.
+fn connect(link: &mut Link) -> Result<(), LinkError> {
+    link.connect()?;
+    link.take(&[0x01, 0x73, 0x83, 0x57])?;
+    Ok(())
+}
+
+// The frames that a link sent, in hexadecimal.
+fn sent_text(alloc: Global, link: &mut Link) -> Result<String, AllocError> {
+    let mut text = String::new(alloc);
+    for frame in link.sent() {
+        append(&mut text, hex::encode(alloc, frame.as_slice())?.as_str())?;
+    }
+    Ok(text)
+}
+
+// Over a station that is up or down each event shows its text, and then these frames were sent.
+fn plays_over_station(
+    rt: &impl Abort,
+    alloc: Global,
+    layer: &mut Layer,
+    up: bool,
+    rows: &[Shown],
+    frames: &str,
+) -> Result<(), Fail> {
+    let mut link = Link::new(alloc, Role::Dte, 7, 4099, 10)?;
+    if up {
+        connect(&mut link)?;
+    }
+    plays_over(rt, alloc, layer, &mut link, rows)?;
+    assert_eq!(rt; sent_text(alloc, &mut link)?.as_str(), frames);
+    Ok(())
+}
+
+static REFUSED_RESTART: [Shown; 1] = [(Restart, "refused 9")];
+
+#[test]
+fn a_link_that_is_down_takes_no_restart(rt: HostRuntime) -> Result<(), Fail> {
+    let mut layer = Layer::new(rt.alloc(), Role::Dte, 1)?;
+    let rows = REFUSED_RESTART.as_slice();
+    plays_over_station(&rt, rt.alloc(), &mut layer, false, rows, "")
+}
+
+static REFUSED: [Shown; 8] = [
+    (Call("1", "2", &[]), "refused 9"),
+    (Accept(4), "refused 9"),
+    (Clear(4), "refused 9"),
+    (Send(4, false, 0), "refused 9"),
+    (Interrupt(4, &[7]), "refused 9"),
+    (Reset(4), "refused 9"),
+    (Ready(4), "refused 9"),
+    (NotReady(4), "refused 9"),
+];
+
+#[test]
+fn a_link_that_is_down_refuses_all(rt: HostRuntime) -> Result<(), Fail> {
+    let mut layer = Layer::new(rt.alloc(), Role::Dte, 3)?;
+    layer.restart(&mut PlainLink::new(rt.alloc())?)?;
+    let rows = REFUSED.as_slice();
+    plays_over_station(&rt, rt.alloc(), &mut layer, false, rows, "")
+}
+
+static CALLED: [Shown; 1] = [(Call("", "", &[]), "channel 1")];
+
+// Address and control of an I frame, its packet, and the frame check sequence.
+const CALL_FRAME: &str = "010010010b0000f892";
+
+#[test]
+fn a_call_goes_over_a_station(rt: HostRuntime) -> Result<(), Fail> {
+    let mut layer = Layer::new(rt.alloc(), Role::Dte, 1)?;
+    let rows = CALLED.as_slice();
+    plays_over_station(&rt, rt.alloc(), &mut layer, true, rows, CALL_FRAME)
+}
+
+static HEARD: [Shown; 6] = [
+    (Room, "true"),
+    (Down, ""),
+    (Up, "ok"),
+    (Take("1000ff"), "restart done"),
+    (Take("10010b0000"), "1: incoming"),
+    (Take("1001ff"), "1: fault 33"),
+];
+
+const RESTART_AND_CLEAR: &str = "01001000fb00007702 01021001138021be65";
+
+#[test]
+fn a_layer_over_a_link(rt: HostRuntime) -> Result<(), Fail> {
+    let mut layer = Layer::new(rt.alloc(), Role::Dte, 1)?;
+    let rows = HEARD.as_slice();
+    plays_over_station(&rt, rt.alloc(), &mut layer, true, rows, RESTART_AND_CLEAR)
+}
