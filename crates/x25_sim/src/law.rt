@@ -2,6 +2,7 @@
 //! does nothing.
 ghost use Rattle.x25_world.specs.Claims.{ArrivesAll, HasNoProcedureError, IsInWindow, IsLawful, IsNamed, IsUpOnce};
 ghost use Rattle.x25_sim.specs.RunLaw.{OfScripts, ScriptsAreRuns, ScriptsAreTapped, ScriptsAreTold};
+ghost use Rattle.x25_sim.specs.ScriptRows.{BothEndsGoDown, CallsCollide, DamageIsSeen, FramesAreWritten, LinkGoesDown, LinksComeUp, MessagesArrive, OtherLinesAreRefused, ResetIsDone, RestartIsDone};
 
 use x25_script::lines_are_in_octets;
 use x25_world::two_stations_keep_order;
@@ -31,3 +32,18 @@ pub fn scripts_keep_order()
     scripts_are_runs();
     two_stations_keep_order();
 }
+
+/// Worked scripts, with what is written and the status: set-up, and with its frames; a link that goes down by retries; damage and
+/// other refusals; two calls that collide; lines outside of the grammar; a call and its messages; `reset`, `restart` and `disconnect`.
+pub fn scripts_move()
+    ensures set_up { LinksComeUp }
+    ensures frames { FramesAreWritten }
+    ensures down { LinkGoesDown }
+    ensures damage { DamageIsSeen }
+    ensures collision { CallsCollide }
+    ensures unread { OtherLinesAreRefused }
+    ensures messages { MessagesArrive }
+    ensures reset { ResetIsDone }
+    ensures restart { RestartIsDone }
+    ensures disconnect { BothEndsGoDown }
+{}
