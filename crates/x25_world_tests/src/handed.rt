@@ -42,6 +42,7 @@ fn asked(asked: &Asked) -> Option<Content<'_>> {
             called,
             calling,
             user,
+            ..
         } => (Kind::Call, false, called.as_str(), calling.as_str(), user),
         _ => return None,
     };
@@ -70,6 +71,7 @@ fn told(told: &Told) -> Option<Content<'_>> {
             called,
             calling,
             user,
+            ..
         } => (
             Kind::Call,
             false,

@@ -5,6 +5,7 @@ use crate::play::number_of;
 use std::alloc::Global;
 use std::process::Abort;
 use std::test::Fail;
+use x25_layer::Params;
 use x25_station::{Cfg, Cmd};
 use x25_world::Direction::{ToDce, ToDte};
 use x25_world::Role::{Dce, Dte};
@@ -79,6 +80,19 @@ fn address(numbers: &mut Numbers) -> &'static str {
     ADDRESSES.get(numbers.below(4)).copied().unwrap_or("")
 }
 
+// Packet sizes and windows: the defaults, which may always be answered, or any that may be proposed.
+fn params(numbers: &mut Numbers) -> Params {
+    if numbers.below(2) == 0 {
+        return Params::default();
+    }
+    Params {
+        size_called: numbers.up_to(9).saturating_add(3),
+        size_calling: numbers.up_to(9).saturating_add(3),
+        win_called: numbers.up_to(7),
+        win_calling: numbers.up_to(7),
+    }
+}
+
 fn role(numbers: &mut Numbers) -> Role {
     if numbers.below(2) == 0 { Dte } else { Dce }
 }
@@ -88,7 +102,7 @@ fn direction(numbers: &mut Numbers) -> Direction {
 }
 
 /// The kinds of commands, and then those of the other events.
-const COMMANDS: usize = 10;
+const COMMANDS: usize = 12;
 
 const KINDS: usize = COMMANDS + 4;
 
@@ -115,13 +129,23 @@ fn command(numbers: &mut Numbers, kind: usize, channels: u8) -> Cmd<'static> {
         5 => Cmd::Reset { channel },
         6 => Cmd::Ready { channel },
         7 => Cmd::NotReady { channel },
-        8 => Cmd::Restart,
+        8 => Cmd::CallWith {
+            called: address(numbers),
+            calling: address(numbers),
+            user: octets(numbers, 17),
+            params: params(numbers),
+        },
+        9 => Cmd::AcceptWith {
+            channel,
+            params: params(numbers),
+        },
+        10 => Cmd::Restart,
         _ => Cmd::Disconnect,
     }
 }
 
 // How often each kind of command comes, of 64.
-const OFTEN: [usize; COMMANDS] = [14, 16, 2, 20, 6, 1, 2, 1, 1, 1];
+const OFTEN: [usize; COMMANDS] = [8, 9, 2, 20, 6, 1, 2, 1, 6, 7, 1, 1];
 
 fn kind_of_command(numbers: &mut Numbers) -> usize {
     let mut left = numbers.below(64);
