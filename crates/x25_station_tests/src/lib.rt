@@ -1,5 +1,19 @@
-//! Tests of `x25_station`: the numbers of its errors.
+//! Tests of `x25_station`: tables of what happens at a station and what it answers, and the numbers of its errors.
 #![tactic(auto)]
 
 #[cfg(test)]
+mod commands;
+#[cfg(test)]
 mod errors;
+#[cfg(test)]
+mod hearing;
+#[cfg(test)]
+mod linking;
+#[cfg(test)]
+mod octets;
+#[cfg(test)]
+mod peer;
+#[cfg(test)]
+mod rows;
+#[cfg(test)]
+mod texts;

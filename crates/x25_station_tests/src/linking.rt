@@ -1,0 +1,103 @@
+//! Set-up, timer T1, disconnection, and settings.
+
+use crate::peer::{Act, Row, Table, play};
+use crate::rows::{CALL, READY_DTE, SEND, UA};
+use Act::{Ask, Connect, HearRr, Idle, Stretch, T1, Take};
+use std::test::Fail;
+use x25_station::{Cfg, Cmd, Role, Station, StationError};
+
+#[test]
+fn a_setting_out_of_its_range(rt: HostRuntime) {
+    for (k, n2, channels) in [(0, 1, 1), (8, 1, 1), (1, 0, 1), (1, 1, 0), (1, 1, 17)] {
+        let cfg = Cfg { k, n2, channels };
+        match Station::new(rt.alloc(), Role::Dte, cfg) {
+            Ok(_) => assert!(rt; false, "{cfg:?}"),
+            Err(error) => assert_eq!(rt; error, StationError::BadConfig, "{cfg:?}"),
+        }
+    }
+    for (k, n2, channels) in [(1, 1, 1), (7, 255, 16)] {
+        let cfg = Cfg { k, n2, channels };
+        assert!(rt; Station::new(rt.alloc(), Role::Dce, cfg).is_ok(), "{cfg:?}");
+    }
+}
+
+const NO_ANSWER: [Row; 11] = [
+    (Idle, &["not idle"]),
+    (Stretch(1), &["-"]),
+    (Ask(Cmd::Restart), &["! 9"]),
+    (T1, &["! 11"]),
+    (Connect, &["SABM cmd P=1"]),
+    (Connect, &["! 12"]),
+    (Ask(SEND), &["! 9"]),
+    (T1, &["SABM cmd P=1"]),
+    (T1, &["dte linkdown retries"]),
+    (T1, &["! 11"]),
+    (Connect, &["SABM cmd P=1"]),
+];
+
+const CLOSED_BEFORE_SET_UP: [Row; 3] = [
+    (Ask(Cmd::Disconnect), &["dte disconnect", "DISC cmd P=1"]),
+    (Ask(Cmd::Disconnect), &["! 13"]),
+    (Connect, &["! 13"]),
+];
+
+const DOWN: [Table; 2] = [
+    ("no answer", &NO_ANSWER),
+    ("closed before set-up", &CLOSED_BEFORE_SET_UP),
+];
+
+#[test]
+fn links_that_are_down(rt: HostRuntime) -> Result<(), Fail> {
+    play(&rt, rt.alloc(), (Role::Dte, 1), &[], DOWN.as_slice())
+}
+
+const CLOSED: [Row; 7] = [
+    (Connect, &["! 15"]),
+    (HearRr(1), &[]),
+    (T1, &["! 11"]),
+    (Idle, &["idle"]),
+    (
+        Ask(Cmd::Disconnect),
+        &["dte disconnect", "dte linkdown local", "DISC cmd P=1"],
+    ),
+    (Ask(CALL), &["! 9"]),
+    (Idle, &["not idle"]),
+];
+
+const ANSWER_TO_A_POLL: [Row; 4] = [
+    (Idle, &["not idle"]),
+    (T1, &["RR cmd P=1 R=1"]),
+    (
+        Take("01119717"),
+        &["I cmd P=0 S=0 R=1 | RESTART cause=0 diag=0"],
+    ),
+    (HearRr(1), &[]),
+];
+
+const NO_ANSWER_TO_A_POLL: [Row; 5] = [
+    (T1, &["RR cmd P=1 R=1"]),
+    (T1, &["dte linkdown retries"]),
+    (Ask(CALL), &["! 9"]),
+    (Connect, &["SABM cmd P=1"]),
+    (
+        Take(UA),
+        &["dte linkup", "I cmd P=0 S=0 R=0 | RESTART cause=0 diag=0"],
+    ),
+];
+
+const UP: [Table; 3] = [
+    ("closed", &CLOSED),
+    ("an answer to a poll", &ANSWER_TO_A_POLL),
+    ("no answer to a poll", &NO_ANSWER_TO_A_POLL),
+];
+
+#[test]
+fn links_that_are_up(rt: HostRuntime) -> Result<(), Fail> {
+    play(
+        &rt,
+        rt.alloc(),
+        (Role::Dte, 1),
+        &[READY_DTE.as_slice()],
+        UP.as_slice(),
+    )
+}

@@ -1,0 +1,163 @@
+//! Octets that no table chose: 10,000 strings, made from stored numbers, at a station whose user accepts each call.
+
+use std::alloc::Global;
+use std::test::Fail;
+use x25_bits::{Seq, seal};
+use x25_frame::{Frame, decode, encode};
+use x25_station::{Cfg, Cmd, Role, Station, Step};
+
+const SABM: [u8; 4] = [0x01, 0x3f, 0xeb, 0xdf];
+
+const RESTART: [u8; 5] = [0x10, 0x00, 0xfb, 0x00, 0x00];
+
+const CALL: [u8; 5] = [0x10, 0x01, 0x0b, 0x00, 0x00];
+
+/// The first octets of packets: each type, on channels 0 to 2, and two formats that there aren't.
+const BEGINNINGS: [[u8; 3]; 20] = [
+    [0x10, 0x01, 0x0b],
+    [0x10, 0x02, 0x0b],
+    [0x10, 0x01, 0x0f],
+    [0x10, 0x01, 0x13],
+    [0x10, 0x01, 0x17],
+    [0x10, 0x01, 0x00],
+    [0x90, 0x01, 0x02],
+    [0x10, 0x01, 0x12],
+    [0x10, 0x01, 0x01],
+    [0x10, 0x01, 0x05],
+    [0x10, 0x01, 0x23],
+    [0x10, 0x01, 0x27],
+    [0x10, 0x01, 0x1b],
+    [0x10, 0x02, 0x1b],
+    [0x10, 0x01, 0x1f],
+    [0x10, 0x00, 0xfb],
+    [0x10, 0x00, 0xff],
+    [0x10, 0x00, 0x0b],
+    [0x50, 0x01, 0x00],
+    [0x20, 0x01, 0x00],
+];
+
+/// The number that follows a number: a xorshift of 64 bits.
+fn following(number: u64) -> u64 {
+    let first = number ^ (number << 13);
+    let second = first ^ (first >> 7);
+    second ^ (second << 17)
+}
+
+/// The other end of the link of a DCE: the numbers of its next I frame, and how many entries the DCE made.
+#[derive(Drop)]
+struct Peer {
+    alloc: Global,
+    station: Station,
+    ns: Seq,
+    nr: Seq,
+    told: usize,
+}
+
+impl Peer {
+    fn sees(&mut self, frame: &Frame) {
+        match frame {
+            Frame::I {
+                ns,
+                nr,
+                p: _,
+                info: _,
+            } => {
+                self.ns = *nr;
+                self.nr = ns.next();
+            }
+            Frame::Rr {
+                command: _,
+                nr,
+                pf: _,
+            }
+            | Frame::Rnr {
+                command: _,
+                nr,
+                pf: _,
+            } => self.ns = *nr,
+            Frame::Ua { f: _ } => {
+                self.ns = Seq::ZERO;
+                self.nr = Seq::ZERO;
+            }
+            _ => {}
+        }
+    }
+
+    fn sees_all(&mut self, step: &Step) {
+        self.told = self.told.saturating_add(step.entries.len());
+        for octets in &step.frames {
+            if let Ok(frame) = decode(Role::Dce, 4099, octets.as_slice()) {
+                self.sees(&frame);
+            }
+        }
+    }
+
+    fn sends(&mut self, octets: &[u8]) -> Result<(), Fail> {
+        let step = self.station.receive(octets)?;
+        self.sees_all(&step);
+        if let Ok(step) = self.station.command(Cmd::Accept { channel: 1 }) {
+            self.sees_all(&step);
+        }
+        Ok(())
+    }
+
+    /// The next I frame, with this packet.
+    fn hands(&mut self, packet: &[u8]) -> Result<(), Fail> {
+        let frame = Frame::I {
+            ns: self.ns,
+            nr: self.nr,
+            p: false,
+            info: packet,
+        };
+        let mut octets = Vec::new(self.alloc);
+        encode(Role::Dte, &frame, &mut octets)?;
+        self.sends(octets.as_slice())
+    }
+
+    /// A packet that begins as one does.
+    fn packet(&mut self, number: u64) -> Result<(), Fail> {
+        let [a, b, c] = BEGINNINGS[(number % 20) as usize];
+        let [d, e, f, _, _, _, _, g] = number.to_le_bytes();
+        let packet = [a, b, c, d & 0x11, e & 1, f];
+        self.hands(&packet[..3 + (g % 4) as usize])
+    }
+
+    /// A few octets, with a frame check sequence behind them that is right but for one string of eight.
+    fn frame(&mut self, number: u64) -> Result<(), Fail> {
+        let bytes = number.to_le_bytes();
+        let mut octets = Vec::from_slice(self.alloc, &bytes[..(number % 9) as usize])?;
+        if number % 8 > 0 {
+            seal(&mut octets)?;
+        }
+        self.sends(octets.as_slice())
+    }
+}
+
+#[test]
+fn all_octets_are_taken(rt: HostRuntime) -> Result<(), Fail> {
+    let cfg = Cfg {
+        k: 7,
+        n2: 1,
+        channels: 1,
+    };
+    let mut peer = Peer {
+        alloc: rt.alloc(),
+        station: Station::new(rt.alloc(), Role::Dce, cfg)?,
+        ns: Seq::ZERO,
+        nr: Seq::ZERO,
+        told: 0,
+    };
+    let mut number = 88_172_645_463_325_252;
+    for string in 0..10_000u16 {
+        number = following(number);
+        match string % 32 {
+            0 => peer.sends(&SABM)?,
+            1 => peer.hands(&RESTART)?,
+            2 => peer.hands(&CALL)?,
+            31 => peer.frame(number)?,
+            _ => peer.packet(number)?,
+        }
+    }
+    assert!(rt; peer.told > 2_000, "{}", peer.told);
+    Ok(())
+}

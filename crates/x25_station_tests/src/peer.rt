@@ -1,0 +1,200 @@
+//! A station, and tables of what happens at it: the other end's frames come from the table.
+
+use crate::texts::{lines, refusal_line, step_lines, stretch_line};
+use std::alloc::Global;
+use std::process::Abort;
+use std::str::from_utf8;
+use std::test::Fail;
+use x25_bits::Seq;
+use x25_entries::Line;
+use x25_frame::{Frame, encode};
+use x25_station::{Cfg, Cmd, Role, Station, StationError, Step};
+
+/// What happens at a station.
+#[derive(Clone, Copy, Debug)]
+pub enum Act {
+    Connect,
+    /// Timer T1 fires.
+    T1,
+    Ask(Cmd<'static>),
+    /// This is asked so many times. What is shown is the answer to the last.
+    AskMany(u16, Cmd<'static>),
+    /// A message of so many octets is handed down on channel 1.
+    SendLong(usize),
+    /// These octets come, in hexadecimal.
+    Take(&'static str),
+    /// An I frame with this N(S), this N(R) and this packet, in hexadecimal, comes.
+    Hear(u8, u8, &'static str),
+    /// So many I frames come, numbered from this N(S) on, each with N(R) 0 and this packet. What is shown is the answer to the last.
+    HearMany(u16, u8, &'static str),
+    /// An RR response with this N(R) comes.
+    HearRr(u8),
+    /// Nothing happens. It is shown whether the station is idle.
+    Idle,
+    /// Nothing happens. The name of the stretch that is open on this channel is shown.
+    Stretch(u16),
+}
+
+/// What happens, and what it shows: the entries that it makes and the frames to send, or `!` and the number of the refusal.
+pub type Row = (Act, &'static [&'static str]);
+
+/// A station with the window 7 and N2 = 1.
+#[derive(Drop)]
+struct End {
+    alloc: Global,
+    role: Role,
+    station: Station,
+}
+
+impl End {
+    fn new(alloc: Global, role: Role, channels: u8) -> Result<End, StationError> {
+        let cfg = Cfg {
+            k: 7,
+            n2: 1,
+            channels,
+        };
+        let station = Station::new(alloc, role, cfg)?;
+        Ok(End {
+            alloc,
+            role,
+            station,
+        })
+    }
+
+    fn shown(&self, answer: Result<Step, StationError>) -> Result<Line, Fail> {
+        match answer {
+            Ok(step) => step_lines(self.alloc, self.role, &step),
+            Err(error) => Ok(refusal_line(self.alloc, error)?),
+        }
+    }
+
+    fn happens(&mut self, act: Act) -> Result<Line, Fail> {
+        match act {
+            Act::Connect => {
+                let answer = self.station.connect();
+                self.shown(answer)
+            }
+            Act::T1 => {
+                let answer = self.station.t1();
+                self.shown(answer)
+            }
+            Act::Ask(command) => self.asks(1, command),
+            Act::AskMany(count, command) => self.asks(count, command),
+            Act::SendLong(count) => self.sends(count),
+            Act::Take(octets) => self.takes(octets),
+            Act::Hear(ns, nr, packet) => self.hears(1, ns, nr, packet),
+            Act::HearMany(count, first, packet) => self.hears(count, first, 0, packet),
+            Act::HearRr(number) => {
+                let nr = Seq::modulo(number);
+                self.receives(&Frame::Rr {
+                    command: false,
+                    nr,
+                    pf: false,
+                })
+            }
+            Act::Idle => {
+                let shown = if self.station.idle() {
+                    "idle"
+                } else {
+                    "not idle"
+                };
+                Ok(lines(self.alloc, &[shown])?)
+            }
+            Act::Stretch(channel) => {
+                let name = self.station.stretch(channel);
+                Ok(stretch_line(self.alloc, name)?)
+            }
+        }
+    }
+
+    fn asks(&mut self, count: u16, command: Cmd<'_>) -> Result<Line, Fail> {
+        for _ in 1..count {
+            let _lost = self.station.command(command)?;
+        }
+        let answer = self.station.command(command);
+        self.shown(answer)
+    }
+
+    fn sends(&mut self, count: usize) -> Result<Line, Fail> {
+        let user = vec![in self.alloc; 7u8; count]?;
+        self.asks(
+            1,
+            Cmd::Send {
+                channel: 1,
+                q: true,
+                user: user.as_slice(),
+            },
+        )
+    }
+
+    fn takes(&mut self, octets: &str) -> Result<Line, Fail> {
+        let octets = hex::decode(self.alloc, octets)?;
+        let answer = self.station.receive(octets.as_slice());
+        self.shown(answer)
+    }
+
+    fn receives(&mut self, frame: &Frame) -> Result<Line, Fail> {
+        let from = match self.role {
+            Role::Dte => Role::Dce,
+            Role::Dce => Role::Dte,
+        };
+        let mut octets = Vec::new(self.alloc);
+        encode(from, frame, &mut octets)?;
+        let answer = self.station.receive(octets.as_slice());
+        self.shown(answer)
+    }
+
+    fn hears(&mut self, count: u16, first: u8, nr: u8, packet: &str) -> Result<Line, Fail> {
+        let info = hex::decode(self.alloc, packet)?;
+        let mut ns = Seq::modulo(first);
+        for _ in 1..count {
+            self.receives(&information(ns, 0, info.as_slice()))?;
+            ns = ns.next();
+        }
+        self.receives(&information(ns, nr, info.as_slice()))
+    }
+
+    /// Each row happens and shows its lines.
+    fn plays(&mut self, rt: &impl Abort, name: &str, rows: &[Row]) -> Result<(), Fail> {
+        for &(act, shown) in rows {
+            let wanted = lines(self.alloc, shown)?;
+            let found = self.happens(act)?;
+            assert_eq!(rt;
+                from_utf8(found.as_slice()),
+                from_utf8(wanted.as_slice()),
+                "{name}: {act:?}"
+            );
+        }
+        Ok(())
+    }
+}
+
+fn information(ns: Seq, nr: u8, info: &[u8]) -> Frame<'_> {
+    Frame::I {
+        ns,
+        nr: Seq::modulo(nr),
+        p: false,
+        info,
+    }
+}
+
+/// A name, and what happens at a station.
+pub type Table = (&'static str, &'static [Row]);
+
+/// Plays tables, each at a station of its own, at which these rows happened before.
+pub fn play(
+    rt: &impl Abort,
+    alloc: Global,
+    (role, channels): (Role, u8),
+    before: &[&[Row]],
+    tables: &[Table],
+) -> Result<(), Fail> {
+    for &(name, rows) in tables {
+        let mut end = End::new(alloc, role, channels)?;
+        for begun in before {
+            end.plays(rt, "before", begun)?;
+        }
+        end.plays(rt, name, rows)?;
+    }
+    Ok(())
+}
