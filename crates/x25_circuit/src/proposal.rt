@@ -29,7 +29,7 @@ impl Model for Proposal {
 }
 
 impl Proposal {
-    /// These values, whatever they are.
+    /// These values, whatever they are: `call_with` and `accept_with` judge them. It takes no memory.
     pub fn new(params: Params) -> Proposal
         ensures { result ≡ params }
     {
@@ -46,6 +46,7 @@ impl Proposal {
         }
     }
 
+    /// The values that it says.
     pub fn params(&self) -> Params
         ensures { result ≡ self.now }
     {
