@@ -6,9 +6,9 @@ use Rattle.x25_packet.specs.declared.error.PacketError.{PacketError}
 use Rattle.x25_packet.specs.declared.error.PacketError.TheVariants.{BadFacility, BadParameter}
 use Rattle.x25_packet.specs.declared.facilities.Facilities.{Facilities}
 use Rattle.x25_packet.specs.declared.facilities.Directions.{Directions}
-use Rattle.x25_packet.specs.Facilities.{AreWithin, IfGiven, IsFacilityField, facilities_of, facility, field_of, is_within, last, with_sizes, windows_of as windows_in}
+use Rattle.x25_packet.specs.Facilities.{AreWithin, IfGiven, facilities_of, facility, field_of, is_within, last, with_sizes, windows_of as windows_in}
 use Rattle.x25_circuit.specs.declared.params.Params.{Params}
-use Rattle.x25_circuit.specs.Params.{may_propose, is_toward, sizes_of, windows_of, params_of, news, field_for, said_or, said_by, terms_of}
+use Rattle.x25_circuit.specs.Params.{may_propose, is_toward, sizes_of, windows_of, params_of, news, said_or, said_by, terms_of}
 use Rattle.x25_circuit.specs.ParamsLaws.{FieldIsSaid, NoFieldIsKnown, KnownIsNoField, FieldIsAllowed, SaidIsAllowed, ProposalIsAnswer, DefaultIsAnswer, AnswerIsAllowed, AreTerms, TermsAreAllowed}
 
 -- ---- tests

@@ -93,12 +93,7 @@ fn push_at(word: &[u8], channel: u16, line: &mut Line) -> Result<(), AllocError>
 }
 
 // Appends a word, a channel, and the packet sizes and windows of its call.
-fn push_agreed(
-    word: &[u8],
-    channel: u16,
-    params: Params,
-    line: &mut Line,
-) -> Result<(), AllocError>
+fn push_agreed(word: &[u8], channel: u16, params: Params, line: &mut Line) -> Result<(), AllocError>
     ensures { OnOk result (line.new ≡ line.old ++ (word.now ++ channel_text channel ++ params_text params)) }
 {
     push_at(word, channel, line)?;

@@ -8,7 +8,7 @@ use Rattle.x25_circuit.specs.declared.state.State.TheVariants.{Free, Calling, Ar
 use Rattle.x25_circuit.specs.Messages.{piece_of}
 use Rattle.x25_circuit.specs.declared.params.Params.{Params}
 use Rattle.x25_circuit.specs.Params.{Terms, default_params, may_propose, called_terms, calling_terms}
-use Rattle.x25_circuit.specs.ParamsLaws.{FieldIsSaid, SaidIsAllowed, AnswerIsAllowed}
+use Rattle.x25_circuit.specs.ParamsLaws.{FieldIsSaid, FieldIsAllowed, SaidIsAllowed, AnswerIsAllowed}
 use Rattle.x25_circuit.specs.Circuit.{Talk, silent, Circuit}
 use Rattle.x25_circuit.specs.Notices.{CallRequest, PlainNotice}
 use Rattle.x25_circuit.specs.Table.{Answer, request_in}
@@ -108,6 +108,7 @@ pub record Shows (x : Circuit) (n : At Connection) : Type 0 where
 -- what is known of packet sizes and windows
 pub record ParamsLaws : Type 0 where
   pub said : FieldIsSaid
+  pub field : FieldIsAllowed
   pub allowed : SaidIsAllowed
   pub answered : AnswerIsAllowed
 

@@ -23,7 +23,7 @@ use Rattle.x25_epochs.specs.Calls.{Phase, Unused, Waiting, Offered, Crossed, Tal
 use Rattle.x25_epochs.specs.Calls as nested_calls
 use Rattle.x25_epochs.specs.Channel.{ChannelStep, live, clr, lifted_call, channel_takes, channel_acts}
 use Rattle.x25_layer.proofs.Sees.{talk_of, Agreed, sent_on, taken_on, AreAgreedIn, AreAgreed, view, ParamsLaws, bare, bare_if, IsQuietIf, TellNoFault, Follows, Does, Heeds, act_of, pull_act}
-use Rattle.x25_layer.proofs.ParamsLemmas.{no_field, field_allowed, call_proposes}
+use Rattle.x25_layer.proofs.ParamsLemmas.{no_field, call_proposes}
 
 pub some_none : (n : ℕ) → Some n ≡ None → ⊥
 some_none n e = cc
@@ -264,7 +264,7 @@ asked_call laws c g e m i called calling user params = test (may_call called cal
         (record {
           next = record { agreed = g; is = refl; fits = tt };
           packet = ap (λ (p : Params). Call (record { called = digits_of_text called; calling = digits_of_text calling; user = user; params = p }) ∷ []) (laws.said default_params params allowed);
-          quiet = (field_allowed default_params params allowed, tt);
+          quiet = (laws.field default_params params allowed, tt);
         })
     test false is = tt
 
@@ -280,7 +280,7 @@ asked_answer laws c g e m i theirs answer allowed = test (may_answer theirs answ
     test true is = record {
       next = record { agreed = record { params = answer; calls = false }; is = refl; fits = (refl, refl) };
       packet = refl;
-      quiet = (field_allowed theirs answer (laws.answered theirs answer allowed is), tt);
+      quiet = (laws.field theirs answer (laws.answered theirs answer allowed is), tt);
     }
     test false is = tt
 

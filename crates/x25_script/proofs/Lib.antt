@@ -4,3 +4,4 @@ pub mod OctetLemmas
 pub mod PartLemmas
 pub mod GrammarLemmas
 pub mod AgainLemmas
+pub mod CarriedLemmas

@@ -13,7 +13,7 @@ mod script_line;
 mod words;
 
 pub use hex_digits::HexDigits;
-pub use law::reading_is_the_grammar;
+pub use law::{lines_are_in_octets, reading_is_the_grammar};
 pub use params::Params;
 pub use reading::read_line;
 pub use script_line::{Command, ScriptLine};

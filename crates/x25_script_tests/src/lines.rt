@@ -1,6 +1,6 @@
 use crate::shown::shown;
 use std::test::Fail;
-use x25_script::{read_line, reading_is_the_grammar};
+use x25_script::{lines_are_in_octets, read_line, reading_is_the_grammar};
 
 /// Lines of a script, and what they say.
 const LINES: [(&[u8], &str); 39] = [
@@ -256,6 +256,7 @@ const OTHERS: [&[u8]; 165] = [
 #[test]
 fn lines_say_what_they_spell(rt: HostRuntime) -> Result<(), Fail> {
     reading_is_the_grammar();
+    lines_are_in_octets();
     for (line, wanted) in LINES {
         let read = read_line(line).ok_or("it is a line")?;
         let text = shown(rt.alloc(), &read)?;

@@ -1,4 +1,4 @@
-mod SimRows
+pub mod SimRows
 pub mod ToldLemmas
 pub mod SayingLemmas
 pub mod StepLemmas

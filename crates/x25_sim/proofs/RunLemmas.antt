@@ -1,5 +1,5 @@
 -- What is written for a script is the transcript of a run.
-use Rattle.std.proofs.Common.{◌≡◌, ◌∙◌, ℕ, zero, suc, nat_lt, Bool, true, false, List, [], ◌∷◌, ◌++◌, length, drop, map, remove, Option, Some, None, append_assoc, ap, sym, subst, refl}
+use Rattle.std.proofs.Common.{◌≡◌, ◌∙◌, ℕ, zero, suc, nat_lt, nat_le, Bool, true, false, List, [], ◌∷◌, ◌++◌, length, drop, map, remove, Option, Some, None, append_assoc, ap, sym, subst, refl}
 use Rattle.std.proofs.lemmas.List.{append-nil}
 use Rattle.std.proofs.Math.Seq.{drop-append_seam}
 use Rattle.std.specs.Prelude.{cond}
@@ -9,12 +9,15 @@ use Rattle.x25_line.specs.Stations.{is_visible, replaced}
 use Rattle.x25_station.specs.declared.config.Cfg.{Cfg}
 use Rattle.x25_station.specs.Settings.{Settings, settings_from}
 use Rattle.x25_station.specs.Steps.{Outcome, Did, Refused, fires, commands}
-use Rattle.x25_script.specs.PlainLine.{PlainLine, command, t1, deliver, lose, damage, drain}
+use Rattle.x25_script.specs.PlainLine.{PlainCommand, call, accept, clear, send, interrupt, reset, ready, not_ready, restart, disconnect, PlainLine, command, t1, deliver, lose, damage, drain}
+use Rattle.x25_script.specs.Reading.{line_in}
+use Rattle.x25_script.specs.ReadingLaw.{AsksInOctets, IsInOctets, ReadsOctets}
 use Rattle.x25_program.specs.Lines.{lines_of}
 use Rattle.x25_world.specs.World.{World, OnTap, AtEnd, swapped, Act, Commands, Receives, Fires, Loses, Damages, Event, WorldOutcome, Happened, Declined, of_station, delivered, on_line, acts, swapped_back, acts_at, happens, refusal_of, after, run, AreAccepted, apart, connected, start}
+use Rattle.x25_world.specs.Claims.{ActsInOctets, AreInOctets, Always}
 use Rattle.x25_sim.specs.Sayings.{Saying, enters, taps, reads_nothing, refuses}
-use Rattle.x25_sim.specs.Simulated.{Turn, and_then, step_told, told_between, turn_of, event_turn, next_end, delivered_to, drained, line_turn, asked_in, asked_turn, turn, turns, connecting, set_up, simulated}
-use Rattle.x25_sim.specs.RunLaw.{entries_in, frames_in, IsRun}
+use Rattle.x25_sim.specs.Simulated.{Turn, and_then, step_told, told_between, turn_of, event_turn, next_end, delivered_to, drained, command_asked, line_turn, most_line, asked_in, asked_turn, turn, turns, connecting, set_up, simulated}
+use Rattle.x25_sim.specs.RunLaw.{entries_in, frames_in, IsRun, ScriptsAreRuns, OfScripts, ScriptsAreTold, ScriptsAreTapped}
 
 -- ---- a world only grows
 
@@ -99,11 +102,48 @@ step_frames : (tap : Bool) (es : List AtEnd) (fs : List OnTap) → tap ≡ true 
 step_frames true es fs e = frames-append (map enters es) (map taps fs) ∙ ap (λ xs. xs ++ frames_in (map taps fs)) (frames_of_enters es) ∙ frames_of_taps fs
 step_frames false es fs e = absurd (cc)
 
+-- ---- what users hand down is octets
+
+handed : (asked : PlainCommand) → AsksInOctets asked → ActsInOctets (Commands (command_asked asked))
+handed (call called calling user None) h = h
+handed (call called calling user (Some four)) h = h
+handed (accept channel None) h = tt
+handed (accept channel (Some four)) h = tt
+handed (clear channel) h = tt
+handed (send channel q user) h = h
+handed (interrupt channel user) h = h
+handed (reset channel) h = tt
+handed (ready channel) h = tt
+handed (not_ready channel) h = tt
+handed restart h = tt
+handed disconnect h = tt
+
+abbrev AskedInOctets : Option PlainLine → Type 0
+AskedInOctets None = Unit {0}
+AskedInOctets (Some line) = IsInOctets line
+
+read_octets : ReadsOctets → (text : List ℕ) (read : Option PlainLine) → line_in text ≡ read → AskedInOctets read
+read_octets reads text None e = tt
+read_octets reads text (Some line) e = reads line text e
+
+short_octets : (b : Bool) (read : Option PlainLine) → AskedInOctets read → AskedInOctets (cond b read None)
+short_octets true read h = h
+short_octets false read h = tt
+
+asked_octets : ReadsOctets → (text : List ℕ) → AskedInOctets (asked_in text)
+unfolding asked_in
+asked_octets reads text = short_octets (nat_le (length text) most_line) (line_in text) (read_octets reads text (line_in text) refl)
+
+octets-append : (events more : List Event) → AreInOctets events → AreInOctets more → AreInOctets (events ++ more)
+octets-append [] more h k = k
+octets-append (e ∷ events) more h k = (h.0, octets-append events more h.1 k)
+
 -- ---- turns are runs
 
 record Runs (cfg : Cfg) (tap : Bool) (w : World) (t : Turn) : Type 0 where
   events : List Event
   accepted : AreAccepted cfg events w
+  octets : AreInOctets events
   next : t.next ≡ run cfg events w
   entries : t.next.transcript ≡ w.transcript ++ entries_in t.sayings
   frames : tap ≡ true → t.next.tap ≡ w.tap ++ frames_in t.sayings
@@ -112,24 +152,26 @@ stays : (cfg : Cfg) (tap : Bool) (w : World) (sayings : List Saying) → entries
 stays cfg tap w sayings no_entries no_frames = record {
   events = [];
   accepted = tt;
+  octets = tt;
   next = refl;
   entries = sym (append-nil w.transcript) ∙ ap (λ xs. w.transcript ++ xs) (sym no_entries);
   frames = λ asked. sym (append-nil w.tap) ∙ ap (λ xs. w.tap ++ xs) (sym no_frames);
 }
 
-moves : (cfg : Cfg) (tap : Bool) (w : World) (e : Event) (o : WorldOutcome) → happens cfg w e ≡ o → GrowsTo w o → Runs cfg tap w (turn_of tap w o)
-moves cfg tap w e (Happened next) is g = record {
+moves : (cfg : Cfg) (tap : Bool) (w : World) (e : Event) (o : WorldOutcome) → happens cfg w e ≡ o → GrowsTo w o → ActsInOctets e.act → Runs cfg tap w (turn_of tap w o)
+moves cfg tap w e (Happened next) is g octets = record {
   events = e ∷ [];
   accepted = (ap refusal_of is, tt);
+  octets = (octets, tt);
   next = sym (ap (after w) is);
   entries = g.transcript ∙ ap (λ xs. w.transcript ++ xs) (sym (step_entries tap _ _ ∙ ap (drop (length w.transcript)) g.transcript ∙ drop-append_seam w.transcript g.entries));
   frames = λ asked. g.tap ∙ ap (λ xs. w.tap ++ xs) (sym (step_frames tap (drop (length w.transcript) next.transcript) _ asked ∙ ap (drop (length w.tap)) g.tap ∙ drop-append_seam w.tap g.frames));
 }
-moves cfg tap w e (Declined error) is g = stays cfg tap w (refuses error ∷ []) refl refl
+moves cfg tap w e (Declined error) is g octets = stays cfg tap w (refuses error ∷ []) refl refl
 
-event_runs : (cfg : Cfg) (tap : Bool) (e : Event) (w : World) → Runs cfg tap w (event_turn cfg tap e w)
+event_runs : (cfg : Cfg) (tap : Bool) (e : Event) (w : World) → ActsInOctets e.act → Runs cfg tap w (event_turn cfg tap e w)
 unfolding event_turn
-event_runs cfg tap e w = moves cfg tap w e (happens cfg w e) refl (by_event cfg w e.at e.act)
+event_runs cfg tap e w octets = moves cfg tap w e (happens cfg w e) refl (by_event cfg w e.at e.act) octets
 
 run-append : (cfg : Cfg) (events more : List Event) (w : World) → run cfg (events ++ more) w ≡ run cfg more (run cfg events w)
 run-append cfg [] more w = refl
@@ -144,6 +186,7 @@ both_run cfg tap w t rest first second =
     let then = second t.next in record {
       events = first.events ++ then.events;
       accepted = accepted-append cfg first.events then.events w first.accepted (subst (AreAccepted cfg then.events) first.next then.accepted);
+      octets = octets-append first.events then.events first.octets then.octets;
       next = then.next ∙ ap (run cfg then.events) first.next ∙ sym (run-append cfg first.events then.events w);
       entries = then.entries ∙ ap (λ xs. xs ++ entries_in (rest t.next).sayings) first.entries ∙ append_assoc w.transcript (entries_in t.sayings) (entries_in (rest t.next).sayings)
           ∙ ap (λ xs. w.transcript ++ xs) (sym (entries-append t.sayings (rest t.next).sayings));
@@ -153,34 +196,34 @@ both_run cfg tap w t rest first second =
 
 delivery_runs : (cfg : Cfg) (tap : Bool) (rest : World → Turn) (w : World) (at : Option Role) → ((v : World) → Runs cfg tap v (rest v)) → Runs cfg tap w (delivered_to cfg tap rest w at)
 delivery_runs cfg tap rest w None h = stays cfg tap w [] refl refl
-delivery_runs cfg tap rest w (Some at) h = both_run cfg tap w _ rest (event_runs cfg tap (record { at = at; act = Receives }) w) h
+delivery_runs cfg tap rest w (Some at) h = both_run cfg tap w _ rest (event_runs cfg tap (record { at = at; act = Receives }) w tt) h
 
 drain_runs : (cfg : Cfg) (tap : Bool) (n : ℕ) (w : World) → Runs cfg tap w (drained cfg tap n w)
 unfolding drained
 drain_runs cfg tap zero w = stays cfg tap w [] refl refl
 drain_runs cfg tap (suc n) w = delivery_runs cfg tap (drained cfg tap n) w (next_end w.out w.back) (drain_runs cfg tap n)
 
-line_runs : (cfg : Cfg) (tap : Bool) (line : PlainLine) (w : World) → Runs cfg tap w (line_turn cfg tap line w)
+line_runs : (cfg : Cfg) (tap : Bool) (line : PlainLine) (w : World) → IsInOctets line → Runs cfg tap w (line_turn cfg tap line w)
 unfolding line_turn
-line_runs cfg tap (command end asked) w = event_runs cfg tap _ w
-line_runs cfg tap (t1 end) w = event_runs cfg tap _ w
-line_runs cfg tap (deliver from) w = event_runs cfg tap _ w
-line_runs cfg tap (lose from place) w = event_runs cfg tap _ w
-line_runs cfg tap (damage from place octets) w = event_runs cfg tap _ w
-line_runs cfg tap (drain count) w = drain_runs cfg tap count w
+line_runs cfg tap (command end asked) w h = event_runs cfg tap _ w (handed asked h)
+line_runs cfg tap (t1 end) w h = event_runs cfg tap _ w tt
+line_runs cfg tap (deliver from) w h = event_runs cfg tap _ w tt
+line_runs cfg tap (lose from place) w h = event_runs cfg tap _ w tt
+line_runs cfg tap (damage from place octets) w h = event_runs cfg tap _ w tt
+line_runs cfg tap (drain count) w h = drain_runs cfg tap count w
 
-asked_runs : (cfg : Cfg) (tap : Bool) (w : World) (asked : Option PlainLine) → Runs cfg tap w (asked_turn cfg tap w asked)
-asked_runs cfg tap w None = stays cfg tap w (reads_nothing ∷ []) refl refl
-asked_runs cfg tap w (Some line) = line_runs cfg tap line w
+asked_runs : (cfg : Cfg) (tap : Bool) (w : World) (asked : Option PlainLine) → AskedInOctets asked → Runs cfg tap w (asked_turn cfg tap w asked)
+asked_runs cfg tap w None h = stays cfg tap w (reads_nothing ∷ []) refl refl
+asked_runs cfg tap w (Some line) h = line_runs cfg tap line w h
 
-turn_runs : (cfg : Cfg) (tap : Bool) (line : List ℕ) (w : World) → Runs cfg tap w (turn cfg tap line w)
+turn_runs : ReadsOctets → (cfg : Cfg) (tap : Bool) (line : List ℕ) (w : World) → Runs cfg tap w (turn cfg tap line w)
 unfolding turn
-turn_runs cfg tap line w = asked_runs cfg tap w (asked_in line)
+turn_runs reads cfg tap line w = asked_runs cfg tap w (asked_in line) (asked_octets reads line)
 
-lines_run : (cfg : Cfg) (tap : Bool) (lines : List (List ℕ)) (w : World) → Runs cfg tap w (turns cfg tap lines w)
+lines_run : ReadsOctets → (cfg : Cfg) (tap : Bool) (lines : List (List ℕ)) (w : World) → Runs cfg tap w (turns cfg tap lines w)
 unfolding turns
-lines_run cfg tap [] w = stays cfg tap w [] refl refl
-lines_run cfg tap (line ∷ lines) w = both_run cfg tap w (turn cfg tap line w) (turns cfg tap lines) (turn_runs cfg tap line w) (lines_run cfg tap lines)
+lines_run reads cfg tap [] w = stays cfg tap w [] refl refl
+lines_run reads cfg tap (line ∷ lines) w = both_run cfg tap w (turn cfg tap line w) (turns cfg tap lines) (turn_runs reads cfg tap line w) (lines_run reads cfg tap lines)
 
 -- ---- set-up
 
@@ -224,19 +267,32 @@ says_up : (cfg : Cfg) (tap : Bool) → Says tap (set_up cfg tap)
 unfolding set_up
 says_up cfg tap =
     says_more cfg tap (and_then (event_turn cfg tap to_dce) (connecting cfg tap)) (event_turn cfg tap to_dte)
-    (says_more cfg tap (connecting cfg tap) (event_turn cfg tap to_dce) (says_connecting tap (connected cfg)) (event_runs cfg tap to_dce (connected cfg)))
-    (event_runs cfg tap to_dte (event_turn cfg tap to_dce (connected cfg)).next)
+    (says_more cfg tap (connecting cfg tap) (event_turn cfg tap to_dce) (says_connecting tap (connected cfg)) (event_runs cfg tap to_dce (connected cfg) tt))
+    (event_runs cfg tap to_dte (event_turn cfg tap to_dce (connected cfg)).next tt)
 
-pub script_runs : (cfg : Cfg) (tap : Bool) (script : List ℕ) → IsRun cfg tap script
+pub script_runs : ReadsOctets → (cfg : Cfg) (tap : Bool) (script : List ℕ) → IsRun cfg tap script
 unfolding simulated
-script_runs cfg tap script =
+script_runs reads cfg tap script =
     let up = set_up cfg tap in
-    let r = lines_run cfg tap (lines_of script) up.next in
+    let r = lines_run reads cfg tap (lines_of script) up.next in
     let says = says_more cfg tap up (turns cfg tap (lines_of script)) (says_up cfg tap) r in
     let at : (turns cfg tap (lines_of script) up.next).next ≡ run cfg r.events (start cfg) = r.next ∙ ap (run cfg r.events) (up_at cfg tap) in record {
       events = r.events;
       accepted = subst (AreAccepted cfg r.events) (up_at cfg tap) r.accepted;
+      octets = r.octets;
       next = at;
       entries = says.entries ∙ ap (λ w. w.transcript) at;
       frames = λ asked. says.frames asked ∙ ap (λ w. w.tap) at;
     }
+
+-- ---- what holds of runs
+
+pub of_script : (Holds : Cfg → World → Type 0) → Always Holds → ScriptsAreRuns → OfScripts Holds
+of_script Holds always runs = λ cfg range tap script. let r = runs cfg tap script in
+    subst (Holds cfg) (sym r.next) (always cfg range r.events r.octets)
+
+pub are_told : ScriptsAreRuns → ScriptsAreTold
+are_told runs = λ cfg tap script. let r = runs cfg tap script in r.entries ∙ ap (λ w. w.transcript) (sym r.next)
+
+pub are_tapped : ScriptsAreRuns → ScriptsAreTapped
+are_tapped runs = λ cfg script. let r = runs cfg true script in r.frames refl ∙ ap (λ w. w.tap) (sym r.next)

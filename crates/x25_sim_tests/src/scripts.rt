@@ -1,5 +1,5 @@
 use std::test::Fail;
-use x25_sim::{Cfg, Device, scripts_are_runs, sim};
+use x25_sim::{Cfg, Device, scripts_are_runs, scripts_keep_order, scripts_move, sim};
 
 /// A script, whether its frames are asked for, its transcript and its status.
 type Row = (&'static str, bool, &'static str, u8);
@@ -68,6 +68,8 @@ fn keeps_to_its_settings(rt: HostRuntime) -> Result<(), Fail> {
 }
 
 #[test]
-fn does_nothing_as_a_law() {
+fn does_nothing_as_laws() {
     scripts_are_runs();
+    scripts_keep_order();
+    scripts_move();
 }

@@ -239,7 +239,7 @@ body_short (call h called calling facilities user) f =
     let a : length (packed (called ++ calling)) ≡ (length (called ++ calling) + 1) / 2 = length_packed (called ++ calling) in
     let b : length (called ++ calling) ≡ length called + length calling = length-append called calling in
     let d : length (packed (called ++ calling) ++ (length facilities ∷ facilities ++ user)) ≡ length (packed (called ++ calling)) + length (length facilities ∷ facilities ++ user) =
-        length-append (packed (called ++ calling)) (length facilities ∷ facilities ++ user) in
+    length-append (packed (called ++ calling)) (length facilities ∷ facilities ++ user) in
     let e : length (facilities ++ user) ≡ length facilities + length user = length-append facilities user in
     let few : length facilities ≤ 6 = field_short facilities f.2 in
     omega (arith, a, b, d, e, few, f.0.short, f.1.short, f.3)

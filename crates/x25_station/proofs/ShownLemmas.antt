@@ -1,5 +1,5 @@
 -- What is shown of a request: an acceptance with the packet sizes and windows in force.
-use Rattle.std.proofs.Common.{◌≡◌, Bool, true, if◌then◌else◌, Option, Some, None, refl, ap, sym, subst, ◌∙◌}
+use Rattle.std.proofs.Common.{◌≡◌, Bool, true, if◌then◌else◌, Option, Some, None, refl, ap, ◌∙◌}
 use Rattle.std.specs.Option.{unwrap_or}
 use Rattle.x25_circuit.specs.declared.params.Params.{Params}
 use Rattle.x25_circuit.specs.Circuit.{Circuit}

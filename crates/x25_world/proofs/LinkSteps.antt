@@ -20,18 +20,6 @@ use Rattle.x25_world.specs.Claims.{link_of}
 use Rattle.x25_world.proofs.Reaches.{LinksReach, link_acts}
 use Rattle.x25_world.proofs.Joined.{spelled, LinkGoes}
 
--- nothing happens, in no step
-pub rests_as : (c : LinkSettings) (v : line.Stations) → LinkGoes c v v v.near.station [] [] [] v.back
-rests_as c v = record {
-  station = refl;
-  down = sym (append-nil v.near.down);
-  up = sym (append-nil v.near.up);
-  far = refl;
-  out = sym (append-nil v.out);
-  back = refl;
-  sent = sym (append-nil v.sent);
-}
-
 -- the link's own step
 pub own_step : (c : LinkSettings) (v : line.Stations) (back : List (List ℕ)) (k : LinkStep) → LinkGoes c v (line.after_step c v back [] k) k.side.near k.side.out [] (option_to_list k.packet) back
 own_step c v back k = record { station = refl; down = refl; up = refl; far = refl; out = refl; back = refl; sent = refl }

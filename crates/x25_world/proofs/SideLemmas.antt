@@ -116,11 +116,6 @@ has_arrived cfg at near line transcript w (o ∷ left) gone octets answer shared
     rw (sym same)
     (step_told cfg at near _ transcript w left gone step (map (λ frame. frame.items) answer.frames.items) (map plain_entry answer.entries.items) (taken_off at line transcript w o left gone shared) leaves sends enters)
 
--- nothing is on the line
-pub none_arrives : (cfg : Cfg) (at : Role) (w : World) (back : List (List ℕ)) → None ≡ slice_get back 0 → refusal_of (delivered (settings_from at cfg) w back) ≡ Some error.Empty
-none_arrives cfg at w [] front = refl
-none_arrives cfg at w (o ∷ left) front = cc
-
 -- ---- octets on the line are lost, or others come in their place
 
 pub line_changes : (cfg : Cfg) (at : Role) (near : code.Station) (line new : ShownLine) (transcript : List AtEnd) (w : World) (gone : Gone) (result : Result (Unit {0}) WorldError) (outcome : WorldOutcome)

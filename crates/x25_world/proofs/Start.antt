@@ -88,9 +88,6 @@ dce_step cfg = receives (settings_from Dce cfg) new_station sabm_octets
 abbrev at_dce : Cfg → World
 at_dce cfg = swapped (after_step (settings_from Dce cfg) (swapped asked) [] (dce_step cfg))
 
-at_dce_is : (cfg : Cfg) → after asked (happens cfg asked (comes_to Dce)) ≡ at_dce cfg
-at_dce_is cfg = refl
-
 -- ---- UA comes to the DTE
 
 abbrev dte_step : Cfg → Step

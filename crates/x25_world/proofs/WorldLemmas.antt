@@ -52,9 +52,6 @@ acts_keep_far c w (Damages place octets) = keeps_if w (nat_lt place (length w.ba
 abbrev pub with_dte : ShownSide → code.Station → ShownWorld
 with_dte v dce = record { dte = v.near; dce = dce; to_dce = v.line.to_dce; to_dte = v.line.to_dte; tap = v.line.tap; transcript = v.transcript }
 
-pub dte_side : (cfg : Cfg) (v : ShownSide) (dce : code.Station) (w : World) (gone : Gone) → FitsWorld cfg (with_dte v dce) w gone → FitsSide cfg Dte v w gone
-dte_side cfg v dce w gone fits = record { near = fits.dte; out = fits.to_dce; back = fits.to_dte; tap = fits.tap; transcript = fits.transcript }
-
 dte_world : (cfg : Cfg) (v : ShownSide) (dce : code.Station) (w : World) (gone : Gone) (o : WorldOutcome) → KeepsFar w o → FitsStation (settings_from Dce cfg) dce w.far
     → HasHappened cfg Dte v o gone → FitsWorld cfg (with_dte v dce) (after w o) gone
 dte_world cfg v dce w gone (Happened next) far fits h = record { dte = h.near; dce = rw far fits; to_dce = h.out; to_dte = h.back; tap = h.tap; transcript = h.transcript }
@@ -69,18 +66,10 @@ pub dte_step : (cfg : Cfg) (new : ShownSide) (dce : code.Station) (w : World) (g
     → OnOk r (HasHappened cfg Dte new (acts (settings_from Dte cfg) w a) gone) → OnOk r (FitsWorld cfg (with_dte new dce) (after w (acts (settings_from Dte cfg) w a)) gone)
 dte_step cfg new dce w gone r a fits h = dte_happened cfg new dce w gone r (acts (settings_from Dte cfg) w a) (acts_keep_far (settings_from Dte cfg) w a) fits h
 
-pub dte_stays : (cfg : Cfg) (new : ShownSide) (dce : code.Station) (w : World) (gone : Gone) (r : Result (Unit {0}) WorldError) → FitsStation (settings_from Dce cfg) dce w.far
-    → OnErr r (FitsSide cfg Dte new w gone) → OnErr r (FitsWorld cfg (with_dte new dce) w gone)
-dte_stays cfg new dce w gone (Ok x) fits h = tt
-dte_stays cfg new dce w gone (Err e) fits h = record { dte = h.near; dce = fits; to_dce = h.out; to_dte = h.back; tap = h.tap; transcript = h.transcript }
-
 -- ---- the DCE
 
 abbrev pub with_dce : ShownSide → code.Station → ShownWorld
 with_dce v dte = record { dte = dte; dce = v.near; to_dce = v.line.to_dce; to_dte = v.line.to_dte; tap = v.line.tap; transcript = v.transcript }
-
-pub dce_side : (cfg : Cfg) (v : ShownSide) (dte : code.Station) (w : World) (gone : Gone) → FitsWorld cfg (with_dce v dte) w gone → FitsSide cfg Dce v (swapped w) gone
-dce_side cfg v dte w gone fits = record { near = fits.dce; out = fits.to_dte; back = fits.to_dce; tap = fits.tap; transcript = fits.transcript }
 
 dce_world : (cfg : Cfg) (v : ShownSide) (dte : code.Station) (w : World) (gone : Gone) (o : WorldOutcome) → KeepsFar (swapped w) o → FitsStation (settings_from Dte cfg) dte w.near
     → HasHappened cfg Dce v o gone → FitsWorld cfg (with_dce v dte) (after w (swapped_back o)) gone

@@ -48,14 +48,15 @@ called = run two_channels (delivers 3 ++ asks Dte (Dials (codes "123") (codes "4
 abbrev pub sends_hi : Event
 sends_hi = asks Dte (Asks 2 (Sends false (codes "hi")))
 
-abbrev pub first_name : Name
-first_name = record { restarts = 1; clears = 0; resets = 0 }
+-- the name of the first call's stretch, behind the RESTARTs of set-up
+abbrev pub first_stretch : Name
+first_stretch = record { restarts = 1; clears = 0; resets = 0 }
 
 -- the message was handed up at the DCE, once, and the DTE is idle in that stretch
 abbrev pub HasArrived : World → Type 0
 HasArrived w =
-    ((messages_in (under 2 first_name (handed_at Dce w))).up ≡ record { q = false; user = codes "hi" } ∷ []) × (is_idle (settings_from Dte two_channels) w.near ≡ true)
-    × (stretch (settings_from Dte two_channels) w.near 2 ≡ Some first_name) × (stretch (settings_from Dce two_channels) w.far 2 ≡ Some first_name)
+    ((messages_in (under 2 first_stretch (handed_at Dce w))).up ≡ record { q = false; user = codes "hi" } ∷ []) × (is_idle (settings_from Dte two_channels) w.near ≡ true)
+    × (stretch (settings_from Dte two_channels) w.near 2 ≡ Some first_stretch) × (stretch (settings_from Dce two_channels) w.far 2 ≡ Some first_stretch)
 
 abbrev pub MessageArrives : Type 0
 MessageArrives = HasArrived (run two_channels (sends_hi ∷ delivers 2) called)

@@ -4,7 +4,7 @@ ghost use Rattle.x25_world.specs.WorldError.{number_of, error_of};
 use thiserror::Error;
 use x25_station::StationError;
 
-/// Why an event is refused.
+/// Why an event is refused, or a world isn't made (profile).
 #[derive(Clone, Copy, Debug, PartialEq, Eq, Error)]
 pub enum WorldError {
     /// 14: a setting is out of its range.

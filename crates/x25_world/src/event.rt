@@ -4,14 +4,14 @@ use x25_bits::Role;
 use x25_line::Direction;
 use x25_station::Cmd;
 
-/// What happens next: at one end, or on the line.
+/// What happens next (profile): at one end, or on the line. Places on the line are counted from 0, at the front.
 #[derive(Clone, Copy, Debug)]
 pub enum Event<'a> {
     /// The user of an end asks for something. Refused as the station refuses it.
     Command(Role, Cmd<'a>),
     /// The front frame arrives at the end that the direction leads to. Refused with 50.
     Deliver(Direction),
-    /// The frame at this place is lost, 0 at the front. Refused with 51.
+    /// The frame at this place is lost. Refused with 51.
     Lose(Direction, usize),
     /// Other octets come in the place of the frame at this place, which the frame check sequence shows. Refused with 51, then 52.
     Damage(Direction, usize, &'a [u8]),

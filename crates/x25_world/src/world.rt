@@ -24,7 +24,7 @@ use x25_station::{Cfg, Station, StationError};
 
 /// Two stations, the line between them, its tap, and the transcript of both ends.
 ///
-/// The line keeps order, and may lose or visibly damage any frame. Tap and transcript hold all that was put on the line and told since
+/// The line keeps order, and may lose or visibly damage any frame (profile). Tap and transcript hold all that was put on the line and told since
 /// `let_go` was last called, or else from the beginning.
 #[derive(Drop)]
 pub struct World {
@@ -136,6 +136,7 @@ impl World {
         self.happen(event)
     }
 
+    // The step of `apply`, without the laws of runs.
     fn happen(&mut self, event: Event) -> Result<(), WorldError>
         ensures step { (cfg : Cfg) (w : definition.World) (gone : Gone) → FitsWorld cfg self.old w gone → OnOk result (FitsWorld cfg self.new (after w (happens cfg w (event_of event.entry))) gone) }
         ensures accepted { (cfg : Cfg) (w : definition.World) (gone : Gone) → FitsWorld cfg self.old w gone → OnOk result (refusal_of (happens cfg w (event_of event.entry)) ≡ None) }
@@ -180,6 +181,7 @@ impl World {
         self.happen_all(events)
     }
 
+    // The steps of `run`, without the laws of runs.
     fn happen_all(&mut self, events: &[Event]) -> Result<(), WorldRefused>
         ensures step { (cfg : Cfg) (w : definition.World) (gone : Gone) → FitsWorld cfg self.old w gone → OnOk result (FitsWorld cfg self.new (run cfg (map event_of events.now) w) gone) }
         ensures accepted { (cfg : Cfg) (w : definition.World) (gone : Gone) → FitsWorld cfg self.old w gone → OnOk result (AreAccepted cfg (map event_of events.now) w) }
@@ -208,6 +210,7 @@ impl World {
         self.line.tap()
     }
 
+    /// The station of this end.
     pub fn station(&self, role: Role) -> &Station
         ensures { result.now ≡ station_of self.now role }
     {

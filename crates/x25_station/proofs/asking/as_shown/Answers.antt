@@ -1,5 +1,4 @@
 use Rattle.std.proofs.Common.{Some, ap, sym, ◌∙◌}
-use Rattle.std.specs.Option.{unwrap_or}
 use Rattle.x25_circuit.specs.Calls.{Accepts}
 use Rattle.x25_layer.specs.World.{shown}
 use Rattle.x25_station.specs.PlainEntry.{plain_asked}

@@ -1,0 +1,32 @@
+-- What a line carries is octets.
+use Rattle.std.proofs.Common.{ℕ, ◌<◌, List, [], ◌∷◌}
+use Rattle.std.proofs.lemmas.List.Elements.{All-nil, All-from_get_or}
+use Rattle.hex.proofs.HexLemmas.{decode_of-ok}
+use Rattle.x25_script.specs.Octets.{AreOctets}
+use Rattle.x25_script.specs.PlainLine.{PlainCommand, call, accept, clear, send, interrupt, reset, ready, not_ready, restart, disconnect, PlainLine, command, t1, deliver, lose, damage, drain}
+use Rattle.x25_script.specs.ReadingLaw.{AsksInOctets, IsInOctets}
+use Rattle.x25_script.specs.Spelling.{Writes, SpellsCommand, Spells}
+
+written : (text octets : List ℕ) → Writes text octets → AreOctets octets
+written text [] h = All-nil (λ octet. octet < 256)
+written text (octet ∷ octets) h = All-from_get_or (λ octet. octet < 256) (octet ∷ octets) 0 (λ i few. (decode_of-ok text (octet ∷ octets) h).3 i)
+
+asked : (v : PlainCommand) (text : List ℕ) → SpellsCommand v text → AsksInOctets v
+asked (call called calling user params) text h = written h.3.0 user h.3.1
+asked (send channel q user) text h = written h.1.0 user h.1.1
+asked (interrupt channel user) text h = written h.1.0 user h.1.1
+asked (accept channel params) text h = tt
+asked (clear channel) text h = tt
+asked (reset channel) text h = tt
+asked (ready channel) text h = tt
+asked (not_ready channel) text h = tt
+asked restart text h = tt
+asked disconnect text h = tt
+
+pub spelled_octets : (v : PlainLine) (text : List ℕ) → Spells v text → IsInOctets v
+spelled_octets (command end a) text h = asked a h.0 h.2
+spelled_octets (damage from place octets) text h = written h.1.0 octets h.1.1
+spelled_octets (t1 end) text h = tt
+spelled_octets (deliver from) text h = tt
+spelled_octets (lose from place) text h = tt
+spelled_octets (drain count) text h = tt

@@ -1,0 +1,6 @@
+use Rattle.x25_script.proofs.GrammarLemmas.{line_found}
+use Rattle.x25_script.proofs.CarriedLemmas.{spelled_octets}
+use Rattle.x25_script.proofs.law.lines_are_in_octets.Goals as goal
+
+pub returns : goal.returns
+returns c = λ v text e. spelled_octets v text (line_found text v e)

@@ -1,0 +1,13 @@
+//! Tests of `x25_world`: worked runs of two stations over a line, refusals, and many lists of events.
+#![tactic(auto)]
+
+#[cfg(test)]
+mod handed;
+#[cfg(test)]
+mod lists;
+#[cfg(test)]
+mod play;
+#[cfg(test)]
+mod refusals;
+#[cfg(test)]
+mod rows;

@@ -1,0 +1,304 @@
+//! Many lists of events: what is handed up is what was handed down.
+
+use crate::handed::{Kind, Place, across, count, is_lawful};
+use crate::play::number_of;
+use std::alloc::Global;
+use std::process::Abort;
+use std::test::Fail;
+use x25_layer::Params;
+use x25_station::{Cfg, Cmd};
+use x25_world::Direction::{ToDce, ToDte};
+use x25_world::Role::{Dce, Dte};
+use x25_world::{Direction, Event, Role, World, WorldError};
+
+/// How many lists there are, and how many events each has before it is settled.
+const LISTS: usize = 1000;
+
+const EVENTS: usize = 80;
+
+/// Numbers that the lists are made of.
+const STORED: [u64; 8] = [
+    0x9e37_79b9_7f4a_7c15,
+    0xbf58_476d_1ce4_e5b9,
+    0x94d0_49bb_1331_11eb,
+    0x2545_f491_4f6c_dd1d,
+    0xd6e8_feb8_6659_fd93,
+    0xa076_1d64_78bd_642f,
+    0xe703_7ed1_a0b4_28db,
+    0x8ebc_6af0_9c88_c6e3,
+];
+
+/// Octets that messages are made of.
+static OCTETS: [u8; 400] = [0x5a; 400];
+
+const ADDRESSES: [&str; 4] = ["", "7", "0123456789", "999999999999999"];
+
+// Numbers that follow from a stored one.
+#[derive(Clone, Copy)]
+struct Numbers {
+    state: u64,
+}
+
+impl Numbers {
+    fn of_list(list: usize) -> Numbers {
+        let stored = STORED[list % STORED.len()];
+        Numbers {
+            state: stored.wrapping_add(list as u64),
+        }
+    }
+
+    // A number below this one.
+    fn below(&mut self, bound: usize) -> usize {
+        self.state = self
+            .state
+            .wrapping_mul(0x5851_f42d_4c95_7f2d)
+            .wrapping_add(0x1405_7b7e_f767_814f);
+        let high = (self.state >> 33) as usize;
+        high.checked_rem(bound).unwrap_or(0)
+    }
+
+    // A number from 1 up to this one.
+    fn up_to(&mut self, most: u8) -> u8 {
+        let below = u8::try_from(self.below(usize::from(most)));
+        below.unwrap_or(0).saturating_add(1)
+    }
+}
+
+fn settings(numbers: &mut Numbers) -> Cfg {
+    Cfg {
+        k: numbers.up_to(7),
+        n2: numbers.up_to(20),
+        channels: numbers.up_to(3),
+    }
+}
+
+fn octets(numbers: &mut Numbers, most: usize) -> &'static [u8] {
+    OCTETS.get(..numbers.below(most)).unwrap_or(&[])
+}
+
+fn address(numbers: &mut Numbers) -> &'static str {
+    ADDRESSES.get(numbers.below(4)).copied().unwrap_or("")
+}
+
+// Packet sizes and windows: the defaults, which may always be answered, or any that may be proposed.
+fn params(numbers: &mut Numbers) -> Params {
+    if numbers.below(2) == 0 {
+        return Params::default();
+    }
+    Params {
+        size_called: numbers.up_to(9).saturating_add(3),
+        size_calling: numbers.up_to(9).saturating_add(3),
+        win_called: numbers.up_to(7),
+        win_calling: numbers.up_to(7),
+    }
+}
+
+fn role(numbers: &mut Numbers) -> Role {
+    if numbers.below(2) == 0 { Dte } else { Dce }
+}
+
+fn direction(numbers: &mut Numbers) -> Direction {
+    if numbers.below(2) == 0 { ToDce } else { ToDte }
+}
+
+/// The kinds of commands, and then those of the other events.
+const COMMANDS: usize = 12;
+
+const KINDS: usize = COMMANDS + 4;
+
+// A command of this kind.
+fn command(numbers: &mut Numbers, kind: usize, channels: u8) -> Cmd<'static> {
+    let channel = u16::from(numbers.up_to(channels));
+    match kind {
+        0 => Cmd::Call {
+            called: address(numbers),
+            calling: address(numbers),
+            user: octets(numbers, 17),
+        },
+        1 => Cmd::Accept { channel },
+        2 => Cmd::Clear { channel },
+        3 => Cmd::Send {
+            channel,
+            q: numbers.below(2) == 1,
+            user: octets(numbers, 400),
+        },
+        4 => Cmd::Interrupt {
+            channel,
+            user: octets(numbers, 33),
+        },
+        5 => Cmd::Reset { channel },
+        6 => Cmd::Ready { channel },
+        7 => Cmd::NotReady { channel },
+        8 => Cmd::CallWith {
+            called: address(numbers),
+            calling: address(numbers),
+            user: octets(numbers, 17),
+            params: params(numbers),
+        },
+        9 => Cmd::AcceptWith {
+            channel,
+            params: params(numbers),
+        },
+        10 => Cmd::Restart,
+        _ => Cmd::Disconnect,
+    }
+}
+
+// How often each kind of command comes, of 64.
+const OFTEN: [usize; COMMANDS] = [8, 9, 2, 20, 6, 1, 2, 1, 6, 7, 1, 1];
+
+fn kind_of_command(numbers: &mut Numbers) -> usize {
+    let mut left = numbers.below(64);
+    for (kind, often) in OFTEN.iter().enumerate() {
+        if left < *often {
+            return kind;
+        }
+        left -= *often;
+    }
+    3
+}
+
+// An event, and its kind.
+fn event(numbers: &mut Numbers, channels: u8) -> (usize, Event<'static>) {
+    match numbers.below(20) {
+        0..=6 => {
+            let kind = kind_of_command(numbers);
+            let at = role(numbers);
+            (kind, Event::Command(at, command(numbers, kind, channels)))
+        }
+        7..=15 => (COMMANDS, Event::Deliver(direction(numbers))),
+        16 => (
+            COMMANDS + 1,
+            Event::Lose(direction(numbers), numbers.below(3)),
+        ),
+        17 => (
+            COMMANDS + 2,
+            Event::Damage(direction(numbers), numbers.below(3), octets(numbers, 9)),
+        ),
+        _ => (COMMANDS + 3, Event::T1(role(numbers))),
+    }
+}
+
+// Whether it was accepted. Memory is never wanted.
+fn is_accepted(rt: &impl Abort, world: &mut World, event: Event) -> bool {
+    match world.apply(event) {
+        Ok(()) => true,
+        Err(error) => {
+            assert!(rt; number_of(error) != 70, "{event:?}");
+            false
+        }
+    }
+}
+
+// Deliveries and firings of timer T1 by turns.
+fn settle(rt: &impl Abort, world: &mut World) {
+    for round in 0..4u8 {
+        for _ in 0..100u8 {
+            let to_dce = is_accepted(rt, world, Event::Deliver(ToDce));
+            let to_dte = is_accepted(rt, world, Event::Deliver(ToDte));
+            if !to_dce && !to_dte {
+                break;
+            }
+        }
+        if round < 3 {
+            for role in [Dte, Dce] {
+                is_accepted(rt, world, Event::T1(role));
+            }
+        }
+    }
+}
+
+// In how many stretches that are open at both ends, with the end that sends idle, all has come.
+fn all_came(rt: &impl Abort, world: &World, channels: u8, list: usize) -> usize {
+    let mut open = 0usize;
+    for role in [Dte, Dce] {
+        if !world.station(role).idle() {
+            continue;
+        }
+        for channel in 1..=u16::from(channels) {
+            let Some(name) = world.station(role).stretch(channel) else {
+                continue;
+            };
+            if world.station(role.other()).stretch(channel) != Some(name) {
+                continue;
+            }
+            open = open.saturating_add(1);
+            for kind in [Kind::Message, Kind::Interrupt] {
+                let down = Place {
+                    role,
+                    channel,
+                    name,
+                    kind,
+                    is_up: false,
+                };
+                let up = across(down);
+                let sent = count(world.transcript(), down);
+                assert_eq!(rt;
+                    count(world.transcript(), up),
+                    sent,
+                    "list {list}, {down:?}"
+                );
+            }
+        }
+    }
+    open
+}
+
+/// How often each kind of event was accepted, and in how many stretches all came.
+#[derive(Drop)]
+struct Tally {
+    accepted: [usize; KINDS],
+    open: usize,
+}
+
+// Plays a list of events at a world whose link was just set up.
+fn play(
+    rt: &impl Abort,
+    world: &mut World,
+    numbers: &mut Numbers,
+    channels: u8,
+    list: usize,
+    tally: &mut Tally,
+) {
+    for _ in 0..EVENTS {
+        let (kind, event) = event(numbers, channels);
+        if is_accepted(rt, world, event) && kind < KINDS {
+            tally.accepted[kind] = tally.accepted[kind].saturating_add(1);
+        }
+    }
+    is_lawful(rt, world.transcript(), list);
+    settle(rt, world);
+    is_lawful(rt, world.transcript(), list);
+    let open = all_came(rt, world, channels, list);
+    tally.open = tally.open.saturating_add(open);
+}
+
+fn play_list(
+    rt: &impl Abort,
+    alloc: Global,
+    list: usize,
+    tally: &mut Tally,
+) -> Result<(), WorldError> {
+    let mut numbers = Numbers::of_list(list);
+    let cfg = settings(&mut numbers);
+    let mut world = World::establish(alloc, cfg)?;
+    play(rt, &mut world, &mut numbers, cfg.channels, list, tally);
+    Ok(())
+}
+
+#[test]
+fn what_comes_is_what_was_sent(rt: HostRuntime) -> Result<(), Fail> {
+    let mut tally = Tally {
+        accepted: [0; KINDS],
+        open: 0,
+    };
+    for list in 0..LISTS {
+        play_list(&rt, rt.alloc(), list, &mut tally)?;
+    }
+    for (kind, count) in tally.accepted.iter().enumerate() {
+        assert!(rt; *count > 0, "kind {kind} of an event is never accepted");
+    }
+    let open = tally.open;
+    assert!(rt; open > 200, "only {open} stretches were open");
+    Ok(())
+}
