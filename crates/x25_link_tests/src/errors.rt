@@ -4,7 +4,7 @@ use crate::pair::{DCE, DTE, Row, play_up};
 use crate::station::Event::{Deliver, HearLong, Look, Take};
 use std::test::Fail;
 
-const INVALID_NR: [Row; 3] = [
+static INVALID_NR: [Row; 3] = [
     (
         DCE,
         Take(&[0x01, 0x20, 0x9D, 0x37]),
@@ -19,7 +19,7 @@ fn an_invalid_number_is_answered_by_frmr(rt: HostRuntime) -> Result<(), Fail> {
     play_up(&rt, rt.alloc(), 7, INVALID_NR.as_slice())
 }
 
-const INFORMATION_IN_RR: [Row; 1] = [(
+static INFORMATION_IN_RR: [Row; 1] = [(
     DCE,
     Take(&[0x03, 0x01, 0x55, 0x58, 0x35]),
     "down (frmr-sent), FRMR rsp F=0 why=011003",
@@ -30,7 +30,7 @@ fn information_in_rr_is_answered_by_frmr(rt: HostRuntime) -> Result<(), Fail> {
     play_up(&rt, rt.alloc(), 7, INFORMATION_IN_RR.as_slice())
 }
 
-const TOO_LONG: [Row; 1] = [(
+static TOO_LONG: [Row; 1] = [(
     DCE,
     HearLong(4100),
     "down (frmr-sent), FRMR rsp F=0 why=000004",

@@ -60,7 +60,7 @@ impl Pair {
     }
 }
 
-const SET_UP: [Row; 3] = [
+static SET_UP: [Row; 3] = [
     (DTE, Connect, "SABM cmd P=1"),
     (DCE, Deliver, "up, UA rsp F=1"),
     (DTE, Deliver, "up"),

@@ -1,18 +1,15 @@
 //! Set-up, disconnection and refusals.
 
 use crate::pair::{DCE, DTE, Row, play, play_up};
-use crate::station::Event::{Abandon, Ask, Connect, Deliver, Disconnect, Hear, Put, T1};
+use crate::station::Event::{
+    Abandon, Ask, Connect, Deliver, Disconnect, HearDisc, HearSabm, Put, T1,
+};
 use std::test::Fail;
-use x25_frame::Frame;
 use x25_link::{Link, LinkError};
 
-const TWO_DISCS: [Row; 2] = [
-    (
-        DCE,
-        Hear(Frame::Disc { p: true }),
-        "down (disc), UA rsp F=1",
-    ),
-    (DCE, Hear(Frame::Disc { p: true }), "DM rsp F=1"),
+static TWO_DISCS: [Row; 2] = [
+    (DCE, HearDisc(true), "down (disc), UA rsp F=1"),
+    (DCE, HearDisc(true), "DM rsp F=1"),
 ];
 
 #[test]
@@ -20,7 +17,7 @@ fn a_disc_is_answered_once_by_ua(rt: HostRuntime) -> Result<(), Fail> {
     play_up(&rt, rt.alloc(), 7, TWO_DISCS.as_slice())
 }
 
-const NO_ANSWER: [Row; 5] = [
+static NO_ANSWER: [Row; 5] = [
     (DTE, Connect, "SABM cmd P=1"),
     (DTE, T1, "SABM cmd P=1"),
     (DTE, T1, "down (retries)"),
@@ -33,15 +30,11 @@ fn a_set_up_without_an_answer_ends(rt: HostRuntime) -> Result<(), Fail> {
     play(&rt, rt.alloc(), 7, 1, NO_ANSWER.as_slice())
 }
 
-const ANEW: [Row; 5] = [
+static ANEW: [Row; 5] = [
     (DCE, Put(0), "I cmd P=0 S=0 R=0"),
     (DCE, Put(1), ""),
     (DCE, Ask, "1 wait"),
-    (
-        DCE,
-        Hear(Frame::Sabm { p: false }),
-        "down (reset), up, UA rsp F=0",
-    ),
+    (DCE, HearSabm(false), "down (reset), up, UA rsp F=0"),
     (DCE, Ask, "idle"),
 ];
 
@@ -50,7 +43,7 @@ fn a_sabm_begins_anew(rt: HostRuntime) -> Result<(), Fail> {
     play_up(&rt, rt.alloc(), 1, ANEW.as_slice())
 }
 
-const REFUSALS: [Row; 10] = [
+static REFUSALS: [Row; 10] = [
     (DTE, Connect, "SABM cmd P=1"),
     (DTE, Connect, "refused 12"),
     (DCE, Deliver, "up, UA rsp F=1"),

@@ -24,8 +24,12 @@ pub enum Event<'a> {
     Reply(u8),
     /// The first frame on the line to this station is lost.
     Lose,
-    /// A frame arrives that the other station didn't send.
-    Hear(Frame<'a>),
+    /// A SABM with this P arrives that the other station didn't send.
+    HearSabm(bool),
+    /// A DISC with this P arrives that the other station didn't send.
+    HearDisc(bool),
+    /// A REJ response with this N(R) and F arrives that the other station didn't send.
+    HearRej(u8, bool),
     /// An RR response with this N(R) and F arrives that the other station didn't send.
     HearRr(u8, bool),
     /// An I frame with N(S) and N(R) 0 and so many octets of information, all 0, arrives that the other station didn't send.
@@ -41,8 +45,8 @@ pub enum Event<'a> {
 }
 
 use Event::{
-    Abandon, Ask, Connect, Count, Deliver, Disconnect, Hear, HearLong, HearRr, Look, Lose, Put,
-    PutMany, Reply, T1, Take,
+    Abandon, Ask, Connect, Count, Deliver, Disconnect, HearDisc, HearLong, HearRej, HearRr,
+    HearSabm, Look, Lose, Put, PutMany, Reply, T1, Take,
 };
 
 /// What an event shows, and the frames to send.
@@ -143,7 +147,16 @@ impl End {
             Put(octet) => shown(alloc, self.role, put(link, alloc, octet)),
             PutMany(count) => self.put_many(alloc, count),
             Take(octets) => shown(alloc, self.role, link.take(octets)),
-            Hear(frame) => self.hear(alloc, &frame),
+            HearSabm(p) => self.hear(alloc, &Frame::Sabm { p }),
+            HearDisc(p) => self.hear(alloc, &Frame::Disc { p }),
+            HearRej(nr, f) => self.hear(
+                alloc,
+                &Frame::Rej {
+                    command: false,
+                    nr: Seq::modulo(nr),
+                    pf: f,
+                },
+            ),
             HearRr(nr, f) => self.hear(
                 alloc,
                 &Frame::Rr {

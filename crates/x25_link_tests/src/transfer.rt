@@ -1,12 +1,10 @@
 //! Packets that are transferred, lost and sent again.
 
 use crate::pair::{DCE, DTE, Row, play_up};
-use crate::station::Event::{Ask, Count, Deliver, Hear, HearRr, Look, Lose, Put, Reply, T1};
+use crate::station::Event::{Ask, Count, Deliver, HearRej, HearRr, Look, Lose, Put, Reply, T1};
 use std::test::Fail;
-use x25_bits::Seq;
-use x25_frame::Frame;
 
-const LOST_FRAME: [Row; 52] = [
+static LOST_FRAME: [Row; 52] = [
     (DTE, Put(0), "I cmd P=0 S=0 R=0"),
     (DCE, Lose, "I cmd P=0 S=0 R=0"),
     (DTE, T1, "RR cmd P=1 R=0"),
@@ -70,7 +68,7 @@ fn a_lost_frame_comes_again_by_the_timer(rt: HostRuntime) -> Result<(), Fail> {
     play_up(&rt, rt.alloc(), 7, LOST_FRAME.as_slice())
 }
 
-const GAP: [Row; 11] = [
+static GAP: [Row; 11] = [
     (DTE, Put(0), "I cmd P=0 S=0 R=0"),
     (DTE, Put(1), "I cmd P=0 S=1 R=0"),
     (DTE, Put(2), "I cmd P=0 S=2 R=0"),
@@ -93,19 +91,11 @@ fn a_gap_is_answered_by_one_rej(rt: HostRuntime) -> Result<(), Fail> {
     play_up(&rt, rt.alloc(), 7, GAP.as_slice())
 }
 
-const ABOVE_THE_LOWERED_PLACE: [Row; 6] = [
+static ABOVE_THE_LOWERED_PLACE: [Row; 6] = [
     (DTE, Put(0), "I cmd P=0 S=0 R=0"),
     (DTE, Put(1), "I cmd P=0 S=1 R=0"),
     (DTE, T1, "RR cmd P=1 R=0"),
-    (
-        DTE,
-        Hear(Frame::Rej {
-            command: false,
-            nr: Seq::ZERO,
-            pf: false,
-        }),
-        "",
-    ),
+    (DTE, HearRej(0, false), ""),
     (DTE, HearRr(2, false), ""),
     (DTE, Ask, "idle"),
 ];
@@ -115,7 +105,7 @@ fn an_acknowledgement_above_the_lowered_place_is_taken(rt: HostRuntime) -> Resul
     play_up(&rt, rt.alloc(), 7, ABOVE_THE_LOWERED_PLACE.as_slice())
 }
 
-const ANSWER_FIRST: [Row; 2] = [
+static ANSWER_FIRST: [Row; 2] = [
     (DTE, Put(5), "I cmd P=0 S=0 R=0"),
     (
         DCE,
@@ -129,7 +119,7 @@ fn the_answer_goes_before_the_packet(rt: HostRuntime) -> Result<(), Fail> {
     play_up(&rt, rt.alloc(), 7, ANSWER_FIRST.as_slice())
 }
 
-const FINAL: [Row; 3] = [
+static FINAL: [Row; 3] = [
     (DTE, Put(0), "I cmd P=0 S=0 R=0"),
     (DTE, Put(1), "I cmd P=0 S=1 R=0"),
     (DTE, HearRr(0, true), "I cmd P=0 S=0 R=0, I cmd P=0 S=1 R=0"),

@@ -4,7 +4,7 @@ use crate::pair::{DCE, DTE, Row, play_up};
 use crate::station::Event::{Ask, Deliver, HearRr, Put, PutMany};
 use std::test::Fail;
 
-const FULL_QUEUE: [Row; 5] = [
+static FULL_QUEUE: [Row; 5] = [
     (DTE, PutMany(7), "I cmd P=0 S=6 R=0"),
     (DTE, Ask, "0 wait"),
     (DTE, PutMany(256), ""),
@@ -17,7 +17,7 @@ fn two_hundred_and_fifty_six_packets_wait(rt: HostRuntime) -> Result<(), Fail> {
     play_up(&rt, rt.alloc(), 7, FULL_QUEUE.as_slice())
 }
 
-const BUSY: [Row; 6] = [
+static BUSY: [Row; 6] = [
     (DTE, PutMany(262), ""),
     (DTE, Ask, "255 wait"),
     (DCE, Put(5), "I cmd P=0 S=0 R=0"),
