@@ -87,6 +87,7 @@ const IS_ANSWERED_OUT_OF_RANGE: [Row; 1] = [(
     Hear(1, 2, "10010f0003430403"),
     &[
         "dte fault ch=1 diag=66",
+        "RR rsp F=0 R=2",
         "I cmd P=0 S=2 R=2 | CLEAR ch=1 cause=128 diag=66",
     ],
 )];
