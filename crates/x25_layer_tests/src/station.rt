@@ -11,11 +11,14 @@ use std::test::Fail;
 use x25_layer::{Layer, Role};
 use x25_link::{Link, LinkError, PlainLink};
 
-// Brings a DTE up: its SABM is lost, and UA with F=1 comes.
-fn connect(link: &mut Link) -> Result<(), LinkError> {
-    link.connect()?;
-    link.take(&[0x01, 0x73, 0x83, 0x57])?;
-    Ok(())
+// A DTE that is down, or up: its SABM is lost, and UA with F=1 comes.
+fn station(alloc: Global, up: bool) -> Result<Link, LinkError> {
+    let mut link = Link::new(alloc, Role::Dte, 7, 4099, 10)?;
+    if up {
+        link.connect()?;
+        link.take(&[0x01, 0x73, 0x83, 0x57])?;
+    }
+    Ok(link)
 }
 
 // The frames that a link sent, in hexadecimal.
@@ -27,6 +30,11 @@ fn sent_text(alloc: Global, link: &mut Link) -> Result<String, AllocError> {
     Ok(text)
 }
 
+fn sent(rt: &impl Abort, alloc: Global, link: &mut Link, frames: &str) -> Result<(), Fail> {
+    assert_eq!(rt; sent_text(alloc, link)?.as_str(), frames);
+    Ok(())
+}
+
 // Over a station that is up or down each event shows its text, and then these frames were sent.
 fn plays_over_station(
     rt: &impl Abort,
@@ -36,13 +44,9 @@ fn plays_over_station(
     rows: &[Shown],
     frames: &str,
 ) -> Result<(), Fail> {
-    let mut link = Link::new(alloc, Role::Dte, 7, 4099, 10)?;
-    if up {
-        connect(&mut link)?;
-    }
+    let mut link = station(alloc, up)?;
     plays_over(rt, alloc, layer, &mut link, rows)?;
-    assert_eq!(rt; sent_text(alloc, &mut link)?.as_str(), frames);
-    Ok(())
+    sent(rt, alloc, &mut link, frames)
 }
 
 static REFUSED_RESTART: [Shown; 1] = [(Restart, "refused 9")];
