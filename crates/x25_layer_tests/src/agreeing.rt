@@ -37,11 +37,7 @@ static CALLED: [Row; 6] = [
     (Agreed(1), "size 9 7 window 1 2", ""),
     (AcceptWith(1, [10, 7, 1, 2]), "refused 34", ""),
     (AcceptWith(1, [9, 7, 3, 2]), "refused 34", ""),
-    (
-        AcceptWith(1, [8, 7, 2, 2]),
-        "ok",
-        "10010f0006420807430202",
-    ),
+    (AcceptWith(1, [8, 7, 2, 2]), "ok", "10010f0006420807430202"),
     (Agreed(1), "size 8 7 window 2 2", ""),
 ];
 
