@@ -6,6 +6,7 @@ use Rattle.x25_bits.specs.declared.role.Role.TheVariants.{Dte, Dce}
 use Rattle.x25_packet.specs.declared.error.PacketError.{PacketError}
 use Rattle.x25_packet.specs.PacketError.{diagnostic_of}
 use Rattle.x25_packet.specs.PlainPacket.{PlainPacket, accept, clear, clear_conf}
+use Rattle.x25_packet.specs.Spelling.{longest_user}
 use Rattle.x25_circuit.specs.declared.state.State.{State}
 use Rattle.x25_circuit.specs.declared.state.State.TheVariants.{Free, Calling, Arriving, Collision, Open, Resetting, Clearing}
 use Rattle.x25_circuit.specs.declared.params.Params.{Params}
@@ -131,9 +132,9 @@ clear_done x Open f g = refl
 clear_done x Resetting f g = refl
 clear_done x Clearing f g = absurd (g refl)
 
-pub calls_with : (called calling user : List ℕ) (params : Params) → is_address_text called ≡ true → is_address_text calling ≡ true → length user ≤ 16 → may_propose params ≡ true
-    → may_call called calling user params ≡ true
-calls_with called calling user params e f h g = rw (e, f) (hold_both _ _ (le-leb _ _ h) g)
+pub calls_with : (long_data : Bool) (called calling user : List ℕ) (params : Params) → is_address_text called ≡ true → is_address_text calling ≡ true → length user ≤ longest_user long_data → may_propose params ≡ true
+    → may_call long_data called calling user params ≡ true
+calls_with long_data called calling user params e f h g = rw (e, f) (hold_both _ _ (le-leb _ _ h) g)
 
 pub ready_at : (x : Circuit) (s : State) (b : Bool) → s ≡ Open → ready_in x s b ≡ ready_open x x.talk b
 ready_at x s b e = ap (λ (r : State). ready_in x r b) e
@@ -141,8 +142,8 @@ ready_at x s b e = ap (λ (r : State). ready_in x r b) e
 pub send_at : (c : Settings) (x : Circuit) (s : State) (q : Bool) (user : List ℕ) → s ≡ Open → send_in c x s q user ≡ send_open c x x.talk q user
 send_at c x s q user e = ap (λ (r : State). send_in c x r q user) e
 
-pub call_at : (x : Circuit) (s : State) (called calling user : List ℕ) (params : Params) → s ≡ Free → call_in x s called calling user params ≡ call_in x Free called calling user params
-call_at x s called calling user params e = ap (λ (r : State). call_in x r called calling user params) e
+pub call_at : (c : Settings) (x : Circuit) (s : State) (called calling user : List ℕ) (params : Params) → s ≡ Free → call_in c x s called calling user params ≡ call_in c x Free called calling user params
+call_at c x s called calling user params e = ap (λ (r : State). call_in c x r called calling user params) e
 
 pub accept_at : (x : Circuit) (s : State) (answer : Option Params) → s ≡ Arriving → accept_in x s answer ≡ accept_with x answer
 accept_at x s answer e = ap (λ (r : State). accept_in x r answer) e

@@ -11,10 +11,10 @@ use Rattle.x25_circuit.specs.Notices.{PlainNotice}
 use Rattle.x25_circuit.specs.Table.{Answer}
 
 abbrev pub dte : Settings
-dte = record { role = Dte }
+dte = record { role = Dte; long_data = false }
 
 abbrev pub dce : Settings
-dce = record { role = Dce }
+dce = record { role = Dce; long_data = false }
 
 -- this end called, in a state before the call is accepted
 abbrev pub has_called : State → Bool

@@ -20,6 +20,7 @@ pub with_transfer : (c : Settings) (v : code.Circuit) (x : Circuit) (u : Transfe
     → FitsCircuit c (record v { transfer = u }) (record x { talk = t })
 with_transfer c v x u t fits talk = record {
   role = fits.role;
+  long_data = fits.long_data;
   state = fits.state;
   clears = fits.clears;
   resets = fits.resets;

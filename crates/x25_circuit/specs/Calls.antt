@@ -4,6 +4,7 @@ use Rattle.std.specs.Prelude.{ℕ, ◌+◌, ◌%◌, List, [], ◌∷◌, ◌++�
 use Rattle.std.specs.List.{list_all}
 use Rattle.x25_packet.specs.Digits.{digits_of_text, is_figure}
 use Rattle.x25_packet.specs.PlainPacket.{PlainPacket, call, accept, clear, user_data, interrupt, reset}
+use Rattle.x25_packet.specs.Spelling.{longest_user}
 use Rattle.x25_circuit.specs.declared.error.CircuitError.{CircuitError}
 use Rattle.x25_circuit.specs.declared.error.CircuitError.TheVariants.{WrongState, Full, TooLong, InterruptOutstanding, BadParameter}
 use Rattle.x25_circuit.specs.declared.state.State.{State}
@@ -53,13 +54,15 @@ request_of called calling user params = record { called = digits_of_text called;
 abbrev pub call_sent : CallRequest → PlainPacket
 call_sent request = call 1 request.called request.calling (field_for default_params request.params) request.user
 
--- both addresses are texts of digits, there are at most 16 octets of user data (section 5.2.1), and what is proposed is in range
-abbrev pub may_call : List ℕ → List ℕ → List ℕ → Params → Bool
-may_call called calling user params = is_address_text called && (is_address_text calling && (nat_le (length user) 16 && may_propose params))
+-- both addresses are texts of digits, there is no more user data than a CALL has, and what is proposed is in range
+abbrev pub may_call : Bool → List ℕ → List ℕ → List ℕ → Params → Bool
+may_call long_data called calling user params =
+    is_address_text called && (is_address_text calling && (nat_le (length user) (longest_user long_data) && may_propose params))
 
-abbrev pub call_in : Circuit → State → List ℕ → List ℕ → List ℕ → Params → Outcome
-call_in x Free called calling user params = if may_call called calling user params then does x Calling params true (call_sent (request_of called calling user params)) else Refused BadParameter
-call_in x state called calling user params = Refused WrongState
+abbrev pub call_in : Settings → Circuit → State → List ℕ → List ℕ → List ℕ → Params → Outcome
+call_in c x Free called calling user params =
+    if may_call c.long_data called calling user params then does x Calling params true (call_sent (request_of called calling user params)) else Refused BadParameter
+call_in c x state called calling user params = Refused WrongState
 
 -- what is as proposed isn't said
 abbrev pub accept_with : Circuit → Option Params → Outcome
@@ -121,7 +124,7 @@ ready_in x state is_ready = Refused WrongState
 -- ---- the calls
 
 abbrev pub outcome : Settings → Circuit → Request → Outcome
-outcome c x (Calls called calling user params) = call_in x x.state called calling user params
+outcome c x (Calls called calling user params) = call_in c x x.state called calling user params
 outcome c x (Accepts answer) = accept_in x x.state answer
 outcome c x Clears = clear_in x x.state
 outcome c x (Sends q user) = send_in c x x.state q user

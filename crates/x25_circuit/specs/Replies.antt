@@ -36,7 +36,7 @@ plain_owed (Some packet) = Some (plain packet)
 -- the packet, where there is one, can be spelled
 abbrev pub IsSendable : Option PlainPacket → Type 0
 IsSendable None = Unit {0}
-IsSendable (Some packet) = IsInRange 16 packet
+IsSendable (Some packet) = IsInRange 128 packet
 
 -- the reply says these
 pub record Says (reply : Reply) (packet : Option PlainPacket) (told : List PlainNotice) : Type 0 where

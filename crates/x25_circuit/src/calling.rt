@@ -15,7 +15,7 @@ use crate::error::CircuitError;
 use crate::params::{FlowControl, Params};
 use crate::proposal::Proposal;
 use crate::state::State;
-use x25_packet::{CALL_OCTETS, Digits, Packet};
+use x25_packet::{Digits, Packet, longest_user};
 
 // The digits of an address, where the text is one.
 fn address<'a>(text: &'a str) -> Option<Digits<'a>>
@@ -28,8 +28,8 @@ fn address<'a>(text: &'a str) -> Option<Digits<'a>>
 }
 
 impl Circuit {
-    /// Calls the other end, with addresses of 0 to 15 digits and at most 16 octets of user data, and proposes the default
-    /// packet sizes and windows. It answers CALL.
+    /// Calls the other end, with addresses of 0 to 15 digits and at most 16 octets of user data (128 where it may be long),
+    /// and proposes the default packet sizes and windows. It answers CALL.
     ///
     /// 30 WrongState outside of p1, then 34 BadParameter where an address or the user data is none of these.
     pub fn call<'a>(
@@ -39,7 +39,7 @@ impl Circuit {
         user: &'a [u8],
     ) -> Result<Packet<'a>, CircuitError>
         ensures outcome { (c : Settings) (x : Channel) → FitsCircuit c self.old x → Sends c self.new result (outcome c x (Calls called.now calling.now user.now default_params)) }
-        ensures range { IfOk result (λ packet. IsInRange 16 (plain packet)) }
+        ensures range { IfOk result (λ packet. IsInRange 128 (plain packet)) }
         ensures room { room_of self.old ≤ room_of self.new }
         ensures unchanged { OnErr result (self.new ≡ self.old) }
     {
@@ -61,7 +61,7 @@ impl Circuit {
         proposal: &'a Proposal,
     ) -> Result<Packet<'a>, CircuitError>
         ensures outcome { (c : Settings) (x : Channel) → FitsCircuit c self.old x → Sends c self.new result (outcome c x (Calls called.now calling.now user.now proposal.now)) }
-        ensures range { IfOk result (λ packet. IsInRange 16 (plain packet)) }
+        ensures range { IfOk result (λ packet. IsInRange 128 (plain packet)) }
         ensures room { room_of self.old ≤ room_of self.new }
         ensures unchanged { OnErr result (self.new ≡ self.old) }
     {
@@ -87,8 +87,8 @@ impl Circuit {
         facilities: &'a [u8],
     ) -> Result<Packet<'a>, CircuitError>
         requires { facilities.now ≡ field_for default_params params }
-        ensures outcome { (c : Settings) (x : Channel) → FitsCircuit c self.old x → Sends c self.new result (call_in x Free called.now calling.now user.now params) }
-        ensures range { IfOk result (λ packet. IsInRange 16 (plain packet)) }
+        ensures outcome { (c : Settings) (x : Channel) → FitsCircuit c self.old x → Sends c self.new result (call_in c x Free called.now calling.now user.now params) }
+        ensures range { IfOk result (λ packet. IsInRange 128 (plain packet)) }
         ensures room { room_of self.old ≤ room_of self.new }
         ensures unchanged { OnErr result (self.new ≡ self.old) }
     {
@@ -98,7 +98,7 @@ impl Circuit {
         let Some(calling) = address(calling) else {
             return Err(CircuitError::BadParameter);
         };
-        if user.len() > CALL_OCTETS {
+        if user.len() > longest_user(self.long_data) {
             return Err(CircuitError::BadParameter);
         }
         let Some(flow) = FlowControl::of(params) else {
@@ -119,7 +119,7 @@ impl Circuit {
     /// 30 WrongState where no call came.
     pub fn accept<'a>(&mut self) -> Result<Packet<'a>, CircuitError>
         ensures outcome { (c : Settings) (x : Channel) → FitsCircuit c self.old x → Sends c self.new result (outcome c x (Accepts None)) }
-        ensures range { IfOk result (λ packet. IsInRange 16 (plain packet)) }
+        ensures range { IfOk result (λ packet. IsInRange 128 (plain packet)) }
         ensures room { room_of self.old ≤ room_of self.new }
         ensures unchanged { OnErr result (self.new ≡ self.old) }
     {
@@ -141,7 +141,7 @@ impl Circuit {
     /// 30 WrongState where no call came, then 34 BadParameter where a value is out of this range.
     pub fn accept_with<'a>(&mut self, answer: &'a Proposal) -> Result<Packet<'a>, CircuitError>
         ensures outcome { (c : Settings) (x : Channel) → FitsCircuit c self.old x → Sends c self.new result (outcome c x (Accepts (Some answer.now))) }
-        ensures range { IfOk result (λ packet. IsInRange 16 (plain packet)) }
+        ensures range { IfOk result (λ packet. IsInRange 128 (plain packet)) }
         ensures room { room_of self.old ≤ room_of self.new }
         ensures unchanged { OnErr result (self.new ≡ self.old) }
     {
@@ -154,7 +154,7 @@ impl Circuit {
     // Accepts the call that came.
     fn answer<'a>(&mut self, answer: &'a Proposal) -> Result<Packet<'a>, CircuitError>
         ensures outcome { (c : Settings) (x : Channel) → FitsCircuit c self.old x → Sends c self.new result (accept_with x (Some answer.now)) }
-        ensures range { IfOk result (λ packet. IsInRange 16 (plain packet)) }
+        ensures range { IfOk result (λ packet. IsInRange 128 (plain packet)) }
         ensures room { room_of self.old ≤ room_of self.new }
         ensures unchanged { OnErr result (self.new ≡ self.old) }
     {
@@ -174,7 +174,7 @@ impl Circuit {
     /// 30 WrongState in p1 and where this end's CLEAR isn't confirmed yet.
     pub fn clear<'a>(&mut self) -> Result<Packet<'a>, CircuitError>
         ensures outcome { (c : Settings) (x : Channel) → FitsCircuit c self.old x → Sends c self.new result (outcome c x Clears) }
-        ensures range { IfOk result (λ packet. IsInRange 16 (plain packet)) }
+        ensures range { IfOk result (λ packet. IsInRange 128 (plain packet)) }
         ensures room { room_of self.old ≤ room_of self.new }
         ensures unchanged { OnErr result (self.new ≡ self.old) }
     {

@@ -19,6 +19,8 @@ use x25_bits::Role;
 #[derive(Drop)]
 pub struct Circuit {
     pub(crate) role: Role,
+    /// Whether the user data of a CALL may be long.
+    pub(crate) long_data: bool,
     pub(crate) state: State,
     /// How many clears were done, and how many resets since the last of them.
     pub(crate) clears: u64,
@@ -32,16 +34,28 @@ pub struct Circuit {
 impl Circuit {
     ghost use Rattle.x25_circuit.specs.FitsCircuit.{FitsCircuit, room_of, clears_of, resets_of};
 
-    /// A channel that was never used: p1.
+    /// A channel that was never used: p1. A call has at most 16 octets of user data.
     ///
     /// 70 alone.
     pub fn new(alloc: Global, role: Role) -> Result<Circuit, CircuitError>
-        ensures fits { IfOk result (λ v. FitsCircuit (record { role = role }) v begun) }
+        ensures fits { IfOk result (λ v. FitsCircuit (record { role = role; long_data = false }) v begun) }
+        ensures err { IfErr result (λ e. e ≡ CircuitError.NoMemory) }
+    {
+        Circuit::with(alloc, role, false)
+    }
+
+    /// A channel that was never used: p1. With `long_data` a call has at most 128 octets of user data (profile), else at
+    /// most 16.
+    ///
+    /// 70 alone.
+    pub fn with(alloc: Global, role: Role, long_data: bool) -> Result<Circuit, CircuitError>
+        ensures fits { IfOk result (λ v. FitsCircuit (record { role = role; long_data = long_data }) v begun) }
         ensures err { IfErr result (λ e. e ≡ CircuitError.NoMemory) }
     {
         let transfer = Transfer::new(alloc)?;
         Ok(Circuit {
             role,
+            long_data,
             state: State::Free,
             clears: 0,
             resets: 0,

@@ -31,7 +31,7 @@ impl Circuit {
     /// RR, or RNR where this end isn't ready, with P(R).
     pub(crate) fn status<'a>(&self) -> Packet<'a>
         ensures value { (c : Settings) (x : Channel) → FitsCircuit c self.now x → plain result ≡ status x.talk.own_ready (length x.talk.taken) }
-        ensures range { IsInRange 16 (plain result) }
+        ensures range { IsInRange 128 (plain result) }
     {
         let pr = self.transfer.receiver.wanted();
         if self.transfer.own_ready {

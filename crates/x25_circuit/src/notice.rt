@@ -88,7 +88,7 @@ impl<'a> Reply<'a> {
     /// Nothing is told.
     pub(crate) fn owes(packet: Packet<'a>) -> Reply<'a>
         ensures says { Says result (Some (plain packet.entry)) [] }
-        ensures range { IsInRange 16 (plain packet.entry) → IsSendable (plain_owed result.packet) }
+        ensures range { IsInRange 128 (plain packet.entry) → IsSendable (plain_owed result.packet) }
     {
         Reply {
             packet: Some(packet),
@@ -100,7 +100,7 @@ impl<'a> Reply<'a> {
     /// A packet is sent, and the user is told.
     pub(crate) fn both(packet: Packet<'a>, notice: Notice<'a>) -> Reply<'a>
         ensures says { Says result (Some (plain packet.entry)) (plain_notice notice.entry ∷ []) }
-        ensures range { IsInRange 16 (plain packet.entry) → IsSendable (plain_owed result.packet) }
+        ensures range { IsInRange 128 (plain packet.entry) → IsSendable (plain_owed result.packet) }
     {
         Reply {
             packet: Some(packet),

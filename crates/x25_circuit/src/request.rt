@@ -17,7 +17,7 @@ use crate::proposal::Proposal;
 use crate::queue::PLACES;
 use crate::state::State;
 use crate::talking::INTERRUPT_OCTETS;
-use x25_packet::{CALL_OCTETS, Digits, Packet};
+use x25_packet::{Digits, Packet, longest_user};
 
 /// A call of the user of a circuit. Addresses and user data are borrowed; the octets of a message are handed over.
 #[derive(Debug, Drop)]
@@ -64,12 +64,12 @@ fn is_address(text: &str) -> bool
 }
 
 // Whether a call may be made of these.
-fn may_call(called: &str, calling: &str, user: &[u8], params: Params) -> bool
-    ensures { result ≡ may_call called.now calling.now user.now params }
+fn may_call(long_data: bool, called: &str, calling: &str, user: &[u8], params: Params) -> bool
+    ensures { result ≡ may_call long_data called.now calling.now user.now params }
 {
     is_address(called)
         && is_address(calling)
-        && user.len() <= CALL_OCTETS
+        && user.len() <= longest_user(long_data)
         && params.may_be_proposed()
 }
 
@@ -107,7 +107,7 @@ impl Circuit {
     // Accepts with this answer, where there is one.
     fn accept_as<'a>(&mut self, answer: Option<&'a Proposal>) -> Result<Packet<'a>, CircuitError>
         ensures outcome { (c : Settings) (x : Channel) → FitsCircuit c self.old x → Sends c self.new result (outcome c x (Accepts (plain_answer answer.entry))) }
-        ensures range { IfOk result (λ packet. IsInRange 16 (plain packet)) }
+        ensures range { IfOk result (λ packet. IsInRange 128 (plain packet)) }
         ensures room { room_of self.old ≤ room_of self.new }
         ensures unchanged { OnErr result (self.new ≡ self.old) }
     {
@@ -143,12 +143,12 @@ impl Circuit {
         user: &[u8],
         params: Params,
     ) -> Option<CircuitError>
-        ensures { (c : Settings) (x : Channel) → FitsCircuit c self.now x → result ≡ refusal_of (call_in x x.state called.now calling.now user.now params) }
+        ensures { (c : Settings) (x : Channel) → FitsCircuit c self.now x → result ≡ refusal_of (call_in c x x.state called.now calling.now user.now params) }
     {
         if self.state != State::Free {
             return Some(CircuitError::WrongState);
         }
-        if !may_call(called, calling, user, params) {
+        if !may_call(self.long_data, called, calling, user, params) {
             return Some(CircuitError::BadParameter);
         }
         None

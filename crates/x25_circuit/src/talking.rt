@@ -54,7 +54,7 @@ impl Circuit {
     /// 30 WrongState outside of p4 with d1, then 34 BadParameter for another length, then 33 InterruptOutstanding.
     pub fn interrupt<'a>(&mut self, user: &'a [u8]) -> Result<Packet<'a>, CircuitError>
         ensures outcome { (c : Settings) (x : Channel) → FitsCircuit c self.old x → Sends c self.new result (outcome c x (Interrupts user.now)) }
-        ensures range { IfOk result (λ packet. IsInRange 16 (plain packet)) }
+        ensures range { IfOk result (λ packet. IsInRange 128 (plain packet)) }
         ensures room { room_of self.old ≤ room_of self.new }
         ensures unchanged { OnErr result (self.new ≡ self.old) }
     {
@@ -66,7 +66,7 @@ impl Circuit {
 
     fn interrupt_open<'a>(&mut self, user: &'a [u8]) -> Result<Packet<'a>, CircuitError>
         ensures outcome { (c : Settings) (x : Channel) → FitsCircuit c self.old x → Sends c self.new result (interrupt_open x x.talk user.now) }
-        ensures range { IfOk result (λ packet. IsInRange 16 (plain packet)) }
+        ensures range { IfOk result (λ packet. IsInRange 128 (plain packet)) }
         ensures room { room_of self.old ≤ room_of self.new }
         ensures unchanged { OnErr result (self.new ≡ self.old) }
     {
@@ -85,7 +85,7 @@ impl Circuit {
     /// 30 WrongState outside of p4 with d1.
     pub fn reset<'a>(&mut self) -> Result<Packet<'a>, CircuitError>
         ensures outcome { (c : Settings) (x : Channel) → FitsCircuit c self.old x → Sends c self.new result (outcome c x Resets) }
-        ensures range { IfOk result (λ packet. IsInRange 16 (plain packet)) }
+        ensures range { IfOk result (λ packet. IsInRange 128 (plain packet)) }
         ensures room { room_of self.old ≤ room_of self.new }
         ensures unchanged { OnErr result (self.new ≡ self.old) }
     {
@@ -107,7 +107,7 @@ impl Circuit {
     /// 30 WrongState outside of p4 with d1.
     pub fn ready<'a>(&mut self) -> Result<Packet<'a>, CircuitError>
         ensures outcome { (c : Settings) (x : Channel) → FitsCircuit c self.old x → Sends c self.new result (outcome c x SaysReady) }
-        ensures range { IfOk result (λ packet. IsInRange 16 (plain packet)) }
+        ensures range { IfOk result (λ packet. IsInRange 128 (plain packet)) }
         ensures room { room_of self.old ≤ room_of self.new }
         ensures unchanged { OnErr result (self.new ≡ self.old) }
     {
@@ -119,7 +119,7 @@ impl Circuit {
     /// 30 WrongState outside of p4 with d1.
     pub fn not_ready<'a>(&mut self) -> Result<Packet<'a>, CircuitError>
         ensures outcome { (c : Settings) (x : Channel) → FitsCircuit c self.old x → Sends c self.new result (outcome c x SaysNotReady) }
-        ensures range { IfOk result (λ packet. IsInRange 16 (plain packet)) }
+        ensures range { IfOk result (λ packet. IsInRange 128 (plain packet)) }
         ensures room { room_of self.old ≤ room_of self.new }
         ensures unchanged { OnErr result (self.new ≡ self.old) }
     {
@@ -129,7 +129,7 @@ impl Circuit {
     // Says whether this end is ready.
     fn say<'a>(&mut self, is_ready: bool) -> Result<Packet<'a>, CircuitError>
         ensures outcome { (c : Settings) (x : Channel) → FitsCircuit c self.old x → Sends c self.new result (ready_in x x.state is_ready) }
-        ensures range { IfOk result (λ packet. IsInRange 16 (plain packet)) }
+        ensures range { IfOk result (λ packet. IsInRange 128 (plain packet)) }
         ensures room { room_of self.old ≤ room_of self.new }
         ensures unchanged { OnErr result (self.new ≡ self.old) }
     {

@@ -128,6 +128,30 @@ fn calls_are_refused(rt: HostRuntime) -> Result<(), Fail> {
 }
 
 #[test]
+fn long_user_data_of_a_call(rt: HostRuntime) -> Result<(), Fail> {
+    let circuit = Circuit::with(rt.alloc(), Role::Dte, true)?;
+    Player::new(rt.alloc(), circuit).plays(
+        &rt,
+        &[
+            (Call("1", "2", 129), "refused 34"),
+            (
+                Call("1", "2", 128),
+                "CALL called=1 calling=2 fac=- data=128",
+            ),
+            (Call("1", "2", 129), "refused 30"),
+        ],
+    )?;
+    let circuit = Circuit::with(rt.alloc(), Role::Dte, false)?;
+    Player::new(rt.alloc(), circuit).plays(
+        &rt,
+        &[
+            (Call("1", "2", 17), "refused 34"),
+            (Call("1", "2", 16), "CALL called=1 calling=2 fac=- data=16"),
+        ],
+    )
+}
+
+#[test]
 fn a_message_goes_by_the_window(rt: HostRuntime) -> Result<(), Fail> {
     play_open(
         &rt,

@@ -1,5 +1,5 @@
 -- The octets that spell a packet. ITU-T X.25 (10/96), sections 5.1 to 5.5.
-use Rattle.std.specs.Prelude.{ℕ, ◌+◌, ◌*◌, ◌/◌, ◌%◌, ◌<◌, ◌≤◌, ◌≡◌, List, [], ◌∷◌, ◌++◌, length}
+use Rattle.std.specs.Prelude.{ℕ, ◌+◌, ◌*◌, ◌/◌, ◌%◌, ◌<◌, ◌≤◌, ◌≡◌, List, [], ◌∷◌, ◌++◌, length, Bool, if◌then◌else◌}
 pub use Rattle.x25_bits.specs.Bit.{bit}
 use Rattle.x25_packet.specs.PlainPacket.{PlainPacket, call, accept, clear, clear_conf, user_data, rr, rnr, interrupt, interrupt_conf, reset, reset_conf, restart, restart_conf}
 use Rattle.x25_packet.specs.Digits.{packed, IsAddress}
@@ -100,8 +100,12 @@ spelling_of v = header_of v ++ body_of v
 abbrev pub IsChannel : ℕ → Type 0
 IsChannel channel = (1 ≤ channel) × (channel ≤ 4095)
 
--- The fields are in their ranges, with at most `most` octets of user data in a CALL (section 5.2.1: 16; with fast
--- select, section 6.16: 128).
+-- The most octets of user data in a CALL: 16 (section 5.2.1), and where it may be long 128, as with fast select (section
+-- 6.16), but without that facility (profile).
+abbrev pub longest_user : Bool → ℕ
+longest_user long_data = if long_data then 128 else 16
+
+-- the fields are in their ranges, with at most `most` octets of user data in a CALL
 abbrev pub IsInRange : ℕ → PlainPacket → Type 0
 IsInRange most (call channel called calling facilities user) = IsChannel channel × IsAddress called × IsAddress calling
     × IsFacilityField facilities × (length user ≤ most)

@@ -1,9 +1,9 @@
 //! Packets read from their octets.
-ghost use Rattle.std.specs.Prelude.{◌≡◌, IfErr, IfOk, IsOkAnd};
+ghost use Rattle.std.specs.Prelude.{◌≡◌, ◌≤◌, IfErr, IfOk, IsOkAnd};
 ghost use Rattle.x25_packet.specs.FirstError.{IsFirstError};
 ghost use Rattle.x25_packet.specs.Reading.{Gives, bare, channel_in, data_of, has_format, interrupt_of, channelled, flow_control_of, packet_of, reason_of, unchannelled};
 ghost use Rattle.x25_packet.specs.PlainPacket.{PlainPacket, plain};
-ghost use Rattle.x25_packet.specs.Spelling.{Spells};
+ghost use Rattle.x25_packet.specs.Spelling.{Spells, longest_user};
 
 use crate::call::{accept, call};
 use crate::codes;
@@ -167,6 +167,21 @@ fn read<'a>(most: usize, octets: &'a [u8]) -> Result<Packet<'a>, PacketError>
         data(channel, q, *kind, body)
     } else {
         channelled(most, channel, *kind, body)
+    }
+}
+
+/// The most octets of user data in a CALL: 128 with `long_data`, else 16.
+///
+/// ITU-T X.25 (10/96), section 5.2.1. 128 is what a CALL has with the facility fast select (section 6.16); here it has
+/// them without (profile).
+pub fn longest_user(long_data: bool) -> usize
+    ensures value { result ≡ longest_user long_data }
+    ensures few { result ≤ 128 }
+{
+    if long_data {
+        LONG_CALL_OCTETS
+    } else {
+        CALL_OCTETS
     }
 }
 

@@ -1,5 +1,5 @@
 //! From a packet to the octets that spell it.
-ghost use Rattle.std.specs.Prelude.{◌≡◌, ◌+◌, ◌*◌, ◌≤◌, ◌++◌, Ok, OnOk, OnErr, IsOk, drop, length, slice_index, vec_len, vec_capacity};
+ghost use Rattle.std.specs.Prelude.{ℕ, ◌≡◌, ◌+◌, ◌*◌, ◌≤◌, ◌++◌, Ok, OnOk, OnErr, IsOk, drop, length, slice_index, vec_len, vec_capacity};
 ghost use Rattle.std.specs.Vec.{VecUnchanged};
 ghost use Rattle.x25_packet.specs.Digits.{IsAddress, packed};
 ghost use Rattle.x25_packet.specs.PlainPacket.{plain};
@@ -71,7 +71,7 @@ fn kind(packet: &Packet) -> u8
 /// How many octets follow the type of a CALL.
 fn call_len(called: &Digits, calling: &Digits, facilities: &[u8], user: &[u8]) -> usize
     requires field { length facilities.now ≤ 6 }
-    requires user { length user.now ≤ 16 }
+    requires user { length user.now ≤ 128 }
     ensures value { result ≡ length (call_body called.now calling.now facilities.now user.now) }
     ensures few { result ≤ 4096 }
 {
@@ -80,7 +80,7 @@ fn call_len(called: &Digits, calling: &Digits, facilities: &[u8], user: &[u8]) -
 
 /// How many octets follow the type.
 fn body_len(packet: &Packet) -> usize
-    requires { IsInRange 16 (plain packet.now) }
+    requires { IsInRange 128 (plain packet.now) }
     ensures value { result ≡ length (body_of (plain packet.now)) }
     ensures few { result ≤ 4096 }
 {
@@ -179,7 +179,7 @@ fn append_accept(facilities: &[u8], octets: &mut Vec<u8>)
 
 /// Appends what follows the type.
 fn append_body(packet: &Packet, octets: &mut Vec<u8>)
-    requires range { IsInRange 16 (plain packet.now) }
+    requires range { IsInRange 128 (plain packet.now) }
     requires room { vec_len octets.old + length (body_of (plain packet.now)) ≤ vec_capacity octets.old }
     ensures { octets.new.items ≡ octets.old.items ++ body_of (plain packet.now) }
 {
@@ -209,7 +209,7 @@ fn append_body(packet: &Packet, octets: &mut Vec<u8>)
 }
 
 fn append_packet(packet: &Packet, octets: &mut Vec<u8>) -> Result<(), NoMemory>
-    requires { IsInRange 16 (plain packet.now) }
+    requires { IsInRange 128 (plain packet.now) }
     ensures ok { OnOk result (octets.new.items ≡ octets.old.items ++ spelling_of (plain packet.now)) }
     ensures err { OnErr result (VecUnchanged octets.old octets.new) }
     ensures room { vec_len octets.old + length (spelling_of (plain packet.now)) ≤ vec_capacity octets.old → IsOk result }
@@ -224,14 +224,14 @@ fn append_packet(packet: &Packet, octets: &mut Vec<u8>) -> Result<(), NoMemory>
 
 /// Appends the octets that spell the packet: format, channel, type and body. Each packet has this one spelling.
 ///
-/// The packet's fields are in their ranges, with at most 16 octets of user data in a CALL. It takes no memory where the
+/// The packet's fields are in their ranges, with at most 128 octets of user data in a CALL. It takes no memory where the
 /// capacity has room for the octets; else it is refused with `NoMemory` (70) where there is none. ITU-T X.25 (10/96),
 /// section 5.
 pub fn encode(packet: &Packet, octets: &mut Vec<u8>) -> Result<(), NoMemory>
-    requires { IsInRange 16 (plain packet.now) }
+    requires { IsInRange 128 (plain packet.now) }
     ensures ok { OnOk result (octets.new.items ≡ octets.old.items ++ spelling_of (plain packet.now)) }
-    // What is appended reads as the packet.
-    ensures again { OnOk result (packet_of 16 (drop (length octets.old.items) octets.new.items) ≡ Ok (plain packet.now)) }
+    // What is appended reads as the packet, wherever a CALL may have that many octets of user data.
+    ensures again { (most : ℕ) → IsInRange most (plain packet.now) → OnOk result (packet_of most (drop (length octets.old.items) octets.new.items) ≡ Ok (plain packet.now)) }
     ensures err { OnErr result (VecUnchanged octets.old octets.new) }
     ensures room { vec_len octets.old + length (spelling_of (plain packet.now)) ≤ vec_capacity octets.old → IsOk result }
 {

@@ -2,6 +2,7 @@ use std::alloc::Global;
 use std::test::Fail;
 use x25_packet::{
     NoMemory, Packet, PacketError, channel, decode, decode_long, decode_within, encode,
+    longest_user,
 };
 
 /// Octets in hexadecimal, and the number of their error, 0 where they spell a packet.
@@ -136,6 +137,12 @@ fn long_reading_differs_in_user_data_alone(rt: HostRuntime) -> Result<(), Fail> 
         assert_eq!(rt; number_in(decode_long(octets.as_slice())), number, "{text}");
     }
     Ok(())
+}
+
+#[test]
+fn longest_user_data_of_a_call(rt: HostRuntime) {
+    assert_eq!(rt; longest_user(false), 16);
+    assert_eq!(rt; longest_user(true), 128);
 }
 
 #[test]

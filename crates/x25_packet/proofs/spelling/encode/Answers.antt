@@ -1,16 +1,16 @@
-use Rattle.std.proofs.Common.{◌≡◌, ◌++◌, Result, Ok, Err, length, drop}
+use Rattle.std.proofs.Common.{ℕ, ◌≡◌, ◌++◌, Result, Ok, Err, length, drop}
 use Rattle.std.specs.Prelude.{OnOk}
 use Rattle.x25_bits.specs.declared.no_memory.NoMemory.{NoMemory}
 use Rattle.x25_packet.specs.PlainPacket.{plain}
-use Rattle.x25_packet.specs.Spelling.{spelling_of}
+use Rattle.x25_packet.specs.Spelling.{IsInRange, spelling_of}
 use Rattle.x25_packet.specs.Reading.{packet_of}
 use Rattle.x25_packet.proofs.PacketLaws.{appended_again}
 use Rattle.x25_packet.proofs.spelling.encode.Goals as goal
 
 pub returns-clause-again : goal.returns-clause-again
-returns-clause-again c = go c.append_packet.result c.append_packet.ensures.ok
+returns-clause-again c = λ most fits. go most fits c.append_packet.result c.append_packet.ensures.ok
   where
-    go : (r : Result (Unit {0}) NoMemory) → OnOk r (c.append_packet.new.octets.items ≡ c.args.octets.now.items ++ spelling_of (plain c.args.packet.now))
-        → OnOk r (packet_of 16 (drop (length c.args.octets.now.items) c.append_packet.new.octets.items) ≡ Ok (plain c.args.packet.now))
-    go (Ok done) e = appended_again 16 (plain c.args.packet.now) c.args.octets.now.items c.append_packet.new.octets.items c.requires e
-    go (Err f) e = tt
+    go : (most : ℕ) → IsInRange most (plain c.args.packet.now) → (r : Result (Unit {0}) NoMemory) → OnOk r (c.append_packet.new.octets.items ≡ c.args.octets.now.items ++ spelling_of (plain c.args.packet.now))
+        → OnOk r (packet_of most (drop (length c.args.octets.now.items) c.append_packet.new.octets.items) ≡ Ok (plain c.args.packet.now))
+    go most fits (Ok done) e = appended_again most (plain c.args.packet.now) c.args.octets.now.items c.append_packet.new.octets.items fits e
+    go most fits (Err f) e = tt

@@ -6,6 +6,7 @@ returns-clause-fits c = λ d x fits.
     let now = c.end_call.ensures.fits d x fits in
     record {
       role = now.role;
+      long_data = now.long_data;
       state = now.state;
       clears = add-one _ ∙ ap suc now.clears;
       resets = refl;

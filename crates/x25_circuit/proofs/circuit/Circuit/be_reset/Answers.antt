@@ -6,6 +6,7 @@ returns-clause-fits c = λ d x fits.
     let now = c.begin_stretch.ensures.fits d x fits in
     record {
       role = now.role;
+      long_data = now.long_data;
       state = now.state;
       clears = now.clears;
       resets = add-one _ ∙ ap suc now.resets;

@@ -1,5 +1,6 @@
-use Rattle.std.proofs.Common.{refl, sym, subst, arith, lit≤, true}
+use Rattle.std.proofs.Common.{refl, Bool, ◌≤◌, length, sym, subst, arith, lit≤, true}
 use Rattle.x25_packet.specs.Facilities.{IsFacilityField}
+use Rattle.x25_packet.specs.Spelling.{longest_user}
 use Rattle.x25_circuit.specs.declared.params.Params.{Params}
 use Rattle.x25_circuit.specs.declared.state.State.TheVariants.{Calling}
 use Rattle.x25_circuit.specs.Circuit.{entered}
@@ -15,12 +16,12 @@ returns-clause-range c = (
   c.in-Some.ensures.address,
   c.in-Some-address.ensures.address,
   subst IsFacilityField (sym c.requires) (field_is_allowed default_params c.args.params c.in-Some-of.ensures.allowed),
-  omega (arith),
+  omega (arith, c.longest_user.ensures.few),
 )
 
 pub returns-clause-outcome : goal.returns-clause-outcome
 returns-clause-outcome c = λ d x fits.
-    rw (calls_with c.args.called.now c.args.calling.now c.args.user.now c.args.params c.in-Some.ensures.some c.in-Some-address.ensures.some (omega arith) c.in-Some-of.ensures.allowed)
+    rw (calls_with d.long_data c.args.called.now c.args.calling.now c.args.user.now c.args.params c.in-Some.ensures.some c.in-Some-address.ensures.some (subst (λ (b : Bool). length c.args.user.now ≤ longest_user b) fits.long_data (omega (arith, c.longest_user.ensures.value))) c.in-Some-of.ensures.allowed)
     ((
       subst (λ (p : Params). FitsCircuit d c.enter.new.self (entered x Calling p true)) c.in-Some-of.ensures.some (c.enter.ensures.fits d x fits),
       rw (c.in-Some.ensures.digits, c.in-Some-address.ensures.digits, c.requires) refl,

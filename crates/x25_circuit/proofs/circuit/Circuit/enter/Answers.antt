@@ -6,6 +6,7 @@ pub returns-clause-fits : goal.returns-clause-fits
 returns-clause-fits c = λ d x fits.
     record {
       role = fits.role;
+      long_data = fits.long_data;
       state = refl;
       clears = fits.clears;
       resets = fits.resets;

@@ -1,9 +1,10 @@
 use Rattle.std.proofs.Common.{refl}
-use Rattle.x25_circuit.proofs.circuit.Circuit.new.Goals as goal
+use Rattle.x25_circuit.proofs.circuit.Circuit.with.Goals as goal
 
 pub returns-clause-fits : goal.returns-clause-fits
 returns-clause-fits c = record {
   role = refl;
+  long_data = refl;
   state = refl;
   clears = refl;
   resets = refl;
