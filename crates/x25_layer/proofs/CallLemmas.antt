@@ -42,6 +42,7 @@ found_at c v l h place x fits is same read =
 -- a layer, all else of which but its memory and its circuits is as it was
 pub record IsLike (v v₂ : code.Layer) : Type 0 where
   pub role : v₂.role ≡ v.role
+  pub long_data : v₂.long_data ≡ v.long_data
   pub restarting : v₂.restarting ≡ v.restarting
   pub restarts : v₂.restarts ≡ v.restarts
 
@@ -49,6 +50,7 @@ pub layer_put : (c : LayerSettings) (v v₂ : code.Layer) (l : Layer) (h : ℕ) 
     → FitsCircuit c.circuit y next → FitsLayer c v₂ (with_circuit l h next)
 layer_put c v v₂ l h i y next fits at like items fit = record {
   role = like.role ∙ fits.role;
+  long_data = like.long_data ∙ fits.long_data;
   channels = ap (λ (vs : List circuit_code.Circuit). length vs) items ∙ length-set v.circuits.items i y ∙ fits.channels;
   restarting = like.restarting ∙ fits.restarting;
   restarts = like.restarts ∙ fits.restarts;
@@ -60,6 +62,7 @@ pub layer_kept : (c : LayerSettings) (v v₂ : code.Layer) (l : Layer) (h i : �
     → FitsCircuit c.circuit y (l.circuits h) → FitsLayer c v₂ l
 layer_kept c v v₂ l h i y fits at like items fit = record {
   role = like.role ∙ fits.role;
+  long_data = like.long_data ∙ fits.long_data;
   channels = ap (λ (vs : List circuit_code.Circuit). length vs) items ∙ length-set v.circuits.items i y ∙ fits.channels;
   restarting = like.restarting ∙ fits.restarting;
   restarts = like.restarts ∙ fits.restarts;

@@ -62,10 +62,10 @@ front_is r channels w (Live z) far out back error sees quiet (p ∷ K) front =
     at_end r w.near z p sees.near.1
     (second error s.error (subst (λ (l : List LayerPacket). (pair_moves r (record { near = Live z; far = far; out = out; back = l; error = error }) (Live z) Takes).error ≡ None) (sym same) quiet))
 
-pub never_in_p1 : Premises → (channels : ℕ) → Always NoClearComesInP1 channels
-never_in_p1 p channels es =
-    let w : World = run channels es (start channels) in
-    let h = in_run p channels es in
+pub never_in_p1 : Premises → (long_data : Bool) (channels : ℕ) → Always NoClearComesInP1 long_data channels
+never_in_p1 p long_data channels es =
+    let w : World = run long_data channels es (start long_data channels) in
+    let h = in_run p long_data channels es in
     let j : Pair = pair_run h.events pair_start in
     let quiet : (first : Bool) → (pair_run (h.events ++ record { first = first; what = Takes } ∷ []) pair_start).error ≡ None = λ first. p.quiet (h.events ++ record { first = first; what = Takes } ∷ []) in
     record {

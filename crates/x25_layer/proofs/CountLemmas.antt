@@ -156,25 +156,25 @@ move_counted c w (Pulls k) false is h front = pulled_counted c w h is k (is_chan
 move_counted c w HandsUp false is h front = handed_counted c w h is w.back front
 move_counted c w GoesDown false is h front = record { near = λ k on. absurd (true≢false on); far = h.far }
 
-event_counted : (channels : ℕ) (w : World) (first : Bool) (what : Move) → NamesAreCounted w → NoClearComesInP1 w → NamesAreCounted (happens channels w (record { first = first; what = what }))
-event_counted channels w true what h front = move_counted (settings_of Dte channels) w what w.near.is_out refl h front.near
-event_counted channels w false what h front =
-    let r = move_counted (settings_of Dce channels) (turned w) what w.far.is_out refl (record { near = h.far; far = h.near }) front.far in
+event_counted : (long_data : Bool) (channels : ℕ) (w : World) (first : Bool) (what : Move) → NamesAreCounted w → NoClearComesInP1 w → NamesAreCounted (happens long_data channels w (record { first = first; what = what }))
+event_counted long_data channels w true what h front = move_counted (settings_of Dte long_data channels) w what w.near.is_out refl h front.near
+event_counted long_data channels w false what h front =
+    let r = move_counted (settings_of Dce long_data channels) (turned w) what w.far.is_out refl (record { near = h.far; far = h.near }) front.far in
     record { near = r.far; far = r.near }
 
-run_more : (channels : ℕ) (es : List Event) (e : Event) (w : World) → run channels (es ++ e ∷ []) w ≡ happens channels (run channels es w) e
-run_more channels [] e w = refl
-run_more channels (x ∷ es) e w = run_more channels es e (happens channels w x)
+run_more : (long_data : Bool) (channels : ℕ) (es : List Event) (e : Event) (w : World) → run long_data channels (es ++ e ∷ []) w ≡ happens long_data channels (run long_data channels es w) e
+run_more long_data channels [] e w = refl
+run_more long_data channels (x ∷ es) e w = run_more long_data channels es e (happens long_data channels w x)
 
 -- .. behind those that came before
-run_counted : (channels : ℕ) → Always NoClearComesInP1 channels → (done es : List Event) → NamesAreCounted (run channels done (start channels))
-    → NamesAreCounted (run channels (done ++ es) (start channels))
-run_counted channels front done [] h = subst (λ (l : List Event). NamesAreCounted (run channels l (start channels))) (sym (append-nil done)) h
-run_counted channels front done (e ∷ es) h =
-    subst (λ (l : List Event). NamesAreCounted (run channels l (start channels))) (append_assoc done (e ∷ []) es)
-    (run_counted channels front (done ++ e ∷ []) es
-    (subst (λ (w : World). NamesAreCounted w) (sym (run_more channels done e (start channels)))
-    (event_counted channels (run channels done (start channels)) e.first e.what h (front done))))
+run_counted : (long_data : Bool) (channels : ℕ) → Always NoClearComesInP1 long_data channels → (done es : List Event) → NamesAreCounted (run long_data channels done (start long_data channels))
+    → NamesAreCounted (run long_data channels (done ++ es) (start long_data channels))
+run_counted long_data channels front done [] h = subst (λ (l : List Event). NamesAreCounted (run long_data channels l (start long_data channels))) (sym (append-nil done)) h
+run_counted long_data channels front done (e ∷ es) h =
+    subst (λ (l : List Event). NamesAreCounted (run long_data channels l (start long_data channels))) (append_assoc done (e ∷ []) es)
+    (run_counted long_data channels front (done ++ e ∷ []) es
+    (subst (λ (w : World). NamesAreCounted w) (sym (run_more long_data channels done e (start long_data channels)))
+    (event_counted long_data channels (run long_data channels done (start long_data channels)) e.first e.what h (front done))))
 
-pub always_counted : (channels : ℕ) → Always NoClearComesInP1 channels → Always NamesAreCounted channels
-always_counted channels front es = run_counted channels front [] es (record { near = λ k on. refl; far = λ k on. refl })
+pub always_counted : (long_data : Bool) (channels : ℕ) → Always NoClearComesInP1 long_data channels → Always NamesAreCounted long_data channels
+always_counted long_data channels front es = run_counted long_data channels front [] es (record { near = λ k on. refl; far = λ k on. refl })

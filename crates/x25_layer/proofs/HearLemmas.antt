@@ -66,27 +66,27 @@ error_reads most _ _ (in_body v body e range is) h = body_reads most v body e is
 
 -- ---- the channel of a packet is the one that its octets name
 
-small : (v : PlainPacket) → IsInRange 16 v → channel_of v ≤ 4095
-small (call channel called calling facilities user) r = r.0.1
-small (accept channel facilities) r = r.0.1
-small (clear channel cause diagnostic) r = r.1
-small (clear_conf channel) r = r.1
-small (user_data channel q m ps pr user) r = r.0.1
-small (rr channel pr) r = r.0.1
-small (rnr channel pr) r = r.0.1
-small (interrupt channel user) r = r.0.1
-small (interrupt_conf channel) r = r.1
-small (reset channel cause diagnostic) r = r.1
-small (reset_conf channel) r = r.1
-small (restart cause diagnostic) r = omega arith
-small restart_conf r = omega arith
+small : (most : ℕ) (v : PlainPacket) → IsInRange most v → channel_of v ≤ 4095
+small most (call channel called calling facilities user) r = r.0.1
+small most (accept channel facilities) r = r.0.1
+small most (clear channel cause diagnostic) r = r.1
+small most (clear_conf channel) r = r.1
+small most (user_data channel q m ps pr user) r = r.0.1
+small most (rr channel pr) r = r.0.1
+small most (rnr channel pr) r = r.0.1
+small most (interrupt channel user) r = r.0.1
+small most (interrupt_conf channel) r = r.1
+small most (reset channel cause diagnostic) r = r.1
+small most (reset_conf channel) r = r.1
+small most (restart cause diagnostic) r = omega arith
+small most restart_conf r = omega arith
 
 named : (f h : ℕ) → h ≤ 4095 → (16 * f + h / 256) % 16 * 256 + h % 256 ≡ h
 named f h low = omega (arith, low)
 
-pub channel_named : (v : PlainPacket) (octets : List ℕ) → Spells 16 v octets → channel_in octets ≡ Some (channel_of v)
-channel_named v octets spells =
-    ap (λ (o : List ℕ). channel_in o) spells.spelling ∙ ap (λ (h : ℕ). Some h) (named (format_of v) (channel_of v) (small v spells.in_range))
+pub channel_named : (most : ℕ) (v : PlainPacket) (octets : List ℕ) → Spells most v octets → channel_in octets ≡ Some (channel_of v)
+channel_named most v octets spells =
+    ap (λ (o : List ℕ). channel_in o) spells.spelling ∙ ap (λ (h : ℕ). Some h) (named (format_of v) (channel_of v) (small most v spells.in_range))
 
 -- ---- how many octets a packet brings
 
@@ -107,8 +107,8 @@ user_short restart_conf = omega arith
 
 -- ---- the answer of the layer, by the channel
 
-pub hears_error : (c : LayerSettings) (l : Layer) (octets : List ℕ) (h : ℕ) (e : PacketError) → channel_in octets ≡ Some h → packet_of 16 octets ≡ Err e → answer_to c l octets (packet_of 16 octets) ≡ hears_on c l l.restarting h (Err e)
-hears_error c l octets h e at read =
+pub hears_error : (most : ℕ) (c : LayerSettings) (l : Layer) (octets : List ℕ) (h : ℕ) (e : PacketError) → channel_in octets ≡ Some h → packet_of most octets ≡ Err e → answer_to c l octets (packet_of most octets) ≡ hears_on c l l.restarting h (Err e)
+hears_error most c l octets h e at read =
     ap (λ (r : Result PlainPacket PacketError). answer_to c l octets r) read ∙ ap (λ (o : Option ℕ). undecoded_at c l e o) at ∙ by l.restarting
   where
     by : (b : Bool) → undecoded_in c b l.restarts l.circuits h e ≡ hears_on c l b h (Err e)
@@ -144,19 +144,19 @@ ready_hears c l restart_conf has b = absurd has
 some_same : (a b : ℕ) → Some a ≡ Some b → a ≡ b
 some_same a b e = cc
 
-pub hears_packet : (c : LayerSettings) (l : Layer) (octets : List ℕ) (h : ℕ) (v : PlainPacket) → HasChannel v → Spells 16 v octets → channel_in octets ≡ Some h → packet_of 16 octets ≡ Ok v
-    → answer_to c l octets (packet_of 16 octets) ≡ hears_on c l l.restarting h (Ok v)
-hears_packet c l octets h v has spells at read =
-    let same : channel_of v ≡ h = some_same (channel_of v) h (sym (channel_named v octets spells) ∙ at) in
+pub hears_packet : (most : ℕ) (c : LayerSettings) (l : Layer) (octets : List ℕ) (h : ℕ) (v : PlainPacket) → HasChannel v → Spells most v octets → channel_in octets ≡ Some h → packet_of most octets ≡ Ok v
+    → answer_to c l octets (packet_of most octets) ≡ hears_on c l l.restarting h (Ok v)
+hears_packet most c l octets h v has spells at read =
+    let same : channel_of v ≡ h = some_same (channel_of v) h (sym (channel_named most v octets spells) ∙ at) in
     ap (λ (r : Result PlainPacket PacketError). answer_to c l octets r) read ∙ ready_hears c l v has l.restarting ∙ ap (λ (k : ℕ). hears_on c l l.restarting k (Ok v)) same
 
 -- fewer than three octets are dropped
-pub hears_none : (c : LayerSettings) (l : Layer) (octets : List ℕ) → channel_in octets ≡ None → answer_to c l octets (packet_of 16 octets) ≡ drops l.restarting l.restarts l.circuits
+pub hears_none : (most : ℕ) (c : LayerSettings) (l : Layer) (octets : List ℕ) → channel_in octets ≡ None → answer_to c l octets (packet_of most octets) ≡ drops l.restarting l.restarts l.circuits
 unfolding packet_of
-hears_none c l [] none = refl
-hears_none c l (a ∷ []) none = refl
-hears_none c l (a ∷ b ∷ []) none = refl
-hears_none c l (a ∷ b ∷ d ∷ rest) none = absurd (cc)
+hears_none most c l [] none = refl
+hears_none most c l (a ∷ []) none = refl
+hears_none most c l (a ∷ b ∷ []) none = refl
+hears_none most c l (a ∷ b ∷ d ∷ rest) none = absurd (cc)
 
 -- ---- the circuit of a channel
 

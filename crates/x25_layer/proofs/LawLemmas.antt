@@ -1,5 +1,5 @@
 -- What holds of two layers after every event, from what is known of the nested handshakes.
-use Rattle.std.proofs.Common.{◌≡◌, ℕ, sym, ap, subst, ◌∙◌}
+use Rattle.std.proofs.Common.{◌≡◌, Bool, ℕ, sym, ap, subst, ◌∙◌}
 use Rattle.x25_epochs.specs.Handshake.{state_of}
 use Rattle.x25_epochs.specs.Layers.{Pair, pair_run, pair_start}
 use Rattle.x25_epochs.specs.Names.{Name}
@@ -11,12 +11,12 @@ use Rattle.x25_layer.proofs.LayerSees.{bare_layers}
 use Rattle.x25_layer.proofs.RunLemmas.{Premises, ledger_pair, AreBooks, InRun, in_run}
 use Rattle.x25_layer.proofs.ArrivalLemmas.{none_in_flight, AtPresent, has_all}
 
-pub always_in_order : Premises → (channels : ℕ) → Always KeepsOrder channels
-always_in_order p channels es = (in_run p channels es).sees.order
+pub always_in_order : Premises → (long_data : Bool) (channels : ℕ) → Always KeepsOrder long_data channels
+always_in_order p long_data channels es = (in_run p long_data channels es).sees.order
 
-pub always_quiet : Premises → (channels : ℕ) → Always (IsQuietWorld channels) channels
-always_quiet p channels es =
-    let h = in_run p channels es in
+pub always_quiet : Premises → (long_data : Bool) (channels : ℕ) → Always (IsQuietWorld channels) long_data channels
+always_quiet p long_data channels es =
+    let h = in_run p long_data channels es in
     record { near = h.sees.near_quiet; far = h.sees.far_quiet }
 
 near_begins : {M : Type 0} (kind : Kind M) (lists : Handed → Lists M) (w : World) (g : Ledger M) → AreBooks kind lists w g
@@ -33,10 +33,10 @@ far_begins {M} kind lists w g books law k m =
     subst (λ (l : Lists M). Begins l.up (lists (under k m w.near.entries)).down) (sym (books.far k m))
     (subst (λ (l : Lists M). Begins (g.far k m).up l.down) (sym (books.near k m)) ((law k).begins_there m))
 
-pub always_lawful : Premises → (channels : ℕ) → Always IsLawfulWorld channels
-always_lawful p channels es =
-    let w : World = run channels es (start channels) in
-    let h : InRun channels w = in_run p channels es in
+pub always_lawful : Premises → (long_data : Bool) (channels : ℕ) → Always IsLawfulWorld long_data channels
+always_lawful p long_data channels es =
+    let w : World = run long_data channels es (start long_data channels) in
+    let h : InRun channels w = in_run p long_data channels es in
     let order_m = p.messages h.events in
     let order_i = p.interrupts h.events in
     let order_c = p.calls h.events in
@@ -69,10 +69,10 @@ far_present : {M : Type 0} (kind : Kind M) (lists : Handed → Lists M) (w : Wor
 far_present kind lists w j g books same k held =
     subst (λ (q : Pair). lists (under k (name_at kind (state_of q.far) k) w.far.entries) ≡ held_at kind (state_of q.far) k) same (books.far k (name_at kind (state_of g.pair.far) k) ∙ held)
 
-pub always_arrives : Premises → (channels : ℕ) → Always ArrivesAll channels
-always_arrives p channels es =
-    let w : World = run channels es (start channels) in
-    let h : InRun channels w = in_run p channels es in
+pub always_arrives : Premises → (long_data : Bool) (channels : ℕ) → Always ArrivesAll long_data channels
+always_arrives p long_data channels es =
+    let w : World = run long_data channels es (start long_data channels) in
+    let h : InRun channels w = in_run p long_data channels es in
     let j : Pair = pair_run h.events pair_start in
     let near : (k : ℕ) → AtPresent w.near j.near k = λ k. record {
       of_messages = near_present messages messages_in w j (ledger_run messages h.events ledger_start) h.messages (ledger_pair messages h.events ledger_start) k (p.messages h.events k).held;

@@ -92,10 +92,10 @@ unfolding facilities_of
 row_names_dce = refl
 
 -- a confirmation of a RESTART that this end didn't send
-row_confirmation : (layer_answers (settings_of Dce 1) (is_ready 1 (λ k. begun)) restart_conf).owed ≡ Some (restart 1 17)
+row_confirmation : (layer_answers (settings_of Dce false 1) (is_ready 1 (λ k. begun)) restart_conf).owed ≡ Some (restart 1 17)
 row_confirmation = refl
 
-row_confirmation_dte : (layer_answers (settings_of Dte 1) (is_ready 1 (λ k. begun)) restart_conf).owed ≡ Some (restart 128 17)
+row_confirmation_dte : (layer_answers (settings_of Dte false 1) (is_ready 1 (λ k. begun)) restart_conf).owed ≡ Some (restart 128 17)
 row_confirmation_dte = refl
 
 -- ---- packet sizes and windows
@@ -133,7 +133,7 @@ abbrev link_with : Bool → ℕ → LinkView
 link_with is_up waiting = record { is_up = is_up; waits = λ put. waiting }
 
 abbrev one : LayerSettings
-one = settings_of Dte 1
+one = settings_of Dte false 1
 
 abbrev sent_restart : Layer
 sent_restart = record { restarting = true; restarts = 1; circuits = λ k. begun }
@@ -178,7 +178,7 @@ with_two = record {
 }
 
 abbrev two : LayerSettings
-two = settings_of Dte 2
+two = settings_of Dte false 2
 
 -- the window is 2
 row_rounds : (rounds (record { is_up = true; waits = λ put. 0 }) two (begin (is_ready 1 (λ k. with_two)) None)).put

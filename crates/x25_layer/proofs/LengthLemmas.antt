@@ -26,8 +26,8 @@ field_short field is =
     let e : length field ≡ length (facility 66 is.0.packet_size) + length (facility 67 is.0.window_size) = ap length is.2 ∙ length-append (facility 66 is.0.packet_size) (facility 67 is.0.window_size) in
     omega (arith, a, b, e)
 
-pub call_short : (called calling facilities user : List ℕ) → IsAddress called → IsAddress calling → IsFacilityField facilities → length user ≤ 16 → length (call_body called calling facilities user) ≤ 39
-call_short called calling facilities user a b f u =
+pub call_short : (called calling facilities user : List ℕ) → IsAddress called → IsAddress calling → IsFacilityField facilities → length (call_body called calling facilities user) ≤ 23 + length user
+call_short called calling facilities user a b f =
     let d = packed_short (called ++ calling) in
     let e = length-append called calling in
     let g = field_short facilities f in
@@ -35,24 +35,30 @@ call_short called calling facilities user a b f u =
     let i = length-append facilities user in
     let j = a.short in
     let k = b.short in
-    omega (arith, d, e, g, h, i, j, k, u)
+    omega (arith, d, e, g, h, i, j, k)
 
-pub accept_short : (facilities : List ℕ) → IsFacilityField facilities → length (accept_body facilities) ≤ 39
+pub accept_short : (facilities : List ℕ) → IsFacilityField facilities → length (accept_body facilities) ≤ 32
 accept_short [] f = omega arith
 accept_short (octet ∷ facilities) f = let g = field_short (octet ∷ facilities) f in omega (arith, g)
 
--- what follows the third octet of a packet other than DATA
-pub other_short : (p : Packet) → ((channel : ℕ) (q m : Bool) (ps pr : Seq) (user : Bor (List ℕ)) → p ≡ code.Data channel q m ps pr user → ⊥) → IsInRange 16 (plain p) → length (body_of (plain p)) ≤ 39
-other_short (code.Call channel called calling facilities user) other is = call_short called calling facilities.now user.now is.1 is.2 is.3 is.4
-other_short (code.Accept channel facilities) other is = accept_short facilities.now is.1
-other_short (code.Clear channel cause diagnostic) other is = omega arith
-other_short (code.ClearConf channel) other is = omega arith
-other_short (code.Data channel q m ps pr user) other is = absurd (other channel q m ps pr user refl)
-other_short (code.Rr channel pr) other is = omega arith
-other_short (code.Rnr channel pr) other is = omega arith
-other_short (code.Interrupt channel user) other is = let low : length user.now ≤ 32 = is.2 in omega (arith, low)
-other_short (code.InterruptConf channel) other is = omega arith
-other_short (code.Reset channel cause diagnostic) other is = omega arith
-other_short (code.ResetConf channel) other is = omega arith
-other_short (code.Restart cause diagnostic) other is = omega arith
-other_short code.RestartConf other is = omega arith
+-- what follows the third octet of a CALL
+pub call_fits : (p : Packet) (channel : ℕ) (called calling : List ℕ) (facilities user : Bor (List ℕ)) → p ≡ code.Call channel called calling facilities user → IsInRange 128 (plain p)
+    → (length (body_of (plain p)) ≤ 23 + length user.now) × (length user.now ≤ 128)
+call_fits (code.Call channel called calling facilities user) _ _ _ _ _ refl is = (call_short called calling facilities.now user.now is.1 is.2 is.3, is.4)
+
+-- what follows the third octet of a packet other than DATA and CALL
+pub other_short : (p : Packet) → ((channel : ℕ) (q m : Bool) (ps pr : Seq) (user : Bor (List ℕ)) → p ≡ code.Data channel q m ps pr user → ⊥) 
+    → ((channel : ℕ) (called calling : List ℕ) (facilities user : Bor (List ℕ)) → p ≡ code.Call channel called calling facilities user → ⊥) → IsInRange 128 (plain p) → length (body_of (plain p)) ≤ 32
+other_short (code.Call channel called calling facilities user) other not_call is = absurd (not_call channel called calling facilities user refl)
+other_short (code.Accept channel facilities) other not_call is = accept_short facilities.now is.1
+other_short (code.Clear channel cause diagnostic) other not_call is = omega arith
+other_short (code.ClearConf channel) other not_call is = omega arith
+other_short (code.Data channel q m ps pr user) other not_call is = absurd (other channel q m ps pr user refl)
+other_short (code.Rr channel pr) other not_call is = omega arith
+other_short (code.Rnr channel pr) other not_call is = omega arith
+other_short (code.Interrupt channel user) other not_call is = let low : length user.now ≤ 32 = is.2 in omega (arith, low)
+other_short (code.InterruptConf channel) other not_call is = omega arith
+other_short (code.Reset channel cause diagnostic) other not_call is = omega arith
+other_short (code.ResetConf channel) other not_call is = omega arith
+other_short (code.Restart cause diagnostic) other not_call is = omega arith
+other_short code.RestartConf other not_call is = omega arith

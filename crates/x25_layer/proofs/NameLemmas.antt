@@ -159,9 +159,9 @@ keeps_if x true u v h g = h
 keeps_if x false u v h g = g
 
 module _ (c : Settings) (x : Circuit) where
-  call_keeps : (s : State) (called calling user : List ℕ) (params : Params) → KeepsName x (call_in x s called calling user params)
+  call_keeps : (s : State) (called calling user : List ℕ) (params : Params) → KeepsName x (call_in c x s called calling user params)
   call_keeps Free called calling user params =
-      keeps_if x (may_call called calling user params) (does x Calling params true (call_sent (request_of called calling user params))) (Refused BadParameter) (λ e. refl) tt
+      keeps_if x (may_call c.long_data called calling user params) (does x Calling params true (call_sent (request_of called calling user params))) (Refused BadParameter) (λ e. refl) tt
   call_keeps Calling called calling user params = tt
   call_keeps Arriving called calling user params = tt
   call_keeps Collision called calling user params = tt

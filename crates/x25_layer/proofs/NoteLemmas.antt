@@ -234,16 +234,16 @@ asked_in_transfer c g e m i s (Live x) request = asked_open c g e m i s x reques
 asked_in_transfer c g e m i s (Left x) request = asked_resetting c g e m i s x request
 
 asked_call : (c : Settings) (g : Agreed) (e : ℕ) (m i : List CallRequest) (called calling user : List ℕ) (params : Params) → Asked c g (in_call e m i Unused) (Calls called calling user params)
-asked_call c g e m i called calling user params = test (may_call called calling user params) refl
+asked_call c g e m i called calling user params = test (may_call c.long_data called calling user params) refl
   where
     placed : Bool → CallStep
     placed b = if b then nested_calls.goes (Waiting params) (m ++ request_of called calling user params ∷ []) i (Call (request_of called calling user params) ∷ []) else nested_calls.goes Unused m i []
 
-    test : (b : Bool) → may_call called calling user params ≡ b
+    test : (b : Bool) → may_call c.long_data called calling user params ≡ b
         → NotesOutcome (if b then does (view g (in_call e m i Unused)) Calling params true (call_sent (request_of called calling user params)) else Refused BadParameter) (in_call e m i Unused)
         (channel_acts (in_call e m i Unused) (act_of (Calls called calling user params))).next (asked_by (Calls called calling user params))
     test true is =
-        subst (λ (b : Bool). Notes (in_call e m i Unused) (lifted_call e (placed b) (placed b).error).next (asked_by (Calls called calling user params))) (sym (call_proposes called calling user params is))
+        subst (λ (b : Bool). Notes (in_call e m i Unused) (lifted_call e (placed b) (placed b).error).next (asked_by (Calls called calling user params))) (sym (call_proposes c.long_data called calling user params is))
         (Adds refl refl (handed_is (m ++ request_of called calling user params ∷ []) _ refl i _ (none i) [] _ refl [] _ refl [] _ refl [] _ refl) (inr refl))
     test false is = tt
 

@@ -95,16 +95,16 @@ far_kept {M} kind lists listed order channels w w₂ es books s =
     (near_books kind lists listed Dce channels (turned w) w₂ (nested.turned (pair_run es pair_start)) (turned_ledger g) (ap nested.turned (ledger_pair kind es ledger_start))
     (λ k. (order es k).held_there) (λ k m. (order es k).later_there m) (books_turned kind lists w g books) s))
 
-near_happens : Premises → (channels : ℕ) (w : World) (what : Move) → InRun channels w → InRun channels (moves (settings_of Dte channels) w what)
-near_happens p channels w what h =
+near_happens : Premises → (long_data : Bool) (channels : ℕ) (w : World) (what : Move) → InRun channels w → InRun channels (moves (settings_of Dte long_data channels) w what)
+near_happens p long_data channels w what h =
     let j : Pair = pair_run h.events pair_start in
-    either (world_moves p.params Dte channels w j.near j.far j.out j.back j.error what h.sees
+    either (world_moves p.params Dte long_data channels w j.near j.far j.out j.back j.error what h.sees
     (λ m. ap (λ (q : Pair). q.error) (sym (run_more h.events (event true m) pair_start)) ∙ p.quiet (h.events ++ event true m ∷ [])) w.near.is_out refl)
   where
-    either : (moves (settings_of Dte channels) w what ≡ w) ⊎ Stepped Dte channels w (pair_run h.events pair_start) (moves (settings_of Dte channels) w what) → InRun channels (moves (settings_of Dte channels) w what)
+    either : (moves (settings_of Dte long_data channels) w what ≡ w) ⊎ Stepped Dte channels w (pair_run h.events pair_start) (moves (settings_of Dte long_data channels) w what) → InRun channels (moves (settings_of Dte long_data channels) w what)
     either (inl same) = subst (λ (v : World). InRun channels v) (sym same) h
     either (inr s) =
-        let v : World = moves (settings_of Dte channels) w what in
+        let v : World = moves (settings_of Dte long_data channels) w what in
         record {
           events = h.events ++ event true s.move ∷ [];
           sees = subst (λ (q : Pair). Sees channels v q) (sym (run_more h.events (event true s.move) pair_start)) s.sees;
@@ -113,17 +113,17 @@ near_happens p channels w what h =
           calls = near_kept calls calls_in calls_listed p.calls channels w v h.events h.calls s;
         }
 
-far_happens : Premises → (channels : ℕ) (w : World) (what : Move) → InRun channels w → InRun channels (turned (moves (settings_of Dce channels) (turned w) what))
-far_happens p channels w what h =
+far_happens : Premises → (long_data : Bool) (channels : ℕ) (w : World) (what : Move) → InRun channels w → InRun channels (turned (moves (settings_of Dce long_data channels) (turned w) what))
+far_happens p long_data channels w what h =
     let j : Pair = pair_run h.events pair_start in
-    either (world_moves p.params Dce channels (turned w) j.far j.near j.back j.out j.error what (sees_turned channels w j h.sees)
+    either (world_moves p.params Dce long_data channels (turned w) j.far j.near j.back j.out j.error what (sees_turned channels w j h.sees)
     (λ m. ap (λ (q : Pair). q.error) (sym (run_more h.events (event false m) pair_start)) ∙ p.quiet (h.events ++ event false m ∷ [])) w.far.is_out refl)
   where
-    either : (moves (settings_of Dce channels) (turned w) what ≡ turned w) ⊎ Stepped Dce channels (turned w) (nested.turned (pair_run h.events pair_start)) (moves (settings_of Dce channels) (turned w) what)
-        → InRun channels (turned (moves (settings_of Dce channels) (turned w) what))
+    either : (moves (settings_of Dce long_data channels) (turned w) what ≡ turned w) ⊎ Stepped Dce channels (turned w) (nested.turned (pair_run h.events pair_start)) (moves (settings_of Dce long_data channels) (turned w) what)
+        → InRun channels (turned (moves (settings_of Dce long_data channels) (turned w) what))
     either (inl same) = subst (λ (v : World). InRun channels (turned v)) (sym same) h
     either (inr s) =
-        let v : World = moves (settings_of Dce channels) (turned w) what in
+        let v : World = moves (settings_of Dce long_data channels) (turned w) what in
         record {
           events = h.events ++ event false s.move ∷ [];
           sees = subst (λ (q : Pair). Sees channels (turned v) q) (sym (run_more h.events (event false s.move) pair_start))
@@ -137,15 +137,15 @@ if_run : (channels : ℕ) (first : Bool) (u v : World) → InRun channels u → 
 if_run channels true u v f g = f
 if_run channels false u v f g = g
 
-in_run_on : Premises → (channels : ℕ) (es : List Event) (w : World) → InRun channels w → InRun channels (run channels es w)
-in_run_on p channels [] w h = h
-in_run_on p channels (e ∷ es) w h =
-    in_run_on p channels es (happens channels w e)
-    (if_run channels e.first (moves (settings_of Dte channels) w e.what) (turned (moves (settings_of Dce channels) (turned w) e.what))
-    (near_happens p channels w e.what h) (far_happens p channels w e.what h))
+in_run_on : Premises → (long_data : Bool) (channels : ℕ) (es : List Event) (w : World) → InRun channels w → InRun channels (run long_data channels es w)
+in_run_on p long_data channels [] w h = h
+in_run_on p long_data channels (e ∷ es) w h =
+    in_run_on p long_data channels es (happens long_data channels w e)
+    (if_run channels e.first (moves (settings_of Dte long_data channels) w e.what) (turned (moves (settings_of Dce long_data channels) (turned w) e.what))
+    (near_happens p long_data channels w e.what h) (far_happens p long_data channels w e.what h))
 
-begins : (channels : ℕ) → InRun channels (start channels)
-begins channels = record {
+begins : (long_data : Bool) (channels : ℕ) → InRun channels (start long_data channels)
+begins long_data channels = record {
   events = [];
   sees = record {
     near = (refl, record { restarting = refl; restarts = refl; circuits = λ k. refl });
@@ -163,5 +163,5 @@ begins channels = record {
   calls = record { near = λ k m. refl; far = λ k m. refl };
 }
 
-pub in_run : Premises → (channels : ℕ) (es : List Event) → InRun channels (run channels es (start channels))
-in_run p channels es = in_run_on p channels es (start channels) (begins channels)
+pub in_run : Premises → (long_data : Bool) (channels : ℕ) (es : List Event) → InRun channels (run long_data channels es (start long_data channels))
+in_run p long_data channels es = in_run_on p long_data channels es (start long_data channels) (begins long_data channels)

@@ -250,16 +250,16 @@ asked_in_transfer c g e m i s (Left x) request = asked_resetting c g e m i s x r
 
 -- a call goes where what it proposes may be proposed
 asked_call : ParamsLaws → (c : Settings) (g : Agreed) (e : ℕ) (m i : List CallRequest) (called calling user : List ℕ) (params : Params) → Asked c g (in_call e m i Unused) (Calls called calling user params)
-asked_call laws c g e m i called calling user params = test (may_call called calling user params) refl
+asked_call laws c g e m i called calling user params = test (may_call c.long_data called calling user params) refl
   where
     placed : Bool → CallStep
     placed b = if b then nested_calls.goes (Waiting params) (m ++ request_of called calling user params ∷ []) i (Call (request_of called calling user params) ∷ []) else nested_calls.goes Unused m i []
 
-    test : (b : Bool) → may_call called calling user params ≡ b
+    test : (b : Bool) → may_call c.long_data called calling user params ≡ b
         → Heeds (if b then does (view g (in_call e m i Unused)) Calling params true (call_sent (request_of called calling user params)) else Refused BadParameter)
         (channel_acts (in_call e m i Unused) (act_of (Calls called calling user params)))
     test true is =
-        let allowed : may_propose params ≡ true = call_proposes called calling user params is in
+        let allowed : may_propose params ≡ true = call_proposes c.long_data called calling user params is in
         subst (λ (b : Bool). Does (entered (view g (in_call e m i Unused)) Calling params true) (Some (call_sent (request_of called calling user params))) (lifted_call e (placed b) (placed b).error)) (sym allowed)
         (record {
           next = record { agreed = g; is = refl; fits = tt };

@@ -104,36 +104,36 @@ same_entries : (es : List Entry) → es ≡ es ++ []
 same_entries es = sym (append_nil es)
 
 -- An event at the near end, with the settings of its role.
-pub world_moves : ParamsLaws → (r : Role) (channels : ℕ) (w : World) (near far : Side (At Channels)) (out back : List LayerPacket) (error : Option ℕ) (what : Move)
+pub world_moves : ParamsLaws → (r : Role) (long_data : Bool) (channels : ℕ) (w : World) (near far : Side (At Channels)) (out back : List LayerPacket) (error : Option ℕ) (what : Move)
     → let j : Pair = record { near = near; far = far; out = out; back = back; error = error } in Sees channels w j → ((m : nested.Move) → (pair_moves r j near m).error ≡ None)
-    → (gone : Bool) → gone ≡ w.near.is_out → (moves_in (settings_of r channels) w gone what ≡ w) ⊎ Stepped r channels w j (moves_in (settings_of r channels) w gone what)
-world_moves laws r channels w near far out back error what sees quiet true is = inl refl
-world_moves laws r channels w (Left z) far out back error what sees quiet false is = absurd (true≢false (sym (is ∙ sees.near.0)))
-world_moves laws r channels w (Live z) far out back error (Requests full request) sees quiet false is =
-    did (layer_outcome (settings_of r channels) full w.near.layer request) (layer_heeds laws (settings_of r channels) full w.near.layer z request sees.near.1)
+    → (gone : Bool) → gone ≡ w.near.is_out → (moves_in (settings_of r long_data channels) w gone what ≡ w) ⊎ Stepped r channels w j (moves_in (settings_of r long_data channels) w gone what)
+world_moves laws r long_data channels w near far out back error what sees quiet true is = inl refl
+world_moves laws r long_data channels w (Left z) far out back error what sees quiet false is = absurd (true≢false (sym (is ∙ sees.near.0)))
+world_moves laws r long_data channels w (Live z) far out back error (Requests full request) sees quiet false is =
+    did (layer_outcome (settings_of r long_data channels) full w.near.layer request) (layer_heeds laws (settings_of r long_data channels) full w.near.layer z request sees.near.1)
   where
-    did : (d : LayerOutcome) → HeedsLayer (settings_of r channels) w.near.layer request d z (layer_acts z (layer_act (settings_of r channels) w.near.layer.circuits request))
-        → (requested (settings_of r channels) w request d ≡ w)
-        ⊎ Stepped r channels w (record { near = Live z; far = far; out = out; back = back; error = error }) (requested (settings_of r channels) w request d)
+    did : (d : LayerOutcome) → HeedsLayer (settings_of r long_data channels) w.near.layer request d z (layer_acts z (layer_act (settings_of r long_data channels) w.near.layer.circuits request))
+        → (requested (settings_of r long_data channels) w request d ≡ w)
+        ⊎ Stepped r channels w (record { near = Live z; far = far; out = out; back = back; error = error }) (requested (settings_of r long_data channels) w request d)
     did (Accepted next packet) g = inr (record {
-      move = Acts (layer_act (settings_of r channels) w.near.layer.circuits request);
+      move = Acts (layer_act (settings_of r long_data channels) w.near.layer.circuits request);
       sees = put_sees channels w (record { near = Live z; far = far; out = out; back = back; error = error }) next (option_to_list packet)
-          (entries_asked (settings_of r channels) w.near.layer next request) (layer_acts z (layer_act (settings_of r channels) w.near.layer.circuits request)) _ sees g.next g.put g.quiet;
-      entries = entries_asked (settings_of r channels) w.near.layer next request;
+          (entries_asked (settings_of r long_data channels) w.near.layer next request) (layer_acts z (layer_act (settings_of r long_data channels) w.near.layer.circuits request)) _ sees g.next g.put g.quiet;
+      entries = entries_asked (settings_of r long_data channels) w.near.layer next request;
       near_entries = refl;
       far_entries = refl;
       step = g.step;
     })
     did (Declined e) g = inl refl
-world_moves laws r channels w (Live z) far out back error (Pulls h) sees quiet false is = test (is_channel channels h) refl
+world_moves laws r long_data channels w (Live z) far out back error (Pulls h) sees quiet false is = test (is_channel channels h) refl
   where
     test : (c : Bool) → is_channel channels h ≡ c
-        → ((if c then pulled_in w (layer_pulled (settings_of r channels) w.near.layer h) else w) ≡ w)
-        ⊎ Stepped r channels w (record { near = Live z; far = far; out = out; back = back; error = error }) (if c then pulled_in w (layer_pulled (settings_of r channels) w.near.layer h) else w)
+        → ((if c then pulled_in w (layer_pulled (settings_of r long_data channels) w.near.layer h) else w) ≡ w)
+        ⊎ Stepped r channels w (record { near = Live z; far = far; out = out; back = back; error = error }) (if c then pulled_in w (layer_pulled (settings_of r long_data channels) w.near.layer h) else w)
     test false other = inl refl
     test true there =
-        let p : LayerPulled = layer_pulled (settings_of r channels) w.near.layer h in
-        let g : DoesLayer channels p.next p.packet [] z (layer_acts z (OnChannel h pull_act)) = layer_pulls (settings_of r channels) w.near.layer z h there sees.near.1 in
+        let p : LayerPulled = layer_pulled (settings_of r long_data channels) w.near.layer h in
+        let g : DoesLayer channels p.next p.packet [] z (layer_acts z (OnChannel h pull_act)) = layer_pulls (settings_of r long_data channels) w.near.layer z h there sees.near.1 in
         inr (record {
           move = Acts (OnChannel h pull_act);
           sees = put_sees channels w (record { near = Live z; far = far; out = out; back = back; error = error }) p.next (option_to_list p.packet) [] (layer_acts z (OnChannel h pull_act)) _ sees g.next g.put g.quiet;
@@ -142,14 +142,14 @@ world_moves laws r channels w (Live z) far out back error (Pulls h) sees quiet f
           far_entries = refl;
           step = g.step;
         })
-world_moves laws r channels w (Live z) far out back error HandsUp sees quiet false is = handed w.back refl
+world_moves laws r long_data channels w (Live z) far out back error HandsUp sees quiet false is = handed w.back refl
   where
     handed : (K : List PlainPacket) → w.back ≡ K
-        → (handed_up (settings_of r channels) w K ≡ w)
-        ⊎ Stepped r channels w (record { near = Live z; far = far; out = out; back = back; error = error }) (handed_up (settings_of r channels) w K)
+        → (handed_up (settings_of r long_data channels) w K ≡ w)
+        ⊎ Stepped r channels w (record { near = Live z; far = far; out = out; back = back; error = error }) (handed_up (settings_of r long_data channels) w K)
     handed [] front = inl refl
     handed (p ∷ K) front =
-        let c : LayerSettings = settings_of r channels in
+        let c : LayerSettings = settings_of r long_data channels in
         let same : bare_layer p ∷ bare_layers K ≡ back = ap bare_layers (sym front) ∙ sees.back in
         let s : LayerStep = layer_takes r z (bare_layer p) in
         let clean : s.error ≡ None =
@@ -165,7 +165,7 @@ world_moves laws r channels w (Live z) far out back error HandsUp sees quiet fal
           far_entries = refl;
           step = g.step;
         }))
-world_moves laws r channels w (Live z) far out back error GoesDown sees quiet false is = inr (record {
+world_moves laws r long_data channels w (Live z) far out back error GoesDown sees quiet false is = inr (record {
   move = LinkDown;
   sees = record {
     near = (refl, refl);

@@ -16,6 +16,7 @@ FitsCircuits c circuits f = (k : ℕ) (v : circuit_code.Circuit) → slice_get c
 
 pub record FitsLayer (c : LayerSettings) (v : code.Layer) (l : Layer) : Type 0 where
   pub role : v.role ≡ c.circuit.role
+  pub long_data : v.long_data ≡ c.circuit.long_data
   pub channels : length v.circuits.items ≡ c.channels
   pub restarting : v.restarting ≡ l.restarting
   pub restarts : v.restarts ≡ l.restarts

@@ -1,5 +1,5 @@
 -- What holds of two layers over links that keep order, after any events.
-use Rattle.std.specs.Prelude.{◌≡◌, ℕ, ◌≤◌, List, ◌++◌, length, true}
+use Rattle.std.specs.Prelude.{◌≡◌, Bool, ℕ, ◌≤◌, List, ◌++◌, length, true}
 use Rattle.x25_circuit.specs.Circuit.{is_open, waits}
 use Rattle.x25_epochs.specs.Names.{Name}
 use Rattle.x25_epochs.specs.Books.{Begins}
@@ -8,8 +8,8 @@ use Rattle.x25_layer.specs.Transcript.{Entry, under, calls_in, messages_in, inte
 use Rattle.x25_layer.specs.World.{End, World, Event, run, start}
 
 -- whatever happened to two ends
-abbrev pub Always : (World → Type 0) → ℕ → Type 0
-Always P channels = (events : List Event) → P (run channels events (start channels))
+abbrev pub Always : (World → Type 0) → Bool → ℕ → Type 0
+Always P long_data channels = (events : List Event) → P (run long_data channels events (start long_data channels))
 
 -- no end told the other or its user of an error of procedure
 pub record IsQuietEnd (channels : ℕ) (e : End) : Type 0 where

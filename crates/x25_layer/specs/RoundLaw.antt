@@ -2,9 +2,10 @@
 use Rattle.std.specs.Prelude.{◌≡◌, ℕ, List, [], ◌∷◌, ◌++◌, Ok, true, false, ◌==◌}
 use Rattle.x25_packet.specs.PlainPacket.{PlainPacket}
 use Rattle.x25_packet.specs.Reading.{packet_of}
+use Rattle.x25_packet.specs.Spelling.{longest_user}
 use Rattle.x25_layer.specs.Layer.{LayerSettings, is_channel, goes_up}
 use Rattle.x25_layer.specs.Calls.{LayerRequest}
-use Rattle.x25_layer.specs.Rounds.{LinkView, Putting, begin, round, rounds, Went, calls, hears, comes_up, longest_user}
+use Rattle.x25_layer.specs.Rounds.{LinkView, Putting, begin, round, rounds, Went, calls, hears, comes_up}
 use Rattle.x25_layer.specs.World.{World, Move, Requests, Pulls, HandsUp, moves}
 
 -- moves of the near end, one after another
@@ -42,7 +43,7 @@ CallsRun = (link : LinkView) (c : LayerSettings) (w : World) (request : LayerReq
 -- a packet handed up is taken, and then pulls
 abbrev pub HearsRun : Type 0
 HearsRun = (link : LinkView) (c : LayerSettings) (w : World) (packet : PlainPacket) (back : List PlainPacket) (octets : List ℕ) → w.near.is_out ≡ false → w.back ≡ packet ∷ back →
-    packet_of longest_user octets ≡ Ok packet →
+    packet_of (longest_user c.circuit.long_data) octets ≡ Ok packet →
     (pulled : List ℕ) × AreChannels c.channels pulled × IsRun c w (HandsUp ∷ pulls_of pulled) (moves c w HandsUp) (hears link c w.near.layer octets).step back
 
 -- behind the rounds, one round more gives nothing

@@ -4,6 +4,7 @@ use Rattle.std.specs.Prelude.{ℕ, zero, suc, ◌+◌, List, [], ◌∷◌, ◌+
 use Rattle.x25_packet.specs.declared.error.PacketError.{PacketError}
 use Rattle.x25_packet.specs.PlainPacket.{PlainPacket}
 use Rattle.x25_packet.specs.Reading.{packet_of, channel_in}
+use Rattle.x25_packet.specs.Spelling.{longest_user}
 use Rattle.x25_circuit.specs.Circuit.{Circuit}
 use Rattle.x25_layer.specs.declared.error.LayerError.{LayerError}
 use Rattle.x25_layer.specs.declared.error.LayerError.TheVariants as error
@@ -72,10 +73,6 @@ pub record Heard : Type 0 where
   pub step : Putting
   pub notices : List LayerNotice
 
--- user data of a call are at most 16 octets
-abbrev pub longest_user : ℕ
-longest_user = 16
-
 abbrev pub undecoded_at : LayerSettings → Layer → PacketError → Option ℕ → LayerAnswer
 undecoded_at c l e None = drops l.restarting l.restarts l.circuits
 undecoded_at c l e (Some h) = layer_undecoded c l h e
@@ -87,9 +84,9 @@ answer_to c l octets (Err e) = undecoded_at c l e (channel_in octets)
 abbrev pub heard : LinkView → LayerSettings → LayerAnswer → Heard
 heard link c a = record { step = rounds link c (begin a.next a.owed); notices = a.notices }
 
--- octets that the link handed up
+-- octets that the link handed up, read with as much user data as a CALL of this end may have
 abbrev pub hears : LinkView → LayerSettings → Layer → List ℕ → Heard
-hears link c l octets = heard link c (answer_to c l octets (packet_of longest_user octets))
+hears link c l octets = heard link c (answer_to c l octets (packet_of (longest_user c.circuit.long_data) octets))
 
 -- the link came up
 abbrev pub comes_up : LinkView → LayerSettings → Heard

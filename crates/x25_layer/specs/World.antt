@@ -127,24 +127,25 @@ moves c w move = moves_in c w w.near.is_out move
 abbrev pub turned : World → World
 turned w = record { near = w.far; far = w.near; out = w.back; back = w.out }
 
--- the settings of an end, by its role
-abbrev pub settings_of : Role → ℕ → LayerSettings
-settings_of role channels = record { channels = channels; circuit = record { role = role } }
+-- The settings of an end, by its role. Whether the user data of a CALL may be long, and the channels, are the same at both ends.
+abbrev pub settings_of : Role → Bool → ℕ → LayerSettings
+settings_of role long_data channels = record { channels = channels; circuit = record { role = role; long_data = long_data } }
 
 -- the first end is the DTE
-abbrev pub happens : ℕ → World → Event → World
-happens channels w e = if e.first then moves (settings_of Dte channels) w e.what else turned (moves (settings_of Dce channels) (turned w) e.what)
+abbrev pub happens : Bool → ℕ → World → Event → World
+happens long_data channels w e =
+    if e.first then moves (settings_of Dte long_data channels) w e.what else turned (moves (settings_of Dce long_data channels) (turned w) e.what)
 
-abbrev pub run : ℕ → List Event → World → World
-run channels [] w = w
-run channels (e ∷ events) w = run channels events (happens channels w e)
+abbrev pub run : Bool → ℕ → List Event → World → World
+run long_data channels [] w = w
+run long_data channels (e ∷ events) w = run long_data channels events (happens long_data channels w e)
 
 -- both links have come up, and each end has sent its RESTART
 abbrev pub started : LayerAnswer → End
 started a = record { layer = a.next; is_out = false; given = option_to_list a.owed; taken = []; told = []; entries = [] }
 
-abbrev pub start : ℕ → World
-start channels =
-    let near = started (goes_up (settings_of Dte channels)) in
-    let far = started (goes_up (settings_of Dce channels)) in
+abbrev pub start : Bool → ℕ → World
+start long_data channels =
+    let near = started (goes_up (settings_of Dte long_data channels)) in
+    let far = started (goes_up (settings_of Dce long_data channels)) in
     record { near = near; far = far; out = near.given; back = far.given }

@@ -23,7 +23,7 @@ use x25_circuit::{Params, Proposal, Request};
 use x25_link::OrderedLink;
 
 impl Layer {
-    /// Calls the other end, with addresses of 0 to 15 digits and at most 16 octets of user data, on the highest free channel at
+    /// Calls the other end, with addresses of 0 to 15 digits and at most 16 octets of user data (128 where it may be long), on the highest free channel at
     /// a DTE and on the lowest at a DCE, which it answers. It proposes the default packet sizes and windows.
     ///
     /// 9 NotUp, 40 Restarting, 41 NoFreeChannel, 10 QueueFull, then 34 BadParameter of the circuit where an address or the user

@@ -16,8 +16,9 @@ pub(crate) fn begun_circuits(
     alloc: Global,
     role: Role,
     channels: usize,
+    long_data: bool,
 ) -> Result<Vec<Circuit>, LayerError>
-    ensures fits { IfOk result (λ v. FitsCircuits (record { channels = channels; circuit = record { role = role } }) v.items at_rest.circuits) }
+    ensures fits { IfOk result (λ v. FitsCircuits (record { channels = channels; circuit = record { role = role; long_data = long_data } }) v.items at_rest.circuits) }
     ensures count { IfOk result (λ v. length v.items ≡ channels) }
     ensures err { IfErr result (λ e. e ≡ LayerError.NoMemory) }
 {
@@ -25,7 +26,7 @@ pub(crate) fn begun_circuits(
         return Err(LayerError::NoMemory);
     };
     for _ in 0..channels {
-        let Ok(circuit) = Circuit::new(alloc, role) else {
+        let Ok(circuit) = Circuit::with(alloc, role, long_data) else {
             return Err(LayerError::NoMemory);
         };
         circuits.push_reserved(circuit);

@@ -1,4 +1,4 @@
-ghost use Rattle.std.specs.Prelude.{ℕ};
+ghost use Rattle.std.specs.Prelude.{Bool, ℕ};
 ghost use Rattle.x25_layer.specs.Law.{Always, IsQuietWorld, IsLawfulWorld, ArrivesAll, KeepsOrder};
 ghost use Rattle.x25_layer.specs.NameLaw.{NamesAreCounted, NoClearComesInP1};
 ghost use Rattle.x25_layer.specs.RoundLaw.{CallsRun, HearsRun, RoundsSettle, ComesUpAlone};
@@ -12,10 +12,10 @@ ghost use Rattle.x25_layer.specs.RoundLaw.{CallsRun, HearsRun, RoundsSettle, Com
 /// - and all of the messages and interrupts of a stretch that is open at both ends, where all that the giver handed down is
 ///   acknowledged and none of its messages waits.
 pub fn two_layers_keep_order()
-    ensures order { (channels : ℕ) → Always KeepsOrder channels }
-    ensures quiet { (channels : ℕ) → Always (IsQuietWorld channels) channels }
-    ensures lawful { (channels : ℕ) → Always IsLawfulWorld channels }
-    ensures arrives { (channels : ℕ) → Always ArrivesAll channels }
+    ensures order { (long_data : Bool) (channels : ℕ) → Always KeepsOrder long_data channels }
+    ensures quiet { (long_data : Bool) (channels : ℕ) → Always (IsQuietWorld channels) long_data channels }
+    ensures lawful { (long_data : Bool) (channels : ℕ) → Always IsLawfulWorld long_data channels }
+    ensures arrives { (long_data : Bool) (channels : ℕ) → Always ArrivesAll long_data channels }
 {
     x25_circuit::values_are_agreed();
     x25_epochs::keeps_order();
@@ -24,8 +24,8 @@ pub fn two_layers_keep_order()
 /// The same two layers: where an end's link is up, the name of the stretch on each channel is the restarts, clears and resets that
 /// its user was told of. No CLEAR comes in p1, which would count and tell nothing.
 pub fn names_are_told()
-    ensures names { (channels : ℕ) → Always NamesAreCounted channels }
-    ensures clear { (channels : ℕ) → Always NoClearComesInP1 channels }
+    ensures names { (long_data : Bool) (channels : ℕ) → Always NamesAreCounted long_data channels }
+    ensures clear { (long_data : Bool) (channels : ℕ) → Always NoClearComesInP1 long_data channels }
 {
     x25_circuit::values_are_agreed();
     x25_epochs::keeps_order();

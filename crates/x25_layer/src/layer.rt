@@ -20,6 +20,8 @@ pub const LONGEST_PACKET: usize = 4099;
 #[derive(Drop)]
 pub struct Layer {
     pub(crate) role: Role,
+    /// Whether the user data of a CALL may be long.
+    pub(crate) long_data: bool,
     /// This end's RESTART isn't confirmed yet.
     pub(crate) restarting: bool,
     /// How many restarts were done since link set-up.
@@ -38,20 +40,37 @@ impl Layer {
     ghost use Rattle.x25_layer.specs.Room.{HasRoom};
     ghost use Rattle.x25_layer.specs.FitsLayer.{FitsLayer, plain_stretch, name_at, params_at, is_open_at, waits_up_to, is_full};
 
-    /// The layer of an end whose link isn't up, with so many channels, 1 to 16.
+    /// The layer of an end whose link isn't up, with so many channels, 1 to 16. A call has at most 16 octets of user data.
     ///
     /// 14 BadConfig for another number of channels, and else 70 alone.
     pub fn new(alloc: Global, role: Role, channels: usize) -> Result<Layer, LayerError>
-        ensures fits { IfOk result (λ v. FitsLayer (record { channels = channels; circuit = record { role = role } }) v at_rest) }
+        ensures fits { IfOk result (λ v. FitsLayer (record { channels = channels; circuit = record { role = role; long_data = false } }) v at_rest) }
+        ensures config { IsErrOf result LayerError.BadConfig ↔ (is_channel 16 channels ≡ false) }
+        ensures memory { is_channel 16 channels ≡ true → IfErr result (λ e. e ≡ LayerError.NoMemory) }
+    {
+        Layer::with(alloc, role, channels, false)
+    }
+
+    /// As `new`, but with `long_data` a call has at most 128 octets of user data (profile). It is the same at both ends.
+    ///
+    /// 14 BadConfig for another number of channels, and else 70 alone.
+    pub fn with(
+        alloc: Global,
+        role: Role,
+        channels: usize,
+        long_data: bool,
+    ) -> Result<Layer, LayerError>
+        ensures fits { IfOk result (λ v. FitsLayer (record { channels = channels; circuit = record { role = role; long_data = long_data } }) v at_rest) }
         ensures config { IsErrOf result LayerError.BadConfig ↔ (is_channel 16 channels ≡ false) }
         ensures memory { is_channel 16 channels ≡ true → IfErr result (λ e. e ≡ LayerError.NoMemory) }
     {
         if channels == 0 || channels > CHANNELS {
             return Err(LayerError::BadConfig);
         }
-        let circuits = begun_circuits(alloc, role, channels)?;
+        let circuits = begun_circuits(alloc, role, channels, long_data)?;
         Ok(Layer {
             role,
+            long_data,
             restarting: false,
             restarts: 0,
             circuits,

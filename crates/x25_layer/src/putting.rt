@@ -46,7 +46,7 @@ impl Layer {
 
     /// Puts a packet of at most `most` octets into the link, in memory that was set aside.
     pub(crate) fn put<L: OrderedLink>(&mut self, link: &mut L, packet: &Packet, most: usize)
-        requires range { IsInRange 16 (plain packet.now) }
+        requires range { IsInRange 128 (plain packet.now) }
         requires short { length (spelling_of (plain packet.now)) ≤ most }
         requires most { most ≤ 4099 }
         requires memory { 0 < self.old.memory }
@@ -74,7 +74,7 @@ pub(crate) fn put<L: OrderedLink>(
     packet: &Packet,
     most: usize,
 )
-    requires range { IsInRange 16 (plain packet.now) }
+    requires range { IsInRange 128 (plain packet.now) }
     requires short { length (spelling_of (plain packet.now)) ≤ most }
     requires most { most ≤ 4099 }
     requires memory { 0 < memory.old }

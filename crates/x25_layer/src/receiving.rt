@@ -1,6 +1,7 @@
 //! Octets that the link handed up. ITU-T X.25 (10/96), sections 3.3 and 4, and Annex C.
 ghost use Rattle.std.specs.Prelude.{◌≡◌, ℕ, ◌+◌, ◌-◌, ◌^◌, ◌<◌, ◌≤◌, length, true, IfErr, IfOk, IsOk, OnOk, OnErr, option_to_list};
 ghost use Rattle.x25_packet.specs.Reading.{packet_of};
+ghost use Rattle.x25_packet.specs.Spelling.{longest_user};
 ghost use Rattle.x25_circuit.specs.Circuit.{Settings};
 ghost use Rattle.x25_circuit.specs.Circuit.{Circuit as Channel};
 ghost use Rattle.x25_circuit.specs.FitsCircuit.{FitsCircuit, room_of};
@@ -21,7 +22,7 @@ use crate::putting::MOST_PUT;
 use crate::told::Told;
 use x25_circuit::{Circuit, CircuitError, Reply};
 use x25_link::OrderedLink;
-use x25_packet::{Packet, PacketError, channel, decode};
+use x25_packet::{Packet, PacketError, channel, decode_within, longest_user};
 
 // The circuit takes a packet, or octets that spell none, by their error.
 fn hear_circuit<'a>(
@@ -126,9 +127,9 @@ impl Layer {
         requires up { L.up link.old ≡ true }
         requires free { L.waits link.old < 256 }
         requires longest { 4099 ≤ L.longest link.old }
-        ensures layer { (c : LayerSettings) (l : State) → FitsLayer c self.old l → OnOk result (FitsLayer c self.new (answer_to c l octets.now (packet_of 16 octets.now)).next) }
-        ensures link { (c : LayerSettings) (l : State) (x : L.State) → FitsLayer c self.old l → L.fits link.old x → OnOk result (L.fits link.new (after_all L.after_put x (option_to_list (answer_to c l octets.now (packet_of 16 octets.now)).owed))) }
-        ensures told { (c : LayerSettings) (l : State) → FitsLayer c self.old l → IfOk result (λ told. plain_told told ≡ (answer_to c l octets.now (packet_of 16 octets.now)).notices) }
+        ensures layer { (c : LayerSettings) (l : State) → FitsLayer c self.old l → OnOk result (FitsLayer c self.new (answer_to c l octets.now (packet_of (longest_user self.old.long_data) octets.now)).next) }
+        ensures link { (c : LayerSettings) (l : State) (x : L.State) → FitsLayer c self.old l → L.fits link.old x → OnOk result (L.fits link.new (after_all L.after_put x (option_to_list (answer_to c l octets.now (packet_of (longest_user self.old.long_data) octets.now)).owed))) }
+        ensures told { (c : LayerSettings) (l : State) → FitsLayer c self.old l → IfOk result (λ told. plain_told told ≡ (answer_to c l octets.now (packet_of (longest_user self.old.long_data) octets.now)).notices) }
         ensures memory { OnOk result (self.old.memory ≤ self.new.memory + 1) }
         ensures spares { OnOk result (L.spares link.old ≤ L.spares link.new + 1) }
         ensures longest { L.longest link.new ≡ L.longest link.old }
@@ -141,7 +142,7 @@ impl Layer {
         let Some(channel) = channel(octets) else {
             return Ok(Told::Nothing);
         };
-        let packet = match decode(octets) {
+        let packet = match decode_within(longest_user(self.long_data), octets) {
             Ok(packet) => packet,
             Err(error) => return self.hear_on(link, channel, Err(error)),
         };

@@ -15,9 +15,12 @@ use x25_packet::Packet;
 /// The octets of a data packet before its user data. ITU-T X.25 (10/96), section 5.3.1.
 const DATA_HEADER: usize = 3;
 
-/// The most octets of a packet other than DATA, which are those of a CALL: 3, an address block of 16, a facility field of
-/// 6 behind its length, and 16 of user data.
-const MOST_OTHER: usize = 42;
+/// The most octets of a CALL before its user data: 3, an address block of 16, and a facility field of 6 behind its length.
+/// Section 5.2.1.
+const CALL_HEADER: usize = 26;
+
+/// The most octets of any other packet, which are those of an INTERRUPT: 3, and 32 of user data. Section 5.3.2.
+const MOST_OTHER: usize = 35;
 
 /// The packet on this channel. RESTART and its confirmation, which no circuit sends, stay on channel 0.
 pub(crate) fn on_channel<'a>(packet: Packet<'a>, channel: u16) -> Packet<'a>
@@ -33,12 +36,13 @@ pub(crate) fn on_channel<'a>(packet: Packet<'a>, channel: u16) -> Packet<'a>
 
 /// For how many octets memory is taken for a packet.
 pub(crate) fn most_octets(packet: &Packet) -> usize
-    requires { IsInRange 16 (plain packet.now) }
+    requires { IsInRange 128 (plain packet.now) }
     ensures enough { length (spelling_of (plain packet.now)) ≤ result }
     ensures short { result ≤ 4099 }
 {
     match packet {
         Packet::Data { user, .. } => DATA_HEADER + user.len(),
+        Packet::Call { user, .. } => CALL_HEADER + user.len(),
         _ => MOST_OTHER,
     }
 }

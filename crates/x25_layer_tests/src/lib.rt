@@ -1,5 +1,5 @@
 //! Tests of `x25_layer`: the numbers of its errors, the user's calls, LinkUp, LinkDown and restart, what
-//! the link hands up, and the rounds of pulls.
+//! the link hands up, user data of calls, and the rounds of pulls.
 #![tactic(auto)]
 
 #[cfg(test)]
@@ -10,6 +10,8 @@ mod calls;
 mod errors;
 #[cfg(test)]
 mod hearing;
+#[cfg(test)]
+mod long_data;
 #[cfg(test)]
 mod play;
 #[cfg(test)]

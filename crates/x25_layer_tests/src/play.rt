@@ -238,7 +238,21 @@ fn plays(
     Ok(())
 }
 
-/// Plays tables at a layer of so many channels, each over a plain link of its own.
+/// Plays tables at a layer, each over a plain link of its own.
+pub fn play_at(
+    rt: &impl Abort,
+    alloc: Global,
+    mut layer: Layer,
+    tables: &[&[Row]],
+) -> Result<(), Fail> {
+    for rows in tables {
+        let mut link = PlainLink::new(alloc)?;
+        plays(rt, alloc, &mut layer, &mut link, rows)?;
+    }
+    Ok(())
+}
+
+/// Plays tables at a layer of so many channels, whose calls have at most 16 octets of user data.
 pub fn play(
     rt: &impl Abort,
     alloc: Global,
@@ -246,10 +260,5 @@ pub fn play(
     channels: usize,
     tables: &[&[Row]],
 ) -> Result<(), Fail> {
-    let mut layer = Layer::new(alloc, role, channels)?;
-    for rows in tables {
-        let mut link = PlainLink::new(alloc)?;
-        plays(rt, alloc, &mut layer, &mut link, rows)?;
-    }
-    Ok(())
+    play_at(rt, alloc, Layer::new(alloc, role, channels)?, tables)
 }

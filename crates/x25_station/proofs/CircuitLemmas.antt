@@ -9,7 +9,7 @@ use Rattle.x25_bits.specs.declared.role.Role.{Role}
 use Rattle.x25_bits.specs.declared.role.Role.TheVariants.{Dte, Dce}
 use Rattle.x25_packet.specs.Digits.{is_digit, is_figure, digits_of_text, IsAddress}
 use Rattle.x25_packet.specs.PlainPacket.{PlainPacket, call, accept, clear, clear_conf, user_data, rr, rnr, interrupt, interrupt_conf, reset, reset_conf, restart, restart_conf}
-use Rattle.x25_packet.specs.Spelling.{HasChannel}
+use Rattle.x25_packet.specs.Spelling.{HasChannel, longest_user}
 use Rattle.x25_circuit.specs.declared.state.State.{State}
 use Rattle.x25_circuit.specs.declared.state.State.TheVariants.{Free, Calling, Arriving, Collision, Open, Resetting, Clearing}
 use Rattle.x25_circuit.specs.declared.error.CircuitError.TheVariants as error
@@ -44,388 +44,389 @@ pub record Agreed : Type 0 where
   pub answer : AnswerIsAllowed
   pub terms : TermsAreAllowed
 
-abbrev pub MayGive : Option PlainPacket → Type 0
-MayGive None = Unit {0}
-MayGive (Some p) = HasChannel p × Fits p
+module _ (long_data : Bool) where
+  abbrev pub MayGive : Option PlainPacket → Type 0
+  MayGive None = Unit {0}
+  MayGive (Some p) = HasChannel p × Fits long_data p
 
-cut_append : (a b : List Piece) → AreCut a → AreCut b → AreCut (a ++ b)
-cut_append [] b f g = g
-cut_append (p ∷ a) b f g = (f.0, cut_append a b f.1 g)
+  cut_append : (a b : List Piece) → AreCut a → AreCut b → AreCut (a ++ b)
+  cut_append [] b f g = g
+  cut_append (p ∷ a) b f g = (f.0, cut_append a b f.1 g)
 
-cut_from_fits : (size n : ℕ) (q : Bool) (user : List ℕ) → 1 ≤ size → size ≤ 4096 → length user ≤ n → AreOctets user → AreCut (cut_from n size q user)
-cut_from_fits size zero q user least most short octets = ((omega (arith, short), octets), tt)
-cut_from_fits size (suc n) q user least most short octets = test (λ low. cut_from_fits size n q (drop size user) least most low (All-drop (λ (o : ℕ). o < 256) size user octets)) (nat_le (length user) size) refl
-  where
-    test : (length (drop size user) ≤ n → AreCut (cut_from n size q (drop size user))) → (b : Bool) → nat_le (length user) size ≡ b → AreCut (if b then Last q user ∷ [] else More q (take size user) ∷ cut_from n size q (drop size user))
-    test rest true is =
-        let high : length user ≤ size = leb-true _ _ is in
-        ((omega (arith, high, most), octets), tt)
-    test rest false is =
-        let long : size < length user = leb-false _ _ is in
-        let a : length (drop size user) ≡ length user - size = length-drop size user in
-        let b : length (take size user) ≤ 4096 = omega (arith, length-take size user, most) in
-        ((b, All-take (λ (o : ℕ). o < 256) size user octets), rest (omega (arith, a, short, long, least)))
+  cut_from_fits : (size n : ℕ) (q : Bool) (user : List ℕ) → 1 ≤ size → size ≤ 4096 → length user ≤ n → AreOctets user → AreCut (cut_from n size q user)
+  cut_from_fits size zero q user least most short octets = ((omega (arith, short), octets), tt)
+  cut_from_fits size (suc n) q user least most short octets = test (λ low. cut_from_fits size n q (drop size user) least most low (All-drop (λ (o : ℕ). o < 256) size user octets)) (nat_le (length user) size) refl
+    where
+      test : (length (drop size user) ≤ n → AreCut (cut_from n size q (drop size user))) → (b : Bool) → nat_le (length user) size ≡ b → AreCut (if b then Last q user ∷ [] else More q (take size user) ∷ cut_from n size q (drop size user))
+      test rest true is =
+          let high : length user ≤ size = leb-true _ _ is in
+          ((omega (arith, high, most), octets), tt)
+      test rest false is =
+          let long : size < length user = leb-false _ _ is in
+          let a : length (drop size user) ≡ length user - size = length-drop size user in
+          let b : length (take size user) ≤ 4096 = omega (arith, length-take size user, most) in
+          ((b, All-take (λ (o : ℕ). o < 256) size user octets), rest (omega (arith, a, short, long, least)))
 
--- ---- what a packet brings
+  -- ---- what a packet brings
 
-pub record AnswerFits (a : table.Answer) : Type 0 where
-  pub next : CircuitFits a.next
-  pub owed : MayGive a.owed
+  pub record AnswerFits (a : table.Answer) : Type 0 where
+    pub next : CircuitFits a.next
+    pub owed : MayGive a.owed
 
-cause_low : (r : Role) (n : ℕ) → n < 256 → table.cause_at r n < 256
-cause_low Dte n low = omega arith
-cause_low Dce n low = low
+  cause_low : (r : Role) (n : ℕ) → n < 256 → table.cause_at r n < 256
+  cause_low Dte n low = omega arith
+  cause_low Dce n low = low
 
-by_role_low : (r : Role) (a b : ℕ) → a < 256 → b < 256 → table.by_role r a b < 256
-by_role_low Dte a b p q = p
-by_role_low Dce a b p q = q
+  by_role_low : (r : Role) (a b : ℕ) → a < 256 → b < 256 → table.by_role r a b < 256
+  by_role_low Dte a b p q = p
+  by_role_low Dce a b p q = q
 
-diagnostic_low : (r : Role) (s : State) → table.diagnostic_in r s < 256
-diagnostic_low r Free = omega arith
-diagnostic_low r Calling = by_role_low r 21 22 (omega arith) (omega arith)
-diagnostic_low r Arriving = by_role_low r 22 21 (omega arith) (omega arith)
-diagnostic_low r Collision = omega arith
-diagnostic_low r Open = omega arith
-diagnostic_low r Resetting = omega arith
-diagnostic_low r Clearing = omega arith
+  diagnostic_low : (r : Role) (s : State) → table.diagnostic_in r s < 256
+  diagnostic_low r Free = omega arith
+  diagnostic_low r Calling = by_role_low r 21 22 (omega arith) (omega arith)
+  diagnostic_low r Arriving = by_role_low r 22 21 (omega arith) (omega arith)
+  diagnostic_low r Collision = omega arith
+  diagnostic_low r Open = omega arith
+  diagnostic_low r Resetting = omega arith
+  diagnostic_low r Clearing = omega arith
 
-clears_for_fits : (c : Settings) (x : Circuit) (cause diagnostic : ℕ) → cause < 256 → diagnostic < 256 → AnswerFits (table.clears_for c x cause diagnostic)
-clears_for_fits c x cause diagnostic p q = record { next = (tt, refl); owed = (tt, (cause_low c.role cause p, q)) }
+  clears_for_fits : (c : Settings) (x : Circuit) (cause diagnostic : ℕ) → cause < 256 → diagnostic < 256 → AnswerFits (table.clears_for c x cause diagnostic)
+  clears_for_fits c x cause diagnostic p q = record { next = (tt, refl); owed = (tt, (cause_low c.role cause p, q)) }
 
-resets_for_fits : (c : Settings) (x : Circuit) (diagnostic : ℕ) → diagnostic < 256 → CircuitFits x → AnswerFits (table.resets_for c x diagnostic)
-resets_for_fits c x diagnostic q f = record { next = (tt, f.1); owed = (tt, (cause_low c.role 5 (omega arith), q)) }
+  resets_for_fits : (c : Settings) (x : Circuit) (diagnostic : ℕ) → diagnostic < 256 → CircuitFits x → AnswerFits (table.resets_for c x diagnostic)
+  resets_for_fits c x diagnostic q f = record { next = (tt, f.1); owed = (tt, (cause_low c.role 5 (omega arith), q)) }
 
-unexpected_fits : (c : Settings) (x : Circuit) (s : State) → AnswerFits (table.unexpected c x s)
-unexpected_fits c x s = clears_for_fits c x 19 (table.diagnostic_in c.role s) (omega arith) (diagnostic_low c.role s)
+  unexpected_fits : (c : Settings) (x : Circuit) (s : State) → AnswerFits (table.unexpected c x s)
+  unexpected_fits c x s = clears_for_fits c x 19 (table.diagnostic_in c.role s) (omega arith) (diagnostic_low c.role s)
 
-ignores_fits : (x : Circuit) → CircuitFits x → AnswerFits (table.ignores x)
-ignores_fits x f = record { next = f; owed = tt }
+  ignores_fits : (x : Circuit) → CircuitFits x → AnswerFits (table.ignores x)
+  ignores_fits x f = record { next = f; owed = tt }
 
-collides_fits : (r : Role) (x : Circuit) (request : CallRequest) → CircuitFits x → may_propose request.params ≡ true → AnswerFits (table.collides r x request)
-collides_fits Dte x request f may = record { next = (tt, f.1); owed = tt }
-collides_fits Dce x request f may = record { next = (tt, may); owed = tt }
+  collides_fits : (r : Role) (x : Circuit) (request : CallRequest) → CircuitFits x → may_propose request.params ≡ true → AnswerFits (table.collides r x request)
+  collides_fits Dte x request f may = record { next = (tt, f.1); owed = tt }
+  collides_fits Dce x request f may = record { next = (tt, may); owed = tt }
 
-call_fits : (c : Settings) (x : Circuit) (s : State) (request : CallRequest) → CircuitFits x → may_propose request.params ≡ true → AnswerFits (table.row_call c x s request)
-call_fits c x Free request f may = record { next = (tt, may); owed = tt }
-call_fits c x Calling request f may = collides_fits c.role x request f may
-call_fits c x Clearing request f may = ignores_fits x f
-call_fits c x Arriving request f may = unexpected_fits c x Arriving
-call_fits c x Collision request f may = unexpected_fits c x Collision
-call_fits c x Open request f may = unexpected_fits c x Open
-call_fits c x Resetting request f may = unexpected_fits c x Resetting
+  call_fits : (c : Settings) (x : Circuit) (s : State) (request : CallRequest) → CircuitFits x → may_propose request.params ≡ true → AnswerFits (table.row_call c x s request)
+  call_fits c x Free request f may = record { next = (tt, may); owed = tt }
+  call_fits c x Calling request f may = collides_fits c.role x request f may
+  call_fits c x Clearing request f may = ignores_fits x f
+  call_fits c x Arriving request f may = unexpected_fits c x Arriving
+  call_fits c x Collision request f may = unexpected_fits c x Collision
+  call_fits c x Open request f may = unexpected_fits c x Open
+  call_fits c x Resetting request f may = unexpected_fits c x Resetting
 
-answer_if : (b : Bool) (u v : table.Answer) → AnswerFits u → AnswerFits v → AnswerFits (if b then u else v)
-answer_if true u v p q = p
-answer_if false u v p q = q
+  answer_if : (b : Bool) (u v : table.Answer) → AnswerFits u → AnswerFits v → AnswerFits (if b then u else v)
+  answer_if true u v p q = p
+  answer_if false u v p q = q
 
-connects_fits : (c : Settings) (x : Circuit) (answered : Params) → may_propose answered ≡ true → AnswerFits (table.connects c x answered)
-connects_fits c x answered may =
-    answer_if (may_answer x.params answered) (table.goes x Open answered true None (connected answered ∷ [])) (table.clears_for c x 3 66) (record { next = (tt, may); owed = tt })
-    (clears_for_fits c x 3 66 (omega arith) (omega arith))
+  connects_fits : (c : Settings) (x : Circuit) (answered : Params) → may_propose answered ≡ true → AnswerFits (table.connects c x answered)
+  connects_fits c x answered may =
+      answer_if (may_answer x.params answered) (table.goes x Open answered true None (connected answered ∷ [])) (table.clears_for c x 3 66) (record { next = (tt, may); owed = tt })
+      (clears_for_fits c x 3 66 (omega arith) (omega arith))
 
-accept_fits : Agreed → (c : Settings) (x : Circuit) (s : State) (facilities : List ℕ) → CircuitFits x → AnswerFits (table.row_accept c x s facilities)
-accept_fits laws c x Calling facilities f = connects_fits c x (said_in x.params facilities) (laws.said x.params facilities f.1)
-accept_fits laws c x Collision facilities f = connects_fits c x (said_in x.params facilities) (laws.said x.params facilities f.1)
-accept_fits laws c x Clearing facilities f = ignores_fits x f
-accept_fits laws c x Free facilities f = unexpected_fits c x Free
-accept_fits laws c x Arriving facilities f = unexpected_fits c x Arriving
-accept_fits laws c x Open facilities f = unexpected_fits c x Open
-accept_fits laws c x Resetting facilities f = unexpected_fits c x Resetting
+  accept_fits : Agreed → (c : Settings) (x : Circuit) (s : State) (facilities : List ℕ) → CircuitFits x → AnswerFits (table.row_accept c x s facilities)
+  accept_fits laws c x Calling facilities f = connects_fits c x (said_in x.params facilities) (laws.said x.params facilities f.1)
+  accept_fits laws c x Collision facilities f = connects_fits c x (said_in x.params facilities) (laws.said x.params facilities f.1)
+  accept_fits laws c x Clearing facilities f = ignores_fits x f
+  accept_fits laws c x Free facilities f = unexpected_fits c x Free
+  accept_fits laws c x Arriving facilities f = unexpected_fits c x Arriving
+  accept_fits laws c x Open facilities f = unexpected_fits c x Open
+  accept_fits laws c x Resetting facilities f = unexpected_fits c x Resetting
 
-clear_fits : (x : Circuit) (s : State) (cause diagnostic : ℕ) → AnswerFits (table.row_clear x s cause diagnostic)
-clear_fits x Free cause diagnostic = record { next = (tt, refl); owed = (tt, tt) }
-clear_fits x Clearing cause diagnostic = record { next = (tt, refl); owed = tt }
-clear_fits x Calling cause diagnostic = record { next = (tt, refl); owed = (tt, tt) }
-clear_fits x Arriving cause diagnostic = record { next = (tt, refl); owed = (tt, tt) }
-clear_fits x Collision cause diagnostic = record { next = (tt, refl); owed = (tt, tt) }
-clear_fits x Open cause diagnostic = record { next = (tt, refl); owed = (tt, tt) }
-clear_fits x Resetting cause diagnostic = record { next = (tt, refl); owed = (tt, tt) }
+  clear_fits : (x : Circuit) (s : State) (cause diagnostic : ℕ) → AnswerFits (table.row_clear x s cause diagnostic)
+  clear_fits x Free cause diagnostic = record { next = (tt, refl); owed = (tt, tt) }
+  clear_fits x Clearing cause diagnostic = record { next = (tt, refl); owed = tt }
+  clear_fits x Calling cause diagnostic = record { next = (tt, refl); owed = (tt, tt) }
+  clear_fits x Arriving cause diagnostic = record { next = (tt, refl); owed = (tt, tt) }
+  clear_fits x Collision cause diagnostic = record { next = (tt, refl); owed = (tt, tt) }
+  clear_fits x Open cause diagnostic = record { next = (tt, refl); owed = (tt, tt) }
+  clear_fits x Resetting cause diagnostic = record { next = (tt, refl); owed = (tt, tt) }
 
-clear_conf_fits : (c : Settings) (x : Circuit) (s : State) → AnswerFits (table.row_clear_conf c x s)
-clear_conf_fits c x Clearing = record { next = (tt, refl); owed = tt }
-clear_conf_fits c x Free = unexpected_fits c x Free
-clear_conf_fits c x Calling = unexpected_fits c x Calling
-clear_conf_fits c x Arriving = unexpected_fits c x Arriving
-clear_conf_fits c x Collision = unexpected_fits c x Collision
-clear_conf_fits c x Open = unexpected_fits c x Open
-clear_conf_fits c x Resetting = unexpected_fits c x Resetting
+  clear_conf_fits : (c : Settings) (x : Circuit) (s : State) → AnswerFits (table.row_clear_conf c x s)
+  clear_conf_fits c x Clearing = record { next = (tt, refl); owed = tt }
+  clear_conf_fits c x Free = unexpected_fits c x Free
+  clear_conf_fits c x Calling = unexpected_fits c x Calling
+  clear_conf_fits c x Arriving = unexpected_fits c x Arriving
+  clear_conf_fits c x Collision = unexpected_fits c x Collision
+  clear_conf_fits c x Open = unexpected_fits c x Open
+  clear_conf_fits c x Resetting = unexpected_fits c x Resetting
 
-reset_fits : (c : Settings) (x : Circuit) (s : State) (cause diagnostic : ℕ) → CircuitFits x → AnswerFits (table.row_reset c x s cause diagnostic)
-reset_fits c x Open cause diagnostic f = record { next = (tt, f.1); owed = (tt, tt) }
-reset_fits c x Resetting cause diagnostic f = record { next = (tt, f.1); owed = tt }
-reset_fits c x Clearing cause diagnostic f = ignores_fits x f
-reset_fits c x Free cause diagnostic f = unexpected_fits c x Free
-reset_fits c x Calling cause diagnostic f = unexpected_fits c x Calling
-reset_fits c x Arriving cause diagnostic f = unexpected_fits c x Arriving
-reset_fits c x Collision cause diagnostic f = unexpected_fits c x Collision
+  reset_fits : (c : Settings) (x : Circuit) (s : State) (cause diagnostic : ℕ) → CircuitFits x → AnswerFits (table.row_reset c x s cause diagnostic)
+  reset_fits c x Open cause diagnostic f = record { next = (tt, f.1); owed = (tt, tt) }
+  reset_fits c x Resetting cause diagnostic f = record { next = (tt, f.1); owed = tt }
+  reset_fits c x Clearing cause diagnostic f = ignores_fits x f
+  reset_fits c x Free cause diagnostic f = unexpected_fits c x Free
+  reset_fits c x Calling cause diagnostic f = unexpected_fits c x Calling
+  reset_fits c x Arriving cause diagnostic f = unexpected_fits c x Arriving
+  reset_fits c x Collision cause diagnostic f = unexpected_fits c x Collision
 
-reset_conf_fits : (c : Settings) (x : Circuit) (s : State) → CircuitFits x → AnswerFits (table.row_reset_conf c x s)
-reset_conf_fits c x Open f = resets_for_fits c x 27 (omega arith) f
-reset_conf_fits c x Resetting f = record { next = (tt, f.1); owed = tt }
-reset_conf_fits c x Clearing f = ignores_fits x f
-reset_conf_fits c x Free f = unexpected_fits c x Free
-reset_conf_fits c x Calling f = unexpected_fits c x Calling
-reset_conf_fits c x Arriving f = unexpected_fits c x Arriving
-reset_conf_fits c x Collision f = unexpected_fits c x Collision
+  reset_conf_fits : (c : Settings) (x : Circuit) (s : State) → CircuitFits x → AnswerFits (table.row_reset_conf c x s)
+  reset_conf_fits c x Open f = resets_for_fits c x 27 (omega arith) f
+  reset_conf_fits c x Resetting f = record { next = (tt, f.1); owed = tt }
+  reset_conf_fits c x Clearing f = ignores_fits x f
+  reset_conf_fits c x Free f = unexpected_fits c x Free
+  reset_conf_fits c x Calling f = unexpected_fits c x Calling
+  reset_conf_fits c x Arriving f = unexpected_fits c x Arriving
+  reset_conf_fits c x Collision f = unexpected_fits c x Collision
 
--- a ground is 1, 2, 39 or 83
+  -- a ground is 1, 2, 39 or 83
 
-abbrev LowGround : Option ℕ → Type 0
-LowGround None = Unit {0}
-LowGround (Some n) = n < 256
+  abbrev LowGround : Option ℕ → Type 0
+  LowGround None = Unit {0}
+  LowGround (Some n) = n < 256
 
-ground_if : (b : Bool) (u v : Option ℕ) → LowGround u → LowGround v → LowGround (if b then u else v)
-ground_if true u v p q = p
-ground_if false u v p q = q
+  ground_if : (b : Bool) (u v : Option ℕ) → LowGround u → LowGround v → LowGround (if b then u else v)
+  ground_if true u v p q = p
+  ground_if false u v p q = q
 
-unless_fits : (c : Settings) (x : Circuit) (o : Option ℕ) (a : table.Answer) → LowGround o → CircuitFits x → AnswerFits a → AnswerFits (table.unless c x o a)
-unless_fits c x None a low g f = f
-unless_fits c x (Some n) a low g f = resets_for_fits c x n low g
+  unless_fits : (c : Settings) (x : Circuit) (o : Option ℕ) (a : table.Answer) → LowGround o → CircuitFits x → AnswerFits a → AnswerFits (table.unless c x o a)
+  unless_fits c x None a low g f = f
+  unless_fits c x (Some n) a low g f = resets_for_fits c x n low g
 
-mod_low : (n : ℕ) → n % 8 < 8
-mod_low n = omega arith
+  mod_low : (n : ℕ) → n % 8 < 8
+  mod_low n = omega arith
 
-status_gives : (b : Bool) (n : ℕ) → MayGive (Some (table.status b n))
-status_gives true n = (tt, mod_low n)
-status_gives false n = (tt, mod_low n)
+  status_gives : (b : Bool) (n : ℕ) → MayGive (Some (table.status b n))
+  status_gives true n = (tt, mod_low n)
+  status_gives false n = (tt, mod_low n)
 
-confirms_fits : (c : Settings) (x : Circuit) (b : Bool) → CircuitFits x → AnswerFits (table.confirms c x x.talk b)
-confirms_fits c x true f = record { next = f; owed = tt }
-confirms_fits c x false f = resets_for_fits c x 43 (omega arith) f
+  confirms_fits : (c : Settings) (x : Circuit) (b : Bool) → CircuitFits x → AnswerFits (table.confirms c x x.talk b)
+  confirms_fits c x true f = record { next = f; owed = tt }
+  confirms_fits c x false f = resets_for_fits c x 43 (omega arith) f
 
-number_low : (t : Talk) (pr : ℕ) → LowGround (table.number_ground t pr)
-number_low t pr = ground_if _ None (Some 2) tt (omega arith)
+  number_low : (t : Talk) (pr : ℕ) → LowGround (table.number_ground t pr)
+  number_low t pr = ground_if _ None (Some 2) tt (omega arith)
 
-ground_low : (size : ℕ) (j : Partial) (n : ℕ) (q : Bool) → LowGround (ground_of size j n q)
-ground_low size j n q =
-    ground_if (nat_le n size) (if nat_le (length j.user + n) 65535 then (if may_have_q j.begun q then None else Some 83) else Some 39) (Some 39)
-    (ground_if (nat_le (length j.user + n) 65535) (if may_have_q j.begun q then None else Some 83) (Some 39) (ground_if (may_have_q j.begun q) None (Some 83) tt (omega arith)) (omega arith))
-    (omega arith)
+  ground_low : (size : ℕ) (j : Partial) (n : ℕ) (q : Bool) → LowGround (ground_of size j n q)
+  ground_low size j n q =
+      ground_if (nat_le n size) (if nat_le (length j.user + n) 65535 then (if may_have_q j.begun q then None else Some 83) else Some 39) (Some 39)
+      (ground_if (nat_le (length j.user + n) 65535) (if may_have_q j.begun q then None else Some 83) (Some 39) (ground_if (may_have_q j.begun q) None (Some 83) tt (omega arith)) (omega arith))
+      (omega arith)
 
-data_low : (size : ℕ) (t : Talk) (ps pr : ℕ) (piece : Piece) → LowGround (table.data_ground size t ps pr piece)
-data_low size t ps pr piece =
-    ground_if (nat_le (resolved t.acked pr) (length t.sent)) (if ps == length t.taken % 8 then piece_ground size (joining no_part t.taken) piece else Some 1) (Some 2)
-    (ground_if (ps == length t.taken % 8) (piece_ground size (joining no_part t.taken) piece) (Some 1) (ground_low size (joining no_part t.taken) (length (user_of piece)) (q_of piece)) (omega arith))
-    (omega arith)
+  data_low : (size : ℕ) (t : Talk) (ps pr : ℕ) (piece : Piece) → LowGround (table.data_ground size t ps pr piece)
+  data_low size t ps pr piece =
+      ground_if (nat_le (resolved t.acked pr) (length t.sent)) (if ps == length t.taken % 8 then piece_ground size (joining no_part t.taken) piece else Some 1) (Some 2)
+      (ground_if (ps == length t.taken % 8) (piece_ground size (joining no_part t.taken) piece) (Some 1) (ground_low size (joining no_part t.taken) (length (user_of piece)) (q_of piece)) (omega arith))
+      (omega arith)
 
-open_fits : (c : Settings) (x : Circuit) (p : PlainPacket) → CircuitFits x → AnswerFits (table.row_open c x x.talk p)
-open_fits c x (user_data h q m ps pr user) f =
-    unless_fits c x (table.data_ground (incoming x).size x.talk ps pr (piece_of q m user)) (table.takes x x.talk pr (piece_of q m user)) (data_low (incoming x).size x.talk ps pr (piece_of q m user)) f
-    (record { next = f; owed = status_gives x.talk.own_ready (length x.talk.taken + 1) })
-open_fits c x (rr h pr) f = unless_fits c x (table.number_ground x.talk pr) (table.hears_status x x.talk true pr) (number_low x.talk pr) f (record { next = f; owed = tt })
-open_fits c x (rnr h pr) f = unless_fits c x (table.number_ground x.talk pr) (table.hears_status x x.talk false pr) (number_low x.talk pr) f (record { next = f; owed = tt })
-open_fits c x (interrupt h user) f = record { next = f; owed = (tt, tt) }
-open_fits c x (interrupt_conf h) f = confirms_fits c x x.talk.int_out f
-open_fits c x (call h called calling facilities user) f = ignores_fits x f
-open_fits c x (accept h facilities) f = ignores_fits x f
-open_fits c x (clear h cause diagnostic) f = ignores_fits x f
-open_fits c x (clear_conf h) f = ignores_fits x f
-open_fits c x (reset h cause diagnostic) f = ignores_fits x f
-open_fits c x (reset_conf h) f = ignores_fits x f
-open_fits c x (restart cause diagnostic) f = ignores_fits x f
-open_fits c x restart_conf f = ignores_fits x f
+  open_fits : (c : Settings) (x : Circuit) (p : PlainPacket) → CircuitFits x → AnswerFits (table.row_open c x x.talk p)
+  open_fits c x (user_data h q m ps pr user) f =
+      unless_fits c x (table.data_ground (incoming x).size x.talk ps pr (piece_of q m user)) (table.takes x x.talk pr (piece_of q m user)) (data_low (incoming x).size x.talk ps pr (piece_of q m user)) f
+      (record { next = f; owed = status_gives x.talk.own_ready (length x.talk.taken + 1) })
+  open_fits c x (rr h pr) f = unless_fits c x (table.number_ground x.talk pr) (table.hears_status x x.talk true pr) (number_low x.talk pr) f (record { next = f; owed = tt })
+  open_fits c x (rnr h pr) f = unless_fits c x (table.number_ground x.talk pr) (table.hears_status x x.talk false pr) (number_low x.talk pr) f (record { next = f; owed = tt })
+  open_fits c x (interrupt h user) f = record { next = f; owed = (tt, tt) }
+  open_fits c x (interrupt_conf h) f = confirms_fits c x x.talk.int_out f
+  open_fits c x (call h called calling facilities user) f = ignores_fits x f
+  open_fits c x (accept h facilities) f = ignores_fits x f
+  open_fits c x (clear h cause diagnostic) f = ignores_fits x f
+  open_fits c x (clear_conf h) f = ignores_fits x f
+  open_fits c x (reset h cause diagnostic) f = ignores_fits x f
+  open_fits c x (reset_conf h) f = ignores_fits x f
+  open_fits c x (restart cause diagnostic) f = ignores_fits x f
+  open_fits c x restart_conf f = ignores_fits x f
 
-data_fits : (c : Settings) (x : Circuit) (s : State) (p : PlainPacket) → CircuitFits x → AnswerFits (table.row_data c x s p)
-data_fits c x Open p f = open_fits c x p f
-data_fits c x Resetting p f = ignores_fits x f
-data_fits c x Clearing p f = ignores_fits x f
-data_fits c x Free p f = unexpected_fits c x Free
-data_fits c x Calling p f = unexpected_fits c x Calling
-data_fits c x Arriving p f = unexpected_fits c x Arriving
-data_fits c x Collision p f = unexpected_fits c x Collision
+  data_fits : (c : Settings) (x : Circuit) (s : State) (p : PlainPacket) → CircuitFits x → AnswerFits (table.row_data c x s p)
+  data_fits c x Open p f = open_fits c x p f
+  data_fits c x Resetting p f = ignores_fits x f
+  data_fits c x Clearing p f = ignores_fits x f
+  data_fits c x Free p f = unexpected_fits c x Free
+  data_fits c x Calling p f = unexpected_fits c x Calling
+  data_fits c x Arriving p f = unexpected_fits c x Arriving
+  data_fits c x Collision p f = unexpected_fits c x Collision
 
-pub answers_fit : Agreed → (c : Settings) (x : Circuit) (p : PlainPacket) → CircuitFits x → AnswerFits (table.answers c x p)
-answers_fit laws c x (call h called calling facilities user) f = call_fits c x x.state (table.request_in called calling facilities user) f (laws.said default_params facilities refl)
-answers_fit laws c x (accept h facilities) f = accept_fits laws c x x.state facilities f
-answers_fit laws c x (clear h cause diagnostic) f = clear_fits x x.state cause diagnostic
-answers_fit laws c x (clear_conf h) f = clear_conf_fits c x x.state
-answers_fit laws c x (reset h cause diagnostic) f = reset_fits c x x.state cause diagnostic f
-answers_fit laws c x (reset_conf h) f = reset_conf_fits c x x.state f
-answers_fit laws c x (restart cause diagnostic) f = ignores_fits x f
-answers_fit laws c x restart_conf f = ignores_fits x f
-answers_fit laws c x (user_data h q m ps pr user) f = data_fits c x x.state (user_data h q m ps pr user) f
-answers_fit laws c x (rr h pr) f = data_fits c x x.state (rr h pr) f
-answers_fit laws c x (rnr h pr) f = data_fits c x x.state (rnr h pr) f
-answers_fit laws c x (interrupt h user) f = data_fits c x x.state (interrupt h user) f
-answers_fit laws c x (interrupt_conf h) f = data_fits c x x.state (interrupt_conf h) f
+  pub answers_fit : Agreed → (c : Settings) (x : Circuit) (p : PlainPacket) → CircuitFits x → AnswerFits (table.answers c x p)
+  answers_fit laws c x (call h called calling facilities user) f = call_fits c x x.state (table.request_in called calling facilities user) f (laws.said default_params facilities refl)
+  answers_fit laws c x (accept h facilities) f = accept_fits laws c x x.state facilities f
+  answers_fit laws c x (clear h cause diagnostic) f = clear_fits x x.state cause diagnostic
+  answers_fit laws c x (clear_conf h) f = clear_conf_fits c x x.state
+  answers_fit laws c x (reset h cause diagnostic) f = reset_fits c x x.state cause diagnostic f
+  answers_fit laws c x (reset_conf h) f = reset_conf_fits c x x.state f
+  answers_fit laws c x (restart cause diagnostic) f = ignores_fits x f
+  answers_fit laws c x restart_conf f = ignores_fits x f
+  answers_fit laws c x (user_data h q m ps pr user) f = data_fits c x x.state (user_data h q m ps pr user) f
+  answers_fit laws c x (rr h pr) f = data_fits c x x.state (rr h pr) f
+  answers_fit laws c x (rnr h pr) f = data_fits c x x.state (rnr h pr) f
+  answers_fit laws c x (interrupt h user) f = data_fits c x x.state (interrupt h user) f
+  answers_fit laws c x (interrupt_conf h) f = data_fits c x x.state (interrupt_conf h) f
 
--- ---- calls of the user
+  -- ---- calls of the user
 
-abbrev pub OutcomeFits : Outcome → Type 0
-OutcomeFits (Done next packet) = CircuitFits next × MayGive packet
-OutcomeFits (Refused e) = Unit {0}
+  abbrev pub OutcomeFits : Outcome → Type 0
+  OutcomeFits (Done next packet) = CircuitFits next × MayGive packet
+  OutcomeFits (Refused e) = Unit {0}
 
-outcome_if : (b : Bool) (u v : Outcome) → (b ≡ true → OutcomeFits u) → OutcomeFits v → OutcomeFits (if b then u else v)
-outcome_if true u v p q = p refl
-outcome_if false u v p q = q
+  outcome_if : (b : Bool) (u v : Outcome) → (b ≡ true → OutcomeFits u) → OutcomeFits v → OutcomeFits (if b then u else v)
+  outcome_if true u v p q = p refl
+  outcome_if false u v p q = q
 
-digits_low : (text : List ℕ) → list_all is_figure text ≡ true → list_all is_digit (digits_of_text text) ≡ true
-digits_low [] all = refl
-digits_low (a ∷ text) all =
-    let parts = and_parts (is_figure a) (list_all is_figure text) all in
-    let most : a ≤ 57 = leb-true a 57 (and_parts (nat_le 48 a) (nat_le a 57) parts.0).1 in
-    let low : a - 48 ≤ 9 = omega (arith, most) in
-    and_from (is_digit (a - 48)) (list_all is_digit (digits_of_text text)) (le-leb (a - 48) 9 low) (digits_low text parts.1)
+  digits_low : (text : List ℕ) → list_all is_figure text ≡ true → list_all is_digit (digits_of_text text) ≡ true
+  digits_low [] all = refl
+  digits_low (a ∷ text) all =
+      let parts = and_parts (is_figure a) (list_all is_figure text) all in
+      let most : a ≤ 57 = leb-true a 57 (and_parts (nat_le 48 a) (nat_le a 57) parts.0).1 in
+      let low : a - 48 ≤ 9 = omega (arith, most) in
+      and_from (is_digit (a - 48)) (list_all is_digit (digits_of_text text)) (le-leb (a - 48) 9 low) (digits_low text parts.1)
 
-address_fits : (text : List ℕ) → is_address_text text ≡ true → IsAddress (digits_of_text text)
-address_fits text is =
-    let parts = and_parts (nat_le (length text) 15) (list_all is_figure text) is in
-    let short : length text ≤ 15 = leb-true (length text) 15 parts.0 in
-    record { short = subst (λ (n : ℕ). n ≤ 15) (sym (length-map text (λ c. c - 48))) short; decimal = digits_low text parts.1 }
+  address_fits : (text : List ℕ) → is_address_text text ≡ true → IsAddress (digits_of_text text)
+  address_fits text is =
+      let parts = and_parts (nat_le (length text) 15) (list_all is_figure text) is in
+      let short : length text ≤ 15 = leb-true (length text) 15 parts.0 in
+      record { short = subst (λ (n : ℕ). n ≤ 15) (sym (length-map text (λ c. c - 48))) short; decimal = digits_low text parts.1 }
 
-call_in_fits : Agreed → (x : Circuit) (s : State) (called calling user : List ℕ) (params : Params) → AreOctets user → OutcomeFits (call_in x s called calling user params)
-call_in_fits laws x Free called calling user params octets = outcome_if (may_call called calling user params) (does x Calling params true (call_sent (request_of called calling user params))) (Refused error.BadParameter) fits tt
-  where
-    fits : may_call called calling user params ≡ true → OutcomeFits (does x Calling params true (call_sent (request_of called calling user params)))
-    fits is =
-        let parts = and_parts (is_address_text called) (is_address_text calling && (nat_le (length user) 16 && may_propose params)) is in
-        let more = and_parts (is_address_text calling) (nat_le (length user) 16 && may_propose params) parts.1 in
-        let last = and_parts (nat_le (length user) 16) (may_propose params) more.1 in
-        ((tt, last.1), (tt, (address_fits called parts.0, address_fits calling more.0, laws.field default_params params last.1, leb-true (length user) 16 last.0, octets)))
-call_in_fits laws x Calling called calling user params octets = tt
-call_in_fits laws x Arriving called calling user params octets = tt
-call_in_fits laws x Collision called calling user params octets = tt
-call_in_fits laws x Open called calling user params octets = tt
-call_in_fits laws x Resetting called calling user params octets = tt
-call_in_fits laws x Clearing called calling user params octets = tt
+  call_in_fits : Agreed → (c : Settings) → c.long_data ≡ long_data → (x : Circuit) (s : State) (called calling user : List ℕ) (params : Params) → AreOctets user → OutcomeFits (call_in c x s called calling user params)
+  call_in_fits laws c same x Free called calling user params octets = outcome_if (may_call c.long_data called calling user params) (does x Calling params true (call_sent (request_of called calling user params))) (Refused error.BadParameter) fits tt
+    where
+      fits : may_call c.long_data called calling user params ≡ true → OutcomeFits (does x Calling params true (call_sent (request_of called calling user params)))
+      fits is =
+          let parts = and_parts (is_address_text called) (is_address_text calling && (nat_le (length user) (longest_user c.long_data) && may_propose params)) is in
+          let more = and_parts (is_address_text calling) (nat_le (length user) (longest_user c.long_data) && may_propose params) parts.1 in
+          let last = and_parts (nat_le (length user) (longest_user c.long_data)) (may_propose params) more.1 in
+          ((tt, last.1), (tt, (address_fits called parts.0, address_fits calling more.0, laws.field default_params params last.1, subst (λ (b : Bool). length user ≤ longest_user b) same (leb-true (length user) (longest_user c.long_data) last.0), octets)))
+  call_in_fits laws c same x Calling called calling user params octets = tt
+  call_in_fits laws c same x Arriving called calling user params octets = tt
+  call_in_fits laws c same x Collision called calling user params octets = tt
+  call_in_fits laws c same x Open called calling user params octets = tt
+  call_in_fits laws c same x Resetting called calling user params octets = tt
+  call_in_fits laws c same x Clearing called calling user params octets = tt
 
-no_field : IsFacilityField []
-no_field = (record { packet_size = None; window_size = None }, record { sizes = tt; windows = tt }, refl)
+  no_field : IsFacilityField []
+  no_field = (record { packet_size = None; window_size = None }, record { sizes = tt; windows = tt }, refl)
 
-accept_with_fits : Agreed → (x : Circuit) (answer : Option Params) → CircuitFits x → OutcomeFits (accept_with x answer)
-accept_with_fits laws x None f = ((tt, f.1), (tt, no_field))
-accept_with_fits laws x (Some answer) f = outcome_if (may_answer x.params answer) (does x Open answer false (accept 1 (field_for x.params answer))) (Refused error.BadParameter) fits tt
-  where
-    fits : may_answer x.params answer ≡ true → OutcomeFits (does x Open answer false (accept 1 (field_for x.params answer)))
-    fits is =
-        let may = laws.answer x.params answer f.1 is in
-        ((tt, may), (tt, laws.field x.params answer may))
+  accept_with_fits : Agreed → (x : Circuit) (answer : Option Params) → CircuitFits x → OutcomeFits (accept_with x answer)
+  accept_with_fits laws x None f = ((tt, f.1), (tt, no_field))
+  accept_with_fits laws x (Some answer) f = outcome_if (may_answer x.params answer) (does x Open answer false (accept 1 (field_for x.params answer))) (Refused error.BadParameter) fits tt
+    where
+      fits : may_answer x.params answer ≡ true → OutcomeFits (does x Open answer false (accept 1 (field_for x.params answer)))
+      fits is =
+          let may = laws.answer x.params answer f.1 is in
+          ((tt, may), (tt, laws.field x.params answer may))
 
-accept_in_fits : Agreed → (x : Circuit) (s : State) (answer : Option Params) → CircuitFits x → OutcomeFits (accept_in x s answer)
-accept_in_fits laws x Arriving answer f = accept_with_fits laws x answer f
-accept_in_fits laws x Free answer f = tt
-accept_in_fits laws x Calling answer f = tt
-accept_in_fits laws x Collision answer f = tt
-accept_in_fits laws x Open answer f = tt
-accept_in_fits laws x Resetting answer f = tt
-accept_in_fits laws x Clearing answer f = tt
+  accept_in_fits : Agreed → (x : Circuit) (s : State) (answer : Option Params) → CircuitFits x → OutcomeFits (accept_in x s answer)
+  accept_in_fits laws x Arriving answer f = accept_with_fits laws x answer f
+  accept_in_fits laws x Free answer f = tt
+  accept_in_fits laws x Calling answer f = tt
+  accept_in_fits laws x Collision answer f = tt
+  accept_in_fits laws x Open answer f = tt
+  accept_in_fits laws x Resetting answer f = tt
+  accept_in_fits laws x Clearing answer f = tt
 
-zeros : (0 < 256) × (0 < 256)
-zeros = (omega arith, omega arith)
+  zeros : (0 < 256) × (0 < 256)
+  zeros = (omega arith, omega arith)
 
-clear_in_fits : (x : Circuit) (s : State) → OutcomeFits (clear_in x s)
-clear_in_fits x Free = tt
-clear_in_fits x Clearing = tt
-clear_in_fits x Calling = ((tt, refl), (tt, zeros))
-clear_in_fits x Arriving = ((tt, refl), (tt, zeros))
-clear_in_fits x Collision = ((tt, refl), (tt, zeros))
-clear_in_fits x Open = ((tt, refl), (tt, zeros))
-clear_in_fits x Resetting = ((tt, refl), (tt, zeros))
+  clear_in_fits : (x : Circuit) (s : State) → OutcomeFits (clear_in x s)
+  clear_in_fits x Free = tt
+  clear_in_fits x Clearing = tt
+  clear_in_fits x Calling = ((tt, refl), (tt, zeros))
+  clear_in_fits x Arriving = ((tt, refl), (tt, zeros))
+  clear_in_fits x Collision = ((tt, refl), (tt, zeros))
+  clear_in_fits x Open = ((tt, refl), (tt, zeros))
+  clear_in_fits x Resetting = ((tt, refl), (tt, zeros))
 
--- of the data packets that an end sends
-outgoing_is : (x : Circuit) → AreTerms (called_terms x.params) × AreTerms (calling_terms x.params) → AreTerms (outgoing x)
-outgoing_is x both = test x.calls
-  where
-    test : (b : Bool) → AreTerms (if b then calling_terms x.params else called_terms x.params)
-    test true = both.1
-    test false = both.0
+  -- of the data packets that an end sends
+  outgoing_is : (x : Circuit) → AreTerms (called_terms x.params) × AreTerms (calling_terms x.params) → AreTerms (outgoing x)
+  outgoing_is x both = test x.calls
+    where
+      test : (b : Bool) → AreTerms (if b then calling_terms x.params else called_terms x.params)
+      test true = both.1
+      test false = both.0
 
-send_in_fits : Agreed → (c : Settings) (x : Circuit) (s : State) (q : Bool) (user : List ℕ) → CircuitFits x → AreOctets user → OutcomeFits (send_in c x s q user)
-send_in_fits laws c x Open q user f octets =
-    outcome_if (nat_le (length user) 65535) _ (Refused error.TooLong) (λ _. outcome_if (nat_lt (waits x) 8) _ (Refused error.Full) (λ _. ((cut_append x.talk.rest (cut (outgoing x).size q user) f.0 cut_fits, f.1), tt)) tt) tt
-  where
-    cut_fits : AreCut (cut (outgoing x).size q user)
-    cut_fits =
-        let are = outgoing_is x (laws.terms x.params f.1) in
-        cut_from_fits (outgoing x).size (length user) q user (omega (arith, are.size_least)) are.size_most (omega arith) octets
-send_in_fits laws c x Free q user f octets = tt
-send_in_fits laws c x Calling q user f octets = tt
-send_in_fits laws c x Arriving q user f octets = tt
-send_in_fits laws c x Collision q user f octets = tt
-send_in_fits laws c x Resetting q user f octets = tt
-send_in_fits laws c x Clearing q user f octets = tt
+  send_in_fits : Agreed → (c : Settings) (x : Circuit) (s : State) (q : Bool) (user : List ℕ) → CircuitFits x → AreOctets user → OutcomeFits (send_in c x s q user)
+  send_in_fits laws c x Open q user f octets =
+      outcome_if (nat_le (length user) 65535) _ (Refused error.TooLong) (λ _. outcome_if (nat_lt (waits x) 8) _ (Refused error.Full) (λ _. ((cut_append x.talk.rest (cut (outgoing x).size q user) f.0 cut_fits, f.1), tt)) tt) tt
+    where
+      cut_fits : AreCut (cut (outgoing x).size q user)
+      cut_fits =
+          let are = outgoing_is x (laws.terms x.params f.1) in
+          cut_from_fits (outgoing x).size (length user) q user (omega (arith, are.size_least)) are.size_most (omega arith) octets
+  send_in_fits laws c x Free q user f octets = tt
+  send_in_fits laws c x Calling q user f octets = tt
+  send_in_fits laws c x Arriving q user f octets = tt
+  send_in_fits laws c x Collision q user f octets = tt
+  send_in_fits laws c x Resetting q user f octets = tt
+  send_in_fits laws c x Clearing q user f octets = tt
 
-int_if : (b : Bool) (u : Outcome) → OutcomeFits u → OutcomeFits (if b then Refused error.InterruptOutstanding else u)
-int_if true u f = tt
-int_if false u f = f
+  int_if : (b : Bool) (u : Outcome) → OutcomeFits u → OutcomeFits (if b then Refused error.InterruptOutstanding else u)
+  int_if true u f = tt
+  int_if false u f = f
 
-interrupt_in_fits : (x : Circuit) (s : State) (user : List ℕ) → CircuitFits x → AreOctets user → OutcomeFits (interrupt_in x s user)
-interrupt_in_fits x Open user f octets = outcome_if (nat_le 1 (length user) && nat_le (length user) 32) _ (Refused error.BadParameter) (λ is. int_if x.talk.int_out _ (fits is)) tt
-  where
-    fits : (nat_le 1 (length user) && nat_le (length user) 32) ≡ true → CircuitFits x × MayGive (Some (interrupt 1 user))
-    fits is =
-        let parts = and_parts (nat_le 1 (length user)) (nat_le (length user) 32) is in
-        (f, (tt, (leb-true 1 (length user) parts.0, leb-true (length user) 32 parts.1, octets)))
-interrupt_in_fits x Free user f octets = tt
-interrupt_in_fits x Calling user f octets = tt
-interrupt_in_fits x Arriving user f octets = tt
-interrupt_in_fits x Collision user f octets = tt
-interrupt_in_fits x Resetting user f octets = tt
-interrupt_in_fits x Clearing user f octets = tt
+  interrupt_in_fits : (x : Circuit) (s : State) (user : List ℕ) → CircuitFits x → AreOctets user → OutcomeFits (interrupt_in x s user)
+  interrupt_in_fits x Open user f octets = outcome_if (nat_le 1 (length user) && nat_le (length user) 32) _ (Refused error.BadParameter) (λ is. int_if x.talk.int_out _ (fits is)) tt
+    where
+      fits : (nat_le 1 (length user) && nat_le (length user) 32) ≡ true → CircuitFits x × MayGive (Some (interrupt 1 user))
+      fits is =
+          let parts = and_parts (nat_le 1 (length user)) (nat_le (length user) 32) is in
+          (f, (tt, (leb-true 1 (length user) parts.0, leb-true (length user) 32 parts.1, octets)))
+  interrupt_in_fits x Free user f octets = tt
+  interrupt_in_fits x Calling user f octets = tt
+  interrupt_in_fits x Arriving user f octets = tt
+  interrupt_in_fits x Collision user f octets = tt
+  interrupt_in_fits x Resetting user f octets = tt
+  interrupt_in_fits x Clearing user f octets = tt
 
-reset_in_fits : (x : Circuit) (s : State) → CircuitFits x → OutcomeFits (reset_in x s)
-reset_in_fits x Open f = ((tt, f.1), (tt, zeros))
-reset_in_fits x Free f = tt
-reset_in_fits x Calling f = tt
-reset_in_fits x Arriving f = tt
-reset_in_fits x Collision f = tt
-reset_in_fits x Resetting f = tt
-reset_in_fits x Clearing f = tt
+  reset_in_fits : (x : Circuit) (s : State) → CircuitFits x → OutcomeFits (reset_in x s)
+  reset_in_fits x Open f = ((tt, f.1), (tt, zeros))
+  reset_in_fits x Free f = tt
+  reset_in_fits x Calling f = tt
+  reset_in_fits x Arriving f = tt
+  reset_in_fits x Collision f = tt
+  reset_in_fits x Resetting f = tt
+  reset_in_fits x Clearing f = tt
 
-ready_in_fits : (x : Circuit) (s : State) (b : Bool) → CircuitFits x → OutcomeFits (ready_in x s b)
-ready_in_fits x Open b f = (f, status_gives b (length x.talk.taken))
-ready_in_fits x Free b f = tt
-ready_in_fits x Calling b f = tt
-ready_in_fits x Arriving b f = tt
-ready_in_fits x Collision b f = tt
-ready_in_fits x Resetting b f = tt
-ready_in_fits x Clearing b f = tt
+  ready_in_fits : (x : Circuit) (s : State) (b : Bool) → CircuitFits x → OutcomeFits (ready_in x s b)
+  ready_in_fits x Open b f = (f, status_gives b (length x.talk.taken))
+  ready_in_fits x Free b f = tt
+  ready_in_fits x Calling b f = tt
+  ready_in_fits x Arriving b f = tt
+  ready_in_fits x Collision b f = tt
+  ready_in_fits x Resetting b f = tt
+  ready_in_fits x Clearing b f = tt
 
-pub outcome_fits : Agreed → (c : Settings) (x : Circuit) (request : Request) → CircuitFits x → AsksOctets request → OutcomeFits (outcome c x request)
-outcome_fits laws c x (Calls called calling user params) f octets = call_in_fits laws x x.state called calling user params octets
-outcome_fits laws c x (Accepts answer) f octets = accept_in_fits laws x x.state answer f
-outcome_fits laws c x Clears f octets = clear_in_fits x x.state
-outcome_fits laws c x (Sends q user) f octets = send_in_fits laws c x x.state q user f octets
-outcome_fits laws c x (Interrupts user) f octets = interrupt_in_fits x x.state user f octets
-outcome_fits laws c x Resets f octets = reset_in_fits x x.state f
-outcome_fits laws c x SaysReady f octets = ready_in_fits x x.state true f
-outcome_fits laws c x SaysNotReady f octets = ready_in_fits x x.state false f
+  pub outcome_fits : Agreed → (c : Settings) → c.long_data ≡ long_data → (x : Circuit) (request : Request) → CircuitFits x → AsksOctets request → OutcomeFits (outcome c x request)
+  outcome_fits laws c same x (Calls called calling user params) f octets = call_in_fits laws c same x x.state called calling user params octets
+  outcome_fits laws c same x (Accepts answer) f octets = accept_in_fits laws x x.state answer f
+  outcome_fits laws c same x Clears f octets = clear_in_fits x x.state
+  outcome_fits laws c same x (Sends q user) f octets = send_in_fits laws c x x.state q user f octets
+  outcome_fits laws c same x (Interrupts user) f octets = interrupt_in_fits x x.state user f octets
+  outcome_fits laws c same x Resets f octets = reset_in_fits x x.state f
+  outcome_fits laws c same x SaysReady f octets = ready_in_fits x x.state true f
+  outcome_fits laws c same x SaysNotReady f octets = ready_in_fits x x.state false f
 
--- ---- pulls
+  -- ---- pulls
 
-pub record PulledFits (p : Pulled) : Type 0 where
-  pub next : CircuitFits p.next
-  pub packet : MayGive p.packet
+  pub record PulledFits (p : Pulled) : Type 0 where
+    pub next : CircuitFits p.next
+    pub packet : MayGive p.packet
 
-data_gives : (ps pr : ℕ) (piece : Piece) → PieceFits piece → MayGive (Some (data_packet (ps % 8) (pr % 8) piece))
-data_gives ps pr (More q user) f = (tt, (mod_low ps, mod_low pr, f.0, f.1))
-data_gives ps pr (Last q user) f = (tt, (mod_low ps, mod_low pr, f.0, f.1))
+  data_gives : (ps pr : ℕ) (piece : Piece) → PieceFits piece → MayGive (Some (data_packet (ps % 8) (pr % 8) piece))
+  data_gives ps pr (More q user) f = (tt, (mod_low ps, mod_low pr, f.0, f.1))
+  data_gives ps pr (Last q user) f = (tt, (mod_low ps, mod_low pr, f.0, f.1))
 
-pulled_if : (b : Bool) (u v : Pulled) → PulledFits u → PulledFits v → PulledFits (if b then u else v)
-pulled_if true u v p q = p
-pulled_if false u v p q = q
+  pulled_if : (b : Bool) (u v : Pulled) → PulledFits u → PulledFits v → PulledFits (if b then u else v)
+  pulled_if true u v p q = p
+  pulled_if false u v p q = q
 
-nothing_fits : (x : Circuit) → CircuitFits x → PulledFits (pulls_nothing x)
-nothing_fits x f = record { next = f; packet = tt }
+  nothing_fits : (x : Circuit) → CircuitFits x → PulledFits (pulls_nothing x)
+  nothing_fits x f = record { next = f; packet = tt }
 
-pull_open_fits : (c : Settings) (x : Circuit) (t : Talk) (rest : List Piece) → CircuitFits x → AreCut rest → PulledFits (pull_open c x t rest)
-pull_open_fits c x t [] f g = nothing_fits x f
-pull_open_fits c x t (piece ∷ rest) f g = pulled_if (t.peer_ready && nat_lt (length t.sent) (t.acked + (outgoing x).window)) sent (pulls_nothing x) (record { next = (g.1, f.1); packet = data_gives (length t.sent) (length t.taken) piece g.0 }) (nothing_fits x f)
-  where
-    sent : Pulled
-    sent = record {
-      next = talking x (record { sent = t.sent ++ piece ∷ []; taken = t.taken; acked = t.acked; rest = rest; int_out = t.int_out; peer_ready = t.peer_ready; own_ready = t.own_ready });
-      packet = Some (data_packet (length t.sent % 8) (length t.taken % 8) piece);
-    }
+  pull_open_fits : (c : Settings) (x : Circuit) (t : Talk) (rest : List Piece) → CircuitFits x → AreCut rest → PulledFits (pull_open c x t rest)
+  pull_open_fits c x t [] f g = nothing_fits x f
+  pull_open_fits c x t (piece ∷ rest) f g = pulled_if (t.peer_ready && nat_lt (length t.sent) (t.acked + (outgoing x).window)) sent (pulls_nothing x) (record { next = (g.1, f.1); packet = data_gives (length t.sent) (length t.taken) piece g.0 }) (nothing_fits x f)
+    where
+      sent : Pulled
+      sent = record {
+        next = talking x (record { sent = t.sent ++ piece ∷ []; taken = t.taken; acked = t.acked; rest = rest; int_out = t.int_out; peer_ready = t.peer_ready; own_ready = t.own_ready });
+        packet = Some (data_packet (length t.sent % 8) (length t.taken % 8) piece);
+      }
 
-pub pulled_fits : (c : Settings) (x : Circuit) → CircuitFits x → PulledFits (pulled c x)
-pulled_fits c x f = at x.state
-  where
-    at : (s : State) → PulledFits (pull_in c x s)
-    at Open = pull_open_fits c x x.talk x.talk.rest f f.0
-    at Free = nothing_fits x f
-    at Calling = nothing_fits x f
-    at Arriving = nothing_fits x f
-    at Collision = nothing_fits x f
-    at Resetting = nothing_fits x f
-    at Clearing = nothing_fits x f
+  pub pulled_fits : (c : Settings) (x : Circuit) → CircuitFits x → PulledFits (pulled c x)
+  pulled_fits c x f = at x.state
+    where
+      at : (s : State) → PulledFits (pull_in c x s)
+      at Open = pull_open_fits c x x.talk x.talk.rest f f.0
+      at Free = nothing_fits x f
+      at Calling = nothing_fits x f
+      at Arriving = nothing_fits x f
+      at Collision = nothing_fits x f
+      at Resetting = nothing_fits x f
+      at Clearing = nothing_fits x f

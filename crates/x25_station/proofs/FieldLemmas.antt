@@ -8,7 +8,7 @@ use Rattle.std.proofs.lemmas.List.Folds.{list_all-append}
 use Rattle.x25_bits.specs.Bit.{bit}
 use Rattle.x25_packet.specs.Digits.{packed, is_digit, IsAddress}
 use Rattle.x25_packet.specs.PlainPacket.{PlainPacket, call, accept, clear, clear_conf, user_data, rr, rnr, interrupt, interrupt_conf, reset, reset_conf, restart, restart_conf}
-use Rattle.x25_packet.specs.Spelling.{channel_of, HasChannel, moved_to, format_of, type_of, call_body, accept_body, body_of, header_of, spelling_of, IsInRange}
+use Rattle.x25_packet.specs.Spelling.{channel_of, HasChannel, moved_to, format_of, type_of, call_body, accept_body, body_of, header_of, spelling_of, IsInRange, longest_user}
 use Rattle.x25_packet.specs.declared.facilities.Directions.{Directions}
 use Rattle.x25_packet.specs.Facilities.{facility, field_of, AreWithin, IfGiven, IsFacilityField}
 use Rattle.x25_packet.specs.ReadingLaw.{ReadsWhatIsSpelled}
@@ -17,39 +17,40 @@ use Rattle.x25_station.specs.ReadLaw.{AreOctets, IsReadable}
 abbrev IsOctet : ℕ → Type 0
 IsOctet octet = octet < 256
 
-abbrev pub Fits : PlainPacket → Type 0
-Fits (call h called calling facilities user) = IsAddress called × IsAddress calling × IsFacilityField facilities × (length user ≤ 16) × AreOctets user
-Fits (accept h facilities) = IsFacilityField facilities
-Fits (clear h cause diagnostic) = (cause < 256) × (diagnostic < 256)
-Fits (clear_conf h) = Unit {0}
-Fits (user_data h q m ps pr user) = (ps < 8) × (pr < 8) × (length user ≤ 4096) × AreOctets user
-Fits (rr h pr) = pr < 8
-Fits (rnr h pr) = pr < 8
-Fits (interrupt h user) = (1 ≤ length user) × (length user ≤ 32) × AreOctets user
-Fits (interrupt_conf h) = Unit {0}
-Fits (reset h cause diagnostic) = (cause < 256) × (diagnostic < 256)
-Fits (reset_conf h) = Unit {0}
-Fits (restart cause diagnostic) = (cause < 256) × (diagnostic < 256)
-Fits restart_conf = Unit {0}
+-- with as much user data of a CALL as it may have
+abbrev pub Fits : Bool → PlainPacket → Type 0
+Fits long_data (call h called calling facilities user) = IsAddress called × IsAddress calling × IsFacilityField facilities × (length user ≤ longest_user long_data) × AreOctets user
+Fits long_data (accept h facilities) = IsFacilityField facilities
+Fits long_data (clear h cause diagnostic) = (cause < 256) × (diagnostic < 256)
+Fits long_data (clear_conf h) = Unit {0}
+Fits long_data (user_data h q m ps pr user) = (ps < 8) × (pr < 8) × (length user ≤ 4096) × AreOctets user
+Fits long_data (rr h pr) = pr < 8
+Fits long_data (rnr h pr) = pr < 8
+Fits long_data (interrupt h user) = (1 ≤ length user) × (length user ≤ 32) × AreOctets user
+Fits long_data (interrupt_conf h) = Unit {0}
+Fits long_data (reset h cause diagnostic) = (cause < 256) × (diagnostic < 256)
+Fits long_data (reset_conf h) = Unit {0}
+Fits long_data (restart cause diagnostic) = (cause < 256) × (diagnostic < 256)
+Fits long_data restart_conf = Unit {0}
 
 -- of one of 16 channels, where it is of one
 abbrev pub IsOn : PlainPacket → Type 0
 IsOn p = HasChannel p → (1 ≤ channel_of p) × (channel_of p ≤ 16)
 
-pub moved_fits : (h : ℕ) (p : PlainPacket) → Fits p → Fits (moved_to h p)
-moved_fits h (call k called calling facilities user) f = f
-moved_fits h (accept k facilities) f = f
-moved_fits h (clear k cause diagnostic) f = f
-moved_fits h (clear_conf k) f = f
-moved_fits h (user_data k q m ps pr user) f = f
-moved_fits h (rr k pr) f = f
-moved_fits h (rnr k pr) f = f
-moved_fits h (interrupt k user) f = f
-moved_fits h (interrupt_conf k) f = f
-moved_fits h (reset k cause diagnostic) f = f
-moved_fits h (reset_conf k) f = f
-moved_fits h (restart cause diagnostic) f = f
-moved_fits h restart_conf f = f
+pub moved_fits : (long_data : Bool) (h : ℕ) (p : PlainPacket) → Fits long_data p → Fits long_data (moved_to h p)
+moved_fits long_data h (call k called calling facilities user) f = f
+moved_fits long_data h (accept k facilities) f = f
+moved_fits long_data h (clear k cause diagnostic) f = f
+moved_fits long_data h (clear_conf k) f = f
+moved_fits long_data h (user_data k q m ps pr user) f = f
+moved_fits long_data h (rr k pr) f = f
+moved_fits long_data h (rnr k pr) f = f
+moved_fits long_data h (interrupt k user) f = f
+moved_fits long_data h (interrupt_conf k) f = f
+moved_fits long_data h (reset k cause diagnostic) f = f
+moved_fits long_data h (reset_conf k) f = f
+moved_fits long_data h (restart cause diagnostic) f = f
+moved_fits long_data h restart_conf f = f
 
 pub moved_on : (h : ℕ) (p : PlainPacket) → HasChannel p → 1 ≤ h → h ≤ 16 → IsOn (moved_to h p)
 moved_on h (call k called calling facilities user) has low high there = (low, high)
@@ -71,20 +72,20 @@ moved_on h restart_conf has low high there = absurd has
 channel_in_range : (h : ℕ) → (1 ≤ h) × (h ≤ 16) → (1 ≤ h) × (h ≤ 4095)
 channel_in_range h on = (on.0, omega (arith, on.1))
 
-in_range : (p : PlainPacket) → Fits p → IsOn p → IsInRange 16 p
-in_range (call h called calling facilities user) f on = (channel_in_range h (on tt), f.0, f.1, f.2, f.3)
-in_range (accept h facilities) f on = (channel_in_range h (on tt), f)
-in_range (clear h cause diagnostic) f on = channel_in_range h (on tt)
-in_range (clear_conf h) f on = channel_in_range h (on tt)
-in_range (user_data h q m ps pr user) f on = (channel_in_range h (on tt), f.0, f.1, f.2)
-in_range (rr h pr) f on = (channel_in_range h (on tt), f)
-in_range (rnr h pr) f on = (channel_in_range h (on tt), f)
-in_range (interrupt h user) f on = (channel_in_range h (on tt), f.0, f.1)
-in_range (interrupt_conf h) f on = channel_in_range h (on tt)
-in_range (reset h cause diagnostic) f on = channel_in_range h (on tt)
-in_range (reset_conf h) f on = channel_in_range h (on tt)
-in_range (restart cause diagnostic) f on = tt
-in_range restart_conf f on = tt
+in_range : (long_data : Bool) (p : PlainPacket) → Fits long_data p → IsOn p → IsInRange (longest_user long_data) p
+in_range long_data (call h called calling facilities user) f on = (channel_in_range h (on tt), f.0, f.1, f.2, f.3)
+in_range long_data (accept h facilities) f on = (channel_in_range h (on tt), f)
+in_range long_data (clear h cause diagnostic) f on = channel_in_range h (on tt)
+in_range long_data (clear_conf h) f on = channel_in_range h (on tt)
+in_range long_data (user_data h q m ps pr user) f on = (channel_in_range h (on tt), f.0, f.1, f.2)
+in_range long_data (rr h pr) f on = (channel_in_range h (on tt), f)
+in_range long_data (rnr h pr) f on = (channel_in_range h (on tt), f)
+in_range long_data (interrupt h user) f on = (channel_in_range h (on tt), f.0, f.1)
+in_range long_data (interrupt_conf h) f on = channel_in_range h (on tt)
+in_range long_data (reset h cause diagnostic) f on = channel_in_range h (on tt)
+in_range long_data (reset_conf h) f on = channel_in_range h (on tt)
+in_range long_data (restart cause diagnostic) f on = tt
+in_range long_data restart_conf f on = tt
 
 -- ---- octets
 
@@ -144,8 +145,8 @@ field_short field is =
     let d : length (facility 67 is.0.window_size) ≤ 3 = facility_short 67 is.0.window_size in
     omega (arith, a, b, d))
 
-call_octets : (called calling facilities user : List ℕ) → IsAddress called → IsAddress calling → IsFacilityField facilities → length user ≤ 16 → AreOctets user → AreOctets (call_body called calling facilities user)
-call_octets called calling facilities user a b field short octets =
+call_octets : (called calling facilities user : List ℕ) → IsAddress called → IsAddress calling → IsFacilityField facilities → AreOctets user → AreOctets (call_body called calling facilities user)
+call_octets called calling facilities user a b field octets =
     let few : length facilities ≤ 6 = field_short facilities field in
     let both : list_all is_digit (called ++ calling) ≡ true = list_all-append is_digit called calling ∙ ap (λ (x : Bool). x && list_all is_digit calling) a.decimal ∙ b.decimal in
     octets_more (16 * length calling + length called) (packed (called ++ calling) ++ (length facilities ∷ facilities ++ user)) (omega (arith, a.short, b.short))
@@ -159,20 +160,20 @@ accept_octets (octet ∷ facilities) field =
     octets_more 0 (length (octet ∷ facilities) ∷ octet ∷ facilities) (omega arith)
     (octets_more (length (octet ∷ facilities)) (octet ∷ facilities) (omega (arith, few)) (field_octets (octet ∷ facilities) field))
 
-body_octets : (p : PlainPacket) → Fits p → AreOctets (body_of p)
-body_octets (call h called calling facilities user) f = call_octets called calling facilities user f.0 f.1 f.2 f.3 f.4
-body_octets (accept h facilities) f = accept_octets facilities f
-body_octets (clear h cause diagnostic) f = two cause diagnostic f.0 f.1
-body_octets (clear_conf h) f = no_octets
-body_octets (user_data h q m ps pr user) f = f.3
-body_octets (rr h pr) f = no_octets
-body_octets (rnr h pr) f = no_octets
-body_octets (interrupt h user) f = f.2
-body_octets (interrupt_conf h) f = no_octets
-body_octets (reset h cause diagnostic) f = two cause diagnostic f.0 f.1
-body_octets (reset_conf h) f = no_octets
-body_octets (restart cause diagnostic) f = two cause diagnostic f.0 f.1
-body_octets restart_conf f = no_octets
+body_octets : (long_data : Bool) (p : PlainPacket) → Fits long_data p → AreOctets (body_of p)
+body_octets long_data (call h called calling facilities user) f = call_octets called calling facilities user f.0 f.1 f.2 f.4
+body_octets long_data (accept h facilities) f = accept_octets facilities f
+body_octets long_data (clear h cause diagnostic) f = two cause diagnostic f.0 f.1
+body_octets long_data (clear_conf h) f = no_octets
+body_octets long_data (user_data h q m ps pr user) f = f.3
+body_octets long_data (rr h pr) f = no_octets
+body_octets long_data (rnr h pr) f = no_octets
+body_octets long_data (interrupt h user) f = f.2
+body_octets long_data (interrupt_conf h) f = no_octets
+body_octets long_data (reset h cause diagnostic) f = two cause diagnostic f.0 f.1
+body_octets long_data (reset_conf h) f = no_octets
+body_octets long_data (restart cause diagnostic) f = two cause diagnostic f.0 f.1
+body_octets long_data restart_conf f = no_octets
 
 -- ---- header
 
@@ -191,20 +192,20 @@ format_low (reset_conf h) = omega arith
 format_low (restart cause diagnostic) = omega arith
 format_low restart_conf = omega arith
 
-type_low : (p : PlainPacket) → Fits p → type_of p < 256
-type_low (call h called calling facilities user) f = omega arith
-type_low (accept h facilities) f = omega arith
-type_low (clear h cause diagnostic) f = omega arith
-type_low (clear_conf h) f = omega arith
-type_low (user_data h q m ps pr user) f = let b : bit m ≤ 1 = bit_low m in omega (arith, b, f.0, f.1)
-type_low (rr h pr) f = omega (arith, f)
-type_low (rnr h pr) f = omega (arith, f)
-type_low (interrupt h user) f = omega arith
-type_low (interrupt_conf h) f = omega arith
-type_low (reset h cause diagnostic) f = omega arith
-type_low (reset_conf h) f = omega arith
-type_low (restart cause diagnostic) f = omega arith
-type_low restart_conf f = omega arith
+type_low : (long_data : Bool) (p : PlainPacket) → Fits long_data p → type_of p < 256
+type_low long_data (call h called calling facilities user) f = omega arith
+type_low long_data (accept h facilities) f = omega arith
+type_low long_data (clear h cause diagnostic) f = omega arith
+type_low long_data (clear_conf h) f = omega arith
+type_low long_data (user_data h q m ps pr user) f = let b : bit m ≤ 1 = bit_low m in omega (arith, b, f.0, f.1)
+type_low long_data (rr h pr) f = omega (arith, f)
+type_low long_data (rnr h pr) f = omega (arith, f)
+type_low long_data (interrupt h user) f = omega arith
+type_low long_data (interrupt_conf h) f = omega arith
+type_low long_data (reset h cause diagnostic) f = omega arith
+type_low long_data (reset_conf h) f = omega arith
+type_low long_data (restart cause diagnostic) f = omega arith
+type_low long_data restart_conf f = omega arith
 
 channel_low : (p : PlainPacket) → IsOn p → channel_of p ≤ 16
 channel_low (call h called calling facilities user) on = (on tt).1
@@ -221,12 +222,12 @@ channel_low (reset_conf h) on = (on tt).1
 channel_low (restart cause diagnostic) on = omega arith
 channel_low restart_conf on = omega arith
 
-header_octets : (p : PlainPacket) → Fits p → IsOn p → AreOctets (header_of p)
-header_octets p f on =
+header_octets : (long_data : Bool) (p : PlainPacket) → Fits long_data p → IsOn p → AreOctets (header_of p)
+header_octets long_data p f on =
     let h : channel_of p ≤ 16 = channel_low p on in
     let first : format_of p ≤ 9 = format_low p in
     octets_more (16 * format_of p + channel_of p / 256) (channel_of p % 256 ∷ type_of p ∷ []) (let e : 16 * format_of p + channel_of p / 256 < 256 = omega (arith, h, first) in e)
-    (octets_more (channel_of p % 256) (type_of p ∷ []) (let e : channel_of p % 256 < 256 = omega (arith, h) in e) (octets_more (type_of p) [] (type_low p f) no_octets))
+    (octets_more (channel_of p % 256) (type_of p ∷ []) (let e : channel_of p % 256 < 256 = omega (arith, h) in e) (octets_more (type_of p) [] (type_low long_data p f) no_octets))
 
 -- ---- length
 
@@ -234,36 +235,41 @@ accept_short : (facilities : List ℕ) → length facilities ≤ 6 → length (a
 accept_short [] few = omega arith
 accept_short (octet ∷ facilities) few = omega (arith, few)
 
-body_short : (p : PlainPacket) → Fits p → length (body_of p) ≤ 4096
-body_short (call h called calling facilities user) f =
+user_short : (long_data : Bool) → longest_user long_data ≤ 128
+user_short true = omega arith
+user_short false = omega arith
+
+body_short : (long_data : Bool) (p : PlainPacket) → Fits long_data p → length (body_of p) ≤ 4096
+body_short long_data (call h called calling facilities user) f =
     let a : length (packed (called ++ calling)) ≡ (length (called ++ calling) + 1) / 2 = length_packed (called ++ calling) in
     let b : length (called ++ calling) ≡ length called + length calling = length-append called calling in
     let d : length (packed (called ++ calling) ++ (length facilities ∷ facilities ++ user)) ≡ length (packed (called ++ calling)) + length (length facilities ∷ facilities ++ user) =
     length-append (packed (called ++ calling)) (length facilities ∷ facilities ++ user) in
     let e : length (facilities ++ user) ≡ length facilities + length user = length-append facilities user in
     let few : length facilities ≤ 6 = field_short facilities f.2 in
-    omega (arith, a, b, d, e, few, f.0.short, f.1.short, f.3)
-body_short (accept h facilities) f = accept_short facilities (field_short facilities f)
-body_short (clear h cause diagnostic) f = omega arith
-body_short (clear_conf h) f = omega arith
-body_short (user_data h q m ps pr user) f = f.2
-body_short (rr h pr) f = omega arith
-body_short (rnr h pr) f = omega arith
-body_short (interrupt h user) f = omega (arith, f.1)
-body_short (interrupt_conf h) f = omega arith
-body_short (reset h cause diagnostic) f = omega arith
-body_short (reset_conf h) f = omega arith
-body_short (restart cause diagnostic) f = omega arith
-body_short restart_conf f = omega arith
+    let short = user_short long_data in
+    omega (arith, a, b, d, e, few, f.0.short, f.1.short, f.3, short)
+body_short long_data (accept h facilities) f = accept_short facilities (field_short facilities f)
+body_short long_data (clear h cause diagnostic) f = omega arith
+body_short long_data (clear_conf h) f = omega arith
+body_short long_data (user_data h q m ps pr user) f = f.2
+body_short long_data (rr h pr) f = omega arith
+body_short long_data (rnr h pr) f = omega arith
+body_short long_data (interrupt h user) f = omega (arith, f.1)
+body_short long_data (interrupt_conf h) f = omega arith
+body_short long_data (reset h cause diagnostic) f = omega arith
+body_short long_data (reset_conf h) f = omega arith
+body_short long_data (restart cause diagnostic) f = omega arith
+body_short long_data restart_conf f = omega arith
 
 -- ---- reading
 
-pub readable : ReadsWhatIsSpelled → (p : PlainPacket) → Fits p → IsOn p → IsReadable p
-readable reads p f on =
-    let octets : AreOctets (spelling_of p) = All-append IsOctet (header_of p) (body_of p) (header_octets p f on) (body_octets p f) in
-    let short : length (body_of p) ≤ 4096 = body_short p f in
+pub readable : ReadsWhatIsSpelled → (long_data : Bool) (p : PlainPacket) → Fits long_data p → IsOn p → IsReadable long_data p
+readable reads long_data p f on =
+    let octets : AreOctets (spelling_of p) = All-append IsOctet (header_of p) (body_of p) (header_octets long_data p f on) (body_octets long_data p f) in
+    let short : length (body_of p) ≤ 4096 = body_short long_data p f in
     record {
       octets = octets;
       short = omega (arith, short);
-      reads = (reads 16 p (spelling_of p) octets).1 (record { in_range = in_range p f on; spelling = refl });
+      reads = (reads (longest_user long_data) p (spelling_of p) octets).1 (record { in_range = in_range long_data p f on; spelling = refl });
     }

@@ -14,7 +14,8 @@ use Rattle.x25_link.specs.NoteLaw.{IsQuiet, PutTells, TakeTells, TakeHandsUp}
 use Rattle.x25_layer.specs.declared.error.LayerError.TheVariants as layer_error
 use Rattle.x25_layer.specs.Layer.{LayerSettings, Layer, LayerAnswer, LayerNotice, goes_up, layer_answers}
 use Rattle.x25_layer.specs.Calls.{LayerOutcome, Accepted, Declined, layer_outcome}
-use Rattle.x25_layer.specs.Rounds.{LinkView, Putting, begin, rounds, Went, Refuses, went, calls, hears, answer_to, longest_user}
+use Rattle.x25_layer.specs.Rounds.{LinkView, Putting, begin, rounds, Went, Refuses, went, calls, hears, answer_to}
+use Rattle.x25_packet.specs.Spelling.{longest_user}
 use Rattle.x25_layer.specs.Transcript.{Entry}
 use Rattle.x25_layer.specs.World.{World, Move, Requests, HandsUp, requested, answered, handed_up, moves_in, moves}
 use Rattle.x25_layer.specs.RoundLaw.{moves_all, pulls_of, AreChannels, IsRun, CallsRun, HearsRun, ComesUpAlone}
@@ -124,7 +125,7 @@ follows_heard c l k octets some quiet =
     ∙ ap (λ (n : Notes). follows c l (record { side = k.side; packet = Some octets; notes = n })) quiet
 
 heard_joined : HearsRun → PutTells → (c : Settings) (w : World) (k : LinkStep) (octets : List ℕ) (packet : PlainPacket) (back : List PlainPacket) → w.near.is_out ≡ false → w.back ≡ packet ∷ back
-    → k.packet ≡ Some octets → IsQuiet k → is_up k.side.near.phase ≡ true → waits k.side.near.outgoing < 256 → packet_of longest_user octets ≡ Ok packet
+    → k.packet ≡ Some octets → IsQuiet k → is_up k.side.near.phase ≡ true → waits k.side.near.outgoing < 256 → packet_of (longest_user c.long_data) octets ≡ Ok packet
     → (pulled : List ℕ) × AreChannels c.channels pulled × IsJoined c w (moves_all (layer_settings c) w (HandsUp ∷ pulls_of pulled)) k.side back (follows c w.near.layer k)
 heard_joined runs tells c w k octets packet back up front some quiet up_link low reads =
     subst (λ (step : Step). Goal step) (sym (follows_heard c w.near.layer k octets some quiet)) (

@@ -4,7 +4,7 @@ use Rattle.x25_bits.specs.declared.role.Role.{Role}
 use Rattle.x25_bits.specs.declared.role.Role.TheVariants.{Dte, Dce}
 use Rattle.x25_packet.specs.declared.error.PacketError.{PacketError}
 use Rattle.x25_packet.specs.PlainPacket.{PlainPacket, call, accept, clear, clear_conf, user_data, rr, rnr, interrupt, interrupt_conf, reset, reset_conf, restart, restart_conf}
-use Rattle.x25_packet.specs.Spelling.{IsInRange}
+use Rattle.x25_packet.specs.Spelling.{IsInRange, longest_user}
 use Rattle.x25_packet.specs.Reading.{packet_of, channel_in}
 use Rattle.x25_packet.specs.ReadingLaw.{ReadsWhatIsSpelled}
 use Rattle.x25_circuit.specs.declared.message.Message.{Message}
@@ -17,7 +17,7 @@ use Rattle.x25_circuit.specs.Messages.{piece_of, no_part, joining, completed}
 use Rattle.x25_circuit.specs.Notices.{CallRequest, PlainNotice, connected, deliveries}
 use Rattle.x25_circuit.specs.Table.{Answer, answers, undecoded, collides, goes, clears_for, connects, row_call, row_accept, row_clear, row_clear_conf, row_reset, row_reset_conf, row_open, row_data, row_undecoded, unless, data_ground, number_ground, takes, hears_status, confirms}
 use Rattle.x25_layer.specs.Layer.{LayerSettings, Layer, LayerAnswer, is_channel, notices_on, answers_on, drops, answers_ready, answers_restarting, answers_in, undecoded_in}
-use Rattle.x25_layer.specs.Rounds.{longest_user, undecoded_at, answer_to}
+use Rattle.x25_layer.specs.Rounds.{undecoded_at, answer_to}
 use Rattle.x25_station.specs.Receiving.{IsShort, AreTellable}
 
 abbrev AreShort : List PlainNotice → Type 0
@@ -26,32 +26,36 @@ AreShort (notice ∷ notices) = IsShort notice × AreShort notices
 
 -- the texts of a packet that is read
 abbrev IsShortPacket : PlainPacket → Type 0
-IsShortPacket (call channel called calling facilities user) = length user ≤ 32
-IsShortPacket (interrupt channel user) = length user ≤ 32
+IsShortPacket (call channel called calling facilities user) = length user ≤ 128
+IsShortPacket (interrupt channel user) = length user ≤ 128
 IsShortPacket packet = Unit {0}
 
-range_short : (p : PlainPacket) → IsInRange longest_user p → IsShortPacket p
-range_short (call channel called calling facilities user) r = omega (arith, r.4)
-range_short (accept channel facilities) r = tt
-range_short (clear channel cause diagnostic) r = tt
-range_short (clear_conf channel) r = tt
-range_short (user_data channel q m ps pr user) r = tt
-range_short (rr channel pr) r = tt
-range_short (rnr channel pr) r = tt
-range_short (interrupt channel user) r = r.2
-range_short (interrupt_conf channel) r = tt
-range_short (reset channel cause diagnostic) r = tt
-range_short (reset_conf channel) r = tt
-range_short (restart cause diagnostic) r = tt
-range_short restart_conf r = tt
+user_short : (long_data : Bool) → longest_user long_data ≤ 128
+user_short true = omega arith
+user_short false = omega arith
+
+range_short : (long_data : Bool) (p : PlainPacket) → IsInRange (longest_user long_data) p → IsShortPacket p
+range_short long_data (call channel called calling facilities user) r = let few = user_short long_data in omega (arith, r.4, few)
+range_short long_data (accept channel facilities) r = tt
+range_short long_data (clear channel cause diagnostic) r = tt
+range_short long_data (clear_conf channel) r = tt
+range_short long_data (user_data channel q m ps pr user) r = tt
+range_short long_data (rr channel pr) r = tt
+range_short long_data (rnr channel pr) r = tt
+range_short long_data (interrupt channel user) r = omega (arith, r.2)
+range_short long_data (interrupt_conf channel) r = tt
+range_short long_data (reset channel cause diagnostic) r = tt
+range_short long_data (reset_conf channel) r = tt
+range_short long_data (restart cause diagnostic) r = tt
+range_short long_data restart_conf r = tt
 
 -- ---- the rows of a circuit
 
-collides_short : (role : Role) (x : Circuit) (request : CallRequest) → length request.user ≤ 32 → AreShort (collides role x request).notices
+collides_short : (role : Role) (x : Circuit) (request : CallRequest) → length request.user ≤ 128 → AreShort (collides role x request).notices
 collides_short Dte x request short = tt
 collides_short Dce x request short = (tt, (short, tt))
 
-call_short : (c : CircuitSettings) (x : Circuit) (state : State) (request : CallRequest) → length request.user ≤ 32 → AreShort (row_call c x state request).notices
+call_short : (c : CircuitSettings) (x : Circuit) (state : State) (request : CallRequest) → length request.user ≤ 128 → AreShort (row_call c x state request).notices
 call_short c x Free request short = (short, tt)
 call_short c x Calling request short = collides_short c.role x request short
 call_short c x Arriving request short = (tt, tt)
@@ -242,9 +246,9 @@ at_tellable : (c : LayerSettings) (l : Layer) (e : PacketError) (o : Option ℕ)
 at_tellable c l e None = tt
 at_tellable c l e (Some h) = undecoded_tellable c l.restarting l.restarts l.circuits h e
 
-pub told_tellable : ReadsWhatIsSpelled → (c : LayerSettings) (l : Layer) (octets : List ℕ) → All (λ octet. octet < 256) octets → AreTellable c (answer_to c l octets (packet_of longest_user octets)).notices
-told_tellable reads c l octets bytes = by (packet_of longest_user octets) refl
+pub told_tellable : ReadsWhatIsSpelled → (c : LayerSettings) (l : Layer) (octets : List ℕ) → All (λ octet. octet < 256) octets → AreTellable c (answer_to c l octets (packet_of (longest_user c.circuit.long_data) octets)).notices
+told_tellable reads c l octets bytes = by (packet_of (longest_user c.circuit.long_data) octets) refl
   where
-    by : (r : Result PlainPacket PacketError) → packet_of longest_user octets ≡ r → AreTellable c (answer_to c l octets r).notices
-    by (Ok p) is = in_tellable c l.restarting l.restarts l.circuits p (range_short p ((reads longest_user p octets bytes).0 is).in_range)
+    by : (r : Result PlainPacket PacketError) → packet_of (longest_user c.circuit.long_data) octets ≡ r → AreTellable c (answer_to c l octets r).notices
+    by (Ok p) is = in_tellable c l.restarting l.restarts l.circuits p (range_short c.circuit.long_data p ((reads (longest_user c.circuit.long_data) p octets bytes).0 is).in_range)
     by (Err e) is = at_tellable c l e (channel_in octets)

@@ -28,7 +28,7 @@ use Rattle.x25_station.specs.Steps.{Outcome, Did, Refused, follows, connects, fi
 use Rattle.x25_station.specs.Told.{is_idle, stretch}
 
 abbrev dte : Settings
-dte = record { role = Dte; window = 7; retries = 10; channels = 1 }
+dte = record { role = Dte; window = 7; retries = 10; channels = 1; long_data = false }
 
 abbrev frames_in : Outcome → List PlainFrame
 frames_in (Did step) = step.out

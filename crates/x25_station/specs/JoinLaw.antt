@@ -11,7 +11,7 @@ use Rattle.x25_link.specs.Steps.{alone, put_refusal, take_step}
 use Rattle.x25_link.specs.declared.phase.Reason.{Reason}
 use Rattle.x25_layer.specs.Layer.{Layer, at_rest, goes_up, restart_cause}
 use Rattle.x25_layer.specs.Calls.{LayerRequest}
-use Rattle.x25_layer.specs.Rounds.{longest_user}
+use Rattle.x25_packet.specs.Spelling.{longest_user}
 use Rattle.x25_layer.specs.World.{World, Move, Requests, HandsUp}
 use Rattle.x25_layer.specs.RoundLaw.{moves_all, pulls_of, AreChannels}
 use Rattle.x25_station.specs.Settings.{Settings, link_settings, layer_settings}
@@ -68,7 +68,7 @@ RequestIsJoined = (c : Settings) (link : LinkStation) (w : World) (request : Lay
 abbrev pub ReceiveIsJoined : Type 0
 ReceiveIsJoined = (c : Settings) (link : LinkStation) (w : World) (octets packet_octets : List ℕ) (packet : PlainPacket) (back : List PlainPacket) → w.near.is_out ≡ false
     → w.back ≡ packet ∷ back → abandons c (station_with link w.near.layer) ≡ false → (take_step (link_settings c) octets link).packet ≡ Some packet_octets
-    → packet_of longest_user packet_octets ≡ Ok packet →
+    → packet_of (longest_user c.long_data) packet_octets ≡ Ok packet →
     (pulled : List ℕ) × AreChannels c.channels pulled
     × IsJoined c w (moves_all (layer_settings c) w (HandsUp ∷ pulls_of pulled)) (take_step (link_settings c) octets link).side back (receives c (station_with link w.near.layer) octets)
 

@@ -16,10 +16,10 @@ pub record CanPut (l : ShownLink) : Type 0 where
   pub free : waiting_of l < 256
   pub longest : 4099 ≤ limit_of l
 
--- the texts of a notice are at most 32 octets (messages aside)
+-- the texts of a notice are at most 128 octets (messages aside)
 abbrev pub IsShort : PlainNotice → Type 0
-IsShort (incoming request) = length request.user ≤ 32
-IsShort (interrupted user) = length user ≤ 32
+IsShort (incoming request) = length request.user ≤ 128
+IsShort (interrupted user) = length user ≤ 128
 IsShort notice = Unit {0}
 
 -- .. and its channel is configured

@@ -3,6 +3,7 @@
 use Rattle.std.specs.Prelude.{ℕ, ◌==◌, Bool, true, false, ◌&&◌, if◌then◌else◌, List, [], ◌∷◌, ◌++◌, Option, Some, None}
 use Rattle.x25_packet.specs.Reading.{packet_of}
 use Rattle.x25_frame.specs.PlainFrame.{PlainFrame}
+use Rattle.x25_packet.specs.Spelling.{longest_user}
 use Rattle.x25_link.specs.declared.error.LinkError.{LinkError}
 use Rattle.x25_link.specs.declared.phase.Reason.{Reason}
 use Rattle.x25_link.specs.Station.{Station as LinkStation, Side, is_up}
@@ -11,7 +12,7 @@ use Rattle.x25_link.specs.Steps.{alone, take_step, timer_refusal, timer_step, co
 use Rattle.x25_layer.specs.Layer.{LayerSettings, Layer, LayerAnswer, at_rest}
 use Rattle.x25_layer.specs.Calls.{LayerRequest, LayerOutcome, Accepted, Declined, layer_outcome}
 use Rattle.x25_layer.specs.FitsLayer.{is_full}
-use Rattle.x25_layer.specs.Rounds.{LinkView, Putting, Answered, Went, Refuses, calls, hears, comes_up, answer_to, longest_user}
+use Rattle.x25_layer.specs.Rounds.{LinkView, Putting, Answered, Went, Refuses, calls, hears, comes_up, answer_to}
 use Rattle.x25_station.specs.declared.error.StationError.{StationError}
 use Rattle.x25_station.specs.declared.error.StationError.TheVariants as error
 use Rattle.x25_station.specs.Settings.{Settings, link_settings, layer_settings}
@@ -55,7 +56,7 @@ layer_at link c l None None false = rests l
 
 -- what the layer answers to the octets of a packet
 abbrev pub layer_answer : LayerSettings → Layer → List ℕ → LayerAnswer
-layer_answer c l octets = answer_to c l octets (packet_of longest_user octets)
+layer_answer c l octets = answer_to c l octets (packet_of (longest_user c.circuit.long_data) octets)
 
 abbrev pub entries_of_answer : LayerAnswer → List StationEntry
 entries_of_answer a = station_told a.next a.notices

@@ -7,4 +7,6 @@ pub struct Cfg {
     pub n2: u8,
     /// The channels 1 to this number are configured, 1 to 16.
     pub channels: u8,
+    /// Whether a call may have up to 128 octets of user data, in place of up to 16. It is the same at both ends.
+    pub long_data: bool,
 }

@@ -15,8 +15,9 @@ use x25_layer::{Layer, Told as Heard};
 use x25_link::Blanks;
 use x25_packet::Digits;
 
-/// The most octets of a text in an entry: those of an interrupt. User data of a call and addresses have fewer.
-pub(crate) const LONGEST_TEXT: usize = 32;
+/// The most octets of a text in an entry: those of the user data of a call, where it may be long. Interrupts and addresses have
+/// fewer.
+pub(crate) const LONGEST_TEXT: usize = 128;
 
 /// The most texts in an entry: the two addresses of a call, and its user data.
 pub(crate) const MOST_TEXTS: usize = 3;
@@ -38,10 +39,10 @@ pub(crate) fn enter(layer: &Layer, entries: &mut Vec<Entry>, channel: u16, said:
     }
 }
 
-// A copy of the first 32 octets.
+// A copy of the first 128 octets.
 fn kept(texts: &mut Blanks<LONGEST_TEXT>, octets: &[u8]) -> Vec<u8>
     requires { 0 < texts.old }
-    ensures copy { result.items ≡ take 32 octets.now }
+    ensures copy { result.items ≡ take 128 octets.now }
     ensures fewer { texts.new + 1 ≡ texts.old }
 {
     let count = LONGEST_TEXT.min(octets.len());
@@ -64,7 +65,7 @@ fn kept_digits(texts: &mut Blanks<LONGEST_TEXT>, digits: &Digits<'_>) -> Vec<u8>
     copy
 }
 
-// What a notice tells the user of a channel, where its user data are at most 32 octets.
+// What a notice tells the user of a channel, where its user data are at most 128 octets.
 fn told_of(texts: &mut Blanks<LONGEST_TEXT>, notice: Notice<'_>) -> Told
     requires { 3 ≤ texts.old }
     ensures { IsShort (plain_notice notice.entry) → plain_told result ≡ plain_notice notice.entry }

@@ -47,7 +47,7 @@ impl Station {
             Err(LinkError::BadConfig) => return Err(StationError::BadConfig),
             Err(_) => return Err(StationError::NoMemory),
         };
-        let Ok(layer) = Layer::new(alloc, role, cfg.channels as usize) else {
+        let Ok(layer) = Layer::with(alloc, role, cfg.channels as usize, cfg.long_data) else {
             return Err(StationError::NoMemory);
         };
         Ok(Station {

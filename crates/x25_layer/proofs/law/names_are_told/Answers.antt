@@ -15,7 +15,7 @@ known c = record {
 }
 
 pub returns-clause-names : goal.returns-clause-names
-returns-clause-names c = λ channels. always_counted channels (never_in_p1 (known c) channels)
+returns-clause-names c = λ long_data channels. always_counted long_data channels (never_in_p1 (known c) long_data channels)
 
 pub returns-clause-clear : goal.returns-clause-clear
 returns-clause-clear c = never_in_p1 (known c)

@@ -3,4 +3,4 @@ use Rattle.std.proofs.lemmas.List.{take_min}
 use Rattle.x25_station.proofs.entering.kept.Goals as goal
 
 pub returns-clause-copy : goal.returns-clause-copy
-returns-clause-copy c = grind (arith, take_min 32 c.args.octets.now, c.extend_from_slice.ensures.items, c.unwrap.ensures, c.take-copy.ensures.empty, c.min-count.ensures)
+returns-clause-copy c = grind (arith, take_min 128 c.args.octets.now, c.extend_from_slice.ensures.items, c.unwrap.ensures, c.take-copy.ensures.empty, c.min-count.ensures)

@@ -5,7 +5,8 @@ use Rattle.x25_link.specs.Link.{FitsWhole}
 use Rattle.x25_link.specs.Steps.{alone}
 use Rattle.x25_layer.specs.FitsLayer.{FitsLayer}
 use Rattle.x25_layer.specs.Layer.{LayerNotice}
-use Rattle.x25_layer.specs.Rounds.{LinkView, begin, hears, answer_to, longest_user}
+use Rattle.x25_layer.specs.Rounds.{LinkView, begin, hears, answer_to}
+use Rattle.x25_packet.specs.Spelling.{longest_user}
 use Rattle.x25_station.specs.Entries.{station_told}
 use Rattle.x25_station.specs.PlainEntry.{plain_entry}
 use Rattle.x25_station.specs.Settings.{link_settings, layer_settings}
@@ -36,7 +37,7 @@ returns-clause-entries c = λ c' l t fits link.
     let lc = layer_settings c' in
     let view : LinkView = view_of (link_settings c') t.near in
     let octets = c.args.packet.now in
-    let a = answer_to lc l octets (packet_of longest_user octets) in
+    let a = answer_to lc l octets (packet_of (longest_user lc.circuit.long_data) octets) in
     let told = told_is c.packet.result c.unwrap-told.result a.notices c.unwrap-told.ensures (c.packet.ensures.told lc l view fits) in
     let bytes : All (λ octet. octet < 256) octets = All-from_get_or (λ octet. octet < 256) octets 0 (λ i low. omega (arith, c.type_inv.packet i)) in
     let tellable = told_tellable c.reading_is_the_grammar.ensures.spelled lc l octets bytes in

@@ -1,7 +1,7 @@
 use Rattle.std.proofs.Common.{rules, ◌≡◌, ◌∙◌, Some, Ok, Err, length, option_to_list, OnOk, IfOk, sym, ap, subst, arith}
 use Rattle.x25_packet.specs.PlainPacket.{plain}
 use Rattle.x25_packet.specs.Reading.{packet_of, channel_in}
-use Rattle.x25_packet.specs.Spelling.{HasChannel}
+use Rattle.x25_packet.specs.Spelling.{HasChannel, longest_user, Spells}
 use Rattle.x25_layer.specs.Layer.{LayerSettings, Layer, LayerAnswer}
 use Rattle.x25_layer.specs.FitsLayer.{FitsLayer}
 use Rattle.x25_layer.specs.OverLink.{after_all}
@@ -15,22 +15,22 @@ use Rattle.x25_layer.proofs.layer.Layer.hear.Given as given
 -- ---- fewer than three octets
 
 pub returns-in_default-clause-layer : goal.returns-in_default-clause-layer
-returns-in_default-clause-layer g c = λ s l fits. subst (λ (a : LayerAnswer). FitsLayer s c.args.self.now a.next) (sym (hears_none s l c.args.octets.now (sym c.channel.ensures ∙ c.in_default.is))) fits
+returns-in_default-clause-layer g c = λ s l fits. subst (λ (a : LayerAnswer). FitsLayer s c.args.self.now a.next) (sym (hears_none (longest_user c.args.self.now.long_data) s l c.args.octets.now (sym c.channel.ensures ∙ c.in_default.is))) fits
 
 pub returns-in_default-clause-link : goal.returns-in_default-clause-link
 returns-in_default-clause-link g c = λ s l x fits link.
-    subst (λ (a : LayerAnswer). g.L.OrderedLink.fits c.args.link.now (after_all g.L.OrderedLink.after_put x (option_to_list a.owed))) (sym (hears_none s l c.args.octets.now (sym c.channel.ensures ∙ c.in_default.is))) link
+    subst (λ (a : LayerAnswer). g.L.OrderedLink.fits c.args.link.now (after_all g.L.OrderedLink.after_put x (option_to_list a.owed))) (sym (hears_none (longest_user c.args.self.now.long_data) s l c.args.octets.now (sym c.channel.ensures ∙ c.in_default.is))) link
 
 pub returns-in_default-clause-told : goal.returns-in_default-clause-told
-returns-in_default-clause-told g c = λ s l fits. ap (λ (a : LayerAnswer). a.notices) (sym (hears_none s l c.args.octets.now (sym c.channel.ensures ∙ c.in_default.is)))
+returns-in_default-clause-told g c = λ s l fits. ap (λ (a : LayerAnswer). a.notices) (sym (hears_none (longest_user c.args.self.now.long_data) s l c.args.octets.now (sym c.channel.ensures ∙ c.in_default.is)))
 
 -- ---- octets that spell no packet
 
 pub hear_on-requires-clause-kind : goal.hear_on-requires-clause-kind
-hear_on-requires-clause-kind g c = error_reads 16 c.args.octets.now c.in-Err.error c.in-Err.ensures.fault
+hear_on-requires-clause-kind g c = error_reads (longest_user c.args.self.now.long_data) c.args.octets.now c.in-Err.error c.in-Err.ensures.fault
 
-failed : (g : given.Over) (c : goal.After-hear_on g) (s : LayerSettings) (l : Layer) → hears_on s l l.restarting c.in-Some.channel (Err c.in-Err.error) ≡ answer_to s l c.args.octets.now (packet_of 16 c.args.octets.now)
-failed g c s l = sym (hears_error s l c.args.octets.now c.in-Some.channel c.in-Err.error (sym c.channel.ensures ∙ c.in-Some.is) c.in-Err.ensures.exact)
+failed : (g : given.Over) (c : goal.After-hear_on g) (s : LayerSettings) (l : Layer) → hears_on s l l.restarting c.in-Some.channel (Err c.in-Err.error) ≡ answer_to s l c.args.octets.now (packet_of (longest_user c.args.self.now.long_data) c.args.octets.now)
+failed g c s l = sym (hears_error (longest_user c.args.self.now.long_data) s l c.args.octets.now c.in-Some.channel c.in-Err.error (sym c.channel.ensures ∙ c.in-Some.is) c.in-Err.ensures.exact)
 
 pub returns-in-Err-clause-layer : goal.returns-in-Err-clause-layer
 returns-in-Err-clause-layer g c = λ s l fits. subst (λ (a : LayerAnswer). OnOk c.hear_on.result (FitsLayer s c.hear_on.new.self a.next)) (failed g c s l) (c.hear_on.ensures.layer s l fits)
@@ -49,8 +49,8 @@ returns-in_default-packet g c =
     let has : HasChannel (plain c.in-Ok.packet) = search rules in
     let at : channel_in c.args.octets.now ≡ Some c.in-Some.channel = sym c.channel.ensures ∙ c.in-Some.is in
     let hears = c.hear_on-in_default-packet.ensures in
-    let same : (s : LayerSettings) (l : Layer) → hears_on s l l.restarting c.in-Some.channel (Ok (plain c.in-Ok.packet)) ≡ answer_to s l c.args.octets.now (packet_of 16 c.args.octets.now) =
-    λ s l. sym (hears_packet s l c.args.octets.now c.in-Some.channel (plain c.in-Ok.packet) has c.in-Ok.ensures.found at c.in-Ok.ensures.exact) in
+    let same : (s : LayerSettings) (l : Layer) → hears_on s l l.restarting c.in-Some.channel (Ok (plain c.in-Ok.packet)) ≡ answer_to s l c.args.octets.now (packet_of (longest_user c.args.self.now.long_data) c.args.octets.now) =
+    λ s l. sym (hears_packet (longest_user c.args.self.now.long_data) s l c.args.octets.now c.in-Some.channel (plain c.in-Ok.packet) has c.in-Ok.ensures.found at c.in-Ok.ensures.exact) in
     record {
       layer = λ s l fits. subst (λ (a : LayerAnswer). OnOk c.hear_on-in_default-packet.result (FitsLayer s c.hear_on-in_default-packet.new.self a.next)) (same s l) (hears.layer s l fits);
       link = λ s l x fits link.

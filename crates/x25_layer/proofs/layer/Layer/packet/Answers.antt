@@ -13,13 +13,13 @@ returns-in_err-told-clause-layer_stays g c = λ s l fits. on_err c.from_residual
 pub returns-clause-layer : goal.returns-clause-layer
 returns-clause-layer g c = λ s l x fits link.
     let before = c.set_aside.ensures.fits s l fits in
-    let a : LayerAnswer = answer_to s l c.args.octets.now (packet_of 16 c.args.octets.now) in
+    let a : LayerAnswer = answer_to s l c.args.octets.now (packet_of (longest_user s.circuit.long_data) c.args.octets.now) in
     c.pull_all.ensures.layer s (begin a.next a.owed) x (c.in_ok-told.ensures.layer s l before) (c.in_ok-told.ensures.link s l x before (c.set_aside.ensures.link x link))
 
 pub returns-clause-link : goal.returns-clause-link
 returns-clause-link g c = λ s l x fits link.
     let before = c.set_aside.ensures.fits s l fits in
-    let a : LayerAnswer = answer_to s l c.args.octets.now (packet_of 16 c.args.octets.now) in
+    let a : LayerAnswer = answer_to s l c.args.octets.now (packet_of (longest_user s.circuit.long_data) c.args.octets.now) in
     c.pull_all.ensures.link s (begin a.next a.owed) x (c.in_ok-told.ensures.layer s l before) (c.in_ok-told.ensures.link s l x before (c.set_aside.ensures.link x link))
 
 pub returns-clause-told : goal.returns-clause-told

@@ -14,6 +14,7 @@ loop-preserved g c =
     let now = c.loop.invariant in
     record {
       role = now.role;
+      long_data = now.long_data;
       restarting = now.restarting;
       restarts = now.restarts;
       longest = c.round.ensures.longest ∙ now.longest;
@@ -65,6 +66,7 @@ returns-clause-layer g c = λ s p x fits link.
     let e = ended g c s x p fits link in
     record {
       role = c.loop.invariant.role ∙ fits.role;
+      long_data = c.loop.invariant.long_data ∙ fits.long_data;
       channels = e.stands.channels;
       restarting = c.loop.invariant.restarting ∙ fits.restarting ∙ sym e.keeps.restarting ∙ ap (λ (u : Putting). u.layer.restarting) (sym e.end);
       restarts = c.loop.invariant.restarts ∙ fits.restarts ∙ sym e.keeps.restarts ∙ ap (λ (u : Putting). u.layer.restarts) (sym e.end);

@@ -10,6 +10,7 @@ use Rattle.x25_layer.proofs.layer.Layer.pull_all.Given as goal
 abbrev pub invariant-loop : goal.invariant-loop
 invariant-loop g l = record {
   role : l.self.role ≡ l.initial.self.role;
+  long_data : l.self.long_data ≡ l.initial.self.long_data;
   restarting : l.self.restarting ≡ l.initial.self.restarting;
   restarts : l.self.restarts ≡ l.initial.self.restarts;
   longest : g.L.OrderedLink.longest l.link ≡ g.L.OrderedLink.longest l.initial.link;

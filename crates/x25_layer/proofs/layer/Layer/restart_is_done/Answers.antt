@@ -4,6 +4,7 @@ use Rattle.x25_layer.proofs.layer.Layer.restart_is_done.Goals as goal
 pub returns-clause-layer : goal.returns-clause-layer
 returns-clause-layer c = λ s l fits. record {
   role = fits.role;
+  long_data = fits.long_data;
   channels = c.begin_all.ensures.count ∙ fits.channels;
   restarting = refl;
   restarts = (let same = fits.restarts in let e : c.args.self.now.restarts + 1 ≡ suc l.restarts = omega (arith, same) in e);

@@ -4,6 +4,7 @@ use Rattle.x25_layer.proofs.layer.Layer.room.Goals as goal
 pub returns-in_err-room_in_all-clause-layer : goal.returns-in_err-room_in_all-clause-layer
 returns-in_err-room_in_all-clause-layer g c = λ s l fits. record {
   role = fits.role;
+  long_data = fits.long_data;
   channels = c.room_in_all.ensures.count ∙ fits.channels;
   restarting = fits.restarting;
   restarts = fits.restarts;
@@ -13,6 +14,7 @@ returns-in_err-room_in_all-clause-layer g c = λ s l fits. record {
 pub returns-clause-layer : goal.returns-clause-layer
 returns-clause-layer g c = λ s l fits. c.set_aside.ensures.fits s l (record {
   role = fits.role;
+  long_data = fits.long_data;
   channels = c.room_in_all.ensures.count ∙ fits.channels;
   restarting = fits.restarting;
   restarts = fits.restarts;

@@ -18,6 +18,7 @@ returns-clause-layer g c = λ s l x fits link.
     subst (λ (p : Putting). FitsLayer s c.put.new.self p.layer) (sym (comes_up_alone (view_of g.L.OrderedLink.up_in g.L.OrderedLink.waits_in g.L.OrderedLink.after_put x) s))
     (c.put.ensures.fits s _ (record {
       role = before.role;
+      long_data = before.long_data;
       channels = c.begin_all.ensures.count ∙ before.channels;
       restarting = refl;
       restarts = refl;
