@@ -30,7 +30,7 @@ asks request = Requests false (Asks 1 request)
 
 -- of two channels
 abbrev after : List Event → World
-after events = run 2 events (start 2)
+after events = run false 2 events (start false 2)
 
 -- each RESTART is taken by the other end
 abbrev restarts : List Event

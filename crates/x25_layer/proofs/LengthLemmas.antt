@@ -1,5 +1,5 @@
 -- How many octets spell a packet at most.
-use Rattle.std.proofs.Common.{◌≡◌, ℕ, ◌+◌, ◌*◌, ◌≤◌, List, [], ◌∷◌, ◌++◌, length, length-append, Bool, Bor, Option, Some, None, refl, ap, ◌∙◌, arith}
+use Rattle.std.proofs.Common.{◌≡◌, ℕ, ◌+◌, ◌*◌, ◌≤◌, List, [], ◌∷◌, ◌++◌, length, length-append, Bool, Bor, Option, Some, None, refl, sym, ap, subst, ◌∙◌, arith}
 use Rattle.x25_bits.specs.declared.seq.Seq.{Seq}
 use Rattle.x25_packet.specs.declared.facilities.Directions.{Directions}
 use Rattle.x25_packet.specs.declared.packet.Packet.{Packet}
@@ -44,7 +44,9 @@ accept_short (octet ∷ facilities) f = let g = field_short (octet ∷ facilitie
 -- what follows the third octet of a CALL
 pub call_fits : (p : Packet) (channel : ℕ) (called calling : List ℕ) (facilities user : Bor (List ℕ)) → p ≡ code.Call channel called calling facilities user → IsInRange 128 (plain p)
     → (length (body_of (plain p)) ≤ 23 + length user.now) × (length user.now ≤ 128)
-call_fits (code.Call channel called calling facilities user) _ _ _ _ _ refl is = (call_short called calling facilities.now user.now is.1 is.2 is.3, is.4)
+call_fits p channel called calling facilities user e is =
+    subst (λ (q : Packet). IsInRange 128 (plain q) → (length (body_of (plain q)) ≤ 23 + length user.now) × (length user.now ≤ 128)) (sym e)
+    (λ range. (call_short called calling facilities.now user.now range.1 range.2 range.3, range.4)) is
 
 -- what follows the third octet of a packet other than DATA and CALL
 pub other_short : (p : Packet) → ((channel : ℕ) (q m : Bool) (ps pr : Seq) (user : Bor (List ℕ)) → p ≡ code.Data channel q m ps pr user → ⊥) 

@@ -1,7 +1,7 @@
-use Rattle.std.proofs.Common.{rules, ◌≡◌, ◌∙◌, Some, Ok, Err, length, option_to_list, OnOk, IfOk, sym, ap, subst, arith}
+use Rattle.std.proofs.Common.{rules, ℕ, ◌≡◌, ◌∙◌, Some, Ok, Err, length, option_to_list, OnOk, IfOk, sym, ap, subst, arith}
 use Rattle.x25_packet.specs.PlainPacket.{plain}
 use Rattle.x25_packet.specs.Reading.{packet_of, channel_in}
-use Rattle.x25_packet.specs.Spelling.{HasChannel, longest_user, Spells}
+use Rattle.x25_packet.specs.Spelling.{HasChannel, longest_user}
 use Rattle.x25_layer.specs.Layer.{LayerSettings, Layer, LayerAnswer}
 use Rattle.x25_layer.specs.FitsLayer.{FitsLayer}
 use Rattle.x25_layer.specs.OverLink.{after_all}
@@ -27,10 +27,12 @@ returns-in_default-clause-told g c = λ s l fits. ap (λ (a : LayerAnswer). a.no
 -- ---- octets that spell no packet
 
 pub hear_on-requires-clause-kind : goal.hear_on-requires-clause-kind
-hear_on-requires-clause-kind g c = error_reads (longest_user c.args.self.now.long_data) c.args.octets.now c.in-Err.error c.in-Err.ensures.fault
+hear_on-requires-clause-kind g c = error_reads c.longest_user.result c.args.octets.now c.in-Err.error c.in-Err.ensures.fault
 
 failed : (g : given.Over) (c : goal.After-hear_on g) (s : LayerSettings) (l : Layer) → hears_on s l l.restarting c.in-Some.channel (Err c.in-Err.error) ≡ answer_to s l c.args.octets.now (packet_of (longest_user c.args.self.now.long_data) c.args.octets.now)
-failed g c s l = sym (hears_error (longest_user c.args.self.now.long_data) s l c.args.octets.now c.in-Some.channel c.in-Err.error (sym c.channel.ensures ∙ c.in-Some.is) c.in-Err.ensures.exact)
+failed g c s l =
+    sym (hears_error c.longest_user.result s l c.args.octets.now c.in-Some.channel c.in-Err.error (sym c.channel.ensures ∙ c.in-Some.is) c.in-Err.ensures.exact)
+    ∙ ap (λ (most : ℕ). answer_to s l c.args.octets.now (packet_of most c.args.octets.now)) c.longest_user.ensures.value
 
 pub returns-in-Err-clause-layer : goal.returns-in-Err-clause-layer
 returns-in-Err-clause-layer g c = λ s l fits. subst (λ (a : LayerAnswer). OnOk c.hear_on.result (FitsLayer s c.hear_on.new.self a.next)) (failed g c s l) (c.hear_on.ensures.layer s l fits)
@@ -50,7 +52,9 @@ returns-in_default-packet g c =
     let at : channel_in c.args.octets.now ≡ Some c.in-Some.channel = sym c.channel.ensures ∙ c.in-Some.is in
     let hears = c.hear_on-in_default-packet.ensures in
     let same : (s : LayerSettings) (l : Layer) → hears_on s l l.restarting c.in-Some.channel (Ok (plain c.in-Ok.packet)) ≡ answer_to s l c.args.octets.now (packet_of (longest_user c.args.self.now.long_data) c.args.octets.now) =
-    λ s l. sym (hears_packet (longest_user c.args.self.now.long_data) s l c.args.octets.now c.in-Some.channel (plain c.in-Ok.packet) has c.in-Ok.ensures.found at c.in-Ok.ensures.exact) in
+    λ s l.
+        sym (hears_packet c.longest_user.result s l c.args.octets.now c.in-Some.channel (plain c.in-Ok.packet) has c.in-Ok.ensures.found at c.in-Ok.ensures.exact)
+        ∙ ap (λ (most : ℕ). answer_to s l c.args.octets.now (packet_of most c.args.octets.now)) c.longest_user.ensures.value in
     record {
       layer = λ s l fits. subst (λ (a : LayerAnswer). OnOk c.hear_on-in_default-packet.result (FitsLayer s c.hear_on-in_default-packet.new.self a.next)) (same s l) (hears.layer s l fits);
       link = λ s l x fits link.
