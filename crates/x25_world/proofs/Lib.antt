@@ -8,7 +8,7 @@ pub mod NoUps
 pub mod Requests
 pub mod Receives
 pub mod Runs
-pub mod Start
+pub mod Established
 pub mod Lawful
 pub mod QuietTap
 pub mod Headline

@@ -16,7 +16,7 @@ use Rattle.x25_station.specs.Steps.{Outcome, Did, Refused, commands, fires}
 use Rattle.x25_world.specs.declared.event.Event as code_event
 use Rattle.x25_world.specs.declared.error.WorldError.{WorldError}
 use Rattle.x25_world.specs.declared.error.WorldError.TheVariants as error
-use Rattle.x25_world.specs.World.{World, swapped, Event, Act, Commands, Receives, Fires, Loses, Damages, WorldOutcome, Happened, Declined, of_station, delivered, acts, swapped_back, event_of, happens, after, refusal_of, run, AreAccepted, start}
+use Rattle.x25_world.specs.World.{World, swapped, Event, Act, Commands, Receives, Fires, Loses, Damages, WorldOutcome, Happened, Declined, of_station, delivered, acts, swapped_back, event_of, happens, after, refusal_of, run, AreAccepted, established}
 use Rattle.x25_world.specs.Claims.{ActsInOctets, AreInOctets, Always}
 use Rattle.x25_world.specs.ShownWorld.{ShownWorld, ShownSide}
 use Rattle.x25_world.specs.FitsWorld.{Gone, FitsWorld, FitsRun, and_then, FitsSide, HasHappened, IsRefusal, StopsAt, RefusesConfig}
@@ -182,13 +182,13 @@ pub run_and_then : (cfg : Cfg) (old new : ShownWorld) (past : List Event) (gone 
 run_and_then cfg old new past gone e (Ok x) h octets step accepted stays = record {
   settings = h.settings;
   octets = octets_push past e h.octets octets;
-  accepted = AreAccepted-push cfg past e (start cfg) h.accepted (accepted (run cfg past (start cfg)) h.fits);
-  fits = rw run-push (step (run cfg past (start cfg)) h.fits);
+  accepted = AreAccepted-push cfg past e (established cfg) h.accepted (accepted (run cfg past (established cfg)) h.fits);
+  fits = rw run-push (step (run cfg past (established cfg)) h.fits);
 }
-run_and_then cfg old new past gone e (Err x) h octets step accepted stays = record { settings = h.settings; octets = h.octets; accepted = h.accepted; fits = stays (run cfg past (start cfg)) h.fits }
+run_and_then cfg old new past gone e (Err x) h octets step accepted stays = record { settings = h.settings; octets = h.octets; accepted = h.accepted; fits = stays (run cfg past (established cfg)) h.fits }
 
 -- so a law of all runs holds of it
-pub holds_after : (Holds : Cfg → World → Type 0) (v : ShownWorld) (cfg : Cfg) (events : List Event) (gone : Gone) → Always Holds → FitsRun cfg v events gone → Holds cfg (run cfg events (start cfg))
+pub holds_after : (Holds : Cfg → World → Type 0) (v : ShownWorld) (cfg : Cfg) (events : List Event) (gone : Gone) → Always Holds → FitsRun cfg v events gone → Holds cfg (run cfg events (established cfg))
 holds_after Holds v cfg events gone law h = law cfg h.settings events h.octets
 
 pub run_more : (cfg : Cfg) (v : ShownWorld) (past : List Event) (gone : Gone) (events : List code_event.Event) (i : ℕ) (d : code_event.Event) → i < length events

@@ -25,7 +25,7 @@ use Rattle.x25_station.specs.Entries.{StationEntry, link_up, layer_entries, laye
 use Rattle.x25_station.specs.ReadLaw.{RequestsOctets}
 use Rattle.x25_station.specs.Station.{Station}
 use Rattle.x25_station.specs.Told.{is_idle, stretch}
-use Rattle.x25_world.specs.World.{OnTap, AtEnd, World, Act, Commands, Receives, Event, run, AreAccepted, connected, start}
+use Rattle.x25_world.specs.World.{OnTap, AtEnd, World, Act, Commands, Receives, Event, run, AreAccepted, connected, established}
 
 -- ---- every list of events
 
@@ -44,7 +44,7 @@ AreInOctets (e ∷ events) = ActsInOctets e.act × AreInOctets events
 
 -- what holds after each list of events, of commands, deliveries, losses, damage and timer T1, from a link just set up
 abbrev pub Always : (Cfg → World → Type 0) → Type 0
-Always Holds = (cfg : Cfg) → config_refusal cfg ≡ None → (events : List Event) → AreInOctets events → Holds cfg (run cfg events (start cfg))
+Always Holds = (cfg : Cfg) → config_refusal cfg ≡ None → (events : List Event) → AreInOctets events → Holds cfg (run cfg events (established cfg))
 
 -- SABM is there to be delivered to the DCE, and then UA to the DTE
 abbrev pub IsSetUp : Type 0

@@ -7,7 +7,7 @@ use Rattle.x25_station.specs.declared.config.Cfg.{Cfg}
 use Rattle.x25_station.specs.declared.error.StationError.{StationError}
 use Rattle.x25_station.specs.Settings.{settings_from, config_refusal}
 use Rattle.x25_station.specs.FitsStation.{FitsStation}
-use Rattle.x25_world.specs.World.{OnTap, AtEnd, World, Event, Act, Loses, WorldOutcome, Happened, Declined, happens, refusal_of, run, AreAccepted, start}
+use Rattle.x25_world.specs.World.{OnTap, AtEnd, World, Event, Act, Loses, WorldOutcome, Happened, Declined, happens, refusal_of, run, AreAccepted, established}
 use Rattle.x25_world.specs.Claims.{AreInOctets}
 use Rattle.x25_world.specs.ShownLine.{line_to}
 use Rattle.x25_world.specs.ShownWorld.{ShownWorld, ShownSide}
@@ -59,8 +59,8 @@ pub record StopsAt (cfg : Cfg) (events : List Event) (w : World) (gone : Gone) (
 pub record FitsRun (cfg : Cfg) (v : ShownWorld) (events : List Event) (gone : Gone) : Type 0 where
   pub settings : config_refusal cfg ≡ None
   pub octets : AreInOctets events
-  pub accepted : AreAccepted cfg events (start cfg)
-  pub fits : FitsWorld cfg v (run cfg events (start cfg)) gone
+  pub accepted : AreAccepted cfg events (established cfg)
+  pub fits : FitsWorld cfg v (run cfg events (established cfg)) gone
 
 -- the events of a run with one more, where it is accepted
 abbrev pub and_then : List Event → Event → Result (Unit {0}) WorldError → List Event
@@ -74,7 +74,7 @@ and_all events more (Err refused) = events ++ take refused.index more
 
 -- this holds of the world after each run that leads here and goes on so
 abbrev pub HoldsAfter : (Cfg → World → Type 0) → ShownWorld → (List Event → List Event) → Type 0
-HoldsAfter Holds v more = (cfg : Cfg) (past : List Event) (gone : Gone) → FitsRun cfg v past gone → Holds cfg (run cfg (more past) (start cfg))
+HoldsAfter Holds v more = (cfg : Cfg) (past : List Event) (gone : Gone) → FitsRun cfg v past gone → Holds cfg (run cfg (more past) (established cfg))
 
 -- ---- an end and what it shares with the other; the other end is as it was
 

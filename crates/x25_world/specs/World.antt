@@ -150,13 +150,13 @@ AreAccepted cfg [] w = Unit {0}
 AreAccepted cfg (e ∷ events) w = (refusal_of (happens cfg w e) ≡ None) × AreAccepted cfg events (after w (happens cfg w e))
 
 -- two stations that never were up
-abbrev pub apart : World
-apart = record { near = new_station; far = new_station; out = []; back = []; tap = []; transcript = [] }
+abbrev pub start : World
+start = record { near = new_station; far = new_station; out = []; back = []; tap = []; transcript = [] }
 
 -- the DTE has asked that the link be set up
 abbrev pub connected : Cfg → World
-connected cfg = after apart (of_station (settings_from Dte cfg) apart (connects (settings_from Dte cfg) new_station))
+connected cfg = after start (of_station (settings_from Dte cfg) start (connects (settings_from Dte cfg) new_station))
 
 -- SABM and UA were delivered: both links are up, and both RESTARTs are on the line
-abbrev pub start : Cfg → World
-start cfg = run cfg (record { at = Dce; act = Receives } ∷ record { at = Dte; act = Receives } ∷ []) (connected cfg)
+abbrev pub established : Cfg → World
+established cfg = run cfg (record { at = Dce; act = Receives } ∷ record { at = Dte; act = Receives } ∷ []) (connected cfg)

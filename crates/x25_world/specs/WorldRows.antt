@@ -16,7 +16,7 @@ use Rattle.x25_station.specs.Entries.{disconnect_asked, link_up, link_down, was_
 use Rattle.x25_station.specs.Settings.{settings_from}
 use Rattle.x25_station.specs.Told.{is_idle, stretch}
 use Rattle.x25_world.specs.declared.error.WorldError.TheVariants as error
-use Rattle.x25_world.specs.World.{World, Act, Commands, Receives, Fires, Loses, Damages, Event, happens, refusal_of, run, start}
+use Rattle.x25_world.specs.World.{World, Act, Commands, Receives, Fires, Loses, Damages, Event, happens, refusal_of, run, established}
 use Rattle.x25_world.specs.Claims.{handed_at}
 
 abbrev pub two_channels : Cfg
@@ -37,13 +37,13 @@ delivers (suc n) = event Dce Receives ∷ event Dte Receives ∷ delivers n
 
 abbrev pub SetsUp : Type 0
 SetsUp =
-    (start two_channels).tap ≡ record { from = Dte; octets = 1 ∷ 63 ∷ 235 ∷ 223 ∷ [] } ∷ record { from = Dce; octets = 1 ∷ 115 ∷ 131 ∷ 87 ∷ [] }
+    (established two_channels).tap ≡ record { from = Dte; octets = 1 ∷ 63 ∷ 235 ∷ 223 ∷ [] } ∷ record { from = Dce; octets = 1 ∷ 115 ∷ 131 ∷ 87 ∷ [] }
     ∷ record { from = Dce; octets = 3 ∷ 0 ∷ 16 ∷ 0 ∷ 251 ∷ 7 ∷ 0 ∷ 196 ∷ 120 ∷ [] } ∷ record { from = Dte; octets = 1 ∷ 0 ∷ 16 ∷ 0 ∷ 251 ∷ 0 ∷ 0 ∷ 119 ∷ 2 ∷ [] } ∷ []
 
 -- ---- a call of the DTE, on the highest channel, and a message
 
 abbrev pub called : World
-called = run two_channels (delivers 3 ++ asks Dte (Dials (codes "123") (codes "4567") (65 ∷ []) default_params) ∷ delivers 2 ++ asks Dce (Asks 2 (Accepts None)) ∷ delivers 2) (start two_channels)
+called = run two_channels (delivers 3 ++ asks Dte (Dials (codes "123") (codes "4567") (65 ∷ []) default_params) ∷ delivers 2 ++ asks Dce (Asks 2 (Accepts None)) ∷ delivers 2) (established two_channels)
 
 abbrev pub sends_hi : Event
 sends_hi = asks Dte (Asks 2 (Sends false (codes "hi")))
@@ -72,7 +72,7 @@ DamagedArrives = HasArrived (run two_channels (sends_hi ∷ event Dce (Damages 0
 
 abbrev pub DisconnectEndsBoth : Type 0
 DisconnectEndsBoth =
-    (run two_channels (event Dte (Commands Disconnects) ∷ delivers 2) (start two_channels)).transcript ≡ record { at = Dce; entry = link_up } ∷ record { at = Dte; entry = link_up }
+    (run two_channels (event Dte (Commands Disconnects) ∷ delivers 2) (established two_channels)).transcript ≡ record { at = Dce; entry = link_up } ∷ record { at = Dte; entry = link_up }
     ∷ record { at = Dte; entry = disconnect_asked } ∷ record { at = Dte; entry = link_down Local } ∷ record { at = Dce; entry = was_restarted 0 0 }
     ∷ record { at = Dce; entry = link_down Disc } ∷ []
 
@@ -81,5 +81,5 @@ DisconnectEndsBoth =
 abbrev pub IsRefused : Type 0
 IsRefused =
     (refusal_of (happens two_channels called (event Dce Receives)) ≡ Some error.Empty) × (refusal_of (happens two_channels called (event Dce (Loses 0))) ≡ Some error.NoSuchFrame)
-    × (refusal_of (happens two_channels (start two_channels) (event Dce (Damages 0 (1 ∷ 63 ∷ 235 ∷ 223 ∷ [])))) ≡ Some error.Unseen)
+    × (refusal_of (happens two_channels (established two_channels) (event Dce (Damages 0 (1 ∷ 63 ∷ 235 ∷ 223 ∷ [])))) ≡ Some error.Unseen)
     × (refusal_of (happens two_channels called (event Dte Fires)) ≡ Some (error.Station (station_error.Link link_error.NotRunning)))

@@ -8,7 +8,7 @@ ghost use Rattle.x25_world.specs.ShownWorld.{line_of, station_of};
 ghost use Rattle.x25_world.specs.FitsWorld.{Gone, all_of, nothing_gone, FitsWorld, FitsRun, and_then, and_all, HoldsAfter, IsRefusal, TakesMemory, StopsAt, RefusesConfig};
 ghost use Rattle.x25_world.specs.Claims.{IsLawful, IsNamed, ArrivesAll, HasNoProcedureError, IsInWindow, IsUpOnce};
 ghost use Rattle.x25_world.specs.World as definition;
-ghost use Rattle.x25_world.specs.World.{event_of, happens, after, refusal_of, run, AreAccepted, apart, connected, start};
+ghost use Rattle.x25_world.specs.World.{event_of, happens, after, refusal_of, run, AreAccepted, start, connected, established};
 
 use crate::acting::{act, connect};
 use crate::error::{WorldError, WorldRefused};
@@ -66,8 +66,8 @@ impl World {
 
     // The DTE, which never was up, asks that the link be set up.
     fn connect(&mut self) -> Result<(), WorldError>
-        ensures fits { (cfg : Cfg) → FitsWorld cfg self.old apart nothing_gone → OnOk result (FitsWorld cfg self.new (connected cfg) nothing_gone) }
-        ensures refused { (cfg : Cfg) → FitsWorld cfg self.old apart nothing_gone → IfErr result (λ e. e ≡ WorldError.NoMemory) }
+        ensures fits { (cfg : Cfg) → FitsWorld cfg self.old start nothing_gone → OnOk result (FitsWorld cfg self.new (connected cfg) nothing_gone) }
+        ensures refused { (cfg : Cfg) → FitsWorld cfg self.old start nothing_gone → IfErr result (λ e. e ≡ WorldError.NoMemory) }
     {
         connect(
             Role::Dte,
@@ -81,15 +81,15 @@ impl World {
     ///
     /// 14 where a setting is out of its range, and else 70 alone.
     pub fn establish(alloc: Global, cfg: Cfg) -> Result<World, WorldError>
-        ensures fits { IfOk result (λ v. FitsWorld cfg v (start cfg) nothing_gone) }
+        ensures fits { IfOk result (λ v. FitsWorld cfg v (established cfg) nothing_gone) }
         ensures run { IfOk result (λ v. FitsRun cfg v [] nothing_gone) }
         ensures refused { RefusesConfig result (config_refusal cfg) }
-        ensures lawful { OnOk result (IsLawful cfg (start cfg)) }
-        ensures named { OnOk result (IsNamed cfg (start cfg)) }
-        ensures arrives { OnOk result (ArrivesAll cfg (start cfg)) }
-        ensures quiet { OnOk result (HasNoProcedureError cfg (start cfg)) }
-        ensures window { OnOk result (IsInWindow cfg (start cfg)) }
-        ensures up_once { OnOk result (IsUpOnce cfg (start cfg)) }
+        ensures lawful { OnOk result (IsLawful cfg (established cfg)) }
+        ensures named { OnOk result (IsNamed cfg (established cfg)) }
+        ensures arrives { OnOk result (ArrivesAll cfg (established cfg)) }
+        ensures quiet { OnOk result (HasNoProcedureError cfg (established cfg)) }
+        ensures window { OnOk result (IsInWindow cfg (established cfg)) }
+        ensures up_once { OnOk result (IsUpOnce cfg (established cfg)) }
     {
         two_stations_keep_order();
         let mut world = World::connecting(alloc, cfg)?;
@@ -101,7 +101,7 @@ impl World {
 
     // SABM and UA are delivered.
     fn set_up(&mut self) -> Result<(), WorldError>
-        ensures fits { (cfg : Cfg) → FitsWorld cfg self.old (connected cfg) nothing_gone → OnOk result (FitsWorld cfg self.new (start cfg) nothing_gone) }
+        ensures fits { (cfg : Cfg) → FitsWorld cfg self.old (connected cfg) nothing_gone → OnOk result (FitsWorld cfg self.new (established cfg) nothing_gone) }
         ensures refused { (cfg : Cfg) → FitsWorld cfg self.old (connected cfg) nothing_gone → IfErr result (λ e. e ≡ WorldError.NoMemory) }
     {
         two_stations_keep_order();
@@ -230,7 +230,7 @@ impl World {
     /// Lets go of what was told: tap and transcript begin anew. The line and the stations are as before.
     pub fn let_go(&mut self)
         ensures fits { (cfg : Cfg) (w : definition.World) (gone : Gone) → FitsWorld cfg self.old w gone → FitsWorld cfg self.new w (all_of w) }
-        ensures run { (cfg : Cfg) (past : List definition.Event) (gone : Gone) → FitsRun cfg self.old past gone → FitsRun cfg self.new past (all_of (run cfg past (start cfg))) }
+        ensures run { (cfg : Cfg) (past : List definition.Event) (gone : Gone) → FitsRun cfg self.old past gone → FitsRun cfg self.new past (all_of (run cfg past (established cfg))) }
         ensures empty { self.new ≡ record self.old { tap = []; transcript = [] } }
     {
         self.line.let_go();
