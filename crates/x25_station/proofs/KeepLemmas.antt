@@ -29,7 +29,6 @@ use Rattle.x25_station.specs.JoinLaw.{AreAccepted}
 use Rattle.x25_station.specs.KeepLaw.{IsKept, KeptBy, ConnectKeeps, TimerKeeps, CommandKeeps, ReceiveKeeps}
 use Rattle.x25_station.proofs.PutLemmas.{all_up, rounds_accepted, begin_accepted}
 use Rattle.x25_station.proofs.RequestLemmas.{has_room}
-use Rattle.x25_station.proofs.OutcomeLemmas.{kept_led}
 
 -- ---- what waits in the link
 
@@ -247,6 +246,11 @@ request_kept tells c s request kept = at (is_up s.link.phase) refl (layer_outcom
     at true up (Accepted next packet) found =
         up_kept tells c (alone s.link) (rounds view lc (begin next packet)) (entries_of_outcome lc s.layer request (Accepted next packet)) up kept.few
         (rounds_accepted tells (link_settings c) (alone s.link) lc (begin next packet) up (accepted next packet up found))
+
+-- the entry of a command changes nothing of it
+kept_led : (entries : List StationEntry) (o : Option LinkError) (step : Step) → KeptBy (unless o step) → KeptBy (unless o (led_by entries step))
+kept_led entries None step kept = kept
+kept_led entries (Some e) step kept = tt
 
 pub command_kept : LinkLaws → CommandKeeps
 command_kept laws c s (Requests request) kept = request_kept laws.put c s request kept

@@ -1,5 +1,5 @@
 -- What a call answers, by what its link's call answers.
-use Rattle.std.proofs.Common.{◌≡◌, List, ◌++◌, Bool, true, false, if◌then◌else◌, map, Option, Some, None, Result, Ok, Err, OnOk, OnErr, inl, refl, ap, sym, subst, ◌∙◌}
+use Rattle.std.proofs.Common.{◌≡◌, Bool, true, false, if◌then◌else◌, map, Option, Some, None, Result, Ok, Err, OnOk, OnErr, inl, refl, ap, sym, subst, ◌∙◌}
 use Rattle.std.proofs.Math.Logic.{∥∥₁_map}
 use Rattle.x25_frame.specs.Spelling.{spelling_of}
 use Rattle.x25_link.specs.declared.error.LinkError.{LinkError}
@@ -16,8 +16,7 @@ use Rattle.x25_station.specs.declared.error.StationError.TheVariants as error
 use Rattle.x25_station.specs.StationError.{of_link}
 use Rattle.x25_station.specs.Settings.{Settings}
 use Rattle.x25_station.specs.Station.{Station}
-use Rattle.x25_station.specs.Entries.{StationEntry}
-use Rattle.x25_station.specs.Steps.{Step, Outcome, Did, Refused, unless, led_by}
+use Rattle.x25_station.specs.Steps.{Step, Outcome, Did, Refused, unless}
 use Rattle.x25_station.specs.KeepLaw.{IsKept, KeptBy}
 use Rattle.x25_station.specs.PlainEntry.{plain_entry}
 use Rattle.x25_station.specs.FitsParts.{FitsParts, AreMeant}
@@ -67,7 +66,7 @@ abbrev pub IsNamed : Option LinkError → Type 0
 IsNamed None = Unit {0}
 IsNamed (Some e) = of_link e ≡ error.Link e
 
-err_is : (T : Type 0) {E : Type 0} (a b : E) → (let x : Result T E = Err a in x ≡ Err b) → a ≡ b
+err_is : (T : Type 0) (a b : LinkError) → (let x : Result T LinkError = Err a in x ≡ Err b) → a ≡ b
 err_is T a b is = cc
 
 pub refused_exactly : (T U : Type 0) (e : LinkError) (found : StationError) (o : Option LinkError) (step : Step) → IsNamed o → found ≡ of_link e → (let x : Result T LinkError = Err e in link.Refuses o x)
@@ -103,28 +102,3 @@ disconnect_named Down = tt
 disconnect_named Waiting = tt
 disconnect_named Up = tt
 disconnect_named Closed = refl
-
--- ---- a step that an entry leads
-
-pub kept_led : (entries : List StationEntry) (o : Option LinkError) (step : Step) → KeptBy (unless o step) → KeptBy (unless o (led_by entries step))
-kept_led entries None step kept = kept
-kept_led entries (Some e) step kept = tt
-
-pub leaves_led : {T : Type 0} (c : Settings) (l : ShownLink) (y : layer_code.Layer) (r : Result T StationError) (entries : List StationEntry) (o : Option LinkError) (step : Step) → LeavesParts c l y r (unless o step)
-    → LeavesParts c l y r (unless o (led_by entries step))
-leaves_led c l y r entries None step leaves = leaves
-leaves_led c l y r entries (Some e) step leaves = tt
-
-pub sends_led : (c : Settings) (r s : code_step.Step) (entries : List StationEntry) (o : Option LinkError) (step : Step) → s.frames ≡ r.frames → Sends c (Ok r) (unless o step)
-    → Sends c (Ok s) (unless o (led_by entries step))
-sends_led c r s entries None step same sends = ap (λ frames. map (λ frame. frame.items) frames.items) same ∙ sends
-sends_led c r s entries (Some e) step same sends = tt
-
-pub refuses_led : {T U : Type 0} (r : T) (s : U) (entries : List StationEntry) (o : Option LinkError) (step : Step) → RefusesExactly (Ok r) (unless o step) → Refuses (Ok s) (unless o (led_by entries step))
-refuses_led r s entries None step h = tt
-refuses_led r s entries (Some e) step h = absurd (ok_err r (error.Link e) h)
-
-pub refused_led : {T U : Type 0} (e : StationError) (entries : List StationEntry) (o : Option LinkError) (step : Step)
-    → (let x : Result T StationError = Err e in RefusesExactly x (unless o step)) → (let x : Result U StationError = Err e in Refuses x (unless o (led_by entries step)))
-refused_led e entries None step h = h
-refused_led {T = T} e entries (Some found) step h = inl (err_is T e (error.Link found) h)

@@ -15,5 +15,6 @@ pub mod Headline
 pub mod RowLemmas
 pub mod OnLineLemmas
 pub mod LetGoLemmas
+pub mod SetUpLemmas
 pub mod SideLemmas
 pub mod WorldLemmas
