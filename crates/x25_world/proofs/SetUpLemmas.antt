@@ -1,7 +1,7 @@
 -- A frame of a set-up is on the line where one of its places has it.
-use Rattle.std.proofs.Common.{◌≡◌, ℕ, ◌+◌, ◌<◌, Bool, true, false, ◌||◌, List, length, take, Some, slice_get, sym, ap, ap₂, ◌∙◌}
+use Rattle.std.proofs.Common.{◌≡◌, ℕ, ◌+◌, ◌<◌, Bool, true, false, ◌||◌, List, [], length, take, Some, None, slice_get, sym, ap, ap₂, ◌∙◌}
 use Rattle.std.specs.List.{list_any}
-use Rattle.std.proofs.lemmas.Option.{get_or_from_slice_get}
+use Rattle.std.proofs.lemmas.Option.{get_or_from_slice_get, slice_get-get_or}
 use Rattle.std.proofs.lemmas.List.Folds.{list_any_at, list_any_more}
 
 -- what stands at this place passes the test
@@ -13,3 +13,10 @@ pub not_found_yet : {X : Type 0} (p : X → Bool) (xs : List X) (i : ℕ) (x : X
     → list_any p (take (i + 1) xs) ≡ false
 not_found_yet p xs i x within at before fails =
     list_any_more p xs i x within ∙ ap₂ (λ (a b : Bool). a || b) before (ap p (get_or_from_slice_get xs i x x (sym at)) ∙ fails)
+
+-- something stands at each place
+pub none_there : {A : Type 0} (xs : List (List ℕ)) (i : ℕ) → i < length xs → None ≡ slice_get xs i → A
+none_there {A} xs i within none = absurd (never (none ∙ slice_get-get_or xs i [] within))
+  where
+    never : {x : List ℕ} → None ≡ Some x → ⊥
+    never e = cc

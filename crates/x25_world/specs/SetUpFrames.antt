@@ -1,5 +1,5 @@
 -- The frames of a set-up that are on the line: by what their octets read as now, whatever P or F.
-use Rattle.std.specs.Prelude.{ℕ, Bool, true, false, List, Result, Ok, Err}
+use Rattle.std.specs.Prelude.{ℕ, Bool, true, false, List, Result, Ok}
 use Rattle.std.specs.List.{list_any}
 use Rattle.x25_bits.specs.declared.role.Role.{Role}
 use Rattle.x25_frame.specs.PlainFrame.{PlainFrame, sabm, ua}
