@@ -16,7 +16,7 @@ use Rattle.x25_layer.specs.Transcript.{Entry}
 use Rattle.x25_layer.specs.World as layer
 use Rattle.x25_station.specs.declared.config.Cfg.{Cfg}
 use Rattle.x25_station.specs.Settings.{settings_from}
-use Rattle.x25_station.specs.Entries.{StationEntry, of_channel, restart_asked, disconnect_asked, link_up, link_down, was_restarted, restart_confirmed, at_fault, in_layer, notice_in, layer_entries, layer_notices}
+use Rattle.x25_station.specs.Entries.{StationEntry, of_channel, restart_asked, connect_asked, disconnect_asked, link_up, link_down, was_restarted, restart_confirmed, at_fault, in_layer, notice_in, layer_entries, layer_notices}
 use Rattle.x25_station.specs.Station.{Station}
 use Rattle.x25_station.specs.Steps.{Step}
 use Rattle.x25_station.specs.KeepLaw.{IsKept}
@@ -124,6 +124,7 @@ pub ups_append : (xs ys : List StationEntry) → ups_in (xs ++ ys) ≡ ups_in xs
 ups_append [] ys = omega arith
 ups_append (of_channel e ∷ xs) ys = ups_append xs ys
 ups_append (restart_asked ∷ xs) ys = ups_append xs ys
+ups_append (connect_asked ∷ xs) ys = ups_append xs ys
 ups_append (disconnect_asked ∷ xs) ys = ups_append xs ys
 ups_append (link_up ∷ xs) ys = let rest = ups_append xs ys in omega (arith, rest)
 ups_append (link_down reason ∷ xs) ys = ups_append xs ys

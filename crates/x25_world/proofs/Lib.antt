@@ -8,12 +8,13 @@ pub mod NoUps
 pub mod Requests
 pub mod Receives
 pub mod Runs
-pub mod Start
+pub mod Established
 pub mod Lawful
 pub mod QuietTap
 pub mod Headline
 pub mod RowLemmas
 pub mod OnLineLemmas
 pub mod LetGoLemmas
+pub mod SetUpLemmas
 pub mod SideLemmas
 pub mod WorldLemmas

@@ -1,9 +1,9 @@
 -- Timer T1 runs out, and the link is disconnected: the link's step, and then the layer.
-use Rattle.std.proofs.Common.{◌≡◌, ℕ, ◌+◌, List, [], ◌∷◌, Bool, true, false, nat_lt, if◌then◌else◌, Option, Some, None, refl, subst}
+use Rattle.std.proofs.Common.{◌≡◌, ℕ, ◌+◌, List, [], ◌∷◌, Bool, true, false, ◌&&◌, nat_lt, if◌then◌else◌, Option, Some, None, refl, subst}
 use Rattle.x25_bits.specs.declared.role.Role.{Role}
 use Rattle.x25_link.specs.declared.error.LinkError.{LinkError}
 use Rattle.x25_link.specs.declared.phase.Reason.TheVariants.{Retries}
-use Rattle.x25_link.specs.Station.{Settings as LinkSettings, Station as LinkStation, with_near}
+use Rattle.x25_link.specs.Station.{Settings as LinkSettings, Station as LinkStation, is_waiting, with_near}
 use Rattle.x25_link.specs.MustSend.{Step as LinkStep, quiet, leaves}
 use Rattle.x25_link.specs.Steps.{alone, closed_by, asks_again, timer_refusal, timer_step, disconnect_refusal, disconnect_step}
 use Rattle.x25_line.specs.Stations as line
@@ -13,7 +13,8 @@ use Rattle.x25_station.specs.Command.{Disconnects}
 use Rattle.x25_station.specs.Entries.{disconnect_asked}
 use Rattle.x25_station.specs.Steps.{Step, follows, led_by, fires, disconnects, unless}
 use Rattle.x25_station.specs.KeepLaw.{KeptBy}
-use Rattle.x25_world.specs.World.{World, of_station, after}
+use Rattle.x25_world.specs.World.{World, Declined, of_station, is_on_line, fired, after}
+use Rattle.x25_world.specs.declared.error.WorldError.TheVariants as error
 use Rattle.x25_world.specs.Claims.{link_of}
 use Rattle.x25_world.proofs.Reaches.{LinksReach, link_acts}
 use Rattle.x25_world.proofs.Known.{Laws, IsConfigured}
@@ -38,7 +39,7 @@ module _ (laws : Laws) (cfg : Cfg) (fine : IsConfigured cfg) (end : Role) (w : W
       let done = subst (λ (o : Option LinkError). LinksReach cfg end (line.unless o h.links (line.after_step (link_of cfg end) h.links h.links.back [] (step w.near.link)))) none there in
       subst (λ (back : List (List ℕ)). LinksReach cfg end (line.after_step (link_of cfg end) h.links back [] (step w.near.link))) h.back done
 
-  pub fires_joined : Joined cfg end (after w (of_station (settings_from end cfg) w (fires (settings_from end cfg) w.near)))
+  fires_joined : Joined cfg end (after w (of_station (settings_from end cfg) w (fires (settings_from end cfg) w.near)))
   fires_joined = by (timer_refusal w.near.link) refl
     where
       step : Step
@@ -51,6 +52,13 @@ module _ (laws : Laws) (cfg : Cfg) (fine : IsConfigured cfg) (end : Role) (w : W
           (reached_unless timer_refusal (timer_step (link_of cfg end)) (link_acts cfg end line.T1 h.links h.links_reach) is)
           (timer_packet (link_of cfg end) w.near.link) (laws.timer_tells (link_of cfg end) w.near.link)
           (subst (λ (o : Option LinkError). KeptBy (unless o step)) is (laws.timer_keeps (settings_from end cfg) w.near h.near.kept))
+
+  pub fired_joined : Joined cfg end (after w (fired (settings_from end cfg) w))
+  fired_joined = by (is_waiting w.near.link.phase && is_on_line (settings_from end cfg) w)
+    where
+      by : (b : Bool) → Joined cfg end (after w (if b then Declined error.OnLine else of_station (settings_from end cfg) w (fires (settings_from end cfg) w.near)))
+      by true = h
+      by false = fires_joined
 
   pub disconnects_joined : Joined cfg end (after w (of_station (settings_from end cfg) w (disconnects (settings_from end cfg) w.near)))
   disconnects_joined = by (disconnect_refusal w.near.link.phase) refl

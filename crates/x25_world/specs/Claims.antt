@@ -1,5 +1,5 @@
 -- What holds of two stations and the line between them after every list of events, the link set up once.
-use Rattle.std.specs.Prelude.{◌≡◌, ℕ, suc, true, List, [], ◌∷◌, ◌++◌, Some, None, Result, Ok, Err}
+use Rattle.std.specs.Prelude.{◌≡◌, ℕ, suc, true, List, [], ◌∷◌, ◌++◌, Option, Some, None, Result, Ok, Err}
 use Rattle.x25_bits.specs.declared.role.Role.{Role}
 use Rattle.x25_bits.specs.declared.role.Role.TheVariants.{Dte, Dce}
 use Rattle.x25_packet.specs.PlainPacket.{PlainPacket}
@@ -20,18 +20,20 @@ use Rattle.x25_layer.specs.Quiet.{IsQuietAt, AreNoFaults}
 use Rattle.x25_layer.specs.Law.{HandsUpLawfully, HasAllOf}
 use Rattle.x25_station.specs.declared.config.Cfg.{Cfg}
 use Rattle.x25_station.specs.Settings.{settings_from, config_refusal, longest_packet, link_settings}
-use Rattle.x25_station.specs.Command.{Command, Requests, Disconnects}
+use Rattle.x25_station.specs.Command.{Command, Requests, Connects, Disconnects}
 use Rattle.x25_station.specs.Entries.{StationEntry, link_up, layer_entries, layer_notices}
 use Rattle.x25_station.specs.ReadLaw.{RequestsOctets}
 use Rattle.x25_station.specs.Station.{Station}
 use Rattle.x25_station.specs.Told.{is_idle, stretch}
-use Rattle.x25_world.specs.World.{OnTap, AtEnd, World, Act, Commands, Receives, Event, run, AreAccepted, connected, start}
+use Rattle.x25_world.specs.declared.error.WorldError.{WorldError}
+use Rattle.x25_world.specs.World.{OnTap, AtEnd, World, Act, Commands, Receives, Event, happens, refusal_of, after, run, AreAccepted, connected, established}
 
 -- ---- every list of events
 
 -- what users hand down is octets
 abbrev pub CommandsOctets : Command → Type 0
 CommandsOctets (Requests request) = RequestsOctets request
+CommandsOctets Connects = Unit {0}
 CommandsOctets Disconnects = Unit {0}
 
 abbrev pub ActsInOctets : Act → Type 0
@@ -42,9 +44,23 @@ abbrev pub AreInOctets : List Event → Type 0
 AreInOctets [] = Unit {0}
 AreInOctets (e ∷ events) = ActsInOctets e.act × AreInOctets events
 
--- what holds after each list of events, of commands, deliveries, losses, damage and timer T1, from a link just set up
+-- not a `connect` that is accepted
+abbrev pub IsNoConnect : Act → Option WorldError → Type 0
+IsNoConnect (Commands Connects) None = ⊥
+IsNoConnect act refusal = Unit {0}
+
+-- no `connect` of the events is accepted
+abbrev pub NoneConnects : Cfg → List Event → World → Type 0
+NoneConnects cfg [] w = Unit {0}
+NoneConnects cfg (e ∷ events) w = IsNoConnect e.act (refusal_of (happens cfg w e)) × NoneConnects cfg events (after w (happens cfg w e))
+
+-- the link, just set up, isn't set up again
+abbrev pub SetsUpOnce : Cfg → List Event → Type 0
+SetsUpOnce cfg events = NoneConnects cfg events (established cfg)
+
+-- what holds after each list of events, of commands, deliveries, losses, damage and timer T1, from a link just set up, which isn't set up again
 abbrev pub Always : (Cfg → World → Type 0) → Type 0
-Always Holds = (cfg : Cfg) → config_refusal cfg ≡ None → (events : List Event) → AreInOctets events → Holds cfg (run cfg events (start cfg))
+Always Holds = (cfg : Cfg) → config_refusal cfg ≡ None → (events : List Event) → AreInOctets events → SetsUpOnce cfg events → Holds cfg (run cfg events (established cfg))
 
 -- SABM is there to be delivered to the DCE, and then UA to the DTE
 abbrev pub IsSetUp : Type 0

@@ -1,7 +1,7 @@
 //! Two stations over a line, as laws about their definition. Each is the contract of a function that does nothing.
 ghost use Rattle.x25_station.specs.ReadLaw.{AreOctets};
 ghost use Rattle.x25_world.specs.World.{event_of};
-ghost use Rattle.x25_world.specs.WorldRows.{SetsUp, MessageArrives, LostArrives, DamagedArrives, DisconnectEndsBoth, IsRefused};
+ghost use Rattle.x25_world.specs.WorldRows.{SetsUp, MessageArrives, LostArrives, DamagedArrives, DisconnectEndsBoth, ConnectSetsUp, ConnectGoesAgain, TimerWaits, IsRefused};
 ghost use Rattle.x25_world.specs.Claims.{ActsInOctets, Always, IsSetUp, IsLawful, IsNamed, ArrivesAll, HasNoProcedureError, IsInWindow, IsUpOnce};
 
 use crate::Event;
@@ -12,7 +12,8 @@ use x25_link::{notes_what_changes, sets_up_by_rows};
 use x25_station::{Cmd, puts_are_readable, steps_are_joined, steps_keep_bounds};
 
 /// Two stations joined by a line of octets that keeps order and may lose or visibly damage any frame, the link set up once: what
-/// holds after each list of commands, deliveries, losses, damage and firings of timer T1, wherever an event is refused.
+/// holds after each list of commands, deliveries, losses, damage and firings of timer T1, wherever an event is refused, from a link just
+/// set up, where no `connect` of the list is accepted. So a list without `connect` has no other premise than those below.
 ///
 /// - `set_up`: SABM is there to be delivered, and then UA.
 /// - `lawful`: on each channel and under each name of a stretch, the messages, interrupts and calls that an end hands up are a
@@ -46,13 +47,17 @@ pub fn two_stations_keep_order()
 }
 
 /// Worked rows: the octets of set-up; a message that arrives, also where its frame is lost or damaged and goes again; `disconnect`,
-/// by which both ends go down; and refusals.
+/// by which both ends go down; `connect`, by which both come up, also where both ask, or UA is lost; timer T1, which waits for SABM and UA that
+/// are on the line; and refusals.
 pub fn two_stations_move()
     ensures sets_up { SetsUp }
     ensures arrives { MessageArrives }
     ensures lost { LostArrives }
     ensures damaged { DamagedArrives }
     ensures disconnect { DisconnectEndsBoth }
+    ensures connect { ConnectSetsUp }
+    ensures connect_again { ConnectGoesAgain }
+    ensures timer { TimerWaits }
     ensures refused { IsRefused }
 {}
 
