@@ -4,8 +4,8 @@ use Rattle.std.specs.Prelude.{nat_le, nat_lt}
 use Rattle.x25_link.specs.declared.error.LinkError.{LinkError}
 use Rattle.x25_link.specs.Station.{Settings, is_up}
 use Rattle.x25_link.specs.MustSend.{Step}
-use Rattle.x25_link.specs.Steps.{put_step, put_refusal, timer_step, timer_refusal, disconnect_step, disconnect_refusal, abandon_step}
-use Rattle.x25_line.specs.Stations.{Stations, Act, Put, Deliver, T1, Disconnect, Abandon, Lose, Damage, Near, Far, after_step, unless, delivered, replaced, is_visible, acts, swapped}
+use Rattle.x25_link.specs.Steps.{put_step, put_refusal, timer_step, timer_refusal, connect_step, connect_refusal, disconnect_step, disconnect_refusal, abandon_step}
+use Rattle.x25_line.specs.Stations.{Stations, Act, Put, Deliver, T1, Connect, Disconnect, Abandon, Lose, Damage, Near, Far, after_step, unless, delivered, replaced, is_visible, acts, swapped}
 use Rattle.x25_line.specs.StationClaims.{HandsOne, EachEventHandsOne}
 
 -- a step that hands nothing up and to which nothing was handed down
@@ -54,6 +54,9 @@ acts_hands c (Put packet) w =
 acts_hands c Deliver w = deliver_hands c w.back w
 acts_hands c T1 w =
     let h = nothing_unless (timer_refusal w.near.station) w _ (step_hands_nothing c w w.back (timer_step c w.near.station) (timer_packet c w)) in
+    record { up = h.up; down = h.down; far = h.far }
+acts_hands c Connect w =
+    let h = nothing_unless (connect_refusal w.near.station.phase) w _ (step_hands_nothing c w w.back (connect_step c w.near.station) refl) in
     record { up = h.up; down = h.down; far = h.far }
 acts_hands c Disconnect w =
     let h = nothing_unless (disconnect_refusal w.near.station.phase) w _ (step_hands_nothing c w w.back (disconnect_step c w.near.station) refl) in
