@@ -26,7 +26,7 @@ use Rattle.x25_line.specs.Line.{Line, moved, swapped as line_swapped}
 use Rattle.x25_line.specs.Line.Move.{HandsDown, Loses}
 use Rattle.x25_line.specs.InWindow.{Begins}
 use Rattle.x25_line.specs.Stations.{StationEnd, Stations, Act, Put, Deliver, T1, Connect, Disconnect, Abandon, Lose, Damage, Event, Near, Far, after_step, unless, delivered, replaced, is_visible, acts, swapped, happens, run, fresh_station, start}
-use Rattle.x25_line.specs.StationClaims.{AreJoined, IsSetUpOnce, Always, InOrder, BothInOrder, HasItsLists, BothHaveTheirLists, NotesItsEnd, BothNoteTheirEnds, AcceptsNoConnect, AcceptsNoConnectAt, NoneConnects, OneLinkUnlessConnected, number_in, numbered_on, IsReached, at_start, near_moves, far_moves, AreInWindow, NoFrmrSent, AreWhole, AllSentAreWhole}
+use Rattle.x25_line.specs.StationClaims.{AreJoined, IsSetUpOnce, Always, InOrder, BothInOrder, HasItsLists, BothHaveTheirLists, NotesItsEnd, BothNoteTheirEnds, AcceptsNoConnect, AcceptsNoConnectAt, NoneConnects, OneLinkUnlessConnected, number_in, numbered_on, IsReached, at_start, near_moves, far_moves, AreInWindow, NoFrmrSent, AreWhole, AllSentAreWhole, NotesUp, HandsOne}
 use Rattle.x25_line.proofs.Kept.{Kept, Way, Kept-moved, Kept-swapped, Way-acked, InWindow-from_Kept}
 use Rattle.x25_line.proofs.StationLines.{IsOrderly, orderly_where, AreOrderly, AreParting, taken_out, place_of, shows_lost, shows_damaged, orderly_lost, orderly_damaged, visible_reads, whole_more, either_way}
 use Rattle.x25_line.proofs.StationSends.{AllWithin, within_push}
@@ -355,32 +355,27 @@ event_joint MayAsk c d joined reads laws (Far act) w once may h =
 
 -- ---- LinkUp that was noted stays so
 
-step_before : (o : Option LinkError) (c : Settings) (w : Stations) (back down : List (List ℕ)) (step : Step) → (unless o w (after_step c w back down step)).near.came_up ≡ false → w.near.came_up ≡ false
-step_before (Some e) c w back down step h = h
-step_before None c w back down step h = first_false w.near.came_up step.notes.up h
+noted_before : (a : Act) (old new : Bool) → NotesUp a old new → new ≡ false → old ≡ false
+noted_before (Put packet) old new same e = sym same ∙ e
+noted_before Deliver old new more e = first_false old more.0 (sym more.1 ∙ e)
+noted_before T1 old new same e = sym same ∙ e
+noted_before Connect old new same e = sym same ∙ e
+noted_before Disconnect old new same e = sym same ∙ e
+noted_before Abandon old new same e = sym same ∙ e
+noted_before (Lose i) old new same e = sym same ∙ e
+noted_before (Damage i octets) old new same e = sym same ∙ e
 
-before_if : (b : Bool) (w v : Stations) → (v.near.came_up ≡ false → w.near.came_up ≡ false) → (if b then v else w).near.came_up ≡ false → w.near.came_up ≡ false
-before_if true w v f h = f h
-before_if false w v f h = h
-
-delivered_before : (c : Settings) (os : List (List ℕ)) (w : Stations) → (delivered c os w).near.came_up ≡ false → w.near.came_up ≡ false
-delivered_before c [] w h = h
-delivered_before c (o ∷ os) w h = first_false w.near.came_up (take_step c o w.near.station).notes.up h
-
-acts_before : (c : Settings) (a : Act) (w : Stations) → (acts c a w).near.came_up ≡ false → w.near.came_up ≡ false
-acts_before c (Put packet) w h =
-    before_if (nat_le (length packet) c.longest) w _ (step_before (put_refusal w.near.station) c w w.back (packet ∷ []) (put_step c packet w.near.station)) h
-acts_before c Deliver w h = delivered_before c w.back w h
-acts_before c T1 w h = step_before (timer_refusal w.near.station) c w w.back [] (timer_step c w.near.station) h
-acts_before c Connect w h = step_before (connect_refusal w.near.station.phase) c w w.back [] (connect_step c w.near.station) h
-acts_before c Disconnect w h = step_before (disconnect_refusal w.near.station.phase) c w w.back [] (disconnect_step c w.near.station) h
-acts_before c Abandon w h = before_if (is_up w.near.station.phase) w _ (first_false w.near.came_up (abandon_step c w.near.station).notes.up) h
-acts_before c (Lose i) w h = h
-acts_before c (Damage i octets) w h = before_if (is_visible octets) w (record w { back = replaced w.back i octets }) (λ k. k) h
+before_act : (a : Act) (w v : Stations) → HandsOne a w v → IsSetUpOnce v → IsSetUpOnce w
+before_act a w v h once = record {
+  near = noted_before a w.near.came_up v.near.came_up h.came_up once.near;
+  far = ap (λ (e : StationEnd). e.came_up) (sym h.far) ∙ once.far;
+}
 
 event_before : (c d : Settings) (e : Event) (w : Stations) → IsSetUpOnce (happens c d e w) → IsSetUpOnce w
-event_before c d (Near act) w h = record { near = acts_before c act w h.near; far = ap (λ (e : StationEnd). e.came_up) (sym (each_hands_one c d (Near act) w).far) ∙ h.far }
-event_before c d (Far act) w h = record { near = ap (λ (e : StationEnd). e.came_up) (sym (each_hands_one c d (Far act) w).far) ∙ h.near; far = acts_before d act (swapped w) h.far }
+event_before c d (Near act) w once = before_act act w (acts c act w) (each_hands_one c d (Near act) w) once
+event_before c d (Far act) w once =
+    let before = before_act act (swapped w) (acts d act (swapped w)) (each_hands_one c d (Far act) w) (record { near = once.far; far = once.near }) in
+    record { near = before.far; far = before.near }
 
 once_before : (c d : Settings) (es : List Event) (w : Stations) → IsSetUpOnce (run c d es w) → IsSetUpOnce w
 once_before c d [] w h = h

@@ -1,5 +1,5 @@
 -- What holds of two link stations and the line between them after each list of events, as long as the link isn't set up anew.
-use Rattle.std.specs.Prelude.{◌≡◌, ℕ, ◌≤◌, Bool, true, false, if◌then◌else◌, List, [], ◌∷◌, ◌++◌, length, take, replicate, Option, Some, None, option_to_list, Result, Ok, Err}
+use Rattle.std.specs.Prelude.{◌≡◌, ℕ, ◌≤◌, Bool, true, false, ◌||◌, if◌then◌else◌, List, [], ◌∷◌, ◌++◌, length, take, replicate, Option, Some, None, option_to_list, Result, Ok, Err}
 use Rattle.std.specs.List.{Contains}
 use Rattle.x25_bits.specs.declared.role.Role.{Role}
 use Rattle.x25_frame.specs.PlainFrame.{PlainFrame, info, rr, rnr, rej, frmr}
@@ -165,7 +165,7 @@ AreWhole n1 given (frame ∷ frames) = IsWhole n1 given frame × AreWhole n1 giv
 abbrev pub AllSentAreWhole : Settings → Settings → Stations → Type 0
 AllSentAreWhole c d w = AreWhole c.longest (w.near.down ++ w.far.down) w.sent
 
--- ---- what one event hands up and down
+-- ---- what one event hands up and down, and what it notes
 
 -- at most one packet is handed up, and only as octets come
 abbrev pub HandsUp : Act → List (List ℕ) → List (List ℕ) → Type 0
@@ -177,9 +177,15 @@ abbrev pub HandsDown : Act → List (List ℕ) → List (List ℕ) → Type 0
 HandsDown (Put packet) old new = (accepted : Bool) × (new ≡ if accepted then old ++ packet ∷ [] else old)
 HandsDown act old new = new ≡ old
 
+-- LinkUp is noted only as octets come, and what was noted stays
+abbrev pub NotesUp : Act → Bool → Bool → Type 0
+NotesUp Deliver old new = (up : Bool) × (new ≡ (old || up))
+NotesUp act old new = new ≡ old
+
 pub record HandsOne (act : Act) (w v : Stations) : Type 0 where
   pub up : HandsUp act w.near.up v.near.up
   pub down : HandsDown act w.near.down v.near.down
+  pub came_up : NotesUp act w.near.came_up v.near.came_up
   pub far : v.far ≡ w.far
 
 abbrev pub HandsOneAt : Event → Stations → Stations → Type 0

@@ -29,7 +29,8 @@ pub fn stations_keep_order()
     reads_what_is_spelled();
 }
 
-/// One event hands up one packet at most, and hands down the packet that is put, at the end where it happens.
+/// One event hands up one packet at most, and hands down the packet that is put, at the end where it happens. LinkUp is noted only
+/// as octets come, and what was noted stays.
 pub fn each_event_hands_one()
     ensures { EachEventHandsOne }
 {}
