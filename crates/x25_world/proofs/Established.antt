@@ -145,7 +145,7 @@ module _ (laws : Laws) (cfg : Cfg) where
   established_joined = subst (λ (x : World). Joined cfg Dte x) (sym established_is) (record {
     links = two_links;
     layers = two_layers;
-    links_reach = record { events = line.Far (line.Put (restart_of Dce)) ∷ line.Near (line.Put (restart_of Dte)) ∷ []; run = refl };
+    links_reach = record { events = line.Far (line.Put (restart_of Dce)) ∷ line.Near (line.Put (restart_of Dte)) ∷ []; unasked = (tt, (tt, tt)); run = refl };
     layers_reach = record { events = []; octets = tt; run = refl };
     near = record {
       link = sym dte_up.link;

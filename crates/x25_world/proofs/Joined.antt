@@ -66,7 +66,7 @@ pub joined_swapped : (cfg : Cfg) (end : Role) (w : World) â†’ Joined cfg end w â
 joined_swapped cfg Dte w h = record {
   links = line.swapped h.links;
   layers = layer.turned h.layers;
-  links_reach = record { events = h.links_reach.events; run = h.links_reach.run };
+  links_reach = record { events = h.links_reach.events; unasked = h.links_reach.unasked; run = h.links_reach.run };
   layers_reach = record { events = h.layers_reach.events; octets = h.layers_reach.octets; run = h.layers_reach.run };
   near = h.far;
   far = h.near;
@@ -77,7 +77,7 @@ joined_swapped cfg Dte w h = record {
 joined_swapped cfg Dce w h = record {
   links = line.swapped h.links;
   layers = layer.turned h.layers;
-  links_reach = record { events = h.links_reach.events; run = h.links_reach.run };
+  links_reach = record { events = h.links_reach.events; unasked = h.links_reach.unasked; run = h.links_reach.run };
   layers_reach = record { events = h.layers_reach.events; octets = h.layers_reach.octets; run = h.layers_reach.run };
   near = h.far;
   far = h.near;

@@ -8,7 +8,7 @@ use Rattle.x25_link.specs.NoteLaw.{TakeTells, TakeHandsUp, TimerTells, PutTells,
 use Rattle.x25_link.specs.SetUp.{TakeWaits, TakeSetsUp}
 use Rattle.x25_line.specs.Stations as line
 use Rattle.x25_line.specs.StationClaims as links
-use Rattle.x25_line.specs.StationClaims.{AreJoined, InOrder, BothInOrder, BothNoteTheirEnds, AreInWindow, NoFrmrSent, AllSentAreWhole}
+use Rattle.x25_line.specs.StationClaims.{AreJoined, IsSetUpOnce, OneLinkUnlessConnected, InOrder, BothInOrder, AreInWindow, NoFrmrSent, AllSentAreWhole}
 use Rattle.x25_layer.specs.World as layer
 use Rattle.x25_layer.specs.Law as layers
 use Rattle.x25_layer.specs.Law.{KeepsOrder, IsQuietWorld, IsLawfulWorld, ArrivesAll}
@@ -26,7 +26,7 @@ use Rattle.x25_world.proofs.Reaches.{LinksReach, LayersReach, links_at, layers_a
 -- the laws that all rests on
 pub record Laws : Type 0 where
   pub order : links.Always BothInOrder
-  pub notes : links.Always BothNoteTheirEnds
+  pub one_link : OneLinkUnlessConnected
   pub window : links.Always AreInWindow
   pub no_frmr : links.Always NoFrmrSent
   pub whole : links.Always AllSentAreWhole
@@ -94,7 +94,8 @@ links_joined cfg fine = record { near_role = refl; far_role = refl; longest = re
 
 module _ (laws : Laws) (cfg : Cfg) (fine : IsConfigured cfg) where
   pub known_links : (P : _) → links.Always P → (end : Role) (v : line.Stations) → LinksReach cfg end v → P (link_of cfg Dte) (link_of cfg Dce) (links_at end v)
-  known_links P law end v h = subst (λ (x : line.Stations). P (link_of cfg Dte) (link_of cfg Dce) x) h.run (law (link_of cfg Dte) (link_of cfg Dce) (links_joined cfg fine) h.events)
+  known_links P law end v h = subst (λ (x : line.Stations). P (link_of cfg Dte) (link_of cfg Dce) x) h.run
+      (law (link_of cfg Dte) (link_of cfg Dce) (links_joined cfg fine) h.events (laws.one_link (link_of cfg Dte) (link_of cfg Dce) (links_joined cfg fine) h.events h.unasked).once)
 
   pub known_layers : (P : layer.World → Type 0) → layers.Always P cfg.channels → (end : Role) (u : layer.World) → LayersReach cfg end u → P (layers_at end u)
   known_layers P law end u h = subst (λ (x : layer.World). P x) h.run (law h.events)
@@ -108,10 +109,13 @@ module _ (laws : Laws) (cfg : Cfg) (fine : IsConfigured cfg) where
   given_order Dte v h = (known_links BothInOrder laws.order Dte v h).0
   given_order Dce v h = (known_links BothInOrder laws.order Dce v h).1
 
+  set_up_once : (end : Role) (v : line.Stations) → LinksReach cfg end v → IsSetUpOnce (links_at end v)
+  set_up_once = known_links (λ c d w. IsSetUpOnce w) (λ c d joined events once. once)
+
   -- LinkUp was never noted
   pub never_up : (end : Role) (v : line.Stations) → LinksReach cfg end v → v.near.came_up ≡ false
-  never_up Dte v h = (known_links BothNoteTheirEnds laws.notes Dte v h).0.once
-  never_up Dce v h = (known_links BothNoteTheirEnds laws.notes Dce v h).1.once
+  never_up Dte v h = (set_up_once Dte v h).near
+  never_up Dce v h = (set_up_once Dce v h).far
 
   -- what the other end's link was given is what this end's handed up, and then what is in flight
   pub layers_order : (end : Role) (u : layer.World) → LayersReach cfg end u → u.far.given ≡ u.near.taken ++ u.back

@@ -66,7 +66,7 @@ puts_go cfg end v v₁ (p ∷ packets) t down up back reach g ok readable =
     let c : LinkSettings = link_of cfg end in
     let o : List ℕ = packet.spelling_of p in
     subst (λ (d : List (List ℕ)). PutsGo cfg end v (p ∷ packets) t d up back) (append_assoc down (o ∷ []) (spelled packets))
-    (more (puts_go cfg end v (line.acts c (line.Put o) v₁) packets (put_on c p t) (down ++ o ∷ []) up back (link_acts cfg end (line.Put o) v₁ reach)
+    (more (puts_go cfg end v (line.acts c (line.Put o) v₁) packets (put_on c p t) (down ++ o ∷ []) up back (link_acts cfg end (line.Put o) v₁ tt reach)
     (put_goes c v v₁ t down up back p readable.0.short ok.0 g) ok.1 readable.1))
   where
     more : PutsGo cfg end v packets (put_on (link_of cfg end) p t) ((down ++ packet.spelling_of p ∷ []) ++ spelled packets) up back

@@ -1,9 +1,10 @@
 -- A world is a run of two links and a run of two layers: one more act or move of an end is one more of the run.
-use Rattle.std.proofs.Common.{◌≡◌, ℕ, List, [], ◌∷◌, ◌++◌, true, false, refl, ap, ◌∙◌}
+use Rattle.std.proofs.Common.{◌≡◌, ℕ, List, [], ◌∷◌, ◌++◌, true, false, refl, sym, ap, ◌∙◌, subst}
 use Rattle.x25_bits.specs.declared.role.Role.{Role}
 use Rattle.x25_bits.specs.declared.role.Role.TheVariants.{Dte, Dce}
 use Rattle.x25_link.specs.Station.{Settings as LinkSettings}
 use Rattle.x25_line.specs.Stations as line
+use Rattle.x25_line.specs.StationClaims.{AcceptsNoConnect, AcceptsNoConnectAt, NoneConnects}
 use Rattle.x25_layer.specs.Layer.{LayerSettings}
 use Rattle.x25_layer.specs.World as layer
 use Rattle.x25_layer.specs.RoundLaw.{moves_all, pulls_of}
@@ -23,19 +24,26 @@ links_at Dce v = line.swapped v
 
 pub record LinksReach (cfg : Cfg) (end : Role) (v : line.Stations) : Type 0 where
   pub events : List line.Event
+  pub unasked : NoneConnects (link_of cfg Dte) (link_of cfg Dce) events line.start
   pub run : line.run (link_of cfg Dte) (link_of cfg Dce) events line.start ≡ links_at end v
 
 more_links : (c d : LinkSettings) (es : List line.Event) (e : line.Event) (v : line.Stations) → line.run c d (es ++ e ∷ []) v ≡ line.happens c d e (line.run c d es v)
 more_links c d [] e v = refl
 more_links c d (x ∷ es) e v = more_links c d es e (line.happens c d x v)
 
-pub link_acts : (cfg : Cfg) (end : Role) (act : line.Act) (v : line.Stations) → LinksReach cfg end v → LinksReach cfg end (line.acts (link_of cfg end) act v)
-link_acts cfg Dte act v h = record {
+more_unasked : (c d : LinkSettings) (es : List line.Event) (e : line.Event) (v : line.Stations) → NoneConnects c d es v → AcceptsNoConnectAt e (line.run c d es v) → NoneConnects c d (es ++ e ∷ []) v
+more_unasked c d [] e v h g = (g, tt)
+more_unasked c d (x ∷ es) e v h g = (h.0, more_unasked c d es e (line.happens c d x v) h.1 g)
+
+pub link_acts : (cfg : Cfg) (end : Role) (act : line.Act) (v : line.Stations) → AcceptsNoConnect act v → LinksReach cfg end v → LinksReach cfg end (line.acts (link_of cfg end) act v)
+link_acts cfg Dte act v none h = record {
   events = h.events ++ line.Near act ∷ [];
+  unasked = more_unasked (link_of cfg Dte) (link_of cfg Dce) h.events (line.Near act) line.start h.unasked (subst (λ (x : line.Stations). AcceptsNoConnectAt (line.Near act) x) (sym h.run) none);
   run = more_links (link_of cfg Dte) (link_of cfg Dce) h.events (line.Near act) line.start ∙ ap (line.happens (link_of cfg Dte) (link_of cfg Dce) (line.Near act)) h.run;
 }
-link_acts cfg Dce act v h = record {
+link_acts cfg Dce act v none h = record {
   events = h.events ++ line.Far act ∷ [];
+  unasked = more_unasked (link_of cfg Dte) (link_of cfg Dce) h.events (line.Far act) line.start h.unasked (subst (λ (x : line.Stations). AcceptsNoConnectAt (line.Far act) x) (sym h.run) none);
   run = more_links (link_of cfg Dte) (link_of cfg Dce) h.events (line.Far act) line.start ∙ ap (line.happens (link_of cfg Dte) (link_of cfg Dce) (line.Far act)) h.run;
 }
 

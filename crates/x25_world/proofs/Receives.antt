@@ -65,7 +65,7 @@ module _ (laws : Laws) (cfg : Cfg) (fine : IsConfigured cfg) (end : Role) (w : W
       → Joined cfg end (after_step (settings_from end cfg) w back (follows (settings_from end cfg) w.near.layer (abandon_step (link_of cfg end) w.near.link)))
   abandoned full kept =
       follows_joined laws cfg fine end w h false back (abandon_step (link_of cfg end) w.near.link)
-      (dropped (link_acts cfg end (line.Lose 0) (line.acts (link_of cfg end) line.Abandon h.links) (link_acts cfg end line.Abandon h.links h.links_reach))
+      (dropped (link_acts cfg end (line.Lose 0) (line.acts (link_of cfg end) line.Abandon h.links) tt (link_acts cfg end line.Abandon h.links tt h.links_reach))
       (both_true (is_up w.near.link.phase) (is_full (layer_settings (settings_from end cfg)) w.near.layer) full).0)
       refl (laws.abandon_tells (link_of cfg end) w.near.link) kept
 
@@ -81,7 +81,7 @@ module _ (laws : Laws) (cfg : Cfg) (fine : IsConfigured cfg) (end : Role) (w : W
   reach_taken =
       let c = link_of cfg end in
       subst (λ (s : LinkStation). LinksReach cfg end (line.after_step c h.links back [] (take_step c octets s))) h.near.link
-      (subst (λ (os : List (List ℕ)). LinksReach cfg end (line.delivered c os h.links)) (h.back ∙ front) (link_acts cfg end line.Deliver h.links h.links_reach))
+      (subst (λ (os : List (List ℕ)). LinksReach cfg end (line.delivered c os h.links)) (h.back ∙ front) (link_acts cfg end line.Deliver h.links tt h.links_reach))
 
   -- what is handed up is the packet in front of those in flight
   in_front : (packet_octets : List ℕ) → taken.packet ≡ Some packet_octets → Front packet_octets h.layers.back

@@ -40,11 +40,11 @@ lost_joined cfg end w h place = by (nat_lt place (length w.back))
     by : (b : Bool) → Joined cfg end (after w (if b then Happened (on_line w (remove w.back place)) else Declined error.NoSuchFrame))
     by true =
         left_joined cfg end w h (remove w.back place)
-        (subst (λ (os : List (List ℕ)). LinksReach cfg end (record h.links { back = remove os place })) h.back (link_acts cfg end (line.Lose place) h.links h.links_reach))
+        (subst (λ (os : List (List ℕ)). LinksReach cfg end (record h.links { back = remove os place })) h.back (link_acts cfg end (line.Lose place) h.links tt h.links_reach))
     by false = h
 
 damaged_joined : (cfg : Cfg) (end : Role) (w : World) → Joined cfg end w → (place : ℕ) (octets : List ℕ) → Joined cfg end (after w (damaged w place octets))
-damaged_joined cfg end w h place octets = by (nat_lt place (length w.back)) (is_visible octets) (link_acts cfg end (line.Damage place octets) h.links h.links_reach)
+damaged_joined cfg end w h place octets = by (nat_lt place (length w.back)) (is_visible octets) (link_acts cfg end (line.Damage place octets) h.links tt h.links_reach)
   where
     by : (b seen : Bool) → LinksReach cfg end (if seen then record h.links { back = replaced h.links.back place octets } else h.links)
         → Joined cfg end (after w (if b then (if seen then Happened (on_line w (replaced w.back place octets)) else Declined error.Unseen) else Declined error.NoSuchFrame))

@@ -49,7 +49,7 @@ module _ (laws : Laws) (cfg : Cfg) (fine : IsConfigured cfg) (end : Role) (w : W
       by (Some e) is = h
       by None is =
           follows_joined laws cfg fine end w h false w.back (timer_step (link_of cfg end) w.near.link)
-          (reached_unless timer_refusal (timer_step (link_of cfg end)) (link_acts cfg end line.T1 h.links h.links_reach) is)
+          (reached_unless timer_refusal (timer_step (link_of cfg end)) (link_acts cfg end line.T1 h.links tt h.links_reach) is)
           (timer_packet (link_of cfg end) w.near.link) (laws.timer_tells (link_of cfg end) w.near.link)
           (subst (λ (o : Option LinkError). KeptBy (unless o step)) is (laws.timer_keeps (settings_from end cfg) w.near h.near.kept))
 
@@ -70,6 +70,6 @@ module _ (laws : Laws) (cfg : Cfg) (fine : IsConfigured cfg) (end : Role) (w : W
       by (Some e) is = h
       by None is =
           follows_joined laws cfg fine end w h true w.back (disconnect_step (link_of cfg end) w.near.link)
-          (reached_unless (λ (s : LinkStation). disconnect_refusal s.phase) (disconnect_step (link_of cfg end)) (link_acts cfg end line.Disconnect h.links h.links_reach) is)
+          (reached_unless (λ (s : LinkStation). disconnect_refusal s.phase) (disconnect_step (link_of cfg end)) (link_acts cfg end line.Disconnect h.links tt h.links_reach) is)
           refl (laws.disconnect_tells (link_of cfg end) w.near.link)
           (subst (λ (o : Option LinkError). KeptBy (unless o step)) is (laws.command_keeps (settings_from end cfg) w.near Disconnects h.near.kept))
