@@ -4,7 +4,7 @@ use Rattle.std.specs.Str.{bytes_eq}
 use Rattle.std.specs.Str.Parse.{digits_value}
 use Rattle.x25_settings.specs.declared.options.Chosen.{Chosen}
 use Rattle.x25_settings.specs.declared.options.Flag.{Flag}
-use Rattle.x25_settings.specs.declared.options.Flag.TheVariants.{Down, Tap}
+use Rattle.x25_settings.specs.declared.options.Flag.TheVariants.{Down, Long, Tap}
 use Rattle.x25_settings.specs.declared.options.Numbered.{Numbered}
 use Rattle.x25_settings.specs.declared.options.Numbered.TheVariants.{Window, Tries, Channels}
 use Rattle.x25_settings.specs.declared.options.Simulation.{Simulation}
@@ -14,6 +14,7 @@ use Rattle.x25_settings.specs.Simulation.{most_of, nothing, chosen_flag, with_fl
 
 abbrev pub flag_in : List ℕ → Option Flag
 flag_in word = if bytes_eq word (codes "--down") then Some Down
+    else if bytes_eq word (codes "--long") then Some Long
     else if bytes_eq word (codes "--tap") then Some Tap else None
 
 abbrev pub numbered_in : List ℕ → Option Numbered

@@ -4,12 +4,13 @@ use Rattle.std.specs.List.{flat_map}
 use Rattle.x25_settings.specs.declared.options.Simulation.{Simulation}
 use Rattle.x25_settings.specs.declared.options.Chosen.{Chosen}
 use Rattle.x25_settings.specs.declared.options.Flag.{Flag}
-use Rattle.x25_settings.specs.declared.options.Flag.TheVariants.{Down, Tap}
+use Rattle.x25_settings.specs.declared.options.Flag.TheVariants.{Down, Long, Tap}
 use Rattle.x25_settings.specs.declared.options.Numbered.{Numbered}
 use Rattle.x25_settings.specs.declared.options.Numbered.TheVariants.{Window, Tries, Channels}
 
 abbrev pub flag_word : Flag → List ℕ
 flag_word Down = codes "--down"
+flag_word Long = codes "--long"
 flag_word Tap = codes "--tap"
 
 abbrev pub word_of : Numbered → List ℕ
@@ -33,7 +34,7 @@ words_of (flag x) = flag_word x ∷ []
 words_of (number x n) = word_of x ∷ decimal n ∷ []
 
 abbrev pub nothing : Chosen
-nothing = record { down = false; tap = false; k = None; n2 = None; channels = None }
+nothing = record { down = false; long = false; tap = false; k = None; n2 = None; channels = None }
 
 abbrev pub chosen_number : Chosen → Numbered → Option ℕ
 chosen_number c Window = c.k
@@ -42,16 +43,18 @@ chosen_number c Channels = c.channels
 
 abbrev pub chosen_flag : Chosen → Flag → Bool
 chosen_flag c Down = c.down
+chosen_flag c Long = c.long
 chosen_flag c Tap = c.tap
 
 abbrev pub with_flag : Chosen → Flag → Chosen
-with_flag c Down = record { down = true; tap = c.tap; k = c.k; n2 = c.n2; channels = c.channels }
-with_flag c Tap = record { down = c.down; tap = true; k = c.k; n2 = c.n2; channels = c.channels }
+with_flag c Down = record { down = true; long = c.long; tap = c.tap; k = c.k; n2 = c.n2; channels = c.channels }
+with_flag c Long = record { down = c.down; long = true; tap = c.tap; k = c.k; n2 = c.n2; channels = c.channels }
+with_flag c Tap = record { down = c.down; long = c.long; tap = true; k = c.k; n2 = c.n2; channels = c.channels }
 
 abbrev pub with_number : Chosen → Numbered → ℕ → Chosen
-with_number c Window n = record { down = c.down; tap = c.tap; k = Some n; n2 = c.n2; channels = c.channels }
-with_number c Tries n = record { down = c.down; tap = c.tap; k = c.k; n2 = Some n; channels = c.channels }
-with_number c Channels n = record { down = c.down; tap = c.tap; k = c.k; n2 = c.n2; channels = Some n }
+with_number c Window n = record { down = c.down; long = c.long; tap = c.tap; k = Some n; n2 = c.n2; channels = c.channels }
+with_number c Tries n = record { down = c.down; long = c.long; tap = c.tap; k = c.k; n2 = Some n; channels = c.channels }
+with_number c Channels n = record { down = c.down; long = c.long; tap = c.tap; k = c.k; n2 = c.n2; channels = Some n }
 
 abbrev pub with_choice : Chosen → Choice → Chosen
 with_choice c (flag x) = with_flag c x
@@ -72,7 +75,7 @@ Leads c (choice ∷ choices) end = IsOpen c choice × Leads (with_choice c choic
 
 -- the defaults for the rest
 abbrev pub settled : Chosen → Simulation
-settled c = record { down = c.down; tap = c.tap; k = unwrap_or c.k 7; n2 = unwrap_or c.n2 10; channels = unwrap_or c.channels 1 }
+settled c = record { down = c.down; long = c.long; tap = c.tap; k = unwrap_or c.k 7; n2 = unwrap_or c.n2 10; channels = unwrap_or c.channels 1 }
 
 -- these words choose this
 abbrev pub Choose : List (List ℕ) → Chosen → Type 0

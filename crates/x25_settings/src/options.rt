@@ -12,6 +12,8 @@ use std::convert::AsStr;
 pub struct Simulation {
     /// Both links are down where the script begins, and else just set up.
     pub down: bool,
+    /// A CALL has up to 128 octets of user data, in place of up to 16.
+    pub long: bool,
     /// The frames of each step are told behind its entries.
     pub tap: bool,
     /// The window of the link, 1 to 7.
@@ -26,6 +28,7 @@ pub struct Simulation {
 #[derive(Clone, Copy)]
 enum Flag {
     Down,
+    Long,
     Tap,
 }
 
@@ -41,6 +44,7 @@ enum Numbered {
 #[derive(Clone, Copy)]
 struct Chosen {
     down: bool,
+    long: bool,
     tap: bool,
     k: Option<u8>,
     n2: Option<u8>,
@@ -58,6 +62,8 @@ fn flag_option(word: &str) -> Option<Flag>
 {
     if is(word, "--down") {
         Some(Flag::Down)
+    } else if is(word, "--long") {
+        Some(Flag::Long)
     } else if is(word, "--tap") {
         Some(Flag::Tap)
     } else {
@@ -105,6 +111,7 @@ impl Chosen {
     {
         match flag {
             Flag::Down if !self.down => Some(Chosen { down: true, ..self }),
+            Flag::Long if !self.long => Some(Chosen { long: true, ..self }),
             Flag::Tap if !self.tap => Some(Chosen { tap: true, ..self }),
             _ => None,
         }
@@ -150,6 +157,7 @@ impl Chosen {
     {
         Simulation {
             down: self.down,
+            long: self.long,
             tap: self.tap,
             k: self.k.unwrap_or(7),
             n2: self.n2.unwrap_or(10),
@@ -174,6 +182,7 @@ fn choose<S: AsStr>(words: &[S]) -> Option<Chosen>
 {
     let mut chosen = Chosen {
         down: false,
+        long: false,
         tap: false,
         k: None,
         n2: None,

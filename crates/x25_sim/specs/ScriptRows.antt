@@ -4,10 +4,10 @@ use Rattle.x25_station.specs.declared.config.Cfg.{Cfg}
 use Rattle.x25_sim.specs.Simulated.{sim_text, sim_status}
 
 abbrev pub usual : Cfg
-usual = record { k = 7; n2 = 10; channels = 1 }
+usual = record { k = 7; n2 = 10; channels = 1; long_data = false }
 
 abbrev pub once : Cfg
-once = record { k = 7; n2 = 1; channels = 1 }
+once = record { k = 7; n2 = 1; channels = 1; long_data = false }
 
 -- whether both links are down at first, whether frames are asked for, a script, what is written for it, and the status
 abbrev pub Simulates : Cfg → Bool → Bool → List ℕ → List ℕ → ℕ → Type 0

@@ -6,6 +6,7 @@ const USUAL: Cfg = Cfg {
     k: 7,
     n2: 10,
     channels: 1,
+    long_data: false,
 };
 
 const SCRIPT: &str = "drain 9\nx\ndte call 1 2 -\ndte accept 1\n";

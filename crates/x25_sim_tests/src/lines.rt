@@ -6,6 +6,7 @@ const USUAL: Cfg = Cfg {
     k: 7,
     n2: 10,
     channels: 1,
+    long_data: false,
 };
 
 /// The most characters of a line.

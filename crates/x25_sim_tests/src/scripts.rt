@@ -8,6 +8,7 @@ const USUAL: Cfg = Cfg {
     k: 7,
     n2: 10,
     channels: 1,
+    long_data: false,
 };
 
 const ROWS: [Row; 5] = [
@@ -95,6 +96,7 @@ fn keeps_to_its_settings(rt: HostRuntime) -> Result<(), Fail> {
         k: 7,
         n2: 1,
         channels: 1,
+        long_data: false,
     };
     let script = "lose > 0\nt1 dte\nt1 dte\ndte call 1 2 -\n";
     let mut reader = Device::new(script.as_bytes());

@@ -52,6 +52,7 @@ impl End {
             k: 7,
             n2: 1,
             channels,
+            long_data: false,
         };
         let station = Station::new(alloc, role, cfg)?;
         Ok(End {

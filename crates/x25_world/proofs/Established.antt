@@ -127,7 +127,7 @@ module _ (laws : Laws) (cfg : Cfg) where
   two_links = line.run (link_of cfg Dte) (link_of cfg Dce) (line.Far (line.Put (restart_of Dce)) ∷ line.Near (line.Put (restart_of Dte)) ∷ []) line.start
 
   abbrev two_layers : layer.World
-  two_layers = layer.start cfg.channels
+  two_layers = layer.start cfg.long_data cfg.channels
 
   abbrev started : World
   started = at_dte cfg (map (spelling_of Dce) (restarted cfg Dce).side.out)

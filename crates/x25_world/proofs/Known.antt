@@ -31,11 +31,11 @@ pub record Laws : Type 0 where
   pub window : links.Always AreInWindow
   pub no_frmr : links.Always NoFrmrSent
   pub whole : links.Always AllSentAreWhole
-  pub layers_order : (channels : ℕ) → layers.Always KeepsOrder channels
-  pub layers_quiet : (channels : ℕ) → layers.Always (IsQuietWorld channels) channels
-  pub layers_lawful : (channels : ℕ) → layers.Always IsLawfulWorld channels
-  pub layers_named : (channels : ℕ) → layers.Always NamesAreCounted channels
-  pub layers_arrive : (channels : ℕ) → layers.Always ArrivesAll channels
+  pub layers_order : (long_data : Bool) (channels : ℕ) → layers.Always KeepsOrder long_data channels
+  pub layers_quiet : (long_data : Bool) (channels : ℕ) → layers.Always (IsQuietWorld channels) long_data channels
+  pub layers_lawful : (long_data : Bool) (channels : ℕ) → layers.Always IsLawfulWorld long_data channels
+  pub layers_named : (long_data : Bool) (channels : ℕ) → layers.Always NamesAreCounted long_data channels
+  pub layers_arrive : (long_data : Bool) (channels : ℕ) → layers.Always ArrivesAll long_data channels
   pub readable : PutsAreReadable
   pub request : RequestIsJoined
   pub receive : ReceiveIsJoined
@@ -103,7 +103,7 @@ module _ (laws : Laws) (asks : Bool) (cfg : Cfg) (fine : IsConfigured cfg) where
   known_links P law end v h = subst (λ (x : line.Stations). P (link_of cfg Dte) (link_of cfg Dce) x) h.run
       (law (link_of cfg Dte) (link_of cfg Dce) (links_joined cfg fine) h.events (subst (λ (x : line.Stations). IsSetUpOnce x) (sym h.run) (once_at end v h.once)))
 
-  pub known_layers : (P : layer.World → Type 0) → layers.Always P cfg.channels → (end : Role) (u : layer.World) → LayersReach cfg end u → P (layers_at end u)
+  pub known_layers : (P : layer.World → Type 0) → layers.Always P cfg.long_data cfg.channels → (end : Role) (u : layer.World) → LayersReach cfg end u → P (layers_at end u)
   known_layers P law end u h = subst (λ (x : layer.World). P x) h.run (law h.events)
 
   -- what an end was handed up is a beginning of what the other was handed down
@@ -130,16 +130,16 @@ module _ (laws : Laws) (asks : Bool) (cfg : Cfg) (fine : IsConfigured cfg) where
 
   -- what the other end's link was given is what this end's handed up, and then what is in flight
   pub layers_order : (end : Role) (u : layer.World) → LayersReach cfg end u → u.far.given ≡ u.near.taken ++ u.back
-  layers_order Dte u h = (known_layers KeepsOrder (laws.layers_order cfg.channels) Dte u h).far
-  layers_order Dce u h = (known_layers KeepsOrder (laws.layers_order cfg.channels) Dce u h).near
+  layers_order Dte u h = (known_layers KeepsOrder (laws.layers_order cfg.long_data cfg.channels) Dte u h).far
+  layers_order Dce u h = (known_layers KeepsOrder (laws.layers_order cfg.long_data cfg.channels) Dce u h).near
 
-  both_readable : (end : Role) (u : layer.World) → LayersReach cfg end u → AreReadable (layers_at end u).near.given × AreReadable (layers_at end u).far.given
-  both_readable end u h = subst (λ (x : layer.World). AreReadable x.near.given × AreReadable x.far.given) h.run (laws.readable cfg.channels fine.channels h.events h.octets)
+  both_readable : (end : Role) (u : layer.World) → LayersReach cfg end u → AreReadable cfg.long_data (layers_at end u).near.given × AreReadable cfg.long_data (layers_at end u).far.given
+  both_readable end u h = subst (λ (x : layer.World). AreReadable cfg.long_data x.near.given × AreReadable cfg.long_data x.far.given) h.run (laws.readable cfg.long_data cfg.channels fine.channels h.events h.octets)
 
-  pub near_readable : (end : Role) (u : layer.World) → LayersReach cfg end u → AreReadable u.near.given
+  pub near_readable : (end : Role) (u : layer.World) → LayersReach cfg end u → AreReadable cfg.long_data u.near.given
   near_readable Dte u h = (both_readable Dte u h).0
   near_readable Dce u h = (both_readable Dce u h).1
 
-  pub far_readable : (end : Role) (u : layer.World) → LayersReach cfg end u → AreReadable u.far.given
+  pub far_readable : (end : Role) (u : layer.World) → LayersReach cfg end u → AreReadable cfg.long_data u.far.given
   far_readable Dte u h = (both_readable Dte u h).1
   far_readable Dce u h = (both_readable Dce u h).0

@@ -77,7 +77,7 @@ module _ (laws : Laws) (asks : Bool) (cfg : Cfg) (fine : IsConfigured cfg) where
   is_lawful w h = by
     where
       law : IsLawfulWorld h.layers
-      law = known_layers laws asks cfg fine IsLawfulWorld (laws.layers_lawful cfg.channels) Dte h.layers h.layers_reach
+      law = known_layers laws asks cfg fine IsLawfulWorld (laws.layers_lawful cfg.long_data cfg.channels) Dte h.layers h.layers_reach
 
       by : (end : Role) → HandsUpLawfully (handed_at end w) (handed_at (other end) w)
       by Dte = subst (λ (e : List Entry). HandsUpLawfully e (handed_at Dce w)) h.near.entries (subst (λ (f : List Entry). HandsUpLawfully h.layers.near.entries f) h.far.entries law.near)
@@ -89,7 +89,7 @@ module _ (laws : Laws) (asks : Bool) (cfg : Cfg) (fine : IsConfigured cfg) where
   is_named w h = by
     where
       law : NamesAreCounted h.layers
-      law = known_layers laws asks cfg fine NamesAreCounted (laws.layers_named cfg.channels) Dte h.layers h.layers_reach
+      law = known_layers laws asks cfg fine NamesAreCounted (laws.layers_named cfg.long_data cfg.channels) Dte h.layers h.layers_reach
 
       counts : (s : Station) (l : layer.End) (es : List StationEntry) → l.layer ≡ s.layer → l.told ≡ layer_notices es → l.is_out ≡ not (is_up s.link.phase) → IsCounted l → (k : ℕ) → is_up s.link.phase ≡ true
           → name_of s.layer k ≡ counted k first_name (layer_notices es)
@@ -103,8 +103,8 @@ module _ (laws : Laws) (asks : Bool) (cfg : Cfg) (fine : IsConfigured cfg) where
   -- ---- all arrives
 
   layers_arrive : (end : Role) (u : layer.World) → LayersReach cfg end u → (k acked : ℕ) → IsIdleTo k u.near u.far acked → HasAllOf k (name_of u.near.layer k) u.near.entries u.far.entries
-  layers_arrive Dte u reach = (known_layers laws asks cfg fine layers.ArrivesAll (laws.layers_arrive cfg.channels) Dte u reach).near
-  layers_arrive Dce u reach = (known_layers laws asks cfg fine layers.ArrivesAll (laws.layers_arrive cfg.channels) Dce u reach).far
+  layers_arrive Dte u reach = (known_layers laws asks cfg fine layers.ArrivesAll (laws.layers_arrive cfg.long_data cfg.channels) Dte u reach).near
+  layers_arrive Dce u reach = (known_layers laws asks cfg fine layers.ArrivesAll (laws.layers_arrive cfg.long_data cfg.channels) Dce u reach).far
 
   -- as the end sees it that is idle
   arrives_from : (end : Role) (w : World) → Joined asks cfg end w → (k : ℕ) (name : Name) → is_idle (settings_from end cfg) w.near ≡ true → stretch (settings_from end cfg) w.near k ≡ Some name

@@ -56,7 +56,7 @@ pub record PutsGo (asks : Bool) (cfg : Cfg) (end : Role) (v : line.Stations) (pa
   pub goes : LinkGoes (link_of cfg end) v links (all_put (link_of cfg end) packets t).near (all_put (link_of cfg end) packets t).out handed lifted left
 
 pub puts_go : EachEventHandsOne → (asks : Bool) (cfg : Cfg) (end : Role) (v v₁ : line.Stations) (packets : List PlainPacket) (t : Side) (down up back : List (List ℕ)) → LinksReach asks cfg end v₁
-    → LinkGoes (link_of cfg end) v v₁ t.near t.out down up back → AreAccepted (link_of cfg end) packets t → AreReadable packets
+    → LinkGoes (link_of cfg end) v v₁ t.near t.out down up back → AreAccepted (link_of cfg end) packets t → AreReadable cfg.long_data packets
     → PutsGo asks cfg end v packets t (down ++ spelled packets) up back
 puts_go one asks cfg end v v₁ [] t down up back reach g ok readable = record {
   links = v₁;

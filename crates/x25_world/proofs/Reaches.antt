@@ -68,11 +68,11 @@ layers_at Dce u = layer.turned u
 pub record LayersReach (cfg : Cfg) (end : Role) (u : layer.World) : Type 0 where
   pub events : List layer.Event
   pub octets : BringOctets events
-  pub run : layer.run cfg.channels events (layer.start cfg.channels) ≡ layers_at end u
+  pub run : layer.run cfg.long_data cfg.channels events (layer.start cfg.long_data cfg.channels) ≡ layers_at end u
 
-more_layers : (n : ℕ) (es : List layer.Event) (e : layer.Event) (u : layer.World) → layer.run n (es ++ e ∷ []) u ≡ layer.happens n (layer.run n es u) e
-more_layers n [] e u = refl
-more_layers n (x ∷ es) e u = more_layers n es e (layer.happens n u x)
+more_layers : (long_data : Bool) (n : ℕ) (es : List layer.Event) (e : layer.Event) (u : layer.World) → layer.run long_data n (es ++ e ∷ []) u ≡ layer.happens long_data n (layer.run long_data n es u) e
+more_layers long_data n [] e u = refl
+more_layers long_data n (x ∷ es) e u = more_layers long_data n es e (layer.happens long_data n u x)
 
 more_octets : (es : List layer.Event) (e : layer.Event) → BringOctets es → MovesOctets e.what → BringOctets (es ++ e ∷ [])
 more_octets [] e h g = (g, tt)
@@ -86,12 +86,12 @@ pub layer_moves : (cfg : Cfg) (end : Role) (move : layer.Move) (u : layer.World)
 layer_moves cfg Dte move u octets h = record {
   events = h.events ++ event Dte move ∷ [];
   octets = more_octets h.events (event Dte move) h.octets octets;
-  run = more_layers cfg.channels h.events (event Dte move) (layer.start cfg.channels) ∙ ap (λ (x : layer.World). layer.happens cfg.channels x (event Dte move)) h.run;
+  run = more_layers cfg.long_data cfg.channels h.events (event Dte move) (layer.start cfg.long_data cfg.channels) ∙ ap (λ (x : layer.World). layer.happens cfg.long_data cfg.channels x (event Dte move)) h.run;
 }
 layer_moves cfg Dce move u octets h = record {
   events = h.events ++ event Dce move ∷ [];
   octets = more_octets h.events (event Dce move) h.octets octets;
-  run = more_layers cfg.channels h.events (event Dce move) (layer.start cfg.channels) ∙ ap (λ (x : layer.World). layer.happens cfg.channels x (event Dce move)) h.run;
+  run = more_layers cfg.long_data cfg.channels h.events (event Dce move) (layer.start cfg.long_data cfg.channels) ∙ ap (λ (x : layer.World). layer.happens cfg.long_data cfg.channels x (event Dce move)) h.run;
 }
 
 -- a move, and then pulls

@@ -11,7 +11,7 @@ use Rattle.x25_link.specs.NoteLaw.{IsQuiet}
 use Rattle.x25_link.specs.Steps.{take_step, abandon_step}
 use Rattle.x25_line.specs.Stations as line
 use Rattle.x25_layer.specs.Layer.{Layer}
-use Rattle.x25_layer.specs.Rounds.{longest_user}
+use Rattle.x25_packet.specs.Spelling.{longest_user}
 use Rattle.x25_layer.specs.World as layer
 use Rattle.x25_layer.specs.World.{HandsUp}
 use Rattle.x25_layer.specs.RoundLaw.{moves_all, pulls_of}
@@ -112,10 +112,10 @@ module _ (laws : Laws) (asks : Bool) (cfg : Cfg) (fine : IsConfigured cfg) (end 
       let quiet : IsQuiet taken = hands.quiet packet_octets some in
       let up : is_up w.near.link.phase ≡ true = ap is_up (hands.up packet_octets some) in
       let up_after : is_up taken.side.near.phase ≡ true = (laws.take_tells (link_of cfg end) octets w.near.link).stays quiet ∙ up in
-      let far : AreReadable (h.layers.near.taken ++ (f.packet ∷ f.others)) =
-      subst AreReadable (layers_order laws asks cfg fine end h.layers h.layers_reach ∙ ap (λ (l : List PlainPacket). h.layers.near.taken ++ l) f.is) (far_readable laws asks cfg fine end h.layers h.layers_reach) in
-      let readable : IsReadable f.packet = (readable_behind h.layers.near.taken (f.packet ∷ f.others) far).0 in
-      let reads : packet_of longest_user packet_octets ≡ Ok f.packet = ap (λ (o : List ℕ). packet_of longest_user o) f.spells ∙ readable.reads in
+      let far : AreReadable cfg.long_data (h.layers.near.taken ++ (f.packet ∷ f.others)) =
+      subst (AreReadable cfg.long_data) (layers_order laws asks cfg fine end h.layers h.layers_reach ∙ ap (λ (l : List PlainPacket). h.layers.near.taken ++ l) f.is) (far_readable laws asks cfg fine end h.layers h.layers_reach) in
+      let readable : IsReadable cfg.long_data f.packet = (readable_behind cfg.long_data h.layers.near.taken (f.packet ∷ f.others) far).0 in
+      let reads : packet_of (longest_user cfg.long_data) packet_octets ≡ Ok f.packet = ap (λ (o : List ℕ). packet_of (longest_user cfg.long_data) o) f.spells ∙ readable.reads in
       let j = laws.receive c w.near.link h.layers octets packet_octets f.packet f.others (h.near.out ∙ ap not up) f.is
       (ap (λ (l : Layer). abandons c (station_with w.near.link l)) h.near.layer ∙ none) some reads in
       let u : layer.World = moves_all (layer_of cfg end) h.layers (HandsUp ∷ pulls_of j.0) in

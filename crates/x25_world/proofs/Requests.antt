@@ -33,9 +33,9 @@ use Rattle.x25_world.proofs.Joined.{Joined, spelled, LinkGoes, goes}
 use Rattle.x25_world.proofs.LinkSteps.{puts_go, puts_up}
 use Rattle.x25_world.proofs.NoUps.{outcome_ups, did_entries, refused_did}
 
-pub readable_behind : (ps qs : List PlainPacket) → AreReadable (ps ++ qs) → AreReadable qs
-readable_behind [] qs h = h
-readable_behind (p ∷ ps) qs h = readable_behind ps qs h.1
+pub readable_behind : (long_data : Bool) (ps qs : List PlainPacket) → AreReadable long_data (ps ++ qs) → AreReadable long_data qs
+readable_behind long_data [] qs h = h
+readable_behind long_data (p ∷ ps) qs h = readable_behind long_data ps qs h.1
 
 -- ---- what is put, behind a step of the link
 
@@ -54,7 +54,7 @@ module _ (laws : Laws) (asks : Bool) (cfg : Cfg) (fine : IsConfigured cfg) (end 
       → Joined asks cfg end (after_step (settings_from end cfg) w back step)
   joins step v t u lifted behind back reach own up layers_reach j flight kept none =
       let r = puts_go laws.one asks cfg end h.links v j.packets t [] (spelled lifted) back reach own j.link.accepted
-      (readable_behind h.layers.near.given j.packets (subst AreReadable j.layer.given (near_readable laws asks cfg fine end u layers_reach))) in
+      (readable_behind cfg.long_data h.layers.near.given j.packets (subst (AreReadable cfg.long_data) j.layer.given (near_readable laws asks cfg fine end u layers_reach))) in
       let still_up : is_up step.near.link.phase ≡ true = ap (λ (s : LinkStation). is_up s.phase) j.link.link ∙ puts_up laws.put_tells (link_of cfg end) j.packets t up in
       goes asks cfg end w h step back r.links u j.packets lifted r.reach layers_reach
       (record {

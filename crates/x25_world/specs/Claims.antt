@@ -1,5 +1,5 @@
 -- What holds of two stations and the line between them after every list of events, as long as the link isn't set up anew.
-use Rattle.std.specs.Prelude.{◌≡◌, ℕ, suc, true, List, [], ◌∷◌, ◌++◌, Option, Some, None, Result, Ok, Err}
+use Rattle.std.specs.Prelude.{◌≡◌, Bool, ℕ, suc, true, List, [], ◌∷◌, ◌++◌, Option, Some, None, Result, Ok, Err}
 use Rattle.x25_bits.specs.declared.role.Role.{Role}
 use Rattle.x25_bits.specs.declared.role.Role.TheVariants.{Dte, Dce}
 use Rattle.x25_packet.specs.PlainPacket.{PlainPacket}
@@ -13,7 +13,7 @@ use Rattle.x25_link.specs.MustSend.{other}
 use Rattle.x25_line.specs.Stations as line
 use Rattle.x25_line.specs.StationClaims.{AreInWindow}
 use Rattle.x25_epochs.specs.Names.{Name}
-use Rattle.x25_layer.specs.Rounds.{longest_user}
+use Rattle.x25_packet.specs.Spelling.{longest_user}
 use Rattle.x25_layer.specs.Transcript.{Entry, name_of}
 use Rattle.x25_layer.specs.NameLaw.{first_name, counted}
 use Rattle.x25_layer.specs.Quiet.{IsQuietAt, AreNoFaults}
@@ -131,20 +131,20 @@ IsQuietRead channels (Ok packet) = IsQuietAt channels packet
 IsQuietRead channels (Err e) = ⊥
 
 -- octets on the line are a frame, and no FRMR
-abbrev pub IsQuietFrame : ℕ → Result PlainFrame FrameError → Type 0
-IsQuietFrame channels (Ok (frmr f why)) = ⊥
-IsQuietFrame channels (Ok (info ns nr p octets)) = IsQuietRead channels (packet_of longest_user octets)
-IsQuietFrame channels (Ok frame) = Unit {0}
-IsQuietFrame channels (Err e) = ⊥
+abbrev pub IsQuietFrame : Bool → ℕ → Result PlainFrame FrameError → Type 0
+IsQuietFrame long_data channels (Ok (frmr f why)) = ⊥
+IsQuietFrame long_data channels (Ok (info ns nr p octets)) = IsQuietRead channels (packet_of (longest_user long_data) octets)
+IsQuietFrame long_data channels (Ok frame) = Unit {0}
+IsQuietFrame long_data channels (Err e) = ⊥
 
-abbrev pub IsQuietTap : ℕ → List OnTap → Type 0
-IsQuietTap channels [] = Unit {0}
-IsQuietTap channels (t ∷ tap) = IsQuietFrame channels (frame_of t.from longest_packet t.octets) × IsQuietTap channels tap
+abbrev pub IsQuietTap : Bool → ℕ → List OnTap → Type 0
+IsQuietTap long_data channels [] = Unit {0}
+IsQuietTap long_data channels (t ∷ tap) = IsQuietFrame long_data channels (frame_of t.from longest_packet t.octets) × IsQuietTap long_data channels tap
 
 -- All that was ever put on the line is frames, and no FRMR; and of their packets no CLEAR and no RESET has another cause than the
 -- user's, and no RESTART one that tells of an error. No user was told of a fault.
 pub record HasNoProcedureError (cfg : Cfg) (w : World) : Type 0 where
-  pub tap : IsQuietTap cfg.channels w.tap
+  pub tap : IsQuietTap cfg.long_data cfg.channels w.tap
   pub told : (end : Role) → AreNoFaults (layer_notices (entries_at end w.transcript))
 
 -- ---- the window of the link

@@ -20,7 +20,7 @@ use Rattle.x25_world.specs.World.{AtEnd, World, Act, Commands, Receives, Fires, 
 use Rattle.x25_world.specs.Claims.{handed_at}
 
 abbrev pub two_channels : Cfg
-two_channels = record { k = 7; n2 = 10; channels = 2 }
+two_channels = record { k = 7; n2 = 10; channels = 2; long_data = false }
 
 abbrev pub event : Role → Act → Event
 event at act = record { at = at; act = act }

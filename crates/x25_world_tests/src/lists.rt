@@ -69,6 +69,7 @@ fn settings(numbers: &mut Numbers) -> Cfg {
         k: numbers.up_to(7),
         n2: numbers.up_to(20),
         channels: numbers.up_to(3),
+        long_data: false,
     }
 }
 

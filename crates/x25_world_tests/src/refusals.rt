@@ -60,7 +60,7 @@ fn starts(alloc: Global, cfg: Cfg) -> Result<(), WorldError> {
 #[test]
 fn settings_are_in_range(rt: HostRuntime) {
     for (k, n2, channels, is_fine) in SETTINGS {
-        let cfg = Cfg { k, n2, channels };
+        let cfg = Cfg { k, n2, channels, long_data: false };
         let wanted = if is_fine {
             Ok(())
         } else {
@@ -114,6 +114,7 @@ fn lists_stop_at_the_first_refusal(rt: HostRuntime) -> Result<(), Fail> {
         k: 7,
         n2: 10,
         channels: 1,
+        long_data: false,
     };
     let mut world = World::establish(rt.alloc(), cfg)?;
     stops(&rt, &mut world);

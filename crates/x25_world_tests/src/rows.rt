@@ -15,18 +15,21 @@ const USUAL: Cfg = Cfg {
     k: 7,
     n2: 10,
     channels: 1,
+    long_data: false,
 };
 
 const ONE_TRY: Cfg = Cfg {
     k: 7,
     n2: 1,
     channels: 1,
+    long_data: false,
 };
 
 const THREE_CHANNELS: Cfg = Cfg {
     k: 7,
     n2: 10,
     channels: 3,
+    long_data: false,
 };
 
 const CALLS: Act = Do(Command(

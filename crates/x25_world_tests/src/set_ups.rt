@@ -15,12 +15,14 @@ const USUAL: Cfg = Cfg {
     k: 7,
     n2: 10,
     channels: 1,
+    long_data: false,
 };
 
 const ONE_TRY: Cfg = Cfg {
     k: 7,
     n2: 1,
     channels: 1,
+    long_data: false,
 };
 
 const CONNECTS: Act = Do(Command(Dte, Cmd::Connect));
