@@ -9,14 +9,24 @@ use x25_station::{Cfg, Cmd, Role, Station, StationError};
 #[test]
 fn a_setting_out_of_its_range(rt: HostRuntime) {
     for (k, n2, channels) in [(0, 1, 1), (8, 1, 1), (1, 0, 1), (1, 1, 0), (1, 1, 17)] {
-        let cfg = Cfg { k, n2, channels, long_data: false };
+        let cfg = Cfg {
+            k,
+            n2,
+            channels,
+            long_data: false,
+        };
         match Station::new(rt.alloc(), Role::Dte, cfg) {
             Ok(_) => assert!(rt; false, "{cfg:?}"),
             Err(error) => assert_eq!(rt; error, StationError::BadConfig, "{cfg:?}"),
         }
     }
     for (k, n2, channels) in [(1, 1, 1), (7, 255, 16)] {
-        let cfg = Cfg { k, n2, channels, long_data: false };
+        let cfg = Cfg {
+            k,
+            n2,
+            channels,
+            long_data: false,
+        };
         assert!(rt; Station::new(rt.alloc(), Role::Dce, cfg).is_ok(), "{cfg:?}");
     }
 }

@@ -60,7 +60,12 @@ fn starts(alloc: Global, cfg: Cfg) -> Result<(), WorldError> {
 #[test]
 fn settings_are_in_range(rt: HostRuntime) {
     for (k, n2, channels, is_fine) in SETTINGS {
-        let cfg = Cfg { k, n2, channels, long_data: false };
+        let cfg = Cfg {
+            k,
+            n2,
+            channels,
+            long_data: false,
+        };
         let wanted = if is_fine {
             Ok(())
         } else {
