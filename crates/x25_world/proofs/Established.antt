@@ -141,11 +141,11 @@ module _ (laws : Laws) (cfg : Cfg) where
   transcript_is : started.transcript ≡ record { at = Dce; entry = link_up } ∷ record { at = Dte; entry = link_up } ∷ []
   transcript_is = ap₂ (λ (a b : List StationEntry). ([] ++ entered Dce a) ++ entered Dte b) dce_up.entries dte_up.entries
 
-  pub established_joined : Joined cfg Dte (established cfg)
-  established_joined = subst (λ (x : World). Joined cfg Dte x) (sym established_is) (record {
+  pub established_joined : (asks : Bool) → Joined asks cfg Dte (established cfg)
+  established_joined asks = subst (λ (x : World). Joined asks cfg Dte x) (sym established_is) (record {
     links = two_links;
     layers = two_layers;
-    links_reach = record { events = line.Far (line.Put (restart_of Dce)) ∷ line.Near (line.Put (restart_of Dte)) ∷ []; run = refl };
+    links_reach = record { events = line.Far (line.Put (restart_of Dce)) ∷ line.Near (line.Put (restart_of Dte)) ∷ []; unasked = λ free. (tt, (tt, tt)); once = record { near = refl; far = refl }; run = refl };
     layers_reach = record { events = []; octets = tt; run = refl };
     near = record {
       link = sym dte_up.link;

@@ -7,6 +7,7 @@ pub mod Timers
 pub mod NoUps
 pub mod Requests
 pub mod Receives
+pub mod Grows
 pub mod Runs
 pub mod Established
 pub mod Lawful

@@ -18,7 +18,7 @@ use Rattle.x25_world.specs.declared.event.Event as code_event
 use Rattle.x25_world.specs.declared.error.WorldError.{WorldError}
 use Rattle.x25_world.specs.declared.error.WorldError.TheVariants as error
 use Rattle.x25_world.specs.World.{World, swapped, Event, Act, Commands, Receives, Fires, Loses, Damages, WorldOutcome, Happened, Declined, of_station, delivered, is_on_line, acts, swapped_back, event_of, happens, after, refusal_of, run, AreAccepted, established}
-use Rattle.x25_world.specs.Claims.{ActsInOctets, AreInOctets, SetsUpOnce, Always}
+use Rattle.x25_world.specs.Claims.{ActsInOctets, AreInOctets, NoneConnects, SetsUpOnce, UpOnceUnlessConnected, Always}
 use Rattle.x25_world.specs.ShownWorld.{ShownWorld, ShownSide}
 use Rattle.x25_world.specs.FitsWorld.{Gone, FitsWorld, FitsRun, and_then, FitsSide, HasHappened, IsRefusal, StopsAt, RefusesConfig}
 
@@ -191,6 +191,9 @@ run_and_then cfg from old new past gone e (Err x) h octets step accepted stays =
 -- so a law of all runs holds of it
 pub holds_after : (Holds : Cfg → World → Type 0) (v : ShownWorld) (cfg : Cfg) (events : List Event) (gone : Gone) → Always Holds → FitsRun cfg (established cfg) v events gone → SetsUpOnce cfg events → Holds cfg (run cfg events (established cfg))
 holds_after Holds v cfg events gone law h once = law cfg h.settings events h.octets once
+
+pub up_once_after : (v : ShownWorld) (cfg : Cfg) (events : List Event) (gone : Gone) → UpOnceUnlessConnected → FitsRun cfg (established cfg) v events gone → NoneConnects cfg events (established cfg) → SetsUpOnce cfg events
+up_once_after v cfg events gone law h none = law cfg h.settings events h.octets none
 
 pub run_more : (cfg : Cfg) (from : World) (v : ShownWorld) (past : List Event) (gone : Gone) (events : List code_event.Event) (i : ℕ) (d : code_event.Event) → i < length events
     → FitsRun cfg from v ((past ++ map event_of (take i events)) ++ event_of (get_or events i d) ∷ []) gone → FitsRun cfg from v (past ++ map event_of (take (i + 1) events)) gone

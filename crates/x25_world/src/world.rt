@@ -5,7 +5,7 @@ ghost use Rattle.x25_station.specs.Settings.{settings_from, config_refusal};
 ghost use Rattle.x25_station.specs.Station as station;
 ghost use Rattle.x25_world.specs.PlainTold.{plain_tapped, plain_entered};
 ghost use Rattle.x25_world.specs.ShownWorld.{line_of, station_of};
-ghost use Rattle.x25_world.specs.FitsWorld.{Gone, all_of, nothing_gone, FitsWorld, FitsRun, and_then, and_all, HoldsAfter, IsRefusal, TakesMemory, StopsAt, RefusesConfig};
+ghost use Rattle.x25_world.specs.FitsWorld.{Gone, all_of, nothing_gone, FitsWorld, FitsRun, and_then, and_all, HoldsAfter, UpOnceAfter, IsRefusal, TakesMemory, StopsAt, RefusesConfig};
 ghost use Rattle.x25_world.specs.Claims.{IsLawful, IsNamed, ArrivesAll, HasNoProcedureError, IsInWindow, IsUpOnce};
 ghost use Rattle.x25_world.specs.World as definition;
 ghost use Rattle.x25_world.specs.World.{event_of, happens, after, refusal_of, run, AreAccepted, start, connected, established};
@@ -133,14 +133,14 @@ impl World {
         ensures stays { (cfg : Cfg) (w : definition.World) (gone : Gone) → FitsWorld cfg self.old w gone → OnErr result (FitsWorld cfg self.new w gone) }
         ensures memory { IsErrOf result WorldError.NoMemory → TakesMemory (event_of event.entry).act }
 
-        // The world is that of a run, and of each run from a link just set up, which isn't set up again, this is proved.
+        // The world is that of a run, and of each run from a link just set up, which isn't set up anew, this is proved.
         ensures run { (cfg : Cfg) (from : definition.World) (past : List definition.Event) (gone : Gone) → FitsRun cfg from self.old past gone → FitsRun cfg from self.new (and_then past (event_of event.entry) result) gone }
         ensures lawful { HoldsAfter IsLawful self.old (λ past. and_then past (event_of event.entry) result) }
         ensures named { HoldsAfter IsNamed self.old (λ past. and_then past (event_of event.entry) result) }
         ensures arrives { HoldsAfter ArrivesAll self.old (λ past. and_then past (event_of event.entry) result) }
         ensures quiet { HoldsAfter HasNoProcedureError self.old (λ past. and_then past (event_of event.entry) result) }
         ensures window { HoldsAfter IsInWindow self.old (λ past. and_then past (event_of event.entry) result) }
-        ensures up_once { HoldsAfter IsUpOnce self.old (λ past. and_then past (event_of event.entry) result) }
+        ensures up_once { UpOnceAfter self.old (λ past. and_then past (event_of event.entry) result) }
     {
         two_stations_keep_order();
         hands_down_octets(event);
@@ -179,14 +179,14 @@ impl World {
         ensures accepted { (cfg : Cfg) (w : definition.World) (gone : Gone) → FitsWorld cfg self.old w gone → OnOk result (AreAccepted cfg (map event_of events.now) w) }
         ensures stopped { (cfg : Cfg) (w : definition.World) (gone : Gone) → FitsWorld cfg self.old w gone → IfErr result (StopsAt cfg (map event_of events.now) w gone self.new) }
 
-        // The world is that of a run, and of each run from a link just set up, which isn't set up again, this is proved.
+        // The world is that of a run, and of each run from a link just set up, which isn't set up anew, this is proved.
         ensures run { (cfg : Cfg) (from : definition.World) (past : List definition.Event) (gone : Gone) → FitsRun cfg from self.old past gone → FitsRun cfg from self.new (and_all past (map event_of events.now) result) gone }
         ensures lawful { HoldsAfter IsLawful self.old (λ past. and_all past (map event_of events.now) result) }
         ensures named { HoldsAfter IsNamed self.old (λ past. and_all past (map event_of events.now) result) }
         ensures arrives { HoldsAfter ArrivesAll self.old (λ past. and_all past (map event_of events.now) result) }
         ensures quiet { HoldsAfter HasNoProcedureError self.old (λ past. and_all past (map event_of events.now) result) }
         ensures window { HoldsAfter IsInWindow self.old (λ past. and_all past (map event_of events.now) result) }
-        ensures up_once { HoldsAfter IsUpOnce self.old (λ past. and_all past (map event_of events.now) result) }
+        ensures up_once { UpOnceAfter self.old (λ past. and_all past (map event_of events.now) result) }
     {
         two_stations_keep_order();
         self.happen_all(events)

@@ -1,5 +1,5 @@
-use Rattle.x25_world.specs.Claims.{IsLawful, IsNamed, ArrivesAll, HasNoProcedureError, IsInWindow, IsUpOnce}
-use Rattle.x25_world.proofs.WorldLemmas.{holds_after}
+use Rattle.x25_world.specs.Claims.{IsLawful, IsNamed, ArrivesAll, HasNoProcedureError, IsInWindow}
+use Rattle.x25_world.proofs.WorldLemmas.{holds_after, up_once_after}
 use Rattle.x25_world.proofs.world.World.run.Goals as goal
 
 pub returns-clause-lawful : goal.returns-clause-lawful
@@ -18,4 +18,4 @@ pub returns-clause-window : goal.returns-clause-window
 returns-clause-window c = λ cfg past gone h once. holds_after IsInWindow _ cfg _ gone c.two_stations_keep_order.ensures.window (c.happen_all.ensures.run cfg _ past gone h) once
 
 pub returns-clause-up_once : goal.returns-clause-up_once
-returns-clause-up_once c = λ cfg past gone h once. holds_after IsUpOnce _ cfg _ gone c.two_stations_keep_order.ensures.up_once (c.happen_all.ensures.run cfg _ past gone h) once
+returns-clause-up_once c = λ cfg past gone h none. up_once_after _ cfg _ gone c.two_stations_keep_order.ensures.up_once (c.happen_all.ensures.run cfg _ past gone h) none
