@@ -38,12 +38,20 @@ fn simulate<R: Source, W: Sink>(
     requires { options.AreInRange simulation }
 {
     let Simulation {
+        down,
+        long,
         tap,
         k,
         n2,
         channels,
     } = simulation;
-    sim(alloc, Cfg { k, n2, channels }, tap, reader, writer)
+    let cfg = Cfg {
+        k,
+        n2,
+        channels,
+        long_data: long,
+    };
+    sim(alloc, down, cfg, tap, reader, writer)
 }
 
 fn run<R: Input + Print + Eprint + AllocGlobal>(rt: &R, task: Task) -> u8

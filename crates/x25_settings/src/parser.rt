@@ -23,11 +23,24 @@ fn number_option<'a>(
         .help(help)
 }
 
+/// That a CALL may have long user data.
+fn long_option<'a>(alloc: Global) -> Arg<'a> {
+    Arg::new(alloc, "long")
+        .long("long")
+        .action(ArgAction::SetTrue)
+        .help("Take up to 128 octets of user data in a CALL, in place of 16")
+}
+
 fn sim_command<'a>(alloc: Global) -> Result<Command<'a>, AllocError> {
     let tap = Arg::new(alloc, "tap")
         .long("tap")
         .action(ArgAction::SetTrue)
         .help("Tell the frames of each step behind its entries, as lines for `decode`");
+    let down = Arg::new(alloc, "down")
+        .long("down")
+        .action(ArgAction::SetTrue)
+        .help("Begin with both links down, in place of just set up");
+    let long = long_option(alloc);
     let window = number_option(alloc, "k", 7, "7", "The window of the link: 1 to 7");
     let tries = number_option(
         alloc,
@@ -48,6 +61,8 @@ fn sim_command<'a>(alloc: Global) -> Result<Command<'a>, AllocError> {
         .override_usage("x25 sim [OPTIONS] < SCRIPT")
         .after_help(EXAMPLES)
         .arg(tap)?
+        .arg(down)?
+        .arg(long)?
         .arg(window)?
         .arg(tries)?
         .arg(channels)
@@ -55,16 +70,12 @@ fn sim_command<'a>(alloc: Global) -> Result<Command<'a>, AllocError> {
 
 /// The command line of the program.
 pub(crate) fn command<'a>(alloc: Global) -> Result<Command<'a>, AllocError> {
-    let long = Arg::new(alloc, "long")
-        .long("long")
-        .action(ArgAction::SetTrue)
-        .help("Take up to 128 octets of user data in a CALL, in place of 16");
     let decode = Command::new(alloc, "decode")
         .about(
             "Answer lines of octets, `> HEX` from the DTE and `< HEX` from the DCE, by lines of text",
         )
         .override_usage("x25 decode [--long] < TRACE")
-        .arg(long)?;
+        .arg(long_option(alloc))?;
     let vectors = Command::new(alloc, "vectors")
         .about("Run the stored test vectors")
         .override_usage("x25 vectors");

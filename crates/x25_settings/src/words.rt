@@ -129,8 +129,8 @@ fn usage_fault<'a, S: AsStr>(alloc: Global, words: &'a [S]) -> SettingsError {
 /// What the words after the program's name ask for.
 ///
 /// Plain words are `decode`, which `--long` may follow, `vectors`, or `sim` and then each at most once and in any order
-/// `--tap`, `--k N`, `--n2 N` and `--channels N`, with N in decimal without leading zeros, from 1 to 7, 255 and 16; what
-/// isn't said is 7, 10 and 1. All others are a usage fault, help words too. Plain words take no memory. Profile.
+/// `--tap`, `--down`, `--long`, `--k N`, `--n2 N` and `--channels N`, with N in decimal without leading zeros, from 1 to 7, 255
+/// and 16; what isn't said is 7, 10 and 1. All others are a usage fault, help words too. Plain words take no memory. Profile.
 pub fn settings<'a, S: AsStr>(alloc: Global, words: &'a [S]) -> Result<Task, SettingsError>
     ensures plain { (task : TaskValue) → Say (map S.text words.now) task → result ≡ Ok task }
     ensures only { IfOk result (Say (map S.text words.now)) }

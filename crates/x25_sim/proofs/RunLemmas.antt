@@ -2,22 +2,23 @@
 use Rattle.std.proofs.Common.{◌≡◌, ◌∙◌, ℕ, zero, suc, nat_lt, nat_le, Bool, true, false, List, [], ◌∷◌, ◌++◌, length, drop, map, remove, Option, Some, None, append_assoc, ap, sym, subst, refl}
 use Rattle.std.proofs.lemmas.List.{append-nil}
 use Rattle.std.proofs.Math.Seq.{drop-append_seam}
-use Rattle.std.specs.Prelude.{cond}
+use Rattle.std.specs.Prelude.{cond, ◌&&◌}
 use Rattle.x25_bits.specs.declared.role.Role.{Role}
 use Rattle.x25_bits.specs.declared.role.Role.TheVariants.{Dte, Dce}
+use Rattle.x25_link.specs.Station.{is_waiting}
 use Rattle.x25_line.specs.Stations.{is_visible, replaced}
 use Rattle.x25_station.specs.declared.config.Cfg.{Cfg}
 use Rattle.x25_station.specs.Settings.{Settings, settings_from}
 use Rattle.x25_station.specs.Steps.{Outcome, Did, Refused, fires, commands}
-use Rattle.x25_script.specs.PlainLine.{PlainCommand, call, accept, clear, send, interrupt, reset, ready, not_ready, restart, disconnect, PlainLine, command, t1, deliver, lose, damage, drain}
+use Rattle.x25_script.specs.PlainLine.{PlainCommand, call, accept, clear, send, interrupt, reset, ready, not_ready, restart, connect, disconnect, PlainLine, command, t1, deliver, lose, damage, drain}
 use Rattle.x25_script.specs.Reading.{line_in}
 use Rattle.x25_script.specs.ReadingLaw.{AsksInOctets, IsInOctets, ReadsOctets}
 use Rattle.x25_program.specs.Lines.{lines_of}
-use Rattle.x25_world.specs.World.{World, OnTap, AtEnd, swapped, Act, Commands, Receives, Fires, Loses, Damages, Event, WorldOutcome, Happened, Declined, of_station, delivered, on_line, acts, swapped_back, acts_at, happens, refusal_of, after, run, AreAccepted, apart, connected, start}
+use Rattle.x25_world.specs.World.{World, OnTap, AtEnd, swapped, Act, Commands, Receives, Fires, Loses, Damages, Event, WorldOutcome, Happened, Declined, of_station, delivered, on_line, is_on_line, acts, swapped_back, acts_at, happens, refusal_of, after, run, AreAccepted, start, connected, established}
 use Rattle.x25_world.specs.Claims.{ActsInOctets, AreInOctets, Always}
 use Rattle.x25_sim.specs.Sayings.{Saying, enters, taps, reads_nothing, refuses}
-use Rattle.x25_sim.specs.Simulated.{Turn, and_then, step_told, told_between, turn_of, event_turn, next_end, delivered_to, drained, command_asked, line_turn, most_line, asked_in, asked_turn, turn, turns, connecting, set_up, simulated}
-use Rattle.x25_sim.specs.RunLaw.{entries_in, frames_in, IsRun, ScriptsAreRuns, OfScripts, ScriptsAreTold, ScriptsAreTapped}
+use Rattle.x25_sim.specs.Simulated.{Turn, and_then, step_told, told_between, turn_of, event_turn, next_end, delivered_to, drained, command_asked, line_turn, most_line, asked_in, asked_turn, turn, turns, connecting, set_up, opened, simulated}
+use Rattle.x25_sim.specs.RunLaw.{entries_in, frames_in, begins, IsRun, ScriptsAreRuns, OfScripts, ScriptsAreTold, ScriptsAreTapped}
 
 -- ---- a world only grows
 
@@ -49,7 +50,7 @@ chosen w false o p h k = k
 by_act : (c : Settings) (w : World) (act : Act) → GrowsTo w (acts c w act)
 by_act c w (Commands asked) = by_station c w (commands c w.near asked)
 by_act c w Receives = by_delivery c w w.back
-by_act c w Fires = by_station c w (fires c w.near)
+by_act c w Fires = chosen w (is_waiting w.near.link.phase && is_on_line c w) _ _ tt (by_station c w (fires c w.near))
 by_act c w (Loses place) = chosen w (nat_lt place (length w.back)) _ _ (as_it_was w (remove w.back place)) tt
 by_act c w (Damages place octets) = chosen w (nat_lt place (length w.back)) _ _
     (chosen w (is_visible octets) _ _ (as_it_was w (replaced w.back place octets)) tt) tt
@@ -116,6 +117,7 @@ handed (reset channel) h = tt
 handed (ready channel) h = tt
 handed (not_ready channel) h = tt
 handed restart h = tt
+handed connect h = tt
 handed disconnect h = tt
 
 abbrev AskedInOctets : Option PlainLine → Type 0
@@ -238,7 +240,7 @@ says_more cfg tap t rest s r = record {
   frames = λ asked. frames-append t.sayings (rest t.next).sayings ∙ ap (λ xs. xs ++ frames_in (rest t.next).sayings) (s.frames asked) ∙ sym (r.frames asked);
 }
 
-says_connecting : (tap : Bool) (w : World) → Says tap (record { next = w; sayings = told_between tap apart w })
+says_connecting : (tap : Bool) (w : World) → Says tap (record { next = w; sayings = told_between tap start w })
 says_connecting tap w = record { entries = step_entries tap w.transcript w.tap; frames = λ asked. step_frames tap w.transcript w.tap asked }
 
 turned : (tap : Bool) (w : World) (o : WorldOutcome) → (turn_of tap w o).next ≡ after w o
@@ -259,7 +261,7 @@ two_turned : (cfg : Cfg) (tap : Bool) (w : World)
     → (event_turn cfg tap to_dte (event_turn cfg tap to_dce w).next).next ≡ run cfg (to_dce ∷ to_dte ∷ []) w
 two_turned cfg tap w = event_turned cfg tap to_dte (event_turn cfg tap to_dce w).next ∙ ap (λ v. after v (happens cfg v to_dte)) (event_turned cfg tap to_dce w)
 
-up_at : (cfg : Cfg) (tap : Bool) → (set_up cfg tap).next ≡ start cfg
+up_at : (cfg : Cfg) (tap : Bool) → (set_up cfg tap).next ≡ established cfg
 unfolding set_up
 up_at cfg tap = two_turned cfg tap (connected cfg)
 
@@ -270,15 +272,24 @@ says_up cfg tap =
     (says_more cfg tap (connecting cfg tap) (event_turn cfg tap to_dce) (says_connecting tap (connected cfg)) (event_runs cfg tap to_dce (connected cfg) tt))
     (event_runs cfg tap to_dte (event_turn cfg tap to_dce (connected cfg)).next tt)
 
-pub script_runs : ReadsOctets → (cfg : Cfg) (tap : Bool) (script : List ℕ) → IsRun cfg tap script
+-- what comes before the script
+opened_at : (cfg : Cfg) (down tap : Bool) → (opened cfg down tap).next ≡ begins cfg down
+opened_at cfg true tap = refl
+opened_at cfg false tap = up_at cfg tap
+
+says_opened : (cfg : Cfg) (down tap : Bool) → Says tap (opened cfg down tap)
+says_opened cfg true tap = record { entries = refl; frames = λ asked. refl }
+says_opened cfg false tap = says_up cfg tap
+
+pub script_runs : ReadsOctets → (cfg : Cfg) (down tap : Bool) (script : List ℕ) → IsRun cfg down tap script
 unfolding simulated
-script_runs reads cfg tap script =
-    let up = set_up cfg tap in
+script_runs reads cfg down tap script =
+    let up = opened cfg down tap in
     let r = lines_run reads cfg tap (lines_of script) up.next in
-    let says = says_more cfg tap up (turns cfg tap (lines_of script)) (says_up cfg tap) r in
-    let at : (turns cfg tap (lines_of script) up.next).next ≡ run cfg r.events (start cfg) = r.next ∙ ap (run cfg r.events) (up_at cfg tap) in record {
+    let says = says_more cfg tap up (turns cfg tap (lines_of script)) (says_opened cfg down tap) r in
+    let at : (turns cfg tap (lines_of script) up.next).next ≡ run cfg r.events (begins cfg down) = r.next ∙ ap (run cfg r.events) (opened_at cfg down tap) in record {
       events = r.events;
-      accepted = subst (AreAccepted cfg r.events) (up_at cfg tap) r.accepted;
+      accepted = subst (AreAccepted cfg r.events) (opened_at cfg down tap) r.accepted;
       octets = r.octets;
       next = at;
       entries = says.entries ∙ ap (λ w. w.transcript) at;
@@ -287,12 +298,11 @@ script_runs reads cfg tap script =
 
 -- ---- what holds of runs
 
-pub of_script : (Holds : Cfg → World → Type 0) → Always Holds → ScriptsAreRuns → OfScripts Holds
-of_script Holds always runs = λ cfg range tap script. let r = runs cfg tap script in
-    subst (Holds cfg) (sym r.next) (always cfg range r.events r.octets)
+pub of_script : (Holds : Cfg → World → Type 0) → Always Holds → OfScripts Holds
+of_script Holds always = λ cfg range tap script r once. subst (Holds cfg) (sym r.next) (always cfg range r.events r.octets once)
 
 pub are_told : ScriptsAreRuns → ScriptsAreTold
-are_told runs = λ cfg tap script. let r = runs cfg tap script in r.entries ∙ ap (λ w. w.transcript) (sym r.next)
+are_told runs = λ cfg down tap script. let r = runs cfg down tap script in r.entries ∙ ap (λ w. w.transcript) (sym r.next)
 
 pub are_tapped : ScriptsAreRuns → ScriptsAreTapped
-are_tapped runs = λ cfg script. let r = runs cfg true script in r.frames refl ∙ ap (λ w. w.tap) (sym r.next)
+are_tapped runs = λ cfg down script. let r = runs cfg down true script in r.frames refl ∙ ap (λ w. w.tap) (sym r.next)

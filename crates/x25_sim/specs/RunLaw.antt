@@ -1,9 +1,9 @@
 -- What is written for a script is the transcript of a run of the world, beside what was refused.
-use Rattle.std.specs.Prelude.{◌≡◌, ℕ, Bool, true, List, [], ◌∷◌, None}
+use Rattle.std.specs.Prelude.{◌≡◌, ℕ, Bool, true, false, List, [], ◌∷◌, None}
 use Rattle.x25_station.specs.declared.config.Cfg.{Cfg}
 use Rattle.x25_station.specs.Settings.{config_refusal}
-use Rattle.x25_world.specs.World.{World, OnTap, AtEnd, Event, AreAccepted, run, start}
-use Rattle.x25_world.specs.Claims.{AreInOctets}
+use Rattle.x25_world.specs.World.{World, OnTap, AtEnd, Event, AreAccepted, run, start, established}
+use Rattle.x25_world.specs.Claims.{AreInOctets, SetsUpOnce}
 use Rattle.x25_sim.specs.Sayings.{Saying, enters, taps, reads_nothing, refuses}
 use Rattle.x25_sim.specs.Simulated.{simulated}
 
@@ -23,27 +23,33 @@ frames_in (taps frame ∷ sayings) = frame ∷ frames_in sayings
 frames_in (reads_nothing ∷ sayings) = frames_in sayings
 frames_in (refuses error ∷ sayings) = frames_in sayings
 
--- these events, each accepted, whose users hand down octets, lead there from a world in which both links are up; and said are the transcript
--- and, where it is asked for, the tap of that run
-pub record IsRun (cfg : Cfg) (tap : Bool) (script : List ℕ) : Type 0 where
+-- the world from which a script begins: both links are down, or just set up
+abbrev pub begins : Cfg → Bool → World
+begins cfg true = start
+begins cfg false = established cfg
+
+-- these events, each accepted, whose users hand down octets, lead there from where the script begins; and said are the transcript and,
+-- where it is asked for, the tap of that run
+pub record IsRun (cfg : Cfg) (down tap : Bool) (script : List ℕ) : Type 0 where
   pub events : List Event
-  pub accepted : AreAccepted cfg events (start cfg)
+  pub accepted : AreAccepted cfg events (begins cfg down)
   pub octets : AreInOctets events
-  pub next : (simulated cfg tap script).next ≡ run cfg events (start cfg)
-  pub entries : entries_in (simulated cfg tap script).sayings ≡ (run cfg events (start cfg)).transcript
-  pub frames : tap ≡ true → frames_in (simulated cfg tap script).sayings ≡ (run cfg events (start cfg)).tap
+  pub next : (simulated cfg down tap script).next ≡ run cfg events (begins cfg down)
+  pub entries : entries_in (simulated cfg down tap script).sayings ≡ (run cfg events (begins cfg down)).transcript
+  pub frames : tap ≡ true → frames_in (simulated cfg down tap script).sayings ≡ (run cfg events (begins cfg down)).tap
 
 abbrev pub ScriptsAreRuns : Type 0
-ScriptsAreRuns = (cfg : Cfg) (tap : Bool) (script : List ℕ) → IsRun cfg tap script
+ScriptsAreRuns = (cfg : Cfg) (down tap : Bool) (script : List ℕ) → IsRun cfg down tap script
 
--- what holds of each world that a script leads to
+-- what holds of each world to which a script leads whose run, from a link just set up, doesn't set it up again
 abbrev pub OfScripts : (Cfg → World → Type 0) → Type 0
-OfScripts Holds = (cfg : Cfg) → config_refusal cfg ≡ None → (tap : Bool) (script : List ℕ) → Holds cfg (simulated cfg tap script).next
+OfScripts Holds = (cfg : Cfg) → config_refusal cfg ≡ None → (tap : Bool) (script : List ℕ) (runs : IsRun cfg false tap script) → SetsUpOnce cfg runs.events
+    → Holds cfg (simulated cfg false tap script).next
 
 -- the entries among what is said are the transcript of that world
 abbrev pub ScriptsAreTold : Type 0
-ScriptsAreTold = (cfg : Cfg) (tap : Bool) (script : List ℕ) → entries_in (simulated cfg tap script).sayings ≡ (simulated cfg tap script).next.transcript
+ScriptsAreTold = (cfg : Cfg) (down tap : Bool) (script : List ℕ) → entries_in (simulated cfg down tap script).sayings ≡ (simulated cfg down tap script).next.transcript
 
 -- and the frames, where they are asked for, its tap
 abbrev pub ScriptsAreTapped : Type 0
-ScriptsAreTapped = (cfg : Cfg) (script : List ℕ) → frames_in (simulated cfg true script).sayings ≡ (simulated cfg true script).next.tap
+ScriptsAreTapped = (cfg : Cfg) (down : Bool) (script : List ℕ) → frames_in (simulated cfg down true script).sayings ≡ (simulated cfg down true script).next.tap

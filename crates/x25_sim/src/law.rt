@@ -2,21 +2,23 @@
 //! does nothing.
 ghost use Rattle.x25_world.specs.Claims.{ArrivesAll, HasNoProcedureError, IsInWindow, IsLawful, IsNamed, IsUpOnce};
 ghost use Rattle.x25_sim.specs.RunLaw.{OfScripts, ScriptsAreRuns, ScriptsAreTapped, ScriptsAreTold};
-ghost use Rattle.x25_sim.specs.ScriptRows.{BothEndsGoDown, CallsCollide, DamageIsSeen, FramesAreWritten, LinkGoesDown, LinksComeUp, MessagesArrive, OtherLinesAreRefused, ResetIsDone, RestartIsDone};
+ghost use Rattle.x25_sim.specs.ScriptRows.{BothEndsGoDown, CallsCollide, DamageIsSeen, FramesAreWritten, LinkGoesDown, LinkIsSetUp, LinkIsSetUpAgain, LinksComeUp, LostUaComesAgain, MessagesArrive, OtherLinesAreRefused, ResetIsDone, RestartIsDone};
 
 use x25_script::lines_are_in_octets;
 use x25_world::two_stations_keep_order;
 
-/// For every script: events that are each accepted, and whose users hand down octets, lead from two stations with both links up to where
-/// the script leads; the entries among what is said are the transcript of that run, and the frames, where they are asked for, its tap.
+/// For every script: events that are each accepted, and whose users hand down octets, lead from two stations with both links up, or with
+/// `down` from both links down, to where the script leads; the entries among what is said are the transcript of that run, and the
+/// frames, where they are asked for, its tap.
 pub fn scripts_are_runs()
     ensures { ScriptsAreRuns }
 {
     lines_are_in_octets();
 }
 
-/// For every script: what `two_stations_keep_order` says of two stations holds of those to which the script leads, whose transcript and
-/// tap are the entries and the frames that are written.
+/// For every script that begins with both links up, and in which no `connect` is accepted: what `two_stations_keep_order` says of two
+/// stations holds of those to which the script leads. For every script transcript and tap of those are the entries and the frames that
+/// are written.
 ///
 /// Premises: k is 1 to 7, N2 1 to 255, channels 1 to 16.
 pub fn scripts_keep_order()
@@ -34,7 +36,8 @@ pub fn scripts_keep_order()
 }
 
 /// Worked scripts, with what is written and the status: set-up, and with its frames; a link that goes down by retries; damage and
-/// other refusals; two calls that collide; lines outside of the grammar; a call and its messages; `reset`, `restart` and `disconnect`.
+/// other refusals; two calls that collide; lines outside of the grammar; a call and its messages; `reset`, `restart` and `disconnect`;
+/// `connect` from both links down, also where a UA is lost, and of a link that went down.
 pub fn scripts_move()
     ensures set_up { LinksComeUp }
     ensures frames { FramesAreWritten }
@@ -46,4 +49,7 @@ pub fn scripts_move()
     ensures reset { ResetIsDone }
     ensures restart { RestartIsDone }
     ensures disconnect { BothEndsGoDown }
+    ensures connect { LinkIsSetUp }
+    ensures lost_ua { LostUaComesAgain }
+    ensures again { LinkIsSetUpAgain }
 {}

@@ -12,6 +12,8 @@ mod hearing;
 #[cfg(test)]
 mod linking;
 #[cfg(test)]
+mod long_data;
+#[cfg(test)]
 mod octets;
 #[cfg(test)]
 mod peer;

@@ -139,6 +139,7 @@ fn all_octets_are_taken(rt: HostRuntime) -> Result<(), Fail> {
         k: 7,
         n2: 1,
         channels: 1,
+        long_data: false,
     };
     let mut peer = Peer {
         alloc: rt.alloc(),

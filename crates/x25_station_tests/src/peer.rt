@@ -29,7 +29,7 @@ pub enum Act {
     HearMany(u16, u8, &'static str),
     /// An RR response with this N(R) comes.
     HearRr(u8),
-    /// Nothing happens. It is shown whether the station is idle.
+    /// Nothing happens. It is shown whether the station is idle, and whether it awaits UA.
     Idle,
     /// Nothing happens. The name of the stretch that is open on this channel is shown.
     Stretch(u16),
@@ -38,7 +38,17 @@ pub enum Act {
 /// What happens, and what it shows: the entries that it makes and the frames to send, or `!` and the number of the refusal.
 pub type Row = (Act, &'static [&'static str]);
 
-/// A station with the window 7 and N2 = 1.
+/// The window 7 and N2 = 1.
+pub fn settings(channels: u8, long_data: bool) -> Cfg {
+    Cfg {
+        k: 7,
+        n2: 1,
+        channels,
+        long_data,
+    }
+}
+
+/// A station, and which end it is.
 #[derive(Drop)]
 struct End {
     alloc: Global,
@@ -47,12 +57,7 @@ struct End {
 }
 
 impl End {
-    fn new(alloc: Global, role: Role, channels: u8) -> Result<End, StationError> {
-        let cfg = Cfg {
-            k: 7,
-            n2: 1,
-            channels,
-        };
+    fn new(alloc: Global, role: Role, cfg: Cfg) -> Result<End, StationError> {
         let station = Station::new(alloc, role, cfg)?;
         Ok(End {
             alloc,
@@ -93,10 +98,10 @@ impl End {
                 })
             }
             Act::Idle => {
-                let shown = if self.station.idle() {
-                    "idle"
-                } else {
-                    "not idle"
+                let shown = match (self.station.idle(), self.station.is_waiting()) {
+                    (true, _) => "idle",
+                    (false, true) => "UA is awaited",
+                    (false, false) => "not idle",
                 };
                 Ok(lines(self.alloc, &[shown])?)
             }
@@ -182,6 +187,24 @@ fn information(ns: Seq, nr: u8, info: &[u8]) -> Frame<'_> {
 pub type Table = (&'static str, &'static [Row]);
 
 /// Plays tables, each at a station of its own, at which these rows happened before.
+pub fn play_at(
+    rt: &impl Abort,
+    alloc: Global,
+    (role, cfg): (Role, Cfg),
+    before: &[&[Row]],
+    tables: &[Table],
+) -> Result<(), Fail> {
+    for &(name, rows) in tables {
+        let mut end = End::new(alloc, role, cfg)?;
+        for begun in before {
+            end.plays(rt, "before", begun)?;
+        }
+        end.plays(rt, name, rows)?;
+    }
+    Ok(())
+}
+
+/// .. of so many channels, whose calls have at most 16 octets of user data.
 pub fn play(
     rt: &impl Abort,
     alloc: Global,
@@ -189,12 +212,5 @@ pub fn play(
     before: &[&[Row]],
     tables: &[Table],
 ) -> Result<(), Fail> {
-    for &(name, rows) in tables {
-        let mut end = End::new(alloc, role, channels)?;
-        for begun in before {
-            end.plays(rt, "before", begun)?;
-        }
-        end.plays(rt, name, rows)?;
-    }
-    Ok(())
+    play_at(rt, alloc, (role, settings(channels, false)), before, tables)
 }

@@ -42,7 +42,7 @@ pub fn stretch_line(alloc: Global, name: Option<Stretch>) -> Result<Line, AllocE
 fn frame_text(alloc: Global, from: Role, octets: &[u8]) -> Result<Text, AllocError> {
     let mut text = Text::new(alloc)?;
     match decode(from, 4099, octets) {
-        Ok(frame) => push_frame(false, &frame, &mut text),
+        Ok(frame) => push_frame(true, &frame, &mut text),
         Err(error) => push_fault(error, &mut text),
     }
     Ok(text)

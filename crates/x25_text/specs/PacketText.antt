@@ -1,8 +1,8 @@
 -- The text that a trace shows of a packet and of its error (profile).
-use Rattle.std.specs.Prelude.{ℕ, ◌+◌, Bool, List, [], ◌∷◌, ◌++◌, map, codes, decimal, if◌then◌else◌, Result, Ok, Err}
+use Rattle.std.specs.Prelude.{ℕ, ◌+◌, Bool, List, [], ◌∷◌, ◌++◌, map, codes, decimal, Result, Ok, Err}
 use Rattle.x25_packet.specs.PlainPacket.{PlainPacket, call, accept, clear, clear_conf, user_data, rr, rnr, interrupt, interrupt_conf, reset, reset_conf, restart, restart_conf}
 use Rattle.x25_packet.specs.Reading.{packet_of}
-use Rattle.x25_packet.specs.Spelling.{bit}
+use Rattle.x25_packet.specs.Spelling.{bit, longest_user}
 use Rattle.x25_packet.specs.PacketError.{number_of, diagnostic_of}
 use Rattle.x25_packet.specs.declared.error.PacketError.{PacketError}
 use Rattle.x25_text.specs.OctetText.{octets_text}
@@ -51,10 +51,6 @@ abbrev pub packet_reading_text : Result PlainPacket PacketError → List ℕ
 packet_reading_text (Ok v) = packet_text v
 packet_reading_text (Err error) = packet_fault_text error
 
--- the most octets of user data in a CALL: 16, or 128 where it may be long
-abbrev pub most_user : Bool → ℕ
-most_user long_data = if long_data then 128 else 16
-
 -- what stands behind the bar of an I frame: the packet that its information spells, or the first error
 abbrev pub information_text : Bool → List ℕ → List ℕ
-information_text long_data octets = packet_reading_text (packet_of (most_user long_data) octets)
+information_text long_data octets = packet_reading_text (packet_of (longest_user long_data) octets)

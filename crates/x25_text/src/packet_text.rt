@@ -3,11 +3,11 @@ ghost use Rattle.std.specs.Prelude.{◌≡◌, ◌+◌, ◌*◌, ◌≤◌, ◌<
 ghost use Rattle.x25_packet.specs.PlainPacket.{plain};
 ghost use Rattle.x25_packet.specs.Spelling.{IsInRange};
 ghost use Rattle.x25_text.specs.OctetText.{octets_text};
-ghost use Rattle.x25_text.specs.PacketText.{addresses_text, digits_text, fields_text, information_text, marks_text, most_user, numbers_text, packet_fault_text, packet_text, reason_text};
+ghost use Rattle.x25_text.specs.PacketText.{addresses_text, digits_text, fields_text, information_text, marks_text, numbers_text, packet_fault_text, packet_text, reason_text};
 
 use crate::text::{MOST_OCTETS, ROOM, Text};
 use x25_frame::Seq;
-use x25_packet::{CALL_OCTETS, Digits, LONG_CALL_OCTETS, Packet, PacketError, decode_within};
+use x25_packet::{Digits, Packet, PacketError, decode_within, longest_user};
 
 /// The most characters of a packet or of its error on one line.
 pub const MOST_PACKET_TEXT: usize = 8_260;
@@ -184,17 +184,6 @@ fn push_packet_fault(error: PacketError, text: &mut Text)
     text.push_number(b" diag=", u16::from(error.diagnostic()));
 }
 
-/// The most octets of user data in a CALL.
-fn most_user(long_data: bool) -> usize
-    ensures { result ≡ most_user long_data }
-{
-    if long_data {
-        LONG_CALL_OCTETS
-    } else {
-        CALL_OCTETS
-    }
-}
-
 /// Appends what the information of an I frame is: a packet, or its error.
 ///
 /// With `long_data` the user data of a CALL has at most 128 octets, else at most 16.
@@ -203,7 +192,7 @@ pub fn push_information(long_data: bool, information: &[u8], text: &mut Text)
     ensures text { text.new ≡ text.old ++ information_text long_data information.now }
     ensures size { length text.new ≤ length text.old + MOST_PACKET_TEXT }
 {
-    match decode_within(most_user(long_data), information) {
+    match decode_within(longest_user(long_data), information) {
         Ok(packet) => push_packet(&packet, text),
         Err(error) => push_packet_fault(error, text),
     }

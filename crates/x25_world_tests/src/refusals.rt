@@ -11,7 +11,7 @@ use x25_world::Role::{Dce, Dte};
 use x25_world::{Event, World, WorldError, WorldRefused};
 
 /// Each error, its number, and its message.
-const NUMBERS: [(WorldError, u8, &str); 6] = [
+const NUMBERS: [(WorldError, u8, &str); 7] = [
     (WorldError::BadConfig, 14, "a parameter is out of range"),
     (WorldError::Empty, 50, "nothing on the line"),
     (WorldError::NoSuchFrame, 51, "no such frame on the line"),
@@ -21,6 +21,7 @@ const NUMBERS: [(WorldError, u8, &str); 6] = [
         53,
         "a parameter is out of range",
     ),
+    (WorldError::OnLine, 54, "the set-up is still on the line"),
     (WorldError::NoMemory, 70, "no memory"),
 ];
 
@@ -51,16 +52,27 @@ fn establishes(alloc: Global, cfg: Cfg) -> Result<(), WorldError> {
     Ok(())
 }
 
+fn starts(alloc: Global, cfg: Cfg) -> Result<(), WorldError> {
+    World::start(alloc, cfg)?;
+    Ok(())
+}
+
 #[test]
 fn settings_are_in_range(rt: HostRuntime) {
     for (k, n2, channels, is_fine) in SETTINGS {
-        let cfg = Cfg { k, n2, channels };
+        let cfg = Cfg {
+            k,
+            n2,
+            channels,
+            long_data: false,
+        };
         let wanted = if is_fine {
             Ok(())
         } else {
             Err(WorldError::BadConfig)
         };
         assert_eq!(rt; establishes(rt.alloc(), cfg), wanted, "{cfg:?}");
+        assert_eq!(rt; starts(rt.alloc(), cfg), wanted, "{cfg:?}");
     }
 }
 
@@ -107,6 +119,7 @@ fn lists_stop_at_the_first_refusal(rt: HostRuntime) -> Result<(), Fail> {
         k: 7,
         n2: 10,
         channels: 1,
+        long_data: false,
     };
     let mut world = World::establish(rt.alloc(), cfg)?;
     stops(&rt, &mut world);
