@@ -1,7 +1,7 @@
 //! What the simulator writes is a run, and what holds of it, as laws about the definition: each is the contract of a function that
 //! does nothing.
-ghost use Rattle.x25_world.specs.Claims.{ArrivesAll, HasNoProcedureError, IsInWindow, IsLawful, IsNamed, IsUpOnce};
-ghost use Rattle.x25_sim.specs.RunLaw.{OfScripts, ScriptsAreRuns, ScriptsAreTapped, ScriptsAreTold};
+ghost use Rattle.x25_world.specs.Claims.{ArrivesAll, HasNoProcedureError, IsInWindow, IsLawful, IsNamed};
+ghost use Rattle.x25_sim.specs.RunLaw.{OfScripts, ScriptsAreRuns, ScriptsAreTapped, ScriptsAreTold, UpOnceUnlessAsked};
 ghost use Rattle.x25_sim.specs.ScriptRows.{BothEndsGoDown, CallsCollide, DamageIsSeen, FramesAreWritten, LinkGoesDown, LinkIsSetUp, LinkIsSetUpAgain, LinksComeUp, LostUaComesAgain, MessagesArrive, OtherLinesAreRefused, ResetIsDone, RestartIsDone};
 
 use x25_script::lines_are_in_octets;
@@ -16,9 +16,10 @@ pub fn scripts_are_runs()
     lines_are_in_octets();
 }
 
-/// For every script that begins with both links up, and in which no `connect` is accepted: what `two_stations_keep_order` says of two
-/// stations holds of those to which the script leads. For every script transcript and tap of those are the entries and the frames that
-/// are written.
+/// For every script that begins with both links up, as long as the link isn't set up anew, by which an end is told of LinkUp again: what
+/// `two_stations_keep_order` says of two stations holds of those to which the script leads. By `up_once` it isn't where no line of the
+/// script is `connect`, so that such a script has no other premise than those below. For every script, and also with `down`, transcript
+/// and tap are the entries and the frames that are written.
 ///
 /// Premises: k is 1 to 7, N2 1 to 255, channels 1 to 16.
 pub fn scripts_keep_order()
@@ -27,7 +28,7 @@ pub fn scripts_keep_order()
     ensures arrives { OfScripts ArrivesAll }
     ensures quiet { OfScripts HasNoProcedureError }
     ensures window { OfScripts IsInWindow }
-    ensures up_once { OfScripts IsUpOnce }
+    ensures up_once { UpOnceUnlessAsked }
     ensures told { ScriptsAreTold }
     ensures tapped { ScriptsAreTapped }
 {

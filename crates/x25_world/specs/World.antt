@@ -161,7 +161,7 @@ abbrev pub AreAccepted : Cfg → List Event → World → Type 0
 AreAccepted cfg [] w = Unit {0}
 AreAccepted cfg (e ∷ events) w = (refusal_of (happens cfg w e) ≡ None) × AreAccepted cfg events (after w (happens cfg w e))
 
--- two stations that never were up
+-- both links are down, and nothing is on the line
 abbrev pub start : World
 start = record { near = new_station; far = new_station; out = []; back = []; tap = []; transcript = [] }
 
