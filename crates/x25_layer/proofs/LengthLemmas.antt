@@ -49,7 +49,7 @@ call_fits p channel called calling facilities user e is =
     (λ range. (call_short called calling facilities.now user.now range.1 range.2 range.3, range.4)) is
 
 -- what follows the third octet of a packet other than DATA and CALL
-pub other_short : (p : Packet) → ((channel : ℕ) (q m : Bool) (ps pr : Seq) (user : Bor (List ℕ)) → p ≡ code.Data channel q m ps pr user → ⊥) 
+pub other_short : (p : Packet) → ((channel : ℕ) (q m : Bool) (ps pr : Seq) (user : Bor (List ℕ)) → p ≡ code.Data channel q m ps pr user → ⊥)
     → ((channel : ℕ) (called calling : List ℕ) (facilities user : Bor (List ℕ)) → p ≡ code.Call channel called calling facilities user → ⊥) → IsInRange 128 (plain p) → length (body_of (plain p)) ≤ 32
 other_short (code.Call channel called calling facilities user) other not_call is = absurd (not_call channel called calling facilities user refl)
 other_short (code.Accept channel facilities) other not_call is = accept_short facilities.now is.1

@@ -53,8 +53,8 @@ returns-in_default-packet g c =
     let hears = c.hear_on-in_default-packet.ensures in
     let same : (s : LayerSettings) (l : Layer) → hears_on s l l.restarting c.in-Some.channel (Ok (plain c.in-Ok.packet)) ≡ answer_to s l c.args.octets.now (packet_of (longest_user c.args.self.now.long_data) c.args.octets.now) =
     λ s l.
-        sym (hears_packet c.longest_user.result s l c.args.octets.now c.in-Some.channel (plain c.in-Ok.packet) has c.in-Ok.ensures.found at c.in-Ok.ensures.exact)
-        ∙ ap (λ (most : ℕ). answer_to s l c.args.octets.now (packet_of most c.args.octets.now)) c.longest_user.ensures.value in
+    sym (hears_packet c.longest_user.result s l c.args.octets.now c.in-Some.channel (plain c.in-Ok.packet) has c.in-Ok.ensures.found at c.in-Ok.ensures.exact)
+    ∙ ap (λ (most : ℕ). answer_to s l c.args.octets.now (packet_of most c.args.octets.now)) c.longest_user.ensures.value in
     record {
       layer = λ s l fits. subst (λ (a : LayerAnswer). OnOk c.hear_on-in_default-packet.result (FitsLayer s c.hear_on-in_default-packet.new.self a.next)) (same s l) (hears.layer s l fits);
       link = λ s l x fits link.
