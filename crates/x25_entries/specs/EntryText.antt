@@ -13,7 +13,7 @@ use Rattle.x25_circuit.specs.Notices.{PlainNotice, incoming, connected, collided
 use Rattle.x25_circuit.specs.Calls.{Request, Calls, Accepts, Clears, Sends, Interrupts, Resets, SaysReady, SaysNotReady}
 use Rattle.x25_epochs.specs.Names.{Name}
 use Rattle.x25_layer.specs.Transcript.{Said, Asked, Told}
-use Rattle.x25_station.specs.Entries.{StationEntry, of_channel, restart_asked, disconnect_asked, link_up, link_down, was_restarted, restart_confirmed, at_fault}
+use Rattle.x25_station.specs.Entries.{StationEntry, of_channel, restart_asked, connect_asked, disconnect_asked, link_up, link_down, was_restarted, restart_confirmed, at_fault}
 use Rattle.x25_text.specs.OctetText.{octets_text}
 use Rattle.x25_text.specs.PacketText.{reason_text}
 
@@ -108,6 +108,7 @@ down_text Counts = codes "counts"
 abbrev pub entry_text : StationEntry → List ℕ
 entry_text (of_channel e) = said_text e.channel e.name e.said
 entry_text restart_asked = codes "restart"
+entry_text connect_asked = codes "connect"
 entry_text disconnect_asked = codes "disconnect"
 entry_text link_up = codes "linkup"
 entry_text (link_down reason) = codes "linkdown " ++ down_text reason

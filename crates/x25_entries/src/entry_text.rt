@@ -227,6 +227,7 @@ fn push_entry(entry: &Entry, line: &mut Line) -> Result<(), AllocError>
             said,
         } => push_said(*channel, name, said, line),
         Entry::RestartAsked => line.push(b"restart"),
+        Entry::ConnectAsked => line.push(b"connect"),
         Entry::DisconnectAsked => line.push(b"disconnect"),
         Entry::LinkUp => line.push(b"linkup"),
         Entry::LinkDown(reason) => {

@@ -29,6 +29,7 @@ fn rows(alloc: Global) -> Result<Vec<(Entry, &'static str)>, AllocError> {
     Ok(vec![in alloc;
         (Entry::LinkUp, "dte linkup\n"),
         (Entry::RestartAsked, "dte restart\n"),
+        (Entry::ConnectAsked, "dte connect\n"),
         (Entry::DisconnectAsked, "dte disconnect\n"),
         (
             Entry::WasRestarted {

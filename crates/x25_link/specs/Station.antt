@@ -53,6 +53,13 @@ is_up Waiting = false
 is_up Up = true
 is_up Closed = false
 
+-- UA is awaited
+abbrev pub is_waiting : Phase → Bool
+is_waiting Down = false
+is_waiting Waiting = true
+is_waiting Up = false
+is_waiting Closed = false
+
 -- busy (section 2.4.5.8): exactly while more than 254 packets wait (profile)
 abbrev pub is_busy : Station → Bool
 is_busy s = nat_lt 254 (waits s.outgoing)

@@ -1,6 +1,6 @@
 ghost use Rattle.std.specs.Prelude.{◌≡◌, ℕ, ◌+◌, ◌-◌, ◌<◌, ◌≤◌, ◌↔◌, ◌++◌, List, [], length, map, vec_len, Bool, true, false, Some, None, IfOk, IfErr, OnOk, OnErr, IsOk, IsErrOf};
 ghost use Rattle.x25_frame.specs.Spelling.{spelling_of};
-ghost use Rattle.x25_link.specs.Station.{Settings, Station as StationState, with_nothing};
+ghost use Rattle.x25_link.specs.Station.{Settings, Station as StationState, is_waiting, with_nothing};
 ghost use Rattle.x25_link.specs.Steps.{Refuses, config_refusal, take_step, put_refusal, put_step, connect_refusal, connect_step, disconnect_refusal, disconnect_step, timer_refusal, timer_step, abandon_step, is_idle};
 ghost use Rattle.x25_link.specs.LinkError.{RefusesPut};
 ghost use Rattle.x25_link.specs.Link.{FitsLink, IsAnswer, limit_of, up_of, waiting_of};
@@ -199,6 +199,13 @@ impl Link {
         ensures { (c : Settings) (s : StationState) → FitsLink c self.now s → result ≡ is_idle s }
     {
         self.station.is_idle()
+    }
+
+    /// Whether this end sent a SABM and awaits its UA.
+    pub fn is_waiting(&self) -> bool
+        ensures { (c : Settings) (s : StationState) → FitsLink c self.now s → result ≡ is_waiting s.phase }
+    {
+        self.station.phase.is_waiting()
     }
 
     // Hands a packet down, and keeps the frames.

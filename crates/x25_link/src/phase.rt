@@ -13,13 +13,20 @@ pub enum Phase {
 
 impl Phase {
     ghost use Rattle.std.specs.Prelude.{◌≡◌};
-    ghost use Rattle.x25_link.specs.Station.{is_up};
+    ghost use Rattle.x25_link.specs.Station.{is_up, is_waiting};
 
     /// Whether packets are transferred.
     pub fn is_up(self) -> bool
         ensures { result ≡ is_up self }
     {
         matches!(self, Phase::Up)
+    }
+
+    /// Whether UA is awaited.
+    pub fn is_waiting(self) -> bool
+        ensures { result ≡ is_waiting self }
+    {
+        matches!(self, Phase::Waiting)
     }
 }
 

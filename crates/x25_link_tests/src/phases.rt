@@ -17,10 +17,13 @@ fn a_disc_is_answered_once_by_ua(rt: HostRuntime) -> Result<(), Fail> {
     play_up(&rt, rt.alloc(), 7, TWO_DISCS.as_slice())
 }
 
-static NO_ANSWER: [Row; 5] = [
+static NO_ANSWER: [Row; 8] = [
+    (DTE, Ask, "0 wait"),
     (DTE, Connect, "SABM cmd P=1"),
+    (DTE, Ask, "UA is awaited"),
     (DTE, T1, "SABM cmd P=1"),
     (DTE, T1, "down (retries)"),
+    (DTE, Ask, "0 wait"),
     (DTE, T1, "refused 11"),
     (DTE, Put(0), "refused 9"),
 ];

@@ -38,7 +38,7 @@ pub enum Event<'a> {
     Take(&'a [u8]),
     /// Nothing happens. The text is the octets of the frame at this place of the line to this station.
     Look(usize),
-    /// Nothing happens. The text says how many packets wait, or that the station is idle.
+    /// Nothing happens. The text says how many packets wait, that the station is idle, or that it awaits UA.
     Ask,
     /// Nothing happens. The text says how many frames are on the line to this station.
     Count,
@@ -238,6 +238,9 @@ impl End {
     }
 
     fn ask(&self, alloc: Global) -> Result<Shown, Fail> {
+        if self.link.is_waiting() {
+            return silent(alloc, format!(in alloc; "UA is awaited")?);
+        }
         if self.link.idle() {
             return silent(alloc, format!(in alloc; "idle")?);
         }

@@ -21,8 +21,8 @@ use Rattle.x25_layer.specs.Layer.{LayerSettings, Layer, goes_up}
 use Rattle.x25_layer.specs.Calls.{LayerRequest, LayerOutcome, Accepted, Declined, layer_outcome}
 use Rattle.x25_layer.specs.Rounds.{LinkView, Putting, begin, rounds, Refuses, went}
 use Rattle.x25_station.specs.Settings.{Settings, link_settings, layer_settings}
-use Rattle.x25_station.specs.Command.{Requests, Disconnects}
-use Rattle.x25_station.specs.Entries.{StationEntry, disconnect_asked}
+use Rattle.x25_station.specs.Command.{Requests, Connects, Disconnects}
+use Rattle.x25_station.specs.Entries.{StationEntry, connect_asked, disconnect_asked}
 use Rattle.x25_station.specs.Station.{Station, put_on, all_put, view_of}
 use Rattle.x25_station.specs.Steps.{Step, with_puts, layer_at, layer_answer, follows, led_by, unless, abandons, entries_of_outcome, did, requests}
 use Rattle.x25_station.specs.JoinLaw.{AreAccepted}
@@ -247,7 +247,13 @@ request_kept tells c s request kept = at (is_up s.link.phase) refl (layer_outcom
         up_kept tells c (alone s.link) (rounds view lc (begin next packet)) (entries_of_outcome lc s.layer request (Accepted next packet)) up kept.few
         (rounds_accepted tells (link_settings c) (alone s.link) lc (begin next packet) up (accepted next packet up found))
 
+-- the entry of a command changes nothing of it
+kept_led : (entries : List StationEntry) (o : Option LinkError) (step : Step) → KeptBy (unless o step) → KeptBy (unless o (led_by entries step))
+kept_led entries None step kept = kept
+kept_led entries (Some e) step kept = tt
+
 pub command_kept : LinkLaws → CommandKeeps
 command_kept laws c s (Requests request) kept = request_kept laws.put c s request kept
+command_kept laws c s Connects kept = kept_led (connect_asked ∷ []) (connect_refusal s.link.phase) (follows c s.layer (connect_step (link_settings c) s.link)) (connect_kept laws c s kept)
 command_kept laws c s Disconnects kept = unless_kept (disconnect_refusal s.link.phase) (led_by (disconnect_asked ∷ []) (follows c s.layer (disconnect_step (link_settings c) s.link)))
     (λ none. follows_kept laws.put c s (disconnect_step (link_settings c) s.link) kept (disconnect_keeps laws (link_settings c) s.link))

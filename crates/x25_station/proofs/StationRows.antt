@@ -21,8 +21,8 @@ use Rattle.x25_layer.specs.Calls.{Asks, Dials, Restarts}
 use Rattle.x25_layer.specs.Transcript.{Asked}
 use Rattle.x25_station.specs.declared.error.StationError.TheVariants as error
 use Rattle.x25_station.specs.Settings.{Settings, layer_settings}
-use Rattle.x25_station.specs.Command.{Requests, Disconnects}
-use Rattle.x25_station.specs.Entries.{StationEntry, of_channel, restart_asked, disconnect_asked, link_up, link_down, was_restarted}
+use Rattle.x25_station.specs.Command.{Requests, Connects, Disconnects}
+use Rattle.x25_station.specs.Entries.{StationEntry, of_channel, restart_asked, connect_asked, disconnect_asked, link_up, link_down, was_restarted}
 use Rattle.x25_station.specs.Station.{Station, new_station}
 use Rattle.x25_station.specs.Steps.{Outcome, Did, Refused, follows, connects, fires, receives, commands}
 use Rattle.x25_station.specs.Told.{is_idle, stretch}
@@ -43,6 +43,14 @@ entries_in (Refused e) = []
 row_connect : frames_in (connects dte new_station) ≡ sabm true ∷ []
 unfolding pumped
 row_connect = refl
+
+row_connect_asked : entries_in (commands dte new_station Connects) ≡ connect_asked ∷ []
+unfolding pumped
+row_connect_asked = refl
+
+row_connect_asked_sends : frames_in (commands dte new_station Connects) ≡ sabm true ∷ []
+unfolding pumped
+row_connect_asked_sends = refl
 
 -- the UA of the other end is taken: RESTART goes in the same step
 abbrev at_link_up : LinkStep
@@ -124,6 +132,14 @@ row_not_up = refl
 row_already_up : connects dte ready ≡ Refused (error.Link link_error.AlreadyUp)
 unfolding pumped
 row_already_up = refl
+
+row_already_up_asked : commands dte ready Connects ≡ Refused (error.Link link_error.AlreadyUp)
+unfolding pumped
+row_already_up_asked = refl
+
+row_already_waiting : commands dte (record { link = with_nothing Waiting 0; layer = layer.at_rest }) Connects ≡ Refused (error.Link link_error.AlreadyWaiting)
+unfolding pumped
+row_already_waiting = refl
 
 row_not_running : fires dte ready ≡ Refused (error.Link link_error.NotRunning)
 unfolding pumped

@@ -6,9 +6,10 @@ use Rattle.x25_layer.specs.Calls.{LayerRequest, Asks, Dials, Restarts}
 use Rattle.x25_station.specs.declared.command.Cmd.{Cmd}
 use Rattle.x25_station.specs.declared.command.Cmd.TheVariants as code
 
--- something of the packet layer, or that the link be disconnected
+-- something of the packet layer, or that the link be set up or disconnected
 pub data Command : Type 0 where
   Requests : (request : LayerRequest) → Command
+  Connects : Command
   Disconnects : Command
 
 -- A call takes a free channel; the others name theirs. Where no packet sizes and windows are named, a call proposes the defaults, and
@@ -25,4 +26,5 @@ command_of (code.Reset channel) = Requests (Asks channel Resets)
 command_of (code.Ready channel) = Requests (Asks channel SaysReady)
 command_of (code.NotReady channel) = Requests (Asks channel SaysNotReady)
 command_of code.Restart = Requests Restarts
+command_of code.Connect = Connects
 command_of code.Disconnect = Disconnects

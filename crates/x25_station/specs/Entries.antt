@@ -11,6 +11,7 @@ pub data StationEntry : Type 0 where
   -- what a channel's user asked or was told, under the name of the stretch
   of_channel : (entry : Entry) → StationEntry
   restart_asked : StationEntry
+  connect_asked : StationEntry
   disconnect_asked : StationEntry
   link_up : StationEntry
   link_down : (reason : Reason) → StationEntry

@@ -13,7 +13,7 @@ use Rattle.x25_station.specs.declared.entry.Asked.{Asked}
 use Rattle.x25_station.specs.declared.entry.Asked.TheVariants as asked
 use Rattle.x25_station.specs.declared.entry.Told.{Told}
 use Rattle.x25_station.specs.declared.entry.Told.TheVariants as told
-use Rattle.x25_station.specs.Entries.{StationEntry, of_channel, restart_asked, disconnect_asked, link_up, link_down, was_restarted, restart_confirmed, at_fault}
+use Rattle.x25_station.specs.Entries.{StationEntry, of_channel, restart_asked, connect_asked, disconnect_asked, link_up, link_down, was_restarted, restart_confirmed, at_fault}
 
 abbrev pub plain_name : Stretch → Name
 plain_name s = record { restarts = s.restarts; clears = s.clears; resets = s.resets }
@@ -48,6 +48,7 @@ plain_said (said.Told what) = layer.Told (plain_told what)
 abbrev pub plain_entry : Entry → StationEntry
 plain_entry (code.OnChannel channel name what) = of_channel (record { channel = channel; name = plain_name name; said = plain_said what })
 plain_entry code.RestartAsked = restart_asked
+plain_entry code.ConnectAsked = connect_asked
 plain_entry code.DisconnectAsked = disconnect_asked
 plain_entry code.LinkUp = link_up
 plain_entry (code.LinkDown reason) = link_down reason

@@ -15,8 +15,8 @@ use Rattle.x25_layer.specs.Rounds.{LinkView, Putting, Answered, Went, Refuses, c
 use Rattle.x25_station.specs.declared.error.StationError.{StationError}
 use Rattle.x25_station.specs.declared.error.StationError.TheVariants as error
 use Rattle.x25_station.specs.Settings.{Settings, link_settings, layer_settings}
-use Rattle.x25_station.specs.Command.{Command, Requests, Disconnects}
-use Rattle.x25_station.specs.Entries.{StationEntry, disconnect_asked, entries_noted, station_told, station_asked}
+use Rattle.x25_station.specs.Command.{Command, Requests, Connects, Disconnects}
+use Rattle.x25_station.specs.Entries.{StationEntry, connect_asked, disconnect_asked, entries_noted, station_told, station_asked}
 use Rattle.x25_station.specs.Station.{Station, all_put, view_of}
 
 -- the station after a step, the frames to send, in order, and the entries of the transcript
@@ -89,6 +89,10 @@ fires c s = unless (timer_refusal s.link) (follows c s.layer (timer_step (link_s
 abbrev pub led_by : List StationEntry → Step → Step
 led_by entries step = record { near = step.near; out = step.out; entries = entries ++ step.entries }
 
+-- connect as a command, which has an entry
+abbrev pub connects_asked : Settings → Station → Outcome
+connects_asked c s = unless (connect_refusal s.link.phase) (led_by (connect_asked ∷ []) (follows c s.layer (connect_step (link_settings c) s.link)))
+
 abbrev pub disconnects : Settings → Station → Outcome
 disconnects c s = unless (disconnect_refusal s.link.phase) (led_by (disconnect_asked ∷ []) (follows c s.layer (disconnect_step (link_settings c) s.link)))
 
@@ -124,4 +128,5 @@ requests c s request = requests_of c s.link s.layer (view_of (link_settings c) s
 
 abbrev pub commands : Settings → Station → Command → Outcome
 commands c s (Requests request) = requests c s request
+commands c s Connects = connects_asked c s
 commands c s Disconnects = disconnects c s

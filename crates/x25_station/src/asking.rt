@@ -116,7 +116,8 @@ fn as_shown(layer: &Layer, channel: u16, asked: Asked) -> Asked
 impl Station {
     /// Does what the user asks.
     ///
-    /// `Disconnect` is refused with 13 where the link is closed. The others are refused with 9 where the link isn't up, then with
+    /// `Connect` is refused with 12 where the link is being set up, 13 where it is closed and 15 where it is up, and `Disconnect` with
+    /// 13 where it is closed. The others are refused with 9 where the link isn't up, then with
     /// 40 while a restart is under way; one with a channel then with 42 where it isn't configured and a call with 41 where no
     /// channel is free; then, but for a message, with 10 where 256 packets wait; and then as the circuit refuses it, with 30 to 34.
     /// Else 70 alone, and 70 may come in place of each of these. The station is as before then.
@@ -150,6 +151,7 @@ impl Station {
             Cmd::Ready { channel } => self.ask(channel, Request::Ready),
             Cmd::NotReady { channel } => self.ask(channel, Request::NotReady),
             Cmd::Restart => self.restart(),
+            Cmd::Connect => self.connect_asked(),
             Cmd::Disconnect => self.disconnect(),
         }
     }

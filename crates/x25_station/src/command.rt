@@ -55,6 +55,8 @@ pub enum Cmd<'a> {
     },
     /// Restarts the packet layer: all calls are cleared.
     Restart,
+    /// Begins to set the link up.
+    Connect,
     /// Disconnects the link, for good.
     Disconnect,
 }

@@ -14,6 +14,8 @@ pub enum Entry {
     },
     /// The user asked for a restart.
     RestartAsked,
+    /// The user asked that the link be set up.
+    ConnectAsked,
     /// The user asked that the link be disconnected.
     DisconnectAsked,
     /// The link came up.

@@ -8,7 +8,7 @@ ghost use Rattle.x25_station.specs.FitsStation.{FitsStation, Leaves, Sends, Ente
 ghost use Rattle.x25_station.specs.PlainEntry.{plain_entry};
 ghost use Rattle.x25_station.specs.Settings.{Settings};
 ghost use Rattle.x25_station.specs.Station.{Station as State};
-ghost use Rattle.x25_station.specs.Steps.{connects, disconnects, fires, layer_down};
+ghost use Rattle.x25_station.specs.Steps.{connects, connects_asked, disconnects, fires, layer_down};
 
 use crate::entry::Entry;
 use crate::error::StationError;
@@ -40,6 +40,27 @@ impl Station {
             }),
             Err(error) => Err(StationError::of_link(error)),
         }
+    }
+
+    /// Begins to set the link up, as a command, which has an entry.
+    pub(crate) fn connect_asked(&mut self) -> Result<Step, StationError>
+        ensures state { (c : Settings) (s : State) → FitsStation c self.old s → Leaves c self.new result (connects_asked c s) }
+        ensures frames { (c : Settings) (s : State) → FitsStation c self.old s → Sends c result (connects_asked c s) }
+        ensures entries { (c : Settings) (s : State) → FitsStation c self.old s → Enters result (connects_asked c s) }
+        ensures refused { (c : Settings) (s : State) → FitsStation c self.old s → Refuses result (connects_asked c s) }
+        ensures stays { (c : Settings) (s : State) → FitsStation c self.old s → OnErr result (FitsStation c self.new s) }
+        ensures few_frames { IfOk result (λ answer. vec_len answer.frames ≤ 17) }
+        ensures few_entries { IfOk result (λ answer. vec_len answer.entries ≤ 3) }
+    {
+        let Ok(mut entries) = Vec::with_capacity(self.alloc, 1) else {
+            return Err(StationError::NoMemory);
+        };
+        entries.push_reserved(Entry::ConnectAsked);
+        let step = self.connect()?;
+        Ok(Step {
+            frames: step.frames,
+            entries,
+        })
     }
 
     /// A firing of timer T1 of the link.

@@ -31,6 +31,7 @@ impl Station {
     ghost use Rattle.x25_station.specs.Station.{Station as State, new_station};
     ghost use Rattle.x25_station.specs.Told.{is_idle, stretch};
     ghost use Rattle.x25_layer.specs.FitsLayer.{plain_stretch};
+    ghost use Rattle.x25_link.specs.Station.{is_waiting};
 
     /// A station whose link is down.
     ///
@@ -63,6 +64,13 @@ impl Station {
         ensures { (c : Settings) (s : State) → FitsStation c self.now s → result ≡ is_idle c s }
     {
         self.link.idle() && self.layer.waits() == 0
+    }
+
+    /// Whether the link is being set up: a SABM was sent, and its UA is awaited.
+    pub fn is_waiting(&self) -> bool
+        ensures { (c : Settings) (s : State) → FitsStation c self.now s → result ≡ is_waiting s.link.phase }
+    {
+        self.link.is_waiting()
     }
 
     /// The name of the stretch that is open on a channel, in p4 with d1, where one is.

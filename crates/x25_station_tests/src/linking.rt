@@ -35,15 +35,30 @@ const NO_ANSWER: [Row; 11] = [
     (Connect, &["SABM cmd P=1"]),
 ];
 
-const CLOSED_BEFORE_SET_UP: [Row; 3] = [
+const CLOSED_BEFORE_SET_UP: [Row; 4] = [
     (Ask(Cmd::Disconnect), &["dte disconnect", "DISC cmd P=1"]),
     (Ask(Cmd::Disconnect), &["! 13"]),
     (Connect, &["! 13"]),
+    (Ask(Cmd::Connect), &["! 13"]),
 ];
 
-const DOWN: [Table; 2] = [
+const ASKED_TO_CONNECT: [Row; 7] = [
+    (Ask(Cmd::Connect), &["dte connect", "SABM cmd P=1"]),
+    (Idle, &["UA is awaited"]),
+    (Ask(Cmd::Connect), &["! 12"]),
+    (T1, &["SABM cmd P=1"]),
+    (
+        Take(UA),
+        &["dte linkup", "I cmd P=0 S=0 R=0 | RESTART cause=0 diag=0"],
+    ),
+    (Idle, &["not idle"]),
+    (Ask(Cmd::Connect), &["! 15"]),
+];
+
+const DOWN: [Table; 3] = [
     ("no answer", &NO_ANSWER),
     ("closed before set-up", &CLOSED_BEFORE_SET_UP),
+    ("asked to connect", &ASKED_TO_CONNECT),
 ];
 
 #[test]
@@ -78,7 +93,7 @@ const NO_ANSWER_TO_A_POLL: [Row; 5] = [
     (T1, &["RR cmd P=1 R=1"]),
     (T1, &["dte linkdown retries"]),
     (Ask(CALL), &["! 9"]),
-    (Connect, &["SABM cmd P=1"]),
+    (Ask(Cmd::Connect), &["dte connect", "SABM cmd P=1"]),
     (
         Take(UA),
         &["dte linkup", "I cmd P=0 S=0 R=0 | RESTART cause=0 diag=0"],

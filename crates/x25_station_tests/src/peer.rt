@@ -29,7 +29,7 @@ pub enum Act {
     HearMany(u16, u8, &'static str),
     /// An RR response with this N(R) comes.
     HearRr(u8),
-    /// Nothing happens. It is shown whether the station is idle.
+    /// Nothing happens. It is shown whether the station is idle, and whether it awaits UA.
     Idle,
     /// Nothing happens. The name of the stretch that is open on this channel is shown.
     Stretch(u16),
@@ -93,10 +93,10 @@ impl End {
                 })
             }
             Act::Idle => {
-                let shown = if self.station.idle() {
-                    "idle"
-                } else {
-                    "not idle"
+                let shown = match (self.station.idle(), self.station.is_waiting()) {
+                    (true, _) => "idle",
+                    (false, true) => "UA is awaited",
+                    (false, false) => "not idle",
                 };
                 Ok(lines(self.alloc, &[shown])?)
             }
