@@ -7,6 +7,7 @@ pub mod RawWorlds
 pub mod StationLines
 pub mod StationSends
 pub mod StationSteps
+pub mod StationAway
 pub mod StationRuns
 pub mod StationEvents
 pub mod StationRowLemmas

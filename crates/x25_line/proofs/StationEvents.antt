@@ -1,24 +1,30 @@
--- What one event hands up and down, by cases of the event.
-use Rattle.std.proofs.Common.{◌≡◌, ℕ, List, [], ◌∷◌, length, Bool, true, false, if◌then◌else◌, Option, Some, None, refl, sym, append-nil}
-use Rattle.std.specs.Prelude.{nat_le, nat_lt}
+-- What one event hands up and down, and whether it notes LinkUp, by cases of the event.
+use Rattle.std.proofs.Common.{◌≡◌, ℕ, List, [], ◌∷◌, length, Bool, true, false, if◌then◌else◌, Option, Some, None, refl, sym, ap, ◌∙◌, append-nil}
+use Rattle.std.specs.Prelude.{nat_le, nat_lt, ◌||◌}
 use Rattle.x25_link.specs.declared.error.LinkError.{LinkError}
 use Rattle.x25_link.specs.Station.{Settings, is_up}
 use Rattle.x25_link.specs.MustSend.{Step}
-use Rattle.x25_link.specs.Steps.{put_step, put_refusal, timer_step, timer_refusal, disconnect_step, disconnect_refusal, abandon_step}
-use Rattle.x25_line.specs.Stations.{Stations, Act, Put, Deliver, T1, Disconnect, Abandon, Lose, Damage, Near, Far, after_step, unless, delivered, replaced, is_visible, acts, swapped}
+use Rattle.x25_link.specs.Steps.{put_step, put_refusal, timer_step, timer_refusal, connect_step, connect_refusal, disconnect_step, disconnect_refusal, abandon_step}
+use Rattle.x25_line.specs.Stations.{Stations, Act, Put, Deliver, T1, Connect, Disconnect, Abandon, Lose, Damage, Near, Far, after_step, unless, delivered, replaced, is_visible, acts, swapped}
 use Rattle.x25_line.specs.StationClaims.{HandsOne, EachEventHandsOne}
 
--- a step that hands nothing up and to which nothing was handed down
+-- a step that hands nothing up, to which nothing was handed down, and that doesn't note LinkUp
 record HandsNothing (w v : Stations) : Type 0 where
   pub up : v.near.up ≡ w.near.up
   pub down : v.near.down ≡ w.near.down
+  pub came_up : v.near.came_up ≡ w.near.came_up
   pub far : v.far ≡ w.far
 
 nothing_changes : (w : Stations) → HandsNothing w w
-nothing_changes w = record { up = refl; down = refl; far = refl }
+nothing_changes w = record { up = refl; down = refl; came_up = refl; far = refl }
 
-step_hands_nothing : (c : Settings) (w : Stations) (back : List (List ℕ)) (step : Step) → step.packet ≡ None → HandsNothing w (after_step c w back [] step)
-step_hands_nothing c w back step none = record { up = rw none (append-nil w.near.up); down = append-nil w.near.down; far = refl }
+or_false : (b : Bool) → (b || false) ≡ b
+or_false true = refl
+or_false false = refl
+
+step_hands_nothing : (c : Settings) (w : Stations) (back : List (List ℕ)) (step : Step) → step.packet ≡ None → step.notes.up ≡ false → HandsNothing w (after_step c w back [] step)
+step_hands_nothing c w back step none low =
+    record { up = rw none (append-nil w.near.up); down = append-nil w.near.down; came_up = ap (λ (b : Bool). w.near.came_up || b) low ∙ or_false w.near.came_up; far = refl }
 
 nothing_unless : (o : Option LinkError) (w v : Stations) → HandsNothing w v → HandsNothing w (unless o w v)
 nothing_unless (Some e) w v h = nothing_changes w
@@ -32,20 +38,27 @@ packet_if : (b : Bool) (x y : Step) → x.packet ≡ None → y.packet ≡ None 
 packet_if true x y e f = e
 packet_if false x y e f = f
 
+up_if : (b : Bool) (x y : Step) → x.notes.up ≡ false → y.notes.up ≡ false → (if b then x else y).notes.up ≡ false
+up_if true x y e f = e
+up_if false x y e f = f
+
 timer_packet : (c : Settings) (w : Stations) → (timer_step c w.near.station).packet ≡ None
 timer_packet c w = packet_if (nat_lt w.near.station.tries c.retries) _ _ refl refl
 
+timer_up : (c : Settings) (w : Stations) → (timer_step c w.near.station).notes.up ≡ false
+timer_up c w = up_if (nat_lt w.near.station.tries c.retries) _ _ refl refl
+
 put_hands : (o : Option LinkError) (c : Settings) (packet : List ℕ) (w : Stations) → HandsOne (Put packet) w (unless o w (after_step c w w.back (packet ∷ []) (put_step c packet w.near.station)))
-put_hands (Some e) c packet w = record { up = refl; down = (false, refl); far = refl }
-put_hands None c packet w = record { up = append-nil w.near.up; down = (true, refl); far = refl }
+put_hands (Some e) c packet w = record { up = refl; down = (false, refl); came_up = refl; far = refl }
+put_hands None c packet w = record { up = append-nil w.near.up; down = (true, refl); came_up = or_false w.near.came_up; far = refl }
 
 put_by : (b : Bool) (c : Settings) (packet : List ℕ) (w v : Stations) → HandsOne (Put packet) w v → HandsOne (Put packet) w (if b then v else w)
 put_by true c packet w v h = h
-put_by false c packet w v h = record { up = refl; down = (false, refl); far = refl }
+put_by false c packet w v h = record { up = refl; down = (false, refl); came_up = refl; far = refl }
 
 deliver_hands : (c : Settings) (os : List (List ℕ)) (w : Stations) → HandsOne Deliver w (delivered c os w)
-deliver_hands c [] w = record { up = (None, sym (append-nil w.near.up)); down = refl; far = refl }
-deliver_hands c (o ∷ os) w = record { up = (_, refl); down = append-nil w.near.down; far = refl }
+deliver_hands c [] w = record { up = (None, sym (append-nil w.near.up)); down = refl; came_up = (false, sym (or_false w.near.came_up)); far = refl }
+deliver_hands c (o ∷ os) w = record { up = (_, refl); down = append-nil w.near.down; came_up = (_, refl); far = refl }
 
 acts_hands : (c : Settings) (a : Act) (w : Stations) → HandsOne a w (acts c a w)
 acts_hands c (Put packet) w =
@@ -53,18 +66,21 @@ acts_hands c (Put packet) w =
     (put_hands (put_refusal w.near.station) c packet w)
 acts_hands c Deliver w = deliver_hands c w.back w
 acts_hands c T1 w =
-    let h = nothing_unless (timer_refusal w.near.station) w _ (step_hands_nothing c w w.back (timer_step c w.near.station) (timer_packet c w)) in
-    record { up = h.up; down = h.down; far = h.far }
+    let h = nothing_unless (timer_refusal w.near.station) w _ (step_hands_nothing c w w.back (timer_step c w.near.station) (timer_packet c w) (timer_up c w)) in
+    record { up = h.up; down = h.down; came_up = h.came_up; far = h.far }
+acts_hands c Connect w =
+    let h = nothing_unless (connect_refusal w.near.station.phase) w _ (step_hands_nothing c w w.back (connect_step c w.near.station) refl refl) in
+    record { up = h.up; down = h.down; came_up = h.came_up; far = h.far }
 acts_hands c Disconnect w =
-    let h = nothing_unless (disconnect_refusal w.near.station.phase) w _ (step_hands_nothing c w w.back (disconnect_step c w.near.station) refl) in
-    record { up = h.up; down = h.down; far = h.far }
+    let h = nothing_unless (disconnect_refusal w.near.station.phase) w _ (step_hands_nothing c w w.back (disconnect_step c w.near.station) refl refl) in
+    record { up = h.up; down = h.down; came_up = h.came_up; far = h.far }
 acts_hands c Abandon w =
-    let h = nothing_if (is_up w.near.station.phase) w _ (step_hands_nothing c w w.back (abandon_step c w.near.station) refl) in
-    record { up = h.up; down = h.down; far = h.far }
-acts_hands c (Lose i) w = record { up = refl; down = refl; far = refl }
+    let h = nothing_if (is_up w.near.station.phase) w _ (step_hands_nothing c w w.back (abandon_step c w.near.station) refl refl) in
+    record { up = h.up; down = h.down; came_up = h.came_up; far = h.far }
+acts_hands c (Lose i) w = record { up = refl; down = refl; came_up = refl; far = refl }
 acts_hands c (Damage i octets) w =
-    let h = nothing_if (is_visible octets) w (record w { back = replaced w.back i octets }) (record { up = refl; down = refl; far = refl }) in
-    record { up = h.up; down = h.down; far = h.far }
+    let h = nothing_if (is_visible octets) w (record w { back = replaced w.back i octets }) (record { up = refl; down = refl; came_up = refl; far = refl }) in
+    record { up = h.up; down = h.down; came_up = h.came_up; far = h.far }
 
 pub each_hands_one : EachEventHandsOne
 each_hands_one c d (Near act) w = acts_hands c act w

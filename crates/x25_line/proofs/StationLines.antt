@@ -48,21 +48,39 @@ carried_of ns x (Some q) h = record { item = q; is = refl; number = h.0; same = 
 
 -- ---- what is on a line
 
--- no SABM and no FRMR, and what doesn't read as a frame was visibly damaged
-abbrev pub IsOrderly : Result PlainFrame FrameError → Type 0
-IsOrderly (Ok (sabm p)) = ⊥
-IsOrderly (Ok (frmr f why)) = ⊥
-IsOrderly (Ok frame) = Unit {0}
-IsOrderly (Err Short) = Unit {0}
-IsOrderly (Err BadFcs) = Unit {0}
-IsOrderly (Err BadAddress) = ⊥
-IsOrderly (Err (Undefined control)) = ⊥
-IsOrderly (Err (NoInfoAllowed control)) = ⊥
-IsOrderly (Err TooLong) = ⊥
+-- no FRMR, SABM only where an end may ask for set-up, and what doesn't read as a frame was visibly damaged
+abbrev pub IsOrderly : Type 0 → Result PlainFrame FrameError → Type 0
+IsOrderly MayAsk (Ok (sabm p)) = MayAsk
+IsOrderly MayAsk (Ok (frmr f why)) = ⊥
+IsOrderly MayAsk (Ok frame) = Unit {0}
+IsOrderly MayAsk (Err Short) = Unit {0}
+IsOrderly MayAsk (Err BadFcs) = Unit {0}
+IsOrderly MayAsk (Err BadAddress) = ⊥
+IsOrderly MayAsk (Err (Undefined control)) = ⊥
+IsOrderly MayAsk (Err (NoInfoAllowed control)) = ⊥
+IsOrderly MayAsk (Err TooLong) = ⊥
 
-abbrev pub AreOrderly : Role → ℕ → List (List ℕ) → Type 0
-AreOrderly from n1 [] = Unit {0}
-AreOrderly from n1 (o ∷ os) = IsOrderly (frame_of from n1 o) × AreOrderly from n1 os
+-- whether an end may ask matters to a SABM alone
+pub orderly_where : (A B : Type 0) (r : Result PlainFrame FrameError) → ((p : Bool) → r ≡ Ok (sabm p) → A → B) → IsOrderly A r → IsOrderly B r
+orderly_where A B (Ok (info ns nr p x)) more h = tt
+orderly_where A B (Ok (rr command nr pf)) more h = tt
+orderly_where A B (Ok (rnr command nr pf)) more h = tt
+orderly_where A B (Ok (rej command nr pf)) more h = tt
+orderly_where A B (Ok (sabm p)) more h = more p refl h
+orderly_where A B (Ok (disc p)) more h = tt
+orderly_where A B (Ok (ua f)) more h = tt
+orderly_where A B (Ok (dm f)) more h = tt
+orderly_where A B (Ok (frmr f why)) more h = absurd h
+orderly_where A B (Err Short) more h = tt
+orderly_where A B (Err BadFcs) more h = tt
+orderly_where A B (Err BadAddress) more h = absurd h
+orderly_where A B (Err (Undefined control)) more h = absurd h
+orderly_where A B (Err (NoInfoAllowed control)) more h = absurd h
+orderly_where A B (Err TooLong) more h = absurd h
+
+abbrev pub AreOrderly : Type 0 → Role → ℕ → List (List ℕ) → Type 0
+AreOrderly MayAsk from n1 [] = Unit {0}
+AreOrderly MayAsk from n1 (o ∷ os) = IsOrderly MayAsk (frame_of from n1 o) × AreOrderly MayAsk from n1 os
 
 -- the frames, with the first, where that has a number
 abbrev pub consed : Option PlainFrame → List PlainFrame → List PlainFrame
@@ -78,9 +96,9 @@ numbered_append from n1 (o ∷ xs) ys =
     ap (consed (number_in (frame_of from n1 o))) (numbered_append from n1 xs ys)
     ∙ consed_append (number_in (frame_of from n1 o)) (numbered_on from n1 xs) (numbered_on from n1 ys)
 
-pub orderly_append : (from : Role) (n1 : ℕ) (xs ys : List (List ℕ)) → AreOrderly from n1 xs → AreOrderly from n1 ys → AreOrderly from n1 (xs ++ ys)
-orderly_append from n1 [] ys f e = e
-orderly_append from n1 (o ∷ xs) ys f e = (f.0, orderly_append from n1 xs ys f.1 e)
+pub orderly_append : (MayAsk : Type 0) (from : Role) (n1 : ℕ) (xs ys : List (List ℕ)) → AreOrderly MayAsk from n1 xs → AreOrderly MayAsk from n1 ys → AreOrderly MayAsk from n1 (xs ++ ys)
+orderly_append MayAsk from n1 [] ys f e = e
+orderly_append MayAsk from n1 (o ∷ xs) ys f e = (f.0, orderly_append MayAsk from n1 xs ys f.1 e)
 
 -- ---- what is put on a line
 
@@ -90,7 +108,7 @@ pub record IsGood (n1 : ℕ) (f : PlainFrame) : Type 0 where
   pub carries : MayCarry f (information_of f)
   pub within : IsWithin n1 f (information_of f)
   pub number : number_in (Ok f) ≡ Some f
-  pub orderly : IsOrderly (Ok f)
+  pub orderly : IsOrderly ⊥ (Ok f)
 
 abbrev pub AllGood : ℕ → List PlainFrame → Type 0
 AllGood n1 [] = Unit {0}
@@ -100,20 +118,21 @@ pub good_append : (n1 : ℕ) (fs es : List PlainFrame) → AllGood n1 fs → All
 good_append n1 [] es h g = g
 good_append n1 (f ∷ fs) es h g = (h.0, good_append n1 fs es h.1 g)
 
--- frames that carry no number: UA, DM and DISC
-abbrev pub AreParting : List PlainFrame → Type 0
-AreParting [] = Unit {0}
-AreParting (disc p ∷ fs) = AreParting fs
-AreParting (ua f ∷ fs) = AreParting fs
-AreParting (dm f ∷ fs) = AreParting fs
-AreParting (f ∷ fs) = ⊥
+-- frames that carry no number: UA, DM, DISC, and SABM where an end may ask for set-up
+abbrev pub AreParting : Type 0 → List PlainFrame → Type 0
+AreParting MayAsk [] = Unit {0}
+AreParting MayAsk (sabm p ∷ fs) = MayAsk × AreParting MayAsk fs
+AreParting MayAsk (disc p ∷ fs) = AreParting MayAsk fs
+AreParting MayAsk (ua f ∷ fs) = AreParting MayAsk fs
+AreParting MayAsk (dm f ∷ fs) = AreParting MayAsk fs
+AreParting MayAsk (f ∷ fs) = ⊥
 
-no_frmr_cons : (f : PlainFrame) (fs : List PlainFrame) → IsOrderly (Ok f) → NoFrmr fs → NoFrmr (f ∷ fs)
+no_frmr_cons : (f : PlainFrame) (fs : List PlainFrame) → IsOrderly ⊥ (Ok f) → NoFrmr fs → NoFrmr (f ∷ fs)
 no_frmr_cons (info ns nr p x) fs o h = h
 no_frmr_cons (rr command nr pf) fs o h = h
 no_frmr_cons (rnr command nr pf) fs o h = h
 no_frmr_cons (rej command nr pf) fs o h = h
-no_frmr_cons (sabm p) fs o h = h
+no_frmr_cons (sabm p) fs o h = absurd o
 no_frmr_cons (disc p) fs o h = h
 no_frmr_cons (ua f) fs o h = h
 no_frmr_cons (dm f) fs o h = h
@@ -135,17 +154,17 @@ pub good_no_frmr : (n1 : ℕ) (fs : List PlainFrame) → AllGood n1 fs → NoFrm
 good_no_frmr n1 [] h = tt
 good_no_frmr n1 (f ∷ fs) h = no_frmr_cons f fs h.0.orderly (good_no_frmr n1 fs h.1)
 
-pub parting_no_frmr : (fs : List PlainFrame) → AreParting fs → NoFrmr fs
-parting_no_frmr [] h = tt
-parting_no_frmr (disc p ∷ fs) h = parting_no_frmr fs h
-parting_no_frmr (ua f ∷ fs) h = parting_no_frmr fs h
-parting_no_frmr (dm f ∷ fs) h = parting_no_frmr fs h
-parting_no_frmr (info ns nr p x ∷ fs) h = absurd h
-parting_no_frmr (rr command nr pf ∷ fs) h = absurd h
-parting_no_frmr (rnr command nr pf ∷ fs) h = absurd h
-parting_no_frmr (rej command nr pf ∷ fs) h = absurd h
-parting_no_frmr (sabm p ∷ fs) h = absurd h
-parting_no_frmr (frmr f why ∷ fs) h = absurd h
+pub parting_no_frmr : (MayAsk : Type 0) (fs : List PlainFrame) → AreParting MayAsk fs → NoFrmr fs
+parting_no_frmr MayAsk [] h = tt
+parting_no_frmr MayAsk (sabm p ∷ fs) h = parting_no_frmr MayAsk fs h.1
+parting_no_frmr MayAsk (disc p ∷ fs) h = parting_no_frmr MayAsk fs h
+parting_no_frmr MayAsk (ua f ∷ fs) h = parting_no_frmr MayAsk fs h
+parting_no_frmr MayAsk (dm f ∷ fs) h = parting_no_frmr MayAsk fs h
+parting_no_frmr MayAsk (info ns nr p x ∷ fs) h = absurd h
+parting_no_frmr MayAsk (rr command nr pf ∷ fs) h = absurd h
+parting_no_frmr MayAsk (rnr command nr pf ∷ fs) h = absurd h
+parting_no_frmr MayAsk (rej command nr pf ∷ fs) h = absurd h
+parting_no_frmr MayAsk (frmr f why ∷ fs) h = absurd h
 
 -- ---- whole frames
 
@@ -185,17 +204,17 @@ good_whole n1 given more (f ∷ fs) g h = (
   good_whole n1 given more fs g.1 h.1,
 )
 
-pub parting_whole : (n1 : ℕ) (given : List (List ℕ)) (fs : List PlainFrame) → AreParting fs → AreWhole n1 given fs
-parting_whole n1 given [] h = tt
-parting_whole n1 given (disc p ∷ fs) h = (record { in_range = tt; carries = refl; within = tt; packet = tt }, parting_whole n1 given fs h)
-parting_whole n1 given (ua f ∷ fs) h = (record { in_range = tt; carries = refl; within = tt; packet = tt }, parting_whole n1 given fs h)
-parting_whole n1 given (dm f ∷ fs) h = (record { in_range = tt; carries = refl; within = tt; packet = tt }, parting_whole n1 given fs h)
-parting_whole n1 given (info ns nr p x ∷ fs) h = absurd h
-parting_whole n1 given (rr command nr pf ∷ fs) h = absurd h
-parting_whole n1 given (rnr command nr pf ∷ fs) h = absurd h
-parting_whole n1 given (rej command nr pf ∷ fs) h = absurd h
-parting_whole n1 given (sabm p ∷ fs) h = absurd h
-parting_whole n1 given (frmr f why ∷ fs) h = absurd h
+pub parting_whole : (MayAsk : Type 0) (n1 : ℕ) (given : List (List ℕ)) (fs : List PlainFrame) → AreParting MayAsk fs → AreWhole n1 given fs
+parting_whole MayAsk n1 given [] h = tt
+parting_whole MayAsk n1 given (sabm p ∷ fs) h = (record { in_range = tt; carries = refl; within = tt; packet = tt }, parting_whole MayAsk n1 given fs h.1)
+parting_whole MayAsk n1 given (disc p ∷ fs) h = (record { in_range = tt; carries = refl; within = tt; packet = tt }, parting_whole MayAsk n1 given fs h)
+parting_whole MayAsk n1 given (ua f ∷ fs) h = (record { in_range = tt; carries = refl; within = tt; packet = tt }, parting_whole MayAsk n1 given fs h)
+parting_whole MayAsk n1 given (dm f ∷ fs) h = (record { in_range = tt; carries = refl; within = tt; packet = tt }, parting_whole MayAsk n1 given fs h)
+parting_whole MayAsk n1 given (info ns nr p x ∷ fs) h = absurd h
+parting_whole MayAsk n1 given (rr command nr pf ∷ fs) h = absurd h
+parting_whole MayAsk n1 given (rnr command nr pf ∷ fs) h = absurd h
+parting_whole MayAsk n1 given (rej command nr pf ∷ fs) h = absurd h
+parting_whole MayAsk n1 given (frmr f why ∷ fs) h = absurd h
 
 -- what was handed down at either end, and then more at the first
 pub first_more : (xs ys more : List (List ℕ)) (x : List ℕ) → Contains (xs ++ ys) x → Contains ((xs ++ more) ++ ys) x
@@ -218,9 +237,12 @@ module _ (reads : ReadsSpelled) (from : Role) (n1 : ℕ) where
   good_numbered [] h = refl
   good_numbered (f ∷ fs) h = rw (good_reads f h.0, h.0.number) (ap (λ (es : List PlainFrame). f ∷ es) (good_numbered fs h.1))
 
-  pub good_orderly : (fs : List PlainFrame) → AllGood n1 fs → AreOrderly from n1 (map (spelling_of from) fs)
-  good_orderly [] h = tt
-  good_orderly (f ∷ fs) h = (rw (good_reads f h.0) h.0.orderly, good_orderly fs h.1)
+  pub good_orderly : (MayAsk : Type 0) (fs : List PlainFrame) → AllGood n1 fs → AreOrderly MayAsk from n1 (map (spelling_of from) fs)
+  good_orderly MayAsk [] h = tt
+  good_orderly MayAsk (f ∷ fs) h = (rw (good_reads f h.0) (orderly_where ⊥ MayAsk (Ok f) (λ p is never. absurd never) h.0.orderly), good_orderly MayAsk fs h.1)
+
+  sabm_reads : (p : Bool) → frame_of from n1 (spelling_of from (sabm p)) ≡ Ok (sabm p)
+  sabm_reads p = reads from n1 (sabm p) _ (record { in_range = tt; carries = refl; within = tt; spelling = refl })
 
   disc_reads : (p : Bool) → frame_of from n1 (spelling_of from (disc p)) ≡ Ok (disc p)
   disc_reads p = reads from n1 (disc p) _ (record { in_range = tt; carries = refl; within = tt; spelling = refl })
@@ -231,29 +253,29 @@ module _ (reads : ReadsSpelled) (from : Role) (n1 : ℕ) where
   dm_reads : (f : Bool) → frame_of from n1 (spelling_of from (dm f)) ≡ Ok (dm f)
   dm_reads f = reads from n1 (dm f) _ (record { in_range = tt; carries = refl; within = tt; spelling = refl })
 
-  pub parting_numbered : (fs : List PlainFrame) → AreParting fs → numbered_on from n1 (map (spelling_of from) fs) ≡ []
-  parting_numbered [] h = refl
-  parting_numbered (disc p ∷ fs) h = rw (disc_reads p) (parting_numbered fs h)
-  parting_numbered (ua f ∷ fs) h = rw (ua_reads f) (parting_numbered fs h)
-  parting_numbered (dm f ∷ fs) h = rw (dm_reads f) (parting_numbered fs h)
-  parting_numbered (info ns nr p x ∷ fs) h = absurd h
-  parting_numbered (rr command nr pf ∷ fs) h = absurd h
-  parting_numbered (rnr command nr pf ∷ fs) h = absurd h
-  parting_numbered (rej command nr pf ∷ fs) h = absurd h
-  parting_numbered (sabm p ∷ fs) h = absurd h
-  parting_numbered (frmr f why ∷ fs) h = absurd h
+  pub parting_numbered : (MayAsk : Type 0) (fs : List PlainFrame) → AreParting MayAsk fs → numbered_on from n1 (map (spelling_of from) fs) ≡ []
+  parting_numbered MayAsk [] h = refl
+  parting_numbered MayAsk (sabm p ∷ fs) h = rw (sabm_reads p) (parting_numbered MayAsk fs h.1)
+  parting_numbered MayAsk (disc p ∷ fs) h = rw (disc_reads p) (parting_numbered MayAsk fs h)
+  parting_numbered MayAsk (ua f ∷ fs) h = rw (ua_reads f) (parting_numbered MayAsk fs h)
+  parting_numbered MayAsk (dm f ∷ fs) h = rw (dm_reads f) (parting_numbered MayAsk fs h)
+  parting_numbered MayAsk (info ns nr p x ∷ fs) h = absurd h
+  parting_numbered MayAsk (rr command nr pf ∷ fs) h = absurd h
+  parting_numbered MayAsk (rnr command nr pf ∷ fs) h = absurd h
+  parting_numbered MayAsk (rej command nr pf ∷ fs) h = absurd h
+  parting_numbered MayAsk (frmr f why ∷ fs) h = absurd h
 
-  pub parting_orderly : (fs : List PlainFrame) → AreParting fs → AreOrderly from n1 (map (spelling_of from) fs)
-  parting_orderly [] h = tt
-  parting_orderly (disc p ∷ fs) h = (rw (disc_reads p) tt, parting_orderly fs h)
-  parting_orderly (ua f ∷ fs) h = (rw (ua_reads f) tt, parting_orderly fs h)
-  parting_orderly (dm f ∷ fs) h = (rw (dm_reads f) tt, parting_orderly fs h)
-  parting_orderly (info ns nr p x ∷ fs) h = absurd h
-  parting_orderly (rr command nr pf ∷ fs) h = absurd h
-  parting_orderly (rnr command nr pf ∷ fs) h = absurd h
-  parting_orderly (rej command nr pf ∷ fs) h = absurd h
-  parting_orderly (sabm p ∷ fs) h = absurd h
-  parting_orderly (frmr f why ∷ fs) h = absurd h
+  pub parting_orderly : (MayAsk : Type 0) (fs : List PlainFrame) → AreParting MayAsk fs → AreOrderly MayAsk from n1 (map (spelling_of from) fs)
+  parting_orderly MayAsk [] h = tt
+  parting_orderly MayAsk (sabm p ∷ fs) h = (rw (sabm_reads p) h.0, parting_orderly MayAsk fs h.1)
+  parting_orderly MayAsk (disc p ∷ fs) h = (rw (disc_reads p) tt, parting_orderly MayAsk fs h)
+  parting_orderly MayAsk (ua f ∷ fs) h = (rw (ua_reads f) tt, parting_orderly MayAsk fs h)
+  parting_orderly MayAsk (dm f ∷ fs) h = (rw (dm_reads f) tt, parting_orderly MayAsk fs h)
+  parting_orderly MayAsk (info ns nr p x ∷ fs) h = absurd h
+  parting_orderly MayAsk (rr command nr pf ∷ fs) h = absurd h
+  parting_orderly MayAsk (rnr command nr pf ∷ fs) h = absurd h
+  parting_orderly MayAsk (rej command nr pf ∷ fs) h = absurd h
+  parting_orderly MayAsk (frmr f why ∷ fs) h = absurd h
 
 -- ---- what is lost or damaged
 
@@ -311,16 +333,16 @@ shows_damaged from n1 octets none (o ∷ os) (suc i) gs h =
     shows_behind (number_in (frame_of from n1 o)) (numbered_on from n1 os) (numbered_on from n1 (replaced os i octets)) (place_of from n1 os i) gs
     (λ hs k. shows_damaged from n1 octets none os i hs k) h
 
-pub orderly_lost : (from : Role) (n1 : ℕ) (os : List (List ℕ)) (i : ℕ) → AreOrderly from n1 os → AreOrderly from n1 (remove os i)
-orderly_lost from n1 [] zero h = h
-orderly_lost from n1 [] (suc i) h = h
-orderly_lost from n1 (o ∷ os) zero h = h.1
-orderly_lost from n1 (o ∷ os) (suc i) h = (h.0, orderly_lost from n1 os i h.1)
+pub orderly_lost : (MayAsk : Type 0) (from : Role) (n1 : ℕ) (os : List (List ℕ)) (i : ℕ) → AreOrderly MayAsk from n1 os → AreOrderly MayAsk from n1 (remove os i)
+orderly_lost MayAsk from n1 [] zero h = h
+orderly_lost MayAsk from n1 [] (suc i) h = h
+orderly_lost MayAsk from n1 (o ∷ os) zero h = h.1
+orderly_lost MayAsk from n1 (o ∷ os) (suc i) h = (h.0, orderly_lost MayAsk from n1 os i h.1)
 
-pub orderly_damaged : (from : Role) (n1 : ℕ) (octets : List ℕ) → IsOrderly (frame_of from n1 octets) → (os : List (List ℕ)) (i : ℕ) → AreOrderly from n1 os → AreOrderly from n1 (replaced os i octets)
-orderly_damaged from n1 octets e [] i h = h
-orderly_damaged from n1 octets e (o ∷ os) zero h = (e, h.1)
-orderly_damaged from n1 octets e (o ∷ os) (suc i) h = (h.0, orderly_damaged from n1 octets e os i h.1)
+pub orderly_damaged : (MayAsk : Type 0) (from : Role) (n1 : ℕ) (octets : List ℕ) → IsOrderly MayAsk (frame_of from n1 octets) → (os : List (List ℕ)) (i : ℕ) → AreOrderly MayAsk from n1 os → AreOrderly MayAsk from n1 (replaced os i octets)
+orderly_damaged MayAsk from n1 octets e [] i h = h
+orderly_damaged MayAsk from n1 octets e (o ∷ os) zero h = (e, h.1)
+orderly_damaged MayAsk from n1 octets e (o ∷ os) (suc i) h = (h.0, orderly_damaged MayAsk from n1 octets e os i h.1)
 
 -- octets that are visibly damaged read as no frame
 pub visible_reads : (from : Role) (n1 : ℕ) (octets : List ℕ) → is_visible octets ≡ true → (frame_of from n1 octets ≡ Err Short) ⊎ (frame_of from n1 octets ≡ Err BadFcs)

@@ -2,18 +2,19 @@
 use Rattle.std.proofs.Common.{◌≡◌, ℕ, ◌<◌, List, [], ◌∷◌, Bool, true, false, Result, Ok, Err, arith, refl, sym, ap, ◌∙◌, subst}
 use Rattle.x25_bits.specs.declared.role.Role.{Role}
 use Rattle.x25_bits.specs.declared.role.Role.TheVariants.{Dte, Dce}
-use Rattle.x25_frame.specs.PlainFrame.{PlainFrame, info, rr, disc}
+use Rattle.x25_frame.specs.PlainFrame.{PlainFrame, info, rr, sabm, disc, ua, dm}
 use Rattle.x25_frame.specs.Spelling.{spelling_of}
 use Rattle.x25_frame.specs.Reading.{frame_of}
 use Rattle.x25_frame.specs.ReadingLaw.{ReadsSpelled}
 use Rattle.x25_frame.specs.declared.error.FrameError.{FrameError}
 use Rattle.x25_frame.specs.declared.error.FrameError.TheVariants.{Short}
-use Rattle.x25_link.specs.declared.phase.Phase.TheVariants.{Down, Closed}
-use Rattle.x25_link.specs.Station.{Settings, pumped}
+use Rattle.x25_link.specs.declared.phase.Phase.TheVariants.{Down, Waiting, Closed}
+use Rattle.x25_link.specs.declared.phase.Reason.TheVariants.{Reset, Counts, Disc}
+use Rattle.x25_link.specs.Station.{Settings, fresh, pumped}
 use Rattle.x25_link.specs.MustSend.{other}
 use Rattle.x25_link.specs.Steps.{alone, closed_by, hears, is_idle}
-use Rattle.x25_line.specs.Stations.{Stations, Put, Deliver, T1, Disconnect, Event, Near, Far, after_step, acts, delivered, swapped, happens, run, start}
-use Rattle.x25_line.specs.StationRows.{dte, dce, IsAcrossFive, PacketGoes, PacketsCross, lost, LostComesAgain, damaged, DamagedComesAgain, DisconnectEnds, AbandonEnds}
+use Rattle.x25_line.specs.Stations.{Stations, Put, Deliver, T1, Connect, Disconnect, Abandon, Event, Near, Far, after_step, acts, delivered, swapped, happens, run, start}
+use Rattle.x25_line.specs.StationRows.{dte, dce, IsAcrossFive, PacketGoes, PacketsCross, lost, LostComesAgain, damaged, DamagedComesAgain, DisconnectEnds, AbandonEnds, ConnectSetsUp, ConnectIsDeclined}
 
 -- the world once octets that read as this have come to the near end
 abbrev taken_as : Settings → Result PlainFrame FrameError → List ℕ → List (List ℕ) → Stations → Stations
@@ -67,6 +68,18 @@ module _ (reads : ReadsSpelled) where
 
   disc_reads : frame_of Dte 128 (spelling_of Dte (disc true)) ≡ Ok (disc true)
   disc_reads = reads Dte 128 (disc true) _ (record { in_range = tt; carries = refl; within = tt; spelling = refl })
+
+  far_disc_reads : frame_of Dce 128 (spelling_of Dce (disc true)) ≡ Ok (disc true)
+  far_disc_reads = reads Dce 128 (disc true) _ (record { in_range = tt; carries = refl; within = tt; spelling = refl })
+
+  sabm_reads : frame_of Dte 128 (spelling_of Dte (sabm true)) ≡ Ok (sabm true)
+  sabm_reads = reads Dte 128 (sabm true) _ (record { in_range = tt; carries = refl; within = tt; spelling = refl })
+
+  ua_reads : (from : Role) → frame_of from 128 (spelling_of from (ua true)) ≡ Ok (ua true)
+  ua_reads from = reads from 128 (ua true) _ (record { in_range = tt; carries = refl; within = tt; spelling = refl })
+
+  dm_reads : frame_of Dce 128 (spelling_of Dce (dm true)) ≡ Ok (dm true)
+  dm_reads = reads Dce 128 (dm true) _ (record { in_range = tt; carries = refl; within = tt; spelling = refl })
 
   ready_reads : (from : Role) (command : Bool) (nr : ℕ) (pf : Bool) → nr < 8 → frame_of from 128 (spelling_of from (rr command nr pf)) ≡ Ok (rr command nr pf)
   ready_reads from command nr pf low = reads from 128 (rr command nr pf) _ (record { in_range = low; carries = refl; within = tt; spelling = refl })
@@ -140,6 +153,31 @@ module _ (reads : ReadsSpelled) where
       subst (λ (z : Stations). (z.near.station.phase ≡ Closed) × (z.far.up ≡ (5 ∷ []) ∷ []) × (z.far.station.phase ≡ Down))
       (sym (ap (happens dte dce (Far Deliver)) first ∙ second))
       (refl, refl, refl)
+
+  pub connect_sets_up : ConnectSetsUp
+  unfolding pumped
+  connect_sets_up =
+      let w = happens dte dce (Near Connect) (happens dte dce (Near Abandon) start) in
+      let v = swapped (told dce (sabm true) (swapped w)) in
+      subst (λ (z : Stations). (z.far.station ≡ fresh) × (z.far.reasons ≡ Reset ∷ []) × (z.far.came_up ≡ true) × (z.near.station ≡ fresh) × (z.near.reasons ≡ Counts ∷ []) × (z.near.came_up ≡ true))
+      (sym (two_come (sabm true) (ua true) sabm_reads (ua_reads Dce) w v refl refl refl []))
+      (refl, refl, refl, refl, refl, refl)
+
+  pub connect_is_declined : ConnectIsDeclined
+  unfolding pumped
+  connect_is_declined =
+      let w = happens dte dce (Far Disconnect) start in
+      let v = told dte (disc true) w in
+      let u = swapped (told dce (ua true) (swapped v)) in
+      let t = happens dte dce (Near Connect) u in
+      let s = swapped (told dce (sabm true) (swapped t)) in
+      let first : happens dte dce (Near Deliver) w ≡ v = comes dte (Ok (disc true)) (spelling_of Dce (disc true)) [] w far_disc_reads refl in
+      let second : happens dte dce (Far Deliver) v ≡ u = ap swapped (comes dce (Ok (ua true)) (spelling_of Dte (ua true)) [] (swapped v) (ua_reads Dte) refl) in
+      subst (λ (z : Stations). (z.far.station.phase ≡ Closed) × (z.near.station.phase ≡ Waiting) × (z.near.reasons ≡ Disc ∷ []) × (z.near.came_up ≡ false) × (z.back ≡ []))
+      (sym (ap (run dte dce (Far Deliver ∷ Near Connect ∷ Far Deliver ∷ Near Deliver ∷ [])) first
+      ∙ ap (run dte dce (Near Connect ∷ Far Deliver ∷ Near Deliver ∷ [])) second
+      ∙ two_come (sabm true) (dm true) sabm_reads dm_reads t s refl refl refl []))
+      (refl, refl, refl, refl, refl)
 
 pub abandon_ends : AbandonEnds
 unfolding pumped

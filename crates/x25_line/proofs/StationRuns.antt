@@ -1,6 +1,6 @@
 -- Each event keeps what holds of two stations, so each run does; and what holds says the claims.
 use Rattle.std.proofs.Common.{◌≡◌, ◌==◌, ℕ, ◌-◌, zero, suc, ◌≤◌, List, [], ◌∷◌, ◌++◌, inl, inr, length, remove, take, drop, Bool, true, false, if◌then◌else◌, Option, Some, None, Result, Ok, Err, refl, sym, ap, ◌∙◌, subst, arith, append-nil}
-use Rattle.std.specs.Prelude.{nat_le, nat_lt, ◌&&◌}
+use Rattle.std.specs.Prelude.{nat_le, nat_lt, replicate, ◌&&◌}
 use Rattle.std.proofs.lemmas.Bool.{leb-true, eqb-true}
 use Rattle.std.proofs.lemmas.List.{take-append-drop, take_all}
 use Rattle.x25_frame.specs.PlainFrame.{PlainFrame, info, rr, rnr, rej, sabm, disc, ua, dm, frmr}
@@ -16,35 +16,38 @@ use Rattle.x25_link.specs.declared.error.LinkError.{LinkError}
 use Rattle.x25_link.specs.Outgoing.{waits}
 use Rattle.x25_link.specs.Lists.{Lists, no_packets}
 use Rattle.x25_link.specs.NoteLaw.{Tells, TakeTells, TimerTells, DisconnectTells, AbandonTells}
-use Rattle.x25_link.specs.Station.{Settings, Station, is_up, lists_of}
+use Rattle.x25_link.specs.Station.{Settings, Station, is_up, lists_of, with_nothing}
 use Rattle.x25_link.specs.MustSend.{Step, other}
-use Rattle.x25_link.specs.Steps.{take_step, put_step, put_refusal, timer_step, timer_refusal, timer_runs, disconnect_step, disconnect_refusal, abandon_step, is_idle}
+use Rattle.x25_link.specs.Steps.{take_step, put_step, put_refusal, timer_step, timer_refusal, timer_runs, connect_step, connect_refusal, disconnect_step, disconnect_refusal, abandon_step, is_idle}
 use Rattle.x25_link.specs.WindowMachine.{Window, hands_down, nothing, ShowAll}
-use Rattle.x25_link.specs.WindowLaw.{Follows, IsOut, sets_up, StationLaws}
+use Rattle.x25_link.specs.SetUp.{Is, TakesPart, SetUpLaws}
+use Rattle.x25_link.specs.WindowLaw.{Follows, IsOut, sets_up, StaysOut, StationLaws}
 use Rattle.x25_line.specs.Line.{Line, moved, swapped as line_swapped}
 use Rattle.x25_line.specs.Line.Move.{HandsDown, Loses}
 use Rattle.x25_line.specs.InWindow.{Begins}
-use Rattle.x25_line.specs.Stations.{StationEnd, Stations, Act, Put, Deliver, T1, Disconnect, Abandon, Lose, Damage, Event, Near, Far, after_step, unless, delivered, replaced, is_visible, acts, swapped, happens, run, fresh_station, start}
-use Rattle.x25_line.specs.StationClaims.{AreJoined, Always, InOrder, BothInOrder, HasItsLists, BothHaveTheirLists, NotesItsEnd, BothNoteTheirEnds, number_in, numbered_on, IsReached, at_start, near_moves, far_moves, AreInWindow, NoFrmrSent, AreWhole, AllSentAreWhole}
+use Rattle.x25_line.specs.Stations.{StationEnd, Stations, Act, Put, Deliver, T1, Connect, Disconnect, Abandon, Lose, Damage, Event, Near, Far, after_step, unless, delivered, replaced, is_visible, acts, swapped, happens, run, fresh_station, start}
+use Rattle.x25_line.specs.StationClaims.{AreJoined, IsSetUpOnce, Always, InOrder, BothInOrder, HasItsLists, BothHaveTheirLists, NotesItsEnd, BothNoteTheirEnds, AcceptsNoConnect, AcceptsNoConnectAt, NoneConnects, OneLinkUnlessConnected, number_in, numbered_on, IsReached, at_start, near_moves, far_moves, AreInWindow, NoFrmrSent, AreWhole, AllSentAreWhole, NotesUp, HandsOne}
 use Rattle.x25_line.proofs.Kept.{Kept, Way, Kept-moved, Kept-swapped, Way-acked, InWindow-from_Kept}
-use Rattle.x25_line.proofs.StationLines.{IsOrderly, AreOrderly, AreParting, taken_out, place_of, shows_lost, shows_damaged, orderly_lost, orderly_damaged, visible_reads, whole_more, either_way}
+use Rattle.x25_line.proofs.StationLines.{IsOrderly, orderly_where, AreOrderly, AreParting, taken_out, place_of, shows_lost, shows_damaged, orderly_lost, orderly_damaged, visible_reads, whole_more, either_way}
 use Rattle.x25_line.proofs.StationSends.{AllWithin, within_push}
-use Rattle.x25_line.proofs.StationSteps.{AsUp, FitsEnd, Joint, Holds, J-stays, out_is_not_up, not_both, quiet_notes, quiet_joint, parts_joint, ends_joint, read_joint, out_joint}
+use Rattle.x25_line.proofs.StationSteps.{MayBeAway, away_is_not_up, out_is_away, AsUp, IsAway, FitsEnd, NotesOnce, Joint, Holds, J-stays, not_both, quiet_notes, vain_notes, quiet_joint, parts_joint, ends_joint, read_joint, away_joint, declining_parting}
+use Rattle.x25_line.proofs.StationAway.{closed_takes, waits_on, waiting_parting, quiet_by, up_takes_part, connects_from, first_false, second_false}
+use Rattle.x25_line.proofs.StationEvents.{each_hands_one}
 
 reached_swapped : (k j : ℕ) (l : Line (List ℕ)) → IsReached k j l → IsReached j k (line_swapped l)
 reached_swapped k j l at_start = at_start
 reached_swapped k j l (near_moves v m h ok) = far_moves (line_swapped v) m (reached_swapped k j v h) ok
 reached_swapped k j l (far_moves v m h ok) = near_moves (line_swapped v) m (reached_swapped k j v h) ok
 
-holds_unless : (c d : Settings) (o : Option LinkError) (w v : Stations) → Holds c d w → Holds c d v → Holds c d (unless o w v)
-holds_unless c d (Some e) w v h g = h
-holds_unless c d None w v h g = g
+holds_unless : (MayAsk : Type 0) (c d : Settings) (o : Option LinkError) (w v : Stations) → Holds MayAsk c d w → (o ≡ None → Holds MayAsk c d v) → Holds MayAsk c d (unless o w v)
+holds_unless MayAsk c d (Some e) w v h g = h
+holds_unless MayAsk c d None w v h g = g refl
 
-holds_if : (c d : Settings) (b : Bool) (w v : Stations) → (b ≡ true → Holds c d w) → Holds c d v → Holds c d (if b then w else v)
-holds_if c d true w v h g = h refl
-holds_if c d false w v h g = g
+holds_if : (MayAsk : Type 0) (c d : Settings) (b : Bool) (w v : Stations) → (b ≡ true → Holds MayAsk c d w) → Holds MayAsk c d v → Holds MayAsk c d (if b then w else v)
+holds_if MayAsk c d true w v h g = h refl
+holds_if MayAsk c d false w v h g = g
 
-orderly_sets_up : (r : Result PlainFrame FrameError) → IsOrderly r → sets_up r ≡ false
+orderly_sets_up : (r : Result PlainFrame FrameError) → IsOrderly ⊥ r → sets_up r ≡ false
 orderly_sets_up (Ok (info ns nr p x)) h = refl
 orderly_sets_up (Ok (rr command nr pf)) h = refl
 orderly_sets_up (Ok (rnr command nr pf)) h = refl
@@ -59,42 +62,82 @@ orderly_sets_up (Err e) h = refl
 -- the laws of a station that a run rests on
 pub record Laws : Type 0 where
   pub window : StationLaws
+  pub set_up : SetUpLaws
   pub take_tells : TakeTells
   pub timer_tells : TimerTells
   pub disconnect_tells : DisconnectTells
   pub abandon_tells : AbandonTells
 
-module _ (c d : Settings) (joined : AreJoined c d) (reads : ReadsSpelled) (laws : Laws) where
+-- a Connect that is accepted
+abbrev Connects : Act → Stations → Type 0
+Connects Connect w = connect_refusal w.near.station.phase ≡ None
+Connects act w = ⊥
+
+abbrev ConnectsAt : Event → Stations → Type 0
+ConnectsAt (Near act) w = Connects act w
+ConnectsAt (Far act) w = Connects act (swapped w)
+
+module _ (MayAsk : Type 0) (c d : Settings) (joined : AreJoined c d) (reads : ReadsSpelled) (laws : Laws) where
   -- ---- what comes
 
-  deliver_joint : (w : Stations) (l : Line (List ℕ)) (os : List (List ℕ)) → w.back ≡ os → Joint c d w l → Holds c d (delivered c os w)
-  deliver_joint w l [] is h = (l, h)
-  deliver_joint w l (o ∷ os) is h = go h.near
+  deliver_joint : (w : Stations) (l : Line (List ℕ)) (os : List (List ℕ)) → w.back ≡ os → Joint MayAsk c d w l → (MayAsk → (delivered c os w).near.came_up ≡ false)
+      → Holds MayAsk c d (delivered c os w)
+  deliver_joint w l [] is h once = (l, h)
+  deliver_joint w l (o ∷ os) is h once = go h.near
     where
+      s : Station
+      s = w.near.station
+
+      r : Result PlainFrame FrameError
+      r = frame_of (other c.role) c.longest o
+
+      step : Step
+      step = take_step c o s
+
       shows : ShowAll (numbered_on (other c.role) c.longest (o ∷ os)) l.back
       shows = subst (λ (z : List (List ℕ)). ShowAll (numbered_on (other c.role) c.longest z) l.back) is h.back
 
-      orderly : AreOrderly (other c.role) c.longest (o ∷ os)
-      orderly = subst (λ (z : List (List ℕ)). AreOrderly (other c.role) c.longest z) is h.back_orderly
+      orderly : AreOrderly MayAsk (other c.role) c.longest (o ∷ os)
+      orderly = subst (λ (z : List (List ℕ)). AreOrderly MayAsk (other c.role) c.longest z) is h.back_orderly
 
-      go : FitsEnd c w.near.station l.near → Holds c d (delivered c (o ∷ os) w)
+      not_up : MayAsk → step.notes.up ≡ false
+      not_up ask = second_false w.near.came_up step.notes.up (once ask)
+
+      -- a SABM would set the link up anew
+      no_sabm : TakesPart s.phase → IsOrderly ⊥ r
+      no_sabm part = orderly_where MayAsk ⊥ r (λ p sabm ask. not_both step.notes.up (laws.set_up.sets_up c o s part p sabm).up (not_up ask)) orderly.0
+
+      stays : IsAway MayAsk s → StaysOut step → Holds MayAsk c d (after_step c w os [] step)
+      stays away out =
+          let off = away_is_not_up MayAsk s.phase away.away in
+          away_joint MayAsk c d joined reads w l h (number_in r) os step orderly.1 shows (declining_parting MayAsk c d joined reads step.side.out out.frames)
+          (record { away = out_is_away MayAsk step.side.near.phase out.out; empty = (laws.take_tells c o s).empty out.quiet off away.empty }) out.packet out.quiet off
+
+      waits : IsAway MayAsk s → s.phase ≡ Waiting → MayAsk → Holds MayAsk c d (after_step c w os [] step)
+      waits away waiting ask =
+          let i = laws.set_up.waits c o s waiting r refl in
+          away_joint MayAsk c d joined reads w l h (number_in r) os step orderly.1 shows (subst (AreParting MayAsk) (sym i.out) (waiting_parting MayAsk r))
+          (subst (IsAway MayAsk) (sym (i.near ∙ waits_on r s (sym i.up ∙ not_up ask))) away) i.packet (quiet_by step i.down (not_up ask)) (ap is_up waiting)
+
+      by_phase : (p : Phase) → s.phase ≡ p → IsAway MayAsk s → MayBeAway MayAsk p → Holds MayAsk c d (after_step c w os [] step)
+      by_phase Down phase away may = stays away (laws.window.take_out c o s (subst IsOut (sym phase) tt) (orderly_sets_up r (no_sabm (subst TakesPart (sym phase) tt))))
+      by_phase Waiting phase away may = waits away phase may
+      by_phase Up phase away may = absurd may
+      by_phase Closed phase away may = stays away (closed_takes c o s phase)
+
+      go : FitsEnd MayAsk c s l.near → Holds MayAsk c d (delivered c (o ∷ os) w)
       go (inl u) =
-          let r = frame_of (other c.role) c.longest o in
-          read_joint c d joined reads w l h u r os (take_step c o w.near.station) orderly.0 orderly.1 shows (laws.take_tells c o w.near.station)
-          (laws.window.take c o w.near.station (record { up = u.up; sound = u.sound }) r refl)
-      go (inr away) =
-          let r = frame_of (other c.role) c.longest o in
-          let s = w.near.station in
-          let stays = laws.window.take_out c o s away.out (orderly_sets_up r orderly.0) in
-          out_joint c d joined reads w l h (number_in r) os (take_step c o s) orderly.1 shows stays ((laws.take_tells c o s).empty stays.quiet (out_is_not_up s.phase away.out) away.empty) (out_is_not_up s.phase away.out)
+          read_joint MayAsk c d joined reads w l h u r os step (no_sabm (up_takes_part s.phase u.up)) orderly.1 shows (laws.take_tells c o s)
+          (laws.window.take c o s (record { up = u.up; sound = u.sound }) r refl)
+      go (inr away) = by_phase s.phase refl away away.away
 
   -- ---- what is handed down
 
-  put_up : (w : Stations) (l : Line (List ℕ)) (packet : List ℕ) → Joint c d w l → AsUp c w.near.station l.near → length packet ≤ c.longest
-      → Holds c d (after_step c w w.back (packet ∷ []) (put_step c packet w.near.station))
+  put_up : (w : Stations) (l : Line (List ℕ)) (packet : List ℕ) → Joint MayAsk c d w l → AsUp c w.near.station l.near → length packet ≤ c.longest
+      → Holds MayAsk c d (after_step c w w.back (packet ∷ []) (put_step c packet w.near.station))
   put_up w l packet h u short =
       let longest = joined.longest in
-      J-stays c d joined reads w l (moved (HandsDown packet) l) w.back (packet ∷ []) (hands_down packet) (put_step c packet w.near.station) h u.up
+      J-stays MayAsk c d joined reads w l (moved (HandsDown packet) l) w.back (packet ∷ []) (hands_down packet) (put_step c packet w.near.station) h u.up
       (record {
         reached = near_moves l (HandsDown packet) h.reached tt;
         kept = Kept-moved (HandsDown packet) l tt h.kept;
@@ -109,64 +152,113 @@ module _ (c d : Settings) (joined : AreJoined c d) (reads : ReadsSpelled) (laws 
       })
       (laws.window.put c packet w.near.station (record { up = u.up; sound = u.sound }))
 
-  put_joint : (w : Stations) (l : Line (List ℕ)) (packet : List ℕ) → Joint c d w l → length packet ≤ c.longest
-      → Holds c d (unless (put_refusal w.near.station) w (after_step c w w.back (packet ∷ []) (put_step c packet w.near.station)))
+  put_joint : (w : Stations) (l : Line (List ℕ)) (packet : List ℕ) → Joint MayAsk c d w l → length packet ≤ c.longest
+      → Holds MayAsk c d (unless (put_refusal w.near.station) w (after_step c w w.back (packet ∷ []) (put_step c packet w.near.station)))
   put_joint w l packet h short = go h.near
     where
-      go : FitsEnd c w.near.station l.near → Holds c d (unless (put_refusal w.near.station) w (after_step c w w.back (packet ∷ []) (put_step c packet w.near.station)))
-      go (inl u) = holds_unless c d (put_refusal w.near.station) w _ (l, h) (put_up w l packet h u short)
-      go (inr away) = rw (out_is_not_up w.near.station.phase away.out) (l, h)
+      go : FitsEnd MayAsk c w.near.station l.near → Holds MayAsk c d (unless (put_refusal w.near.station) w (after_step c w w.back (packet ∷ []) (put_step c packet w.near.station)))
+      go (inl u) = holds_unless MayAsk c d (put_refusal w.near.station) w _ (l, h) (λ _. put_up w l packet h u short)
+      go (inr away) = rw (away_is_not_up MayAsk w.near.station.phase away.away) (l, h)
 
   -- ---- timer T1
 
-  timer_by : (w : Stations) (l : Line (List ℕ)) → Joint c d w l → AsUp c w.near.station l.near → (b : Bool) (step : Step) → Tells w.near.station step
-      → Follows (if b then None else Some Retries) c.window nothing w.near.station step → Holds c d (after_step c w w.back [] step)
-  timer_by w l h u true step tells follows = quiet_joint c d joined reads w l h u w.back h.back_orderly h.back nothing step refl (λ y k. k) follows
-  timer_by w l h u false step tells follows = ends_joint c d joined reads w l h u.up w.back step Retries tt h.back h.back_orderly tells follows
+  timer_by : (w : Stations) (l : Line (List ℕ)) → Joint MayAsk c d w l → AsUp c w.near.station l.near → (b : Bool) (step : Step) → Tells w.near.station step
+      → Follows (if b then None else Some Retries) c.window nothing w.near.station step → Holds MayAsk c d (after_step c w w.back [] step)
+  timer_by w l h u true step tells follows = quiet_joint MayAsk c d joined reads w l h u w.back h.back_orderly h.back nothing step refl (λ y k. k) follows
+  timer_by w l h u false step tells follows = ends_joint MayAsk c d joined reads w l h u.up w.back step Retries tt h.back h.back_orderly tells follows
 
-  out_timer : (p : Phase) (s : Station) → IsOut p → timer_runs p s ≡ false
-  out_timer Down s out = refl
-  out_timer Waiting s out = absurd out
-  out_timer Up s out = absurd out
-  out_timer Closed s out = refl
+  -- an end that isn't Up sends SABM or DISC, and notes nothing
+  asks_joint : (w : Stations) (l : Line (List ℕ)) → Joint MayAsk c d w l → is_up w.near.station.phase ≡ false → (near : Station) (frames : List PlainFrame) (step : Step)
+      → Is near frames None false step → AreParting MayAsk frames → IsAway MayAsk near → Holds MayAsk c d (after_step c w w.back [] step)
+  asks_joint w l h was_away near frames step i parting away =
+      let off : is_up step.side.near.phase ≡ false = ap (λ (z : Station). is_up z.phase) i.near ∙ away_is_not_up MayAsk near.phase away.away in
+      parts_joint MayAsk c d joined reads w l h l.back w.back step h.kept h.reached h.back h.back_orderly (subst (AreParting MayAsk) (sym i.out) parting)
+      (subst (IsAway MayAsk) (sym i.near) away) i.packet
+      (quiet_notes MayAsk c w w.back [] step h.near_notes (quiet_by step i.down i.up) (off ∙ sym was_away))
 
-  timer_joint : (w : Stations) (l : Line (List ℕ)) → Joint c d w l → Holds c d (unless (timer_refusal w.near.station) w (after_step c w w.back [] (timer_step c w.near.station)))
+  waiting_timer : (w : Stations) (l : Line (List ℕ)) → Joint MayAsk c d w l → IsAway MayAsk w.near.station → w.near.station.phase ≡ Waiting → MayAsk → (b : Bool) (step : Step)
+      → (let s = w.near.station in Is (if b then record s { tries = suc s.tries } else with_nothing Down s.tries) (if b then sabm true ∷ [] else []) (if b then None else Some Retries) false step)
+      → Holds MayAsk c d (after_step c w w.back [] step)
+  waiting_timer w l h away phase ask true step i =
+      asks_joint w l h (ap is_up phase) (record w.near.station { tries = suc w.near.station.tries }) (sabm true ∷ []) step i (ask, tt) (record { away = away.away; empty = away.empty })
+  waiting_timer w l h away phase ask false step i =
+      parts_joint MayAsk c d joined reads w l h l.back w.back step h.kept h.reached h.back h.back_orderly (subst (AreParting MayAsk) (sym i.out) tt)
+      (subst (IsAway MayAsk) (sym i.near) (record { away = tt; empty = refl })) i.packet
+      (vain_notes MayAsk c w w.back step h.near_notes (ap is_up phase) ask i.down i.up (ap (λ (z : Station). is_up z.phase) i.near))
+
+  timer_joint : (w : Stations) (l : Line (List ℕ)) → Joint MayAsk c d w l → Holds MayAsk c d (unless (timer_refusal w.near.station) w (after_step c w w.back [] (timer_step c w.near.station)))
   timer_joint w l h = go h.near
     where
-      go : FitsEnd c w.near.station l.near → Holds c d (unless (timer_refusal w.near.station) w (after_step c w w.back [] (timer_step c w.near.station)))
+      s : Station
+      s = w.near.station
+
+      by_phase : (p : Phase) → s.phase ≡ p → IsAway MayAsk s → MayBeAway MayAsk p → Holds MayAsk c d (unless (timer_refusal s) w (after_step c w w.back [] (timer_step c s)))
+      by_phase Down phase away may = rw (ap (λ (p : Phase). timer_runs p s) phase) (l, h)
+      by_phase Waiting phase away may =
+          holds_unless MayAsk c d (timer_refusal s) w _ (l, h) (λ _. waiting_timer w l h away phase may (nat_lt s.tries c.retries) (timer_step c s) (laws.set_up.timer c s phase))
+      by_phase Up phase away may = absurd may
+      by_phase Closed phase away may = rw (ap (λ (p : Phase). timer_runs p s) phase) (l, h)
+
+      go : FitsEnd MayAsk c s l.near → Holds MayAsk c d (unless (timer_refusal s) w (after_step c w w.back [] (timer_step c s)))
       go (inl u) =
-          holds_unless c d (timer_refusal w.near.station) w _ (l, h)
-          (timer_by w l h u (nat_lt w.near.station.tries c.retries) (timer_step c w.near.station) (laws.timer_tells c w.near.station) (laws.window.timer c w.near.station (record { up = u.up; sound = u.sound })))
-      go (inr away) = rw (out_timer w.near.station.phase w.near.station away.out) (l, h)
+          holds_unless MayAsk c d (timer_refusal s) w _ (l, h)
+          (λ _. timer_by w l h u (nat_lt s.tries c.retries) (timer_step c s) (laws.timer_tells c s) (laws.window.timer c s (record { up = u.up; sound = u.sound })))
+      go (inr away) = by_phase s.phase refl away away.away
 
-  -- ---- disconnect and abandon
+  -- ---- connect, disconnect and abandon
 
-  disconnect_joint : (w : Stations) (l : Line (List ℕ)) → Joint c d w l
-      → Holds c d (unless (disconnect_refusal w.near.station.phase) w (after_step c w w.back [] (disconnect_step c w.near.station)))
-  disconnect_joint w l h = holds_unless c d (disconnect_refusal w.near.station.phase) w _ (l, h) (go h.near)
+  connect_joint : (w : Stations) (l : Line (List ℕ)) → Joint MayAsk c d w l → (connect_refusal w.near.station.phase ≡ None → MayAsk)
+      → Holds MayAsk c d (unless (connect_refusal w.near.station.phase) w (after_step c w w.back [] (connect_step c w.near.station)))
+  connect_joint w l h may = holds_unless MayAsk c d (connect_refusal w.near.station.phase) w _ (l, h) (λ accepted. go (may accepted) (connects_from w.near.station.phase accepted) h.near)
     where
-      go : FitsEnd c w.near.station l.near → Holds c d (after_step c w w.back [] (disconnect_step c w.near.station))
-      go (inl u) = ends_joint c d joined reads w l h u.up w.back (disconnect_step c w.near.station) Local tt h.back h.back_orderly (laws.disconnect_tells c w.near.station) (laws.window.disconnect c w.near.station (record { up = u.up; sound = u.sound }))
-      go (inr away) =
-          let s = w.near.station in
-          let closes = laws.window.disconnect_out c s away.out in
-          let empty = (laws.disconnect_tells c s).empty closes.quiet (out_is_not_up s.phase away.out) away.empty in
-          parts_joint c d joined reads w l h l.back w.back (disconnect_step c w.near.station) h.kept h.reached h.back h.back_orderly
-          (subst AreParting (sym closes.frames) tt) (record { out = subst IsOut (sym closes.phase) tt; empty = empty }) closes.packet
-          (quiet_notes c w w.back [] (disconnect_step c s) h.near_notes closes.quiet (ap is_up closes.phase ∙ sym (out_is_not_up s.phase away.out)))
+      s : Station
+      s = w.near.station
 
-  abandon_joint : (w : Stations) (l : Line (List ℕ)) → Joint c d w l → is_up w.near.station.phase ≡ true → Holds c d (after_step c w w.back [] (abandon_step c w.near.station))
+      go : MayAsk → s.phase ≡ Down → FitsEnd MayAsk c s l.near → Holds MayAsk c d (after_step c w w.back [] (connect_step c s))
+      go ask phase (inl u) = not_both (is_up s.phase) u.up (ap is_up phase)
+      go ask phase (inr away) =
+          asks_joint w l h (ap is_up phase) (record s { phase = Waiting; tries = 0 }) (sabm true ∷ []) (connect_step c s) (laws.set_up.connects c s phase) (ask, tt)
+          (record { away = ask; empty = away.empty })
+
+  disconnect_joint : (w : Stations) (l : Line (List ℕ)) → Joint MayAsk c d w l
+      → Holds MayAsk c d (unless (disconnect_refusal w.near.station.phase) w (after_step c w w.back [] (disconnect_step c w.near.station)))
+  disconnect_joint w l h = holds_unless MayAsk c d (disconnect_refusal w.near.station.phase) w _ (l, h) (λ _. go h.near)
+    where
+      s : Station
+      s = w.near.station
+
+      closes : IsOut s.phase → IsAway MayAsk s → Holds MayAsk c d (after_step c w w.back [] (disconnect_step c s))
+      closes out away =
+          let closed = laws.window.disconnect_out c s out in
+          let off = away_is_not_up MayAsk s.phase away.away in
+          let empty = (laws.disconnect_tells c s).empty closed.quiet off away.empty in
+          parts_joint MayAsk c d joined reads w l h l.back w.back (disconnect_step c s) h.kept h.reached h.back h.back_orderly
+          (subst (AreParting MayAsk) (sym closed.frames) tt) (record { away = subst (MayBeAway MayAsk) (sym closed.phase) tt; empty = empty }) closed.packet
+          (quiet_notes MayAsk c w w.back [] (disconnect_step c s) h.near_notes closed.quiet (ap is_up closed.phase ∙ sym off))
+
+      by_phase : (p : Phase) → s.phase ≡ p → IsAway MayAsk s → MayBeAway MayAsk p → Holds MayAsk c d (after_step c w w.back [] (disconnect_step c s))
+      by_phase Down phase away may = closes (subst IsOut (sym phase) tt) away
+      by_phase Waiting phase away may =
+          asks_joint w l h (ap is_up phase) (with_nothing Closed s.tries) (disc true ∷ []) (disconnect_step c s) (laws.set_up.disconnects c s phase) tt (record { away = tt; empty = refl })
+      by_phase Up phase away may = absurd may
+      by_phase Closed phase away may = closes (subst IsOut (sym phase) tt) away
+
+      go : FitsEnd MayAsk c s l.near → Holds MayAsk c d (after_step c w w.back [] (disconnect_step c s))
+      go (inl u) = ends_joint MayAsk c d joined reads w l h u.up w.back (disconnect_step c s) Local tt h.back h.back_orderly (laws.disconnect_tells c s) (laws.window.disconnect c s (record { up = u.up; sound = u.sound }))
+      go (inr away) = by_phase s.phase refl away away.away
+
+  abandon_joint : (w : Stations) (l : Line (List ℕ)) → Joint MayAsk c d w l → is_up w.near.station.phase ≡ true → Holds MayAsk c d (after_step c w w.back [] (abandon_step c w.near.station))
   abandon_joint w l h up = go h.near
     where
-      go : FitsEnd c w.near.station l.near → Holds c d (after_step c w w.back [] (abandon_step c w.near.station))
-      go (inl u) = ends_joint c d joined reads w l h u.up w.back (abandon_step c w.near.station) Counts tt h.back h.back_orderly (laws.abandon_tells c w.near.station) (laws.window.abandon c w.near.station (record { up = u.up; sound = u.sound }))
-      go (inr away) = not_both (is_up w.near.station.phase) up (out_is_not_up w.near.station.phase away.out)
+      go : FitsEnd MayAsk c w.near.station l.near → Holds MayAsk c d (after_step c w w.back [] (abandon_step c w.near.station))
+      go (inl u) = ends_joint MayAsk c d joined reads w l h u.up w.back (abandon_step c w.near.station) Counts tt h.back h.back_orderly (laws.abandon_tells c w.near.station) (laws.window.abandon c w.near.station (record { up = u.up; sound = u.sound }))
+      go (inr away) = not_both (is_up w.near.station.phase) up (away_is_not_up MayAsk w.near.station.phase away.away)
 
   -- ---- the line
 
-  left_joint : (w : Stations) (l : Line (List ℕ)) (gs : List (Frame (List ℕ))) (os : List (List ℕ)) → Joint c d w l
+  left_joint : (w : Stations) (l : Line (List ℕ)) (gs : List (Frame (List ℕ))) (os : List (List ℕ)) → Joint MayAsk c d w l
       → IsReached c.window d.window (record { near = l.near; far = l.far; out = l.out; back = gs }) → Kept (record { near = l.near; far = l.far; out = l.out; back = gs })
-      → ShowAll (numbered_on (other c.role) c.longest os) gs → AreOrderly (other c.role) c.longest os → Holds c d (record w { back = os })
+      → ShowAll (numbered_on (other c.role) c.longest os) gs → AreOrderly MayAsk (other c.role) c.longest os → Holds MayAsk c d (record w { back = os })
   left_joint w l gs os h reached kept shows orderly = (
     record { near = l.near; far = l.far; out = l.out; back = gs },
     record {
@@ -192,33 +284,34 @@ module _ (c d : Settings) (joined : AreJoined c d) (reads : ReadsSpelled) (laws 
   )
 
   -- the machine loses the frame at this place, where one stands there
-  taken_off : (w : Stations) (l : Line (List ℕ)) (p : Option ℕ) (os : List (List ℕ)) → Joint c d w l → ShowAll (numbered_on (other c.role) c.longest os) (taken_out p l.back)
-      → AreOrderly (other c.role) c.longest os → Holds c d (record w { back = os })
+  taken_off : (w : Stations) (l : Line (List ℕ)) (p : Option ℕ) (os : List (List ℕ)) → Joint MayAsk c d w l → ShowAll (numbered_on (other c.role) c.longest os) (taken_out p l.back)
+      → AreOrderly MayAsk (other c.role) c.longest os → Holds MayAsk c d (record w { back = os })
   taken_off w l None os h shows orderly = left_joint w l l.back os h h.reached h.kept shows orderly
   taken_off w l (Some n) os h shows orderly = left_joint w l (remove l.back n) os h (near_moves l (Loses n) h.reached tt) (Kept-moved (Loses n) l tt h.kept) shows orderly
 
-  damage_joint : (w : Stations) (l : Line (List ℕ)) (i : ℕ) (octets : List ℕ) → Joint c d w l → is_visible octets ≡ true → Holds c d (record w { back = replaced w.back i octets })
+  damage_joint : (w : Stations) (l : Line (List ℕ)) (i : ℕ) (octets : List ℕ) → Joint MayAsk c d w l → is_visible octets ≡ true → Holds MayAsk c d (record w { back = replaced w.back i octets })
   damage_joint w l i octets h visible = elim (visible_reads (other c.role) c.longest octets visible) [
     | inl short ↦ taken_off w l (place_of (other c.role) c.longest w.back i) (replaced w.back i octets) h
         (shows_damaged (other c.role) c.longest octets (ap number_in short) w.back i l.back h.back)
-        (orderly_damaged (other c.role) c.longest octets (subst IsOrderly (sym short) tt) w.back i h.back_orderly)
+        (orderly_damaged MayAsk (other c.role) c.longest octets (subst (IsOrderly MayAsk) (sym short) tt) w.back i h.back_orderly)
     | inr bad ↦ taken_off w l (place_of (other c.role) c.longest w.back i) (replaced w.back i octets) h
         (shows_damaged (other c.role) c.longest octets (ap number_in bad) w.back i l.back h.back)
-        (orderly_damaged (other c.role) c.longest octets (subst IsOrderly (sym bad) tt) w.back i h.back_orderly)
+        (orderly_damaged MayAsk (other c.role) c.longest octets (subst (IsOrderly MayAsk) (sym bad) tt) w.back i h.back_orderly)
   ]
 
-  pub acts_joint : (a : Act) (w : Stations) → Holds c d w → Holds c d (acts c a w)
-  acts_joint (Put packet) w h =
-      holds_if c d (nat_le (length packet) c.longest) (unless (put_refusal w.near.station) w (after_step c w w.back (packet ∷ []) (put_step c packet w.near.station))) w
+  pub acts_joint : (a : Act) (w : Stations) → (MayAsk → (acts c a w).near.came_up ≡ false) → (Connects a w → MayAsk) → Holds MayAsk c d w → Holds MayAsk c d (acts c a w)
+  acts_joint (Put packet) w once may h =
+      holds_if MayAsk c d (nat_le (length packet) c.longest) (unless (put_refusal w.near.station) w (after_step c w w.back (packet ∷ []) (put_step c packet w.near.station))) w
       (λ short. put_joint w h.0 packet h.1 (leb-true _ _ short)) h
-  acts_joint Deliver w h = deliver_joint w h.0 w.back refl h.1
-  acts_joint T1 w h = timer_joint w h.0 h.1
-  acts_joint Disconnect w h = disconnect_joint w h.0 h.1
-  acts_joint Abandon w h = holds_if c d (is_up w.near.station.phase) (after_step c w w.back [] (abandon_step c w.near.station)) w (λ up. abandon_joint w h.0 h.1 up) h
-  acts_joint (Lose i) w h =
+  acts_joint Deliver w once may h = deliver_joint w h.0 w.back refl h.1 once
+  acts_joint T1 w once may h = timer_joint w h.0 h.1
+  acts_joint Connect w once may h = connect_joint w h.0 h.1 may
+  acts_joint Disconnect w once may h = disconnect_joint w h.0 h.1
+  acts_joint Abandon w once may h = holds_if MayAsk c d (is_up w.near.station.phase) (after_step c w w.back [] (abandon_step c w.near.station)) w (λ up. abandon_joint w h.0 h.1 up) h
+  acts_joint (Lose i) w once may h =
       taken_off w h.0 (place_of (other c.role) c.longest w.back i) (remove w.back i) h.1 (shows_lost (other c.role) c.longest w.back i h.0.back h.1.back)
-      (orderly_lost (other c.role) c.longest w.back i h.1.back_orderly)
-  acts_joint (Damage i octets) w h = holds_if c d (is_visible octets) (record w { back = replaced w.back i octets }) w (λ visible. damage_joint w h.0 i octets h.1 visible) h
+      (orderly_lost MayAsk (other c.role) c.longest w.back i h.1.back_orderly)
+  acts_joint (Damage i octets) w once may h = holds_if MayAsk c d (is_visible octets) (record w { back = replaced w.back i octets }) w (λ visible. damage_joint w h.0 i octets h.1 visible) h
 
 -- ---- runs
 
@@ -226,8 +319,8 @@ joined_swapped : (c d : Settings) → AreJoined c d → AreJoined d c
 joined_swapped c d j =
     record { near_role = j.far_role; far_role = j.near_role; longest = sym j.longest; near_low = j.far_low; near_high = j.far_high; far_low = j.near_low; far_high = j.near_high }
 
-holds_swapped : (c d : Settings) → c.longest ≡ d.longest → (w : Stations) → Holds c d w → Holds d c (swapped w)
-holds_swapped c d same w holds =
+holds_swapped : (MayAsk : Type 0) (c d : Settings) → c.longest ≡ d.longest → (w : Stations) → Holds MayAsk c d w → Holds MayAsk d c (swapped w)
+holds_swapped MayAsk c d same w holds =
     let l = holds.0 in
     let h = holds.1 in (
       line_swapped l,
@@ -253,20 +346,72 @@ holds_swapped c d same w holds =
       },
     )
 
-event_joint : (c d : Settings) → AreJoined c d → ReadsSpelled → Laws → (e : Event) (w : Stations) → Holds c d w → Holds c d (happens c d e w)
-event_joint c d joined reads laws (Near act) w h = acts_joint c d joined reads laws act w h
-event_joint c d joined reads laws (Far act) w h =
-    holds_swapped d c (sym joined.longest) (acts d act (swapped w)) (acts_joint d c (joined_swapped c d joined) reads laws act (swapped w) (holds_swapped c d joined.longest w h))
+event_joint : (MayAsk : Type 0) (c d : Settings) → AreJoined c d → ReadsSpelled → Laws → (e : Event) (w : Stations) → (MayAsk → IsSetUpOnce (happens c d e w)) → (ConnectsAt e w → MayAsk)
+    → Holds MayAsk c d w → Holds MayAsk c d (happens c d e w)
+event_joint MayAsk c d joined reads laws (Near act) w once may h = acts_joint MayAsk c d joined reads laws act w (λ ask. (once ask).near) may h
+event_joint MayAsk c d joined reads laws (Far act) w once may h =
+    holds_swapped MayAsk d c (sym joined.longest) (acts d act (swapped w))
+    (acts_joint MayAsk d c (joined_swapped c d joined) reads laws act (swapped w) (λ ask. (once ask).far) may (holds_swapped MayAsk c d joined.longest w h))
 
-run_joint : (c d : Settings) → AreJoined c d → ReadsSpelled → Laws → (es : List Event) (w : Stations) → Holds c d w → Holds c d (run c d es w)
-run_joint c d joined reads laws [] w h = h
-run_joint c d joined reads laws (e ∷ es) w h = run_joint c d joined reads laws es (happens c d e w) (event_joint c d joined reads laws e w h)
+-- ---- LinkUp that was noted stays so
 
-fresh_notes : NotesItsEnd fresh_station
-fresh_notes = record { still_up = λ on. refl; left = λ off. not_both true refl off; once = refl }
+noted_before : (a : Act) (old new : Bool) → NotesUp a old new → new ≡ false → old ≡ false
+noted_before (Put packet) old new same e = sym same ∙ e
+noted_before Deliver old new more e = first_false old more.0 (sym more.1 ∙ e)
+noted_before T1 old new same e = sym same ∙ e
+noted_before Connect old new same e = sym same ∙ e
+noted_before Disconnect old new same e = sym same ∙ e
+noted_before Abandon old new same e = sym same ∙ e
+noted_before (Lose i) old new same e = sym same ∙ e
+noted_before (Damage i octets) old new same e = sym same ∙ e
 
-start_joint : (c d : Settings) → AreJoined c d → Holds c d start
-start_joint c d joined =
+before_act : (a : Act) (w v : Stations) → HandsOne a w v → IsSetUpOnce v → IsSetUpOnce w
+before_act a w v h once = record {
+  near = noted_before a w.near.came_up v.near.came_up h.came_up once.near;
+  far = ap (λ (e : StationEnd). e.came_up) (sym h.far) ∙ once.far;
+}
+
+event_before : (c d : Settings) (e : Event) (w : Stations) → IsSetUpOnce (happens c d e w) → IsSetUpOnce w
+event_before c d (Near act) w once = before_act act w (acts c act w) (each_hands_one c d (Near act) w) once
+event_before c d (Far act) w once =
+    let before = before_act act (swapped w) (acts d act (swapped w)) (each_hands_one c d (Far act) w) (record { near = once.far; far = once.near }) in
+    record { near = before.far; far = before.near }
+
+once_before : (c d : Settings) (es : List Event) (w : Stations) → IsSetUpOnce (run c d es w) → IsSetUpOnce w
+once_before c d [] w h = h
+once_before c d (e ∷ es) w h = event_before c d e w (once_before c d es (happens c d e w) h)
+
+-- ---- runs in which an end may ask for set-up, and runs in which none does
+
+run_once : (c d : Settings) → AreJoined c d → ReadsSpelled → Laws → (es : List Event) (w : Stations) → Holds (Unit {0}) c d w → IsSetUpOnce (run c d es w) → Holds (Unit {0}) c d (run c d es w)
+run_once c d joined reads laws [] w h once = h
+run_once c d joined reads laws (e ∷ es) w h once =
+    run_once c d joined reads laws es (happens c d e w) (event_joint (Unit {0}) c d joined reads laws e w (λ _. once_before c d es (happens c d e w) once) (λ _. tt) h) once
+
+none_accepted : (a : Act) (w : Stations) → AcceptsNoConnect a w → Connects a w → ⊥
+none_accepted (Put packet) w h never = never
+none_accepted Deliver w h never = never
+none_accepted T1 w h never = never
+none_accepted Connect w h accepted = h accepted
+none_accepted Disconnect w h never = never
+none_accepted Abandon w h never = never
+none_accepted (Lose i) w h never = never
+none_accepted (Damage i octets) w h never = never
+
+none_at : (e : Event) (w : Stations) → AcceptsNoConnectAt e w → ConnectsAt e w → ⊥
+none_at (Near act) w = none_accepted act w
+none_at (Far act) w = none_accepted act (swapped w)
+
+run_unasked : (c d : Settings) → AreJoined c d → ReadsSpelled → Laws → (es : List Event) (w : Stations) → Holds ⊥ c d w → NoneConnects c d es w → Holds ⊥ c d (run c d es w)
+run_unasked c d joined reads laws [] w h none = h
+run_unasked c d joined reads laws (e ∷ es) w h none =
+    run_unasked c d joined reads laws es (happens c d e w) (event_joint ⊥ c d joined reads laws e w (λ never. absurd never) (none_at e w none.0) h) none.1
+
+fresh_notes : (MayAsk : Type 0) → NotesOnce MayAsk fresh_station
+fresh_notes MayAsk = record { still_up = λ on. refl; left = λ off. not_both true refl off; once = refl }
+
+start_joint : (MayAsk : Type 0) (c d : Settings) → AreJoined c d → Holds MayAsk c d start
+start_joint MayAsk c d joined =
     let near_low = joined.near_low in
     let near_high = joined.near_high in
     let far_low = joined.far_low in
@@ -290,8 +435,8 @@ start_joint c d joined =
         far_up = refl;
         near_within = tt;
         far_within = tt;
-        near_notes = fresh_notes;
-        far_notes = fresh_notes;
+        near_notes = fresh_notes MayAsk;
+        far_notes = fresh_notes MayAsk;
         no_frmr = tt;
         whole = tt;
       },
@@ -327,14 +472,14 @@ idle_all s idle high =
     counts : (a m n : ℕ) → n - m ≡ 0 → a ≡ m → m ≤ n → a ≡ n
     counts a m n none all high = omega arith
 
--- an end that is Up isn't out
-up_of : (c : Settings) (s : Station) (e : End (List ℕ)) → FitsEnd c s e → is_up s.phase ≡ true → AsUp c s e
-up_of c s e (inl u) up = u
-up_of c s e (inr away) up = not_both (is_up s.phase) up (out_is_not_up s.phase away.out)
+-- an end that is Up isn't away
+up_of : (MayAsk : Type 0) (c : Settings) (s : Station) (e : End (List ℕ)) → FitsEnd MayAsk c s e → is_up s.phase ≡ true → AsUp c s e
+up_of MayAsk c s e (inl u) up = u
+up_of MayAsk c s e (inr away) up = not_both (is_up s.phase) up (away_is_not_up MayAsk s.phase away.away)
 
-in_order : (c : Settings) (giver taker : StationEnd) (e : End (List ℕ)) (taken : List (List ℕ)) (there back : List (Frame (List ℕ)))
-    → FitsEnd c giver.station e → Way e taken there back → giver.down ≡ e.given → taker.up ≡ taken → InOrder giver taker
-in_order c giver taker e taken there back fits way is_down is_up_list =
+in_order : (MayAsk : Type 0) (c : Settings) (giver taker : StationEnd) (e : End (List ℕ)) (taken : List (List ℕ)) (there back : List (Frame (List ℕ)))
+    → FitsEnd MayAsk c giver.station e → Way e taken there back → giver.down ≡ e.given → taker.up ≡ taken → InOrder giver taker
+in_order MayAsk c giver taker e taken there back fits way is_down is_up_list =
     let down = giver.down in
     let up = taker.up in
     let bounds = Way-acked e taken there back way in
@@ -347,7 +492,7 @@ in_order c giver taker e taken there back fits way is_down is_up_list =
       idle = all;
     }
   where
-    acked : FitsEnd c giver.station e → taker.up ≡ take (length taker.up) giver.down → Begins (take giver.station.outgoing.acked giver.down) taker.up
+    acked : FitsEnd MayAsk c giver.station e → taker.up ≡ take (length taker.up) giver.down → Begins (take giver.station.outgoing.acked giver.down) taker.up
     acked (inl u) begins =
         let bounds = Way-acked e taken there back way in
         let count = ap length is_up_list in
@@ -359,63 +504,84 @@ in_order c giver taker e taken there back fits way is_down is_up_list =
 
     all : is_idle giver.station ≡ true → taker.up ≡ giver.down
     all idle =
-        let u = up_of c giver.station e fits (both_true _ _ idle).0 in
+        let u = up_of MayAsk c giver.station e fits (both_true _ _ idle).0 in
         let bounds = Way-acked e taken there back way in
         let acked = idle_all giver.station idle u.sound.sent_high in
         let acked_same = ap (λ (z : Window). z.acked) u.same in
         let given_same = ap (λ (z : Window). length z.given) u.same in
         is_up_list ∙ way.begins ∙ take_all (length taken) e.given (omega (arith, bounds.0, acked, acked_same, given_same)) ∙ sym is_down
 
-has_lists : (c : Settings) (giver : StationEnd) (e : End (List ℕ)) → FitsEnd c giver.station e → giver.down ≡ e.given → giver.up ≡ e.taken → HasItsLists giver
-has_lists c giver e fits is_down is_up_list =
+has_lists : (MayAsk : Type 0) (c : Settings) (giver : StationEnd) (e : End (List ℕ)) → FitsEnd MayAsk c giver.station e → giver.down ≡ e.given → giver.up ≡ e.taken → HasItsLists giver
+has_lists MayAsk c giver e fits is_down is_up_list =
     record {
-      given = λ is_on. ap (λ (z : Window). z.given) (up_of c giver.station e fits is_on).same ∙ sym is_down;
-      taken = λ is_on. ap (λ (z : Window). z.taken) (up_of c giver.station e fits is_on).same ∙ sym is_up_list;
+      given = λ is_on. ap (λ (z : Window). z.given) (up_of MayAsk c giver.station e fits is_on).same ∙ sym is_down;
+      taken = λ is_on. ap (λ (z : Window). z.taken) (up_of MayAsk c giver.station e fits is_on).same ∙ sym is_up_list;
       empty = empty fits;
     }
   where
-    empty : FitsEnd c giver.station e → is_up giver.station.phase ≡ false → lists_of giver.station ≡ no_packets
+    empty : FitsEnd MayAsk c giver.station e → is_up giver.station.phase ≡ false → lists_of giver.station ≡ no_packets
     empty (inl u) off = not_both (is_up giver.station.phase) u.up off
     empty (inr away) off = away.empty
 
+notes_end : (e : StationEnd) → NotesOnce (Unit {0}) e → NotesItsEnd e
+notes_end e h = record { still_up = h.still_up; left = λ off. (let l = h.left off in (l.reason, l.again, l.all)) }
+
+-- nobody asked
+one_ending : (e : StationEnd) → NotesOnce ⊥ e → length e.reasons ≤ 1
+one_ending e h = by (is_up e.station.phase) refl
+  where
+    few : (again : ℕ) → (1 ≤ again → ⊥) → length (replicate again Retries) ≡ 0
+    few zero never = refl
+    few (suc n) never = absurd (never (omega arith))
+
+    by : (b : Bool) → is_up e.station.phase ≡ b → length e.reasons ≤ 1
+    by true on =
+        let none = ap length (h.still_up on) in
+        omega (arith, none)
+    by false off =
+        let l = h.left off in
+        let all = ap length l.all in
+        let none = few l.again l.asked in
+        omega (arith, all, none)
+
 module _ (reads : ReadsSpelled) (laws : Laws) where
-  reached : Always Holds
-  reached c d joined events = run_joint c d joined reads laws events start (start_joint c d joined)
+  reached : Always (Holds (Unit {0}))
+  reached c d joined events once = run_once c d joined reads laws events start (start_joint (Unit {0}) c d joined) once
 
   pub keeps_order : Always BothInOrder
-  keeps_order c d joined events =
+  keeps_order c d joined events once =
       let w = run c d events start in
-      let holds = reached c d joined events in
+      let holds = reached c d joined events once in
       let l = holds.0 in
       let h = holds.1 in (
-        in_order c w.near w.far l.near l.far.taken l.out l.back h.near h.kept.from_near h.near_down h.far_up,
-        in_order d w.far w.near l.far l.near.taken l.back l.out h.far h.kept.from_far h.far_down h.near_up,
+        in_order (Unit {0}) c w.near w.far l.near l.far.taken l.out l.back h.near h.kept.from_near h.near_down h.far_up,
+        in_order (Unit {0}) d w.far w.near l.far l.near.taken l.back l.out h.far h.kept.from_far h.far_down h.near_up,
       )
 
   pub keeps_lists : Always BothHaveTheirLists
-  keeps_lists c d joined events =
+  keeps_lists c d joined events once =
       let w = run c d events start in
-      let holds = reached c d joined events in
+      let holds = reached c d joined events once in
       let l = holds.0 in
       let h = holds.1 in
-      (has_lists c w.near l.near h.near h.near_down h.near_up, has_lists d w.far l.far h.far h.far_down h.far_up)
+      (has_lists (Unit {0}) c w.near l.near h.near h.near_down h.near_up, has_lists (Unit {0}) d w.far l.far h.far h.far_down h.far_up)
 
   pub keeps_notes : Always BothNoteTheirEnds
-  keeps_notes c d joined events =
-      let h = (reached c d joined events).1 in
-      (h.near_notes, h.far_notes)
+  keeps_notes c d joined events once =
+      let h = (reached c d joined events once).1 in
+      (notes_end (run c d events start).near h.near_notes, notes_end (run c d events start).far h.far_notes)
 
   pub keeps_window : Always AreInWindow
-  keeps_window c d joined events =
+  keeps_window c d joined events once =
       let w = run c d events start in
-      let holds = reached c d joined events in
+      let holds = reached c d joined events once in
       let l = holds.0 in
       let h = holds.1 in (
         l,
         record {
           reached = h.reached;
-          near = record { given = h.near_down; taken = h.near_up; numbers = λ is_on. (up_of c w.near.station l.near h.near is_on).same };
-          far = record { given = h.far_down; taken = h.far_up; numbers = λ is_on. (up_of d w.far.station l.far h.far is_on).same };
+          near = record { given = h.near_down; taken = h.near_up; numbers = λ is_on. (up_of (Unit {0}) c w.near.station l.near h.near is_on).same };
+          far = record { given = h.far_down; taken = h.far_up; numbers = λ is_on. (up_of (Unit {0}) d w.far.station l.far h.far is_on).same };
           out = h.out;
           back = h.back;
           window = InWindow-from_Kept l h.kept;
@@ -423,9 +589,15 @@ module _ (reads : ReadsSpelled) (laws : Laws) where
       )
 
   pub sends_no_frmr : Always NoFrmrSent
-  sends_no_frmr c d joined events = (reached c d joined events).1.no_frmr
+  sends_no_frmr c d joined events once = (reached c d joined events once).1.no_frmr
 
   pub sends_whole : Always AllSentAreWhole
-  sends_whole c d joined events =
+  sends_whole c d joined events once =
       let w = run c d events start in
-      subst (λ (n : ℕ). AreWhole n (w.near.down ++ w.far.down) w.sent) (sym joined.longest) (reached c d joined events).1.whole
+      subst (λ (n : ℕ). AreWhole n (w.near.down ++ w.far.down) w.sent) (sym joined.longest) (reached c d joined events once).1.whole
+
+  pub stays_one_link : OneLinkUnlessConnected
+  stays_one_link c d joined events none =
+      let w = run c d events start in
+      let h = (run_unasked c d joined reads laws events start (start_joint ⊥ c d joined) none).1 in
+      record { once = record { near = h.near_notes.once; far = h.far_notes.once }; near = one_ending w.near h.near_notes; far = one_ending w.far h.far_notes }

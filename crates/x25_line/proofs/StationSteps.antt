@@ -1,7 +1,8 @@
 -- What holds of two stations and the window machine behind the line, and that a step of the near end keeps it.
-use Rattle.std.proofs.Common.{◌≡◌, ℕ, ◌%◌, List, [], ◌∷◌, ◌++◌, ◌⊎◌, inl, inr, length, map, remove, Bool, true, false, Option, Some, None, Result, Ok, Err, refl, sym, ap, ◌∙◌, subst, append-nil}
-use Rattle.std.specs.Prelude.{option_to_list, ◌||◌}
+use Rattle.std.proofs.Common.{◌≡◌, ℕ, ◌+◌, ◌%◌, arith, List, [], ◌∷◌, ◌++◌, ◌⊎◌, inl, inr, length, map, remove, Bool, true, false, Option, Some, None, Result, Ok, Err, refl, sym, ap, ◌∙◌, subst, append-nil}
+use Rattle.std.specs.Prelude.{◌≤◌, option_to_list, replicate, ◌||◌}
 use Rattle.std.proofs.lemmas.Bool.{le-leb}
+use Rattle.std.proofs.lemmas.List.{replicate_more}
 use Rattle.x25_bits.specs.declared.role.Role.{Role}
 use Rattle.x25_frame.specs.PlainFrame.{PlainFrame, info, rr, rnr, rej, sabm, disc, ua, dm, frmr}
 use Rattle.x25_frame.specs.Spelling.{spelling_of}
@@ -21,20 +22,33 @@ use Rattle.x25_link.specs.Outgoing.{Outgoing, no_packet}
 use Rattle.x25_link.specs.Station.{Settings, Station, is_up, lists_of}
 use Rattle.x25_link.specs.MustSend.{Step, other}
 use Rattle.x25_link.specs.WindowMachine.{Window, Input, receives, nothing, Shows, ShowAll}
-use Rattle.x25_link.specs.WindowLaw.{IsSound, window_of, brought_by, after_input, MayHandUp, if_valid, ending_of, ends_in, AreLast, Stays, Ends, Follows, IsOut, AreDeclining, StaysOut}
+use Rattle.x25_link.specs.WindowLaw.{IsSound, window_of, brought_by, after_input, MayHandUp, if_valid, ending_of, ends_in, AreLast, Stays, Ends, Follows, IsOut, AreDeclining}
 use Rattle.x25_line.specs.Line.{Line, MayTake, FrontMayBeTaken, arrived, front_arrived, takes_item}
 use Rattle.x25_line.specs.Line.Move.{Arrives, Loses}
-use Rattle.x25_line.specs.Stations.{Stations, after_step}
-use Rattle.x25_line.specs.StationClaims.{AreJoined, IsReached, near_moves, number_in, numbered_on, NotesItsEnd, NoFrmr, AreWhole}
+use Rattle.x25_line.specs.Stations.{StationEnd, Stations, after_step}
+use Rattle.x25_line.specs.StationClaims.{AreJoined, IsReached, near_moves, number_in, numbered_on, NoFrmr, AreWhole}
 use Rattle.x25_line.proofs.Kept.{Kept, Way, Kept-moved, hears_valid}
 use Rattle.x25_line.proofs.StationLines.{shows_append, Front, front_of, carried_of, IsOrderly, AreOrderly, consed, numbered_append, orderly_append, AllGood, AreParting, no_frmr_append, good_no_frmr, parting_no_frmr, good_numbered, good_orderly, parting_numbered, parting_orderly, AllHandedDown, whole_more, whole_append, good_whole, parting_whole, first_more}
 use Rattle.x25_line.proofs.StationSends.{AllWithin, runs_sent}
 
-pub out_is_not_up : (p : Phase) → IsOut p → is_up p ≡ false
-out_is_not_up Down h = refl
-out_is_not_up Waiting h = absurd h
-out_is_not_up Up h = absurd h
-out_is_not_up Closed h = refl
+-- Down or Closed, and Waiting where an end may ask for set-up
+abbrev pub MayBeAway : Type 0 → Phase → Type 0
+MayBeAway MayAsk Down = Unit {0}
+MayBeAway MayAsk Waiting = MayAsk
+MayBeAway MayAsk Up = ⊥
+MayBeAway MayAsk Closed = Unit {0}
+
+pub away_is_not_up : (MayAsk : Type 0) (p : Phase) → MayBeAway MayAsk p → is_up p ≡ false
+away_is_not_up MayAsk Down h = refl
+away_is_not_up MayAsk Waiting h = refl
+away_is_not_up MayAsk Up h = absurd h
+away_is_not_up MayAsk Closed h = refl
+
+pub out_is_away : (MayAsk : Type 0) (p : Phase) → IsOut p → MayBeAway MayAsk p
+out_is_away MayAsk Down h = tt
+out_is_away MayAsk Waiting h = absurd h
+out_is_away MayAsk Up h = absurd h
+out_is_away MayAsk Closed h = tt
 
 pub not_both : {A : Type 0} (b : Bool) → b ≡ true → b ≡ false → A
 not_both b e f = absurd (never (sym e ∙ f))
@@ -50,47 +64,61 @@ pub record AsUp (c : Settings) (s : Station) (e : End (List ℕ)) : Type 0 where
   pub sound : IsSound c.window s.outgoing
   pub same : window_of c.window s ≡ e
 
--- any other is out with empty lists, and its machine's end stands still
-pub record IsAway (s : Station) : Type 0 where
-  pub out : IsOut s.phase
+-- any other has empty lists, and its machine's end stands still
+pub record IsAway (MayAsk : Type 0) (s : Station) : Type 0 where
+  pub away : MayBeAway MayAsk s.phase
   pub empty : lists_of s ≡ no_packets
 
-abbrev pub FitsEnd : Settings → Station → End (List ℕ) → Type 0
-FitsEnd c s e = AsUp c s e ⊎ IsAway s
+abbrev pub FitsEnd : Type 0 → Settings → Station → End (List ℕ) → Type 0
+FitsEnd MayAsk c s e = AsUp c s e ⊎ IsAway MayAsk s
 
-pub record Joint (c d : Settings) (w : Stations) (l : Line (List ℕ)) : Type 0 where
+-- the LinkDown by which Up was left, and then one each time that an end asked in vain
+pub record AreEndings (MayAsk : Type 0) (reasons : List Reason) : Type 0 where
+  pub reason : Reason
+  pub again : ℕ
+  pub all : reasons ≡ reason ∷ replicate again Retries
+  pub asked : 1 ≤ again → MayAsk
+
+-- the link wasn't set up anew
+pub record NotesOnce (MayAsk : Type 0) (e : StationEnd) : Type 0 where
+  pub still_up : is_up e.station.phase ≡ true → e.reasons ≡ []
+  pub left : is_up e.station.phase ≡ false → AreEndings MayAsk e.reasons
+  pub once : e.came_up ≡ false
+
+-- `MayAsk` holds where an end may ask for set-up
+pub record Joint (MayAsk : Type 0) (c d : Settings) (w : Stations) (l : Line (List ℕ)) : Type 0 where
   pub reached : IsReached c.window d.window l
   pub kept : Kept l
-  pub near : FitsEnd c w.near.station l.near
-  pub far : FitsEnd d w.far.station l.far
+  pub near : FitsEnd MayAsk c w.near.station l.near
+  pub far : FitsEnd MayAsk d w.far.station l.far
   pub out : ShowAll (numbered_on (other d.role) d.longest w.out) l.out
   pub back : ShowAll (numbered_on (other c.role) c.longest w.back) l.back
-  pub out_orderly : AreOrderly (other d.role) d.longest w.out
-  pub back_orderly : AreOrderly (other c.role) c.longest w.back
+  pub out_orderly : AreOrderly MayAsk (other d.role) d.longest w.out
+  pub back_orderly : AreOrderly MayAsk (other c.role) c.longest w.back
   pub near_down : w.near.down ≡ l.near.given
   pub near_up : w.near.up ≡ l.near.taken
   pub far_down : w.far.down ≡ l.far.given
   pub far_up : w.far.up ≡ l.far.taken
   pub near_within : AllWithin d.longest l.near.given
   pub far_within : AllWithin c.longest l.far.given
-  pub near_notes : NotesItsEnd w.near
-  pub far_notes : NotesItsEnd w.far
+  pub near_notes : NotesOnce MayAsk w.near
+  pub far_notes : NotesOnce MayAsk w.far
   pub no_frmr : NoFrmr w.sent
   pub whole : AreWhole d.longest (w.near.down ++ w.far.down) w.sent
 
-abbrev pub Holds : Settings → Settings → Stations → Type 0
-Holds c d w = (l : Line (List ℕ)) × Joint c d w l
+abbrev pub Holds : Type 0 → Settings → Settings → Stations → Type 0
+Holds MayAsk c d w = (l : Line (List ℕ)) × Joint MayAsk c d w l
 
 -- ---- what is noted
 
 -- a step that notes nothing, Up or out as before
-pub quiet_notes : (c : Settings) (w : Stations) (back down : List (List ℕ)) (step : Step) → NotesItsEnd w.near → IsQuiet step → is_up step.side.near.phase ≡ is_up w.near.station.phase
-    → NotesItsEnd (after_step c w back down step).near
-quiet_notes c w back down step h quiet same =
+pub quiet_notes : (MayAsk : Type 0) (c : Settings) (w : Stations) (back down : List (List ℕ)) (step : Step) → NotesOnce MayAsk w.near → IsQuiet step → is_up step.side.near.phase ≡ is_up w.near.station.phase
+    → NotesOnce MayAsk (after_step c w back down step).near
+quiet_notes MayAsk c w back down step h quiet same =
     let reasons = ap (λ (n : Notes). w.near.reasons ++ option_to_list n.down) quiet ∙ append-nil w.near.reasons in
     record {
       still_up = λ on. reasons ∙ h.still_up (sym same ∙ on);
-      left = λ off. (let l = h.left (sym same ∙ off) in (l.0, reasons ∙ l.1));
+      left = λ off. (let l = h.left (sym same ∙ off) in record { reason = l.reason; again = l.again; all = reasons ∙ l.all; asked = l.asked });
       once = ap (λ (n : Notes). w.near.came_up || n.up) quiet ∙ ap (λ (b : Bool). b || false) h.once;
     }
 
@@ -103,30 +131,53 @@ not_afresh s step tells off = go step.notes.up refl
     go false e = e
 
 -- a step that leaves Up
-leaving_notes : (c : Settings) (w : Stations) (back : List (List ℕ)) (step : Step) (reason : Reason) → NotesItsEnd w.near → is_up w.near.station.phase ≡ true
-    → step.notes.down ≡ Some reason → step.notes.up ≡ false → is_up step.side.near.phase ≡ false → NotesItsEnd (after_step c w back [] step).near
-leaving_notes c w back step reason h up down not_up off =
+leaving_notes : (MayAsk : Type 0) (c : Settings) (w : Stations) (back : List (List ℕ)) (step : Step) (reason : Reason) → NotesOnce MayAsk w.near → is_up w.near.station.phase ≡ true
+    → step.notes.down ≡ Some reason → step.notes.up ≡ false → is_up step.side.near.phase ≡ false → NotesOnce MayAsk (after_step c w back [] step).near
+leaving_notes MayAsk c w back step reason h up down not_up off =
     record {
       still_up = λ on. not_both (is_up step.side.near.phase) on off;
-      left = λ _. (reason, ap (λ (r : Option Reason). w.near.reasons ++ option_to_list r) down ∙ ap (λ (rs : List Reason). rs ++ reason ∷ []) (h.still_up up));
+      left = λ _. record {
+        reason = reason;
+        again = 0;
+        all = ap (λ (r : Option Reason). w.near.reasons ++ option_to_list r) down ∙ ap (λ (rs : List Reason). rs ++ reason ∷ []) (h.still_up up);
+        asked = λ never. absurd (omega arith);
+      };
+      once = ap (λ (b : Bool). w.near.came_up || b) not_up ∙ ap (λ (b : Bool). b || false) h.once;
+    }
+
+-- an end that asked in vain
+pub vain_notes : (MayAsk : Type 0) (c : Settings) (w : Stations) (back : List (List ℕ)) (step : Step) → NotesOnce MayAsk w.near → is_up w.near.station.phase ≡ false → MayAsk
+    → step.notes.down ≡ Some Retries → step.notes.up ≡ false → is_up step.side.near.phase ≡ false → NotesOnce MayAsk (after_step c w back [] step).near
+vain_notes MayAsk c w back step h away ask down not_up off =
+    let l = h.left away in
+    record {
+      still_up = λ on. not_both (is_up step.side.near.phase) on off;
+      left = λ _. record {
+        reason = l.reason;
+        again = l.again + 1;
+        all = ap (λ (r : Option Reason). w.near.reasons ++ option_to_list r) down
+            ∙ ap (λ (rs : List Reason). rs ++ Retries ∷ []) l.all
+            ∙ ap (λ (rs : List Reason). l.reason ∷ rs) (replicate_more l.again Retries);
+        asked = λ _. ask;
+      };
       once = ap (λ (b : Bool). w.near.came_up || b) not_up ∙ ap (λ (b : Bool). b || false) h.once;
     }
 
 -- ---- a step of the near end, the machine's line being `l` once what comes has come
 
-pub record Stage (c d : Settings) (w : Stations) (start l : Line (List ℕ)) (back down : List (List ℕ)) (packet : Option (List ℕ)) (v : Window) : Type 0 where
+pub record Stage (MayAsk : Type 0) (c d : Settings) (w : Stations) (start l : Line (List ℕ)) (back down : List (List ℕ)) (packet : Option (List ℕ)) (v : Window) : Type 0 where
   pub reached : IsReached c.window d.window l
   pub kept : Kept l
   pub near : l.near ≡ v
   pub far : l.far ≡ start.far
   pub out : l.out ≡ start.out
   pub left : ShowAll (numbered_on (other c.role) c.longest back) l.back
-  pub orderly : AreOrderly (other c.role) c.longest back
+  pub orderly : AreOrderly MayAsk (other c.role) c.longest back
   pub given : w.near.down ++ down ≡ v.given
   pub taken : w.near.up ++ option_to_list packet ≡ v.taken
   pub within : AllWithin d.longest v.given
 
-module _ (c d : Settings) (joined : AreJoined c d) (reads : ReadsSpelled) where
+module _ (MayAsk : Type 0) (c d : Settings) (joined : AreJoined c d) (reads : ReadsSpelled) where
   good_out : (out : List (List ℕ)) (fs : List PlainFrame) (gs hs : List (Frame (List ℕ))) → AllGood d.longest fs → ShowAll (numbered_on (other d.role) d.longest out) gs → ShowAll fs hs
       → ShowAll (numbered_on (other d.role) d.longest (out ++ map (spelling_of c.role) fs)) (gs ++ hs)
   good_out out fs gs hs good f e =
@@ -136,31 +187,31 @@ module _ (c d : Settings) (joined : AreJoined c d) (reads : ReadsSpelled) where
       (sym (numbered_append (other d.role) d.longest out (map (spelling_of c.role) fs) ∙ ap (λ (ps : List PlainFrame). numbered_on (other d.role) d.longest out ++ ps) same))
       (shows_append (numbered_on (other d.role) d.longest out) fs gs hs f e)
 
-  good_out_orderly : (out : List (List ℕ)) (fs : List PlainFrame) → AllGood d.longest fs → AreOrderly (other d.role) d.longest out
-      → AreOrderly (other d.role) d.longest (out ++ map (spelling_of c.role) fs)
+  good_out_orderly : (out : List (List ℕ)) (fs : List PlainFrame) → AllGood d.longest fs → AreOrderly MayAsk (other d.role) d.longest out
+      → AreOrderly MayAsk (other d.role) d.longest (out ++ map (spelling_of c.role) fs)
   good_out_orderly out fs good f =
-      orderly_append (other d.role) d.longest out (map (spelling_of c.role) fs) f
-      (subst (λ (r : Role). AreOrderly r d.longest (map (spelling_of c.role) fs)) (sym joined.near_role) (good_orderly reads c.role d.longest fs good))
+      orderly_append MayAsk (other d.role) d.longest out (map (spelling_of c.role) fs) f
+      (subst (λ (r : Role). AreOrderly MayAsk r d.longest (map (spelling_of c.role) fs)) (sym joined.near_role) (good_orderly reads c.role d.longest MayAsk fs good))
 
-  parting_out : (out : List (List ℕ)) (fs : List PlainFrame) (gs : List (Frame (List ℕ))) → AreParting fs → ShowAll (numbered_on (other d.role) d.longest out) gs
+  parting_out : (out : List (List ℕ)) (fs : List PlainFrame) (gs : List (Frame (List ℕ))) → AreParting MayAsk fs → ShowAll (numbered_on (other d.role) d.longest out) gs
       → ShowAll (numbered_on (other d.role) d.longest (out ++ map (spelling_of c.role) fs)) gs
   parting_out out fs gs parting f =
       let none : numbered_on (other d.role) d.longest (map (spelling_of c.role) fs) ≡ [] =
-      subst (λ (r : Role). numbered_on r d.longest (map (spelling_of c.role) fs) ≡ []) (sym joined.near_role) (parting_numbered reads c.role d.longest fs parting) in
+      subst (λ (r : Role). numbered_on r d.longest (map (spelling_of c.role) fs) ≡ []) (sym joined.near_role) (parting_numbered reads c.role d.longest MayAsk fs parting) in
       subst (λ (ps : List PlainFrame). ShowAll ps gs)
       (sym (numbered_append (other d.role) d.longest out (map (spelling_of c.role) fs) ∙ ap (λ (ps : List PlainFrame). numbered_on (other d.role) d.longest out ++ ps) none ∙ append-nil _))
       f
 
-  parting_out_orderly : (out : List (List ℕ)) (fs : List PlainFrame) → AreParting fs → AreOrderly (other d.role) d.longest out
-      → AreOrderly (other d.role) d.longest (out ++ map (spelling_of c.role) fs)
+  parting_out_orderly : (out : List (List ℕ)) (fs : List PlainFrame) → AreParting MayAsk fs → AreOrderly MayAsk (other d.role) d.longest out
+      → AreOrderly MayAsk (other d.role) d.longest (out ++ map (spelling_of c.role) fs)
   parting_out_orderly out fs parting f =
-      orderly_append (other d.role) d.longest out (map (spelling_of c.role) fs) f
-      (subst (λ (r : Role). AreOrderly r d.longest (map (spelling_of c.role) fs)) (sym joined.near_role) (parting_orderly reads c.role d.longest fs parting))
+      orderly_append MayAsk (other d.role) d.longest out (map (spelling_of c.role) fs) f
+      (subst (λ (r : Role). AreOrderly MayAsk r d.longest (map (spelling_of c.role) fs)) (sym joined.near_role) (parting_orderly reads c.role d.longest MayAsk fs parting))
 
   -- a station that stays Up: what comes has come, and then it sends
-  pub J-stays : (w : Stations) (l m : Line (List ℕ)) (back down : List (List ℕ)) (input : Input) (step : Step) → Joint c d w l → is_up w.near.station.phase ≡ true
-      → Stage c d w l m back down step.packet (after_input input step.packet (window_of c.window w.near.station)) → Stays c.window input w.near.station step
-      → Holds c d (after_step c w back down step)
+  pub J-stays : (w : Stations) (l m : Line (List ℕ)) (back down : List (List ℕ)) (input : Input) (step : Step) → Joint MayAsk c d w l → is_up w.near.station.phase ≡ true
+      → Stage MayAsk c d w l m back down step.packet (after_input input step.packet (window_of c.window w.near.station)) → Stays c.window input w.near.station step
+      → Holds MayAsk c d (after_step c w back down step)
   J-stays w l m back down input step h was_up g stays =
       let v : Window = after_input input step.packet (window_of c.window w.near.station) in
       let t = runs_sent c.window d.window d.longest m v g.reached g.kept g.near g.within (window_of c.window step.side.near) step.side.out stays.sends in
@@ -170,7 +221,7 @@ module _ (c d : Settings) (joined : AreJoined c d) (reads : ReadsSpelled) where
           reached = t.reached;
           kept = t.kept;
           near = inl (record { up = stays.up; sound = stays.sound; same = sym t.near });
-          far = subst (λ (e : End (List ℕ)). FitsEnd d w.far.station e) (sym far) h.far;
+          far = subst (λ (e : End (List ℕ)). FitsEnd MayAsk d w.far.station e) (sym far) h.far;
           out = subst (λ (gs : List (Frame (List ℕ))). ShowAll (numbered_on (other d.role) d.longest (w.out ++ map (spelling_of c.role) step.side.out)) gs)
               (sym (t.out ∙ ap (λ (gs : List (Frame (List ℕ))). gs ++ t.behind) g.out)) (good_out w.out step.side.out l.out t.behind t.good h.out t.shows);
           back = subst (λ (gs : List (Frame (List ℕ))). ShowAll (numbered_on (other c.role) c.longest back) gs) (sym t.back) g.left;
@@ -182,7 +233,7 @@ module _ (c d : Settings) (joined : AreJoined c d) (reads : ReadsSpelled) where
           far_up = h.far_up ∙ ap (λ (e : End (List ℕ)). e.taken) (sym far);
           near_within = subst (AllWithin d.longest) (sym t.given ∙ ap (λ (z : Window). z.given) (sym t.near)) g.within;
           far_within = subst (λ (e : End (List ℕ)). AllWithin c.longest e.given) (sym far) h.far_within;
-          near_notes = quiet_notes c w back down step h.near_notes stays.quiet (stays.up ∙ sym was_up);
+          near_notes = quiet_notes MayAsk c w back down step h.near_notes stays.quiet (stays.up ∙ sym was_up);
           far_notes = h.far_notes;
           no_frmr = no_frmr_append w.sent step.side.out h.no_frmr (good_no_frmr d.longest step.side.out t.good);
           whole = whole_append d.longest ((w.near.down ++ down) ++ w.far.down) w.sent step.side.out
@@ -201,10 +252,10 @@ module _ (c d : Settings) (joined : AreJoined c d) (reads : ReadsSpelled) where
   abbrev come : Line (List ℕ) → Bool → Frame (List ℕ) → List (Frame (List ℕ)) → Line (List ℕ)
   come l b g gs = record { near = arrived b g l.near; far = l.far; out = l.out; back = gs }
 
-  stage_arrives : (w : Stations) (l : Line (List ℕ)) → Joint c d w l → (os : List (List ℕ)) → AreOrderly (other c.role) c.longest os → (g : Frame (List ℕ)) (gs : List (Frame (List ℕ))) → l.back ≡ g ∷ gs
+  stage_arrives : (w : Stations) (l : Line (List ℕ)) → Joint MayAsk c d w l → (os : List (List ℕ)) → AreOrderly MayAsk (other c.role) c.longest os → (g : Frame (List ℕ)) (gs : List (Frame (List ℕ))) → l.back ≡ g ∷ gs
       → ShowAll (numbered_on (other c.role) c.longest os) gs → (packet : Option (List ℕ)) (v : Window) → arrived (is_some packet) g l.near ≡ v
       → MayTake (is_some packet) (length l.near.taken) g.carried → v.given ≡ l.near.given → w.near.up ++ option_to_list packet ≡ v.taken
-      → Stage c d w l (come l (is_some packet) g gs) os [] packet v
+      → Stage MayAsk c d w l (come l (is_some packet) g gs) os [] packet v
   stage_arrives w l h os orderly g gs is shows packet v near ok given taken =
       let e = l.near in
       let may = subst (λ (bs : List (Frame (List ℕ))). FrontMayBeTaken (is_some packet) (length e.taken) bs) (sym is) ok in
@@ -225,17 +276,17 @@ module _ (c d : Settings) (joined : AreJoined c d) (reads : ReadsSpelled) where
   hears_same : (s : Station) (e : End (List ℕ)) (g : Frame (List ℕ)) (nr : ℕ) → window_of c.window s ≡ e → nr ≡ g.ack % 8 → after e (Hear (g.ack % 8)) ≡ after (window_of c.window s) (Hear nr)
   hears_same s e g nr same is = ap (λ (n : ℕ). after e (Hear n)) (sym is) ∙ ap (λ (z : Window). after z (Hear nr)) (sym same)
 
-  tell_stage : (w : Stations) (l : Line (List ℕ)) → Joint c d w l → AsUp c w.near.station l.near → (os : List (List ℕ)) → AreOrderly (other c.role) c.longest os → (g : Frame (List ℕ)) (gs : List (Frame (List ℕ)))
+  tell_stage : (w : Stations) (l : Line (List ℕ)) → Joint MayAsk c d w l → AsUp c w.near.station l.near → (os : List (List ℕ)) → AreOrderly MayAsk (other c.role) c.longest os → (g : Frame (List ℕ)) (gs : List (Frame (List ℕ)))
       → l.back ≡ g ∷ gs → ShowAll (numbered_on (other c.role) c.longest os) gs → (nr : ℕ) → nr ≡ g.ack % 8
-      → Stage c d w l (come l false g gs) os [] None (after (window_of c.window w.near.station) (Hear nr))
+      → Stage MayAsk c d w l (come l false g gs) os [] None (after (window_of c.window w.near.station) (Hear nr))
   tell_stage w l h u os orderly g gs is shows nr number =
       stage_arrives w l h os orderly g gs is shows None (after (window_of c.window w.near.station) (Hear nr)) (hears_same w.near.station l.near g nr u.same number) tt
       (ap (λ (z : Window). z.given) u.same) (append-nil w.near.up ∙ h.near_up ∙ sym (ap (λ (z : Window). z.taken) u.same))
 
-  info_stage : (w : Stations) (l : Line (List ℕ)) → Joint c d w l → AsUp c w.near.station l.near → (os : List (List ℕ)) → AreOrderly (other c.role) c.longest os → (g : Frame (List ℕ)) (gs : List (Frame (List ℕ)))
+  info_stage : (w : Stations) (l : Line (List ℕ)) → Joint MayAsk c d w l → AsUp c w.near.station l.near → (os : List (List ℕ)) → AreOrderly MayAsk (other c.role) c.longest os → (g : Frame (List ℕ)) (gs : List (Frame (List ℕ)))
       → l.back ≡ g ∷ gs → ShowAll (numbered_on (other c.role) c.longest os) gs → (ns nr : ℕ) (p : Bool) (x : List ℕ) → Shows (info ns nr p x) g
       → (packet : Option (List ℕ)) → MayHandUp (receives (info ns nr p x)) packet (window_of c.window w.near.station)
-      → Stage c d w l (come l (is_some packet) g gs) os [] packet (after_input (receives (info ns nr p x)) packet (window_of c.window w.near.station))
+      → Stage MayAsk c d w l (come l (is_some packet) g gs) os [] packet (after_input (receives (info ns nr p x)) packet (window_of c.window w.near.station))
   info_stage w l h u os orderly g gs is shows ns nr p x shown None up = tell_stage w l h u os orderly g gs is shows nr shown.1
   info_stage w l h u os orderly g gs is shows ns nr p x shown (Some y) up =
       let e = l.near in
@@ -250,7 +301,7 @@ module _ (c d : Settings) (joined : AreJoined c d) (reads : ReadsSpelled) where
       (ap (λ (xs : List (List ℕ)). xs ++ y ∷ []) (h.near_up ∙ sym (ap (λ (z : Window). z.taken) u.same)))
 
   -- an N(R) that comes is valid, so that no FRMR is due
-  valid_at : (w : Stations) (l : Line (List ℕ)) → Joint c d w l → AsUp c w.near.station l.near → (g : Frame (List ℕ)) (gs : List (Frame (List ℕ))) → l.back ≡ g ∷ gs → (nr : ℕ) → nr ≡ g.ack % 8
+  valid_at : (w : Stations) (l : Line (List ℕ)) → Joint MayAsk c d w l → AsUp c w.near.station l.near → (g : Frame (List ℕ)) (gs : List (Frame (List ℕ))) → l.back ≡ g ∷ gs → (nr : ℕ) → nr ≡ g.ack % 8
       → if_valid nr (window_of c.window w.near.station) ≡ None
   valid_at w l h u g gs is nr number =
       let e = l.near in
@@ -259,12 +310,12 @@ module _ (c d : Settings) (joined : AreJoined c d) (reads : ReadsSpelled) where
       let there : if_valid (g.ack % 8) e ≡ None = rw (valid.0, le-leb g.ack e.sent valid.2) refl in
       ap (λ (n : ℕ). if_valid n (window_of c.window w.near.station)) number ∙ ap (λ (z : Window). if_valid (g.ack % 8) z) u.same ∙ there
 
-  numbered_joint : (w : Stations) (l : Line (List ℕ)) → Joint c d w l → AsUp c w.near.station l.near → (os : List (List ℕ)) (f : PlainFrame) (nr : ℕ) (step : Step)
+  numbered_joint : (w : Stations) (l : Line (List ℕ)) → Joint MayAsk c d w l → AsUp c w.near.station l.near → (os : List (List ℕ)) (f : PlainFrame) (nr : ℕ) (step : Step)
       (front : Front f (numbered_on (other c.role) c.longest os) l.back)
       → nr ≡ front.frame.ack % 8 → Follows (if_valid nr (window_of c.window w.near.station)) c.window (receives f) w.near.station step
       → ((packet : Option (List ℕ)) → MayHandUp (receives f) packet (window_of c.window w.near.station)
-      → Stage c d w l (come l (is_some packet) front.frame front.others) os [] packet (after_input (receives f) packet (window_of c.window w.near.station)))
-      → Holds c d (after_step c w os [] step)
+      → Stage MayAsk c d w l (come l (is_some packet) front.frame front.others) os [] packet (after_input (receives f) packet (window_of c.window w.near.station)))
+      → Holds MayAsk c d (after_step c w os [] step)
   numbered_joint w l h u os f nr step front number follows stage =
       let valid = valid_at w l h u front.frame front.others front.is nr number in
       let stays : Stays c.window (receives f) w.near.station step = subst (λ (o : Option Reason). Follows o c.window (receives f) w.near.station step) valid follows in
@@ -272,8 +323,8 @@ module _ (c d : Settings) (joined : AreJoined c d) (reads : ReadsSpelled) where
 
   -- ---- steps that bring nothing, and steps that leave
 
-  quiet_stage : (w : Stations) (l : Line (List ℕ)) → Joint c d w l → AsUp c w.near.station l.near → (os : List (List ℕ)) → AreOrderly (other c.role) c.longest os → ShowAll (numbered_on (other c.role) c.longest os) l.back
-      → (packet : Option (List ℕ)) → packet ≡ None → Stage c d w l l os [] packet (window_of c.window w.near.station)
+  quiet_stage : (w : Stations) (l : Line (List ℕ)) → Joint MayAsk c d w l → AsUp c w.near.station l.near → (os : List (List ℕ)) → AreOrderly MayAsk (other c.role) c.longest os → ShowAll (numbered_on (other c.role) c.longest os) l.back
+      → (packet : Option (List ℕ)) → packet ≡ None → Stage MayAsk c d w l l os [] packet (window_of c.window w.near.station)
   quiet_stage w l h u os orderly shows packet none =
       record {
         reached = h.reached;
@@ -292,21 +343,21 @@ module _ (c d : Settings) (joined : AreJoined c d) (reads : ReadsSpelled) where
   no_packet_of input None v never up = refl
   no_packet_of input (Some y) v never up = absurd (never y up)
 
-  pub quiet_joint : (w : Stations) (l : Line (List ℕ)) → Joint c d w l → AsUp c w.near.station l.near → (os : List (List ℕ)) → AreOrderly (other c.role) c.longest os → ShowAll (numbered_on (other c.role) c.longest os) l.back
+  pub quiet_joint : (w : Stations) (l : Line (List ℕ)) → Joint MayAsk c d w l → AsUp c w.near.station l.near → (os : List (List ℕ)) → AreOrderly MayAsk (other c.role) c.longest os → ShowAll (numbered_on (other c.role) c.longest os) l.back
       → (input : Input) (step : Step) → after_input input step.packet (window_of c.window w.near.station) ≡ window_of c.window w.near.station
       → ((y : List ℕ) → MayHandUp input (Some y) (window_of c.window w.near.station) → ⊥)
-      → Stays c.window input w.near.station step → Holds c d (after_step c w os [] step)
+      → Stays c.window input w.near.station step → Holds MayAsk c d (after_step c w os [] step)
   quiet_joint w l h u os orderly shows input step same never stays =
       J-stays w l l os [] input step h u.up
-      (subst (λ (v : Window). Stage c d w l l os [] step.packet v) (sym same)
+      (subst (λ (v : Window). Stage MayAsk c d w l l os [] step.packet v) (sym same)
       (quiet_stage w l h u os orderly shows step.packet (no_packet_of input step.packet (window_of c.window w.near.station) never stays.hands_up))) stays
 
   -- a station that leaves or is out: a numbered frame that comes to it is lost to the machine
-  pub parts_joint : (w : Stations) (l : Line (List ℕ)) → Joint c d w l → (gs : List (Frame (List ℕ))) (os : List (List ℕ)) (step : Step)
+  pub parts_joint : (w : Stations) (l : Line (List ℕ)) → Joint MayAsk c d w l → (gs : List (Frame (List ℕ))) (os : List (List ℕ)) (step : Step)
       → Kept (record { near = l.near; far = l.far; out = l.out; back = gs }) → IsReached c.window d.window (record { near = l.near; far = l.far; out = l.out; back = gs })
-      → ShowAll (numbered_on (other c.role) c.longest os) gs → AreOrderly (other c.role) c.longest os
-      → AreParting step.side.out → IsAway step.side.near → step.packet ≡ None → NotesItsEnd (after_step c w os [] step).near
-      → Holds c d (after_step c w os [] step)
+      → ShowAll (numbered_on (other c.role) c.longest os) gs → AreOrderly MayAsk (other c.role) c.longest os
+      → AreParting MayAsk step.side.out → IsAway MayAsk step.side.near → step.packet ≡ None → NotesOnce MayAsk (after_step c w os [] step).near
+      → Holds MayAsk c d (after_step c w os [] step)
   parts_joint w l h gs os step kept reached shows orderly parting away none notes = (
     record { near = l.near; far = l.far; out = l.out; back = gs },
     record {
@@ -326,10 +377,10 @@ module _ (c d : Settings) (joined : AreJoined c d) (reads : ReadsSpelled) where
       far_within = h.far_within;
       near_notes = notes;
       far_notes = h.far_notes;
-      no_frmr = no_frmr_append w.sent step.side.out h.no_frmr (parting_no_frmr step.side.out parting);
+      no_frmr = no_frmr_append w.sent step.side.out h.no_frmr (parting_no_frmr MayAsk step.side.out parting);
       whole = whole_append d.longest ((w.near.down ++ []) ++ w.far.down) w.sent step.side.out
           (whole_more d.longest (w.near.down ++ w.far.down) ((w.near.down ++ []) ++ w.far.down) (first_more w.near.down w.far.down []) w.sent h.whole)
-          (parting_whole d.longest ((w.near.down ++ []) ++ w.far.down) step.side.out parting);
+          (parting_whole MayAsk d.longest ((w.near.down ++ []) ++ w.far.down) step.side.out parting);
     },
   )
 
@@ -344,7 +395,7 @@ module _ (c d : Settings) (joined : AreJoined c d) (reads : ReadsSpelled) where
   Leaves Local = Unit {0}
   Leaves Counts = Unit {0}
 
-  last_parting : (reason : Reason) (fs : List PlainFrame) → Leaves reason → AreLast reason fs → AreParting fs
+  last_parting : (reason : Reason) (fs : List PlainFrame) → Leaves reason → AreLast reason fs → AreParting MayAsk fs
   last_parting Retries fs l h = rw h tt
   last_parting Disc fs l h = rw h.1 tt
   last_parting Dm fs l h = rw h tt
@@ -354,48 +405,48 @@ module _ (c d : Settings) (joined : AreJoined c d) (reads : ReadsSpelled) where
   last_parting Local fs l h = rw h tt
   last_parting Counts fs l h = rw h tt
 
-  last_out : (reason : Reason) (p : Phase) → Leaves reason → p ≡ ends_in reason → IsOut p
-  last_out Retries p l h = rw h tt
-  last_out Disc p l h = rw h tt
-  last_out Dm p l h = rw h tt
-  last_out FrmrSent p l h = absurd l
-  last_out FrmrGot p l h = rw h tt
-  last_out Reset p l h = absurd l
-  last_out Local p l h = rw h tt
-  last_out Counts p l h = rw h tt
+  last_away : (reason : Reason) (p : Phase) → Leaves reason → p ≡ ends_in reason → MayBeAway MayAsk p
+  last_away Retries p l h = rw h tt
+  last_away Disc p l h = rw h tt
+  last_away Dm p l h = rw h tt
+  last_away FrmrSent p l h = absurd l
+  last_away FrmrGot p l h = rw h tt
+  last_away Reset p l h = absurd l
+  last_away Local p l h = rw h tt
+  last_away Counts p l h = rw h tt
 
   empty_lists : (o : Outgoing) (taken : List (List ℕ)) → o ≡ no_packet → taken ≡ [] → record { given = o.given; acked = o.acked; taken = taken } ≡ no_packets
   empty_lists o taken none nothing_taken = rw (none, nothing_taken) refl
 
-  pub ends_joint : (w : Stations) (l : Line (List ℕ)) → Joint c d w l → is_up w.near.station.phase ≡ true → (os : List (List ℕ)) (step : Step) (reason : Reason) → Leaves reason
-      → ShowAll (numbered_on (other c.role) c.longest os) l.back → AreOrderly (other c.role) c.longest os
-      → Tells w.near.station step → Ends reason step → Holds c d (after_step c w os [] step)
+  pub ends_joint : (w : Stations) (l : Line (List ℕ)) → Joint MayAsk c d w l → is_up w.near.station.phase ≡ true → (os : List (List ℕ)) (step : Step) (reason : Reason) → Leaves reason
+      → ShowAll (numbered_on (other c.role) c.longest os) l.back → AreOrderly MayAsk (other c.role) c.longest os
+      → Tells w.near.station step → Ends reason step → Holds MayAsk c d (after_step c w os [] step)
   ends_joint w l h up os step reason leaves shows orderly tells ends =
-      let out = last_out reason step.side.near.phase leaves ends.phase in
-      let off = out_is_not_up step.side.near.phase out in
+      let away = last_away reason step.side.near.phase leaves ends.phase in
+      let off = away_is_not_up MayAsk step.side.near.phase away in
       parts_joint w l h l.back os step h.kept h.reached shows orderly (last_parting reason step.side.out leaves ends.frames)
-      (record { out = out; empty = empty_lists step.side.near.outgoing step.side.near.taken ends.outgoing ends.taken }) ends.packet
-      (leaving_notes c w os step reason h.near_notes up ends.noted (not_afresh w.near.station step tells off) off)
+      (record { away = away; empty = empty_lists step.side.near.outgoing step.side.near.taken ends.outgoing ends.taken }) ends.packet
+      (leaving_notes MayAsk c w os step reason h.near_notes up ends.noted (not_afresh w.near.station step tells off) off)
 
   -- ---- what comes, by what it reads as
 
-  told_joint : (w : Stations) (l : Line (List ℕ)) → Joint c d w l → AsUp c w.near.station l.near → (os : List (List ℕ)) (f : PlainFrame) (nr : ℕ) (step : Step)
-      → AreOrderly (other c.role) c.longest os → (front : Front f (numbered_on (other c.role) c.longest os) l.back) → nr ≡ front.frame.ack % 8
+  told_joint : (w : Stations) (l : Line (List ℕ)) → Joint MayAsk c d w l → AsUp c w.near.station l.near → (os : List (List ℕ)) (f : PlainFrame) (nr : ℕ) (step : Step)
+      → AreOrderly MayAsk (other c.role) c.longest os → (front : Front f (numbered_on (other c.role) c.longest os) l.back) → nr ≡ front.frame.ack % 8
       → Follows (if_valid nr (window_of c.window w.near.station)) c.window (receives f) w.near.station step
       → ((packet : Option (List ℕ)) → after_input (receives f) packet (window_of c.window w.near.station) ≡ after (window_of c.window w.near.station) (Hear nr))
       → ((y : List ℕ) → MayHandUp (receives f) (Some y) (window_of c.window w.near.station) → ⊥)
-      → Holds c d (after_step c w os [] step)
+      → Holds MayAsk c d (after_step c w os [] step)
   told_joint w l h u os f nr step orderly front number follows hears never =
       numbered_joint w l h u os f nr step front number follows
-      (λ packet up. subst (λ (v : Window). Stage c d w l (come l (is_some packet) front.frame front.others) os [] packet v) (sym (hears packet)) (stage packet (no_packet_of (receives f) packet (window_of c.window w.near.station) never up)))
+      (λ packet up. subst (λ (v : Window). Stage MayAsk c d w l (come l (is_some packet) front.frame front.others) os [] packet v) (sym (hears packet)) (stage packet (no_packet_of (receives f) packet (window_of c.window w.near.station) never up)))
     where
-      stage : (packet : Option (List ℕ)) → packet ≡ None → Stage c d w l (come l (is_some packet) front.frame front.others) os [] packet (after (window_of c.window w.near.station) (Hear nr))
+      stage : (packet : Option (List ℕ)) → packet ≡ None → Stage MayAsk c d w l (come l (is_some packet) front.frame front.others) os [] packet (after (window_of c.window w.near.station) (Hear nr))
       stage packet none = rw none (tell_stage w l h u os orderly front.frame front.others front.is front.rest_shows nr number)
 
-  pub read_joint : (w : Stations) (l : Line (List ℕ)) → Joint c d w l → AsUp c w.near.station l.near → (r : Result PlainFrame FrameError) (os : List (List ℕ)) (step : Step)
-      → IsOrderly r → AreOrderly (other c.role) c.longest os → ShowAll (consed (number_in r) (numbered_on (other c.role) c.longest os)) l.back
+  pub read_joint : (w : Stations) (l : Line (List ℕ)) → Joint MayAsk c d w l → AsUp c w.near.station l.near → (r : Result PlainFrame FrameError) (os : List (List ℕ)) (step : Step)
+      → IsOrderly ⊥ r → AreOrderly MayAsk (other c.role) c.longest os → ShowAll (consed (number_in r) (numbered_on (other c.role) c.longest os)) l.back
       → Tells w.near.station step → Follows (ending_of r (window_of c.window w.near.station)) c.window (brought_by r) w.near.station step
-      → Holds c d (after_step c w os [] step)
+      → Holds MayAsk c d (after_step c w os [] step)
   read_joint w l h u (Ok (info ns nr p x)) os step good orderly shows tells follows =
       let front = front_of (info ns nr p x) (numbered_on (other c.role) c.longest os) l.back shows in
       numbered_joint w l h u os (info ns nr p x) nr step front front.shows.1 follows (info_stage w l h u os orderly front.frame front.others front.is front.rest_shows ns nr p x front.shows)
@@ -420,9 +471,24 @@ module _ (c d : Settings) (joined : AreJoined c d) (reads : ReadsSpelled) where
   read_joint w l h u (Err (NoInfoAllowed control)) os step good orderly shows tells follows = absurd good
   read_joint w l h u (Err TooLong) os step good orderly shows tells follows = absurd good
 
-  -- ---- what comes to an end that is out
+  -- ---- what comes to an end that isn't Up
 
-  declining_parting : (fs : List PlainFrame) → AreDeclining fs → AreParting fs
+  pub away_joint : (w : Stations) (l : Line (List ℕ)) → Joint MayAsk c d w l → (m : Option PlainFrame) (os : List (List ℕ)) (step : Step) → AreOrderly MayAsk (other c.role) c.longest os
+      → ShowAll (consed m (numbered_on (other c.role) c.longest os)) l.back → AreParting MayAsk step.side.out → IsAway MayAsk step.side.near → step.packet ≡ None → IsQuiet step
+      → is_up w.near.station.phase ≡ false → Holds MayAsk c d (after_step c w os [] step)
+  away_joint w l h None os step orderly shows parting away none quiet was_away =
+      parts_joint w l h l.back os step h.kept h.reached shows orderly parting away none
+      (quiet_notes MayAsk c w os [] step h.near_notes quiet (away_is_not_up MayAsk step.side.near.phase away.away ∙ sym was_away))
+  away_joint w l h (Some f) os step orderly shows parting away none quiet was_away =
+      let front = front_of f (numbered_on (other c.role) c.longest os) l.back shows in
+      let left : (List (Frame (List ℕ))) → Line (List ℕ) = λ bs. record { near = l.near; far = l.far; out = l.out; back = remove bs 0 } in
+      parts_joint w l h front.others os step
+      (subst (λ (bs : List (Frame (List ℕ))). Kept (left bs)) front.is (Kept-moved (Loses 0) l tt h.kept))
+      (subst (λ (bs : List (Frame (List ℕ))). IsReached c.window d.window (left bs)) front.is (near_moves l (Loses 0) h.reached tt))
+      front.rest_shows orderly parting away none
+      (quiet_notes MayAsk c w os [] step h.near_notes quiet (away_is_not_up MayAsk step.side.near.phase away.away ∙ sym was_away))
+
+  pub declining_parting : (fs : List PlainFrame) → AreDeclining fs → AreParting MayAsk fs
   declining_parting [] h = tt
   declining_parting (dm f ∷ fs) h = declining_parting fs h
   declining_parting (info ns nr p x ∷ fs) h = absurd h
@@ -433,18 +499,3 @@ module _ (c d : Settings) (joined : AreJoined c d) (reads : ReadsSpelled) where
   declining_parting (disc p ∷ fs) h = absurd h
   declining_parting (ua f ∷ fs) h = absurd h
   declining_parting (frmr f why ∷ fs) h = absurd h
-
-  pub out_joint : (w : Stations) (l : Line (List ℕ)) → Joint c d w l → (m : Option PlainFrame) (os : List (List ℕ)) (step : Step) → AreOrderly (other c.role) c.longest os
-      → ShowAll (consed m (numbered_on (other c.role) c.longest os)) l.back → StaysOut step → lists_of step.side.near ≡ no_packets → is_up w.near.station.phase ≡ false
-      → Holds c d (after_step c w os [] step)
-  out_joint w l h None os step orderly shows stays empty was_out =
-      parts_joint w l h l.back os step h.kept h.reached shows orderly (declining_parting step.side.out stays.frames) (record { out = stays.out; empty = empty }) stays.packet
-      (quiet_notes c w os [] step h.near_notes stays.quiet (out_is_not_up step.side.near.phase stays.out ∙ sym was_out))
-  out_joint w l h (Some f) os step orderly shows stays empty was_out =
-      let front = front_of f (numbered_on (other c.role) c.longest os) l.back shows in
-      let left : (List (Frame (List ℕ))) → Line (List ℕ) = λ bs. record { near = l.near; far = l.far; out = l.out; back = remove bs 0 } in
-      parts_joint w l h front.others os step
-      (subst (λ (bs : List (Frame (List ℕ))). Kept (left bs)) front.is (Kept-moved (Loses 0) l tt h.kept))
-      (subst (λ (bs : List (Frame (List ℕ))). IsReached c.window d.window (left bs)) front.is (near_moves l (Loses 0) h.reached tt))
-      front.rest_shows orderly (declining_parting step.side.out stays.frames) (record { out = stays.out; empty = empty }) stays.packet
-      (quiet_notes c w os [] step h.near_notes stays.quiet (out_is_not_up step.side.near.phase stays.out ∙ sym was_out))

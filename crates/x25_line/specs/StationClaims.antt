@@ -1,5 +1,5 @@
--- What holds of two link stations and the line between them after each list of events, the link set up once.
-use Rattle.std.specs.Prelude.{◌≡◌, ℕ, ◌≤◌, Bool, true, false, if◌then◌else◌, List, [], ◌∷◌, ◌++◌, take, Option, Some, None, option_to_list, Result, Ok, Err}
+-- What holds of two link stations and the line between them after each list of events, as long as the link isn't set up anew.
+use Rattle.std.specs.Prelude.{◌≡◌, ℕ, ◌≤◌, Bool, true, false, ◌||◌, if◌then◌else◌, List, [], ◌∷◌, ◌++◌, length, take, replicate, Option, Some, None, option_to_list, Result, Ok, Err}
 use Rattle.std.specs.List.{Contains}
 use Rattle.x25_bits.specs.declared.role.Role.{Role}
 use Rattle.x25_frame.specs.PlainFrame.{PlainFrame, info, rr, rnr, rej, frmr}
@@ -8,15 +8,16 @@ use Rattle.x25_frame.specs.Reading.{frame_of}
 use Rattle.x25_frame.specs.declared.error.FrameError.{FrameError}
 use Rattle.x25_window.specs.Window.{End, fresh_end}
 use Rattle.x25_link.specs.declared.phase.Reason.{Reason}
+use Rattle.x25_link.specs.declared.phase.Reason.TheVariants.{Retries}
 use Rattle.x25_link.specs.Lists.{no_packets}
 use Rattle.x25_link.specs.Station.{Settings, is_up, lists_of}
 use Rattle.x25_link.specs.MustSend.{other}
-use Rattle.x25_link.specs.Steps.{is_idle}
+use Rattle.x25_link.specs.Steps.{connect_refusal, is_idle}
 use Rattle.x25_link.specs.WindowMachine.{ShowAll}
 use Rattle.x25_link.specs.WindowLaw.{window_of}
 use Rattle.x25_line.specs.InWindow.{InWindow, Begins}
 use Rattle.x25_line.specs.Line.{Line, Move, AllowsMove, moved, swapped as line_swapped}
-use Rattle.x25_line.specs.Stations.{StationEnd, Stations, Act, Put, Deliver, Event, Near, Far, happens, run, start, swapped}
+use Rattle.x25_line.specs.Stations.{StationEnd, Stations, Act, Put, Deliver, Connect, Event, Near, Far, happens, run, start, swapped}
 
 -- the two ends of one link: one is the DTE and one the DCE, both with the same N1 and k from 1 to 7
 pub record AreJoined (c d : Settings) : Type 0 where
@@ -28,9 +29,15 @@ pub record AreJoined (c d : Settings) : Type 0 where
   pub far_low : 1 ≤ d.window
   pub far_high : d.window ≤ 7
 
--- what holds after each list of events
+-- Neither end noted LinkUp, so that the link is the one that was just set up at the start. What an end noted stays, so it was so
+-- all along.
+pub record IsSetUpOnce (w : Stations) : Type 0 where
+  pub near : w.near.came_up ≡ false
+  pub far : w.far.came_up ≡ false
+
+-- what holds after each list of events, as long as the link isn't set up anew
 abbrev pub Always : (Settings → Settings → Stations → Type 0) → Type 0
-Always Holds = (c d : Settings) → AreJoined c d → (events : List Event) → Holds c d (run c d events start)
+Always Holds = (c d : Settings) → AreJoined c d → (events : List Event) → IsSetUpOnce (run c d events start) → Holds c d (run c d events start)
 
 -- ---- order
 
@@ -53,14 +60,39 @@ pub record HasItsLists (e : StationEnd) : Type 0 where
 abbrev pub BothHaveTheirLists : Settings → Settings → Stations → Type 0
 BothHaveTheirLists c d w = HasItsLists w.near × HasItsLists w.far
 
--- an end that is Up has noted nothing, and any other LinkDown once; the link is set up once, so that none notes LinkUp
+-- An end that is Up has noted nothing. Any other has noted the LinkDown by which it left Up, and then one for want of an answer,
+-- each time that it asked for set-up in vain.
 pub record NotesItsEnd (e : StationEnd) : Type 0 where
   pub still_up : is_up e.station.phase ≡ true → e.reasons ≡ []
-  pub left : is_up e.station.phase ≡ false → (reason : Reason) × (e.reasons ≡ reason ∷ [])
-  pub once : e.came_up ≡ false
+  pub left : is_up e.station.phase ≡ false → (reason : Reason) × (again : ℕ) × (e.reasons ≡ reason ∷ replicate again Retries)
 
 abbrev pub BothNoteTheirEnds : Settings → Settings → Stations → Type 0
 BothNoteTheirEnds c d w = NotesItsEnd w.near × NotesItsEnd w.far
+
+-- ---- where no end connects
+
+abbrev pub AcceptsNoConnect : Act → Stations → Type 0
+AcceptsNoConnect Connect w = connect_refusal w.near.station.phase ≡ None → ⊥
+AcceptsNoConnect act w = Unit {0}
+
+abbrev pub AcceptsNoConnectAt : Event → Stations → Type 0
+AcceptsNoConnectAt (Near act) w = AcceptsNoConnect act w
+AcceptsNoConnectAt (Far act) w = AcceptsNoConnect act (swapped w)
+
+-- each Connect of a list is refused where it comes
+abbrev pub NoneConnects : Settings → Settings → List Event → Stations → Type 0
+NoneConnects c d [] w = Unit {0}
+NoneConnects c d (e ∷ es) w = AcceptsNoConnectAt e w × NoneConnects c d es (happens c d e w)
+
+-- the link isn't set up anew, and each end leaves Up once at most and notes no LinkDown after that
+pub record IsOneLink (w : Stations) : Type 0 where
+  pub once : IsSetUpOnce w
+  pub near : length w.near.reasons ≤ 1
+  pub far : length w.far.reasons ≤ 1
+
+-- what holds after each list of events of which none is an accepted Connect
+abbrev pub OneLinkUnlessConnected : Type 0
+OneLinkUnlessConnected = (c d : Settings) → AreJoined c d → (events : List Event) → NoneConnects c d events start → IsOneLink (run c d events start)
 
 -- ---- the window
 
@@ -133,7 +165,7 @@ AreWhole n1 given (frame ∷ frames) = IsWhole n1 given frame × AreWhole n1 giv
 abbrev pub AllSentAreWhole : Settings → Settings → Stations → Type 0
 AllSentAreWhole c d w = AreWhole c.longest (w.near.down ++ w.far.down) w.sent
 
--- ---- what one event hands up and down
+-- ---- what one event hands up and down, and what it notes
 
 -- at most one packet is handed up, and only as octets come
 abbrev pub HandsUp : Act → List (List ℕ) → List (List ℕ) → Type 0
@@ -145,9 +177,15 @@ abbrev pub HandsDown : Act → List (List ℕ) → List (List ℕ) → Type 0
 HandsDown (Put packet) old new = (accepted : Bool) × (new ≡ if accepted then old ++ packet ∷ [] else old)
 HandsDown act old new = new ≡ old
 
+-- LinkUp is noted only as octets come, and what was noted stays
+abbrev pub NotesUp : Act → Bool → Bool → Type 0
+NotesUp Deliver old new = (up : Bool) × (new ≡ (old || up))
+NotesUp act old new = new ≡ old
+
 pub record HandsOne (act : Act) (w v : Stations) : Type 0 where
   pub up : HandsUp act w.near.up v.near.up
   pub down : HandsDown act w.near.down v.near.down
+  pub came_up : NotesUp act w.near.came_up v.near.came_up
   pub far : v.far ≡ w.far
 
 abbrev pub HandsOneAt : Event → Stations → Stations → Type 0

@@ -1,10 +1,11 @@
--- Worked rows of two link stations over a line: packets move, and frames are lost and damaged.
-use Rattle.std.specs.Prelude.{◌≡◌, true, [], ◌∷◌}
+-- Worked rows of two link stations over a line: packets move, frames are lost and damaged, and ends leave and ask for set-up.
+use Rattle.std.specs.Prelude.{◌≡◌, true, false, [], ◌∷◌}
 use Rattle.x25_bits.specs.declared.role.Role.TheVariants.{Dte, Dce}
-use Rattle.x25_link.specs.declared.phase.Phase.TheVariants.{Down, Closed}
-use Rattle.x25_link.specs.Station.{Settings}
+use Rattle.x25_link.specs.declared.phase.Phase.TheVariants.{Down, Waiting, Closed}
+use Rattle.x25_link.specs.declared.phase.Reason.TheVariants.{Reset, Counts, Disc}
+use Rattle.x25_link.specs.Station.{Settings, fresh}
 use Rattle.x25_link.specs.Steps.{is_idle}
-use Rattle.x25_line.specs.Stations.{Stations, Put, Deliver, T1, Disconnect, Abandon, Lose, Damage, Near, Far, run, start}
+use Rattle.x25_line.specs.Stations.{Stations, Put, Deliver, T1, Connect, Disconnect, Abandon, Lose, Damage, Near, Far, run, start}
 
 -- the DTE is the near end
 abbrev pub dte : Settings
@@ -54,3 +55,15 @@ abbrev pub AbandonEnds : Type 0
 AbandonEnds =
     let w = run dte dce (Near Abandon ∷ Near (Put (5 ∷ [])) ∷ []) start in
     (w.near.station.phase ≡ Down) × (w.out ≡ []) × (w.near.down ≡ [])
+
+-- An end that left asks for set-up again. The other, still Up, answers UA, and the link begins afresh at both.
+abbrev pub ConnectSetsUp : Type 0
+ConnectSetsUp =
+    let w = run dte dce (Near Abandon ∷ Near Connect ∷ Far Deliver ∷ Near Deliver ∷ []) start in
+    (w.far.station ≡ fresh) × (w.far.reasons ≡ Reset ∷ []) × (w.far.came_up ≡ true) × (w.near.station ≡ fresh) × (w.near.reasons ≡ Counts ∷ []) × (w.near.came_up ≡ true)
+
+-- an end that disconnected declines, and the one that asks goes on waiting
+abbrev pub ConnectIsDeclined : Type 0
+ConnectIsDeclined =
+    let w = run dte dce (Far Disconnect ∷ Near Deliver ∷ Far Deliver ∷ Near Connect ∷ Far Deliver ∷ Near Deliver ∷ []) start in
+    (w.far.station.phase ≡ Closed) × (w.near.station.phase ≡ Waiting) × (w.near.reasons ≡ Disc ∷ []) × (w.near.came_up ≡ false) × (w.back ≡ [])

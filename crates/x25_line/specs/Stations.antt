@@ -8,10 +8,10 @@ use Rattle.x25_link.specs.declared.error.LinkError.{LinkError}
 use Rattle.x25_link.specs.declared.phase.Reason.{Reason}
 use Rattle.x25_link.specs.Station.{Settings, Station, is_up, fresh}
 use Rattle.x25_link.specs.MustSend.{Step}
-use Rattle.x25_link.specs.Steps.{take_step, put_step, put_refusal, timer_step, timer_refusal, disconnect_step, disconnect_refusal, abandon_step}
+use Rattle.x25_link.specs.Steps.{take_step, put_step, put_refusal, timer_step, timer_refusal, connect_step, connect_refusal, disconnect_step, disconnect_refusal, abandon_step}
 
 -- A station, all packets that were handed down to it and that it handed up, the reasons of each LinkDown that it noted, and
--- whether it ever noted LinkUp.
+-- whether it ever noted LinkUp, by which the link was set up anew.
 pub record StationEnd : Type 0 where
   pub station : Station
   pub down : List (List ℕ)
@@ -79,6 +79,7 @@ pub data Act : Type 0 where
   Deliver : Act
   -- timer T1 runs out
   T1 : Act
+  Connect : Act
   Disconnect : Act
   -- the link is left without a frame
   Abandon : Act
@@ -90,6 +91,7 @@ abbrev pub acts : Settings → Act → Stations → Stations
 acts c (Put packet) w = handed_down c packet w
 acts c Deliver w = delivered c w.back w
 acts c T1 w = unless (timer_refusal w.near.station) w (after_step c w w.back [] (timer_step c w.near.station))
+acts c Connect w = unless (connect_refusal w.near.station.phase) w (after_step c w w.back [] (connect_step c w.near.station))
 acts c Disconnect w = unless (disconnect_refusal w.near.station.phase) w (after_step c w w.back [] (disconnect_step c w.near.station))
 acts c Abandon w = if is_up w.near.station.phase then after_step c w w.back [] (abandon_step c w.near.station) else w
 acts c (Lose i) w = record w { back = remove w.back i }

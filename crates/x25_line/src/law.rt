@@ -1,16 +1,19 @@
 //! Two link stations over a line, as laws about their definition. Each is the contract of a function that does nothing.
-ghost use Rattle.x25_line.specs.StationClaims.{Always, BothInOrder, BothHaveTheirLists, BothNoteTheirEnds, AreInWindow, NoFrmrSent, AllSentAreWhole, EachEventHandsOne};
-ghost use Rattle.x25_line.specs.StationRows.{PacketGoes, PacketsCross, LostComesAgain, DamagedComesAgain, DisconnectEnds, AbandonEnds};
+ghost use Rattle.x25_line.specs.StationClaims.{Always, BothInOrder, BothHaveTheirLists, BothNoteTheirEnds, AreInWindow, NoFrmrSent, AllSentAreWhole, OneLinkUnlessConnected, EachEventHandsOne};
+ghost use Rattle.x25_line.specs.StationRows.{PacketGoes, PacketsCross, LostComesAgain, DamagedComesAgain, DisconnectEnds, AbandonEnds, ConnectSetsUp, ConnectIsDeclined};
 
 use x25_frame::reads_what_is_spelled;
-use x25_link::{follows_the_window, notes_what_changes};
+use x25_link::{follows_the_window, notes_what_changes, sets_up_by_rows};
 
 /// Two link stations, by the definition that a link meets call by call, joined by a line of octets that keeps order and may
-/// lose or visibly damage any frame, the link set up once: what holds after each list of events at either end.
+/// lose or visibly damage any frame, from a link just set up: what holds after each list of events at either end, Connect among
+/// them, as long as the link isn't set up anew, by which an end notes LinkUp.
 ///
 /// What one end handed up is a beginning of what the other was handed down, and the same where the giver is idle. What an
-/// end counts as acknowledged was handed up. The link never resets, the window holds all along, and no FRMR is ever sent. Each
-/// frame ever sent may be spelled, and the packet of an I frame is one that was handed down.
+/// end counts as acknowledged was handed up. The window holds all along, and no FRMR is ever sent. Each frame ever sent may be
+/// spelled, and the packet of an I frame is one that was handed down. An end that left Up noted why, and then each time that it
+/// asked for set-up in vain. Where no Connect is accepted (`once`), the link is never set up anew, and an end notes one LinkDown
+/// at most.
 pub fn stations_keep_order()
     ensures order { Always BothInOrder }
     ensures lists { Always BothHaveTheirLists }
@@ -18,19 +21,23 @@ pub fn stations_keep_order()
     ensures window { Always AreInWindow }
     ensures no_frmr { Always NoFrmrSent }
     ensures whole { Always AllSentAreWhole }
+    ensures once { OneLinkUnlessConnected }
 {
     follows_the_window();
+    sets_up_by_rows();
     notes_what_changes();
     reads_what_is_spelled();
 }
 
-/// One event hands up one packet at most, and hands down the packet that is put, at the end where it happens.
+/// One event hands up one packet at most, and hands down the packet that is put, at the end where it happens. LinkUp is noted only
+/// as octets come, and what was noted stays.
 pub fn each_event_hands_one()
     ensures { EachEventHandsOne }
 {}
 
 /// Worked rows: a packet is handed up and acknowledged, also where one comes the other way at once, and where its frame is
-/// lost or damaged and goes again. An end leaves at `disconnect` and at `abandon`.
+/// lost or damaged and goes again. An end leaves at `disconnect` and at `abandon`. At `connect` the link is set up anew, or the
+/// other end declines.
 pub fn stations_move()
     ensures goes { PacketGoes }
     ensures cross { PacketsCross }
@@ -38,6 +45,8 @@ pub fn stations_move()
     ensures damaged { DamagedComesAgain }
     ensures disconnect { DisconnectEnds }
     ensures abandon { AbandonEnds }
+    ensures connect { ConnectSetsUp }
+    ensures declined { ConnectIsDeclined }
 {
     reads_what_is_spelled();
 }

@@ -13,7 +13,7 @@ use Rattle.x25_script.specs.PlainLine.{PlainCommand, call, accept, clear, send, 
 use Rattle.x25_script.specs.Reading.{line_in}
 use Rattle.x25_script.specs.ReadingLaw.{AsksInOctets, IsInOctets, ReadsOctets}
 use Rattle.x25_program.specs.Lines.{lines_of}
-use Rattle.x25_world.specs.World.{World, OnTap, AtEnd, swapped, Act, Commands, Receives, Fires, Loses, Damages, Event, WorldOutcome, Happened, Declined, of_station, delivered, on_line, acts, swapped_back, acts_at, happens, refusal_of, after, run, AreAccepted, apart, connected, start}
+use Rattle.x25_world.specs.World.{World, OnTap, AtEnd, swapped, Act, Commands, Receives, Fires, Loses, Damages, Event, WorldOutcome, Happened, Declined, of_station, delivered, on_line, acts, swapped_back, acts_at, happens, refusal_of, after, run, AreAccepted, start, connected, established}
 use Rattle.x25_world.specs.Claims.{ActsInOctets, AreInOctets, Always}
 use Rattle.x25_sim.specs.Sayings.{Saying, enters, taps, reads_nothing, refuses}
 use Rattle.x25_sim.specs.Simulated.{Turn, and_then, step_told, told_between, turn_of, event_turn, next_end, delivered_to, drained, command_asked, line_turn, most_line, asked_in, asked_turn, turn, turns, connecting, set_up, simulated}
@@ -238,7 +238,7 @@ says_more cfg tap t rest s r = record {
   frames = λ asked. frames-append t.sayings (rest t.next).sayings ∙ ap (λ xs. xs ++ frames_in (rest t.next).sayings) (s.frames asked) ∙ sym (r.frames asked);
 }
 
-says_connecting : (tap : Bool) (w : World) → Says tap (record { next = w; sayings = told_between tap apart w })
+says_connecting : (tap : Bool) (w : World) → Says tap (record { next = w; sayings = told_between tap start w })
 says_connecting tap w = record { entries = step_entries tap w.transcript w.tap; frames = λ asked. step_frames tap w.transcript w.tap asked }
 
 turned : (tap : Bool) (w : World) (o : WorldOutcome) → (turn_of tap w o).next ≡ after w o
@@ -259,7 +259,7 @@ two_turned : (cfg : Cfg) (tap : Bool) (w : World)
     → (event_turn cfg tap to_dte (event_turn cfg tap to_dce w).next).next ≡ run cfg (to_dce ∷ to_dte ∷ []) w
 two_turned cfg tap w = event_turned cfg tap to_dte (event_turn cfg tap to_dce w).next ∙ ap (λ v. after v (happens cfg v to_dte)) (event_turned cfg tap to_dce w)
 
-up_at : (cfg : Cfg) (tap : Bool) → (set_up cfg tap).next ≡ start cfg
+up_at : (cfg : Cfg) (tap : Bool) → (set_up cfg tap).next ≡ established cfg
 unfolding set_up
 up_at cfg tap = two_turned cfg tap (connected cfg)
 
@@ -276,7 +276,7 @@ script_runs reads cfg tap script =
     let up = set_up cfg tap in
     let r = lines_run reads cfg tap (lines_of script) up.next in
     let says = says_more cfg tap up (turns cfg tap (lines_of script)) (says_up cfg tap) r in
-    let at : (turns cfg tap (lines_of script) up.next).next ≡ run cfg r.events (start cfg) = r.next ∙ ap (run cfg r.events) (up_at cfg tap) in record {
+    let at : (turns cfg tap (lines_of script) up.next).next ≡ run cfg r.events (established cfg) = r.next ∙ ap (run cfg r.events) (up_at cfg tap) in record {
       events = r.events;
       accepted = subst (AreAccepted cfg r.events) (up_at cfg tap) r.accepted;
       octets = r.octets;

@@ -4,7 +4,7 @@ use Rattle.std.specs.Prelude.{◌⊎◌, ◌||◌}
 use Rattle.std.proofs.lemmas.List.Folds.{list_any-append}
 use Rattle.x25_program.specs.Written.{AppendsBeginning}
 use Rattle.x25_station.specs.declared.config.Cfg.{Cfg}
-use Rattle.x25_world.specs.World.{World, WorldOutcome, refusal_of, after, apart, connected}
+use Rattle.x25_world.specs.World.{World, WorldOutcome, refusal_of, after, start, connected}
 use Rattle.x25_world.specs.FitsWorld.{FitsWorld, all_of}
 use Rattle.x25_world.specs.declared.error.WorldError.{WorldError}
 use Rattle.x25_sim.specs.declared.stage.Stage.{Stage}
@@ -116,5 +116,5 @@ module _ (cfg : Cfg) (tap : Bool) (old next : Option (List ℕ)) (u : Stage) (to
 
 -- the DTE has asked that the link be set up
 pub stands_connecting : (cfg : Cfg) (tap : Bool) (old next : Option (List ℕ)) (u : Stage) → FitsWorld cfg u.world (connected cfg) (all_of (connected cfg)) → u.tap ≡ tap → u.is_refused ≡ false
-    → Tells old next u.output (sayings_text (told_between tap apart (connected cfg))) → StandsAt cfg tap old next u [] false (connecting cfg tap)
-stands_connecting cfg tap old next u fits asked status tells = record { fits = fits; asked = asked; tells = tells; status = status ∙ sym (step_accepts tap apart (connected cfg)) }
+    → Tells old next u.output (sayings_text (told_between tap start (connected cfg))) → StandsAt cfg tap old next u [] false (connecting cfg tap)
+stands_connecting cfg tap old next u fits asked status tells = record { fits = fits; asked = asked; tells = tells; status = status ∙ sym (step_accepts tap start (connected cfg)) }

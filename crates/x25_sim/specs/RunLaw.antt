@@ -2,7 +2,7 @@
 use Rattle.std.specs.Prelude.{◌≡◌, ℕ, Bool, true, List, [], ◌∷◌, None}
 use Rattle.x25_station.specs.declared.config.Cfg.{Cfg}
 use Rattle.x25_station.specs.Settings.{config_refusal}
-use Rattle.x25_world.specs.World.{World, OnTap, AtEnd, Event, AreAccepted, run, start}
+use Rattle.x25_world.specs.World.{World, OnTap, AtEnd, Event, AreAccepted, run, established}
 use Rattle.x25_world.specs.Claims.{AreInOctets}
 use Rattle.x25_sim.specs.Sayings.{Saying, enters, taps, reads_nothing, refuses}
 use Rattle.x25_sim.specs.Simulated.{simulated}
@@ -27,11 +27,11 @@ frames_in (refuses error ∷ sayings) = frames_in sayings
 -- and, where it is asked for, the tap of that run
 pub record IsRun (cfg : Cfg) (tap : Bool) (script : List ℕ) : Type 0 where
   pub events : List Event
-  pub accepted : AreAccepted cfg events (start cfg)
+  pub accepted : AreAccepted cfg events (established cfg)
   pub octets : AreInOctets events
-  pub next : (simulated cfg tap script).next ≡ run cfg events (start cfg)
-  pub entries : entries_in (simulated cfg tap script).sayings ≡ (run cfg events (start cfg)).transcript
-  pub frames : tap ≡ true → frames_in (simulated cfg tap script).sayings ≡ (run cfg events (start cfg)).tap
+  pub next : (simulated cfg tap script).next ≡ run cfg events (established cfg)
+  pub entries : entries_in (simulated cfg tap script).sayings ≡ (run cfg events (established cfg)).transcript
+  pub frames : tap ≡ true → frames_in (simulated cfg tap script).sayings ≡ (run cfg events (established cfg)).tap
 
 abbrev pub ScriptsAreRuns : Type 0
 ScriptsAreRuns = (cfg : Cfg) (tap : Bool) (script : List ℕ) → IsRun cfg tap script

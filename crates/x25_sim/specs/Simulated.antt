@@ -14,7 +14,7 @@ use Rattle.x25_script.specs.declared.params.Params.{Params as Numbers}
 use Rattle.x25_script.specs.PlainLine.{PlainCommand, call, accept, clear, send, interrupt, reset, ready, not_ready, restart, disconnect, PlainLine, command, t1, deliver, lose, damage, drain}
 use Rattle.x25_script.specs.Reading.{line_in}
 use Rattle.x25_program.specs.Lines.{lines_of}
-use Rattle.x25_world.specs.World.{World, OnTap, AtEnd, Event, Commands, Receives, Fires, Loses, Damages, WorldOutcome, Happened, Declined, happens, apart, connected}
+use Rattle.x25_world.specs.World.{World, OnTap, AtEnd, Event, Commands, Receives, Fires, Loses, Damages, WorldOutcome, Happened, Declined, happens, start, connected}
 use Rattle.x25_sim.specs.Sayings.{Saying, enters, taps, reads_nothing, refuses, sayings_text, has_refusal}
 
 -- ---- turns
@@ -128,7 +128,7 @@ turns cfg tap (line ∷ lines) w = and_then (turns cfg tap lines) (turn cfg tap 
 
 -- the DTE asks that the link be set up
 abbrev pub connecting : Cfg → Bool → Turn
-connecting cfg tap = record { next = connected cfg; sayings = told_between tap apart (connected cfg) }
+connecting cfg tap = record { next = connected cfg; sayings = told_between tap start (connected cfg) }
 
 -- SABM and UA are delivered: both links are up
 unfoldable pub set_up : Cfg → Bool → Turn

@@ -9,7 +9,7 @@ use x25_layer::{Layer, LayerError, Stretch};
 use x25_link::{Blanks, Link, LinkError};
 
 /// The most octets of a packet: those of the longest data packet.
-const LONGEST_PACKET: usize = 4099;
+pub const LONGEST_PACKET: usize = 4099;
 
 /// A station of X.25, DTE or DCE: its link and its packet layer.
 ///

@@ -16,7 +16,7 @@ use Rattle.x25_layer.specs.Transcript.{Entry}
 use Rattle.x25_layer.specs.World as layer
 use Rattle.x25_station.specs.declared.config.Cfg.{Cfg}
 use Rattle.x25_station.specs.Settings.{settings_from}
-use Rattle.x25_station.specs.Entries.{StationEntry, of_channel, restart_asked, disconnect_asked, link_up, link_down, was_restarted, restart_confirmed, at_fault, in_layer, notice_in, layer_entries, layer_notices}
+use Rattle.x25_station.specs.Entries.{StationEntry, of_channel, restart_asked, connect_asked, disconnect_asked, link_up, link_down, was_restarted, restart_confirmed, at_fault, in_layer, notice_in, layer_entries, layer_notices}
 use Rattle.x25_station.specs.Station.{Station}
 use Rattle.x25_station.specs.Steps.{Step}
 use Rattle.x25_station.specs.KeepLaw.{IsKept}
@@ -50,10 +50,10 @@ AreOnTap (t ∷ tap) [] = ⊥
 abbrev pub all_sent : line.Stations → List PlainFrame
 all_sent v = sabm true ∷ ua true ∷ v.sent
 
-pub record Joined (cfg : Cfg) (end : Role) (w : World) : Type 0 where
+pub record Joined (asks : Bool) (cfg : Cfg) (end : Role) (w : World) : Type 0 where
   pub links : line.Stations
   pub layers : layer.World
-  pub links_reach : LinksReach cfg end links
+  pub links_reach : LinksReach asks cfg end links
   pub layers_reach : LayersReach cfg end layers
   pub near : IsEnd w.near links.near layers.near (entries_at end w.transcript)
   pub far : IsEnd w.far links.far layers.far (entries_at (other end) w.transcript)
@@ -62,11 +62,11 @@ pub record Joined (cfg : Cfg) (end : Role) (w : World) : Type 0 where
   pub tap : AreOnTap w.tap (all_sent links)
 
 -- as the other end sees it
-pub joined_swapped : (cfg : Cfg) (end : Role) (w : World) → Joined cfg end w → Joined cfg (other end) (swapped w)
-joined_swapped cfg Dte w h = record {
+pub joined_swapped : (asks : Bool) (cfg : Cfg) (end : Role) (w : World) → Joined asks cfg end w → Joined asks cfg (other end) (swapped w)
+joined_swapped asks cfg Dte w h = record {
   links = line.swapped h.links;
   layers = layer.turned h.layers;
-  links_reach = record { events = h.links_reach.events; run = h.links_reach.run };
+  links_reach = record { events = h.links_reach.events; unasked = h.links_reach.unasked; once = record { near = h.links_reach.once.far; far = h.links_reach.once.near }; run = h.links_reach.run };
   layers_reach = record { events = h.layers_reach.events; octets = h.layers_reach.octets; run = h.layers_reach.run };
   near = h.far;
   far = h.near;
@@ -74,10 +74,10 @@ joined_swapped cfg Dte w h = record {
   back = h.out;
   tap = h.tap;
 }
-joined_swapped cfg Dce w h = record {
+joined_swapped asks cfg Dce w h = record {
   links = line.swapped h.links;
   layers = layer.turned h.layers;
-  links_reach = record { events = h.links_reach.events; run = h.links_reach.run };
+  links_reach = record { events = h.links_reach.events; unasked = h.links_reach.unasked; once = record { near = h.links_reach.once.far; far = h.links_reach.once.near }; run = h.links_reach.run };
   layers_reach = record { events = h.layers_reach.events; octets = h.layers_reach.octets; run = h.layers_reach.run };
   near = h.far;
   far = h.near;
@@ -124,6 +124,7 @@ pub ups_append : (xs ys : List StationEntry) → ups_in (xs ++ ys) ≡ ups_in xs
 ups_append [] ys = omega arith
 ups_append (of_channel e ∷ xs) ys = ups_append xs ys
 ups_append (restart_asked ∷ xs) ys = ups_append xs ys
+ups_append (connect_asked ∷ xs) ys = ups_append xs ys
 ups_append (disconnect_asked ∷ xs) ys = ups_append xs ys
 ups_append (link_up ∷ xs) ys = let rest = ups_append xs ys in omega (arith, rest)
 ups_append (link_down reason ∷ xs) ys = ups_append xs ys
@@ -185,11 +186,11 @@ end_goes c s₂ s v v₂ u u₂ before entries frames packets taken back h k l k
 }
 
 -- a step of the near end is joined of a step of its link and one of its layer
-pub goes : (cfg : Cfg) (end : Role) (w : World) (h : Joined cfg end w) (step : Step) (back : List (List ℕ)) (v : line.Stations) (u : layer.World) (packets taken : List PlainPacket)
-    → LinksReach cfg end v → LayersReach cfg end u → LinkGoes (link_of cfg end) h.links v step.near.link step.out (spelled packets) (spelled taken) back
+pub goes : (asks : Bool) (cfg : Cfg) (end : Role) (w : World) (h : Joined asks cfg end w) (step : Step) (back : List (List ℕ)) (v : line.Stations) (u : layer.World) (packets taken : List PlainPacket)
+    → LinksReach asks cfg end v → LayersReach cfg end u → LinkGoes (link_of cfg end) h.links v step.near.link step.out (spelled packets) (spelled taken) back
     → LayerGoes h.layers u step.near.layer packets taken step.entries (not (is_up step.near.link.phase)) → IsKept step.near → ups_in step.entries ≡ 0
-    → Joined cfg end (after_step (settings_from end cfg) w back step)
-goes cfg end w h step back v u packets taken links_reach layers_reach k l kept none = record {
+    → Joined asks cfg end (after_step (settings_from end cfg) w back step)
+goes asks cfg end w h step back v u packets taken links_reach layers_reach k l kept none = record {
   links = v;
   layers = u;
   links_reach = links_reach;

@@ -70,14 +70,14 @@ none_waits circuits (suc n) k none low high =
     by true is rest here = ap (λ (j : ℕ). waits (circuits j)) (eqb-true k (suc n) is) ∙ here
     by false is rest here = rest (lower high (λ (e : k ≡ suc n). true_false (sym (eq-eqb k (suc n) e) ∙ is)))
 
-module _ (laws : Laws) (cfg : Cfg) (fine : IsConfigured cfg) where
+module _ (laws : Laws) (asks : Bool) (cfg : Cfg) (fine : IsConfigured cfg) where
   -- ---- order
 
-  pub is_lawful : (w : World) → Joined cfg Dte w → IsLawful cfg w
+  pub is_lawful : (w : World) → Joined asks cfg Dte w → IsLawful cfg w
   is_lawful w h = by
     where
       law : IsLawfulWorld h.layers
-      law = known_layers laws cfg fine IsLawfulWorld (laws.layers_lawful cfg.channels) Dte h.layers h.layers_reach
+      law = known_layers laws asks cfg fine IsLawfulWorld (laws.layers_lawful cfg.channels) Dte h.layers h.layers_reach
 
       by : (end : Role) → HandsUpLawfully (handed_at end w) (handed_at (other end) w)
       by Dte = subst (λ (e : List Entry). HandsUpLawfully e (handed_at Dce w)) h.near.entries (subst (λ (f : List Entry). HandsUpLawfully h.layers.near.entries f) h.far.entries law.near)
@@ -85,11 +85,11 @@ module _ (laws : Laws) (cfg : Cfg) (fine : IsConfigured cfg) where
 
   -- ---- names
 
-  pub is_named : (w : World) → Joined cfg Dte w → IsNamed cfg w
+  pub is_named : (w : World) → Joined asks cfg Dte w → IsNamed cfg w
   is_named w h = by
     where
       law : NamesAreCounted h.layers
-      law = known_layers laws cfg fine NamesAreCounted (laws.layers_named cfg.channels) Dte h.layers h.layers_reach
+      law = known_layers laws asks cfg fine NamesAreCounted (laws.layers_named cfg.channels) Dte h.layers h.layers_reach
 
       counts : (s : Station) (l : layer.End) (es : List StationEntry) → l.layer ≡ s.layer → l.told ≡ layer_notices es → l.is_out ≡ not (is_up s.link.phase) → IsCounted l → (k : ℕ) → is_up s.link.phase ≡ true
           → name_of s.layer k ≡ counted k first_name (layer_notices es)
@@ -103,11 +103,11 @@ module _ (laws : Laws) (cfg : Cfg) (fine : IsConfigured cfg) where
   -- ---- all arrives
 
   layers_arrive : (end : Role) (u : layer.World) → LayersReach cfg end u → (k acked : ℕ) → IsIdleTo k u.near u.far acked → HasAllOf k (name_of u.near.layer k) u.near.entries u.far.entries
-  layers_arrive Dte u reach = (known_layers laws cfg fine layers.ArrivesAll (laws.layers_arrive cfg.channels) Dte u reach).near
-  layers_arrive Dce u reach = (known_layers laws cfg fine layers.ArrivesAll (laws.layers_arrive cfg.channels) Dce u reach).far
+  layers_arrive Dte u reach = (known_layers laws asks cfg fine layers.ArrivesAll (laws.layers_arrive cfg.channels) Dte u reach).near
+  layers_arrive Dce u reach = (known_layers laws asks cfg fine layers.ArrivesAll (laws.layers_arrive cfg.channels) Dce u reach).far
 
   -- as the end sees it that is idle
-  arrives_from : (end : Role) (w : World) → Joined cfg end w → (k : ℕ) (name : Name) → is_idle (settings_from end cfg) w.near ≡ true → stretch (settings_from end cfg) w.near k ≡ Some name
+  arrives_from : (end : Role) (w : World) → Joined asks cfg end w → (k : ℕ) (name : Name) → is_idle (settings_from end cfg) w.near ≡ true → stretch (settings_from end cfg) w.near k ≡ Some name
       → stretch (settings_from (other end) cfg) w.far k ≡ Some name → HasAllOf k name (handed_at end w) (handed_at (other end) w)
   arrives_from end w h k name idle here there =
       let both = both_true (link.is_idle w.near.link) (waits_up_to w.near.layer.circuits cfg.channels == 0) idle in
@@ -116,7 +116,7 @@ module _ (laws : Laws) (cfg : Cfg) (fine : IsConfigured cfg) where
       let bounds = both_true (nat_le 1 k) (nat_le k cfg.channels) s.channel in
       let none : waits (w.near.layer.circuits k) ≡ 0 =
       none_waits w.near.layer.circuits cfg.channels k (eqb-true (waits_up_to w.near.layer.circuits cfg.channels) 0 both.1) (leb-true 1 k bounds.0) (leb-true k cfg.channels bounds.1) in
-      let order = given_order laws cfg fine end h.links h.links_reach in
+      let order = given_order laws asks cfg fine end h.links h.links_reach in
       let all : spelled h.layers.far.taken ≡ spelled h.layers.near.given = sym h.far.up ∙ order.idle (ap (λ (x : LinkStation). link.is_idle x) h.near.link ∙ both.0) ∙ h.near.down in
       let count : length h.layers.far.taken ≡ length h.layers.near.given =
       sym (length-map h.layers.far.taken packet.spelling_of) ∙ ap (λ (l : List (List ℕ)). length l) all ∙ length-map h.layers.near.given packet.spelling_of in
@@ -134,19 +134,19 @@ module _ (laws : Laws) (cfg : Cfg) (fine : IsConfigured cfg) where
       (subst (λ (f : List Entry). HasAllOf k (name_of h.layers.near.layer k) h.layers.near.entries f) h.far.entries
       (layers_arrive end h.layers h.layers_reach k (length h.layers.near.given) idle_to)))
 
-  pub arrives_all : (w : World) → Joined cfg Dte w → ArrivesAll cfg w
+  pub arrives_all : (w : World) → Joined asks cfg Dte w → ArrivesAll cfg w
   arrives_all w h Dte k name idle here there = arrives_from Dte w h k name idle here there
-  arrives_all w h Dce k name idle here there = arrives_from Dce (swapped w) (joined_swapped cfg Dte w h) k name idle here there
+  arrives_all w h Dce k name idle here there = arrives_from Dce (swapped w) (joined_swapped asks cfg Dte w h) k name idle here there
 
   -- ---- the window, and LinkUp
 
-  pub is_in_window : (w : World) → Joined cfg Dte w → IsInWindow cfg w
+  pub is_in_window : (w : World) → Joined asks cfg Dte w → IsInWindow cfg w
   is_in_window w h = (
     h.links,
     record { events = h.links_reach.events; run = h.links_reach.run; near = h.near.link; far = h.far.link; out = h.out; back = h.back },
-    known_links laws cfg fine AreInWindow laws.window Dte h.links h.links_reach,
+    known_links laws asks cfg fine AreInWindow laws.window Dte h.links h.links_reach,
   )
 
-  pub is_up_once : (w : World) → Joined cfg Dte w → IsUpOnce cfg w
+  pub is_up_once : (w : World) → Joined asks cfg Dte w → IsUpOnce cfg w
   is_up_once w h Dte = h.near.once
   is_up_once w h Dce = h.far.once

@@ -7,13 +7,15 @@ pub mod Timers
 pub mod NoUps
 pub mod Requests
 pub mod Receives
+pub mod Grows
 pub mod Runs
-pub mod Start
+pub mod Established
 pub mod Lawful
 pub mod QuietTap
 pub mod Headline
 pub mod RowLemmas
 pub mod OnLineLemmas
 pub mod LetGoLemmas
+pub mod SetUpLemmas
 pub mod SideLemmas
 pub mod WorldLemmas

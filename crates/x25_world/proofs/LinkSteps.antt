@@ -1,5 +1,5 @@
 -- Of two links: a step of the near end, and the packets that are handed down to it behind that.
-use Rattle.std.proofs.Common.{◌≡◌, ℕ, ◌≤◌, List, [], ◌∷◌, ◌++◌, length, map, true, None, option_to_list, refl, sym, ap, ap₂, ◌∙◌, subst, append_assoc, append-nil}
+use Rattle.std.proofs.Common.{◌≡◌, ℕ, ◌≤◌, List, [], ◌∷◌, ◌++◌, length, map, Bool, true, None, option_to_list, refl, sym, ap, ap₂, ◌∙◌, subst, append_assoc, append-nil}
 use Rattle.std.proofs.lemmas.Bool.{le-leb}
 use Rattle.std.proofs.lemmas.List.{map-append}
 use Rattle.x25_bits.specs.declared.role.Role.{Role}
@@ -12,6 +12,7 @@ use Rattle.x25_link.specs.MustSend.{Step as LinkStep}
 use Rattle.x25_link.specs.NoteLaw.{PutTells}
 use Rattle.x25_link.specs.Steps.{put_refusal, put_step}
 use Rattle.x25_line.specs.Stations as line
+use Rattle.x25_line.specs.StationClaims.{EachEventHandsOne}
 use Rattle.x25_station.specs.declared.config.Cfg.{Cfg}
 use Rattle.x25_station.specs.Station.{put_on, all_put}
 use Rattle.x25_station.specs.JoinLaw.{AreAccepted}
@@ -49,28 +50,28 @@ put_goes c v v₁ t down up back p short none g =
     })
 
 -- one after another
-pub record PutsGo (cfg : Cfg) (end : Role) (v : line.Stations) (packets : List PlainPacket) (t : Side) (handed lifted left : List (List ℕ)) : Type 0 where
+pub record PutsGo (asks : Bool) (cfg : Cfg) (end : Role) (v : line.Stations) (packets : List PlainPacket) (t : Side) (handed lifted left : List (List ℕ)) : Type 0 where
   pub links : line.Stations
-  pub reach : LinksReach cfg end links
+  pub reach : LinksReach asks cfg end links
   pub goes : LinkGoes (link_of cfg end) v links (all_put (link_of cfg end) packets t).near (all_put (link_of cfg end) packets t).out handed lifted left
 
-pub puts_go : (cfg : Cfg) (end : Role) (v v₁ : line.Stations) (packets : List PlainPacket) (t : Side) (down up back : List (List ℕ)) → LinksReach cfg end v₁
+pub puts_go : EachEventHandsOne → (asks : Bool) (cfg : Cfg) (end : Role) (v v₁ : line.Stations) (packets : List PlainPacket) (t : Side) (down up back : List (List ℕ)) → LinksReach asks cfg end v₁
     → LinkGoes (link_of cfg end) v v₁ t.near t.out down up back → AreAccepted (link_of cfg end) packets t → AreReadable packets
-    → PutsGo cfg end v packets t (down ++ spelled packets) up back
-puts_go cfg end v v₁ [] t down up back reach g ok readable = record {
+    → PutsGo asks cfg end v packets t (down ++ spelled packets) up back
+puts_go one asks cfg end v v₁ [] t down up back reach g ok readable = record {
   links = v₁;
   reach = reach;
   goes = subst (λ (d : List (List ℕ)). LinkGoes (link_of cfg end) v v₁ t.near t.out d up back) (sym (append-nil down)) g;
 }
-puts_go cfg end v v₁ (p ∷ packets) t down up back reach g ok readable =
+puts_go one asks cfg end v v₁ (p ∷ packets) t down up back reach g ok readable =
     let c : LinkSettings = link_of cfg end in
     let o : List ℕ = packet.spelling_of p in
-    subst (λ (d : List (List ℕ)). PutsGo cfg end v (p ∷ packets) t d up back) (append_assoc down (o ∷ []) (spelled packets))
-    (more (puts_go cfg end v (line.acts c (line.Put o) v₁) packets (put_on c p t) (down ++ o ∷ []) up back (link_acts cfg end (line.Put o) v₁ reach)
+    subst (λ (d : List (List ℕ)). PutsGo asks cfg end v (p ∷ packets) t d up back) (append_assoc down (o ∷ []) (spelled packets))
+    (more (puts_go one asks cfg end v (line.acts c (line.Put o) v₁) packets (put_on c p t) (down ++ o ∷ []) up back (link_acts one asks cfg end (line.Put o) v₁ (λ free. tt) (λ old new e. e) reach)
     (put_goes c v v₁ t down up back p readable.0.short ok.0 g) ok.1 readable.1))
   where
-    more : PutsGo cfg end v packets (put_on (link_of cfg end) p t) ((down ++ packet.spelling_of p ∷ []) ++ spelled packets) up back
-        → PutsGo cfg end v (p ∷ packets) t ((down ++ packet.spelling_of p ∷ []) ++ spelled packets) up back
+    more : PutsGo asks cfg end v packets (put_on (link_of cfg end) p t) ((down ++ packet.spelling_of p ∷ []) ++ spelled packets) up back
+        → PutsGo asks cfg end v (p ∷ packets) t ((down ++ packet.spelling_of p ∷ []) ++ spelled packets) up back
     more r = record { links = r.links; reach = r.reach; goes = r.goes }
 
 -- a link that accepts packets stays up

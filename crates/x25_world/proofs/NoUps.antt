@@ -1,6 +1,7 @@
 -- No entry of a command to the layer, and none of what the layer tells, is LinkUp.
-use Rattle.std.proofs.Common.{◌≡◌, ℕ, List, [], ◌∷◌, ◌++◌, Option, Some, refl, sym, ap, subst, ◌∙◌}
+use Rattle.std.proofs.Common.{◌≡◌, ℕ, List, [], ◌∷◌, ◌++◌, Bool, true, false, Option, Some, None, refl, sym, ap, subst, ◌∙◌}
 use Rattle.x25_link.specs.declared.phase.Notes.{Notes}
+use Rattle.x25_link.specs.declared.phase.Reason.{Reason}
 use Rattle.x25_link.specs.Station.{Side}
 use Rattle.x25_link.specs.MustSend.{Step as LinkStep}
 use Rattle.x25_link.specs.NoteLaw.{IsQuiet}
@@ -44,6 +45,15 @@ refused_did e step is = absurd (subst (λ (o : Outcome). elim o as (λ _. Type 0
 pub did_entries : (c : Settings) (t : Side) (entries : List StationEntry) (a : Answered) (step : Step) → did c t entries a ≡ Did step → step.entries ≡ entries
 did_entries c t entries (Went s) step is = ap (λ (o : Outcome). (step_in step o).entries) (sym is)
 did_entries c t entries (Refuses e) step is = refused_did (error.Layer e) step is
+
+-- a step whose entries tell of no LinkUp
+pub noted_up : (c : Settings) (l : Layer) (k : LinkStep) → ups_in (follows c l k).entries ≡ 0 → k.notes.up ≡ false
+noted_up c l k none = by k.notes.down k.notes.up (entries_heard (layer_settings c) l k.packet k.notes.down k.notes.up) none
+  where
+    by : (d : Option Reason) (up : Bool) (rest : List StationEntry) → ups_in (entries_noted (record { down = d; up = up }) ++ rest) ≡ 0 → up ≡ false
+    by d false rest none = refl
+    by None true rest none = absurd (cc)
+    by (Some reason) true rest none = absurd (cc)
 
 -- the entries of a packet that is handed up
 pub heard_ups : (c : Settings) (l : Layer) (k : LinkStep) (octets : List ℕ) → k.packet ≡ Some octets → IsQuiet k → ups_in (follows c l k).entries ≡ 0

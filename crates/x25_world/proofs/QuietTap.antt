@@ -1,5 +1,5 @@
 -- No error of procedure is ever put on the line, or told to a user.
-use Rattle.std.proofs.Common.{◌≡◌, ℕ, zero, suc, List, [], ◌∷◌, ◌++◌, inl, inr, Result, Ok, Contains, refl, sym, subst, arith}
+use Rattle.std.proofs.Common.{◌≡◌, ℕ, Bool, zero, suc, List, [], ◌∷◌, ◌++◌, inl, inr, Result, Ok, Contains, refl, sym, subst, arith}
 use Rattle.std.proofs.lemmas.List.Elements.{Contains-append_cases}
 use Rattle.x25_bits.specs.declared.role.Role.{Role}
 use Rattle.x25_bits.specs.declared.role.Role.TheVariants.{Dte, Dce}
@@ -70,25 +70,25 @@ quiet_tap reads channels given quiet (t ∷ tap) [] on whole none = absurd on
 
 -- ---- of a world
 
-pub has_no_error : (laws : Laws) (cfg : Cfg) → IsConfigured cfg → (w : World) → Joined cfg Dte w → HasNoProcedureError cfg w
-has_no_error laws cfg fine w h = record {
+pub has_no_error : (laws : Laws) (asks : Bool) (cfg : Cfg) → IsConfigured cfg → (w : World) → Joined asks cfg Dte w → HasNoProcedureError cfg w
+has_no_error laws asks cfg fine w h = record {
   tap = quiet_tap laws.reads cfg.channels (h.links.near.down ++ h.links.far.down) quiet w.tap _ h.tap
-      (record { in_range = tt; carries = refl; within = tt; packet = tt }, (record { in_range = tt; carries = refl; within = tt; packet = tt }, known_links laws cfg fine AllSentAreWhole laws.whole Dte h.links h.links_reach))
-      (known_links laws cfg fine NoFrmrSent laws.no_frmr Dte h.links h.links_reach);
+      (record { in_range = tt; carries = refl; within = tt; packet = tt }, (record { in_range = tt; carries = refl; within = tt; packet = tt }, known_links laws asks cfg fine AllSentAreWhole laws.whole Dte h.links h.links_reach))
+      (known_links laws asks cfg fine NoFrmrSent laws.no_frmr Dte h.links h.links_reach);
   told = told;
 }
   where
     law : IsQuietWorld cfg.channels h.layers
-    law = known_layers laws cfg fine (IsQuietWorld cfg.channels) (laws.layers_quiet cfg.channels) Dte h.layers h.layers_reach
+    law = known_layers laws asks cfg fine (IsQuietWorld cfg.channels) (laws.layers_quiet cfg.channels) Dte h.layers h.layers_reach
 
     near : (octets : List ℕ) → Contains h.links.near.down octets → IsQuietOctets cfg.channels octets
     near octets there =
-        quiet_octets cfg.channels h.layers.near.given law.near.given (near_readable laws cfg fine Dte h.layers h.layers_reach) octets
+        quiet_octets cfg.channels h.layers.near.given law.near.given (near_readable laws asks cfg fine Dte h.layers h.layers_reach) octets
         (subst (λ (l : List (List ℕ)). Contains l octets) h.near.down there)
 
     far : (octets : List ℕ) → Contains h.links.far.down octets → IsQuietOctets cfg.channels octets
     far octets there =
-        quiet_octets cfg.channels h.layers.far.given law.far.given (far_readable laws cfg fine Dte h.layers h.layers_reach) octets
+        quiet_octets cfg.channels h.layers.far.given law.far.given (far_readable laws asks cfg fine Dte h.layers h.layers_reach) octets
         (subst (λ (l : List (List ℕ)). Contains l octets) h.far.down there)
 
     quiet : (octets : List ℕ) → Contains (h.links.near.down ++ h.links.far.down) octets → IsQuietOctets cfg.channels octets

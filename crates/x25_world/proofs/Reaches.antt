@@ -1,9 +1,11 @@
 -- A world is a run of two links and a run of two layers: one more act or move of an end is one more of the run.
-use Rattle.std.proofs.Common.{◌≡◌, ℕ, List, [], ◌∷◌, ◌++◌, true, false, refl, ap, ◌∙◌}
+use Rattle.std.proofs.Common.{◌≡◌, ℕ, List, [], ◌∷◌, ◌++◌, Bool, true, false, refl, sym, ap, ◌∙◌, subst}
 use Rattle.x25_bits.specs.declared.role.Role.{Role}
 use Rattle.x25_bits.specs.declared.role.Role.TheVariants.{Dte, Dce}
 use Rattle.x25_link.specs.Station.{Settings as LinkSettings}
 use Rattle.x25_line.specs.Stations as line
+use Rattle.x25_line.specs.Stations.{StationEnd}
+use Rattle.x25_line.specs.StationClaims.{IsSetUpOnce, AcceptsNoConnect, AcceptsNoConnectAt, NoneConnects, NotesUp, EachEventHandsOne}
 use Rattle.x25_layer.specs.Layer.{LayerSettings}
 use Rattle.x25_layer.specs.World as layer
 use Rattle.x25_layer.specs.RoundLaw.{moves_all, pulls_of}
@@ -21,23 +23,41 @@ abbrev pub links_at : Role → line.Stations → line.Stations
 links_at Dte v = v
 links_at Dce v = line.swapped v
 
-pub record LinksReach (cfg : Cfg) (end : Role) (v : line.Stations) : Type 0 where
+-- The links weren't set up anew. Where `asks` is false, none of the two has asked for it.
+pub record LinksReach (asks : Bool) (cfg : Cfg) (end : Role) (v : line.Stations) : Type 0 where
   pub events : List line.Event
+  pub unasked : asks ≡ false → NoneConnects (link_of cfg Dte) (link_of cfg Dce) events line.start
+  pub once : IsSetUpOnce v
   pub run : line.run (link_of cfg Dte) (link_of cfg Dce) events line.start ≡ links_at end v
 
-more_links : (c d : LinkSettings) (es : List line.Event) (e : line.Event) (v : line.Stations) → line.run c d (es ++ e ∷ []) v ≡ line.happens c d e (line.run c d es v)
+pub more_links : (c d : LinkSettings) (es : List line.Event) (e : line.Event) (v : line.Stations) → line.run c d (es ++ e ∷ []) v ≡ line.happens c d e (line.run c d es v)
 more_links c d [] e v = refl
 more_links c d (x ∷ es) e v = more_links c d es e (line.happens c d x v)
 
-pub link_acts : (cfg : Cfg) (end : Role) (act : line.Act) (v : line.Stations) → LinksReach cfg end v → LinksReach cfg end (line.acts (link_of cfg end) act v)
-link_acts cfg Dte act v h = record {
+pub more_unasked : (c d : LinkSettings) (es : List line.Event) (e : line.Event) (v : line.Stations) → NoneConnects c d es v → AcceptsNoConnectAt e (line.run c d es v) → NoneConnects c d (es ++ e ∷ []) v
+more_unasked c d [] e v h g = (g, tt)
+more_unasked c d (x ∷ es) e v h g = (h.0, more_unasked c d es e (line.happens c d x v) h.1 g)
+
+pub link_goes_on : EachEventHandsOne → (asks : Bool) (cfg : Cfg) (end : Role) (act : line.Act) (v : line.Stations) → (asks ≡ false → AcceptsNoConnect act v)
+    → (line.acts (link_of cfg end) act v).near.came_up ≡ false → LinksReach asks cfg end v → LinksReach asks cfg end (line.acts (link_of cfg end) act v)
+link_goes_on one asks cfg Dte act v none off h = record {
   events = h.events ++ line.Near act ∷ [];
+  unasked = λ free. more_unasked (link_of cfg Dte) (link_of cfg Dce) h.events (line.Near act) line.start (h.unasked free) (subst (λ (x : line.Stations). AcceptsNoConnectAt (line.Near act) x) (sym h.run) (none free));
+  once = record { near = off; far = ap (λ (e : StationEnd). e.came_up) (one (link_of cfg Dte) (link_of cfg Dce) (line.Near act) v).far ∙ h.once.far };
   run = more_links (link_of cfg Dte) (link_of cfg Dce) h.events (line.Near act) line.start ∙ ap (line.happens (link_of cfg Dte) (link_of cfg Dce) (line.Near act)) h.run;
 }
-link_acts cfg Dce act v h = record {
+link_goes_on one asks cfg Dce act v none off h = record {
   events = h.events ++ line.Far act ∷ [];
+  unasked = λ free. more_unasked (link_of cfg Dte) (link_of cfg Dce) h.events (line.Far act) line.start (h.unasked free) (subst (λ (x : line.Stations). AcceptsNoConnectAt (line.Far act) x) (sym h.run) (none free));
+  once = record { near = off; far = ap (λ (e : StationEnd). e.came_up) (one (link_of cfg Dce) (link_of cfg Dte) (line.Near act) v).far ∙ h.once.far };
   run = more_links (link_of cfg Dte) (link_of cfg Dce) h.events (line.Far act) line.start ∙ ap (line.happens (link_of cfg Dte) (link_of cfg Dce) (line.Far act)) h.run;
 }
+
+-- by an act that notes no LinkUp
+pub link_acts : EachEventHandsOne → (asks : Bool) (cfg : Cfg) (end : Role) (act : line.Act) (v : line.Stations) → (asks ≡ false → AcceptsNoConnect act v)
+    → ((old new : Bool) → NotesUp act old new → new ≡ old) → LinksReach asks cfg end v → LinksReach asks cfg end (line.acts (link_of cfg end) act v)
+link_acts one asks cfg end act v none quiet h =
+    link_goes_on one asks cfg end act v none (quiet _ _ (one (link_of cfg end) (link_of cfg end) (line.Near act) v).came_up ∙ h.once.near) h
 
 -- ---- two layers
 

@@ -39,24 +39,24 @@ readable_behind (p ∷ ps) qs h = readable_behind ps qs h.1
 
 -- ---- what is put, behind a step of the link
 
-module _ (laws : Laws) (cfg : Cfg) (fine : IsConfigured cfg) (end : Role) (w : World) (h : Joined cfg end w) where
+module _ (laws : Laws) (asks : Bool) (cfg : Cfg) (fine : IsConfigured cfg) (end : Role) (w : World) (h : Joined asks cfg end w) where
   -- what the layer was handed up is what is no longer in flight to it
   taken_by : (u : layer.World) (lifted : List PlainPacket) → LayersReach cfg end u → u.far ≡ h.layers.far → h.layers.back ≡ lifted ++ u.back → u.near.taken ≡ h.layers.near.taken ++ lifted
   taken_by u lifted reach far back =
       append_cancel_right u.near.taken (h.layers.near.taken ++ lifted) u.back
-      (sym (layers_order laws cfg fine end u reach) ∙ ap (λ (f : layer.End). f.given) far ∙ layers_order laws cfg fine end h.layers h.layers_reach
+      (sym (layers_order laws asks cfg fine end u reach) ∙ ap (λ (f : layer.End). f.given) far ∙ layers_order laws asks cfg fine end h.layers h.layers_reach
       ∙ ap (λ (l : List PlainPacket). h.layers.near.taken ++ l) back ∙ sym (append_assoc h.layers.near.taken lifted u.back))
 
   -- the link's own step is at `v`, with the side `t`; behind it go the packets that the layer puts
-  pub joins : (step : Step) (v : line.Stations) (t : Side) (u : layer.World) (lifted behind : List PlainPacket) (back : List (List ℕ)) → LinksReach cfg end v
+  pub joins : (step : Step) (v : line.Stations) (t : Side) (u : layer.World) (lifted behind : List PlainPacket) (back : List (List ℕ)) → LinksReach asks cfg end v
       → LinkGoes (link_of cfg end) h.links v t.near t.out [] (spelled lifted) back → is_up t.near.phase ≡ true → LayersReach cfg end u
       → IsJoined (settings_from end cfg) h.layers u t behind step → h.layers.back ≡ lifted ++ behind → IsKept step.near → ups_in step.entries ≡ 0
-      → Joined cfg end (after_step (settings_from end cfg) w back step)
+      → Joined asks cfg end (after_step (settings_from end cfg) w back step)
   joins step v t u lifted behind back reach own up layers_reach j flight kept none =
-      let r = puts_go cfg end h.links v j.packets t [] (spelled lifted) back reach own j.link.accepted
-      (readable_behind h.layers.near.given j.packets (subst AreReadable j.layer.given (near_readable laws cfg fine end u layers_reach))) in
+      let r = puts_go laws.one asks cfg end h.links v j.packets t [] (spelled lifted) back reach own j.link.accepted
+      (readable_behind h.layers.near.given j.packets (subst AreReadable j.layer.given (near_readable laws asks cfg fine end u layers_reach))) in
       let still_up : is_up step.near.link.phase ≡ true = ap (λ (s : LinkStation). is_up s.phase) j.link.link ∙ puts_up laws.put_tells (link_of cfg end) j.packets t up in
-      goes cfg end w h step back r.links u j.packets lifted r.reach layers_reach
+      goes asks cfg end w h step back r.links u j.packets lifted r.reach layers_reach
       (record {
         station = r.goes.station ∙ sym j.link.link;
         down = r.goes.down;
@@ -97,7 +97,7 @@ module _ (laws : Laws) (cfg : Cfg) (fine : IsConfigured cfg) (end : Role) (w : W
           (if b then went view (layer_settings c) (layer_outcome (layer_settings c) (view.waits [] == 256) w.near.layer request) else Refuses layer_error.NotUp)) off) ∙ is)
 
   accepted_joined : (request : LayerRequest) → RequestsOctets request → (step : Step) → requests (settings_from end cfg) w.near request ≡ Did step
-      → Joined cfg end (after_step (settings_from end cfg) w w.back step)
+      → Joined asks cfg end (after_step (settings_from end cfg) w w.back step)
   accepted_joined request octets step is =
       let c : Settings = settings_from end cfg in
       let up = did_up request step is in
@@ -118,9 +118,9 @@ module _ (laws : Laws) (cfg : Cfg) (fine : IsConfigured cfg) (end : Role) (w : W
       (subst KeptBy is (laws.command_keeps c w.near (Requests request) h.near.kept))
       (ap ups_in (did_entries c (alone w.near.link) _ _ step is) ∙ outcome_ups (layer_settings c) w.near.layer request _)
 
-  pub requests_joined : (request : LayerRequest) → RequestsOctets request → Joined cfg end (after w (of_station (settings_from end cfg) w (requests (settings_from end cfg) w.near request)))
+  pub requests_joined : (request : LayerRequest) → RequestsOctets request → Joined asks cfg end (after w (of_station (settings_from end cfg) w (requests (settings_from end cfg) w.near request)))
   requests_joined request octets = by (requests (settings_from end cfg) w.near request) refl
     where
-      by : (o : Outcome) → requests (settings_from end cfg) w.near request ≡ o → Joined cfg end (after w (of_station (settings_from end cfg) w o))
+      by : (o : Outcome) → requests (settings_from end cfg) w.near request ≡ o → Joined asks cfg end (after w (of_station (settings_from end cfg) w o))
       by (Did step) is = accepted_joined request octets step is
       by (Refused e) is = h

@@ -7,7 +7,7 @@ use Rattle.x25_link.specs.Station.{pumped}
 use Rattle.x25_packet.specs.Digits.{packed, halves_of}
 use Rattle.x25_packet.specs.Facilities.{facilities_of}
 use Rattle.x25_packet.specs.Reading.{packet_of}
-use Rattle.x25_world.specs.WorldRows.{SetsUp, MessageArrives, LostArrives, DamagedArrives, DisconnectEndsBoth, IsRefused}
+use Rattle.x25_world.specs.WorldRows.{SetsUp, MessageArrives, LostArrives, DamagedArrives, DisconnectEndsBoth, ConnectSetsUp, ConnectGoesAgain, TimerWaits, IsRefused}
 
 pub sets_up : SetsUp
 unfolding pumped frame_of packet_of is_sealed fcs_of number_of low_bits add divisor divided
@@ -29,6 +29,18 @@ pub disconnect_ends_both : DisconnectEndsBoth
 unfolding pumped frame_of packed halves_of facilities_of packet_of is_sealed fcs_of number_of low_bits add divisor divided
 disconnect_ends_both = refl
 
+pub connect_sets_up : ConnectSetsUp
+unfolding pumped frame_of packet_of is_sealed fcs_of number_of low_bits add divisor divided
+connect_sets_up = (refl, refl)
+
+pub connect_goes_again : ConnectGoesAgain
+unfolding pumped frame_of packet_of is_sealed fcs_of number_of low_bits add divisor divided
+connect_goes_again = refl
+
+pub timer_waits : TimerWaits
+unfolding pumped frame_of packet_of is_sealed fcs_of number_of low_bits add divisor divided
+timer_waits = (refl, refl, refl)
+
 pub is_refused : IsRefused
 unfolding pumped frame_of packed halves_of facilities_of packet_of is_sealed fcs_of number_of low_bits add divisor divided
-is_refused = (refl, refl, refl, refl)
+is_refused = (refl, refl, refl, refl, refl)

@@ -1,10 +1,11 @@
 -- What an end did is its act by the definition, and its refusal is due.
-use Rattle.std.proofs.Common.{◌≡◌, ℕ, List, [], ◌∷◌, ◌++◌, map, Some, None, slice_get, Result, Ok, Err, OnOk, OnErr, IfErr, ◌⊎◌, inl, inr, refl, ap, sym, ◌∙◌, append_assoc}
+use Rattle.std.proofs.Common.{◌≡◌, ℕ, Bool, true, false, ◌&&◌, if◌then◌else◌, List, [], ◌∷◌, ◌++◌, map, Some, slice_get, Result, Ok, Err, OnOk, OnErr, IfErr, ◌⊎◌, inl, inr, refl, ap, sym, ◌∙◌, append_assoc}
 use Rattle.std.specs.List.{remove}
 use Rattle.x25_bits.specs.Role.{other}
 use Rattle.x25_bits.specs.declared.role.Role.{Role}
 use Rattle.x25_bits.specs.declared.role.Role.TheVariants.{Dte, Dce}
 use Rattle.x25_frame.specs.Spelling.{spelling_of}
+use Rattle.x25_link.specs.Station.{is_waiting}
 use Rattle.x25_station.specs.declared.config.Cfg.{Cfg}
 use Rattle.x25_station.specs.declared.error.StationError.{StationError}
 use Rattle.x25_station.specs.declared.error.StationError.TheVariants as station
@@ -13,12 +14,12 @@ use Rattle.x25_station.specs.declared.step.Step as code_step
 use Rattle.x25_station.specs.Entries.{StationEntry}
 use Rattle.x25_station.specs.FitsStation.{FitsStation, Leaves, Sends, Enters, Refuses, RefusesExactly}
 use Rattle.x25_station.specs.PlainEntry.{plain_entry}
-use Rattle.x25_station.specs.Settings.{settings_from}
-use Rattle.x25_station.specs.Steps.{Step, Outcome, Did, Refused, receives}
+use Rattle.x25_station.specs.Settings.{Settings, settings_from}
+use Rattle.x25_station.specs.Steps.{Step, Outcome, Did, Refused, fires, receives}
 use Rattle.x25_world.specs.declared.error.WorldError.{WorldError}
 use Rattle.x25_world.specs.declared.error.WorldError.TheVariants as error
 use Rattle.x25_world.specs.WorldError.{error_of}
-use Rattle.x25_world.specs.World.{AtEnd, World, WorldOutcome, Happened, Declined, after_step, of_station, delivered, on_line, refusal_of, tapped, entered}
+use Rattle.x25_world.specs.World.{AtEnd, World, WorldOutcome, Happened, Declined, after_step, of_station, delivered, on_line, is_on_line, fired, refusal_of, tapped, entered}
 use Rattle.x25_world.specs.ShownLine.{ShownLine, line_to, with_line_to, put_by}
 use Rattle.x25_world.specs.FitsWorld.{Gone, FitsSide, HasHappened}
 
@@ -95,6 +96,14 @@ exactly_refuses (Ok x) (Did step) h = tt
 exactly_refuses (Ok x) (Refused e) h = cc
 exactly_refuses (Err x) (Did step) h = h
 exactly_refuses (Err x) (Refused e) h = inl (cc)
+
+-- ---- timer T1 runs out, or doesn't while UA can still come
+
+pub holds_back : (c : Settings) (w : World) → (is_waiting w.near.link.phase && is_on_line c w) ≡ true → fired c w ≡ Declined error.OnLine
+holds_back c w waits = ap (λ (b : Bool). if b then Declined error.OnLine else of_station c w (fires c w.near)) waits
+
+pub lets_fire : (c : Settings) (w : World) → (is_waiting w.near.link.phase && is_on_line c w) ≡ false → fired c w ≡ of_station c w (fires c w.near)
+lets_fire c w runs = ap (λ (b : Bool). if b then Declined error.OnLine else of_station c w (fires c w.near)) runs
 
 -- ---- the front octets arrive
 

@@ -1,11 +1,12 @@
 -- An end that acts, in its world: the other end is as it was. And lists of events, one more at a time.
-use Rattle.std.proofs.Common.{◌≡◌, ℕ, ◌+◌, ◌<◌, ◌≤◌, nat_lt, Bool, true, false, if◌then◌else◌, List, [], ◌∷◌, ◌++◌, length, map, take, Option, Some, None, Result, Ok, Err, OnOk, OnErr, IfErr, ◌⊎◌, inl, inr, refl, ap, sym, ◌∙◌, subst, append_assoc}
+use Rattle.std.proofs.Common.{◌≡◌, ℕ, ◌+◌, ◌<◌, ◌≤◌, nat_lt, ◌&&◌, Bool, true, false, if◌then◌else◌, List, [], ◌∷◌, ◌++◌, length, map, take, Option, Some, None, Result, Ok, Err, OnOk, OnErr, IfErr, ◌⊎◌, inl, inr, refl, ap, sym, ◌∙◌, subst, append_assoc}
 use Rattle.std.specs.List.{take-map}
 use Rattle.std.proofs.Math.ListN.{get_or}
 use Rattle.std.proofs.lemmas.Option.{slice_get-get_or}
 use Rattle.std.proofs.lemmas.List.{take_more, map-append, take_all, length-map, get_or-map}
 use Rattle.x25_bits.specs.declared.role.Role.{Role}
 use Rattle.x25_bits.specs.declared.role.Role.TheVariants.{Dte, Dce}
+use Rattle.x25_link.specs.Station.{is_waiting}
 use Rattle.x25_line.specs.Stations.{is_visible}
 use Rattle.x25_station.specs.declared.config.Cfg.{Cfg}
 use Rattle.x25_station.specs.declared.error.StationError.{StationError}
@@ -16,8 +17,8 @@ use Rattle.x25_station.specs.Steps.{Outcome, Did, Refused, commands, fires}
 use Rattle.x25_world.specs.declared.event.Event as code_event
 use Rattle.x25_world.specs.declared.error.WorldError.{WorldError}
 use Rattle.x25_world.specs.declared.error.WorldError.TheVariants as error
-use Rattle.x25_world.specs.World.{World, swapped, Event, Act, Commands, Receives, Fires, Loses, Damages, WorldOutcome, Happened, Declined, of_station, delivered, acts, swapped_back, event_of, happens, after, refusal_of, run, AreAccepted, start}
-use Rattle.x25_world.specs.Claims.{ActsInOctets, AreInOctets, Always}
+use Rattle.x25_world.specs.World.{World, swapped, Event, Act, Commands, Receives, Fires, Loses, Damages, WorldOutcome, Happened, Declined, of_station, delivered, is_on_line, acts, swapped_back, event_of, happens, after, refusal_of, run, AreAccepted, established}
+use Rattle.x25_world.specs.Claims.{ActsInOctets, AreInOctets, NoneConnects, SetsUpOnce, UpOnceUnlessConnected, Always}
 use Rattle.x25_world.specs.ShownWorld.{ShownWorld, ShownSide}
 use Rattle.x25_world.specs.FitsWorld.{Gone, FitsWorld, FitsRun, and_then, FitsSide, HasHappened, IsRefusal, StopsAt, RefusesConfig}
 
@@ -42,7 +43,7 @@ keeps_if w false u v f g = g
 acts_keep_far : (c : Settings) (w : World) (a : Act) → KeepsFar w (acts c w a)
 acts_keep_far c w (Commands command) = station_keeps_far c w (commands c w.near command)
 acts_keep_far c w Receives = delivered_keeps_far c w w.back
-acts_keep_far c w Fires = station_keeps_far c w (fires c w.near)
+acts_keep_far c w Fires = keeps_if w (is_waiting w.near.link.phase && is_on_line c w) _ _ tt (station_keeps_far c w (fires c w.near))
 acts_keep_far c w (Loses place) = keeps_if w (nat_lt place (length w.back)) _ _ refl tt
 acts_keep_far c w (Damages place octets) = keeps_if w (nat_lt place (length w.back)) _ _ (keeps_if w (is_visible octets) _ _ refl tt) tt
 
@@ -96,7 +97,7 @@ pub is_accepted : (cfg : Cfg) (at : Role) (v : ShownSide) (o : WorldOutcome) (go
 is_accepted cfg at v o gone (Ok x) h = accepted_of cfg at v o gone h
 is_accepted cfg at v o gone (Err e) h = tt
 
-refusal-swapped : (o : WorldOutcome) → refusal_of (swapped_back o) ≡ refusal_of o
+pub refusal-swapped : (o : WorldOutcome) → refusal_of (swapped_back o) ≡ refusal_of o
 refusal-swapped (Happened next) = refl
 refusal-swapped (Declined e) = refl
 
@@ -176,30 +177,33 @@ octets_push [] e h last = (last, tt)
 octets_push (x ∷ es) e h last = (h.0, octets_push es e h.1 last)
 
 -- one more event, where it is accepted
-pub run_and_then : (cfg : Cfg) (old new : ShownWorld) (past : List Event) (gone : Gone) (e : Event) (r : Result (Unit {0}) WorldError) → FitsRun cfg old past gone → ActsInOctets e.act
+pub run_and_then : (cfg : Cfg) (from : World) (old new : ShownWorld) (past : List Event) (gone : Gone) (e : Event) (r : Result (Unit {0}) WorldError) → FitsRun cfg from old past gone → ActsInOctets e.act
     → ((w : World) → FitsWorld cfg old w gone → OnOk r (FitsWorld cfg new (after w (happens cfg w e)) gone)) → ((w : World) → FitsWorld cfg old w gone → OnOk r (refusal_of (happens cfg w e) ≡ None))
-    → ((w : World) → FitsWorld cfg old w gone → OnErr r (FitsWorld cfg new w gone)) → FitsRun cfg new (and_then past e r) gone
-run_and_then cfg old new past gone e (Ok x) h octets step accepted stays = record {
+    → ((w : World) → FitsWorld cfg old w gone → OnErr r (FitsWorld cfg new w gone)) → FitsRun cfg from new (and_then past e r) gone
+run_and_then cfg from old new past gone e (Ok x) h octets step accepted stays = record {
   settings = h.settings;
   octets = octets_push past e h.octets octets;
-  accepted = AreAccepted-push cfg past e (start cfg) h.accepted (accepted (run cfg past (start cfg)) h.fits);
-  fits = rw run-push (step (run cfg past (start cfg)) h.fits);
+  accepted = AreAccepted-push cfg past e from h.accepted (accepted (run cfg past from) h.fits);
+  fits = rw run-push (step (run cfg past from) h.fits);
 }
-run_and_then cfg old new past gone e (Err x) h octets step accepted stays = record { settings = h.settings; octets = h.octets; accepted = h.accepted; fits = stays (run cfg past (start cfg)) h.fits }
+run_and_then cfg from old new past gone e (Err x) h octets step accepted stays = record { settings = h.settings; octets = h.octets; accepted = h.accepted; fits = stays (run cfg past from) h.fits }
 
 -- so a law of all runs holds of it
-pub holds_after : (Holds : Cfg → World → Type 0) (v : ShownWorld) (cfg : Cfg) (events : List Event) (gone : Gone) → Always Holds → FitsRun cfg v events gone → Holds cfg (run cfg events (start cfg))
-holds_after Holds v cfg events gone law h = law cfg h.settings events h.octets
+pub holds_after : (Holds : Cfg → World → Type 0) (v : ShownWorld) (cfg : Cfg) (events : List Event) (gone : Gone) → Always Holds → FitsRun cfg (established cfg) v events gone → SetsUpOnce cfg events → Holds cfg (run cfg events (established cfg))
+holds_after Holds v cfg events gone law h once = law cfg h.settings events h.octets once
 
-pub run_more : (cfg : Cfg) (v : ShownWorld) (past : List Event) (gone : Gone) (events : List code_event.Event) (i : ℕ) (d : code_event.Event) → i < length events
-    → FitsRun cfg v ((past ++ map event_of (take i events)) ++ event_of (get_or events i d) ∷ []) gone → FitsRun cfg v (past ++ map event_of (take (i + 1) events)) gone
-run_more cfg v past gone events i d within h =
-    subst (λ (es : List Event). FitsRun cfg v es gone) (append_assoc past (map event_of (take i events)) (event_of (get_or events i d) ∷ []) ∙ ap (λ (es : List Event). past ++ es) (sym (events_more events i d within))) h
+pub up_once_after : (v : ShownWorld) (cfg : Cfg) (events : List Event) (gone : Gone) → UpOnceUnlessConnected → FitsRun cfg (established cfg) v events gone → NoneConnects cfg events (established cfg) → SetsUpOnce cfg events
+up_once_after v cfg events gone law h none = law cfg h.settings events h.octets none
 
-pub run_all : (cfg : Cfg) (v : ShownWorld) (past : List Event) (gone : Gone) (events : List code_event.Event) (i : ℕ) → length events ≤ i
-    → FitsRun cfg v (past ++ map event_of (take i events)) gone → FitsRun cfg v (past ++ map event_of events) gone
-run_all cfg v past gone events i beyond h = rw (take_all i events beyond) at h
+pub run_more : (cfg : Cfg) (from : World) (v : ShownWorld) (past : List Event) (gone : Gone) (events : List code_event.Event) (i : ℕ) (d : code_event.Event) → i < length events
+    → FitsRun cfg from v ((past ++ map event_of (take i events)) ++ event_of (get_or events i d) ∷ []) gone → FitsRun cfg from v (past ++ map event_of (take (i + 1) events)) gone
+run_more cfg from v past gone events i d within h =
+    subst (λ (es : List Event). FitsRun cfg from v es gone) (append_assoc past (map event_of (take i events)) (event_of (get_or events i d) ∷ []) ∙ ap (λ (es : List Event). past ++ es) (sym (events_more events i d within))) h
 
-pub run_stopped : (cfg : Cfg) (v : ShownWorld) (past : List Event) (gone : Gone) (events : List code_event.Event) (i : ℕ)
-    → FitsRun cfg v (past ++ map event_of (take i events)) gone → FitsRun cfg v (past ++ take i (map event_of events)) gone
-run_stopped cfg v past gone events i h = rw (take-map event_of i events) h
+pub run_all : (cfg : Cfg) (from : World) (v : ShownWorld) (past : List Event) (gone : Gone) (events : List code_event.Event) (i : ℕ) → length events ≤ i
+    → FitsRun cfg from v (past ++ map event_of (take i events)) gone → FitsRun cfg from v (past ++ map event_of events) gone
+run_all cfg from v past gone events i beyond h = rw (take_all i events beyond) at h
+
+pub run_stopped : (cfg : Cfg) (from : World) (v : ShownWorld) (past : List Event) (gone : Gone) (events : List code_event.Event) (i : ℕ)
+    → FitsRun cfg from v (past ++ map event_of (take i events)) gone → FitsRun cfg from v (past ++ take i (map event_of events)) gone
+run_stopped cfg from v past gone events i h = rw (take-map event_of i events) h

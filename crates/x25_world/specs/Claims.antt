@@ -1,5 +1,5 @@
--- What holds of two stations and the line between them after every list of events, the link set up once.
-use Rattle.std.specs.Prelude.{◌≡◌, ℕ, suc, true, List, [], ◌∷◌, ◌++◌, Some, None, Result, Ok, Err}
+-- What holds of two stations and the line between them after every list of events, as long as the link isn't set up anew.
+use Rattle.std.specs.Prelude.{◌≡◌, ℕ, suc, true, List, [], ◌∷◌, ◌++◌, Option, Some, None, Result, Ok, Err}
 use Rattle.x25_bits.specs.declared.role.Role.{Role}
 use Rattle.x25_bits.specs.declared.role.Role.TheVariants.{Dte, Dce}
 use Rattle.x25_packet.specs.PlainPacket.{PlainPacket}
@@ -20,35 +20,13 @@ use Rattle.x25_layer.specs.Quiet.{IsQuietAt, AreNoFaults}
 use Rattle.x25_layer.specs.Law.{HandsUpLawfully, HasAllOf}
 use Rattle.x25_station.specs.declared.config.Cfg.{Cfg}
 use Rattle.x25_station.specs.Settings.{settings_from, config_refusal, longest_packet, link_settings}
-use Rattle.x25_station.specs.Command.{Command, Requests, Disconnects}
+use Rattle.x25_station.specs.Command.{Command, Requests, Connects, Disconnects}
 use Rattle.x25_station.specs.Entries.{StationEntry, link_up, layer_entries, layer_notices}
 use Rattle.x25_station.specs.ReadLaw.{RequestsOctets}
 use Rattle.x25_station.specs.Station.{Station}
 use Rattle.x25_station.specs.Told.{is_idle, stretch}
-use Rattle.x25_world.specs.World.{OnTap, AtEnd, World, Act, Commands, Receives, Event, run, AreAccepted, connected, start}
-
--- ---- every list of events
-
--- what users hand down is octets
-abbrev pub CommandsOctets : Command → Type 0
-CommandsOctets (Requests request) = RequestsOctets request
-CommandsOctets Disconnects = Unit {0}
-
-abbrev pub ActsInOctets : Act → Type 0
-ActsInOctets (Commands command) = CommandsOctets command
-ActsInOctets act = Unit {0}
-
-abbrev pub AreInOctets : List Event → Type 0
-AreInOctets [] = Unit {0}
-AreInOctets (e ∷ events) = ActsInOctets e.act × AreInOctets events
-
--- what holds after each list of events, of commands, deliveries, losses, damage and timer T1, from a link just set up
-abbrev pub Always : (Cfg → World → Type 0) → Type 0
-Always Holds = (cfg : Cfg) → config_refusal cfg ≡ None → (events : List Event) → AreInOctets events → Holds cfg (run cfg events (start cfg))
-
--- SABM is there to be delivered to the DCE, and then UA to the DTE
-abbrev pub IsSetUp : Type 0
-IsSetUp = (cfg : Cfg) → AreAccepted cfg (record { at = Dce; act = Receives } ∷ record { at = Dte; act = Receives } ∷ []) (connected cfg)
+use Rattle.x25_world.specs.declared.error.WorldError.{WorldError}
+use Rattle.x25_world.specs.World.{OnTap, AtEnd, World, Act, Commands, Receives, Event, happens, refusal_of, after, run, AreAccepted, connected, established}
 
 -- ---- an end and its transcript
 
@@ -64,6 +42,61 @@ entry_of_end end at entry = []
 abbrev pub entries_at : Role → List AtEnd → List StationEntry
 entries_at end [] = []
 entries_at end (e ∷ transcript) = entry_of_end end e.at e.entry ++ entries_at end transcript
+
+-- ---- the link is set up once
+
+abbrev pub ups_in : List StationEntry → ℕ
+ups_in [] = 0
+ups_in (link_up ∷ entries) = suc (ups_in entries)
+ups_in (entry ∷ entries) = ups_in entries
+
+-- each end told of LinkUp once
+abbrev pub IsUpOnce : Cfg → World → Type 0
+IsUpOnce cfg w = (end : Role) → ups_in (entries_at end w.transcript) ≡ 1
+
+-- ---- every list of events
+
+-- what users hand down is octets
+abbrev pub CommandsOctets : Command → Type 0
+CommandsOctets (Requests request) = RequestsOctets request
+CommandsOctets Connects = Unit {0}
+CommandsOctets Disconnects = Unit {0}
+
+abbrev pub ActsInOctets : Act → Type 0
+ActsInOctets (Commands command) = CommandsOctets command
+ActsInOctets act = Unit {0}
+
+abbrev pub AreInOctets : List Event → Type 0
+AreInOctets [] = Unit {0}
+AreInOctets (e ∷ events) = ActsInOctets e.act × AreInOctets events
+
+-- The link, just set up, isn't set up anew: neither end tells of LinkUp again. What is told stays, so that this is so of the beginnings of the
+-- list too.
+abbrev pub SetsUpOnce : Cfg → List Event → Type 0
+SetsUpOnce cfg events = IsUpOnce cfg (run cfg events (established cfg))
+
+-- what holds after each list of events, of commands, deliveries, losses, damage and timer T1, from a link just set up, which isn't set up anew
+abbrev pub Always : (Cfg → World → Type 0) → Type 0
+Always Holds = (cfg : Cfg) → config_refusal cfg ≡ None → (events : List Event) → AreInOctets events → SetsUpOnce cfg events → Holds cfg (run cfg events (established cfg))
+
+-- not a `connect` that is accepted
+abbrev pub IsNoConnect : Act → Option WorldError → Type 0
+IsNoConnect (Commands Connects) None = ⊥
+IsNoConnect act refusal = Unit {0}
+
+-- no `connect` of the events is accepted
+abbrev pub NoneConnects : Cfg → List Event → World → Type 0
+NoneConnects cfg [] w = Unit {0}
+NoneConnects cfg (e ∷ events) w = IsNoConnect e.act (refusal_of (happens cfg w e)) × NoneConnects cfg events (after w (happens cfg w e))
+
+-- by such a list the link isn't set up anew
+abbrev pub UpOnceUnlessConnected : Type 0
+UpOnceUnlessConnected =
+    (cfg : Cfg) → config_refusal cfg ≡ None → (events : List Event) → AreInOctets events → NoneConnects cfg events (established cfg) → SetsUpOnce cfg events
+
+-- SABM is there to be delivered to the DCE, and then UA to the DTE
+abbrev pub IsSetUp : Type 0
+IsSetUp = (cfg : Cfg) → AreAccepted cfg (record { at = Dce; act = Receives } ∷ record { at = Dte; act = Receives } ∷ []) (connected cfg)
 
 -- what the users of its channels asked and were told
 abbrev pub handed_at : Role → World → List Entry
@@ -131,13 +164,3 @@ pub record IsRunOfLinks (cfg : Cfg) (w : World) (links : line.Stations) : Type 0
 -- the unbounded numbers behind the N(S)s and N(R)s on the line, and the window
 abbrev pub IsInWindow : Cfg → World → Type 0
 IsInWindow cfg w = (links : line.Stations) × IsRunOfLinks cfg w links × AreInWindow (link_of cfg Dte) (link_of cfg Dce) links
-
--- ---- the link is set up once
-
-abbrev pub ups_in : List StationEntry → ℕ
-ups_in [] = 0
-ups_in (link_up ∷ entries) = suc (ups_in entries)
-ups_in (entry ∷ entries) = ups_in entries
-
-abbrev pub IsUpOnce : Cfg → World → Type 0
-IsUpOnce cfg w = (end : Role) → ups_in (entries_at end w.transcript) ≡ 1

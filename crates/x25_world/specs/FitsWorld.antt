@@ -7,8 +7,8 @@ use Rattle.x25_station.specs.declared.config.Cfg.{Cfg}
 use Rattle.x25_station.specs.declared.error.StationError.{StationError}
 use Rattle.x25_station.specs.Settings.{settings_from, config_refusal}
 use Rattle.x25_station.specs.FitsStation.{FitsStation}
-use Rattle.x25_world.specs.World.{OnTap, AtEnd, World, Event, Act, Loses, WorldOutcome, Happened, Declined, happens, refusal_of, run, AreAccepted, start}
-use Rattle.x25_world.specs.Claims.{AreInOctets}
+use Rattle.x25_world.specs.World.{OnTap, AtEnd, World, Event, Act, Loses, WorldOutcome, Happened, Declined, happens, refusal_of, run, AreAccepted, established}
+use Rattle.x25_world.specs.Claims.{AreInOctets, SetsUpOnce, NoneConnects}
 use Rattle.x25_world.specs.ShownLine.{line_to}
 use Rattle.x25_world.specs.ShownWorld.{ShownWorld, ShownSide}
 use Rattle.x25_world.specs.declared.error.WorldError.{WorldError}
@@ -54,13 +54,13 @@ pub record StopsAt (cfg : Cfg) (events : List Event) (w : World) (gone : Gone) (
 
 -- ---- a run
 
--- Events that are accepted, from the link just set up, lead to a world that it stands for. The settings are in their ranges, and what
--- users hand down is octets.
-pub record FitsRun (cfg : Cfg) (v : ShownWorld) (events : List Event) (gone : Gone) : Type 0 where
+-- Events that are accepted, from a world, lead to one that it stands for. The settings are in their ranges, and what users hand down is
+-- octets.
+pub record FitsRun (cfg : Cfg) (from : World) (v : ShownWorld) (events : List Event) (gone : Gone) : Type 0 where
   pub settings : config_refusal cfg ≡ None
   pub octets : AreInOctets events
-  pub accepted : AreAccepted cfg events (start cfg)
-  pub fits : FitsWorld cfg v (run cfg events (start cfg)) gone
+  pub accepted : AreAccepted cfg events from
+  pub fits : FitsWorld cfg v (run cfg events from) gone
 
 -- the events of a run with one more, where it is accepted
 abbrev pub and_then : List Event → Event → Result (Unit {0}) WorldError → List Event
@@ -72,9 +72,13 @@ abbrev pub and_all : List Event → List Event → Result (Unit {0}) WorldRefuse
 and_all events more (Ok done) = events ++ more
 and_all events more (Err refused) = events ++ take refused.index more
 
--- this holds of the world after each run that leads here and goes on so
+-- this holds of the world after each run that leads here and goes on so, from a link just set up, which isn't set up anew
 abbrev pub HoldsAfter : (Cfg → World → Type 0) → ShownWorld → (List Event → List Event) → Type 0
-HoldsAfter Holds v more = (cfg : Cfg) (past : List Event) (gone : Gone) → FitsRun cfg v past gone → Holds cfg (run cfg (more past) (start cfg))
+HoldsAfter Holds v more = (cfg : Cfg) (past : List Event) (gone : Gone) → FitsRun cfg (established cfg) v past gone → SetsUpOnce cfg (more past) → Holds cfg (run cfg (more past) (established cfg))
+
+-- where no `connect` was accepted in it, the link isn't set up anew
+abbrev pub UpOnceAfter : ShownWorld → (List Event → List Event) → Type 0
+UpOnceAfter v more = (cfg : Cfg) (past : List Event) (gone : Gone) → FitsRun cfg (established cfg) v past gone → NoneConnects cfg (more past) (established cfg) → SetsUpOnce cfg (more past)
 
 -- ---- an end and what it shares with the other; the other end is as it was
 

@@ -1,4 +1,5 @@
 pub mod WorldError
+pub mod SetUpFrames
 pub mod World
 pub mod Claims
 pub mod WorldRows

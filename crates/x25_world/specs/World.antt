@@ -1,9 +1,11 @@
 -- Two stations joined by a line of octets that keeps order and may lose or visibly damage any frame (profile: the line).
 -- Each act is of the near end, or of the line to it. The far end's acts are those of the two ends swapped.
-use Rattle.std.specs.Prelude.{◌≡◌, ℕ, nat_lt, List, [], ◌∷◌, ◌++◌, length, map, remove, Option, Some, None, if◌then◌else◌}
+use Rattle.std.specs.Prelude.{◌≡◌, ℕ, nat_lt, ◌&&◌, ◌||◌, Bool, List, [], ◌∷◌, ◌++◌, length, map, remove, Option, Some, None, if◌then◌else◌}
+use Rattle.x25_bits.specs.Role.{other}
 use Rattle.x25_bits.specs.declared.role.Role.{Role}
 use Rattle.x25_bits.specs.declared.role.Role.TheVariants.{Dte, Dce}
 use Rattle.x25_frame.specs.Spelling.{spelling_of}
+use Rattle.x25_link.specs.Station.{is_waiting}
 use Rattle.x25_line.specs.Stations.{is_visible, replaced}
 use Rattle.x25_line.specs.RawMachine.{end_of}
 use Rattle.x25_station.specs.declared.config.Cfg.{Cfg}
@@ -12,6 +14,8 @@ use Rattle.x25_station.specs.Command.{Command, command_of}
 use Rattle.x25_station.specs.Entries.{StationEntry}
 use Rattle.x25_station.specs.Station.{Station, new_station}
 use Rattle.x25_station.specs.Steps.{Step, Outcome, Did, Refused, connects, fires, receives, commands}
+use Rattle.x25_world.specs.SetUpFrames.{carries}
+use Rattle.x25_world.specs.declared.set_up.SetUpFrame.TheVariants.{Sabm, Ua}
 use Rattle.x25_world.specs.declared.error.WorldError.{WorldError}
 use Rattle.x25_world.specs.declared.error.WorldError.TheVariants as error
 use Rattle.x25_world.specs.declared.event.Event as code
@@ -95,10 +99,18 @@ damaged w place octets =
     if nat_lt place (length w.back) then (if is_visible octets then Happened (on_line w (replaced w.back place octets)) else Declined error.Unseen)
     else Declined error.NoSuchFrame
 
+-- the SABM of the near end is on the line, or a UA to it
+abbrev pub is_on_line : Settings → World → Bool
+is_on_line c w = carries Sabm c.role w.out || carries Ua (other c.role) w.back
+
+-- timer T1 of an end that awaits UA doesn't run out while SABM or UA can still arrive
+abbrev pub fired : Settings → World → WorldOutcome
+fired c w = if is_waiting w.near.link.phase && is_on_line c w then Declined error.OnLine else of_station c w (fires c w.near)
+
 abbrev pub acts : Settings → World → Act → WorldOutcome
 acts c w (Commands command) = of_station c w (commands c w.near command)
 acts c w Receives = delivered c w w.back
-acts c w Fires = of_station c w (fires c w.near)
+acts c w Fires = fired c w
 acts c w (Loses place) = lost w place
 acts c w (Damages place octets) = damaged w place octets
 
@@ -149,14 +161,14 @@ abbrev pub AreAccepted : Cfg → List Event → World → Type 0
 AreAccepted cfg [] w = Unit {0}
 AreAccepted cfg (e ∷ events) w = (refusal_of (happens cfg w e) ≡ None) × AreAccepted cfg events (after w (happens cfg w e))
 
--- two stations that never were up
-abbrev pub apart : World
-apart = record { near = new_station; far = new_station; out = []; back = []; tap = []; transcript = [] }
+-- both links are down, and nothing is on the line
+abbrev pub start : World
+start = record { near = new_station; far = new_station; out = []; back = []; tap = []; transcript = [] }
 
 -- the DTE has asked that the link be set up
 abbrev pub connected : Cfg → World
-connected cfg = after apart (of_station (settings_from Dte cfg) apart (connects (settings_from Dte cfg) new_station))
+connected cfg = after start (of_station (settings_from Dte cfg) start (connects (settings_from Dte cfg) new_station))
 
 -- SABM and UA were delivered: both links are up, and both RESTARTs are on the line
-abbrev pub start : Cfg → World
-start cfg = run cfg (record { at = Dce; act = Receives } ∷ record { at = Dte; act = Receives } ∷ []) (connected cfg)
+abbrev pub established : Cfg → World
+established cfg = run cfg (record { at = Dce; act = Receives } ∷ record { at = Dte; act = Receives } ∷ []) (connected cfg)

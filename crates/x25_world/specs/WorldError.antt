@@ -3,7 +3,7 @@ use Rattle.std.specs.Prelude.{ℕ}
 use Rattle.x25_station.specs.declared.error.StationError.{StationError}
 use Rattle.x25_station.specs.declared.error.StationError.TheVariants as station
 use Rattle.x25_world.specs.declared.error.WorldError.{WorldError}
-use Rattle.x25_world.specs.declared.error.WorldError.TheVariants.{BadConfig, Empty, NoSuchFrame, Unseen, Station, NoMemory}
+use Rattle.x25_world.specs.declared.error.WorldError.TheVariants.{BadConfig, Empty, NoSuchFrame, Unseen, Station, OnLine, NoMemory}
 
 abbrev pub number_of : WorldError → ℕ
 number_of BadConfig = 14
@@ -11,6 +11,7 @@ number_of Empty = 50
 number_of NoSuchFrame = 51
 number_of Unseen = 52
 number_of (Station error) = 53
+number_of OnLine = 54
 number_of NoMemory = 70
 
 -- a station's want of memory is the world's

@@ -3,7 +3,7 @@ use Rattle.std.specs.Prelude.{◌≡◌, ℕ, zero, suc, true, false, List, [], 
 use Rattle.x25_bits.specs.declared.role.Role.{Role}
 use Rattle.x25_bits.specs.declared.role.Role.TheVariants.{Dte, Dce}
 use Rattle.x25_link.specs.declared.error.LinkError.TheVariants as link_error
-use Rattle.x25_link.specs.declared.phase.Reason.TheVariants.{Local, Disc}
+use Rattle.x25_link.specs.declared.phase.Reason.TheVariants.{Local, Disc, Reset}
 use Rattle.x25_circuit.specs.Params.{default_params}
 use Rattle.x25_circuit.specs.Calls.{Accepts, Sends}
 use Rattle.x25_epochs.specs.Names.{Name}
@@ -11,12 +11,12 @@ use Rattle.x25_layer.specs.Calls.{LayerRequest, Asks, Dials}
 use Rattle.x25_layer.specs.Transcript.{under, messages_in}
 use Rattle.x25_station.specs.declared.config.Cfg.{Cfg}
 use Rattle.x25_station.specs.declared.error.StationError.TheVariants as station_error
-use Rattle.x25_station.specs.Command.{Requests, Disconnects}
-use Rattle.x25_station.specs.Entries.{disconnect_asked, link_up, link_down, was_restarted}
+use Rattle.x25_station.specs.Command.{Requests, Connects, Disconnects}
+use Rattle.x25_station.specs.Entries.{connect_asked, disconnect_asked, link_up, link_down, was_restarted}
 use Rattle.x25_station.specs.Settings.{settings_from}
 use Rattle.x25_station.specs.Told.{is_idle, stretch}
 use Rattle.x25_world.specs.declared.error.WorldError.TheVariants as error
-use Rattle.x25_world.specs.World.{World, Act, Commands, Receives, Fires, Loses, Damages, Event, happens, refusal_of, run, start}
+use Rattle.x25_world.specs.World.{AtEnd, World, Act, Commands, Receives, Fires, Loses, Damages, Event, happens, refusal_of, run, start, established}
 use Rattle.x25_world.specs.Claims.{handed_at}
 
 abbrev pub two_channels : Cfg
@@ -37,13 +37,13 @@ delivers (suc n) = event Dce Receives ∷ event Dte Receives ∷ delivers n
 
 abbrev pub SetsUp : Type 0
 SetsUp =
-    (start two_channels).tap ≡ record { from = Dte; octets = 1 ∷ 63 ∷ 235 ∷ 223 ∷ [] } ∷ record { from = Dce; octets = 1 ∷ 115 ∷ 131 ∷ 87 ∷ [] }
+    (established two_channels).tap ≡ record { from = Dte; octets = 1 ∷ 63 ∷ 235 ∷ 223 ∷ [] } ∷ record { from = Dce; octets = 1 ∷ 115 ∷ 131 ∷ 87 ∷ [] }
     ∷ record { from = Dce; octets = 3 ∷ 0 ∷ 16 ∷ 0 ∷ 251 ∷ 7 ∷ 0 ∷ 196 ∷ 120 ∷ [] } ∷ record { from = Dte; octets = 1 ∷ 0 ∷ 16 ∷ 0 ∷ 251 ∷ 0 ∷ 0 ∷ 119 ∷ 2 ∷ [] } ∷ []
 
 -- ---- a call of the DTE, on the highest channel, and a message
 
 abbrev pub called : World
-called = run two_channels (delivers 3 ++ asks Dte (Dials (codes "123") (codes "4567") (65 ∷ []) default_params) ∷ delivers 2 ++ asks Dce (Asks 2 (Accepts None)) ∷ delivers 2) (start two_channels)
+called = run two_channels (delivers 3 ++ asks Dte (Dials (codes "123") (codes "4567") (65 ∷ []) default_params) ∷ delivers 2 ++ asks Dce (Asks 2 (Accepts None)) ∷ delivers 2) (established two_channels)
 
 abbrev pub sends_hi : Event
 sends_hi = asks Dte (Asks 2 (Sends false (codes "hi")))
@@ -72,14 +72,44 @@ DamagedArrives = HasArrived (run two_channels (sends_hi ∷ event Dce (Damages 0
 
 abbrev pub DisconnectEndsBoth : Type 0
 DisconnectEndsBoth =
-    (run two_channels (event Dte (Commands Disconnects) ∷ delivers 2) (start two_channels)).transcript ≡ record { at = Dce; entry = link_up } ∷ record { at = Dte; entry = link_up }
+    (run two_channels (event Dte (Commands Disconnects) ∷ delivers 2) (established two_channels)).transcript ≡ record { at = Dce; entry = link_up } ∷ record { at = Dte; entry = link_up }
     ∷ record { at = Dte; entry = disconnect_asked } ∷ record { at = Dte; entry = link_down Local } ∷ record { at = Dce; entry = was_restarted 0 0 }
     ∷ record { at = Dce; entry = link_down Disc } ∷ []
 
--- ---- refusals: an empty line, no such frame, damage that can't be seen, and those of the station
+-- ---- `connect`, from two links that are down
+
+abbrev pub connects : Role → Event
+connects at = event at (Commands Connects)
+
+-- what both ends tell of a set-up
+abbrev pub told_of_set_up : List AtEnd
+told_of_set_up =
+    record { at = Dce; entry = link_up } ∷ record { at = Dte; entry = link_up } ∷ record { at = Dce; entry = was_restarted 0 0 } ∷ record { at = Dte; entry = was_restarted 7 0 } ∷ []
+
+-- one end asks, or both do
+abbrev pub ConnectSetsUp : Type 0
+ConnectSetsUp =
+    ((run two_channels (connects Dte ∷ delivers 2) start).transcript ≡ record { at = Dte; entry = connect_asked } ∷ told_of_set_up)
+    × ((run two_channels (connects Dte ∷ connects Dce ∷ delivers 3) start).transcript ≡ record { at = Dte; entry = connect_asked } ∷ record { at = Dce; entry = connect_asked } ∷ told_of_set_up)
+
+-- UA is lost; timer T1 runs out, SABM goes again, and the DCE, which was up, is set up anew
+abbrev pub ConnectGoesAgain : Type 0
+ConnectGoesAgain =
+    (run two_channels (connects Dte ∷ event Dce Receives ∷ event Dte (Loses 0) ∷ event Dte Fires ∷ delivers 4) start).transcript ≡ record { at = Dte; entry = connect_asked }
+    ∷ record { at = Dce; entry = link_up } ∷ record { at = Dce; entry = link_down Reset } ∷ told_of_set_up
+
+-- while its SABM is on the line, or a UA to it, timer T1 of an end doesn't run out; once SABM is damaged it does
+abbrev pub TimerWaits : Type 0
+TimerWaits =
+    (refusal_of (happens two_channels (run two_channels (connects Dte ∷ []) start) (event Dte Fires)) ≡ Some error.OnLine)
+    × (refusal_of (happens two_channels (run two_channels (connects Dte ∷ event Dce Receives ∷ []) start) (event Dte Fires)) ≡ Some error.OnLine)
+    × (refusal_of (happens two_channels (run two_channels (connects Dte ∷ event Dce (Damages 0 []) ∷ []) start) (event Dte Fires)) ≡ None)
+
+-- ---- refusals: an empty line, no such frame, damage that can't be seen, and those of the station, as a `connect` of a link that is up
 
 abbrev pub IsRefused : Type 0
 IsRefused =
     (refusal_of (happens two_channels called (event Dce Receives)) ≡ Some error.Empty) × (refusal_of (happens two_channels called (event Dce (Loses 0))) ≡ Some error.NoSuchFrame)
-    × (refusal_of (happens two_channels (start two_channels) (event Dce (Damages 0 (1 ∷ 63 ∷ 235 ∷ 223 ∷ [])))) ≡ Some error.Unseen)
+    × (refusal_of (happens two_channels (established two_channels) (event Dce (Damages 0 (1 ∷ 63 ∷ 235 ∷ 223 ∷ [])))) ≡ Some error.Unseen)
     × (refusal_of (happens two_channels called (event Dte Fires)) ≡ Some (error.Station (station_error.Link link_error.NotRunning)))
+    × (refusal_of (happens two_channels called (connects Dte)) ≡ Some (error.Station (station_error.Link link_error.AlreadyUp)))

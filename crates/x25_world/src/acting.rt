@@ -1,13 +1,14 @@
 //! What happens at one end, and on the line to it.
-ghost use Rattle.std.specs.Prelude.{◌≡◌, ◌+◌, ◌≤◌, ◌++◌, ◌⊎◌, length, map, vec_len, vec_capacity, IfErr, OnOk, OnErr, IsErrOf};
+ghost use Rattle.std.specs.Prelude.{◌≡◌, ◌&&◌, List, ◌+◌, ◌≤◌, ◌++◌, ◌⊎◌, length, map, vec_len, vec_capacity, IfErr, OnOk, OnErr, IsErrOf};
+ghost use Rattle.x25_link.specs.Station.{is_waiting};
 ghost use Rattle.x25_line.specs.Stations.{is_visible};
 ghost use Rattle.x25_station.specs.Command.{command_of};
 ghost use Rattle.x25_station.specs.PlainEntry.{plain_entry};
 ghost use Rattle.x25_station.specs.declared.config.Cfg.{Cfg};
 ghost use Rattle.x25_station.specs.Settings.{settings_from};
-ghost use Rattle.x25_station.specs.Steps.{connects, commands, fires};
+ghost use Rattle.x25_station.specs.Steps.{connects, commands};
 ghost use Rattle.x25_world.specs.World as definition;
-ghost use Rattle.x25_world.specs.World.{Happened, Declined, of_station, delivered, on_line, lost, damaged, acts, entered, event_of};
+ghost use Rattle.x25_world.specs.World.{AtEnd, Happened, Declined, of_station, delivered, is_on_line, fired, on_line, lost, damaged, acts, entered, event_of};
 ghost use Rattle.x25_world.specs.PlainTold.{plain_entered};
 ghost use Rattle.x25_world.specs.ShownLine.{put_by, line_to, with_line_to};
 ghost use Rattle.x25_world.specs.FitsWorld.{Gone, FitsSide, HasActed, TakesMemory};
@@ -15,6 +16,7 @@ ghost use Rattle.x25_world.specs.FitsWorld.{Gone, FitsSide, HasActed, TakesMemor
 use crate::error::WorldError;
 use crate::event::Event;
 use crate::line::Line;
+use crate::set_up::is_on_line;
 use crate::told::Entered;
 use x25_bits::{Role, check};
 use x25_station::{Cmd, MOST_ENTRIES, MOST_FRAMES, Station, Step};
@@ -75,7 +77,7 @@ fn deliver(
         HasActed cfg at (record { near = near.new; line = line.new; transcript = map plain_entered transcript.new.items }) result w gone (delivered (settings_from at cfg) w w.back) }
 {
     make_room(line, transcript)?;
-    let Some(octets) = line.front(at) else {
+    let Some(octets) = line.get(at, 0) else {
         return Err(WorldError::Empty);
     };
     match near.receive(octets) {
@@ -88,7 +90,7 @@ fn deliver(
     }
 }
 
-// Timer T1 of the end runs out.
+// Timer T1 of the end runs out, which it doesn't while UA is awaited and can still come.
 fn fire(
     at: Role,
     near: &mut Station,
@@ -97,8 +99,11 @@ fn fire(
 ) -> Result<(), WorldError>
     ensures { (cfg : Cfg) (w : definition.World) (gone : Gone) →
         FitsSide cfg at (record { near = near.old; line = line.old; transcript = map plain_entered transcript.old.items }) w gone →
-        HasActed cfg at (record { near = near.new; line = line.new; transcript = map plain_entered transcript.new.items }) result w gone (of_station (settings_from at cfg) w (fires (settings_from at cfg) w.near)) }
+        HasActed cfg at (record { near = near.new; line = line.new; transcript = map plain_entered transcript.new.items }) result w gone (fired (settings_from at cfg) w) }
 {
+    if awaits_frames(at, near, line) {
+        return Err(WorldError::OnLine);
+    }
     make_room(line, transcript)?;
     match near.t1() {
         Ok(step) => {
@@ -107,6 +112,14 @@ fn fire(
         }
         Err(error) => Err(WorldError::of_station(error)),
     }
+}
+
+// Whether UA is awaited, and can still come by frames that are on the line.
+fn awaits_frames(at: Role, near: &Station, line: &Line) -> bool
+    ensures { (cfg : Cfg) (w : definition.World) (transcript : List AtEnd) (gone : Gone) → FitsSide cfg at (record { near = near.now; line = line.now; transcript = transcript }) w gone →
+        result ≡ (is_waiting w.near.link.phase && is_on_line (settings_from at cfg) w) }
+{
+    near.is_waiting() && is_on_line(at, line)
 }
 
 // The end asks that the link be set up.

@@ -22,6 +22,9 @@ pub enum WorldError {
     /// 53: the station refuses it.
     #[error("{0}")]
     Station(StationError),
+    /// 54: timer T1 of an end that awaits UA, while its SABM, or a UA to it, is on the line.
+    #[error("the set-up is still on the line")]
+    OnLine,
     /// 70: a growth was refused.
     #[error("no memory")]
     NoMemory,
@@ -50,6 +53,7 @@ impl WorldError {
             WorldError::NoSuchFrame => 51,
             WorldError::Unseen => 52,
             WorldError::Station(_) => 53,
+            WorldError::OnLine => 54,
             WorldError::NoMemory => 70,
         }
     }

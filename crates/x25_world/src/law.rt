@@ -1,18 +1,20 @@
 //! Two stations over a line, as laws about their definition. Each is the contract of a function that does nothing.
 ghost use Rattle.x25_station.specs.ReadLaw.{AreOctets};
 ghost use Rattle.x25_world.specs.World.{event_of};
-ghost use Rattle.x25_world.specs.WorldRows.{SetsUp, MessageArrives, LostArrives, DamagedArrives, DisconnectEndsBoth, IsRefused};
-ghost use Rattle.x25_world.specs.Claims.{ActsInOctets, Always, IsSetUp, IsLawful, IsNamed, ArrivesAll, HasNoProcedureError, IsInWindow, IsUpOnce};
+ghost use Rattle.x25_world.specs.WorldRows.{SetsUp, MessageArrives, LostArrives, DamagedArrives, DisconnectEndsBoth, ConnectSetsUp, ConnectGoesAgain, TimerWaits, IsRefused};
+ghost use Rattle.x25_world.specs.Claims.{ActsInOctets, Always, IsSetUp, IsLawful, IsNamed, ArrivesAll, HasNoProcedureError, IsInWindow, UpOnceUnlessConnected};
 
 use crate::Event;
 use x25_frame::reads_what_is_spelled;
 use x25_layer::{names_are_told, two_layers_keep_order};
-use x25_line::stations_keep_order;
+use x25_line::{each_event_hands_one, stations_keep_order};
 use x25_link::{notes_what_changes, sets_up_by_rows};
 use x25_station::{Cmd, puts_are_readable, steps_are_joined, steps_keep_bounds};
 
-/// Two stations joined by a line of octets that keeps order and may lose or visibly damage any frame, the link set up once: what
-/// holds after each list of commands, deliveries, losses, damage and firings of timer T1, wherever an event is refused.
+/// Two stations joined by a line of octets that keeps order and may lose or visibly damage any frame, from a link just set up: what
+/// holds after each list of commands, deliveries, losses, damage and firings of timer T1, wherever an event is refused, as long as the link
+/// isn't set up anew, by which an end tells of LinkUp again. By `up_once` it never is where no `connect` of the list is accepted, so that a
+/// list without `connect` has no other premise than those below.
 ///
 /// - `set_up`: SABM is there to be delivered, and then UA.
 /// - `lawful`: on each channel and under each name of a stretch, the messages, interrupts and calls that an end hands up are a
@@ -22,7 +24,7 @@ use x25_station::{Cmd, puts_are_readable, steps_are_joined, steps_keep_bounds};
 ///   open.
 /// - `quiet`: no FRMR, no CLEAR, RESET or RESTART with a cause of an error was ever put on the line, and no user was told of a fault.
 /// - `window`: the two links are a run of the window machine, with the unbounded numbers behind those on the line in its window.
-/// - `up_once`: LinkUp is noted once at each end, in set-up.
+/// - `up_once`: where no `connect` is accepted, each end tells of LinkUp once, in set-up.
 ///
 /// Premises: k is 1 to 7, N2 1 to 255, channels 1 to 16, and the users hand down octets.
 pub fn two_stations_keep_order()
@@ -32,9 +34,10 @@ pub fn two_stations_keep_order()
     ensures arrives { Always ArrivesAll }
     ensures quiet { Always HasNoProcedureError }
     ensures window { Always IsInWindow }
-    ensures up_once { Always IsUpOnce }
+    ensures up_once { UpOnceUnlessConnected }
 {
     stations_keep_order();
+    each_event_hands_one();
     two_layers_keep_order();
     names_are_told();
     steps_are_joined();
@@ -46,13 +49,17 @@ pub fn two_stations_keep_order()
 }
 
 /// Worked rows: the octets of set-up; a message that arrives, also where its frame is lost or damaged and goes again; `disconnect`,
-/// by which both ends go down; and refusals.
+/// by which both ends go down; `connect`, by which both come up, also where both ask, or UA is lost; timer T1, which waits for SABM and UA that
+/// are on the line; and refusals.
 pub fn two_stations_move()
     ensures sets_up { SetsUp }
     ensures arrives { MessageArrives }
     ensures lost { LostArrives }
     ensures damaged { DamagedArrives }
     ensures disconnect { DisconnectEndsBoth }
+    ensures connect { ConnectSetsUp }
+    ensures connect_again { ConnectGoesAgain }
+    ensures timer { TimerWaits }
     ensures refused { IsRefused }
 {}
 

@@ -7,6 +7,7 @@ mod event;
 mod law;
 mod line;
 mod on_line;
+mod set_up;
 mod told;
 mod world;
 

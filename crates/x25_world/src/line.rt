@@ -107,11 +107,11 @@ impl Line {
         }
     }
 
-    /// The front frame on the line to this end.
-    pub fn front(&self, to: Role) -> Option<&[u8]>
-        ensures { option_copied result ≡ slice_get (line_to self.now to) 0 }
+    /// The frame at this place on the line to this end, 0 at the front.
+    pub fn get(&self, to: Role, place: usize) -> Option<&[u8]>
+        ensures { option_copied result ≡ slice_get (line_to self.now to) place }
     {
-        let Some(frame) = self.queue(to).front() else {
+        let Some(frame) = self.queue(to).get(place) else {
             return None;
         };
         Some(octets(&self.tap, frame))

@@ -5,10 +5,10 @@ ghost use Rattle.x25_station.specs.Settings.{settings_from, config_refusal};
 ghost use Rattle.x25_station.specs.Station as station;
 ghost use Rattle.x25_world.specs.PlainTold.{plain_tapped, plain_entered};
 ghost use Rattle.x25_world.specs.ShownWorld.{line_of, station_of};
-ghost use Rattle.x25_world.specs.FitsWorld.{Gone, all_of, nothing_gone, FitsWorld, FitsRun, and_then, and_all, HoldsAfter, IsRefusal, TakesMemory, StopsAt, RefusesConfig};
+ghost use Rattle.x25_world.specs.FitsWorld.{Gone, all_of, nothing_gone, FitsWorld, FitsRun, and_then, and_all, HoldsAfter, UpOnceAfter, IsRefusal, TakesMemory, StopsAt, RefusesConfig};
 ghost use Rattle.x25_world.specs.Claims.{IsLawful, IsNamed, ArrivesAll, HasNoProcedureError, IsInWindow, IsUpOnce};
 ghost use Rattle.x25_world.specs.World as definition;
-ghost use Rattle.x25_world.specs.World.{event_of, happens, after, refusal_of, run, AreAccepted, apart, connected, start};
+ghost use Rattle.x25_world.specs.World.{event_of, happens, after, refusal_of, run, AreAccepted, start, connected, established};
 
 use crate::acting::{act, connect};
 use crate::error::{WorldError, WorldRefused};
@@ -45,29 +45,40 @@ impl Model for World {
 }
 
 impl World {
-    /// Two stations whose links are down, and the DTE has asked that the link be set up: its SABM is on the line.
+    /// Two stations whose links are down, and an empty line.
+    ///
+    /// 14 where a setting is out of its range, and else 70 alone.
+    pub fn start(alloc: Global, cfg: Cfg) -> Result<World, WorldError>
+        ensures fits { IfOk result (λ v. FitsWorld cfg v start nothing_gone) }
+        ensures run { IfOk result (λ v. FitsRun cfg start v [] nothing_gone) }
+        ensures refused { RefusesConfig result (config_refusal cfg) }
+    {
+        Ok(World {
+            dte: new_station(alloc, Role::Dte, cfg)?,
+            dce: new_station(alloc, Role::Dce, cfg)?,
+            line: Line::new(alloc),
+            transcript: Vec::new(alloc),
+        })
+    }
+
+    /// Two stations whose links are down, and the DTE has asked that the link be set up: its SABM is on the line. No transcript tells of it.
     ///
     /// 14 where a setting is out of its range, and else 70 alone.
     pub fn connecting(alloc: Global, cfg: Cfg) -> Result<World, WorldError>
         ensures fits { IfOk result (λ v. FitsWorld cfg v (connected cfg) nothing_gone) }
         ensures refused { RefusesConfig result (config_refusal cfg) }
     {
-        let mut world = World {
-            dte: new_station(alloc, Role::Dte, cfg)?,
-            dce: new_station(alloc, Role::Dce, cfg)?,
-            line: Line::new(alloc),
-            transcript: Vec::new(alloc),
-        };
+        let mut world = World::start(alloc, cfg)?;
         if let Err(error) = world.connect() {
             return Err(error);
         }
         Ok(world)
     }
 
-    // The DTE, which never was up, asks that the link be set up.
+    // The DTE, whose link is down, asks that it be set up.
     fn connect(&mut self) -> Result<(), WorldError>
-        ensures fits { (cfg : Cfg) → FitsWorld cfg self.old apart nothing_gone → OnOk result (FitsWorld cfg self.new (connected cfg) nothing_gone) }
-        ensures refused { (cfg : Cfg) → FitsWorld cfg self.old apart nothing_gone → IfErr result (λ e. e ≡ WorldError.NoMemory) }
+        ensures fits { (cfg : Cfg) → FitsWorld cfg self.old start nothing_gone → OnOk result (FitsWorld cfg self.new (connected cfg) nothing_gone) }
+        ensures refused { (cfg : Cfg) → FitsWorld cfg self.old start nothing_gone → IfErr result (λ e. e ≡ WorldError.NoMemory) }
     {
         connect(
             Role::Dte,
@@ -81,15 +92,15 @@ impl World {
     ///
     /// 14 where a setting is out of its range, and else 70 alone.
     pub fn establish(alloc: Global, cfg: Cfg) -> Result<World, WorldError>
-        ensures fits { IfOk result (λ v. FitsWorld cfg v (start cfg) nothing_gone) }
-        ensures run { IfOk result (λ v. FitsRun cfg v [] nothing_gone) }
+        ensures fits { IfOk result (λ v. FitsWorld cfg v (established cfg) nothing_gone) }
+        ensures run { IfOk result (λ v. FitsRun cfg (established cfg) v [] nothing_gone) }
         ensures refused { RefusesConfig result (config_refusal cfg) }
-        ensures lawful { OnOk result (IsLawful cfg (start cfg)) }
-        ensures named { OnOk result (IsNamed cfg (start cfg)) }
-        ensures arrives { OnOk result (ArrivesAll cfg (start cfg)) }
-        ensures quiet { OnOk result (HasNoProcedureError cfg (start cfg)) }
-        ensures window { OnOk result (IsInWindow cfg (start cfg)) }
-        ensures up_once { OnOk result (IsUpOnce cfg (start cfg)) }
+        ensures lawful { OnOk result (IsLawful cfg (established cfg)) }
+        ensures named { OnOk result (IsNamed cfg (established cfg)) }
+        ensures arrives { OnOk result (ArrivesAll cfg (established cfg)) }
+        ensures quiet { OnOk result (HasNoProcedureError cfg (established cfg)) }
+        ensures window { OnOk result (IsInWindow cfg (established cfg)) }
+        ensures up_once { OnOk result (IsUpOnce cfg (established cfg)) }
     {
         two_stations_keep_order();
         let mut world = World::connecting(alloc, cfg)?;
@@ -101,7 +112,7 @@ impl World {
 
     // SABM and UA are delivered.
     fn set_up(&mut self) -> Result<(), WorldError>
-        ensures fits { (cfg : Cfg) → FitsWorld cfg self.old (connected cfg) nothing_gone → OnOk result (FitsWorld cfg self.new (start cfg) nothing_gone) }
+        ensures fits { (cfg : Cfg) → FitsWorld cfg self.old (connected cfg) nothing_gone → OnOk result (FitsWorld cfg self.new (established cfg) nothing_gone) }
         ensures refused { (cfg : Cfg) → FitsWorld cfg self.old (connected cfg) nothing_gone → IfErr result (λ e. e ≡ WorldError.NoMemory) }
     {
         two_stations_keep_order();
@@ -113,7 +124,7 @@ impl World {
 
     /// Lets the event happen.
     ///
-    /// Refused with the one ground that applies, 50, 51, 52 or 53, and else accepted; 70 where memory is refused, which `Lose` takes none of. Then the
+    /// Refused with the one ground that applies, 50, 51, 52, 53 or 54, and else accepted; 70 where memory is refused, which `Lose` takes none of. Then the
     /// world is as before.
     pub fn apply(&mut self, event: Event) -> Result<(), WorldError>
         ensures step { (cfg : Cfg) (w : definition.World) (gone : Gone) → FitsWorld cfg self.old w gone → OnOk result (FitsWorld cfg self.new (after w (happens cfg w (event_of event.entry))) gone) }
@@ -122,14 +133,14 @@ impl World {
         ensures stays { (cfg : Cfg) (w : definition.World) (gone : Gone) → FitsWorld cfg self.old w gone → OnErr result (FitsWorld cfg self.new w gone) }
         ensures memory { IsErrOf result WorldError.NoMemory → TakesMemory (event_of event.entry).act }
 
-        // The world is that of a run, and of each run this is proved.
-        ensures run { (cfg : Cfg) (past : List definition.Event) (gone : Gone) → FitsRun cfg self.old past gone → FitsRun cfg self.new (and_then past (event_of event.entry) result) gone }
+        // The world is that of a run, and of each run from a link just set up, which isn't set up anew, this is proved.
+        ensures run { (cfg : Cfg) (from : definition.World) (past : List definition.Event) (gone : Gone) → FitsRun cfg from self.old past gone → FitsRun cfg from self.new (and_then past (event_of event.entry) result) gone }
         ensures lawful { HoldsAfter IsLawful self.old (λ past. and_then past (event_of event.entry) result) }
         ensures named { HoldsAfter IsNamed self.old (λ past. and_then past (event_of event.entry) result) }
         ensures arrives { HoldsAfter ArrivesAll self.old (λ past. and_then past (event_of event.entry) result) }
         ensures quiet { HoldsAfter HasNoProcedureError self.old (λ past. and_then past (event_of event.entry) result) }
         ensures window { HoldsAfter IsInWindow self.old (λ past. and_then past (event_of event.entry) result) }
-        ensures up_once { HoldsAfter IsUpOnce self.old (λ past. and_then past (event_of event.entry) result) }
+        ensures up_once { UpOnceAfter self.old (λ past. and_then past (event_of event.entry) result) }
     {
         two_stations_keep_order();
         hands_down_octets(event);
@@ -168,14 +179,14 @@ impl World {
         ensures accepted { (cfg : Cfg) (w : definition.World) (gone : Gone) → FitsWorld cfg self.old w gone → OnOk result (AreAccepted cfg (map event_of events.now) w) }
         ensures stopped { (cfg : Cfg) (w : definition.World) (gone : Gone) → FitsWorld cfg self.old w gone → IfErr result (StopsAt cfg (map event_of events.now) w gone self.new) }
 
-        // The world is that of a run, and of each run this is proved.
-        ensures run { (cfg : Cfg) (past : List definition.Event) (gone : Gone) → FitsRun cfg self.old past gone → FitsRun cfg self.new (and_all past (map event_of events.now) result) gone }
+        // The world is that of a run, and of each run from a link just set up, which isn't set up anew, this is proved.
+        ensures run { (cfg : Cfg) (from : definition.World) (past : List definition.Event) (gone : Gone) → FitsRun cfg from self.old past gone → FitsRun cfg from self.new (and_all past (map event_of events.now) result) gone }
         ensures lawful { HoldsAfter IsLawful self.old (λ past. and_all past (map event_of events.now) result) }
         ensures named { HoldsAfter IsNamed self.old (λ past. and_all past (map event_of events.now) result) }
         ensures arrives { HoldsAfter ArrivesAll self.old (λ past. and_all past (map event_of events.now) result) }
         ensures quiet { HoldsAfter HasNoProcedureError self.old (λ past. and_all past (map event_of events.now) result) }
         ensures window { HoldsAfter IsInWindow self.old (λ past. and_all past (map event_of events.now) result) }
-        ensures up_once { HoldsAfter IsUpOnce self.old (λ past. and_all past (map event_of events.now) result) }
+        ensures up_once { UpOnceAfter self.old (λ past. and_all past (map event_of events.now) result) }
     {
         two_stations_keep_order();
         self.happen_all(events)
@@ -186,7 +197,7 @@ impl World {
         ensures step { (cfg : Cfg) (w : definition.World) (gone : Gone) → FitsWorld cfg self.old w gone → OnOk result (FitsWorld cfg self.new (run cfg (map event_of events.now) w) gone) }
         ensures accepted { (cfg : Cfg) (w : definition.World) (gone : Gone) → FitsWorld cfg self.old w gone → OnOk result (AreAccepted cfg (map event_of events.now) w) }
         ensures stopped { (cfg : Cfg) (w : definition.World) (gone : Gone) → FitsWorld cfg self.old w gone → IfErr result (StopsAt cfg (map event_of events.now) w gone self.new) }
-        ensures run { (cfg : Cfg) (past : List definition.Event) (gone : Gone) → FitsRun cfg self.old past gone → FitsRun cfg self.new (and_all past (map event_of events.now) result) gone }
+        ensures run { (cfg : Cfg) (from : definition.World) (past : List definition.Event) (gone : Gone) → FitsRun cfg from self.old past gone → FitsRun cfg from self.new (and_all past (map event_of events.now) result) gone }
     {
         for index in 0..events.len() {
             if let Err(error) = self.apply(events[index]) {
@@ -230,7 +241,7 @@ impl World {
     /// Lets go of what was told: tap and transcript begin anew. The line and the stations are as before.
     pub fn let_go(&mut self)
         ensures fits { (cfg : Cfg) (w : definition.World) (gone : Gone) → FitsWorld cfg self.old w gone → FitsWorld cfg self.new w (all_of w) }
-        ensures run { (cfg : Cfg) (past : List definition.Event) (gone : Gone) → FitsRun cfg self.old past gone → FitsRun cfg self.new past (all_of (run cfg past (start cfg))) }
+        ensures run { (cfg : Cfg) (from : definition.World) (past : List definition.Event) (gone : Gone) → FitsRun cfg from self.old past gone → FitsRun cfg from self.new past (all_of (run cfg past from)) }
         ensures empty { self.new ≡ record self.old { tap = []; transcript = [] } }
     {
         self.line.let_go();

@@ -11,3 +11,5 @@ mod play;
 mod refusals;
 #[cfg(test)]
 mod rows;
+#[cfg(test)]
+mod set_ups;

@@ -6,7 +6,7 @@ use std::alloc::Global;
 use std::process::Abort;
 use std::test::Fail;
 use x25_layer::Params;
-use x25_station::{Cfg, Cmd};
+use x25_station::{Cfg, Cmd, Entry};
 use x25_world::Direction::{ToDce, ToDte};
 use x25_world::Role::{Dce, Dte};
 use x25_world::{Direction, Event, Role, World, WorldError};
@@ -102,7 +102,7 @@ fn direction(numbers: &mut Numbers) -> Direction {
 }
 
 /// The kinds of commands, and then those of the other events.
-const COMMANDS: usize = 12;
+const COMMANDS: usize = 13;
 
 const KINDS: usize = COMMANDS + 4;
 
@@ -140,12 +140,13 @@ fn command(numbers: &mut Numbers, kind: usize, channels: u8) -> Cmd<'static> {
             params: params(numbers),
         },
         10 => Cmd::Restart,
+        11 => Cmd::Connect,
         _ => Cmd::Disconnect,
     }
 }
 
 // How often each kind of command comes, of 64.
-const OFTEN: [usize; COMMANDS] = [8, 9, 2, 20, 6, 1, 2, 1, 6, 7, 1, 1];
+const OFTEN: [usize; COMMANDS] = [8, 9, 2, 19, 6, 1, 2, 1, 6, 7, 1, 1, 1];
 
 fn kind_of_command(numbers: &mut Numbers) -> usize {
     let mut left = numbers.below(64);
@@ -244,14 +245,26 @@ fn all_came(rt: &impl Abort, world: &World, channels: u8, list: usize) -> usize 
     open
 }
 
-/// How often each kind of event was accepted, and in how many stretches all came.
+/// How often each kind of event was accepted, in how many stretches all came, and in how many lists the link was set up anew.
 #[derive(Drop)]
 struct Tally {
     accepted: [usize; KINDS],
     open: usize,
+    anew: usize,
 }
 
-// Plays a list of events at a world whose link was just set up.
+// Whether an end went up again, so that the names of stretches began anew.
+fn is_set_up_anew(world: &World) -> bool {
+    let mut ups = 0usize;
+    for entered in world.transcript() {
+        if matches!(entered.entry, Entry::LinkUp) {
+            ups = ups.saturating_add(1);
+        }
+    }
+    ups > 2
+}
+
+// Plays a list of events at a world whose link was just set up, up to the event by which it is set up anew.
 fn play(
     rt: &impl Abort,
     world: &mut World,
@@ -261,13 +274,23 @@ fn play(
     tally: &mut Tally,
 ) {
     for _ in 0..EVENTS {
+        let told = world.transcript().len();
         let (kind, event) = event(numbers, channels);
         if is_accepted(rt, world, event) && kind < KINDS {
             tally.accepted[kind] = tally.accepted[kind].saturating_add(1);
         }
+        if is_set_up_anew(world) {
+            is_lawful(rt, world.transcript().get(..told).unwrap_or(&[]), list);
+            tally.anew = tally.anew.saturating_add(1);
+            return;
+        }
     }
     is_lawful(rt, world.transcript(), list);
     settle(rt, world);
+    if is_set_up_anew(world) {
+        tally.anew = tally.anew.saturating_add(1);
+        return;
+    }
     is_lawful(rt, world.transcript(), list);
     let open = all_came(rt, world, channels, list);
     tally.open = tally.open.saturating_add(open);
@@ -291,6 +314,7 @@ fn what_comes_is_what_was_sent(rt: HostRuntime) -> Result<(), Fail> {
     let mut tally = Tally {
         accepted: [0; KINDS],
         open: 0,
+        anew: 0,
     };
     for list in 0..LISTS {
         play_list(&rt, rt.alloc(), list, &mut tally)?;
@@ -300,5 +324,7 @@ fn what_comes_is_what_was_sent(rt: HostRuntime) -> Result<(), Fail> {
     }
     let open = tally.open;
     assert!(rt; open > 200, "only {open} stretches were open");
+    let anew = tally.anew;
+    assert!(rt; anew > 0, "no link was set up anew");
     Ok(())
 }

@@ -4,7 +4,6 @@ use std::alloc::Global;
 use std::str;
 use std::test::Fail;
 use x25_entries::entry_line;
-use x25_station::Cfg;
 use x25_world::{Direction, Event, World, WorldError};
 
 /// What is played.
@@ -34,15 +33,15 @@ pub fn number_of(error: WorldError) -> u8 {
 }
 
 impl Play {
-    /// A world whose link was just set up. It lets go of what was told after each event, where `lets_go` says so.
-    pub fn begin(alloc: Global, cfg: Cfg, lets_go: bool) -> Result<Play, Fail> {
-        Ok(Play {
-            world: World::establish(alloc, cfg)?,
+    /// What is played at this world. It lets go of what was told after each event, where `lets_go` says so.
+    pub fn begin(alloc: Global, world: World, lets_go: bool) -> Play {
+        Play {
+            world,
             text: Vec::new(alloc),
             alloc,
             told: 0,
             lets_go,
-        })
+        }
     }
 
     // Writes what was told since it was last called.

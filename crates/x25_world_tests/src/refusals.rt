@@ -11,7 +11,7 @@ use x25_world::Role::{Dce, Dte};
 use x25_world::{Event, World, WorldError, WorldRefused};
 
 /// Each error, its number, and its message.
-const NUMBERS: [(WorldError, u8, &str); 6] = [
+const NUMBERS: [(WorldError, u8, &str); 7] = [
     (WorldError::BadConfig, 14, "a parameter is out of range"),
     (WorldError::Empty, 50, "nothing on the line"),
     (WorldError::NoSuchFrame, 51, "no such frame on the line"),
@@ -21,6 +21,7 @@ const NUMBERS: [(WorldError, u8, &str); 6] = [
         53,
         "a parameter is out of range",
     ),
+    (WorldError::OnLine, 54, "the set-up is still on the line"),
     (WorldError::NoMemory, 70, "no memory"),
 ];
 
@@ -51,6 +52,11 @@ fn establishes(alloc: Global, cfg: Cfg) -> Result<(), WorldError> {
     Ok(())
 }
 
+fn starts(alloc: Global, cfg: Cfg) -> Result<(), WorldError> {
+    World::start(alloc, cfg)?;
+    Ok(())
+}
+
 #[test]
 fn settings_are_in_range(rt: HostRuntime) {
     for (k, n2, channels, is_fine) in SETTINGS {
@@ -61,6 +67,7 @@ fn settings_are_in_range(rt: HostRuntime) {
             Err(WorldError::BadConfig)
         };
         assert_eq!(rt; establishes(rt.alloc(), cfg), wanted, "{cfg:?}");
+        assert_eq!(rt; starts(rt.alloc(), cfg), wanted, "{cfg:?}");
     }
 }
 

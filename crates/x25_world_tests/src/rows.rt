@@ -77,6 +77,8 @@ const RESETS: Act = Do(Command(Dte, Cmd::Reset { channel: 1 }));
 
 const RESTARTS: Act = Do(Command(Dte, Cmd::Restart));
 
+const CONNECTS: Act = Do(Command(Dte, Cmd::Connect));
+
 const DISCONNECTS: Act = Do(Command(Dte, Cmd::Disconnect));
 
 const SENDS_HI: Act = Do(Command(
@@ -109,7 +111,7 @@ const SENDS_A: Act = Do(Command(
 /// What a run shows, its settings, what is played, and the lines.
 type Row = (&'static str, Cfg, &'static [Act], &'static str);
 
-const ROWS: [Row; 13] = [
+const ROWS: [Row; 14] = [
     (
         "set-up alone",
         USUAL,
@@ -218,6 +220,28 @@ const ROWS: [Row; 13] = [
          dte linkup\n\
          dte linkdown retries\n\
          ! 9\n",
+    ),
+    (
+        "a link that is given up is set up anew",
+        ONE_TRY,
+        &[
+            Do(Lose(ToDce, 0)),
+            Do(T1(Dte)),
+            Do(T1(Dte)),
+            CALLS_12,
+            CONNECTS,
+            Drain,
+        ],
+        "dce linkup\n\
+         dte linkup\n\
+         dte linkdown retries\n\
+         ! 9\n\
+         dte connect\n\
+         dce linkdown reset\n\
+         dce linkup\n\
+         dte linkup\n\
+         dce restarted cause=0 diag=0\n\
+         dte restarted cause=7 diag=0\n",
     ),
     (
         "calls take the highest and the lowest free channel",
@@ -374,7 +398,7 @@ fn tells(rt: &impl Abort, play: &mut Play, row: Row) -> Result<(), Fail> {
 
 fn play_row(rt: &impl Abort, alloc: Global, row: Row, lets_go: bool) -> Result<(), Fail> {
     let (_, cfg, _, _) = row;
-    let mut play = Play::begin(alloc, cfg, lets_go)?;
+    let mut play = Play::begin(alloc, World::establish(alloc, cfg)?, lets_go);
     tells(rt, &mut play, row)
 }
 

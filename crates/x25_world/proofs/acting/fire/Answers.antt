@@ -1,14 +1,22 @@
-use Rattle.std.proofs.Common.{sym}
-use Rattle.x25_world.proofs.SideLemmas.{shared_of, has_happened, is_refusal, side_stays}
+use Rattle.std.proofs.Common.{sym, ap, inl, ◌∙◌}
+use Rattle.x25_station.specs.Settings.{settings_from}
+use Rattle.x25_world.specs.World.{refusal_of}
+use Rattle.x25_world.proofs.SideLemmas.{shared_of, has_happened, is_refusal, side_stays, holds_back, lets_fire}
 use Rattle.x25_world.proofs.acting.fire.Goals as goal
+
+pub returns-then-awaits_frames : goal.returns-then-awaits_frames
+returns-then-awaits_frames c = λ cfg w gone side.
+    let held = holds_back (settings_from c.args.at cfg) w (sym (c.awaits_frames.ensures cfg w _ gone side) ∙ c.if-awaits_frames.true) in
+    record { happened = tt; refused = inl (ap refusal_of held); stays = side }
 
 pub returns-in-Ok : goal.returns-in-Ok
 returns-in-Ok c = λ cfg w gone side.
+    let fires = lets_fire (settings_from c.args.at cfg) w (sym (c.awaits_frames.ensures cfg w _ gone side) ∙ c.if-awaits_frames.false) in
     let fits = side.near in
     let shared = rw (sym c.make_room.ensures.line) at (shared_of cfg c.args.at _ c.args.line.now _ w gone c.make_room.new.line.room side) in
     let called = c.in-Ok.ensures in
     record {
-      happened = rw (c.tell.ensures.line, c.tell.ensures.transcript, c.make_room.ensures.transcript)
+      happened = rw (fires, c.tell.ensures.line, c.tell.ensures.transcript, c.make_room.ensures.transcript)
           (has_happened cfg c.args.at _ _ _ w gone _ c.in-Ok.step shared (called.state _ _ fits) (called.frames _ _ fits) (called.entries _ _ fits) (called.refused _ _ fits));
       refused = tt;
       stays = tt;
@@ -16,10 +24,11 @@ returns-in-Ok c = λ cfg w gone side.
 
 pub returns-in-Err : goal.returns-in-Err
 returns-in-Err c = λ cfg w gone side.
+    let fires = lets_fire (settings_from c.args.at cfg) w (sym (c.awaits_frames.ensures cfg w _ gone side) ∙ c.if-awaits_frames.false) in
     let fits = side.near in
     let called = c.in-Err.ensures in
     record {
       happened = tt;
-      refused = rw c.of_station.ensures (is_refusal cfg c.args.at w _ c.in-Err.error (called.refused _ _ fits));
+      refused = rw (fires, c.of_station.ensures) (is_refusal cfg c.args.at w _ c.in-Err.error (called.refused _ _ fits));
       stays = rw (c.make_room.ensures.line, c.make_room.ensures.transcript) (side_stays cfg c.args.at _ _ c.args.line.now _ w gone c.make_room.new.line.room side (called.stays _ _ fits));
     }

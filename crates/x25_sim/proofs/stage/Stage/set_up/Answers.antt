@@ -1,6 +1,6 @@
 use Rattle.std.proofs.Common.{◌∙◌, [], false}
 use Rattle.x25_bits.specs.declared.role.Role.TheVariants.{Dte, Dce}
-use Rattle.x25_world.specs.World.{Event, Receives, apart, connected}
+use Rattle.x25_world.specs.World.{Event, Receives, start, connected}
 use Rattle.x25_sim.specs.Simulated.{and_then, connecting, event_turn, set_up}
 use Rattle.x25_sim.specs.Stands.{IsConnecting}
 use Rattle.x25_sim.proofs.StandLemmas.{stands_connecting, stands_behind, begins_behind, begins_before}
@@ -17,14 +17,14 @@ unfolding set_up IsConnecting
 returns-in-Err-clause-stood g c = λ cfg old fits status tells.
     let tap = c.args.self.now.tap in
     begins_before cfg tap old _ c.end_step.new.self [] false (event_turn cfg tap to_dte) (and_then (event_turn cfg tap to_dce) (connecting cfg tap))
-    (begins_before cfg tap old _ c.end_step.new.self [] false (event_turn cfg tap to_dce) (connecting cfg tap) (c.in-Err.ensures.tells cfg old [] apart (connected cfg) fits tells))
+    (begins_before cfg tap old _ c.end_step.new.self [] false (event_turn cfg tap to_dce) (connecting cfg tap) (c.in-Err.ensures.tells cfg old [] start (connected cfg) fits tells))
 
 pub returns-in-Err-happen-clause-stood : goal.returns-in-Err-happen-clause-stood
 unfolding set_up IsConnecting
 returns-in-Err-happen-clause-stood g c = λ cfg old fits status tells.
     let tap = c.args.self.now.tap in
-    let first = stands_connecting cfg tap old _ c.end_step.new.self (c.in_default.ensures.world cfg apart (connected cfg) fits) c.in_default.ensures.tap (c.in_default.ensures.is_refused ∙ status)
-    (c.in_default.ensures.tells cfg old [] apart (connected cfg) fits tells) in
+    let first = stands_connecting cfg tap old _ c.end_step.new.self (c.in_default.ensures.world cfg start (connected cfg) fits) c.in_default.ensures.tap (c.in_default.ensures.is_refused ∙ status)
+    (c.in_default.ensures.tells cfg old [] start (connected cfg) fits tells) in
     begins_before cfg tap old _ c.happen.new.self [] false (event_turn cfg tap to_dte) (and_then (event_turn cfg tap to_dce) (connecting cfg tap))
     (begins_behind cfg tap old _ c.happen.new.self [] false (event_turn cfg tap to_dce) (connecting cfg tap) (c.in-Err-happen.ensures.turns cfg tap old _ _ _ first))
 
@@ -32,8 +32,8 @@ pub returns-in-Ok-clause-stood : goal.returns-in-Ok-clause-stood
 unfolding set_up IsConnecting
 returns-in-Ok-clause-stood g c = λ cfg old fits status tells.
     let tap = c.args.self.now.tap in
-    let first = stands_connecting cfg tap old _ c.end_step.new.self (c.in_default.ensures.world cfg apart (connected cfg) fits) c.in_default.ensures.tap (c.in_default.ensures.is_refused ∙ status)
-    (c.in_default.ensures.tells cfg old [] apart (connected cfg) fits tells) in
+    let first = stands_connecting cfg tap old _ c.end_step.new.self (c.in_default.ensures.world cfg start (connected cfg) fits) c.in_default.ensures.tap (c.in_default.ensures.is_refused ∙ status)
+    (c.in_default.ensures.tells cfg old [] start (connected cfg) fits tells) in
     let second = stands_behind cfg tap old _ c.happen.new.self [] false (event_turn cfg tap to_dce) (connecting cfg tap) (c.in_default-happen.ensures.turns cfg tap old _ _ _ first) in
     stands_behind cfg tap old _ c.happen-2.new.self [] false (event_turn cfg tap to_dte) (and_then (event_turn cfg tap to_dce) (connecting cfg tap)) (c.in-Ok.ensures.turns cfg tap old _ _ _ second)
 
@@ -41,7 +41,7 @@ pub returns-in-Err-happen-2-clause-stood : goal.returns-in-Err-happen-2-clause-s
 unfolding set_up IsConnecting
 returns-in-Err-happen-2-clause-stood g c = λ cfg old fits status tells.
     let tap = c.args.self.now.tap in
-    let first = stands_connecting cfg tap old _ c.end_step.new.self (c.in_default.ensures.world cfg apart (connected cfg) fits) c.in_default.ensures.tap (c.in_default.ensures.is_refused ∙ status)
-    (c.in_default.ensures.tells cfg old [] apart (connected cfg) fits tells) in
+    let first = stands_connecting cfg tap old _ c.end_step.new.self (c.in_default.ensures.world cfg start (connected cfg) fits) c.in_default.ensures.tap (c.in_default.ensures.is_refused ∙ status)
+    (c.in_default.ensures.tells cfg old [] start (connected cfg) fits tells) in
     let second = stands_behind cfg tap old _ c.happen.new.self [] false (event_turn cfg tap to_dce) (connecting cfg tap) (c.in_default-happen.ensures.turns cfg tap old _ _ _ first) in
     begins_behind cfg tap old _ c.happen-2.new.self [] false (event_turn cfg tap to_dte) (and_then (event_turn cfg tap to_dce) (connecting cfg tap)) (c.in-Err-happen-2.ensures.turns cfg tap old _ _ _ second)

@@ -1,32 +1,32 @@
-use Rattle.x25_world.proofs.WorldLemmas.{run_and_then, holds_after}
-use Rattle.x25_world.specs.Claims.{IsLawful, IsNamed, ArrivesAll, HasNoProcedureError, IsInWindow, IsUpOnce}
+use Rattle.x25_world.proofs.WorldLemmas.{run_and_then, holds_after, up_once_after}
+use Rattle.x25_world.specs.Claims.{IsLawful, IsNamed, ArrivesAll, HasNoProcedureError, IsInWindow}
 use Rattle.x25_world.proofs.world.World.apply.Goals as goal
 
 pub returns-clause-run : goal.returns-clause-run
-returns-clause-run c = λ cfg past gone h.
+returns-clause-run c = λ cfg from past gone h.
     let called = c.happen.ensures in
-    run_and_then cfg _ _ past gone _ c.happen.result h c.hands_down_octets.ensures (λ w. called.step cfg w gone) (λ w. called.accepted cfg w gone) (λ w. called.stays cfg w gone)
+    run_and_then cfg from _ _ past gone _ c.happen.result h c.hands_down_octets.ensures (λ w. called.step cfg w gone) (λ w. called.accepted cfg w gone) (λ w. called.stays cfg w gone)
 
 pub returns-clause-lawful : goal.returns-clause-lawful
-returns-clause-lawful c = λ cfg past gone h.
-    holds_after IsLawful _ cfg _ gone c.two_stations_keep_order.ensures.lawful ((returns-clause-run c) cfg past gone h)
+returns-clause-lawful c = λ cfg past gone h once.
+    holds_after IsLawful _ cfg _ gone c.two_stations_keep_order.ensures.lawful ((returns-clause-run c) cfg _ past gone h) once
 
 pub returns-clause-named : goal.returns-clause-named
-returns-clause-named c = λ cfg past gone h.
-    holds_after IsNamed _ cfg _ gone c.two_stations_keep_order.ensures.named ((returns-clause-run c) cfg past gone h)
+returns-clause-named c = λ cfg past gone h once.
+    holds_after IsNamed _ cfg _ gone c.two_stations_keep_order.ensures.named ((returns-clause-run c) cfg _ past gone h) once
 
 pub returns-clause-arrives : goal.returns-clause-arrives
-returns-clause-arrives c = λ cfg past gone h.
-    holds_after ArrivesAll _ cfg _ gone c.two_stations_keep_order.ensures.arrives ((returns-clause-run c) cfg past gone h)
+returns-clause-arrives c = λ cfg past gone h once.
+    holds_after ArrivesAll _ cfg _ gone c.two_stations_keep_order.ensures.arrives ((returns-clause-run c) cfg _ past gone h) once
 
 pub returns-clause-quiet : goal.returns-clause-quiet
-returns-clause-quiet c = λ cfg past gone h.
-    holds_after HasNoProcedureError _ cfg _ gone c.two_stations_keep_order.ensures.quiet ((returns-clause-run c) cfg past gone h)
+returns-clause-quiet c = λ cfg past gone h once.
+    holds_after HasNoProcedureError _ cfg _ gone c.two_stations_keep_order.ensures.quiet ((returns-clause-run c) cfg _ past gone h) once
 
 pub returns-clause-window : goal.returns-clause-window
-returns-clause-window c = λ cfg past gone h.
-    holds_after IsInWindow _ cfg _ gone c.two_stations_keep_order.ensures.window ((returns-clause-run c) cfg past gone h)
+returns-clause-window c = λ cfg past gone h once.
+    holds_after IsInWindow _ cfg _ gone c.two_stations_keep_order.ensures.window ((returns-clause-run c) cfg _ past gone h) once
 
 pub returns-clause-up_once : goal.returns-clause-up_once
-returns-clause-up_once c = λ cfg past gone h.
-    holds_after IsUpOnce _ cfg _ gone c.two_stations_keep_order.ensures.up_once ((returns-clause-run c) cfg past gone h)
+returns-clause-up_once c = λ cfg past gone h none.
+    up_once_after _ cfg _ gone c.two_stations_keep_order.ensures.up_once ((returns-clause-run c) cfg _ past gone h) none

@@ -3,19 +3,29 @@ use Rattle.x25_world.proofs.WorldLemmas.{in_range}
 use Rattle.x25_world.proofs.world.World.establish.Goals as goal
 
 pub returns-clause-lawful : goal.returns-clause-lawful
-returns-clause-lawful c = c.two_stations_keep_order.ensures.lawful c.args.cfg (in_range _ c.in_ok-world.world c.in_ok-world.ensures.refused) [] tt
+returns-clause-lawful c =
+    let fine = in_range _ c.in_ok-world.world c.in_ok-world.ensures.refused in
+    c.two_stations_keep_order.ensures.lawful c.args.cfg fine [] tt (c.two_stations_keep_order.ensures.up_once c.args.cfg fine [] tt tt)
 
 pub returns-clause-named : goal.returns-clause-named
-returns-clause-named c = c.two_stations_keep_order.ensures.named c.args.cfg (in_range _ c.in_ok-world.world c.in_ok-world.ensures.refused) [] tt
+returns-clause-named c =
+    let fine = in_range _ c.in_ok-world.world c.in_ok-world.ensures.refused in
+    c.two_stations_keep_order.ensures.named c.args.cfg fine [] tt (c.two_stations_keep_order.ensures.up_once c.args.cfg fine [] tt tt)
 
 pub returns-clause-arrives : goal.returns-clause-arrives
-returns-clause-arrives c = c.two_stations_keep_order.ensures.arrives c.args.cfg (in_range _ c.in_ok-world.world c.in_ok-world.ensures.refused) [] tt
+returns-clause-arrives c =
+    let fine = in_range _ c.in_ok-world.world c.in_ok-world.ensures.refused in
+    c.two_stations_keep_order.ensures.arrives c.args.cfg fine [] tt (c.two_stations_keep_order.ensures.up_once c.args.cfg fine [] tt tt)
 
 pub returns-clause-quiet : goal.returns-clause-quiet
-returns-clause-quiet c = c.two_stations_keep_order.ensures.quiet c.args.cfg (in_range _ c.in_ok-world.world c.in_ok-world.ensures.refused) [] tt
+returns-clause-quiet c =
+    let fine = in_range _ c.in_ok-world.world c.in_ok-world.ensures.refused in
+    c.two_stations_keep_order.ensures.quiet c.args.cfg fine [] tt (c.two_stations_keep_order.ensures.up_once c.args.cfg fine [] tt tt)
 
 pub returns-clause-window : goal.returns-clause-window
-returns-clause-window c = c.two_stations_keep_order.ensures.window c.args.cfg (in_range _ c.in_ok-world.world c.in_ok-world.ensures.refused) [] tt
+returns-clause-window c =
+    let fine = in_range _ c.in_ok-world.world c.in_ok-world.ensures.refused in
+    c.two_stations_keep_order.ensures.window c.args.cfg fine [] tt (c.two_stations_keep_order.ensures.up_once c.args.cfg fine [] tt tt)
 
 pub returns-clause-up_once : goal.returns-clause-up_once
-returns-clause-up_once c = c.two_stations_keep_order.ensures.up_once c.args.cfg (in_range _ c.in_ok-world.world c.in_ok-world.ensures.refused) [] tt
+returns-clause-up_once c = c.two_stations_keep_order.ensures.up_once c.args.cfg (in_range _ c.in_ok-world.world c.in_ok-world.ensures.refused) [] tt tt

@@ -10,7 +10,7 @@ loop-index-preserved c = record {
   accepted = λ cfg w gone fits.
       accepted_more cfg c.args.events.now c.loop-index.index _ w c.loop-index-test.true (c.loop-index.invariant.accepted cfg w gone fits)
       (c.in_default.ensures.accepted cfg _ gone (c.loop-index.invariant.happened cfg w gone fits));
-  run = λ cfg past gone h. run_more cfg _ past gone c.args.events.now c.loop-index.index _ c.loop-index-test.true (c.in_default.ensures.run cfg _ gone (c.loop-index.invariant.run cfg past gone h));
+  run = λ cfg from past gone h. run_more cfg from _ past gone c.args.events.now c.loop-index.index _ c.loop-index-test.true (c.in_default.ensures.run cfg from _ gone (c.loop-index.invariant.run cfg from past gone h));
 }
 
 pub returns-clause-step : goal.returns-clause-step
@@ -26,7 +26,7 @@ returns-in-Err-clause-stopped c = λ cfg w gone fits.
     (c.in-Err.ensures.stays cfg _ gone now) (c.in-Err.ensures.refused cfg _ gone now)
 
 pub returns-clause-run : goal.returns-clause-run
-returns-clause-run c = λ cfg past gone h. run_all cfg _ past gone c.args.events.now c.loop-index.index (omega arith) (c.loop-index.invariant.run cfg past gone h)
+returns-clause-run c = λ cfg from past gone h. run_all cfg from _ past gone c.args.events.now c.loop-index.index (omega arith) (c.loop-index.invariant.run cfg from past gone h)
 
 pub returns-in-Err-clause-run : goal.returns-in-Err-clause-run
-returns-in-Err-clause-run c = λ cfg past gone h. run_stopped cfg _ past gone c.args.events.now c.loop-index.index (c.in-Err.ensures.run cfg _ gone (c.loop-index.invariant.run cfg past gone h))
+returns-in-Err-clause-run c = λ cfg from past gone h. run_stopped cfg from _ past gone c.args.events.now c.loop-index.index (c.in-Err.ensures.run cfg from _ gone (c.loop-index.invariant.run cfg from past gone h))

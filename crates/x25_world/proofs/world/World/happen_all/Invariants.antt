@@ -9,5 +9,5 @@ abbrev pub invariant-loop-index : goal.invariant-loop-index
 invariant-loop-index l = record {
   happened : (cfg : Cfg) (w : World) (gone : Gone) → FitsWorld cfg l.initial.self w gone → FitsWorld cfg l.self (run cfg (map event_of (take l.index l.events)) w) gone;
   accepted : (cfg : Cfg) (w : World) (gone : Gone) → FitsWorld cfg l.initial.self w gone → AreAccepted cfg (map event_of (take l.index l.events)) w;
-  run : (cfg : Cfg) (past : List Event) (gone : Gone) → FitsRun cfg l.initial.self past gone → FitsRun cfg l.self (past ++ map event_of (take l.index l.events)) gone;
+  run : (cfg : Cfg) (from : World) (past : List Event) (gone : Gone) → FitsRun cfg from l.initial.self past gone → FitsRun cfg from l.self (past ++ map event_of (take l.index l.events)) gone;
 }

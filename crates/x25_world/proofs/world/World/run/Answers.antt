@@ -1,21 +1,21 @@
-use Rattle.x25_world.specs.Claims.{IsLawful, IsNamed, ArrivesAll, HasNoProcedureError, IsInWindow, IsUpOnce}
-use Rattle.x25_world.proofs.WorldLemmas.{holds_after}
+use Rattle.x25_world.specs.Claims.{IsLawful, IsNamed, ArrivesAll, HasNoProcedureError, IsInWindow}
+use Rattle.x25_world.proofs.WorldLemmas.{holds_after, up_once_after}
 use Rattle.x25_world.proofs.world.World.run.Goals as goal
 
 pub returns-clause-lawful : goal.returns-clause-lawful
-returns-clause-lawful c = λ cfg past gone h. holds_after IsLawful _ cfg _ gone c.two_stations_keep_order.ensures.lawful (c.happen_all.ensures.run cfg past gone h)
+returns-clause-lawful c = λ cfg past gone h once. holds_after IsLawful _ cfg _ gone c.two_stations_keep_order.ensures.lawful (c.happen_all.ensures.run cfg _ past gone h) once
 
 pub returns-clause-named : goal.returns-clause-named
-returns-clause-named c = λ cfg past gone h. holds_after IsNamed _ cfg _ gone c.two_stations_keep_order.ensures.named (c.happen_all.ensures.run cfg past gone h)
+returns-clause-named c = λ cfg past gone h once. holds_after IsNamed _ cfg _ gone c.two_stations_keep_order.ensures.named (c.happen_all.ensures.run cfg _ past gone h) once
 
 pub returns-clause-arrives : goal.returns-clause-arrives
-returns-clause-arrives c = λ cfg past gone h. holds_after ArrivesAll _ cfg _ gone c.two_stations_keep_order.ensures.arrives (c.happen_all.ensures.run cfg past gone h)
+returns-clause-arrives c = λ cfg past gone h once. holds_after ArrivesAll _ cfg _ gone c.two_stations_keep_order.ensures.arrives (c.happen_all.ensures.run cfg _ past gone h) once
 
 pub returns-clause-quiet : goal.returns-clause-quiet
-returns-clause-quiet c = λ cfg past gone h. holds_after HasNoProcedureError _ cfg _ gone c.two_stations_keep_order.ensures.quiet (c.happen_all.ensures.run cfg past gone h)
+returns-clause-quiet c = λ cfg past gone h once. holds_after HasNoProcedureError _ cfg _ gone c.two_stations_keep_order.ensures.quiet (c.happen_all.ensures.run cfg _ past gone h) once
 
 pub returns-clause-window : goal.returns-clause-window
-returns-clause-window c = λ cfg past gone h. holds_after IsInWindow _ cfg _ gone c.two_stations_keep_order.ensures.window (c.happen_all.ensures.run cfg past gone h)
+returns-clause-window c = λ cfg past gone h once. holds_after IsInWindow _ cfg _ gone c.two_stations_keep_order.ensures.window (c.happen_all.ensures.run cfg _ past gone h) once
 
 pub returns-clause-up_once : goal.returns-clause-up_once
-returns-clause-up_once c = λ cfg past gone h. holds_after IsUpOnce _ cfg _ gone c.two_stations_keep_order.ensures.up_once (c.happen_all.ensures.run cfg past gone h)
+returns-clause-up_once c = λ cfg past gone h none. up_once_after _ cfg _ gone c.two_stations_keep_order.ensures.up_once (c.happen_all.ensures.run cfg _ past gone h) none

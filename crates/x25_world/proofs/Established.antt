@@ -22,7 +22,7 @@ use Rattle.x25_station.specs.Entries.{StationEntry, link_up, entries_noted, laye
 use Rattle.x25_station.specs.Station.{Station, new_station}
 use Rattle.x25_station.specs.Steps.{Step, follows, receives}
 use Rattle.x25_station.specs.KeepLaw.{IsKept}
-use Rattle.x25_world.specs.World.{OnTap, AtEnd, World, swapped, tapped, entered, after_step, delivered, after, Event, Receives, happens, refusal_of, AreAccepted, connected, start}
+use Rattle.x25_world.specs.World.{OnTap, AtEnd, World, swapped, tapped, entered, after_step, delivered, after, Event, Receives, happens, refusal_of, AreAccepted, connected, established}
 use Rattle.x25_world.specs.Claims.{link_of, entries_at, ups_in}
 use Rattle.x25_world.proofs.Reaches.{layer_of}
 use Rattle.x25_world.proofs.Known.{Laws}
@@ -111,8 +111,8 @@ module _ (laws : Laws) (cfg : Cfg) where
   back_is : (at_dce cfg).back ≡ ua_octets ∷ map (spelling_of Dce) (restarted cfg Dce).side.out
   back_is = ap (λ (fs : List PlainFrame). map (spelling_of Dce) fs) dce_up.out
 
-  start_is : start cfg ≡ at_dte cfg (map (spelling_of Dce) (restarted cfg Dce).side.out)
-  start_is =
+  established_is : established cfg ≡ at_dte cfg (map (spelling_of Dce) (restarted cfg Dce).side.out)
+  established_is =
       ap (λ (x : World). after (after x (happens cfg x (comes_to Dce))) (happens cfg (after x (happens cfg x (comes_to Dce))) (comes_to Dte))) (connected_is cfg)
       ∙ ap (λ (l : List (List ℕ)). after (at_dce cfg) (delivered (settings_from Dte cfg) (at_dce cfg) l)) back_is
 
@@ -141,11 +141,11 @@ module _ (laws : Laws) (cfg : Cfg) where
   transcript_is : started.transcript ≡ record { at = Dce; entry = link_up } ∷ record { at = Dte; entry = link_up } ∷ []
   transcript_is = ap₂ (λ (a b : List StationEntry). ([] ++ entered Dce a) ++ entered Dte b) dce_up.entries dte_up.entries
 
-  pub start_joined : Joined cfg Dte (start cfg)
-  start_joined = subst (λ (x : World). Joined cfg Dte x) (sym start_is) (record {
+  pub established_joined : (asks : Bool) → Joined asks cfg Dte (established cfg)
+  established_joined asks = subst (λ (x : World). Joined asks cfg Dte x) (sym established_is) (record {
     links = two_links;
     layers = two_layers;
-    links_reach = record { events = line.Far (line.Put (restart_of Dce)) ∷ line.Near (line.Put (restart_of Dte)) ∷ []; run = refl };
+    links_reach = record { events = line.Far (line.Put (restart_of Dce)) ∷ line.Near (line.Put (restart_of Dte)) ∷ []; unasked = λ free. (tt, (tt, tt)); once = record { near = refl; far = refl }; run = refl };
     layers_reach = record { events = []; octets = tt; run = refl };
     near = record {
       link = sym dte_up.link;

@@ -1,0 +1,109 @@
+-- What a station does that is Closed, or that awaits UA, as far as the laws of a link don't say it in these words.
+use Rattle.std.proofs.Common.{◌≡◌, ℕ, zero, suc, List, Bool, true, false, if◌then◌else◌, Option, None, Result, Ok, Err, refl, sym, ap, ◌∙◌, subst}
+use Rattle.std.specs.Prelude.{◌&&◌, ◌||◌}
+use Rattle.x25_frame.specs.PlainFrame.{PlainFrame, info, rr, rnr, rej, sabm, disc, ua, dm, frmr}
+use Rattle.x25_frame.specs.Spelling.{is_command}
+use Rattle.x25_frame.specs.Reading.{frame_of}
+use Rattle.x25_frame.specs.declared.error.FrameError.{FrameError}
+use Rattle.x25_link.specs.declared.phase.Phase.{Phase}
+use Rattle.x25_link.specs.declared.phase.Phase.TheVariants.{Down, Waiting, Up, Closed}
+use Rattle.x25_link.specs.declared.phase.Reason.{Reason}
+use Rattle.x25_link.specs.declared.phase.Notes.{Notes}
+use Rattle.x25_link.specs.NoteLaw.{IsQuiet}
+use Rattle.x25_link.specs.Station.{Settings, Station, Side, is_up, sends, pumped, pumped_once, ended}
+use Rattle.x25_link.specs.MustSend.{Step, quiet, other}
+use Rattle.x25_link.specs.Steps.{alone, closed_by, hears, poll_of, take_step, connect_refusal}
+use Rattle.x25_link.specs.SetUp.{waiting_after, waiting_sends, waiting_up, TakesPart}
+use Rattle.x25_link.specs.WindowLaw.{IsOut, StaysOut}
+use Rattle.x25_line.proofs.StationLines.{AreParting}
+use Rattle.x25_line.proofs.StationSteps.{away_is_not_up, out_is_away, not_both}
+
+-- ---- a station that isn't Up sends nothing at the end of a step
+
+pumped_still : (n k : ℕ) (t : Side) → is_up t.near.phase ≡ false → pumped n k t ≡ t
+unfolding pumped
+pumped_still zero k t off = refl
+pumped_still (suc n) k t off = ap (pumped_once k) (pumped_still n k t off) ∙ once
+  where
+    once : pumped_once k t ≡ t
+    once = rw off refl
+
+closed_still : (k : ℕ) (step : Step) → is_up step.side.near.phase ≡ false → closed_by k step ≡ step
+closed_still k step off =
+    let still : ended k step.side ≡ step.side = rw (pumped_still 7 k step.side off, off) refl in
+    ap (λ (t : Side). let z : Step = record { side = t; packet = step.packet; notes = step.notes } in z) still
+
+-- ---- whatever comes, a station that is Closed stays so
+
+declines_out : (b : Bool) (s : Station) → IsOut s.phase → StaysOut (quiet (let u : Side = if b then sends (dm true) (alone s) else alone s in u))
+declines_out true s out = record { out = out; frames = tt; packet = refl; quiet = refl }
+declines_out false s out = record { out = out; frames = tt; packet = refl; quiet = refl }
+
+closed_row : (c : Settings) (octets : List ℕ) (s : Station) → IsOut s.phase → (read : Result PlainFrame FrameError) → StaysOut (hears c octets read Closed (alone s))
+closed_row c octets s out (Ok frame) = declines_out (is_command frame && poll_of frame) s out
+closed_row c octets s out (Err e) = record { out = out; frames = tt; packet = refl; quiet = refl }
+
+pub closed_takes : (c : Settings) (octets : List ℕ) (s : Station) → s.phase ≡ Closed → StaysOut (take_step c octets s)
+closed_takes c octets s is =
+    let read = frame_of (other c.role) c.longest octets in
+    let out : StaysOut (hears c octets read s.phase (alone s)) =
+    subst (λ (p : Phase). StaysOut (hears c octets read p (alone s))) (sym is) (closed_row c octets s (subst IsOut (sym is) tt) read) in
+    let step : Step = hears c octets read s.phase (alone s) in
+    subst StaysOut (sym (closed_still c.window step (away_is_not_up ⊥ step.side.near.phase (out_is_away ⊥ step.side.near.phase out.out)))) out
+
+-- ---- what comes while UA is awaited, other than that
+
+pub waits_on : (read : Result PlainFrame FrameError) (s : Station) → waiting_up read ≡ false → waiting_after read s ≡ s
+waits_on (Ok (info ns nr p x)) s e = refl
+waits_on (Ok (rr command nr pf)) s e = refl
+waits_on (Ok (rnr command nr pf)) s e = refl
+waits_on (Ok (rej command nr pf)) s e = refl
+waits_on (Ok (sabm p)) s e = refl
+waits_on (Ok (disc p)) s e = refl
+waits_on (Ok (ua true)) s e = not_both true refl e
+waits_on (Ok (ua false)) s e = refl
+waits_on (Ok (dm f)) s e = refl
+waits_on (Ok (frmr f why)) s e = refl
+waits_on (Err x) s e = refl
+
+pub waiting_parting : (MayAsk : Type 0) (read : Result PlainFrame FrameError) → AreParting MayAsk (waiting_sends read)
+waiting_parting MayAsk (Ok (info ns nr p x)) = tt
+waiting_parting MayAsk (Ok (rr command nr pf)) = tt
+waiting_parting MayAsk (Ok (rnr command nr pf)) = tt
+waiting_parting MayAsk (Ok (rej command nr pf)) = tt
+waiting_parting MayAsk (Ok (sabm p)) = tt
+waiting_parting MayAsk (Ok (disc p)) = tt
+waiting_parting MayAsk (Ok (ua f)) = tt
+waiting_parting MayAsk (Ok (dm f)) = tt
+waiting_parting MayAsk (Ok (frmr f why)) = tt
+waiting_parting MayAsk (Err x) = tt
+
+pub quiet_by : (step : Step) → step.notes.down ≡ None → step.notes.up ≡ false → IsQuiet step
+quiet_by step down up =
+    ap (λ (reason : Option Reason). let n : Notes = record { down = reason; up = step.notes.up } in n) down
+    ∙ ap (λ (b : Bool). let n : Notes = record { down = None; up = b } in n) up
+
+-- ---- by the phase
+
+pub up_takes_part : (p : Phase) → is_up p ≡ true → TakesPart p
+up_takes_part Down e = not_both false e refl
+up_takes_part Waiting e = not_both false e refl
+up_takes_part Up e = tt
+up_takes_part Closed e = not_both false e refl
+
+-- Connect is accepted in Down alone
+pub connects_from : (p : Phase) → connect_refusal p ≡ None → p ≡ Down
+connects_from Down e = refl
+connects_from Waiting e = cc
+connects_from Up e = cc
+connects_from Closed e = cc
+
+-- ---- two bits
+
+pub first_false : (a b : Bool) → (a || b) ≡ false → a ≡ false
+first_false true b e = e
+first_false false b e = refl
+
+pub second_false : (a b : Bool) → (a || b) ≡ false → b ≡ false
+second_false true b e = not_both true refl e
+second_false false b e = e
