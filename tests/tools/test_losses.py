@@ -12,11 +12,11 @@ import x25lines
 
 # One line of each form, and lines that are none.
 LINES = """dte call 123 4567 41|dce call - - -|dte call 1 2 0A0b|dte accept 1|dce clear 65535|dte send 1 0 6869|dce send 0 1 -|dte int 1 00
-dte int 1 -|dte reset 1|dce ready 1|dte notready 1|dce restart|dte disconnect|t1 dte|t1 dce|deliver >|deliver <|lose > 0|lose < 65535
+dte int 1 -|dte reset 1|dce ready 1|dte notready 1|dce restart|dce connect|dte disconnect|t1 dte|t1 dce|deliver >|deliver <|lose > 0|lose < 65535
 damage > 0 00|damage < 12 -|drain 1|drain 100|drain 65535"""
 NO_LINES = """|dte| dte restart|dte restart |dte  restart|dte\trestart|DTE restart|dte call 1 2|dte call 1 2 4|dte call x 2 -|dte call  2 -|dte accept
 dte accept 01|dte accept -1|dte accept +1|dte accept 65536|dte accept 1 |dte send 1 2 -|dte send 1 0|dte int 1 0g|t1|t1 both|deliver|deliver =
-deliver > 0|lose >|lose > 70000|damage > 0|damage > 0 0|drain|drain 0|drain 00|drain 65536|drain 1.5|dte restart\r|dte restart\n"""
+deliver > 0|lose >|lose > 70000|damage > 0|damage > 0 0|drain|drain 0|drain 00|drain 65536|drain 1.5|dte connect 1|dte restart\r|dte restart\n"""
 
 # What may follow a call or its acceptance, and what may not.
 PARAMS = ["7 7 2 2", "7 8 3 2", "0 255 0 255", "3 9 99 199", "12 10 249 250"]

@@ -38,12 +38,13 @@ fn simulate<R: Source, W: Sink>(
     requires { options.AreInRange simulation }
 {
     let Simulation {
+        down,
         tap,
         k,
         n2,
         channels,
     } = simulation;
-    sim(alloc, Cfg { k, n2, channels }, tap, reader, writer)
+    sim(alloc, down, Cfg { k, n2, channels }, tap, reader, writer)
 }
 
 fn run<R: Input + Print + Eprint + AllocGlobal>(rt: &R, task: Task) -> u8

@@ -3,7 +3,7 @@ use std::test::Fail;
 use x25_script::{lines_are_in_octets, read_line, reading_is_the_grammar};
 
 /// Lines of a script, and what they say.
-const LINES: [(&[u8], &str); 39] = [
+const LINES: [(&[u8], &str); 40] = [
     (b"dte call 1 2 41", "DTE: call of [1] from [2] with 41"),
     (
         b"dce call 123 4567 48656C6c6F",
@@ -71,6 +71,7 @@ const LINES: [(&[u8], &str); 39] = [
     (b"dte ready 3", "DTE: is ready on 3"),
     (b"dte notready 256", "DTE: is not ready on 256"),
     (b"dce restart", "DCE: restarts"),
+    (b"dce connect", "DCE: connects"),
     (b"dte disconnect", "DTE: disconnects"),
     (b"t1 dte", "T1 of DTE"),
     (b"t1 dce", "T1 of DCE"),
@@ -85,7 +86,7 @@ const LINES: [(&[u8], &str); 39] = [
 ];
 
 /// Characters that are no line of a script.
-const OTHERS: [&[u8]; 165] = [
+const OTHERS: [&[u8]; 167] = [
     b"",
     b" ",
     b"\r",
@@ -209,7 +210,9 @@ const OTHERS: [&[u8]; 165] = [
     b"dte",
     b"dte ",
     b"restart",
-    b"dte connect",
+    b"connect",
+    b"dte connect 1",
+    b"dte connected",
     b"dte Restart",
     b"DTE restart",
     b"Dte restart",

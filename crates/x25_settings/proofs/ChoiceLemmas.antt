@@ -1,14 +1,16 @@
 -- The words behind `sim`, one after another.
 use Rattle.std.proofs.Common.{◌≡◌, ◌∙◌, ◌≤◌, ℕ, Bool, true, false, List, [], ◌∷◌, Option, Some, None, ap, refl, sym, subst, arith, codes, decimal}
-use Rattle.std.specs.Prelude.{cond, option_and_then, unwrap_or, IfSome}
+use Rattle.std.specs.Prelude.{cond, option_and_then, is_some, unwrap_or, IfSome}
 use Rattle.std.specs.List.{flat_map}
 use Rattle.std.specs.Str.{bytes_eq}
 use Rattle.std.proofs.lemmas.Slice.Eq.{bytes_eq-Decides}
 use Rattle.x25_settings.specs.declared.options.Chosen.{Chosen}
+use Rattle.x25_settings.specs.declared.options.Flag.{Flag}
+use Rattle.x25_settings.specs.declared.options.Flag.TheVariants.{Down, Tap}
 use Rattle.x25_settings.specs.declared.options.Numbered.{Numbered}
 use Rattle.x25_settings.specs.declared.options.Numbered.TheVariants.{Window, Tries, Channels}
-use Rattle.x25_settings.specs.Choosing.{number_in, numbered_in, put_tap, put_fresh, put_read, put_text, put_number, chosen_in}
-use Rattle.x25_settings.specs.Simulation.{Choice, tap, number, word_of, most_of, words_of, nothing, chosen_number, with_tap, with_number, IsInRange, IsOpen, Leads, settled, Choose, AreInRange}
+use Rattle.x25_settings.specs.Choosing.{number_in, flag_in, numbered_in, put_flag, put_fresh, put_read, put_text, put_number, chosen_in}
+use Rattle.x25_settings.specs.Simulation.{Choice, flag, number, flag_word, word_of, most_of, words_of, nothing, chosen_flag, with_flag, chosen_number, with_number, IsInRange, IsOpen, Leads, settled, Choose, AreInRange}
 use Rattle.x25_settings.proofs.NumberLemmas.{number_found, number_read}
 
 -- ---- one step of reading
@@ -16,32 +18,36 @@ use Rattle.x25_settings.proofs.NumberLemmas.{number_found, number_read}
 abbrev read_on : List (List ℕ) → Option Chosen → Option Chosen
 read_on rest o = option_and_then (λ c. chosen_in c rest) o
 
-reads_tap : (c : Chosen) (word : List ℕ) (rest : List (List ℕ)) → bytes_eq word (codes "--tap") ≡ true → chosen_in c (word ∷ rest) ≡ read_on rest (put_tap c)
+-- an option that is one word, or one with the next
+abbrev step : Chosen → List ℕ → List ℕ → List (List ℕ) → Option Flag → Option Chosen
+step c word text rest o = cond (is_some o) (read_on (text ∷ rest) (option_and_then (put_flag c) o)) (read_on rest (put_number c word text))
+
+reads_flag : (c : Chosen) (word : List ℕ) (x : Flag) (rest : List (List ℕ)) → flag_in word ≡ Some x → chosen_in c (word ∷ rest) ≡ read_on rest (put_flag c x)
 unfolding chosen_in
-reads_tap c word [] is = ap (λ b. cond b (put_tap c) None) is ∙ alone (put_tap c)
+reads_flag c word x [] is = ap (option_and_then (put_flag c)) is ∙ alone (put_flag c x)
   where
     alone : (o : Option Chosen) → o ≡ read_on [] o
     alone None = refl
     alone (Some c) = refl
-reads_tap c word (text ∷ rest) is = ap (λ b. cond b (read_on (text ∷ rest) (put_tap c)) (read_on rest (put_number c word text))) is
+reads_flag c word x (text ∷ rest) is = ap (step c word text rest) is
 
-reads_number : (c : Chosen) (word text : List ℕ) (rest : List (List ℕ)) → bytes_eq word (codes "--tap") ≡ false
+reads_number : (c : Chosen) (word text : List ℕ) (rest : List (List ℕ)) → flag_in word ≡ None
     → chosen_in c (word ∷ text ∷ rest) ≡ read_on rest (put_number c word text)
 unfolding chosen_in
-reads_number c word text rest is = ap (λ b. cond b (read_on (text ∷ rest) (put_tap c)) (read_on rest (put_number c word text))) is
+reads_number c word text rest is = ap (step c word text rest) is
 
-reads_alone : (c : Chosen) (word : List ℕ) → bytes_eq word (codes "--tap") ≡ false → chosen_in c (word ∷ []) ≡ None
+reads_alone : (c : Chosen) (word : List ℕ) → flag_in word ≡ None → chosen_in c (word ∷ []) ≡ None
 unfolding chosen_in
-reads_alone c word is = ap (λ b. cond b (put_tap c) None) is
+reads_alone c word is = ap (option_and_then (put_flag c)) is
 
 module _ (c : Chosen) (words : List (List ℕ)) (word : List ℕ) (behind : List (List ℕ)) (split : words ≡ word ∷ behind) (o : Option Chosen) where
-  pub tap_on : bytes_eq word (codes "--tap") ≡ true → o ≡ put_tap c → chosen_in c words ≡ option_and_then (λ c. chosen_in c behind) o
-  tap_on is e = ap (chosen_in c) split ∙ reads_tap c word behind is ∙ ap (read_on behind) (sym e)
+  pub flag_on : (x : Flag) → flag_in word ≡ Some x → o ≡ put_flag c x → chosen_in c words ≡ option_and_then (λ c. chosen_in c behind) o
+  flag_on x is e = ap (chosen_in c) split ∙ reads_flag c word x behind is ∙ ap (read_on behind) (sym e)
 
-  pub number_alone : behind ≡ [] → bytes_eq word (codes "--tap") ≡ false → chosen_in c words ≡ None
+  pub number_alone : behind ≡ [] → flag_in word ≡ None → chosen_in c words ≡ None
   number_alone none is = ap (chosen_in c) (split ∙ ap (λ ws. word ∷ ws) none) ∙ reads_alone c word is
 
-  pub number_on : (text : List ℕ) (rest : List (List ℕ)) → behind ≡ text ∷ rest → bytes_eq word (codes "--tap") ≡ false → o ≡ put_number c word text
+  pub number_on : (text : List ℕ) (rest : List (List ℕ)) → behind ≡ text ∷ rest → flag_in word ≡ None → o ≡ put_number c word text
       → chosen_in c words ≡ option_and_then (λ c. chosen_in c rest) o
   number_on text rest more is e = ap (chosen_in c) (split ∙ ap (λ ws. word ∷ ws) more) ∙ reads_number c word text rest is ∙ ap (read_on rest) (sym e)
 
@@ -57,12 +63,21 @@ Found c words end = (choices : List Choice) × (words ≡ flat_map words_of choi
 same_some : (c d : Chosen) → Some c ≡ Some d → c ≡ d
 same_some c d e = cc
 
-tap_found : (c d : Chosen) → put_tap c ≡ Some d → (c.tap ≡ false) × (d ≡ with_tap c)
-tap_found c d e = go c.tap e
+flag_found : (c d : Chosen) (x : Flag) → put_flag c x ≡ Some d → (chosen_flag c x ≡ false) × (d ≡ with_flag c x)
+flag_found c d x e = go (chosen_flag c x) e
   where
-    go : (b : Bool) → cond b None (Some (with_tap c)) ≡ Some d → (b ≡ false) × (d ≡ with_tap c)
+    go : (b : Bool) → cond b None (Some (with_flag c x)) ≡ Some d → (b ≡ false) × (d ≡ with_flag c x)
     go true e = absurd (cc)
     go false e = (refl, sym (same_some _ _ e))
+
+flag_word_found : (word : List ℕ) (x : Flag) → flag_in word ≡ Some x → word ≡ flag_word x
+flag_word_found word x e = go (bytes_eq word (codes "--down")) (bytes_eq word (codes "--tap")) refl refl e
+  where
+    go : (down tap : Bool) → bytes_eq word (codes "--down") ≡ down → bytes_eq word (codes "--tap") ≡ tap
+        → cond down (Some Down) (cond tap (Some Tap) None) ≡ Some x → word ≡ flag_word x
+    go true tap is _ e = let same : Down ≡ x = cc in (bytes_eq-Decides word (codes "--down")).0 is ∙ ap flag_word same
+    go false true _ is e = let same : Tap ≡ x = cc in (bytes_eq-Decides word (codes "--tap")).0 is ∙ ap flag_word same
+    go false false _ _ e = absurd (cc)
 
 word_found : (word : List ℕ) (x : Numbered) → numbered_in word ≡ Some x → word ≡ word_of x
 word_found word x e = go (bytes_eq word (codes "--k")) (bytes_eq word (codes "--n2")) (bytes_eq word (codes "--channels")) refl refl refl e
@@ -106,12 +121,12 @@ numbers_found c d word text e = by_option (numbered_in word) refl e
     by_option None is e = absurd (cc)
     by_option (Some x) is e = by_read x (number_in (most_of x) text) is refl e
 
-behind_tap : (c d end : Chosen) (word : List ℕ) (rest : List (List ℕ)) → bytes_eq word (codes "--tap") ≡ true → put_tap c ≡ Some d → Found d rest end
+behind_flag : (c d end : Chosen) (word : List ℕ) (x : Flag) (rest : List (List ℕ)) → flag_in word ≡ Some x → put_flag c x ≡ Some d → Found d rest end
     → Found c (word ∷ rest) end
-behind_tap c d end word rest is put found =
-    let taken = tap_found c d put in (
-      tap ∷ found.0,
-      ap (λ w. w ∷ rest) ((bytes_eq-Decides word (codes "--tap")).0 is) ∙ ap (λ ws. codes "--tap" ∷ ws) found.1,
+behind_flag c d end word x rest is put found =
+    let taken = flag_found c d x put in (
+      flag x ∷ found.0,
+      ap (λ w. w ∷ rest) (flag_word_found word x is) ∙ ap (λ ws. flag_word x ∷ ws) found.1,
       (taken.0, subst (λ (s : Chosen). Leads s found.0 end) taken.1 found.2),
     )
 
@@ -127,39 +142,43 @@ behind_number c d end word text rest put found =
 abbrev Finds : List (List ℕ) → Chosen → Type 0
 Finds words end = (c : Chosen) → chosen_in c words ≡ Some end → Found c words end
 
-finds_tap : (c end : Chosen) (word : List ℕ) (rest : List (List ℕ)) → bytes_eq word (codes "--tap") ≡ true → Finds rest end
-    → (o : Option Chosen) → put_tap c ≡ o → read_on rest o ≡ Some end → Found c (word ∷ rest) end
-finds_tap c end word rest is next None put e = absurd (cc)
-finds_tap c end word rest is next (Some d) put e = behind_tap c d end word rest is put (next d e)
+finds_flag : (c end : Chosen) (word : List ℕ) (x : Flag) (rest : List (List ℕ)) → flag_in word ≡ Some x → Finds rest end
+    → (o : Option Chosen) → put_flag c x ≡ o → read_on rest o ≡ Some end → Found c (word ∷ rest) end
+finds_flag c end word x rest is next None put e = absurd (cc)
+finds_flag c end word x rest is next (Some d) put e = behind_flag c d end word x rest is put (next d e)
 
 finds_number : (c end : Chosen) (word text : List ℕ) (rest : List (List ℕ)) → Finds rest end
     → (o : Option Chosen) → put_number c word text ≡ o → read_on rest o ≡ Some end → Found c (word ∷ text ∷ rest) end
 finds_number c end word text rest next None put e = absurd (cc)
 finds_number c end word text rest next (Some d) put e = behind_number c d end word text rest put (next d e)
 
-finds_alone : (c end : Chosen) (word : List ℕ) → Finds [] end → (b : Bool) → bytes_eq word (codes "--tap") ≡ b → chosen_in c (word ∷ []) ≡ Some end → Found c (word ∷ []) end
-finds_alone c end word next true is e = finds_tap c end word [] is next (put_tap c) refl (sym (reads_tap c word [] is) ∙ e)
-finds_alone c end word next false is e = let none = reads_alone c word is in absurd (cc)
+finds_alone : (c end : Chosen) (word : List ℕ) → Finds [] end → (o : Option Flag) → flag_in word ≡ o → chosen_in c (word ∷ []) ≡ Some end → Found c (word ∷ []) end
+finds_alone c end word next (Some x) is e = finds_flag c end word x [] is next (put_flag c x) refl (sym (reads_flag c word x [] is) ∙ e)
+finds_alone c end word next None is e = let none = reads_alone c word is in absurd (cc)
 
 finds_more : (c end : Chosen) (word text : List ℕ) (rest : List (List ℕ)) → Finds (text ∷ rest) end → Finds rest end
-    → (b : Bool) → bytes_eq word (codes "--tap") ≡ b → chosen_in c (word ∷ text ∷ rest) ≡ Some end → Found c (word ∷ text ∷ rest) end
-finds_more c end word text rest next after true is e = finds_tap c end word (text ∷ rest) is next (put_tap c) refl (sym (reads_tap c word (text ∷ rest) is) ∙ e)
-finds_more c end word text rest next after false is e = finds_number c end word text rest after (put_number c word text) refl (sym (reads_number c word text rest is) ∙ e)
+    → (o : Option Flag) → flag_in word ≡ o → chosen_in c (word ∷ text ∷ rest) ≡ Some end → Found c (word ∷ text ∷ rest) end
+finds_more c end word text rest next after (Some x) is e = finds_flag c end word x (text ∷ rest) is next (put_flag c x) refl (sym (reads_flag c word x (text ∷ rest) is) ∙ e)
+finds_more c end word text rest next after None is e = finds_number c end word text rest after (put_number c word text) refl (sym (reads_number c word text rest is) ∙ e)
 
 finds : (words : List (List ℕ)) (end : Chosen) → Finds words end
 finds [] end c e = ([], refl, same_some _ _ (sym e ∙ nothing_left c [] refl))
-finds (word ∷ []) end c e = finds_alone c end word (finds [] end) (bytes_eq word (codes "--tap")) refl e
-finds (word ∷ text ∷ rest) end c e = finds_more c end word text rest (finds (text ∷ rest) end) (finds rest end) (bytes_eq word (codes "--tap")) refl e
+finds (word ∷ []) end c e = finds_alone c end word (finds [] end) (flag_in word) refl e
+finds (word ∷ text ∷ rest) end c e = finds_more c end word text rest (finds (text ∷ rest) end) (finds rest end) (flag_in word) refl e
 
 pub found : (words : List (List ℕ)) (end : Chosen) → chosen_in nothing words ≡ Some end → Choose words end
 found words end e = finds words end nothing e
 
 -- ---- what is plain is read
 
-no_tap : (x : Numbered) → bytes_eq (word_of x) (codes "--tap") ≡ false
-no_tap Window = refl
-no_tap Tries = refl
-no_tap Channels = refl
+is_flag : (x : Flag) → flag_in (flag_word x) ≡ Some x
+is_flag Down = refl
+is_flag Tap = refl
+
+no_flag : (x : Numbered) → flag_in (word_of x) ≡ None
+no_flag Window = refl
+no_flag Tries = refl
+no_flag Channels = refl
 
 is_numbered : (x : Numbered) → numbered_in (word_of x) ≡ Some x
 is_numbered Window = refl
@@ -180,12 +199,12 @@ puts_number c x n fresh =
 
 read_again : (choices : List Choice) (c end : Chosen) → Leads c choices end → chosen_in c (flat_map words_of choices) ≡ Some end
 read_again [] c end e = nothing_left c [] refl ∙ ap (λ d. Some d) (sym e)
-read_again (tap ∷ choices) c end h =
-    reads_tap c (codes "--tap") (flat_map words_of choices) refl
-    ∙ ap (λ b. read_on (flat_map words_of choices) (cond b None (Some (with_tap c)))) h.0
-    ∙ read_again choices (with_tap c) end h.1
+read_again (flag x ∷ choices) c end h =
+    reads_flag c (flag_word x) x (flat_map words_of choices) (is_flag x)
+    ∙ ap (λ b. read_on (flat_map words_of choices) (cond b None (Some (with_flag c x)))) h.0
+    ∙ read_again choices (with_flag c x) end h.1
 read_again (number x n ∷ choices) c end h =
-    reads_number c (word_of x) (decimal n) (flat_map words_of choices) (no_tap x)
+    reads_number c (word_of x) (decimal n) (flat_map words_of choices) (no_flag x)
     ∙ ap (read_on (flat_map words_of choices)) (puts_number c x n h.0)
     ∙ read_again choices (with_number c x n) end h.1
 
@@ -201,7 +220,8 @@ record IsKept (c : Chosen) : Type 0 where
 
 keeps : (choices : List Choice) (c end : Chosen) → IsKept c → Leads c choices end → IsKept end
 keeps [] c end kept e = subst IsKept (sym e) kept
-keeps (tap ∷ choices) c end kept h = keeps choices (with_tap c) end (record { k = kept.k; n2 = kept.n2; channels = kept.channels }) h.1
+keeps (flag Down ∷ choices) c end kept h = keeps choices (with_flag c Down) end (record { k = kept.k; n2 = kept.n2; channels = kept.channels }) h.1
+keeps (flag Tap ∷ choices) c end kept h = keeps choices (with_flag c Tap) end (record { k = kept.k; n2 = kept.n2; channels = kept.channels }) h.1
 keeps (number Window n ∷ choices) c end kept h = keeps choices (with_number c Window n) end (record { k = h.0.1; n2 = kept.n2; channels = kept.channels }) h.1
 keeps (number Tries n ∷ choices) c end kept h = keeps choices (with_number c Tries n) end (record { k = kept.k; n2 = h.0.1; channels = kept.channels }) h.1
 keeps (number Channels n ∷ choices) c end kept h = keeps choices (with_number c Channels n) end (record { k = kept.k; n2 = kept.n2; channels = h.0.1 }) h.1

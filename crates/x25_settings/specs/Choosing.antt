@@ -1,14 +1,20 @@
 -- What the words say, read one after another (profile).
-use Rattle.std.specs.Prelude.{ℕ, ◌&&◌, nat_le, true, false, List, [], ◌∷◌, Option, Some, None, codes, decimal, if◌then◌else◌, option_map, option_and_then}
+use Rattle.std.specs.Prelude.{ℕ, ◌&&◌, nat_le, true, false, List, [], ◌∷◌, Option, Some, None, codes, decimal, if◌then◌else◌, option_map, option_and_then, is_some}
 use Rattle.std.specs.Str.{bytes_eq}
 use Rattle.std.specs.Str.Parse.{digits_value}
 use Rattle.x25_settings.specs.declared.options.Chosen.{Chosen}
+use Rattle.x25_settings.specs.declared.options.Flag.{Flag}
+use Rattle.x25_settings.specs.declared.options.Flag.TheVariants.{Down, Tap}
 use Rattle.x25_settings.specs.declared.options.Numbered.{Numbered}
 use Rattle.x25_settings.specs.declared.options.Numbered.TheVariants.{Window, Tries, Channels}
 use Rattle.x25_settings.specs.declared.options.Simulation.{Simulation}
 use Rattle.x25_settings.specs.declared.words.Task.{Task}
 use Rattle.x25_settings.specs.declared.words.Task.TheVariants.{Decode, Vectors, Sim}
-use Rattle.x25_settings.specs.Simulation.{most_of, nothing, chosen_number, with_tap, with_number, settled}
+use Rattle.x25_settings.specs.Simulation.{most_of, nothing, chosen_flag, with_flag, chosen_number, with_number, settled}
+
+abbrev pub flag_in : List ℕ → Option Flag
+flag_in word = if bytes_eq word (codes "--down") then Some Down
+    else if bytes_eq word (codes "--tap") then Some Tap else None
 
 abbrev pub numbered_in : List ℕ → Option Numbered
 numbered_in word = if bytes_eq word (codes "--k") then Some Window
@@ -20,8 +26,12 @@ unfoldable pub number_in : ℕ → List ℕ → Option ℕ
 number_in most text = let n = digits_value 10 text in
     if nat_le 1 n && nat_le n most && bytes_eq (decimal n) text then Some n else None
 
-abbrev pub put_tap : Chosen → Option Chosen
-put_tap c = if c.tap then None else Some (with_tap c)
+abbrev pub put_flag : Chosen → Flag → Option Chosen
+put_flag c flag = if chosen_flag c flag then None else Some (with_flag c flag)
+
+-- an option that is one word
+abbrev pub put_word : Chosen → List ℕ → Option Chosen
+put_word c word = option_and_then (put_flag c) (flag_in word)
 
 abbrev pub put_fresh : Chosen → Numbered → ℕ → Option ℕ → Option Chosen
 put_fresh c x n None = Some (with_number c x n)
@@ -41,9 +51,9 @@ put_number c word text = put_text c text (numbered_in word)
 
 unfoldable pub chosen_in : Chosen → List (List ℕ) → Option Chosen
 chosen_in c [] = Some c
-chosen_in c (word ∷ []) = if bytes_eq word (codes "--tap") then put_tap c else None
-chosen_in c (word ∷ text ∷ rest) = if bytes_eq word (codes "--tap")
-    then option_and_then (λ c. chosen_in c (text ∷ rest)) (put_tap c)
+chosen_in c (word ∷ []) = put_word c word
+chosen_in c (word ∷ text ∷ rest) = if is_some (flag_in word)
+    then option_and_then (λ c. chosen_in c (text ∷ rest)) (put_word c word)
     else option_and_then (λ c. chosen_in c rest) (put_number c word text)
 
 abbrev pub simulation_in : List (List ℕ) → Option Simulation

@@ -1,10 +1,16 @@
 -- The words behind `sim`, and what plain ones say (profile).
-use Rattle.std.specs.Prelude.{◌≡◌, ◌≤◌, ℕ, true, false, List, [], ◌∷◌, Option, Some, None, unwrap_or, codes, decimal}
+use Rattle.std.specs.Prelude.{◌≡◌, ◌≤◌, ℕ, Bool, true, false, List, [], ◌∷◌, Option, Some, None, unwrap_or, codes, decimal}
 use Rattle.std.specs.List.{flat_map}
 use Rattle.x25_settings.specs.declared.options.Simulation.{Simulation}
 use Rattle.x25_settings.specs.declared.options.Chosen.{Chosen}
+use Rattle.x25_settings.specs.declared.options.Flag.{Flag}
+use Rattle.x25_settings.specs.declared.options.Flag.TheVariants.{Down, Tap}
 use Rattle.x25_settings.specs.declared.options.Numbered.{Numbered}
 use Rattle.x25_settings.specs.declared.options.Numbered.TheVariants.{Window, Tries, Channels}
+
+abbrev pub flag_word : Flag → List ℕ
+flag_word Down = codes "--down"
+flag_word Tap = codes "--tap"
 
 abbrev pub word_of : Numbered → List ℕ
 word_of Window = codes "--k"
@@ -17,33 +23,38 @@ most_of Window = 7
 most_of Tries = 255
 most_of Channels = 16
 
--- an option, with its number
+-- an option, with its number where it has one
 pub data Choice : Type 0 where
-  tap : Choice
+  flag : Flag → Choice
   number : Numbered → ℕ → Choice
 
 abbrev pub words_of : Choice → List (List ℕ)
-words_of tap = codes "--tap" ∷ []
+words_of (flag x) = flag_word x ∷ []
 words_of (number x n) = word_of x ∷ decimal n ∷ []
 
 abbrev pub nothing : Chosen
-nothing = record { tap = false; k = None; n2 = None; channels = None }
+nothing = record { down = false; tap = false; k = None; n2 = None; channels = None }
 
 abbrev pub chosen_number : Chosen → Numbered → Option ℕ
 chosen_number c Window = c.k
 chosen_number c Tries = c.n2
 chosen_number c Channels = c.channels
 
-abbrev pub with_tap : Chosen → Chosen
-with_tap c = record { tap = true; k = c.k; n2 = c.n2; channels = c.channels }
+abbrev pub chosen_flag : Chosen → Flag → Bool
+chosen_flag c Down = c.down
+chosen_flag c Tap = c.tap
+
+abbrev pub with_flag : Chosen → Flag → Chosen
+with_flag c Down = record { down = true; tap = c.tap; k = c.k; n2 = c.n2; channels = c.channels }
+with_flag c Tap = record { down = c.down; tap = true; k = c.k; n2 = c.n2; channels = c.channels }
 
 abbrev pub with_number : Chosen → Numbered → ℕ → Chosen
-with_number c Window n = record { tap = c.tap; k = Some n; n2 = c.n2; channels = c.channels }
-with_number c Tries n = record { tap = c.tap; k = c.k; n2 = Some n; channels = c.channels }
-with_number c Channels n = record { tap = c.tap; k = c.k; n2 = c.n2; channels = Some n }
+with_number c Window n = record { down = c.down; tap = c.tap; k = Some n; n2 = c.n2; channels = c.channels }
+with_number c Tries n = record { down = c.down; tap = c.tap; k = c.k; n2 = Some n; channels = c.channels }
+with_number c Channels n = record { down = c.down; tap = c.tap; k = c.k; n2 = c.n2; channels = Some n }
 
 abbrev pub with_choice : Chosen → Choice → Chosen
-with_choice c tap = with_tap c
+with_choice c (flag x) = with_flag c x
 with_choice c (number x n) = with_number c x n
 
 abbrev pub IsInRange : Numbered → ℕ → Type 0
@@ -51,7 +62,7 @@ IsInRange x n = (1 ≤ n) × (n ≤ most_of x)
 
 -- the option wasn't chosen before, and its number is in its range
 abbrev pub IsOpen : Chosen → Choice → Type 0
-IsOpen c tap = c.tap ≡ false
+IsOpen c (flag x) = chosen_flag c x ≡ false
 IsOpen c (number x n) = (chosen_number c x ≡ None) × IsInRange x n
 
 -- one after another, each once, in any order
@@ -61,7 +72,7 @@ Leads c (choice ∷ choices) end = IsOpen c choice × Leads (with_choice c choic
 
 -- the defaults for the rest
 abbrev pub settled : Chosen → Simulation
-settled c = record { tap = c.tap; k = unwrap_or c.k 7; n2 = unwrap_or c.n2 10; channels = unwrap_or c.channels 1 }
+settled c = record { down = c.down; tap = c.tap; k = unwrap_or c.k 7; n2 = unwrap_or c.n2 10; channels = unwrap_or c.channels 1 }
 
 -- these words choose this
 abbrev pub Choose : List (List ℕ) → Chosen → Type 0

@@ -1,7 +1,7 @@
 //! The words behind `sim`.
 ghost use Rattle.std.specs.Prelude.{◌≡◌, ◌<◌, ◌↔◌, ◌∷◌, [], IfSome, MatchOption, IsTrue, decimal, map, length};
 ghost use Rattle.std.specs.Str.{bytes_eq};
-ghost use Rattle.x25_settings.specs.Choosing.{chosen_in, number_in, numbered_in, put_number, put_tap, simulation_in};
+ghost use Rattle.x25_settings.specs.Choosing.{chosen_in, flag_in, number_in, numbered_in, put_flag, put_number, simulation_in};
 ghost use Rattle.x25_settings.specs.Simulation.{nothing, settled};
 
 use itoa::Buffer;
@@ -10,6 +10,8 @@ use std::convert::AsStr;
 /// What `sim` is run with.
 #[derive(Clone, Copy, Debug, PartialEq, Eq)]
 pub struct Simulation {
+    /// Both links are down where the script begins, and else just set up.
+    pub down: bool,
     /// The frames of each step are told behind its entries.
     pub tap: bool,
     /// The window of the link, 1 to 7.
@@ -18,6 +20,13 @@ pub struct Simulation {
     pub n2: u8,
     /// The number of channels, 1 to 16.
     pub channels: u8,
+}
+
+/// The options that are one word.
+#[derive(Clone, Copy)]
+enum Flag {
+    Down,
+    Tap,
 }
 
 /// The options that have a number.
@@ -31,6 +40,7 @@ enum Numbered {
 /// What was chosen so far.
 #[derive(Clone, Copy)]
 struct Chosen {
+    down: bool,
     tap: bool,
     k: Option<u8>,
     n2: Option<u8>,
@@ -41,6 +51,18 @@ pub(crate) fn is(text: &str, word: &str) -> bool
     ensures { result ≡ bytes_eq text.now word.now }
 {
     text == word
+}
+
+fn flag_option(word: &str) -> Option<Flag>
+    ensures { result ≡ flag_in word.now }
+{
+    if is(word, "--down") {
+        Some(Flag::Down)
+    } else if is(word, "--tap") {
+        Some(Flag::Tap)
+    } else {
+        None
+    }
 }
 
 fn numbered_option(word: &str) -> Option<Numbered>
@@ -78,13 +100,13 @@ fn number(text: &str, most: u8) -> Option<u8>
 }
 
 impl Chosen {
-    fn with_tap(self) -> Option<Chosen>
-        ensures { result ≡ put_tap self }
+    fn with_flag(self, flag: Flag) -> Option<Chosen>
+        ensures { result ≡ put_flag self flag }
     {
-        if self.tap {
-            None
-        } else {
-            Some(Chosen { tap: true, ..self })
+        match flag {
+            Flag::Down if !self.down => Some(Chosen { down: true, ..self }),
+            Flag::Tap if !self.tap => Some(Chosen { tap: true, ..self }),
+            _ => None,
         }
     }
 
@@ -127,6 +149,7 @@ impl Chosen {
         ensures { result ≡ settled self }
     {
         Simulation {
+            down: self.down,
             tap: self.tap,
             k: self.k.unwrap_or(7),
             n2: self.n2.unwrap_or(10),
@@ -150,6 +173,7 @@ fn choose<S: AsStr>(words: &[S]) -> Option<Chosen>
     ensures { result ≡ chosen_in nothing (map S.text words.now) }
 {
     let mut chosen = Chosen {
+        down: false,
         tap: false,
         k: None,
         n2: None,
@@ -157,8 +181,8 @@ fn choose<S: AsStr>(words: &[S]) -> Option<Chosen>
     };
     let mut rest = words;
     while let Some((word, after)) = split_word(rest) {
-        if is(word, "--tap") {
-            chosen = chosen.with_tap()?;
+        if let Some(flag) = flag_option(word) {
+            chosen = chosen.with_flag(flag)?;
             rest = after;
         } else {
             let (text, after) = split_word(after)?;

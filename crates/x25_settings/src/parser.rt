@@ -28,6 +28,10 @@ fn sim_command<'a>(alloc: Global) -> Result<Command<'a>, AllocError> {
         .long("tap")
         .action(ArgAction::SetTrue)
         .help("Tell the frames of each step behind its entries, as lines for `decode`");
+    let down = Arg::new(alloc, "down")
+        .long("down")
+        .action(ArgAction::SetTrue)
+        .help("Begin with both links down, in place of just set up");
     let window = number_option(alloc, "k", 7, "7", "The window of the link: 1 to 7");
     let tries = number_option(
         alloc,
@@ -48,6 +52,7 @@ fn sim_command<'a>(alloc: Global) -> Result<Command<'a>, AllocError> {
         .override_usage("x25 sim [OPTIONS] < SCRIPT")
         .after_help(EXAMPLES)
         .arg(tap)?
+        .arg(down)?
         .arg(window)?
         .arg(tries)?
         .arg(channels)

@@ -129,7 +129,7 @@ fn usage_fault<'a, S: AsStr>(alloc: Global, words: &'a [S]) -> SettingsError {
 /// What the words after the program's name ask for.
 ///
 /// Plain words are `decode`, which `--long` may follow, `vectors`, or `sim` and then each at most once and in any order
-/// `--tap`, `--k N`, `--n2 N` and `--channels N`, with N in decimal without leading zeros, from 1 to 7, 255 and 16; what
+/// `--tap`, `--down`, `--k N`, `--n2 N` and `--channels N`, with N in decimal without leading zeros, from 1 to 7, 255 and 16; what
 /// isn't said is 7, 10 and 1. All others are a usage fault, help words too. Plain words take no memory. Profile.
 pub fn settings<'a, S: AsStr>(alloc: Global, words: &'a [S]) -> Result<Task, SettingsError>
     ensures plain { (task : TaskValue) → Say (map S.text words.now) task → result ≡ Ok task }

@@ -2,6 +2,7 @@ use std::test::Fail;
 use x25_settings::{SettingsError, Simulation, Task, settings};
 
 const DEFAULTS: Simulation = Simulation {
+    down: false,
     tap: false,
     k: 7,
     n2: 10,
@@ -10,7 +11,7 @@ const DEFAULTS: Simulation = Simulation {
 
 #[test]
 fn takes_plain_words_alone(rt: HostRuntime) {
-    let plain: [(&[&str], Task); 8] = [
+    let plain: [(&[&str], Task); 9] = [
         (&["decode"], Task::Decode { long: false }),
         (&["decode", "--long"], Task::Decode { long: true }),
         (&["vectors"], Task::Vectors),
@@ -23,6 +24,13 @@ fn takes_plain_words_alone(rt: HostRuntime) {
             }),
         ),
         (
+            &["sim", "--down"],
+            Task::Sim(Simulation {
+                down: true,
+                ..DEFAULTS
+            }),
+        ),
+        (
             &["sim", "--n2", "1"],
             Task::Sim(Simulation { n2: 1, ..DEFAULTS }),
         ),
@@ -31,6 +39,7 @@ fn takes_plain_words_alone(rt: HostRuntime) {
                 "sim",
                 "--channels",
                 "16",
+                "--down",
                 "--n2",
                 "255",
                 "--tap",
@@ -38,6 +47,7 @@ fn takes_plain_words_alone(rt: HostRuntime) {
                 "1",
             ],
             Task::Sim(Simulation {
+                down: true,
                 tap: true,
                 k: 1,
                 n2: 255,
@@ -63,7 +73,7 @@ fn takes_plain_words_alone(rt: HostRuntime) {
 
 #[test]
 fn takes_no_other_words(rt: HostRuntime) {
-    let others: [&[&str]; 26] = [
+    let others: [&[&str]; 29] = [
         &[],
         &["dec"],
         &["decode", "decode"],
@@ -84,6 +94,9 @@ fn takes_no_other_words(rt: HostRuntime) {
         &["sim", "--k"],
         &["sim", "--k", "3", "--k", "3"],
         &["sim", "--tap", "--tap"],
+        &["sim", "--down", "--tap", "--down"],
+        &["sim", "--down=true"],
+        &["decode", "--down"],
         &["sim", "--n2", "256"],
         &["sim", "--channels", "17"],
         &["sim", "--chan", "2"],
@@ -118,7 +131,7 @@ const DECODE: &str =
 
 /// The help of `sim`.
 const SIM: &str =
-    "Run a script of two stations joined by a line, and write what each end is told\n\nUsage: x25 sim [OPTIONS] < SCRIPT\n\nOptions:\n      --tap           Tell the frames of each step behind its entries, as lines for `decode`\n      --k <N>         The window of the link: 1 to 7 [default: 7]\n      --n2 <N>        How often an unanswered command of the link is sent again: 1 to 255 [default: 10]\n      --channels <N>  The number of logical channels: 1 to 16 [default: 1]\n  -h, --help          Print help\n\nExamples:\n  x25 sim < examples/call.script\n  x25 sim --tap --channels 2 < examples/call.script | grep '^[<>]' | x25 decode\n";
+    "Run a script of two stations joined by a line, and write what each end is told\n\nUsage: x25 sim [OPTIONS] < SCRIPT\n\nOptions:\n      --tap           Tell the frames of each step behind its entries, as lines for `decode`\n      --down          Begin with both links down, in place of just set up\n      --k <N>         The window of the link: 1 to 7 [default: 7]\n      --n2 <N>        How often an unanswered command of the link is sent again: 1 to 255 [default: 10]\n      --channels <N>  The number of logical channels: 1 to 16 [default: 1]\n  -h, --help          Print help\n\nExamples:\n  x25 sim < examples/call.script\n  x25 sim --tap --channels 2 < examples/call.script | grep '^[<>]' | x25 decode\n";
 
 #[test]
 fn says_what_is_wrong(rt: HostRuntime) -> Result<(), Fail> {

@@ -2,22 +2,24 @@
 use Rattle.std.proofs.Common.{◌≡◌, ◌∙◌, ℕ, zero, suc, nat_lt, nat_le, Bool, true, false, List, [], ◌∷◌, ◌++◌, length, drop, map, remove, Option, Some, None, append_assoc, ap, sym, subst, refl}
 use Rattle.std.proofs.lemmas.List.{append-nil}
 use Rattle.std.proofs.Math.Seq.{drop-append_seam}
-use Rattle.std.specs.Prelude.{cond}
+use Rattle.std.specs.Prelude.{cond, ◌&&◌}
 use Rattle.x25_bits.specs.declared.role.Role.{Role}
 use Rattle.x25_bits.specs.declared.role.Role.TheVariants.{Dte, Dce}
+use Rattle.x25_link.specs.Station.{is_waiting}
 use Rattle.x25_line.specs.Stations.{is_visible, replaced}
 use Rattle.x25_station.specs.declared.config.Cfg.{Cfg}
 use Rattle.x25_station.specs.Settings.{Settings, settings_from}
 use Rattle.x25_station.specs.Steps.{Outcome, Did, Refused, fires, commands}
-use Rattle.x25_script.specs.PlainLine.{PlainCommand, call, accept, clear, send, interrupt, reset, ready, not_ready, restart, disconnect, PlainLine, command, t1, deliver, lose, damage, drain}
+use Rattle.x25_script.specs.PlainLine.{PlainCommand, call, accept, clear, send, interrupt, reset, ready, not_ready, restart, connect, disconnect, PlainLine, command, t1, deliver, lose, damage, drain}
 use Rattle.x25_script.specs.Reading.{line_in}
 use Rattle.x25_script.specs.ReadingLaw.{AsksInOctets, IsInOctets, ReadsOctets}
 use Rattle.x25_program.specs.Lines.{lines_of}
-use Rattle.x25_world.specs.World.{World, OnTap, AtEnd, swapped, Act, Commands, Receives, Fires, Loses, Damages, Event, WorldOutcome, Happened, Declined, of_station, delivered, on_line, acts, swapped_back, acts_at, happens, refusal_of, after, run, AreAccepted, start, connected, established}
-use Rattle.x25_world.specs.Claims.{ActsInOctets, AreInOctets, Always}
+use Rattle.x25_world.specs.World.{World, OnTap, AtEnd, swapped, Act, Commands, Receives, Fires, Loses, Damages, Event, WorldOutcome, Happened, Declined, of_station, delivered, on_line, is_on_line, acts, swapped_back, acts_at, happens, refusal_of, after, run, AreAccepted, start, connected, established}
+use Rattle.x25_world.specs.declared.error.WorldError.{WorldError}
+use Rattle.x25_world.specs.Claims.{ActsInOctets, AreInOctets, IsUpOnce, IsNoConnect, NoneConnects, UpOnceUnlessConnected, Always}
 use Rattle.x25_sim.specs.Sayings.{Saying, enters, taps, reads_nothing, refuses}
-use Rattle.x25_sim.specs.Simulated.{Turn, and_then, step_told, told_between, turn_of, event_turn, next_end, delivered_to, drained, command_asked, line_turn, most_line, asked_in, asked_turn, turn, turns, connecting, set_up, simulated}
-use Rattle.x25_sim.specs.RunLaw.{entries_in, frames_in, IsRun, ScriptsAreRuns, OfScripts, ScriptsAreTold, ScriptsAreTapped}
+use Rattle.x25_sim.specs.Simulated.{Turn, and_then, step_told, told_between, turn_of, event_turn, next_end, delivered_to, drained, command_asked, line_turn, most_line, asked_in, asked_turn, turn, turns, connecting, set_up, opened, simulated}
+use Rattle.x25_sim.specs.RunLaw.{entries_in, frames_in, begins, IsNoConnectLine, NoneAsks, IsRun, ScriptsAreRuns, OfScripts, UpOnceUnlessAsked, ScriptsAreTold, ScriptsAreTapped}
 
 -- ---- a world only grows
 
@@ -49,7 +51,7 @@ chosen w false o p h k = k
 by_act : (c : Settings) (w : World) (act : Act) → GrowsTo w (acts c w act)
 by_act c w (Commands asked) = by_station c w (commands c w.near asked)
 by_act c w Receives = by_delivery c w w.back
-by_act c w Fires = by_station c w (fires c w.near)
+by_act c w Fires = chosen w (is_waiting w.near.link.phase && is_on_line c w) _ _ tt (by_station c w (fires c w.near))
 by_act c w (Loses place) = chosen w (nat_lt place (length w.back)) _ _ (as_it_was w (remove w.back place)) tt
 by_act c w (Damages place octets) = chosen w (nat_lt place (length w.back)) _ _
     (chosen w (is_visible octets) _ _ (as_it_was w (replaced w.back place octets)) tt) tt
@@ -116,6 +118,7 @@ handed (reset channel) h = tt
 handed (ready channel) h = tt
 handed (not_ready channel) h = tt
 handed restart h = tt
+handed connect h = tt
 handed disconnect h = tt
 
 abbrev AskedInOctets : Option PlainLine → Type 0
@@ -138,40 +141,61 @@ octets-append : (events more : List Event) → AreInOctets events → AreInOctet
 octets-append [] more h k = k
 octets-append (e ∷ events) more h k = (h.0, octets-append events more h.1 k)
 
+-- ---- where no line asks for it, no event connects
+
+other_asked : (end : Role) (asked : PlainCommand) (refusal : Option WorldError) → IsNoConnectLine (Some (command end asked)) → IsNoConnect (Commands (command_asked asked)) refusal
+other_asked end (call called calling user params) refusal h = tt
+other_asked end (accept channel params) refusal h = tt
+other_asked end (clear channel) refusal h = tt
+other_asked end (send channel q user) refusal h = tt
+other_asked end (interrupt channel user) refusal h = tt
+other_asked end (reset channel) refusal h = tt
+other_asked end (ready channel) refusal h = tt
+other_asked end (not_ready channel) refusal h = tt
+other_asked end restart refusal h = tt
+other_asked end connect refusal h = absurd h
+other_asked end disconnect refusal h = tt
+
 -- ---- turns are runs
 
-record Runs (cfg : Cfg) (tap : Bool) (w : World) (t : Turn) : Type 0 where
+-- no event connects under the premise
+record Runs (P : Type 0) (cfg : Cfg) (tap : Bool) (w : World) (t : Turn) : Type 0 where
   events : List Event
   accepted : AreAccepted cfg events w
   octets : AreInOctets events
   next : t.next ≡ run cfg events w
   entries : t.next.transcript ≡ w.transcript ++ entries_in t.sayings
   frames : tap ≡ true → t.next.tap ≡ w.tap ++ frames_in t.sayings
+  unconnected : P → NoneConnects cfg events w
 
-stays : (cfg : Cfg) (tap : Bool) (w : World) (sayings : List Saying) → entries_in sayings ≡ [] → frames_in sayings ≡ [] → Runs cfg tap w (record { next = w; sayings = sayings })
-stays cfg tap w sayings no_entries no_frames = record {
+stays : (P : Type 0) (cfg : Cfg) (tap : Bool) (w : World) (sayings : List Saying) → entries_in sayings ≡ [] → frames_in sayings ≡ [] → Runs P cfg tap w (record { next = w; sayings = sayings })
+stays P cfg tap w sayings no_entries no_frames = record {
   events = [];
   accepted = tt;
   octets = tt;
   next = refl;
   entries = sym (append-nil w.transcript) ∙ ap (λ xs. w.transcript ++ xs) (sym no_entries);
   frames = λ asked. sym (append-nil w.tap) ∙ ap (λ xs. w.tap ++ xs) (sym no_frames);
+  unconnected = λ p. tt;
 }
 
-moves : (cfg : Cfg) (tap : Bool) (w : World) (e : Event) (o : WorldOutcome) → happens cfg w e ≡ o → GrowsTo w o → ActsInOctets e.act → Runs cfg tap w (turn_of tap w o)
-moves cfg tap w e (Happened next) is g octets = record {
+moves : (P : Type 0) (cfg : Cfg) (tap : Bool) (w : World) (e : Event) (o : WorldOutcome) → happens cfg w e ≡ o → GrowsTo w o → ActsInOctets e.act
+    → (P → (refusal : Option WorldError) → IsNoConnect e.act refusal) → Runs P cfg tap w (turn_of tap w o)
+moves P cfg tap w e (Happened next) is g octets other = record {
   events = e ∷ [];
   accepted = (ap refusal_of is, tt);
   octets = (octets, tt);
   next = sym (ap (after w) is);
   entries = g.transcript ∙ ap (λ xs. w.transcript ++ xs) (sym (step_entries tap _ _ ∙ ap (drop (length w.transcript)) g.transcript ∙ drop-append_seam w.transcript g.entries));
   frames = λ asked. g.tap ∙ ap (λ xs. w.tap ++ xs) (sym (step_frames tap (drop (length w.transcript) next.transcript) _ asked ∙ ap (drop (length w.tap)) g.tap ∙ drop-append_seam w.tap g.frames));
+  unconnected = λ p. (other p (refusal_of (happens cfg w e)), tt);
 }
-moves cfg tap w e (Declined error) is g octets = stays cfg tap w (refuses error ∷ []) refl refl
+moves P cfg tap w e (Declined error) is g octets other = stays P cfg tap w (refuses error ∷ []) refl refl
 
-event_runs : (cfg : Cfg) (tap : Bool) (e : Event) (w : World) → ActsInOctets e.act → Runs cfg tap w (event_turn cfg tap e w)
+event_runs : (P : Type 0) (cfg : Cfg) (tap : Bool) (e : Event) (w : World) → ActsInOctets e.act → (P → (refusal : Option WorldError) → IsNoConnect e.act refusal)
+    → Runs P cfg tap w (event_turn cfg tap e w)
 unfolding event_turn
-event_runs cfg tap e w octets = moves cfg tap w e (happens cfg w e) refl (by_event cfg w e.at e.act) octets
+event_runs P cfg tap e w octets other = moves P cfg tap w e (happens cfg w e) refl (by_event cfg w e.at e.act) octets other
 
 run-append : (cfg : Cfg) (events more : List Event) (w : World) → run cfg (events ++ more) w ≡ run cfg more (run cfg events w)
 run-append cfg [] more w = refl
@@ -181,8 +205,12 @@ accepted-append : (cfg : Cfg) (events more : List Event) (w : World) → AreAcce
 accepted-append cfg [] more w h k = k
 accepted-append cfg (e ∷ events) more w h k = (h.0, accepted-append cfg events more (after w (happens cfg w e)) h.1 k)
 
-both_run : (cfg : Cfg) (tap : Bool) (w : World) (t : Turn) (rest : World → Turn) → Runs cfg tap w t → ((v : World) → Runs cfg tap v (rest v)) → Runs cfg tap w (and_then rest t)
-both_run cfg tap w t rest first second =
+none-append : (cfg : Cfg) (events more : List Event) (w : World) → NoneConnects cfg events w → NoneConnects cfg more (run cfg events w) → NoneConnects cfg (events ++ more) w
+none-append cfg [] more w h k = k
+none-append cfg (e ∷ events) more w h k = (h.0, none-append cfg events more (after w (happens cfg w e)) h.1 k)
+
+both_run : (P : Type 0) (cfg : Cfg) (tap : Bool) (w : World) (t : Turn) (rest : World → Turn) → Runs P cfg tap w t → ((v : World) → Runs P cfg tap v (rest v)) → Runs P cfg tap w (and_then rest t)
+both_run P cfg tap w t rest first second =
     let then = second t.next in record {
       events = first.events ++ then.events;
       accepted = accepted-append cfg first.events then.events w first.accepted (subst (AreAccepted cfg then.events) first.next then.accepted);
@@ -192,38 +220,40 @@ both_run cfg tap w t rest first second =
           ∙ ap (λ xs. w.transcript ++ xs) (sym (entries-append t.sayings (rest t.next).sayings));
       frames = λ asked. then.frames asked ∙ ap (λ xs. xs ++ frames_in (rest t.next).sayings) (first.frames asked) ∙ append_assoc w.tap (frames_in t.sayings) (frames_in (rest t.next).sayings)
           ∙ ap (λ xs. w.tap ++ xs) (sym (frames-append t.sayings (rest t.next).sayings));
+      unconnected = λ p. none-append cfg first.events then.events w (first.unconnected p) (subst (NoneConnects cfg then.events) first.next (then.unconnected p));
     }
 
-delivery_runs : (cfg : Cfg) (tap : Bool) (rest : World → Turn) (w : World) (at : Option Role) → ((v : World) → Runs cfg tap v (rest v)) → Runs cfg tap w (delivered_to cfg tap rest w at)
-delivery_runs cfg tap rest w None h = stays cfg tap w [] refl refl
-delivery_runs cfg tap rest w (Some at) h = both_run cfg tap w _ rest (event_runs cfg tap (record { at = at; act = Receives }) w tt) h
+delivery_runs : (P : Type 0) (cfg : Cfg) (tap : Bool) (rest : World → Turn) (w : World) (at : Option Role) → ((v : World) → Runs P cfg tap v (rest v)) → Runs P cfg tap w (delivered_to cfg tap rest w at)
+delivery_runs P cfg tap rest w None h = stays P cfg tap w [] refl refl
+delivery_runs P cfg tap rest w (Some at) h = both_run P cfg tap w _ rest (event_runs P cfg tap (record { at = at; act = Receives }) w tt (λ p refusal. tt)) h
 
-drain_runs : (cfg : Cfg) (tap : Bool) (n : ℕ) (w : World) → Runs cfg tap w (drained cfg tap n w)
+drain_runs : (P : Type 0) (cfg : Cfg) (tap : Bool) (n : ℕ) (w : World) → Runs P cfg tap w (drained cfg tap n w)
 unfolding drained
-drain_runs cfg tap zero w = stays cfg tap w [] refl refl
-drain_runs cfg tap (suc n) w = delivery_runs cfg tap (drained cfg tap n) w (next_end w.out w.back) (drain_runs cfg tap n)
+drain_runs P cfg tap zero w = stays P cfg tap w [] refl refl
+drain_runs P cfg tap (suc n) w = delivery_runs P cfg tap (drained cfg tap n) w (next_end w.out w.back) (drain_runs P cfg tap n)
 
-line_runs : (cfg : Cfg) (tap : Bool) (line : PlainLine) (w : World) → IsInOctets line → Runs cfg tap w (line_turn cfg tap line w)
+line_runs : (P : Type 0) (cfg : Cfg) (tap : Bool) (line : PlainLine) (w : World) → IsInOctets line → (P → IsNoConnectLine (Some line)) → Runs P cfg tap w (line_turn cfg tap line w)
 unfolding line_turn
-line_runs cfg tap (command end asked) w h = event_runs cfg tap _ w (handed asked h)
-line_runs cfg tap (t1 end) w h = event_runs cfg tap _ w tt
-line_runs cfg tap (deliver from) w h = event_runs cfg tap _ w tt
-line_runs cfg tap (lose from place) w h = event_runs cfg tap _ w tt
-line_runs cfg tap (damage from place octets) w h = event_runs cfg tap _ w tt
-line_runs cfg tap (drain count) w h = drain_runs cfg tap count w
+line_runs P cfg tap (command end asked) w h other = event_runs P cfg tap _ w (handed asked h) (λ p refusal. other_asked end asked refusal (other p))
+line_runs P cfg tap (t1 end) w h other = event_runs P cfg tap _ w tt (λ p refusal. tt)
+line_runs P cfg tap (deliver from) w h other = event_runs P cfg tap _ w tt (λ p refusal. tt)
+line_runs P cfg tap (lose from place) w h other = event_runs P cfg tap _ w tt (λ p refusal. tt)
+line_runs P cfg tap (damage from place octets) w h other = event_runs P cfg tap _ w tt (λ p refusal. tt)
+line_runs P cfg tap (drain count) w h other = drain_runs P cfg tap count w
 
-asked_runs : (cfg : Cfg) (tap : Bool) (w : World) (asked : Option PlainLine) → AskedInOctets asked → Runs cfg tap w (asked_turn cfg tap w asked)
-asked_runs cfg tap w None h = stays cfg tap w (reads_nothing ∷ []) refl refl
-asked_runs cfg tap w (Some line) h = line_runs cfg tap line w h
+asked_runs : (P : Type 0) (cfg : Cfg) (tap : Bool) (w : World) (asked : Option PlainLine) → AskedInOctets asked → (P → IsNoConnectLine asked) → Runs P cfg tap w (asked_turn cfg tap w asked)
+asked_runs P cfg tap w None h other = stays P cfg tap w (reads_nothing ∷ []) refl refl
+asked_runs P cfg tap w (Some line) h other = line_runs P cfg tap line w h other
 
-turn_runs : ReadsOctets → (cfg : Cfg) (tap : Bool) (line : List ℕ) (w : World) → Runs cfg tap w (turn cfg tap line w)
+turn_runs : (P : Type 0) → ReadsOctets → (cfg : Cfg) (tap : Bool) (line : List ℕ) (w : World) → (P → IsNoConnectLine (asked_in line)) → Runs P cfg tap w (turn cfg tap line w)
 unfolding turn
-turn_runs reads cfg tap line w = asked_runs cfg tap w (asked_in line) (asked_octets reads line)
+turn_runs P reads cfg tap line w other = asked_runs P cfg tap w (asked_in line) (asked_octets reads line) other
 
-lines_run : ReadsOctets → (cfg : Cfg) (tap : Bool) (lines : List (List ℕ)) (w : World) → Runs cfg tap w (turns cfg tap lines w)
+lines_run : (P : Type 0) → ReadsOctets → (cfg : Cfg) (tap : Bool) (lines : List (List ℕ)) (w : World) → (P → NoneAsks lines) → Runs P cfg tap w (turns cfg tap lines w)
 unfolding turns
-lines_run reads cfg tap [] w = stays cfg tap w [] refl refl
-lines_run reads cfg tap (line ∷ lines) w = both_run cfg tap w (turn cfg tap line w) (turns cfg tap lines) (turn_runs reads cfg tap line w) (lines_run reads cfg tap lines)
+lines_run P reads cfg tap [] w other = stays P cfg tap w [] refl refl
+lines_run P reads cfg tap (line ∷ lines) w other = both_run P cfg tap w (turn cfg tap line w) (turns cfg tap lines) (turn_runs P reads cfg tap line w (λ p. (other p).0))
+    (λ v. lines_run P reads cfg tap lines v (λ p. (other p).1))
 
 -- ---- set-up
 
@@ -232,8 +262,8 @@ record Says (tap : Bool) (t : Turn) : Type 0 where
   entries : entries_in t.sayings ≡ t.next.transcript
   frames : tap ≡ true → frames_in t.sayings ≡ t.next.tap
 
-says_more : (cfg : Cfg) (tap : Bool) (t : Turn) (rest : World → Turn) → Says tap t → Runs cfg tap t.next (rest t.next) → Says tap (and_then rest t)
-says_more cfg tap t rest s r = record {
+says_more : (P : Type 0) (cfg : Cfg) (tap : Bool) (t : Turn) (rest : World → Turn) → Says tap t → Runs P cfg tap t.next (rest t.next) → Says tap (and_then rest t)
+says_more P cfg tap t rest s r = record {
   entries = entries-append t.sayings (rest t.next).sayings ∙ ap (λ xs. xs ++ entries_in (rest t.next).sayings) s.entries ∙ sym r.entries;
   frames = λ asked. frames-append t.sayings (rest t.next).sayings ∙ ap (λ xs. xs ++ frames_in (rest t.next).sayings) (s.frames asked) ∙ sym (r.frames asked);
 }
@@ -266,33 +296,47 @@ up_at cfg tap = two_turned cfg tap (connected cfg)
 says_up : (cfg : Cfg) (tap : Bool) → Says tap (set_up cfg tap)
 unfolding set_up
 says_up cfg tap =
-    says_more cfg tap (and_then (event_turn cfg tap to_dce) (connecting cfg tap)) (event_turn cfg tap to_dte)
-    (says_more cfg tap (connecting cfg tap) (event_turn cfg tap to_dce) (says_connecting tap (connected cfg)) (event_runs cfg tap to_dce (connected cfg) tt))
-    (event_runs cfg tap to_dte (event_turn cfg tap to_dce (connected cfg)).next tt)
+    says_more (Unit {0}) cfg tap (and_then (event_turn cfg tap to_dce) (connecting cfg tap)) (event_turn cfg tap to_dte)
+    (says_more (Unit {0}) cfg tap (connecting cfg tap) (event_turn cfg tap to_dce) (says_connecting tap (connected cfg)) (event_runs (Unit {0}) cfg tap to_dce (connected cfg) tt (λ p refusal. tt)))
+    (event_runs (Unit {0}) cfg tap to_dte (event_turn cfg tap to_dce (connected cfg)).next tt (λ p refusal. tt))
 
-pub script_runs : ReadsOctets → (cfg : Cfg) (tap : Bool) (script : List ℕ) → IsRun cfg tap script
+-- what comes before the script
+opened_at : (cfg : Cfg) (down tap : Bool) → (opened cfg down tap).next ≡ begins cfg down
+opened_at cfg true tap = refl
+opened_at cfg false tap = up_at cfg tap
+
+says_opened : (cfg : Cfg) (down tap : Bool) → Says tap (opened cfg down tap)
+says_opened cfg true tap = record { entries = refl; frames = λ asked. refl }
+says_opened cfg false tap = says_up cfg tap
+
+pub script_runs : ReadsOctets → (cfg : Cfg) (down tap : Bool) (script : List ℕ) → IsRun cfg down tap script
 unfolding simulated
-script_runs reads cfg tap script =
-    let up = set_up cfg tap in
-    let r = lines_run reads cfg tap (lines_of script) up.next in
-    let says = says_more cfg tap up (turns cfg tap (lines_of script)) (says_up cfg tap) r in
-    let at : (turns cfg tap (lines_of script) up.next).next ≡ run cfg r.events (established cfg) = r.next ∙ ap (run cfg r.events) (up_at cfg tap) in record {
+script_runs reads cfg down tap script =
+    let up = opened cfg down tap in
+    let r = lines_run (NoneAsks (lines_of script)) reads cfg tap (lines_of script) up.next (λ none. none) in
+    let says = says_more (NoneAsks (lines_of script)) cfg tap up (turns cfg tap (lines_of script)) (says_opened cfg down tap) r in
+    let at : (turns cfg tap (lines_of script) up.next).next ≡ run cfg r.events (begins cfg down) = r.next ∙ ap (run cfg r.events) (opened_at cfg down tap) in record {
       events = r.events;
-      accepted = subst (AreAccepted cfg r.events) (up_at cfg tap) r.accepted;
+      accepted = subst (AreAccepted cfg r.events) (opened_at cfg down tap) r.accepted;
       octets = r.octets;
       next = at;
       entries = says.entries ∙ ap (λ w. w.transcript) at;
       frames = λ asked. says.frames asked ∙ ap (λ w. w.tap) at;
+      unconnected = λ none. subst (NoneConnects cfg r.events) (opened_at cfg down tap) (r.unconnected none);
     }
 
 -- ---- what holds of runs
 
 pub of_script : (Holds : Cfg → World → Type 0) → Always Holds → ScriptsAreRuns → OfScripts Holds
-of_script Holds always runs = λ cfg range tap script. let r = runs cfg tap script in
-    subst (Holds cfg) (sym r.next) (always cfg range r.events r.octets)
+of_script Holds always runs = λ cfg range tap script once. let r = runs cfg false tap script in
+    subst (Holds cfg) (sym r.next) (always cfg range r.events r.octets (subst (IsUpOnce cfg) r.next once))
+
+pub up_once : UpOnceUnlessConnected → ScriptsAreRuns → UpOnceUnlessAsked
+up_once once runs = λ cfg range tap script none. let r = runs cfg false tap script in
+    subst (IsUpOnce cfg) (sym r.next) (once cfg range r.events r.octets (r.unconnected none))
 
 pub are_told : ScriptsAreRuns → ScriptsAreTold
-are_told runs = λ cfg tap script. let r = runs cfg tap script in r.entries ∙ ap (λ w. w.transcript) (sym r.next)
+are_told runs = λ cfg down tap script. let r = runs cfg down tap script in r.entries ∙ ap (λ w. w.transcript) (sym r.next)
 
 pub are_tapped : ScriptsAreRuns → ScriptsAreTapped
-are_tapped runs = λ cfg script. let r = runs cfg true script in r.frames refl ∙ ap (λ w. w.tap) (sym r.next)
+are_tapped runs = λ cfg down script. let r = runs cfg down true script in r.frames refl ∙ ap (λ w. w.tap) (sym r.next)

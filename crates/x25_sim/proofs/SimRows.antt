@@ -14,7 +14,7 @@ use Rattle.x25_program.specs.Lines.{lines_of}
 use Rattle.x25_entries.specs.EntryText.{entry_line}
 use Rattle.x25_sim.specs.Sayings.{frame_line, refusal_line, saying_line}
 use Rattle.x25_sim.specs.Simulated.{event_turn, drained, line_turn, asked_in, turn, turns, set_up, simulated}
-use Rattle.x25_sim.specs.ScriptRows.{LinksComeUp, FramesAreWritten, LinkGoesDown, DamageIsSeen, CallsCollide, OtherLinesAreRefused, MessagesArrive, ResetIsDone, RestartIsDone, BothEndsGoDown}
+use Rattle.x25_sim.specs.ScriptRows.{LinksComeUp, FramesAreWritten, LinkGoesDown, DamageIsSeen, CallsCollide, OtherLinesAreRefused, MessagesArrive, ResetIsDone, RestartIsDone, BothEndsGoDown, LinkIsSetUp, LostUaComesAgain, LinkIsSetUpAgain}
 
 pub links_come_up : LinksComeUp
 unfolding digits decode_pairs simulated set_up event_turn line_turn drained turn turns asked_in lines_of line_in parts_of number_in lose_in damage_in drain_in command_in with_fields small_number_in params_in with_params_in call_in accept_in send_in interrupt_in saying_line entry_line frame_line refusal_line pumped frame_of packet_of halves_of packed facilities_of is_sealed fcs_of number_of divided low_bits add divisor
@@ -55,3 +55,15 @@ restart_is_done = (refl, refl)
 pub both_ends_go_down : BothEndsGoDown
 unfolding digits decode_pairs simulated set_up event_turn line_turn drained turn turns asked_in lines_of line_in parts_of number_in lose_in damage_in drain_in command_in with_fields small_number_in params_in with_params_in call_in accept_in send_in interrupt_in saying_line entry_line frame_line refusal_line pumped frame_of packet_of halves_of packed facilities_of is_sealed fcs_of number_of divided low_bits add divisor
 both_ends_go_down = (refl, refl)
+
+pub link_is_set_up : LinkIsSetUp
+unfolding digits decode_pairs simulated set_up event_turn line_turn drained turn turns asked_in lines_of line_in parts_of number_in lose_in damage_in drain_in command_in with_fields small_number_in params_in with_params_in call_in accept_in send_in interrupt_in saying_line entry_line frame_line refusal_line pumped frame_of packet_of halves_of packed facilities_of is_sealed fcs_of number_of divided low_bits add divisor
+link_is_set_up = (refl, refl)
+
+pub lost_ua_comes_again : LostUaComesAgain
+unfolding digits decode_pairs simulated set_up event_turn line_turn drained turn turns asked_in lines_of line_in parts_of number_in lose_in damage_in drain_in command_in with_fields small_number_in params_in with_params_in call_in accept_in send_in interrupt_in saying_line entry_line frame_line refusal_line pumped frame_of packet_of halves_of packed facilities_of is_sealed fcs_of number_of divided low_bits add divisor
+lost_ua_comes_again = (refl, refl)
+
+pub link_is_set_up_again : LinkIsSetUpAgain
+unfolding digits decode_pairs simulated set_up event_turn line_turn drained turn turns asked_in lines_of line_in parts_of number_in lose_in damage_in drain_in command_in with_fields small_number_in params_in with_params_in call_in accept_in send_in interrupt_in saying_line entry_line frame_line refusal_line pumped frame_of packet_of halves_of packed facilities_of is_sealed fcs_of number_of divided low_bits add divisor
+link_is_set_up_again = (refl, refl)

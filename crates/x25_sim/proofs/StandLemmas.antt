@@ -5,12 +5,12 @@ use Rattle.std.proofs.lemmas.List.Folds.{list_any-append}
 use Rattle.x25_program.specs.Written.{AppendsBeginning}
 use Rattle.x25_station.specs.declared.config.Cfg.{Cfg}
 use Rattle.x25_world.specs.World.{World, WorldOutcome, refusal_of, after, start, connected}
-use Rattle.x25_world.specs.FitsWorld.{FitsWorld, all_of}
+use Rattle.x25_world.specs.FitsWorld.{FitsWorld, all_of, nothing_gone}
 use Rattle.x25_world.specs.declared.error.WorldError.{WorldError}
 use Rattle.x25_sim.specs.declared.stage.Stage.{Stage}
 use Rattle.x25_sim.specs.Sayings.{Saying, refuses, reads_nothing, sayings_text, saying_line, refusal_line, is_refusal, has_refusal}
-use Rattle.x25_sim.specs.Simulated.{Turn, and_then, turn_of, told_between, asked_turn, connecting}
-use Rattle.x25_sim.specs.Stands.{Stands}
+use Rattle.x25_sim.specs.Simulated.{Turn, and_then, turn_of, told_between, asked_turn, connecting, opened}
+use Rattle.x25_sim.specs.Stands.{Stands, opening}
 use Rattle.x25_sim.specs.Written.{Tells}
 use Rattle.x25_sim.proofs.ToldLemmas.{beginning_more}
 use Rattle.x25_sim.proofs.SayingLemmas.{text-append}
@@ -118,3 +118,9 @@ module _ (cfg : Cfg) (tap : Bool) (old next : Option (List ℕ)) (u : Stage) (to
 pub stands_connecting : (cfg : Cfg) (tap : Bool) (old next : Option (List ℕ)) (u : Stage) → FitsWorld cfg u.world (connected cfg) (all_of (connected cfg)) → u.tap ≡ tap → u.is_refused ≡ false
     → Tells old next u.output (sayings_text (told_between tap start (connected cfg))) → StandsAt cfg tap old next u [] false (connecting cfg tap)
 stands_connecting cfg tap old next u fits asked status tells = record { fits = fits; asked = asked; tells = tells; status = status ∙ sym (step_accepts tap start (connected cfg)) }
+
+-- both links are down, and nothing is said
+pub stands_down : (cfg : Cfg) (down tap : Bool) (old now : Option (List ℕ)) (u : Stage) → down ≡ true → FitsWorld cfg u.world (opening cfg down) nothing_gone → u.tap ≡ tap → u.is_refused ≡ false
+    → Tells old now u.output [] → StandsAt cfg tap old now u [] false (opened cfg down tap)
+stands_down cfg true tap old now u e fits asked status tells = record { fits = fits; asked = asked; tells = tells; status = status }
+stands_down cfg false tap old now u e fits asked status tells = absurd (cc)

@@ -9,9 +9,9 @@ use Rattle.x25_circuit.specs.Params.{default_params}
 use Rattle.x25_circuit.specs.Calls.{Accepts, Clears, Sends, Interrupts, Resets, SaysReady, SaysNotReady}
 use Rattle.x25_layer.specs.Calls.{Asks, Dials, Restarts}
 use Rattle.x25_station.specs.declared.config.Cfg.{Cfg}
-use Rattle.x25_station.specs.Command.{Command, Requests, Disconnects}
+use Rattle.x25_station.specs.Command.{Command, Requests, Connects, Disconnects}
 use Rattle.x25_script.specs.declared.params.Params.{Params as Numbers}
-use Rattle.x25_script.specs.PlainLine.{PlainCommand, call, accept, clear, send, interrupt, reset, ready, not_ready, restart, disconnect, PlainLine, command, t1, deliver, lose, damage, drain}
+use Rattle.x25_script.specs.PlainLine.{PlainCommand, call, accept, clear, send, interrupt, reset, ready, not_ready, restart, connect, disconnect, PlainLine, command, t1, deliver, lose, damage, drain}
 use Rattle.x25_script.specs.Reading.{line_in}
 use Rattle.x25_program.specs.Lines.{lines_of}
 use Rattle.x25_world.specs.World.{World, OnTap, AtEnd, Event, Commands, Receives, Fires, Loses, Damages, WorldOutcome, Happened, Declined, happens, start, connected}
@@ -86,6 +86,7 @@ command_asked (reset channel) = Requests (Asks channel Resets)
 command_asked (ready channel) = Requests (Asks channel SaysReady)
 command_asked (not_ready channel) = Requests (Asks channel SaysNotReady)
 command_asked restart = Requests Restarts
+command_asked connect = Connects
 command_asked disconnect = Disconnects
 
 -- the user data of a command, none where it has no such field
@@ -134,13 +135,18 @@ connecting cfg tap = record { next = connected cfg; sayings = told_between tap s
 unfoldable pub set_up : Cfg → Bool → Turn
 set_up cfg tap = and_then (event_turn cfg tap (record { at = Dte; act = Receives })) (and_then (event_turn cfg tap (record { at = Dce; act = Receives })) (connecting cfg tap))
 
-unfoldable pub simulated : Cfg → Bool → List ℕ → Turn
-simulated cfg tap script = and_then (turns cfg tap (lines_of script)) (set_up cfg tap)
+-- both links are down where the script begins, and nothing is said, or they were just set up
+abbrev pub opened : Cfg → Bool → Bool → Turn
+opened cfg true tap = quiet start
+opened cfg false tap = set_up cfg tap
+
+unfoldable pub simulated : Cfg → Bool → Bool → List ℕ → Turn
+simulated cfg down tap script = and_then (turns cfg tap (lines_of script)) (opened cfg down tap)
 
 -- what is written for a script
-abbrev pub sim_text : Cfg → Bool → List ℕ → List ℕ
-sim_text cfg tap script = sayings_text (simulated cfg tap script).sayings
+abbrev pub sim_text : Cfg → Bool → Bool → List ℕ → List ℕ
+sim_text cfg down tap script = sayings_text (simulated cfg down tap script).sayings
 
 -- a line or an event was refused
-abbrev pub sim_status : Cfg → Bool → List ℕ → ℕ
-sim_status cfg tap script = if has_refusal (simulated cfg tap script).sayings then 1 else 0
+abbrev pub sim_status : Cfg → Bool → Bool → List ℕ → ℕ
+sim_status cfg down tap script = if has_refusal (simulated cfg down tap script).sayings then 1 else 0

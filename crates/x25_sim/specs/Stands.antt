@@ -1,7 +1,7 @@
 -- What the simulator holds in the midst of a script: a world of which it told all, and what it told.
-use Rattle.std.specs.Prelude.{◌≡◌, ℕ, Bool, ◌||◌, List, ◌++◌, Option, Result, MatchResult}
+use Rattle.std.specs.Prelude.{◌≡◌, ℕ, Bool, true, false, ◌||◌, List, ◌++◌, Option, Result, MatchResult}
 use Rattle.x25_station.specs.declared.config.Cfg.{Cfg}
-use Rattle.x25_world.specs.World.{World, connected}
+use Rattle.x25_world.specs.World.{World, start, connected}
 use Rattle.x25_world.specs.FitsWorld.{FitsWorld, all_of, nothing_gone}
 use Rattle.x25_program.specs.Written.{AppendsBeginning}
 use Rattle.x25_program.specs.declared.fault.Fault.{Fault}
@@ -17,9 +17,14 @@ pub record Stands (cfg : Cfg) (tap : Bool) (old now : Option (List ℕ)) (s : St
   pub tells : Tells old now s.output told
   pub status : s.is_refused ≡ refused
 
--- the DTE has asked that the link be set up, and nothing was told
-unfoldable pub IsConnecting : Cfg → Stage → Type 0
-IsConnecting cfg s = FitsWorld cfg s.world (connected cfg) nothing_gone
+-- the world at first: both links are down, or the DTE has asked that the link be set up
+abbrev pub opening : Cfg → Bool → World
+opening cfg true = start
+opening cfg false = connected cfg
+
+-- it holds that world, and nothing was told
+unfoldable pub IsOpening : Cfg → Bool → Stage → Type 0
+IsOpening cfg down s = FitsWorld cfg s.world (opening cfg down) nothing_gone
 
 -- of a turn: it is told, or at a fault a beginning is written
 abbrev pub Stood : Cfg → Bool → Option (List ℕ) → Option (List ℕ) → Stage → List ℕ → Bool → Result Unit Fault → Turn → Type 0

@@ -1,22 +1,25 @@
 //! What the simulator writes is a run, and what holds of it, as laws about the definition: each is the contract of a function that
 //! does nothing.
-ghost use Rattle.x25_world.specs.Claims.{ArrivesAll, HasNoProcedureError, IsInWindow, IsLawful, IsNamed, IsUpOnce};
-ghost use Rattle.x25_sim.specs.RunLaw.{OfScripts, ScriptsAreRuns, ScriptsAreTapped, ScriptsAreTold};
-ghost use Rattle.x25_sim.specs.ScriptRows.{BothEndsGoDown, CallsCollide, DamageIsSeen, FramesAreWritten, LinkGoesDown, LinksComeUp, MessagesArrive, OtherLinesAreRefused, ResetIsDone, RestartIsDone};
+ghost use Rattle.x25_world.specs.Claims.{ArrivesAll, HasNoProcedureError, IsInWindow, IsLawful, IsNamed};
+ghost use Rattle.x25_sim.specs.RunLaw.{OfScripts, ScriptsAreRuns, ScriptsAreTapped, ScriptsAreTold, UpOnceUnlessAsked};
+ghost use Rattle.x25_sim.specs.ScriptRows.{BothEndsGoDown, CallsCollide, DamageIsSeen, FramesAreWritten, LinkGoesDown, LinkIsSetUp, LinkIsSetUpAgain, LinksComeUp, LostUaComesAgain, MessagesArrive, OtherLinesAreRefused, ResetIsDone, RestartIsDone};
 
 use x25_script::lines_are_in_octets;
 use x25_world::two_stations_keep_order;
 
-/// For every script: events that are each accepted, and whose users hand down octets, lead from two stations with both links up to where
-/// the script leads; the entries among what is said are the transcript of that run, and the frames, where they are asked for, its tap.
+/// For every script: events that are each accepted, and whose users hand down octets, lead from two stations with both links up, or with
+/// `down` from both links down, to where the script leads; the entries among what is said are the transcript of that run, and the
+/// frames, where they are asked for, its tap.
 pub fn scripts_are_runs()
     ensures { ScriptsAreRuns }
 {
     lines_are_in_octets();
 }
 
-/// For every script: what `two_stations_keep_order` says of two stations holds of those to which the script leads, whose transcript and
-/// tap are the entries and the frames that are written.
+/// For every script that begins with both links up, as long as the link isn't set up anew, by which an end is told of LinkUp again: what
+/// `two_stations_keep_order` says of two stations holds of those to which the script leads. By `up_once` it isn't where no line of the
+/// script is `connect`, so that such a script has no other premise than those below. For every script, and also with `down`, transcript
+/// and tap are the entries and the frames that are written.
 ///
 /// Premises: k is 1 to 7, N2 1 to 255, channels 1 to 16.
 pub fn scripts_keep_order()
@@ -25,7 +28,7 @@ pub fn scripts_keep_order()
     ensures arrives { OfScripts ArrivesAll }
     ensures quiet { OfScripts HasNoProcedureError }
     ensures window { OfScripts IsInWindow }
-    ensures up_once { OfScripts IsUpOnce }
+    ensures up_once { UpOnceUnlessAsked }
     ensures told { ScriptsAreTold }
     ensures tapped { ScriptsAreTapped }
 {
@@ -34,7 +37,8 @@ pub fn scripts_keep_order()
 }
 
 /// Worked scripts, with what is written and the status: set-up, and with its frames; a link that goes down by retries; damage and
-/// other refusals; two calls that collide; lines outside of the grammar; a call and its messages; `reset`, `restart` and `disconnect`.
+/// other refusals; two calls that collide; lines outside of the grammar; a call and its messages; `reset`, `restart` and `disconnect`;
+/// `connect` from both links down, also where a UA is lost, and of a link that went down.
 pub fn scripts_move()
     ensures set_up { LinksComeUp }
     ensures frames { FramesAreWritten }
@@ -46,4 +50,7 @@ pub fn scripts_move()
     ensures reset { ResetIsDone }
     ensures restart { RestartIsDone }
     ensures disconnect { BothEndsGoDown }
+    ensures connect { LinkIsSetUp }
+    ensures lost_ua { LostUaComesAgain }
+    ensures again { LinkIsSetUpAgain }
 {}

@@ -59,7 +59,8 @@ fn simulate_pieces<R: Source, W: Sink>(
 
 /// Sets two stations up over a line, does what the lines of the script that the reader gives ask for, and writes what
 /// happens: the entries of the transcript, and with `tap` behind the entries of each step the frames that were put on the
-/// line, as lines for `decode`. It answers the status: 1 where a line or an event was refused, else 0.
+/// line, as lines for `decode`. With `down` nothing is set up, and both links are down where the script begins. It answers
+/// the status: 1 where a line or an event was refused, else 0.
 ///
 /// A line outside of the grammar, or of more than 131,200 characters, becomes `? 60`; an event that is refused `! ` and its
 /// number, which is the station's own where the station refuses. `drain` is several deliveries, each a step. What was told
@@ -67,6 +68,7 @@ fn simulate_pieces<R: Source, W: Sink>(
 /// most 2^64 - 1 times; the clauses on the text speak of scripts of fewer octets than that. Profile.
 pub fn sim<R: Source, W: Sink>(
     alloc: Global,
+    down: bool,
     cfg: Cfg,
     tap: bool,
     reader: &mut R,
@@ -78,17 +80,17 @@ pub fn sim<R: Source, W: Sink>(
     ensures zero_or_one { IfOk result (λ status. status ≤ 1) }
     // What is written is the text of all that was read.
     ensures text { OnOk result (IfSome (R.remaining reader.old) (λ script. length script < 2 ^ 64 - 1
-        → Appends (W.contents writer.old) (W.contents writer.new) (sim_text cfg tap script))) }
+        → Appends (W.contents writer.old) (W.contents writer.new) (sim_text cfg down tap script))) }
     ensures status { IfOk result (λ status. IfSome (R.remaining reader.old) (λ script. length script < 2 ^ 64 - 1
-        → status ≡ sim_status cfg tap script)) }
+        → status ≡ sim_status cfg down tap script)) }
 
     // What was written before a fault is a beginning of it.
     ensures fault { OnErr result (IfSome (R.remaining reader.old) (λ script. length script < 2 ^ 64 - 1
-        → AppendsBeginning (W.contents writer.old) (W.contents writer.new) (sim_text cfg tap script))) }
+        → AppendsBeginning (W.contents writer.old) (W.contents writer.new) (sim_text cfg down tap script))) }
     // At a failed read what all lines that had ended gave is written.
     ensures ended { IsErrOf result Fault.Read → IfSome (R.remaining reader.old) (λ script.
         (rest : List ℕ) × (R.remaining reader.new ≡ Some rest)
-        × WritesEnded cfg tap (W.contents writer.old) (W.contents writer.new) rest (simulated cfg tap script)) }
+        × WritesEnded cfg tap (W.contents writer.old) (W.contents writer.new) rest (simulated cfg down tap script)) }
 
     ensures read { IsErrOf result Fault.Read → R.is_marked reader.new ≡ true }
     ensures write { IsErrOf result Fault.Write → W.is_marked writer.new ≡ true }
@@ -101,11 +103,11 @@ pub fn sim<R: Source, W: Sink>(
     let Ok(held) = HeldLine::new(alloc) else {
         return Err(Fault::NoMemory);
     };
-    let mut stage = match Stage::new(alloc, cfg, tap) {
+    let mut stage = match Stage::new(alloc, down, cfg, tap) {
         Ok(stage) => stage,
         Err(fault) => return Err(fault),
     };
-    if let Err(fault) = stage.set_up(writer) {
+    if let Err(fault) = stage.open(down, writer) {
         return Err(fault);
     }
     let mut simulator = Simulator::new(held, stage);

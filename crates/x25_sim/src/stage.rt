@@ -2,6 +2,8 @@
 ghost use Rattle.std.specs.Prelude.{◌≡◌, ◌↔◌, IfOk, IsTrue};
 ghost use Rattle.x25_bits.specs.Role.{other};
 ghost use Rattle.x25_line.specs.RawMachine.{end_of};
+ghost use Rattle.x25_world.specs.FitsWorld.{FitsWorld, nothing_gone};
+ghost use Rattle.x25_sim.specs.Stands.{opening};
 
 use crate::commands::{octets_of, station_command, user_octets};
 use crate::output::Output;
@@ -29,6 +31,17 @@ fn is_memory(error: WorldError) -> bool
     matches!(error, WorldError::NoMemory)
 }
 
+/// Two stations, of which the DTE has asked that the link be set up, or with `down` both links are down.
+fn first_world(alloc: Global, down: bool, cfg: Cfg) -> Result<World, WorldError>
+    ensures { IfOk result (λ world. FitsWorld cfg world (opening cfg down) nothing_gone) }
+{
+    if down {
+        World::start(alloc, cfg)
+    } else {
+        World::connecting(alloc, cfg)
+    }
+}
+
 /// The direction that leads away from an end.
 fn away_from(end: Role) -> Direction
     ensures { end_of result ≡ other end }
@@ -45,16 +58,16 @@ impl Stage {
     ghost use Rattle.x25_program.specs.Written.{AppendsBeginning};
     ghost use Rattle.x25_station.specs.declared.config.Cfg.{Cfg as Settings};
     ghost use Rattle.x25_world.specs.World.{World as State, Commands, WorldOutcome, event_of, refusal_of};
-    ghost use Rattle.x25_world.specs.FitsWorld.{FitsWorld, all_of};
+    ghost use Rattle.x25_world.specs.FitsWorld.{all_of};
     ghost use Rattle.x25_sim.specs.Sayings.{sayings_text};
-    ghost use Rattle.x25_sim.specs.Simulated.{asked_turn, command_asked, drained, event_turn, line_turn, next_end, set_up, step_told, told_between, turn_of};
-    ghost use Rattle.x25_sim.specs.Stands.{IsConnecting, Stands, Stood, Turns};
+    ghost use Rattle.x25_sim.specs.Simulated.{asked_turn, command_asked, drained, event_turn, line_turn, next_end, opened, set_up, step_told, told_between, turn_of};
+    ghost use Rattle.x25_sim.specs.Stands.{IsOpening, Stands, Stood, Turns};
     ghost use Rattle.x25_sim.specs.Written.{Tells};
 
-    /// Two stations, of which the DTE has asked that the link be set up.
-    #[tactic(auto, unfolding(crate::specs::Stands::IsConnecting))]
-    pub(crate) fn new(alloc: Global, cfg: Cfg, tap: bool) -> Result<Stage, Fault>
-        ensures connecting { IfOk result (IsConnecting cfg) }
+    /// The first world, of which nothing was told.
+    #[tactic(auto, unfolding(crate::specs::Stands::IsOpening))]
+    pub(crate) fn new(alloc: Global, down: bool, cfg: Cfg, tap: bool) -> Result<Stage, Fault>
+        ensures opening { IfOk result (IsOpening cfg down) }
         ensures tap { IfOk result (λ s. s.tap ≡ tap) }
         ensures empty { IfOk result (λ s. s.output ≡ []) }
         ensures is_refused { IfOk result (λ s. s.is_refused ≡ false) }
@@ -63,7 +76,7 @@ impl Stage {
         let Ok(output) = Output::new(alloc) else {
             return Err(Fault::NoMemory);
         };
-        let Ok(world) = World::connecting(alloc, cfg) else {
+        let Ok(world) = first_world(alloc, down, cfg) else {
             return Err(Fault::NoMemory);
         };
         Ok(Stage {
@@ -289,9 +302,9 @@ impl Stage {
     }
 
     /// The link is set up, and that is told: the step of the DTE, the delivery of its SABM, and that of the UA.
-    pub(crate) fn set_up<W: Sink>(&mut self, writer: &mut W) -> Result<(), Fault>
+    fn set_up<W: Sink>(&mut self, writer: &mut W) -> Result<(), Fault>
         ensures kept { OnOk result (W.is_marked writer.new ≡ W.is_marked writer.old) }
-        ensures stood { (cfg : Settings) (old : Option (List ℕ)) → IsConnecting cfg self.old
+        ensures stood { (cfg : Settings) (old : Option (List ℕ)) → IsOpening cfg false self.old
             → self.old.is_refused ≡ false → Tells old (W.contents writer.old) self.old.output []
             → Stood cfg self.old.tap old (W.contents writer.new) self.new [] false result (set_up cfg self.old.tap) }
         ensures write { IsErrOf result Fault.Write → W.is_marked writer.new ≡ true }
@@ -305,6 +318,25 @@ impl Stage {
             return Err(fault);
         }
         match self.happen(Event::Deliver(Direction::ToDte), writer) {
+            Ok(()) => Ok(()),
+            Err(fault) => Err(fault),
+        }
+    }
+
+    /// The link is set up, and that is told; with `down` both links stay down, and nothing is told.
+    pub(crate) fn open<W: Sink>(&mut self, down: bool, writer: &mut W) -> Result<(), Fault>
+        ensures kept { OnOk result (W.is_marked writer.new ≡ W.is_marked writer.old) }
+        ensures stood { (cfg : Settings) (old : Option (List ℕ)) → IsOpening cfg down self.old
+            → self.old.is_refused ≡ false → Tells old (W.contents writer.old) self.old.output []
+            → Stood cfg self.old.tap old (W.contents writer.new) self.new [] false result (opened cfg down self.old.tap) }
+        ensures write { IsErrOf result Fault.Write → W.is_marked writer.new ≡ true }
+        ensures memory { IsErrOf result Fault.NoMemory → W.is_marked writer.new ≡ W.is_marked writer.old }
+        ensures read { IsErrOf result Fault.Read → ⊥ }
+    {
+        if down {
+            return Ok(());
+        }
+        match self.set_up(writer) {
             Ok(()) => Ok(()),
             Err(fault) => Err(fault),
         }

@@ -29,7 +29,7 @@ fn tells_the_read_that_fails(rt: HostRuntime) -> Result<(), Fail> {
     for before in 0..READS + 3 {
         let mut reader = FailingReader::new(SCRIPT.as_bytes(), 7, before);
         let mut writer = Device::new(Vec::new(rt.alloc()));
-        let result = sim(rt.alloc(), USUAL, false, &mut reader, &mut writer);
+        let result = sim(rt.alloc(), false, USUAL, false, &mut reader, &mut writer);
         let written = writer.into_inner();
         assert_eq!(rt; result, wanted(before < READS, Fault::Read));
         assert!(rt; TRANSCRIPT.as_bytes().starts_with(written.as_slice()));
@@ -43,7 +43,7 @@ fn tells_the_write_that_fails(rt: HostRuntime) -> Result<(), Fail> {
     for before in 0..WRITES + 3 {
         let mut reader = Device::new(SCRIPT.as_bytes());
         let mut writer = FailingWriter::new(Vec::new(rt.alloc()), 9, before);
-        let result = sim(rt.alloc(), USUAL, false, &mut reader, &mut writer);
+        let result = sim(rt.alloc(), false, USUAL, false, &mut reader, &mut writer);
         assert_eq!(rt; result, wanted(before < WRITES, Fault::Write));
         assert!(rt; TRANSCRIPT.as_bytes().starts_with(writer.octets()));
         assert_eq!(rt; writer.octets().len(), TRANSCRIPT.len().min(9 * before));
@@ -57,7 +57,7 @@ fn answers_in_any_pieces(rt: HostRuntime) -> Result<(), Fail> {
     for most in 1..7 {
         let mut reader = FailingReader::new(SCRIPT.as_bytes(), most, 1000);
         let mut writer = FailingWriter::new(Vec::new(rt.alloc()), most, 1000);
-        let result = sim(rt.alloc(), USUAL, false, &mut reader, &mut writer);
+        let result = sim(rt.alloc(), false, USUAL, false, &mut reader, &mut writer);
         assert_eq!(rt; result, Ok(1));
         assert_eq!(rt; writer.octets(), TRANSCRIPT.as_bytes());
     }

@@ -44,7 +44,7 @@ fn takes_lines_up_to_the_longest(rt: HostRuntime) -> Result<(), Fail> {
         let script = script_of(rt.alloc(), front, length)?;
         let mut reader = Device::new(script.as_slice());
         let mut writer = Device::new(Vec::new(rt.alloc()));
-        let result = sim(rt.alloc(), USUAL, false, &mut reader, &mut writer);
+        let result = sim(rt.alloc(), false, USUAL, false, &mut reader, &mut writer);
         let written = writer.into_inner();
         assert_eq!(rt; result, Ok(1));
         assert_eq!(rt; written.as_slice(), told.as_bytes());
@@ -64,7 +64,7 @@ fn tells_the_longest_message(rt: HostRuntime) -> Result<(), Fail> {
     script.extend_from_slice(b"\ndrain 65535\n")?;
     let mut reader = Device::new(script.as_slice());
     let mut writer = Device::new(Vec::new(rt.alloc()));
-    let result = sim(rt.alloc(), USUAL, false, &mut reader, &mut writer);
+    let result = sim(rt.alloc(), false, USUAL, false, &mut reader, &mut writer);
     let written = writer.into_inner();
     assert_eq!(rt; result, Ok(0));
     let mut message = Vec::from_slice(rt.alloc(), b"dce message ch=1 at 1.0.0 q=0 data=")?;

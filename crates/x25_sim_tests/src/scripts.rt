@@ -39,7 +39,49 @@ fn writes_transcripts(rt: HostRuntime) -> Result<(), Fail> {
     for (script, tap, transcript, status) in ROWS {
         let mut reader = Device::new(script.as_bytes());
         let mut writer = Device::new(Vec::new(rt.alloc()));
-        let result = sim(rt.alloc(), USUAL, tap, &mut reader, &mut writer);
+        let result = sim(rt.alloc(), false, USUAL, tap, &mut reader, &mut writer);
+        let written = writer.into_inner();
+        assert_eq!(rt; result, Ok(status));
+        assert_eq!(rt; written.as_slice(), transcript.as_bytes());
+    }
+    Ok(())
+}
+
+/// Scripts that begin with both links down.
+const DOWN_ROWS: [Row; 5] = [
+    ("", true, "", 0),
+    (
+        "t1 dte\ndce disconnect\ndce connect\n",
+        false,
+        "! 11\ndce disconnect\n! 13\n",
+        1,
+    ),
+    (
+        "dce connect\ndce connect\ndeliver <\n",
+        true,
+        "dce connect\n< 033f5bec\n! 12\ndte linkup\n> 03733364\n> 01001000fb00007702\n",
+        1,
+    ),
+    (
+        "dte connect\ndce connect\ndrain 100\ndte connect\n",
+        false,
+        "dte connect\ndce connect\ndce linkup\ndte linkup\ndce restarted cause=0 diag=0\ndte restarted cause=7 diag=0\n! 15\n",
+        1,
+    ),
+    (
+        "dte connect\ndeliver >\nlose < 0\nt1 dte\nt1 dte\ndrain 100\n",
+        false,
+        "dte connect\ndce linkup\n! 54\ndce linkdown reset\ndce linkup\ndte linkup\ndce restarted cause=0 diag=0\ndte restarted cause=7 diag=0\n",
+        1,
+    ),
+];
+
+#[test]
+fn begins_with_both_links_down(rt: HostRuntime) -> Result<(), Fail> {
+    for (script, tap, transcript, status) in DOWN_ROWS {
+        let mut reader = Device::new(script.as_bytes());
+        let mut writer = Device::new(Vec::new(rt.alloc()));
+        let result = sim(rt.alloc(), true, USUAL, tap, &mut reader, &mut writer);
         let written = writer.into_inner();
         assert_eq!(rt; result, Ok(status));
         assert_eq!(rt; written.as_slice(), transcript.as_bytes());
@@ -57,7 +99,7 @@ fn keeps_to_its_settings(rt: HostRuntime) -> Result<(), Fail> {
     let script = "lose > 0\nt1 dte\nt1 dte\ndte call 1 2 -\n";
     let mut reader = Device::new(script.as_bytes());
     let mut writer = Device::new(Vec::new(rt.alloc()));
-    let result = sim(rt.alloc(), cfg, false, &mut reader, &mut writer);
+    let result = sim(rt.alloc(), false, cfg, false, &mut reader, &mut writer);
     let written = writer.into_inner();
     assert_eq!(rt; result, Ok(1));
     assert_eq!(rt;
