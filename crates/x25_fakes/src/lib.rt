@@ -14,9 +14,15 @@ pub struct FailingReader<'a> {
 }
 
 impl<'a> FailingReader<'a> {
-    ghost use Rattle.std.specs.Prelude.{◌≡◌, ◌≤◌, true, length, IfSome, IfNone, OnSome};
+    ghost use Rattle.std.specs.Prelude.{◌≡◌, ◌≤◌, true, false, length, IfSome, IfNone, OnSome};
 
-    pub fn new(octets: &'a [u8], most: usize, before: usize) -> FailingReader<'a> {
+    /// A reader that no call of has failed.
+    pub fn new(octets: &'a [u8], most: usize, before: usize) -> FailingReader<'a>
+        ensures octets { result.octets.now ≡ octets.now }
+        ensures most { result.most ≡ most }
+        ensures before { result.before ≡ before }
+        ensures unmarked { result.has_failed ≡ false }
+    {
         FailingReader {
             octets,
             most,
@@ -78,9 +84,15 @@ pub struct FailingWriter {
 }
 
 impl FailingWriter {
-    ghost use Rattle.std.specs.Prelude.{◌≡◌, ◌≤◌, ◌<◌, true, length, IfSome, IfNone, OnSome};
+    ghost use Rattle.std.specs.Prelude.{◌≡◌, ◌≤◌, ◌<◌, true, false, length, IfSome, IfNone, OnSome};
 
-    pub fn new(octets: Vec<u8>, most: usize, before: usize) -> FailingWriter {
+    /// A writer that no call of has failed; what it takes goes behind these octets.
+    pub fn new(octets: Vec<u8>, most: usize, before: usize) -> FailingWriter
+        ensures octets { result.octets.items ≡ octets.items }
+        ensures most { result.most ≡ most }
+        ensures before { result.before ≡ before }
+        ensures unmarked { result.has_failed ≡ false }
+    {
         FailingWriter {
             octets,
             most,
@@ -90,7 +102,9 @@ impl FailingWriter {
     }
 
     /// What was taken.
-    pub fn octets(&self) -> &[u8] {
+    pub fn octets(&self) -> &[u8]
+        ensures { result.now ≡ self.now.octets.items }
+    {
         self.octets.as_slice()
     }
 

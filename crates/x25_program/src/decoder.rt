@@ -205,11 +205,11 @@ impl Decoder {
     }
 
     /// Writes what waits at the end of the text, and answers the status.
-    pub fn end<W: Sink>(&mut self, writer: &mut W) -> Result<u8, Fault>
+    pub fn end<W: Sink>(mut self, writer: &mut W) -> Result<u8, Fault>
         ensures zero_or_one { IfOk result (λ status. status ≤ 1) }
         ensures kept { OnOk result (W.is_marked writer.new ≡ W.is_marked writer.old) }
         ensures text { (old : Option (List ℕ)) (all : List ℕ) (any : Bool)
-            → LeadsFrom old (W.contents writer.old) self.old [] all any
+            → LeadsFrom old (W.contents writer.old) self [] all any
             → MatchResult result (λ status. Appends old (W.contents writer.new) all × (status ≡ (if any then 1 else 0)))
             (λ _. AppendsBeginning old (W.contents writer.new) all) }
         ensures write { IfErr result (λ fault. fault ≡ Fault.Write) }
@@ -222,19 +222,19 @@ impl Decoder {
     }
 
     /// Writes what waits after a failed read, and answers the fault: `Write` where that fails too.
-    pub fn give_up<W: Sink>(&mut self, writer: &mut W) -> Fault
+    pub fn give_up<W: Sink>(mut self, writer: &mut W) -> Fault
         ensures text { (old : Option (List ℕ)) (rest all : List ℕ) (any : Bool)
-            → LeadsFrom old (W.contents writer.old) self.old rest all any
+            → LeadsFrom old (W.contents writer.old) self rest all any
             → AppendsBeginning old (W.contents writer.new) all }
         ensures ended { (old : Option (List ℕ)) (rest all : List ℕ) (any : Bool)
-            → LeadsFrom old (W.contents writer.old) self.old rest all any
-            → result ≡ Fault.Read → WritesEnded self.old.long_data old (W.contents writer.new) rest all }
+            → LeadsFrom old (W.contents writer.old) self rest all any
+            → result ≡ Fault.Read → WritesEnded self.long_data old (W.contents writer.new) rest all }
         ensures memory { result ≢ Fault.NoMemory }
         ensures marked { result ≡ Fault.Write → W.is_marked writer.new ≡ true }
     {
-        match self.flush(writer) {
-            Ok(()) => Fault::Read,
-            Err(_) => Fault::Write,
+        if let Err(_) = self.flush(writer) {
+            return Fault::Write;
         }
+        Fault::Read
     }
 }

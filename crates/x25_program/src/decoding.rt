@@ -17,7 +17,7 @@ const PIECE: usize = 65_536;
 ///
 /// A reader is called at most 2^64 - 1 times; then its input counts as ended.
 fn decode_pieces<R: Source, W: Sink>(
-    decoder: &mut Decoder,
+    mut decoder: Decoder,
     piece: &mut [u8],
     reader: &mut R,
     writer: &mut W,
@@ -27,13 +27,13 @@ fn decode_pieces<R: Source, W: Sink>(
     ensures zero_or_one { IfOk result (λ status. status ≤ 1) }
     ensures text { (old : Option (List ℕ)) (input all : List ℕ) (any : Bool) → R.remaining reader.old ≡ Some input
         → length input < 2 ^ 64 - 1
-        → LeadsFrom old (W.contents writer.old) decoder.old input all any
+        → LeadsFrom old (W.contents writer.old) decoder input all any
         → MatchResult result (λ status. Appends old (W.contents writer.new) all × (status ≡ (if any then 1 else 0)))
         (λ _. AppendsBeginning old (W.contents writer.new) all) }
     ensures ended { (old : Option (List ℕ)) (input all : List ℕ) (any : Bool) → R.remaining reader.old ≡ Some input
-        → LeadsFrom old (W.contents writer.old) decoder.old input all any
+        → LeadsFrom old (W.contents writer.old) decoder input all any
         → IsErrOf result Fault.Read
-        → (rest : List ℕ) × (R.remaining reader.new ≡ Some rest) × WritesEnded decoder.old.long_data old (W.contents writer.new) rest all }
+        → (rest : List ℕ) × (R.remaining reader.new ≡ Some rest) × WritesEnded decoder.long_data old (W.contents writer.new) rest all }
     ensures memory { IsErrOf result Fault.NoMemory → ⊥ }
     ensures read { IsErrOf result Fault.Read → R.is_marked reader.new ≡ true }
     ensures write { IsErrOf result Fault.Write → W.is_marked writer.new ≡ true }
@@ -89,8 +89,8 @@ pub fn decode_lines<R: Source, W: Sink>(
     let Ok(mut piece) = vec![in alloc; 0u8; PIECE] else {
         return Err(Fault::NoMemory);
     };
-    let Ok(mut decoder) = Decoder::new(alloc, long) else {
+    let Ok(decoder) = Decoder::new(alloc, long) else {
         return Err(Fault::NoMemory);
     };
-    decode_pieces(&mut decoder, piece.as_mut_slice(), reader, writer)
+    decode_pieces(decoder, piece.as_mut_slice(), reader, writer)
 }

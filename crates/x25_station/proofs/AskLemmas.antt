@@ -30,6 +30,7 @@ use Rattle.x25_station.specs.FitsParts.{FitsParts}
 use Rattle.x25_station.specs.FitsStation as station
 use Rattle.x25_station.specs.Receiving.{kept_of}
 use Rattle.x25_station.proofs.LinkLemmas.{put_by_put, same_view}
+use Rattle.x25_station.proofs.ResultLemmas.{ok_err, err_is}
 
 -- ---- the link after the packets of a step
 
@@ -41,9 +42,6 @@ pub after_puts : (c : LinkSettings) (m : ShownLink) (packets : List PlainPacket)
 after_puts c m packets t fits = subst (λ (x : LinkState). FitsWhole m x) (put_by_put c packets t) fits
 
 -- ---- an accepted call
-
-ok_err : {T : Type 0} (x : T) (e : LayerError) → Ok x ≡ Err e → ⊥
-ok_err x e is = cc
 
 pub leaves_did : {T : Type 0} (u : T) (c : Settings) (s : LinkStation) (m n : ShownLink) (z : layer_code.Layer) (r : code_step.Step) (entries : List StationEntry) (a : Answered) → LayerGives (layer_settings c) z (Ok u) a
     → LinkGives (FitsWhole m) after_put_to (kept_of (link_settings c) (alone s)) (Ok u) a → n.station ≡ m.station → n.outgoing.made ≡ [] → KeptBy (did c (alone s) entries a)
@@ -71,9 +69,6 @@ goes_did u c s z r entries (Refuses e) layer = absurd (ok_err u e layer)
 
 -- ---- a refused call
 
-err_is : (T : Type 0) (a b : LayerError) → (let x : Result T LayerError = Err a in x ≡ Err b) → a ≡ b
-err_is T a b is = cc
-
 -- the layer's own refusals aren't want of memory
 abbrev pub IsNamed : Answered → Type 0
 IsNamed (Went p) = Unit {0}
@@ -82,7 +77,7 @@ IsNamed (Refuses e) = of_layer e ≡ error.Layer e
 pub refused_did : (T U : Type 0) (e : LayerError) (found : StationError) (c : Settings) (s : LinkStation) (z : layer_code.Layer) (entries : List StationEntry) (a : Answered) → IsNamed a → found ≡ of_layer e
     → (let x : Result T LayerError = Err e in LayerGives (layer_settings c) z x a) → (let x : Result U StationError = Err found in station.Refuses x (did c (alone s) entries a))
 refused_did T U e found c s z entries (Went p) named is layer = is ∙ ap of_layer layer
-refused_did T U e found c s z entries (Refuses x) named is layer = inl (is ∙ ap of_layer (err_is T e x layer) ∙ named)
+refused_did T U e found c s z entries (Refuses x) named is layer = inl (is ∙ ap of_layer (err_is T LayerError e x layer) ∙ named)
 
 abbrev IsNamedOutcome : LayerOutcome → Type 0
 IsNamedOutcome (Accepted next packet) = Unit {0}

@@ -21,6 +21,7 @@ pub mod TookLemmas
 pub mod FollowLemmas
 pub mod HoldLemmas
 pub mod ToldLemmas
+pub mod ResultLemmas
 pub mod OutcomeLemmas
 pub mod StationRows
 pub mod FewLemmas

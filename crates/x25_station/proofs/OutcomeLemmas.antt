@@ -21,6 +21,7 @@ use Rattle.x25_station.specs.KeepLaw.{IsKept, KeptBy}
 use Rattle.x25_station.specs.PlainEntry.{plain_entry}
 use Rattle.x25_station.specs.FitsParts.{FitsParts, AreMeant}
 use Rattle.x25_station.specs.FitsStation.{LeavesParts, Sends, Enters, Refuses, RefusesExactly}
+use Rattle.x25_station.proofs.ResultLemmas.{ok_err, err_is}
 
 -- ---- an accepted call, which the link may refuse
 
@@ -45,9 +46,6 @@ leaves_some c l y r (Refused e) fits none = absurd none
 pub still_meant : (l m : ShownLink) (y z : layer_code.Layer) → AreMeant l y → ((c : Settings) (s : Station) → FitsParts c l y s → (d : Settings) × (t : Station) × FitsParts d m z t) → AreMeant m z
 still_meant l m y z h f = ∥∥₁_map h (λ w. f w.0 w.1 w.2)
 
-ok_err : {T E : Type 0} (x : T) (e : E) → Ok x ≡ Err e → ⊥
-ok_err x e is = cc
-
 -- .. also where it isn't known yet whether the link's call was accepted
 pub fits_unless : {T : Type 0} (k : Result T LinkError) (X : Type 0) (c : Settings) (l m : ShownLink) (y : layer_code.Layer) (s : Station) (o : Option LinkError) (step : Step) → FitsParts c l y s
     → link.Refuses o k → OnErr k (m ≡ l) → OnOk k X → KeptBy (unless o step) → (X → IsKept step.near → FitsParts c m y step.near) → (d : Settings) × (t : Station) × FitsParts d m y t
@@ -66,13 +64,10 @@ abbrev pub IsNamed : Option LinkError → Type 0
 IsNamed None = Unit {0}
 IsNamed (Some e) = of_link e ≡ error.Link e
 
-err_is : (T : Type 0) (a b : LinkError) → (let x : Result T LinkError = Err a in x ≡ Err b) → a ≡ b
-err_is T a b is = cc
-
 pub refused_exactly : (T U : Type 0) (e : LinkError) (found : StationError) (o : Option LinkError) (step : Step) → IsNamed o → found ≡ of_link e → (let x : Result T LinkError = Err e in link.Refuses o x)
     → (let x : Result U StationError = Err found in RefusesExactly x (unless o step))
 refused_exactly T U e found None step named is h = is ∙ ap of_link h
-refused_exactly T U e found (Some x) step named is h = ap (λ y. Err y) (is ∙ ap of_link (err_is T e x h) ∙ named)
+refused_exactly T U e found (Some x) step named is h = ap (λ y. Err y) (is ∙ ap of_link (err_is T LinkError e x h) ∙ named)
 
 -- .. where memory was wanted first
 pub goes : {T : Type 0} (k : T) (r : code_step.Step) (o : Option LinkError) (step : Step) → link.Refuses o (Ok k) → Refuses (Ok r) (unless o step)
@@ -82,7 +77,7 @@ goes k r (Some e) step h = absurd (ok_err k e h)
 pub refused : (T U : Type 0) (e : LinkError) (found : StationError) (o : Option LinkError) (step : Step) → IsNamed o → found ≡ of_link e → (let x : Result T LinkError = Err e in link.Refuses o x)
     → (let x : Result U StationError = Err found in Refuses x (unless o step))
 refused T U e found None step named is h = is ∙ ap of_link h
-refused T U e found (Some x) step named is h = inl (is ∙ ap of_link (err_is T e x h) ∙ named)
+refused T U e found (Some x) step named is h = inl (is ∙ ap of_link (err_is T LinkError e x h) ∙ named)
 
 pub connect_named : (p : Phase) → IsNamed (link.connect_refusal p)
 connect_named Down = tt
