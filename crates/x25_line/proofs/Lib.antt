@@ -9,5 +9,6 @@ pub mod StationSends
 pub mod StationSteps
 pub mod StationAway
 pub mod StationRuns
+pub mod StationClaimLemmas
 pub mod StationEvents
 pub mod StationRowLemmas

@@ -1,33 +1,29 @@
--- Each event keeps what holds of two stations, so each run does; and what holds says the claims.
-use Rattle.std.proofs.Common.{◌≡◌, ◌==◌, ℕ, ◌-◌, zero, suc, ◌≤◌, List, [], ◌∷◌, ◌++◌, inl, inr, length, remove, take, drop, Bool, true, false, if◌then◌else◌, Option, Some, None, Result, Ok, Err, refl, sym, ap, ◌∙◌, subst, arith, append-nil}
-use Rattle.std.specs.Prelude.{nat_le, nat_lt, replicate, ◌&&◌}
-use Rattle.std.proofs.lemmas.Bool.{leb-true, eqb-true}
-use Rattle.std.proofs.lemmas.List.{take-append-drop, take_all}
+-- Each event keeps what holds of two stations, so each run does.
+use Rattle.std.proofs.Common.{◌≡◌, ℕ, suc, ◌≤◌, List, [], ◌∷◌, ◌++◌, inl, inr, length, remove, Bool, true, false, if◌then◌else◌, Option, Some, None, Result, Ok, Err, refl, sym, ap, ◌∙◌, subst, arith, append-nil}
+use Rattle.std.specs.Prelude.{nat_le, nat_lt}
+use Rattle.std.proofs.lemmas.Bool.{leb-true}
 use Rattle.x25_frame.specs.PlainFrame.{PlainFrame, info, rr, rnr, rej, sabm, disc, ua, dm, frmr}
 use Rattle.x25_frame.specs.Reading.{frame_of}
 use Rattle.x25_frame.specs.ReadingLaw.{ReadsSpelled}
 use Rattle.x25_frame.specs.declared.error.FrameError.{FrameError}
-use Rattle.x25_window.specs.Window.{End, Frame, after}
+use Rattle.x25_window.specs.Window.{Frame, after}
 use Rattle.x25_window.specs.Window.Step.{HandDown}
 use Rattle.x25_link.specs.declared.phase.Phase.{Phase}
 use Rattle.x25_link.specs.declared.phase.Phase.TheVariants.{Down, Waiting, Up, Closed}
 use Rattle.x25_link.specs.declared.phase.Reason.TheVariants.{Retries, Local, Counts}
 use Rattle.x25_link.specs.declared.error.LinkError.{LinkError}
-use Rattle.x25_link.specs.Outgoing.{waits}
-use Rattle.x25_link.specs.Lists.{Lists, no_packets}
 use Rattle.x25_link.specs.NoteLaw.{Tells, TakeTells, TimerTells, DisconnectTells, AbandonTells}
-use Rattle.x25_link.specs.Station.{Settings, Station, is_up, lists_of, with_nothing}
+use Rattle.x25_link.specs.Station.{Settings, Station, is_up, with_nothing}
 use Rattle.x25_link.specs.MustSend.{Step, other}
-use Rattle.x25_link.specs.Steps.{take_step, put_step, put_refusal, timer_step, timer_refusal, timer_runs, connect_step, connect_refusal, disconnect_step, disconnect_refusal, abandon_step, is_idle}
+use Rattle.x25_link.specs.Steps.{take_step, put_step, put_refusal, timer_step, timer_refusal, timer_runs, connect_step, connect_refusal, disconnect_step, disconnect_refusal, abandon_step}
 use Rattle.x25_link.specs.WindowMachine.{Window, hands_down, nothing, ShowAll}
 use Rattle.x25_link.specs.SetUp.{Is, TakesPart, SetUpLaws}
 use Rattle.x25_link.specs.WindowLaw.{Follows, IsOut, sets_up, StaysOut, StationLaws}
 use Rattle.x25_line.specs.Line.{Line, moved, swapped as line_swapped}
 use Rattle.x25_line.specs.Line.Move.{HandsDown, Loses}
-use Rattle.x25_line.specs.InWindow.{Begins}
 use Rattle.x25_line.specs.Stations.{StationEnd, Stations, Act, Put, Deliver, T1, Connect, Disconnect, Abandon, Lose, Damage, Event, Near, Far, after_step, unless, delivered, replaced, is_visible, acts, swapped, happens, run, fresh_station, start}
-use Rattle.x25_line.specs.StationClaims.{AreJoined, IsSetUpOnce, Always, InOrder, BothInOrder, HasItsLists, BothHaveTheirLists, NotesItsEnd, BothNoteTheirEnds, AcceptsNoConnect, AcceptsNoConnectAt, NoneConnects, OneLinkUnlessConnected, number_in, numbered_on, IsReached, at_start, near_moves, far_moves, AreInWindow, NoFrmrSent, AreWhole, AllSentAreWhole, NotesUp, HandsOne}
-use Rattle.x25_line.proofs.Kept.{Kept, Way, Kept-moved, Kept-swapped, Way-acked, InWindow-from_Kept}
+use Rattle.x25_line.specs.StationClaims.{AreJoined, IsSetUpOnce, AcceptsNoConnect, AcceptsNoConnectAt, NoneConnects, number_in, numbered_on, IsReached, at_start, near_moves, far_moves, AreWhole, NotesUp, HandsOne}
+use Rattle.x25_line.proofs.Kept.{Kept, Kept-moved, Kept-swapped}
 use Rattle.x25_line.proofs.StationLines.{IsOrderly, orderly_where, AreOrderly, AreParting, taken_out, place_of, shows_lost, shows_damaged, orderly_lost, orderly_damaged, visible_reads, whole_more, either_way}
 use Rattle.x25_line.proofs.StationSends.{AllWithin, within_push}
 use Rattle.x25_line.proofs.StationSteps.{MayBeAway, away_is_not_up, out_is_away, AsUp, IsAway, FitsEnd, NotesOnce, Joint, Holds, J-stays, not_both, quiet_notes, vain_notes, quiet_joint, parts_joint, ends_joint, read_joint, away_joint, declining_parting}
@@ -383,7 +379,7 @@ once_before c d (e ∷ es) w h = event_before c d e w (once_before c d es (happe
 
 -- ---- runs in which an end may ask for set-up, and runs in which none does
 
-run_once : (c d : Settings) → AreJoined c d → ReadsSpelled → Laws → (es : List Event) (w : Stations) → Holds (Unit {0}) c d w → IsSetUpOnce (run c d es w) → Holds (Unit {0}) c d (run c d es w)
+pub run_once : (c d : Settings) → AreJoined c d → ReadsSpelled → Laws → (es : List Event) (w : Stations) → Holds (Unit {0}) c d w → IsSetUpOnce (run c d es w) → Holds (Unit {0}) c d (run c d es w)
 run_once c d joined reads laws [] w h once = h
 run_once c d joined reads laws (e ∷ es) w h once =
     run_once c d joined reads laws es (happens c d e w) (event_joint (Unit {0}) c d joined reads laws e w (λ _. once_before c d es (happens c d e w) once) (λ _. tt) h) once
@@ -402,7 +398,7 @@ none_at : (e : Event) (w : Stations) → AcceptsNoConnectAt e w → ConnectsAt e
 none_at (Near act) w = none_accepted act w
 none_at (Far act) w = none_accepted act (swapped w)
 
-run_unasked : (c d : Settings) → AreJoined c d → ReadsSpelled → Laws → (es : List Event) (w : Stations) → Holds ⊥ c d w → NoneConnects c d es w → Holds ⊥ c d (run c d es w)
+pub run_unasked : (c d : Settings) → AreJoined c d → ReadsSpelled → Laws → (es : List Event) (w : Stations) → Holds ⊥ c d w → NoneConnects c d es w → Holds ⊥ c d (run c d es w)
 run_unasked c d joined reads laws [] w h none = h
 run_unasked c d joined reads laws (e ∷ es) w h none =
     run_unasked c d joined reads laws es (happens c d e w) (event_joint ⊥ c d joined reads laws e w (λ never. absurd never) (none_at e w none.0) h) none.1
@@ -410,7 +406,7 @@ run_unasked c d joined reads laws (e ∷ es) w h none =
 fresh_notes : (MayAsk : Type 0) → NotesOnce MayAsk fresh_station
 fresh_notes MayAsk = record { still_up = λ on. refl; left = λ off. not_both true refl off; once = refl }
 
-start_joint : (MayAsk : Type 0) (c d : Settings) → AreJoined c d → Holds MayAsk c d start
+pub start_joint : (MayAsk : Type 0) (c d : Settings) → AreJoined c d → Holds MayAsk c d start
 start_joint MayAsk c d joined =
     let near_low = joined.near_low in
     let near_high = joined.near_high in
@@ -441,163 +437,3 @@ start_joint MayAsk c d joined =
         whole = tt;
       },
     )
-
--- ---- the claims
-
--- beginnings of one list, the shorter is one of the longer
-take_of_take : (a r : ℕ) (xs : List (List ℕ)) → a ≤ r → take a (take r xs) ≡ take a xs
-take_of_take zero r xs le = refl
-take_of_take (suc a) zero xs le = absurd (omega arith)
-take_of_take (suc a) (suc r) [] le = refl
-take_of_take (suc a) (suc r) (x ∷ xs) le = ap (λ (ys : List (List ℕ)). x ∷ ys) (take_of_take a r xs (omega arith))
-
-acked_begins : (a : ℕ) (down up : List (List ℕ)) → up ≡ take (length up) down → a ≤ length up → Begins (take a down) up
-acked_begins a down up begins le =
-    let same : take a down ≡ take a up = sym (ap (take a) begins ∙ take_of_take a (length up) down le) in
-    (drop a up, ap (λ (ys : List (List ℕ)). ys ++ drop a up) same ∙ take-append-drop a up)
-
-both_true : (a b : Bool) → (a && b) ≡ true → (a ≡ true) × (b ≡ true)
-both_true true b e = (refl, e)
-both_true false b e = absurd (never e)
-  where
-    never : false ≡ true → ⊥
-    never e = cc
-
-idle_all : (s : Station) → is_idle s ≡ true → s.outgoing.sent ≤ length s.outgoing.given → s.outgoing.acked ≡ length s.outgoing.given
-idle_all s idle high =
-    let outer = both_true (is_up s.phase) (waits s.outgoing == 0 && s.outgoing.acked == s.outgoing.sent) idle in
-    let inner = both_true (waits s.outgoing == 0) (s.outgoing.acked == s.outgoing.sent) outer.1 in
-    counts s.outgoing.acked s.outgoing.sent (length s.outgoing.given) (eqb-true (waits s.outgoing) 0 inner.0) (eqb-true s.outgoing.acked s.outgoing.sent inner.1) high
-  where
-    counts : (a m n : ℕ) → n - m ≡ 0 → a ≡ m → m ≤ n → a ≡ n
-    counts a m n none all high = omega arith
-
--- an end that is Up isn't away
-up_of : (MayAsk : Type 0) (c : Settings) (s : Station) (e : End (List ℕ)) → FitsEnd MayAsk c s e → is_up s.phase ≡ true → AsUp c s e
-up_of MayAsk c s e (inl u) up = u
-up_of MayAsk c s e (inr away) up = not_both (is_up s.phase) up (away_is_not_up MayAsk s.phase away.away)
-
-in_order : (MayAsk : Type 0) (c : Settings) (giver taker : StationEnd) (e : End (List ℕ)) (taken : List (List ℕ)) (there back : List (Frame (List ℕ)))
-    → FitsEnd MayAsk c giver.station e → Way e taken there back → giver.down ≡ e.given → taker.up ≡ taken → InOrder giver taker
-in_order MayAsk c giver taker e taken there back fits way is_down is_up_list =
-    let down = giver.down in
-    let up = taker.up in
-    let bounds = Way-acked e taken there back way in
-    let count = ap length is_up_list in
-    let begins : up ≡ take (length up) down =
-    is_up_list ∙ way.begins ∙ ap (λ (n : ℕ). take n e.given) (sym count) ∙ ap (take (length up)) (sym is_down) in
-    record {
-      begins = (drop (length up) down, ap (λ (ys : List (List ℕ)). ys ++ drop (length up) down) begins ∙ take-append-drop (length up) down);
-      acked = acked fits begins;
-      idle = all;
-    }
-  where
-    acked : FitsEnd MayAsk c giver.station e → taker.up ≡ take (length taker.up) giver.down → Begins (take giver.station.outgoing.acked giver.down) taker.up
-    acked (inl u) begins =
-        let bounds = Way-acked e taken there back way in
-        let count = ap length is_up_list in
-        let same = ap (λ (z : Window). z.acked) u.same in
-        acked_begins giver.station.outgoing.acked giver.down taker.up begins (omega (arith, bounds.0, count, same))
-    acked (inr away) begins =
-        let none = ap (λ (z : Lists). z.acked) away.empty in
-        acked_begins giver.station.outgoing.acked giver.down taker.up begins (omega (arith, none))
-
-    all : is_idle giver.station ≡ true → taker.up ≡ giver.down
-    all idle =
-        let u = up_of MayAsk c giver.station e fits (both_true _ _ idle).0 in
-        let bounds = Way-acked e taken there back way in
-        let acked = idle_all giver.station idle u.sound.sent_high in
-        let acked_same = ap (λ (z : Window). z.acked) u.same in
-        let given_same = ap (λ (z : Window). length z.given) u.same in
-        is_up_list ∙ way.begins ∙ take_all (length taken) e.given (omega (arith, bounds.0, acked, acked_same, given_same)) ∙ sym is_down
-
-has_lists : (MayAsk : Type 0) (c : Settings) (giver : StationEnd) (e : End (List ℕ)) → FitsEnd MayAsk c giver.station e → giver.down ≡ e.given → giver.up ≡ e.taken → HasItsLists giver
-has_lists MayAsk c giver e fits is_down is_up_list =
-    record {
-      given = λ is_on. ap (λ (z : Window). z.given) (up_of MayAsk c giver.station e fits is_on).same ∙ sym is_down;
-      taken = λ is_on. ap (λ (z : Window). z.taken) (up_of MayAsk c giver.station e fits is_on).same ∙ sym is_up_list;
-      empty = empty fits;
-    }
-  where
-    empty : FitsEnd MayAsk c giver.station e → is_up giver.station.phase ≡ false → lists_of giver.station ≡ no_packets
-    empty (inl u) off = not_both (is_up giver.station.phase) u.up off
-    empty (inr away) off = away.empty
-
-notes_end : (e : StationEnd) → NotesOnce (Unit {0}) e → NotesItsEnd e
-notes_end e h = record { still_up = h.still_up; left = λ off. (let l = h.left off in (l.reason, l.again, l.all)) }
-
--- nobody asked
-one_ending : (e : StationEnd) → NotesOnce ⊥ e → length e.reasons ≤ 1
-one_ending e h = by (is_up e.station.phase) refl
-  where
-    few : (again : ℕ) → (1 ≤ again → ⊥) → length (replicate again Retries) ≡ 0
-    few zero never = refl
-    few (suc n) never = absurd (never (omega arith))
-
-    by : (b : Bool) → is_up e.station.phase ≡ b → length e.reasons ≤ 1
-    by true on =
-        let none = ap length (h.still_up on) in
-        omega (arith, none)
-    by false off =
-        let l = h.left off in
-        let all = ap length l.all in
-        let none = few l.again l.asked in
-        omega (arith, all, none)
-
-module _ (reads : ReadsSpelled) (laws : Laws) where
-  reached : Always (Holds (Unit {0}))
-  reached c d joined events once = run_once c d joined reads laws events start (start_joint (Unit {0}) c d joined) once
-
-  pub keeps_order : Always BothInOrder
-  keeps_order c d joined events once =
-      let w = run c d events start in
-      let holds = reached c d joined events once in
-      let l = holds.0 in
-      let h = holds.1 in (
-        in_order (Unit {0}) c w.near w.far l.near l.far.taken l.out l.back h.near h.kept.from_near h.near_down h.far_up,
-        in_order (Unit {0}) d w.far w.near l.far l.near.taken l.back l.out h.far h.kept.from_far h.far_down h.near_up,
-      )
-
-  pub keeps_lists : Always BothHaveTheirLists
-  keeps_lists c d joined events once =
-      let w = run c d events start in
-      let holds = reached c d joined events once in
-      let l = holds.0 in
-      let h = holds.1 in
-      (has_lists (Unit {0}) c w.near l.near h.near h.near_down h.near_up, has_lists (Unit {0}) d w.far l.far h.far h.far_down h.far_up)
-
-  pub keeps_notes : Always BothNoteTheirEnds
-  keeps_notes c d joined events once =
-      let h = (reached c d joined events once).1 in
-      (notes_end (run c d events start).near h.near_notes, notes_end (run c d events start).far h.far_notes)
-
-  pub keeps_window : Always AreInWindow
-  keeps_window c d joined events once =
-      let w = run c d events start in
-      let holds = reached c d joined events once in
-      let l = holds.0 in
-      let h = holds.1 in (
-        l,
-        record {
-          reached = h.reached;
-          near = record { given = h.near_down; taken = h.near_up; numbers = λ is_on. (up_of (Unit {0}) c w.near.station l.near h.near is_on).same };
-          far = record { given = h.far_down; taken = h.far_up; numbers = λ is_on. (up_of (Unit {0}) d w.far.station l.far h.far is_on).same };
-          out = h.out;
-          back = h.back;
-          window = InWindow-from_Kept l h.kept;
-        },
-      )
-
-  pub sends_no_frmr : Always NoFrmrSent
-  sends_no_frmr c d joined events once = (reached c d joined events once).1.no_frmr
-
-  pub sends_whole : Always AllSentAreWhole
-  sends_whole c d joined events once =
-      let w = run c d events start in
-      subst (λ (n : ℕ). AreWhole n (w.near.down ++ w.far.down) w.sent) (sym joined.longest) (reached c d joined events once).1.whole
-
-  pub stays_one_link : OneLinkUnlessConnected
-  stays_one_link c d joined events none =
-      let w = run c d events start in
-      let h = (run_unasked c d joined reads laws events start (start_joint ⊥ c d joined) none).1 in
-      record { once = record { near = h.near_notes.once; far = h.far_notes.once }; near = one_ending w.near h.near_notes; far = one_ending w.far h.far_notes }

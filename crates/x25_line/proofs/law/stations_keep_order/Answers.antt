@@ -1,4 +1,5 @@
-use Rattle.x25_line.proofs.StationRuns.{Laws, keeps_order, keeps_lists, keeps_notes, keeps_window, sends_no_frmr, sends_whole, stays_one_link}
+use Rattle.x25_line.proofs.StationRuns.{Laws}
+use Rattle.x25_line.proofs.StationClaimLemmas.{keeps_order, keeps_lists, keeps_notes, keeps_window, sends_no_frmr, sends_whole, stays_one_link}
 use Rattle.x25_line.proofs.law.stations_keep_order.Goals as goal
 
 pub returns : goal.returns
