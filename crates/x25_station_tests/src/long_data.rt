@@ -51,6 +51,7 @@ const NOT_TAKEN: [Row; 1] = [(
     Hear(1, 0, "10010b1112000000000000000000000000000000000000"),
     &[
         "dce fault ch=1 diag=39",
+        "RR rsp F=0 R=2",
         "I cmd P=0 S=1 R=2 | CLEAR ch=1 cause=19 diag=39",
     ],
 )];
