@@ -1,5 +1,5 @@
 -- What is found in bits between two flags, and of several such one after another.
-use Rattle.std.proofs.Common.{ℕ, zero, suc, ◌+◌, ◌<◌, ◌≤◌, ◌≡◌, ◌∙◌, Bool, true, false, not, ◌&&◌, List, [], ◌∷◌, ◌++◌, length, map, drop, refl, ap, sym, arith, append_assoc, length-append, get_or}
+use Rattle.std.proofs.Common.{ℕ, suc, ◌≡◌, ◌∙◌, Bool, true, false, not, ◌&&◌, List, [], ◌∷◌, ◌++◌, length, map, drop, refl, ap, sym, arith, append_assoc, length-append}
 use Rattle.std.specs.Prelude.{All}
 use Rattle.std.specs.List.{flat_map, list_all}
 use Rattle.std.proofs.lemmas.List.{append-nil}
@@ -11,12 +11,12 @@ use Rattle.x25_bits.specs.Stuffing.{stuff, unstuffed_from, framed}
 use Rattle.x25_bits.specs.SpanClass.{Class, Content, Abort, Short, Long, Ragged, seven_from, run_from, class_by, class_of, reported, found_of}
 use Rattle.x25_bits.specs.Sealed.{is_sealed}
 use Rattle.x25_bits.specs.Plain.{plain, plains}
-use Rattle.x25_bits.specs.Harmless.{between_flags, IsHarmless, IsFrame, is_sealed_content, sealed_octets, sealed_contents}
+use Rattle.x25_bits.specs.Harmless.{between_flags, IsHarmless, IsFrame, is_sealed_content, sealed_octets, sealed_contents, first_content}
 use Rattle.x25_bits.specs.declared.found.Found.{Found}
 use Rattle.x25_bits.proofs.FoundLemmas.{found_more}
 use Rattle.x25_bits.proofs.FeedLemmas.{found_all}
-use Rattle.x25_bits.proofs.PutLemmas.{found_at_start, put_found}
-use Rattle.x25_bits.proofs.LawLemmas.{flag_cuts, nothing_yet, each_small}
+use Rattle.x25_bits.proofs.PutLemmas.{put_found}
+use Rattle.x25_bits.proofs.LawLemmas.{flag_cuts, each_small}
 
 -- ---- none passes
 
@@ -178,3 +178,64 @@ contents_with before after bits f g =
     ∙ ap (λ l. l ++ (contents bits ++ flat_map contents (insides after))) (contents_of_frames before f)
     ∙ ap (λ l. before ++ (contents bits ++ l)) (contents_of_frames after g)
     ∙ sym (append_assoc before (contents bits) after)
+
+-- ---- harmless bits alone
+
+both_empty : {X : Type 0} (a b : List X) → a ++ b ≡ [] → (a ≡ []) × (b ≡ [])
+both_empty [] b h = (refl, h)
+both_empty (x ∷ a) b h = cc
+
+when_no_octets : (c : Class) → sealed_octets c ≡ [] → Unsealed c
+when_no_octets (Content o) h = go (is_sealed o) refl
+  where
+    go : (t : Bool) → is_sealed o ≡ t → Unsealed (Content o)
+    go true f = let bad : o ∷ [] ≡ [] = rw f at h in cc
+    go false f = λ octets e. cc
+when_no_octets Abort h = λ octets e. cc
+when_no_octets Short h = λ octets e. cc
+when_no_octets Long h = λ octets e. cc
+when_no_octets Ragged h = λ octets e. cc
+
+all_unsealed : (spans : List (List Bool)) → flat_map sealed_octets (flat_map reported spans) ≡ [] → All UnsealedSpan spans
+all_unsealed [] h = All-nil UnsealedSpan
+all_unsealed ([] ∷ spans) h = All-cons UnsealedSpan [] spans empty_unsealed (all_unsealed spans h)
+all_unsealed ((b ∷ span) ∷ spans) h =
+    let parts = both_empty (sealed_octets (class_of (b ∷ span))) (flat_map sealed_octets (flat_map reported spans)) h in
+    All-cons UnsealedSpan (b ∷ span) spans (when_no_octets (class_of (b ∷ span)) parts.0) (all_unsealed spans parts.1)
+
+nothing_between : (before between after : List (List ℕ)) → before ++ between ++ after ≡ before ++ after → between ≡ []
+nothing_between before [] after h = refl
+nothing_between before (x ∷ between) after h =
+    let whole = ap length h in
+    let left = length-append (before ++ x ∷ between) after in
+    let inner = length-append before (x ∷ between) in
+    let right = length-append before after in
+    absurd (omega arith)
+
+pub lost_one : (before after : List (List ℕ)) (bits : List Bool) → All IsFrame before → All IsFrame after → IsHarmless bits
+    → sealed_contents (flat_map framed before ++ between_flags bits ++ flat_map framed after) ≡ before ++ after
+lost_one before after bits f g h =
+    contents_with before after bits f g ∙ ap (λ l. before ++ l ++ after) (harmless_has_none bits h) ∙ ap (λ l. l ++ after) (append-nil before)
+
+pub lost_by_harmless : (before after : List (List ℕ)) (bits : List Bool) → All IsFrame before → All IsFrame after
+    → sealed_contents (flat_map framed before ++ between_flags bits ++ flat_map framed after) ≡ before ++ after → IsHarmless bits
+lost_by_harmless before after bits f g h =
+    all_unsealed (spans_of (between_flags bits)) (nothing_between before (sealed_contents (between_flags bits)) after (sym (contents_with before after bits f g) ∙ h))
+
+first_of_one : (c : Class) (found : List Class) → Unsealed c → is_sealed (first_content found) ≡ false → is_sealed (first_content (c ∷ found)) ≡ false
+unfolding first_content
+first_of_one (Content o) found u h = u o refl
+first_of_one Abort found u h = h
+first_of_one Short found u h = h
+first_of_one Long found u h = h
+first_of_one Ragged found u h = h
+
+first_unsealed : (spans : List (List Bool)) → All UnsealedSpan spans → is_sealed (first_content (flat_map reported spans)) ≡ false
+unfolding first_content is_sealed
+first_unsealed [] h = refl
+first_unsealed ([] ∷ spans) h = first_unsealed spans (all_tail UnsealedSpan [] spans h)
+first_unsealed ((b ∷ span) ∷ spans) h =
+    first_of_one (class_of (b ∷ span)) (flat_map reported spans) (all_head UnsealedSpan (b ∷ span) spans h) (first_unsealed spans (all_tail UnsealedSpan (b ∷ span) spans h))
+
+pub first_of_harmless : (bits : List Bool) → IsHarmless bits → is_sealed (first_content (found_of (between_flags bits))) ≡ false
+first_of_harmless bits h = first_unsealed (spans_of (between_flags bits)) h

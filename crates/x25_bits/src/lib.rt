@@ -19,8 +19,8 @@ pub use found::Found;
 pub use frame_check::{check, fcs, seal};
 pub use harmless_bits::{first_content, harmless};
 pub use laws::{
-    content_stuffs_again, cuts_agree, flag_parts, put_is_found, sealed_is_tested,
-    stuffing_is_undone,
+    content_stuffs_again, cuts_agree, flag_parts, harmless_bits_lose_a_frame, put_is_found,
+    sealed_is_tested, stuffing_is_undone,
 };
 pub use no_memory::NoMemory;
 pub use role::Role;
