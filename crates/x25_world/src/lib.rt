@@ -2,6 +2,7 @@
 #![tactic(auto)]
 
 mod acting;
+mod bit_damage;
 mod error;
 mod event;
 mod law;
