@@ -1,5 +1,5 @@
 -- Damage to the bits of the line is damage to the octets, and is refused for no other ground than its own.
-use Rattle.std.proofs.Common.{◌≡◌, ◌∙◌, ℕ, ◌<◌, ◌≤◌, nat_lt, lt-ltb, Bool, true, false, not, if◌then◌else◌, List, length, Option, None, Some, Result, Ok, Err, IfErr, ◌⊎◌, refl, ap, sym}
+use Rattle.std.proofs.Common.{◌≡◌, ◌∙◌, ℕ, ◌<◌, nat_lt, lt-ltb, Bool, true, false, not, List, length, None, Result, Ok, Err, IfErr, refl, ap, sym}
 use Rattle.std.specs.Prelude.{◌||◌}
 use Rattle.x25_bits.specs.Sealed.{is_sealed}
 use Rattle.x25_bits.specs.SpanClass.{found_of}
@@ -11,7 +11,7 @@ use Rattle.x25_line.specs.declared.direction.Direction.TheVariants.{ToDce, ToDte
 use Rattle.x25_station.specs.declared.config.Cfg.{Cfg}
 use Rattle.x25_world.specs.declared.error.WorldError.{WorldError}
 use Rattle.x25_world.specs.declared.error.WorldError.TheVariants as error
-use Rattle.x25_world.specs.World.{World, Event, Damages, happens, refusal_of, damaged, swapped}
+use Rattle.x25_world.specs.World.{World, Damages, happens, refusal_of, damaged}
 use Rattle.x25_world.specs.BitDamage.{bit_damage, RefusesBits}
 use Rattle.x25_world.specs.ShownWorld.{ShownWorld, line_of}
 use Rattle.x25_world.specs.FitsWorld.{Gone, FitsWorld, IsRefusal}

@@ -40,8 +40,8 @@ pub struct World {
 impl Model for World {
     ghost use Rattle.std.specs.Prelude.{map};
     ghost use Rattle.x25_bits.specs.Harmless.{IsHarmless};
-ghost use Rattle.x25_world.specs.BitDamage.{bit_damage, RefusesBits};
-ghost use Rattle.x25_world.specs.PlainTold.{plain_entered};
+    ghost use Rattle.x25_world.specs.BitDamage.{bit_damage, RefusesBits};
+    ghost use Rattle.x25_world.specs.PlainTold.{plain_entered};
     ghost use Rattle.x25_world.specs.ShownWorld.{ShownWorld};
 
     ghost Value = { ShownWorld };
@@ -157,7 +157,12 @@ impl World {
     ///
     /// Refused with 51 where the line has no frame at that place, then with 52 where the bits aren't harmless, and else accepted; 70 where memory is refused
     /// for a frame that is there. Then the world is as before.
-    pub fn damage_bits(&mut self, direction: Direction, place: usize, bits: &Bits) -> Result<(), WorldError>
+    pub fn damage_bits(
+        &mut self,
+        direction: Direction,
+        place: usize,
+        bits: &Bits,
+    ) -> Result<(), WorldError>
         ensures step { (cfg : Cfg) (w : definition.World) (gone : Gone) → FitsWorld cfg self.old w gone → OnOk result (FitsWorld cfg self.new (after w (happens cfg w (bit_damage direction place bits.now))) gone) }
         ensures accepted { (cfg : Cfg) (w : definition.World) (gone : Gone) → FitsWorld cfg self.old w gone → OnOk result (refusal_of (happens cfg w (bit_damage direction place bits.now)) ≡ None) }
         ensures harmless { OnOk result (IsHarmless bits.now) }

@@ -1,7 +1,5 @@
 use Rattle.std.proofs.Common.{◌≡◌, ◌∙◌, ◌<◌, List, ℕ, length, false, ap, sym, subst, arith}
-use Rattle.x25_bits.specs.Harmless.{between_flags, first_content}
 use Rattle.x25_bits.specs.Sealed.{is_sealed}
-use Rattle.x25_bits.specs.SpanClass.{found_of}
 use Rattle.x25_world.specs.ShownWorld.{line_of}
 use Rattle.x25_world.specs.World.{Event}
 use Rattle.x25_world.specs.FitsWorld.{FitsRun, and_then}
