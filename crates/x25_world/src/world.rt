@@ -39,8 +39,6 @@ pub struct World {
 
 impl Model for World {
     ghost use Rattle.std.specs.Prelude.{map};
-    ghost use Rattle.x25_bits.specs.Harmless.{IsHarmless};
-    ghost use Rattle.x25_world.specs.BitDamage.{bit_damage, RefusesBits};
     ghost use Rattle.x25_world.specs.PlainTold.{plain_entered};
     ghost use Rattle.x25_world.specs.ShownWorld.{ShownWorld};
 
