@@ -1,5 +1,8 @@
 -- What is found in bits that are parted, by cuts or by a flag.
-use Rattle.std.proofs.Common.{◌≡◌, ◌∙◌, ℕ, ◌<◌, ◌≤◌, Bool, true, false, List, [], ◌∷◌, ◌++◌, length, refl, ap, sym, append_assoc, get_or}
+use Rattle.std.proofs.Common.{◌≡◌, ◌∙◌, ℕ, ◌<◌, ◌≤◌, Bool, true, false, List, [], ◌∷◌, ◌++◌, length, refl, ap, sym, append_assoc, get_or, inl, inr, arith}
+use Rattle.std.specs.Prelude.{All}
+use Rattle.std.proofs.lemmas.Bool.{cases_lt}
+use Rattle.std.proofs.Math.ListN.{get_or-eq_default}
 use Rattle.std.proofs.lemmas.List.{append-nil}
 use Rattle.std.specs.List.{flat_map}
 use Rattle.x25_bits.specs.Begins.{Begins}
@@ -45,7 +48,7 @@ flag_ends v = go (ends v false) refl
     go true e = rw e refl
     go false e = rw e refl
 
-nothing_yet : found_of flag ≡ []
+pub nothing_yet : found_of flag ≡ []
 unfolding found_from
 nothing_yet = found_at_start flag
 
@@ -55,6 +58,12 @@ flag_cuts before more =
     let alone : found_of (flag ++ more) ≡ found_from behind_flag more =
     found_more flag more ∙ ap (λ l. l ++ found_from (seen_of flag) more) nothing_yet ∙ ap (λ v. found_from v more) (flag_ends none_seen) in
     found_more (before ++ flag) more ∙ ap (λ v. found_of (before ++ flag) ++ found_from v more) before_it ∙ ap (λ l. found_of (before ++ flag) ++ l) (sym alone)
+
+pub each_small : (octets : List ℕ) → All (λ octet. octet < 256) octets → (k : ℕ) → get_or octets k 0 < 256
+each_small octets small k = elim (cases_lt k (length octets)) [
+  | inl low ↦ small k 0 low
+  | inr high ↦ rw (get_or-eq_default octets 0 high) (omega arith)
+]
 
 pub put_found_behind : (before : List Bool) (octets : List ℕ) → ((k : ℕ) → get_or octets k 0 < 256) → 4 ≤ length octets → length octets ≤ 4103
     → found_of (before ++ framed octets) ≡ found_of (before ++ flag) ++ Content octets ∷ []

@@ -72,6 +72,11 @@ impl Bits {
         }
     }
 
+    /// The allocator that the bits have.
+    pub(crate) fn alloc(&self) -> Global {
+        *self.octets.allocator()
+    }
+
     /// The bit at a place.
     pub(crate) fn bit(&self, place: usize) -> bool
         requires { place < length self.now }

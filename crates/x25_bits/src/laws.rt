@@ -1,9 +1,10 @@
 //! Laws of flags, spans and stuffing, and of the frame check sequence. Each is the contract of a function that does nothing.
-ghost use Rattle.std.specs.Prelude.{ℕ, ◌≡◌, ◌<◌, ◌≤◌, ◌↔◌, ◌++◌, ◌∷◌, [], All, Bool, true, List, length};
+ghost use Rattle.std.specs.Prelude.{ℕ, ◌≡◌, ◌<◌, ◌≤◌, ◌↔◌, ◌++◌, ◌∷◌, [], All, Bool, true, false, List, length};
 ghost use Rattle.std.specs.List.{flat_map};
 ghost use Rattle.x25_bits.specs.Begins.{Begins};
 ghost use Rattle.x25_bits.specs.Cuts.{found_by_cuts};
 ghost use Rattle.x25_bits.specs.Fcs.{bits_of};
+ghost use Rattle.x25_bits.specs.Harmless.{between_flags, IsHarmless, IsFrame, sealed_contents, first_content};
 ghost use Rattle.x25_bits.specs.Sealed.{IsSealed, is_sealed};
 ghost use Rattle.x25_bits.specs.SpanClass.{Content, class_of, found_of};
 ghost use Rattle.x25_bits.specs.Spans.{flag, spans_of};
@@ -40,4 +41,17 @@ pub fn put_is_found()
 /// The test of octets finds their last two to be the frame check sequence of the others exactly where they are.
 pub fn sealed_is_tested()
     ensures { (octets : List ℕ) → All (λ octet. octet < 256) octets → (is_sealed octets ≡ true) ↔ IsSealed octets }
+{}
+
+/// The contents that pass the check, of bits between flags one after another, are those of each; of a frame that was put its
+/// octets. So where bits come in the place of those between the flags of one frame, the contents that pass are those of the
+/// other frames exactly where these bits are harmless; and their first content doesn't pass.
+pub fn harmless_bits_lose_a_frame()
+    ensures parts { (pieces : List (List Bool)) → sealed_contents (flat_map between_flags pieces) ≡ flat_map (λ bits. sealed_contents (between_flags bits)) pieces }
+    ensures frame { (octets : List ℕ) → IsFrame octets → sealed_contents (framed octets) ≡ octets ∷ [] }
+    ensures others { (before after : List (List ℕ)) (bits : List Bool) → All IsFrame before → All IsFrame after → IsHarmless bits
+        → sealed_contents (flat_map framed before ++ between_flags bits ++ flat_map framed after) ≡ before ++ after }
+    ensures only { (before after : List (List ℕ)) (bits : List Bool) → All IsFrame before → All IsFrame after
+        → sealed_contents (flat_map framed before ++ between_flags bits ++ flat_map framed after) ≡ before ++ after → IsHarmless bits }
+    ensures first { (bits : List Bool) → IsHarmless bits → is_sealed (first_content (found_of (between_flags bits))) ≡ false }
 {}

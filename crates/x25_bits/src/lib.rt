@@ -5,6 +5,7 @@ mod bits;
 mod deframer;
 mod found;
 mod frame_check;
+mod harmless_bits;
 mod laws;
 mod no_memory;
 mod role;
@@ -16,9 +17,10 @@ pub use bits::Bits;
 pub use deframer::Deframer;
 pub use found::Found;
 pub use frame_check::{check, fcs, seal};
+pub use harmless_bits::{first_content, harmless};
 pub use laws::{
-    content_stuffs_again, cuts_agree, flag_parts, put_is_found, sealed_is_tested,
-    stuffing_is_undone,
+    content_stuffs_again, cuts_agree, flag_parts, harmless_bits_lose_a_frame, put_is_found,
+    sealed_is_tested, stuffing_is_undone,
 };
 pub use no_memory::NoMemory;
 pub use role::Role;

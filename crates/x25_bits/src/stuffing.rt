@@ -8,7 +8,8 @@ ghost use Rattle.x25_bits.specs.Stuffing.{stuffed_from, framed};
 use crate::bits::Bits;
 use crate::no_memory::NoMemory;
 
-fn put_flag(bits: &mut Bits) -> Result<(), NoMemory>
+/// Appends a flag.
+pub(crate) fn put_flag(bits: &mut Bits) -> Result<(), NoMemory>
     ensures ok { OnOk result (bits.new ≡ bits.old ++ flag) }
     ensures begins { Begins bits.old bits.new }
 {

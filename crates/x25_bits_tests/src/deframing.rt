@@ -1,12 +1,7 @@
-use crate::spans::{FLAG, bits_of, found_in, is_content, some_octets};
+use crate::spans::{FLAG, SABM, STUFFED, bits_of, found_in, is_content, some_octets};
 use std::alloc::Global;
 use std::test::Fail;
 use x25_bits::{Bits, Found, NoMemory, put};
-
-/// The content of a SABM from the DTE, and the 34 bits that it stuffs to.
-const SABM: [u8; 4] = [0x01, 0x3F, 0xEB, 0xDF];
-
-const STUFFED: &str = "1000000011111010011010111110111011";
 
 #[test]
 fn stuffs_a_content(rt: HostRuntime) -> Result<(), Fail> {

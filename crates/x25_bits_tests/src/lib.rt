@@ -4,6 +4,8 @@
 #[cfg(test)]
 mod deframing;
 #[cfg(test)]
+mod harmless_bits;
+#[cfg(test)]
 mod numbers;
 #[cfg(test)]
 mod sealing;

@@ -4,6 +4,11 @@ use x25_bits::{Bits, Deframer, Found, NoMemory};
 
 pub const FLAG: &str = "01111110";
 
+/// The content of a SABM from the DTE, and the 34 bits that it stuffs to.
+pub const SABM: [u8; 4] = [0x01, 0x3F, 0xEB, 0xDF];
+
+pub const STUFFED: &str = "1000000011111010011010111110111011";
+
 fn push_text(text: &str, bits: &mut Bits) -> Result<(), NoMemory> {
     for digit in text.as_bytes() {
         bits.push(*digit == b'1')?;

@@ -19,3 +19,4 @@ pub mod LetGoLemmas
 pub mod SetUpLemmas
 pub mod SideLemmas
 pub mod WorldLemmas
+pub mod BitDamageLemmas

@@ -8,3 +8,4 @@ pub mod OnLine
 pub mod ShownLine
 pub mod ShownWorld
 pub mod FitsWorld
+pub mod BitDamage

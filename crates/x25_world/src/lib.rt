@@ -2,6 +2,7 @@
 #![tactic(auto)]
 
 mod acting;
+mod bit_damage;
 mod error;
 mod event;
 mod law;
@@ -16,5 +17,5 @@ pub use event::Event;
 pub use law::{hands_down_octets, two_stations_keep_order, two_stations_move};
 pub use told::{Entered, Tapped};
 pub use world::World;
-pub use x25_bits::Role;
+pub use x25_bits::{Bits, Role};
 pub use x25_line::Direction;

@@ -3,6 +3,8 @@ ghost use Rattle.x25_station.specs.declared.config.Cfg.{Cfg};
 ghost use Rattle.x25_station.specs.FitsStation.{FitsStation};
 ghost use Rattle.x25_station.specs.Settings.{settings_from, config_refusal};
 ghost use Rattle.x25_station.specs.Station as station;
+ghost use Rattle.x25_bits.specs.Harmless.{IsHarmless};
+ghost use Rattle.x25_world.specs.BitDamage.{bit_damage, RefusesBits};
 ghost use Rattle.x25_world.specs.PlainTold.{plain_tapped, plain_entered};
 ghost use Rattle.x25_world.specs.ShownWorld.{line_of, station_of};
 ghost use Rattle.x25_world.specs.FitsWorld.{Gone, all_of, nothing_gone, FitsWorld, FitsRun, and_then, and_all, HoldsAfter, UpOnceAfter, IsRefusal, TakesMemory, StopsAt, RefusesConfig};
@@ -11,6 +13,7 @@ ghost use Rattle.x25_world.specs.World as definition;
 ghost use Rattle.x25_world.specs.World.{event_of, happens, after, refusal_of, run, AreAccepted, start, connected, established};
 
 use crate::acting::{act, connect};
+use crate::bit_damage::octets_of_damage;
 use crate::error::{WorldError, WorldRefused};
 use crate::event::Event;
 use crate::law::{hands_down_octets, two_stations_keep_order};
@@ -18,7 +21,7 @@ use crate::line::Line;
 use crate::told::{Entered, Tapped};
 use std::alloc::Global;
 use std::marker::Model;
-use x25_bits::Role;
+use x25_bits::{Bits, Role};
 use x25_line::Direction;
 use x25_station::{Cfg, Station, StationError};
 
@@ -145,6 +148,42 @@ impl World {
         two_stations_keep_order();
         hands_down_octets(event);
         self.happen(event)
+    }
+
+    /// Other bits come in the place of those between the flags of the frame at this place, counted from 0, at the front (profile). It is the event
+    /// `Damage` by the octets of the first content, of 4 to 4,103 octets, that is found between these flags, or by no octets where none is found.
+    ///
+    /// Refused with 51 where the line has no frame at that place, then with 52 where the bits aren't harmless, and else accepted; 70 where memory is refused
+    /// for a frame that is there. Then the world is as before.
+    pub fn damage_bits(
+        &mut self,
+        direction: Direction,
+        place: usize,
+        bits: &Bits,
+    ) -> Result<(), WorldError>
+        ensures step { (cfg : Cfg) (w : definition.World) (gone : Gone) → FitsWorld cfg self.old w gone → OnOk result (FitsWorld cfg self.new (after w (happens cfg w (bit_damage direction place bits.now))) gone) }
+        ensures accepted { (cfg : Cfg) (w : definition.World) (gone : Gone) → FitsWorld cfg self.old w gone → OnOk result (refusal_of (happens cfg w (bit_damage direction place bits.now)) ≡ None) }
+        ensures harmless { OnOk result (IsHarmless bits.now) }
+        ensures refused { (cfg : Cfg) (w : definition.World) (gone : Gone) → FitsWorld cfg self.old w gone → IfErr result (RefusesBits (line_of self.old direction) place bits.now) }
+        ensures stays { (cfg : Cfg) (w : definition.World) (gone : Gone) → FitsWorld cfg self.old w gone → OnErr result (FitsWorld cfg self.new w gone) }
+
+        // The world is that of a run, and of each run from a link just set up, which isn't set up anew, this is proved.
+        ensures run { (cfg : Cfg) (from : definition.World) (past : List definition.Event) (gone : Gone) → FitsRun cfg from self.old past gone → FitsRun cfg from self.new (and_then past (bit_damage direction place bits.now) result) gone }
+        ensures lawful { HoldsAfter IsLawful self.old (λ past. and_then past (bit_damage direction place bits.now) result) }
+        ensures named { HoldsAfter IsNamed self.old (λ past. and_then past (bit_damage direction place bits.now) result) }
+        ensures arrives { HoldsAfter ArrivesAll self.old (λ past. and_then past (bit_damage direction place bits.now) result) }
+        ensures quiet { HoldsAfter HasNoProcedureError self.old (λ past. and_then past (bit_damage direction place bits.now) result) }
+        ensures window { HoldsAfter IsInWindow self.old (λ past. and_then past (bit_damage direction place bits.now) result) }
+        ensures up_once { UpOnceAfter self.old (λ past. and_then past (bit_damage direction place bits.now) result) }
+    {
+        two_stations_keep_order();
+        if place >= self.on_line(direction) {
+            return Err(WorldError::NoSuchFrame);
+        }
+        match octets_of_damage(bits) {
+            Ok(octets) => self.apply(Event::Damage(direction, place, octets.as_slice())),
+            Err(error) => Err(error),
+        }
     }
 
     // The step of `apply`, without the laws of runs.

@@ -2,6 +2,8 @@
 #![tactic(auto)]
 
 #[cfg(test)]
+mod bit_damage;
+#[cfg(test)]
 mod handed;
 #[cfg(test)]
 mod lists;

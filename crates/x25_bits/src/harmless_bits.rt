@@ -1,0 +1,76 @@
+//! Bits in the place of those between the flags of a frame, and what comes of them (profile).
+ghost use Rattle.std.specs.Prelude.{◌≡◌, ◌↔◌, IsTrue, IfOk, not};
+ghost use Rattle.std.specs.List.{list_all};
+ghost use Rattle.x25_bits.specs.Harmless.{between_flags, IsHarmless, is_sealed_content, first_content};
+ghost use Rattle.x25_bits.specs.Plain.{plain, plains};
+ghost use Rattle.x25_bits.specs.SpanClass.{found_of};
+
+use crate::bits::Bits;
+use crate::deframer::Deframer;
+use crate::found::Found;
+use crate::frame_check::check;
+use crate::no_memory::NoMemory;
+use crate::stuffing::put_flag;
+use std::alloc::Global;
+
+/// Whether no frame comes of the bits between two flags: none of their spans is a content, of 4 to 4,103 octets, that
+/// passes `check`. Error 70 where there is no memory to find their spans.
+pub fn harmless(bits: &Bits) -> Result<bool, NoMemory>
+    ensures { IfOk result (λ answer. IsTrue answer ↔ IsHarmless bits.now) }
+{
+    let found = found_between_flags(bits)?;
+    Ok(none_passes(found.as_slice()))
+}
+
+/// The octets of the first content among the spans of the bits between two flags, and no octets where none of them is a
+/// content. Error 70 where there is no memory to find their spans.
+pub fn first_content(bits: &Bits) -> Result<Vec<u8>, NoMemory>
+    ensures { IfOk result (λ octets. octets.items ≡ first_content (found_of (between_flags bits.now))) }
+{
+    let found = found_between_flags(bits)?;
+    Ok(content_in(bits.alloc(), found))
+}
+
+/// The octets of the first content of these.
+#[tactic(auto, unfolding(crate::specs::Harmless::first_content))]
+fn content_in(alloc: Global, all: Vec<Found>) -> Vec<u8>
+    ensures { result.items ≡ first_content (plains all.items) }
+{
+    for found in all {
+        if let Found::Content(octets) = found {
+            return octets;
+        }
+    }
+    Vec::new(alloc)
+}
+
+/// What is found in the bits between two flags, in order.
+fn found_between_flags(bits: &Bits) -> Result<Vec<Found>, NoMemory>
+    ensures { IfOk result (λ found. plains found.items ≡ found_of (between_flags bits.now)) }
+{
+    let mut ends = Bits::new(bits.alloc());
+    put_flag(&mut ends)?;
+    let mut deframer = Deframer::new(bits.alloc());
+    let mut found = Vec::new(bits.alloc());
+    deframer.feed(&ends, &mut found)?;
+    deframer.feed(bits, &mut found)?;
+    deframer.feed(&ends, &mut found)?;
+    Ok(found)
+}
+
+/// Whether none of these is a content that passes `check`.
+fn none_passes(found: &[Found]) -> bool
+    ensures { result ≡ list_all (λ one. not (is_sealed_content (plain one))) found.now }
+{
+    found.iter().all(|one| !passes(one))
+}
+
+/// Whether this is a content that passes `check`.
+fn passes(found: &Found) -> bool
+    ensures { result ≡ is_sealed_content (plain found.now) }
+{
+    match found {
+        Found::Content(octets) => check(octets.as_slice()),
+        Found::Abort | Found::Short | Found::Long | Found::Ragged => false,
+    }
+}

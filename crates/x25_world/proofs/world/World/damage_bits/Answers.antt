@@ -1,0 +1,20 @@
+use Rattle.std.proofs.Common.{◌≡◌, ◌∙◌, ◌<◌, List, ℕ, length, false, ap, sym, subst, arith}
+use Rattle.x25_bits.specs.Sealed.{is_sealed}
+use Rattle.x25_world.specs.ShownWorld.{line_of}
+use Rattle.x25_world.specs.World.{Event}
+use Rattle.x25_world.specs.FitsWorld.{FitsRun, and_then}
+use Rattle.x25_world.proofs.BitDamageLemmas.{damage_is, refuses_bits}
+use Rattle.x25_world.proofs.world.World.damage_bits.Goals as goal
+
+pub returns-in-Ok-clause-refused : goal.returns-in-Ok-clause-refused
+returns-in-Ok-clause-refused c = λ cfg w gone fits.
+    let octets : List ℕ = c.as_slice.result.now in
+    let there : c.args.place < length (line_of c.args.self.now c.args.direction) = omega (arith, c.if-place-on_line.false, c.on_line.ensures) in
+    let visible : is_sealed octets ≡ false = ap is_sealed c.as_slice.ensures.value ∙ c.in-Ok.ensures.visible in
+    refuses_bits cfg c.args.self.now w gone c.args.direction c.args.place c.args.bits.now octets c.apply.result fits there visible (c.apply.ensures.refused cfg w gone fits)
+
+pub returns-in-Ok-clause-run : goal.returns-in-Ok-clause-run
+returns-in-Ok-clause-run c = λ cfg from past gone h.
+    let octets : List ℕ = c.as_slice.result.now in
+    let same = damage_is c.args.direction c.args.place c.args.bits.now octets (c.as_slice.ensures.value ∙ c.in-Ok.ensures.octets) in
+    subst (λ (e : Event). FitsRun cfg from c.apply.new.self (and_then past e c.apply.result) gone) (sym same) (c.apply.ensures.run cfg from past gone h)

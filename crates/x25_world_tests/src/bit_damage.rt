@@ -1,0 +1,60 @@
+//! Bits that come in the place of those between the flags of a frame.
+
+use crate::play::number_of;
+use std::alloc::Global;
+use std::test::Fail;
+use x25_station::Cfg;
+use x25_world::Direction::ToDce;
+use x25_world::{Bits, Event, World};
+
+/// The bits between the flags of a SABM from the DTE.
+const SABM: &str = "1000000011111010011010111110111011";
+
+/// The same with the last bit 0.
+const DAMAGED_SABM: &str = "1000000011111010011010111110111010";
+
+/// A place on the line to the DCE, the bits that come there, and the number of the refusal.
+static ROWS: [(usize, &str, Option<u8>); 5] = [
+    (1, SABM, Some(51)),
+    (1, "1111111", Some(51)),
+    (0, SABM, Some(52)),
+    (0, DAMAGED_SABM, None),
+    (0, "1111111", None),
+];
+
+fn bits_of(alloc: Global, text: &str) -> Result<Bits, Fail> {
+    let mut bits = Bits::new(alloc);
+    for digit in text.as_bytes() {
+        bits.push(*digit == b'1')?;
+    }
+    Ok(bits)
+}
+
+// The number of the refusal, where the damage is refused.
+fn refusal(alloc: Global, world: &mut World, place: usize, text: &str) -> Result<Option<u8>, Fail> {
+    let bits = bits_of(alloc, text)?;
+    match world.damage_bits(ToDce, place, &bits) {
+        Ok(()) => Ok(None),
+        Err(error) => Ok(Some(number_of(error))),
+    }
+}
+
+/// The RESTART that is on the line to the DCE is damaged, so that its delivery tells nothing.
+#[test]
+fn bits_are_damaged(rt: HostRuntime) -> Result<(), Fail> {
+    let cfg = Cfg {
+        k: 7,
+        n2: 10,
+        channels: 1,
+        long_data: false,
+    };
+    let mut world = World::establish(rt.alloc(), cfg)?;
+    for (place, text, wanted) in &ROWS {
+        let refused = refusal(rt.alloc(), &mut world, *place, text)?;
+        assert_eq!(rt; refused, *wanted, "{text} at {place}");
+    }
+    let told = world.transcript().len();
+    world.apply(Event::Deliver(ToDce))?;
+    assert_eq!(rt; world.transcript().len(), told);
+    Ok(())
+}
