@@ -12,3 +12,4 @@ pub mod StationRuns
 pub mod StationClaimLemmas
 pub mod StationEvents
 pub mod StationRowLemmas
+pub mod SessionLines
