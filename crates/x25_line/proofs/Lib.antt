@@ -13,3 +13,4 @@ pub mod StationClaimLemmas
 pub mod StationEvents
 pub mod StationRowLemmas
 pub mod SessionLines
+pub mod SessionHeld

@@ -175,7 +175,7 @@ module _ (from : Role) (n1 : ℕ) where
 
   pub behind_quiet : (xs ys : List Entry) → Behind xs → numbers ys ≡ [] → Behind (xs ++ ys)
   behind_quiet [] ys f none = quiet_behind ys none
-  behind_quiet (e ∷ xs) ys f none = (elim f.0 [ inl no ↦ inl no | inr quiet ↦ inr (quiet_append xs ys quiet none) ], behind_quiet xs ys f.1 none)
+  behind_quiet (e ∷ xs) ys f none = (elim f.0 [ inl free ↦ inl free | inr quiet ↦ inr (quiet_append xs ys quiet none) ], behind_quiet xs ys f.1 none)
 
   pub behind_none : (xs ys : List Entry) → how_many sabm_in from n1 xs ≡ 0 → Behind ys → Behind (xs ++ ys)
   behind_none [] ys none k = k
@@ -272,7 +272,7 @@ module _ (from : Role) (n1 : ℕ) where
   change_behind es fs (nothing xs) h = h
   change_behind es fs (lost e xs) h = h.1
   change_behind es fs (damaged e xs octets bad) h = (inl (damaged_kind sabm_in of_sabm (frame_of from n1 octets) bad), h.1)
-  change_behind es fs (further e xs ys c) h = (elim h.0 [ inl no ↦ inl no | inr quiet ↦ inr (change_quiet xs ys c quiet) ], change_behind xs ys c h.1)
+  change_behind es fs (further e xs ys c) h = (elim h.0 [ inl free ↦ inl free | inr quiet ↦ inr (change_quiet xs ys c quiet) ], change_behind xs ys c h.1)
 
   pub change_of : (s : ℕ) (es fs : List Entry) → Change es fs → AllOf from n1 s es → AllOf from n1 s fs
   change_of s es fs (nothing xs) h = h
