@@ -14,3 +14,4 @@ pub mod StationEvents
 pub mod StationRowLemmas
 pub mod SessionLines
 pub mod SessionHeld
+pub mod SessionSteps
