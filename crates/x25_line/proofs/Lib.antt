@@ -15,3 +15,5 @@ pub mod StationRowLemmas
 pub mod SessionLines
 pub mod SessionHeld
 pub mod SessionSteps
+pub mod SessionBegins
+pub mod SessionChanges

@@ -84,7 +84,7 @@ ask_or_not from n1 (o ∷ os) h = (ask_one (frame_of from n1 o) h.0, ask_or_not 
     ask_one : (r : Read) → IsOrderly ⊥ r → IsOrderly (Unit {0}) r
     ask_one r k = orderly_where ⊥ (Unit {0}) r (λ p is never. tt) k
 
-waiting_is_closed : {A : Type 0} (p : Phase) → p ≡ Waiting → p ≡ Closed → A
+pub waiting_is_closed : {A : Type 0} (p : Phase) → p ≡ Waiting → p ≡ Closed → A
 waiting_is_closed p e f = absurd (never (sym e ∙ f))
   where
     never : Waiting ≡ Closed → ⊥
@@ -93,14 +93,14 @@ waiting_is_closed p e f = absurd (never (sym e ∙ f))
 waiting_away : {A : Type 0} (p : Phase) → p ≡ Waiting → MayBeAway ⊥ p → A
 waiting_away p e h = absurd (subst (MayBeAway ⊥) e h)
 
-owes_up : (p : Phase) (n m : ℕ) → is_up p ≡ true → Owes p n m → (n ≡ 0) × (m ≡ 0)
+pub owes_up : (p : Phase) (n m : ℕ) → is_up p ≡ true → Owes p n m → (n ≡ 0) × (m ≡ 0)
 owes_up Down n m up h = h
 owes_up Waiting n m up h = not_both false up refl
 owes_up Up n m up h = h
 owes_up Closed n m up h = not_both false up refl
 
 -- who has a SABM on the line waits, or is Closed
-asked_by : (p : Phase) (n m : ℕ) → 1 ≤ n → Owes p n m → ((p ≡ Waiting) × (n ≤ 1) × (m ≡ 0)) ⊎ (p ≡ Closed)
+pub asked_by : (p : Phase) (n m : ℕ) → 1 ≤ n → Owes p n m → ((p ≡ Waiting) × (n ≤ 1) × (m ≡ 0)) ⊎ (p ≡ Closed)
 asked_by Down n m h g = absurd (omega (arith, h, g.0))
 asked_by Waiting n m h g = inl (refl, g.0, g.1)
 asked_by Up n m h g = absurd (omega (arith, h, g.0))
@@ -112,7 +112,7 @@ pub record Answers (w : Sessions) (step : Step) : Type 0 where
   pub ua : (w.far.station.phase ≡ Closed) ⊎ (count ua_in step.side.out ≡ 0)
 
 module _ (c d : Settings) (joined : AreJoined c d) (reads : ReadsSpelled) where
-  many_out : (kind : Read → ℕ) (s : ℕ) (given : List (List ℕ)) (fs : List PlainFrame) → AreWhole d.longest given fs → how_many kind (other d.role) d.longest (sent_in s c.role fs) ≡ count kind fs
+  pub many_out : (kind : Read → ℕ) (s : ℕ) (given : List (List ℕ)) (fs : List PlainFrame) → AreWhole d.longest given fs → how_many kind (other d.role) d.longest (sent_in s c.role fs) ≡ count kind fs
   many_out kind s given fs h =
       subst (λ (r : Role). how_many kind r d.longest (sent_in s c.role fs) ≡ count kind fs) (sym joined.near_role) (many_sent reads c.role d.longest kind s given fs h)
 

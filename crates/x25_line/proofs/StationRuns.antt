@@ -39,7 +39,7 @@ holds_unless : (MayAsk : Type 0) (c d : Settings) (o : Option LinkError) (w v : 
 holds_unless MayAsk c d (Some e) w v h g = h
 holds_unless MayAsk c d None w v h g = g refl
 
-holds_if : (MayAsk : Type 0) (c d : Settings) (b : Bool) (w v : Stations) → (b ≡ true → Holds MayAsk c d w) → Holds MayAsk c d v → Holds MayAsk c d (if b then w else v)
+pub holds_if : (MayAsk : Type 0) (c d : Settings) (b : Bool) (w v : Stations) → (b ≡ true → Holds MayAsk c d w) → Holds MayAsk c d v → Holds MayAsk c d (if b then w else v)
 holds_if MayAsk c d true w v h g = h refl
 holds_if MayAsk c d false w v h g = g
 
@@ -280,7 +280,7 @@ module _ (MayAsk : Type 0) (c d : Settings) (joined : AreJoined c d) (reads : Re
   )
 
   -- the machine loses the frame at this place, where one stands there
-  taken_off : (w : Stations) (l : Line (List ℕ)) (p : Option ℕ) (os : List (List ℕ)) → Joint MayAsk c d w l → ShowAll (numbered_on (other c.role) c.longest os) (taken_out p l.back)
+  pub taken_off : (w : Stations) (l : Line (List ℕ)) (p : Option ℕ) (os : List (List ℕ)) → Joint MayAsk c d w l → ShowAll (numbered_on (other c.role) c.longest os) (taken_out p l.back)
       → AreOrderly MayAsk (other c.role) c.longest os → Holds MayAsk c d (record w { back = os })
   taken_off w l None os h shows orderly = left_joint w l l.back os h h.reached h.kept shows orderly
   taken_off w l (Some n) os h shows orderly = left_joint w l (remove l.back n) os h (near_moves l (Loses n) h.reached tt) (Kept-moved (Loses n) l tt h.kept) shows orderly
@@ -311,11 +311,11 @@ module _ (MayAsk : Type 0) (c d : Settings) (joined : AreJoined c d) (reads : Re
 
 -- ---- runs
 
-joined_swapped : (c d : Settings) → AreJoined c d → AreJoined d c
+pub joined_swapped : (c d : Settings) → AreJoined c d → AreJoined d c
 joined_swapped c d j =
     record { near_role = j.far_role; far_role = j.near_role; longest = sym j.longest; near_low = j.far_low; near_high = j.far_high; far_low = j.near_low; far_high = j.near_high }
 
-holds_swapped : (MayAsk : Type 0) (c d : Settings) → c.longest ≡ d.longest → (w : Stations) → Holds MayAsk c d w → Holds MayAsk d c (swapped w)
+pub holds_swapped : (MayAsk : Type 0) (c d : Settings) → c.longest ≡ d.longest → (w : Stations) → Holds MayAsk c d w → Holds MayAsk d c (swapped w)
 holds_swapped MayAsk c d same w holds =
     let l = holds.0 in
     let h = holds.1 in (
