@@ -17,3 +17,4 @@ pub mod SessionHeld
 pub mod SessionSteps
 pub mod SessionBegins
 pub mod SessionChanges
+pub mod SessionUp

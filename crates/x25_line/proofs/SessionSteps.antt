@@ -54,6 +54,19 @@ grown e down step p is =
       up = λ n never. extended_other e.up e.begun n (option_to_list step.packet) (λ (here : n ≡ e.begun). never (here ∙ is));
     }
 
+pub live_lists : (c : Settings) (e : SessionEnd) (p : ℕ) (v : Stations) (os down : List (List ℕ)) (step : Step) → e.begun ≡ p → HasLists e p v.near
+    → HasLists (end_after e e.begun down step) p (one.after_step c v os down step).near
+live_lists c e p v os down step is h =
+    record {
+      down = ap (extended e.down e.begun down) (sym is) ∙ extended_same e.down e.begun down ∙ ap (λ (x : List (List ℕ)). x ++ down) (ap e.down is ∙ h.down);
+      up = ap (extended e.up e.begun (option_to_list step.packet)) (sym is) ∙ extended_same e.up e.begun (option_to_list step.packet)
+          ∙ ap (λ (x : List (List ℕ)). x ++ option_to_list step.packet) (ap e.up is ∙ h.up);
+      later = λ n less. (let old = h.later n less in (
+        extended_other e.down e.begun n down (λ (same : n ≡ e.begun). omega (arith, same, less)) ∙ old.0,
+        extended_other e.up e.begun n (option_to_list step.packet) (λ (same : n ≡ e.begun). omega (arith, same, less)) ∙ old.1,
+      ));
+    }
+
 -- ---- what stands behind
 
 orderly_behind : (MayAsk : Type 0) (from : Role) (n1 : ℕ) (xs ys : List (List ℕ)) → AreOrderly MayAsk from n1 (xs ++ ys) → AreOrderly MayAsk from n1 ys
@@ -185,23 +198,6 @@ module _ (c d : Settings) (joined : AreJoined c d) (reads : ReadsSpelled) where
       of : AllOf (other d.role) d.longest h.p more
       of = subst (λ (s : ℕ). AllOf (other d.role) d.longest s more) near.2 (of_sent (other d.role) d.longest c.role w.near.begun fs)
 
-      down_is : extended w.near.down w.near.begun down h.p ≡ h.alone.near.down ++ down
-      down_is =
-          ap (extended w.near.down w.near.begun down) (sym near.2) ∙ extended_same w.near.down w.near.begun down
-          ∙ ap (λ (x : List (List ℕ)). x ++ down) (ap w.near.down near.2 ∙ h.near_lists.down)
-
-      up_is : extended w.near.up w.near.begun (option_to_list step.packet) h.p ≡ h.alone.near.up ++ option_to_list step.packet
-      up_is =
-          ap (extended w.near.up w.near.begun (option_to_list step.packet)) (sym near.2) ∙ extended_same w.near.up w.near.begun (option_to_list step.packet)
-          ∙ ap (λ (x : List (List ℕ)). x ++ option_to_list step.packet) (ap w.near.up near.2 ∙ h.near_lists.up)
-
-      later : (n : ℕ) → w.near.begun < n → (extended w.near.down w.near.begun down n ≡ []) × (extended w.near.up w.near.begun (option_to_list step.packet) n ≡ [])
-      later n less =
-          let old = h.near_lists.later n less in (
-            extended_other w.near.down w.near.begun n down (λ (is : n ≡ w.near.begun). omega (arith, is, less)) ∙ old.0,
-            extended_other w.near.up w.near.begun n (option_to_list step.packet) (λ (is : n ≡ w.near.begun). omega (arith, is, less)) ∙ old.1,
-          )
-
       by : (v : View) → IsView v (end_after w.near w.near.begun down step) step.side.near h.p → IsHeard v (other c.role) c.longest step.side.near.phase es os h.q
           → Held c d (stepped c w es met down w.near.begun step)
       by v view back =
@@ -227,7 +223,7 @@ module _ (c d : Settings) (joined : AreJoined c d) (reads : ReadsSpelled) where
                   (orderly_append (Unit {0}) (other d.role) d.longest (octets_of w.out) (octets_of more) line.out_orderly (ask_or_not (other d.role) d.longest (octets_of more) orderly));
               back_orderly = line.back_orderly;
             };
-            near_lists = record { down = down_is; up = up_is; later = later };
+            near_lists = live_lists c w.near h.p h.alone os down step near.2 h.near_lists;
             far_lists = h.far_lists;
             meetings = meetings;
             no_frmr = no_frmr_append w.sent fs h.no_frmr (no_frmr_behind h.alone.sent fs holds.1.no_frmr);
