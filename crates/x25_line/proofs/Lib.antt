@@ -18,3 +18,4 @@ pub mod SessionSteps
 pub mod SessionBegins
 pub mod SessionChanges
 pub mod SessionUp
+pub mod SessionActs

@@ -112,7 +112,7 @@ follows_no_packet (Some reason) k r s step none h = h.packet
 
 -- ---- why Up is left, by what comes
 
-valid_answers : (b : Bool) (far : Phase) (reason : Reason) → (let o : Option Reason = if b then None else Some FrmrSent in o) ≡ Some reason → MayAnswer reason far
+pub valid_answers : (b : Bool) (far : Phase) (reason : Reason) → (let o : Option Reason = if b then None else Some FrmrSent in o) ≡ Some reason → MayAnswer reason far
 valid_answers true far reason e = absurd (never e)
   where
     never : None ≡ Some reason → ⊥
@@ -122,13 +122,13 @@ valid_answers false far reason e = subst (λ (z : Reason). MayAnswer z far) (som
     some_of : Some FrmrSent ≡ Some reason → FrmrSent ≡ reason
     some_of k = cc
 
-by_reason : (far : Phase) (known reason : Reason) → MayAnswer known far → Some known ≡ Some reason → MayAnswer reason far
+pub by_reason : (far : Phase) (known reason : Reason) → MayAnswer known far → Some known ≡ Some reason → MayAnswer reason far
 by_reason far known reason may e = subst (λ (z : Reason). MayAnswer z far) (some_of e) may
   where
     some_of : Some known ≡ Some reason → known ≡ reason
     some_of k = cc
 
-none_reason : {A : Type 0} (reason : Reason) → None ≡ Some reason → A
+pub none_reason : {A : Type 0} (reason : Reason) → None ≡ Some reason → A
 none_reason reason e = absurd (never e)
   where
     never : None ≡ Some reason → ⊥

@@ -43,7 +43,7 @@ pub holds_if : (MayAsk : Type 0) (c d : Settings) (b : Bool) (w v : Stations) �
 holds_if MayAsk c d true w v h g = h refl
 holds_if MayAsk c d false w v h g = g
 
-orderly_sets_up : (r : Result PlainFrame FrameError) → IsOrderly ⊥ r → sets_up r ≡ false
+pub orderly_sets_up : (r : Result PlainFrame FrameError) → IsOrderly ⊥ r → sets_up r ≡ false
 orderly_sets_up (Ok (info ns nr p x)) h = refl
 orderly_sets_up (Ok (rr command nr pf)) h = refl
 orderly_sets_up (Ok (rnr command nr pf)) h = refl
@@ -129,7 +129,7 @@ module _ (MayAsk : Type 0) (c d : Settings) (joined : AreJoined c d) (reads : Re
 
   -- ---- what is handed down
 
-  put_up : (w : Stations) (l : Line (List ℕ)) (packet : List ℕ) → Joint MayAsk c d w l → AsUp c w.near.station l.near → length packet ≤ c.longest
+  pub put_up : (w : Stations) (l : Line (List ℕ)) (packet : List ℕ) → Joint MayAsk c d w l → AsUp c w.near.station l.near → length packet ≤ c.longest
       → Holds MayAsk c d (after_step c w w.back (packet ∷ []) (put_step c packet w.near.station))
   put_up w l packet h u short =
       let longest = joined.longest in
@@ -158,7 +158,7 @@ module _ (MayAsk : Type 0) (c d : Settings) (joined : AreJoined c d) (reads : Re
 
   -- ---- timer T1
 
-  timer_by : (w : Stations) (l : Line (List ℕ)) → Joint MayAsk c d w l → AsUp c w.near.station l.near → (b : Bool) (step : Step) → Tells w.near.station step
+  pub timer_by : (w : Stations) (l : Line (List ℕ)) → Joint MayAsk c d w l → AsUp c w.near.station l.near → (b : Bool) (step : Step) → Tells w.near.station step
       → Follows (if b then None else Some Retries) c.window nothing w.near.station step → Holds MayAsk c d (after_step c w w.back [] step)
   timer_by w l h u true step tells follows = quiet_joint MayAsk c d joined reads w l h u w.back h.back_orderly h.back nothing step refl (λ y k. k) follows
   timer_by w l h u false step tells follows = ends_joint MayAsk c d joined reads w l h u.up w.back step Retries tt h.back h.back_orderly tells follows
