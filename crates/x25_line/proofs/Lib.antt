@@ -19,3 +19,4 @@ pub mod SessionBegins
 pub mod SessionChanges
 pub mod SessionUp
 pub mod SessionActs
+pub mod SessionTakes

@@ -67,23 +67,28 @@ number_kind kind k (Ok (ua f)) g e = none_is_some g e
 number_kind kind k (Ok (dm f)) g e = none_is_some g e
 number_kind kind k (Ok (frmr f why)) g e = none_is_some g e
 number_kind kind k (Err x) g e = none_is_some g e
-number_kind sabm_in of_sabm (Ok (info ns nr p x)) g e = refl
-number_kind sabm_in of_sabm (Ok (rr command nr pf)) g e = refl
-number_kind sabm_in of_sabm (Ok (rnr command nr pf)) g e = refl
-number_kind sabm_in of_sabm (Ok (rej command nr pf)) g e = refl
-number_kind ua_in of_ua (Ok (info ns nr p x)) g e = refl
-number_kind ua_in of_ua (Ok (rr command nr pf)) g e = refl
-number_kind ua_in of_ua (Ok (rnr command nr pf)) g e = refl
-number_kind ua_in of_ua (Ok (rej command nr pf)) g e = refl
-number_kind disc_in of_disc (Ok (info ns nr p x)) g e = refl
-number_kind disc_in of_disc (Ok (rr command nr pf)) g e = refl
-number_kind disc_in of_disc (Ok (rnr command nr pf)) g e = refl
-number_kind disc_in of_disc (Ok (rej command nr pf)) g e = refl
+number_kind kind of_sabm (Ok (info ns nr p x)) g e = refl
+number_kind kind of_sabm (Ok (rr command nr pf)) g e = refl
+number_kind kind of_sabm (Ok (rnr command nr pf)) g e = refl
+number_kind kind of_sabm (Ok (rej command nr pf)) g e = refl
+number_kind kind of_ua (Ok (info ns nr p x)) g e = refl
+number_kind kind of_ua (Ok (rr command nr pf)) g e = refl
+number_kind kind of_ua (Ok (rnr command nr pf)) g e = refl
+number_kind kind of_ua (Ok (rej command nr pf)) g e = refl
+number_kind kind of_disc (Ok (info ns nr p x)) g e = refl
+number_kind kind of_disc (Ok (rr command nr pf)) g e = refl
+number_kind kind of_disc (Ok (rnr command nr pf)) g e = refl
+number_kind kind of_disc (Ok (rej command nr pf)) g e = refl
 
 pub error_kind : (kind : Read → ℕ) → IsKind kind → (e : FrameError) → kind (Err e) ≡ 0
-error_kind sabm_in of_sabm e = refl
-error_kind ua_in of_ua e = refl
-error_kind disc_in of_disc e = refl
+error_kind kind of_sabm e = refl
+error_kind kind of_ua e = refl
+error_kind kind of_disc e = refl
+
+pub dm_kind : (kind : Read → ℕ) → IsKind kind → (f : Bool) → kind (Ok (dm f)) ≡ 0
+dm_kind kind of_sabm f = refl
+dm_kind kind of_ua f = refl
+dm_kind kind of_disc f = refl
 
 -- how many frames of a kind are sent
 abbrev pub count : (Read → ℕ) → List PlainFrame → ℕ
