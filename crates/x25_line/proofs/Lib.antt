@@ -20,3 +20,4 @@ pub mod SessionChanges
 pub mod SessionUp
 pub mod SessionActs
 pub mod SessionTakes
+pub mod SessionRuns
