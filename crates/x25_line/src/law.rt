@@ -1,5 +1,6 @@
 //! Two link stations over a line, as laws about their definition. Each is the contract of a function that does nothing.
 ghost use Rattle.x25_line.specs.StationClaims.{Always, BothInOrder, BothHaveTheirLists, BothNoteTheirEnds, AreInWindow, NoFrmrSent, AllSentAreWhole, OneLinkUnlessConnected, EachEventHandsOne};
+ghost use Rattle.x25_line.specs.SessionClaims.{Throughout, MeetInStep, MetAreInOrder, UnmetHandNothingUp, EachUpStands, NoSessionSendsFrmr};
 ghost use Rattle.x25_line.specs.StationRows.{PacketGoes, PacketsCross, LostComesAgain, DamagedComesAgain, DisconnectEnds, AbandonEnds, ConnectSetsUp, ConnectIsDeclined};
 
 use x25_frame::reads_what_is_spelled;
@@ -22,6 +23,27 @@ pub fn stations_keep_order()
     ensures no_frmr { Always NoFrmrSent }
     ensures whole { Always AllSentAreWhole }
     ensures once { OneLinkUnlessConnected }
+{
+    follows_the_window();
+    sets_up_by_rows();
+    notes_what_changes();
+    reads_what_is_spelled();
+}
+
+/// Two link stations and the line between them, from nothing or from a link just set up: what holds after each list of events at
+/// either end, over set-up and re-set-up at any moment, where timer T1 of an end that awaits UA doesn't run out while its SABM or a
+/// UA to it is on the line. A session of an end begins as it notes LinkUp, and two sessions meet where one hears a frame with an
+/// N(R) that was sent in the other.
+///
+/// Sessions meet one to one, and in order at both ends. What is handed up in a session is a beginning of what was handed down in
+/// the one that it meets, and a session that meets none hands nothing up. The session of an end that is Up, and the one that it
+/// meets or is to meet, are those of a link set up once, of which all holds that `stations_keep_order` says. No FRMR is ever sent.
+pub fn sessions_keep_order()
+    ensures step { Throughout MeetInStep }
+    ensures order { Throughout MetAreInOrder }
+    ensures unmet { Throughout UnmetHandNothingUp }
+    ensures stands { Throughout EachUpStands }
+    ensures no_frmr { Throughout NoSessionSendsFrmr }
 {
     follows_the_window();
     sets_up_by_rows();
