@@ -21,3 +21,4 @@ pub mod SessionUp
 pub mod SessionActs
 pub mod SessionTakes
 pub mod SessionRuns
+pub mod SessionsForgotten

@@ -1,11 +1,11 @@
 -- What holds of two link stations and the line between them after each list of events, over set-up and re-set-up at any moment.
-use Rattle.std.specs.Prelude.{◌≡◌, ◌<◌, ◌⊎◌, ℕ, true, List, [], ◌∷◌, None}
+use Rattle.std.specs.Prelude.{◌≡◌, ◌<◌, ◌⊎◌, ℕ, zero, suc, true, List, [], ◌∷◌, ◌++◌, None}
 use Rattle.x25_bits.specs.declared.role.Role.{Role}
 use Rattle.x25_frame.specs.Reading.{frame_of}
 use Rattle.x25_link.specs.Station.{Settings, is_up}
 use Rattle.x25_link.specs.MustSend.{other}
 use Rattle.x25_line.specs.InWindow.{Begins}
-use Rattle.x25_line.specs.Stations.{Stations, Event}
+use Rattle.x25_line.specs.Stations.{StationEnd, Stations, Event, start, run as run_alone}
 use Rattle.x25_line.specs.StationClaims.{AreJoined, BothInOrder, BothHaveTheirLists, AreInWindow, NoFrmr, NoFrmrSent, AllSentAreWhole, number_in, numbered_on}
 use Rattle.x25_line.specs.Sessions.{Entry, SessionEnd, Meeting, Sessions, run, from_nothing, from_set_up, AreTimely, swapped}
 
@@ -96,3 +96,33 @@ pub record EachUpStands (c d : Settings) (w : Sessions) : Type 0 where
 
 abbrev pub NoSessionSendsFrmr : Settings → Settings → Sessions → Type 0
 NoSessionSendsFrmr c d w = NoFrmr w.sent
+
+-- ---- with the sessions forgotten
+
+-- what was handed down or up in all sessions up to this one
+abbrev pub all_of : (ℕ → List (List ℕ)) → ℕ → List (List ℕ)
+all_of lists zero = lists zero
+all_of lists (suc n) = all_of lists n ++ lists (suc n)
+
+-- the end of all its sessions, of which none has lists before it begins
+pub record IsEndOf (e : SessionEnd) (v : StationEnd) : Type 0 where
+  pub station : v.station ≡ e.station
+  pub down : v.down ≡ all_of e.down e.begun
+  pub up : v.up ≡ all_of e.up e.begun
+  pub later_down : (n : ℕ) → e.begun < n → e.down n ≡ []
+  pub later_up : (n : ℕ) → e.begun < n → e.up n ≡ []
+
+pub record AreStationsOf (w : Sessions) (v : Stations) : Type 0 where
+  pub near : IsEndOf w.near v.near
+  pub far : IsEndOf w.far v.far
+  pub out : v.out ≡ octets_of w.out
+  pub back : v.back ≡ octets_of w.back
+  pub sent : v.sent ≡ w.sent
+
+-- the same events of the two stations by themselves do the same
+abbrev pub SessionsAreStations : Type 0
+SessionsAreStations = (c d : Settings) (events : List Event) (w : Sessions) (v : Stations) → AreStationsOf w v → AreStationsOf (run c d events w) (run_alone c d events v)
+
+-- a link that was just set up is the start of two stations
+abbrev pub SetUpIsTheStart : Type 0
+SetUpIsTheStart = AreStationsOf from_set_up start
