@@ -22,3 +22,4 @@ pub mod SessionActs
 pub mod SessionTakes
 pub mod SessionRuns
 pub mod SessionsForgotten
+pub mod SessionRowLemmas
