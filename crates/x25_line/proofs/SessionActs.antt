@@ -1,11 +1,10 @@
 -- What is done at the near end keeps what holds of two stations over sessions: packets handed down, timer T1, connect, disconnect
 -- and abandon.
-use Rattle.std.proofs.Common.{◌≡◌, ◌≤◌, ℕ, zero, suc, ◌+◌, List, [], ◌∷◌, ◌++◌, length, inl, inr, Bool, true, false, not, if◌then◌else◌, Option, Some, None, Ok, Err, refl, sym, ap, ◌∙◌, subst, arith}
+use Rattle.std.proofs.Common.{◌≡◌, ◌≤◌, ℕ, suc, ◌+◌, List, [], ◌∷◌, length, Bool, true, false, if◌then◌else◌, Option, Some, None, Err, refl, sym, ap, ◌∙◌, subst, arith}
 use Rattle.std.specs.Prelude.{nat_lt}
-use Rattle.x25_frame.specs.PlainFrame.{PlainFrame, sabm, disc}
+use Rattle.x25_frame.specs.PlainFrame.{sabm, disc}
 use Rattle.x25_frame.specs.ReadingLaw.{ReadsSpelled}
 use Rattle.x25_frame.specs.declared.error.FrameError.TheVariants.{Short}
-use Rattle.x25_link.specs.declared.error.LinkError.{LinkError}
 use Rattle.x25_link.specs.declared.error.LinkError.TheVariants as error
 use Rattle.x25_link.specs.declared.phase.Phase.{Phase}
 use Rattle.x25_link.specs.declared.phase.Phase.TheVariants.{Down, Waiting, Up, Closed}
@@ -14,20 +13,19 @@ use Rattle.x25_link.specs.declared.phase.Reason.TheVariants.{Retries, Local, Cou
 use Rattle.x25_link.specs.SetUp.{Is}
 use Rattle.x25_link.specs.Station.{Settings, Station, is_up, with_nothing}
 use Rattle.x25_link.specs.MustSend.{Step, other}
-use Rattle.x25_link.specs.Steps.{put_step, put_refusal, timer_step, timer_refusal, timer_runs, connect_step, connect_refusal, disconnect_step, disconnect_refusal, abandon_step}
+use Rattle.x25_link.specs.Steps.{put_step, timer_step, connect_step, disconnect_step, disconnect_refusal, abandon_step}
 use Rattle.x25_link.specs.WindowMachine.{hands_down, nothing}
-use Rattle.x25_link.specs.WindowLaw.{IsRunning, IsSound, IsOut, Follows, Ends}
+use Rattle.x25_link.specs.WindowLaw.{IsRunning, IsSound, IsOut, Ends}
 use Rattle.x25_line.specs.Stations as one
 use Rattle.x25_line.specs.StationClaims.{AreJoined}
 use Rattle.x25_line.specs.Sessions.{Entry, Meeting, Sessions, sabm_in, ua_in, disc_in, how_many, begun_by, after_step}
 use Rattle.x25_line.proofs.StationLines.{AreParting}
 use Rattle.x25_line.proofs.StationSteps.{AsUp, Holds, not_both, ends_joint}
-use Rattle.x25_line.proofs.StationAway.{connects_from}
 use Rattle.x25_line.proofs.StationRuns.{Laws, put_up, timer_by}
 use Rattle.x25_line.proofs.StationClaimLemmas.{up_of}
 use Rattle.x25_line.proofs.SessionLines.{count}
 use Rattle.x25_line.proofs.SessionHeld.{View, Live, Soon, Gone, IsView, IsHeard, Comes, Owes, Held}
-use Rattle.x25_line.proofs.SessionSteps.{end_after, stepped, apart_held}
+use Rattle.x25_line.proofs.SessionSteps.{stepped, apart_held}
 use Rattle.x25_line.proofs.SessionUp.{MayAnswer, stays_answers, ends_answers, follows_answers, stays_no_packet, follows_no_packet, by_reason, none_reason, live_goes_on}
 
 -- what holds of a step in which no LinkUp is noted

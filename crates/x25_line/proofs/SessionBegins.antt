@@ -1,22 +1,20 @@
 -- A SABM that comes to an end that isn't Closed begins two sessions, and keeps what holds of two stations.
-use Rattle.std.proofs.Common.{◌≡◌, ◌≤◌, ◌<◌, ℕ, zero, suc, ◌+◌, List, [], ◌∷◌, ◌++◌, ◌⊎◌, inl, inr, map, Bool, true, false, None, Ok, refl, sym, ap, ◌∙◌, subst, arith}
+use Rattle.std.proofs.Common.{◌≡◌, ◌≤◌, ◌<◌, ℕ, suc, ◌+◌, List, [], ◌∷◌, ◌++◌, inl, inr, map, Bool, None, Ok, refl, sym, ap, ◌∙◌, subst, arith}
 use Rattle.x25_bits.specs.declared.role.Role.{Role}
 use Rattle.x25_frame.specs.PlainFrame.{PlainFrame, ua}
 use Rattle.x25_frame.specs.Spelling.{spelling_of}
 use Rattle.x25_frame.specs.Reading.{frame_of}
 use Rattle.x25_frame.specs.ReadingLaw.{ReadsSpelled}
-use Rattle.x25_link.specs.declared.phase.Phase.{Phase}
-use Rattle.x25_link.specs.declared.phase.Phase.TheVariants.{Waiting, Closed}
 use Rattle.x25_link.specs.Station.{Settings, is_up, fresh}
 use Rattle.x25_link.specs.MustSend.{Step, other}
-use Rattle.x25_line.specs.Stations.{Stations, start}
+use Rattle.x25_line.specs.Stations.{start}
 use Rattle.x25_line.specs.StationClaims.{AreJoined, NoFrmr, numbered_on}
 use Rattle.x25_line.specs.Sessions.{Entry, SessionEnd, Sessions, sabm_in, ua_in, disc_in, how_many, sent_in}
 use Rattle.x25_line.specs.SessionClaims.{octets_of}
 use Rattle.x25_line.proofs.StationLines.{AreOrderly, orderly_append, no_frmr_append, parting_numbered, parting_orderly, parting_whole}
 use Rattle.x25_line.proofs.StationRuns.{start_joint}
-use Rattle.x25_line.proofs.SessionLines.{Read, octets_append, octets_sent, begun_append, begun_more, begun_sent, count, numbers, many_append, Behind, behind_quiet, lost}
-use Rattle.x25_line.proofs.SessionHeld.{View, Soon, Gone, IsView, IsHeard, AfterUa, Owes, owes_less, OnLine, line_changed, HasLists, SameLists, Meetings, meetings_same, meetings_anew, Held, after_answer}
+use Rattle.x25_line.proofs.SessionLines.{Read, octets_append, octets_sent, begun_append, begun_more, begun_sent, numbers, many_append, Behind, behind_quiet, lost}
+use Rattle.x25_line.proofs.SessionHeld.{View, Soon, Gone, IsView, IsHeard, AfterUa, Owes, owes_less, OnLine, line_changed, HasLists, SameLists, meetings_same, meetings_anew, Held, after_answer}
 use Rattle.x25_line.proofs.SessionSteps.{end_after, stepped, nothing_handed, waiting_is_closed, asked_by, many_out}
 
 -- nothing with a number stands behind a SABM

@@ -1,23 +1,21 @@
 -- A frame on the line to the near end is lost or damaged, which keeps what holds of two stations.
-use Rattle.std.proofs.Common.{◌≡◌, ◌≤◌, ℕ, zero, suc, ◌+◌, List, [], ◌∷◌, ◌⊎◌, inl, inr, Option, Some, None, Err, refl, sym, ap, ◌∙◌, subst, arith}
-use Rattle.x25_bits.specs.declared.role.Role.{Role}
+use Rattle.std.proofs.Common.{◌≡◌, ◌≤◌, ℕ, zero, suc, List, ◌∷◌, ◌⊎◌, inl, inr, refl, sym, ap, subst, arith}
 use Rattle.x25_frame.specs.PlainFrame.{PlainFrame}
 use Rattle.x25_frame.specs.Reading.{frame_of}
 use Rattle.x25_frame.specs.ReadingLaw.{ReadsSpelled}
-use Rattle.x25_frame.specs.declared.error.FrameError.TheVariants.{Short, BadFcs}
 use Rattle.x25_link.specs.declared.phase.Phase.TheVariants.{Waiting}
 use Rattle.x25_link.specs.declared.phase.Phase.{Phase}
 use Rattle.x25_link.specs.Station.{Settings, is_up}
 use Rattle.x25_link.specs.MustSend.{other}
 use Rattle.x25_link.specs.WindowMachine.{ShowAll}
 use Rattle.x25_line.specs.Stations.{Stations}
-use Rattle.x25_line.specs.StationClaims.{AreJoined, numbered_on}
+use Rattle.x25_line.specs.StationClaims.{AreJoined}
 use Rattle.x25_line.specs.Sessions.{Entry, Sessions, ua_in, how_many}
 use Rattle.x25_line.proofs.StationLines.{taken_out}
 use Rattle.x25_line.proofs.StationSteps.{Holds}
 use Rattle.x25_line.proofs.StationRuns.{Laws, taken_off}
-use Rattle.x25_line.proofs.SessionLines.{Read, IsKind, of_ua, error_kind, numbers, carried, carried_numbers, carried_orderly, IsDamaged, Change, nothing, lost, damaged, further, change_many, change_of, change_place, change_shows}
-use Rattle.x25_line.proofs.SessionHeld.{View, Live, Soon, Gone, IsView, IsHeard, Comes, AfterUa, choose, Owes, OnLine, line_changed, Held}
+use Rattle.x25_line.proofs.SessionLines.{of_ua, numbers, carried, carried_numbers, carried_orderly, Change, nothing, lost, damaged, further, change_many, change_of, change_place, change_shows}
+use Rattle.x25_line.proofs.SessionHeld.{View, Live, Soon, Gone, IsView, IsHeard, Comes, AfterUa, choose, Owes, line_changed, Held}
 
 pub owes_waiting : (p : Phase) (n m : ℕ) → p ≡ Waiting → Owes p n m → (n ≤ 1) × (m ≡ 0)
 owes_waiting p n m is h = subst (λ (z : Phase). Owes z n m) is h

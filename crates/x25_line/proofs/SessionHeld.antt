@@ -1,5 +1,5 @@
 -- What holds of two stations over set-up and re-set-up at any moment.
-use Rattle.std.proofs.Common.{◌≡◌, ◌≤◌, ◌<◌, ◌==◌, ℕ, zero, suc, ◌+◌, List, [], ◌∷◌, ◌++◌, ◌⊎◌, inl, inr, Bool, true, false, if◌then◌else◌, Option, Some, None, refl, sym, ap, ◌∙◌, subst, arith, append-nil}
+use Rattle.std.proofs.Common.{◌≡◌, ◌≤◌, ◌<◌, ◌==◌, ℕ, zero, suc, ◌+◌, List, [], ◌∷◌, ◌++◌, ◌⊎◌, inl, inr, Bool, true, false, if◌then◌else◌, refl, sym, ap, ◌∙◌, subst, arith, append-nil}
 use Rattle.std.proofs.lemmas.Bool.{eq-eqb, eqb-true}
 use Rattle.x25_bits.specs.declared.role.Role.{Role}
 use Rattle.x25_frame.specs.Reading.{frame_of}
@@ -9,12 +9,12 @@ use Rattle.x25_link.specs.Station.{Settings, Station, is_up, fresh}
 use Rattle.x25_link.specs.MustSend.{other}
 use Rattle.x25_line.specs.InWindow.{Begins}
 use Rattle.x25_line.specs.Stations.{StationEnd, Stations}
-use Rattle.x25_line.specs.StationClaims.{NoFrmr, number_in, numbered_on}
-use Rattle.x25_line.specs.Sessions.{Entry, SessionEnd, Meeting, Sessions, sabm_in, ua_in, disc_in, how_many, extended, turned}
+use Rattle.x25_line.specs.StationClaims.{NoFrmr, numbered_on}
+use Rattle.x25_line.specs.Sessions.{Entry, SessionEnd, Meeting, Sessions, sabm_in, ua_in, disc_in, how_many, extended}
 use Rattle.x25_line.specs.SessionClaims.{AllMet, SomeMet, IsAbove, InStep, IsInOrder, octets_of, AllOf}
 use Rattle.x25_line.proofs.StationLines.{AreOrderly, numbered_append}
 use Rattle.x25_line.proofs.StationSteps.{Holds, not_both}
-use Rattle.x25_line.proofs.SessionLines.{Read, IsKind, of_sabm, of_ua, of_disc, AllBegun, numbers, numbers_append, quiet_tail, quiet_of, of_append, many_append, Behind, Change, change_many, change_behind, change_begun, change_orderly}
+use Rattle.x25_line.proofs.SessionLines.{of_sabm, of_ua, of_disc, AllBegun, numbers, numbers_append, quiet_tail, quiet_of, of_append, many_append, Behind, Change, change_many, change_behind, change_begun, change_orderly}
 
 -- ---- the session that stands, and how an end is in it
 

@@ -1,8 +1,8 @@
 -- The worked rows of sessions, by computing: what comes is what the frame is that was spelled.
-use Rattle.std.proofs.Common.{◌≡◌, ℕ, ◌<◌, ◌+◌, List, [], ◌∷◌, inl, inr, Bool, true, false, Result, Ok, arith, refl, sym, ap, ◌∙◌, subst}
+use Rattle.std.proofs.Common.{◌≡◌, ℕ, ◌+◌, List, [], ◌∷◌, inl, inr, true, false, Result, Ok, arith, refl, sym, ap, ◌∙◌, subst}
 use Rattle.x25_bits.specs.declared.role.Role.{Role}
 use Rattle.x25_bits.specs.declared.role.Role.TheVariants.{Dte, Dce}
-use Rattle.x25_frame.specs.PlainFrame.{PlainFrame, info, rr, rej, sabm, ua}
+use Rattle.x25_frame.specs.PlainFrame.{PlainFrame, info, rr, sabm, ua}
 use Rattle.x25_frame.specs.Spelling.{spelling_of}
 use Rattle.x25_frame.specs.Reading.{frame_of}
 use Rattle.x25_frame.specs.ReadingLaw.{ReadsSpelled}
@@ -10,12 +10,11 @@ use Rattle.x25_frame.specs.declared.error.FrameError.{FrameError}
 use Rattle.x25_link.specs.Station.{Settings, is_up, pumped}
 use Rattle.x25_link.specs.MustSend.{other}
 use Rattle.x25_link.specs.Steps.{alone, closed_by, hears}
-use Rattle.x25_line.specs.Stations.{Put, Deliver, T1, Connect, Abandon, Lose, Event, Near, Far}
+use Rattle.x25_line.specs.Stations.{Put, Deliver, T1, Connect, Abandon, Lose, Near, Far}
 use Rattle.x25_line.specs.StationRows.{dte, dce}
 use Rattle.x25_line.specs.StationClaims.{number_in}
-use Rattle.x25_line.specs.Sessions.{Entry, Meeting, Sessions, after_step, heard, delivered, swapped, acts, happens, run, from_nothing, from_set_up, AreTimely, sabm_in, ua_in, how_many}
-use Rattle.x25_line.specs.SessionClaims.{MeetInStep}
-use Rattle.x25_line.specs.SessionRows.{setting_up, IsFirst, SetsUpFromNothing, setting_up_again, IsSecond, SetsUpAgain, untimely, IsOutOfStep, UntimelyIsOutOfStep}
+use Rattle.x25_line.specs.Sessions.{Entry, Sessions, after_step, heard, delivered, swapped, acts, happens, run, from_nothing, from_set_up, AreTimely, sabm_in, how_many}
+use Rattle.x25_line.specs.SessionRows.{IsFirst, SetsUpFromNothing, IsSecond, SetsUpAgain, untimely, IsOutOfStep, UntimelyIsOutOfStep}
 
 -- the two stations once octets that read as this have come to the near end
 abbrev taken_as : Settings → Result PlainFrame FrameError → Entry → List Entry → Sessions → Sessions

@@ -1,5 +1,5 @@
 -- Each event keeps what holds of two stations over sessions, so each run does, and what holds says the claims.
-use Rattle.std.proofs.Common.{◌≡◌, ◌<◌, ℕ, List, [], ◌∷◌, ◌⊎◌, inl, inr, length, map, remove, Bool, true, false, not, if◌then◌else◌, Option, Some, None, refl, sym, ap, ◌∙◌, subst, arith}
+use Rattle.std.proofs.Common.{◌≡◌, ℕ, List, [], ◌∷◌, ◌⊎◌, inl, inr, length, map, remove, Bool, true, false, not, if◌then◌else◌, Option, Some, None, refl, sym, ap, ◌∙◌, subst, arith}
 use Rattle.std.specs.Prelude.{nat_le}
 use Rattle.std.proofs.lemmas.Bool.{leb-true}
 use Rattle.x25_frame.specs.ReadingLaw.{ReadsSpelled}
@@ -16,12 +16,12 @@ use Rattle.x25_line.specs.Stations as one
 use Rattle.x25_line.specs.StationClaims.{AreJoined}
 use Rattle.x25_line.specs.Sessions.{Entry, SessionEnd, Meeting, Sessions, turned, swapped, after_step, unless, delivered, replaced, acts, happens, run, from_nothing, from_set_up, IsTimely, IsTimelyAt, AreTimely}
 use Rattle.x25_line.specs.SessionClaims.{Throughout, AllMet, SomeMet, IsAbove, InStep, IsInOrder, MeetInStep, MetAreInOrder, UnmetHandNothingUp, IsSession, Stands, EachUpStands, NoSessionSendsFrmr}
-use Rattle.x25_line.proofs.StationSteps.{Holds, not_both}
+use Rattle.x25_line.proofs.StationSteps.{Holds}
 use Rattle.x25_line.proofs.StationAway.{connects_from}
 use Rattle.x25_line.proofs.StationRuns.{Laws, joined_swapped, holds_swapped, start_joint}
 use Rattle.x25_line.proofs.StationClaimLemmas.{holds_order, holds_lists, holds_window, holds_whole}
 use Rattle.x25_line.proofs.SessionLines.{removes, replaces}
-use Rattle.x25_line.proofs.SessionHeld.{Live, Gone, OnLine, IsPaired, IsBegun, Meetings, Held}
+use Rattle.x25_line.proofs.SessionHeld.{Live, Gone, OnLine, IsPaired, IsBegun, Held}
 use Rattle.x25_line.proofs.SessionChanges.{change_held}
 use Rattle.x25_line.proofs.SessionActs.{in_session, put_held, timer_up_held, abandon_held, connect_held, timer_waiting_held, disconnect_held}
 use Rattle.x25_line.proofs.SessionTakes.{take_held}

@@ -1,6 +1,6 @@
 -- Steps of the near end keep what holds of two stations over sessions: of an end that is in the session, of one that is out of it,
 -- and where sessions begin.
-use Rattle.std.proofs.Common.{◌≡◌, ◌≤◌, ◌<◌, ℕ, zero, suc, ◌+◌, List, [], ◌∷◌, ◌++◌, ◌⊎◌, inl, inr, map, Bool, true, false, Option, Some, None, Ok, refl, sym, ap, ◌∙◌, subst, arith, append-nil}
+use Rattle.std.proofs.Common.{◌≡◌, ◌≤◌, ℕ, ◌+◌, List, [], ◌∷◌, ◌++◌, ◌⊎◌, inl, inr, map, true, false, Option, None, refl, sym, ap, ◌∙◌, subst, arith, append-nil}
 use Rattle.std.specs.Prelude.{option_to_list}
 use Rattle.x25_bits.specs.declared.role.Role.{Role}
 use Rattle.x25_frame.specs.PlainFrame.{PlainFrame, info, rr, rnr, rej, sabm, disc, ua, dm, frmr}
@@ -9,7 +9,7 @@ use Rattle.x25_frame.specs.Reading.{frame_of}
 use Rattle.x25_frame.specs.ReadingLaw.{ReadsSpelled}
 use Rattle.x25_link.specs.declared.phase.Phase.{Phase}
 use Rattle.x25_link.specs.declared.phase.Phase.TheVariants.{Down, Waiting, Up, Closed}
-use Rattle.x25_link.specs.Station.{Settings, Station, is_up, fresh}
+use Rattle.x25_link.specs.Station.{Settings, is_up}
 use Rattle.x25_link.specs.MustSend.{Step, other}
 use Rattle.x25_line.specs.Stations.{Stations, start}
 use Rattle.x25_line.specs.Stations as one
@@ -18,9 +18,8 @@ use Rattle.x25_line.specs.Sessions.{Entry, SessionEnd, Meeting, Sessions, sabm_i
 use Rattle.x25_line.specs.SessionClaims.{octets_of, AllOf}
 use Rattle.x25_line.proofs.StationLines.{IsOrderly, orderly_where, AreOrderly, orderly_append, AreParting, no_frmr_append, parting_no_frmr, parting_numbered, parting_orderly, parting_whole}
 use Rattle.x25_line.proofs.StationSteps.{MayBeAway, away_is_not_up, Holds, FitsEnd, not_both}
-use Rattle.x25_line.proofs.StationRuns.{start_joint}
-use Rattle.x25_line.proofs.SessionLines.{Read, AllBegun, octets_append, octets_sent, begun_append, begun_more, begun_sent, count, orderly_count, numbers, quiet_of, of_sent, many_append, Behind, none_behind, behind_quiet, behind_none, many_sent, lost, change_many}
-use Rattle.x25_line.proofs.SessionHeld.{View, Live, Soon, Gone, IsView, IsHeard, Comes, Owes, owes_less, owes_none, OnLine, HasLists, SameLists, lists_same, Meetings, meetings_same, meetings_anew, Grows, Held, extended_nil, extended_same, extended_other, heard_more, after_answer}
+use Rattle.x25_line.proofs.SessionLines.{Read, octets_append, octets_sent, begun_append, begun_more, begun_sent, count, orderly_count, numbers, quiet_of, of_sent, many_append, none_behind, behind_quiet, behind_none, many_sent}
+use Rattle.x25_line.proofs.SessionHeld.{View, Live, Gone, IsView, IsHeard, Comes, Owes, owes_less, owes_none, OnLine, HasLists, SameLists, lists_same, Meetings, meetings_same, Grows, Held, extended_nil, extended_same, extended_other, heard_more}
 
 -- ---- the end, and both, after a step, in which its session is n
 

@@ -1,30 +1,27 @@
 -- What comes to the near end keeps what holds of two stations over sessions.
-use Rattle.std.proofs.Common.{◌≡◌, ◌≤◌, ℕ, zero, suc, ◌+◌, List, [], ◌∷◌, ◌++◌, ◌⊎◌, inl, inr, Bool, true, false, Option, Some, None, Ok, Err, refl, sym, ap, ◌∙◌, subst, arith}
-use Rattle.x25_bits.specs.declared.role.Role.{Role}
+use Rattle.std.proofs.Common.{◌≡◌, ◌≤◌, ℕ, zero, suc, ◌+◌, List, [], ◌∷◌, ◌⊎◌, inl, inr, Bool, true, false, Option, Some, None, Ok, Err, refl, sym, ap, ◌∙◌, subst, arith}
 use Rattle.x25_frame.specs.PlainFrame.{PlainFrame, info, rr, rnr, rej, sabm, disc, ua, dm, frmr}
 use Rattle.x25_frame.specs.Reading.{frame_of}
 use Rattle.x25_frame.specs.ReadingLaw.{ReadsSpelled}
 use Rattle.x25_link.specs.declared.phase.Phase.{Phase}
 use Rattle.x25_link.specs.declared.phase.Phase.TheVariants.{Down, Waiting, Up, Closed}
 use Rattle.x25_link.specs.declared.phase.Notes.{Notes}
-use Rattle.x25_link.specs.declared.phase.Reason.{Reason}
 use Rattle.x25_link.specs.NoteLaw.{TakeContinues}
-use Rattle.x25_link.specs.SetUp.{Is, TakesPart, reset_from, waiting_after, waiting_sends, waiting_up}
+use Rattle.x25_link.specs.SetUp.{Is, TakesPart, waiting_after, waiting_sends, waiting_up}
 use Rattle.x25_link.specs.Station.{Settings, Station, is_up, fresh}
-use Rattle.x25_link.specs.MustSend.{Step, other}
+use Rattle.x25_link.specs.MustSend.{other}
 use Rattle.x25_link.specs.Steps.{take_step}
 use Rattle.x25_link.specs.WindowMachine.{ShowAll}
 use Rattle.x25_link.specs.WindowLaw.{window_of, brought_by, ending_of, Follows, IsOut, AreDeclining, StaysOut}
 use Rattle.x25_line.specs.Stations as one
 use Rattle.x25_line.specs.StationClaims.{AreJoined, number_in, numbered_on}
 use Rattle.x25_line.specs.Sessions.{Entry, Meeting, Sessions, sabm_in, ua_in, disc_in, how_many, begun_by, after_step, heard}
-use Rattle.x25_line.specs.SessionClaims.{octets_of, AllOf}
-use Rattle.x25_line.proofs.StationLines.{IsOrderly, orderly_where, AreOrderly, consed, AreParting}
+use Rattle.x25_line.proofs.StationLines.{IsOrderly, orderly_where, consed, AreParting}
 use Rattle.x25_line.proofs.StationSteps.{Holds, not_both, read_joint, declining_parting}
-use Rattle.x25_line.proofs.StationAway.{closed_takes, waits_on, waiting_parting, up_takes_part}
+use Rattle.x25_line.proofs.StationAway.{closed_takes, waits_on, waiting_parting}
 use Rattle.x25_line.proofs.StationRuns.{Laws, orderly_sets_up}
-use Rattle.x25_line.proofs.SessionLines.{Read, IsKind, of_sabm, of_ua, of_disc, AllBegun, none_is_some, dm_kind, count, numbers, quiet_of, carried, carried_numbers, carried_orderly, Behind, lost, change_many}
-use Rattle.x25_line.proofs.SessionHeld.{View, Live, Soon, Gone, IsView, IsHeard, Comes, AfterUa, Owes, owes_less, owes_none, OnLine, line_changed, Held, front_answers, front_passes, after_some, after_quiet}
+use Rattle.x25_line.proofs.SessionLines.{Read, IsKind, of_sabm, of_ua, of_disc, none_is_some, dm_kind, count, numbers, quiet_of, carried, carried_numbers, carried_orderly, lost}
+use Rattle.x25_line.proofs.SessionHeld.{View, Live, Soon, Gone, IsView, IsHeard, Comes, AfterUa, Owes, owes_less, owes_none, OnLine, line_changed, Held, front_answers, front_passes, after_quiet}
 use Rattle.x25_line.proofs.SessionSteps.{end_after, stepped, Answers, apart_held}
 use Rattle.x25_line.proofs.SessionBegins.{quiet_behind_sabm, begins_held}
 use Rattle.x25_line.proofs.SessionUp.{follows_answers, follows_no_packet, ending_answers, live_goes_on, live_hears}

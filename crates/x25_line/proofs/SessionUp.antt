@@ -1,18 +1,17 @@
 -- What an end does that is Up, over sessions: what it sends, and which sessions meet.
-use Rattle.std.proofs.Common.{◌≡◌, ◌≤◌, ℕ, zero, suc, ◌+◌, List, [], ◌∷◌, ◌++◌, ◌⊎◌, inl, inr, Bool, true, false, if◌then◌else◌, Option, Some, None, Ok, Err, refl, sym, ap, ◌∙◌, subst, arith, append-nil}
-use Rattle.std.specs.Prelude.{option_to_list, ◌||◌}
+use Rattle.std.proofs.Common.{◌≡◌, ◌≤◌, ℕ, List, [], ◌∷◌, ◌++◌, inl, inr, Bool, true, false, if◌then◌else◌, Option, Some, None, Ok, Err, refl, sym, ap, ◌∙◌, subst, arith}
 use Rattle.x25_frame.specs.PlainFrame.{PlainFrame, info, rr, rnr, rej, sabm, disc, ua, dm, frmr}
 use Rattle.x25_frame.specs.declared.error.FrameError.TheVariants.{Short, BadFcs, BadAddress, Undefined, NoInfoAllowed, TooLong}
 use Rattle.x25_frame.specs.ReadingLaw.{ReadsSpelled}
 use Rattle.x25_window.specs.Window.{Frame, frames_of}
 use Rattle.x25_link.specs.declared.phase.Phase.{Phase}
-use Rattle.x25_link.specs.declared.phase.Phase.TheVariants.{Down, Waiting, Up, Closed}
+use Rattle.x25_link.specs.declared.phase.Phase.TheVariants.{Closed}
 use Rattle.x25_link.specs.declared.phase.Reason.{Reason}
 use Rattle.x25_link.specs.declared.phase.Reason.TheVariants.{Retries, Disc, Dm, FrmrSent, FrmrGot, Reset, Local, Counts}
 use Rattle.x25_link.specs.Station.{Settings, Station}
 use Rattle.x25_link.specs.MustSend.{Step, other}
 use Rattle.x25_link.specs.WindowMachine.{Window, Input, Runs, rests, goes_on, Shows, ShowAll}
-use Rattle.x25_link.specs.WindowLaw.{brought_by, MayHandUp, InputMayHandUp, if_valid, ending_of, AreLast, Stays, Ends, Follows}
+use Rattle.x25_link.specs.WindowLaw.{brought_by, MayHandUp, InputMayHandUp, ending_of, Stays, Ends, Follows}
 use Rattle.x25_line.specs.InWindow.{Begins}
 use Rattle.x25_line.specs.Stations.{Stations}
 use Rattle.x25_line.specs.Stations as one
@@ -22,7 +21,7 @@ use Rattle.x25_line.specs.SessionClaims.{IsInOrder}
 use Rattle.x25_line.proofs.StationSteps.{Holds}
 use Rattle.x25_line.proofs.StationAway.{second_false}
 use Rattle.x25_line.proofs.StationClaimLemmas.{holds_order}
-use Rattle.x25_line.proofs.SessionLines.{Read, IsKind, of_ua, of_disc, none_is_some, count, AllNumbered, numbered_count}
+use Rattle.x25_line.proofs.SessionLines.{Read, of_ua, of_disc, none_is_some, count, AllNumbered, numbered_count}
 use Rattle.x25_line.proofs.SessionHeld.{Live, IsView, Comes, OnLine, Meetings, meetings_go_on, meetings_hear, Held, extended_nil}
 use Rattle.x25_line.proofs.SessionSteps.{end_after, stepped, grown, live_lists, Answers, live_held}
 

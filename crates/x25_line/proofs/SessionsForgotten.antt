@@ -4,11 +4,11 @@ use Rattle.std.specs.Prelude.{nat_le, option_to_list}
 use Rattle.x25_frame.specs.Spelling.{spelling_of}
 use Rattle.x25_link.specs.declared.error.LinkError.{LinkError}
 use Rattle.x25_link.specs.Station.{Settings, Station, is_up}
-use Rattle.x25_link.specs.MustSend.{Step, other}
+use Rattle.x25_link.specs.MustSend.{Step}
 use Rattle.x25_link.specs.Steps.{take_step, put_step, put_refusal, timer_step, timer_refusal, connect_step, connect_refusal, disconnect_step, disconnect_refusal, abandon_step}
 use Rattle.x25_line.specs.Stations.{StationEnd, Stations, Act, Put, Deliver, T1, Connect, Disconnect, Abandon, Lose, Damage, Event, Near, Far, is_visible, start}
 use Rattle.x25_line.specs.Stations as one
-use Rattle.x25_line.specs.Sessions.{Entry, SessionEnd, Meeting, Sessions, extended, begun_by, after_step, unless, delivered, replaced, acts, swapped, happens, run, from_set_up}
+use Rattle.x25_line.specs.Sessions.{Entry, SessionEnd, Meeting, Sessions, extended, begun_by, after_step, unless, delivered, replaced, acts, swapped, happens, from_set_up}
 use Rattle.x25_line.specs.SessionClaims.{octets_of, all_of, IsEndOf, AreStationsOf, SessionsAreStations, SetUpIsTheStart}
 use Rattle.x25_line.proofs.SessionLines.{octets_append, octets_sent}
 use Rattle.x25_line.proofs.SessionHeld.{extended_same, extended_other}

@@ -1,6 +1,7 @@
 //! Two link stations over a line, as laws about their definition. Each is the contract of a function that does nothing.
 ghost use Rattle.x25_line.specs.StationClaims.{Always, BothInOrder, BothHaveTheirLists, BothNoteTheirEnds, AreInWindow, NoFrmrSent, AllSentAreWhole, OneLinkUnlessConnected, EachEventHandsOne};
-ghost use Rattle.x25_line.specs.SessionClaims.{Throughout, MeetInStep, MetAreInOrder, UnmetHandNothingUp, EachUpStands, NoSessionSendsFrmr};
+ghost use Rattle.x25_line.specs.SessionClaims.{Throughout, MeetInStep, MetAreInOrder, UnmetHandNothingUp, EachUpStands, NoSessionSendsFrmr, SessionsAreStations, SetUpIsTheStart};
+ghost use Rattle.x25_line.specs.SessionRows.{SetsUpFromNothing, SetsUpAgain, UntimelyIsOutOfStep};
 ghost use Rattle.x25_line.specs.StationRows.{PacketGoes, PacketsCross, LostComesAgain, DamagedComesAgain, DisconnectEnds, AbandonEnds, ConnectSetsUp, ConnectIsDeclined};
 
 use x25_frame::reads_what_is_spelled;
@@ -48,6 +49,24 @@ pub fn sessions_keep_order()
     follows_the_window();
     sets_up_by_rows();
     notes_what_changes();
+    reads_what_is_spelled();
+}
+
+/// With the sessions forgotten, they are the two stations of `stations_keep_order`: the same events do the same, and what is handed
+/// down and up there is what was in all sessions.
+pub fn sessions_are_stations()
+    ensures alike { SessionsAreStations }
+    ensures start { SetUpIsTheStart }
+{}
+
+/// Worked rows: a SABM is lost and goes again, and a packet is handed up in the first session of each end; set up again, a packet
+/// that was on the line is still one of the first sessions, and the next is one of the second. Where timer T1 runs out while
+/// the SABM is on the line, the sessions may get out of step.
+pub fn sessions_move()
+    ensures first { SetsUpFromNothing }
+    ensures second { SetsUpAgain }
+    ensures untimely { UntimelyIsOutOfStep }
+{
     reads_what_is_spelled();
 }
 
