@@ -15,7 +15,7 @@ use Rattle.x25_line.specs.Stations.{Stations, Act, Put, Deliver, T1, Connect, Di
 use Rattle.x25_line.specs.Stations as one
 use Rattle.x25_line.specs.StationClaims.{AreJoined}
 use Rattle.x25_line.specs.Sessions.{Entry, SessionEnd, Meeting, Sessions, turned, swapped, after_step, unless, delivered, replaced, acts, happens, run, from_nothing, from_set_up, IsTimely, IsTimelyAt, AreTimely}
-use Rattle.x25_line.specs.SessionClaims.{Throughout, AllMet, SomeMet, IsAbove, InStep, IsInOrder, MeetInStep, MetAreInOrder, UnmetHandNothingUp, IsSession, Stands, EachUpStands, NoSessionSendsFrmr}
+use Rattle.x25_line.specs.SessionClaims.{Throughout, AllOf, AllMet, SomeMet, IsAbove, InStep, IsInOrder, MeetInStep, MetAreInOrder, UnmetHandNothingUp, IsSession, Stands, EachUpStands, NoSessionSendsFrmr}
 use Rattle.x25_line.proofs.StationSteps.{Holds}
 use Rattle.x25_line.proofs.StationAway.{connects_from}
 use Rattle.x25_line.proofs.StationRuns.{Laws, joined_swapped, holds_swapped, start_joint}
@@ -230,6 +230,7 @@ is_session c d joined v holds =
     record { order = holds_order ⊥ c d v holds; lists = holds_lists ⊥ c d v holds; window = holds_window ⊥ c d v holds; no_frmr = holds.1.no_frmr; whole = holds_whole ⊥ c d joined v holds }
 
 stands : (c d : Settings) → AreJoined c d → (w : Sessions) → Held c d w → is_up w.near.station.phase ≡ true → Stands c d w
+unfolding held_swapped
 stands c d joined w h up =
     let i = in_session c d w h up in
     record {
@@ -243,6 +244,8 @@ stands c d joined w h up =
       far_up = sym h.far_lists.up;
       line = i.comes.0;
       of_session = i.comes.1;
+      both = λ far_up. (let j = in_session d c (swapped w) (held_swapped c d joined w h) far_up in
+          record { station = j.view.1; session = sym j.view.2; line = j.comes.0; of_session = subst (λ (n : ℕ). AllOf (other d.role) d.longest n w.out) (sym i.view.2) j.comes.1 });
     }
 
 module _ (reads : ReadsSpelled) (rests : SessionLaws) where

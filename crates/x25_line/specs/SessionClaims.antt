@@ -74,8 +74,16 @@ pub record IsSession (c d : Settings) (v : Stations) : Type 0 where
   pub no_frmr : NoFrmrSent c d v
   pub whole : AllSentAreWhole c d v
 
+-- the other end is in its session too, and the frames with an N(R) on the line to it are theirs
+pub record OtherEndStands (d : Settings) (w : Sessions) (alone : Stations) (other_session : ℕ) : Type 0 where
+  pub station : alone.far.station ≡ w.far.station
+  pub session : other_session ≡ w.far.begun
+  pub line : numbered_on (other d.role) d.longest (octets_of w.out) ≡ numbered_on (other d.role) d.longest alone.out
+  pub of_session : AllOf (other d.role) d.longest w.near.begun w.out
+
 -- The session of an end that is Up, and the one of the other end that it meets or is to meet, by themselves: they are those
--- of a link that was set up once. All frames with an N(R) on the line to that end are theirs.
+-- of a link that was set up once. All frames with an N(R) on the line to that end are theirs. Where the other end is Up too, these
+-- are the sessions of both, with both stations and both lines.
 pub record Stands (c d : Settings) (w : Sessions) : Type 0 where
   pub alone : Stations
   pub session : IsSession c d alone
@@ -87,6 +95,7 @@ pub record Stands (c d : Settings) (w : Sessions) : Type 0 where
   pub far_up : alone.far.up ≡ w.far.up other_session
   pub line : numbered_on (other c.role) c.longest (octets_of w.back) ≡ numbered_on (other c.role) c.longest alone.back
   pub of_session : AllOf (other c.role) c.longest other_session w.back
+  pub both : is_up w.far.station.phase ≡ true → OtherEndStands d w alone other_session
 
 pub record EachUpStands (c d : Settings) (w : Sessions) : Type 0 where
   pub near : is_up w.near.station.phase ≡ true → Stands c d w
