@@ -24,7 +24,7 @@ use Rattle.x25_line.proofs.StationSteps.{AsUp, Holds, not_both, ends_joint}
 use Rattle.x25_line.proofs.StationRuns.{Laws, put_up, timer_by}
 use Rattle.x25_line.proofs.StationClaimLemmas.{up_of}
 use Rattle.x25_line.proofs.SessionLines.{count}
-use Rattle.x25_line.proofs.SessionHeld.{View, Live, Soon, Gone, IsView, IsHeard, Comes, Owes, Held}
+use Rattle.x25_line.proofs.SessionHeld.{OwesAfter, View, Live, Soon, Gone, IsView, IsHeard, Comes, Owes, Held}
 use Rattle.x25_line.proofs.SessionSteps.{stepped, apart_held}
 use Rattle.x25_line.proofs.SessionUp.{MayAnswer, stays_answers, ends_answers, follows_answers, stays_no_packet, follows_no_packet, by_reason, none_reason, live_goes_on}
 
@@ -141,8 +141,7 @@ module _ (c d : Settings) (joined : AreJoined c d) (reads : ReadsSpelled) (laws 
       let discs = ap (count disc_in) i.out in
       quiet_held c d w w.back w.met [] step i.up
       (apart_held c d joined reads w h w.back w.near.begun step Gone i.packet (omega arith) (ap is_up waiting) (λ _. omega (arith, none)) (subst (AreParting (Unit {0})) (sym i.out) (tt, tt)) (ap (count ua_in) i.out) h.line
-      (subst (λ (p : Phase). Owes p (how_many sabm_in (other d.role) d.longest w.out + count sabm_in step.side.out + how_many ua_in (other c.role) c.longest w.back)
-      (how_many disc_in (other d.role) d.longest w.out + count disc_in step.side.out)) (sym waiting) (omega (arith, sabms, none), omega (arith, discs, no_disc))))
+      (subst (λ (p : Phase). OwesAfter c d p w.out step.side.out w.back) (sym waiting) (omega (arith, sabms, none), omega (arith, discs, no_disc))))
 
   -- nothing is sent, and nothing is awaited any more
   gives_up_held : (w : Sessions) → Held c d w → (near : Station) (ends : Option Reason) (step : Step) → near.phase ≡ Down → Is near [] ends false step
@@ -154,8 +153,7 @@ module _ (c d : Settings) (joined : AreJoined c d) (reads : ReadsSpelled) (laws 
       let discs = ap (count disc_in) i.out in
       quiet_held c d w w.back w.met [] step i.up
       (apart_held c d joined reads w h w.back w.near.begun step Gone i.packet (omega arith) (ap is_up down) (λ _. omega (arith, none)) (subst (AreParting (Unit {0})) (sym i.out) tt) (ap (count ua_in) i.out) h.line
-      (subst (λ (p : Phase). Owes p (how_many sabm_in (other d.role) d.longest w.out + count sabm_in step.side.out + how_many ua_in (other c.role) c.longest w.back)
-      (how_many disc_in (other d.role) d.longest w.out + count disc_in step.side.out)) (sym down) (omega (arith, sabms, none), omega (arith, discs, no_disc))))
+      (subst (λ (p : Phase). OwesAfter c d p w.out step.side.out w.back) (sym down) (omega (arith, sabms, none), omega (arith, discs, no_disc))))
 
   closes_held : (w : Sessions) → Held c d w → (step : Step) → step.side.near.phase ≡ Closed → step.side.out ≡ disc true ∷ [] → step.packet ≡ None → step.notes.up ≡ false
       → Held c d (after_step c w w.back w.met [] step)
@@ -163,8 +161,7 @@ module _ (c d : Settings) (joined : AreJoined c d) (reads : ReadsSpelled) (laws 
       quiet_held c d w w.back w.met [] step quiet
       (apart_held c d joined reads w h w.back w.near.begun step Gone none (omega arith) (ap is_up closed) (λ waiting. closed_is_waiting step.side.near.phase closed waiting)
       (subst (AreParting (Unit {0})) (sym sent) tt) (ap (count ua_in) sent) h.line
-      (subst (λ (p : Phase). Owes p (how_many sabm_in (other d.role) d.longest w.out + count sabm_in step.side.out + how_many ua_in (other c.role) c.longest w.back)
-      (how_many disc_in (other d.role) d.longest w.out + count disc_in step.side.out)) (sym closed) tt))
+      (subst (λ (p : Phase). OwesAfter c d p w.out step.side.out w.back) (sym closed) tt))
 
   pub connect_held : (w : Sessions) → Held c d w → w.near.station.phase ≡ Down → Held c d (after_step c w w.back w.met [] (connect_step c w.near.station))
   connect_held w h down =

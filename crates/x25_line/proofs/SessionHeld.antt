@@ -2,6 +2,7 @@
 use Rattle.std.proofs.Common.{◌≡◌, ◌≤◌, ◌<◌, ◌==◌, ℕ, zero, suc, ◌+◌, List, [], ◌∷◌, ◌++◌, ◌⊎◌, inl, inr, Bool, true, false, if◌then◌else◌, refl, sym, ap, ◌∙◌, subst, arith, append-nil}
 use Rattle.std.proofs.lemmas.Bool.{eq-eqb, eqb-true}
 use Rattle.x25_bits.specs.declared.role.Role.{Role}
+use Rattle.x25_frame.specs.PlainFrame.{PlainFrame}
 use Rattle.x25_frame.specs.Reading.{frame_of}
 use Rattle.x25_link.specs.declared.phase.Phase.{Phase}
 use Rattle.x25_link.specs.declared.phase.Phase.TheVariants.{Down, Waiting, Up, Closed}
@@ -14,7 +15,7 @@ use Rattle.x25_line.specs.Sessions.{Entry, SessionEnd, Meeting, Sessions, sabm_i
 use Rattle.x25_line.specs.SessionClaims.{AllMet, SomeMet, IsAbove, InStep, IsInOrder, octets_of, AllOf}
 use Rattle.x25_line.proofs.StationLines.{AreOrderly, numbered_append}
 use Rattle.x25_line.proofs.StationSteps.{Holds, not_both}
-use Rattle.x25_line.proofs.SessionLines.{of_sabm, of_ua, of_disc, AllBegun, numbers, numbers_append, quiet_tail, quiet_of, of_append, many_append, Behind, Change, change_many, change_behind, change_begun, change_orderly}
+use Rattle.x25_line.proofs.SessionLines.{count, of_sabm, of_ua, of_disc, AllBegun, numbers, numbers_append, quiet_tail, quiet_of, of_append, many_append, Behind, Change, change_many, change_behind, change_begun, change_orderly}
 
 -- ---- the session that stands, and how an end is in it
 
@@ -61,6 +62,11 @@ Owes Down asked closed = (asked ≡ 0) × (closed ≡ 0)
 Owes Waiting asked closed = (asked ≤ 1) × (closed ≡ 0)
 Owes Up asked closed = (asked ≡ 0) × (closed ≡ 0)
 Owes Closed asked closed = Unit {0}
+
+-- the same once frames were sent behind `out`
+abbrev pub OwesAfter : Settings → Settings → Phase → List Entry → List PlainFrame → List Entry → Type 0
+OwesAfter c d phase out frames back =
+    Owes phase (how_many sabm_in (other d.role) d.longest out + count sabm_in frames + how_many ua_in (other c.role) c.longest back) (how_many disc_in (other d.role) d.longest out + count disc_in frames)
 
 pub owes_less : (p : Phase) (n m a b : ℕ) → a ≤ n → b ≤ m → Owes p n m → Owes p a b
 owes_less Down n m a b f g h = (omega (arith, f, h.0), omega (arith, g, h.1))

@@ -19,7 +19,7 @@ use Rattle.x25_line.specs.SessionClaims.{octets_of, AllOf}
 use Rattle.x25_line.proofs.StationLines.{IsOrderly, orderly_where, AreOrderly, orderly_append, AreParting, no_frmr_append, parting_no_frmr, parting_numbered, parting_orderly, parting_whole}
 use Rattle.x25_line.proofs.StationSteps.{MayBeAway, away_is_not_up, Holds, FitsEnd, not_both}
 use Rattle.x25_line.proofs.SessionLines.{Read, octets_append, octets_sent, begun_append, begun_more, begun_sent, count, orderly_count, numbers, quiet_of, of_sent, many_append, none_behind, behind_quiet, behind_none, many_sent}
-use Rattle.x25_line.proofs.SessionHeld.{View, Live, Gone, IsView, IsHeard, Comes, Owes, owes_less, owes_none, OnLine, HasLists, SameLists, lists_same, Meetings, meetings_same, Grows, Held, extended_nil, extended_same, extended_other, heard_more}
+use Rattle.x25_line.proofs.SessionHeld.{OwesAfter, View, Live, Gone, IsView, IsHeard, Comes, Owes, owes_less, owes_none, OnLine, HasLists, SameLists, lists_same, Meetings, meetings_same, Grows, Held, extended_nil, extended_same, extended_other, heard_more}
 
 -- ---- the end, and both, after a step, in which its session is n
 
@@ -238,8 +238,7 @@ module _ (c d : Settings) (joined : AreJoined c d) (reads : ReadsSpelled) where
       → IsView v (end_after w.near n [] step) h.alone.near.station h.p → IsHeard v (other c.role) c.longest step.side.near.phase es h.alone.back h.q
       → AreParting (Unit {0}) step.side.out → count ua_in step.side.out ≡ 0
       → OnLine c d w.near.station.phase w.far.station.phase w.near.begun w.far.begun w.out es
-      → Owes step.side.near.phase (how_many sabm_in (other d.role) d.longest w.out + count sabm_in step.side.out + how_many ua_in (other c.role) c.longest es)
-      (how_many disc_in (other d.role) d.longest w.out + count disc_in step.side.out)
+      → OwesAfter c d step.side.near.phase w.out step.side.out es
       → Held c d (stepped c w es w.met [] n step)
   apart_held w h es n step v none le view heard parting no_ua line owes =
       let same = nothing_handed w.near n step none le in

@@ -9,7 +9,7 @@ use Rattle.x25_link.specs.declared.phase.Notes.{Notes}
 use Rattle.x25_link.specs.NoteLaw.{TakeContinues}
 use Rattle.x25_link.specs.SetUp.{Is, TakesPart, waiting_after, waiting_sends, waiting_up}
 use Rattle.x25_link.specs.Station.{Settings, Station, is_up, fresh}
-use Rattle.x25_link.specs.MustSend.{other}
+use Rattle.x25_link.specs.MustSend.{Step, other}
 use Rattle.x25_link.specs.Steps.{take_step}
 use Rattle.x25_link.specs.WindowMachine.{ShowAll}
 use Rattle.x25_link.specs.WindowLaw.{window_of, brought_by, ending_of, Follows, IsOut, AreDeclining, StaysOut}
@@ -21,7 +21,7 @@ use Rattle.x25_line.proofs.StationSteps.{Holds, not_both, read_joint, declining_
 use Rattle.x25_line.proofs.StationAway.{closed_takes, waits_on, waiting_parting}
 use Rattle.x25_line.proofs.StationRuns.{Laws, orderly_sets_up}
 use Rattle.x25_line.proofs.SessionLines.{Read, IsKind, of_sabm, of_ua, of_disc, none_is_some, dm_kind, count, numbers, quiet_of, carried, carried_numbers, carried_orderly, lost}
-use Rattle.x25_line.proofs.SessionHeld.{View, Live, Soon, Gone, IsView, IsHeard, Comes, AfterUa, Owes, owes_less, owes_none, OnLine, line_changed, Held, front_answers, front_passes, after_quiet}
+use Rattle.x25_line.proofs.SessionHeld.{OwesAfter, View, Live, Soon, Gone, IsView, IsHeard, Comes, AfterUa, Owes, owes_less, owes_none, OnLine, line_changed, Held, front_answers, front_passes, after_quiet}
 use Rattle.x25_line.proofs.SessionSteps.{end_after, stepped, Answers, apart_held}
 use Rattle.x25_line.proofs.SessionBegins.{quiet_behind_sabm, begins_held}
 use Rattle.x25_line.proofs.SessionUp.{follows_answers, follows_no_packet, ending_answers, live_goes_on, live_hears}
@@ -96,6 +96,22 @@ declining_none kind k (disc p ∷ fs) h = absurd h
 declining_none kind k (ua f ∷ fs) h = absurd h
 declining_none kind k (frmr f why ∷ fs) h = absurd h
 
+-- ---- what comes first, what the near end does, and the two stations after it
+
+abbrev read_of : Settings → Entry → Read
+read_of c e = frame_of (other c.role) c.longest e.octets
+
+abbrev step_of : Settings → Sessions → Entry → Step
+step_of c w e = take_step c e.octets w.near.station
+
+-- where no number is heard
+abbrev taken : Settings → Sessions → Entry → List Entry → Sessions
+taken c w e es = after_step c w es w.met [] (step_of c w e)
+
+-- and where one is heard
+abbrev heard_by : Settings → Sessions → Entry → List Meeting
+heard_by c w e = heard (is_up w.near.station.phase) (number_in (read_of c e)) (record { near = w.near.begun; far = e.session }) w.met
+
 -- ---- meetings
 
 -- no number is heard
@@ -135,7 +151,7 @@ module _ (c d : Settings) (joined : AreJoined c d) (reads : ReadsSpelled) (laws 
   -- ---- the front is taken off the line
 
   module _ (w : Sessions) (h : Held c d w) (e : Entry) (es : List Entry) (is : w.back ≡ e ∷ es) where
-    all_back : (kind : Read → ℕ) → how_many kind (other c.role) c.longest w.back ≡ kind (frame_of (other c.role) c.longest e.octets) + how_many kind (other c.role) c.longest es
+    all_back : (kind : Read → ℕ) → how_many kind (other c.role) c.longest w.back ≡ kind (read_of c e) + how_many kind (other c.role) c.longest es
     all_back kind = ap (how_many kind (other c.role) c.longest) is
 
     whole_line : OnLine c d w.near.station.phase w.far.station.phase w.near.begun w.far.begun w.out (e ∷ es)
@@ -144,54 +160,54 @@ module _ (c d : Settings) (joined : AreJoined c d) (reads : ReadsSpelled) (laws 
     left_line : OnLine c d w.near.station.phase w.far.station.phase w.near.begun w.far.begun w.out es
     left_line = line_changed c d w.near.station.phase w.far.station.phase w.near.begun w.far.begun w.out (e ∷ es) es (lost e es) whole_line
 
-    orderly : IsNoSabm (frame_of (other c.role) c.longest e.octets) → IsOrderly ⊥ (frame_of (other c.role) c.longest e.octets)
-    orderly no_sabm = orderly_where (Unit {0}) ⊥ (frame_of (other c.role) c.longest e.octets) (λ p sabm_is asked. no_sabm p sabm_is) whole_line.back_orderly.0
+    orderly : IsNoSabm (read_of c e) → IsOrderly ⊥ (read_of c e)
+    orderly no_sabm = orderly_where (Unit {0}) ⊥ (read_of c e) (λ p sabm_is asked. no_sabm p sabm_is) whole_line.back_orderly.0
 
     -- ---- a SABM
 
-    begins : (p : Bool) → frame_of (other c.role) c.longest e.octets ≡ Ok (sabm p) → Held c d (after_step c w es w.met [] (take_step c e.octets w.near.station)) → Held c d (after_step c w es (heard (is_up w.near.station.phase) (number_in (frame_of (other c.role) c.longest e.octets)) (record { near = w.near.begun; far = e.session }) w.met) [] (take_step c e.octets w.near.station))
+    begins : (p : Bool) → read_of c e ≡ Ok (sabm p) → Held c d (taken c w e es) → Held c d (after_step c w es (heard_by c w e) [] (step_of c w e))
     begins p read k =
-        subst (λ (met : List Meeting). Held c d (after_step c w es met [] (take_step c e.octets w.near.station)))
+        subst (λ (met : List Meeting). Held c d (after_step c w es met [] (step_of c w e)))
         (sym (ap (λ (x : Read). heard (is_up w.near.station.phase) (number_in x) (record { near = w.near.begun; far = e.session }) w.met) read ∙ heard_none (is_up w.near.station.phase) (record { near = w.near.begun; far = e.session }) w.met)) k
 
-    quiet_left : (p : Bool) → frame_of (other c.role) c.longest e.octets ≡ Ok (sabm p) → numbers (other c.role) c.longest es ≡ []
+    quiet_left : (p : Bool) → read_of c e ≡ Ok (sabm p) → numbers (other c.role) c.longest es ≡ []
     quiet_left p read = quiet_behind_sabm (other c.role) c.longest e es (ap sabm_in read) whole_line.back_behind
 
     -- in Down or Up
-    sabm_held : (p : Bool) → frame_of (other c.role) c.longest e.octets ≡ Ok (sabm p) → TakesPart w.near.station.phase → Held c d (after_step c w es w.met [] (take_step c e.octets w.near.station))
+    sabm_held : (p : Bool) → read_of c e ≡ Ok (sabm p) → TakesPart w.near.station.phase → Held c d (taken c w e es)
     sabm_held p read part =
         let i = laws.set_up.sets_up c e.octets w.near.station part p read in
         let quiet = quiet_left p read in
-        let up : is_up (take_step c e.octets w.near.station).side.near.phase ≡ true = ap (λ (z : Station). is_up z.phase) i.near in
+        let up : is_up (step_of c w e).side.near.phase ≡ true = ap (λ (z : Station). is_up z.phase) i.near in
         let before = part_owes w.near.station.phase _ _ part left_line.near_owes in
-        subst (λ (n : ℕ). Held c d (stepped c w es w.met [] n (take_step c e.octets w.near.station))) (sym (ap (λ (b : Bool). begun_by b w.near.begun) i.up))
-        (begins_held c d joined reads w h e es is (ap sabm_in read) (suc w.near.begun) p (take_step c e.octets w.near.station) Live i.packet i.out (omega arith) (omega arith) (up, sym i.near, refl)
-        (quiet, quiet_of (other c.role) c.longest (suc w.far.begun) es quiet) (owes_none (take_step c e.octets w.near.station).side.near.phase _ _ before.0 before.1))
+        subst (λ (n : ℕ). Held c d (stepped c w es w.met [] n (step_of c w e))) (sym (ap (λ (b : Bool). begun_by b w.near.begun) i.up))
+        (begins_held c d joined reads w h e es is (ap sabm_in read) (suc w.near.begun) p (step_of c w e) Live i.packet i.out (omega arith) (omega arith) (up, sym i.near, refl)
+        (quiet, quiet_of (other c.role) c.longest (suc w.far.begun) es quiet) (owes_none (step_of c w e).side.near.phase _ _ before.0 before.1))
 
     -- while UA is awaited: an end that is about to be in a session is about to be in the one that begins
-    sabm_waiting : (p : Bool) → frame_of (other c.role) c.longest e.octets ≡ Ok (sabm p) → w.near.station.phase ≡ Waiting → Held c d (after_step c w es w.met [] (take_step c e.octets w.near.station))
-    sabm_waiting p read waiting = quiet_held c d w es w.met [] (take_step c e.octets w.near.station) i.up (go h.near_view h.near h.back)
+    sabm_waiting : (p : Bool) → read_of c e ≡ Ok (sabm p) → w.near.station.phase ≡ Waiting → Held c d (taken c w e es)
+    sabm_waiting p read waiting = quiet_held c d w es w.met [] (step_of c w e) i.up (go h.near_view h.near h.back)
       where
-        i : Is w.near.station (ua p ∷ []) None false (take_step c e.octets w.near.station)
+        i : Is w.near.station (ua p ∷ []) None false (step_of c w e)
         i = laws.set_up.waits c e.octets w.near.station waiting (Ok (sabm p)) (sym read)
 
-        phase : (take_step c e.octets w.near.station).side.near.phase ≡ Waiting
+        phase : (step_of c w e).side.near.phase ≡ Waiting
         phase = ap (λ (z : Station). z.phase) i.near ∙ waiting
 
-        owes : Owes (take_step c e.octets w.near.station).side.near.phase (how_many sabm_in (other d.role) d.longest w.out + how_many ua_in (other c.role) c.longest es) (how_many disc_in (other d.role) d.longest w.out)
+        owes : Owes (step_of c w e).side.near.phase (how_many sabm_in (other d.role) d.longest w.out + how_many ua_in (other c.role) c.longest es) (how_many disc_in (other d.role) d.longest w.out)
         owes = subst (λ (z : Phase). Owes z (how_many sabm_in (other d.role) d.longest w.out + how_many ua_in (other c.role) c.longest es) (how_many disc_in (other d.role) d.longest w.out)) (sym (ap (λ (z : Station). z.phase) i.near)) left_line.near_owes
 
-        no_ua : ua_in (frame_of (other c.role) c.longest e.octets) ≡ 0
+        no_ua : ua_in (read_of c e) ≡ 0
         no_ua = ap ua_in read
 
-        by : (v : View) → IsView v (end_after w.near w.near.begun [] (take_step c e.octets w.near.station)) fresh (suc w.near.begun)
-            → IsHeard v (other c.role) c.longest (take_step c e.octets w.near.station).side.near.phase es [] (suc w.far.begun)
-            → Held c d (stepped c w es w.met [] w.near.begun (take_step c e.octets w.near.station))
+        by : (v : View) → IsView v (end_after w.near w.near.begun [] (step_of c w e)) fresh (suc w.near.begun)
+            → IsHeard v (other c.role) c.longest (step_of c w e).side.near.phase es [] (suc w.far.begun)
+            → Held c d (stepped c w es w.met [] w.near.begun (step_of c w e))
         by v view heard_now =
-            begins_held c d joined reads w h e es is (ap sabm_in read) w.near.begun p (take_step c e.octets w.near.station) v i.packet i.out (omega arith) (omega arith) view heard_now owes
+            begins_held c d joined reads w h e es is (ap sabm_in read) w.near.begun p (step_of c w e) v i.packet i.out (omega arith) (omega arith) view heard_now owes
 
         go : (v : View) → IsView v w.near h.alone.near.station h.p → IsHeard v (other c.role) c.longest w.near.station.phase w.back h.alone.back h.q
-            → Held c d (stepped c w es w.met [] w.near.begun (take_step c e.octets w.near.station))
+            → Held c d (stepped c w es w.met [] w.near.begun (step_of c w e))
         go Live view back = not_both (is_up w.near.station.phase) view.0 (ap is_up waiting)
         go Soon view back =
             by Soon (phase, refl, refl)
@@ -201,9 +217,9 @@ module _ (c d : Settings) (joined : AreJoined c d) (reads : ReadsSpelled) (laws 
 
     -- ---- an end that is out and stays so
 
-    stays_held : IsOut w.near.station.phase → StaysOut (take_step c e.octets w.near.station) → Held c d (after_step c w es w.met [] (take_step c e.octets w.near.station))
+    stays_held : IsOut w.near.station.phase → StaysOut (step_of c w e) → Held c d (taken c w e es)
     stays_held out stays =
-        let t = take_step c e.octets w.near.station in
+        let t = step_of c w e in
         let same : t.side.near.phase ≡ w.near.station.phase = (continues c e.octets w.near.station).phase stays.quiet in
         let no_sabm = declining_none sabm_in of_sabm t.side.out stays.frames in
         let no_ua = declining_none ua_in of_ua t.side.out stays.frames in
@@ -211,98 +227,94 @@ module _ (c d : Settings) (joined : AreJoined c d) (reads : ReadsSpelled) (laws 
         quiet_held c d w es w.met [] t (ap (λ (n : Notes). n.up) stays.quiet)
         (apart_held c d joined reads w h es w.near.begun t Gone stays.packet (omega arith) (out_off t.side.near.phase stays.out) (λ waiting. out_is_waiting t.side.near.phase stays.out waiting)
         (declining_parting (Unit {0}) c d joined reads t.side.out stays.frames) no_ua left_line
-        (subst (λ (z : Phase). Owes z (how_many sabm_in (other d.role) d.longest w.out + count sabm_in t.side.out + how_many ua_in (other c.role) c.longest es)
-        (how_many disc_in (other d.role) d.longest w.out + count disc_in t.side.out)) (sym same)
+        (subst (λ (z : Phase). OwesAfter c d z w.out t.side.out es) (sym same)
         (owes_less w.near.station.phase _ _ _ _ (omega (arith, no_sabm)) (omega (arith, no_disc)) left_line.near_owes)))
 
     -- ---- while UA is awaited
 
     -- the UA begins the session that the end was about to be in
-    answered_held : frame_of (other c.role) c.longest e.octets ≡ Ok (ua true) → w.near.station.phase ≡ Waiting → Held c d (after_step c w es w.met [] (take_step c e.octets w.near.station))
+    answered_held : read_of c e ≡ Ok (ua true) → w.near.station.phase ≡ Waiting → Held c d (taken c w e es)
     answered_held read waiting = go h.near_view h.near h.back
       where
-        i : Is fresh [] None true (take_step c e.octets w.near.station)
+        i : Is fresh [] None true (step_of c w e)
         i = laws.set_up.waits c e.octets w.near.station waiting (Ok (ua true)) (sym read)
 
-        one_ua : ua_in (frame_of (other c.role) c.longest e.octets) ≡ 1
+        one_ua : ua_in (read_of c e) ≡ 1
         one_ua = ap ua_in read
 
         owed : (how_many sabm_in (other d.role) d.longest w.out + how_many ua_in (other c.role) c.longest w.back ≤ 1) × (how_many disc_in (other d.role) d.longest w.out ≡ 0)
         owed = waiting_owes w.near.station.phase _ _ waiting h.line.near_owes
 
-        up : is_up (take_step c e.octets w.near.station).side.near.phase ≡ true
+        up : is_up (step_of c w e).side.near.phase ≡ true
         up = ap (λ (z : Station). is_up z.phase) i.near
 
-        owes : Owes (take_step c e.octets w.near.station).side.near.phase (how_many sabm_in (other d.role) d.longest w.out + count sabm_in (take_step c e.octets w.near.station).side.out + how_many ua_in (other c.role) c.longest es)
-            (how_many disc_in (other d.role) d.longest w.out + count disc_in (take_step c e.octets w.near.station).side.out)
+        owes : OwesAfter c d (step_of c w e).side.near.phase w.out (step_of c w e).side.out es
         owes =
             let all = all_back ua_in in
             let sabms = ap (count sabm_in) i.out in
             let discs = ap (count disc_in) i.out in
-            owes_none (take_step c e.octets w.near.station).side.near.phase _ _ (omega (arith, all, one_ua, owed.0, sabms)) (omega (arith, discs, owed.1))
+            owes_none (step_of c w e).side.near.phase _ _ (omega (arith, all, one_ua, owed.0, sabms)) (omega (arith, discs, owed.1))
 
         go : (v : View) → IsView v w.near h.alone.near.station h.p → IsHeard v (other c.role) c.longest w.near.station.phase w.back h.alone.back h.q
-            → Held c d (after_step c w es w.met [] (take_step c e.octets w.near.station))
+            → Held c d (taken c w e es)
         go Live view back = not_both (is_up w.near.station.phase) view.0 (ap is_up waiting)
         go Soon view back =
-            subst (λ (n : ℕ). Held c d (stepped c w es w.met [] n (take_step c e.octets w.near.station))) (sym (ap (λ (b : Bool). begun_by b w.near.begun) i.up))
-            (apart_held c d joined reads w h es (suc w.near.begun) (take_step c e.octets w.near.station) Live i.packet (omega arith) (up, view.1 ∙ sym i.near, view.2)
+            subst (λ (n : ℕ). Held c d (stepped c w es w.met [] n (step_of c w e))) (sym (ap (λ (b : Bool). begun_by b w.near.begun) i.up))
+            (apart_held c d joined reads w h es (suc w.near.begun) (step_of c w e) Live i.packet (omega arith) (up, view.1 ∙ sym i.near, view.2)
             (front_answers (other c.role) c.longest e es h.alone.back h.q one_ua (subst (λ (xs : List Entry). AfterUa (other c.role) c.longest xs h.alone.back h.q) is back))
             (subst (AreParting (Unit {0})) (sym i.out) tt) (ap (count ua_in) i.out) left_line owes)
         go Gone view back = (let none = back waiting in let all = all_back ua_in in absurd (omega (arith, none, all, one_ua)))
 
     -- what else comes
-    waits_held : IsNoSabm (frame_of (other c.role) c.longest e.octets) → waiting_up (frame_of (other c.role) c.longest e.octets) ≡ false → w.near.station.phase ≡ Waiting
-        → Held c d (after_step c w es w.met [] (take_step c e.octets w.near.station))
-    waits_held no_sabm no_answer waiting = quiet_held c d w es w.met [] (take_step c e.octets w.near.station) (i.up ∙ no_answer) (go h.near_view h.near h.back)
+    waits_held : IsNoSabm (read_of c e) → waiting_up (read_of c e) ≡ false → w.near.station.phase ≡ Waiting
+        → Held c d (taken c w e es)
+    waits_held no_sabm no_answer waiting = quiet_held c d w es w.met [] (step_of c w e) (i.up ∙ no_answer) (go h.near_view h.near h.back)
       where
-        i : Is (waiting_after (frame_of (other c.role) c.longest e.octets) w.near.station) (waiting_sends (frame_of (other c.role) c.longest e.octets)) None (waiting_up (frame_of (other c.role) c.longest e.octets)) (take_step c e.octets w.near.station)
-        i = laws.set_up.waits c e.octets w.near.station waiting (frame_of (other c.role) c.longest e.octets) refl
+        i : Is (waiting_after (read_of c e) w.near.station) (waiting_sends (read_of c e)) None (waiting_up (read_of c e)) (step_of c w e)
+        i = laws.set_up.waits c e.octets w.near.station waiting (read_of c e) refl
 
-        same : (take_step c e.octets w.near.station).side.near.phase ≡ w.near.station.phase
-        same = ap (λ (z : Station). z.phase) (i.near ∙ waits_on (frame_of (other c.role) c.longest e.octets) w.near.station no_answer)
+        same : (step_of c w e).side.near.phase ≡ w.near.station.phase
+        same = ap (λ (z : Station). z.phase) (i.near ∙ waits_on (read_of c e) w.near.station no_answer)
 
-        none : (kind : Read → ℕ) → IsKind kind → count kind (take_step c e.octets w.near.station).side.out ≡ 0
-        none kind k = ap (count kind) i.out ∙ waiting_none kind k (frame_of (other c.role) c.longest e.octets) no_sabm
+        none : (kind : Read → ℕ) → IsKind kind → count kind (step_of c w e).side.out ≡ 0
+        none kind k = ap (count kind) i.out ∙ waiting_none kind k (read_of c e) no_sabm
 
-        owes : Owes (take_step c e.octets w.near.station).side.near.phase (how_many sabm_in (other d.role) d.longest w.out + count sabm_in (take_step c e.octets w.near.station).side.out + how_many ua_in (other c.role) c.longest es)
-            (how_many disc_in (other d.role) d.longest w.out + count disc_in (take_step c e.octets w.near.station).side.out)
+        owes : OwesAfter c d (step_of c w e).side.near.phase w.out (step_of c w e).side.out es
         owes =
             let sabms = none sabm_in of_sabm in
             let discs = none disc_in of_disc in
-            subst (λ (z : Phase). Owes z (how_many sabm_in (other d.role) d.longest w.out + count sabm_in (take_step c e.octets w.near.station).side.out + how_many ua_in (other c.role) c.longest es)
-            (how_many disc_in (other d.role) d.longest w.out + count disc_in (take_step c e.octets w.near.station).side.out)) (sym same)
+            subst (λ (z : Phase). OwesAfter c d z w.out (step_of c w e).side.out es) (sym same)
             (owes_less w.near.station.phase _ _ _ _ (omega (arith, sabms)) (omega (arith, discs)) left_line.near_owes)
 
-        by : (v : View) → IsView v (end_after w.near w.near.begun [] (take_step c e.octets w.near.station)) h.alone.near.station h.p
-            → IsHeard v (other c.role) c.longest (take_step c e.octets w.near.station).side.near.phase es h.alone.back h.q
-            → Held c d (stepped c w es w.met [] w.near.begun (take_step c e.octets w.near.station))
+        by : (v : View) → IsView v (end_after w.near w.near.begun [] (step_of c w e)) h.alone.near.station h.p
+            → IsHeard v (other c.role) c.longest (step_of c w e).side.near.phase es h.alone.back h.q
+            → Held c d (stepped c w es w.met [] w.near.begun (step_of c w e))
         by v view back =
-            apart_held c d joined reads w h es w.near.begun (take_step c e.octets w.near.station) v i.packet (omega arith) view back
-            (subst (AreParting (Unit {0})) (sym i.out) (waiting_parting (Unit {0}) (frame_of (other c.role) c.longest e.octets))) (none ua_in of_ua) left_line owes
+            apart_held c d joined reads w h es w.near.begun (step_of c w e) v i.packet (omega arith) view back
+            (subst (AreParting (Unit {0})) (sym i.out) (waiting_parting (Unit {0}) (read_of c e))) (none ua_in of_ua) left_line owes
 
         owed : (how_many sabm_in (other d.role) d.longest w.out + how_many ua_in (other c.role) c.longest w.back ≤ 1) × (how_many disc_in (other d.role) d.longest w.out ≡ 0)
         owed = waiting_owes w.near.station.phase _ _ waiting h.line.near_owes
 
         -- a UA that doesn't answer the SABM is passed over
-        soon : (n : ℕ) → ua_in (frame_of (other c.role) c.longest e.octets) ≡ n → IsView Soon w.near h.alone.near.station h.p → AfterUa (other c.role) c.longest (e ∷ es) h.alone.back h.q
-            → Held c d (stepped c w es w.met [] w.near.begun (take_step c e.octets w.near.station))
+        soon : (n : ℕ) → ua_in (read_of c e) ≡ n → IsView Soon w.near h.alone.near.station h.p → AfterUa (other c.role) c.longest (e ∷ es) h.alone.back h.q
+            → Held c d (stepped c w es w.met [] w.near.begun (step_of c w e))
         soon zero front view back = by Soon (same ∙ waiting, view.1, view.2) (front_passes (other c.role) c.longest e es h.alone.back h.q front back)
         soon (suc n) front view back = by Gone (ap is_up (same ∙ waiting)) (λ _. (let all = all_back ua_in in omega (arith, all, front, owed.0)))
 
         go : (v : View) → IsView v w.near h.alone.near.station h.p → IsHeard v (other c.role) c.longest w.near.station.phase w.back h.alone.back h.q
-            → Held c d (stepped c w es w.met [] w.near.begun (take_step c e.octets w.near.station))
+            → Held c d (stepped c w es w.met [] w.near.begun (step_of c w e))
         go Live view back = not_both (is_up w.near.station.phase) view.0 (ap is_up waiting)
-        go Soon view back = soon (ua_in (frame_of (other c.role) c.longest e.octets)) refl view (subst (λ (xs : List Entry). AfterUa (other c.role) c.longest xs h.alone.back h.q) is back)
+        go Soon view back = soon (ua_in (read_of c e)) refl view (subst (λ (xs : List Entry). AfterUa (other c.role) c.longest xs h.alone.back h.q) is back)
         go Gone view back = by Gone (ap is_up (same ∙ waiting)) (λ _. (let none_left = back waiting in let all = all_back ua_in in omega (arith, none_left, all)))
 
     -- ---- in Up
 
-    up_held : IsNoSabm (frame_of (other c.role) c.longest e.octets) → is_up w.near.station.phase ≡ true
-        → Held c d (after_step c w es (heard (is_up w.near.station.phase) (number_in (frame_of (other c.role) c.longest e.octets)) (record { near = w.near.begun; far = e.session }) w.met) [] (take_step c e.octets w.near.station))
+    up_held : IsNoSabm (read_of c e) → is_up w.near.station.phase ≡ true
+        → Held c d (after_step c w es (heard_by c w e) [] (step_of c w e))
     up_held no_sabm up =
-        subst (λ (b : Bool). Held c d (after_step c w es (heard b (number_in (frame_of (other c.role) c.longest e.octets)) (record { near = w.near.begun; far = e.session }) w.met) [] (take_step c e.octets w.near.station))) (sym up)
-        (go (number_in (frame_of (other c.role) c.longest e.octets)) refl comes.1.0)
+        subst (λ (b : Bool). Held c d (after_step c w es (heard b (number_in (read_of c e)) (record { near = w.near.begun; far = e.session }) w.met) [] (step_of c w e))) (sym up)
+        (go (number_in (read_of c e)) refl comes.1.0)
       where
         i : InSession c d w h
         i = in_session c d w h up
@@ -310,67 +322,67 @@ module _ (c d : Settings) (joined : AreJoined c d) (reads : ReadsSpelled) (laws 
         comes : Comes (other c.role) c.longest (e ∷ es) h.alone.back h.q
         comes = subst (λ (xs : List Entry). Comes (other c.role) c.longest xs h.alone.back h.q) is i.comes
 
-        shows : ShowAll (consed (number_in (frame_of (other c.role) c.longest e.octets)) (numbered_on (other c.role) c.longest (carried (other c.role) c.longest es))) h.holds.0.back
+        shows : ShowAll (consed (number_in (read_of c e)) (numbered_on (other c.role) c.longest (carried (other c.role) c.longest es))) h.holds.0.back
         shows =
             subst (λ (fs : List PlainFrame). ShowAll fs h.holds.0.back)
-            (sym comes.0 ∙ ap (λ (fs : List PlainFrame). consed (number_in (frame_of (other c.role) c.longest e.octets)) fs) (sym (carried_numbers (other c.role) c.longest es)))
+            (sym comes.0 ∙ ap (λ (fs : List PlainFrame). consed (number_in (read_of c e)) fs) (sym (carried_numbers (other c.role) c.longest es)))
             h.holds.1.back
 
-        holds : Holds ⊥ c d (one.after_step c h.alone (carried (other c.role) c.longest es) [] (take_step c e.octets w.near.station))
+        holds : Holds ⊥ c d (one.after_step c h.alone (carried (other c.role) c.longest es) [] (step_of c w e))
         holds =
             subst (λ (z : Station). Holds ⊥ c d (one.after_step c h.alone (carried (other c.role) c.longest es) [] (take_step c e.octets z))) i.view.1
-            (read_joint ⊥ c d joined reads h.alone h.holds.0 h.holds.1 i.machine (frame_of (other c.role) c.longest e.octets) (carried (other c.role) c.longest es) (take_step c e.octets h.alone.near.station)
+            (read_joint ⊥ c d joined reads h.alone h.holds.0 h.holds.1 i.machine (read_of c e) (carried (other c.role) c.longest es) (take_step c e.octets h.alone.near.station)
             (orderly no_sabm) (carried_orderly (other c.role) c.longest es) shows (laws.take_tells c e.octets h.alone.near.station)
-            (laws.window.take c e.octets h.alone.near.station (record { up = i.machine.up; sound = i.machine.sound }) (frame_of (other c.role) c.longest e.octets) refl))
+            (laws.window.take c e.octets h.alone.near.station (record { up = i.machine.up; sound = i.machine.sound }) (read_of c e) refl))
 
-        follows : Follows (ending_of (frame_of (other c.role) c.longest e.octets) (window_of c.window w.near.station)) c.window (brought_by (frame_of (other c.role) c.longest e.octets)) w.near.station (take_step c e.octets w.near.station)
-        follows = laws.window.take c e.octets w.near.station i.running (frame_of (other c.role) c.longest e.octets) refl
+        follows : Follows (ending_of (read_of c e) (window_of c.window w.near.station)) c.window (brought_by (read_of c e)) w.near.station (step_of c w e)
+        follows = laws.window.take c e.octets w.near.station i.running (read_of c e) refl
 
         -- who sent a DISC is Closed
-        closed : (p : Bool) → frame_of (other c.role) c.longest e.octets ≡ Ok (disc p) → w.far.station.phase ≡ Closed
+        closed : (p : Bool) → read_of c e ≡ Ok (disc p) → w.far.station.phase ≡ Closed
         closed p read = (let one_disc = ap disc_in read in closed_by w.far.station.phase _ _ (omega (arith, one_disc)) whole_line.far_owes)
 
-        answers : Answers w (take_step c e.octets w.near.station)
+        answers : Answers w (step_of c w e)
         answers =
-            follows_answers w (ending_of (frame_of (other c.role) c.longest e.octets) (window_of c.window w.near.station)) c.window (brought_by (frame_of (other c.role) c.longest e.octets)) w.near.station (take_step c e.octets w.near.station)
-            (λ reason ending. ending_answers (frame_of (other c.role) c.longest e.octets) (window_of c.window w.near.station) w.far.station.phase no_sabm closed reason ending) follows
+            follows_answers w (ending_of (read_of c e) (window_of c.window w.near.station)) c.window (brought_by (read_of c e)) w.near.station (step_of c w e)
+            (λ reason ending. ending_answers (read_of c e) (window_of c.window w.near.station) w.far.station.phase no_sabm closed reason ending) follows
 
         left : Comes (other c.role) c.longest es (carried (other c.role) c.longest es) h.q
         left = (sym (carried_numbers (other c.role) c.longest es), comes.1.1)
 
-        go : (m : Option PlainFrame) → number_in (frame_of (other c.role) c.longest e.octets) ≡ m → (number_in (frame_of (other c.role) c.longest e.octets) ≡ None) ⊎ (e.session ≡ h.q)
-            → Held c d (after_step c w es (heard true m (record { near = w.near.begun; far = e.session }) w.met) [] (take_step c e.octets w.near.station))
+        go : (m : Option PlainFrame) → number_in (read_of c e) ≡ m → (number_in (read_of c e) ≡ None) ⊎ (e.session ≡ h.q)
+            → Held c d (after_step c w es (heard true m (record { near = w.near.begun; far = e.session }) w.met) [] (step_of c w e))
         go None none of =
-            live_goes_on c d joined reads w h i.view es (carried (other c.role) c.longest es) [] (take_step c e.octets w.near.station) holds left left_line answers
-            (follows_no_packet (ending_of (frame_of (other c.role) c.longest e.octets) (window_of c.window w.near.station)) c.window (frame_of (other c.role) c.longest e.octets) w.near.station (take_step c e.octets w.near.station) none follows)
+            live_goes_on c d joined reads w h i.view es (carried (other c.role) c.longest es) [] (step_of c w e) holds left left_line answers
+            (follows_no_packet (ending_of (read_of c e) (window_of c.window w.near.station)) c.window (read_of c e) w.near.station (step_of c w e) none follows)
         go (Some f) some (inl none) = none_is_some f (sym none ∙ some)
         go (Some f) some (inr session) =
-            live_hears c d joined reads w h i.view es (carried (other c.role) c.longest es) [] (take_step c e.octets w.near.station) holds left left_line answers e.session session whole_line.back_begun.0
+            live_hears c d joined reads w h i.view es (carried (other c.role) c.longest es) [] (step_of c w e) holds left left_line answers e.session session whole_line.back_begun.0
 
     -- ---- in any phase
 
-    apart_met : is_up w.near.station.phase ≡ false → Held c d (after_step c w es w.met [] (take_step c e.octets w.near.station))
-        → Held c d (after_step c w es (heard (is_up w.near.station.phase) (number_in (frame_of (other c.role) c.longest e.octets)) (record { near = w.near.begun; far = e.session }) w.met) [] (take_step c e.octets w.near.station))
+    apart_met : is_up w.near.station.phase ≡ false → Held c d (taken c w e es)
+        → Held c d (after_step c w es (heard_by c w e) [] (step_of c w e))
     apart_met off k =
-        subst (λ (met : List Meeting). Held c d (after_step c w es met [] (take_step c e.octets w.near.station)))
-        (sym (heard_out (is_up w.near.station.phase) (number_in (frame_of (other c.role) c.longest e.octets)) (record { near = w.near.begun; far = e.session }) w.met off)) k
+        subst (λ (met : List Meeting). Held c d (after_step c w es met [] (step_of c w e)))
+        (sym (heard_out (is_up w.near.station.phase) (number_in (read_of c e)) (record { near = w.near.begun; far = e.session }) w.met off)) k
 
-    pub take_held : Held c d (after_step c w es (heard (is_up w.near.station.phase) (number_in (frame_of (other c.role) c.longest e.octets)) (record { near = w.near.begun; far = e.session }) w.met) [] (take_step c e.octets w.near.station))
-    take_held = by w.near.station.phase refl (is_sabm (frame_of (other c.role) c.longest e.octets))
+    pub take_held : Held c d (after_step c w es (heard_by c w e) [] (step_of c w e))
+    take_held = by w.near.station.phase refl (is_sabm (read_of c e))
       where
-        waiting : w.near.station.phase ≡ Waiting → IsNoSabm (frame_of (other c.role) c.longest e.octets) → (frame_of (other c.role) c.longest e.octets ≡ Ok (ua true)) ⊎ (waiting_up (frame_of (other c.role) c.longest e.octets) ≡ false)
-            → Held c d (after_step c w es w.met [] (take_step c e.octets w.near.station))
+        waiting : w.near.station.phase ≡ Waiting → IsNoSabm (read_of c e) → (read_of c e ≡ Ok (ua true)) ⊎ (waiting_up (read_of c e) ≡ false)
+            → Held c d (taken c w e es)
         waiting phase no_sabm (inl read) = answered_held read phase
         waiting phase no_sabm (inr no_answer) = waits_held no_sabm no_answer phase
 
-        by : (p : Phase) → w.near.station.phase ≡ p → ((f : Bool) × (frame_of (other c.role) c.longest e.octets ≡ Ok (sabm f))) ⊎ IsNoSabm (frame_of (other c.role) c.longest e.octets)
-            → Held c d (after_step c w es (heard (is_up w.near.station.phase) (number_in (frame_of (other c.role) c.longest e.octets)) (record { near = w.near.begun; far = e.session }) w.met) [] (take_step c e.octets w.near.station))
+        by : (p : Phase) → w.near.station.phase ≡ p → ((f : Bool) × (read_of c e ≡ Ok (sabm f))) ⊎ IsNoSabm (read_of c e)
+            → Held c d (after_step c w es (heard_by c w e) [] (step_of c w e))
         by Down phase (inl read) = begins read.0 read.1 (sabm_held read.0 read.1 (subst TakesPart (sym phase) tt))
         by Down phase (inr no_sabm) =
             apart_met (ap is_up phase)
-            (stays_held (subst IsOut (sym phase) tt) (laws.window.take_out c e.octets w.near.station (subst IsOut (sym phase) tt) (orderly_sets_up (frame_of (other c.role) c.longest e.octets) (orderly no_sabm))))
+            (stays_held (subst IsOut (sym phase) tt) (laws.window.take_out c e.octets w.near.station (subst IsOut (sym phase) tt) (orderly_sets_up (read_of c e) (orderly no_sabm))))
         by Waiting phase (inl read) = begins read.0 read.1 (sabm_waiting read.0 read.1 phase)
-        by Waiting phase (inr no_sabm) = apart_met (ap is_up phase) (waiting phase no_sabm (is_answer (frame_of (other c.role) c.longest e.octets)))
+        by Waiting phase (inr no_sabm) = apart_met (ap is_up phase) (waiting phase no_sabm (is_answer (read_of c e)))
         by Up phase (inl read) = begins read.0 read.1 (sabm_held read.0 read.1 (subst TakesPart (sym phase) tt))
         by Up phase (inr no_sabm) = up_held no_sabm (ap is_up phase)
         by Closed phase (inl read) = apart_met (ap is_up phase) (stays_held (subst IsOut (sym phase) tt) (closed_takes c e.octets w.near.station phase))
