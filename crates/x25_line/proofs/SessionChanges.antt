@@ -28,8 +28,8 @@ module _ (c d : Settings) (joined : AreJoined c d) (reads : ReadsSpelled) (laws 
       let shows : ShowAll (numbers (other c.role) c.longest xs) h.0.back = subst (λ (fs : List PlainFrame). ShowAll fs h.0.back) (sym comes.0) h.1.back in
       let less = change_shows (other c.role) c.longest xs ys change h.0.back shows in (
         taken_off ⊥ c d joined reads laws v h.0 (change_place (other c.role) c.longest xs ys change) (carried (other c.role) c.longest ys) h.1
-        (subst (λ (fs : List PlainFrame). ShowAll fs (taken_out (change_place (other c.role) c.longest xs ys change) h.0.back)) (sym (carried_numbers (other c.role) c.longest ys)) less)
-        (carried_orderly (other c.role) c.longest ys),
+            (subst (λ (fs : List PlainFrame). ShowAll fs (taken_out (change_place (other c.role) c.longest xs ys change) h.0.back)) (sym (carried_numbers (other c.role) c.longest ys)) less)
+            (carried_orderly (other c.role) c.longest ys),
         (sym (carried_numbers (other c.role) c.longest ys), change_of (other c.role) c.longest q xs ys change comes.1),
       )
 

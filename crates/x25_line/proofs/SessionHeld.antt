@@ -199,9 +199,9 @@ orders e f far p q grows now (m ∷ ms) paired h = (
   elim paired.0 [
     | inl same ↦ at_pair same.0 same.1
     | inr less ↦ record {
-        there = subst (Begins (far.up m.far)) (sym (grows.down m.near (λ (is : m.near ≡ p). omega (arith, is, less.0)))) h.0.there;
-        back = subst (λ (x : List (List ℕ)). Begins x (far.down m.far)) (sym (grows.up m.near (λ (is : m.near ≡ p). omega (arith, is, less.0)))) h.0.back;
-      }
+      there = subst (Begins (far.up m.far)) (sym (grows.down m.near (λ (is : m.near ≡ p). omega (arith, is, less.0)))) h.0.there;
+      back = subst (λ (x : List (List ℕ)). Begins x (far.down m.far)) (sym (grows.up m.near (λ (is : m.near ≡ p). omega (arith, is, less.0)))) h.0.back;
+    }
   ],
   orders e f far p q grows now ms paired.1 h.1,
 )
