@@ -15,7 +15,7 @@ use Rattle.x25_line.specs.Stations.{Stations, Act, Put, Deliver, T1, Connect, Di
 use Rattle.x25_line.specs.Stations as one
 use Rattle.x25_line.specs.StationClaims.{AreJoined}
 use Rattle.x25_line.specs.Sessions.{Entry, SessionEnd, Meeting, Sessions, turned, swapped, after_step, unless, delivered, replaced, acts, happens, run, from_nothing, from_set_up, IsTimely, IsTimelyAt, AreTimely}
-use Rattle.x25_line.specs.SessionClaims.{Throughout, AllOf, AllMet, SomeMet, IsAbove, InStep, IsInOrder, MeetInStep, MetAreInOrder, UnmetHandNothingUp, IsSession, Stands, EachUpStands, NoSessionSendsFrmr}
+use Rattle.x25_line.specs.SessionClaims.{Throughout, AllOf, AllMet, SomeMet, IsAbove, InStep, IsInOrder, MeetInStep, MetAreInOrder, UnmetHandNothingUp, OnlyBegunHaveLists, IsSession, Stands, EachUpStands, NoSessionSendsFrmr}
 use Rattle.x25_line.proofs.StationSteps.{Holds}
 use Rattle.x25_line.proofs.StationAway.{connects_from}
 use Rattle.x25_line.proofs.StationRuns.{Laws, joined_swapped, holds_swapped, start_joint}
@@ -262,6 +262,11 @@ module _ (reads : ReadsSpelled) (rests : SessionLaws) where
   unmet_nothing c d joined begin is events timely =
       let h = throughout c d joined begin is events timely in
       record { near = h.meetings.near_unmet; far = h.meetings.far_unmet }
+
+  pub only_begun : Throughout OnlyBegunHaveLists
+  only_begun c d joined begin is events timely =
+      let h = throughout c d joined begin is events timely in
+      record { met = h.meetings.begun; near = h.near_lists.later; far = h.far_lists.later }
 
   pub each_stands : Throughout EachUpStands
   each_stands c d joined begin is events timely =

@@ -1,5 +1,5 @@
 -- What holds of two link stations and the line between them after each list of events, over set-up and re-set-up at any moment.
-use Rattle.std.specs.Prelude.{◌≡◌, ◌<◌, ◌⊎◌, ℕ, zero, suc, true, List, [], ◌∷◌, ◌++◌, None}
+use Rattle.std.specs.Prelude.{◌≡◌, ◌≤◌, ◌<◌, ◌⊎◌, ℕ, zero, suc, true, List, [], ◌∷◌, ◌++◌, None}
 use Rattle.x25_bits.specs.declared.role.Role.{Role}
 use Rattle.x25_frame.specs.Reading.{frame_of}
 use Rattle.x25_link.specs.Station.{Settings, is_up}
@@ -54,6 +54,12 @@ MetAreInOrder c d w = AllMet (IsInOrder w.near w.far) w.met
 pub record UnmetHandNothingUp (c d : Settings) (w : Sessions) : Type 0 where
   pub near : (n : ℕ) → (w.near.up n ≡ []) ⊎ SomeMet (λ (m : Meeting). m.near ≡ n) w.met
   pub far : (n : ℕ) → (w.far.up n ≡ []) ⊎ SomeMet (λ (m : Meeting). m.far ≡ n) w.met
+
+-- sessions that meet were begun, and none that isn't begun has lists
+pub record OnlyBegunHaveLists (c d : Settings) (w : Sessions) : Type 0 where
+  pub met : AllMet (λ (m : Meeting). (m.near ≤ w.near.begun) × (m.far ≤ w.far.begun)) w.met
+  pub near : (n : ℕ) → w.near.begun < n → (w.near.down n ≡ []) × (w.near.up n ≡ [])
+  pub far : (n : ℕ) → w.far.begun < n → (w.far.down n ≡ []) × (w.far.up n ≡ [])
 
 -- ---- the session that stands
 

@@ -1,6 +1,6 @@
 //! Two link stations over a line, as laws about their definition. Each is the contract of a function that does nothing.
 ghost use Rattle.x25_line.specs.StationClaims.{Always, BothInOrder, BothHaveTheirLists, BothNoteTheirEnds, AreInWindow, NoFrmrSent, AllSentAreWhole, OneLinkUnlessConnected, EachEventHandsOne};
-ghost use Rattle.x25_line.specs.SessionClaims.{Throughout, MeetInStep, MetAreInOrder, UnmetHandNothingUp, EachUpStands, NoSessionSendsFrmr, SessionsAreStations, SetUpIsTheStart};
+ghost use Rattle.x25_line.specs.SessionClaims.{Throughout, MeetInStep, MetAreInOrder, UnmetHandNothingUp, OnlyBegunHaveLists, EachUpStands, NoSessionSendsFrmr, SessionsAreStations, SetUpIsTheStart};
 ghost use Rattle.x25_line.specs.SessionRows.{SetsUpFromNothing, SetsUpAgain, UntimelyIsOutOfStep};
 ghost use Rattle.x25_line.specs.StationRows.{PacketGoes, PacketsCross, LostComesAgain, DamagedComesAgain, DisconnectEnds, AbandonEnds, ConnectSetsUp, ConnectIsDeclined};
 
@@ -43,6 +43,7 @@ pub fn sessions_keep_order()
     ensures step { Throughout MeetInStep }
     ensures order { Throughout MetAreInOrder }
     ensures unmet { Throughout UnmetHandNothingUp }
+    ensures begun { Throughout OnlyBegunHaveLists }
     ensures stands { Throughout EachUpStands }
     ensures no_frmr { Throughout NoSessionSendsFrmr }
 {

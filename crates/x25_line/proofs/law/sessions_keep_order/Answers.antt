@@ -1,5 +1,5 @@
 use Rattle.x25_line.proofs.StationRuns.{Laws}
-use Rattle.x25_line.proofs.SessionRuns.{SessionLaws, meet_in_step, met_in_order, unmet_nothing, each_stands, never_frmr}
+use Rattle.x25_line.proofs.SessionRuns.{SessionLaws, meet_in_step, met_in_order, unmet_nothing, only_begun, each_stands, never_frmr}
 use Rattle.x25_line.proofs.law.sessions_keep_order.Goals as goal
 
 pub returns : goal.returns
@@ -17,4 +17,4 @@ returns c =
       abandon_tells = notes.abandon;
     } in
     let rests : SessionLaws = record { laws = laws; continues = notes.take_continues } in
-    record { step = meet_in_step reads rests; order = met_in_order reads rests; unmet = unmet_nothing reads rests; stands = each_stands reads rests; no_frmr = never_frmr reads rests }
+    record { step = meet_in_step reads rests; order = met_in_order reads rests; unmet = unmet_nothing reads rests; begun = only_begun reads rests; stands = each_stands reads rests; no_frmr = never_frmr reads rests }
