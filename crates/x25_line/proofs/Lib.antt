@@ -12,3 +12,14 @@ pub mod StationRuns
 pub mod StationClaimLemmas
 pub mod StationEvents
 pub mod StationRowLemmas
+pub mod SessionLines
+pub mod SessionHeld
+pub mod SessionSteps
+pub mod SessionBegins
+pub mod SessionChanges
+pub mod SessionUp
+pub mod SessionActs
+pub mod SessionTakes
+pub mod SessionRuns
+pub mod SessionsForgotten
+pub mod SessionRowLemmas

@@ -12,8 +12,8 @@ use Rattle.x25_link.specs.Station.{Settings, Station, is_up, lists_of}
 use Rattle.x25_link.specs.Steps.{is_idle}
 use Rattle.x25_link.specs.WindowMachine.{Window}
 use Rattle.x25_line.specs.InWindow.{Begins}
-use Rattle.x25_line.specs.Stations.{StationEnd, run, start}
-use Rattle.x25_line.specs.StationClaims.{Always, InOrder, BothInOrder, HasItsLists, BothHaveTheirLists, NotesItsEnd, BothNoteTheirEnds, OneLinkUnlessConnected, AreInWindow, NoFrmrSent, AreWhole, AllSentAreWhole}
+use Rattle.x25_line.specs.Stations.{StationEnd, Stations, run, start}
+use Rattle.x25_line.specs.StationClaims.{AreJoined, Always, InOrder, BothInOrder, HasItsLists, BothHaveTheirLists, NotesItsEnd, BothNoteTheirEnds, OneLinkUnlessConnected, AreInWindow, NoFrmrSent, AreWhole, AllSentAreWhole}
 use Rattle.x25_line.proofs.Kept.{Way, Way-acked, InWindow-from_Kept}
 use Rattle.x25_line.proofs.StationSteps.{away_is_not_up, AsUp, FitsEnd, NotesOnce, Holds, not_both}
 use Rattle.x25_line.proofs.StationRuns.{Laws, run_once, run_unasked, start_joint}
@@ -47,7 +47,7 @@ idle_all s idle high =
     counts a m n none all high = omega arith
 
 -- an end that is Up isn't away
-up_of : (MayAsk : Type 0) (c : Settings) (s : Station) (e : End (List ℕ)) → FitsEnd MayAsk c s e → is_up s.phase ≡ true → AsUp c s e
+pub up_of : (MayAsk : Type 0) (c : Settings) (s : Station) (e : End (List ℕ)) → FitsEnd MayAsk c s e → is_up s.phase ≡ true → AsUp c s e
 up_of MayAsk c s e (inl u) up = u
 up_of MayAsk c s e (inr away) up = not_both (is_up s.phase) up (away_is_not_up MayAsk s.phase away.away)
 
@@ -118,27 +118,49 @@ one_ending e h = by (is_up e.station.phase) refl
         let none = few l.again l.asked in
         omega (arith, all, none)
 
+-- ---- as long as the link isn't set up anew
+
+pub holds_order : (MayAsk : Type 0) (c d : Settings) (w : Stations) → Holds MayAsk c d w → BothInOrder c d w
+holds_order MayAsk c d w holds =
+    let l = holds.0 in
+    let h = holds.1 in (
+      in_order MayAsk c w.near w.far l.near l.far.taken l.out l.back h.near h.kept.from_near h.near_down h.far_up,
+      in_order MayAsk d w.far w.near l.far l.near.taken l.back l.out h.far h.kept.from_far h.far_down h.near_up,
+    )
+
+pub holds_lists : (MayAsk : Type 0) (c d : Settings) (w : Stations) → Holds MayAsk c d w → BothHaveTheirLists c d w
+holds_lists MayAsk c d w holds =
+    let l = holds.0 in
+    let h = holds.1 in
+    (has_lists MayAsk c w.near l.near h.near h.near_down h.near_up, has_lists MayAsk d w.far l.far h.far h.far_down h.far_up)
+
+pub holds_window : (MayAsk : Type 0) (c d : Settings) (w : Stations) → Holds MayAsk c d w → AreInWindow c d w
+holds_window MayAsk c d w holds =
+    let l = holds.0 in
+    let h = holds.1 in (
+      l,
+      record {
+        reached = h.reached;
+        near = record { given = h.near_down; taken = h.near_up; numbers = λ is_on. (up_of MayAsk c w.near.station l.near h.near is_on).same };
+        far = record { given = h.far_down; taken = h.far_up; numbers = λ is_on. (up_of MayAsk d w.far.station l.far h.far is_on).same };
+        out = h.out;
+        back = h.back;
+        window = InWindow-from_Kept l h.kept;
+      },
+    )
+
+pub holds_whole : (MayAsk : Type 0) (c d : Settings) → AreJoined c d → (w : Stations) → Holds MayAsk c d w → AllSentAreWhole c d w
+holds_whole MayAsk c d joined w holds = subst (λ (n : ℕ). AreWhole n (w.near.down ++ w.far.down) w.sent) (sym joined.longest) holds.1.whole
+
 module _ (reads : ReadsSpelled) (laws : Laws) where
   reached : Always (Holds (Unit {0}))
   reached c d joined events once = run_once c d joined reads laws events start (start_joint (Unit {0}) c d joined) once
 
   pub keeps_order : Always BothInOrder
-  keeps_order c d joined events once =
-      let w = run c d events start in
-      let holds = reached c d joined events once in
-      let l = holds.0 in
-      let h = holds.1 in (
-        in_order (Unit {0}) c w.near w.far l.near l.far.taken l.out l.back h.near h.kept.from_near h.near_down h.far_up,
-        in_order (Unit {0}) d w.far w.near l.far l.near.taken l.back l.out h.far h.kept.from_far h.far_down h.near_up,
-      )
+  keeps_order c d joined events once = holds_order (Unit {0}) c d (run c d events start) (reached c d joined events once)
 
   pub keeps_lists : Always BothHaveTheirLists
-  keeps_lists c d joined events once =
-      let w = run c d events start in
-      let holds = reached c d joined events once in
-      let l = holds.0 in
-      let h = holds.1 in
-      (has_lists (Unit {0}) c w.near l.near h.near h.near_down h.near_up, has_lists (Unit {0}) d w.far l.far h.far h.far_down h.far_up)
+  keeps_lists c d joined events once = holds_lists (Unit {0}) c d (run c d events start) (reached c d joined events once)
 
   pub keeps_notes : Always BothNoteTheirEnds
   keeps_notes c d joined events once =
@@ -146,29 +168,13 @@ module _ (reads : ReadsSpelled) (laws : Laws) where
       (notes_end (run c d events start).near h.near_notes, notes_end (run c d events start).far h.far_notes)
 
   pub keeps_window : Always AreInWindow
-  keeps_window c d joined events once =
-      let w = run c d events start in
-      let holds = reached c d joined events once in
-      let l = holds.0 in
-      let h = holds.1 in (
-        l,
-        record {
-          reached = h.reached;
-          near = record { given = h.near_down; taken = h.near_up; numbers = λ is_on. (up_of (Unit {0}) c w.near.station l.near h.near is_on).same };
-          far = record { given = h.far_down; taken = h.far_up; numbers = λ is_on. (up_of (Unit {0}) d w.far.station l.far h.far is_on).same };
-          out = h.out;
-          back = h.back;
-          window = InWindow-from_Kept l h.kept;
-        },
-      )
+  keeps_window c d joined events once = holds_window (Unit {0}) c d (run c d events start) (reached c d joined events once)
 
   pub sends_no_frmr : Always NoFrmrSent
   sends_no_frmr c d joined events once = (reached c d joined events once).1.no_frmr
 
   pub sends_whole : Always AllSentAreWhole
-  sends_whole c d joined events once =
-      let w = run c d events start in
-      subst (λ (n : ℕ). AreWhole n (w.near.down ++ w.far.down) w.sent) (sym joined.longest) (reached c d joined events once).1.whole
+  sends_whole c d joined events once = holds_whole (Unit {0}) c d joined (run c d events start) (reached c d joined events once)
 
   pub stays_one_link : OneLinkUnlessConnected
   stays_one_link c d joined events none =

@@ -280,15 +280,15 @@ module _ (reads : ReadsSpelled) (from : Role) (n1 : ℕ) where
 -- ---- what is lost or damaged
 
 -- which of the numbered frames stands at this place of the line, where one does
-abbrev first_of : Option PlainFrame → Option ℕ
+abbrev pub first_of : Option PlainFrame → Option ℕ
 first_of None = None
 first_of (Some frame) = Some 0
 
-abbrev one_more : Option ℕ → Option ℕ
+abbrev pub one_more : Option ℕ → Option ℕ
 one_more None = None
 one_more (Some n) = Some (suc n)
 
-abbrev behind : Option PlainFrame → Option ℕ → Option ℕ
+abbrev pub behind : Option PlainFrame → Option ℕ → Option ℕ
 behind None place = place
 behind (Some frame) place = one_more place
 
@@ -305,12 +305,12 @@ taken_out_behind : (p : Option ℕ) (g : Frame (List ℕ)) (gs : List (Frame (Li
 taken_out_behind None g gs = refl
 taken_out_behind (Some n) g gs = refl
 
-shows_first : (m : Option PlainFrame) (fs : List PlainFrame) (gs : List (Frame (List ℕ))) → ShowAll (consed m fs) gs → ShowAll fs (taken_out (first_of m) gs)
+pub shows_first : (m : Option PlainFrame) (fs : List PlainFrame) (gs : List (Frame (List ℕ))) → ShowAll (consed m fs) gs → ShowAll fs (taken_out (first_of m) gs)
 shows_first None fs gs h = h
 shows_first (Some f) fs [] h = absurd h
 shows_first (Some f) fs (g ∷ gs) h = h.1
 
-shows_behind : (m : Option PlainFrame) (fs es : List PlainFrame) (p : Option ℕ) (gs : List (Frame (List ℕ)))
+pub shows_behind : (m : Option PlainFrame) (fs es : List PlainFrame) (p : Option ℕ) (gs : List (Frame (List ℕ)))
     → ((hs : List (Frame (List ℕ))) → ShowAll fs hs → ShowAll es (taken_out p hs)) → ShowAll (consed m fs) gs → ShowAll (consed m es) (taken_out (behind m p) gs)
 shows_behind None fs es p gs f h = f gs h
 shows_behind (Some x) fs es p [] f h = absurd h

@@ -39,11 +39,11 @@ holds_unless : (MayAsk : Type 0) (c d : Settings) (o : Option LinkError) (w v : 
 holds_unless MayAsk c d (Some e) w v h g = h
 holds_unless MayAsk c d None w v h g = g refl
 
-holds_if : (MayAsk : Type 0) (c d : Settings) (b : Bool) (w v : Stations) → (b ≡ true → Holds MayAsk c d w) → Holds MayAsk c d v → Holds MayAsk c d (if b then w else v)
+pub holds_if : (MayAsk : Type 0) (c d : Settings) (b : Bool) (w v : Stations) → (b ≡ true → Holds MayAsk c d w) → Holds MayAsk c d v → Holds MayAsk c d (if b then w else v)
 holds_if MayAsk c d true w v h g = h refl
 holds_if MayAsk c d false w v h g = g
 
-orderly_sets_up : (r : Result PlainFrame FrameError) → IsOrderly ⊥ r → sets_up r ≡ false
+pub orderly_sets_up : (r : Result PlainFrame FrameError) → IsOrderly ⊥ r → sets_up r ≡ false
 orderly_sets_up (Ok (info ns nr p x)) h = refl
 orderly_sets_up (Ok (rr command nr pf)) h = refl
 orderly_sets_up (Ok (rnr command nr pf)) h = refl
@@ -129,7 +129,7 @@ module _ (MayAsk : Type 0) (c d : Settings) (joined : AreJoined c d) (reads : Re
 
   -- ---- what is handed down
 
-  put_up : (w : Stations) (l : Line (List ℕ)) (packet : List ℕ) → Joint MayAsk c d w l → AsUp c w.near.station l.near → length packet ≤ c.longest
+  pub put_up : (w : Stations) (l : Line (List ℕ)) (packet : List ℕ) → Joint MayAsk c d w l → AsUp c w.near.station l.near → length packet ≤ c.longest
       → Holds MayAsk c d (after_step c w w.back (packet ∷ []) (put_step c packet w.near.station))
   put_up w l packet h u short =
       let longest = joined.longest in
@@ -158,7 +158,7 @@ module _ (MayAsk : Type 0) (c d : Settings) (joined : AreJoined c d) (reads : Re
 
   -- ---- timer T1
 
-  timer_by : (w : Stations) (l : Line (List ℕ)) → Joint MayAsk c d w l → AsUp c w.near.station l.near → (b : Bool) (step : Step) → Tells w.near.station step
+  pub timer_by : (w : Stations) (l : Line (List ℕ)) → Joint MayAsk c d w l → AsUp c w.near.station l.near → (b : Bool) (step : Step) → Tells w.near.station step
       → Follows (if b then None else Some Retries) c.window nothing w.near.station step → Holds MayAsk c d (after_step c w w.back [] step)
   timer_by w l h u true step tells follows = quiet_joint MayAsk c d joined reads w l h u w.back h.back_orderly h.back nothing step refl (λ y k. k) follows
   timer_by w l h u false step tells follows = ends_joint MayAsk c d joined reads w l h u.up w.back step Retries tt h.back h.back_orderly tells follows
@@ -280,7 +280,7 @@ module _ (MayAsk : Type 0) (c d : Settings) (joined : AreJoined c d) (reads : Re
   )
 
   -- the machine loses the frame at this place, where one stands there
-  taken_off : (w : Stations) (l : Line (List ℕ)) (p : Option ℕ) (os : List (List ℕ)) → Joint MayAsk c d w l → ShowAll (numbered_on (other c.role) c.longest os) (taken_out p l.back)
+  pub taken_off : (w : Stations) (l : Line (List ℕ)) (p : Option ℕ) (os : List (List ℕ)) → Joint MayAsk c d w l → ShowAll (numbered_on (other c.role) c.longest os) (taken_out p l.back)
       → AreOrderly MayAsk (other c.role) c.longest os → Holds MayAsk c d (record w { back = os })
   taken_off w l None os h shows orderly = left_joint w l l.back os h h.reached h.kept shows orderly
   taken_off w l (Some n) os h shows orderly = left_joint w l (remove l.back n) os h (near_moves l (Loses n) h.reached tt) (Kept-moved (Loses n) l tt h.kept) shows orderly
@@ -311,11 +311,11 @@ module _ (MayAsk : Type 0) (c d : Settings) (joined : AreJoined c d) (reads : Re
 
 -- ---- runs
 
-joined_swapped : (c d : Settings) → AreJoined c d → AreJoined d c
+pub joined_swapped : (c d : Settings) → AreJoined c d → AreJoined d c
 joined_swapped c d j =
     record { near_role = j.far_role; far_role = j.near_role; longest = sym j.longest; near_low = j.far_low; near_high = j.far_high; far_low = j.near_low; far_high = j.near_high }
 
-holds_swapped : (MayAsk : Type 0) (c d : Settings) → c.longest ≡ d.longest → (w : Stations) → Holds MayAsk c d w → Holds MayAsk d c (swapped w)
+pub holds_swapped : (MayAsk : Type 0) (c d : Settings) → c.longest ≡ d.longest → (w : Stations) → Holds MayAsk c d w → Holds MayAsk d c (swapped w)
 holds_swapped MayAsk c d same w holds =
     let l = holds.0 in
     let h = holds.1 in (

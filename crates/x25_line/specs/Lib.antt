@@ -3,6 +3,9 @@ pub mod InWindow
 pub mod Stations
 pub mod StationClaims
 pub mod StationRows
+pub mod Sessions
+pub mod SessionClaims
+pub mod SessionRows
 pub mod RawMachine
 pub mod RawShown
 pub mod RawFitting

@@ -1,5 +1,7 @@
 //! Two link stations over a line, as laws about their definition. Each is the contract of a function that does nothing.
 ghost use Rattle.x25_line.specs.StationClaims.{Always, BothInOrder, BothHaveTheirLists, BothNoteTheirEnds, AreInWindow, NoFrmrSent, AllSentAreWhole, OneLinkUnlessConnected, EachEventHandsOne};
+ghost use Rattle.x25_line.specs.SessionClaims.{Throughout, MeetInStep, MetAreInOrder, UnmetHandNothingUp, OnlyBegunHaveLists, EachUpStands, NoSessionSendsFrmr, SessionsAreStations, SetUpIsTheStart};
+ghost use Rattle.x25_line.specs.SessionRows.{SetsUpFromNothing, SetsUpAgain, UntimelyIsOutOfStep};
 ghost use Rattle.x25_line.specs.StationRows.{PacketGoes, PacketsCross, LostComesAgain, DamagedComesAgain, DisconnectEnds, AbandonEnds, ConnectSetsUp, ConnectIsDeclined};
 
 use x25_frame::reads_what_is_spelled;
@@ -26,6 +28,46 @@ pub fn stations_keep_order()
     follows_the_window();
     sets_up_by_rows();
     notes_what_changes();
+    reads_what_is_spelled();
+}
+
+/// Two link stations and the line between them, from nothing or from a link just set up: what holds after each list of events at
+/// either end, over set-up and re-set-up at any moment, where timer T1 of an end that awaits UA doesn't run out while its SABM or a
+/// UA to it is on the line. A session of an end begins as it notes LinkUp, and two sessions meet where one hears a frame with an
+/// N(R) that was sent in the other.
+///
+/// Sessions meet one to one, and in order at both ends. What is handed up in a session is a beginning of what was handed down in
+/// the one that it meets, and a session that meets none hands nothing up. The session of an end that is Up, and the one that it
+/// meets or is to meet, are those of a link set up once, of which all holds that `stations_keep_order` says. No FRMR is ever sent.
+pub fn sessions_keep_order()
+    ensures step { Throughout MeetInStep }
+    ensures order { Throughout MetAreInOrder }
+    ensures unmet { Throughout UnmetHandNothingUp }
+    ensures begun { Throughout OnlyBegunHaveLists }
+    ensures stands { Throughout EachUpStands }
+    ensures no_frmr { Throughout NoSessionSendsFrmr }
+{
+    follows_the_window();
+    sets_up_by_rows();
+    notes_what_changes();
+    reads_what_is_spelled();
+}
+
+/// With the sessions forgotten, they are the two stations of `stations_keep_order`: the same events do the same, and what is handed
+/// down and up there is what was in all sessions.
+pub fn sessions_are_stations()
+    ensures alike { SessionsAreStations }
+    ensures start { SetUpIsTheStart }
+{}
+
+/// Worked rows: a SABM is lost and goes again, and a packet is handed up in the first session of each end; set up again, a packet
+/// that was on the line is still one of the first sessions, and the next is one of the second. Where timer T1 runs out while
+/// the SABM is on the line, the sessions may get out of step.
+pub fn sessions_move()
+    ensures first { SetsUpFromNothing }
+    ensures second { SetsUpAgain }
+    ensures untimely { UntimelyIsOutOfStep }
+{
     reads_what_is_spelled();
 }
 

@@ -10,7 +10,10 @@ mod raw_frame;
 mod raw_world;
 
 pub use direction::Direction;
-pub use law::{each_event_hands_one, stations_keep_order, stations_move};
+pub use law::{
+    each_event_hands_one, sessions_are_stations, sessions_keep_order, sessions_move,
+    stations_keep_order, stations_move,
+};
 pub use raw_error::{RawError, RawRefused};
 pub use raw_event::RawEvent;
 pub use raw_frame::{RawCarried, RawFrame};

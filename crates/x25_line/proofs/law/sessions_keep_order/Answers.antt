@@ -1,0 +1,20 @@
+use Rattle.x25_line.proofs.StationRuns.{Laws}
+use Rattle.x25_line.proofs.SessionRuns.{SessionLaws, meet_in_step, met_in_order, unmet_nothing, only_begun, each_stands, never_frmr}
+use Rattle.x25_line.proofs.law.sessions_keep_order.Goals as goal
+
+pub returns : goal.returns
+returns c =
+    let reads = c.reads_what_is_spelled.ensures.reads in
+    let law = c.follows_the_window.ensures in
+    let rows = c.sets_up_by_rows.ensures in
+    let notes = c.notes_what_changes.ensures in
+    let laws : Laws = record {
+      window = record { take = law.take; put = law.put; timer = law.timer; disconnect = law.disconnect; abandon = law.abandon; take_out = law.take_out; disconnect_out = law.disconnect_out };
+      set_up = record { waits = rows.waits; sets_up = rows.sets_up; connects = rows.connects; timer = rows.timer; disconnects = rows.disconnects };
+      take_tells = notes.take;
+      timer_tells = notes.timer;
+      disconnect_tells = notes.disconnect;
+      abandon_tells = notes.abandon;
+    } in
+    let rests : SessionLaws = record { laws = laws; continues = notes.take_continues } in
+    record { step = meet_in_step reads rests; order = met_in_order reads rests; unmet = unmet_nothing reads rests; begun = only_begun reads rests; stands = each_stands reads rests; no_frmr = never_frmr reads rests }
