@@ -15,3 +15,5 @@ pub mod World
 pub mod Law
 pub mod RoundLaw
 pub mod NameLaw
+pub mod Apart
+pub mod ApartLaw
