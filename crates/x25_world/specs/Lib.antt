@@ -2,6 +2,8 @@ pub mod WorldError
 pub mod SetUpFrames
 pub mod World
 pub mod Claims
+pub mod Sessions
+pub mod SessionClaims
 pub mod WorldRows
 pub mod PlainTold
 pub mod OnLine

@@ -1,0 +1,48 @@
+-- What holds of two stations and the line between them after every list of events, over set-up and re-set-up at any moment.
+use Rattle.std.specs.Prelude.{◌≡◌, ◌<◌, ◌⊎◌, ℕ, true, List, [], Some, None}
+use Rattle.x25_link.specs.MustSend.{other}
+use Rattle.x25_bits.specs.declared.role.Role.{Role}
+use Rattle.x25_epochs.specs.Names.{Name}
+use Rattle.x25_layer.specs.Law.{HandsUpLawfully, HasAllOf}
+use Rattle.x25_station.specs.declared.config.Cfg.{Cfg}
+use Rattle.x25_station.specs.Settings.{settings_from, config_refusal}
+use Rattle.x25_station.specs.Entries.{layer_notices}
+use Rattle.x25_station.specs.Told.{is_idle, stretch}
+use Rattle.x25_world.specs.World.{World, Event, run, start, established}
+use Rattle.x25_world.specs.Claims.{AreInOctets, station_at}
+use Rattle.x25_world.specs.Sessions.{session_at, last_session, handed_in, meets}
+
+-- what holds after each list of events, of commands with `connect` at any moment, deliveries, losses, damage and timer T1, from both links
+-- down and nothing on the line, or from a link just set up
+abbrev pub Throughout : (Cfg → World → Type 0) → Type 0
+Throughout Holds =
+    (cfg : Cfg) → config_refusal cfg ≡ None → (begin : World) → (begin ≡ start) ⊎ (begin ≡ established cfg) → (events : List Event) → AreInOctets events → Holds cfg (run cfg events begin)
+
+-- Of two sessions of an end that each meet one, the later meets the later one. Where a session meets one that meets any, that one meets
+-- it.
+pub record MeetInStep (cfg : Cfg) (w : World) : Type 0 where
+  pub later : (end : Role) (n p m q : ℕ) → meets end n w.transcript ≡ Some m → meets end p w.transcript ≡ Some q → n < p → m < q
+  pub mutual : (end : Role) (n m p : ℕ) → meets end n w.transcript ≡ Some m → meets (other end) m w.transcript ≡ Some p → p ≡ n
+
+-- On each channel and under each name of a stretch, the messages, the interrupts and the calls that an end hands up in a session are a
+-- beginning of those that the other end handed down in the session that it meets.
+abbrev pub AreLawfulWhereMet : Cfg → World → Type 0
+AreLawfulWhereMet cfg w = (end : Role) (n m : ℕ) → meets end n w.transcript ≡ Some m → HandsUpLawfully (handed_in end n w) (handed_in (other end) m w)
+
+-- in a session that meets none the layer tells its user nothing: no message, no interrupt and no call
+abbrev pub UnmetAreToldNothing : Cfg → World → Type 0
+UnmetAreToldNothing cfg w = (end : Role) (n : ℕ) → meets end n w.transcript ≡ None → layer_notices (session_at end n w.transcript) ≡ []
+
+-- where a stretch is open at both ends, on whichever channels, the two sessions that stand meet each other
+abbrev pub OpenStretchesMeet : Cfg → World → Type 0
+OpenStretchesMeet cfg w =
+    (end : Role) (channel there : ℕ) (name name_there : Name) → stretch (settings_from end cfg) (station_at end w) channel ≡ Some name
+    → stretch (settings_from (other end) cfg) (station_at (other end) w) there ≡ Some name_there → meets end (last_session end w) w.transcript ≡ Some (last_session (other end) w)
+
+-- Where an end is idle, and the same stretch of a channel is open at both ends, all messages and interrupts of that stretch arrived, from
+-- the one session that stands to the other.
+abbrev pub AllArrive : Cfg → World → Type 0
+AllArrive cfg w =
+    (end : Role) (channel : ℕ) (name : Name) → is_idle (settings_from end cfg) (station_at end w) ≡ true → stretch (settings_from end cfg) (station_at end w) channel ≡ Some name
+    → stretch (settings_from (other end) cfg) (station_at (other end) w) channel ≡ Some name
+    → HasAllOf channel name (handed_in end (last_session end w) w) (handed_in (other end) (last_session (other end) w) w)
