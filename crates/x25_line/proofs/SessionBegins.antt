@@ -36,7 +36,7 @@ module _ (c d : Settings) (joined : AreJoined c d) (reads : ReadsSpelled) where
   begins_held w h e es is one n f step v none answer le few view heard owes = elim (asked_by w.far.station.phase _ _ some h.line.far_owes) [
     | inl waits ↦ by Soon (waits.0, refl, refl) (subst (λ (fs : List PlainFrame). AfterUa (other d.role) d.longest (w.out ++ sent_in n c.role fs) [] (suc w.near.begun)) (sym answer)
         (after_answer (other d.role) d.longest w.out [] (record { session = n; octets = spelling_of c.role (ua f) }) [] (suc w.near.begun) (omega (arith, waits.1, some_back)) ua_reads (refl, tt)))
-    | inr closed ↦ by Gone (ap is_up closed) (λ waiting. waiting_is_closed w.far.station.phase waiting closed)
+    | inr closed ↦ by Gone (ap is_up closed, omega arith) (λ waiting. waiting_is_closed w.far.station.phase waiting closed)
   ]
     where
       fs : List PlainFrame

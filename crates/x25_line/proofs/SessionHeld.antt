@@ -20,7 +20,7 @@ use Rattle.x25_line.proofs.SessionLines.{count, of_sabm, of_ua, of_disc, AllBegu
 -- ---- the session that stands, and how an end is in it
 
 -- An end that is Up is in the session that stands. One that waits with a UA on the way to it is about to be in it, afresh.
--- Any other is out of it.
+-- Any other is out of it, and began no later one.
 pub data View : Type 0 where
   Live : View
   Soon : View
@@ -30,7 +30,12 @@ pub data View : Type 0 where
 abbrev pub IsView : View → SessionEnd → Station → ℕ → Type 0
 IsView Live e s session = (is_up e.station.phase ≡ true) × (s ≡ e.station) × (e.begun ≡ session)
 IsView Soon e s session = (e.station.phase ≡ Waiting) × (s ≡ fresh) × (suc e.begun ≡ session)
-IsView Gone e s session = is_up e.station.phase ≡ false
+IsView Gone e s session = (is_up e.station.phase ≡ false) × (e.begun ≤ session)
+
+pub view_begun : (v : View) (e : SessionEnd) (s : Station) (session : ℕ) → IsView v e s session → e.begun ≤ session
+view_begun Live e s session h = omega (arith, h.2)
+view_begun Soon e s session h = omega (arith, h.2)
+view_begun Gone e s session h = h.1
 
 -- the frames with a number are those on the line of the session alone
 abbrev pub Comes : Role → ℕ → List Entry → List (List ℕ) → ℕ → Type 0
@@ -275,6 +280,13 @@ pub record Held (c d : Settings) (w : Sessions) : Type 0 where
   pub far_lists : HasLists w.far q alone.far
   pub meetings : Meetings w.near w.far p q w.met
   pub no_frmr : NoFrmr w.sent
+
+-- no end began a session later than the one that stands
+pub near_high : (c d : Settings) (w : Sessions) (h : Held c d w) → w.near.begun ≤ h.p
+near_high c d w h = view_begun h.near_view w.near h.alone.near.station h.p h.near
+
+pub far_high : (c d : Settings) (w : Sessions) (h : Held c d w) → w.far.begun ≤ h.q
+far_high c d w h = view_begun h.far_view w.far h.alone.far.station h.q h.far
 
 -- ---- lists by sessions
 

@@ -114,11 +114,11 @@ near_turned : (n : ℕ) (met : List Meeting) → SomeMet (λ (m : Meeting). m.ne
 near_turned n [] h = h
 near_turned n (m ∷ ms) h = elim h [ inl here ↦ inl here | inr there ↦ inr (near_turned n ms there) ]
 
-far_turned : (n : ℕ) (met : List Meeting) → SomeMet (λ (m : Meeting). m.far ≡ n) met → SomeMet (λ (m : Meeting). m.near ≡ n) (map turned met)
+pub far_turned : (n : ℕ) (met : List Meeting) → SomeMet (λ (m : Meeting). m.far ≡ n) met → SomeMet (λ (m : Meeting). m.near ≡ n) (map turned met)
 far_turned n [] h = h
 far_turned n (m ∷ ms) h = elim h [ inl here ↦ inl here | inr there ↦ inr (far_turned n ms there) ]
 
-held_swapped : (c d : Settings) → AreJoined c d → (w : Sessions) → Held c d w → Held d c (swapped w)
+pub held_swapped : (c d : Settings) → AreJoined c d → (w : Sessions) → Held c d w → Held d c (swapped w)
 held_swapped c d joined w h =
     record {
       alone = one.swapped h.alone;
@@ -186,8 +186,8 @@ nothing_held c d joined =
       q = 0;
       near_view = Gone;
       far_view = Gone;
-      near = refl;
-      far = refl;
+      near = (refl, omega arith);
+      far = (refl, omega arith);
       back = λ waiting. refl;
       out = λ waiting. refl;
       line = clear_line c d Down (inl refl) 0;
@@ -249,7 +249,7 @@ stands c d joined w h up =
     }
 
 module _ (reads : ReadsSpelled) (rests : SessionLaws) where
-  throughout : Throughout Held
+  pub throughout : Throughout Held
   throughout c d joined begin is events timely = run_held c d joined reads rests events begin timely (begin_held c d joined begin is)
 
   pub meet_in_step : Throughout MeetInStep

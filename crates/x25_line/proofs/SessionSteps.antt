@@ -230,7 +230,7 @@ module _ (c d : Settings) (joined : AreJoined c d) (reads : ReadsSpelled) where
 
       go : FitsEnd ⊥ c step.side.near holds.0.near → Held c d (stepped c w es met down w.near.begun step)
       go (inl u) = by Live (u.up, refl, near.2) comes
-      go (inr away) = by Gone (away_is_not_up ⊥ step.side.near.phase away.away) (λ waiting. waiting_away step.side.near.phase waiting away.away)
+      go (inr away) = by Gone (away_is_not_up ⊥ step.side.near.phase away.away, omega (arith, near.2)) (λ waiting. waiting_away step.side.near.phase waiting away.away)
 
   -- ---- an end that is out of the session, or goes into it
 

@@ -4,6 +4,7 @@ use Rattle.x25_bits.specs.declared.role.Role.{Role}
 use Rattle.x25_frame.specs.Reading.{frame_of}
 use Rattle.x25_link.specs.Station.{Settings, is_up}
 use Rattle.x25_link.specs.MustSend.{other}
+use Rattle.x25_link.specs.Steps.{is_idle}
 use Rattle.x25_line.specs.InWindow.{Begins}
 use Rattle.x25_line.specs.Stations.{StationEnd, Stations, Event, start, run as run_alone}
 use Rattle.x25_line.specs.StationClaims.{AreJoined, BothInOrder, BothHaveTheirLists, AreInWindow, NoFrmr, NoFrmrSent, AllSentAreWhole, number_in, numbered_on}
@@ -106,6 +107,24 @@ pub record Stands (c d : Settings) (w : Sessions) : Type 0 where
 pub record EachUpStands (c d : Settings) (w : Sessions) : Type 0 where
   pub near : is_up w.near.station.phase ≡ true → Stands c d w
   pub far : is_up w.far.station.phase ≡ true → Stands d c (swapped w)
+
+-- ---- the latest sessions
+
+-- where an end is Up, each frame with an N(R) on the line to it was sent in the latest session of the other end
+pub record EachHearsLatest (c d : Settings) (w : Sessions) : Type 0 where
+  pub near : is_up w.near.station.phase ≡ true → AllOf (other c.role) c.longest w.far.begun w.back
+  pub far : is_up w.far.station.phase ≡ true → AllOf (other d.role) d.longest w.near.begun w.out
+
+-- the session of an end that is Up meets no other than the latest of the other end
+pub record EachMeetsLatest (c d : Settings) (w : Sessions) : Type 0 where
+  pub near : is_up w.near.station.phase ≡ true → AllMet (λ (m : Meeting). m.near ≡ w.near.begun → m.far ≡ w.far.begun) w.met
+  pub far : is_up w.far.station.phase ≡ true → AllMet (λ (m : Meeting). m.far ≡ w.far.begun → m.near ≡ w.near.begun) w.met
+
+-- Where an end is idle, and the other is Up too or met its session, all that was handed down in this session was handed up in
+-- the latest session of the other.
+pub record IdleHasArrived (c d : Settings) (w : Sessions) : Type 0 where
+  pub near : is_idle w.near.station ≡ true → (is_up w.far.station.phase ≡ true) ⊎ SomeMet (λ (m : Meeting). m.near ≡ w.near.begun) w.met → w.far.up w.far.begun ≡ w.near.down w.near.begun
+  pub far : is_idle w.far.station ≡ true → (is_up w.near.station.phase ≡ true) ⊎ SomeMet (λ (m : Meeting). m.far ≡ w.far.begun) w.met → w.near.up w.near.begun ≡ w.far.down w.far.begun
 
 -- ---- no fault is ever found
 
