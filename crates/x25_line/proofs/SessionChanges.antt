@@ -88,6 +88,7 @@ module _ (c d : Settings) (joined : AreJoined c d) (reads : ReadsSpelled) (laws 
         far_lists = h.far_lists;
         meetings = h.meetings;
         no_frmr = h.no_frmr;
+        whole = h.whole;
       }
 
   by_view : (v : View) (w : Sessions) (h : Held c d w) (es : List Entry) → Change (other c.role) c.longest w.back es → IsView v w.near h.alone.near.station h.p

@@ -1,13 +1,15 @@
 -- What holds of two link stations and the line between them after each list of events, over set-up and re-set-up at any moment.
 use Rattle.std.specs.Prelude.{◌≡◌, ◌≤◌, ◌<◌, ◌⊎◌, ℕ, zero, suc, true, List, [], ◌∷◌, ◌++◌, None}
+use Rattle.std.specs.List.{Contains}
 use Rattle.x25_bits.specs.declared.role.Role.{Role}
+use Rattle.x25_frame.specs.PlainFrame.{PlainFrame}
 use Rattle.x25_frame.specs.Reading.{frame_of}
 use Rattle.x25_link.specs.Station.{Settings, is_up}
 use Rattle.x25_link.specs.MustSend.{other}
 use Rattle.x25_link.specs.Steps.{is_idle}
 use Rattle.x25_line.specs.InWindow.{Begins}
 use Rattle.x25_line.specs.Stations.{StationEnd, Stations, Event, start, run as run_alone}
-use Rattle.x25_line.specs.StationClaims.{AreJoined, BothInOrder, BothHaveTheirLists, AreInWindow, NoFrmr, NoFrmrSent, AllSentAreWhole, number_in, numbered_on}
+use Rattle.x25_line.specs.StationClaims.{AreJoined, BothInOrder, BothHaveTheirLists, AreInWindow, NoFrmr, NoFrmrSent, AreWhole, AllSentAreWhole, number_in, numbered_on}
 use Rattle.x25_line.specs.Sessions.{Entry, SessionEnd, Meeting, Sessions, run, from_nothing, from_set_up, AreTimely, swapped}
 
 -- what holds after each list of events, from nothing and from a link just set up, where timer T1 is timely
@@ -130,6 +132,17 @@ pub record IdleHasArrived (c d : Settings) (w : Sessions) : Type 0 where
 
 abbrev pub NoSessionSendsFrmr : Settings → Settings → Sessions → Type 0
 NoSessionSendsFrmr c d w = NoFrmr w.sent
+
+-- ---- each frame ever sent is whole
+
+-- each may be spelled, and the packet of an I frame is one that was handed down in a session of one of the ends
+pub record AreWholeIn (n1 : ℕ) (near far : SessionEnd) (frames : List PlainFrame) : Type 0 where
+  pub given : List (List ℕ)
+  pub handed_down : (packet : List ℕ) → Contains given packet → ((n : ℕ) × Contains (near.down n) packet) ⊎ ((n : ℕ) × Contains (far.down n) packet)
+  pub whole : AreWhole n1 given frames
+
+abbrev pub AllSessionsSendWhole : Settings → Settings → Sessions → Type 0
+AllSessionsSendWhole c d w = AreWholeIn c.longest w.near w.far w.sent
 
 -- ---- with the sessions forgotten
 

@@ -1,6 +1,6 @@
 //! Two link stations over a line, as laws about their definition. Each is the contract of a function that does nothing.
 ghost use Rattle.x25_line.specs.StationClaims.{Always, BothInOrder, BothHaveTheirLists, BothNoteTheirEnds, AreInWindow, NoFrmrSent, AllSentAreWhole, OneLinkUnlessConnected, EachEventHandsOne};
-ghost use Rattle.x25_line.specs.SessionClaims.{Throughout, MeetInStep, MetAreInOrder, UnmetHandNothingUp, OnlyBegunHaveLists, EachUpStands, EachHearsLatest, EachMeetsLatest, IdleHasArrived, NoSessionSendsFrmr, SessionsAreStations, SetUpIsTheStart};
+ghost use Rattle.x25_line.specs.SessionClaims.{Throughout, MeetInStep, MetAreInOrder, UnmetHandNothingUp, OnlyBegunHaveLists, EachUpStands, EachHearsLatest, EachMeetsLatest, IdleHasArrived, NoSessionSendsFrmr, AllSessionsSendWhole, SessionsAreStations, SetUpIsTheStart};
 ghost use Rattle.x25_line.specs.SessionEvents.{EachEventHandsInSession, EachEventMeetsLatest};
 ghost use Rattle.x25_line.specs.SessionRows.{SetsUpFromNothing, SetsUpAgain, UntimelyIsOutOfStep};
 ghost use Rattle.x25_line.specs.StationRows.{PacketGoes, PacketsCross, LostComesAgain, DamagedComesAgain, DisconnectEnds, AbandonEnds, ConnectSetsUp, ConnectIsDeclined};
@@ -40,6 +40,7 @@ pub fn stations_keep_order()
 /// Sessions meet one to one, and in order at both ends. What is handed up in a session is a beginning of what was handed down in
 /// the one that it meets, and a session that meets none hands nothing up. The session of an end that is Up, and the one that it
 /// meets or is to meet, are those of a link set up once, of which all holds that `stations_keep_order` says. No FRMR is ever sent.
+/// Each frame ever sent may be spelled, and the packet of an I frame was handed down in a session of one of the ends.
 ///
 /// An end that is Up hears the latest session of the other end alone, and meets no other. So one event brings one meeting at most,
 /// that of the latest sessions of both ends, and only then a packet may be handed up. Where an end is idle, and the other is Up
@@ -55,6 +56,7 @@ pub fn sessions_keep_order()
     ensures meets { Throughout EachEventMeetsLatest }
     ensures idle { Throughout IdleHasArrived }
     ensures no_frmr { Throughout NoSessionSendsFrmr }
+    ensures whole { Throughout AllSessionsSendWhole }
 {
     follows_the_window();
     sets_up_by_rows();
