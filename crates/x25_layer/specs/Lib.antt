@@ -17,3 +17,4 @@ pub mod RoundLaw
 pub mod NameLaw
 pub mod Apart
 pub mod ApartLaw
+pub mod ApartRuns
