@@ -17,4 +17,3 @@ pub mod RoundLaw
 pub mod NameLaw
 pub mod Apart
 pub mod ApartLaw
-pub mod ApartRuns
