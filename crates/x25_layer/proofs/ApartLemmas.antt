@@ -9,12 +9,12 @@ use Rattle.x25_layer.specs.Calls.{LayerOutcome, Accepted, Declined, layer_outcom
 use Rattle.x25_layer.specs.World as world
 use Rattle.x25_layer.specs.World.{End, World, requested, pulled_in, handed_up, moves_in, moves, turned, settings_of, Event, happens, run, start}
 use Rattle.x25_layer.specs.Law.{Always, KeepsOrder}
-use Rattle.x25_layer.specs.Apart.{OwnMove, Requests, Pulls, Takes, GoesDown, as_move, coming, alone, own_moves, own_run, Ends, ApartEvent, apart_happens, apart_run, ends_of, IsNext, IsInOrder, AreInOrder, as_world, AlwaysApart}
-use Rattle.x25_layer.specs.ApartLaw.{AreByThemselves, OwnMovesDecide, StaysDown, EventsRunOn}
+use Rattle.x25_layer.specs.Apart.{OwnMove, Requests, Pulls, Takes, GoesDown, as_move, coming, alone, own_moves, own_run, Ends, ApartEvent, apart_happens, apart_run, ends_of, IsNext, IsInOrder, AreInOrder, over_links, all_over_links, as_world, AlwaysApart}
+use Rattle.x25_layer.specs.ApartLaw.{IsOverLinks, AreByThemselves, OwnMovesDecide, StaysDown, EventsRunOn}
 
 -- ---- own moves alone decide
 
-abbrev event : Bool → OwnMove → ApartEvent
+abbrev pub event : Bool → OwnMove → ApartEvent
 event first what = record { first = first; what = what }
 
 one_decides : (long_data : Bool) (channels : ℕ) (first : Bool) (what : OwnMove) (es : List ApartEvent) (ends : Ends) → ((next : Ends) → AreByThemselves long_data channels es next)
@@ -34,16 +34,16 @@ events_run_on long_data channels (e ∷ done) es ends =
     let r = events_run_on long_data channels done es (apart_happens long_data channels ends e) in
     record { run = r.run; order = λ first behind. (first.0, r.order first.1 behind) }
 
-still : (c : LayerSettings) (e : End) (own : List OwnMove) → e.is_out ≡ true → own_run c own e ≡ e
-still c e [] out = refl
-still c e (what ∷ own) out = ap (λ (v : End). own_run c own v) (ap (λ (b : Bool). (moves_in c (alone e (coming what)) b (as_move what)).near) out) ∙ still c e own out
+stays_out : (c : LayerSettings) (e : End) (own : List OwnMove) → e.is_out ≡ true → own_run c own e ≡ e
+stays_out c e [] out = refl
+stays_out c e (what ∷ own) out = ap (λ (v : End). own_run c own v) (ap (λ (b : Bool). (moves_in c (alone e (coming what)) b (as_move what)).near) out) ∙ stays_out c e own out
 
 down_is_out : (c : LayerSettings) (e : End) (gone : Bool) → e.is_out ≡ gone → (own_moves c e GoesDown).is_out ≡ true
 down_is_out c e true is = ap (λ (b : Bool). (moves_in c (alone e []) b world.GoesDown).near.is_out) is ∙ is
 down_is_out c e false is = ap (λ (b : Bool). (moves_in c (alone e []) b world.GoesDown).near.is_out) is
 
 pub stays_down : StaysDown
-stays_down c e own = still c (own_moves c e GoesDown) own (down_is_out c e e.is_out refl)
+stays_down c e own = stays_out c (own_moves c e GoesDown) own (down_is_out c e e.is_out refl)
 
 -- ---- a move of an end by itself is that of two layers
 
@@ -74,13 +74,6 @@ agrees c w (Takes p) false is order next =
 agrees c w GoesDown false is order next = (refl, refl)
 
 -- ---- .. and so a run
-
-abbrev over_links : ApartEvent → Event
-over_links e = record { first = e.first; what = as_move e.what }
-
-abbrev all_over_links : List ApartEvent → List Event
-all_over_links [] = []
-all_over_links (e ∷ es) = over_links e ∷ all_over_links es
 
 abbrev both : End → End → Ends
 both near far = record { near = near; far = far }
@@ -113,7 +106,10 @@ with_flight w out back = record { near = w.near; far = w.far; out = out; back = 
 ends_are_the_world : (w : World) → KeepsOrder w → as_world (ends_of w) ≡ w
 ends_are_the_world w order = ap₂ (with_flight w) (in_flight w.near.given w.far.taken w.out order.near) (in_flight w.far.given w.near.taken w.back order.far)
 
-pub always_apart : (P : World → Type 0) (long_data : Bool) (channels : ℕ) → Always KeepsOrder long_data channels → Always P long_data channels → AlwaysApart P long_data channels
-always_apart P long_data channels order holds es next =
-    let w : World = run long_data channels (all_over_links es) (start long_data channels) in
-    subst P (sym (ap as_world (run_agrees long_data channels es (start long_data channels) order next) ∙ ends_are_the_world w (order (all_over_links es)))) (holds (all_over_links es))
+pub apart_is_over_links : (long_data : Bool) (channels : ℕ) → Always KeepsOrder long_data channels → IsOverLinks long_data channels
+apart_is_over_links long_data channels order es next =
+    ap as_world (run_agrees long_data channels es (start long_data channels) order next)
+    ∙ ends_are_the_world (run long_data channels (all_over_links es) (start long_data channels)) (order (all_over_links es))
+
+pub always_apart : (P : World → Type 0) (long_data : Bool) (channels : ℕ) → IsOverLinks long_data channels → Always P long_data channels → AlwaysApart P long_data channels
+always_apart P long_data channels same holds es next = subst P (sym (same es next)) (holds (all_over_links es))

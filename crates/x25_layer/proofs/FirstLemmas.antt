@@ -15,6 +15,7 @@ use Rattle.x25_layer.specs.World.{End, requested, pulled_in, moves_in, settings_
 use Rattle.x25_layer.specs.Apart.{OwnMove, Requests, Pulls, Takes, GoesDown, as_move, coming, alone, own_moves, own_run, Ends, ApartEvent, apart_happens, apart_run, apart_start, IsNext, IsInOrder, AreInOrder, as_world, AlwaysApart}
 use Rattle.x25_layer.specs.ApartLaw.{BeginsRestarted, IsToldFirst, RestartsFirst, BeginsAlone}
 use Rattle.x25_layer.proofs.LayerLemmas.{true≢false}
+use Rattle.x25_layer.proofs.ApartLemmas.{event}
 
 -- ---- no packet came
 
@@ -147,9 +148,6 @@ first_in c e giver (Pulls k) false is h begins next = by (is_channel c.channels 
 first_in c e giver (Takes p) false is h begins next =
     (restart_more e.given (option_to_list (layer_answers c e.layer p).owed) h.0, taken_is_told c e.layer e.taken e.told p giver.given h.1 begins (next is))
 first_in c e giver GoesDown false is h begins next = h
-
-abbrev event : Bool → OwnMove → ApartEvent
-event first what = record { first = first; what = what }
 
 one_first : (long_data : Bool) (channels : ℕ) (first : Bool) (what : OwnMove) (ends : Ends) → IsInOrder ends (event first what) → First ends.near → First ends.far
     → let next = apart_happens long_data channels ends (event first what) in First next.near × First next.far

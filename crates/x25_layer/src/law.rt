@@ -2,7 +2,7 @@ ghost use Rattle.std.specs.Prelude.{Bool, ℕ};
 ghost use Rattle.x25_layer.specs.Law.{Always, IsQuietWorld, IsLawfulWorld, ArrivesAll, KeepsOrder};
 ghost use Rattle.x25_layer.specs.NameLaw.{NamesAreCounted, NoClearComesInP1};
 ghost use Rattle.x25_layer.specs.Apart.{AlwaysApart};
-ghost use Rattle.x25_layer.specs.ApartLaw.{RestartsFirst, BeginsAlone, OwnMovesDecide, StaysDown, EventsRunOn};
+ghost use Rattle.x25_layer.specs.ApartLaw.{IsOverLinks, RestartsFirst, BeginsAlone, OwnMovesDecide, StaysDown, EventsRunOn};
 ghost use Rattle.x25_layer.specs.RoundLaw.{CallsRun, HearsRun, RoundsSettle, ComesUpAlone};
 
 /// Two layers over links that keep order, whatever their users ask and whenever a link goes down: after every event,
@@ -34,9 +34,10 @@ pub fn names_are_told()
 }
 
 /// Two layers, each end by itself, where each packet that an end's link hands up is the next of those that the other end gave:
-/// after every list of such events they are two layers over links that keep order, of which all of the above holds. And an end's
-/// user is told nothing before the first packet, which is told as a restart by the other end.
+/// every list of such events leads where it leads two layers over links, of which all of the above holds. And an end's user is told
+/// nothing before the first packet, which is told as a restart by the other end.
 pub fn apart_layers_keep_order()
+    ensures runs { (long_data : Bool) (channels : ℕ) → IsOverLinks long_data channels }
     ensures order { (long_data : Bool) (channels : ℕ) → AlwaysApart KeepsOrder long_data channels }
     ensures quiet { (long_data : Bool) (channels : ℕ) → AlwaysApart (IsQuietWorld channels) long_data channels }
     ensures lawful { (long_data : Bool) (channels : ℕ) → AlwaysApart IsLawfulWorld long_data channels }
@@ -50,8 +51,8 @@ pub fn apart_layers_keep_order()
 }
 
 /// One end by itself, whatever happens to it and whatever its link hands up: of two ends' events its own alone decide what it is;
-/// until a packet comes, it gave its RESTART alone and nothing was asked or told; after its link went down nothing changes. And
-/// events behind others run on from where those led, in order where both are.
+/// until a packet comes it gave its RESTART alone, no call of its user was accepted, and nothing was told; after its link went
+/// down nothing changes. And events behind others run on from where those led, in order where both are.
 pub fn each_end_is_by_itself()
     ensures own { OwnMovesDecide }
     ensures alone { BeginsAlone }
