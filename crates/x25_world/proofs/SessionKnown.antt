@@ -12,9 +12,8 @@ use Rattle.x25_layer.specs.World as layer
 use Rattle.x25_layer.specs.Law as layers
 use Rattle.x25_layer.specs.Law.{KeepsOrder, IsQuietEnd, IsQuietWorld, IsLawfulWorld, ArrivesAll}
 use Rattle.x25_layer.specs.NameLaw.{NamesAreCounted}
-use Rattle.x25_layer.specs.Apart.{OwnMove, as_move, own_run, Ends, ApartEvent, apart_run, apart_start, AreInOrder, as_world, AlwaysApart, near_moves, far_moves}
-use Rattle.x25_layer.specs.ApartLaw.{IsToldFirst, RestartsFirst, OwnMovesDecide, EventsRunOn}
-use Rattle.x25_layer.specs.ApartRuns.{all_over_links, ApartAreRuns}
+use Rattle.x25_layer.specs.Apart.{OwnMove, as_move, own_run, Ends, ApartEvent, apart_run, apart_start, AreInOrder, as_world, AlwaysApart, near_moves, far_moves, all_over_links}
+use Rattle.x25_layer.specs.ApartLaw.{IsOverLinks, IsToldFirst, RestartsFirst, BeginsAlone, OwnMovesDecide, EventsRunOn}
 use Rattle.x25_station.specs.declared.config.Cfg.{Cfg}
 use Rattle.x25_station.specs.ReadLaw.{AreReadable, MovesOctets, BringOctets}
 use Rattle.x25_world.proofs.Known.{Laws, IsConfigured}
@@ -44,7 +43,8 @@ pub record SessionLaws : Type 0 where
   pub layers_restarted : (long_data : Bool) (channels : ℕ) → AlwaysApart RestartsFirst long_data channels
   pub own : OwnMovesDecide
   pub behind : EventsRunOn
-  pub runs : ApartAreRuns
+  pub alone : BeginsAlone
+  pub over_links : (long_data : Bool) (channels : ℕ) → IsOverLinks long_data channels
 
 -- ---- meetings
 
@@ -181,7 +181,7 @@ module _ (laws : SessionLaws) (cfg : Cfg) where
   both_readable : IsConfigured cfg → (n m : ℕ) (trace : List Done) → PairIsInOrder cfg Dte trace n m → traced.BringOctets trace
       → AreReadable cfg.long_data (pair_world Dte n m trace).near.given × AreReadable cfg.long_data (pair_world Dte n m trace).far.given
   both_readable fine n m trace order octets =
-      subst (λ (x : layer.World). AreReadable cfg.long_data x.near.given × AreReadable cfg.long_data x.far.given) (sym (laws.runs cfg.long_data cfg.channels (pair_in n m trace) order))
+      subst (λ (x : layer.World). AreReadable cfg.long_data x.near.given × AreReadable cfg.long_data x.far.given) (sym (laws.over_links cfg.long_data cfg.channels (pair_in n m trace) order))
       (laws.stations.readable cfg.long_data cfg.channels fine.channels (all_over_links (pair_in n m trace)) (pair_octets n m trace octets))
 
   readable_here : IsConfigured cfg → (end : Role) (n m : ℕ) (trace : List Done) → PairIsInOrder cfg end trace n m → traced.BringOctets trace → AreReadable cfg.long_data (pair_world end n m trace).near.given
