@@ -21,6 +21,10 @@ pub mod SessionKnown
 pub mod SessionLinks
 pub mod SessionGoes
 pub mod SessionFollows
+pub mod SessionMoves
+pub mod SessionRequests
+pub mod SessionTimers
+pub mod SessionReceives
 pub mod RowLemmas
 pub mod OnLineLemmas
 pub mod LetGoLemmas
