@@ -25,6 +25,7 @@ pub mod SessionMoves
 pub mod SessionRequests
 pub mod SessionTimers
 pub mod SessionReceives
+pub mod SessionRuns
 pub mod RowLemmas
 pub mod OnLineLemmas
 pub mod LetGoLemmas

@@ -57,18 +57,18 @@ use Rattle.x25_world.proofs.SessionTimers.{not_begun_by}
 -- ---- the line
 
 -- octets on the line are those of an entry
-record FrontEntry (octets : List ℕ) (left : List (List ℕ)) (es : List links.Entry) : Type 0 where
+record FrontEntry (front : List ℕ) (behind : List (List ℕ)) (es : List links.Entry) : Type 0 where
   pub entry : links.Entry
   pub others : List links.Entry
   pub is : es ≡ entry ∷ others
-  pub octets : entry.octets ≡ octets
-  pub left : octets_of others ≡ left
+  pub octets : entry.octets ≡ front
+  pub left : octets_of others ≡ behind
 
-front_octets : List (List ℕ) → List ℕ
+abbrev front_octets : List (List ℕ) → List ℕ
 front_octets [] = []
 front_octets (x ∷ xs) = x
 
-behind_front : List (List ℕ) → List (List ℕ)
+abbrev behind_front : List (List ℕ) → List (List ℕ)
 behind_front [] = []
 behind_front (x ∷ xs) = xs
 

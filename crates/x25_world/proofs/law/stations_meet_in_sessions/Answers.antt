@@ -6,6 +6,7 @@ use Rattle.x25_world.proofs.SessionFollows.{follows_up}
 use Rattle.x25_world.proofs.SessionRequests.{requests_joined}
 use Rattle.x25_world.proofs.SessionTimers.{fired_joined}
 use Rattle.x25_world.proofs.SessionReceives.{receives_joined}
+use Rattle.x25_world.proofs.SessionRuns.{throughout_joined}
 use Rattle.x25_world.proofs.law.stations_meet_in_sessions.Goals as goal
 
 pub returns : goal.returns
