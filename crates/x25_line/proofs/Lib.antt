@@ -21,5 +21,7 @@ pub mod SessionUp
 pub mod SessionActs
 pub mod SessionTakes
 pub mod SessionRuns
+pub mod SessionLatest
+pub mod SessionEvents
 pub mod SessionsForgotten
 pub mod SessionRowLemmas

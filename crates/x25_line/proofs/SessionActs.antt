@@ -24,7 +24,7 @@ use Rattle.x25_line.proofs.StationSteps.{AsUp, Holds, not_both, ends_joint}
 use Rattle.x25_line.proofs.StationRuns.{Laws, put_up, timer_by}
 use Rattle.x25_line.proofs.StationClaimLemmas.{up_of}
 use Rattle.x25_line.proofs.SessionLines.{count}
-use Rattle.x25_line.proofs.SessionHeld.{OwesAfter, View, Live, Soon, Gone, IsView, IsHeard, Comes, Owes, Held}
+use Rattle.x25_line.proofs.SessionHeld.{OwesAfter, View, Live, Soon, Gone, IsView, IsHeard, Comes, Owes, Held, near_high}
 use Rattle.x25_line.proofs.SessionSteps.{stepped, apart_held}
 use Rattle.x25_line.proofs.SessionUp.{MayAnswer, stays_answers, ends_answers, follows_answers, stays_no_packet, follows_no_packet, by_reason, none_reason, live_goes_on}
 
@@ -49,7 +49,7 @@ in_session c d w h up = go h.near_view h.near h.back
         let u = up_of ⊥ c h.alone.near.station h.holds.0.near h.holds.1.near (ap (λ (s : Station). is_up s.phase) view.1 ∙ up) in
         record { view = view; comes = heard; machine = u; running = record { up = up; sound = subst (λ (s : Station). IsSound c.window s.outgoing) view.1 u.sound } }
     go Soon view heard = not_both (is_up w.near.station.phase) up (ap is_up view.0)
-    go Gone view heard = not_both (is_up w.near.station.phase) up view
+    go Gone view heard = not_both (is_up w.near.station.phase) up view.0
 
 -- ---- by the phase
 
@@ -140,7 +140,7 @@ module _ (c d : Settings) (joined : AreJoined c d) (reads : ReadsSpelled) (laws 
       let sabms = ap (count sabm_in) i.out in
       let discs = ap (count disc_in) i.out in
       quiet_held c d w w.back w.met [] step i.up
-      (apart_held c d joined reads w h w.back w.near.begun step Gone i.packet (omega arith) (ap is_up waiting) (λ _. omega (arith, none)) (subst (AreParting (Unit {0})) (sym i.out) (tt, tt)) (ap (count ua_in) i.out) h.line
+      (apart_held c d joined reads w h w.back w.near.begun step Gone i.packet (omega arith) (ap is_up waiting, near_high c d w h) (λ _. omega (arith, none)) (subst (AreParting (Unit {0})) (sym i.out) (tt, tt)) (ap (count ua_in) i.out) h.line
       (subst (λ (p : Phase). OwesAfter c d p w.out step.side.out w.back) (sym waiting) (omega (arith, sabms, none), omega (arith, discs, no_disc))))
 
   -- nothing is sent, and nothing is awaited any more
@@ -152,14 +152,14 @@ module _ (c d : Settings) (joined : AreJoined c d) (reads : ReadsSpelled) (laws 
       let sabms = ap (count sabm_in) i.out in
       let discs = ap (count disc_in) i.out in
       quiet_held c d w w.back w.met [] step i.up
-      (apart_held c d joined reads w h w.back w.near.begun step Gone i.packet (omega arith) (ap is_up down) (λ _. omega (arith, none)) (subst (AreParting (Unit {0})) (sym i.out) tt) (ap (count ua_in) i.out) h.line
+      (apart_held c d joined reads w h w.back w.near.begun step Gone i.packet (omega arith) (ap is_up down, near_high c d w h) (λ _. omega (arith, none)) (subst (AreParting (Unit {0})) (sym i.out) tt) (ap (count ua_in) i.out) h.line
       (subst (λ (p : Phase). OwesAfter c d p w.out step.side.out w.back) (sym down) (omega (arith, sabms, none), omega (arith, discs, no_disc))))
 
   closes_held : (w : Sessions) → Held c d w → (step : Step) → step.side.near.phase ≡ Closed → step.side.out ≡ disc true ∷ [] → step.packet ≡ None → step.notes.up ≡ false
       → Held c d (after_step c w w.back w.met [] step)
   closes_held w h step closed sent none quiet =
       quiet_held c d w w.back w.met [] step quiet
-      (apart_held c d joined reads w h w.back w.near.begun step Gone none (omega arith) (ap is_up closed) (λ waiting. closed_is_waiting step.side.near.phase closed waiting)
+      (apart_held c d joined reads w h w.back w.near.begun step Gone none (omega arith) (ap is_up closed, near_high c d w h) (λ waiting. closed_is_waiting step.side.near.phase closed waiting)
       (subst (AreParting (Unit {0})) (sym sent) tt) (ap (count ua_in) sent) h.line
       (subst (λ (p : Phase). OwesAfter c d p w.out step.side.out w.back) (sym closed) tt))
 

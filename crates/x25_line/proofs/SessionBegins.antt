@@ -11,10 +11,10 @@ use Rattle.x25_line.specs.Stations.{start}
 use Rattle.x25_line.specs.StationClaims.{AreJoined, NoFrmr, numbered_on}
 use Rattle.x25_line.specs.Sessions.{Entry, SessionEnd, Sessions, sabm_in, ua_in, disc_in, how_many, sent_in}
 use Rattle.x25_line.specs.SessionClaims.{octets_of}
-use Rattle.x25_line.proofs.StationLines.{AreOrderly, orderly_append, no_frmr_append, parting_numbered, parting_orderly, parting_whole}
+use Rattle.x25_line.proofs.StationLines.{AreOrderly, orderly_append, AreParting, no_frmr_append, parting_numbered, parting_orderly, parting_whole}
 use Rattle.x25_line.proofs.StationRuns.{start_joint}
 use Rattle.x25_line.proofs.SessionLines.{Read, octets_append, octets_sent, begun_append, begun_more, begun_sent, numbers, many_append, Behind, behind_quiet, lost}
-use Rattle.x25_line.proofs.SessionHeld.{View, Soon, Gone, IsView, IsHeard, AfterUa, Owes, owes_less, OnLine, line_changed, HasLists, SameLists, meetings_same, meetings_anew, Held, after_answer}
+use Rattle.x25_line.proofs.SessionHeld.{View, Soon, Gone, IsView, IsHeard, AfterUa, Owes, owes_less, OnLine, line_changed, HasLists, SameLists, meetings_same, meetings_anew, Held, whole_apart, after_answer}
 use Rattle.x25_line.proofs.SessionSteps.{end_after, stepped, nothing_handed, waiting_is_closed, asked_by, many_out}
 
 -- nothing with a number stands behind a SABM
@@ -36,7 +36,7 @@ module _ (c d : Settings) (joined : AreJoined c d) (reads : ReadsSpelled) where
   begins_held w h e es is one n f step v none answer le few view heard owes = elim (asked_by w.far.station.phase _ _ some h.line.far_owes) [
     | inl waits ↦ by Soon (waits.0, refl, refl) (subst (λ (fs : List PlainFrame). AfterUa (other d.role) d.longest (w.out ++ sent_in n c.role fs) [] (suc w.near.begun)) (sym answer)
         (after_answer (other d.role) d.longest w.out [] (record { session = n; octets = spelling_of c.role (ua f) }) [] (suc w.near.begun) (omega (arith, waits.1, some_back)) ua_reads (refl, tt)))
-    | inr closed ↦ by Gone (ap is_up closed) (λ waiting. waiting_is_closed w.far.station.phase waiting closed)
+    | inr closed ↦ by Gone (ap is_up closed, omega arith) (λ waiting. waiting_is_closed w.far.station.phase waiting closed)
   ]
     where
       fs : List PlainFrame
@@ -125,4 +125,5 @@ module _ (c d : Settings) (joined : AreJoined c d) (reads : ReadsSpelled) where
             meetings = meetings_same w.near (end_after w.near n [] step) w.far (suc w.near.begun) (suc w.far.begun) w.met same
                 (meetings_anew w.near w.far h.p h.q (suc w.near.begun) (suc w.far.begun) w.met (omega arith) (omega arith) h.meetings);
             no_frmr = subst (λ (xs : List PlainFrame). NoFrmr (w.sent ++ xs)) (sym answer) (no_frmr_append w.sent (ua f ∷ []) h.no_frmr tt);
+            whole = whole_apart d.longest w.near (end_after w.near n [] step) w.far w.sent fs same (subst (AreParting (Unit {0})) (sym answer) tt) h.whole;
           }

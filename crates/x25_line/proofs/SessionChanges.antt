@@ -88,6 +88,7 @@ module _ (c d : Settings) (joined : AreJoined c d) (reads : ReadsSpelled) (laws 
         far_lists = h.far_lists;
         meetings = h.meetings;
         no_frmr = h.no_frmr;
+        whole = h.whole;
       }
 
   by_view : (v : View) (w : Sessions) (h : Held c d w) (es : List Entry) → Change (other c.role) c.longest w.back es → IsView v w.near h.alone.near.station h.p
@@ -102,7 +103,7 @@ module _ (c d : Settings) (joined : AreJoined c d) (reads : ReadsSpelled) (laws 
     where
       go : Left h.alone h.q es → Held c d (record w { back = es })
       go (inl left) = kept_by w h es change left.0 left.1 Soon view left.2
-      go (inr none) = kept_by w h es change h.alone.back h.holds Gone (ap is_up view.0) (λ waiting. none)
+      go (inr none) = kept_by w h es change h.alone.back h.holds Gone (ap is_up view.0, omega (arith, view.2)) (λ waiting. none)
   by_view Gone w h es change view heard =
       kept_by w h es change h.alone.back h.holds Gone view
       (λ waiting. (let less = change_many (other c.role) c.longest ua_in of_ua w.back es change in let none = heard waiting in omega (arith, less, none)))

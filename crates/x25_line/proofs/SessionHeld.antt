@@ -1,6 +1,8 @@
 -- What holds of two stations over set-up and re-set-up at any moment.
 use Rattle.std.proofs.Common.{◌≡◌, ◌≤◌, ◌<◌, ◌==◌, ℕ, zero, suc, ◌+◌, List, [], ◌∷◌, ◌++◌, ◌⊎◌, inl, inr, Bool, true, false, if◌then◌else◌, refl, sym, ap, ◌∙◌, subst, arith, append-nil}
+use Rattle.std.specs.List.{Contains}
 use Rattle.std.proofs.lemmas.Bool.{eq-eqb, eqb-true}
+use Rattle.std.proofs.lemmas.List.Elements.{Contains-append_left, Contains-append_right, Contains-append_cases}
 use Rattle.x25_bits.specs.declared.role.Role.{Role}
 use Rattle.x25_frame.specs.PlainFrame.{PlainFrame}
 use Rattle.x25_frame.specs.Reading.{frame_of}
@@ -10,17 +12,17 @@ use Rattle.x25_link.specs.Station.{Settings, Station, is_up, fresh}
 use Rattle.x25_link.specs.MustSend.{other}
 use Rattle.x25_line.specs.InWindow.{Begins}
 use Rattle.x25_line.specs.Stations.{StationEnd, Stations}
-use Rattle.x25_line.specs.StationClaims.{NoFrmr, numbered_on}
+use Rattle.x25_line.specs.StationClaims.{NoFrmr, AreWhole, numbered_on}
 use Rattle.x25_line.specs.Sessions.{Entry, SessionEnd, Meeting, Sessions, sabm_in, ua_in, disc_in, how_many, extended}
-use Rattle.x25_line.specs.SessionClaims.{AllMet, SomeMet, IsAbove, InStep, IsInOrder, octets_of, AllOf}
-use Rattle.x25_line.proofs.StationLines.{AreOrderly, numbered_append}
+use Rattle.x25_line.specs.SessionClaims.{AllMet, SomeMet, IsAbove, InStep, IsInOrder, octets_of, AllOf, AreWholeIn}
+use Rattle.x25_line.proofs.StationLines.{AreOrderly, numbered_append, AreParting, whole_more, whole_append, parting_whole}
 use Rattle.x25_line.proofs.StationSteps.{Holds, not_both}
 use Rattle.x25_line.proofs.SessionLines.{count, of_sabm, of_ua, of_disc, AllBegun, numbers, numbers_append, quiet_tail, quiet_of, of_append, many_append, Behind, Change, change_many, change_behind, change_begun, change_orderly}
 
 -- ---- the session that stands, and how an end is in it
 
 -- An end that is Up is in the session that stands. One that waits with a UA on the way to it is about to be in it, afresh.
--- Any other is out of it.
+-- Any other is out of it, and began no later one.
 pub data View : Type 0 where
   Live : View
   Soon : View
@@ -30,7 +32,12 @@ pub data View : Type 0 where
 abbrev pub IsView : View → SessionEnd → Station → ℕ → Type 0
 IsView Live e s session = (is_up e.station.phase ≡ true) × (s ≡ e.station) × (e.begun ≡ session)
 IsView Soon e s session = (e.station.phase ≡ Waiting) × (s ≡ fresh) × (suc e.begun ≡ session)
-IsView Gone e s session = is_up e.station.phase ≡ false
+IsView Gone e s session = (is_up e.station.phase ≡ false) × (e.begun ≤ session)
+
+pub view_begun : (v : View) (e : SessionEnd) (s : Station) (session : ℕ) → IsView v e s session → e.begun ≤ session
+view_begun Live e s session h = omega (arith, h.2)
+view_begun Soon e s session h = omega (arith, h.2)
+view_begun Gone e s session h = h.1
 
 -- the frames with a number are those on the line of the session alone
 abbrev pub Comes : Role → ℕ → List Entry → List (List ℕ) → ℕ → Type 0
@@ -275,6 +282,14 @@ pub record Held (c d : Settings) (w : Sessions) : Type 0 where
   pub far_lists : HasLists w.far q alone.far
   pub meetings : Meetings w.near w.far p q w.met
   pub no_frmr : NoFrmr w.sent
+  pub whole : AreWholeIn d.longest w.near w.far w.sent
+
+-- no end began a session later than the one that stands
+pub near_high : (c d : Settings) (w : Sessions) (h : Held c d w) → w.near.begun ≤ h.p
+near_high c d w h = view_begun h.near_view w.near h.alone.near.station h.p h.near
+
+pub far_high : (c d : Settings) (w : Sessions) (h : Held c d w) → w.far.begun ≤ h.q
+far_high c d w h = view_begun h.far_view w.far h.alone.far.station h.q h.far
 
 -- ---- lists by sessions
 
@@ -298,6 +313,34 @@ other_by false n s x more e never = refl
 
 pub extended_other : (f : ℕ → List (List ℕ)) (s n : ℕ) (more : List (List ℕ)) → (n ≡ s → ⊥) → extended f s more n ≡ f n
 extended_other f s n more never = other_by (n == s) n s (f n) more refl never
+
+-- ---- whole frames
+
+if_more : (b : Bool) (xs more : List (List ℕ)) (x : List ℕ) → Contains xs x → (let z : List (List ℕ) = if b then xs ++ more else xs in Contains z x)
+if_more true xs more x h = Contains-append_left xs more x h
+if_more false xs more x h = h
+
+pub extended_more : (f : ℕ → List (List ℕ)) (s n : ℕ) (more : List (List ℕ)) (x : List ℕ) → Contains (f n) x → Contains (extended f s more n) x
+extended_more f s n more x h = if_more (n == s) (f n) more x h
+
+-- more are sent, with what was handed down
+pub whole_on : (n1 : ℕ) (e f far : SessionEnd) (more : List (List ℕ)) (fs es : List PlainFrame) → ((n : ℕ) (x : List ℕ) → Contains (e.down n) x → Contains (f.down n) x)
+    → ((x : List ℕ) → Contains more x → ((n : ℕ) × Contains (f.down n) x) ⊎ ((n : ℕ) × Contains (far.down n) x)) → AreWhole n1 more es → AreWholeIn n1 e far fs → AreWholeIn n1 f far (fs ++ es)
+whole_on n1 e f far more fs es grows of whole h =
+    record {
+      given = h.given ++ more;
+      handed_down = λ x there. elim (Contains-append_cases h.given more x there) [
+        | inl old ↦ elim (h.handed_down x old) [ inl near ↦ inl (near.0, grows near.0 x near.1) | inr other_end ↦ inr other_end ]
+        | inr new ↦ of x new
+      ];
+      whole = whole_append n1 (h.given ++ more) fs es (whole_more n1 h.given (h.given ++ more) (λ x old. Contains-append_left h.given more x old) fs h.whole)
+          (whole_more n1 more (h.given ++ more) (λ x new. Contains-append_right h.given more x new) es whole);
+    }
+
+-- none of them carries a packet
+pub whole_apart : (n1 : ℕ) (e f far : SessionEnd) (fs es : List PlainFrame) → SameLists e f → AreParting (Unit {0}) es → AreWholeIn n1 e far fs → AreWholeIn n1 f far (fs ++ es)
+whole_apart n1 e f far fs es same parting h =
+    whole_on n1 e f far [] fs es (λ n x old. subst (λ (xs : List (List ℕ)). Contains xs x) (sym (same.down n)) old) (λ x new. absurd (omega (arith, new.1))) (parting_whole (Unit {0}) n1 [] es parting) h
 
 -- ---- what is on the way
 

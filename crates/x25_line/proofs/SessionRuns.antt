@@ -13,9 +13,9 @@ use Rattle.x25_link.specs.MustSend.{other}
 use Rattle.x25_link.specs.Steps.{put_step, put_refusal, timer_step, timer_refusal, timer_runs, connect_step, connect_refusal, disconnect_step, disconnect_refusal, abandon_step}
 use Rattle.x25_line.specs.Stations.{Stations, Act, Put, Deliver, T1, Connect, Disconnect, Abandon, Lose, Damage, Event, Near, Far, is_visible, start}
 use Rattle.x25_line.specs.Stations as one
-use Rattle.x25_line.specs.StationClaims.{AreJoined}
+use Rattle.x25_line.specs.StationClaims.{AreJoined, AreWhole}
 use Rattle.x25_line.specs.Sessions.{Entry, SessionEnd, Meeting, Sessions, turned, swapped, after_step, unless, delivered, replaced, acts, happens, run, from_nothing, from_set_up, IsTimely, IsTimelyAt, AreTimely}
-use Rattle.x25_line.specs.SessionClaims.{Throughout, AllOf, AllMet, SomeMet, IsAbove, InStep, IsInOrder, MeetInStep, MetAreInOrder, UnmetHandNothingUp, OnlyBegunHaveLists, IsSession, Stands, EachUpStands, NoSessionSendsFrmr}
+use Rattle.x25_line.specs.SessionClaims.{Throughout, AllOf, AllMet, SomeMet, IsAbove, InStep, IsInOrder, MeetInStep, MetAreInOrder, UnmetHandNothingUp, OnlyBegunHaveLists, IsSession, Stands, EachUpStands, NoSessionSendsFrmr, AllSessionsSendWhole}
 use Rattle.x25_line.proofs.StationSteps.{Holds}
 use Rattle.x25_line.proofs.StationAway.{connects_from}
 use Rattle.x25_line.proofs.StationRuns.{Laws, joined_swapped, holds_swapped, start_joint}
@@ -114,11 +114,11 @@ near_turned : (n : ℕ) (met : List Meeting) → SomeMet (λ (m : Meeting). m.ne
 near_turned n [] h = h
 near_turned n (m ∷ ms) h = elim h [ inl here ↦ inl here | inr there ↦ inr (near_turned n ms there) ]
 
-far_turned : (n : ℕ) (met : List Meeting) → SomeMet (λ (m : Meeting). m.far ≡ n) met → SomeMet (λ (m : Meeting). m.near ≡ n) (map turned met)
+pub far_turned : (n : ℕ) (met : List Meeting) → SomeMet (λ (m : Meeting). m.far ≡ n) met → SomeMet (λ (m : Meeting). m.near ≡ n) (map turned met)
 far_turned n [] h = h
 far_turned n (m ∷ ms) h = elim h [ inl here ↦ inl here | inr there ↦ inr (far_turned n ms there) ]
 
-held_swapped : (c d : Settings) → AreJoined c d → (w : Sessions) → Held c d w → Held d c (swapped w)
+pub held_swapped : (c d : Settings) → AreJoined c d → (w : Sessions) → Held c d w → Held d c (swapped w)
 held_swapped c d joined w h =
     record {
       alone = one.swapped h.alone;
@@ -152,6 +152,11 @@ held_swapped c d joined w h =
         far_unmet = λ n. elim (h.meetings.near_unmet n) [ inl empty ↦ inl empty | inr some ↦ inr (near_turned n w.met some) ];
       };
       no_frmr = h.no_frmr;
+      whole = record {
+        given = h.whole.given;
+        handed_down = λ x there. elim (h.whole.handed_down x there) [ inl near ↦ inr near | inr far ↦ inl far ];
+        whole = subst (λ (n : ℕ). AreWhole n h.whole.given w.sent) (sym joined.longest) h.whole.whole;
+      };
     }
 
 -- ---- runs
@@ -186,8 +191,8 @@ nothing_held c d joined =
       q = 0;
       near_view = Gone;
       far_view = Gone;
-      near = refl;
-      far = refl;
+      near = (refl, omega arith);
+      far = (refl, omega arith);
       back = λ waiting. refl;
       out = λ waiting. refl;
       line = clear_line c d Down (inl refl) 0;
@@ -195,6 +200,7 @@ nothing_held c d joined =
       far_lists = record { down = refl; up = refl; later = λ n less. (refl, refl) };
       meetings = record { begun = tt; paired = tt; in_step = tt; in_order = tt; near_unmet = λ n. inl refl; far_unmet = λ n. inl refl };
       no_frmr = tt;
+      whole = record { given = []; handed_down = λ x there. absurd (omega (arith, there.1)); whole = tt };
     }
 
 set_up_held : (c d : Settings) → AreJoined c d → Held c d from_set_up
@@ -215,6 +221,7 @@ set_up_held c d joined =
       far_lists = record { down = refl; up = refl; later = λ n less. (refl, refl) };
       meetings = record { begun = tt; paired = tt; in_step = tt; in_order = tt; near_unmet = λ n. inl refl; far_unmet = λ n. inl refl };
       no_frmr = tt;
+      whole = record { given = []; handed_down = λ x there. absurd (omega (arith, there.1)); whole = tt };
     }
 
 begin_held : (c d : Settings) → AreJoined c d → (begin : Sessions) → (begin ≡ from_nothing) ⊎ (begin ≡ from_set_up) → Held c d begin
@@ -249,7 +256,7 @@ stands c d joined w h up =
     }
 
 module _ (reads : ReadsSpelled) (rests : SessionLaws) where
-  throughout : Throughout Held
+  pub throughout : Throughout Held
   throughout c d joined begin is events timely = run_held c d joined reads rests events begin timely (begin_held c d joined begin is)
 
   pub meet_in_step : Throughout MeetInStep
@@ -277,3 +284,9 @@ module _ (reads : ReadsSpelled) (rests : SessionLaws) where
 
   pub never_frmr : Throughout NoSessionSendsFrmr
   never_frmr c d joined begin is events timely = (throughout c d joined begin is events timely).no_frmr
+
+  pub send_whole : Throughout AllSessionsSendWhole
+  send_whole c d joined begin is events timely =
+      let w = run c d events begin in
+      let h = (throughout c d joined begin is events timely).whole in
+      record { given = h.given; handed_down = h.handed_down; whole = subst (λ (n : ℕ). AreWhole n h.given w.sent) (sym joined.longest) h.whole }

@@ -2,6 +2,8 @@
 -- and where sessions begin.
 use Rattle.std.proofs.Common.{◌≡◌, ◌≤◌, ℕ, ◌+◌, List, [], ◌∷◌, ◌++◌, ◌⊎◌, inl, inr, map, true, false, Option, None, refl, sym, ap, ◌∙◌, subst, arith, append-nil}
 use Rattle.std.specs.Prelude.{option_to_list}
+use Rattle.std.specs.List.{Contains}
+use Rattle.std.proofs.lemmas.List.Elements.{Contains-append_cases}
 use Rattle.x25_bits.specs.declared.role.Role.{Role}
 use Rattle.x25_frame.specs.PlainFrame.{PlainFrame, info, rr, rnr, rej, sabm, disc, ua, dm, frmr}
 use Rattle.x25_frame.specs.Spelling.{spelling_of}
@@ -19,7 +21,7 @@ use Rattle.x25_line.specs.SessionClaims.{octets_of, AllOf}
 use Rattle.x25_line.proofs.StationLines.{IsOrderly, orderly_where, AreOrderly, orderly_append, AreParting, no_frmr_append, parting_no_frmr, parting_numbered, parting_orderly, parting_whole}
 use Rattle.x25_line.proofs.StationSteps.{MayBeAway, away_is_not_up, Holds, FitsEnd, not_both}
 use Rattle.x25_line.proofs.SessionLines.{Read, octets_append, octets_sent, begun_append, begun_more, begun_sent, count, orderly_count, numbers, quiet_of, of_sent, many_append, none_behind, behind_quiet, behind_none, many_sent}
-use Rattle.x25_line.proofs.SessionHeld.{OwesAfter, View, Live, Gone, IsView, IsHeard, Comes, Owes, owes_less, owes_none, OnLine, HasLists, SameLists, lists_same, Meetings, meetings_same, Grows, Held, extended_nil, extended_same, extended_other, heard_more}
+use Rattle.x25_line.proofs.SessionHeld.{OwesAfter, View, Live, Gone, IsView, IsHeard, Comes, Owes, owes_less, owes_none, OnLine, HasLists, SameLists, lists_same, Meetings, meetings_same, Grows, Held, extended_nil, extended_same, extended_other, extended_more, whole_on, whole_apart, heard_more}
 
 -- ---- the end, and both, after a step, in which its session is n
 
@@ -197,6 +199,16 @@ module _ (c d : Settings) (joined : AreJoined c d) (reads : ReadsSpelled) where
       of : AllOf (other d.role) d.longest h.p more
       of = subst (λ (s : ℕ). AllOf (other d.role) d.longest s more) near.2 (of_sent (other d.role) d.longest c.role w.near.begun fs)
 
+      -- what was handed down in the two sessions that stand
+      handed : (x : List ℕ) → Contains (now.near.down ++ now.far.down) x
+          → ((n : ℕ) × Contains ((end_after w.near w.near.begun down step).down n) x) ⊎ ((n : ℕ) × Contains (w.far.down n) x)
+      handed x there =
+          let lists = live_lists c w.near h.p h.alone os down step near.2 h.near_lists in
+          elim (Contains-append_cases now.near.down now.far.down x there) [
+            | inl here ↦ inl (h.p, subst (λ (xs : List (List ℕ)). Contains xs x) (sym lists.down) here)
+            | inr there ↦ inr (h.q, subst (λ (xs : List (List ℕ)). Contains xs x) (sym h.far_lists.down) there)
+          ]
+
       by : (v : View) → IsView v (end_after w.near w.near.begun down step) step.side.near h.p → IsHeard v (other c.role) c.longest step.side.near.phase es os h.q
           → Held c d (stepped c w es met down w.near.begun step)
       by v view back =
@@ -226,11 +238,13 @@ module _ (c d : Settings) (joined : AreJoined c d) (reads : ReadsSpelled) where
             far_lists = h.far_lists;
             meetings = meetings;
             no_frmr = no_frmr_append w.sent fs h.no_frmr (no_frmr_behind h.alone.sent fs holds.1.no_frmr);
+            whole = whole_on d.longest w.near (end_after w.near w.near.begun down step) w.far (now.near.down ++ now.far.down) w.sent fs (λ n x old. extended_more w.near.down w.near.begun n down x old)
+                handed (whole_behind d.longest (now.near.down ++ now.far.down) h.alone.sent fs holds.1.whole) h.whole;
           }
 
       go : FitsEnd ⊥ c step.side.near holds.0.near → Held c d (stepped c w es met down w.near.begun step)
       go (inl u) = by Live (u.up, refl, near.2) comes
-      go (inr away) = by Gone (away_is_not_up ⊥ step.side.near.phase away.away) (λ waiting. waiting_away step.side.near.phase waiting away.away)
+      go (inr away) = by Gone (away_is_not_up ⊥ step.side.near.phase away.away, omega (arith, near.2)) (λ waiting. waiting_away step.side.near.phase waiting away.away)
 
   -- ---- an end that is out of the session, or goes into it
 
@@ -270,6 +284,7 @@ module _ (c d : Settings) (joined : AreJoined c d) (reads : ReadsSpelled) where
         far_lists = h.far_lists;
         meetings = meetings_same w.near (end_after w.near n [] step) w.far h.p h.q w.met same h.meetings;
         no_frmr = no_frmr_append w.sent fs h.no_frmr (parting_no_frmr (Unit {0}) fs parting);
+        whole = whole_apart d.longest w.near (end_after w.near n [] step) w.far w.sent fs same parting h.whole;
       }
     where
       fs : List PlainFrame

@@ -21,7 +21,7 @@ use Rattle.x25_line.proofs.StationSteps.{Holds, not_both, read_joint, declining_
 use Rattle.x25_line.proofs.StationAway.{closed_takes, waits_on, waiting_parting}
 use Rattle.x25_line.proofs.StationRuns.{Laws, orderly_sets_up}
 use Rattle.x25_line.proofs.SessionLines.{Read, IsKind, of_sabm, of_ua, of_disc, none_is_some, dm_kind, count, numbers, quiet_of, carried, carried_numbers, carried_orderly, lost}
-use Rattle.x25_line.proofs.SessionHeld.{OwesAfter, View, Live, Soon, Gone, IsView, IsHeard, Comes, AfterUa, Owes, owes_less, owes_none, OnLine, line_changed, Held, front_answers, front_passes, after_quiet}
+use Rattle.x25_line.proofs.SessionHeld.{OwesAfter, View, Live, Soon, Gone, IsView, IsHeard, Comes, AfterUa, Owes, owes_less, owes_none, OnLine, line_changed, Held, near_high, front_answers, front_passes, after_quiet}
 use Rattle.x25_line.proofs.SessionSteps.{end_after, stepped, Answers, apart_held}
 use Rattle.x25_line.proofs.SessionBegins.{quiet_behind_sabm, begins_held}
 use Rattle.x25_line.proofs.SessionUp.{follows_answers, follows_no_packet, ending_answers, live_goes_on, live_hears}
@@ -98,7 +98,7 @@ declining_none kind k (frmr f why ∷ fs) h = absurd h
 
 -- ---- what comes first, what the near end does, and the two stations after it
 
-abbrev read_of : Settings → Entry → Read
+abbrev pub read_of : Settings → Entry → Read
 read_of c e = frame_of (other c.role) c.longest e.octets
 
 abbrev step_of : Settings → Sessions → Entry → Step
@@ -120,7 +120,7 @@ heard_none true m met = refl
 heard_none false m met = refl
 
 -- an end that isn't Up hears none
-heard_out : (b : Bool) (f : Option PlainFrame) (m : Meeting) (met : List Meeting) → b ≡ false → heard b f m met ≡ met
+pub heard_out : (b : Bool) (f : Option PlainFrame) (m : Meeting) (met : List Meeting) → b ≡ false → heard b f m met ≡ met
 heard_out true f m met off = not_both true refl off
 heard_out false f m met off = refl
 
@@ -213,7 +213,7 @@ module _ (c d : Settings) (joined : AreJoined c d) (reads : ReadsSpelled) (laws 
             by Soon (phase, refl, refl)
             (after_quiet (other c.role) c.longest es h.alone.back h.q (suc w.far.begun) (quiet_left p read)
             (front_passes (other c.role) c.longest e es h.alone.back h.q no_ua (subst (λ (xs : List Entry). AfterUa (other c.role) c.longest xs h.alone.back h.q) is back)))
-        go Gone view back = by Gone (ap is_up phase) (λ _. (let none = back waiting in let all = all_back ua_in in omega (arith, none, all)))
+        go Gone view back = by Gone (ap is_up phase, omega arith) (λ _. (let none = back waiting in let all = all_back ua_in in omega (arith, none, all)))
 
     -- ---- an end that is out and stays so
 
@@ -225,7 +225,7 @@ module _ (c d : Settings) (joined : AreJoined c d) (reads : ReadsSpelled) (laws 
         let no_ua = declining_none ua_in of_ua t.side.out stays.frames in
         let no_disc = declining_none disc_in of_disc t.side.out stays.frames in
         quiet_held c d w es w.met [] t (ap (λ (n : Notes). n.up) stays.quiet)
-        (apart_held c d joined reads w h es w.near.begun t Gone stays.packet (omega arith) (out_off t.side.near.phase stays.out) (λ waiting. out_is_waiting t.side.near.phase stays.out waiting)
+        (apart_held c d joined reads w h es w.near.begun t Gone stays.packet (omega arith) (out_off t.side.near.phase stays.out, near_high c d w h) (λ waiting. out_is_waiting t.side.near.phase stays.out waiting)
         (declining_parting (Unit {0}) c d joined reads t.side.out stays.frames) no_ua left_line
         (subst (λ (z : Phase). OwesAfter c d z w.out t.side.out es) (sym same)
         (owes_less w.near.station.phase _ _ _ _ (omega (arith, no_sabm)) (omega (arith, no_disc)) left_line.near_owes)))
@@ -300,13 +300,13 @@ module _ (c d : Settings) (joined : AreJoined c d) (reads : ReadsSpelled) (laws 
         soon : (n : ℕ) → ua_in (read_of c e) ≡ n → IsView Soon w.near h.alone.near.station h.p → AfterUa (other c.role) c.longest (e ∷ es) h.alone.back h.q
             → Held c d (stepped c w es w.met [] w.near.begun (step_of c w e))
         soon zero front view back = by Soon (same ∙ waiting, view.1, view.2) (front_passes (other c.role) c.longest e es h.alone.back h.q front back)
-        soon (suc n) front view back = by Gone (ap is_up (same ∙ waiting)) (λ _. (let all = all_back ua_in in omega (arith, all, front, owed.0)))
+        soon (suc n) front view back = by Gone (ap is_up (same ∙ waiting), omega (arith, view.2)) (λ _. (let all = all_back ua_in in omega (arith, all, front, owed.0)))
 
         go : (v : View) → IsView v w.near h.alone.near.station h.p → IsHeard v (other c.role) c.longest w.near.station.phase w.back h.alone.back h.q
             → Held c d (stepped c w es w.met [] w.near.begun (step_of c w e))
         go Live view back = not_both (is_up w.near.station.phase) view.0 (ap is_up waiting)
         go Soon view back = soon (ua_in (read_of c e)) refl view (subst (λ (xs : List Entry). AfterUa (other c.role) c.longest xs h.alone.back h.q) is back)
-        go Gone view back = by Gone (ap is_up (same ∙ waiting)) (λ _. (let none_left = back waiting in let all = all_back ua_in in omega (arith, none_left, all)))
+        go Gone view back = by Gone (ap is_up (same ∙ waiting), view.1) (λ _. (let none_left = back waiting in let all = all_back ua_in in omega (arith, none_left, all)))
 
     -- ---- in Up
 

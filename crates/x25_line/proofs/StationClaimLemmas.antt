@@ -30,7 +30,7 @@ acked_begins a down up begins le =
     let same : take a down ≡ take a up = sym (ap (take a) begins ∙ take_of_take a (length up) down le) in
     (drop a up, ap (λ (ys : List (List ℕ)). ys ++ drop a up) same ∙ take-append-drop a up)
 
-both_true : (a b : Bool) → (a && b) ≡ true → (a ≡ true) × (b ≡ true)
+pub both_true : (a b : Bool) → (a && b) ≡ true → (a ≡ true) × (b ≡ true)
 both_true true b e = (refl, e)
 both_true false b e = absurd (never e)
   where

@@ -2,7 +2,7 @@
 use Rattle.std.proofs.Common.{◌≡◌, ℕ, List, [], ◌∷◌, length, Bool, true, false, if◌then◌else◌, Option, Some, None, refl, sym, ap, ◌∙◌, append-nil}
 use Rattle.std.specs.Prelude.{nat_le, nat_lt, ◌||◌}
 use Rattle.x25_link.specs.declared.error.LinkError.{LinkError}
-use Rattle.x25_link.specs.Station.{Settings, is_up}
+use Rattle.x25_link.specs.Station.{Settings, Station, is_up}
 use Rattle.x25_link.specs.MustSend.{Step}
 use Rattle.x25_link.specs.Steps.{put_step, put_refusal, timer_step, timer_refusal, connect_step, connect_refusal, disconnect_step, disconnect_refusal, abandon_step}
 use Rattle.x25_line.specs.Stations.{Stations, Act, Put, Deliver, T1, Connect, Disconnect, Abandon, Lose, Damage, Near, Far, after_step, unless, delivered, replaced, is_visible, acts, swapped}
@@ -42,11 +42,11 @@ up_if : (b : Bool) (x y : Step) → x.notes.up ≡ false → y.notes.up ≡ fals
 up_if true x y e f = e
 up_if false x y e f = f
 
-timer_packet : (c : Settings) (w : Stations) → (timer_step c w.near.station).packet ≡ None
-timer_packet c w = packet_if (nat_lt w.near.station.tries c.retries) _ _ refl refl
+pub timer_packet : (c : Settings) (s : Station) → (timer_step c s).packet ≡ None
+timer_packet c s = packet_if (nat_lt s.tries c.retries) _ _ refl refl
 
-timer_up : (c : Settings) (w : Stations) → (timer_step c w.near.station).notes.up ≡ false
-timer_up c w = up_if (nat_lt w.near.station.tries c.retries) _ _ refl refl
+pub timer_up : (c : Settings) (s : Station) → (timer_step c s).notes.up ≡ false
+timer_up c s = up_if (nat_lt s.tries c.retries) _ _ refl refl
 
 put_hands : (o : Option LinkError) (c : Settings) (packet : List ℕ) (w : Stations) → HandsOne (Put packet) w (unless o w (after_step c w w.back (packet ∷ []) (put_step c packet w.near.station)))
 put_hands (Some e) c packet w = record { up = refl; down = (false, refl); came_up = refl; far = refl }
@@ -66,7 +66,7 @@ acts_hands c (Put packet) w =
     (put_hands (put_refusal w.near.station) c packet w)
 acts_hands c Deliver w = deliver_hands c w.back w
 acts_hands c T1 w =
-    let h = nothing_unless (timer_refusal w.near.station) w _ (step_hands_nothing c w w.back (timer_step c w.near.station) (timer_packet c w) (timer_up c w)) in
+    let h = nothing_unless (timer_refusal w.near.station) w _ (step_hands_nothing c w w.back (timer_step c w.near.station) (timer_packet c w.near.station) (timer_up c w.near.station)) in
     record { up = h.up; down = h.down; came_up = h.came_up; far = h.far }
 acts_hands c Connect w =
     let h = nothing_unless (connect_refusal w.near.station.phase) w _ (step_hands_nothing c w w.back (connect_step c w.near.station) refl refl) in

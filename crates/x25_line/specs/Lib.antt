@@ -5,6 +5,7 @@ pub mod StationClaims
 pub mod StationRows
 pub mod Sessions
 pub mod SessionClaims
+pub mod SessionEvents
 pub mod SessionRows
 pub mod RawMachine
 pub mod RawShown

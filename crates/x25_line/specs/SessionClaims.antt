@@ -1,12 +1,15 @@
 -- What holds of two link stations and the line between them after each list of events, over set-up and re-set-up at any moment.
 use Rattle.std.specs.Prelude.{◌≡◌, ◌≤◌, ◌<◌, ◌⊎◌, ℕ, zero, suc, true, List, [], ◌∷◌, ◌++◌, None}
+use Rattle.std.specs.List.{Contains}
 use Rattle.x25_bits.specs.declared.role.Role.{Role}
+use Rattle.x25_frame.specs.PlainFrame.{PlainFrame}
 use Rattle.x25_frame.specs.Reading.{frame_of}
 use Rattle.x25_link.specs.Station.{Settings, is_up}
 use Rattle.x25_link.specs.MustSend.{other}
+use Rattle.x25_link.specs.Steps.{is_idle}
 use Rattle.x25_line.specs.InWindow.{Begins}
 use Rattle.x25_line.specs.Stations.{StationEnd, Stations, Event, start, run as run_alone}
-use Rattle.x25_line.specs.StationClaims.{AreJoined, BothInOrder, BothHaveTheirLists, AreInWindow, NoFrmr, NoFrmrSent, AllSentAreWhole, number_in, numbered_on}
+use Rattle.x25_line.specs.StationClaims.{AreJoined, BothInOrder, BothHaveTheirLists, AreInWindow, NoFrmr, NoFrmrSent, AreWhole, AllSentAreWhole, number_in, numbered_on}
 use Rattle.x25_line.specs.Sessions.{Entry, SessionEnd, Meeting, Sessions, run, from_nothing, from_set_up, AreTimely, swapped}
 
 -- what holds after each list of events, from nothing and from a link just set up, where timer T1 is timely
@@ -107,10 +110,39 @@ pub record EachUpStands (c d : Settings) (w : Sessions) : Type 0 where
   pub near : is_up w.near.station.phase ≡ true → Stands c d w
   pub far : is_up w.far.station.phase ≡ true → Stands d c (swapped w)
 
+-- ---- the latest sessions
+
+-- where an end is Up, each frame with an N(R) on the line to it was sent in the latest session of the other end
+pub record EachHearsLatest (c d : Settings) (w : Sessions) : Type 0 where
+  pub near : is_up w.near.station.phase ≡ true → AllOf (other c.role) c.longest w.far.begun w.back
+  pub far : is_up w.far.station.phase ≡ true → AllOf (other d.role) d.longest w.near.begun w.out
+
+-- the session of an end that is Up meets no other than the latest of the other end
+pub record EachMeetsLatest (c d : Settings) (w : Sessions) : Type 0 where
+  pub near : is_up w.near.station.phase ≡ true → AllMet (λ (m : Meeting). m.near ≡ w.near.begun → m.far ≡ w.far.begun) w.met
+  pub far : is_up w.far.station.phase ≡ true → AllMet (λ (m : Meeting). m.far ≡ w.far.begun → m.near ≡ w.near.begun) w.met
+
+-- Where an end is idle, and the other is Up too or met its session, all that was handed down in this session was handed up in
+-- the latest session of the other.
+pub record IdleHasArrived (c d : Settings) (w : Sessions) : Type 0 where
+  pub near : is_idle w.near.station ≡ true → (is_up w.far.station.phase ≡ true) ⊎ SomeMet (λ (m : Meeting). m.near ≡ w.near.begun) w.met → w.far.up w.far.begun ≡ w.near.down w.near.begun
+  pub far : is_idle w.far.station ≡ true → (is_up w.near.station.phase ≡ true) ⊎ SomeMet (λ (m : Meeting). m.far ≡ w.far.begun) w.met → w.near.up w.near.begun ≡ w.far.down w.far.begun
+
 -- ---- no fault is ever found
 
 abbrev pub NoSessionSendsFrmr : Settings → Settings → Sessions → Type 0
 NoSessionSendsFrmr c d w = NoFrmr w.sent
+
+-- ---- each frame ever sent is whole
+
+-- each may be spelled, and the packet of an I frame is one that was handed down in a session of one of the ends
+pub record AreWholeIn (n1 : ℕ) (near far : SessionEnd) (frames : List PlainFrame) : Type 0 where
+  pub given : List (List ℕ)
+  pub handed_down : (packet : List ℕ) → Contains given packet → ((n : ℕ) × Contains (near.down n) packet) ⊎ ((n : ℕ) × Contains (far.down n) packet)
+  pub whole : AreWhole n1 given frames
+
+abbrev pub AllSessionsSendWhole : Settings → Settings → Sessions → Type 0
+AllSessionsSendWhole c d w = AreWholeIn c.longest w.near w.far w.sent
 
 -- ---- with the sessions forgotten
 

@@ -1,6 +1,7 @@
 //! Two link stations over a line, as laws about their definition. Each is the contract of a function that does nothing.
 ghost use Rattle.x25_line.specs.StationClaims.{Always, BothInOrder, BothHaveTheirLists, BothNoteTheirEnds, AreInWindow, NoFrmrSent, AllSentAreWhole, OneLinkUnlessConnected, EachEventHandsOne};
-ghost use Rattle.x25_line.specs.SessionClaims.{Throughout, MeetInStep, MetAreInOrder, UnmetHandNothingUp, OnlyBegunHaveLists, EachUpStands, NoSessionSendsFrmr, SessionsAreStations, SetUpIsTheStart};
+ghost use Rattle.x25_line.specs.SessionClaims.{Throughout, MeetInStep, MetAreInOrder, UnmetHandNothingUp, OnlyBegunHaveLists, EachUpStands, EachHearsLatest, EachMeetsLatest, IdleHasArrived, NoSessionSendsFrmr, AllSessionsSendWhole, SessionsAreStations, SetUpIsTheStart};
+ghost use Rattle.x25_line.specs.SessionEvents.{EachEventHandsInSession, EachEventMeetsLatest};
 ghost use Rattle.x25_line.specs.SessionRows.{SetsUpFromNothing, SetsUpAgain, UntimelyIsOutOfStep};
 ghost use Rattle.x25_line.specs.StationRows.{PacketGoes, PacketsCross, LostComesAgain, DamagedComesAgain, DisconnectEnds, AbandonEnds, ConnectSetsUp, ConnectIsDeclined};
 
@@ -39,13 +40,23 @@ pub fn stations_keep_order()
 /// Sessions meet one to one, and in order at both ends. What is handed up in a session is a beginning of what was handed down in
 /// the one that it meets, and a session that meets none hands nothing up. The session of an end that is Up, and the one that it
 /// meets or is to meet, are those of a link set up once, of which all holds that `stations_keep_order` says. No FRMR is ever sent.
+/// Each frame ever sent may be spelled, and the packet of an I frame was handed down in a session of one of the ends.
+///
+/// An end that is Up hears the latest session of the other end alone, and meets no other. So one event brings one meeting at most,
+/// that of the latest sessions of both ends, and only then a packet may be handed up. Where an end is idle, and the other is Up
+/// too or met its session, all that was handed down in this session was handed up in the latest session of the other.
 pub fn sessions_keep_order()
     ensures step { Throughout MeetInStep }
     ensures order { Throughout MetAreInOrder }
     ensures unmet { Throughout UnmetHandNothingUp }
     ensures begun { Throughout OnlyBegunHaveLists }
     ensures stands { Throughout EachUpStands }
+    ensures latest { Throughout EachHearsLatest }
+    ensures agree { Throughout EachMeetsLatest }
+    ensures meets { Throughout EachEventMeetsLatest }
+    ensures idle { Throughout IdleHasArrived }
     ensures no_frmr { Throughout NoSessionSendsFrmr }
+    ensures whole { Throughout AllSessionsSendWhole }
 {
     follows_the_window();
     sets_up_by_rows();
@@ -69,6 +80,14 @@ pub fn sessions_move()
     ensures untimely { UntimelyIsOutOfStep }
 {
     reads_what_is_spelled();
+}
+
+/// One event hands up one packet at most, and hands down the packet that is put, in the latest session of the end where it
+/// happens. The next session begins only as octets come, and with nothing handed down or up.
+pub fn each_session_event_hands_one()
+    ensures { EachEventHandsInSession }
+{
+    notes_what_changes();
 }
 
 /// One event hands up one packet at most, and hands down the packet that is put, at the end where it happens. LinkUp is noted only

@@ -11,8 +11,8 @@ mod raw_world;
 
 pub use direction::Direction;
 pub use law::{
-    each_event_hands_one, sessions_are_stations, sessions_keep_order, sessions_move,
-    stations_keep_order, stations_move,
+    each_event_hands_one, each_session_event_hands_one, sessions_are_stations, sessions_keep_order,
+    sessions_move, stations_keep_order, stations_move,
 };
 pub use raw_error::{RawError, RawRefused};
 pub use raw_event::RawEvent;

@@ -1,5 +1,7 @@
 use Rattle.x25_line.proofs.StationRuns.{Laws}
-use Rattle.x25_line.proofs.SessionRuns.{SessionLaws, meet_in_step, met_in_order, unmet_nothing, only_begun, each_stands, never_frmr}
+use Rattle.x25_line.proofs.SessionRuns.{SessionLaws, meet_in_step, met_in_order, unmet_nothing, only_begun, each_stands, never_frmr, send_whole}
+use Rattle.x25_line.proofs.SessionLatest.{each_hears_latest, each_meets_latest, idle_has_arrived}
+use Rattle.x25_line.proofs.SessionEvents.{each_event_meets_latest}
 use Rattle.x25_line.proofs.law.sessions_keep_order.Goals as goal
 
 pub returns : goal.returns
@@ -17,4 +19,16 @@ returns c =
       abandon_tells = notes.abandon;
     } in
     let rests : SessionLaws = record { laws = laws; continues = notes.take_continues } in
-    record { step = meet_in_step reads rests; order = met_in_order reads rests; unmet = unmet_nothing reads rests; begun = only_begun reads rests; stands = each_stands reads rests; no_frmr = never_frmr reads rests }
+    record {
+      step = meet_in_step reads rests;
+      order = met_in_order reads rests;
+      unmet = unmet_nothing reads rests;
+      begun = only_begun reads rests;
+      stands = each_stands reads rests;
+      latest = each_hears_latest reads rests;
+      agree = each_meets_latest reads rests;
+      meets = each_event_meets_latest rests notes.take_hands_up reads;
+      idle = idle_has_arrived reads rests;
+      no_frmr = never_frmr reads rests;
+      whole = send_whole reads rests;
+    }
