@@ -1,6 +1,6 @@
 -- Two layers, each end by itself: an event names the packet that the end's link hands up, and nothing is kept of what is in flight.
 -- Events are in order where each packet that an end takes is the next of those that the other end gave.
-use Rattle.std.specs.Prelude.{◌≡◌, ℕ, List, [], ◌∷◌, ◌++◌, length, drop, Bool, true, false, if◌then◌else◌}
+use Rattle.std.specs.Prelude.{◌≡◌, ℕ, List, [], ◌∷◌, ◌++◌, length, drop, Bool, false, if◌then◌else◌}
 use Rattle.x25_bits.specs.declared.role.Role.TheVariants.{Dte, Dce}
 use Rattle.x25_packet.specs.PlainPacket.{PlainPacket}
 use Rattle.x25_epochs.specs.Books.{Begins}
@@ -90,7 +90,7 @@ IsNext taker giver (Takes packet) = taker.is_out ≡ false → Begins (taker.tak
 IsNext taker giver what = Unit {0}
 
 abbrev pub IsInOrder : Ends → ApartEvent → Type 0
-IsInOrder ends e = if e.first then IsNext ends.near ends.far e.what else IsNext ends.far ends.near e.what
+IsInOrder ends e = IsNext (if e.first then ends.near else ends.far) (if e.first then ends.far else ends.near) e.what
 
 abbrev pub AreInOrder : Bool → ℕ → List ApartEvent → Ends → Type 0
 AreInOrder long_data channels [] ends = Unit {0}

@@ -13,6 +13,10 @@ pub mod Established
 pub mod Lawful
 pub mod QuietTap
 pub mod Headline
+pub mod SessionTrace
+pub mod SessionReaches
+pub mod SessionJoined
+pub mod SessionEntries
 pub mod RowLemmas
 pub mod OnLineLemmas
 pub mod LetGoLemmas

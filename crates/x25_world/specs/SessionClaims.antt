@@ -1,5 +1,5 @@
 -- What holds of two stations and the line between them after every list of events, over set-up and re-set-up at any moment.
-use Rattle.std.specs.Prelude.{◌≡◌, ◌<◌, ◌⊎◌, ℕ, true, List, [], Some, None}
+use Rattle.std.specs.Prelude.{◌≡◌, ◌≤◌, ◌<◌, ◌⊎◌, ℕ, true, List, [], Some, None}
 use Rattle.x25_link.specs.MustSend.{other}
 use Rattle.x25_bits.specs.declared.role.Role.{Role}
 use Rattle.x25_epochs.specs.Names.{Name}
@@ -18,9 +18,10 @@ abbrev pub Throughout : (Cfg → World → Type 0) → Type 0
 Throughout Holds =
     (cfg : Cfg) → config_refusal cfg ≡ None → (begin : World) → (begin ≡ start) ⊎ (begin ≡ established cfg) → (events : List Event) → AreInOctets events → Holds cfg (run cfg events begin)
 
--- Of two sessions of an end that each meet one, the later meets the later one. Where a session meets one that meets any, that one meets
--- it.
+-- Sessions that meet were begun. Of two sessions of an end that each meet one, the later meets the later one. Where a session meets one that
+-- meets any, that one meets it.
 pub record MeetInStep (cfg : Cfg) (w : World) : Type 0 where
+  pub begun : (end : Role) (n m : ℕ) → meets end n w.transcript ≡ Some m → (1 ≤ n) × (n ≤ last_session end w) × (1 ≤ m) × (m ≤ last_session (other end) w)
   pub later : (end : Role) (n p m q : ℕ) → meets end n w.transcript ≡ Some m → meets end p w.transcript ≡ Some q → n < p → m < q
   pub mutual : (end : Role) (n m p : ℕ) → meets end n w.transcript ≡ Some m → meets (other end) m w.transcript ≡ Some p → p ≡ n
 

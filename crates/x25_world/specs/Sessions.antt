@@ -1,6 +1,6 @@
 -- The sessions of an end, by the transcript: each lasts from a `linkup` to the next `linkup` or `linkdown` there (profile). They count
 -- from 1.
-use Rattle.std.specs.Prelude.{ℕ, zero, suc, ◌==◌, ◌&&◌, Bool, true, false, if◌then◌else◌, List, [], ◌∷◌, ◌++◌, Option, Some, None}
+use Rattle.std.specs.Prelude.{ℕ, suc, ◌==◌, ◌&&◌, Bool, true, false, if◌then◌else◌, List, [], ◌∷◌, ◌++◌, Option, Some, None}
 use Rattle.x25_link.specs.MustSend.{other}
 use Rattle.x25_bits.specs.declared.role.Role.{Role}
 use Rattle.x25_layer.specs.Transcript.{Entry}
@@ -55,19 +55,18 @@ handed_in end n w = layer_entries (session_at end n w.transcript)
 
 -- ---- who meets whom
 
-abbrev pub latest : ℕ → Option ℕ
-latest zero = None
-latest (suc n) = Some (suc n)
-
--- at the first `restarted` of session n, the latest session that the other end began so far
-abbrev pub met_by : ℕ → Progress → Progress → List StationEntry → Option ℕ
-met_by n here there [] = None
-met_by n here there (was_restarted cause diagnostic ∷ entries) = if is_in n here then latest there.begun else met_by n here there entries
-met_by n here there (entry ∷ entries) = met_by n (after_entry here entry) there entries
-
 abbrev pub first_of : Option ℕ → Option ℕ → Option ℕ
 first_of None later = later
 first_of (Some m) later = Some m
+
+-- where session n is restarted, the latest session that the other end began so far
+abbrev pub met_at : ℕ → Progress → Progress → StationEntry → Option ℕ
+met_at n here there (was_restarted cause diagnostic) = if is_in n here then Some there.begun else None
+met_at n here there entry = None
+
+abbrev pub met_by : ℕ → Progress → Progress → List StationEntry → Option ℕ
+met_by n here there [] = None
+met_by n here there (entry ∷ entries) = first_of (met_at n here there entry) (met_by n (after_entry here entry) there entries)
 
 abbrev pub meets_from : Role → ℕ → Progress → Progress → List AtEnd → Option ℕ
 meets_from end n here there [] = None
@@ -75,6 +74,7 @@ meets_from end n here there (e ∷ transcript) =
     let own = entry_of_end end e.at e.entry in
     first_of (met_by n here there own) (meets_from end n (after_entries here own) (after_entries there (entry_of_end (other end) e.at e.entry)) transcript)
 
--- the session of the other end that session n of an end meets: the latest that began there before the first `restarted` of session n
+-- The session of the other end that session n of an end meets: the latest that began there before the first `restarted` of session n. By
+-- what always holds (`MeetInStep`) one had begun by then.
 abbrev pub meets : Role → ℕ → List AtEnd → Option ℕ
 meets end n transcript = meets_from end n none_begun none_begun transcript

@@ -1,0 +1,99 @@
+-- Two links over set-up and re-set-up, as either end sees them: a run of the same events, with the ends swapped.
+use Rattle.std.proofs.Common.{◌≡◌, List, [], ◌∷◌, ◌++◌, inl, refl, sym, ap, ◌∙◌, subst, map}
+use Rattle.x25_bits.specs.declared.role.Role.{Role}
+use Rattle.x25_bits.specs.declared.role.Role.TheVariants.{Dte, Dce}
+use Rattle.x25_link.specs.Station.{Settings as LinkSettings}
+use Rattle.x25_link.specs.MustSend.{other}
+use Rattle.x25_line.specs.Stations as line
+use Rattle.x25_line.specs.StationClaims.{AreJoined}
+use Rattle.x25_line.specs.Sessions as links
+use Rattle.x25_line.specs.Sessions.{Meeting, Sessions, turned, from_nothing, IsTimely, IsTimelyAt, AreTimely}
+use Rattle.x25_line.specs.SessionClaims.{Throughout}
+use Rattle.x25_station.specs.declared.config.Cfg.{Cfg}
+use Rattle.x25_world.specs.Claims.{link_of}
+use Rattle.x25_world.proofs.Known.{IsConfigured}
+
+-- ---- the ends swapped
+
+turned_twice : (ms : List Meeting) → map turned (map turned ms) ≡ ms
+turned_twice [] = refl
+turned_twice (m ∷ ms) = ap (λ (l : List Meeting). m ∷ l) (turned_twice ms)
+
+pub twice : (w : Sessions) → links.swapped (links.swapped w) ≡ w
+twice w = ap (λ (met : List Meeting). record { near = w.near; far = w.far; out = w.out; back = w.back; met = met; sent = w.sent }) (turned_twice w.met)
+
+abbrev flipped : line.Event → line.Event
+flipped (line.Near act) = line.Far act
+flipped (line.Far act) = line.Near act
+
+abbrev all_flipped : List line.Event → List line.Event
+all_flipped [] = []
+all_flipped (e ∷ es) = flipped e ∷ all_flipped es
+
+event_flipped : (c d : LinkSettings) (e : line.Event) (w : Sessions) → links.happens d c (flipped e) (links.swapped w) ≡ links.swapped (links.happens c d e w)
+event_flipped c d (line.Near act) w = ap (λ (x : Sessions). links.swapped (links.acts c act x)) (twice w)
+event_flipped c d (line.Far act) w = sym (twice (links.acts d act (links.swapped w)))
+
+run_flipped : (c d : LinkSettings) (es : List line.Event) (w : Sessions) → links.run d c (all_flipped es) (links.swapped w) ≡ links.swapped (links.run c d es w)
+run_flipped c d [] w = refl
+run_flipped c d (e ∷ es) w = ap (λ (x : Sessions). links.run d c (all_flipped es) x) (event_flipped c d e w) ∙ run_flipped c d es (links.happens c d e w)
+
+timely_at : (c d : LinkSettings) (e : line.Event) (w : Sessions) → IsTimelyAt c d e w → IsTimelyAt d c (flipped e) (links.swapped w)
+timely_at c d (line.Near act) w h = subst (λ (x : Sessions). IsTimely c d act x) (sym (twice w)) h
+timely_at c d (line.Far act) w h = h
+
+timely_flipped : (c d : LinkSettings) (es : List line.Event) (w : Sessions) → AreTimely c d es w → AreTimely d c (all_flipped es) (links.swapped w)
+timely_flipped c d [] w h = tt
+timely_flipped c d (e ∷ es) w h = (
+  timely_at c d e w h.0,
+  subst (λ (x : Sessions). AreTimely d c (all_flipped es) x) (sym (event_flipped c d e w)) (timely_flipped c d es (links.happens c d e w) h.1),
+)
+
+-- ---- as an end sees them
+
+pub record SessionsReach (cfg : Cfg) (end : Role) (v : Sessions) : Type 0 where
+  pub events : List line.Event
+  pub timely : AreTimely (link_of cfg end) (link_of cfg (other end)) events from_nothing
+  pub run : links.run (link_of cfg end) (link_of cfg (other end)) events from_nothing ≡ v
+
+pub reach_swapped : (cfg : Cfg) (end : Role) (v : Sessions) → SessionsReach cfg end v → SessionsReach cfg (other end) (links.swapped v)
+reach_swapped cfg Dte v h = record {
+  events = all_flipped h.events;
+  timely = timely_flipped (link_of cfg Dte) (link_of cfg Dce) h.events from_nothing h.timely;
+  run = run_flipped (link_of cfg Dte) (link_of cfg Dce) h.events from_nothing ∙ ap links.swapped h.run;
+}
+reach_swapped cfg Dce v h = record {
+  events = all_flipped h.events;
+  timely = timely_flipped (link_of cfg Dce) (link_of cfg Dte) h.events from_nothing h.timely;
+  run = run_flipped (link_of cfg Dce) (link_of cfg Dte) h.events from_nothing ∙ ap links.swapped h.run;
+}
+
+run_more : (c d : LinkSettings) (es : List line.Event) (e : line.Event) (v : Sessions) → links.run c d (es ++ e ∷ []) v ≡ links.happens c d e (links.run c d es v)
+run_more c d [] e v = refl
+run_more c d (x ∷ es) e v = run_more c d es e (links.happens c d x v)
+
+timely_more : (c d : LinkSettings) (es : List line.Event) (e : line.Event) (v : Sessions) → AreTimely c d es v → IsTimelyAt c d e (links.run c d es v) → AreTimely c d (es ++ e ∷ []) v
+timely_more c d [] e v h g = (g, tt)
+timely_more c d (x ∷ es) e v h g = (h.0, timely_more c d es e (links.happens c d x v) h.1 g)
+
+-- one act more of the end
+pub sessions_act : (cfg : Cfg) (end : Role) (act : line.Act) (v : Sessions) → IsTimely (link_of cfg end) (link_of cfg (other end)) act v → SessionsReach cfg end v
+    → SessionsReach cfg end (links.acts (link_of cfg end) act v)
+sessions_act cfg end act v timely h =
+    let c = link_of cfg end in
+    let d = link_of cfg (other end) in
+    record {
+      events = h.events ++ line.Near act ∷ [];
+      timely = timely_more c d h.events (line.Near act) from_nothing h.timely (subst (λ (x : Sessions). IsTimely c d act x) (sym h.run) timely);
+      run = run_more c d h.events (line.Near act) from_nothing ∙ ap (λ (x : Sessions). links.acts c act x) h.run;
+    }
+
+pub joined_at : (cfg : Cfg) (end : Role) → IsConfigured cfg → AreJoined (link_of cfg end) (link_of cfg (other end))
+joined_at cfg Dte fine = record { near_role = refl; far_role = refl; longest = refl; near_low = fine.low; near_high = fine.high; far_low = fine.low; far_high = fine.high }
+joined_at cfg Dce fine = record { near_role = refl; far_role = refl; longest = refl; near_low = fine.low; near_high = fine.high; far_low = fine.low; far_high = fine.high }
+
+-- what always holds of two links
+pub known_sessions : (P : _) → Throughout P → (cfg : Cfg) → IsConfigured cfg → (end : Role) (v : Sessions) → SessionsReach cfg end v → P (link_of cfg end) (link_of cfg (other end)) v
+known_sessions P law cfg fine end v h =
+    subst (λ (x : Sessions). P (link_of cfg end) (link_of cfg (other end)) x) h.run
+    (law (link_of cfg end) (link_of cfg (other end)) (joined_at cfg end fine) from_nothing (inl refl) h.events h.timely)
