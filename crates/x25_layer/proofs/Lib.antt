@@ -22,3 +22,6 @@ pub mod LayerRows
 pub mod ClearLemmas
 pub mod NameLemmas
 pub mod CountLemmas
+pub mod ApartLemmas
+pub mod FirstLemmas
+pub mod ApartRows

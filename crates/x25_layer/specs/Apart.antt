@@ -7,7 +7,7 @@ use Rattle.x25_epochs.specs.Books.{Begins}
 use Rattle.x25_layer.specs.Layer.{LayerSettings}
 use Rattle.x25_layer.specs.Calls.{LayerRequest}
 use Rattle.x25_layer.specs.World as world
-use Rattle.x25_layer.specs.World.{End, World, Move, moves, settings_of, start}
+use Rattle.x25_layer.specs.World.{End, World, Move, moves, settings_of, Event, start}
 
 -- ---- one end
 
@@ -95,6 +95,16 @@ IsInOrder ends e = IsNext (if e.first then ends.near else ends.far) (if e.first 
 abbrev pub AreInOrder : Bool → ℕ → List ApartEvent → Ends → Type 0
 AreInOrder long_data channels [] ends = Unit {0}
 AreInOrder long_data channels (e ∷ events) ends = IsInOrder ends e × AreInOrder long_data channels events (apart_happens long_data channels ends e)
+
+-- ---- the same over links
+
+-- what comes is then the packet in front of those in flight
+abbrev pub over_links : ApartEvent → Event
+over_links e = record { first = e.first; what = as_move e.what }
+
+abbrev pub all_over_links : List ApartEvent → List Event
+all_over_links [] = []
+all_over_links (e ∷ events) = over_links e ∷ all_over_links events
 
 -- two layers over links: in flight is what the one gave and the other didn't take
 abbrev pub as_world : Ends → World

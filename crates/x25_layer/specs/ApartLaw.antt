@@ -5,8 +5,13 @@ use Rattle.x25_packet.specs.PlainPacket.{PlainPacket}
 use Rattle.x25_circuit.specs.Circuit.{is_free}
 use Rattle.x25_layer.specs.Layer.{LayerSettings, LayerNotice, restarted, goes_up}
 use Rattle.x25_layer.specs.Law.{IsQuietEnd}
-use Rattle.x25_layer.specs.World.{End, World, settings_of, started}
-use Rattle.x25_layer.specs.Apart.{OwnMove, GoesDown, own_moves, own_run, Ends, ApartEvent, apart_run, near_moves, far_moves, AreInOrder}
+use Rattle.x25_layer.specs.World.{End, World, settings_of, run, start, started}
+use Rattle.x25_layer.specs.Apart.{OwnMove, GoesDown, own_moves, own_run, Ends, ApartEvent, apart_run, apart_start, near_moves, far_moves, AreInOrder, all_over_links, as_world}
+
+-- events in order lead where the same events lead two layers over links
+abbrev pub IsOverLinks : Bool → ℕ → Type 0
+IsOverLinks long_data channels = (events : List ApartEvent) → AreInOrder long_data channels events (apart_start long_data channels)
+    → as_world (apart_run long_data channels events (apart_start long_data channels)) ≡ run long_data channels (all_over_links events) (start long_data channels)
 
 -- ---- the first packet
 

@@ -1,6 +1,8 @@
 ghost use Rattle.std.specs.Prelude.{Bool, ℕ};
 ghost use Rattle.x25_layer.specs.Law.{Always, IsQuietWorld, IsLawfulWorld, ArrivesAll, KeepsOrder};
 ghost use Rattle.x25_layer.specs.NameLaw.{NamesAreCounted, NoClearComesInP1};
+ghost use Rattle.x25_layer.specs.Apart.{AlwaysApart};
+ghost use Rattle.x25_layer.specs.ApartLaw.{IsOverLinks, RestartsFirst, BeginsAlone, OwnMovesDecide, StaysDown, EventsRunOn};
 ghost use Rattle.x25_layer.specs.RoundLaw.{CallsRun, HearsRun, RoundsSettle, ComesUpAlone};
 
 /// Two layers over links that keep order, whatever their users ask and whenever a link goes down: after every event,
@@ -30,6 +32,33 @@ pub fn names_are_told()
     x25_circuit::values_are_agreed();
     x25_epochs::keeps_order();
 }
+
+/// Two layers, each end by itself, where each packet that an end's link hands up is the next of those that the other end gave:
+/// every list of such events leads where it leads two layers over links, of which all of the above holds. And an end's user is told
+/// nothing before the first packet, which is told as a restart by the other end.
+pub fn apart_layers_keep_order()
+    ensures runs { (long_data : Bool) (channels : ℕ) → IsOverLinks long_data channels }
+    ensures order { (long_data : Bool) (channels : ℕ) → AlwaysApart KeepsOrder long_data channels }
+    ensures quiet { (long_data : Bool) (channels : ℕ) → AlwaysApart (IsQuietWorld channels) long_data channels }
+    ensures lawful { (long_data : Bool) (channels : ℕ) → AlwaysApart IsLawfulWorld long_data channels }
+    ensures arrives { (long_data : Bool) (channels : ℕ) → AlwaysApart ArrivesAll long_data channels }
+    ensures names { (long_data : Bool) (channels : ℕ) → AlwaysApart NamesAreCounted long_data channels }
+    ensures clear { (long_data : Bool) (channels : ℕ) → AlwaysApart NoClearComesInP1 long_data channels }
+    ensures restarted { (long_data : Bool) (channels : ℕ) → AlwaysApart RestartsFirst long_data channels }
+{
+    two_layers_keep_order();
+    names_are_told();
+}
+
+/// One end by itself, whatever happens to it and whatever its link hands up: of two ends' events its own alone decide what it is;
+/// until a packet comes it gave its RESTART alone, no call of its user was accepted, and nothing was told; after its link went
+/// down nothing changes. And events behind others run on from where those led, in order where both are.
+pub fn each_end_is_by_itself()
+    ensures own { OwnMovesDecide }
+    ensures alone { BeginsAlone }
+    ensures down { StaysDown }
+    ensures behind { EventsRunOn }
+{}
 
 /// A call of a layer over a link is a run: the step of the call, and then pulls of data packets, until a round of pulls gives
 /// nothing. When the link comes up, RESTART is put alone.

@@ -19,7 +19,10 @@ mod stretch;
 mod told;
 
 pub use error::LayerError;
-pub use law::{calls_are_runs, names_are_told, two_layers_keep_order};
+pub use law::{
+    apart_layers_keep_order, calls_are_runs, each_end_is_by_itself, names_are_told,
+    two_layers_keep_order,
+};
 pub use layer::Layer;
 pub use stretch::Stretch;
 pub use told::Told;
