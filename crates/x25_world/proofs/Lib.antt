@@ -17,6 +17,7 @@ pub mod SessionTrace
 pub mod SessionReaches
 pub mod SessionJoined
 pub mod SessionEntries
+pub mod SessionKnown
 pub mod RowLemmas
 pub mod OnLineLemmas
 pub mod LetGoLemmas

@@ -143,10 +143,10 @@ plain_elsewhere n p (e ∷ entries) h out =
 -- where the first notice is a restart by the other end, its latest session is met
 pub restart_met : (n : ℕ) (here there : Progress) (entries : List StationEntry) → ArePlain entries → is_in n here ≡ true → BeginsRestarted (layer_notices entries) → met_by n here there entries ≡ Some there.begun
 restart_met n here there [] plain is begins = absurd begins
-restart_met n here there (of_channel e ∷ entries) plain is begins = by e.said begins
+restart_met n here there (of_channel e ∷ entries) plain is begins = restart_met n here there entries plain.1 is (by e.said begins)
   where
-    by : (said : Said) → BeginsRestarted (notice_of e.channel said ++ layer_notices entries) → met_by n here there entries ≡ Some there.begun
-    by (Asked request) begins = restart_met n here there entries plain.1 is begins
+    by : (said : Said) → BeginsRestarted (notice_of e.channel said ++ layer_notices entries) → BeginsRestarted (layer_notices entries)
+    by (Asked request) begins = begins
     by (Told notice) begins = absurd begins
 restart_met n here there (restart_asked ∷ entries) plain is begins = restart_met n here there entries plain.1 is begins
 restart_met n here there (connect_asked ∷ entries) plain is begins = restart_met n here there entries plain.1 is begins

@@ -25,16 +25,16 @@ use Rattle.x25_world.proofs.SessionReaches.{SessionsReach, reach_swapped}
 -- ---- an end
 
 -- the layer's end in a session, the packets that its link was handed down and handed up there, and the entries
-pub record IsSession (e : layer.End) (down up : List (List ℕ)) (entries : List StationEntry) : Type 0 where
-  pub down : down ≡ spelled e.given
-  pub up : up ≡ spelled e.taken
-  pub entries : e.entries ≡ layer_entries entries
-  pub told : e.told ≡ layer_notices entries
+pub record IsSession (e : layer.End) (handed lifted : List (List ℕ)) (es : List StationEntry) : Type 0 where
+  pub down : handed ≡ spelled e.given
+  pub up : lifted ≡ spelled e.taken
+  pub entries : e.entries ≡ layer_entries es
+  pub told : e.told ≡ layer_notices es
 
 -- a session that isn't begun has nothing
-pub record HasNothing (end : Role) (n : ℕ) (trace : List Done) (entries : List StationEntry) : Type 0 where
+pub record HasNothing (end : Role) (n : ℕ) (trace : List Done) (es : List StationEntry) : Type 0 where
   pub moves : own_in end n trace ≡ []
-  pub entries : session_from n none_begun entries ≡ []
+  pub entries : session_from n none_begun es ≡ []
 
 -- the layer in the session that stands
 pub record IsLayer (e : layer.End) (s : Station) : Type 0 where
@@ -43,18 +43,18 @@ pub record IsLayer (e : layer.End) (s : Station) : Type 0 where
 
 -- A station, its link among two links with their sessions, the moves of its layer in each of these, and its transcript. Session 0 is
 -- that before the first.
-pub record IsEnd (cfg : Cfg) (end : Role) (s : Station) (k : SessionEnd) (trace : List Done) (entries : List StationEntry) : Type 0 where
+pub record IsEnd (cfg : Cfg) (end : Role) (s : Station) (k : SessionEnd) (trace : List Done) (es : List StationEntry) : Type 0 where
   pub link : k.station ≡ s.link
   pub kept : IsKept s
-  pub progress : after_entries none_begun entries ≡ record { begun = k.begun; stands = is_up s.link.phase }
+  pub progress : after_entries none_begun es ≡ record { begun = k.begun; stands = is_up s.link.phase }
   pub first : is_up s.link.phase ≡ true → 1 ≤ k.begun
   pub before : (k.down 0 ≡ []) × (k.up 0 ≡ [])
-  pub sessions : (n : ℕ) → 1 ≤ n → n ≤ k.begun → IsSession (own cfg end n trace) (k.down n) (k.up n) (session_from n none_begun entries)
-  pub later : (n : ℕ) → k.begun < n → HasNothing end n trace entries
+  pub sessions : (n : ℕ) → 1 ≤ n → n ≤ k.begun → IsSession (own cfg end n trace) (k.down n) (k.up n) (session_from n none_begun es)
+  pub later : (n : ℕ) → k.begun < n → HasNothing end n trace es
   pub now : is_up s.link.phase ≡ true → IsLayer (own cfg end k.begun trace) s
   -- where nothing was handed up, the layer took nothing
   pub alone : (n : ℕ) → k.up n ≡ [] → TakeNothing (own_in end n trace)
-  pub no_fault : AreNoFaults (layer_notices entries)
+  pub no_fault : AreNoFaults (layer_notices es)
 
 -- ---- who meets whom
 

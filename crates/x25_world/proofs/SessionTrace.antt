@@ -119,7 +119,7 @@ pub pair_turned : (end : Role) (n m : ℕ) (trace : List Done) → pair_at (othe
 pair_turned Dte n m trace = refl
 pair_turned Dce n m trace = refl
 
-abbrev event_of : Role → OwnMove → ApartEvent
+abbrev pub event_of : Role → OwnMove → ApartEvent
 event_of Dte what = record { first = true; what = what }
 event_of Dce what = record { first = false; what = what }
 
@@ -163,19 +163,21 @@ pair_same end n m session trace moves differs =
 
 near_append : (xs ys : List ApartEvent) → near_moves (xs ++ ys) ≡ near_moves xs ++ near_moves ys
 near_append [] ys = refl
-near_append (x ∷ xs) ys = by x.first
+near_append (x ∷ xs) ys = by x.first (near_append xs ys)
   where
-    by : (b : Bool) → (if b then x.what ∷ near_moves (xs ++ ys) else near_moves (xs ++ ys)) ≡ (if b then x.what ∷ near_moves xs else near_moves xs) ++ near_moves ys
-    by true = ap (λ (l : List OwnMove). x.what ∷ l) (near_append xs ys)
-    by false = near_append xs ys
+    by : (b : Bool) → near_moves (xs ++ ys) ≡ near_moves xs ++ near_moves ys
+        → (if b then x.what ∷ near_moves (xs ++ ys) else near_moves (xs ++ ys)) ≡ (if b then x.what ∷ near_moves xs else near_moves xs) ++ near_moves ys
+    by true rest = ap (λ (l : List OwnMove). x.what ∷ l) rest
+    by false rest = rest
 
 far_append : (xs ys : List ApartEvent) → far_moves (xs ++ ys) ≡ far_moves xs ++ far_moves ys
 far_append [] ys = refl
-far_append (x ∷ xs) ys = by x.first
+far_append (x ∷ xs) ys = by x.first (far_append xs ys)
   where
-    by : (b : Bool) → (if b then far_moves (xs ++ ys) else x.what ∷ far_moves (xs ++ ys)) ≡ (if b then far_moves xs else x.what ∷ far_moves xs) ++ far_moves ys
-    by true = far_append xs ys
-    by false = ap (λ (l : List OwnMove). x.what ∷ l) (far_append xs ys)
+    by : (b : Bool) → far_moves (xs ++ ys) ≡ far_moves xs ++ far_moves ys
+        → (if b then far_moves (xs ++ ys) else x.what ∷ far_moves (xs ++ ys)) ≡ (if b then far_moves xs else x.what ∷ far_moves xs) ++ far_moves ys
+    by true rest = rest
+    by false rest = ap (λ (l : List OwnMove). x.what ∷ l) rest
 
 near_one : (n m : ℕ) (at : Role) (session : ℕ) (what : OwnMove) → near_moves (pair_one n m at session what) ≡ own_one Dte n at session what
 near_one n m Dte session what = by (n == session)
@@ -234,12 +236,21 @@ next_of_none taker giver GoesDown h = tt
 -- where neither end takes anything, all is in order
 pub order_of_nothing : (long_data : Bool) (channels : ℕ) (es : List ApartEvent) (ends : Ends) → TakeNothing (near_moves es) → TakeNothing (far_moves es) → AreInOrder long_data channels es ends
 order_of_nothing long_data channels [] ends f g = tt
-order_of_nothing long_data channels (e ∷ es) ends f g = by e.first f g
+order_of_nothing long_data channels (e ∷ es) ends f g = by e.first f g (order_of_nothing long_data channels es (apart_happens long_data channels ends e))
   where
     by : (b : Bool) → TakeNothing (if b then e.what ∷ near_moves es else near_moves es) → TakeNothing (if b then far_moves es else e.what ∷ far_moves es)
-        → IsInOrder ends (record { first = b; what = e.what }) × AreInOrder long_data channels es (apart_happens long_data channels ends (record { first = b; what = e.what }))
-    by true f g = (next_of_none ends.near ends.far e.what f.0, order_of_nothing long_data channels es (apart_happens long_data channels ends (record { first = true; what = e.what })) f.1 g)
-    by false f g = (next_of_none ends.far ends.near e.what g.0, order_of_nothing long_data channels es (apart_happens long_data channels ends (record { first = false; what = e.what })) f g.1)
+        → (TakeNothing (near_moves es) → TakeNothing (far_moves es) → AreInOrder long_data channels es (apart_happens long_data channels ends e))
+        → IsInOrder ends (record { first = b; what = e.what }) × AreInOrder long_data channels es (apart_happens long_data channels ends e)
+    by true f g rest = (next_of_none ends.near ends.far e.what f.0, rest f.1 g)
+    by false f g rest = (next_of_none ends.far ends.near e.what g.0, rest f g.1)
+
+-- so are moves of an end that takes nothing
+pub nothing_goes : (long_data : Bool) (channels : ℕ) (end : Role) (moves : List OwnMove) (ends : Ends) → TakeNothing moves → AreInOrder long_data channels (events_of end moves) ends
+nothing_goes long_data channels end [] ends h = tt
+nothing_goes long_data channels Dte (what ∷ moves) ends h =
+    (next_of_none ends.near ends.far what h.0, nothing_goes long_data channels Dte moves (apart_happens long_data channels ends (event_of Dte what)) h.1)
+nothing_goes long_data channels Dce (what ∷ moves) ends h =
+    (next_of_none ends.far ends.near what h.0, nothing_goes long_data channels Dce moves (apart_happens long_data channels ends (event_of Dce what)) h.1)
 
 -- ---- what users hand down is octets
 

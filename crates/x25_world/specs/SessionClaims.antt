@@ -23,7 +23,7 @@ Throughout Holds =
 pub record MeetInStep (cfg : Cfg) (w : World) : Type 0 where
   pub begun : (end : Role) (n m : ℕ) → meets end n w.transcript ≡ Some m → (1 ≤ n) × (n ≤ last_session end w) × (1 ≤ m) × (m ≤ last_session (other end) w)
   pub later : (end : Role) (n p m q : ℕ) → meets end n w.transcript ≡ Some m → meets end p w.transcript ≡ Some q → n < p → m < q
-  pub mutual : (end : Role) (n m p : ℕ) → meets end n w.transcript ≡ Some m → meets (other end) m w.transcript ≡ Some p → p ≡ n
+  pub returned : (end : Role) (n m p : ℕ) → meets end n w.transcript ≡ Some m → meets (other end) m w.transcript ≡ Some p → p ≡ n
 
 -- On each channel and under each name of a stretch, the messages, the interrupts and the calls that an end hands up in a session are a
 -- beginning of those that the other end handed down in the session that it meets.

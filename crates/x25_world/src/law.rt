@@ -2,6 +2,7 @@
 ghost use Rattle.x25_station.specs.ReadLaw.{AreOctets};
 ghost use Rattle.x25_world.specs.World.{event_of};
 ghost use Rattle.x25_world.specs.WorldRows.{SetsUp, MessageArrives, LostArrives, DamagedArrives, DisconnectEndsBoth, ConnectSetsUp, ConnectGoesAgain, TimerWaits, IsRefused};
+ghost use Rattle.x25_world.specs.SessionClaims.{Throughout, MeetInStep, AreLawfulWhereMet, AllArrive, UnmetAreToldNothing, OpenStretchesMeet};
 ghost use Rattle.x25_world.specs.Claims.{ActsInOctets, Always, IsSetUp, IsLawful, IsNamed, ArrivesAll, HasNoProcedureError, IsInWindow, UpOnceUnlessConnected};
 
 use crate::Event;
@@ -46,6 +47,18 @@ pub fn two_stations_keep_order()
     notes_what_changes();
     sets_up_by_rows();
     reads_what_is_spelled();
+}
+
+/// Two stations over a line, over set-up and re-set-up at any moment.
+pub fn stations_meet_in_sessions()
+    ensures step { Throughout MeetInStep }
+    ensures lawful { Throughout AreLawfulWhereMet }
+    ensures arrives { Throughout AllArrive }
+    ensures unmet { Throughout UnmetAreToldNothing }
+    ensures stand { Throughout OpenStretchesMeet }
+    ensures quiet { Throughout HasNoProcedureError }
+{
+    stations_keep_order();
 }
 
 /// Worked rows: the octets of set-up; a message that arrives, also where its frame is lost or damaged and goes again; `disconnect`,

@@ -1,0 +1,6 @@
+use Rattle.x25_world.proofs.SessionEntries.{heard_plain}
+use Rattle.x25_world.proofs.SessionKnown.{nothing_in_order}
+use Rattle.x25_world.proofs.law.stations_meet_in_sessions.Goals as goal
+
+pub returns : goal.returns
+returns c = ?
