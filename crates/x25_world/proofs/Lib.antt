@@ -18,6 +18,10 @@ pub mod SessionReaches
 pub mod SessionJoined
 pub mod SessionEntries
 pub mod SessionKnown
+pub mod SessionMeets
+pub mod SessionLawful
+pub mod SessionArrives
+pub mod SessionQuiet
 pub mod RowLemmas
 pub mod OnLineLemmas
 pub mod LetGoLemmas
