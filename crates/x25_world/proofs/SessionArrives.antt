@@ -1,5 +1,5 @@
 -- Where a stretch is open, the sessions of both ends that stand meet each other; and where the one end is idle, all arrived.
-use Rattle.std.proofs.Common.{◌≡◌, ℕ, ◌≤◌, ◌⊎◌, inl, inr, List, [], length, Bool, true, false, Option, Some, None, refl, sym, ap, ap₂, ◌∙◌, subst, arith}
+use Rattle.std.proofs.Common.{◌≡◌, ℕ, ◌≤◌, inl, inr, List, [], length, Bool, true, false, Some, refl, sym, ap, ◌∙◌, subst, arith}
 use Rattle.x25_bits.specs.declared.role.Role.{Role}
 use Rattle.x25_bits.specs.declared.role.Role.TheVariants.{Dte, Dce}
 use Rattle.x25_link.specs.MustSend.{other}
@@ -9,7 +9,7 @@ use Rattle.x25_line.specs.Sessions.{Meeting}
 use Rattle.x25_line.specs.SessionClaims.{EachMeetsLatest, IdleHasArrived}
 use Rattle.x25_circuit.specs.declared.state.State.{State}
 use Rattle.x25_circuit.specs.declared.state.State.TheVariants.{Open}
-use Rattle.x25_circuit.specs.Circuit.{is_free_in, is_open_in, is_free, is_open}
+use Rattle.x25_circuit.specs.Circuit.{is_free_in, is_open_in, is_open}
 use Rattle.x25_epochs.specs.Names.{Name}
 use Rattle.x25_layer.specs.Layer.{Layer, at_rest}
 use Rattle.x25_layer.specs.Transcript.{Entry, name_of}
@@ -29,7 +29,7 @@ use Rattle.x25_world.proofs.Joined.{spelled}
 use Rattle.x25_world.proofs.Lawful.{stretch_of, link_idle, idle_between}
 use Rattle.x25_world.proofs.SessionTrace.{Done, own_in, own, pair_in}
 use Rattle.x25_world.proofs.SessionReaches.{known_sessions}
-use Rattle.x25_world.proofs.SessionJoined.{IsLayer, HasMet, PairIsInOrder, SessionsJoined, sessions_swapped}
+use Rattle.x25_world.proofs.SessionJoined.{HasMet, PairIsInOrder, SessionsJoined, sessions_swapped}
 use Rattle.x25_world.proofs.SessionKnown.{SessionLaws, all_some, some_map, met_in_order, pair_world, world_here, world_there}
 use Rattle.x25_world.proofs.SessionLawful.{spelled_none}
 

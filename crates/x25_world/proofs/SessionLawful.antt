@@ -1,6 +1,6 @@
 -- What is handed up in a session of an end: a beginning of what was handed down in the one that it meets, and nothing where it meets
 -- none.
-use Rattle.std.proofs.Common.{◌≡◌, ℕ, zero, suc, ◌==◌, ◌≤◌, ◌<◌, nat_le, ◌⊎◌, inl, inr, List, [], ◌∷◌, ◌++◌, Bool, true, false, ◌&&◌, Option, Some, None, refl, sym, ap, ◌∙◌, subst, arith}
+use Rattle.std.proofs.Common.{◌≡◌, ℕ, zero, suc, ◌==◌, ◌≤◌, ◌<◌, nat_le, ◌⊎◌, inl, inr, List, [], ◌∷◌, ◌++◌, Bool, true, false, ◌&&◌, Some, None, refl, sym, ap, ◌∙◌, subst, arith}
 use Rattle.std.proofs.lemmas.Bool.{eqb-true, leb-true, leb-false}
 use Rattle.x25_bits.specs.declared.role.Role.{Role}
 use Rattle.x25_bits.specs.declared.role.Role.TheVariants.{Dte, Dce}
@@ -114,8 +114,10 @@ module _ (laws : SessionLaws) (cfg : Cfg) (fine : IsConfigured cfg) where
 
   untold_from : (end : Role) (w : World) → SessionsJoined cfg end w → (n : ℕ) → meets end n w.transcript ≡ None → layer_notices (session_at end n w.transcript) ≡ []
   untold_from end w h n unmet = elim (which_session h.links.near.begun n) [
-    | inl never ↦ elim never [ inl zeroth ↦ ap (λ (k : ℕ). layer_notices (session_from k none_begun (entries_at end w.transcript))) zeroth ∙ ap layer_notices (session_zero (entries_at end w.transcript))
-                             | inr later ↦ ap layer_notices (h.near.later n later).entries ]
+    | inl never ↦ elim never [
+      | inl zeroth ↦ ap (λ (k : ℕ). layer_notices (session_from k none_begun (entries_at end w.transcript))) zeroth ∙ ap layer_notices (session_zero (entries_at end w.transcript))
+      | inr later ↦ ap layer_notices (h.near.later n later).entries
+    ]
     | inr begun ↦ at_session begun.0 begun.1
   ]
     where

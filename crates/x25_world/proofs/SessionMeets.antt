@@ -5,15 +5,14 @@ use Rattle.x25_bits.specs.declared.role.Role.TheVariants.{Dte, Dce}
 use Rattle.x25_link.specs.MustSend.{other}
 use Rattle.x25_line.specs.Sessions.{Meeting, Sessions}
 use Rattle.x25_line.specs.SessionClaims as line
-use Rattle.x25_line.specs.SessionClaims.{AllMet, SomeMet, IsNoEarlier, InStep, OnlyBegunHaveLists}
+use Rattle.x25_line.specs.SessionClaims.{AllMet, IsNoEarlier, InStep, OnlyBegunHaveLists}
 use Rattle.x25_station.specs.declared.config.Cfg.{Cfg}
 use Rattle.x25_world.specs.World.{World}
-use Rattle.x25_world.specs.Claims.{entries_at}
-use Rattle.x25_world.specs.Sessions.{Progress, none_begun, after_entries, last_session, meets}
+use Rattle.x25_world.specs.Sessions.{Progress, last_session, meets}
 use Rattle.x25_world.specs.SessionClaims.{MeetInStep}
 use Rattle.x25_world.proofs.Known.{IsConfigured}
 use Rattle.x25_world.proofs.SessionReaches.{known_sessions}
-use Rattle.x25_world.proofs.SessionJoined.{IsEnd, HasMet, Hears, SessionsJoined}
+use Rattle.x25_world.proofs.SessionJoined.{HasMet, Hears, SessionsJoined}
 use Rattle.x25_world.proofs.SessionKnown.{SessionLaws, all_no_earlier, all_some}
 
 -- ---- by the links

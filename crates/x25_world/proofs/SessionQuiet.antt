@@ -2,7 +2,6 @@
 use Rattle.std.proofs.Common.{◌≡◌, ℕ, suc, ◌≤◌, ◌<◌, ◌⊎◌, inl, inr, List, [], Contains, sym, subst, arith}
 use Rattle.x25_bits.specs.declared.role.Role.{Role}
 use Rattle.x25_bits.specs.declared.role.Role.TheVariants.{Dte, Dce}
-use Rattle.x25_link.specs.MustSend.{other}
 use Rattle.x25_line.specs.Sessions.{Sessions}
 use Rattle.x25_line.specs.SessionClaims.{OnlyBegunHaveLists, NoSessionSendsFrmr, AllSessionsSendWhole}
 use Rattle.x25_layer.specs.Quiet.{AreNoFaults}
