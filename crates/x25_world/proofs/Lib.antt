@@ -22,6 +22,9 @@ pub mod SessionMeets
 pub mod SessionLawful
 pub mod SessionArrives
 pub mod SessionQuiet
+pub mod SessionStart
+pub mod SessionRuns
+pub mod SessionHeadline
 pub mod RowLemmas
 pub mod OnLineLemmas
 pub mod LetGoLemmas

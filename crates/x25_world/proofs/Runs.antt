@@ -58,6 +58,10 @@ damaged_joined one asks cfg end w h place octets = by (nat_lt place (length w.ba
 
 -- ---- acts and events
 
+pub back_after : (w : World) (o : WorldOutcome) → after w (swapped_back o) ≡ swapped (after (swapped w) o)
+back_after w (Happened next) = refl
+back_after w (Declined e) = refl
+
 module _ (laws : Laws) (asks : Bool) (cfg : Cfg) (fine : IsConfigured cfg) where
   -- no `connect` is accepted, or, where some may be, the end isn't set up anew
   acts_joined : (end : Role) (w : World) → Joined asks cfg end w → (act : Act) → ActsInOctets act → (asks ≡ false → IsNoConnect act (refusal_of (acts (settings_from end cfg) w act)))
@@ -69,10 +73,6 @@ module _ (laws : Laws) (asks : Bool) (cfg : Cfg) (fine : IsConfigured cfg) where
   acts_joined end w h Fires octets none once = fired_joined laws asks cfg fine end w h
   acts_joined end w h (Loses place) octets none once = lost_joined laws.one asks cfg end w h place
   acts_joined end w h (Damages place octets) fits none once = damaged_joined laws.one asks cfg end w h place octets
-
-  back_after : (w : World) (o : WorldOutcome) → after w (swapped_back o) ≡ swapped (after (swapped w) o)
-  back_after w (Happened next) = refl
-  back_after w (Declined e) = refl
 
   event_joined : (at : Role) (act : Act) (w : World) → ActsInOctets act → (asks ≡ false → IsNoConnect act (refusal_of (happens cfg w (record { at = at; act = act }))))
       → (asks ≡ true → ups_in (entries_at at (after w (happens cfg w (record { at = at; act = act }))).transcript) ≡ 1) → Joined asks cfg Dte w
