@@ -112,11 +112,11 @@ entries_other end transcript entries =
     entries_append (other end) transcript (entered end entries) ∙ ap (λ (es : List StationEntry). entries_at (other end) transcript ++ es) (no_entries end entries)
     ∙ append-nil (entries_at (other end) transcript)
 
-layer_append : (xs ys : List StationEntry) → layer_entries (xs ++ ys) ≡ layer_entries xs ++ layer_entries ys
+pub layer_append : (xs ys : List StationEntry) → layer_entries (xs ++ ys) ≡ layer_entries xs ++ layer_entries ys
 layer_append [] ys = refl
 layer_append (x ∷ xs) ys = ap (λ (es : List Entry). in_layer x ++ es) (layer_append xs ys) ∙ sym (append_assoc (in_layer x) (layer_entries xs) (layer_entries ys))
 
-notices_append : (xs ys : List StationEntry) → layer_notices (xs ++ ys) ≡ layer_notices xs ++ layer_notices ys
+pub notices_append : (xs ys : List StationEntry) → layer_notices (xs ++ ys) ≡ layer_notices xs ++ layer_notices ys
 notices_append [] ys = refl
 notices_append (x ∷ xs) ys = ap (λ (ns : List LayerNotice). notice_in x ++ ns) (notices_append xs ys) ∙ sym (append_assoc (notice_in x) (layer_notices xs) (layer_notices ys))
 

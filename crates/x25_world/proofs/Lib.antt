@@ -18,6 +18,9 @@ pub mod SessionReaches
 pub mod SessionJoined
 pub mod SessionEntries
 pub mod SessionKnown
+pub mod SessionLinks
+pub mod SessionGoes
+pub mod SessionFollows
 pub mod SessionMeets
 pub mod SessionLawful
 pub mod SessionArrives
