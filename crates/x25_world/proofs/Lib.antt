@@ -25,6 +25,8 @@ pub mod SessionMeets
 pub mod SessionLawful
 pub mod SessionArrives
 pub mod SessionQuiet
+pub mod SessionLines
+pub mod SessionTimers
 pub mod SessionStart
 pub mod SessionRuns
 pub mod SessionHeadline

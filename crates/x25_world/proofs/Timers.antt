@@ -23,7 +23,7 @@ use Rattle.x25_world.proofs.Known.{Laws, IsConfigured}
 use Rattle.x25_world.proofs.Joined.{Joined}
 use Rattle.x25_world.proofs.Follows.{no_command, connect, disconnect, follows_joined}
 
-timer_packet : (c : LinkSettings) (s : LinkStation) → (timer_step c s).packet ≡ None
+pub timer_packet : (c : LinkSettings) (s : LinkStation) → (timer_step c s).packet ≡ None
 timer_packet c s = by (nat_lt s.tries c.retries)
   where
     by : (b : Bool)
@@ -32,7 +32,7 @@ timer_packet c s = by (nat_lt s.tries c.retries)
     by false = refl
 
 -- connect is accepted in Down alone
-was_down : (p : Phase) → connect_refusal p ≡ None → p ≡ Down
+pub was_down : (p : Phase) → connect_refusal p ≡ None → p ≡ Down
 was_down Down is = refl
 was_down Waiting is = absurd (cc)
 was_down Up is = absurd (cc)
