@@ -26,7 +26,6 @@ pub mod SessionLawful
 pub mod SessionArrives
 pub mod SessionQuiet
 pub mod SessionLines
-pub mod SessionTimers
 pub mod SessionStart
 pub mod SessionRuns
 pub mod SessionHeadline
