@@ -77,6 +77,9 @@ connected_is : (cfg : Cfg) → connected cfg ≡ asked
 unfolding pumped
 connected_is cfg = refl
 
+pub kept_new : IsKept new_station
+kept_new = record { few = omega arith; rests = λ off. refl }
+
 abbrev comes_to : Role → Event
 comes_to end = record { at = end; act = Receives }
 
@@ -134,9 +137,6 @@ module _ (laws : Laws) (cfg : Cfg) where
 
   kept_waiting : IsKept waiting
   kept_waiting = record { few = omega arith; rests = λ off. refl }
-
-  kept_new : IsKept new_station
-  kept_new = record { few = omega arith; rests = λ off. refl }
 
   transcript_is : started.transcript ≡ record { at = Dce; entry = link_up } ∷ record { at = Dte; entry = link_up } ∷ []
   transcript_is = ap₂ (λ (a b : List StationEntry). ([] ++ entered Dce a) ++ entered Dte b) dce_up.entries dte_up.entries

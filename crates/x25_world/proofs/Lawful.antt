@@ -32,7 +32,7 @@ use Rattle.x25_world.proofs.Follows.{true_false}
 
 -- ---- a stretch that is open
 
-record IsStretch (channels : ℕ) (l : Layer) (k : ℕ) (name : Name) : Type 0 where
+pub record IsStretch (channels : ℕ) (l : Layer) (k : ℕ) (name : Name) : Type 0 where
   pub channel : is_channel channels k ≡ true
   pub opened : is_open (l.circuits k) ≡ true
   pub named : name_of l k ≡ name
@@ -43,7 +43,7 @@ name_if b name = if b then Some name else None
 abbrev open_if : Bool → Bool → Bool
 open_if b o = if b then o else false
 
-stretch_of : (channels : ℕ) (l : Layer) (k : ℕ) (name : Name) → name_if (open_if (is_channel channels k) (is_open (l.circuits k))) (name_of l k) ≡ Some name → IsStretch channels l k name
+pub stretch_of : (channels : ℕ) (l : Layer) (k : ℕ) (name : Name) → name_if (open_if (is_channel channels k) (is_open (l.circuits k))) (name_of l k) ≡ Some name → IsStretch channels l k name
 stretch_of channels l k name is = by (is_channel channels k) (is_open (l.circuits k)) refl refl is
   where
     some_is : (m n : Name) → Some m ≡ Some n → m ≡ n
@@ -69,6 +69,32 @@ none_waits circuits (suc n) k none low high =
     by : (b : Bool) → (k == suc n) ≡ b → (k ≤ n → waits (circuits k) ≡ 0) → waits (circuits (suc n)) ≡ 0 → waits (circuits k) ≡ 0
     by true is rest here = ap (λ (j : ℕ). waits (circuits j)) (eqb-true k (suc n) is) ∙ here
     by false is rest here = rest (lower high (λ (e : k ≡ suc n). true_false (sym (eq-eqb k (suc n) e) ∙ is)))
+
+-- ---- an end that is idle
+
+pub link_idle : (cfg : Cfg) (end : Role) (s : Station) → is_idle (settings_from end cfg) s ≡ true → link.is_idle s.link ≡ true
+link_idle cfg end s idle = (both_true (link.is_idle s.link) (waits_up_to s.layer.circuits cfg.channels == 0) idle).0
+
+-- .. to the other one, where all that its link was handed down arrived, and the same stretch is open at both
+pub idle_between : (cfg : Cfg) (end : Role) (s t : Station) (giver taker : layer.End) (k : ℕ) (name : Name) → giver.layer ≡ s.layer → taker.layer ≡ t.layer → is_idle (settings_from end cfg) s ≡ true
+    → stretch (settings_from end cfg) s k ≡ Some name → stretch (settings_from (other end) cfg) t k ≡ Some name → spelled taker.taken ≡ spelled giver.given → IsIdleTo k giver taker (length giver.given)
+idle_between cfg end s t giver taker k name of_giver of_taker idle here there all =
+    let both = both_true (link.is_idle s.link) (waits_up_to s.layer.circuits cfg.channels == 0) idle in
+    let opened = stretch_of cfg.channels s.layer k name here in
+    let opened_there = stretch_of cfg.channels t.layer k name there in
+    let bounds = both_true (nat_le 1 k) (nat_le k cfg.channels) opened.channel in
+    let none : waits (s.layer.circuits k) ≡ 0 =
+    none_waits s.layer.circuits cfg.channels k (eqb-true (waits_up_to s.layer.circuits cfg.channels) 0 both.1) (leb-true 1 k bounds.0) (leb-true k cfg.channels bounds.1) in
+    let count : length taker.taken ≡ length giver.given =
+    sym (length-map taker.taken packet.spelling_of) ∙ ap (λ (l : List (List ℕ)). length l) all ∙ length-map giver.given packet.spelling_of in
+    record {
+      all_acked = refl;
+      acked_taken = omega (arith, count);
+      no_message = ap (λ (l : Layer). waits (l.circuits k)) of_giver ∙ none;
+      opened = ap (λ (l : Layer). is_open (l.circuits k)) of_giver ∙ opened.opened;
+      opened_there = ap (λ (l : Layer). is_open (l.circuits k)) of_taker ∙ opened_there.opened;
+      same_name = ap (λ (l : Layer). name_of l k) of_giver ∙ opened.named ∙ sym (ap (λ (l : Layer). name_of l k) of_taker ∙ opened_there.named);
+    }
 
 module _ (laws : Laws) (asks : Bool) (cfg : Cfg) (fine : IsConfigured cfg) where
   -- ---- order
@@ -110,29 +136,14 @@ module _ (laws : Laws) (asks : Bool) (cfg : Cfg) (fine : IsConfigured cfg) where
   arrives_from : (end : Role) (w : World) → Joined asks cfg end w → (k : ℕ) (name : Name) → is_idle (settings_from end cfg) w.near ≡ true → stretch (settings_from end cfg) w.near k ≡ Some name
       → stretch (settings_from (other end) cfg) w.far k ≡ Some name → HasAllOf k name (handed_at end w) (handed_at (other end) w)
   arrives_from end w h k name idle here there =
-      let both = both_true (link.is_idle w.near.link) (waits_up_to w.near.layer.circuits cfg.channels == 0) idle in
-      let s = stretch_of cfg.channels w.near.layer k name here in
-      let t = stretch_of cfg.channels w.far.layer k name there in
-      let bounds = both_true (nat_le 1 k) (nat_le k cfg.channels) s.channel in
-      let none : waits (w.near.layer.circuits k) ≡ 0 =
-      none_waits w.near.layer.circuits cfg.channels k (eqb-true (waits_up_to w.near.layer.circuits cfg.channels) 0 both.1) (leb-true 1 k bounds.0) (leb-true k cfg.channels bounds.1) in
       let order = given_order laws asks cfg fine end h.links h.links_reach in
-      let all : spelled h.layers.far.taken ≡ spelled h.layers.near.given = sym h.far.up ∙ order.idle (ap (λ (x : LinkStation). link.is_idle x) h.near.link ∙ both.0) ∙ h.near.down in
-      let count : length h.layers.far.taken ≡ length h.layers.near.given =
-      sym (length-map h.layers.far.taken packet.spelling_of) ∙ ap (λ (l : List (List ℕ)). length l) all ∙ length-map h.layers.near.given packet.spelling_of in
-      let own : name_of h.layers.near.layer k ≡ name = ap (λ (l : Layer). name_of l k) h.near.layer ∙ s.named in
-      let idle_to : IsIdleTo k h.layers.near h.layers.far (length h.layers.near.given) = record {
-        all_acked = refl;
-        acked_taken = omega (arith, count);
-        no_message = ap (λ (l : Layer). waits (l.circuits k)) h.near.layer ∙ none;
-        opened = ap (λ (l : Layer). is_open (l.circuits k)) h.near.layer ∙ s.opened;
-        opened_there = ap (λ (l : Layer). is_open (l.circuits k)) h.far.layer ∙ t.opened;
-        same_name = own ∙ sym (ap (λ (l : Layer). name_of l k) h.far.layer ∙ t.named);
-      } in
+      let all : spelled h.layers.far.taken ≡ spelled h.layers.near.given =
+      sym h.far.up ∙ order.idle (ap (λ (x : LinkStation). link.is_idle x) h.near.link ∙ link_idle cfg end w.near idle) ∙ h.near.down in
+      let own : name_of h.layers.near.layer k ≡ name = ap (λ (l : Layer). name_of l k) h.near.layer ∙ (stretch_of cfg.channels w.near.layer k name here).named in
       subst (λ (n : Name). HasAllOf k n (handed_at end w) (handed_at (other end) w)) own
       (subst (λ (e : List Entry). HasAllOf k (name_of h.layers.near.layer k) e (handed_at (other end) w)) h.near.entries
       (subst (λ (f : List Entry). HasAllOf k (name_of h.layers.near.layer k) h.layers.near.entries f) h.far.entries
-      (layers_arrive end h.layers h.layers_reach k (length h.layers.near.given) idle_to)))
+      (layers_arrive end h.layers h.layers_reach k (length h.layers.near.given) (idle_between cfg end w.near w.far h.layers.near h.layers.far k name h.near.layer h.far.layer idle here there all))))
 
   pub arrives_all : (w : World) → Joined asks cfg Dte w → ArrivesAll cfg w
   arrives_all w h Dte k name idle here there = arrives_from Dte w h k name idle here there

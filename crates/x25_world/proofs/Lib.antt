@@ -25,7 +25,13 @@ pub mod SessionMoves
 pub mod SessionRequests
 pub mod SessionTimers
 pub mod SessionReceives
+pub mod SessionLines
 pub mod SessionRuns
+pub mod SessionMeets
+pub mod SessionLawful
+pub mod SessionArrives
+pub mod SessionQuiet
+pub mod SessionHeadline
 pub mod RowLemmas
 pub mod OnLineLemmas
 pub mod LetGoLemmas

@@ -27,13 +27,13 @@ use Rattle.x25_world.proofs.Joined.{Joined, spelled, AreOnTap}
 
 -- ---- packets
 
-abbrev IsQuietOctets : Bool → ℕ → List ℕ → Type 0
+abbrev pub IsQuietOctets : Bool → ℕ → List ℕ → Type 0
 IsQuietOctets long_data channels octets = IsQuietRead channels (packet_of (longest_user long_data) octets)
 
 quiet_one : (long_data : Bool) (channels : ℕ) (p : PlainPacket) (ps : List PlainPacket) → AreQuiet channels (p ∷ ps) → AreReadable long_data (p ∷ ps) → IsQuietOctets long_data channels (packet.spelling_of p)
 quiet_one long_data channels p ps quiet readable = subst (λ (r : Result PlainPacket PacketError). IsQuietRead channels r) (sym readable.0.reads) quiet.0
 
-quiet_octets : (long_data : Bool) (channels : ℕ) (ps : List PlainPacket) → AreQuiet channels ps → AreReadable long_data ps → (octets : List ℕ) → Contains (spelled ps) octets → IsQuietOctets long_data channels octets
+pub quiet_octets : (long_data : Bool) (channels : ℕ) (ps : List PlainPacket) → AreQuiet channels ps → AreReadable long_data ps → (octets : List ℕ) → Contains (spelled ps) octets → IsQuietOctets long_data channels octets
 quiet_octets long_data channels [] quiet readable octets (k, low, is) = absurd (omega (arith, low))
 quiet_octets long_data channels (p ∷ ps) quiet readable octets (zero, low, is) = subst (IsQuietOctets long_data channels) is (quiet_one long_data channels p ps quiet readable)
 quiet_octets long_data channels (p ∷ ps) quiet readable octets (suc k, low, is) = quiet_octets long_data channels ps quiet.1 readable.1 octets (k, omega (arith, low), is)
@@ -59,7 +59,7 @@ quiet_read reads long_data channels from given f octets whole is quiet =
     subst (λ (r : Result PlainFrame FrameError). IsQuietFrame long_data channels r)
     (sym (reads from longest_packet f octets (record { in_range = whole.in_range; carries = whole.carries; within = whole.within; spelling = is }))) quiet
 
-quiet_tap : ReadsSpelled → (long_data : Bool) (channels : ℕ) (given : List (List ℕ)) → ((octets : List ℕ) → Contains given octets → IsQuietOctets long_data channels octets) → (tap : List OnTap) (fs : List PlainFrame) → AreOnTap tap fs
+pub quiet_tap : ReadsSpelled → (long_data : Bool) (channels : ℕ) (given : List (List ℕ)) → ((octets : List ℕ) → Contains given octets → IsQuietOctets long_data channels octets) → (tap : List OnTap) (fs : List PlainFrame) → AreOnTap tap fs
     → AreWhole longest_packet given fs → NoFrmr fs → IsQuietTap long_data channels tap
 quiet_tap reads long_data channels given quiet [] [] on whole none = tt
 quiet_tap reads long_data channels given quiet (t ∷ tap) (f ∷ fs) on whole none =

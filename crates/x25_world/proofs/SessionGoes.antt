@@ -158,9 +158,9 @@ hears_more : (Met Met₂ : ℕ → ℕ → Type 0) (n : ℕ) (up up₂ : List (L
     → (up ≡ [] → ((up₂ ≡ []) × (found ≡ None)) ⊎ Meets Met₂ n found) → Hears Met n up old → Hears Met₂ n up₂ all
 hears_more Met Met₂ n up up₂ old found all more is now h = elim h [
   | inl none ↦ elim (now none.0) [
-      | inl still ↦ inl (still.0, is ∙ ap (λ (o : Option ℕ). first_of o found) none.1 ∙ still.1)
-      | inr some ↦ inr (record { session = some.session; told = is ∙ ap (λ (o : Option ℕ). first_of o found) none.1 ∙ some.told; has_met = some.has_met; begun = some.begun })
-    ]
+    | inl still ↦ inl (still.0, is ∙ ap (λ (o : Option ℕ). first_of o found) none.1 ∙ still.1)
+    | inr some ↦ inr (record { session = some.session; told = is ∙ ap (λ (o : Option ℕ). first_of o found) none.1 ∙ some.told; has_met = some.has_met; begun = some.begun })
+  ]
   | inr some ↦ inr (record { session = some.session; told = is ∙ ap (λ (o : Option ℕ). first_of o found) some.told; has_met = more some.session some.has_met; begun = some.begun })
 ]
 
@@ -334,15 +334,15 @@ module _ (cfg : Cfg) (end : Role) (w : World) (h : SessionsJoined cfg end w) (st
         here : h.links.near.up session ≡ [] → ((v.near.up session ≡ []) × (found session ≡ None)) ⊎ Meets HasMetOn session (found session)
         here none = elim (news (no_packets_of (own cfg end session h.trace).taken (sym (h.near.sessions session (h.near.first up) (omega arith)).up ∙ none))) [
           | inl still ↦ inl (
-                up_here ∙ ap₂ (λ (xs : List (List ℕ)) (ps : List PlainPacket). xs ++ spelled ps) none still.0,
-                none_met session standing (after_entries none_begun told_there) step.entries still.1,
-              )
+            up_here ∙ ap₂ (λ (xs : List (List ℕ)) (ps : List PlainPacket). xs ++ spelled ps) none still.0,
+            none_met session standing (after_entries none_begun told_there) step.entries still.1,
+          )
           | inr new ↦ inr (record {
-                session = h.links.far.begun;
-                told = restart_met session standing (after_entries none_begun told_there) step.entries plain stands_here new.restarts ∙ ap (λ (m : ℕ). Some m) far_begun;
-                has_met = new.has_met;
-                begun = (h.near.first up, new.begun);
-              })
+            session = h.links.far.begun;
+            told = restart_met session standing (after_entries none_begun told_there) step.entries plain stands_here new.restarts ∙ ap (λ (m : ℕ). Some m) far_begun;
+            has_met = new.has_met;
+            begun = (h.near.first up, new.begun);
+          })
         ]
 
         elsewhere : (n : ℕ) → (n ≡ session → ⊥) → h.links.near.up n ≡ [] → ((v.near.up n ≡ []) × (found n ≡ None)) ⊎ Meets HasMetOn n (found n)

@@ -1,6 +1,6 @@
 -- A world of two stations over set-up and re-set-up, as one of the ends sees it: a run of two links with their sessions, and moves of the
 -- layers in each session. The sessions that meet are two layers whose packets come in order.
-use Rattle.std.proofs.Common.{◌≡◌, ℕ, ◌≤◌, ◌<◌, ◌⊎◌, inl, inr, List, [], ◌∷◌, map, Bool, true, false, Option, Some, None, sym, ap, subst}
+use Rattle.std.proofs.Common.{◌≡◌, ℕ, ◌≤◌, ◌<◌, ◌⊎◌, inl, inr, List, [], ◌∷◌, map, Bool, true, false, Option, Some, None, refl, sym, ap, subst}
 use Rattle.x25_bits.specs.declared.role.Role.{Role}
 use Rattle.x25_bits.specs.declared.role.Role.TheVariants.{Dte, Dce}
 use Rattle.x25_link.specs.Station.{is_up}
@@ -142,3 +142,8 @@ sessions_swapped cfg Dce w h = record {
   near_hears = λ n. hears_back n (h.links.far.up n) (meets Dte n w.transcript) h.links.met (h.far_hears n);
   far_hears = λ n. hears_turned n (h.links.near.up n) (meets Dce n w.transcript) h.links.met (h.near_hears n);
 }
+
+pub links_swapped : (cfg : Cfg) (end : Role) (w : World) (h : SessionsJoined cfg end w) → (sessions_swapped cfg end w h).links ≡ links.swapped h.links
+unfolding sessions_swapped
+links_swapped cfg Dte w h = refl
+links_swapped cfg Dce w h = refl

@@ -7,8 +7,12 @@ ghost use Rattle.x25_world.specs.Claims.{ActsInOctets, Always, IsSetUp, IsLawful
 
 use crate::Event;
 use x25_frame::reads_what_is_spelled;
-use x25_layer::{names_are_told, two_layers_keep_order};
-use x25_line::{each_event_hands_one, stations_keep_order};
+use x25_layer::{
+    apart_layers_keep_order, each_end_is_by_itself, names_are_told, two_layers_keep_order,
+};
+use x25_line::{
+    each_event_hands_one, each_session_event_hands_one, sessions_keep_order, stations_keep_order,
+};
 use x25_link::{notes_what_changes, sets_up_by_rows};
 use x25_station::{Cmd, puts_are_readable, steps_are_joined, steps_keep_bounds};
 
@@ -49,7 +53,24 @@ pub fn two_stations_keep_order()
     reads_what_is_spelled();
 }
 
-/// Two stations over a line, over set-up and re-set-up at any moment.
+/// Two stations joined by such a line, over set-up and re-set-up at any moment: what holds after each list of commands, `connect` among
+/// them, deliveries, losses, damage and firings of timer T1, wherever an event is refused, from both links down and nothing on the
+/// line, and from a link just set up.
+///
+/// A session of an end lasts from a `linkup` to the next `linkup` or `linkdown` there. It meets the session that the other end began last
+/// before its own first `restarted`. Without one it meets none.
+///
+/// - `step`: sessions that meet were begun. Of two sessions of an end that each meet one, the later meets the later one, and where a session meets
+///   one that meets any, that one meets it.
+/// - `lawful`: on each channel and under each name of a stretch, the messages, interrupts and calls that an end hands up in a session are
+///   a beginning of those that the other handed down in the session that it meets.
+/// - `arrives`: what is handed up is all of the messages and interrupts of a stretch, from the one session that stands to the other, where the end
+///   that gives is idle and both ends have that stretch open.
+/// - `unmet`: in a session that meets none the layer tells its user nothing: no message, no interrupt and no call.
+/// - `stand`: where a stretch is open at both ends, on whichever channels, the two sessions that stand meet each other.
+/// - `quiet`: no FRMR, no CLEAR, RESET or RESTART with a cause of an error was ever put on the line, and no user was told of a fault.
+///
+/// Premises: k is 1 to 7, N2 1 to 255, channels 1 to 16, and the users hand down octets.
 pub fn stations_meet_in_sessions()
     ensures step { Throughout MeetInStep }
     ensures lawful { Throughout AreLawfulWhereMet }
@@ -58,7 +79,20 @@ pub fn stations_meet_in_sessions()
     ensures stand { Throughout OpenStretchesMeet }
     ensures quiet { Throughout HasNoProcedureError }
 {
+    sessions_keep_order();
+    each_session_event_hands_one();
+    apart_layers_keep_order();
+    each_end_is_by_itself();
     stations_keep_order();
+    each_event_hands_one();
+    two_layers_keep_order();
+    names_are_told();
+    steps_are_joined();
+    steps_keep_bounds();
+    puts_are_readable();
+    notes_what_changes();
+    sets_up_by_rows();
+    reads_what_is_spelled();
 }
 
 /// Worked rows: the octets of set-up; a message that arrives, also where its frame is lost or damaged and goes again; `disconnect`,

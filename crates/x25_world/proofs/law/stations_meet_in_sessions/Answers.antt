@@ -1,13 +1,79 @@
-use Rattle.x25_world.proofs.SessionEntries.{heard_plain}
-use Rattle.x25_world.proofs.SessionKnown.{nothing_in_order}
-use Rattle.x25_world.proofs.SessionLinks.{puts_go}
-use Rattle.x25_world.proofs.SessionGoes.{goes_on}
-use Rattle.x25_world.proofs.SessionFollows.{follows_up}
-use Rattle.x25_world.proofs.SessionRequests.{requests_joined}
-use Rattle.x25_world.proofs.SessionTimers.{fired_joined}
-use Rattle.x25_world.proofs.SessionReceives.{receives_joined}
-use Rattle.x25_world.proofs.SessionRuns.{throughout_joined}
+use Rattle.x25_world.proofs.Known.{Laws}
+use Rattle.x25_world.proofs.SessionKnown.{SessionLaws}
+use Rattle.x25_world.proofs.SessionHeadline.{throughout_in_step, throughout_lawful, throughout_arrives, throughout_unmet, throughout_stand, throughout_quiet}
 use Rattle.x25_world.proofs.law.stations_meet_in_sessions.Goals as goal
 
+-- the links, the layers and the stations, by their contracts
 pub returns : goal.returns
-returns c = ?
+returns c =
+    let sessions = c.sessions_keep_order.ensures in
+    let apart = c.apart_layers_keep_order.ensures in
+    let alone = c.each_end_is_by_itself.ensures in
+    let links = c.stations_keep_order.ensures in
+    let layers = c.two_layers_keep_order.ensures in
+    let joins = c.steps_are_joined.ensures in
+    let keeps = c.steps_keep_bounds.ensures in
+    let notes = c.notes_what_changes.ensures in
+    let sets_up = c.sets_up_by_rows.ensures in
+    let stations : Laws = record {
+      order = links.order;
+      one_link = links.once;
+      one = c.each_event_hands_one.ensures;
+      window = links.window;
+      no_frmr = links.no_frmr;
+      whole = links.whole;
+      layers_order = layers.order;
+      layers_quiet = layers.quiet;
+      layers_lawful = layers.lawful;
+      layers_named = c.names_are_told.ensures.names;
+      layers_arrive = layers.arrives;
+      readable = c.puts_are_readable.ensures;
+      request = joins.request;
+      receive = joins.receive;
+      quiet = joins.quiet;
+      down = joins.down;
+      up = joins.up;
+      timer_keeps = keeps.timer;
+      command_keeps = keeps.command;
+      receive_keeps = keeps.receive;
+      take_tells = notes.take;
+      take_hands_up = notes.take_hands_up;
+      timer_tells = notes.timer;
+      put_tells = notes.put;
+      connect_tells = notes.connect;
+      disconnect_tells = notes.disconnect;
+      abandon_tells = notes.abandon;
+      take_waits = sets_up.waits;
+      take_sets_up = sets_up.sets_up;
+      reads = c.reads_what_is_spelled.ensures.reads;
+    } in
+    let laws : SessionLaws = record {
+      stations = stations;
+      step = sessions.step;
+      order = sessions.order;
+      unmet = sessions.unmet;
+      begun = sessions.begun;
+      agree = sessions.agree;
+      meets = sessions.meets;
+      idle = sessions.idle;
+      no_frmr = sessions.no_frmr;
+      whole = sessions.whole;
+      hands = c.each_session_event_hands_one.ensures;
+      layers_order = apart.order;
+      layers_quiet = apart.quiet;
+      layers_lawful = apart.lawful;
+      layers_arrive = apart.arrives;
+      layers_restarted = apart.restarted;
+      own = alone.own;
+      behind = alone.behind;
+      alone = alone.alone;
+      over_links = apart.runs;
+    } in
+    record {
+      step = throughout_in_step laws keeps.connect;
+      lawful = throughout_lawful laws keeps.connect;
+      arrives = throughout_arrives laws keeps.connect;
+      unmet = throughout_unmet laws keeps.connect;
+      stand = throughout_stand laws keeps.connect;
+      quiet = throughout_quiet laws keeps.connect;
+    }
