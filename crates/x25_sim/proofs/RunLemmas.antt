@@ -1,5 +1,5 @@
 -- What is written for a script is the transcript of a run.
-use Rattle.std.proofs.Common.{◌≡◌, ◌∙◌, ℕ, zero, suc, nat_lt, nat_le, Bool, true, false, List, [], ◌∷◌, ◌++◌, length, drop, map, remove, Option, Some, None, append_assoc, ap, sym, subst, refl}
+use Rattle.std.proofs.Common.{◌≡◌, ◌∙◌, ◌⊎◌, inl, inr, ℕ, zero, suc, nat_lt, nat_le, Bool, true, false, List, [], ◌∷◌, ◌++◌, length, drop, map, remove, Option, Some, None, append_assoc, ap, sym, subst, refl}
 use Rattle.std.proofs.lemmas.List.{append-nil}
 use Rattle.std.proofs.Math.Seq.{drop-append_seam}
 use Rattle.std.specs.Prelude.{cond, ◌&&◌}
@@ -17,9 +17,10 @@ use Rattle.x25_program.specs.Lines.{lines_of}
 use Rattle.x25_world.specs.World.{World, OnTap, AtEnd, swapped, Act, Commands, Receives, Fires, Loses, Damages, Event, WorldOutcome, Happened, Declined, of_station, delivered, on_line, is_on_line, acts, swapped_back, acts_at, happens, refusal_of, after, run, AreAccepted, start, connected, established}
 use Rattle.x25_world.specs.declared.error.WorldError.{WorldError}
 use Rattle.x25_world.specs.Claims.{ActsInOctets, AreInOctets, IsUpOnce, IsNoConnect, NoneConnects, UpOnceUnlessConnected, Always}
+use Rattle.x25_world.specs.SessionClaims.{Throughout}
 use Rattle.x25_sim.specs.Sayings.{Saying, enters, taps, reads_nothing, refuses}
 use Rattle.x25_sim.specs.Simulated.{Turn, and_then, step_told, told_between, turn_of, event_turn, next_end, delivered_to, drained, command_asked, line_turn, most_line, asked_in, asked_turn, turn, turns, connecting, set_up, opened, simulated}
-use Rattle.x25_sim.specs.RunLaw.{entries_in, frames_in, begins, IsNoConnectLine, NoneAsks, IsRun, ScriptsAreRuns, OfScripts, UpOnceUnlessAsked, ScriptsAreTold, ScriptsAreTapped}
+use Rattle.x25_sim.specs.RunLaw.{entries_in, frames_in, begins, IsNoConnectLine, NoneAsks, IsRun, ScriptsAreRuns, OfScripts, OfAllScripts, UpOnceUnlessAsked, ScriptsAreTold, ScriptsAreTapped}
 
 -- ---- a world only grows
 
@@ -330,6 +331,14 @@ script_runs reads cfg down tap script =
 pub of_script : (Holds : Cfg → World → Type 0) → Always Holds → ScriptsAreRuns → OfScripts Holds
 of_script Holds always runs = λ cfg range tap script once. let r = runs cfg false tap script in
     subst (Holds cfg) (sym r.next) (always cfg range r.events r.octets (subst (IsUpOnce cfg) r.next once))
+
+begins_so : (cfg : Cfg) (down : Bool) → (begins cfg down ≡ start) ⊎ (begins cfg down ≡ established cfg)
+begins_so cfg true = inl refl
+begins_so cfg false = inr refl
+
+pub of_all_scripts : (Holds : Cfg → World → Type 0) → Throughout Holds → ScriptsAreRuns → OfAllScripts Holds
+of_all_scripts Holds throughout runs = λ cfg range down tap script. let r = runs cfg down tap script in
+    subst (Holds cfg) (sym r.next) (throughout cfg range (begins cfg down) (begins_so cfg down) r.events r.octets)
 
 pub up_once : UpOnceUnlessConnected → ScriptsAreRuns → UpOnceUnlessAsked
 up_once once runs = λ cfg range tap script none. let r = runs cfg false tap script in

@@ -70,3 +70,7 @@ ScriptsAreTold = (cfg : Cfg) (down tap : Bool) (script : List ℕ) → entries_i
 -- and the frames, where they are asked for, its tap
 abbrev pub ScriptsAreTapped : Type 0
 ScriptsAreTapped = (cfg : Cfg) (down : Bool) (script : List ℕ) → frames_in (simulated cfg down true script).sayings ≡ (simulated cfg down true script).next.tap
+
+-- what holds of each world to which a script leads, over set-up and re-set-up at any moment
+abbrev pub OfAllScripts : (Cfg → World → Type 0) → Type 0
+OfAllScripts Holds = (cfg : Cfg) → config_refusal cfg ≡ None → (down tap : Bool) (script : List ℕ) → Holds cfg (simulated cfg down tap script).next

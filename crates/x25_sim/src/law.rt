@@ -1,11 +1,12 @@
 //! What the simulator writes is a run, and what holds of it, as laws about the definition: each is the contract of a function that
 //! does nothing.
 ghost use Rattle.x25_world.specs.Claims.{ArrivesAll, HasNoProcedureError, IsInWindow, IsLawful, IsNamed};
-ghost use Rattle.x25_sim.specs.RunLaw.{OfScripts, ScriptsAreRuns, ScriptsAreTapped, ScriptsAreTold, UpOnceUnlessAsked};
+ghost use Rattle.x25_world.specs.SessionClaims.{AllArrive, AreLawfulWhereMet, MeetInStep, OpenStretchesMeet, UnmetAreToldNothing};
+ghost use Rattle.x25_sim.specs.RunLaw.{OfAllScripts, OfScripts, ScriptsAreRuns, ScriptsAreTapped, ScriptsAreTold, UpOnceUnlessAsked};
 ghost use Rattle.x25_sim.specs.ScriptRows.{BothEndsGoDown, CallsCollide, DamageIsSeen, FramesAreWritten, LinkGoesDown, LinkIsSetUp, LinkIsSetUpAgain, LinksComeUp, LostUaComesAgain, MessagesArrive, OtherLinesAreRefused, ResetIsDone, RestartIsDone};
 
 use x25_script::lines_are_in_octets;
-use x25_world::two_stations_keep_order;
+use x25_world::{stations_meet_in_sessions, two_stations_keep_order};
 
 /// For every script: events that are each accepted, and whose users hand down octets, lead from two stations with both links up, or with
 /// `down` from both links down, to where the script leads; the entries among what is said are the transcript of that run, and the
@@ -34,6 +35,22 @@ pub fn scripts_keep_order()
 {
     scripts_are_runs();
     two_stations_keep_order();
+}
+
+/// For every script, with `down` or without, wherever the link is set up anew: what `stations_meet_in_sessions` says of two stations
+/// holds of those to which the script leads.
+///
+/// Premises: k is 1 to 7, N2 1 to 255, channels 1 to 16.
+pub fn scripts_meet_in_sessions()
+    ensures step { OfAllScripts MeetInStep }
+    ensures lawful { OfAllScripts AreLawfulWhereMet }
+    ensures arrives { OfAllScripts AllArrive }
+    ensures unmet { OfAllScripts UnmetAreToldNothing }
+    ensures stand { OfAllScripts OpenStretchesMeet }
+    ensures quiet { OfAllScripts HasNoProcedureError }
+{
+    scripts_are_runs();
+    stations_meet_in_sessions();
 }
 
 /// Worked scripts, with what is written and the status: set-up, and with its frames; a link that goes down by retries; damage and

@@ -12,7 +12,7 @@ mod simulator;
 mod stage;
 mod telling;
 
-pub use law::{scripts_are_runs, scripts_keep_order, scripts_move};
+pub use law::{scripts_are_runs, scripts_keep_order, scripts_meet_in_sessions, scripts_move};
 pub use running::sim;
 pub use x25_program::{Device, Failed, Fault, Sink, Source};
 pub use x25_station::Cfg;

@@ -1,0 +1,22 @@
+use Rattle.x25_world.specs.Claims.{HasNoProcedureError}
+use Rattle.x25_world.specs.SessionClaims.{AllArrive, AreLawfulWhereMet, MeetInStep, OpenStretchesMeet, UnmetAreToldNothing}
+use Rattle.x25_sim.proofs.RunLemmas.{of_all_scripts}
+use Rattle.x25_sim.proofs.law.scripts_meet_in_sessions.Goals as goal
+
+pub returns-clause-step : goal.returns-clause-step
+returns-clause-step c = of_all_scripts MeetInStep c.stations_meet_in_sessions.ensures.step c.scripts_are_runs.ensures
+
+pub returns-clause-lawful : goal.returns-clause-lawful
+returns-clause-lawful c = of_all_scripts AreLawfulWhereMet c.stations_meet_in_sessions.ensures.lawful c.scripts_are_runs.ensures
+
+pub returns-clause-arrives : goal.returns-clause-arrives
+returns-clause-arrives c = of_all_scripts AllArrive c.stations_meet_in_sessions.ensures.arrives c.scripts_are_runs.ensures
+
+pub returns-clause-unmet : goal.returns-clause-unmet
+returns-clause-unmet c = of_all_scripts UnmetAreToldNothing c.stations_meet_in_sessions.ensures.unmet c.scripts_are_runs.ensures
+
+pub returns-clause-stand : goal.returns-clause-stand
+returns-clause-stand c = of_all_scripts OpenStretchesMeet c.stations_meet_in_sessions.ensures.stand c.scripts_are_runs.ensures
+
+pub returns-clause-quiet : goal.returns-clause-quiet
+returns-clause-quiet c = of_all_scripts HasNoProcedureError c.stations_meet_in_sessions.ensures.quiet c.scripts_are_runs.ensures
