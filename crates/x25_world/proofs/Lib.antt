@@ -29,6 +29,7 @@ pub mod SessionLines
 pub mod SessionRuns
 pub mod SessionMeets
 pub mod SessionLawful
+pub mod SessionNamed
 pub mod SessionArrives
 pub mod SessionQuiet
 pub mod SessionHeadline

@@ -2,11 +2,12 @@
 use Rattle.x25_station.specs.KeepLaw.{ConnectKeeps}
 use Rattle.x25_world.specs.World.{run}
 use Rattle.x25_world.specs.Claims.{HasNoProcedureError}
-use Rattle.x25_world.specs.SessionClaims.{Throughout, MeetInStep, AreLawfulWhereMet, UnmetAreToldNothing, OpenStretchesMeet, AllArrive}
+use Rattle.x25_world.specs.SessionClaims.{Throughout, MeetInStep, AreLawfulWhereMet, AreNamedInSessions, UnmetAreToldNothing, OpenStretchesMeet, AllArrive}
 use Rattle.x25_world.proofs.Known.{is_configured}
 use Rattle.x25_world.proofs.SessionKnown.{SessionLaws}
 use Rattle.x25_world.proofs.SessionMeets.{meet_in_step}
 use Rattle.x25_world.proofs.SessionLawful.{are_lawful, unmet_told_nothing}
+use Rattle.x25_world.proofs.SessionNamed.{are_named}
 use Rattle.x25_world.proofs.SessionArrives.{open_stretches_meet, all_arrive}
 use Rattle.x25_world.proofs.SessionQuiet.{has_no_error}
 use Rattle.x25_world.proofs.SessionRuns.{throughout_joined}
@@ -17,6 +18,9 @@ module _ (laws : SessionLaws) (keeps : ConnectKeeps) where
 
   pub throughout_lawful : Throughout AreLawfulWhereMet
   throughout_lawful cfg fine begin which events octets = are_lawful laws cfg (is_configured cfg fine) (run cfg events begin) (throughout_joined laws keeps cfg fine begin which events octets)
+
+  pub throughout_named : Throughout AreNamedInSessions
+  throughout_named cfg fine begin which events octets = are_named laws cfg (is_configured cfg fine) (run cfg events begin) (throughout_joined laws keeps cfg fine begin which events octets)
 
   pub throughout_arrives : Throughout AllArrive
   throughout_arrives cfg fine begin which events octets = all_arrive laws cfg (is_configured cfg fine) (run cfg events begin) (throughout_joined laws keeps cfg fine begin which events octets)

@@ -1,6 +1,6 @@
 use Rattle.x25_world.proofs.Known.{Laws}
 use Rattle.x25_world.proofs.SessionKnown.{SessionLaws}
-use Rattle.x25_world.proofs.SessionHeadline.{throughout_in_step, throughout_lawful, throughout_arrives, throughout_unmet, throughout_stand, throughout_quiet}
+use Rattle.x25_world.proofs.SessionHeadline.{throughout_in_step, throughout_lawful, throughout_named, throughout_arrives, throughout_unmet, throughout_stand, throughout_quiet}
 use Rattle.x25_world.proofs.law.stations_meet_in_sessions.Goals as goal
 
 -- the links, the layers and the stations, by their contracts
@@ -63,6 +63,7 @@ returns c =
       layers_quiet = apart.quiet;
       layers_lawful = apart.lawful;
       layers_arrive = apart.arrives;
+      layers_named = apart.names;
       layers_restarted = apart.restarted;
       own = alone.own;
       behind = alone.behind;
@@ -72,6 +73,7 @@ returns c =
     record {
       step = throughout_in_step laws keeps.connect;
       lawful = throughout_lawful laws keeps.connect;
+      named = throughout_named laws keeps.connect;
       arrives = throughout_arrives laws keeps.connect;
       unmet = throughout_unmet laws keeps.connect;
       stand = throughout_stand laws keeps.connect;
