@@ -1,7 +1,7 @@
 //! What the simulator writes is a run, and what holds of it, as laws about the definition: each is the contract of a function that
 //! does nothing.
 ghost use Rattle.x25_world.specs.Claims.{ArrivesAll, HasNoProcedureError, IsInWindow, IsLawful, IsNamed};
-ghost use Rattle.x25_world.specs.SessionClaims.{AllArrive, AreLawfulWhereMet, MeetInStep, OpenStretchesMeet, UnmetAreToldNothing};
+ghost use Rattle.x25_world.specs.SessionClaims.{AllArrive, AreLawfulWhereMet, AreNamedInSessions, MeetInStep, OpenStretchesMeet, UnmetAreToldNothing};
 ghost use Rattle.x25_sim.specs.RunLaw.{OfAllScripts, OfScripts, ScriptsAreRuns, ScriptsAreTapped, ScriptsAreTold, UpOnceUnlessAsked};
 ghost use Rattle.x25_sim.specs.ScriptRows.{BothEndsGoDown, CallsCollide, DamageIsSeen, FramesAreWritten, LinkGoesDown, LinkIsSetUp, LinkIsSetUpAgain, LinksComeUp, LostUaComesAgain, MessagesArrive, OtherLinesAreRefused, ResetIsDone, RestartIsDone};
 
@@ -44,6 +44,7 @@ pub fn scripts_keep_order()
 pub fn scripts_meet_in_sessions()
     ensures step { OfAllScripts MeetInStep }
     ensures lawful { OfAllScripts AreLawfulWhereMet }
+    ensures named { OfAllScripts AreNamedInSessions }
     ensures arrives { OfAllScripts AllArrive }
     ensures unmet { OfAllScripts UnmetAreToldNothing }
     ensures stand { OfAllScripts OpenStretchesMeet }

@@ -1,5 +1,5 @@
 use Rattle.x25_world.specs.Claims.{HasNoProcedureError}
-use Rattle.x25_world.specs.SessionClaims.{AllArrive, AreLawfulWhereMet, MeetInStep, OpenStretchesMeet, UnmetAreToldNothing}
+use Rattle.x25_world.specs.SessionClaims.{AllArrive, AreLawfulWhereMet, AreNamedInSessions, MeetInStep, OpenStretchesMeet, UnmetAreToldNothing}
 use Rattle.x25_sim.proofs.RunLemmas.{of_all_scripts}
 use Rattle.x25_sim.proofs.law.scripts_meet_in_sessions.Goals as goal
 
@@ -8,6 +8,9 @@ returns-clause-step c = of_all_scripts MeetInStep c.stations_meet_in_sessions.en
 
 pub returns-clause-lawful : goal.returns-clause-lawful
 returns-clause-lawful c = of_all_scripts AreLawfulWhereMet c.stations_meet_in_sessions.ensures.lawful c.scripts_are_runs.ensures
+
+pub returns-clause-named : goal.returns-clause-named
+returns-clause-named c = of_all_scripts AreNamedInSessions c.stations_meet_in_sessions.ensures.named c.scripts_are_runs.ensures
 
 pub returns-clause-arrives : goal.returns-clause-arrives
 returns-clause-arrives c = of_all_scripts AllArrive c.stations_meet_in_sessions.ensures.arrives c.scripts_are_runs.ensures
