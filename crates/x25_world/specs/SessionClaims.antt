@@ -9,7 +9,7 @@ use Rattle.x25_station.specs.Settings.{settings_from, config_refusal}
 use Rattle.x25_station.specs.Entries.{layer_notices}
 use Rattle.x25_station.specs.Told.{is_idle, stretch}
 use Rattle.x25_world.specs.World.{World, Event, run, start, established}
-use Rattle.x25_world.specs.Claims.{AreInOctets, station_at}
+use Rattle.x25_world.specs.Claims.{AreInOctets, HasNoProcedureError, station_at}
 use Rattle.x25_world.specs.Sessions.{session_at, last_session, handed_in, meets}
 
 -- what holds after each list of events, of commands with `connect` at any moment, deliveries, losses, damage and timer T1, from both links
@@ -47,3 +47,12 @@ AllArrive cfg w =
     (end : Role) (channel : ℕ) (name : Name) → is_idle (settings_from end cfg) (station_at end w) ≡ true → stretch (settings_from end cfg) (station_at end w) channel ≡ Some name
     → stretch (settings_from (other end) cfg) (station_at (other end) w) channel ≡ Some name
     → HasAllOf channel name (handed_in end (last_session end w) w) (handed_in (other end) (last_session (other end) w) w)
+
+-- all of these, and no error of procedure
+pub record SessionsKeepOrder (cfg : Cfg) (w : World) : Type 0 where
+  pub step : MeetInStep cfg w
+  pub lawful : AreLawfulWhereMet cfg w
+  pub arrives : AllArrive cfg w
+  pub unmet : UnmetAreToldNothing cfg w
+  pub stand : OpenStretchesMeet cfg w
+  pub quiet : HasNoProcedureError cfg w
