@@ -61,24 +61,21 @@ comes_up laws cfg end k sent is =
 
 -- ---- the DTE has asked
 
-abbrev pub sabm_octets : List ℕ
+abbrev sabm_octets : List ℕ
 sabm_octets = spelling_of Dte (sabm true)
 
 abbrev ua_octets : List ℕ
 ua_octets = spelling_of Dce (ua true)
 
-abbrev pub waiting : Station
+abbrev waiting : Station
 waiting = record { link = with_nothing Waiting 0; layer = at_rest }
 
-abbrev pub asked : World
+abbrev asked : World
 asked = record { near = waiting; far = new_station; out = sabm_octets ∷ []; back = []; tap = record { from = Dte; octets = sabm_octets } ∷ []; transcript = [] }
 
-pub connected_is : (cfg : Cfg) → connected cfg ≡ asked
+connected_is : (cfg : Cfg) → connected cfg ≡ asked
 unfolding pumped
 connected_is cfg = refl
-
-pub kept_waiting : IsKept waiting
-kept_waiting = record { few = omega arith; rests = λ off. refl }
 
 pub kept_new : IsKept new_station
 kept_new = record { few = omega arith; rests = λ off. refl }
@@ -137,6 +134,9 @@ module _ (laws : Laws) (cfg : Cfg) where
 
   abbrev started : World
   started = at_dte cfg (map (spelling_of Dce) (restarted cfg Dce).side.out)
+
+  kept_waiting : IsKept waiting
+  kept_waiting = record { few = omega arith; rests = λ off. refl }
 
   transcript_is : started.transcript ≡ record { at = Dce; entry = link_up } ∷ record { at = Dte; entry = link_up } ∷ []
   transcript_is = ap₂ (λ (a b : List StationEntry). ([] ++ entered Dce a) ++ entered Dte b) dce_up.entries dte_up.entries

@@ -33,7 +33,7 @@ use Rattle.x25_world.proofs.NoUps.{noted_up, heard_ups}
 use Rattle.x25_world.proofs.Requests.{readable_behind, joins}
 
 -- the packet in front of those in flight, by its octets
-record Front (octets : List ℕ) (flight : List PlainPacket) : Type 0 where
+pub record Front (octets : List ℕ) (flight : List PlainPacket) : Type 0 where
   pub packet : PlainPacket
   pub others : List PlainPacket
   pub is : flight ≡ packet ∷ others
@@ -43,7 +43,7 @@ abbrev first_of : List ℕ → List (List ℕ) → List ℕ
 first_of none [] = none
 first_of none (x ∷ xs) = x
 
-front_of : (octets : List ℕ) (rest : List (List ℕ)) (flight : List PlainPacket) → octets ∷ rest ≡ spelled flight → Front octets flight
+pub front_of : (octets : List ℕ) (rest : List (List ℕ)) (flight : List PlainPacket) → octets ∷ rest ≡ spelled flight → Front octets flight
 front_of octets rest [] is = absurd (cc)
 front_of octets rest (p ∷ flight) is = record { packet = p; others = flight; is = refl; spells = ap (first_of []) is }
 

@@ -20,7 +20,7 @@ use Rattle.x25_station.specs.declared.config.Cfg.{Cfg}
 use Rattle.x25_station.specs.declared.error.StationError.TheVariants as error
 use Rattle.x25_station.specs.Settings.{Settings, settings_from, link_settings, layer_settings}
 use Rattle.x25_station.specs.Command.{Requests}
-use Rattle.x25_station.specs.Station.{view_of}
+use Rattle.x25_station.specs.Station.{Station, view_of}
 use Rattle.x25_station.specs.Steps.{Step, Outcome, Did, Refused, did, requests, entries_of_outcome}
 use Rattle.x25_station.specs.JoinLaw.{station_with, IsJoined}
 use Rattle.x25_station.specs.KeepLaw.{IsKept, KeptBy}
@@ -36,6 +36,20 @@ use Rattle.x25_world.proofs.NoUps.{outcome_ups, did_entries, refused_did}
 pub readable_behind : (long_data : Bool) (ps qs : List PlainPacket) → AreReadable long_data (ps ++ qs) → AreReadable long_data qs
 readable_behind long_data [] qs h = h
 readable_behind long_data (p ∷ ps) qs h = readable_behind long_data ps qs h.1
+
+-- a link that isn't up refuses a command to the layer
+pub did_up : (c : Settings) (s : Station) (request : LayerRequest) (step : Step) → requests c s request ≡ Did step → is_up s.link.phase ≡ true
+did_up c s request step is = by (is_up s.link.phase) refl
+  where
+    view : LinkView
+    view = view_of (link_settings c) s.link
+
+    by : (b : Bool) → is_up s.link.phase ≡ b → is_up s.link.phase ≡ true
+    by true up = up
+    by false off =
+        refused_did (error.Layer layer_error.NotUp) step
+        (sym (ap (λ (b : Bool). did c (alone s.link) (entries_of_outcome (layer_settings c) s.layer request (layer_outcome (layer_settings c) (view.waits [] == 256) s.layer request))
+        (if b then went view (layer_settings c) (layer_outcome (layer_settings c) (view.waits [] == 256) s.layer request) else Refuses layer_error.NotUp)) off) ∙ is)
 
 -- ---- what is put, behind a step of the link
 
@@ -79,28 +93,11 @@ module _ (laws : Laws) (asks : Bool) (cfg : Cfg) (fine : IsConfigured cfg) (end 
 
   -- ---- a command
 
-  -- a link that isn't up refuses it
-  did_up : (request : LayerRequest) (step : Step) → requests (settings_from end cfg) w.near request ≡ Did step → is_up w.near.link.phase ≡ true
-  did_up request step is = by (is_up w.near.link.phase) refl
-    where
-      c : Settings
-      c = settings_from end cfg
-
-      view : LinkView
-      view = view_of (link_settings c) w.near.link
-
-      by : (b : Bool) → is_up w.near.link.phase ≡ b → is_up w.near.link.phase ≡ true
-      by true up = up
-      by false off =
-          refused_did (error.Layer layer_error.NotUp) step
-          (sym (ap (λ (b : Bool). did c (alone w.near.link) (entries_of_outcome (layer_settings c) w.near.layer request (layer_outcome (layer_settings c) (view.waits [] == 256) w.near.layer request))
-          (if b then went view (layer_settings c) (layer_outcome (layer_settings c) (view.waits [] == 256) w.near.layer request) else Refuses layer_error.NotUp)) off) ∙ is)
-
   accepted_joined : (request : LayerRequest) → RequestsOctets request → (step : Step) → requests (settings_from end cfg) w.near request ≡ Did step
       → Joined asks cfg end (after_step (settings_from end cfg) w w.back step)
   accepted_joined request octets step is =
       let c : Settings = settings_from end cfg in
-      let up = did_up request step is in
+      let up = did_up c w.near request step is in
       let out : h.layers.near.is_out ≡ false = h.near.out ∙ ap not up in
       let same : requests c (station_with w.near.link h.layers.near.layer) request ≡ Did step = ap (λ (l : Layer). requests c (station_with w.near.link l) request) h.near.layer ∙ is in
       let j = laws.request c w.near.link h.layers request step out h.near.kept.few same in

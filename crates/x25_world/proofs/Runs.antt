@@ -56,11 +56,12 @@ damaged_joined one asks cfg end w h place octets = by (nat_lt place (length w.ba
     by true false reach = h
     by false seen reach = h
 
--- ---- acts and events
-
+-- what happens at the far end is what happens at the near end of the two ends swapped
 pub back_after : (w : World) (o : WorldOutcome) → after w (swapped_back o) ≡ swapped (after (swapped w) o)
 back_after w (Happened next) = refl
 back_after w (Declined e) = refl
+
+-- ---- acts and events
 
 module _ (laws : Laws) (asks : Bool) (cfg : Cfg) (fine : IsConfigured cfg) where
   -- no `connect` is accepted, or, where some may be, the end isn't set up anew

@@ -39,7 +39,7 @@ use Rattle.x25_world.proofs.SessionLinks.{SessionGoes, extended_none}
 
 -- ---- lists
 
-here_extended : (lists : ℕ → List (List ℕ)) (n : ℕ) (more : List (List ℕ)) → extended lists n more n ≡ lists n ++ more
+pub here_extended : (lists : ℕ → List (List ℕ)) (n : ℕ) (more : List (List ℕ)) → extended lists n more n ≡ lists n ++ more
 here_extended lists n more = ap (λ (b : Bool). if b then lists n ++ more else lists n) (same_number n)
 
 elsewhere_extended : (lists : ℕ → List (List ℕ)) (n m : ℕ) (more : List (List ℕ)) → (n ≡ m → ⊥) → extended lists m more n ≡ lists n

@@ -40,6 +40,7 @@ pub record SessionLaws : Type 0 where
   pub layers_quiet : (long_data : Bool) (channels : ℕ) → AlwaysApart (IsQuietWorld channels) long_data channels
   pub layers_lawful : (long_data : Bool) (channels : ℕ) → AlwaysApart IsLawfulWorld long_data channels
   pub layers_arrive : (long_data : Bool) (channels : ℕ) → AlwaysApart ArrivesAll long_data channels
+  pub layers_named : (long_data : Bool) (channels : ℕ) → AlwaysApart NamesAreCounted long_data channels
   pub layers_restarted : (long_data : Bool) (channels : ℕ) → AlwaysApart RestartsFirst long_data channels
   pub own : OwnMovesDecide
   pub behind : EventsRunOn

@@ -19,7 +19,7 @@ use Rattle.x25_world.specs.declared.error.WorldError.{WorldError}
 use Rattle.x25_world.specs.declared.error.WorldError.TheVariants as error
 use Rattle.x25_world.specs.World.{World, swapped, Event, Act, Commands, Receives, Fires, Loses, Damages, WorldOutcome, Happened, Declined, of_station, delivered, is_on_line, acts, swapped_back, event_of, happens, after, refusal_of, run, AreAccepted, established, start}
 use Rattle.x25_world.specs.Claims.{ActsInOctets, AreInOctets, NoneConnects, SetsUpOnce, UpOnceUnlessConnected, Always, HasNoProcedureError}
-use Rattle.x25_world.specs.SessionClaims.{Throughout, MeetInStep, AreLawfulWhereMet, AllArrive, UnmetAreToldNothing, OpenStretchesMeet, SessionsKeepOrder}
+use Rattle.x25_world.specs.SessionClaims.{Throughout, MeetInStep, AreLawfulWhereMet, AreNamedInSessions, AllArrive, UnmetAreToldNothing, OpenStretchesMeet, SessionsKeepOrder}
 use Rattle.x25_world.specs.ShownWorld.{ShownWorld, ShownSide}
 use Rattle.x25_world.specs.FitsWorld.{Gone, FitsWorld, FitsRun, and_then, FitsSide, HasHappened, IsRefusal, StopsAt, RefusesConfig}
 
@@ -198,10 +198,11 @@ pub holds_throughout : (Holds : Cfg → World → Type 0) (v : ShownWorld) (cfg 
 holds_throughout Holds v cfg from events gone law begins h = law cfg h.settings from begins events h.octets
 
 -- the claims on sessions together
-pub all_of_sessions : Throughout MeetInStep → Throughout AreLawfulWhereMet → Throughout AllArrive → Throughout UnmetAreToldNothing → Throughout OpenStretchesMeet → Throughout HasNoProcedureError → Throughout SessionsKeepOrder
-all_of_sessions step lawful arrives unmet stand quiet cfg fine from begins events octets = record {
+pub all_of_sessions : Throughout MeetInStep → Throughout AreLawfulWhereMet → Throughout AreNamedInSessions → Throughout AllArrive → Throughout UnmetAreToldNothing → Throughout OpenStretchesMeet → Throughout HasNoProcedureError → Throughout SessionsKeepOrder
+all_of_sessions step lawful named arrives unmet stand quiet cfg fine from begins events octets = record {
   step = step cfg fine from begins events octets;
   lawful = lawful cfg fine from begins events octets;
+  named = named cfg fine from begins events octets;
   arrives = arrives cfg fine from begins events octets;
   unmet = unmet cfg fine from begins events octets;
   stand = stand cfg fine from begins events octets;

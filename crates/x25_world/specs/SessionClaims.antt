@@ -1,9 +1,12 @@
 -- What holds of two stations and the line between them after every list of events, over set-up and re-set-up at any moment.
 use Rattle.std.specs.Prelude.{◌≡◌, ◌≤◌, ◌<◌, ◌⊎◌, ℕ, true, List, [], Some, None}
 use Rattle.x25_link.specs.MustSend.{other}
+use Rattle.x25_link.specs.Station.{is_up}
 use Rattle.x25_bits.specs.declared.role.Role.{Role}
 use Rattle.x25_epochs.specs.Names.{Name}
 use Rattle.x25_layer.specs.Law.{HandsUpLawfully, HasAllOf}
+use Rattle.x25_layer.specs.NameLaw.{first_name, counted}
+use Rattle.x25_layer.specs.Transcript.{name_of}
 use Rattle.x25_station.specs.declared.config.Cfg.{Cfg}
 use Rattle.x25_station.specs.Settings.{settings_from, config_refusal}
 use Rattle.x25_station.specs.Entries.{layer_notices}
@@ -48,10 +51,17 @@ AllArrive cfg w =
     → stretch (settings_from (other end) cfg) (station_at (other end) w) channel ≡ Some name
     → HasAllOf channel name (handed_in end (last_session end w) w) (handed_in (other end) (last_session (other end) w) w)
 
+-- The name of the stretch on a channel of an end whose link is up is the restarts, clears and resets that the transcript of the session
+-- that stands tells of. (So no CLEAR ever comes in p1, which would count and tell nothing.)
+abbrev pub AreNamedInSessions : Cfg → World → Type 0
+AreNamedInSessions cfg w = (end : Role) (channel : ℕ) → is_up (station_at end w).link.phase ≡ true →
+    name_of (station_at end w).layer channel ≡ counted channel first_name (layer_notices (session_at end (last_session end w) w.transcript))
+
 -- all of these, and no error of procedure
 pub record SessionsKeepOrder (cfg : Cfg) (w : World) : Type 0 where
   pub step : MeetInStep cfg w
   pub lawful : AreLawfulWhereMet cfg w
+  pub named : AreNamedInSessions cfg w
   pub arrives : AllArrive cfg w
   pub unmet : UnmetAreToldNothing cfg w
   pub stand : OpenStretchesMeet cfg w

@@ -2,7 +2,7 @@
 ghost use Rattle.x25_station.specs.ReadLaw.{AreOctets};
 ghost use Rattle.x25_world.specs.World.{event_of};
 ghost use Rattle.x25_world.specs.WorldRows.{SetsUp, MessageArrives, LostArrives, DamagedArrives, DisconnectEndsBoth, ConnectSetsUp, ConnectGoesAgain, TimerWaits, IsRefused};
-ghost use Rattle.x25_world.specs.SessionClaims.{Throughout, MeetInStep, AreLawfulWhereMet, AllArrive, UnmetAreToldNothing, OpenStretchesMeet};
+ghost use Rattle.x25_world.specs.SessionClaims.{Throughout, MeetInStep, AreLawfulWhereMet, AreNamedInSessions, AllArrive, UnmetAreToldNothing, OpenStretchesMeet};
 ghost use Rattle.x25_world.specs.Claims.{ActsInOctets, Always, IsSetUp, IsLawful, IsNamed, ArrivesAll, HasNoProcedureError, IsInWindow, UpOnceUnlessConnected};
 
 use crate::Event;
@@ -64,6 +64,8 @@ pub fn two_stations_keep_order()
 ///   one that meets any, that one meets it.
 /// - `lawful`: on each channel and under each name of a stretch, the messages, interrupts and calls that an end hands up in a session are
 ///   a beginning of those that the other handed down in the session that it meets.
+/// - `named`: the name of the stretch on a channel, where the link is up, is the restarts, clears and resets that the transcript of the session
+///   that stands tells of.
 /// - `arrives`: what is handed up is all of the messages and interrupts of a stretch, from the one session that stands to the other, where the end
 ///   that gives is idle and both ends have that stretch open.
 /// - `unmet`: in a session that meets none the layer tells its user nothing: no message, no interrupt and no call.
@@ -74,6 +76,7 @@ pub fn two_stations_keep_order()
 pub fn stations_meet_in_sessions()
     ensures step { Throughout MeetInStep }
     ensures lawful { Throughout AreLawfulWhereMet }
+    ensures named { Throughout AreNamedInSessions }
     ensures arrives { Throughout AllArrive }
     ensures unmet { Throughout UnmetAreToldNothing }
     ensures stand { Throughout OpenStretchesMeet }

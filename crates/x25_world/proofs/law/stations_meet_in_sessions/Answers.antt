@@ -1,8 +1,6 @@
-use Rattle.x25_station.specs.declared.config.Cfg.{Cfg}
-use Rattle.x25_world.proofs.Known.{Laws, IsConfigured}
+use Rattle.x25_world.proofs.Known.{Laws}
 use Rattle.x25_world.proofs.SessionKnown.{SessionLaws}
-use Rattle.x25_world.proofs.SessionRuns.{ActsKeepSessions}
-use Rattle.x25_world.proofs.SessionHeadline.{throughout_in_step, throughout_lawful, throughout_arrives, throughout_unmet, throughout_stand, throughout_quiet}
+use Rattle.x25_world.proofs.SessionHeadline.{throughout_in_step, throughout_lawful, throughout_named, throughout_arrives, throughout_unmet, throughout_stand, throughout_quiet}
 use Rattle.x25_world.proofs.law.stations_meet_in_sessions.Goals as goal
 
 -- the links, the layers and the stations, by their contracts
@@ -65,18 +63,19 @@ returns c =
       layers_quiet = apart.quiet;
       layers_lawful = apart.lawful;
       layers_arrive = apart.arrives;
+      layers_named = apart.names;
       layers_restarted = apart.restarted;
       own = alone.own;
       behind = alone.behind;
       alone = alone.alone;
       over_links = apart.runs;
     } in
-    let keep : (cfg : Cfg) → IsConfigured cfg → ActsKeepSessions cfg = ? in
     record {
-      step = throughout_in_step laws keep;
-      lawful = throughout_lawful laws keep;
-      arrives = throughout_arrives laws keep;
-      unmet = throughout_unmet laws keep;
-      stand = throughout_stand laws keep;
-      quiet = throughout_quiet laws keep;
+      step = throughout_in_step laws keeps.connect;
+      lawful = throughout_lawful laws keeps.connect;
+      named = throughout_named laws keeps.connect;
+      arrives = throughout_arrives laws keeps.connect;
+      unmet = throughout_unmet laws keeps.connect;
+      stand = throughout_stand laws keeps.connect;
+      quiet = throughout_quiet laws keeps.connect;
     }

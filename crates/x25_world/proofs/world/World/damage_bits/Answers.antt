@@ -24,14 +24,14 @@ returns-in-Ok-clause-run c = λ cfg from past gone h.
 pub returns-in-Ok-clause-sessions : goal.returns-in-Ok-clause-sessions
 returns-in-Ok-clause-sessions c = λ cfg from past gone begins h.
     let law = c.stations_meet_in_sessions.ensures in
-    holds_throughout SessionsKeepOrder _ cfg from _ gone (all_of_sessions law.step law.lawful law.arrives law.unmet law.stand law.quiet) begins ((returns-in-Ok-clause-run c) cfg from past gone h)
+    holds_throughout SessionsKeepOrder _ cfg from _ gone (all_of_sessions law.step law.lawful law.named law.arrives law.unmet law.stand law.quiet) begins ((returns-in-Ok-clause-run c) cfg from past gone h)
 
 pub returns-in-Err-clause-sessions : goal.returns-in-Err-clause-sessions
 returns-in-Err-clause-sessions c = λ cfg from past gone begins h.
     let law = c.stations_meet_in_sessions.ensures in
-    holds_throughout SessionsKeepOrder _ cfg from past gone (all_of_sessions law.step law.lawful law.arrives law.unmet law.stand law.quiet) begins h
+    holds_throughout SessionsKeepOrder _ cfg from past gone (all_of_sessions law.step law.lawful law.named law.arrives law.unmet law.stand law.quiet) begins h
 
 pub returns-then-place-on_line-clause-sessions : goal.returns-then-place-on_line-clause-sessions
 returns-then-place-on_line-clause-sessions c = λ cfg from past gone begins h.
     let law = c.stations_meet_in_sessions.ensures in
-    holds_throughout SessionsKeepOrder _ cfg from past gone (all_of_sessions law.step law.lawful law.arrives law.unmet law.stand law.quiet) begins h
+    holds_throughout SessionsKeepOrder _ cfg from past gone (all_of_sessions law.step law.lawful law.named law.arrives law.unmet law.stand law.quiet) begins h

@@ -33,4 +33,4 @@ returns-clause-up_once c = c.two_stations_keep_order.ensures.up_once c.args.cfg 
 pub returns-clause-sessions : goal.returns-clause-sessions
 returns-clause-sessions c =
     let law = c.stations_meet_in_sessions.ensures in
-    all_of_sessions law.step law.lawful law.arrives law.unmet law.stand law.quiet c.args.cfg (in_range _ c.in_ok-world.world c.in_ok-world.ensures.refused) _ (inr refl) [] tt
+    all_of_sessions law.step law.lawful law.named law.arrives law.unmet law.stand law.quiet c.args.cfg (in_range _ c.in_ok-world.world c.in_ok-world.ensures.refused) _ (inr refl) [] tt
