@@ -1,5 +1,5 @@
 -- A step of the near end, joined of a step of its link and moves of its layer: in the session that stands, at rest, or as a session begins.
-use Rattle.std.proofs.Common.{◌≡◌, ℕ, suc, ◌==◌, ◌≤◌, ◌<◌, ◌⊎◌, inl, inr, List, [], ◌∷◌, ◌++◌, map, Bool, true, false, ◌&&◌, if◌then◌else◌, Option, Some, None, refl, sym, ap, ap₂, ◌∙◌, subst, append_assoc, append-nil, arith}
+use Rattle.std.proofs.Common.{◌≡◌, ℕ, suc, ◌==◌, ◌≤◌, ◌<◌, ◌⊎◌, inl, inr, List, [], ◌∷◌, ◌++◌, map, Bool, true, false, ◌&&◌, if◌then◌else◌, Option, Some, None, refl, sym, ap, ap₂, ◌∙◌, subst, append-nil, arith}
 use Rattle.std.proofs.lemmas.Bool.{eqb-true, eq-eqb}
 use Rattle.std.proofs.lemmas.List.{map-append}
 use Rattle.x25_bits.specs.declared.role.Role.{Role}
@@ -8,13 +8,13 @@ use Rattle.x25_frame.specs.PlainFrame.{PlainFrame}
 use Rattle.x25_frame.specs.Spelling.{spelling_of}
 use Rattle.x25_packet.specs.PlainPacket.{PlainPacket, restart}
 use Rattle.x25_packet.specs.Spelling as packet
-use Rattle.x25_link.specs.Station.{Station as LinkStation, is_up}
+use Rattle.x25_link.specs.Station.{is_up}
 use Rattle.x25_link.specs.MustSend.{other}
 use Rattle.x25_line.specs.Sessions.{SessionEnd, Meeting, Sessions, extended}
 use Rattle.x25_line.specs.SessionClaims.{octets_of}
 use Rattle.x25_layer.specs.Layer.{Layer, LayerNotice, goes_up, restart_cause}
 use Rattle.x25_layer.specs.Transcript.{Entry}
-use Rattle.x25_layer.specs.Quiet.{AreNoFaults, IsNoLayerFault}
+use Rattle.x25_layer.specs.Quiet.{AreNoFaults}
 use Rattle.x25_layer.specs.World as layer
 use Rattle.x25_layer.specs.World.{started}
 use Rattle.x25_layer.specs.Apart.{OwnMove, own_run}
@@ -25,7 +25,7 @@ use Rattle.x25_station.specs.Entries.{StationEntry, layer_entries, layer_notices
 use Rattle.x25_station.specs.Station.{Station}
 use Rattle.x25_station.specs.Steps.{Step}
 use Rattle.x25_station.specs.KeepLaw.{IsKept}
-use Rattle.x25_world.specs.World.{OnTap, AtEnd, World, tapped, entered, after_step}
+use Rattle.x25_world.specs.World.{World, tapped, entered, after_step}
 use Rattle.x25_world.specs.Claims.{entries_at, link_of}
 use Rattle.x25_world.specs.Sessions.{Progress, none_begun, after_entries, is_in, session_from, first_of, met_by, meets}
 use Rattle.x25_world.proofs.Reaches.{layer_of}
@@ -33,7 +33,7 @@ use Rattle.x25_world.proofs.Joined.{spelled, AreOnTap, entries_more, entries_oth
 use Rattle.x25_world.proofs.Follows.{true_false}
 use Rattle.x25_world.proofs.SessionTrace.{Done, moved, own_in, own, own_more, own_same, own_other, own_goes, same_number, other_number, TakeNothing, nothing_append, BringOctets, octets_append}
 use Rattle.x25_world.proofs.SessionReaches.{SessionsReach}
-use Rattle.x25_world.proofs.SessionJoined.{IsSession, HasNothing, IsLayer, IsEnd, HasMet, Meets, Hears, PairsAreInOrder, SessionsJoined}
+use Rattle.x25_world.proofs.SessionJoined.{IsSession, IsLayer, IsEnd, HasMet, Meets, Hears, PairsAreInOrder, SessionsJoined}
 use Rattle.x25_world.proofs.SessionEntries.{after_append, session_append, meets_more, meets_other, none_met, ArePlain, plain_progress, plain_here, plain_elsewhere, restart_met, elsewhere_met}
 use Rattle.x25_world.proofs.SessionLinks.{SessionGoes, extended_none}
 

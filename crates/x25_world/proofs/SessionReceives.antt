@@ -1,6 +1,6 @@
 -- Octets come, over set-up and re-set-up: the link takes them, and the layer the packet that the link hands up, which is the next of those that
 -- the other end gave in its latest session.
-use Rattle.std.proofs.Common.{◌≡◌, ℕ, zero, suc, ◌≤◌, ◌<◌, ◌⊎◌, inl, inr, List, [], ◌∷◌, ◌++◌, remove, Bool, true, false, if◌then◌else◌, Option, Some, None, Ok, option_to_list, refl, sym, ap, ap₂, ◌∙◌, subst, append_assoc, append-nil, arith}
+use Rattle.std.proofs.Common.{◌≡◌, ℕ, zero, suc, ◌≤◌, ◌<◌, inl, inr, List, [], ◌∷◌, ◌++◌, remove, Bool, true, false, if◌then◌else◌, Option, Some, None, Ok, option_to_list, refl, sym, ap, ◌∙◌, subst, append_assoc, arith}
 use Rattle.std.proofs.lemmas.List.{append_cancel_left, map-append}
 use Rattle.x25_bits.specs.declared.role.Role.{Role}
 use Rattle.x25_bits.specs.declared.role.Role.TheVariants.{Dte, Dce}
@@ -18,7 +18,7 @@ use Rattle.x25_line.specs.Sessions as links
 use Rattle.x25_line.specs.Sessions.{SessionEnd, Meeting, Sessions, begun_by}
 use Rattle.x25_line.specs.SessionClaims as met
 use Rattle.x25_line.specs.SessionClaims.{AllMet, SomeMet, IsNoEarlier, InStep, MetAreInOrder, UnmetHandNothingUp, octets_of}
-use Rattle.x25_line.specs.SessionEvents.{EachEventMeetsLatest, MeetsNow, MeetsNone, MeetsOne, latest}
+use Rattle.x25_line.specs.SessionEvents.{EachEventMeetsLatest, MeetsOne}
 use Rattle.x25_layer.specs.Layer.{Layer, LayerNotice}
 use Rattle.x25_layer.specs.FitsLayer.{is_full}
 use Rattle.x25_layer.specs.World as layer
@@ -42,13 +42,13 @@ use Rattle.x25_world.proofs.Joined.{spelled}
 use Rattle.x25_world.proofs.Follows.{true_false, no_command}
 use Rattle.x25_world.proofs.Receives.{Front, front_of}
 use Rattle.x25_world.proofs.Requests.{readable_behind}
-use Rattle.x25_world.proofs.SessionTrace.{Done, moved, own, own_goes, events_of, pair_turned, nothing_goes, BringOctets}
+use Rattle.x25_world.proofs.SessionTrace.{Done, moved, own, own_goes, events_of, pair_turned, nothing_goes}
 use Rattle.x25_world.proofs.SessionReaches.{SessionsReach, known_sessions, sessions_act}
 use Rattle.x25_world.proofs.SessionJoined.{HasMet, PairIsInOrder, PairsAreInOrder, SessionsJoined}
 use Rattle.x25_world.proofs.SessionKnown.{SessionLaws, all_no_earlier, met_in_order, pair_ends, here_in, here_is, there_is, pair_world, own_order, own_first, own_readable, nothing_in_order}
 use Rattle.x25_world.proofs.SessionEntries.{heard_plain}
-use Rattle.x25_world.proofs.SessionLinks.{SessionGoes, own_step, deliver_goes, octets_removed}
-use Rattle.x25_world.proofs.SessionGoes.{here_extended, same_or_not, IsNews}
+use Rattle.x25_world.proofs.SessionLinks.{SessionGoes, own_step, deliver_goes}
+use Rattle.x25_world.proofs.SessionGoes.{here_extended}
 use Rattle.x25_world.proofs.SessionFollows.{follows_silent, follows_up}
 use Rattle.x25_world.proofs.SessionMoves.{own_pulls, pulls_take_nothing, pulls_bring_octets, near_pulls, take_takes}
 use Rattle.x25_world.proofs.SessionRequests.{pair_goes, pair_stays, joins}
