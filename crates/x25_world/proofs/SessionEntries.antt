@@ -1,5 +1,5 @@
 -- What entries that an end's step adds say of its sessions, and of whom they meet.
-use Rattle.std.proofs.Common.{◌≡◌, ℕ, ◌==◌, List, [], ◌∷◌, ◌++◌, Bool, true, false, if◌then◌else◌, Option, Some, None, refl, sym, ap, ap₂, ◌∙◌, subst, append_assoc, append-nil}
+use Rattle.std.proofs.Common.{◌≡◌, ℕ, List, [], ◌∷◌, ◌++◌, Bool, true, false, if◌then◌else◌, Option, Some, None, refl, sym, ap, ap₂, ◌∙◌, subst, append_assoc}
 use Rattle.x25_bits.specs.declared.role.Role.{Role}
 use Rattle.x25_bits.specs.declared.role.Role.TheVariants.{Dte, Dce}
 use Rattle.x25_link.specs.declared.phase.Notes.{Notes}
@@ -12,12 +12,11 @@ use Rattle.x25_layer.specs.Transcript.{Entry, Said, Asked, Told}
 use Rattle.x25_layer.specs.World.{entries_asked}
 use Rattle.x25_layer.specs.ApartLaw.{BeginsRestarted}
 use Rattle.x25_station.specs.Settings.{Settings, layer_settings}
-use Rattle.x25_station.specs.Entries.{StationEntry, of_channel, restart_asked, connect_asked, disconnect_asked, link_up, link_down, was_restarted, restart_confirmed, at_fault, of_channels, station_told, entries_noted, notice_of, notice_in, layer_notices}
+use Rattle.x25_station.specs.Entries.{StationEntry, of_channel, restart_asked, connect_asked, disconnect_asked, link_up, link_down, was_restarted, restart_confirmed, at_fault, of_channels, station_told, entries_noted, notice_of, layer_notices}
 use Rattle.x25_station.specs.Steps.{entries_of_outcome, layer_answer, entries_heard, follows}
 use Rattle.x25_world.specs.World.{AtEnd, entered}
 use Rattle.x25_world.specs.Claims.{entry_of_end, entries_at}
 use Rattle.x25_world.specs.Sessions.{Progress, none_begun, after_entry, after_entries, is_in, entry_if, session_from, first_of, met_at, met_by, meets_from, meets}
-use Rattle.x25_world.proofs.Joined.{entries_append}
 
 -- ---- one behind the other
 

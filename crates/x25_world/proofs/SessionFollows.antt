@@ -1,15 +1,15 @@
 -- A step of the link that hands nothing up: nothing is noted; or LinkDown; or LinkUp, by which a session begins.
-use Rattle.std.proofs.Common.{◌≡◌, ℕ, suc, ◌==◌, ◌<◌, ◌⊎◌, inl, inr, List, [], ◌∷◌, ◌++◌, map, Bool, true, false, ◌&&◌, Option, Some, None, if◌then◌else◌, refl, sym, ap, ap₂, ◌∙◌, subst, append-nil, arith}
+use Rattle.std.proofs.Common.{◌≡◌, ℕ, suc, ◌==◌, List, [], ◌∷◌, ◌++◌, map, Bool, true, false, Option, Some, None, refl, sym, ap, ap₂, ◌∙◌, subst, arith}
 use Rattle.x25_bits.specs.declared.role.Role.{Role}
 use Rattle.x25_frame.specs.PlainFrame.{PlainFrame}
 use Rattle.x25_frame.specs.Spelling.{spelling_of}
 use Rattle.x25_packet.specs.PlainPacket.{PlainPacket, restart}
 use Rattle.x25_link.specs.declared.phase.Reason.{Reason}
 use Rattle.x25_link.specs.declared.phase.Notes.{Notes}
-use Rattle.x25_link.specs.Station.{Station as LinkStation, fresh, is_up}
-use Rattle.x25_link.specs.MustSend.{other, Step as LinkStep}
+use Rattle.x25_link.specs.Station.{Station as LinkStation, is_up}
+use Rattle.x25_link.specs.MustSend.{Step as LinkStep}
 use Rattle.x25_link.specs.NoteLaw.{IsQuiet, Tells}
-use Rattle.x25_line.specs.Sessions.{Meeting, Sessions}
+use Rattle.x25_line.specs.Sessions.{Sessions}
 use Rattle.x25_line.specs.SessionClaims.{octets_of, OnlyBegunHaveLists}
 use Rattle.x25_layer.specs.Layer.{at_rest, restart_cause, goes_up}
 use Rattle.x25_layer.specs.World as layer
@@ -24,13 +24,12 @@ use Rattle.x25_station.specs.JoinLaw.{station_with}
 use Rattle.x25_station.specs.ReadLaw.{AreReadable}
 use Rattle.x25_world.specs.World.{World, after_step}
 use Rattle.x25_world.specs.Claims.{link_of}
-use Rattle.x25_world.specs.Sessions.{Progress, is_in, entry_if, session_from}
+use Rattle.x25_world.specs.Sessions.{Progress, is_in, entry_if}
 use Rattle.x25_world.proofs.Reaches.{layer_of}
 use Rattle.x25_world.proofs.Known.{IsConfigured}
-use Rattle.x25_world.proofs.Joined.{spelled}
 use Rattle.x25_world.proofs.Follows.{true_false, Lead, no_command, connect, disconnect, lead_of}
 use Rattle.x25_world.proofs.LinkSteps.{puts_up}
-use Rattle.x25_world.proofs.SessionTrace.{Done, own_in, own, TakeNothing}
+use Rattle.x25_world.proofs.SessionTrace.{own, TakeNothing}
 use Rattle.x25_world.proofs.SessionReaches.{SessionsReach, known_sessions}
 use Rattle.x25_world.proofs.SessionJoined.{HasMet, PairsAreInOrder, SessionsJoined}
 use Rattle.x25_world.proofs.SessionKnown.{SessionLaws, nothing_in_order, own_readable}

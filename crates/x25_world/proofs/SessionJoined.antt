@@ -1,6 +1,6 @@
 -- A world of two stations over set-up and re-set-up, as one of the ends sees it: a run of two links with their sessions, and moves of the
 -- layers in each session. The sessions that meet are two layers whose packets come in order.
-use Rattle.std.proofs.Common.{◌≡◌, ℕ, ◌≤◌, ◌<◌, ◌⊎◌, inl, inr, List, [], ◌∷◌, map, Bool, true, false, Option, Some, None, refl, sym, ap, subst}
+use Rattle.std.proofs.Common.{◌≡◌, ℕ, ◌≤◌, ◌<◌, ◌⊎◌, inl, inr, List, [], ◌∷◌, map, true, false, Option, Some, None, refl, sym, subst}
 use Rattle.x25_bits.specs.declared.role.Role.{Role}
 use Rattle.x25_bits.specs.declared.role.Role.TheVariants.{Dte, Dce}
 use Rattle.x25_link.specs.Station.{is_up}
@@ -15,7 +15,7 @@ use Rattle.x25_station.specs.declared.config.Cfg.{Cfg}
 use Rattle.x25_station.specs.Entries.{StationEntry, layer_entries, layer_notices}
 use Rattle.x25_station.specs.Station.{Station}
 use Rattle.x25_station.specs.KeepLaw.{IsKept}
-use Rattle.x25_world.specs.World.{AtEnd, World, swapped}
+use Rattle.x25_world.specs.World.{World, swapped}
 use Rattle.x25_world.specs.Claims.{entries_at}
 use Rattle.x25_world.specs.Sessions.{none_begun, after_entries, session_from, meets}
 use Rattle.x25_world.proofs.Joined.{spelled, AreOnTap}

@@ -1,18 +1,16 @@
 -- What the laws of two links over set-up and re-set-up, and of two layers of which each end is by itself, say of the sessions of a world.
-use Rattle.std.proofs.Common.{◌≡◌, ℕ, ◌==◌, ◌≤◌, ◌<◌, suc, ◌⊎◌, inl, inr, List, [], ◌∷◌, ◌++◌, Bool, true, false, if◌then◌else◌, refl, sym, ap, ap₂, ◌∙◌, subst, arith}
+use Rattle.std.proofs.Common.{◌≡◌, ℕ, ◌==◌, ◌<◌, inl, inr, List, [], ◌∷◌, ◌++◌, Bool, true, false, if◌then◌else◌, sym, ap, ◌∙◌, subst, arith}
 use Rattle.x25_bits.specs.declared.role.Role.{Role}
 use Rattle.x25_bits.specs.declared.role.Role.TheVariants.{Dte, Dce}
-use Rattle.x25_packet.specs.PlainPacket.{PlainPacket}
 use Rattle.x25_link.specs.MustSend.{other}
-use Rattle.x25_line.specs.Sessions.{Meeting, Sessions}
+use Rattle.x25_line.specs.Sessions.{Meeting}
 use Rattle.x25_line.specs.SessionClaims as line
 use Rattle.x25_line.specs.SessionClaims.{AllMet, SomeMet, MetAreInOrder, UnmetHandNothingUp, OnlyBegunHaveLists, EachMeetsLatest, IdleHasArrived, NoSessionSendsFrmr, AllSessionsSendWhole, IsNoEarlier, InStep}
 use Rattle.x25_line.specs.SessionEvents.{EachEventHandsInSession, EachEventMeetsLatest}
 use Rattle.x25_layer.specs.World as layer
-use Rattle.x25_layer.specs.Law as layers
 use Rattle.x25_layer.specs.Law.{KeepsOrder, IsQuietEnd, IsQuietWorld, IsLawfulWorld, ArrivesAll}
 use Rattle.x25_layer.specs.NameLaw.{NamesAreCounted}
-use Rattle.x25_layer.specs.Apart.{OwnMove, as_move, own_run, Ends, ApartEvent, apart_run, apart_start, AreInOrder, as_world, AlwaysApart, near_moves, far_moves, all_over_links}
+use Rattle.x25_layer.specs.Apart.{OwnMove, as_move, own_run, Ends, ApartEvent, apart_run, apart_start, as_world, AlwaysApart, all_over_links}
 use Rattle.x25_layer.specs.ApartLaw.{IsOverLinks, IsToldFirst, RestartsFirst, BeginsAlone, OwnMovesDecide, EventsRunOn}
 use Rattle.x25_station.specs.declared.config.Cfg.{Cfg}
 use Rattle.x25_station.specs.ReadLaw.{AreReadable, MovesOctets, BringOctets}
@@ -20,8 +18,7 @@ use Rattle.x25_world.proofs.Known.{Laws, IsConfigured}
 use Rattle.x25_world.proofs.Reaches.{layer_of}
 use Rattle.x25_world.proofs.SessionTrace as traced
 use Rattle.x25_world.proofs.SessionTrace.{Done, own_in, own, pair_one, pair_in, pair_at, pair_turned, near_of_pair, far_of_pair, TakeNothing, order_of_nothing}
-use Rattle.x25_world.proofs.SessionJoined.{IsEnd, HasMet, PairIsInOrder, PairsAreInOrder}
-use Rattle.x25_world.proofs.SessionReaches.{SessionsReach, known_sessions}
+use Rattle.x25_world.proofs.SessionJoined.{HasMet, PairIsInOrder, PairsAreInOrder}
 
 -- the laws that all rests on
 pub record SessionLaws : Type 0 where

@@ -1,5 +1,5 @@
 -- Of two links with their sessions: a step of the near end, and the packets that are handed down to it behind that.
-use Rattle.std.proofs.Common.{◌≡◌, ℕ, zero, suc, ◌==◌, ◌≤◌, List, [], ◌∷◌, ◌++◌, length, map, remove, Bool, true, false, if◌then◌else◌, None, option_to_list, refl, sym, ap, ap₂, ◌∙◌, subst, append_assoc, append-nil, arith}
+use Rattle.std.proofs.Common.{◌≡◌, ℕ, zero, suc, ◌==◌, ◌≤◌, List, [], ◌∷◌, ◌++◌, length, map, remove, Bool, true, false, if◌then◌else◌, None, option_to_list, refl, sym, ap, ap₂, ◌∙◌, subst, append_assoc, append-nil}
 use Rattle.std.proofs.lemmas.Bool.{le-leb}
 use Rattle.std.proofs.lemmas.List.{map-append}
 use Rattle.x25_bits.specs.declared.role.Role.{Role}
@@ -7,7 +7,7 @@ use Rattle.x25_frame.specs.PlainFrame.{PlainFrame}
 use Rattle.x25_frame.specs.Spelling.{spelling_of}
 use Rattle.x25_packet.specs.PlainPacket.{PlainPacket}
 use Rattle.x25_packet.specs.Spelling as packet
-use Rattle.x25_link.specs.MustSend.{other, Step as LinkStep}
+use Rattle.x25_link.specs.MustSend.{Step as LinkStep}
 use Rattle.x25_link.specs.Station.{Settings as LinkSettings, Station as LinkStation, Side}
 use Rattle.x25_link.specs.Steps.{put_refusal, put_step, take_step}
 use Rattle.x25_line.specs.Stations as line

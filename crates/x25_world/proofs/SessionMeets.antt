@@ -3,7 +3,7 @@ use Rattle.std.proofs.Common.{◌≡◌, ℕ, ◌≤◌, ◌<◌, ◌⊎◌, inl
 use Rattle.x25_bits.specs.declared.role.Role.{Role}
 use Rattle.x25_bits.specs.declared.role.Role.TheVariants.{Dte, Dce}
 use Rattle.x25_link.specs.MustSend.{other}
-use Rattle.x25_line.specs.Sessions.{Meeting, Sessions}
+use Rattle.x25_line.specs.Sessions.{Meeting}
 use Rattle.x25_line.specs.SessionClaims as line
 use Rattle.x25_line.specs.SessionClaims.{AllMet, IsNoEarlier, InStep, OnlyBegunHaveLists}
 use Rattle.x25_station.specs.declared.config.Cfg.{Cfg}

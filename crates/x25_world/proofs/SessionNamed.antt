@@ -1,5 +1,5 @@
 -- The name of a stretch is what the session that stands tells of.
-use Rattle.std.proofs.Common.{◌≡◌, ℕ, ◌≤◌, List, true, false, sym, ap, ◌∙◌, subst, arith}
+use Rattle.std.proofs.Common.{◌≡◌, ℕ, List, true, sym, ap, ◌∙◌, subst, arith}
 use Rattle.x25_bits.specs.declared.role.Role.{Role}
 use Rattle.x25_bits.specs.declared.role.Role.TheVariants.{Dte, Dce}
 use Rattle.x25_link.specs.Station.{is_up}

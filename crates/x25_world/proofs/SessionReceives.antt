@@ -1,6 +1,6 @@
 -- Octets come, over set-up and re-set-up: the link takes them, and the layer the packet that the link hands up, which is the next of those that
 -- the other end gave in its latest session.
-use Rattle.std.proofs.Common.{◌≡◌, ℕ, zero, suc, ◌≤◌, ◌<◌, ◌⊎◌, inl, inr, List, [], ◌∷◌, ◌++◌, remove, Bool, true, false, if◌then◌else◌, Option, Some, None, Ok, option_to_list, refl, sym, ap, ap₂, ◌∙◌, subst, append_assoc, append-nil, arith}
+use Rattle.std.proofs.Common.{◌≡◌, ℕ, zero, suc, ◌≤◌, ◌<◌, inl, inr, List, [], ◌∷◌, ◌++◌, remove, Bool, true, false, if◌then◌else◌, Option, Some, None, Ok, option_to_list, refl, sym, ap, ◌∙◌, subst, append_assoc, arith}
 use Rattle.std.proofs.lemmas.List.{append_cancel_left, map-append}
 use Rattle.x25_bits.specs.declared.role.Role.{Role}
 use Rattle.x25_bits.specs.declared.role.Role.TheVariants.{Dte, Dce}
@@ -18,7 +18,7 @@ use Rattle.x25_line.specs.Sessions as links
 use Rattle.x25_line.specs.Sessions.{SessionEnd, Meeting, Sessions, begun_by}
 use Rattle.x25_line.specs.SessionClaims as met
 use Rattle.x25_line.specs.SessionClaims.{AllMet, SomeMet, IsNoEarlier, InStep, MetAreInOrder, UnmetHandNothingUp, octets_of}
-use Rattle.x25_line.specs.SessionEvents.{EachEventMeetsLatest, MeetsNow, MeetsNone, MeetsOne, latest}
+use Rattle.x25_line.specs.SessionEvents.{EachEventMeetsLatest, MeetsOne}
 use Rattle.x25_layer.specs.Layer.{Layer, LayerNotice}
 use Rattle.x25_layer.specs.FitsLayer.{is_full}
 use Rattle.x25_layer.specs.World as layer
@@ -42,13 +42,13 @@ use Rattle.x25_world.proofs.Joined.{spelled}
 use Rattle.x25_world.proofs.Follows.{true_false, no_command}
 use Rattle.x25_world.proofs.Receives.{Front, front_of}
 use Rattle.x25_world.proofs.Requests.{readable_behind}
-use Rattle.x25_world.proofs.SessionTrace.{Done, moved, own, own_goes, events_of, pair_turned, nothing_goes, BringOctets}
+use Rattle.x25_world.proofs.SessionTrace.{Done, moved, own, own_goes, events_of, pair_turned, nothing_goes}
 use Rattle.x25_world.proofs.SessionReaches.{SessionsReach, known_sessions, sessions_act}
 use Rattle.x25_world.proofs.SessionJoined.{HasMet, PairIsInOrder, PairsAreInOrder, SessionsJoined}
 use Rattle.x25_world.proofs.SessionKnown.{SessionLaws, all_no_earlier, met_in_order, pair_ends, here_in, here_is, there_is, pair_world, own_order, own_first, own_readable, nothing_in_order}
 use Rattle.x25_world.proofs.SessionEntries.{heard_plain}
-use Rattle.x25_world.proofs.SessionLinks.{SessionGoes, own_step, deliver_goes, octets_removed}
-use Rattle.x25_world.proofs.SessionGoes.{here_extended, same_or_not, IsNews}
+use Rattle.x25_world.proofs.SessionLinks.{SessionGoes, own_step, deliver_goes}
+use Rattle.x25_world.proofs.SessionGoes.{here_extended}
 use Rattle.x25_world.proofs.SessionFollows.{follows_silent, follows_up}
 use Rattle.x25_world.proofs.SessionMoves.{own_pulls, pulls_take_nothing, pulls_bring_octets, near_pulls, take_takes}
 use Rattle.x25_world.proofs.SessionRequests.{pair_goes, pair_stays, joins}
@@ -97,9 +97,6 @@ met_again_there m (p ∷ ms) all some = elim some [
 
 -- ---- packets
 
-spelled_append : (ps qs : List PlainPacket) → spelled (ps ++ qs) ≡ spelled ps ++ spelled qs
-spelled_append ps qs = map-append spelling_of ps qs
-
 -- the packet that an end takes is the next, and its pulls take none
 next_at : (cfg : Cfg) (end : Role) (ends : Ends) (packet : PlainPacket) (channels : List ℕ) → Begins ((here_in end ends).taken ++ packet ∷ []) (here_in (other end) ends).given
     → AreInOrder cfg.long_data cfg.channels (events_of end (Takes packet ∷ own_pulls channels)) ends
@@ -123,9 +120,9 @@ module _ (laws : SessionLaws) (cfg : Cfg) (fine : IsConfigured cfg) (end : Role)
       let earlier = all_no_earlier now_met h.links.met step in
       elim (unmet.near here) [
         | inl empty ↦ elim (unmet.far there) [
-            | inl empty_there ↦ nothing_in_order cfg end h.trace here there (h.near.alone here empty) (h.far.alone there empty_there)
-            | inr some ↦ met_in_order cfg end h.trace h.links.met here there h.pairs (met_again_there now_met h.links.met earlier some)
-          ]
+          | inl empty_there ↦ nothing_in_order cfg end h.trace here there (h.near.alone here empty) (h.far.alone there empty_there)
+          | inr some ↦ met_in_order cfg end h.trace h.links.met here there h.pairs (met_again_there now_met h.links.met earlier some)
+        ]
         | inr some ↦ met_in_order cfg end h.trace h.links.met here there h.pairs (met_again now_met h.links.met earlier some)
       ]
 
@@ -141,9 +138,9 @@ module _ (laws : SessionLaws) (cfg : Cfg) (fine : IsConfigured cfg) (end : Role)
           more = λ n m has. subst (λ (ms : List Meeting). HasMet n m ms) (sym now.met) (inr has);
         })
     | inr none ↦ record {
-        pairs = subst (PairsAreInOrder cfg end h.trace) (sym none.met) h.pairs;
-        more = λ n m has. subst (λ (ms : List Meeting). HasMet n m ms) (sym none.met) has;
-      }
+      pairs = subst (PairsAreInOrder cfg end h.trace) (sym none.met) h.pairs;
+      more = λ n m has. subst (λ (ms : List Meeting). HasMet n m ms) (sym none.met) has;
+    }
   ]
 
   module _ (octets : List ℕ) (back : List (List ℕ)) (front : w.back ≡ octets ∷ back) where
@@ -201,9 +198,9 @@ module _ (laws : SessionLaws) (cfg : Cfg) (fine : IsConfigured cfg) (end : Role)
         let f = front_entry in
         subst (λ (os : List (List ℕ)). SessionGoes c h.links after_taken (begun_by taken.notes.up here) taken.side.near taken.side.out [] (option_to_list taken.packet) os after_taken.met) f.left
         (subst (λ (s : LinkStation). (let k = take_step c octets s in
-            SessionGoes c h.links after_taken (begun_by k.notes.up here) k.side.near k.side.out [] (option_to_list k.packet) (octets_of f.others) after_taken.met)) h.near.link
+        SessionGoes c h.links after_taken (begun_by k.notes.up here) k.side.near k.side.out [] (option_to_list k.packet) (octets_of f.others) after_taken.met)) h.near.link
         (subst (λ (o : List ℕ). (let k = take_step c o h.links.near.station in
-            SessionGoes c h.links after_taken (begun_by k.notes.up here) k.side.near k.side.out [] (option_to_list k.packet) (octets_of f.others) after_taken.met)) f.octets
+        SessionGoes c h.links after_taken (begun_by k.notes.up here) k.side.near k.side.out [] (option_to_list k.packet) (octets_of f.others) after_taken.met)) f.octets
         (deliver_goes c h.links f.entry f.others f.is)))
 
     goes_in : (up : Bool) (packet : Option (List ℕ)) → taken.notes.up ≡ up → taken.packet ≡ packet
@@ -232,9 +229,9 @@ module _ (laws : SessionLaws) (cfg : Cfg) (fine : IsConfigured cfg) (end : Role)
       met_now = elim meets_one [
         | inl now ↦ now.met
         | inr none ↦ elim none.nothing_up [
-            | inl afresh ↦ absurd (one_more here (sym afresh.begins.begun ∙ goes_up_one.begun))
-            | inr rest ↦ absurd (never (append_cancel_left (h.links.near.up here) (packet_octets ∷ []) [] (sym up_more ∙ rest.up)))
-          ]
+          | inl afresh ↦ absurd (one_more here (sym afresh.begins.begun ∙ goes_up_one.begun))
+          | inr rest ↦ absurd (never (append_cancel_left (h.links.near.up here) (packet_octets ∷ []) [] (sym up_more ∙ rest.up)))
+        ]
       ]
         where
           one_more : (n : ℕ) → suc n ≡ n → ⊥
@@ -289,7 +286,7 @@ module _ (laws : SessionLaws) (cfg : Cfg) (fine : IsConfigured cfg) (end : Role)
           let near = (h.near.sessions here (h.near.first up) (omega arith)).up in
           let far = (h.far.sessions there there_begun (omega arith)).down in
           let given : h.links.far.down there ≡ h.links.near.up here ++ spelled flight =
-          far ∙ ap spelled given_is ∙ spelled_append own_here.taken flight ∙ ap (λ (l : List (List ℕ)). l ++ spelled flight) (sym near) in
+          far ∙ ap spelled given_is ∙ map-append spelling_of own_here.taken flight ∙ ap (λ (l : List (List ℕ)). l ++ spelled flight) (sym near) in
           front_of packet_octets begins_down.0 flight (append_cancel_left (h.links.near.up here) (packet_octets ∷ begins_down.0) (spelled flight) (begins_down.1 ∙ given))
 
       -- the layer takes the packet in front

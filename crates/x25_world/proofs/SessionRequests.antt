@@ -1,5 +1,5 @@
 -- A command to the layer in a session: its own packet is put, and then what waits.
-use Rattle.std.proofs.Common.{◌≡◌, ℕ, suc, ◌==◌, ◌⊎◌, inl, inr, List, [], ◌∷◌, ◌++◌, map, Bool, true, false, refl, sym, ap, ◌∙◌, subst, append-nil, arith}
+use Rattle.std.proofs.Common.{◌≡◌, ℕ, suc, ◌==◌, ◌⊎◌, inl, inr, List, [], ◌∷◌, ◌++◌, map, Bool, true, refl, sym, ap, ◌∙◌, subst, append-nil, arith}
 use Rattle.std.proofs.lemmas.List.{append_cancel_left}
 use Rattle.x25_bits.specs.declared.role.Role.{Role}
 use Rattle.x25_frame.specs.PlainFrame.{PlainFrame}
@@ -7,7 +7,6 @@ use Rattle.x25_frame.specs.Spelling.{spelling_of}
 use Rattle.x25_packet.specs.PlainPacket.{PlainPacket}
 use Rattle.x25_link.specs.Outgoing.{waits}
 use Rattle.x25_link.specs.Station.{Station as LinkStation, Side, is_up}
-use Rattle.x25_link.specs.MustSend.{other}
 use Rattle.x25_link.specs.Steps.{alone}
 use Rattle.x25_line.specs.Sessions.{Meeting, Sessions}
 use Rattle.x25_line.specs.SessionClaims.{SomeMet, UnmetHandNothingUp, octets_of}
@@ -41,7 +40,7 @@ use Rattle.x25_world.proofs.SessionJoined.{HasMet, PairIsInOrder, PairsAreInOrde
 use Rattle.x25_world.proofs.SessionKnown.{SessionLaws, met_in_order, all_map, pair_ends, own_quiet, own_readable, nothing_in_order}
 use Rattle.x25_world.proofs.SessionEntries.{ArePlain, outcome_plain}
 use Rattle.x25_world.proofs.SessionLinks.{SessionGoes, puts_go, extended_none}
-use Rattle.x25_world.proofs.SessionGoes.{same_or_not, OwnGoes, IsNews, goes_on}
+use Rattle.x25_world.proofs.SessionGoes.{same_or_not, IsNews, goes_on}
 use Rattle.x25_world.proofs.SessionMoves.{own_pulls, pulls_take_nothing, pulls_bring_octets, near_pulls, request_leaves}
 
 no_faults_behind : (xs ys : List LayerNotice) → AreNoFaults (xs ++ ys) → AreNoFaults ys

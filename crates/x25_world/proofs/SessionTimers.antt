@@ -1,5 +1,5 @@
 -- Timer T1 runs out, and the link is connected and disconnected, over set-up and re-set-up.
-use Rattle.std.proofs.Common.{◌≡◌, ℕ, suc, ◌+◌, List, [], ◌∷◌, Bool, true, false, ◌&&◌, ◌||◌, if◌then◌else◌, Option, Some, None, Result, Ok, Err, option_to_list, refl, sym, ap, ap₂, ◌∙◌, subst, arith}
+use Rattle.std.proofs.Common.{◌≡◌, ℕ, ◌+◌, List, [], ◌∷◌, Bool, true, false, ◌&&◌, ◌||◌, if◌then◌else◌, Option, Some, None, Result, Ok, Err, option_to_list, refl, sym, ap, ◌∙◌, subst, arith}
 use Rattle.std.specs.List.{list_any}
 use Rattle.x25_bits.specs.Role as bits
 use Rattle.x25_bits.specs.declared.role.Role.{Role}
@@ -21,7 +21,7 @@ use Rattle.x25_line.specs.SessionClaims.{octets_of}
 use Rattle.x25_station.specs.declared.config.Cfg.{Cfg}
 use Rattle.x25_station.specs.Settings.{settings_from, longest_packet}
 use Rattle.x25_station.specs.Command.{Connects, Disconnects}
-use Rattle.x25_station.specs.Entries.{connect_asked, disconnect_asked}
+use Rattle.x25_station.specs.Entries.{disconnect_asked}
 use Rattle.x25_station.specs.Steps.{Step, follows, led_by, fires, connects, connects_asked, disconnects, unless}
 use Rattle.x25_station.specs.KeepLaw.{IsKept, KeptBy, ConnectKeeps}
 use Rattle.x25_world.specs.SetUpFrames.{is_a, reads_as, carries}

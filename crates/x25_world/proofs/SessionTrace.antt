@@ -1,6 +1,6 @@
 -- What the layers of two stations did, in the order in which it happened, each move in a session of its end. The moves of one session
 -- of each end are those of two layers.
-use Rattle.std.proofs.Common.{◌≡◌, ℕ, ◌==◌, List, [], ◌∷◌, ◌++◌, Bool, true, false, ◌&&◌, if◌then◌else◌, refl, sym, ap, ap₂, ◌∙◌, subst, append_assoc, append-nil}
+use Rattle.std.proofs.Common.{◌≡◌, ℕ, ◌==◌, List, [], ◌∷◌, ◌++◌, Bool, true, false, if◌then◌else◌, refl, sym, ap, ap₂, ◌∙◌, append_assoc, append-nil}
 use Rattle.std.proofs.lemmas.Bool.{eqb-true, eq-eqb}
 use Rattle.x25_bits.specs.declared.role.Role.{Role}
 use Rattle.x25_bits.specs.declared.role.Role.TheVariants.{Dte, Dce}
@@ -8,11 +8,10 @@ use Rattle.x25_link.specs.MustSend.{other}
 use Rattle.x25_layer.specs.Layer.{LayerSettings, goes_up}
 use Rattle.x25_layer.specs.World as layer
 use Rattle.x25_layer.specs.World.{started}
-use Rattle.x25_layer.specs.Apart.{OwnMove, Requests, Pulls, Takes, GoesDown, as_move, own_moves, own_run, Ends, ApartEvent, apart_happens, apart_run, near_moves, far_moves, IsNext, IsInOrder, AreInOrder}
+use Rattle.x25_layer.specs.Apart.{OwnMove, Requests, Pulls, Takes, GoesDown, as_move, own_moves, own_run, Ends, ApartEvent, apart_happens, near_moves, far_moves, IsNext, IsInOrder, AreInOrder}
 use Rattle.x25_station.specs.declared.config.Cfg.{Cfg}
 use Rattle.x25_station.specs.ReadLaw.{MovesOctets}
 use Rattle.x25_world.proofs.Reaches.{layer_of}
-use Rattle.x25_world.proofs.Follows.{true_false}
 
 pub record Done : Type 0 where
   pub at : Role

@@ -17,8 +17,9 @@ use Rattle.x25_station.specs.Steps.{Outcome, Did, Refused, commands, fires}
 use Rattle.x25_world.specs.declared.event.Event as code_event
 use Rattle.x25_world.specs.declared.error.WorldError.{WorldError}
 use Rattle.x25_world.specs.declared.error.WorldError.TheVariants as error
-use Rattle.x25_world.specs.World.{World, swapped, Event, Act, Commands, Receives, Fires, Loses, Damages, WorldOutcome, Happened, Declined, of_station, delivered, is_on_line, acts, swapped_back, event_of, happens, after, refusal_of, run, AreAccepted, established}
-use Rattle.x25_world.specs.Claims.{ActsInOctets, AreInOctets, NoneConnects, SetsUpOnce, UpOnceUnlessConnected, Always}
+use Rattle.x25_world.specs.World.{World, swapped, Event, Act, Commands, Receives, Fires, Loses, Damages, WorldOutcome, Happened, Declined, of_station, delivered, is_on_line, acts, swapped_back, event_of, happens, after, refusal_of, run, AreAccepted, established, start}
+use Rattle.x25_world.specs.Claims.{ActsInOctets, AreInOctets, NoneConnects, SetsUpOnce, UpOnceUnlessConnected, Always, HasNoProcedureError}
+use Rattle.x25_world.specs.SessionClaims.{Throughout, MeetInStep, AreLawfulWhereMet, AreNamedInSessions, AllArrive, UnmetAreToldNothing, OpenStretchesMeet, SessionsKeepOrder}
 use Rattle.x25_world.specs.ShownWorld.{ShownWorld, ShownSide}
 use Rattle.x25_world.specs.FitsWorld.{Gone, FitsWorld, FitsRun, and_then, FitsSide, HasHappened, IsRefusal, StopsAt, RefusesConfig}
 
@@ -191,6 +192,22 @@ run_and_then cfg from old new past gone e (Err x) h octets step accepted stays =
 -- so a law of all runs holds of it
 pub holds_after : (Holds : Cfg → World → Type 0) (v : ShownWorld) (cfg : Cfg) (events : List Event) (gone : Gone) → Always Holds → FitsRun cfg (established cfg) v events gone → SetsUpOnce cfg events → Holds cfg (run cfg events (established cfg))
 holds_after Holds v cfg events gone law h once = law cfg h.settings events h.octets once
+
+pub holds_throughout : (Holds : Cfg → World → Type 0) (v : ShownWorld) (cfg : Cfg) (from : World) (events : List Event) (gone : Gone) → Throughout Holds → (from ≡ start) ⊎ (from ≡ established cfg) → FitsRun cfg from v events gone
+    → Holds cfg (run cfg events from)
+holds_throughout Holds v cfg from events gone law begins h = law cfg h.settings from begins events h.octets
+
+-- the claims on sessions together
+pub all_of_sessions : Throughout MeetInStep → Throughout AreLawfulWhereMet → Throughout AreNamedInSessions → Throughout AllArrive → Throughout UnmetAreToldNothing → Throughout OpenStretchesMeet → Throughout HasNoProcedureError → Throughout SessionsKeepOrder
+all_of_sessions step lawful named arrives unmet stand quiet cfg fine from begins events octets = record {
+  step = step cfg fine from begins events octets;
+  lawful = lawful cfg fine from begins events octets;
+  named = named cfg fine from begins events octets;
+  arrives = arrives cfg fine from begins events octets;
+  unmet = unmet cfg fine from begins events octets;
+  stand = stand cfg fine from begins events octets;
+  quiet = quiet cfg fine from begins events octets;
+}
 
 pub up_once_after : (v : ShownWorld) (cfg : Cfg) (events : List Event) (gone : Gone) → UpOnceUnlessConnected → FitsRun cfg (established cfg) v events gone → NoneConnects cfg events (established cfg) → SetsUpOnce cfg events
 up_once_after v cfg events gone law h none = law cfg h.settings events h.octets none

@@ -7,7 +7,7 @@ use Rattle.x25_station.specs.declared.config.Cfg.{Cfg}
 use Rattle.x25_station.specs.declared.error.StationError.{StationError}
 use Rattle.x25_station.specs.Settings.{settings_from, config_refusal}
 use Rattle.x25_station.specs.FitsStation.{FitsStation}
-use Rattle.x25_world.specs.World.{OnTap, AtEnd, World, Event, Act, Loses, WorldOutcome, Happened, Declined, happens, refusal_of, run, AreAccepted, established}
+use Rattle.x25_world.specs.World.{OnTap, AtEnd, World, Event, Act, Loses, WorldOutcome, Happened, Declined, happens, refusal_of, run, AreAccepted, start, established}
 use Rattle.x25_world.specs.Claims.{AreInOctets, SetsUpOnce, NoneConnects}
 use Rattle.x25_world.specs.ShownLine.{line_to}
 use Rattle.x25_world.specs.ShownWorld.{ShownWorld, ShownSide}
@@ -75,6 +75,11 @@ and_all events more (Err refused) = events ++ take refused.index more
 -- this holds of the world after each run that leads here and goes on so, from a link just set up, which isn't set up anew
 abbrev pub HoldsAfter : (Cfg → World → Type 0) → ShownWorld → (List Event → List Event) → Type 0
 HoldsAfter Holds v more = (cfg : Cfg) (past : List Event) (gone : Gone) → FitsRun cfg (established cfg) v past gone → SetsUpOnce cfg (more past) → Holds cfg (run cfg (more past) (established cfg))
+
+-- .. from both links down, or from a link just set up, which may be set up anew
+abbrev pub HoldsThroughout : (Cfg → World → Type 0) → ShownWorld → (List Event → List Event) → Type 0
+HoldsThroughout Holds v more =
+    (cfg : Cfg) (from : World) (past : List Event) (gone : Gone) → (from ≡ start) ⊎ (from ≡ established cfg) → FitsRun cfg from v past gone → Holds cfg (run cfg (more past) from)
 
 -- where no `connect` was accepted in it, the link isn't set up anew
 abbrev pub UpOnceAfter : ShownWorld → (List Event → List Event) → Type 0

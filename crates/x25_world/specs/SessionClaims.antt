@@ -12,7 +12,7 @@ use Rattle.x25_station.specs.Settings.{settings_from, config_refusal}
 use Rattle.x25_station.specs.Entries.{layer_notices}
 use Rattle.x25_station.specs.Told.{is_idle, stretch}
 use Rattle.x25_world.specs.World.{World, Event, run, start, established}
-use Rattle.x25_world.specs.Claims.{AreInOctets, station_at}
+use Rattle.x25_world.specs.Claims.{AreInOctets, HasNoProcedureError, station_at}
 use Rattle.x25_world.specs.Sessions.{session_at, last_session, handed_in, meets}
 
 -- what holds after each list of events, of commands with `connect` at any moment, deliveries, losses, damage and timer T1, from both links
@@ -56,3 +56,13 @@ AllArrive cfg w =
 abbrev pub AreNamedInSessions : Cfg → World → Type 0
 AreNamedInSessions cfg w = (end : Role) (channel : ℕ) → is_up (station_at end w).link.phase ≡ true →
     name_of (station_at end w).layer channel ≡ counted channel first_name (layer_notices (session_at end (last_session end w) w.transcript))
+
+-- all of these, and no error of procedure
+pub record SessionsKeepOrder (cfg : Cfg) (w : World) : Type 0 where
+  pub step : MeetInStep cfg w
+  pub lawful : AreLawfulWhereMet cfg w
+  pub named : AreNamedInSessions cfg w
+  pub arrives : AllArrive cfg w
+  pub unmet : UnmetAreToldNothing cfg w
+  pub stand : OpenStretchesMeet cfg w
+  pub quiet : HasNoProcedureError cfg w

@@ -7,8 +7,9 @@ ghost use Rattle.x25_bits.specs.Harmless.{IsHarmless};
 ghost use Rattle.x25_world.specs.BitDamage.{bit_damage, RefusesBits};
 ghost use Rattle.x25_world.specs.PlainTold.{plain_tapped, plain_entered};
 ghost use Rattle.x25_world.specs.ShownWorld.{line_of, station_of};
-ghost use Rattle.x25_world.specs.FitsWorld.{Gone, all_of, nothing_gone, FitsWorld, FitsRun, and_then, and_all, HoldsAfter, UpOnceAfter, IsRefusal, TakesMemory, StopsAt, RefusesConfig};
+ghost use Rattle.x25_world.specs.FitsWorld.{Gone, all_of, nothing_gone, FitsWorld, FitsRun, and_then, and_all, HoldsAfter, HoldsThroughout, UpOnceAfter, IsRefusal, TakesMemory, StopsAt, RefusesConfig};
 ghost use Rattle.x25_world.specs.Claims.{IsLawful, IsNamed, ArrivesAll, HasNoProcedureError, IsInWindow, IsUpOnce};
+ghost use Rattle.x25_world.specs.SessionClaims.{SessionsKeepOrder};
 ghost use Rattle.x25_world.specs.World as definition;
 ghost use Rattle.x25_world.specs.World.{event_of, happens, after, refusal_of, run, AreAccepted, start, connected, established};
 
@@ -16,7 +17,7 @@ use crate::acting::{act, connect};
 use crate::bit_damage::octets_of_damage;
 use crate::error::{WorldError, WorldRefused};
 use crate::event::Event;
-use crate::law::{hands_down_octets, two_stations_keep_order};
+use crate::law::{hands_down_octets, stations_meet_in_sessions, two_stations_keep_order};
 use crate::line::Line;
 use crate::told::{Entered, Tapped};
 use std::alloc::Global;
@@ -55,7 +56,9 @@ impl World {
         ensures fits { IfOk result (λ v. FitsWorld cfg v start nothing_gone) }
         ensures run { IfOk result (λ v. FitsRun cfg start v [] nothing_gone) }
         ensures refused { RefusesConfig result (config_refusal cfg) }
+        ensures sessions { OnOk result (SessionsKeepOrder cfg start) }
     {
+        stations_meet_in_sessions();
         Ok(World {
             dte: new_station(alloc, Role::Dte, cfg)?,
             dce: new_station(alloc, Role::Dce, cfg)?,
@@ -104,8 +107,10 @@ impl World {
         ensures quiet { OnOk result (HasNoProcedureError cfg (established cfg)) }
         ensures window { OnOk result (IsInWindow cfg (established cfg)) }
         ensures up_once { OnOk result (IsUpOnce cfg (established cfg)) }
+        ensures sessions { OnOk result (SessionsKeepOrder cfg (established cfg)) }
     {
         two_stations_keep_order();
+        stations_meet_in_sessions();
         let mut world = World::connecting(alloc, cfg)?;
         if let Err(error) = world.set_up() {
             return Err(error);
@@ -144,8 +149,12 @@ impl World {
         ensures quiet { HoldsAfter HasNoProcedureError self.old (λ past. and_then past (event_of event.entry) result) }
         ensures window { HoldsAfter IsInWindow self.old (λ past. and_then past (event_of event.entry) result) }
         ensures up_once { UpOnceAfter self.old (λ past. and_then past (event_of event.entry) result) }
+
+        // .. and of each run from there or from both links down, also where it is set up anew, this is.
+        ensures sessions { HoldsThroughout SessionsKeepOrder self.old (λ past. and_then past (event_of event.entry) result) }
     {
         two_stations_keep_order();
+        stations_meet_in_sessions();
         hands_down_octets(event);
         self.happen(event)
     }
@@ -175,8 +184,12 @@ impl World {
         ensures quiet { HoldsAfter HasNoProcedureError self.old (λ past. and_then past (bit_damage direction place bits.now) result) }
         ensures window { HoldsAfter IsInWindow self.old (λ past. and_then past (bit_damage direction place bits.now) result) }
         ensures up_once { UpOnceAfter self.old (λ past. and_then past (bit_damage direction place bits.now) result) }
+
+        // .. and of each run from there or from both links down, also where it is set up anew, this is.
+        ensures sessions { HoldsThroughout SessionsKeepOrder self.old (λ past. and_then past (bit_damage direction place bits.now) result) }
     {
         two_stations_keep_order();
+        stations_meet_in_sessions();
         if place >= self.on_line(direction) {
             return Err(WorldError::NoSuchFrame);
         }
@@ -226,8 +239,12 @@ impl World {
         ensures quiet { HoldsAfter HasNoProcedureError self.old (λ past. and_all past (map event_of events.now) result) }
         ensures window { HoldsAfter IsInWindow self.old (λ past. and_all past (map event_of events.now) result) }
         ensures up_once { UpOnceAfter self.old (λ past. and_all past (map event_of events.now) result) }
+
+        // .. and of each run from there or from both links down, also where it is set up anew, this is.
+        ensures sessions { HoldsThroughout SessionsKeepOrder self.old (λ past. and_all past (map event_of events.now) result) }
     {
         two_stations_keep_order();
+        stations_meet_in_sessions();
         self.happen_all(events)
     }
 

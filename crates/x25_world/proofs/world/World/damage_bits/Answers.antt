@@ -3,7 +3,9 @@ use Rattle.x25_bits.specs.Sealed.{is_sealed}
 use Rattle.x25_world.specs.ShownWorld.{line_of}
 use Rattle.x25_world.specs.World.{Event}
 use Rattle.x25_world.specs.FitsWorld.{FitsRun, and_then}
+use Rattle.x25_world.specs.SessionClaims.{SessionsKeepOrder}
 use Rattle.x25_world.proofs.BitDamageLemmas.{damage_is, refuses_bits}
+use Rattle.x25_world.proofs.WorldLemmas.{holds_throughout, all_of_sessions}
 use Rattle.x25_world.proofs.world.World.damage_bits.Goals as goal
 
 pub returns-in-Ok-clause-refused : goal.returns-in-Ok-clause-refused
@@ -18,3 +20,18 @@ returns-in-Ok-clause-run c = λ cfg from past gone h.
     let octets : List ℕ = c.as_slice.result.now in
     let same = damage_is c.args.direction c.args.place c.args.bits.now octets (c.as_slice.ensures.value ∙ c.in-Ok.ensures.octets) in
     subst (λ (e : Event). FitsRun cfg from c.apply.new.self (and_then past e c.apply.result) gone) (sym same) (c.apply.ensures.run cfg from past gone h)
+
+pub returns-in-Ok-clause-sessions : goal.returns-in-Ok-clause-sessions
+returns-in-Ok-clause-sessions c = λ cfg from past gone begins h.
+    let law = c.stations_meet_in_sessions.ensures in
+    holds_throughout SessionsKeepOrder _ cfg from _ gone (all_of_sessions law.step law.lawful law.named law.arrives law.unmet law.stand law.quiet) begins ((returns-in-Ok-clause-run c) cfg from past gone h)
+
+pub returns-in-Err-clause-sessions : goal.returns-in-Err-clause-sessions
+returns-in-Err-clause-sessions c = λ cfg from past gone begins h.
+    let law = c.stations_meet_in_sessions.ensures in
+    holds_throughout SessionsKeepOrder _ cfg from past gone (all_of_sessions law.step law.lawful law.named law.arrives law.unmet law.stand law.quiet) begins h
+
+pub returns-then-place-on_line-clause-sessions : goal.returns-then-place-on_line-clause-sessions
+returns-then-place-on_line-clause-sessions c = λ cfg from past gone begins h.
+    let law = c.stations_meet_in_sessions.ensures in
+    holds_throughout SessionsKeepOrder _ cfg from past gone (all_of_sessions law.step law.lawful law.named law.arrives law.unmet law.stand law.quiet) begins h

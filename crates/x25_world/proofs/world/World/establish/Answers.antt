@@ -1,5 +1,5 @@
-use Rattle.std.proofs.Common.{[]}
-use Rattle.x25_world.proofs.WorldLemmas.{in_range}
+use Rattle.std.proofs.Common.{[], inr, refl}
+use Rattle.x25_world.proofs.WorldLemmas.{in_range, all_of_sessions}
 use Rattle.x25_world.proofs.world.World.establish.Goals as goal
 
 pub returns-clause-lawful : goal.returns-clause-lawful
@@ -29,3 +29,8 @@ returns-clause-window c =
 
 pub returns-clause-up_once : goal.returns-clause-up_once
 returns-clause-up_once c = c.two_stations_keep_order.ensures.up_once c.args.cfg (in_range _ c.in_ok-world.world c.in_ok-world.ensures.refused) [] tt tt
+
+pub returns-clause-sessions : goal.returns-clause-sessions
+returns-clause-sessions c =
+    let law = c.stations_meet_in_sessions.ensures in
+    all_of_sessions law.step law.lawful law.named law.arrives law.unmet law.stand law.quiet c.args.cfg (in_range _ c.in_ok-world.world c.in_ok-world.ensures.refused) _ (inr refl) [] tt

@@ -1,5 +1,6 @@
 use Rattle.x25_world.specs.Claims.{IsLawful, IsNamed, ArrivesAll, HasNoProcedureError, IsInWindow}
-use Rattle.x25_world.proofs.WorldLemmas.{holds_after, up_once_after}
+use Rattle.x25_world.proofs.WorldLemmas.{holds_after, up_once_after, holds_throughout, all_of_sessions}
+use Rattle.x25_world.specs.SessionClaims.{SessionsKeepOrder}
 use Rattle.x25_world.proofs.world.World.run.Goals as goal
 
 pub returns-clause-lawful : goal.returns-clause-lawful
@@ -19,3 +20,8 @@ returns-clause-window c = λ cfg past gone h once. holds_after IsInWindow _ cfg 
 
 pub returns-clause-up_once : goal.returns-clause-up_once
 returns-clause-up_once c = λ cfg past gone h none. up_once_after _ cfg _ gone c.two_stations_keep_order.ensures.up_once (c.happen_all.ensures.run cfg _ past gone h) none
+
+pub returns-clause-sessions : goal.returns-clause-sessions
+returns-clause-sessions c = λ cfg from past gone begins h.
+    let law = c.stations_meet_in_sessions.ensures in
+    holds_throughout SessionsKeepOrder _ cfg from _ gone (all_of_sessions law.step law.lawful law.named law.arrives law.unmet law.stand law.quiet) begins (c.happen_all.ensures.run cfg from past gone h)
