@@ -367,6 +367,17 @@ impl Player {
     }
 }
 
+// In a body of its own, since each call that may fail drops what its body made.
+fn play_both(
+    rt: &impl Abort,
+    player: &mut Player,
+    before: &[Row],
+    rows: &[Row],
+) -> Result<(), Fail> {
+    player.plays(rt, before)?;
+    player.plays(rt, rows)
+}
+
 /// At a circuit of this end, some rows and then others are played.
 pub fn play(
     rt: &impl Abort,
@@ -376,7 +387,5 @@ pub fn play(
     rows: &[Row],
 ) -> Result<(), Fail> {
     let circuit = Circuit::new(alloc, role)?;
-    let mut player = Player::new(alloc, circuit);
-    player.plays(rt, before)?;
-    player.plays(rt, rows)
+    play_both(rt, &mut Player::new(alloc, circuit), before, rows)
 }

@@ -85,8 +85,8 @@ fn called(alloc: Global) -> Result<Circuit, CircuitError> {
     Ok(circuit)
 }
 
-fn opened(alloc: Global) -> Result<Circuit, Fail> {
-    let mut circuit = called(alloc)?;
+// CALL ACCEPTED comes.
+fn open(circuit: &mut Circuit) -> Result<(), Fail> {
     let (clears, resets) = circuit.counts();
     if clears == u64::MAX || resets == u64::MAX {
         return Err("the counts are at their most")?;
@@ -95,6 +95,12 @@ fn opened(alloc: Global) -> Result<Circuit, Fail> {
         channel: 1,
         facilities: &[],
     })?;
+    Ok(())
+}
+
+fn opened(alloc: Global) -> Result<Circuit, Fail> {
+    let mut circuit = called(alloc)?;
+    open(&mut circuit)?;
     Ok(circuit)
 }
 
@@ -135,15 +141,26 @@ fn a_request_is_refused_as_was_told(rt: HostRuntime) -> Result<(), Fail> {
     Ok(())
 }
 
-#[test]
-fn an_asked_call_answers_call(rt: HostRuntime) -> Result<(), Fail> {
+// A call that is asked for is answered by CALL.
+fn answers_call(rt: &impl Abort, alloc: Global, circuit: &mut Circuit) -> Result<(), CircuitError> {
     let proposals = Proposals::new();
-    let mut circuit = Circuit::new(rt.alloc(), Role::Dte)?;
-    let packet = circuit.ask(proposals.request(rt.alloc(), 0))?;
+    let packet = circuit.ask(proposals.request(alloc, 0))?;
     assert!(rt; matches!(&packet, Some(Packet::Call { channel: 1, .. })));
-    let mut circuit = opened(rt.alloc())?;
-    let packet = circuit.ask(proposals.request(rt.alloc(), 6))?;
+    Ok(())
+}
+
+// A message that is asked for waits.
+fn lets_wait(rt: &impl Abort, alloc: Global, circuit: &mut Circuit) -> Result<(), CircuitError> {
+    let proposals = Proposals::new();
+    let packet = circuit.ask(proposals.request(alloc, 6))?;
     assert!(rt; packet.is_none());
     assert_eq!(rt; circuit.waits(), 1);
+    Ok(())
+}
+
+#[test]
+fn an_asked_call_answers_call(rt: HostRuntime) -> Result<(), Fail> {
+    answers_call(&rt, rt.alloc(), &mut Circuit::new(rt.alloc(), Role::Dte)?)?;
+    lets_wait(&rt, rt.alloc(), &mut opened(rt.alloc())?)?;
     Ok(())
 }
