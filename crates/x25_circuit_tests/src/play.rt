@@ -6,7 +6,7 @@ ghost use Rattle.x25_packet.specs.Spelling.{HasChannel};
 use std::alloc::{AllocError, Global};
 use std::process::Abort;
 use std::test::Fail;
-use x25_circuit::{Circuit, CircuitError, DataPacket, Notice, Params, Proposal, Reply};
+use x25_circuit::{Circuit, CircuitError, DataPacket, Notice, Params, Proposal, Reply, Role};
 use x25_packet::{Digits, Packet, PacketError, Seq, decode};
 
 /// What happens to a circuit.
@@ -221,6 +221,9 @@ fn is_of_channel(packet: &Packet) -> bool
     }
 }
 
+/// An event, and what it shows.
+pub type Row = (Event<'static>, &'static str);
+
 /// A circuit, and what happens to it.
 #[derive(Drop)]
 pub struct Player {
@@ -356,10 +359,33 @@ impl Player {
     }
 
     /// Each event shows its text.
-    pub fn plays(&mut self, rt: &impl Abort, rows: &[(Event, &str)]) -> Result<(), Fail> {
+    pub fn plays(&mut self, rt: &impl Abort, rows: &[Row]) -> Result<(), Fail> {
         for (row, &(event, text)) in rows.iter().enumerate() {
             assert_eq!(rt; self.happens(event)?.as_str(), text, "row {row}");
         }
         Ok(())
     }
+}
+
+// In a body of its own, since each call that may fail drops what its body made.
+fn play_both(
+    rt: &impl Abort,
+    player: &mut Player,
+    before: &[Row],
+    rows: &[Row],
+) -> Result<(), Fail> {
+    player.plays(rt, before)?;
+    player.plays(rt, rows)
+}
+
+/// At a circuit of this end, some rows and then others are played.
+pub fn play(
+    rt: &impl Abort,
+    alloc: Global,
+    role: Role,
+    before: &[Row],
+    rows: &[Row],
+) -> Result<(), Fail> {
+    let circuit = Circuit::new(alloc, role)?;
+    play_both(rt, &mut Player::new(alloc, circuit), before, rows)
 }

@@ -2,12 +2,13 @@
 
 use CircuitError::{BadParameter, WrongState};
 use std::alloc::Global;
+use std::process::Abort;
 use std::test::Fail;
 use x25_circuit::{Circuit, CircuitError, Params, Proposal, Request, Role};
 use x25_packet::Packet;
 
 /// The refusals of the requests, in order, of a circuit in p1, of one that called, and of one in p4 with d1.
-const REFUSALS: [(
+static REFUSALS: [(
     Option<CircuitError>,
     Option<CircuitError>,
     Option<CircuitError>,
@@ -84,8 +85,8 @@ fn called(alloc: Global) -> Result<Circuit, CircuitError> {
     Ok(circuit)
 }
 
-fn opened(alloc: Global) -> Result<Circuit, Fail> {
-    let mut circuit = called(alloc)?;
+// CALL ACCEPTED comes.
+fn open(circuit: &mut Circuit) -> Result<(), Fail> {
     let (clears, resets) = circuit.counts();
     if clears == u64::MAX || resets == u64::MAX {
         return Err("the counts are at their most")?;
@@ -94,49 +95,72 @@ fn opened(alloc: Global) -> Result<Circuit, Fail> {
         channel: 1,
         facilities: &[],
     })?;
+    Ok(())
+}
+
+fn opened(alloc: Global) -> Result<Circuit, Fail> {
+    let mut circuit = called(alloc)?;
+    open(&mut circuit)?;
     Ok(circuit)
 }
 
-// Why the request would be refused, and why it is.
-fn refusals(
-    circuit: &mut Circuit,
-    request: Request<'_>,
-) -> (Option<CircuitError>, Option<CircuitError>) {
+// Why the request would be refused is told, and why it is refused is the same.
+fn is_refused(
+    rt: &impl Abort,
+    alloc: Global,
+    mut circuit: Circuit,
+    (index, place): (usize, &str),
+    wanted: Option<CircuitError>,
+) {
+    let proposals = Proposals::new();
+    let request = proposals.request(alloc, index);
     let told = circuit.refusal(&request);
     let refused = circuit.ask(request).err();
-    (told, refused)
+    assert_eq!(rt;
+        (told, refused),
+        (wanted, wanted),
+        "request {index} {place}"
+    );
 }
 
 #[test]
 fn a_request_is_refused_as_was_told(rt: HostRuntime) -> Result<(), Fail> {
-    let proposals = Proposals::new();
+    let alloc = rt.alloc();
     for (index, &(free, calling, open)) in REFUSALS.iter().enumerate() {
-        let mut circuit = Circuit::new(rt.alloc(), Role::Dte)?;
-        let found = refusals(&mut circuit, proposals.request(rt.alloc(), index));
-        assert_eq!(rt; found, (free, free), "request {index} in p1");
-        let mut circuit = called(rt.alloc())?;
-        let found = refusals(&mut circuit, proposals.request(rt.alloc(), index));
-        assert_eq!(rt;
-            found,
-            (calling, calling),
-            "request {index} of one that called"
+        let circuit = Circuit::new(alloc, Role::Dte)?;
+        is_refused(&rt, alloc, circuit, (index, "in p1"), free);
+        is_refused(
+            &rt,
+            alloc,
+            called(alloc)?,
+            (index, "of one that called"),
+            calling,
         );
-        let mut circuit = opened(rt.alloc())?;
-        let found = refusals(&mut circuit, proposals.request(rt.alloc(), index));
-        assert_eq!(rt; found, (open, open), "request {index} in p4");
+        is_refused(&rt, alloc, opened(alloc)?, (index, "in p4"), open);
     }
+    Ok(())
+}
+
+// A call that is asked for is answered by CALL.
+fn answers_call(rt: &impl Abort, alloc: Global, circuit: &mut Circuit) -> Result<(), CircuitError> {
+    let proposals = Proposals::new();
+    let packet = circuit.ask(proposals.request(alloc, 0))?;
+    assert!(rt; matches!(&packet, Some(Packet::Call { channel: 1, .. })));
+    Ok(())
+}
+
+// A message that is asked for waits.
+fn lets_wait(rt: &impl Abort, alloc: Global, circuit: &mut Circuit) -> Result<(), CircuitError> {
+    let proposals = Proposals::new();
+    let packet = circuit.ask(proposals.request(alloc, 6))?;
+    assert!(rt; packet.is_none());
+    assert_eq!(rt; circuit.waits(), 1);
     Ok(())
 }
 
 #[test]
 fn an_asked_call_answers_call(rt: HostRuntime) -> Result<(), Fail> {
-    let proposals = Proposals::new();
-    let mut circuit = Circuit::new(rt.alloc(), Role::Dte)?;
-    let packet = circuit.ask(proposals.request(rt.alloc(), 0))?;
-    assert!(rt; matches!(&packet, Some(Packet::Call { channel: 1, .. })));
-    let mut circuit = opened(rt.alloc())?;
-    let packet = circuit.ask(proposals.request(rt.alloc(), 6))?;
-    assert!(rt; packet.is_none());
-    assert_eq!(rt; circuit.waits(), 1);
+    answers_call(&rt, rt.alloc(), &mut Circuit::new(rt.alloc(), Role::Dte)?)?;
+    lets_wait(&rt, rt.alloc(), &mut opened(rt.alloc())?)?;
     Ok(())
 }

@@ -54,9 +54,13 @@ fn octets(alloc: Global, octets: &[u8]) -> Result<Vec<u8>, AllocError>
     Vec::from_slice(alloc, octets)
 }
 
-fn asked(alloc: Global) -> Result<Vec<(Asked, &'static str)>, AllocError> {
-    Ok(vec![in alloc;
-        (
+/// How many of them there are.
+const ASKED: usize = 11;
+
+// What the user asked, and its line.
+fn asked(alloc: Global, row: usize) -> Result<(Asked, &'static str), AllocError> {
+    match row {
+        0 => Ok((
             Asked::Call {
                 called: text(alloc, "123")?,
                 calling: text(alloc, "4567")?,
@@ -64,8 +68,8 @@ fn asked(alloc: Global) -> Result<Vec<(Asked, &'static str)>, AllocError> {
                 params: USUAL,
             },
             "dte call ch=1 at 1.0.0 called=123 calling=4567 data=41\n",
-        ),
-        (
+        )),
+        1 => Ok((
             Asked::Call {
                 called: text(alloc, "")?,
                 calling: text(alloc, "2")?,
@@ -73,42 +77,43 @@ fn asked(alloc: Global) -> Result<Vec<(Asked, &'static str)>, AllocError> {
                 params: OTHERS,
             },
             "dte call ch=1 at 1.0.0 called=- calling=2 data=- size=8,12 win=3,1\n",
-        ),
-        (Asked::Accept { params: USUAL }, "dte accept ch=1\n"),
-        (
+        )),
+        2 => Ok((Asked::Accept { params: USUAL }, "dte accept ch=1\n")),
+        3 => Ok((
             Asked::Accept { params: ONE_WINDOW },
             "dte accept ch=1 size=7,7 win=2,7\n",
-        ),
-        (Asked::Clear, "dte clear ch=1\n"),
-        (
+        )),
+        4 => Ok((Asked::Clear, "dte clear ch=1\n")),
+        5 => Ok((
             Asked::Send {
                 q: false,
                 user: octets(alloc, b"hi")?,
             },
             "dte send ch=1 at 1.0.0 q=0 data=6869\n",
-        ),
-        (
+        )),
+        6 => Ok((
             Asked::Send {
                 q: true,
                 user: octets(alloc, b"")?,
             },
             "dte send ch=1 at 1.0.0 q=1 data=-\n",
-        ),
-        (
+        )),
+        7 => Ok((
             Asked::Interrupt {
-                user: octets(alloc, &[0, 255])?
+                user: octets(alloc, &[0, 255])?,
             },
             "dte int ch=1 at 1.0.0 data=00ff\n",
-        ),
-        (Asked::Reset, "dte reset ch=1\n"),
-        (Asked::Ready, "dte ready ch=1\n"),
-        (Asked::NotReady, "dte notready ch=1\n"),
-    ]?)
+        )),
+        8 => Ok((Asked::Reset, "dte reset ch=1\n")),
+        9 => Ok((Asked::Ready, "dte ready ch=1\n")),
+        _ => Ok((Asked::NotReady, "dte notready ch=1\n")),
+    }
 }
 
 #[test]
 fn shows_what_the_user_asked(rt: HostRuntime) -> Result<(), Fail> {
-    for (asked, shown) in asked(rt.alloc())? {
+    for row in 0..ASKED {
+        let (asked, shown) = asked(rt.alloc(), row)?;
         let entry = Entry::OnChannel {
             channel: 1,
             name: FIRST,
@@ -120,9 +125,13 @@ fn shows_what_the_user_asked(rt: HostRuntime) -> Result<(), Fail> {
     Ok(())
 }
 
-fn told(alloc: Global) -> Result<Vec<(Told, &'static str)>, AllocError> {
-    Ok(vec![in alloc;
-        (
+/// How many of them there are.
+const TOLD: usize = 13;
+
+// What the user was told, and its line.
+fn told(alloc: Global, row: usize) -> Result<(Told, &'static str), AllocError> {
+    match row {
+        0 => Ok((
             Told::Incoming {
                 called: octets(alloc, &[1, 2, 3])?,
                 calling: octets(alloc, &[])?,
@@ -130,8 +139,8 @@ fn told(alloc: Global) -> Result<Vec<(Told, &'static str)>, AllocError> {
                 params: USUAL,
             },
             "dce incoming ch=16 at 18446744073709551615.10.260 called=123 calling=- data=41\n",
-        ),
-        (
+        )),
+        1 => Ok((
             Told::Incoming {
                 called: octets(alloc, &[])?,
                 calling: octets(alloc, &[9])?,
@@ -139,50 +148,51 @@ fn told(alloc: Global) -> Result<Vec<(Told, &'static str)>, AllocError> {
                 params: ONE_WINDOW,
             },
             "dce incoming ch=16 at 18446744073709551615.10.260 called=- calling=9 data=- size=7,7 win=2,7\n",
-        ),
-        (Told::Connected { params: USUAL }, "dce connected ch=16\n"),
-        (
+        )),
+        2 => Ok((Told::Connected { params: USUAL }, "dce connected ch=16\n")),
+        3 => Ok((
             Told::Connected { params: OTHERS },
             "dce connected ch=16 size=8,12 win=3,1\n",
-        ),
-        (Told::Collided, "dce collided ch=16\n"),
-        (
+        )),
+        4 => Ok((Told::Collided, "dce collided ch=16\n")),
+        5 => Ok((
             Told::Cleared {
                 cause: 19,
                 diagnostic: 255,
             },
             "dce cleared ch=16 cause=19 diag=255\n",
-        ),
-        (Told::ClearDone, "dce cleardone ch=16\n"),
-        (
+        )),
+        6 => Ok((Told::ClearDone, "dce cleardone ch=16\n")),
+        7 => Ok((
             Told::WasReset {
                 cause: 0,
                 diagnostic: 0,
             },
             "dce wasreset ch=16 cause=0 diag=0\n",
-        ),
-        (Told::ResetDone, "dce resetdone ch=16\n"),
-        (
+        )),
+        8 => Ok((Told::ResetDone, "dce resetdone ch=16\n")),
+        9 => Ok((
             Told::Delivered(Message {
                 q: true,
                 user: Octets::of(octets(alloc, b"hi")?),
             }),
             "dce message ch=16 at 18446744073709551615.10.260 q=1 data=6869\n",
-        ),
-        (
+        )),
+        10 => Ok((
             Told::Interrupted {
-                user: octets(alloc, &[0])?
+                user: octets(alloc, &[0])?,
             },
             "dce interrupt ch=16 at 18446744073709551615.10.260 data=00\n",
-        ),
-        (Told::InterruptDone, "dce intdone ch=16\n"),
-        (Told::Fault { diagnostic: 27 }, "dce fault ch=16 diag=27\n"),
-    ]?)
+        )),
+        11 => Ok((Told::InterruptDone, "dce intdone ch=16\n")),
+        _ => Ok((Told::Fault { diagnostic: 27 }, "dce fault ch=16 diag=27\n")),
+    }
 }
 
 #[test]
 fn shows_what_the_user_was_told(rt: HostRuntime) -> Result<(), Fail> {
-    for (told, shown) in told(rt.alloc())? {
+    for row in 0..TOLD {
+        let (told, shown) = told(rt.alloc(), row)?;
         let entry = Entry::OnChannel {
             channel: 16,
             name: LATE,

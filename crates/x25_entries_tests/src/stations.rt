@@ -5,7 +5,7 @@ use x25_link::Reason;
 use x25_station::{Entry, Role};
 
 /// Why a link goes down, and its line at the DCE.
-const REASONS: [(Reason, &str); 8] = [
+static REASONS: [(Reason, &str); 8] = [
     (Reason::Retries, "dce linkdown retries\n"),
     (Reason::Disc, "dce linkdown disc\n"),
     (Reason::Dm, "dce linkdown dm\n"),
@@ -18,7 +18,7 @@ const REASONS: [(Reason, &str); 8] = [
 
 #[test]
 fn says_why_the_link_went_down(rt: HostRuntime) -> Result<(), Fail> {
-    for (reason, shown) in REASONS {
+    for &(reason, shown) in &REASONS {
         let line = entry_line(rt.alloc(), Role::Dce, &Entry::LinkDown(reason))?;
         assert_eq!(rt; line.as_slice(), shown.as_bytes());
     }

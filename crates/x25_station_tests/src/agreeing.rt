@@ -62,7 +62,7 @@ const ACCEPT: Cmd<'static> = Cmd::AcceptWith {
     params: ANSWERED,
 };
 
-const PROPOSES: [Row; 2] = [
+static PROPOSES: [Row; 2] = [
     (Ask(CALL_TOO_SMALL), &["! 34"]),
     (
         Ask(CALL),
@@ -92,13 +92,13 @@ const IS_ANSWERED_OUT_OF_RANGE: [Row; 1] = [(
     ],
 )];
 
-const CALLING: [Table; 3] = [
+static CALLING: [Table; 3] = [
     ("answered", &IS_ANSWERED),
     ("taken", &IS_TAKEN),
     ("answered out of range", &IS_ANSWERED_OUT_OF_RANGE),
 ];
 
-const IS_CALLED: [Row; 2] = [
+static IS_CALLED: [Row; 2] = [
     (
         Hear(1, 0, "10010b111206420808430303"),
         &[
@@ -125,7 +125,7 @@ const TAKES: [Row; 1] = [(
     ],
 )];
 
-const CALLED: [Table; 2] = [("answers", &ANSWERS), ("takes", &TAKES)];
+static CALLED: [Table; 2] = [("answers", &ANSWERS), ("takes", &TAKES)];
 
 #[test]
 fn calls_that_propose(rt: HostRuntime) -> Result<(), Fail> {

@@ -128,7 +128,7 @@ const FULL_QUEUE: [Row; 7] = [
     (HearRr(3), &["I cmd P=0 S=1 R=2 | RR ch=1 R=0"]),
 ];
 
-const TABLES: [Table; 4] = [
+static TABLES: [Table; 4] = [
     ("data", &DATA),
     ("reset, clear and restart", &RESET_CLEAR_AND_RESTART),
     ("messages that wait", &MESSAGES_THAT_WAIT),

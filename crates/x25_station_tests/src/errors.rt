@@ -4,7 +4,7 @@ use x25_layer::LayerError;
 use x25_link::LinkError;
 use x25_station::StationError;
 
-const NUMBERS: [(StationError, u8); 8] = [
+static NUMBERS: [(StationError, u8); 8] = [
     (StationError::Layer(LayerError::NotUp), 9),
     (StationError::Link(LinkError::NotRunning), 11),
     (StationError::Link(LinkError::Closed), 13),
@@ -17,7 +17,7 @@ const NUMBERS: [(StationError, u8); 8] = [
 
 #[test]
 fn each_refusal_has_its_number(rt: HostRuntime) {
-    for (error, number) in NUMBERS {
+    for &(error, number) in &NUMBERS {
         assert_eq!(rt; error.number(), number, "{error:?}");
     }
 }

@@ -36,7 +36,7 @@ const CONFIRMATION_OF_NO_RESTART: [Row; 2] = [
     (Hear(2, 2, "1000ff"), &["dce restartdone", "RR rsp F=0 R=3"]),
 ];
 
-const BEFORE_A_CALL: [Table; 2] = [
+static BEFORE_A_CALL: [Table; 2] = [
     ("a collision", &COLLISION),
     ("a confirmation of no restart", &CONFIRMATION_OF_NO_RESTART),
 ];
@@ -178,7 +178,7 @@ const SET_UP_ANEW: [Row; 2] = [
     (Stretch(1), &["-"]),
 ];
 
-const IN_A_CALL: [Table; 6] = [
+static IN_A_CALL: [Table; 6] = [
     ("lawful packets", &LAWFUL),
     ("restart and disconnection", &RESTARTED_AND_DISCONNECTED),
     ("resets without end", &RESETS_WITHOUT_END),

@@ -3,31 +3,29 @@
 use crate::peer::{Act, Row, Table, play};
 use crate::rows::{CALL, READY_DTE, SEND, UA};
 use Act::{Ask, Connect, HearRr, Idle, Stretch, T1, Take};
+use std::alloc::Global;
 use std::test::Fail;
 use x25_station::{Cfg, Cmd, Role, Station, StationError};
 
+// Why a station of these settings is refused: k, N2 and channels.
+fn refusal(alloc: Global, role: Role, (k, n2, channels): (u8, u8, u8)) -> Option<StationError> {
+    let cfg = Cfg {
+        k,
+        n2,
+        channels,
+        long_data: false,
+    };
+    Station::new(alloc, role, cfg).err()
+}
+
 #[test]
 fn a_setting_out_of_its_range(rt: HostRuntime) {
-    for (k, n2, channels) in [(0, 1, 1), (8, 1, 1), (1, 0, 1), (1, 1, 0), (1, 1, 17)] {
-        let cfg = Cfg {
-            k,
-            n2,
-            channels,
-            long_data: false,
-        };
-        match Station::new(rt.alloc(), Role::Dte, cfg) {
-            Ok(_) => assert!(rt; false, "{cfg:?}"),
-            Err(error) => assert_eq!(rt; error, StationError::BadConfig, "{cfg:?}"),
-        }
+    for values in [(0, 1, 1), (8, 1, 1), (1, 0, 1), (1, 1, 0), (1, 1, 17)] {
+        let refused = refusal(rt.alloc(), Role::Dte, values);
+        assert_eq!(rt; refused, Some(StationError::BadConfig), "{values:?}");
     }
-    for (k, n2, channels) in [(1, 1, 1), (7, 255, 16)] {
-        let cfg = Cfg {
-            k,
-            n2,
-            channels,
-            long_data: false,
-        };
-        assert!(rt; Station::new(rt.alloc(), Role::Dce, cfg).is_ok(), "{cfg:?}");
+    for values in [(1, 1, 1), (7, 255, 16)] {
+        assert_eq!(rt; refusal(rt.alloc(), Role::Dce, values), None, "{values:?}");
     }
 }
 
@@ -65,7 +63,7 @@ const ASKED_TO_CONNECT: [Row; 7] = [
     (Ask(Cmd::Connect), &["! 15"]),
 ];
 
-const DOWN: [Table; 3] = [
+static DOWN: [Table; 3] = [
     ("no answer", &NO_ANSWER),
     ("closed before set-up", &CLOSED_BEFORE_SET_UP),
     ("asked to connect", &ASKED_TO_CONNECT),
@@ -110,7 +108,7 @@ const NO_ANSWER_TO_A_POLL: [Row; 5] = [
     ),
 ];
 
-const UP: [Table; 3] = [
+static UP: [Table; 3] = [
     ("closed", &CLOSED),
     ("an answer to a poll", &ANSWER_TO_A_POLL),
     ("no answer to a poll", &NO_ANSWER_TO_A_POLL),

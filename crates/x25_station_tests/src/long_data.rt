@@ -58,13 +58,13 @@ const NOT_TAKEN: [Row; 1] = [(
 
 const NOT_SENT: [Row; 1] = [(Ask(CALL_OF_17), &["! 34"])];
 
-const LONG_AT_DTE: [Table; 1] = [("sent", &SENT)];
+static LONG_AT_DTE: [Table; 1] = [("sent", &SENT)];
 
-const LONG_AT_DCE: [Table; 1] = [("taken", &TAKEN)];
+static LONG_AT_DCE: [Table; 1] = [("taken", &TAKEN)];
 
-const SHORT_AT_DTE: [Table; 1] = [("not sent", &NOT_SENT)];
+static SHORT_AT_DTE: [Table; 1] = [("not sent", &NOT_SENT)];
 
-const SHORT_AT_DCE: [Table; 1] = [("not taken", &NOT_TAKEN)];
+static SHORT_AT_DCE: [Table; 1] = [("not taken", &NOT_TAKEN)];
 
 #[test]
 fn user_data_may_be_long_where_both_ends_know(rt: HostRuntime) -> Result<(), Fail> {

@@ -6,14 +6,14 @@ use x25_bits::{Seq, seal};
 use x25_frame::{Frame, decode, encode};
 use x25_station::{Cfg, Cmd, Role, Station, Step};
 
-const SABM: [u8; 4] = [0x01, 0x3f, 0xeb, 0xdf];
+static SABM: [u8; 4] = [0x01, 0x3f, 0xeb, 0xdf];
 
-const RESTART: [u8; 5] = [0x10, 0x00, 0xfb, 0x00, 0x00];
+static RESTART: [u8; 5] = [0x10, 0x00, 0xfb, 0x00, 0x00];
 
-const CALL: [u8; 5] = [0x10, 0x01, 0x0b, 0x00, 0x00];
+static CALL: [u8; 5] = [0x10, 0x01, 0x0b, 0x00, 0x00];
 
 /// The first octets of packets: each type, on channels 0 to 2, and two formats that there aren't.
-const BEGINNINGS: [[u8; 3]; 20] = [
+static BEGINNINGS: [[u8; 3]; 20] = [
     [0x10, 0x01, 0x0b],
     [0x10, 0x02, 0x0b],
     [0x10, 0x01, 0x0f],
@@ -122,6 +122,26 @@ impl Peer {
         self.hands(&packet[..3 + (g % 4) as usize])
     }
 
+    // What comes as this string, made from this number.
+    fn string(&mut self, string: u16, number: u64) -> Result<(), Fail> {
+        match string % 32 {
+            0 => self.sends(&SABM),
+            1 => self.hands(&RESTART),
+            2 => self.hands(&CALL),
+            31 => self.frame(number),
+            _ => self.packet(number),
+        }
+    }
+
+    fn strings(&mut self) -> Result<(), Fail> {
+        let mut number = 88_172_645_463_325_252;
+        for string in 0..10_000u16 {
+            number = following(number);
+            self.string(string, number)?;
+        }
+        Ok(())
+    }
+
     /// A few octets, with a frame check sequence behind them that is right but for one string of eight.
     fn frame(&mut self, number: u64) -> Result<(), Fail> {
         let bytes = number.to_le_bytes();
@@ -148,17 +168,7 @@ fn all_octets_are_taken(rt: HostRuntime) -> Result<(), Fail> {
         nr: Seq::ZERO,
         told: 0,
     };
-    let mut number = 88_172_645_463_325_252;
-    for string in 0..10_000u16 {
-        number = following(number);
-        match string % 32 {
-            0 => peer.sends(&SABM)?,
-            1 => peer.hands(&RESTART)?,
-            2 => peer.hands(&CALL)?,
-            31 => peer.frame(number)?,
-            _ => peer.packet(number)?,
-        }
-    }
+    peer.strings()?;
     assert!(rt; peer.told > 2_000, "{}", peer.told);
     Ok(())
 }

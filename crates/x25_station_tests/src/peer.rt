@@ -186,6 +186,19 @@ fn information(ns: Seq, nr: u8, info: &[u8]) -> Frame<'_> {
 /// A name, and what happens at a station.
 pub type Table = (&'static str, &'static [Row]);
 
+// In a body of its own, since each call that may fail drops what its body made.
+fn plays_behind(
+    rt: &impl Abort,
+    end: &mut End,
+    before: &[&[Row]],
+    (name, rows): Table,
+) -> Result<(), Fail> {
+    for begun in before {
+        end.plays(rt, "before", begun)?;
+    }
+    end.plays(rt, name, rows)
+}
+
 /// Plays tables, each at a station of its own, at which these rows happened before.
 pub fn play_at(
     rt: &impl Abort,
@@ -194,12 +207,9 @@ pub fn play_at(
     before: &[&[Row]],
     tables: &[Table],
 ) -> Result<(), Fail> {
-    for &(name, rows) in tables {
+    for table in tables {
         let mut end = End::new(alloc, role, cfg)?;
-        for begun in before {
-            end.plays(rt, "before", begun)?;
-        }
-        end.plays(rt, name, rows)?;
+        plays_behind(rt, &mut end, before, *table)?;
     }
     Ok(())
 }

@@ -21,7 +21,7 @@ pub const SABM: &str = "013febdf";
 pub const UA: &str = "01738357";
 
 /// The link of a DTE is up, and both ends restarted.
-pub const READY_DTE: [Row; 3] = [
+pub static READY_DTE: [Row; 3] = [
     (Connect, &["SABM cmd P=1"]),
     (
         Take(UA),
@@ -34,7 +34,7 @@ pub const READY_DTE: [Row; 3] = [
 ];
 
 /// The link of a DCE is up, and both ends restarted.
-pub const READY_DCE: [Row; 2] = [
+pub static READY_DCE: [Row; 2] = [
     (
         Take(SABM),
         &[
@@ -50,7 +50,7 @@ pub const READY_DCE: [Row; 2] = [
 ];
 
 /// The user of a DCE that is ready accepts a call.
-pub const CALLED_DCE: [Row; 2] = [
+pub static CALLED_DCE: [Row; 2] = [
     (
         Hear(1, 0, "10010b43123456700041"),
         &[
@@ -65,7 +65,7 @@ pub const CALLED_DCE: [Row; 2] = [
 ];
 
 /// The call of a DTE that is ready is accepted.
-pub const CALLING_DTE: [Row; 2] = [
+pub static CALLING_DTE: [Row; 2] = [
     (
         Ask(CALL),
         &[

@@ -1,9 +1,9 @@
 //! Bits that come in the place of those between the flags of a frame.
 
-use crate::play::number_of;
+use crate::play::{USUAL, number_of};
 use std::alloc::Global;
+use std::process::Abort;
 use std::test::Fail;
-use x25_station::Cfg;
 use x25_world::Direction::ToDce;
 use x25_world::{Bits, Event, World};
 
@@ -14,7 +14,9 @@ const SABM: &str = "1000000011111010011010111110111011";
 const DAMAGED_SABM: &str = "1000000011111010011010111110111010";
 
 /// A place on the line to the DCE, the bits that come there, and the number of the refusal.
-static ROWS: [(usize, &str, Option<u8>); 5] = [
+type Row = (usize, &'static str, Option<u8>);
+
+static ROWS: [Row; 5] = [
     (1, SABM, Some(51)),
     (1, "1111111", Some(51)),
     (0, SABM, Some(52)),
@@ -39,22 +41,35 @@ fn refusal(alloc: Global, world: &mut World, place: usize, text: &str) -> Result
     }
 }
 
+fn plays_row(
+    rt: &impl Abort,
+    alloc: Global,
+    world: &mut World,
+    &(place, text, wanted): &Row,
+) -> Result<(), Fail> {
+    let refused = refusal(alloc, world, place, text)?;
+    assert_eq!(rt; refused, wanted, "{text} at {place}");
+    Ok(())
+}
+
+// A delivery to the DCE tells nothing.
+fn tells_nothing(rt: &impl Abort, world: &mut World) {
+    let told = world.transcript().len();
+    assert_eq!(rt; world.apply(Event::Deliver(ToDce)), Ok(()));
+    assert_eq!(rt; world.transcript().len(), told);
+}
+
+fn plays(rt: &impl Abort, alloc: Global, world: &mut World) -> Result<(), Fail> {
+    for row in &ROWS {
+        plays_row(rt, alloc, world, row)?;
+    }
+    tells_nothing(rt, world);
+    Ok(())
+}
+
 /// The RESTART that is on the line to the DCE is damaged, so that its delivery tells nothing.
 #[test]
 fn bits_are_damaged(rt: HostRuntime) -> Result<(), Fail> {
-    let cfg = Cfg {
-        k: 7,
-        n2: 10,
-        channels: 1,
-        long_data: false,
-    };
-    let mut world = World::establish(rt.alloc(), cfg)?;
-    for (place, text, wanted) in &ROWS {
-        let refused = refusal(rt.alloc(), &mut world, *place, text)?;
-        assert_eq!(rt; refused, *wanted, "{text} at {place}");
-    }
-    let told = world.transcript().len();
-    world.apply(Event::Deliver(ToDce))?;
-    assert_eq!(rt; world.transcript().len(), told);
-    Ok(())
+    let mut world = World::establish(rt.alloc(), USUAL)?;
+    plays(&rt, rt.alloc(), &mut world)
 }

@@ -17,7 +17,7 @@ const LISTS: usize = 1000;
 const EVENTS: usize = 80;
 
 /// Numbers that the lists are made of.
-const STORED: [u64; 8] = [
+static STORED: [u64; 8] = [
     0x9e37_79b9_7f4a_7c15,
     0xbf58_476d_1ce4_e5b9,
     0x94d0_49bb_1331_11eb,
@@ -31,7 +31,7 @@ const STORED: [u64; 8] = [
 /// Octets that messages are made of.
 static OCTETS: [u8; 400] = [0x5a; 400];
 
-const ADDRESSES: [&str; 4] = ["", "7", "0123456789", "999999999999999"];
+static ADDRESSES: [&str; 4] = ["", "7", "0123456789", "999999999999999"];
 
 // Numbers that follow from a stored one.
 #[derive(Clone, Copy)]
@@ -147,7 +147,7 @@ fn command(numbers: &mut Numbers, kind: usize, channels: u8) -> Cmd<'static> {
 }
 
 // How often each kind of command comes, of 64.
-const OFTEN: [usize; COMMANDS] = [8, 9, 2, 19, 6, 1, 2, 1, 6, 7, 1, 1, 1];
+static OFTEN: [usize; COMMANDS] = [8, 9, 2, 19, 6, 1, 2, 1, 6, 7, 1, 1, 1];
 
 fn kind_of_command(numbers: &mut Numbers) -> usize {
     let mut left = numbers.below(64);

@@ -1,10 +1,26 @@
 //! Events that are played at a world, and the text of its transcript.
 
 use std::alloc::Global;
+use std::process::Abort;
 use std::str;
 use std::test::Fail;
 use x25_entries::entry_line;
+use x25_station::Cfg;
 use x25_world::{Direction, Event, World, WorldError};
+
+pub const USUAL: Cfg = Cfg {
+    k: 7,
+    n2: 10,
+    channels: 1,
+    long_data: false,
+};
+
+pub const ONE_TRY: Cfg = Cfg {
+    k: 7,
+    n2: 1,
+    channels: 1,
+    long_data: false,
+};
 
 /// What is played.
 #[derive(Clone, Copy, Debug)]
@@ -14,9 +30,12 @@ pub enum Act {
     Drain,
 }
 
+/// What a run shows, its settings, what is played, and the lines that are told from the beginning.
+pub type Row = (&'static str, Cfg, &'static [Act], &'static str);
+
 /// A world, and the lines of its transcript and of its refusals.
 #[derive(Drop)]
-pub struct Play {
+struct Play {
     world: World,
     text: Vec<u8>,
     alloc: Global,
@@ -34,7 +53,7 @@ pub fn number_of(error: WorldError) -> u8 {
 
 impl Play {
     /// What is played at this world. It lets go of what was told after each event, where `lets_go` says so.
-    pub fn begin(alloc: Global, world: World, lets_go: bool) -> Play {
+    fn begin(alloc: Global, world: World, lets_go: bool) -> Play {
         Play {
             world,
             text: Vec::new(alloc),
@@ -90,8 +109,27 @@ impl Play {
     }
 
     /// The lines from the beginning to the last of these acts.
-    pub fn lines(&mut self, acts: &[Act]) -> Result<&str, Fail> {
+    fn lines(&mut self, acts: &[Act]) -> Result<&str, Fail> {
         self.does(acts)?;
         Ok(str::from_utf8(self.text.as_slice())?)
     }
+}
+
+// What is played tells its lines.
+fn tells(rt: &impl Abort, play: &mut Play, row: &Row) -> Result<(), Fail> {
+    let (name, _, acts, lines) = *row;
+    assert_eq!(rt; play.lines(acts)?, lines, "{name}");
+    Ok(())
+}
+
+/// What is played at this world, which has the row's settings, tells the row's lines. What was told is let go of after each event, where
+/// `lets_go` says so.
+pub fn play_row(
+    rt: &impl Abort,
+    alloc: Global,
+    world: World,
+    row: &Row,
+    lets_go: bool,
+) -> Result<(), Fail> {
+    tells(rt, &mut Play::begin(alloc, world, lets_go), row)
 }

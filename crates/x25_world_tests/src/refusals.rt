@@ -1,6 +1,6 @@
 //! Refusals: their numbers, settings, and where a list of events stops.
 
-use crate::play::number_of;
+use crate::play::{USUAL, number_of};
 use std::alloc::Global;
 use std::process::Abort;
 use std::test::Fail;
@@ -11,7 +11,7 @@ use x25_world::Role::{Dce, Dte};
 use x25_world::{Event, World, WorldError, WorldRefused};
 
 /// Each error, its number, and its message.
-const NUMBERS: [(WorldError, u8, &str); 7] = [
+static NUMBERS: [(WorldError, u8, &str); 7] = [
     (WorldError::BadConfig, 14, "a parameter is out of range"),
     (WorldError::Empty, 50, "nothing on the line"),
     (WorldError::NoSuchFrame, 51, "no such frame on the line"),
@@ -27,7 +27,7 @@ const NUMBERS: [(WorldError, u8, &str); 7] = [
 
 #[test]
 fn errors_have_numbers(rt: HostRuntime) -> Result<(), Fail> {
-    for (error, number, message) in NUMBERS {
+    for &(error, number, message) in &NUMBERS {
         assert_eq!(rt; error.number(), number);
         assert_eq!(rt; error.to_string(rt.alloc())?.as_str(), message);
     }
@@ -35,7 +35,7 @@ fn errors_have_numbers(rt: HostRuntime) -> Result<(), Fail> {
 }
 
 /// k, N2 and channels, and whether they are in their ranges.
-const SETTINGS: [(u8, u8, u8, bool); 9] = [
+static SETTINGS: [(u8, u8, u8, bool); 9] = [
     (0, 10, 1, false),
     (8, 10, 1, false),
     (7, 0, 1, false),
@@ -59,7 +59,7 @@ fn starts(alloc: Global, cfg: Cfg) -> Result<(), WorldError> {
 
 #[test]
 fn settings_are_in_range(rt: HostRuntime) {
-    for (k, n2, channels, is_fine) in SETTINGS {
+    for &(k, n2, channels, is_fine) in &SETTINGS {
         let cfg = Cfg {
             k,
             n2,
@@ -79,7 +79,7 @@ fn settings_are_in_range(rt: HostRuntime) {
 /// A list of events, and the place and number of the refusal where it stops.
 type List = (&'static [Event<'static>], Option<(usize, u8)>);
 
-const LISTS: [List; 7] = [
+static LISTS: [List; 7] = [
     (
         &[Deliver(ToDce), Deliver(ToDce), Deliver(ToDte)],
         Some((1, 50)),
@@ -104,7 +104,7 @@ const LISTS: [List; 7] = [
 
 // Each list goes on where the one before stopped.
 fn stops(rt: &impl Abort, world: &mut World) {
-    for (events, wanted) in LISTS {
+    for &(events, wanted) in &LISTS {
         let stopped = match world.run(events) {
             Ok(()) => None,
             Err(WorldRefused { index, error }) => Some((index, number_of(error))),
@@ -115,13 +115,7 @@ fn stops(rt: &impl Abort, world: &mut World) {
 
 #[test]
 fn lists_stop_at_the_first_refusal(rt: HostRuntime) -> Result<(), Fail> {
-    let cfg = Cfg {
-        k: 7,
-        n2: 10,
-        channels: 1,
-        long_data: false,
-    };
-    let mut world = World::establish(rt.alloc(), cfg)?;
+    let mut world = World::establish(rt.alloc(), USUAL)?;
     stops(&rt, &mut world);
     Ok(())
 }

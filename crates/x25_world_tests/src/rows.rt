@@ -1,7 +1,7 @@
 //! Worked runs: what is played after set-up, and the lines that are told from the beginning.
 
 use crate::play::Act::{Do, Drain};
-use crate::play::{Act, Play};
+use crate::play::{Act, ONE_TRY, Row, USUAL, play_row};
 use std::alloc::Global;
 use std::process::Abort;
 use std::test::Fail;
@@ -10,20 +10,6 @@ use x25_world::Direction::{ToDce, ToDte};
 use x25_world::Event::{Command, Damage, Deliver, Lose, T1};
 use x25_world::Role::{Dce, Dte};
 use x25_world::{Role, World, WorldError};
-
-const USUAL: Cfg = Cfg {
-    k: 7,
-    n2: 10,
-    channels: 1,
-    long_data: false,
-};
-
-const ONE_TRY: Cfg = Cfg {
-    k: 7,
-    n2: 1,
-    channels: 1,
-    long_data: false,
-};
 
 const THREE_CHANNELS: Cfg = Cfg {
     k: 7,
@@ -111,10 +97,8 @@ const SENDS_A: Act = Do(Command(
     },
 ));
 
-/// What a run shows, its settings, what is played, and the lines.
-type Row = (&'static str, Cfg, &'static [Act], &'static str);
-
-const ROWS: [Row; 14] = [
+/// Played after set-up.
+static ROWS: [Row; 14] = [
     (
         "set-up alone",
         USUAL,
@@ -392,31 +376,23 @@ const ROWS: [Row; 14] = [
     ),
 ];
 
-// What is played tells its lines.
-fn tells(rt: &impl Abort, play: &mut Play, row: Row) -> Result<(), Fail> {
-    let (name, _, acts, lines) = row;
-    assert_eq!(rt; play.lines(acts)?, lines, "{name}");
-    Ok(())
-}
-
-fn play_row(rt: &impl Abort, alloc: Global, row: Row, lets_go: bool) -> Result<(), Fail> {
-    let (_, cfg, _, _) = row;
-    let mut play = Play::begin(alloc, World::establish(alloc, cfg)?, lets_go);
-    tells(rt, &mut play, row)
+fn play_up(rt: &impl Abort, alloc: Global, row: &Row, lets_go: bool) -> Result<(), Fail> {
+    let (_, cfg, _, _) = *row;
+    play_row(rt, alloc, World::establish(alloc, cfg)?, row, lets_go)
 }
 
 #[test]
 fn runs_tell_their_lines(rt: HostRuntime) -> Result<(), Fail> {
     for lets_go in [false, true] {
-        for row in ROWS {
-            play_row(&rt, rt.alloc(), row, lets_go)?;
+        for row in &ROWS {
+            play_up(&rt, rt.alloc(), row, lets_go)?;
         }
     }
     Ok(())
 }
 
 /// The frames of set-up, each with the end that sends it.
-const SET_UP: [(Role, &[u8]); 4] = [
+static SET_UP: [(Role, &[u8]); 4] = [
     (Dte, b"\x01\x3f\xeb\xdf"),
     (Dce, b"\x01\x73\x83\x57"),
     (Dce, b"\x03\x00\x10\x00\xfb\x07\x00\xc4\x78"),

@@ -1,29 +1,15 @@
 //! Worked runs in which an end asks that the link be set up, and the lines that are told.
 
 use crate::play::Act::{Do, Drain};
-use crate::play::{Act, Play};
+use crate::play::{Act, ONE_TRY, Row, USUAL, play_row};
 use std::alloc::Global;
 use std::process::Abort;
 use std::test::Fail;
-use x25_station::{Cfg, Cmd};
+use x25_station::Cmd;
 use x25_world::Direction::{ToDce, ToDte};
 use x25_world::Event::{Command, Damage, Deliver, Lose, T1};
 use x25_world::Role::{Dce, Dte};
 use x25_world::World;
-
-const USUAL: Cfg = Cfg {
-    k: 7,
-    n2: 10,
-    channels: 1,
-    long_data: false,
-};
-
-const ONE_TRY: Cfg = Cfg {
-    k: 7,
-    n2: 1,
-    channels: 1,
-    long_data: false,
-};
 
 const CONNECTS: Act = Do(Command(Dte, Cmd::Connect));
 
@@ -31,9 +17,7 @@ const DCE_CONNECTS: Act = Do(Command(Dce, Cmd::Connect));
 
 const DISCONNECTS: Act = Do(Command(Dce, Cmd::Disconnect));
 
-/// What a run shows, its settings, what is played at two links that are down, and the lines.
-type Row = (&'static str, Cfg, &'static [Act], &'static str);
-
+/// Played at two links that are down.
 static ROWS: [Row; 9] = [
     (
         "timer T1 waits for SABM",
@@ -145,24 +129,16 @@ static ROWS: [Row; 9] = [
     ),
 ];
 
-// What is played tells its lines.
-fn tells(rt: &impl Abort, play: &mut Play, row: &Row) -> Result<(), Fail> {
-    let (name, _, acts, lines) = *row;
-    assert_eq!(rt; play.lines(acts)?, lines, "{name}");
-    Ok(())
-}
-
-fn play_row(rt: &impl Abort, alloc: Global, row: &Row, lets_go: bool) -> Result<(), Fail> {
+fn play_down(rt: &impl Abort, alloc: Global, row: &Row, lets_go: bool) -> Result<(), Fail> {
     let (_, cfg, _, _) = *row;
-    let mut play = Play::begin(alloc, World::start(alloc, cfg)?, lets_go);
-    tells(rt, &mut play, row)
+    play_row(rt, alloc, World::start(alloc, cfg)?, row, lets_go)
 }
 
 #[test]
 fn links_come_up_as_asked(rt: HostRuntime) -> Result<(), Fail> {
     for lets_go in [false, true] {
         for row in &ROWS {
-            play_row(&rt, rt.alloc(), row, lets_go)?;
+            play_down(&rt, rt.alloc(), row, lets_go)?;
         }
     }
     Ok(())
