@@ -27,6 +27,10 @@ use Rattle.x25_world.proofs.Reaches.{LinksReach, LayersReach}
 abbrev pub spelled : List PlainPacket → List (List ℕ)
 spelled packets = map packet.spelling_of packets
 
+pub spelled_none : (packets : List PlainPacket) → spelled packets ≡ [] → packets ≡ []
+spelled_none [] none = refl
+spelled_none (p ∷ packets) none = absurd (cc)
+
 -- a station, its link among two links, its layer among two layers, and its transcript
 pub record IsEnd (s : Station) (k : StationEnd) (l : layer.End) (es : List StationEntry) : Type 0 where
   pub link : k.station ≡ s.link
@@ -163,8 +167,8 @@ pub record LayerGoes (u u₂ : layer.World) (l : Layer) (put lifted : List Plain
   pub out : u₂.near.is_out ≡ gone
   pub far : u₂.far ≡ u.far
 
-grown : (xs xs₂ ys : List (List ℕ)) (ps ps₂ qs : List PlainPacket) → xs ≡ spelled ps → xs₂ ≡ xs ++ spelled qs → ps₂ ≡ ps ++ qs → xs₂ ≡ spelled ps₂
-grown xs xs₂ ys ps ps₂ qs same more more_packets =
+pub grown : (xs xs₂ : List (List ℕ)) (ps ps₂ qs : List PlainPacket) → xs ≡ spelled ps → xs₂ ≡ xs ++ spelled qs → ps₂ ≡ ps ++ qs → xs₂ ≡ spelled ps₂
+grown xs xs₂ ps ps₂ qs same more more_packets =
     more ∙ ap (λ (l : List (List ℕ)). l ++ spelled qs) same ∙ sym (map-append packet.spelling_of ps qs) ∙ ap spelled (sym more_packets)
 
 none_more : (a b : ℕ) → a ≡ 1 → b ≡ 0 → a + b ≡ 1
@@ -176,8 +180,8 @@ end_goes : (c : LinkSettings) (s₂ : Station) (s : Station) (v v₂ : line.Stat
 end_goes c s₂ s v v₂ u u₂ before entries frames packets taken back h k l kept none = record {
   link = k.station;
   layer = l.layer;
-  down = grown v.near.down v₂.near.down [] u.near.given u₂.near.given packets h.down k.down l.given;
-  up = grown v.near.up v₂.near.up [] u.near.taken u₂.near.taken taken h.up k.up l.taken;
+  down = grown v.near.down v₂.near.down u.near.given u₂.near.given packets h.down k.down l.given;
+  up = grown v.near.up v₂.near.up u.near.taken u₂.near.taken taken h.up k.up l.taken;
   entries = l.entries ∙ ap (λ (es : List Entry). es ++ layer_entries entries) h.entries ∙ sym (layer_append before entries);
   told = l.told ∙ ap (λ (ns : List LayerNotice). ns ++ layer_notices entries) h.told ∙ sym (notices_append before entries);
   out = l.out;

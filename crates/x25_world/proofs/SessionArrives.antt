@@ -25,13 +25,12 @@ use Rattle.x25_world.specs.Sessions.{Progress, last_session, handed_in, meets}
 use Rattle.x25_world.specs.SessionClaims.{OpenStretchesMeet, AllArrive}
 use Rattle.x25_world.proofs.Reaches.{layer_of}
 use Rattle.x25_world.proofs.Known.{IsConfigured}
-use Rattle.x25_world.proofs.Joined.{spelled}
+use Rattle.x25_world.proofs.Joined.{spelled, spelled_none}
 use Rattle.x25_world.proofs.Lawful.{stretch_of, link_idle, idle_between}
 use Rattle.x25_world.proofs.SessionTrace.{Done, own_in, own, pair_in}
 use Rattle.x25_world.proofs.SessionReaches.{known_sessions}
 use Rattle.x25_world.proofs.SessionJoined.{HasMet, PairIsInOrder, SessionsJoined, sessions_swapped}
 use Rattle.x25_world.proofs.SessionKnown.{SessionLaws, all_some, some_map, met_in_order, pair_world, world_here, world_there}
-use Rattle.x25_world.proofs.SessionLawful.{spelled_none}
 
 -- ---- an open stretch
 

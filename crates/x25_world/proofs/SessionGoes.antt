@@ -1,13 +1,11 @@
 -- A step of the near end, joined of a step of its link and moves of its layer: in the session that stands, at rest, or as a session begins.
 use Rattle.std.proofs.Common.{◌≡◌, ℕ, suc, ◌==◌, ◌≤◌, ◌<◌, ◌⊎◌, inl, inr, List, [], ◌∷◌, ◌++◌, map, Bool, true, false, ◌&&◌, if◌then◌else◌, Option, Some, None, refl, sym, ap, ap₂, ◌∙◌, subst, append-nil, arith}
 use Rattle.std.proofs.lemmas.Bool.{eqb-true, eq-eqb}
-use Rattle.std.proofs.lemmas.List.{map-append}
 use Rattle.x25_bits.specs.declared.role.Role.{Role}
 use Rattle.x25_bits.specs.declared.role.Role.TheVariants.{Dte, Dce}
 use Rattle.x25_frame.specs.PlainFrame.{PlainFrame}
 use Rattle.x25_frame.specs.Spelling.{spelling_of}
 use Rattle.x25_packet.specs.PlainPacket.{PlainPacket, restart}
-use Rattle.x25_packet.specs.Spelling as packet
 use Rattle.x25_link.specs.Station.{is_up}
 use Rattle.x25_link.specs.MustSend.{other}
 use Rattle.x25_line.specs.Sessions.{SessionEnd, Meeting, Sessions, extended}
@@ -29,7 +27,7 @@ use Rattle.x25_world.specs.World.{World, tapped, entered, after_step}
 use Rattle.x25_world.specs.Claims.{entries_at, link_of}
 use Rattle.x25_world.specs.Sessions.{Progress, none_begun, after_entries, is_in, session_from, first_of, met_by, meets}
 use Rattle.x25_world.proofs.Reaches.{layer_of}
-use Rattle.x25_world.proofs.Joined.{spelled, AreOnTap, entries_more, entries_other, layer_append, notices_append, on_tap}
+use Rattle.x25_world.proofs.Joined.{spelled, spelled_none, grown, AreOnTap, entries_more, entries_other, layer_append, notices_append, on_tap}
 use Rattle.x25_world.proofs.Follows.{true_false}
 use Rattle.x25_world.proofs.SessionTrace.{Done, moved, own_in, own, own_more, own_same, own_other, own_goes, same_number, other_number, TakeNothing, nothing_append, BringOctets, octets_append}
 use Rattle.x25_world.proofs.SessionReaches.{SessionsReach}
@@ -62,9 +60,6 @@ not_in n p differs = ap (λ (b : Bool). p.stands && b) (other_number n p.begun d
 
 is_here : (n : ℕ) → is_in n (record { begun = n; stands = true }) ≡ true
 is_here n = same_number n
-
-grown : (xs xs₂ : List (List ℕ)) (ps ps₂ qs : List PlainPacket) → xs ≡ spelled ps → xs₂ ≡ xs ++ spelled qs → ps₂ ≡ ps ++ qs → xs₂ ≡ spelled ps₂
-grown xs xs₂ ps ps₂ qs same more more_packets = more ∙ ap (λ (l : List (List ℕ)). l ++ spelled qs) same ∙ sym (map-append packet.spelling_of ps qs) ∙ ap spelled (sym more_packets)
 
 no_faults_append : (xs ys : List LayerNotice) → AreNoFaults xs → AreNoFaults ys → AreNoFaults (xs ++ ys)
 no_faults_append [] ys f g = g
@@ -123,10 +118,6 @@ session_rests e f before all more down up down₂ up₂ same h is none untold sa
   told = ap (λ (x : layer.End). x.told) same ∙ h.told ∙ sym (append-nil (layer_notices before)) ∙ ap (λ (l : List LayerNotice). layer_notices before ++ l) (sym untold)
       ∙ sym (notices_append before more) ∙ ap layer_notices (sym is);
 }
-
-no_packets_of : (ps : List PlainPacket) → spelled ps ≡ [] → ps ≡ []
-no_packets_of [] e = refl
-no_packets_of (p ∷ ps) e = absurd (cc)
 
 none_behind : (xs ys : List (List ℕ)) → xs ++ ys ≡ [] → ys ≡ []
 none_behind [] ys e = e
@@ -279,7 +270,7 @@ module _ (cfg : Cfg) (end : Role) (w : World) (h : SessionsJoined cfg end w) (st
             let both = sym up_here ∙ none in
             subst TakeNothing (sym (own_more end session h.trace moves))
             (nothing_append (own_in end session h.trace) moves (h.near.alone session (nothing_of (h.links.near.up session) (spelled lifted) both))
-            (alone (no_packets_of lifted (none_behind (h.links.near.up session) (spelled lifted) both))))
+            (alone (spelled_none lifted (none_behind (h.links.near.up session) (spelled lifted) both))))
 
         here : n ≡ session → TakeNothing (own_in end n trace_on)
         here is = subst (λ (k : ℕ). TakeNothing (own_in end k trace_on)) (sym is) (at_session (ap v.near.up (sym is) ∙ none))
@@ -332,7 +323,7 @@ module _ (cfg : Cfg) (end : Role) (w : World) (h : SessionsJoined cfg end w) (st
         far_begun = ap (λ (p : Progress). p.begun) h.far.progress
 
         here : h.links.near.up session ≡ [] → ((v.near.up session ≡ []) × (found session ≡ None)) ⊎ Meets HasMetOn session (found session)
-        here none = elim (news (no_packets_of (own cfg end session h.trace).taken (sym (h.near.sessions session (h.near.first up) (omega arith)).up ∙ none))) [
+        here none = elim (news (spelled_none (own cfg end session h.trace).taken (sym (h.near.sessions session (h.near.first up) (omega arith)).up ∙ none))) [
           | inl still ↦ inl (
             up_here ∙ ap₂ (λ (xs : List (List ℕ)) (ps : List PlainPacket). xs ++ spelled ps) none still.0,
             none_met session standing (after_entries none_begun told_there) step.entries still.1,

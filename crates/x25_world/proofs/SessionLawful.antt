@@ -4,8 +4,6 @@ use Rattle.std.proofs.Common.{◌≡◌, ℕ, zero, suc, ◌==◌, ◌≤◌, �
 use Rattle.std.proofs.lemmas.Bool.{eqb-true, leb-true, leb-false}
 use Rattle.x25_bits.specs.declared.role.Role.{Role}
 use Rattle.x25_bits.specs.declared.role.Role.TheVariants.{Dte, Dce}
-use Rattle.x25_packet.specs.PlainPacket.{PlainPacket}
-use Rattle.x25_packet.specs.Spelling as packet
 use Rattle.x25_link.specs.MustSend.{other}
 use Rattle.x25_line.specs.SessionClaims.{OnlyBegunHaveLists}
 use Rattle.x25_layer.specs.World as layer
@@ -19,7 +17,7 @@ use Rattle.x25_world.specs.Sessions.{Progress, none_begun, after_entry, is_in, e
 use Rattle.x25_world.specs.SessionClaims.{AreLawfulWhereMet, UnmetAreToldNothing}
 use Rattle.x25_world.proofs.Reaches.{layer_of}
 use Rattle.x25_world.proofs.Known.{IsConfigured}
-use Rattle.x25_world.proofs.Joined.{spelled}
+use Rattle.x25_world.proofs.Joined.{spelled_none}
 use Rattle.x25_world.proofs.SessionTrace.{Done, own_in, own, pair_in}
 use Rattle.x25_world.proofs.SessionReaches.{known_sessions}
 use Rattle.x25_world.proofs.SessionJoined.{HasMet, PairIsInOrder, SessionsJoined, sessions_swapped}
@@ -72,15 +70,6 @@ before_first p (e ∷ entries) first =
 
 pub session_zero : (entries : List StationEntry) → session_from 0 none_begun entries ≡ []
 session_zero entries = before_first none_begun entries (λ stands. absurd (cc))
-
--- ---- packets
-
-pub spelled_none : (packets : List PlainPacket) → spelled packets ≡ [] → packets ≡ []
-spelled_none [] none = refl
-spelled_none (p ∷ packets) none = absurd (something (packet.spelling_of p) (spelled packets) none)
-  where
-    something : (x : List ℕ) (xs : List (List ℕ)) → x ∷ xs ≡ [] → ⊥
-    something x xs e = cc
 
 -- ---- of two layers in order
 

@@ -97,9 +97,6 @@ met_again_there m (p ∷ ms) all some = elim some [
 
 -- ---- packets
 
-spelled_append : (ps qs : List PlainPacket) → spelled (ps ++ qs) ≡ spelled ps ++ spelled qs
-spelled_append ps qs = map-append spelling_of ps qs
-
 -- the packet that an end takes is the next, and its pulls take none
 next_at : (cfg : Cfg) (end : Role) (ends : Ends) (packet : PlainPacket) (channels : List ℕ) → Begins ((here_in end ends).taken ++ packet ∷ []) (here_in (other end) ends).given
     → AreInOrder cfg.long_data cfg.channels (events_of end (Takes packet ∷ own_pulls channels)) ends
@@ -289,7 +286,7 @@ module _ (laws : SessionLaws) (cfg : Cfg) (fine : IsConfigured cfg) (end : Role)
           let near = (h.near.sessions here (h.near.first up) (omega arith)).up in
           let far = (h.far.sessions there there_begun (omega arith)).down in
           let given : h.links.far.down there ≡ h.links.near.up here ++ spelled flight =
-          far ∙ ap spelled given_is ∙ spelled_append own_here.taken flight ∙ ap (λ (l : List (List ℕ)). l ++ spelled flight) (sym near) in
+          far ∙ ap spelled given_is ∙ map-append spelling_of own_here.taken flight ∙ ap (λ (l : List (List ℕ)). l ++ spelled flight) (sym near) in
           front_of packet_octets begins_down.0 flight (append_cancel_left (h.links.near.up here) (packet_octets ∷ begins_down.0) (spelled flight) (begins_down.1 ∙ given))
 
       -- the layer takes the packet in front

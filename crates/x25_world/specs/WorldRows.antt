@@ -18,7 +18,7 @@ use Rattle.x25_station.specs.Told.{is_idle, stretch}
 use Rattle.x25_world.specs.declared.error.WorldError.TheVariants as error
 use Rattle.x25_world.specs.World.{AtEnd, World, Act, Commands, Receives, Fires, Loses, Damages, Event, happens, refusal_of, run, start, established}
 use Rattle.x25_world.specs.Claims.{handed_at}
-use Rattle.x25_world.specs.Sessions.{meets}
+use Rattle.x25_world.specs.Sessions.{session_at, meets}
 
 abbrev pub two_channels : Cfg
 two_channels = record { k = 7; n2 = 10; channels = 2; long_data = false }
@@ -94,18 +94,18 @@ ConnectSetsUp =
     × ((run two_channels (connects Dte ∷ connects Dce ∷ delivers 3) start).transcript ≡ record { at = Dte; entry = connect_asked } ∷ record { at = Dce; entry = connect_asked } ∷ told_of_set_up)
 
 -- UA is lost; timer T1 runs out, SABM goes again, and the DCE, which was up, is set up anew
+abbrev pub told_of_two_set_ups : List AtEnd
+told_of_two_set_ups = record { at = Dte; entry = connect_asked } ∷ record { at = Dce; entry = link_up } ∷ record { at = Dce; entry = link_down Reset } ∷ told_of_set_up
+
 abbrev pub ConnectGoesAgain : Type 0
 ConnectGoesAgain =
-    (run two_channels (connects Dte ∷ event Dce Receives ∷ event Dte (Loses 0) ∷ event Dte Fires ∷ delivers 4) start).transcript ≡ record { at = Dte; entry = connect_asked }
-    ∷ record { at = Dce; entry = link_up } ∷ record { at = Dce; entry = link_down Reset } ∷ told_of_set_up
+    (run two_channels (connects Dte ∷ event Dce Receives ∷ event Dte (Loses 0) ∷ event Dte Fires ∷ delivers 4) start).transcript ≡ told_of_two_set_ups
 
--- ---- sessions
-
--- so the DCE's first session meets none, and its second and the DTE's first meet each other
-abbrev pub FirstMeetsNone : Type 0
-FirstMeetsNone =
-    let told = (run two_channels (connects Dte ∷ event Dce Receives ∷ event Dte (Loses 0) ∷ event Dte Fires ∷ delivers 4) start).transcript in
-    (meets Dce 1 told ≡ None) × (meets Dce 2 told ≡ Some 1) × (meets Dte 1 told ≡ Some 2)
+-- .. so its first session meets none, and its second is the one that meets the first of the DTE
+abbrev pub SecondMeetsFirst : Type 0
+SecondMeetsFirst =
+    (meets Dte 1 told_of_two_set_ups ≡ Some 2) × (meets Dce 1 told_of_two_set_ups ≡ None) × (meets Dce 2 told_of_two_set_ups ≡ Some 1) × (session_at Dce 1 told_of_two_set_ups ≡ link_up ∷ [])
+    × (session_at Dce 2 told_of_two_set_ups ≡ link_up ∷ was_restarted 0 0 ∷ [])
 
 -- where an end sends once more and then leaves
 abbrev pub one_try : Cfg
@@ -125,8 +125,6 @@ abbrev pub SecondMeet : Type 0
 SecondMeet =
     ((run one_try (delivers 2 ++ asks Dte Restarts ∷ loses_one ∷ event Dte Fires ∷ loses_one ∷ event Dte Fires ∷ connects Dte ∷ delivers 2) (established one_try)).transcript ≡ told_twice)
     × (meets Dte 1 told_twice ≡ Some 1) × (meets Dce 1 told_twice ≡ Some 1) × (meets Dte 2 told_twice ≡ Some 2) × (meets Dce 2 told_twice ≡ Some 2)
-
--- ---- timer T1
 
 -- while its SABM is on the line, or a UA to it, timer T1 of an end doesn't run out; once SABM is damaged it does
 abbrev pub TimerWaits : Type 0
