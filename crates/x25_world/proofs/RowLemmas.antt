@@ -7,7 +7,7 @@ use Rattle.x25_link.specs.Station.{pumped}
 use Rattle.x25_packet.specs.Digits.{packed, halves_of}
 use Rattle.x25_packet.specs.Facilities.{facilities_of}
 use Rattle.x25_packet.specs.Reading.{packet_of}
-use Rattle.x25_world.specs.WorldRows.{SetsUp, MessageArrives, LostArrives, DamagedArrives, DisconnectEndsBoth, ConnectSetsUp, ConnectGoesAgain, SecondMeetsFirst, TimerWaits, IsRefused}
+use Rattle.x25_world.specs.WorldRows.{SetsUp, MessageArrives, LostArrives, DamagedArrives, DisconnectEndsBoth, ConnectSetsUp, ConnectGoesAgain, SecondMeetsFirst, SecondMeet, TimerWaits, IsRefused}
 
 pub sets_up : SetsUp
 unfolding pumped frame_of packet_of is_sealed fcs_of number_of low_bits add divisor divided
@@ -39,6 +39,10 @@ connect_goes_again = refl
 
 pub second_meets_first : SecondMeetsFirst
 second_meets_first = (refl, refl, refl, refl, refl)
+
+pub second_meet : SecondMeet
+unfolding pumped frame_of packet_of is_sealed fcs_of number_of low_bits add divisor divided
+second_meet = (refl, refl, refl, refl, refl)
 
 pub timer_waits : TimerWaits
 unfolding pumped frame_of packet_of is_sealed fcs_of number_of low_bits add divisor divided

@@ -3,16 +3,16 @@ use Rattle.std.specs.Prelude.{◌≡◌, ℕ, zero, suc, true, false, List, [], 
 use Rattle.x25_bits.specs.declared.role.Role.{Role}
 use Rattle.x25_bits.specs.declared.role.Role.TheVariants.{Dte, Dce}
 use Rattle.x25_link.specs.declared.error.LinkError.TheVariants as link_error
-use Rattle.x25_link.specs.declared.phase.Reason.TheVariants.{Local, Disc, Reset}
+use Rattle.x25_link.specs.declared.phase.Reason.TheVariants.{Local, Disc, Reset, Retries}
 use Rattle.x25_circuit.specs.Params.{default_params}
 use Rattle.x25_circuit.specs.Calls.{Accepts, Sends}
 use Rattle.x25_epochs.specs.Names.{Name}
-use Rattle.x25_layer.specs.Calls.{LayerRequest, Asks, Dials}
+use Rattle.x25_layer.specs.Calls.{LayerRequest, Asks, Dials, Restarts}
 use Rattle.x25_layer.specs.Transcript.{under, messages_in}
 use Rattle.x25_station.specs.declared.config.Cfg.{Cfg}
 use Rattle.x25_station.specs.declared.error.StationError.TheVariants as station_error
 use Rattle.x25_station.specs.Command.{Requests, Connects, Disconnects}
-use Rattle.x25_station.specs.Entries.{connect_asked, disconnect_asked, link_up, link_down, was_restarted}
+use Rattle.x25_station.specs.Entries.{restart_asked, connect_asked, disconnect_asked, link_up, link_down, was_restarted}
 use Rattle.x25_station.specs.Settings.{settings_from}
 use Rattle.x25_station.specs.Told.{is_idle, stretch}
 use Rattle.x25_world.specs.declared.error.WorldError.TheVariants as error
@@ -106,6 +106,25 @@ abbrev pub SecondMeetsFirst : Type 0
 SecondMeetsFirst =
     (meets Dte 1 told_of_two_set_ups ≡ Some 2) × (meets Dce 1 told_of_two_set_ups ≡ None) × (meets Dce 2 told_of_two_set_ups ≡ Some 1) × (session_at Dce 1 told_of_two_set_ups ≡ link_up ∷ [])
     × (session_at Dce 2 told_of_two_set_ups ≡ link_up ∷ was_restarted 0 0 ∷ [])
+
+-- where an end sends once more and then leaves
+abbrev pub one_try : Cfg
+one_try = record { k = 7; n2 = 1; channels = 2; long_data = false }
+
+abbrev pub loses_one : Event
+loses_one = event Dce (Loses 0)
+
+-- after a set-up the DTE asks for a restart, which is lost twice, so that it leaves; and asks for set-up
+abbrev pub told_twice : List AtEnd
+told_twice =
+    told_of_set_up ++ record { at = Dte; entry = restart_asked } ∷ record { at = Dte; entry = link_down Retries } ∷ record { at = Dte; entry = connect_asked }
+    ∷ record { at = Dce; entry = link_down Reset } ∷ told_of_set_up
+
+-- the first sessions meet each other, and so do the second
+abbrev pub SecondMeet : Type 0
+SecondMeet =
+    ((run one_try (delivers 2 ++ asks Dte Restarts ∷ loses_one ∷ event Dte Fires ∷ loses_one ∷ event Dte Fires ∷ connects Dte ∷ delivers 2) (established one_try)).transcript ≡ told_twice)
+    × (meets Dte 1 told_twice ≡ Some 1) × (meets Dce 1 told_twice ≡ Some 1) × (meets Dte 2 told_twice ≡ Some 2) × (meets Dce 2 told_twice ≡ Some 2)
 
 -- while its SABM is on the line, or a UA to it, timer T1 of an end doesn't run out; once SABM is damaged it does
 abbrev pub TimerWaits : Type 0

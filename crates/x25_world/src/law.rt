@@ -1,7 +1,7 @@
 //! Two stations over a line, as laws about their definition. Each is the contract of a function that does nothing.
 ghost use Rattle.x25_station.specs.ReadLaw.{AreOctets};
 ghost use Rattle.x25_world.specs.World.{event_of};
-ghost use Rattle.x25_world.specs.WorldRows.{SetsUp, MessageArrives, LostArrives, DamagedArrives, DisconnectEndsBoth, ConnectSetsUp, ConnectGoesAgain, SecondMeetsFirst, TimerWaits, IsRefused};
+ghost use Rattle.x25_world.specs.WorldRows.{SetsUp, MessageArrives, LostArrives, DamagedArrives, DisconnectEndsBoth, ConnectSetsUp, ConnectGoesAgain, SecondMeetsFirst, SecondMeet, TimerWaits, IsRefused};
 ghost use Rattle.x25_world.specs.SessionClaims.{Throughout, MeetInStep, AreLawfulWhereMet, AreNamedInSessions, AllArrive, UnmetAreToldNothing, OpenStretchesMeet};
 ghost use Rattle.x25_world.specs.Claims.{ActsInOctets, Always, IsSetUp, IsLawful, IsNamed, ArrivesAll, HasNoProcedureError, IsInWindow, UpOnceUnlessConnected};
 
@@ -100,7 +100,8 @@ pub fn stations_meet_in_sessions()
 
 /// Worked rows: the octets of set-up; a message that arrives, also where its frame is lost or damaged and goes again; `disconnect`,
 /// by which both ends go down; `connect`, by which both come up, also where both ask, or UA is lost, so that the second session of the DCE
-/// meets the first of the DTE; timer T1, which waits for SABM and UA that are on the line; and refusals.
+/// meets the first of the DTE, and again after the DTE left, so that the second of both meet; timer T1, which waits for SABM and UA that are on
+/// the line; and refusals.
 pub fn two_stations_move()
     ensures sets_up { SetsUp }
     ensures arrives { MessageArrives }
@@ -110,6 +111,7 @@ pub fn two_stations_move()
     ensures connect { ConnectSetsUp }
     ensures connect_again { ConnectGoesAgain }
     ensures sessions { SecondMeetsFirst }
+    ensures second { SecondMeet }
     ensures timer { TimerWaits }
     ensures refused { IsRefused }
 {}
