@@ -6,13 +6,10 @@ use crate::stretch::Stretch;
 use std::alloc::Global;
 use x25_bits::Role;
 use x25_circuit::{Circuit, Params};
-use x25_link::Blanks;
+use x25_link::{Blanks, LONGEST_PACKET};
 
 /// The most channels of a layer (profile).
 pub const CHANNELS: usize = 16;
-
-/// The most octets of a packet.
-pub const LONGEST_PACKET: usize = 4099;
 
 /// The packet layer of one end, DTE or DCE: its logical channels, numbered from 1, over a link that keeps order.
 ///

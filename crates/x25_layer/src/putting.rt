@@ -8,8 +8,8 @@ ghost use Rattle.x25_packet.specs.PlainPacket.{plain};
 ghost use Rattle.x25_packet.specs.Spelling.{IsInRange, spelling_of};
 
 use crate::error::LayerError;
-use crate::layer::{LONGEST_PACKET, Layer};
-use x25_link::{Blanks, OrderedLink};
+use crate::layer::Layer;
+use x25_link::{Blanks, LONGEST_PACKET, OrderedLink};
 use x25_packet::{Packet, encode};
 
 /// The most packets that a call puts: its own, and the data packets pulled behind it.

@@ -10,10 +10,10 @@ ghost use Rattle.x25_layer.specs.OverLink.{view_of, after_all};
 ghost use Rattle.x25_layer.specs.Rounds.{Putting, round, rounds};
 ghost use Rattle.x25_layer.specs.Pulling.{IsEnough, pulled_where, Stands};
 
-use crate::layer::{LONGEST_PACKET, Layer};
+use crate::layer::Layer;
 use crate::putting::put;
 use x25_circuit::Circuit;
-use x25_link::{Blanks, OrderedLink};
+use x25_link::{Blanks, LONGEST_PACKET, OrderedLink};
 
 /// A data packet is pulled where fewer packets than these wait in the link.
 const FEW: usize = 8;

@@ -24,6 +24,7 @@ pub use error::LinkError;
 pub use frame_memory::Blanks;
 pub use law::{follows_the_window, holds_few, notes_what_changes, sets_up_by_rows};
 pub use link::Link;
+pub use octets::LONGEST_PACKET;
 pub use ordered_link::OrderedLink;
 pub use phase::{Notes, Phase, Reason};
 pub use plain_link::PlainLink;

@@ -2,7 +2,7 @@ ghost use Rattle.std.specs.Prelude.{◌≡◌, ℕ, ◌≤◌, List, length, vec
 
 use std::marker::Model;
 
-/// The most octets of a packet.
+/// The most octets of a packet: those of the longest data packet.
 pub const LONGEST_PACKET: usize = 4099;
 
 /// The octets of a packet, at most 4,099.

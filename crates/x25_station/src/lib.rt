@@ -18,6 +18,7 @@ pub use config::Cfg;
 pub use entry::{Asked, Entry, Said, Told};
 pub use error::StationError;
 pub use law::{puts_are_readable, stations_hold_few, steps_are_joined, steps_keep_bounds};
-pub use station::{LONGEST_PACKET, Station};
+pub use station::Station;
 pub use step::{MOST_ENTRIES, MOST_FRAMES, Step};
 pub use x25_bits::Role;
+pub use x25_link::LONGEST_PACKET;

@@ -6,10 +6,7 @@ use crate::error::StationError;
 use std::alloc::Global;
 use x25_bits::Role;
 use x25_layer::{Layer, LayerError, Stretch};
-use x25_link::{Blanks, Link, LinkError};
-
-/// The most octets of a packet: those of the longest data packet.
-pub const LONGEST_PACKET: usize = 4099;
+use x25_link::{Blanks, LONGEST_PACKET, Link, LinkError};
 
 /// A station of X.25, DTE or DCE: its link and its packet layer.
 ///
