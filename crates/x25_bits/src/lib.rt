@@ -8,6 +8,7 @@ mod frame_check;
 mod harmless_bits;
 mod laws;
 mod no_memory;
+mod octets;
 mod role;
 mod scan;
 mod seq;
@@ -23,6 +24,7 @@ pub use laws::{
     sealed_is_tested, stuffing_is_undone,
 };
 pub use no_memory::NoMemory;
+pub use octets::Octets;
 pub use role::Role;
 pub use seq::Seq;
 pub use stuffing::put;

@@ -8,6 +8,8 @@ mod harmless_bits;
 #[cfg(test)]
 mod numbers;
 #[cfg(test)]
+mod octets;
+#[cfg(test)]
 mod sealing;
 #[cfg(test)]
 mod spans;
