@@ -1,7 +1,8 @@
 -- The register divides: what is fed to it bit by bit leaves the remainder of the long division.
-use Rattle.std.proofs.Common.{ℕ, zero, suc, ◌+◌, ◌-◌, ◌/◌, ◌%◌, ◌^◌, ◌<◌, ◌≤◌, ◌≡◌, ◌∙◌, Bool, true, false, not, List, [], ◌∷◌, ◌++◌, length, map, take, drop, refl, ap, sym, inl, inr, ◌⊎◌, arith, bit_xor, bit_and, length-append}
+use Rattle.std.proofs.Common.{ℕ, zero, suc, ◌+◌, ◌-◌, ◌/◌, ◌%◌, ◌^◌, ◌<◌, ◌≤◌, ◌≡◌, ◌∙◌, Bool, true, false, not, List, [], ◌∷◌, ◌++◌, length, map, take, drop, refl, ap, sym, inl, inr, ◌⊎◌, arith, bit_xor, bit_and, length-append, add-one}
 use Rattle.std.specs.Prelude.{◌==◌, if◌then◌else◌, replicate}
-use Rattle.std.proofs.lemmas.Nat.{xor_mod, xor_shr}
+use Rattle.std.proofs.lemmas.Nat.{xor_mod, xor_shr, field_of}
+use Rattle.std.proofs.Math.Pow.{mod-mod-pow}
 use Rattle.std.proofs.lemmas.Nat.Bits.{shr_and_one}
 use Rattle.std.proofs.Math.Nat.{div-one}
 use Rattle.x25_bits.specs.Fcs.{low_bits, number_of, bits_of, xor, add, divisor, divided, inverted, fcs_of}
@@ -136,6 +137,15 @@ low_bits-xor (suc k) a b =
 pub low_bits-suc : (k n : ℕ) → low_bits (suc k) n ≡ (n % 2 == 1) ∷ low_bits k (n / 2)
 unfolding low_bits
 low_bits-suc k n = refl
+
+-- what is above the bits doesn't count
+pub low_bits-mod : (k n : ℕ) → low_bits k (n % 2 ^ k) ≡ low_bits k n
+unfolding low_bits
+low_bits-mod zero n = refl
+low_bits-mod (suc k) n =
+    let low : n % 2 ^ suc k % 2 ≡ n % 2 = rw (← add-one k) (mod-mod-pow n k 1) in
+    let high : n % 2 ^ suc k / 2 ≡ n / 2 % 2 ^ k = rw (← add-one k) (field_of n k 1) in
+    rw (low, high) (ap (λ (bits : List Bool). (n % 2 == 1) ∷ bits) (low_bits-mod k (n / 2)))
 
 pub number_of-complement : (k n : ℕ) → n < 2 ^ k → number_of (map not (low_bits k n)) + n + 1 ≡ 2 ^ k
 unfolding low_bits number_of

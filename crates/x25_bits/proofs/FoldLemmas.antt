@@ -1,9 +1,6 @@
 -- Eight octets at a time: what the shifts of the code leave in the register.
-use Rattle.std.proofs.Common.{ℕ, zero, suc, ◌+◌, ◌-◌, ◌*◌, ◌/◌, ◌%◌, ◌^◌, ◌<◌, ◌≤◌, ◌≡◌, ◌∙◌, Bool, true, false, List, [], ◌∷◌, ◌++◌, length, refl, ap, sym, arith, bit_xor, length-drop}
+use Rattle.std.proofs.Common.{ℕ, zero, suc, ◌+◌, ◌-◌, ◌*◌, ◌%◌, ◌^◌, ◌<◌, ◌≤◌, ◌≡◌, ◌∙◌, Bool, true, false, List, [], ◌∷◌, ◌++◌, length, refl, ap, sym, arith, bit_xor, length-drop}
 use Rattle.std.specs.Prelude.{replicate, slice_index, slice_index_or, take, drop}
-use Rattle.std.proofs.lemmas.Nat.{pow_pos}
-use Rattle.std.proofs.Math.Nat.{pow-suc}
-use lib.Arith.{mod-mul}
 use Rattle.std.proofs.lemmas.List.Concat.{flat_map-cons}
 use Rattle.byteorder.specs.Endian.{little_from, little_number}
 use Rattle.byteorder.specs.Numbers.{little_from-cons, little_from-take}
@@ -11,7 +8,7 @@ use Rattle.std.proofs.lemmas.List.{length-take-le, take-append-drop, get_or-take
 use Rattle.std.proofs.lemmas.Grind.{flat_map-append}
 use Rattle.x25_bits.specs.Fcs.{low_bits, bits_of, add, divisor}
 use Rattle.x25_bits.specs.Register.{stepped, fed}
-use Rattle.x25_bits.proofs.FcsLemmas.{fed-append, length-fed, length-low_bits}
+use Rattle.x25_bits.proofs.FcsLemmas.{fed-append, length-fed, length-low_bits, low_bits-mod}
 use Rattle.x25_bits.proofs.LinearLemmas.{Linear, given, plus, left, right, additive_bits, additive_fed, additive_behind, agree, agree_to, same, none, length-none, fed_none, fed_apart, low_bits-left, low_bits-join}
 
 abbrev taken : Linear
@@ -96,19 +93,6 @@ bits_of_little (suc c) (suc n) (x ∷ octets) l h f =
     let small : x < 2 ^ 8 = f 0 (omega arith) in
     let around : x + 256 * little_from 1 n (x ∷ octets) ≡ x + little_number n octets * 2 ^ 8 = rw moved_on (omega arith) in
     rw (eight, around, low_bits-join 8 (8 * c) x (little_number n octets) small, rest) (sym (flat_map-cons (low_bits 8) x (take c octets)))
-
-halves : (r n a : ℕ) → r ≡ a * 2 + n % 2 → (r % 2 ≡ n % 2) × (r / 2 ≡ a)
-halves r n a e = (omega arith, omega arith)
-
--- what is above the bits doesn't count
-low_bits-mod : (k n : ℕ) → low_bits k (n % 2 ^ k) ≡ low_bits k n
-unfolding low_bits
-low_bits-mod zero n = refl
-low_bits-mod (suc k) n =
-    let some : 0 < 2 ^ k = pow_pos k in
-    let apart : n % 2 ^ suc k ≡ n / 2 % 2 ^ k * 2 + n % 2 = ap (λ p. n % p) (pow-suc 2 k) ∙ mod-mul n {m = 2 ^ k} {c = 2} (omega arith) (omega arith) in
-    let parts = halves (n % 2 ^ suc k) n (n / 2 % 2 ^ k) apart in
-    rw (parts.0, parts.1, low_bits-mod k (n / 2)) refl
 
 abbrev pub ones : List Bool
 ones = low_bits 16 65535

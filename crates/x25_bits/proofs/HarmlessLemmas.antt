@@ -1,5 +1,6 @@
 -- What is found in bits between two flags, and of several such one after another.
 use Rattle.std.proofs.Common.{ℕ, suc, ◌≡◌, ◌∙◌, Bool, true, false, not, ◌&&◌, List, [], ◌∷◌, ◌++◌, length, map, drop, refl, ap, sym, arith, append_assoc, length-append}
+use Rattle.std.proofs.lemmas.Bool.{and_parts}
 use Rattle.std.specs.Prelude.{All}
 use Rattle.std.specs.List.{flat_map, list_all}
 use Rattle.std.proofs.lemmas.List.{append-nil}
@@ -55,10 +56,6 @@ no_octets Short u = refl
 no_octets Long u = refl
 no_octets Ragged u = refl
 
-both_true : (a b : Bool) → (a && b) ≡ true → (a ≡ true) × (b ≡ true)
-both_true true b h = (refl, h)
-both_true false b h = let bad : false ≡ true = h in cc
-
 all_head : {X : Type 0} (P : X → Type 0) (x : X) (xs : List X) → All P (x ∷ xs) → P x
 all_head P x xs h = h 0 x (omega arith)
 
@@ -73,7 +70,7 @@ all_when : (spans : List (List Bool)) → list_all fails (flat_map reported span
 all_when [] h = All-nil UnsealedSpan
 all_when ([] ∷ spans) h = All-cons UnsealedSpan [] spans empty_unsealed (all_when spans h)
 all_when ((b ∷ span) ∷ spans) h =
-    let parts = both_true (fails (class_of (b ∷ span))) (list_all fails (flat_map reported spans)) h in
+    let parts = and_parts (fails (class_of (b ∷ span))) (list_all fails (flat_map reported spans)) h in
     All-cons UnsealedSpan (b ∷ span) spans (unsealed_when (class_of (b ∷ span)) parts.0) (all_when spans parts.1)
 
 when_all : (spans : List (List Bool)) → All UnsealedSpan spans → list_all fails (flat_map reported spans) ≡ true

@@ -2,15 +2,14 @@
 use Rattle.std.proofs.Common.{ℕ, zero, suc, ◌+◌, ◌-◌, ◌*◌, ◌/◌, ◌%◌, ◌^◌, ◌<◌, ◌≤◌, ◌≡◌, ◌∙◌, ◌⊎◌, inl, inr, Bool, true, false, ◌==◌, nat_eq, bit_and, List, [], ◌∷◌, ◌++◌, length, take, drop, get_or, refl, ap, sym, arith, length-append, append_assoc, add-one}
 use Rattle.std.specs.Prelude.{if◌then◌else◌}
 use Rattle.std.specs.Int.{from_bool}
-use Rattle.std.proofs.lemmas.Nat.{one_shl, field_of, mod_below, pow_pos, shr-shr}
-use Rattle.std.proofs.Math.Pow.{mod-mod-pow}
+use Rattle.std.proofs.lemmas.Nat.{one_shl, mod_below, pow_pos, shr-shr}
 use Rattle.std.proofs.Math.Nat.{div-one}
 use Rattle.std.proofs.Math.Seq.{take-append-add, take-nil}
 use Rattle.std.proofs.lemmas.List.{take-append-le, get_or-append-add, take_all, length-take-le}
 use Rattle.std.proofs.lemmas.Bool.Decides.{nat_tests}
 use Rattle.std.proofs.Math.ListN.{get_or-append, set}
 use Rattle.x25_bits.specs.Fcs.{bits_of, low_bits, number_of}
-use Rattle.x25_bits.proofs.FcsLemmas.{length-low_bits, and_one}
+use Rattle.x25_bits.proofs.FcsLemmas.{length-low_bits, low_bits-mod, and_one}
 use Rattle.x25_bits.specs.SpanClass.{octets_by}
 
 low_bits-snoc : (k n : ℕ) (b : Bool) → n < 2 ^ k → low_bits (suc k) (n + (if b then 2 ^ k else 0)) ≡ low_bits k n ++ b ∷ []
@@ -25,14 +24,6 @@ low_bits-snoc (suc k) n false h =
     let same : n + 0 ≡ n = omega arith in
     let again : n / 2 + 0 ≡ n / 2 = omega arith in
     rw same (ap (λ (bits : List Bool). (n % 2 == 1) ∷ bits) (ap (low_bits (suc k)) (sym again) ∙ low_bits-snoc k (n / 2) false (omega arith)))
-
-low_bits-mod : (k n : ℕ) → low_bits k (n % 2 ^ k) ≡ low_bits k n
-unfolding low_bits
-low_bits-mod zero n = refl
-low_bits-mod (suc k) n =
-    let low : n % 2 ^ suc k % 2 ≡ n % 2 = rw (← add-one k) (mod-mod-pow n k 1) in
-    let high : n % 2 ^ suc k / 2 ≡ n / 2 % 2 ^ k = rw (← add-one k) (field_of n k 1) in
-    rw (low, high) (ap (λ (bits : List Bool). (n % 2 == 1) ∷ bits) (low_bits-mod k (n / 2)))
 
 -- a bit written behind the lowest ones
 bit_written : (k n r : ℕ) (b : Bool) → r ≡ n % 2 ^ k + (if b then 2 ^ k else 0) → low_bits (k + 1) r ≡ low_bits k n ++ b ∷ []

@@ -1,15 +1,11 @@
-use Rattle.std.proofs.Common.{ℕ, ◌+◌, ◌*◌, ◌-◌, ◌≡◌, ◌≤◌, ◌<◌, ◌∙◌, Bool, true, false, List, length, take, drop, get_or, arith, eq-eqb, le-leb, refl, sym}
-use Rattle.std.specs.Prelude.{◌&&◌, ◌==◌, nat_le, slice_index, All}
-use Rattle.std.proofs.lemmas.Bool.{eqb-true, leb-true}
+use Rattle.std.proofs.Common.{ℕ, ◌+◌, ◌*◌, ◌-◌, ◌≡◌, ◌≤◌, ◌<◌, ◌∙◌, true, List, length, take, drop, get_or, arith, eq-eqb, le-leb, refl, sym}
+use Rattle.std.specs.Prelude.{◌==◌, nat_le, slice_index, All}
+use Rattle.std.proofs.lemmas.Bool.{eqb-true, leb-true, and_parts}
 use Rattle.std.proofs.lemmas.List.{get_or-drop}
 use Rattle.x25_bits.specs.Fcs.{fcs_of}
 use Rattle.x25_bits.specs.Sealed.{IsSealed, is_sealed}
 use Rattle.x25_bits.proofs.SealLemmas.{sealed_when, number_when}
 use Rattle.x25_bits.proofs.laws.sealed_is_tested.Goals as goal
-
-both_true : (a b : Bool) → (a && b) ≡ true → (a ≡ true) × (b ≡ true)
-both_true true b h = (cc, h)
-both_true false b h = absurd (cc)
 
 -- the number of two octets
 number_is : (x y : ℕ) → x + 256 * (y + 256 * 0) ≡ x + 256 * y
@@ -20,7 +16,7 @@ unfolding is_sealed
 tested_sealed octets small h =
     let at = length octets - 2 in
     let last = drop at octets in
-    let parts = both_true (nat_le 2 (length octets)) (slice_index last 0 + 256 * slice_index last 1 == fcs_of (take at octets)) h in
+    let parts = and_parts (nat_le 2 (length octets)) (slice_index last 0 + 256 * slice_index last 1 == fcs_of (take at octets)) h in
     let long : 2 ≤ length octets = leb-true 2 (length octets) parts.0 in
     sealed_when octets long (rw get_or-drop (small (at + 0) 0 (omega arith))) (number_is (get_or last 0 0) (get_or last 1 0) ∙ eqb-true _ _ parts.1)
 
