@@ -2,8 +2,7 @@
 use Rattle.std.proofs.Common.{◌≡◌, ℕ, ◌+◌, ◌%◌, ◌<◌, ◌≤◌, List, [], ◌∷◌, length, take, drop, slice_index_or, max, Bool, true, false, refl, sym, ap, ◌∙◌, arith}
 use Rattle.std.specs.Prelude.{nat_lt}
 use Rattle.std.proofs.lemmas.List.{length-take-le, take_more, drop_more, length-drop, get_or-take}
-use Rattle.std.proofs.lemmas.Bool.{lt-ltb, le-ltb, ltb-true, ltb-false, eq-eqb}
-use Rattle.std.proofs.lemmas.Bool.Decides.{nat_tests}
+use Rattle.std.proofs.lemmas.Bool.{lt-ltb, ltb-true, ltb-false, eq-eqb}
 use Rattle.x25_window.specs.Held.{Held, Fits}
 use Rattle.x25_window.specs.Sending.{offered, moved_on}
 use Rattle.x25_frame.specs.PlainFrame.{info}
@@ -51,12 +50,6 @@ all_sent k b o fits test =
 
 pub same_fits : (k : ℕ) (b : OutgoingCode) (h : Held (List ℕ)) (o : Outgoing) → FitsBacklog k b o → Fits h (sending_of k o) → FitsBacklog k (record { sender = h; queue = b.queue }) o
 same_fits k b h o fits sender = record { sender = sender; queue = fits.queue; sent = fits.sent; few = fits.few }
-
-pub full_closed : (k : ℕ) (o : Outgoing) → o.acked + k ≤ o.place → is_open k o ≡ false
-full_closed k o full = rw (le-ltb o.place (o.acked + k) full) refl
-
-pub none_waits : (k : ℕ) (o : Outgoing) → length o.given ≤ o.place → is_open k o ≡ false
-none_waits k o none = grind (arith, nat_tests)
 
 pub empty_waits : (k : ℕ) (b : OutgoingCode) (o : Outgoing) → FitsBacklog k b o → b.queue ≡ [] → length o.given ≤ o.sent
 empty_waits k b o fits empty =

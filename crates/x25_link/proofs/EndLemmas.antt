@@ -1,7 +1,7 @@
 -- The end of a step comes to rest: nothing is left that may be sent, and no RR is owed.
 use Rattle.std.proofs.Common.{◌≡◌, ℕ, ◌+◌, ◌<◌, ◌≤◌, zero, suc, List, [], ◌∷◌, ◌⊎◌, inl, inr, length, Bool, true, false, not, if◌then◌else◌, refl, sym, ap, ◌∙◌, arith, length-append}
 use Rattle.std.specs.Prelude.{◌&&◌, nat_lt}
-use Rattle.std.proofs.lemmas.Bool.{lt-ltb, le-ltb, ltb-true, ltb-false}
+use Rattle.std.proofs.lemmas.Bool.{lt-ltb, le-ltb, ltb-true, ltb-false, not-true, and_parts, and_left, and_right}
 use Rattle.x25_link.specs.Outgoing.{Outgoing, waits, is_open, added, moved_on}
 use Rattle.x25_link.specs.Station.{Station, Side, is_up, is_busy, ready, send_next, may_send, pumped_once, pumped, owes_ready, finished, ended}
 
@@ -12,21 +12,6 @@ true_false e = absurd (never e)
   where
     never : true ≡ false → ⊥
     never e = cc
-
-pub both_true : (a b : Bool) → (a && b) ≡ true → (a ≡ true) × (b ≡ true)
-both_true true b e = (refl, e)
-both_true false b e = true_false (sym e)
-
-pub left_false : (a b : Bool) → a ≡ false → (a && b) ≡ false
-left_false a b e = rw e refl
-
-pub right_false : (a b : Bool) → b ≡ false → (a && b) ≡ false
-right_false true b e = e
-right_false false b e = refl
-
-pub is_false : (b : Bool) → not b ≡ true → b ≡ false
-is_false false e = refl
-is_false true e = true_false (sym e)
 
 -- ---- what an open window is
 
@@ -39,23 +24,23 @@ pub record Open (k : ℕ) (s : Station) : Type 0 where
 
 pub open_is : (k : ℕ) (s : Station) → may_send k s ≡ true → Open k s
 open_is k s e =
-    let a = both_true (is_up s.phase) _ e in
-    let b = both_true (not s.recovery) _ a.1 in
-    let d = both_true (not s.peer_busy) _ b.1 in
-    let f = both_true (nat_lt s.outgoing.place (s.outgoing.acked + k)) _ d.1 in
-    record { up = a.0; recovery = is_false _ b.0; peer_busy = is_false _ d.0; room = ltb-true _ _ f.0; packet = ltb-true _ _ f.1 }
+    let a = and_parts (is_up s.phase) _ e in
+    let b = and_parts (not s.recovery) _ a.1 in
+    let d = and_parts (not s.peer_busy) _ b.1 in
+    let f = and_parts (nat_lt s.outgoing.place (s.outgoing.acked + k)) _ d.1 in
+    record { up = a.0; recovery = not-true _ b.0; peer_busy = not-true _ d.0; room = ltb-true _ _ f.0; packet = ltb-true _ _ f.1 }
 
 pub closed_is : (k : ℕ) (s : Station) → is_up s.phase ≡ true → s.recovery ≡ false → s.peer_busy ≡ false → may_send k s ≡ is_open k s.outgoing
 closed_is k s up recovery peer_busy = rw (up, recovery, peer_busy) refl
 
 pub none_open : (k : ℕ) (o : Outgoing) → length o.given ≤ o.place → is_open k o ≡ false
-none_open k o none = right_false _ _ (le-ltb o.place (length o.given) none)
+none_open k o none = and_right _ _ (le-ltb o.place (length o.given) none)
 
-pub full_open : (k : ℕ) (o : Outgoing) → o.acked + k ≤ o.place → is_open k o ≡ false
-full_open k o full = left_false _ _ (le-ltb o.place (o.acked + k) full)
+pub full_closed : (k : ℕ) (o : Outgoing) → o.acked + k ≤ o.place → is_open k o ≡ false
+full_closed k o full = and_left _ _ (le-ltb o.place (o.acked + k) full)
 
 pub not_open : (k : ℕ) (s : Station) → is_open k s.outgoing ≡ false → may_send k s ≡ false
-not_open k s e = right_false (is_up s.phase) _ (right_false (not s.recovery) _ (right_false (not s.peer_busy) _ e))
+not_open k s e = and_right (is_up s.phase) _ (and_right (not s.recovery) _ (and_right (not s.peer_busy) _ e))
 
 -- ---- the sending rule comes to rest
 
@@ -77,7 +62,7 @@ pumped_or (suc n) k t = elim (pumped_or n k t) [
 pub pumped_rests : (k : ℕ) (t : Side) → k ≤ 7 → t.near.outgoing.acked ≤ t.near.outgoing.place → may_send k (pumped 7 k t).near ≡ false
 pumped_rests k t small low = elim (pumped_or 7 k t) [
   | inl settled ↦ settled
-  | inr more ↦ not_open k (pumped 7 k t).near (full_open k (pumped 7 k t).near.outgoing (omega (arith, more.0, more.1)))
+  | inr more ↦ not_open k (pumped 7 k t).near (full_closed k (pumped 7 k t).near.outgoing (omega (arith, more.0, more.1)))
 ]
 
 pub once_stays : (n k : ℕ) (t : Side) → may_send k (pumped_once k t).near ≡ false → pumped (suc n) k t ≡ pumped_once k t
@@ -102,10 +87,10 @@ finished_by k false t e = rw e refl
 
 calm_by : (b : Bool) (t : Side) → owes_ready t.near ≡ b → owes_ready (finished t).near ≡ false
 calm_by true t e =
-    let a = both_true (is_up t.near.phase) _ e in
-    let d = both_true t.near.said_busy _ a.1 in
-    let busy : is_busy t.near ≡ false = is_false _ d.1 in
-    rw (e, busy) (right_false _ _ refl)
+    let a = and_parts (is_up t.near.phase) _ e in
+    let d = and_parts t.near.said_busy _ a.1 in
+    let busy : is_busy t.near ≡ false = not-true _ d.1 in
+    rw (e, busy) (and_right _ _ refl)
 calm_by false t e = rw e e
 
 pub ended_settled : (k : ℕ) (t : Side) → k ≤ 7 → t.near.outgoing.acked ≤ t.near.outgoing.place → may_send k (ended k t).near ≡ false

@@ -94,28 +94,30 @@ rejecting c v s b fits = record {
   said_busy = fits.said_busy;
 }
 
+pub tries_fits : (c : Settings) (v : StationCode) (s : Station) (m n : ℕ) → m ≡ n → FitsStation c v s → FitsStation c (record v { tries = m }) (record s { tries = n })
+tries_fits c v s m n same fits = record {
+  role = fits.role;
+  longest = fits.longest;
+  retries = fits.retries;
+  backlog = fits.backlog;
+  taken = fits.taken;
+  phase = fits.phase;
+  tries = same;
+  recovery = fits.recovery;
+  peer_busy = fits.peer_busy;
+  rejecting = fits.rejecting;
+  said_busy = fits.said_busy;
+}
+
 -- ---- an N(R) that acknowledges some frames, or none
 
 pub risen : (c : Settings) (v : StationCode) (b : OutgoingCode) (before made : List (List ℕ)) (t : Side) (count nr : ℕ) → FitsSide c v before made t → 0 < count
     → t.near.outgoing.acked + count ≡ resolved t.near.outgoing.acked nr → FitsBacklog c.window b (acknowledged_to (t.near.outgoing.acked + count) t.near.outgoing)
     → FitsSide c (record v { backlog = b; tries = 0 }) before made (acknowledged nr t)
 risen c v b before made t count nr side some number backlog =
-    let fits = side.near in
     let test : (resolved t.near.outgoing.acked nr == t.near.outgoing.acked) ≡ false = ne_eqb _ _ (λ e. omega arith) in
     rw test (record {
-      near = record {
-        role = fits.role;
-        longest = fits.longest;
-        retries = fits.retries;
-        backlog = rw number at backlog;
-        taken = fits.taken;
-        phase = fits.phase;
-        tries = refl;
-        recovery = fits.recovery;
-        peer_busy = fits.peer_busy;
-        rejecting = fits.rejecting;
-        said_busy = fits.said_busy;
-      };
+      near = tries_fits c (record v { backlog = b }) _ 0 0 refl (with_backlog c v t.near b _ side.near (rw number at backlog));
       out = side.out;
     })
 
@@ -123,22 +125,9 @@ pub not_risen : (c : Settings) (v : StationCode) (b : OutgoingCode) (before made
     → t.near.outgoing.acked + count ≡ resolved t.near.outgoing.acked nr → FitsBacklog c.window b (acknowledged_to (t.near.outgoing.acked + count) t.near.outgoing)
     → FitsSide c (record v { backlog = b }) before made (acknowledged nr t)
 not_risen c v b before made t count nr side none number backlog =
-    let fits = side.near in
     let test : (resolved t.near.outgoing.acked nr == t.near.outgoing.acked) ≡ true = eq-eqb _ _ (omega arith) in
     rw test (record {
-      near = record {
-        role = fits.role;
-        longest = fits.longest;
-        retries = fits.retries;
-        backlog = rw number at backlog;
-        taken = fits.taken;
-        phase = fits.phase;
-        tries = fits.tries;
-        recovery = fits.recovery;
-        peer_busy = fits.peer_busy;
-        rejecting = fits.rejecting;
-        said_busy = fits.said_busy;
-      };
+      near = with_backlog c v t.near b _ side.near (rw number at backlog);
       out = side.out;
     })
 
@@ -167,24 +156,7 @@ taken_fits c v r before made t packet side taken =
 
 pub no_tries : (c : Settings) (v : StationCode) (before made : List (List ℕ)) (t : Side) → FitsSide c v before made (with_near t (with_nothing Up t.near.tries))
     → FitsSide c (record v { tries = 0 }) before made (with_near t fresh)
-no_tries c v before made t side =
-    let fits = side.near in
-    record {
-      near = record {
-        role = fits.role;
-        longest = fits.longest;
-        retries = fits.retries;
-        backlog = fits.backlog;
-        taken = fits.taken;
-        phase = fits.phase;
-        tries = refl;
-        recovery = fits.recovery;
-        peer_busy = fits.peer_busy;
-        rejecting = fits.rejecting;
-        said_busy = fits.said_busy;
-      };
-      out = side.out;
-    }
+no_tries c v before made t side = record { near = tries_fits c v _ 0 0 refl side.near; out = side.out }
 
 -- ---- what RR, RNR and REJ tell
 
@@ -232,21 +204,6 @@ phase_fits c v s phase tries fits = record {
   taken = fits.taken;
   phase = refl;
   tries = refl;
-  recovery = fits.recovery;
-  peer_busy = fits.peer_busy;
-  rejecting = fits.rejecting;
-  said_busy = fits.said_busy;
-}
-
-pub tries_fits : (c : Settings) (v : StationCode) (s : Station) → FitsStation c v s → FitsStation c (record v { tries = v.tries + 1 }) (record s { tries = s.tries + 1 })
-tries_fits c v s fits = record {
-  role = fits.role;
-  longest = fits.longest;
-  retries = fits.retries;
-  backlog = fits.backlog;
-  taken = fits.taken;
-  phase = fits.phase;
-  tries = ap (λ n. n + 1) fits.tries;
   recovery = fits.recovery;
   peer_busy = fits.peer_busy;
   rejecting = fits.rejecting;

@@ -1,5 +1,6 @@
 -- A link between its calls.
 use Rattle.std.proofs.Common.{length, arith, ◌≤◌, ◌≡◌, ℕ, ◌+◌, List, map, Bool, true, false, refl, sym, ap, ◌∙◌, subst}
+use Rattle.std.proofs.lemmas.Bool.{and_left, and_right}
 use Rattle.std.proofs.lemmas.List.{length-drop}
 use Rattle.std.specs.Prelude.{nat_lt}
 use Rattle.x25_frame.specs.Spelling.{spelling_of}
@@ -11,7 +12,7 @@ use Rattle.x25_link.specs.Fits.{FitsStation}
 use Rattle.x25_link.proofs.BacklogLemmas.{sent_length}
 use Rattle.x25_link.specs.Bounds.{FewWait, FewStand, WindowIsSmall}
 use Rattle.x25_link.specs.Link.{ShownLink, FitsLink}
-use Rattle.x25_link.proofs.EndLemmas.{left_false, right_false, ready_sends, ended_stays}
+use Rattle.x25_link.proofs.EndLemmas.{ready_sends, ended_stays}
 
 -- ---- a step after which nothing may be sent
 
@@ -26,20 +27,20 @@ closed_out c frames u settled calm out = subst (λ (w : Side). frames ≡ map (s
 -- ---- timer T1
 
 calm_by : (b : Bool) (command pf : Bool) (t : Side) → is_busy t.near ≡ b → owes_ready (ready command pf t).near ≡ false
-calm_by true command pf t e = rw e (right_false (is_up t.near.phase) _ (rw e refl))
-calm_by false command pf t e = rw e (right_false (is_up t.near.phase) _ refl)
+calm_by true command pf t e = rw e (and_right (is_up t.near.phase) _ (rw e refl))
+calm_by false command pf t e = rw e (and_right (is_up t.near.phase) _ refl)
 
 asks_settled : (k : ℕ) (p : Phase) (t : Side) → t.near.phase ≡ p → may_send k (asks_again p t).near ≡ false
-asks_settled k Down t e = left_false (is_up t.near.phase) _ (ap is_up e)
-asks_settled k Waiting t e = left_false (is_up t.near.phase) _ (ap is_up e)
-asks_settled k Up t e = ready_sends k _ true true (with_near t (record t.near { recovery = true })) refl ∙ right_false (is_up t.near.phase) _ refl
-asks_settled k Closed t e = left_false (is_up t.near.phase) _ (ap is_up e)
+asks_settled k Down t e = and_left (is_up t.near.phase) _ (ap is_up e)
+asks_settled k Waiting t e = and_left (is_up t.near.phase) _ (ap is_up e)
+asks_settled k Up t e = ready_sends k _ true true (with_near t (record t.near { recovery = true })) refl ∙ and_right (is_up t.near.phase) _ refl
+asks_settled k Closed t e = and_left (is_up t.near.phase) _ (ap is_up e)
 
 asks_calm : (p : Phase) (t : Side) → t.near.phase ≡ p → owes_ready (asks_again p t).near ≡ false
-asks_calm Down t e = left_false (is_up t.near.phase) _ (ap is_up e)
-asks_calm Waiting t e = left_false (is_up t.near.phase) _ (ap is_up e)
+asks_calm Down t e = and_left (is_up t.near.phase) _ (ap is_up e)
+asks_calm Waiting t e = and_left (is_up t.near.phase) _ (ap is_up e)
 asks_calm Up t e = calm_by _ true true (with_near t (record t.near { recovery = true })) refl
-asks_calm Closed t e = left_false (is_up t.near.phase) _ (ap is_up e)
+asks_calm Closed t e = and_left (is_up t.near.phase) _ (ap is_up e)
 
 fires_settled_by : (b : Bool) (c : Settings) (t : Side) → nat_lt t.near.tries c.retries ≡ b → may_send c.window (fires c t).side.near ≡ false
 fires_settled_by true c t e = rw e (asks_settled c.window t.near.phase (with_near t (record t.near { tries = t.near.tries + 1 })) refl)

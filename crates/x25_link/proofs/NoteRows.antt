@@ -1,8 +1,9 @@
 -- What the notes of each step say of the station after it.
 use Rattle.std.proofs.Common.{length, subst, ◌≡◌, ℕ, zero, suc, ◌+◌, ◌≤◌, List, [], ◌∷◌, ◌++◌, Bool, true, false, not, if◌then◌else◌, Option, Some, None, option_to_list, Result, Ok, Err, refl, sym, ap, ◌∙◌, arith, append-nil}
+use Rattle.std.proofs.lemmas.Option.{none-some}
 use Rattle.std.specs.Prelude.{nat_lt}
 use Rattle.std.proofs.Math.Nat.{le_trans}
-use Rattle.std.proofs.lemmas.Bool.{ltb-false}
+use Rattle.std.proofs.lemmas.Bool.{ltb-false, not-true, and_parts}
 use Rattle.x25_frame.specs.PlainFrame.{PlainFrame, info, rr, rnr, rej, sabm, disc, ua, dm, frmr}
 use Rattle.x25_frame.specs.Reading.{frame_of}
 use Rattle.x25_frame.specs.declared.error.FrameError.{FrameError}
@@ -20,13 +21,10 @@ use Rattle.x25_link.specs.Steps.{alone, closed_by, hears, puts, connects, asks_a
 use Rattle.x25_link.specs.SetUp.{reset_from}
 use Rattle.x25_link.specs.NoteLaw.{Tells, Continues, HandsUp, TakeTells, TakeContinues, TakeHandsUp, TimerTells, TimerContinues, PutTells, ConnectTells, DisconnectTells, AbandonTells}
 use Rattle.x25_link.specs.LinkLaws.{ended_lists, ended_phase}
-use Rattle.x25_link.proofs.EndLemmas.{true_false, both_true, is_false, none_open, ended_stays}
+use Rattle.x25_link.proofs.EndLemmas.{true_false, none_open, ended_stays}
 
-none_is_some : {A : Type 0} (reason : Reason) → (let r : Option Reason = None in r) ≡ Some reason → A
-none_is_some reason e = absurd (never e)
-  where
-    never : (let r : Option Reason = None in r) ≡ Some reason → ⊥
-    never e = cc
+none_is_some : {A : Type 0} (reason : Reason) → None ≡ Some reason → A
+none_is_some reason e = absurd (none-some reason e)
 
 -- ---- what the end of a step keeps
 
@@ -261,8 +259,8 @@ info_tells k ns nr p packet s true e is =
     let same : Same s (packet ∷ []) (answers k p t) = S-answers s (packet ∷ []) k p t (record { phase = refl; given = refl; taken = refl; acked = omega arith; sent = omega arith }) in
     let given = ap length same.given in
     let sent = same.sent in
-    let both = both_true _ _ is in
-    let few : waits s.outgoing ≤ 254 = ltb-false _ _ (is_false _ both.0) in
+    let both = and_parts _ _ is in
+    let few : waits s.outgoing ≤ 254 = ltb-false _ _ (not-true _ both.0) in
     rw is (record {
       tells = up_tells s (answers k p t) (Some packet) (packet ∷ []) e same;
       continues = quiet_continues s (answers k p t) (Some packet) same;

@@ -1,7 +1,7 @@
 -- Each row of the must-send table, and each call: what is heard, taken and then sent; and what is out stays out.
 use Rattle.std.proofs.Common.{◌≡◌, ℕ, ◌%◌, List, [], ◌∷◌, length, Bool, true, false, if◌then◌else◌, Some, None, Result, Ok, Err, refl, sym, ap, subst, length-append, arith, ◌+◌, ◌≤◌}
 use Rattle.std.specs.Prelude.{nat_lt}
-use Rattle.std.proofs.lemmas.Bool.{leb-true, eqb-true}
+use Rattle.std.proofs.lemmas.Bool.{leb-true, eqb-true, and_parts}
 use Rattle.x25_frame.specs.PlainFrame.{PlainFrame, info, rr, rnr, rej, sabm, disc, ua, dm, frmr}
 use Rattle.x25_frame.specs.Reading.{frame_of}
 use Rattle.x25_frame.specs.declared.error.FrameError.{FrameError}
@@ -20,7 +20,7 @@ use Rattle.x25_window.specs.Window.Step.{Hear, Take}
 use Rattle.x25_link.specs.WindowMachine.{Window, Input, hands_down, receives, nothing, rests}
 use Rattle.x25_link.specs.WindowLaw.{IsRunning, brought_by, window_of}
 use Rattle.x25_link.specs.WindowLaw.{after_input, MayHandUp, if_valid, ending_of_frame, ending_of, ends_in, AreLast, Stays, Ends, Follows, TakeFollows, PutFollows, TimerFollows, DisconnectFollows, AbandonFollows, IsOut, sets_up, StaysOut, TakeStaysOut, ClosesOut, DisconnectStaysOut}
-use Rattle.x25_link.proofs.EndLemmas.{both_true, none_open, ended_stays}
+use Rattle.x25_link.proofs.EndLemmas.{true_false, none_open, ended_stays}
 use Rattle.x25_link.proofs.WindowLemmas.{KeptAt, Kept, K-ready, K-ended, K-answers, K-passes_over, K-goes_back, K-polls}
 
 -- ---- from a row to the step
@@ -71,7 +71,7 @@ info_kept : (k ns nr : ℕ) (p : Bool) (packet : List ℕ) (s : Station) (b : Bo
 info_kept k ns nr p packet s true is running valid =
     let t = acknowledged nr (alone s) in
     let h = heard_kept k nr s running valid in
-    let both = both_true _ _ is in
+    let both = and_parts _ _ is in
     let same : ns ≡ length s.taken % 8 = eqb-true _ _ both.1 in
     let w : Window = after (heard_window k nr s) (Take 0 packet) in
     rw is (record {
@@ -146,18 +146,9 @@ read_follows c octets (Err TooLong) s running = rejects_ends c octets 4 s
 
 pub up_is : (p : Phase) → is_up p ≡ true → p ≡ Up
 up_is Up e = refl
-up_is Down e = absurd (never e)
-  where
-    never : false ≡ true → ⊥
-    never e = cc
-up_is Waiting e = absurd (never e)
-  where
-    never : false ≡ true → ⊥
-    never e = cc
-up_is Closed e = absurd (never e)
-  where
-    never : false ≡ true → ⊥
-    never e = cc
+up_is Down e = true_false (sym e)
+up_is Waiting e = true_false (sym e)
+up_is Closed e = true_false (sym e)
 
 pub take_follows : TakeFollows
 take_follows c octets s running read is =
@@ -225,18 +216,12 @@ declines_out : (frame : PlainFrame) (b : Bool) (s : Station) → IsOut s.phase
 declines_out frame true s h = record { out = h; frames = tt; packet = refl; quiet = refl }
 declines_out frame false s h = record { out = h; frames = tt; packet = refl; quiet = refl }
 
-true_is_false : {A : Type 0} → true ≡ false → A
-true_is_false e = absurd (never e)
-  where
-    never : true ≡ false → ⊥
-    never e = cc
-
 down_out : (frame : PlainFrame) (s : Station) → IsOut s.phase → sets_up (Ok frame) ≡ false → StaysOut (when_down frame (alone s))
 down_out (info ns nr p x) s h e = declines_out (info ns nr p x) _ s h
 down_out (rr command nr pf) s h e = declines_out (rr command nr pf) _ s h
 down_out (rnr command nr pf) s h e = declines_out (rnr command nr pf) _ s h
 down_out (rej command nr pf) s h e = declines_out (rej command nr pf) _ s h
-down_out (sabm p) s h e = true_is_false e
+down_out (sabm p) s h e = true_false e
 down_out (disc p) s h e = record { out = h; frames = tt; packet = refl; quiet = refl }
 down_out (ua f) s h e = declines_out (ua f) false s h
 down_out (dm f) s h e = declines_out (dm f) false s h

@@ -3,7 +3,8 @@ use Rattle.x25_frame.specs.PlainFrame.{PlainFrame, info}
 use Rattle.x25_frame.specs.Spelling.{spelling_of}
 use Rattle.x25_link.specs.Outgoing.{next_packet}
 use Rattle.x25_link.specs.Backlog.{sending_of}
-use Rattle.x25_link.proofs.BacklogLemmas.{again_is, again_fits, all_sent, same_fits, full_closed, none_waits, empty_waits, next_is, new_fits, sent_length, new_frame, next_open, below_of}
+use Rattle.x25_link.proofs.BacklogLemmas.{again_is, again_fits, all_sent, same_fits, empty_waits, next_is, new_fits, sent_length, new_frame, next_open, below_of}
+use Rattle.x25_link.proofs.EndLemmas.{none_open, full_closed}
 use Rattle.x25_link.proofs.outgoing.Outgoing.send_next.Goals as goal
 
 pub returns-then-send_again-clause-sent : goal.returns-then-send_again-clause-sent
@@ -38,7 +39,7 @@ pub returns-in_default-clause-sent : goal.returns-in_default-clause-sent
 returns-in_default-clause-sent c = λ k o fits.
     let all = all_sent k _ o fits (c.if-send_again.ensures.sent (sending_of k o) fits.sender) in
     let none = empty_waits k _ o fits (c.in_default.ensures.0) in
-    sym (none_waits k o (omega arith))
+    sym (none_open k o (omega arith))
 
 pub returns-in_default-clause-step : goal.returns-in_default-clause-step
 returns-in_default-clause-step c = λ k o fits.
