@@ -1,6 +1,7 @@
 -- The latest sessions of both ends: an end that is Up hears the other's latest, meets no other, and what it handed down in its
 -- session has arrived there where it is idle.
 use Rattle.std.proofs.Common.{◌≡◌, ◌≤◌, ℕ, List, [], ◌∷◌, ◌⊎◌, inl, inr, map, true, sym, ap, ◌∙◌, arith}
+use Rattle.std.proofs.lemmas.Bool.{and_parts}
 use Rattle.x25_bits.specs.declared.role.Role.{Role}
 use Rattle.x25_frame.specs.ReadingLaw.{ReadsSpelled}
 use Rattle.x25_link.specs.Station.{Settings, Station, is_up}
@@ -9,7 +10,7 @@ use Rattle.x25_link.specs.Steps.{is_idle}
 use Rattle.x25_line.specs.Sessions.{Entry, SessionEnd, Meeting, Sessions, turned, swapped, run}
 use Rattle.x25_line.specs.SessionClaims.{Throughout, AllOf, AllMet, SomeMet, EachHearsLatest, EachMeetsLatest, IdleHasArrived}
 use Rattle.x25_line.proofs.StationSteps.{not_both}
-use Rattle.x25_line.proofs.StationClaimLemmas.{both_true, holds_order}
+use Rattle.x25_line.proofs.StationClaimLemmas.{holds_order}
 use Rattle.x25_line.proofs.SessionLines.{AllBegun}
 use Rattle.x25_line.proofs.SessionHeld.{View, Live, Soon, Gone, IsView, IsPaired, IsBegun, Held, far_high}
 use Rattle.x25_line.proofs.SessionActs.{in_session}
@@ -55,7 +56,7 @@ meets_latest c d w h up = all_meet h.p h.q w.near.begun w.far.begun w.met (in_se
 idle_arrived : (c d : Settings) (w : Sessions) → Held c d w → is_idle w.near.station ≡ true → (is_up w.far.station.phase ≡ true) ⊎ SomeMet (λ (m : Meeting). m.near ≡ w.near.begun) w.met
     → w.far.up w.far.begun ≡ w.near.down w.near.begun
 idle_arrived c d w h idle which =
-    let i = in_session c d w h (both_true _ _ idle).0 in
+    let i = in_session c d w h (and_parts _ _ idle).0 in
     let order = holds_order ⊥ c d h.alone h.holds in
     let stands : w.far.begun ≡ h.q = elim which [
       | inl up ↦ up_session h.far_view w.far h.alone.far.station h.q h.far up

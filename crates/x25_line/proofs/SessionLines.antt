@@ -1,6 +1,7 @@
 -- The line between two stations, with the sessions of its frames: the numbers on it, how many there are of a kind, and what
 -- sending, loss and damage change of these.
 use Rattle.std.proofs.Common.{◌≡◌, ◌≤◌, ℕ, zero, suc, ◌+◌, List, [], ◌∷◌, ◌++◌, ◌⊎◌, inl, inr, map, remove, Bool, true, Option, Some, None, Result, Ok, Err, refl, sym, ap, ◌∙◌, subst, arith}
+use Rattle.std.proofs.lemmas.Option.{none-some}
 use Rattle.x25_bits.specs.declared.role.Role.{Role}
 use Rattle.x25_frame.specs.PlainFrame.{PlainFrame, info, rr, rnr, rej, sabm, disc, ua, dm, frmr}
 use Rattle.x25_frame.specs.Spelling.{spelling_of}
@@ -54,10 +55,7 @@ pub data IsKind : (Read → ℕ) → Type 0 where
   of_disc : IsKind disc_in
 
 pub none_is_some : {A : Type 0} (f : PlainFrame) → None ≡ Some f → A
-none_is_some f e = absurd (never e)
-  where
-    never : None ≡ Some f → ⊥
-    never k = cc
+none_is_some f e = absurd (none-some f e)
 
 -- a frame with a number is no SABM, no UA and no DISC
 pub number_kind : (kind : Read → ℕ) → IsKind kind → (r : Read) (g : PlainFrame) → number_in r ≡ Some g → kind r ≡ 0

@@ -1,5 +1,6 @@
 -- What an end does that is Up, over sessions: what it sends, and which sessions meet.
 use Rattle.std.proofs.Common.{◌≡◌, ◌≤◌, ℕ, List, [], ◌∷◌, ◌++◌, inl, inr, Bool, true, false, if◌then◌else◌, Option, Some, None, Ok, Err, refl, sym, ap, ◌∙◌, subst, arith}
+use Rattle.std.proofs.lemmas.Option.{none-some, same_Some}
 use Rattle.x25_frame.specs.PlainFrame.{PlainFrame, info, rr, rnr, rej, sabm, disc, ua, dm, frmr}
 use Rattle.x25_frame.specs.declared.error.FrameError.TheVariants.{Short, BadFcs, BadAddress, Undefined, NoInfoAllowed, TooLong}
 use Rattle.x25_frame.specs.ReadingLaw.{ReadsSpelled}
@@ -112,26 +113,14 @@ follows_no_packet (Some reason) k r s step none h = h.packet
 -- ---- why Up is left, by what comes
 
 pub valid_answers : (b : Bool) (far : Phase) (reason : Reason) → (let o : Option Reason = if b then None else Some FrmrSent in o) ≡ Some reason → MayAnswer reason far
-valid_answers true far reason e = absurd (never e)
-  where
-    never : None ≡ Some reason → ⊥
-    never k = cc
-valid_answers false far reason e = subst (λ (z : Reason). MayAnswer z far) (some_of e) tt
-  where
-    some_of : Some FrmrSent ≡ Some reason → FrmrSent ≡ reason
-    some_of k = cc
+valid_answers true far reason e = absurd (none-some reason e)
+valid_answers false far reason e = subst (λ (z : Reason). MayAnswer z far) (same_Some FrmrSent reason e) tt
 
 pub by_reason : (far : Phase) (known reason : Reason) → MayAnswer known far → Some known ≡ Some reason → MayAnswer reason far
-by_reason far known reason may e = subst (λ (z : Reason). MayAnswer z far) (some_of e) may
-  where
-    some_of : Some known ≡ Some reason → known ≡ reason
-    some_of k = cc
+by_reason far known reason may e = subst (λ (z : Reason). MayAnswer z far) (same_Some known reason e) may
 
 pub none_reason : {A : Type 0} (reason : Reason) → None ≡ Some reason → A
-none_reason reason e = absurd (never e)
-  where
-    never : None ≡ Some reason → ⊥
-    never k = cc
+none_reason reason e = absurd (none-some reason e)
 
 -- whoever sent DISC is Closed, and no SABM comes
 pub ending_answers : (r : Read) (v : Window) (far : Phase) → ((p : Bool) → r ≡ Ok (sabm p) → ⊥) → ((p : Bool) → r ≡ Ok (disc p) → far ≡ Closed) → (reason : Reason) → ending_of r v ≡ Some reason

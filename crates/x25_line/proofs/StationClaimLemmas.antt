@@ -1,7 +1,7 @@
 -- What holds of two stations says the claims.
 use Rattle.std.proofs.Common.{◌≡◌, ◌==◌, ℕ, ◌-◌, zero, suc, ◌≤◌, List, [], ◌∷◌, ◌++◌, inl, inr, length, take, drop, Bool, true, false, refl, sym, ap, ◌∙◌, subst, arith}
 use Rattle.std.specs.Prelude.{replicate, ◌&&◌}
-use Rattle.std.proofs.lemmas.Bool.{eqb-true}
+use Rattle.std.proofs.lemmas.Bool.{eqb-true, and_parts}
 use Rattle.std.proofs.lemmas.List.{take-append-drop, take_all}
 use Rattle.x25_frame.specs.ReadingLaw.{ReadsSpelled}
 use Rattle.x25_window.specs.Window.{End, Frame}
@@ -30,17 +30,10 @@ acked_begins a down up begins le =
     let same : take a down ≡ take a up = sym (ap (take a) begins ∙ take_of_take a (length up) down le) in
     (drop a up, ap (λ (ys : List (List ℕ)). ys ++ drop a up) same ∙ take-append-drop a up)
 
-pub both_true : (a b : Bool) → (a && b) ≡ true → (a ≡ true) × (b ≡ true)
-both_true true b e = (refl, e)
-both_true false b e = absurd (never e)
-  where
-    never : false ≡ true → ⊥
-    never e = cc
-
 idle_all : (s : Station) → is_idle s ≡ true → s.outgoing.sent ≤ length s.outgoing.given → s.outgoing.acked ≡ length s.outgoing.given
 idle_all s idle high =
-    let outer = both_true (is_up s.phase) (waits s.outgoing == 0 && s.outgoing.acked == s.outgoing.sent) idle in
-    let inner = both_true (waits s.outgoing == 0) (s.outgoing.acked == s.outgoing.sent) outer.1 in
+    let outer = and_parts (is_up s.phase) (waits s.outgoing == 0 && s.outgoing.acked == s.outgoing.sent) idle in
+    let inner = and_parts (waits s.outgoing == 0) (s.outgoing.acked == s.outgoing.sent) outer.1 in
     counts s.outgoing.acked s.outgoing.sent (length s.outgoing.given) (eqb-true (waits s.outgoing) 0 inner.0) (eqb-true s.outgoing.acked s.outgoing.sent inner.1) high
   where
     counts : (a m n : ℕ) → n - m ≡ 0 → a ≡ m → m ≤ n → a ≡ n
@@ -78,7 +71,7 @@ in_order MayAsk c giver taker e taken there back fits way is_down is_up_list =
 
     all : is_idle giver.station ≡ true → taker.up ≡ giver.down
     all idle =
-        let u = up_of MayAsk c giver.station e fits (both_true _ _ idle).0 in
+        let u = up_of MayAsk c giver.station e fits (and_parts _ _ idle).0 in
         let bounds = Way-acked e taken there back way in
         let acked = idle_all giver.station idle u.sound.sent_high in
         let acked_same = ap (λ (z : Window). z.acked) u.same in
