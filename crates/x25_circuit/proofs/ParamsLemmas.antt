@@ -1,6 +1,6 @@
 -- Packet sizes and windows that are proposed, said and answered.
 use Rattle.std.proofs.Common.{◌≡◌, ◌≤◌, ℕ, List, [], ◌∷◌, ◌++◌, Option, Some, None, Result, Ok, Err, Bool, true, false, ◌==◌, ◌&&◌, ◌||◌, nat_le, if◌then◌else◌, refl, sym, ap, ◌∙◌, arith, lit≤}
-use Rattle.std.proofs.lemmas.Bool.{le-leb, leb-true, leb-false, eqb-true, eq-eqb}
+use Rattle.std.proofs.lemmas.Bool.{le-leb, leb-true, leb-false, eqb-true, eq-eqb, and_parts, and_from, or_left, or_right}
 use Rattle.std.proofs.Math.Nat.{pow-le-pow_right}
 use Rattle.x25_packet.specs.declared.error.PacketError.{PacketError}
 use Rattle.x25_packet.specs.declared.error.PacketError.TheVariants.{BadFacility, BadParameter}
@@ -13,23 +13,9 @@ use Rattle.x25_circuit.specs.ParamsLaws.{FieldIsSaid, NoFieldIsKnown, KnownIsNoF
 
 -- ---- tests
 
-pub both_hold : (a b : Bool) → (a && b) ≡ true → (a ≡ true) × (b ≡ true)
-both_hold true b e = (refl, e)
-both_hold false b e = absurd (cc)
-
-pub hold_both : (a b : Bool) → a ≡ true → b ≡ true → (a && b) ≡ true
-hold_both a b e f = rw (e, f) refl
-
 one_holds : {A : Type 0} (a b : Bool) → (a || b) ≡ true → (a ≡ true → A) → (b ≡ true → A) → A
 one_holds true b e f g = f refl
 one_holds false b e f g = g e
-
-first_holds : (a b : Bool) → a ≡ true → (a || b) ≡ true
-first_holds a b e = rw e refl
-
-second_holds : (a b : Bool) → b ≡ true → (a || b) ≡ true
-second_holds true b e = refl
-second_holds false b e = e
 
 by_test : {A : Type 0} (P : A → Type 0) (b : Bool) (x y : A) → (b ≡ true → P x) → (b ≡ false → P y) → P (if b then x else y)
 by_test P true x y f g = f refl
@@ -38,13 +24,13 @@ by_test P false x y f g = g refl
 -- ---- bounds
 
 within_least : (least most n : ℕ) → is_within least most n ≡ true → least ≤ n
-within_least least most n e = leb-true least n (both_hold (nat_le least n) (nat_le n most) e).0
+within_least least most n e = leb-true least n (and_parts (nat_le least n) (nat_le n most) e).0
 
 within_most : (least most n : ℕ) → is_within least most n ≡ true → n ≤ most
-within_most least most n e = leb-true n most (both_hold (nat_le least n) (nat_le n most) e).1
+within_most least most n e = leb-true n most (and_parts (nat_le least n) (nat_le n most) e).1
 
 is_inside : (least most n : ℕ) → least ≤ n → n ≤ most → is_within least most n ≡ true
-is_inside least most n f g = hold_both (nat_le least n) (nat_le n most) (le-leb _ _ f) (le-leb _ _ g)
+is_inside least most n f g = and_from (nat_le least n) (nat_le n most) (le-leb _ _ f) (le-leb _ _ g)
 
 -- what may be proposed, value by value
 pub record AreInside (p : Params) : Type 0 where
@@ -55,36 +41,36 @@ pub record AreInside (p : Params) : Type 0 where
 
 pub are_inside : (p : Params) → may_propose p ≡ true → AreInside p
 are_inside p e =
-    let a = both_hold (is_within 4 12 p.size_called) (is_within 4 12 p.size_calling && (is_within 1 7 p.win_called && is_within 1 7 p.win_calling)) e in
-    let b = both_hold (is_within 4 12 p.size_calling) (is_within 1 7 p.win_called && is_within 1 7 p.win_calling) a.1 in
-    let d = both_hold (is_within 1 7 p.win_called) (is_within 1 7 p.win_calling) b.1 in
+    let a = and_parts (is_within 4 12 p.size_called) (is_within 4 12 p.size_calling && (is_within 1 7 p.win_called && is_within 1 7 p.win_calling)) e in
+    let b = and_parts (is_within 4 12 p.size_calling) (is_within 1 7 p.win_called && is_within 1 7 p.win_calling) a.1 in
+    let d = and_parts (is_within 1 7 p.win_called) (is_within 1 7 p.win_calling) b.1 in
     record { size_called = a.0; size_calling = b.0; win_called = d.0; win_calling = d.1 }
 
 pub inside_is_allowed : (p : Params) → AreInside p → may_propose p ≡ true
 inside_is_allowed p h =
-    hold_both _ _ h.size_called (hold_both _ _ h.size_calling (hold_both _ _ h.win_called h.win_calling))
+    and_from _ _ h.size_called (and_from _ _ h.size_calling (and_from _ _ h.win_called h.win_calling))
 
 -- ---- answers
 
 toward_itself : (usual n : ℕ) → is_toward usual n n ≡ true
 toward_itself usual n = toward_by (nat_le usual n) usual n refl where
   toward_by : (b : Bool) (usual n : ℕ) → nat_le usual n ≡ b → is_toward usual n n ≡ true
-  toward_by true usual n e = first_holds (is_within usual n n) (is_within n usual n) (is_inside usual n n (leb-true _ _ e) (omega arith))
-  toward_by false usual n e = second_holds (is_within usual n n) (is_within n usual n) (is_inside n usual n (omega arith) (let h = leb-false _ _ e in omega (arith, h)))
+  toward_by true usual n e = or_left (is_within usual n n) (is_within n usual n) (is_inside usual n n (leb-true _ _ e) (omega arith))
+  toward_by false usual n e = or_right (is_within usual n n) (is_within n usual n) (is_inside n usual n (omega arith) (let h = leb-false _ _ e in omega (arith, h)))
 
 toward_usual : (usual n : ℕ) → is_toward usual n usual ≡ true
 toward_usual usual n = toward_by (nat_le usual n) usual n refl where
   toward_by : (b : Bool) (usual n : ℕ) → nat_le usual n ≡ b → is_toward usual n usual ≡ true
-  toward_by true usual n e = first_holds (is_within usual n usual) (is_within n usual usual) (is_inside usual n usual (omega arith) (leb-true _ _ e))
-  toward_by false usual n e = second_holds (is_within usual n usual) (is_within n usual usual) (is_inside n usual usual (let h = leb-false _ _ e in omega (arith, h)) (omega arith))
+  toward_by true usual n e = or_left (is_within usual n usual) (is_within n usual usual) (is_inside usual n usual (omega arith) (leb-true _ _ e))
+  toward_by false usual n e = or_right (is_within usual n usual) (is_within n usual usual) (is_inside n usual usual (let h = leb-false _ _ e in omega (arith, h)) (omega arith))
 
 pub proposal_is_answer : ProposalIsAnswer
 proposal_is_answer p =
-    hold_both _ _ (toward_itself 7 p.size_called) (hold_both _ _ (toward_itself 7 p.size_calling) (hold_both _ _ (toward_itself 2 p.win_called) (toward_itself 2 p.win_calling)))
+    and_from _ _ (toward_itself 7 p.size_called) (and_from _ _ (toward_itself 7 p.size_calling) (and_from _ _ (toward_itself 2 p.win_called) (toward_itself 2 p.win_calling)))
 
 pub default_is_answer : DefaultIsAnswer
 default_is_answer p =
-    hold_both _ _ (toward_usual 7 p.size_called) (hold_both _ _ (toward_usual 7 p.size_calling) (hold_both _ _ (toward_usual 2 p.win_called) (toward_usual 2 p.win_calling)))
+    and_from _ _ (toward_usual 7 p.size_called) (and_from _ _ (toward_usual 7 p.size_calling) (and_from _ _ (toward_usual 2 p.win_called) (toward_usual 2 p.win_calling)))
 
 toward_inside : (least most usual proposed answered : ℕ) → least ≤ usual → usual ≤ most → is_within least most proposed ≡ true
     → is_toward usual proposed answered ≡ true → is_within least most answered ≡ true
@@ -100,9 +86,9 @@ toward_inside least most usual proposed answered f g inside toward =
 pub answer_is_allowed : AnswerIsAllowed
 answer_is_allowed p q allowed answers =
     let inside = are_inside p allowed in
-    let a = both_hold (is_toward 7 p.size_called q.size_called) (is_toward 7 p.size_calling q.size_calling && (is_toward 2 p.win_called q.win_called && is_toward 2 p.win_calling q.win_calling)) answers in
-    let b = both_hold (is_toward 7 p.size_calling q.size_calling) (is_toward 2 p.win_called q.win_called && is_toward 2 p.win_calling q.win_calling) a.1 in
-    let d = both_hold (is_toward 2 p.win_called q.win_called) (is_toward 2 p.win_calling q.win_calling) b.1 in
+    let a = and_parts (is_toward 7 p.size_called q.size_called) (is_toward 7 p.size_calling q.size_calling && (is_toward 2 p.win_called q.win_called && is_toward 2 p.win_calling q.win_calling)) answers in
+    let b = and_parts (is_toward 7 p.size_calling q.size_calling) (is_toward 2 p.win_called q.win_called && is_toward 2 p.win_calling q.win_calling) a.1 in
+    let d = and_parts (is_toward 2 p.win_called q.win_called) (is_toward 2 p.win_calling q.win_calling) b.1 in
     inside_is_allowed q (record {
       size_called = toward_inside 4 12 7 p.size_called q.size_called (lit≤ tt) (lit≤ tt) inside.size_called a.0;
       size_calling = toward_inside 4 12 7 p.size_calling q.size_calling (lit≤ tt) (lit≤ tt) inside.size_calling b.0;
@@ -117,11 +103,11 @@ abbrev BothWithin : ℕ → ℕ → Directions → Type 0
 BothWithin least most d = (is_within least most d.called && is_within least most d.calling) ≡ true
 
 pub both_within : (least most a b : ℕ) → is_within least most a ≡ true → is_within least most b ≡ true → BothWithin least most (record { called = a; calling = b })
-both_within least most a b e f = hold_both (is_within least most a) (is_within least most b) e f
+both_within least most a b e f = and_from (is_within least most a) (is_within least most b) e f
 
 news_by : (b : Bool) (known said : Directions) → (said.called == known.called && said.calling == known.calling) ≡ b → said_or known (if b then None else Some said) ≡ said
 news_by true known said e =
-    let h = both_hold (said.called == known.called) (said.calling == known.calling) e in
+    let h = and_parts (said.called == known.called) (said.calling == known.calling) e in
     let f = eqb-true said.called known.called h.0 in let g = eqb-true said.calling known.calling h.1 in
     rw (sym f, sym g) refl
 news_by false known said e = refl
@@ -242,8 +228,8 @@ read_is_allowed known (Ok facilities) allowed h =
     let inside = are_inside known allowed in
     let s = said_or (sizes_of known) facilities.packet_size in
     let w = said_or (windows_of known) facilities.window_size in
-    let a = both_hold (is_within 4 12 s.called) (is_within 4 12 s.calling) (or_within 4 12 (sizes_of known) facilities.packet_size (both_within 4 12 known.size_called known.size_calling inside.size_called inside.size_calling) h.0) in
-    let b = both_hold (is_within 1 7 w.called) (is_within 1 7 w.calling) (or_within 1 7 (windows_of known) facilities.window_size (both_within 1 7 known.win_called known.win_calling inside.win_called inside.win_calling) h.1) in
+    let a = and_parts (is_within 4 12 s.called) (is_within 4 12 s.calling) (or_within 4 12 (sizes_of known) facilities.packet_size (both_within 4 12 known.size_called known.size_calling inside.size_called inside.size_calling) h.0) in
+    let b = and_parts (is_within 1 7 w.called) (is_within 1 7 w.calling) (or_within 1 7 (windows_of known) facilities.window_size (both_within 1 7 known.win_called known.win_calling inside.win_called inside.win_calling) h.1) in
     inside_is_allowed (params_of s w) (record { size_called = a.0; size_calling = a.1; win_called = b.0; win_calling = b.1 })
 
 pub said_is_allowed : SaidIsAllowed

@@ -16,9 +16,6 @@ use Rattle.x25_circuit.specs.FitsCircuit.{FitsCircuit}
 use Rattle.x25_circuit.specs.Pulling.{packet_with}
 use Rattle.x25_circuit.proofs.TalkLemmas.{with_transfer}
 
-pub both_true : (a b : Bool) → a ≡ true → b ≡ true → (a && b) ≡ true
-both_true a b e f = rw (e, f) refl
-
 pub pulls_closed : (c : Settings) (x : Circuit) (s : State) → s ≢ Open → pull_in c x s ≡ pulls_nothing x
 pulls_closed c x Free h = refl
 pulls_closed c x Calling h = refl

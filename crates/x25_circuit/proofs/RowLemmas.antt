@@ -1,6 +1,6 @@
 -- The rows of the table for the states that a packet has in common.
 use Rattle.std.proofs.Common.{◌≡◌, ◌≢◌, ℕ, [], ◌∷◌, List, length, Option, Some, None, refl, sym, ap, ◌∙◌, Bool, true, false, ◌<◌, ◌≤◌, ◌++◌}
-use Rattle.std.proofs.lemmas.Bool.{le-leb, lt-ltb}
+use Rattle.std.proofs.lemmas.Bool.{le-leb, lt-ltb, and_from}
 use Rattle.x25_bits.specs.declared.role.Role.{Role}
 use Rattle.x25_bits.specs.declared.role.Role.TheVariants.{Dte, Dce}
 use Rattle.x25_packet.specs.declared.error.PacketError.{PacketError}
@@ -11,7 +11,6 @@ use Rattle.x25_circuit.specs.declared.state.State.{State}
 use Rattle.x25_circuit.specs.declared.state.State.TheVariants.{Free, Calling, Arriving, Collision, Open, Resetting, Clearing}
 use Rattle.x25_circuit.specs.declared.params.Params.{Params}
 use Rattle.x25_circuit.specs.Params.{default_params, may_propose, may_answer, field_for, said_in}
-use Rattle.x25_circuit.proofs.ParamsLemmas.{hold_both}
 use Rattle.x25_circuit.specs.Circuit.{Settings, Circuit, outgoing, waits}
 use Rattle.x25_circuit.specs.Changes.{with_rest}
 use Rattle.x25_circuit.specs.Messages.{cut}
@@ -134,7 +133,7 @@ clear_done x Clearing f g = absurd (g refl)
 
 pub calls_with : (long_data : Bool) (called calling user : List ℕ) (params : Params) → is_address_text called ≡ true → is_address_text calling ≡ true → length user ≤ longest_user long_data → may_propose params ≡ true
     → may_call long_data called calling user params ≡ true
-calls_with long_data called calling user params e f h g = rw (e, f) (hold_both _ _ (le-leb _ _ h) g)
+calls_with long_data called calling user params e f h g = rw (e, f) (and_from _ _ (le-leb _ _ h) g)
 
 pub ready_at : (x : Circuit) (s : State) (b : Bool) → s ≡ Open → ready_in x s b ≡ ready_open x x.talk b
 ready_at x s b e = ap (λ (r : State). ready_in x r b) e

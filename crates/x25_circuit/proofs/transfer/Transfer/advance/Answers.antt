@@ -3,8 +3,7 @@ use Rattle.std.proofs.lemmas.List.{length_push}
 use Rattle.x25_circuit.specs.Messages.{Piece, piece_of, cut_all}
 use Rattle.x25_circuit.specs.Queue.{waiting}
 use Rattle.x25_circuit.specs.Cutter.{first_left}
-use Rattle.std.proofs.lemmas.Bool.{lt-ltb}
-use Rattle.x25_circuit.proofs.PullLemmas.{both_true}
+use Rattle.std.proofs.lemmas.Bool.{lt-ltb, and_from}
 use Rattle.x25_circuit.proofs.MessageLemmas.{next_piece}
 use Rattle.x25_circuit.proofs.transfer.Transfer.advance.Goals as goal
 
@@ -20,7 +19,7 @@ returns-clause-some c = λ t fits.
       first = fits.rest ∙ next_piece size old (omega arith) c.in-Some.ensures.some
           ∙ ap (λ (p : Piece). p ∷ cut_all size (first_left size old)) (sym c.in-Some.ensures.packet)
           ∙ ap (λ (ps : List Piece). piece_of c.in-Some.marks.q c.in-Some.marks.m c.cut.new.self.cutter.lent ∷ ps) (ap (cut_all size) (sym c.in-Some.ensures.left));
-      allowed = both_true _ _ (sym fits.peer_ready ∙ c.if-not-self.false) (lt-ltb _ _ (omega (arith, unacked, fits.numbers.acked, fits.numbers.sent, c.if-unacked-terms.false)));
+      allowed = and_from _ _ (sym fits.peer_ready ∙ c.if-not-self.false) (lt-ltb _ _ (omega (arith, unacked, fits.numbers.acked, fits.numbers.sent, c.if-unacked-terms.false)));
       fits = record {
         numbers = rw length_push numbers;
         taken = fits.taken;
