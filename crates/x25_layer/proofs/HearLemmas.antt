@@ -1,5 +1,6 @@
 -- What octets are read as, and the channel that they name.
 use Rattle.std.proofs.Common.{◌≡◌, ◌≢◌, ℕ, ◌+◌, ◌*◌, ◌/◌, ◌%◌, ◌-◌, ◌<◌, ◌≤◌, ◌∙◌, List, [], ◌∷◌, length, Option, Some, None, Bool, true, false, Result, Ok, Err, if◌then◌else◌, slice_get, get_or, refl, sym, ap, subst, arith}
+use Rattle.std.proofs.lemmas.Option.{same_Some}
 use Rattle.x25_packet.specs.declared.error.PacketError.{PacketError}
 use Rattle.x25_packet.specs.declared.error.PacketError.TheVariants.{NoMemory}
 use Rattle.x25_packet.specs.FirstError.{FieldError, wrong_code, cut_off, out_of_range, BehindError, no_size, field_missing, in_field, user_long, CallError, no_lengths, digits_missing, wrong_digit, behind_digits, AcceptError, some_lengths, no_field, zero_size, behind_lengths, IsLengthError, IsBodyError, IsFirstError, no_header, wrong_format, no_packet, in_body}
@@ -141,13 +142,10 @@ ready_hears c l (reset_conf channel) has false = refl
 ready_hears c l (restart cause diagnostic) has b = absurd has
 ready_hears c l restart_conf has b = absurd has
 
-some_same : (a b : ℕ) → Some a ≡ Some b → a ≡ b
-some_same a b e = cc
-
 pub hears_packet : (most : ℕ) (c : LayerSettings) (l : Layer) (octets : List ℕ) (h : ℕ) (v : PlainPacket) → HasChannel v → Spells most v octets → channel_in octets ≡ Some h → packet_of most octets ≡ Ok v
     → answer_to c l octets (packet_of most octets) ≡ hears_on c l l.restarting h (Ok v)
 hears_packet most c l octets h v has spells at read =
-    let same : channel_of v ≡ h = some_same (channel_of v) h (sym (channel_named most v octets spells) ∙ at) in
+    let same : channel_of v ≡ h = same_Some (channel_of v) h (sym (channel_named most v octets spells) ∙ at) in
     ap (λ (r : Result PlainPacket PacketError). answer_to c l octets r) read ∙ ready_hears c l v has l.restarting ∙ ap (λ (k : ℕ). hears_on c l l.restarting k (Ok v)) same
 
 -- fewer than three octets are dropped

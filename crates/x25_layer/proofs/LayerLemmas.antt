@@ -1,5 +1,6 @@
 -- Each answer of a layer, each accepted call and each pull is a step of the nested handshakes, where that is no error of procedure.
 use Rattle.std.proofs.Common.{◌≡◌, inl, ℕ, zero, suc, ◌≤◌, List, [], ◌∷◌, Option, Some, None, Bool, true, false, ◌==◌, if◌then◌else◌, option_to_list, refl, sym, ap, subst, ◌∙◌, arith}
+use Rattle.std.proofs.lemmas.Option.{same_Some}
 use Rattle.std.proofs.lemmas.Bool.{eqb-true, le-leb}
 use Rattle.x25_bits.specs.declared.role.Role.{Role}
 use Rattle.x25_bits.specs.declared.role.Role.TheVariants.{Dte, Dce}
@@ -202,16 +203,13 @@ if_there c l r false good error z s h = tt
 pub is_between : (channels h : ℕ) → 1 ≤ h → h ≤ channels → is_channel channels h ≡ true
 is_between channels h low high = rw (le-leb 1 h low) (rw (le-leb h channels high) refl)
 
-some_is : (k h : ℕ) → Some k ≡ Some h → k ≡ h
-some_is k h e = cc
-
 lowest_in : (f : ℕ → Circuit) (n h : ℕ) → lowest_free f n ≡ Some h → (1 ≤ h) × (h ≤ n)
 lowest_in f zero h e = absurd (cc)
 lowest_in f (suc n) h e = step (lowest_free f n) (λ k is. lowest_in f n k is) (is_free (f (suc n))) e
   where
     step : (o : Option ℕ) → ((k : ℕ) → o ≡ Some k → (1 ≤ k) × (k ≤ n)) → (b : Bool) → first_of o b (suc n) ≡ Some h → (1 ≤ h) × (h ≤ suc n)
-    step (Some k) below b is = let r = below k refl in let same = some_is k h is in (omega (arith, r.0, same), omega (arith, r.1, same))
-    step None below true is = let same = some_is (suc n) h is in (omega (arith, same), omega (arith, same))
+    step (Some k) below b is = let r = below k refl in let same = same_Some k h is in (omega (arith, r.0, same), omega (arith, r.1, same))
+    step None below true is = let same = same_Some (suc n) h is in (omega (arith, same), omega (arith, same))
     step None below false is = absurd (cc)
 
 highest_in : (f : ℕ → Circuit) (n h : ℕ) → highest_free f n ≡ Some h → (1 ≤ h) × (h ≤ n)
@@ -219,7 +217,7 @@ highest_in f zero h e = absurd (cc)
 highest_in f (suc n) h e = step (λ is. highest_in f n h is) (is_free (f (suc n))) e
   where
     step : (highest_free f n ≡ Some h → (1 ≤ h) × (h ≤ n)) → (b : Bool) → (if b then Some (suc n) else highest_free f n) ≡ Some h → (1 ≤ h) × (h ≤ suc n)
-    step below true is = let same = some_is (suc n) h is in (omega (arith, same), omega (arith, same))
+    step below true is = let same = same_Some (suc n) h is in (omega (arith, same), omega (arith, same))
     step below false is = let r = below is in (omega (arith, r.0), omega (arith, r.1))
 
 free_in : (role : Role) (f : ℕ → Circuit) (n h : ℕ) → free_channel role f n ≡ Some h → is_channel n h ≡ true

@@ -1,5 +1,6 @@
 -- Rounds of pulls, one circuit after another.
 use Rattle.std.proofs.Common.{◌≡◌, ℕ, zero, suc, ◌+◌, ◌≤◌, List, [], ◌∷◌, ◌++◌, length, Option, Some, None, Bool, true, false, nat_lt, ◌==◌, ◌&&◌, if◌then◌else◌, set, slice_get, option_to_list, refl, sym, ap, subst, ◌∙◌, ◌⊎◌, inl, inr, arith, eq-eqb, length-append, length-set}
+use Rattle.std.proofs.lemmas.Option.{none-some}
 use Rattle.x25_link.specs.Lists.{Lists, handed_down}
 use Rattle.x25_packet.specs.PlainPacket.{PlainPacket}
 use Rattle.x25_packet.specs.Spelling.{spelling_of, moved_to}
@@ -17,7 +18,7 @@ use Rattle.x25_layer.specs.OverLink.{after_all, view_of}
 use Rattle.x25_layer.specs.Rounds.{LinkView, Putting, with_pulled, pull_one, round}
 use Rattle.x25_layer.specs.Pulling.{IsEnough, pulled_where, Stands}
 use Rattle.x25_layer.proofs.FitLemmas.{get_changed}
-use Rattle.x25_layer.proofs.SettleLemmas.{none_some, put_other, not_same}
+use Rattle.x25_layer.proofs.SettleLemmas.{put_other, not_same}
 
 -- a link after one packet more
 pub after_more : {X : Type 0} (after : X → List ℕ → X) (x : X) (put : List PlainPacket) (packet : PlainPacket) → after_all after x (put ++ packet ∷ []) ≡ after (after_all after x put) (spelling_of packet)
@@ -27,7 +28,7 @@ after_more after x (p ∷ put) packet = after_more after (after x (spelling_of p
 -- a pull that gives none leaves the circuit as it was
 
 kept_if : (b : Bool) (next : Pulled) (x : Circuit) (p : PlainPacket) → next.packet ≡ Some p → (if b then next else pulls_nothing x).packet ≡ None → (if b then next else pulls_nothing x).next ≡ x
-kept_if true next x p some none = absurd (none_some p (sym none ∙ some))
+kept_if true next x p some none = absurd (none-some p (sym none ∙ some))
 kept_if false next x p some none = refl
 
 none_kept_open : (c : Settings) (x : Circuit) (t : Talk) (rest : List Piece) → (pull_open c x t rest).packet ≡ None → (pull_open c x t rest).next ≡ x

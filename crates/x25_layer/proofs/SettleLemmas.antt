@@ -1,5 +1,6 @@
 -- Behind the rounds of a step, one round more gives nothing.
 use Rattle.std.proofs.Common.{◌≡◌, ◌⊎◌, inl, inr, ℕ, zero, suc, ◌+◌, ◌<◌, ◌≤◌, ◌%◌, List, [], ◌∷◌, ◌++◌, length, Option, Some, None, Bool, true, false, nat_lt, ◌==◌, ◌&&◌, if◌then◌else◌, refl, sym, ap, ◌∙◌, eq-eqb, arith}
+use Rattle.std.proofs.lemmas.Option.{none-some}
 use Rattle.std.proofs.lemmas.Bool.{eqb-true}
 use Rattle.x25_packet.specs.PlainPacket.{PlainPacket, restart}
 use Rattle.x25_circuit.specs.declared.state.State.{State}
@@ -13,13 +14,10 @@ use Rattle.x25_layer.specs.Calls.{Restarts, outcome_in, layer_outcome, layer_pul
 use Rattle.x25_layer.specs.Rounds.{LinkView, Putting, begin, with_pulled, pull_one, round, rounds_of, rounds, backlog, Went, Refuses, went, calls}
 use Rattle.x25_layer.specs.RoundLaw.{RoundsSettle, ComesUpAlone}
 
-pub none_some : {T : Type 0} (x : T) → None ≡ Some x → ⊥
-none_some x e = cc
-
 -- a pull that gives a packet leaves one fewer
 
 shorter_open : (c : Settings) (x : Circuit) (t : Talk) (rest : List Piece) (p : PlainPacket) → x.talk.rest ≡ rest → (pull_open c x t rest).packet ≡ Some p → suc (length (pull_open c x t rest).next.talk.rest) ≡ length x.talk.rest
-shorter_open c x t [] p same found = absurd (none_some p found)
+shorter_open c x t [] p same found = absurd (none-some p found)
 shorter_open c x t (piece ∷ rest) p same found = test (t.peer_ready && nat_lt (length t.sent) (t.acked + (outgoing x).window)) found
   where
     next : Pulled
@@ -30,19 +28,19 @@ shorter_open c x t (piece ∷ rest) p same found = test (t.peer_ready && nat_lt 
 
     test : (b : Bool) → (if b then next else pulls_nothing x).packet ≡ Some p → suc (length (if b then next else pulls_nothing x).next.talk.rest) ≡ length x.talk.rest
     test true is = let l : length x.talk.rest ≡ length (piece ∷ rest) = ap length same in omega (arith, l)
-    test false is = absurd (none_some p is)
+    test false is = absurd (none-some p is)
 
 shorter : (c : Settings) (x : Circuit) (p : PlainPacket) → (pulled c x).packet ≡ Some p → suc (length (pulled c x).next.talk.rest) ≡ length x.talk.rest
 shorter c x p found = at x.state found
   where
     at : (s : State) → (pull_in c x s).packet ≡ Some p → suc (length (pull_in c x s).next.talk.rest) ≡ length x.talk.rest
     at Open is = shorter_open c x x.talk x.talk.rest p refl is
-    at Free is = absurd (none_some p is)
-    at Calling is = absurd (none_some p is)
-    at Arriving is = absurd (none_some p is)
-    at Collision is = absurd (none_some p is)
-    at Resetting is = absurd (none_some p is)
-    at Clearing is = absurd (none_some p is)
+    at Free is = absurd (none-some p is)
+    at Calling is = absurd (none-some p is)
+    at Arriving is = absurd (none-some p is)
+    at Collision is = absurd (none-some p is)
+    at Resetting is = absurd (none-some p is)
+    at Clearing is = absurd (none-some p is)
 
 -- what is still to be sent, with another circuit on one channel
 
