@@ -1,5 +1,6 @@
 -- The entry of an accepted command stands under the name that the layer has after the whole call.
 use Rattle.std.proofs.Common.{◌≡◌, ℕ, zero, suc, ◌≤◌, nat_le, ◌&&◌, List, [], ◌∷◌, Option, Some, None, Bool, true, false, ◌==◌, if◌then◌else◌, refl, ap, sym, subst, ◌∙◌, arith}
+use Rattle.std.proofs.lemmas.Option.{none-some, same_Some}
 use Rattle.std.proofs.lemmas.Bool.{le-leb}
 use Rattle.x25_bits.specs.declared.role.Role.{Role}
 use Rattle.x25_bits.specs.declared.role.Role.TheVariants.{Dte, Dce}
@@ -103,12 +104,6 @@ asked_channel view c l h request p is = let a = accepted view c l (Asks h reques
     at false true same next packet found = same
     at false false same next packet found = absurd (declined_accepted layer_error.NoSuchChannel next packet (sym (ap (λ (x : Bool). if x then good else Declined layer_error.NoSuchChannel) same) ∙ found))
 
-some_is : (a b : ℕ) → Some a ≡ Some b → a ≡ b
-some_is a b is = cc
-
-none_some : (h : ℕ) → None ≡ Some h → ⊥
-none_some h is = cc
-
 record LiesIn (n h : ℕ) : Type 0 where
   low : 1 ≤ h
   high : h ≤ n
@@ -117,20 +112,20 @@ lies_further : (n h : ℕ) → LiesIn n h → LiesIn (suc n) h
 lies_further n h in_n = record { low = in_n.low; high = omega (arith, in_n.high) }
 
 highest_lies : (f : ℕ → Circuit) (n h : ℕ) → highest_free f n ≡ Some h → LiesIn n h
-highest_lies f zero h is = absurd (none_some h is)
+highest_lies f zero h is = absurd (none-some h is)
 highest_lies f (suc n) h is = test (is_free (f (suc n))) is (highest_lies f n h)
   where
     test : (b : Bool) → (if b then Some (suc n) else highest_free f n) ≡ Some h → (highest_free f n ≡ Some h → LiesIn n h) → LiesIn (suc n) h
-    test true same below = subst (λ (k : ℕ). LiesIn (suc n) k) (some_is (suc n) h same) (record { low = omega arith; high = omega arith })
+    test true same below = subst (λ (k : ℕ). LiesIn (suc n) k) (same_Some (suc n) h same) (record { low = omega arith; high = omega arith })
     test false same below = lies_further n h (below same)
 
 lowest_lies : (f : ℕ → Circuit) (n h : ℕ) → lowest_free f n ≡ Some h → LiesIn n h
-lowest_lies f zero h is = absurd (none_some h is)
+lowest_lies f zero h is = absurd (none-some h is)
 lowest_lies f (suc n) h is = first (lowest_free f n) refl is (lowest_lies f n h)
   where
     test : (b : Bool) → (if b then Some (suc n) else None) ≡ Some h → LiesIn (suc n) h
-    test true same = subst (λ (k : ℕ). LiesIn (suc n) k) (some_is (suc n) h same) (record { low = omega arith; high = omega arith })
-    test false same = absurd (none_some h same)
+    test true same = subst (λ (k : ℕ). LiesIn (suc n) k) (same_Some (suc n) h same) (record { low = omega arith; high = omega arith })
+    test false same = absurd (none-some h same)
 
     first : (o : Option ℕ) → lowest_free f n ≡ o → first_of o (is_free (f (suc n))) (suc n) ≡ Some h → (lowest_free f n ≡ Some h → LiesIn n h) → LiesIn (suc n) h
     first (Some k) found same below = lies_further n h (below (found ∙ same))

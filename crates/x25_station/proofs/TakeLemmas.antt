@@ -1,5 +1,6 @@
 -- What holds of a link that has taken octets: what it hands up is short, and where it came up or hands up it takes packets.
 use Rattle.std.proofs.Common.{◌≡◌, ℕ, ◌+◌, ◌<◌, ◌≤◌, List, ◌++◌, All, length, Option, Some, None, IfSome, map, Result, Ok, Err, Bool, true, false, if◌then◌else◌, refl, ap, sym, subst, ◌∙◌, arith}
+use Rattle.std.proofs.lemmas.Option.{none-some, same_Some}
 use Rattle.std.proofs.Math.Logic.{∥∥₁_elim}
 use Rattle.std.proofs.Props.{props}
 use Rattle.std.proofs.lemmas.List.{length-append, length-map}
@@ -30,12 +31,6 @@ use Rattle.x25_station.specs.Receiving.{CanPut}
 
 -- ---- what is handed up is the information of the frame
 
-none_some : (p : List ℕ) → None ≡ Some p → ⊥
-none_some p is = cc
-
-some_is : (a b : List ℕ) → Some a ≡ Some b → a ≡ b
-some_is a b is = cc
-
 record Informs (read : Result PlainFrame FrameError) (p : List ℕ) : Type 0 where
   frame : PlainFrame
   reads : read ≡ Ok frame
@@ -46,40 +41,40 @@ numbered_none : (c : LinkSettings) (octets : List ℕ) (nr : ℕ) (row : Side �
 numbered_none c octets nr row t p none is = test (is_valid nr t.near) is
   where
     test : (b : Bool) → (let k : LinkStep = if b then row (acknowledged nr t) else rejects c octets 8 t in k.packet) ≡ Some p → ⊥
-    test true same = none_some p (sym (none (acknowledged nr t)) ∙ same)
-    test false same = none_some p same
+    test true same = none-some p (sym (none (acknowledged nr t)) ∙ same)
+    test false same = none-some p same
 
 info_informs : (c : LinkSettings) (octets : List ℕ) (ns nr : ℕ) (pf : Bool) (q : List ℕ) (t : Side) (p : List ℕ) → (numbered c octets nr (hears_info c.window ns pf q) t).packet ≡ Some p → q ≡ p
 info_informs c octets ns nr pf q t p is = test (is_valid nr t.near) is
   where
     taken : (b : Bool) (u : Side)
         → (let k : LinkStep = if b then record { side = answers c.window pf (takes q u); packet = Some q; notes = record { down = None; up = false } } else quiet (passes_over pf u) in k.packet) ≡ Some p → q ≡ p
-    taken true u same = some_is q p same
-    taken false u same = absurd (none_some p same)
+    taken true u same = same_Some q p same
+    taken false u same = absurd (none-some p same)
 
     test : (b : Bool) → (let k : LinkStep = if b then hears_info c.window ns pf q (acknowledged nr t) else rejects c octets 8 t in k.packet) ≡ Some p → q ≡ p
     test true same = taken (is_taken ns (acknowledged nr t).near) (acknowledged nr t) same
-    test false same = absurd (none_some p same)
+    test false same = absurd (none-some p same)
 
 frame_informs : (c : LinkSettings) (octets : List ℕ) (v : PlainFrame) (t : Side) (p : List ℕ) → (row_of_frame c octets v t).packet ≡ Some p → Informs (Ok v) p
 frame_informs c octets (info ns nr pf q) t p is = record { frame = info ns nr pf q; reads = refl; information = info_informs c octets ns nr pf q t p is }
 frame_informs c octets (rr command nr pf) t p is = absurd (numbered_none c octets nr (λ u. quiet (polls command pf (peer_is false u))) t p (λ u. refl) is)
 frame_informs c octets (rnr command nr pf) t p is = absurd (numbered_none c octets nr (λ u. quiet (polls command pf (peer_is true u))) t p (λ u. refl) is)
 frame_informs c octets (rej command nr pf) t p is = absurd (numbered_none c octets nr (λ u. quiet (polls command pf (goes_back (peer_is false u)))) t p (λ u. refl) is)
-frame_informs c octets (sabm pf) t p is = absurd (none_some p is)
-frame_informs c octets (disc pf) t p is = absurd (none_some p is)
-frame_informs c octets (ua pf) t p is = absurd (none_some p is)
-frame_informs c octets (dm pf) t p is = absurd (none_some p is)
-frame_informs c octets (frmr pf why) t p is = absurd (none_some p is)
+frame_informs c octets (sabm pf) t p is = absurd (none-some p is)
+frame_informs c octets (disc pf) t p is = absurd (none-some p is)
+frame_informs c octets (ua pf) t p is = absurd (none-some p is)
+frame_informs c octets (dm pf) t p is = absurd (none-some p is)
+frame_informs c octets (frmr pf why) t p is = absurd (none-some p is)
 
 row_informs : (c : LinkSettings) (octets : List ℕ) (read : Result PlainFrame FrameError) (t : Side) (p : List ℕ) → (row_of c octets read t).packet ≡ Some p → Informs read p
 row_informs c octets (Ok v) t p is = frame_informs c octets v t p is
-row_informs c octets (Err Short) t p is = absurd (none_some p is)
-row_informs c octets (Err BadFcs) t p is = absurd (none_some p is)
-row_informs c octets (Err BadAddress) t p is = absurd (none_some p is)
-row_informs c octets (Err (Undefined control)) t p is = absurd (none_some p is)
-row_informs c octets (Err (NoInfoAllowed control)) t p is = absurd (none_some p is)
-row_informs c octets (Err TooLong) t p is = absurd (none_some p is)
+row_informs c octets (Err Short) t p is = absurd (none-some p is)
+row_informs c octets (Err BadFcs) t p is = absurd (none-some p is)
+row_informs c octets (Err BadAddress) t p is = absurd (none-some p is)
+row_informs c octets (Err (Undefined control)) t p is = absurd (none-some p is)
+row_informs c octets (Err (NoInfoAllowed control)) t p is = absurd (none-some p is)
+row_informs c octets (Err TooLong) t p is = absurd (none-some p is)
 
 pub handed_short : ReadsWhatIsSpelled → TakeHandsUp → (c : LinkSettings) (octets : List ℕ) (s : LinkStation) (p : List ℕ) → All (λ octet. octet < 256) octets → (take_step c octets s).packet ≡ Some p → length p ≤ length octets
 handed_short reads hands c octets s p bytes is =

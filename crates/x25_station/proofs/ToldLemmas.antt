@@ -1,5 +1,6 @@
 -- What a station tells of itself.
 use Rattle.std.proofs.Common.{◌∙◌, ◌≡◌, Bool, true, false, if◌then◌else◌, Option, Some, None, sym, ap}
+use Rattle.std.proofs.lemmas.Option.{none-some, same_Some}
 use Rattle.x25_epochs.specs.Names.{Name}
 
 -- a channel is open only where it is configured
@@ -20,14 +21,8 @@ closed_none is_open name is = sym (ap (λ (b : Bool). if b then Some name else N
 
 -- the name of a configured channel
 
-some_name : (n m : Name) → Some n ≡ Some m → n ≡ m
-some_name n m is = cc
-
 pub named : (configured : Bool) (n m : Name) → configured ≡ true → Some n ≡ (if configured then Some m else None) → n ≡ m
-named configured n m is same = some_name n m (same ∙ ap (λ (b : Bool). if b then Some m else None) is)
-
-none_name : (m : Name) → None ≡ Some m → ⊥
-none_name m is = cc
+named configured n m is same = same_Some n m (same ∙ ap (λ (b : Bool). if b then Some m else None) is)
 
 pub not_unnamed : (configured : Bool) (m : Name) → configured ≡ true → None ≡ (if configured then Some m else None) → ⊥
-not_unnamed configured m is same = none_name m (same ∙ ap (λ (b : Bool). if b then Some m else None) is)
+not_unnamed configured m is same = none-some m (same ∙ ap (λ (b : Bool). if b then Some m else None) is)
