@@ -1,5 +1,6 @@
 -- An open stretch of both ends, with nothing on the way from one: all of it has arrived.
-use Rattle.std.proofs.Common.{◌≡◌, ℕ, List, [], ◌∷◌, ◌++◌, Some, None, Bool, refl, sym, ap, subst, ◌∙◌, arith}
+use Rattle.std.proofs.Common.{◌≡◌, ℕ, List, [], ◌∷◌, ◌++◌, Some, Bool, refl, sym, ap, subst, ◌∙◌, arith}
+use Rattle.std.proofs.lemmas.Option.{same_Some, none-some}
 use Rattle.x25_circuit.specs.Messages.{Piece, More, Last, Partial, no_part, joined, joining, wholes}
 use Rattle.x25_bits.specs.declared.role.Role.{Role}
 use Rattle.x25_bits.specs.declared.role.Role.TheVariants.{Dte, Dce}
@@ -35,18 +36,12 @@ record Opened (s : Side (At Channels)) (k : ℕ) (x : Stretch) : Type 0 where
   end : s ≡ Live (ready restarts channels)
   circuit : channels k ≡ live clears (record { phase = Talking sends takes (d1 resets x); made = made; indicated = indicated })
 
-some_is : {T : Type 0} (x y : T) → Some x ≡ Some y → x ≡ y
-some_is x y e = cc
-
-none_some : {T : Type 0} (x : T) → None ≡ Some x → ⊥
-none_some x e = cc
-
 in_transfer : (at : At Stretch) (x : Stretch) → open_in at.side ≡ Some x → at ≡ d1 at.epoch x
 in_transfer at x is = ap (λ (s : Side Stretch). record { epoch = at.epoch; side = s }) (side at.side is)
   where
     side : (s : Side Stretch) → open_in s ≡ Some x → s ≡ Live x
-    side (Live y) e = ap (λ (z : Stretch). Live z) (some_is y x e)
-    side (Left y) e = absurd (none_some x e)
+    side (Live y) e = ap (λ (z : Stretch). Live z) (same_Some y x e)
+    side (Left y) e = absurd (none-some x e)
 
 record InPhase (a : Phase) (x : Stretch) : Type 0 where
   resets : ℕ
@@ -56,17 +51,17 @@ record InPhase (a : Phase) (x : Stretch) : Type 0 where
 
 in_phase : (a : Phase) (x : Stretch) → open_phase a ≡ Some x → InPhase a x
 in_phase (Talking t b at) x is = record { resets = at.epoch; sends = t; takes = b; phase = ap (λ (z : At Stretch). Talking t b z) (in_transfer at x is) }
-in_phase Unused x is = absurd (none_some x is)
-in_phase (Waiting p) x is = absurd (none_some x is)
-in_phase (Offered p) x is = absurd (none_some x is)
-in_phase (Crossed p) x is = absurd (none_some x is)
+in_phase Unused x is = absurd (none-some x is)
+in_phase (Waiting p) x is = absurd (none-some x is)
+in_phase (Offered p) x is = absurd (none-some x is)
+in_phase (Crossed p) x is = absurd (none-some x is)
 
 opened : (s : Side (At Channels)) (k : ℕ) (x : Stretch) → open_at s k ≡ Some x → Opened s k x
-opened (Left z) k x is = absurd (none_some x is)
+opened (Left z) k x is = absurd (none-some x is)
 opened (Live z) k x is = ends z.epoch z.side is
   where
     calls : (e : ℕ) (y : Channels) (c : Side Connection) → (y k).side ≡ c → open_call c ≡ Some x → Opened (Live (ready e y)) k x
-    calls e y (Left c) same is_open = absurd (none_some x is_open)
+    calls e y (Left c) same is_open = absurd (none-some x is_open)
     calls e y (Live c) same is_open =
         let phase : InPhase c.phase x = in_phase c.phase x is_open in
         record {
@@ -85,7 +80,7 @@ opened (Live z) k x is = ends z.epoch z.side is
 
     ends : (e : ℕ) (y : Side Channels) → open_channel y k ≡ Some x → Opened (Live (record { epoch = e; side = y })) k x
     ends e (Live y) is_open = calls e y (y k).side refl is_open
-    ends e (Left y) is_open = absurd (none_some x is_open)
+    ends e (Left y) is_open = absurd (none-some x is_open)
 
 -- its name
 name_opened : (s : Side (At Channels)) (k : ℕ) (x : Stretch) (o : Opened s k x) → name_at messages (state_of s) k ≡ record { restarts = o.restarts; clears = o.clears; resets = o.resets }
@@ -103,7 +98,7 @@ whole_rest : (j : Partial) (ps : List Piece) → joining j ps ≡ no_part → wh
 whole_rest j [] whole none = refl
 whole_rest j (More q user ∷ ps) whole none =
     let begun = still_begun (joined j (More q user)) ps q refl (let e : wholes ps ≡ 0 = omega (arith, none) in e) in
-    absurd (none_some begun.0 (sym (ap (λ (k : Partial). k.begun) whole) ∙ begun.1))
+    absurd (none-some begun.0 (sym (ap (λ (k : Partial). k.begun) whole) ∙ begun.1))
 whole_rest j (Last q user ∷ ps) whole none = absurd (omega (arith, none))
 
 -- where no message waits, nothing is left of one, since what was sent and what is left are whole messages

@@ -1,5 +1,7 @@
 -- Lawful books are kept, where a step lets the name and what is held under it stay or grow.
-use Rattle.std.proofs.Common.{◌≡◌, ◌⊎◌, inl, inr, ℕ, ◌<◌, List, ◌++◌, Bool, true, false, if◌then◌else◌, refl, sym, ap, subst, ◌∙◌, append_assoc}
+use Rattle.std.proofs.Common.{◌≡◌, ◌⊎◌, inl, inr, ℕ, ◌<◌, List, [], ◌++◌, false, refl, sym, ap, subst, ◌∙◌, append_assoc}
+use Rattle.std.proofs.lemmas.List.{append-nil}
+use Rattle.std.proofs.lemmas.Bool.{cond_both}
 use Rattle.x25_epochs.specs.Handshake.{At}
 use Rattle.x25_epochs.specs.Layers.{Channels}
 use Rattle.x25_epochs.specs.Names.{Name, same_name, IsEarlier}
@@ -18,10 +20,6 @@ pub data Turn {M : Type 0} (kind : Kind M) (Allowed : List M → Type 0) (k : �
       → Change Allowed (name_at kind x k).clears (name_at kind x k).resets (held_at kind x k) (name_at kind y k).clears (name_at kind y k).resets (held_at kind y k) → Turn kind Allowed k x y
   Restarted : x.epoch < y.epoch → held_at kind y k ≡ none → Turn kind Allowed k x y
 
-by_test : {A : Type 0} (P : A → Type 0) (b : Bool) (u v : A) → (b ≡ true → P u) → (b ≡ false → P v) → P (if b then u else v)
-by_test P true u v f g = f refl
-by_test P false u v f g = g refl
-
 written_here : {M : Type 0} (book : Name → Lists M) (n : Name) (l : Lists M) → written book n l n ≡ l
 written_here book n l = rw (same_name-refl n) refl
 
@@ -39,13 +37,16 @@ rewritten_kept {M} e f n l k later up down = record {
   held_there = k.held_there;
   later = λ m less. written_other e.book n l m (earlier-differs n m less) ∙ k.later m (later m less);
   later_there = k.later_there;
-  begins = λ m. by_test (λ (x : Lists M). Begins x.up (f.book m).down) (same_name m n) l (e.book m)
+  begins = λ m. cond_both (same_name m n) l (e.book m) (λ (x : Lists M). Begins x.up (f.book m).down)
       (λ is. subst (λ (j : Name). Begins l.up (f.book j).down) (sym (same_name-is m n is)) up)
       (λ is. k.begins m);
-  begins_there = λ m. by_test (λ (x : Lists M). Begins (f.book m).up x.down) (same_name m n) l (e.book m)
+  begins_there = λ m. cond_both (same_name m n) l (e.book m) (λ (x : Lists M). Begins (f.book m).up x.down)
       (λ is. subst (λ (j : Name). Begins (f.book j).up l.down) (sym (same_name-is m n is)) down)
       (λ is. k.begins_there m);
 }
+
+pub alike : {T : Type 0} (l : List T) → Begins l l
+alike l = ([], append-nil l)
 
 Begins-trans : {T : Type 0} (a b c : List T) → Begins a b → Begins b c → Begins a c
 Begins-trans a b c h g = (h.0 ++ g.0, sym (append_assoc a h.0 g.0) ∙ ap (λ l. l ++ g.0) h.1 ∙ g.1)

@@ -1,5 +1,7 @@
 -- Calls: what is indicated at an end, the other end made.
 use Rattle.std.proofs.Common.{◌≡◌, ◌⊎◌, inl, inr, ℕ, List, [], ◌∷◌, ◌++◌, Option, Some, None, refl, sym, subst, ◌∙◌}
+use Rattle.std.proofs.lemmas.List.{append-nil}
+use Rattle.std.proofs.lemmas.Bool.{cond_both}
 use Rattle.x25_bits.specs.declared.role.Role.{Role}
 use Rattle.x25_bits.specs.declared.role.Role.TheVariants.{Dte, Dce}
 use Rattle.x25_circuit.specs.declared.params.Params.{Params}
@@ -12,16 +14,14 @@ use Rattle.x25_epochs.specs.Books.{calls, Begins}
 use Rattle.x25_epochs.proofs.CallsRelation.{Joint, ConnectionsRelated, GoodDte, GoodDce}
 use Rattle.x25_epochs.proofs.ChannelRelation.{clear_mark, Seen}
 use Rattle.x25_epochs.proofs.CallLemmas.{GoodDte-takes, GoodDce-takes}
-use Rattle.x25_epochs.proofs.LineLemmas.{append_nil}
-use Rattle.x25_epochs.proofs.TextLemmas.{by_if}
-use Rattle.x25_epochs.proofs.BookLemmas.{Stays}
+use Rattle.x25_epochs.proofs.BookLemmas.{Stays, alike}
 use Rattle.x25_epochs.proofs.TurnLemmas.{MayIndicate, WithinCall, IsHandled}
 
 empty_begins : (i m : List CallRequest) → i ≡ [] → Begins i m
 empty_begins i m is = subst (λ (l : List CallRequest). Begins l m) (sym is) (m, refl)
 
 same_begins : (i m : List CallRequest) → i ≡ m → Begins i m
-same_begins i m is = ([], append_nil i ∙ is)
+same_begins i m is = ([], append-nil i ∙ is)
 
 -- in every phase of a call
 joint_begins : (a b : Phase) (ma ia mb ib : List CallRequest) (u v : List Packet) → Joint a b ma ia mb ib u v → Begins ia mb × Begins ib ma
@@ -60,7 +60,7 @@ indicated_begins Dce c u p v y h =
 
 -- a packet makes no call
 answered_made : (a : Phase) (mine : Params) (m i : List CallRequest) (q : Params) → (is_answered a mine m i q).next.made ≡ m
-answered_made a mine m i q = by_if (λ (s : CallStep). s.next.made ≡ m) (may_answer mine q) (goes (calling_talk q) m i []) (unexpected a m i) (λ _. refl) (λ _. refl)
+answered_made a mine m i q = cond_both (may_answer mine q) (goes (calling_talk q) m i []) (unexpected a m i) (λ (s : CallStep). s.next.made ≡ m) (λ _. refl) (λ _. refl)
 
 takes_made : (r : Role) (a : Phase) (m i : List CallRequest) (p : Packet) → (phase_takes r a m i p).next.made ≡ m
 takes_made r Unused m i (Call n) = refl
@@ -77,10 +77,7 @@ takes_made r (Talking t b x) m i p = refl
 call_taken : (r : Role) (e : ℕ) (c : Connection) (u : List Packet) (p : Packet) (v : List Packet) (y : Connection) → clear_mark p ≡ Inner → Seen r c u (p ∷ v) y
     → WithinCall calls (MayIndicate calls c y) e c (call_takes r c p).next
 call_taken r e c u p v y inner h =
-    Stays refl refl ([], append_nil c.made ∙ sym (takes_made r c.phase c.made c.indicated p)) (inr (refl, indicated_begins r c u p v y h))
-
-alike : (l : List CallRequest) → Begins l l
-alike l = ([], append_nil l)
+    Stays refl refl ([], append-nil c.made ∙ sym (takes_made r c.phase c.made c.indicated p)) (inr (refl, indicated_begins r c u p v y h))
 
 abbrev Acted : List CallRequest → List CallRequest → CallStep → Type 0
 Acted m i s = Begins m s.next.made × (s.next.indicated ≡ i)
@@ -88,11 +85,11 @@ Acted m i s = Begins m s.next.made × (s.next.indicated ≡ i)
 accepted : (theirs : Params) (m i : List CallRequest) (answer : Option Params) → Acted m i (accepts theirs m i answer)
 accepted theirs m i None = (alike m, refl)
 accepted theirs m i (Some q) =
-    by_if (λ (s : CallStep). Acted m i s) (may_answer theirs q) (goes (called_talk q) m i (Accept (field_for theirs q) ∷ [])) (goes (Offered theirs) m i []) (λ _. (alike m, refl)) (λ _. (alike m, refl))
+    cond_both (may_answer theirs q) (goes (called_talk q) m i (Accept (field_for theirs q) ∷ [])) (goes (Offered theirs) m i []) (λ (s : CallStep). Acted m i s) (λ _. (alike m, refl)) (λ _. (alike m, refl))
 
 acted : (a : Phase) (m i : List CallRequest) (act : CallAct) → Acted m i (phase_acts a m i act)
 acted Unused m i (PlacesCall n) =
-    by_if (λ (s : CallStep). Acted m i s) (may_propose n.params) (goes (Waiting n.params) (m ++ n ∷ []) i (Call n ∷ [])) (goes Unused m i [])
+    cond_both (may_propose n.params) (goes (Waiting n.params) (m ++ n ∷ []) i (Call n ∷ [])) (goes Unused m i []) (λ (s : CallStep). Acted m i s)
     (λ _. ((n ∷ [], refl), refl)) (λ _. (alike m, refl))
 acted Unused m i other = (alike m, refl)
 acted (Waiting mine) m i act = (alike m, refl)

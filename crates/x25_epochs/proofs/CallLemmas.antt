@@ -1,5 +1,7 @@
 -- Calls keep their relation, and have no procedure error.
 use Rattle.std.proofs.Common.{◌≡◌, inl, inr, ℕ, List, [], ◌∷◌, ◌++◌, Option, Some, None, Bool, true, if◌then◌else◌, refl, sym, ap, subst, ◌∙◌}
+use Rattle.std.proofs.lemmas.List.{append-nil}
+use Rattle.std.proofs.lemmas.Bool.{cond_both}
 use Rattle.x25_bits.specs.declared.role.Role.TheVariants.{Dte, Dce}
 use Rattle.x25_circuit.specs.declared.params.Params.{Params}
 use Rattle.x25_circuit.specs.Params.{Terms, may_propose, may_answer, field_for, said_in, called_terms, calling_terms}
@@ -11,8 +13,6 @@ use Rattle.x25_epochs.specs.Calls.{Phase, Unused, Waiting, Offered, Crossed, Tal
 use Rattle.x25_epochs.proofs.TermsLemmas.{Laws, IsSound, AreSound, answer_sound, answer_read}
 use Rattle.x25_epochs.proofs.TransferRelation.{TransfersRelated, GoodTransfer}
 use Rattle.x25_epochs.proofs.CallsRelation.{TalksRelated, GoodTalk, Nil, OneCall, MaybeCall, Proposes, IsProposal, IsAnswer, Accepted, CallAccepted, Joint, ConnectionsRelated, GoodDte, GoodDce, IsCalled}
-use Rattle.x25_epochs.proofs.LineLemmas.{append_nil}
-use Rattle.x25_epochs.proofs.TextLemmas.{by_if}
 use Rattle.x25_epochs.proofs.TransferLemmas.{TransfersRelated-flip, TransfersRelated-fresh, GoodTransfer-acts, GoodTransfer-takes}
 
 -- two ends in p4
@@ -93,10 +93,10 @@ push_first : (l : List CallRequest) (n : CallRequest) (m : List CallRequest) →
 push_first l n m none one = ap (λ k. k ++ n ∷ []) none ∙ sym one
 
 GoodDte-still : (x : Connection) (u v : List Packet) (b : Connection) → ConnectionsRelated x u v b → GoodDte (record { next = x; out = []; error = None }) u v b
-GoodDte-still x u v b h = record { quiet = refl; kept = subst (λ (w : List Packet). ConnectionsRelated x w v b) (sym (append_nil u)) h }
+GoodDte-still x u v b h = record { quiet = refl; kept = subst (λ (w : List Packet). ConnectionsRelated x w v b) (sym (append-nil u)) h }
 
 GoodDce-still : (a : Connection) (u v : List Packet) (x : Connection) → ConnectionsRelated a u v x → GoodDce a u v (record { next = x; out = []; error = None })
-GoodDce-still a u v x h = record { quiet = refl; kept = subst (λ (w : List Packet). ConnectionsRelated a u w x) (sym (append_nil v)) h }
+GoodDce-still a u v x h = record { quiet = refl; kept = subst (λ (w : List Packet). ConnectionsRelated a u w x) (sym (append-nil v)) h }
 
 -- the DTE takes an ACCEPT
 GoodDte-answered : (a : Phase) (p : Params) (field : List ℕ) (ma ia mb ib : List CallRequest) (u v : List Packet) (t b : Terms) (y : At Stretch) → IsAnswer p field t b → Nil u
@@ -276,8 +276,7 @@ GoodDte-accepts : Laws → (q theirs : Params) (answer : Option Params) (ma ia m
     → GoodDte (accepts theirs ma ia answer) u v (record { phase = Waiting q; made = mb; indicated = ib })
 GoodDte-accepts laws q theirs None ma ia mb ib u v h = GoodDte-accepted q theirs theirs [] ma ia mb ib u v (as_proposed laws q theirs h.4) h
 GoodDte-accepts laws q theirs (Some answer) ma ia mb ib u v h =
-    by_if (λ (s : CallStep). GoodDte s u v (record { phase = Waiting q; made = mb; indicated = ib })) (may_answer theirs answer)
-    (goes (called_talk answer) ma ia (Accept (field_for theirs answer) ∷ [])) (goes (Offered theirs) ma ia [])
+    cond_both (may_answer theirs answer) (goes (called_talk answer) ma ia (Accept (field_for theirs answer) ∷ [])) (goes (Offered theirs) ma ia []) (λ (s : CallStep). GoodDte s u v (record { phase = Waiting q; made = mb; indicated = ib }))
     (λ may. GoodDte-accepted q theirs answer (field_for theirs answer) ma ia mb ib u v (as_answered laws q theirs answer h.4 may) h)
     (λ _. GoodDte-still (record { phase = Offered theirs; made = ma; indicated = ia }) u v (record { phase = Waiting q; made = mb; indicated = ib }) (record { joint = h }))
 
@@ -287,8 +286,7 @@ GoodDte-places : (b : Phase) (n : CallRequest) (ma ia mb ib : List CallRequest) 
     → (may_propose n.params ≡ true → Joint (Waiting n.params) b (ma ++ n ∷ []) ia mb ib (u ++ Call n ∷ []) v)
     → GoodDte (phase_acts Unused ma ia (PlacesCall n)) u v (record { phase = b; made = mb; indicated = ib })
 GoodDte-places b n ma ia mb ib u v h placed =
-    by_if (λ (s : CallStep). GoodDte s u v (record { phase = b; made = mb; indicated = ib })) (may_propose n.params)
-    (goes (Waiting n.params) (ma ++ n ∷ []) ia (Call n ∷ [])) (goes Unused ma ia [])
+    cond_both (may_propose n.params) (goes (Waiting n.params) (ma ++ n ∷ []) ia (Call n ∷ [])) (goes Unused ma ia []) (λ (s : CallStep). GoodDte s u v (record { phase = b; made = mb; indicated = ib }))
     (λ may. record { quiet = refl; kept = record { joint = placed may } })
     (λ _. GoodDte-still (record { phase = Unused; made = ma; indicated = ia }) u v (record { phase = b; made = mb; indicated = ib }) (record { joint = h }))
 
@@ -349,8 +347,7 @@ GoodDce-accepts : Laws → (a : Phase) (mine theirs : Params) (answer : Option P
 GoodDce-accepts laws a mine theirs None ma ia mb ib u v is h joint =
     GoodDce-accepted a mine theirs [] ma ia mb ib u v (as_proposed laws mine theirs is) (joint theirs [])
 GoodDce-accepts laws a mine theirs (Some answer) ma ia mb ib u v is h joint =
-    by_if (λ (s : CallStep). GoodDce (record { phase = a; made = ma; indicated = ia }) u v s) (may_answer theirs answer)
-    (goes (called_talk answer) mb ib (Accept (field_for theirs answer) ∷ [])) (goes (Offered theirs) mb ib [])
+    cond_both (may_answer theirs answer) (goes (called_talk answer) mb ib (Accept (field_for theirs answer) ∷ [])) (goes (Offered theirs) mb ib []) (λ (s : CallStep). GoodDce (record { phase = a; made = ma; indicated = ia }) u v s)
     (λ may. GoodDce-accepted a mine answer (field_for theirs answer) ma ia mb ib u v (as_answered laws mine theirs answer is may) (joint answer (field_for theirs answer)))
     (λ _. GoodDce-still (record { phase = a; made = ma; indicated = ia }) u v (record { phase = Offered theirs; made = mb; indicated = ib }) (record { joint = h }))
 
@@ -360,8 +357,7 @@ GoodDce-places : (a : Phase) (n : CallRequest) (ma ia mb ib : List CallRequest) 
     → (may_propose n.params ≡ true → Joint a (Waiting n.params) ma ia (mb ++ n ∷ []) ib u (v ++ Call n ∷ []))
     → GoodDce (record { phase = a; made = ma; indicated = ia }) u v (phase_acts Unused mb ib (PlacesCall n))
 GoodDce-places a n ma ia mb ib u v h placed =
-    by_if (λ (s : CallStep). GoodDce (record { phase = a; made = ma; indicated = ia }) u v s) (may_propose n.params)
-    (goes (Waiting n.params) (mb ++ n ∷ []) ib (Call n ∷ [])) (goes Unused mb ib [])
+    cond_both (may_propose n.params) (goes (Waiting n.params) (mb ++ n ∷ []) ib (Call n ∷ [])) (goes Unused mb ib []) (λ (s : CallStep). GoodDce (record { phase = a; made = ma; indicated = ia }) u v s)
     (λ may. record { quiet = refl; kept = record { joint = placed may } })
     (λ _. GoodDce-still (record { phase = a; made = ma; indicated = ia }) u v (record { phase = Unused; made = mb; indicated = ib }) (record { joint = h }))
 

@@ -1,5 +1,7 @@
 -- A channel keeps its relation, and no CLEAR comes in p1.
 use Rattle.std.proofs.Common.{◌≡◌, ℕ, suc, ◌+◌, ◌%◌, List, [], ◌∷◌, ◌++◌, length, Option, Some, None, Bool, true, false, nat_lt, nat_le, if◌then◌else◌, refl, sym, subst, ◌∙◌}
+use Rattle.std.proofs.lemmas.List.{append-nil}
+use Rattle.std.proofs.lemmas.Bool.{cond_both}
 use Rattle.x25_epochs.specs.Handshake.{Inner, Side, Live, Left, At}
 use Rattle.x25_circuit.specs.Messages.{Piece, cut, wholes}
 use Rattle.x25_bits.specs.declared.role.Role.{Role}
@@ -16,8 +18,6 @@ use Rattle.x25_epochs.proofs.HandshakeRelation.{AllInner}
 use Rattle.x25_epochs.proofs.HandshakeLemmas.{request_live, confirm_never, leave, inner_act, inner_take, drops, marker_left, hand_flip, both_fresh, inner_live, live_front, hand_map, request_gone}
 use Rattle.x25_epochs.proofs.CallsRelation.{GoodDte, GoodDce, IsCalled}
 use Rattle.x25_epochs.proofs.ChannelRelation.{clear_mark, other_role, Seen, connection_level, ChannelRelated, GoodChannel}
-use Rattle.x25_epochs.proofs.LineLemmas.{append_nil}
-use Rattle.x25_epochs.proofs.TextLemmas.{by_if}
 use Rattle.x25_epochs.proofs.CallLemmas.{GoodDte-takes, GoodDce-takes, GoodDte-acts, GoodDce-acts, ConnectionsRelated-fresh, free_a, free_b}
 
 abbrev Quiet : List Packet → Type 0
@@ -84,7 +84,7 @@ side_inner size e (Live x) p = d1_inner size e x p
 side_inner size e (Left x) p = rst_inner e x p
 
 answered_inner : (a : Phase) (mine : Params) (m i : List CallRequest) (q : Params) → Quiet (is_answered a mine m i q).out
-answered_inner a mine m i q = by_if (λ (s : CallStep). Quiet s.out) (may_answer mine q) (goes (calling_talk q) m i []) (unexpected a m i) (λ _. tt) (λ _. tt)
+answered_inner a mine m i q = cond_both (may_answer mine q) (goes (calling_talk q) m i []) (unexpected a m i) (λ (s : CallStep). Quiet s.out) (λ _. tt) (λ _. tt)
 
 takes_phase_inner : (r : Role) (a : Phase) (m i : List CallRequest) (p : Packet) → Quiet (phase_takes r a m i p).out
 takes_phase_inner r Unused m i (Call n) = tt
@@ -109,11 +109,11 @@ acts_side_inner t e (Left x) a = tt
 accepts_inner : (theirs : Params) (m i : List CallRequest) (answer : Option Params) → Quiet (accepts theirs m i answer).out
 accepts_inner theirs m i None = (refl, tt)
 accepts_inner theirs m i (Some q) =
-    by_if (λ (s : CallStep). Quiet s.out) (may_answer theirs q) (goes (called_talk q) m i (Accept (field_for theirs q) ∷ [])) (goes (Offered theirs) m i []) (λ _. (refl, tt)) (λ _. tt)
+    cond_both (may_answer theirs q) (goes (called_talk q) m i (Accept (field_for theirs q) ∷ [])) (goes (Offered theirs) m i []) (λ (s : CallStep). Quiet s.out) (λ _. (refl, tt)) (λ _. tt)
 
 acts_phase_inner : (p : Phase) (m i : List CallRequest) (a : CallAct) → Quiet (phase_acts p m i a).out
 acts_phase_inner Unused m i (PlacesCall n) =
-    by_if (λ (s : CallStep). Quiet s.out) (may_propose n.params) (goes (Waiting n.params) (m ++ n ∷ []) i (Call n ∷ [])) (goes Unused m i []) (λ _. (refl, tt)) (λ _. tt)
+    cond_both (may_propose n.params) (goes (Waiting n.params) (m ++ n ∷ []) i (Call n ∷ [])) (goes Unused m i []) (λ (s : CallStep). Quiet s.out) (λ _. (refl, tt)) (λ _. tt)
 acts_phase_inner Unused m i other = tt
 acts_phase_inner (Waiting mine) m i a = tt
 acts_phase_inner (Offered theirs) m i (AcceptsCall answer) = accepts_inner theirs m i answer
@@ -162,7 +162,7 @@ pub ChannelRelated-fresh : (r : Role) → ChannelRelated r fresh_channel [] [] f
 ChannelRelated-fresh r = record { hand = both_fresh (connection_level r) (Seen-fresh r) 0 }
 
 GoodChannel-still : (r : Role) (x : At Connection) (L K : List Packet) (y : At Connection) → ChannelRelated r x L K y → GoodChannel r (record { next = x; out = []; error = None }) L K y
-GoodChannel-still r x L K y h = record { quiet = refl; kept = subst (λ (u : List Packet). ChannelRelated r x u K y) (sym (append_nil L)) h }
+GoodChannel-still r x L K y h = record { quiet = refl; kept = subst (λ (u : List Packet). ChannelRelated r x u K y) (sym (append-nil L)) h }
 
 GoodChannel-lifted : (r : Role) (e : ℕ) (s : CallStep) (L K : List Packet) (y : At Connection) → s.error ≡ None → ChannelRelated r (live e s.next) (L ++ s.out) K y → GoodChannel r (lifted_call e s s.error) L K y
 GoodChannel-lifted r e s L K y quiet h = subst (λ (n : Option ℕ). GoodChannel r (lifted_call e s n) L K y) (sym quiet) (record { quiet = refl; kept = h })

@@ -1,10 +1,8 @@
 -- Each event of a handshake keeps its relation.
 use Rattle.std.proofs.Common.{◌≡◌, inl, inr, ℕ, suc, List, [], ◌∷◌, ◌++◌, Bool, true, false, refl, sym, ap, subst}
+use Rattle.std.proofs.lemmas.Bool.{true≢false}
 use Rattle.x25_epochs.specs.Handshake.{Mark, Inner, Request, Confirm, Side, Live, Left, has_left, state_of}
 use Rattle.x25_epochs.proofs.HandshakeRelation.{kept_before, before, kept_past, past, ends_at, Ends, behind_at, Behind, Extended, Level, Handshake, AllInner}
-
-pub true≢false : true ≡ false → ⊥
-true≢false e = subst (λ (b : Bool). elim b as (λ _. Type 0) [ true ↦ Unit {0} | false ↦ ⊥ ]) e tt
 
 -- behind the last marker of a line whose sender is in its epoch
 inner_ends : {P : Type 0} (mark : P → Mark) (o : List P) → AllInner mark o → Ends mark false o

@@ -1,6 +1,7 @@
 -- Two layers keep their relation, and no run has a procedure error.
 use Rattle.std.proofs.Common.{◌≡◌, ℕ, suc, List, [], ◌∷◌, ◌++◌, Option, None, Bool, true, false, if◌then◌else◌, refl, sym, ap, subst, ◌∙◌, ◌==◌, eq-eqb}
 use Rattle.std.proofs.lemmas.Bool.{eqb-true}
+use Rattle.std.proofs.lemmas.List.{append-nil}
 use Rattle.x25_epochs.specs.Handshake.{Side, Live, Left, At}
 use Rattle.x25_bits.specs.declared.role.Role.{Role}
 use Rattle.x25_bits.specs.declared.role.Role.TheVariants.{Dte, Dce}
@@ -12,7 +13,6 @@ use Rattle.x25_epochs.proofs.HandshakeRelation.{AllInner}
 use Rattle.x25_epochs.proofs.HandshakeLemmas.{request_live, confirm_never, ext_act, ext_take, leave, inner_act, inner_take, drops, marker_left, hand_flip, both_requests, inner_live, live_front, hand_map}
 use Rattle.x25_epochs.proofs.ChannelRelation.{other_role, ChannelRelated, GoodChannel}
 use Rattle.x25_epochs.proofs.LayersRelation.{kept_on, on, ChannelsRelated, restart_mark, channels_level, LayersRelated, GoodLayer, EndsRelated}
-use Rattle.x25_epochs.proofs.LineLemmas.{append_nil}
 use Rattle.x25_epochs.proofs.ChannelLemmas.{ChannelRelated-flip, ChannelRelated-fresh, GoodChannel-takes, GoodChannel-acts}
 
 on-append : (h : ℕ) (L o : List LayerPacket) → on h (L ++ o) ≡ on h L ++ on h o
@@ -49,7 +49,7 @@ ChannelsRelated-put r x L K M y h s all others here = record { each = λ k. at k
         (subst (λ (l : List Packet). ChannelRelated r s.next l (on h K) (y h)) (sym (on-append h L (addressed h s.out) ∙ ap (λ l. on h L ++ l) (on-same h s.out))) here))
     at k false is =
         subst (λ (a : Bool). ChannelRelated r (if a then s.next else x k) (on k (L ++ addressed h s.out)) (on k K) (y k)) (sym is)
-        (subst (λ (l : List Packet). ChannelRelated r (x k) l (on k K) (y k)) (sym (on-append k L (addressed h s.out) ∙ ap (λ l. on k L ++ l) (on-other k h s.out is) ∙ append_nil (on k L)))
+        (subst (λ (l : List Packet). ChannelRelated r (x k) l (on k K) (y k)) (sym (on-append k L (addressed h s.out) ∙ ap (λ l. on k L ++ l) (on-other k h s.out is) ∙ append-nil (on k L)))
         (subst (λ (l : List Packet). ChannelRelated r (x k) (on k L) l (y k)) (others k is) (all.each k)))
 
 pub on-front : (h : ℕ) (p : Packet) (K : List LayerPacket) → on h (On h p ∷ K) ≡ p ∷ on h K
@@ -85,7 +85,7 @@ LayersRelated-flip r x L K y h = record {
 }
 
 GoodLayer-still : (r : Role) (x : At Channels) (L K : List LayerPacket) (y : At Channels) → LayersRelated r x L K y → GoodLayer r (record { next = x; out = []; error = None }) L K y
-GoodLayer-still r x L K y h = record { quiet = refl; kept = subst (λ (u : List LayerPacket). LayersRelated r x u K y) (sym (append_nil L)) h }
+GoodLayer-still r x L K y h = record { quiet = refl; kept = subst (λ (u : List LayerPacket). LayersRelated r x u K y) (sym (append-nil L)) h }
 
 GoodLayer-side_takes : (r : Role) (e : ℕ) (x : Side Channels) (L : List LayerPacket) (p : LayerPacket) (K : List LayerPacket) (y : At Channels)
     → LayersRelated r (record { epoch = e; side = x }) L (p ∷ K) y → GoodLayer r (layer_side_takes r e x p) L K y

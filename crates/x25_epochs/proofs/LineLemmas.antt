@@ -1,12 +1,9 @@
 -- One more packet at the back of a line.
 use Rattle.std.proofs.Common.{◌≡◌, ℕ, ◌+◌, ◌%◌, ◌<◌, ◌≤◌, List, [], ◌∷◌, ◌++◌, length, Option, Some, None, refl, sym, ap, subst, ◌∙◌, arith, append_assoc, length-append}
-use Rattle.std.proofs.lemmas.Grind.{common_steps}
+use Rattle.std.proofs.lemmas.List.{append-nil}
 use Rattle.x25_window.specs.Modulo.{resolved}
 use Rattle.x25_epochs.specs.Stretch.{Packet}
 use Rattle.x25_epochs.proofs.StretchRelation.{Numbering, numbering, ack_in, int_in, conf_in, InFlowControl, AllInFlowControl, piece_of, pieces, number_at, Numbered, hears, heard, ints, confs}
-
-pub append_nil : {A : Type 0} (a : List A) → a ++ [] ≡ a
-append_nil a = grind (arith, common_steps)
 
 pub resolved_is : (a n : ℕ) → a ≤ n → n < a + 8 → resolved a (n % 8) ≡ n
 resolved_is a n low high = omega arith
@@ -24,11 +21,11 @@ heard_push a [] p = refl
 heard_push a (q ∷ v) p = heard_push (hears a (ack_in q)) v p
 
 pub pieces_push : (u : List Packet) (p : Packet) → pieces (u ++ p ∷ []) ≡ pieces u ++ piece_of (numbering p)
-pieces_push [] p = append_nil (piece_of (numbering p))
+pieces_push [] p = append-nil (piece_of (numbering p))
 pieces_push (q ∷ u) p = ap (λ l. piece_of (numbering q) ++ l) (pieces_push u p) ∙ sym (append_assoc (piece_of (numbering q)) (pieces u) (piece_of (numbering p)))
 
 pub ints_push : (u : List Packet) (p : Packet) → ints (u ++ p ∷ []) ≡ ints u ++ int_in p
-ints_push [] p = append_nil (int_in p)
+ints_push [] p = append-nil (int_in p)
 ints_push (q ∷ u) p = ap (λ l. int_in q ++ l) (ints_push u p) ∙ sym (append_assoc (int_in q) (ints u) (int_in p))
 
 pub confs_push : (u : List Packet) (p : Packet) → confs (u ++ p ∷ []) ≡ confs u + conf_in p

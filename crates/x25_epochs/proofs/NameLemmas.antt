@@ -1,6 +1,6 @@
 -- Names, and their order.
 use Rattle.std.proofs.Common.{◌≡◌, inl, inr, ℕ, Bool, true, false, ◌==◌, refl, ap, subst, ◌∙◌, eq-eqb, arith}
-use Rattle.std.proofs.lemmas.Bool.{eqb-true}
+use Rattle.std.proofs.lemmas.Bool.{eqb-true, false_from_ne_true}
 use Rattle.x25_epochs.specs.Names.{Name, both, same_name, IsEarlierCount, IsEarlier}
 
 pub name_eq : (m n : Name) → m.restarts ≡ n.restarts → m.clears ≡ n.clears → m.resets ≡ n.resets → m ≡ n
@@ -12,10 +12,6 @@ name_eq m n p q w =
 both_are : (a b : Bool) → both a b ≡ true → (a ≡ true) × (b ≡ true)
 both_are true b h = (refl, h)
 both_are false b h = absurd (cc)
-
-not_true : (b : Bool) → (b ≡ true → ⊥) → b ≡ false
-not_true true h = absurd (h refl)
-not_true false h = refl
 
 pub same_name-refl : (n : Name) → same_name n n ≡ true
 same_name-refl n = rw (eq-eqb n.restarts n.restarts refl) (rw (eq-eqb n.clears n.clears refl) (eq-eqb n.resets n.resets refl))
@@ -47,4 +43,4 @@ earlier-irrefl n (inl p) = omega arith
 earlier-irrefl n (inr p) = count-irrefl n.clears n.resets p.1
 
 pub earlier-differs : (n m : Name) → IsEarlier n m → same_name m n ≡ false
-earlier-differs n m less = not_true (same_name m n) (λ is. earlier-irrefl n (subst (λ (j : Name). IsEarlier n j) (same_name-is m n is) less))
+earlier-differs n m less = false_from_ne_true (same_name m n) (λ is. earlier-irrefl n (subst (λ (j : Name). IsEarlier n j) (same_name-is m n is) less))

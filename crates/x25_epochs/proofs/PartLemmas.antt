@@ -1,13 +1,13 @@
 -- What each step does to the parts of the relation of two stretches.
 use Rattle.std.proofs.Common.{◌≡◌, ℕ, ◌+◌, ◌%◌, ◌≤◌, List, [], ◌∷◌, ◌++◌, length, Option, Some, None, Bool, true, false, refl, sym, ap, subst, ◌∙◌, arith, append_assoc, length-append}
-use Rattle.std.proofs.lemmas.List.{length_push}
+use Rattle.std.proofs.lemmas.List.{length_push, append-nil}
 use Rattle.x25_circuit.specs.declared.message.Message.{Message}
 use Rattle.x25_circuit.specs.Messages.{Piece, no_part, joining, completed, carried_from, carried, piece_ground, AreSound, cut}
 use Rattle.x25_window.specs.Modulo.{resolved}
 use Rattle.x25_epochs.specs.Stretch.{Packet, Data, Int, IntConf}
 use Rattle.x25_epochs.proofs.StretchRelation.{Numbering, numbering, ack_in, int_in, conf_in, piece_of, pieces, number_at, Numbered, hears, heard, ints, confs, Flow, Acks, Ints, Text}
 use Rattle.x25_epochs.proofs.TextLemmas.{joining-append, carried-append, AreSound-back, AreSound-append, AreSound-cut, joining-cut, carried-cut}
-use Rattle.x25_epochs.proofs.LineLemmas.{append_nil, resolved_is, heard_least, heard_push, pieces_push, ints_push, confs_push, Numbered_push}
+use Rattle.x25_epochs.proofs.LineLemmas.{resolved_is, heard_least, heard_push, pieces_push, ints_push, confs_push, Numbered_push}
 
 -- the data packets on the way, in their numbers
 
@@ -22,7 +22,7 @@ Flow-send sent taken u r p h = record {
 
 pub Flow-push : (sent taken : List Piece) (u : List Packet) (q : Packet) → numbering q ≡ None → Flow sent taken u → Flow sent taken (u ++ q ∷ [])
 Flow-push sent taken u q none h = record {
-  flow = h.flow ∙ ap (λ l. taken ++ l) (sym (pieces_push u q ∙ ap (λ c. pieces u ++ piece_of c) none ∙ append_nil (pieces u)));
+  flow = h.flow ∙ ap (λ l. taken ++ l) (sym (pieces_push u q ∙ ap (λ c. pieces u ++ piece_of c) none ∙ append-nil (pieces u)));
   numbers = Numbered_push (length taken) u q h.numbers (subst (λ (c : Option Numbering). number_at (length taken + length (pieces u)) c (λ m. Unit {0})) (sym none) tt);
 }
 
@@ -64,7 +64,7 @@ heard_below acked sent v r taken le acks = omega (arith, heard_least (resolved a
 
 pub Ints-there : (out : Bool) (down up : List (List ℕ)) (u v : List Packet) (q : Packet) → int_in q ≡ [] → Ints out down up u v → Ints out down up (u ++ q ∷ []) v
 Ints-there out down up u v q none h =
-    let e : ints (u ++ q ∷ []) ≡ ints u = ints_push u q ∙ ap (λ l. ints u ++ l) none ∙ append_nil (ints u) in
+    let e : ints (u ++ q ∷ []) ≡ ints u = ints_push u q ∙ ap (λ l. ints u ++ l) none ∙ append-nil (ints u) in
     record { count = h.count ∙ ap (λ l. length l + confs v) (sym e); flow = h.flow ∙ ap (λ l. up ++ l) (sym e) }
 
 pub Ints-back : (out : Bool) (down up : List (List ℕ)) (u v : List Packet) (q : Packet) → conf_in q ≡ 0 → Ints out down up u v → Ints out down up u (v ++ q ∷ [])
@@ -131,4 +131,4 @@ Text-ground size sent rest down taken p later is h =
 pub up-take : (up : List Message) (taken : List Piece) (p : Piece) → up ≡ carried taken → up ++ completed (joining no_part taken) p ≡ carried (taken ++ p ∷ [])
 up-take up taken p is =
     ap (λ l. l ++ completed (joining no_part taken) p) is
-    ∙ sym (carried-append no_part taken (p ∷ []) ∙ ap (λ l. carried taken ++ l) (append_nil (completed (joining no_part taken) p)))
+    ∙ sym (carried-append no_part taken (p ∷ []) ∙ ap (λ l. carried taken ++ l) (append-nil (completed (joining no_part taken) p)))

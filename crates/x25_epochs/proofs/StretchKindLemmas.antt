@@ -1,5 +1,7 @@
 -- Messages and interrupts: what belongs to a stretch is handed up as the other end handed it down in that stretch.
 use Rattle.std.proofs.Common.{◌≡◌, inl, inr, ℕ, ◌+◌, List, [], ◌∷◌, ◌++◌, length, Option, Some, None, Bool, true, false, nat_lt, nat_le, if◌then◌else◌, refl, sym, ap, subst, ◌∙◌, arith}
+use Rattle.std.proofs.lemmas.List.{append-nil}
+use Rattle.std.proofs.lemmas.Bool.{cond_both}
 use Rattle.x25_circuit.specs.Messages.{Piece, wholes}
 use Rattle.x25_bits.specs.declared.role.Role.{Role}
 use Rattle.x25_bits.specs.declared.role.Role.TheVariants.{Dte, Dce}
@@ -18,9 +20,7 @@ use Rattle.x25_epochs.proofs.TransferRelation.{reset_mark, stretch_level, Transf
 use Rattle.x25_epochs.proofs.ChannelRelation.{clear_mark, Seen}
 use Rattle.x25_epochs.proofs.StretchLemmas.{GoodStretch-takes, FollowsFrom-from_Dir}
 use Rattle.x25_epochs.proofs.ClaimLemmas.{BothTalk, Seen-joint}
-use Rattle.x25_epochs.proofs.LineLemmas.{append_nil}
-use Rattle.x25_epochs.proofs.TextLemmas.{by_if}
-use Rattle.x25_epochs.proofs.BookLemmas.{Change, Stays, MoreResets}
+use Rattle.x25_epochs.proofs.BookLemmas.{Change, Stays, MoreResets, alike}
 use Rattle.x25_epochs.proofs.TurnLemmas.{MayIndicate, WithinCall, IsHandled}
 
 -- what has to be known of two lists of a stretch
@@ -30,9 +30,6 @@ pub record IsKept {M : Type 0} (down up : Stretch → List M) : Type 0 where
   pub takes : (size : ℕ) (x : Stretch) (p : Packet) → down (stretch_takes size x p).next ≡ down x
   pub acts : (t : Terms) (x : Stretch) (a : StretchAct) → Begins (down x) (down (stretch_acts t x a).next) × (up (stretch_acts t x a).next ≡ up x)
   pub begins : (giver : Stretch) (u : List Packet) (taker : Stretch) → FollowsFrom giver u taker → Begins (up taker) (down giver)
-
-alike : {T : Type 0} (l : List T) → Begins l l
-alike l = ([], append_nil l)
 
 lists_are : {M : Type 0} (d d₂ u u₂ : List M) → d ≡ d₂ → u ≡ u₂ → ◌≡◌ {A = Lists M} (record { down = d; up = u }) (record { down = d₂; up = u₂ })
 lists_are {M} d d₂ u u₂ p q = ap (λ (a : List M). record { down = a; up = u }) p ∙ ap (λ (a : List M). record { down = d₂; up = a }) q
@@ -52,8 +49,8 @@ still down up A e x = Stays refl refl (alike (down (state_of x.side))) (inl refl
 
 lifted_taken : {M : Type 0} (down up : Stretch → List M) (A : List M → Type 0) (e s : ℕ) (x : Stretch) (st : StretchStep) (n : Option ℕ) → down st.next ≡ down x → A (up st.next)
     → TransferChange down up A e (d1 s x) (lifted s st n).next
-lifted_taken down up A e s x st None same may = Stays refl refl ([], append_nil (down x) ∙ sym same) (inr may)
-lifted_taken down up A e s x st (Some n) same may = Stays refl refl ([], append_nil (down x) ∙ sym same) (inr may)
+lifted_taken down up A e s x st None same may = Stays refl refl ([], append-nil (down x) ∙ sym same) (inr may)
+lifted_taken down up A e s x st (Some n) same may = Stays refl refl ([], append-nil (down x) ∙ sym same) (inr may)
 
 transfer_taken : {M : Type 0} (down up : Stretch → List M) → IsKept down up → (A : List M → Type 0) (size e s : ℕ) (x : Side Stretch) (p : Packet)
     → ((a : Stretch) → x ≡ Live a → InFlowControl p → A (up (stretch_takes size a p).next)) → TransferChange down up A e (record { epoch = s; side = x }) (transfer_side_takes size s x p).next
@@ -102,7 +99,7 @@ connects down up k A e = Stays refl refl (down fresh, refl) (inl k.up_fresh)
 answered : {M : Type 0} (down up : Stretch → List M) → IsKept down up → (A : List M → Type 0) (e : ℕ) (a : Phase) (mine : Params) (m i : List CallRequest) (q : Params) → resets_in a ≡ 0 → held_in down up a ≡ none
     → Change A e 0 none e (resets_in (is_answered a mine m i q).next.phase) (held_in down up (is_answered a mine m i q).next.phase)
 answered {M} down up k A e a mine m i q resets held =
-    by_if (λ (s : CallStep). Change A e 0 none e (resets_in s.next.phase) (held_in down up s.next.phase)) (may_answer mine q) (goes (calling_talk q) m i []) (unexpected a m i)
+    cond_both (may_answer mine q) (goes (calling_talk q) m i []) (unexpected a m i) (λ (s : CallStep). Change A e 0 none e (resets_in s.next.phase) (held_in down up s.next.phase))
     (λ _. connects down up k A e)
     (λ _. subst (λ (n : ℕ). Change A e 0 none e n (held_in down up a)) (sym resets) (subst (λ (l : Lists M). Change A e 0 none e 0 l) (sym held) (idle down up A e)))
 
@@ -149,13 +146,13 @@ unmoved down up a = (refl, alike (held_in down up a).down, refl)
 accepted : {M : Type 0} (down up : Stretch → List M) → IsKept down up → (theirs : Params) (m i : List CallRequest) (answer : Option Params) → Acted down up (Offered theirs) (accepts theirs m i answer).next.phase
 accepted down up k theirs m i None = (refl, (down fresh, refl), k.up_fresh)
 accepted down up k theirs m i (Some q) =
-    by_if (λ (s : CallStep). Acted down up (Offered theirs) s.next.phase) (may_answer theirs q) (goes (called_talk q) m i (Accept (field_for theirs q) ∷ [])) (goes (Offered theirs) m i [])
+    cond_both (may_answer theirs q) (goes (called_talk q) m i (Accept (field_for theirs q) ∷ [])) (goes (Offered theirs) m i []) (λ (s : CallStep). Acted down up (Offered theirs) s.next.phase)
     (λ _. (refl, (down fresh, refl), k.up_fresh))
     (λ _. unmoved down up (Offered theirs))
 
 phase_acted : {M : Type 0} (down up : Stretch → List M) → IsKept down up → (a : Phase) (m i : List CallRequest) (act : CallAct) → Acted down up a (phase_acts a m i act).next.phase
 phase_acted down up k Unused m i (PlacesCall n) =
-    by_if (λ (s : CallStep). Acted down up Unused s.next.phase) (may_propose n.params) (goes (Waiting n.params) (m ++ n ∷ []) i (Call n ∷ [])) (goes Unused m i [])
+    cond_both (may_propose n.params) (goes (Waiting n.params) (m ++ n ∷ []) i (Call n ∷ [])) (goes Unused m i []) (λ (s : CallStep). Acted down up Unused s.next.phase)
     (λ _. (refl, ([], refl), refl))
     (λ _. unmoved down up Unused)
 phase_acted down up k Unused m i other = unmoved down up Unused

@@ -1,7 +1,7 @@
 -- Each step in d1 keeps the relation of the two stretches, and is no procedure error.
 use Rattle.std.proofs.Common.{◌≡◌, ℕ, ◌+◌, ◌%◌, ◌<◌, ◌≤◌, List, [], ◌∷◌, ◌++◌, length, Option, Some, None, Bool, true, false, nat_lt, nat_le, if◌then◌else◌, refl, sym, ap, subst, ◌∙◌, eq-eqb, arith, append_assoc}
-use Rattle.std.proofs.lemmas.List.{length_push}
-use Rattle.std.proofs.lemmas.Bool.{le-leb, leb-true, ltb-true}
+use Rattle.std.proofs.lemmas.List.{length_push, append-nil}
+use Rattle.std.proofs.lemmas.Bool.{le-leb, leb-true, ltb-true, cond_both}
 use Rattle.x25_circuit.specs.Messages.{Piece, no_part, joining, carried_from, carried, piece_ground, cut, wholes}
 use Rattle.x25_window.specs.Modulo.{resolved}
 use Rattle.x25_circuit.specs.Params.{Terms}
@@ -9,8 +9,8 @@ use Rattle.x25_epochs.proofs.TermsLemmas.{IsSound}
 use Rattle.x25_epochs.specs.Stretch.{Packet, Data, Rr, Rnr, Int, IntConf, Reset, ResetConf, Call, Accept, Clear, ClearConf, Stretch, fresh, StretchStep, stretch_does, stretch_fails, StretchAct, Send, Pull, Ready, NotReady, Interrupt, status, sends, pulls, interrupts, stretch_acts, ack_ground, data_ground, by_ground, takes_data, takes_status, stretch_takes}
 use Rattle.x25_epochs.specs.Layers.{ready}
 use Rattle.x25_epochs.proofs.StretchRelation.{numbering, ack_in, int_in, conf_in, InFlowControl, pieces, heard, ints, Ints, Text, Direction, StretchesRelated, GoodStretch, FollowsFrom}
-use Rattle.x25_epochs.proofs.TextLemmas.{by_if, carried-append}
-use Rattle.x25_epochs.proofs.LineLemmas.{append_nil, AllOpen_push}
+use Rattle.x25_epochs.proofs.TextLemmas.{carried-append}
+use Rattle.x25_epochs.proofs.LineLemmas.{AllOpen_push}
 use Rattle.x25_epochs.proofs.PartLemmas.{Flow-le, Flow-send, Flow-push, Flow-take, Acks-push, Acks-pass, Acks-more, Acks-taken, Acks-hear, heard_below, Ints-there, Ints-back, Ints-send, Ints-take, Ints-out, Ints-conf, Text-send, Text-pull, Text-ground, up-take}
 
 pub StretchesRelated-flip : (t b : Terms) (x : Stretch) (u v : List Packet) (y : Stretch) → StretchesRelated t b x u v y → StretchesRelated b t y v u x
@@ -31,13 +31,26 @@ StretchesRelated-fresh t b = record { there = none t; back = none b }
 
 -- an answer of no packet
 GoodStretch-still : (t b : Terms) (x : Stretch) (u v : List Packet) (y : Stretch) → StretchesRelated t b x u v y → GoodStretch t b (stretch_does x []) u v y
-GoodStretch-still t b x u v y h = record { quiet = refl; kept = subst (λ (w : List Packet). StretchesRelated t b x w v y) (sym (append_nil u)) h }
+GoodStretch-still t b x u v y h = record { quiet = refl; kept = subst (λ (w : List Packet). StretchesRelated t b x w v y) (sym (append-nil u)) h }
+
+-- y hears how far x has taken, whatever x has sent
+Direction-told : (b : Terms) (x : Stretch) (sent rest : List Piece) (u v : List Packet) (y : Stretch) (q : Packet) → IsSound b → conf_in q ≡ 0 → ack_in q ≡ Some (length x.taken % 8)
+    → Direction b y v u x → Direction b y v (u ++ q ∷ []) (record x { sent = sent; rest = rest })
+Direction-told b x sent rest u v y q sound no_conf ack h =
+    let le : length y.sent ≡ length x.taken + length (pieces v) = Flow-le y.sent x.taken v h.flow in
+    record {
+      flow = h.flow;
+      acks = Acks-push b.window y.acked (length y.sent) u (length x.taken) q sound.window (omega arith) ack h.acks;
+      ints = Ints-back y.int_out y.int_down x.int_up v u q no_conf h.ints;
+      text = h.text;
+      up = h.up;
+      kinds = h.kinds;
+    }
 
 -- x tells how far it has taken
 StretchesRelated-tell : (t b : Terms) (x : Stretch) (u v : List Packet) (y : Stretch) (q : Packet) → IsSound b → numbering q ≡ None → int_in q ≡ [] → conf_in q ≡ 0 → InFlowControl q → ack_in q ≡ Some (length x.taken % 8)
     → StretchesRelated t b x u v y → StretchesRelated t b x (u ++ q ∷ []) v y
 StretchesRelated-tell t b x u v y q sound none no_int no_conf is ack h =
-    let le : length y.sent ≡ length x.taken + length (pieces v) = Flow-le y.sent x.taken v h.back.flow in
     record {
       there = record {
         flow = Flow-push x.sent y.taken u q none h.there.flow;
@@ -47,14 +60,7 @@ StretchesRelated-tell t b x u v y q sound none no_int no_conf is ack h =
         up = h.there.up;
         kinds = AllOpen_push u q is h.there.kinds;
       };
-      back = record {
-        flow = h.back.flow;
-        acks = Acks-push b.window y.acked (length y.sent) u (length x.taken) q sound.window (omega arith) ack h.back.acks;
-        ints = Ints-back y.int_out y.int_down x.int_up v u q no_conf h.back.ints;
-        text = h.back.text;
-        up = h.back.up;
-        kinds = h.back.kinds;
-      };
+      back = Direction-told b x x.sent x.rest u v y q sound no_conf ack h.back;
     }
 
 StretchesRelated-status : (t b : Terms) (x : Stretch) (u v : List Packet) (y : Stretch) (ready : Bool) (n : ℕ) → IsSound b → n ≡ length x.taken → StretchesRelated t b x u v y → StretchesRelated t b x (u ++ status ready n ∷ []) v y
@@ -72,8 +78,8 @@ StretchesRelated-own_ready t b x u v y ready h = record {
 GoodStretch-sends : (t b : Terms) (x : Stretch) (u v : List Packet) (y : Stretch) (q : Bool) (xs : List ℕ) → IsSound t → StretchesRelated t b x u v y → GoodStretch t b (sends t x q xs) u v y
 GoodStretch-sends t b x u v y q xs sound h =
     let sent : Stretch = record x { rest = x.rest ++ cut t.size q xs; down = x.down ++ record { q = q; user = xs } ∷ [] } in
-    by_if (λ s. GoodStretch t b s u v y) (nat_le (length xs) 65535) (if nat_lt (wholes x.rest) 8 then stretch_does sent [] else stretch_does x []) (stretch_does x [])
-    (λ small. by_if (λ s. GoodStretch t b s u v y) (nat_lt (wholes x.rest) 8) (stretch_does sent []) (stretch_does x [])
+    cond_both (nat_le (length xs) 65535) (if nat_lt (wholes x.rest) 8 then stretch_does sent [] else stretch_does x []) (stretch_does x []) (λ s. GoodStretch t b s u v y)
+    (λ small. cond_both (nat_lt (wholes x.rest) 8) (stretch_does sent []) (stretch_does x []) (λ s. GoodStretch t b s u v y)
     (λ _. GoodStretch-still t b sent u v y (record {
       there = record {
         flow = h.there.flow;
@@ -91,7 +97,6 @@ GoodStretch-sends t b x u v y q xs sound h =
 StretchesRelated-pull : (t b : Terms) (x : Stretch) (u v : List Packet) (y : Stretch) (p : Piece) (ps : List Piece) → IsSound b → x.rest ≡ p ∷ ps → length x.sent < x.acked + t.window → StretchesRelated t b x u v y
     → StretchesRelated t b (record x { sent = x.sent ++ p ∷ []; rest = ps }) (u ++ Data (length x.sent % 8) (length x.taken % 8) p ∷ []) v y
 StretchesRelated-pull t b x u v y p ps sound is room h =
-    let le : length y.sent ≡ length x.taken + length (pieces v) = Flow-le y.sent x.taken v h.back.flow in
     let n : length (x.sent ++ p ∷ []) ≡ length x.sent + 1 = length_push x.sent p in
     let d : Packet = Data (length x.sent % 8) (length x.taken % 8) p in
     record {
@@ -103,22 +108,15 @@ StretchesRelated-pull t b x u v y p ps sound is room h =
         up = h.there.up;
         kinds = AllOpen_push u d tt h.there.kinds;
       };
-      back = record {
-        flow = h.back.flow;
-        acks = Acks-push b.window y.acked (length y.sent) u (length x.taken) d sound.window (omega arith) refl h.back.acks;
-        ints = Ints-back y.int_out y.int_down x.int_up v u d refl h.back.ints;
-        text = h.back.text;
-        up = h.back.up;
-        kinds = h.back.kinds;
-      };
+      back = Direction-told b x (x.sent ++ p ∷ []) ps u v y d sound refl refl h.back;
     }
 
 GoodStretch-pulls : (t b : Terms) (x : Stretch) (u v : List Packet) (y : Stretch) (ps : List Piece) → IsSound b → x.rest ≡ ps → StretchesRelated t b x u v y → GoodStretch t b (pulls t x ps) u v y
 GoodStretch-pulls t b x u v y [] sound is h = GoodStretch-still t b x u v y h
 GoodStretch-pulls t b x u v y (p ∷ ps) sound is h =
     let next : StretchStep = stretch_does (record x { sent = x.sent ++ p ∷ []; rest = ps }) (Data (length x.sent % 8) (length x.taken % 8) p ∷ []) in
-    by_if (λ s. GoodStretch t b s u v y) x.peer_ready (if nat_lt (length x.sent) (x.acked + t.window) then next else stretch_does x []) (stretch_does x [])
-    (λ _. by_if (λ s. GoodStretch t b s u v y) (nat_lt (length x.sent) (x.acked + t.window)) next (stretch_does x [])
+    cond_both x.peer_ready (if nat_lt (length x.sent) (x.acked + t.window) then next else stretch_does x []) (stretch_does x []) (λ s. GoodStretch t b s u v y)
+    (λ _. cond_both (nat_lt (length x.sent) (x.acked + t.window)) next (stretch_does x []) (λ s. GoodStretch t b s u v y)
     (λ room. record { quiet = refl; kept = StretchesRelated-pull t b x u v y p ps sound is (ltb-true (length x.sent) (x.acked + t.window) room) h })
     (λ _. GoodStretch-still t b x u v y h))
     (λ _. GoodStretch-still t b x u v y h)
@@ -147,9 +145,9 @@ StretchesRelated-interrupt t b x u v y xs is h = record {
 GoodStretch-interrupts : (t b : Terms) (x : Stretch) (u v : List Packet) (y : Stretch) (xs : List ℕ) → StretchesRelated t b x u v y → GoodStretch t b (interrupts x xs) u v y
 GoodStretch-interrupts t b x u v y xs h =
     let next : StretchStep = stretch_does (record x { int_out = true; int_down = x.int_down ++ xs ∷ [] }) (Int xs ∷ []) in
-    by_if (λ s. GoodStretch t b s u v y) (nat_le 1 (length xs)) (if nat_le (length xs) 32 then (if x.int_out then stretch_does x [] else next) else stretch_does x []) (stretch_does x [])
-    (λ _. by_if (λ s. GoodStretch t b s u v y) (nat_le (length xs) 32) (if x.int_out then stretch_does x [] else next) (stretch_does x [])
-    (λ _. by_if (λ s. GoodStretch t b s u v y) x.int_out (stretch_does x []) next
+    cond_both (nat_le 1 (length xs)) (if nat_le (length xs) 32 then (if x.int_out then stretch_does x [] else next) else stretch_does x []) (stretch_does x []) (λ s. GoodStretch t b s u v y)
+    (λ _. cond_both (nat_le (length xs) 32) (if x.int_out then stretch_does x [] else next) (stretch_does x []) (λ s. GoodStretch t b s u v y)
+    (λ _. cond_both x.int_out (stretch_does x []) next (λ s. GoodStretch t b s u v y)
     (λ _. GoodStretch-still t b x u v y h)
     (λ is. record { quiet = refl; kept = StretchesRelated-interrupt t b x u v y xs is h }))
     (λ _. GoodStretch-still t b x u v y h))
@@ -307,8 +305,8 @@ FollowsFrom-from_Dir t x u v y h =
       begins = (carried_from (joining no_part y.taken) (pieces u ++ x.rest), ap (λ l. l ++ carried_from (joining no_part y.taken) (pieces u ++ x.rest)) h.up ∙ sym down);
       int_begins = (ints u, sym h.ints.flow);
       all = λ none idle.
-          h.up ∙ sym (append_nil (carried y.taken))
+          h.up ∙ sym (append-nil (carried y.taken))
           ∙ ap (λ l. carried y.taken ++ l) (sym (ap (λ l. carried_from (joining no_part y.taken) (pieces l ++ x.rest)) none ∙ ap (λ l. carried_from (joining no_part y.taken) l) idle))
           ∙ sym down;
-      int_all = λ none. sym (h.ints.flow ∙ ap (λ l. y.int_up ++ ints l) none ∙ append_nil y.int_up);
+      int_all = λ none. sym (h.ints.flow ∙ ap (λ l. y.int_up ++ ints l) none ∙ append-nil y.int_up);
     }

@@ -1,14 +1,10 @@
 -- Laws of packets and messages.
-use Rattle.std.proofs.Common.{◌≡◌, ℕ, zero, suc, ◌+◌, ◌<◌, ◌≤◌, List, [], ◌∷◌, ◌++◌, length, Some, None, Bool, true, false, nat_le, if◌then◌else◌, refl, sym, ap, ◌∙◌, arith, append_assoc, length-append, take, drop}
+use Rattle.std.proofs.Common.{◌≡◌, ℕ, zero, suc, ◌+◌, ◌<◌, ◌≤◌, List, [], ◌∷◌, ◌++◌, length, Some, None, Bool, true, false, nat_le, refl, sym, ap, ◌∙◌, arith, append_assoc, length-append, take, drop}
 use Rattle.std.proofs.lemmas.Grind.{common_steps}
-use Rattle.std.proofs.lemmas.Bool.{le-leb}
+use Rattle.std.proofs.lemmas.Bool.{le-leb, cond_both}
 use Rattle.std.proofs.lemmas.Bool.Decides.{nat_tests}
 use Rattle.std.proofs.lemmas.List.{take-append-drop}
 use Rattle.x25_circuit.specs.Messages.{Piece, More, Last, Partial, no_part, joined, joining, completed, carried_from, same_q, may_have_q, ground_of, AreSound, cut_from}
-
-pub by_if : {A : Type 0} (P : A → Type 0) (b : Bool) (u v : A) → (b ≡ true → P u) → (b ≡ false → P v) → P (if b then u else v)
-by_if P true u v f g = f refl
-by_if P false u v f g = g refl
 
 pub joining-append : (j : Partial) (a b : List Piece) → joining j (a ++ b) ≡ joining (joining j a) b
 joining-append j [] b = refl
@@ -39,7 +35,7 @@ pub AreSound-cut : (n size : ℕ) (q : Bool) (xs : List ℕ) (j : Partial) → 1
     → AreSound size j (cut_from n size q xs)
 AreSound-cut zero size q xs j one far room same = (ground_none size j (length xs) q (omega arith) room same, tt)
 AreSound-cut (suc n) size q xs j one far room same =
-    by_if (λ ps. AreSound size j ps) (nat_le (length xs) size) (Last q xs ∷ []) (More q (take size xs) ∷ cut_from n size q (drop size xs))
+    cond_both (nat_le (length xs) size) (Last q xs ∷ []) (More q (take size xs) ∷ cut_from n size q (drop size xs)) (λ ps. AreSound size j ps)
     (λ small. (ground_none size j (length xs) q (grind (arith, nat_tests)) room same, tt))
     (λ large.
     let over : size < length xs = grind (arith, nat_tests) in
@@ -53,14 +49,14 @@ AreSound-cut (suc n) size q xs j one far room same =
 pub joining-cut : (n size : ℕ) (q : Bool) (xs : List ℕ) (j : Partial) → joining j (cut_from n size q xs) ≡ no_part
 joining-cut zero size q xs j = refl
 joining-cut (suc n) size q xs j =
-    by_if (λ ps. joining j ps ≡ no_part) (nat_le (length xs) size) (Last q xs ∷ []) (More q (take size xs) ∷ cut_from n size q (drop size xs))
+    cond_both (nat_le (length xs) size) (Last q xs ∷ []) (More q (take size xs) ∷ cut_from n size q (drop size xs)) (λ ps. joining j ps ≡ no_part)
     (λ _. refl)
     (λ _. joining-cut n size q (drop size xs) (record { begun = Some q; user = j.user ++ take size xs }))
 
 pub carried-cut : (n size : ℕ) (q : Bool) (xs : List ℕ) (j : Partial) → carried_from j (cut_from n size q xs) ≡ record { q = q; user = j.user ++ xs } ∷ []
 carried-cut zero size q xs j = refl
 carried-cut (suc n) size q xs j =
-    by_if (λ ps. carried_from j ps ≡ record { q = q; user = j.user ++ xs } ∷ []) (nat_le (length xs) size) (Last q xs ∷ []) (More q (take size xs) ∷ cut_from n size q (drop size xs))
+    cond_both (nat_le (length xs) size) (Last q xs ∷ []) (More q (take size xs) ∷ cut_from n size q (drop size xs)) (λ ps. carried_from j ps ≡ record { q = q; user = j.user ++ xs } ∷ [])
     (λ _. refl)
     (λ _. carried-cut n size q (drop size xs) (record { begun = Some q; user = j.user ++ take size xs })
     ∙ ap (λ (l : List ℕ). record { q = q; user = l } ∷ []) (append_assoc j.user (take size xs) (drop size xs) ∙ ap (λ l. j.user ++ l) (take-append-drop size xs)))

@@ -1,5 +1,6 @@
 -- p4 keeps its relation, and has no procedure error.
 use Rattle.std.proofs.Common.{◌≡◌, ℕ, suc, List, [], ◌∷◌, ◌++◌, Option, None, refl, sym, subst}
+use Rattle.std.proofs.lemmas.List.{append-nil}
 use Rattle.x25_epochs.specs.Handshake.{Inner, Side, Live, Left, At}
 use Rattle.x25_circuit.specs.Params.{Terms}
 use Rattle.x25_epochs.proofs.TermsLemmas.{IsSound}
@@ -9,7 +10,6 @@ use Rattle.x25_epochs.proofs.HandshakeRelation.{AllInner}
 use Rattle.x25_epochs.proofs.HandshakeLemmas.{request_live, confirm_never, leave, inner_act, inner_take, drops, marker_left, hand_flip, both_fresh, inner_live, live_front, hand_map}
 use Rattle.x25_epochs.proofs.StretchRelation.{InFlowControl, AllInFlowControl, StretchesRelated, GoodStretch}
 use Rattle.x25_epochs.proofs.TransferRelation.{reset_mark, stretch_level, InTransfer, AllInTransfer, TransfersRelated, GoodTransfer}
-use Rattle.x25_epochs.proofs.LineLemmas.{append_nil}
 use Rattle.x25_epochs.proofs.StretchLemmas.{StretchesRelated-flip, StretchesRelated-fresh, GoodStretch-acts, GoodStretch-takes}
 
 inner_mark : (p : Packet) → InFlowControl p → reset_mark p ≡ Inner
@@ -66,7 +66,7 @@ pub TransfersRelated-fresh : (t b : Terms) → TransfersRelated t b fresh_transf
 TransfersRelated-fresh t b = record { hand = both_fresh (stretch_level t b) (StretchesRelated-fresh t b) 0; there = tt; back = tt }
 
 GoodTransfer-still : (t b : Terms) (x : At Stretch) (L K : List Packet) (y : At Stretch) → TransfersRelated t b x L K y → GoodTransfer t b (record { next = x; out = []; error = None }) L K y
-GoodTransfer-still t b x L K y h = record { quiet = refl; kept = subst (λ (u : List Packet). TransfersRelated t b x u K y) (sym (append_nil L)) h }
+GoodTransfer-still t b x L K y h = record { quiet = refl; kept = subst (λ (u : List Packet). TransfersRelated t b x u K y) (sym (append-nil L)) h }
 
 -- a step in d1 that is no error
 GoodTransfer-lifted : (t b : Terms) (e : ℕ) (s : StretchStep) (L K : List Packet) (y : At Stretch) → s.error ≡ None → TransfersRelated t b (d1 e s.next) (L ++ s.out) K y → GoodTransfer t b (lifted e s s.error) L K y

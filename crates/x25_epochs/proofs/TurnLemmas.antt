@@ -1,5 +1,5 @@
 -- Each step of an end lets the names of its channels stay or grow, and what it hands up begins what the other end handed down: for any kind of thing of which this is known within a call.
-use Rattle.std.proofs.Common.{◌≡◌, inl, inr, ℕ, List, [], ◌∷◌, Option, Some, None, Bool, true, false, ◌==◌, if◌then◌else◌, refl, sym, ap, subst, ◌∙◌, arith}
+use Rattle.std.proofs.Common.{◌≡◌, inl, inr, ℕ, List, ◌∷◌, Option, Some, None, Bool, true, false, ◌==◌, if◌then◌else◌, refl, sym, ap, subst, ◌∙◌, arith}
 use Rattle.std.proofs.lemmas.Bool.{eqb-true}
 use Rattle.x25_bits.specs.declared.role.Role.{Role}
 use Rattle.x25_epochs.specs.Handshake.{Inner, Side, Live, Left, At, state_of}
@@ -14,8 +14,7 @@ use Rattle.x25_epochs.proofs.ChannelRelation.{clear_mark, Seen, connection_level
 use Rattle.x25_epochs.proofs.LayersRelation.{on, channels_level, LayersRelated, EndsRelated}
 use Rattle.x25_epochs.proofs.LayerLemmas.{on-front}
 use Rattle.x25_epochs.proofs.NameLemmas.{name_eq}
-use Rattle.x25_epochs.proofs.LineLemmas.{append_nil}
-use Rattle.x25_epochs.proofs.BookLemmas.{Change, Stays, MoreResets, MoreClears, Turn, Remained, Restarted, MayHandUp}
+use Rattle.x25_epochs.proofs.BookLemmas.{Change, Stays, MoreResets, MoreClears, Turn, Remained, Restarted, MayHandUp, alike}
 
 -- what may be handed up in a call, where the other end stands in y
 abbrev pub MayIndicate : {M : Type 0} → Kind M → Connection → Connection → List M → Type 0
@@ -34,9 +33,6 @@ pub record IsHandled {M : Type 0} (kind : Kind M) : Type 0 where
 
 abbrev ChannelChange : {M : Type 0} → Kind M → (List M → Type 0) → At Connection → At Connection → Type 0
 ChannelChange kind A x y = Change A x.epoch (kind.resets (state_of x.side)) (kind.held (state_of x.side)) y.epoch (kind.resets (state_of y.side)) (kind.held (state_of y.side))
-
-alike : {T : Type 0} (l : List T) → Begins l l
-alike l = ([], append_nil l)
 
 still : {M : Type 0} (kind : Kind M) (A : List M → Type 0) (z : At Connection) → ChannelChange kind A z z
 still kind A z = Stays refl refl (alike (kind.held (state_of z.side)).down) (inl refl)
