@@ -1,7 +1,7 @@
 -- What is held of a line.
-use Rattle.std.proofs.Common.{◌≡◌, ◌∙◌, ◌≤◌, ◌<◌, ◌+◌, ◌-◌, ◌==◌, ◌||◌, not, ℕ, zero, suc, Bool, true, false, List, [], ◌∷◌, ◌++◌, length, take, ap, sym, refl, arith, nat_le, nat_lt, codes, if◌then◌else◌, Option, Some, None, option_map, option_and_then}
+use Rattle.std.proofs.Common.{◌≡◌, ◌∙◌, ◌≤◌, ◌<◌, ◌+◌, ◌-◌, ◌==◌, not, ℕ, Bool, true, false, List, [], ◌∷◌, ◌++◌, length, take, ap, sym, refl, arith, nat_le, nat_lt, codes, if◌then◌else◌, Option, Some, None, option_map, option_and_then}
 use Rattle.std.specs.Prelude.{is_some}
-use Rattle.std.proofs.lemmas.List.{append-nil, take_all, take-append-le, length-append}
+use Rattle.std.proofs.lemmas.List.{append-nil, take_all, take-append-le, length-append, length-take-le}
 use Rattle.std.proofs.lemmas.Bool.{lt-ltb, ltb-true, ltb-false, le-ltb}
 use Rattle.std.proofs.lemmas.Bool.Decides.{nat_tests}
 use Rattle.std.proofs.Math.Seq.{take-append-add}
@@ -9,15 +9,12 @@ use Rattle.x25_bits.specs.declared.role.Role.{Role}
 use Rattle.x25_program.specs.Decoded.{answer_to, is_refused, sent_in, sent_text, octets_in, sender_of}
 use Rattle.x25_program.specs.Stream.{most_line, HoldsLine}
 
-sum_length : (xs ys : List ℕ) → length (xs ++ ys) ≡ length xs + length ys
-sum_length xs ys = length-append xs ys
-
 -- a list is its beginning, or longer
 short_of : (n : ℕ) (begun line : List ℕ) (long : Bool) → line ≡ take n begun → long ≡ nat_lt n (length begun) → long ≡ false → line ≡ begun
 short_of n begun line long e l f = e ∙ take_all n begun (ltb-false n (length begun) (sym l ∙ f))
 
 take_fits : (n : ℕ) (begun part : List ℕ) → length begun + length part ≤ n → take n (begun ++ part) ≡ begun ++ part
-take_fits n begun part h = let size = sum_length begun part in take_all n (begun ++ part) (omega (arith, size))
+take_fits n begun part h = let size = length-append begun part in take_all n (begun ++ part) (omega (arith, size))
 
 take_seam : (n : ℕ) (begun part : List ℕ) → length begun ≤ n → take n (begun ++ part) ≡ begun ++ take (n - length begun) part
 take_seam n begun part h =
@@ -54,18 +51,6 @@ pub held_text : (long_data : Bool) (begun line : List ℕ) → HoldsLine begun l
 unfolding answer_to
 held_text long_data begun line h = ap (λ sent. sent_text long_data sent ++ codes "\n") (long_is begun line h)
 
-pub or_true : (b : Bool) → (b || true) ≡ true
-or_true true = refl
-or_true false = refl
-
-long_take : (n : ℕ) (xs : List ℕ) → n ≤ length xs → length (take n xs) ≡ n
-long_take zero xs h = refl
-long_take (suc n) [] h = absurd (omega arith)
-long_take (suc n) (x ∷ xs) h = let rest = long_take n xs (omega arith) in omega (arith, rest)
-
-under : (n k : ℕ) → nat_lt n k ≡ true → n ≤ k
-under n k h = let less = ltb-true n k h in omega (arith, less)
-
 -- what `hold` keeps: `n` is the most that is held
 pub hold_fits : (n : ℕ) (begun line part : List ℕ) (long : Bool) → line ≡ take n begun → long ≡ nat_lt n (length begun) → length part ≤ n - length line
     → (line ++ part ≡ take n (begun ++ part)) × (long ≡ nat_lt n (length (begun ++ part)))
@@ -75,7 +60,7 @@ hold_fits n begun line part long e l small = go (nat_lt n (length begun)) refl
     size = ap length e
 
     go : (b : Bool) → nat_lt n (length begun) ≡ b → (line ++ part ≡ take n (begun ++ part)) × (long ≡ nat_lt n (length (begun ++ part)))
-    go true is = full part (omega (arith, small, size, long_take n begun (under n (length begun) is)))
+    go true is = let more = ltb-true n (length begun) is in full part (omega (arith, small, size, length-take-le n begun (omega (arith, more))))
       where
         full : (part : List ℕ) → length part ≤ 0 → (line ++ part ≡ take n (begun ++ part)) × (long ≡ nat_lt n (length (begun ++ part)))
         full [] none = (append-nil line ∙ e ∙ ap (take n) (sym (append-nil begun)), l ∙ ap (λ x. nat_lt n (length x)) (sym (append-nil begun)))
@@ -84,7 +69,7 @@ hold_fits n begun line part long e l small = go (nat_lt n (length begun)) refl
         let whole : line ≡ begun = short_of n begun line long e l (l ∙ is) in
         let sizes : length line ≡ length begun = ap length whole in
         let fits : length begun ≤ n = ltb-false n (length begun) is in
-        let sum : length (begun ++ part) ≡ length begun + length part = sum_length begun part in (
+        let sum : length (begun ++ part) ≡ length begun + length part = length-append begun part in (
           ap (λ x. x ++ part) whole ∙ sym (take_fits n begun part (omega (arith, sizes, small, fits))),
           l ∙ is ∙ sym (le-ltb n (length (begun ++ part)) (omega (arith, sizes, small, fits, sum))),
         )
@@ -97,13 +82,13 @@ hold_over n begun line part long e l big = go (nat_lt n (length begun)) refl
     size = ap length e
 
     sum : length (begun ++ part) ≡ length begun + length part
-    sum = sum_length begun part
+    sum = length-append begun part
 
     go : (b : Bool) → nat_lt n (length begun) ≡ b → (line ++ take (n - length line) part ≡ take n (begun ++ part)) × (true ≡ nat_lt n (length (begun ++ part)))
     go true is =
         let more : n < length begun = ltb-true n (length begun) is in
-        let full : n - length line ≡ 0 = omega (arith, size, more, long_take n begun (under n (length begun) is)) in (
-          ap (λ k. line ++ take k part) full ∙ append-nil line ∙ e ∙ sym (take-append-le n begun part (under n (length begun) is)),
+        let full : n - length line ≡ 0 = omega (arith, size, more, length-take-le n begun (omega (arith, more))) in (
+          ap (λ k. line ++ take k part) full ∙ append-nil line ∙ e ∙ sym (take-append-le n begun part (omega (arith, more))),
           sym (lt-ltb n (length (begun ++ part)) (omega (arith, more, sum))),
         )
     go false is =

@@ -1,4 +1,3 @@
-pub mod KnownLemmas
 pub mod LineLemmas
 pub mod StreamLemmas
 pub mod HeldLemmas

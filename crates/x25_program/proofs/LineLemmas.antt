@@ -1,8 +1,8 @@
 -- The place of the first line feed.
 use Rattle.std.proofs.Common.{◌≡◌, ◌≢◌, ◌<◌, ◌-◌, ℕ, zero, suc, List, [], ◌∷◌, ◌++◌, length, take, drop, Some, None, ap, arith, get_or, eq-eqb, eqb-true, add-one, ◌∙◌, sym, ◌+◌}
+use Rattle.std.proofs.lemmas.List.{take_rest}
 use Rattle.memchr.specs.Find.{IsFirstByte, is_byte}
 use Rattle.x25_program.specs.Lines.{IsOpen}
-use Rattle.x25_program.proofs.KnownLemmas.{to_end}
 
 cut_at : (at : ℕ) (left : List ℕ) → at < length left → ((k : ℕ) → k < at → get_or left k 0 ≢ 10) → get_or left at 0 ≡ 10
     → (left ≡ take at left ++ 10 ∷ drop (suc at) left) × IsOpen (take at left)
@@ -21,7 +21,7 @@ pub cut_line : (at : ℕ) (left : List ℕ) → IsFirstByte (is_byte 10) left (S
     → IsOpen (take at left) × (left ≡ take at left ++ 10 ∷ take (length left - (at + 1)) (drop (at + 1) left))
 cut_line at left h =
     let cut = cut_at at left h.0.high (λ k lt e. h.0.before k (omega arith) lt (eq-eqb (get_or left k 0) 10 e)) (eqb-true (get_or left at 0) 10 h.1) in
-    let behind : drop (suc at) left ≡ take (length left - (at + 1)) (drop (at + 1) left) = ap (λ n. drop n left) (sym (add-one at)) ∙ sym (to_end (at + 1) left) in
+    let behind : drop (suc at) left ≡ take (length left - (at + 1)) (drop (at + 1) left) = ap (λ n. drop n left) (sym (add-one at)) ∙ sym (take_rest left (at + 1)) in
     (cut.1, cut.0 ∙ ap (λ rest. take at left ++ 10 ∷ rest) behind)
 
 pub no_line : (left : List ℕ) → IsFirstByte (is_byte 10) left None → IsOpen left

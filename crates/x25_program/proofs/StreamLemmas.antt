@@ -1,15 +1,16 @@
 -- A text, a piece at a time.
-use Rattle.std.proofs.Common.{◌≡◌, ◌∙◌, ◌<◌, ◌||◌, ℕ, Bool, true, false, List, [], ◌∷◌, ◌++◌, length, take, Option, ap, sym, refl, subst, arith, nat_eq, append_assoc, Result, Ok, Err}
+use Rattle.std.proofs.Common.{◌≡◌, ◌∙◌, ◌<◌, ◌||◌, ℕ, Bool, false, List, [], ◌∷◌, ◌++◌, length, take, Option, ap, sym, refl, subst, arith, nat_eq, append_assoc, Result, Ok, Err}
 use Rattle.std.specs.Prelude.{OnOk, OnErr, MatchResult}
 use Rattle.std.specs.List.{flat_map, list_any}
 use Rattle.std.proofs.lemmas.Bool.{ne_eqb}
 use Rattle.std.proofs.lemmas.List.{append-nil}
 use Rattle.std.specs.Io.KnownBytes.{Appends}
+use Rattle.std.proofs.Math.Bool.{or_assoc, or-false}
+use Rattle.std.proofs.KnownBytes.{Appends-trans}
 use Rattle.x25_program.specs.Lines.{IsOpen, lines_of}
 use Rattle.x25_program.specs.Decoded.{answer_to, is_refused, output_of, has_refused}
 use Rattle.x25_program.specs.Stream.{HoldsLine, Leads, WritesEnded}
 use Rattle.x25_program.specs.Written.{AppendsBeginning}
-use Rattle.x25_program.proofs.KnownLemmas.{appends_more}
 
 -- a line that ends
 pub ends_line : (begun rest : List ℕ) → IsOpen begun → lines_of (begun ++ 10 ∷ rest) ≡ begun ∷ lines_of rest
@@ -34,14 +35,6 @@ output_line long_data begun rest none = ap (flat_map (answer_to long_data)) (end
 
 pub refuses_line : (begun rest : List ℕ) → IsOpen begun → has_refused (begun ++ 10 ∷ rest) ≡ (is_refused begun || has_refused rest)
 refuses_line begun rest none = ap (list_any is_refused) (ends_line begun rest none)
-
-or_assoc : (a b c : Bool) → ((a || b) || c) ≡ (a || (b || c))
-or_assoc true b c = refl
-or_assoc false b c = refl
-
-or_false : (a : Bool) → (a || false) ≡ a
-or_false true = refl
-or_false false = refl
 
 nil_out : (long_data : Bool) → output_of long_data [] ≡ []
 unfolding lines_of
@@ -73,7 +66,7 @@ module _ (long_data : Bool) (old : Option (List ℕ)) where
     is_open = h.is_open;
     holds = h.holds;
     written = h.written ++ text;
-    appends = appends_more old w v h.written text h.appends a;
+    appends = Appends-trans old w v h.written text h.appends a;
     same = ap (λ t. t ++ output_of long_data (h.begun ++ rest)) (append-nil (h.written ++ text)) ∙ h.same;
     status = h.status;
   }
@@ -84,7 +77,7 @@ module _ (long_data : Bool) (old : Option (List ℕ)) where
     h.written ++ a.0,
     a.1 ++ output_of long_data (h.begun ++ rest),
     sym h.same ∙ ap (λ t. h.written ++ t ++ output_of long_data (h.begun ++ rest)) a.2 ∙ regroup h.written a.0 a.1 (output_of long_data (h.begun ++ rest)),
-    appends_more old w v h.written a.0 h.appends a.3,
+    Appends-trans old w v h.written a.0 h.appends a.3,
   )
 
   pub flushed : (w v : Option (List ℕ)) (line : List ℕ) (long : Bool) (text : List ℕ) (refused : Bool) (rest all : List ℕ) (any : Bool)
@@ -93,7 +86,7 @@ module _ (long_data : Bool) (old : Option (List ℕ)) where
     begun = h.begun;
     is_open = h.is_open;
     part = h.written ++ text;
-    appends = appends_more old w v h.written text h.appends a;
+    appends = Appends-trans old w v h.written text h.appends a;
     same = h.same;
   }
 
@@ -166,7 +159,7 @@ module _ (long_data : Bool) (old : Option (List ℕ)) where
       let same : h.written ++ text ++ output_of long_data [] ≡ all = ap (λ b. h.written ++ text ++ output_of long_data (b ++ [])) (sym empty) ∙ h.same in
       let status : (refused || has_refused []) ≡ any = ap (λ b. refused || has_refused (b ++ [])) (sym empty) ∙ h.status in
       let whole : h.written ++ text ≡ all = sym (append-nil (h.written ++ text)) ∙ ap (λ o. h.written ++ text ++ o) (sym nil_output) ∙ same in
-      (subst (Appends old v) whole (appends_more old w v h.written text h.appends a), sym (or_false refused) ∙ ap (λ o. refused || o) (sym nil_refuses) ∙ status)
+      (subst (Appends old v) whole (Appends-trans old w v h.written text h.appends a), sym (or-false refused) ∙ ap (λ o. refused || o) (sym nil_refuses) ∙ status)
     where
       nil_output : output_of long_data [] ≡ []
       nil_output = nil_out long_data

@@ -1,13 +1,14 @@
 -- Verdicts, a vector at a time.
-use Rattle.std.proofs.Common.{◌≡◌, ◌∙◌, ◌+◌, ◌<◌, ℕ, Bool, true, false, suc, List, [], ◌∷◌, ◌++◌, map, drop, length, Option, ap, sym, refl, subst, arith, append_assoc, get_or}
+use Rattle.std.proofs.Common.{◌≡◌, ◌∙◌, ◌+◌, ◌<◌, ℕ, Bool, true, suc, List, [], ◌∷◌, ◌++◌, map, drop, length, Option, ap, sym, refl, subst, arith, append_assoc, get_or}
 use Rattle.std.specs.Prelude.{◌&&◌, OnErr, Result, Ok, Err}
 use Rattle.std.specs.Io.KnownBytes.{Appends}
 use Rattle.std.specs.List.{flat_map, list_all}
 use Rattle.std.proofs.Math.Seq.{drop-cons}
+use Rattle.std.proofs.Math.Bool.{and_assoc}
+use Rattle.std.proofs.KnownBytes.{Appends-nil, Appends-trans}
 use Rattle.x25_program.specs.Vectors.{is_right, shown, verdict, verdict_of}
 use Rattle.x25_program.specs.Written.{AppendsBeginning}
 use Rattle.x25_program.specs.declared.test_vectors.Vector.{Vector}
-use Rattle.x25_program.proofs.KnownLemmas.{appends_more, appends_none}
 
 -- text that is written in two parts, where the second wasn't written whole
 pub beginning_after : (old mid new : Option (List ℕ)) (first second : List ℕ) → Appends old mid first → AppendsBeginning mid new second → AppendsBeginning old new (first ++ second)
@@ -15,7 +16,7 @@ beginning_after old mid new first second a b = (
   first ++ b.0,
   b.1,
   ap (λ t. first ++ t) b.2 ∙ sym (append_assoc first b.0 b.1),
-  appends_more old mid new first b.0 a b.3,
+  Appends-trans old mid new first b.0 a b.3,
 )
 
 -- a beginning of the first part is one of the whole
@@ -31,16 +32,12 @@ pub record WritesVerdicts (old now : Option (List ℕ)) (vectors rest : List Vec
   pub kept : mark ≡ before
 
 pub none_written : (old : Option (List ℕ)) (vectors : List Vector) (mark : Bool) → WritesVerdicts old old vectors vectors true mark mark
-none_written old vectors mark = record { part = []; appends = appends_none old; same = refl; right = refl; kept = refl }
+none_written old vectors mark = record { part = []; appends = Appends-nil old; same = refl; right = refl; kept = refl }
 
 pub second_err : {X E : Type 0} (r : Result X E) (old mid new : Option (List ℕ)) (first second text : List ℕ) → text ≡ first ++ second → Appends old mid first
     → OnErr r (AppendsBeginning mid new second) → OnErr r (AppendsBeginning old new text)
 second_err (Ok x) old mid new first second text e a b = tt
 second_err (Err x) old mid new first second text e a b = subst (AppendsBeginning old new) (sym e) (beginning_after old mid new first second a b)
-
-and_assoc : (a b c : Bool) → ((a && b) && c) ≡ (a && (b && c))
-and_assoc true b c = refl
-and_assoc false b c = refl
 
 module _ (old now next : Option (List ℕ)) (vectors : List Vector) (i : ℕ) (d : Vector) (all_right result before mark : Bool) (within : i < length vectors)
     (writes : WritesVerdicts old now vectors (drop i vectors) all_right before mark) (held : result ≡ is_right (shown (get_or vectors i d))) where
@@ -59,7 +56,7 @@ module _ (old now next : Option (List ℕ)) (vectors : List Vector) (i : ℕ) (d
       → WritesVerdicts old next vectors (drop (i + 1) vectors) (all_right && result) before after
   next_vector after a same_mark = record {
     part = writes.part ++ verdict here.name.now result;
-    appends = appends_more old now next writes.part (verdict here.name.now result) writes.appends a;
+    appends = Appends-trans old now next writes.part (verdict here.name.now result) writes.appends a;
     same = append_assoc writes.part (verdict here.name.now result) (flat_map verdict_of (map shown (drop (i + 1) vectors))) ∙ all_lines;
     right =
         and_assoc all_right result (list_all is_right (map shown (drop (i + 1) vectors)))

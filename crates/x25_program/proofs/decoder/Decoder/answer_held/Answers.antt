@@ -1,7 +1,8 @@
 use Rattle.std.proofs.Common.{◌∙◌, ◌||◌, ◌++◌, sym, ap, subst}
+use Rattle.std.proofs.Math.Bool.{or-true}
 use Rattle.x25_program.specs.Stream.{HoldsLine}
 use Rattle.x25_program.specs.Decoded.{answer_to, is_refused}
-use Rattle.x25_program.proofs.HeldLemmas.{held_short, held_long, held_text, or_true}
+use Rattle.x25_program.proofs.HeldLemmas.{held_short, held_long, held_text}
 use Rattle.x25_program.proofs.decoder.Decoder.answer_held.Goals as goal
 
 pub returns-then-self-clause-text : goal.returns-then-self-clause-text
@@ -12,7 +13,7 @@ returns-then-self-clause-text c = λ begun h.
 pub returns-then-self-clause-refused : goal.returns-then-self-clause-refused
 returns-then-self-clause-refused c = λ begun h.
     let long = subst (HoldsLine begun c.args.self.now.line) c.if-self.true h in
-    sym (ap (λ b. c.args.self.now.is_refused || b) (held_long begun _ long) ∙ or_true c.args.self.now.is_refused)
+    sym (ap (λ b. c.args.self.now.is_refused || b) (held_long begun _ long) ∙ or-true c.args.self.now.is_refused)
 
 pub returns-else-self-clause-text : goal.returns-else-self-clause-text
 returns-else-self-clause-text c = λ begun h.
