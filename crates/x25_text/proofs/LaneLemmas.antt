@@ -2,12 +2,13 @@
 use Rattle.std.proofs.Common.{ℕ, zero, suc, ◌≡◌, ◌<◌, ◌≤◌, ◌+◌, ◌-◌, ◌*◌, ◌%◌, ◌^◌, ◌∙◌, inl, inr, Bool, true, false, cond, List, [], ◌∷◌, length, map, get_or, refl, ap, sym, arith, Fits, w8}
 use Rattle.std.specs.Prelude.{◌==◌, ◌&&◌, nat_lt, nat_eq, Option, Some, None}
 use Rattle.std.specs.List.{list_all}
-use Rattle.std.proofs.lemmas.Bool.{cases_eq, eq-eqb, eqb-true, ne_eqb, ltb-true, ltb-false}
+use Rattle.std.proofs.lemmas.Bool.{cases_eq, eq-eqb, eqb-true, ne_eqb, ltb-true, ltb-false, and_parts, agree_below, agree_below_at}
 use Rattle.std.proofs.Math.Nat.{pow-suc}
 use Rattle.std.specs.Simd.Lanes.{Each1, sel_l, mask_l, top}
+use Rattle.std.proofs.lemmas.Nat.{pow_pos}
 use Rattle.hex.specs.Hex.{hex_digit_value}
 use Rattle.x25_text.specs.Hexadecimal.{octets_of, joined, paired, value_of}
-use Rattle.x25_text.proofs.DigitTable.{a_digit, all_below, below, no_digit}
+use Rattle.x25_text.proofs.DigitTable.{a_digit, no_digit}
 
 -- ---- the test of all lanes
 
@@ -17,17 +18,13 @@ same_test a b c d f g = elim (cases_eq a b) [
   | inr n ↦ ne_eqb a b n ∙ sym (ne_eqb c d (λ e. n (g e)))
 ]
 
-one_le : (n : ℕ) → 1 ≤ 2 ^ n
-one_le zero = omega arith
-one_le (suc n) = omega (arith, one_le n, pow-suc 2 n)
-
 -- all bits of the mask are set where the test holds of all
 pub mask_full : (p : ℕ → Bool) (xs : List ℕ) → nat_eq (mask_l (map p xs)) (2 ^ length xs - 1) ≡ list_all p xs
 mask_full p [] = refl
 mask_full p (x ∷ xs) = go (p x) (mask_full p xs)
   where
     some : 1 ≤ 2 ^ length xs
-    some = one_le (length xs)
+    some = omega (arith, pow_pos (length xs))
 
     twice : 2 ^ suc (length xs) ≡ 2 * 2 ^ length xs
     twice = omega (arith, pow-suc 2 (length xs))
@@ -47,10 +44,6 @@ fits_each [] h i = omega arith
 fits_each (x ∷ v) h zero = omega (arith, h.0.fits)
 fits_each (x ∷ v) h (suc i) = fits_each v h.1 i
 
-pub itself : (v : List ℕ) → v ≡ map (λ x. x) v
-itself [] = refl
-itself (x ∷ v) = ap (λ r. x ∷ r) (itself v)
-
 pub sel_of_maps : (m : ℕ → Bool) (f g : ℕ → ℕ) (v : List ℕ) {ms : List Bool} {xs ys : List ℕ} → ms ≡ map m v → xs ≡ map f v → ys ≡ map g v
     → sel_l ms xs ys ≡ map (λ c. cond (m c) (f c) (g c)) v
 sel_of_maps m f g v a b c = (λ i. sel_l (a i) (b i) (c i)) ∙ of_maps v
@@ -67,10 +60,10 @@ tops_of_map f v e = ap (map (top 7)) e ∙ of_map v
     of_map (x ∷ v) = ap (λ r. top 7 (f x) ∷ r) (of_map v)
 
 -- two functions of a character that agree at each of the 256
-pub same_map : (f g : ℕ → ℕ) (v : List ℕ) → all_below (λ c. f c == g c) 256 ≡ true → ((i : ℕ) → get_or v i 0 < 256) → map f v ≡ map g v
+pub same_map : (f g : ℕ → ℕ) (v : List ℕ) → agree_below (λ c. f c == g c) (λ _. true) 256 ≡ true → ((i : ℕ) → get_or v i 0 < 256) → map f v ≡ map g v
 same_map f g [] t h = refl
 same_map f g (x ∷ v) t h =
-    let here : f x ≡ g x = eqb-true _ _ (below (λ c. f c == g c) 256 t x (h 0)) in
+    let here : f x ≡ g x = eqb-true _ _ (agree_below_at (λ c. f c == g c) (λ _. true) 256 x t (h 0)) in
     λ i. here i ∷ same_map f g v t (λ j. h (suc j)) i
 
 -- ---- two lanes for each octet
@@ -82,10 +75,6 @@ unfoldable pub octets_from : List ℕ → ℕ → ℕ → List ℕ
 octets_from w k zero = []
 octets_from w k (suc n) = octet_at w k ∷ octets_from w (k + 1) n
 
-both : (s t : Bool) → (s && t) ≡ true → (s ≡ true) × (t ≡ true)
-both true t h = (refl, h)
-both false t h = cc h
-
 pub joined_is : (n k : ℕ) (v w : List ℕ) → length v ≡ 2 * n → list_all (λ x. nat_lt x 16) v ≡ true
     → ((j : ℕ) → j < 2 * n → get_or w (2 * k + j) 0 ≡ get_or v j 0) → octets_from w k n ≡ paired v
 unfolding octets_from octet_at
@@ -94,8 +83,8 @@ joined_is zero k (x ∷ v) w e all same = absurd (omega arith)
 joined_is (suc n) k [] w e all same = absurd (omega arith)
 joined_is (suc n) k (x ∷ []) w e all same = absurd (omega arith)
 joined_is (suc n) k (high ∷ low ∷ v) w e all same =
-    let first = both (nat_lt high 16) (list_all (λ x. nat_lt x 16) (low ∷ v)) all in
-    let second = both (nat_lt low 16) (list_all (λ x. nat_lt x 16) v) first.1 in
+    let first = and_parts (nat_lt high 16) (list_all (λ x. nat_lt x 16) (low ∷ v)) all in
+    let second = and_parts (nat_lt low 16) (list_all (λ x. nat_lt x 16) v) first.1 in
     let small : high < 16 = ltb-true high 16 first.0 in
     let little : low < 16 = ltb-true low 16 second.0 in
     let here : get_or w (2 * k) 0 ≡ high = ap (λ m. get_or w m 0) (zero_more (2 * k)) ∙ same 0 (omega arith) in
@@ -121,8 +110,8 @@ block_read zero (x ∷ v) e fits all = absurd (omega arith)
 block_read (suc n) [] e fits all = absurd (omega arith)
 block_read (suc n) (x ∷ []) e fits all = absurd (omega arith)
 block_read (suc n) (high ∷ low ∷ v) e fits all =
-    let first = both (nat_lt (value_of high) 16) (list_all (λ x. nat_lt x 16) (map value_of (low ∷ v))) all in
-    let second = both (nat_lt (value_of low) 16) (list_all (λ x. nat_lt x 16) (map value_of v)) first.1 in
+    let first = and_parts (nat_lt (value_of high) 16) (list_all (λ x. nat_lt x 16) (map value_of (low ∷ v))) all in
+    let second = and_parts (nat_lt (value_of low) 16) (list_all (λ x. nat_lt x 16) (map value_of v)) first.1 in
     let small : value_of high < 16 = ltb-true (value_of high) 16 first.0 in
     let little : value_of low < 16 = ltb-true (value_of low) 16 second.0 in
     let rest = block_read n v (omega arith) (λ i. fits (suc (suc i))) second.1 in

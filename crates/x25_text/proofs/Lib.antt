@@ -1,6 +1,5 @@
 pub mod FacilityLength
 pub mod DigitLemmas
-pub mod ResultLemmas
 pub mod DigitTable
 pub mod PairLemmas
 pub mod LaneLemmas

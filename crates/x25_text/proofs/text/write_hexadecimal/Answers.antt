@@ -1,8 +1,12 @@
-use Rattle.std.proofs.Common.{◌∙◌, ◌++◌, ap, arith, rules, take}
+use Rattle.std.proofs.Common.{◌∙◌, ◌++◌, Result, Ok, Err, ap, arith, rules, take}
+use Rattle.std.specs.Prelude.{IsOk, OnOk}
 use Rattle.std.proofs.lemmas.Slice.{take-put_mid}
 use Rattle.x25_text.proofs.DigitLemmas.{encode_lower_is}
-use Rattle.x25_text.proofs.ResultLemmas.{from_ok}
 use Rattle.x25_text.proofs.text.write_hexadecimal.Goals as goal
+
+from_ok : {X E : Type 0} (r : Result X E) (P : Type 0) → OnOk r P → IsOk r → P
+from_ok (Ok x) P h ok = h
+from_ok (Err e) P h ok = cc ok
 
 pub returns-clause-text : goal.returns-clause-text
 returns-clause-text c =
