@@ -1,6 +1,6 @@
 -- From the pieces that are read to the whole input.
 use Rattle.std.proofs.Common.{◌≡◌, ◌∙◌, ◌+◌, ◌≤◌, ◌||◌, ℕ, Bool, false, List, [], ◌++◌, length, take, Option, Some, None, Result, Ok, Err, ap, sym, subst, refl, arith}
-use Rattle.std.specs.Prelude.{IfSome, IfOk, OnOk, OnErr, MatchResult}
+use Rattle.std.specs.Prelude.{IfSome, IfOk, OnErr}
 use Rattle.std.specs.Io.KnownBytes.{Consumes, IsAtEnd, Keeps}
 use Rattle.std.proofs.lemmas.List.{length-append, length-take-le}
 use Rattle.std.proofs.lemmas.Option.{same_Some}
@@ -58,18 +58,12 @@ nothing_written long_data o w K =
     if_some o (λ input. K input → AppendsBeginning w w (output_of long_data input)) (λ input e few. ([], output_of long_data input, refl, Appends-nil w))
 
 -- what a run came to, where its input is known
-abbrev Told : Option (List ℕ) → Result ℕ Fault → (List ℕ → Type 0) → (List ℕ → Type 0) → (List ℕ → Type 0) → (List ℕ → ℕ) → Type 0
-Told o r K A C status = (input : List ℕ) → o ≡ Some input → K input → MatchResult r (λ n. A input × (n ≡ status input)) (λ _. C input)
+pub told_ok : (o : Option (List ℕ)) (r : Result ℕ Fault) (K : List ℕ → Type 0) (A : ℕ → List ℕ → Type 0) → ((input : List ℕ) → o ≡ Some input → K input → IfOk r (λ n. A n input))
+    → IfOk r (λ n. IfSome o (λ input. K input → A n input))
+told_ok o (Ok n) K A told = if_some o (λ input. K input → A n input) told
+told_ok o (Err fault) K A told = tt
 
-module _ (o : Option (List ℕ)) where
-  pub told_text : (r : Result ℕ Fault) (K A C : List ℕ → Type 0) (status : List ℕ → ℕ) → Told o r K A C status → OnOk r (IfSome o (λ input. K input → A input))
-  told_text (Ok n) K A C status told = if_some o (λ input. K input → A input) (λ input e few. (told input e few).0)
-  told_text (Err fault) K A C status told = tt
-
-  pub told_status : (r : Result ℕ Fault) (K A C : List ℕ → Type 0) (status : List ℕ → ℕ) → Told o r K A C status → IfOk r (λ n. IfSome o (λ input. K input → n ≡ status input))
-  told_status (Ok n) K A C status told = if_some o (λ input. K input → n ≡ status input) (λ input e few. (told input e few).1)
-  told_status (Err fault) K A C status told = tt
-
-  pub told_fault : (r : Result ℕ Fault) (K A C : List ℕ → Type 0) (status : List ℕ → ℕ) → Told o r K A C status → OnErr r (IfSome o (λ input. K input → C input))
-  told_fault (Ok n) K A C status told = tt
-  told_fault (Err fault) K A C status told = if_some o (λ input. K input → C input) told
+pub told_fault : (o : Option (List ℕ)) (r : Result ℕ Fault) (K A : List ℕ → Type 0) → ((input : List ℕ) → o ≡ Some input → K input → OnErr r (A input))
+    → OnErr r (IfSome o (λ input. K input → A input))
+told_fault o (Ok n) K A told = tt
+told_fault o (Err fault) K A told = if_some o (λ input. K input → A input) told

@@ -27,6 +27,10 @@ pub record Leads (long_data : Bool) (old now : Option (List ℕ)) (line : List �
 abbrev pub LeadsFrom : Option (List ℕ) → Option (List ℕ) → Decoder → List ℕ → List ℕ → Bool → Type 0
 LeadsFrom old now d rest all any = Leads d.long_data old now d.line d.is_long d.text d.is_refused rest all any
 
+-- .. of an input, by whether user data may be long
+abbrev pub DecodesOn : Bool → Decoder → Option (List ℕ) → Option (List ℕ) → List ℕ → List ℕ → Type 0
+DecodesOn long d old now rest input = (d.long_data ≡ long) × LeadsFrom old now d rest (output_of long input) (has_refused input)
+
 -- Written is all of the text but the answers to the open line and to the rest.
 pub record WritesEnded (long_data : Bool) (old now : Option (List ℕ)) (rest all : List ℕ) : Type 0 where
   pub begun : List ℕ

@@ -5,6 +5,7 @@ use crate::answer::{MOST_ANSWER, answer};
 use crate::device::{Failed, Sink, write_all};
 use crate::fault::Fault;
 use crate::lines::split_line;
+use crate::pieces::TextTaker;
 use std::alloc::{AllocError, Global};
 use x25_text::{MOST_OCTETS, ROOM, Text};
 
@@ -26,20 +27,18 @@ pub struct Decoder {
 }
 
 impl Decoder {
-    ghost use Rattle.std.specs.Prelude.{◌≡◌, ◌≢◌, ◌≤◌, ◌+◌, ◌++◌, ◌∷◌, [], ℕ, Bool, true, false, List, Option, ◌||◌, if◌then◌else◌, IfErr, IfOk, OnOk, OnErr, MatchResult, length};
+    ghost use Rattle.std.specs.Prelude.{◌≡◌, ◌≤◌, ◌+◌, ◌++◌, ◌∷◌, [], ℕ, Bool, true, false, List, Option, ◌||◌, IfOk, OnOk, OnErr, MatchResult, length};
     ghost use Rattle.std.specs.Io.KnownBytes.{Appends};
-    ghost use Rattle.x25_program.specs.Decoded.{answer_to, has_refused, is_refused, output_of};
+    ghost use Rattle.x25_program.specs.Decoded.{answer_to, is_refused};
     ghost use Rattle.x25_program.specs.Lines.{IsOpen};
-    ghost use Rattle.x25_program.specs.Stream.{HoldsLine, LeadsFrom, WritesEnded};
+    ghost use Rattle.x25_program.specs.Stream.{DecodesOn, HoldsLine, LeadsFrom};
     ghost use Rattle.x25_program.specs.Written.{AppendsBeginning};
 
     /// Nothing is held and nothing waits.
     ///
     /// With `long_data` the user data of a CALL has at most 128 octets, else at most 16.
     pub fn new(alloc: Global, long_data: bool) -> Result<Decoder, AllocError>
-        ensures fresh { IfOk result (λ d. (old : Option (List ℕ)) (input : List ℕ)
-            → LeadsFrom old old d input (output_of long_data input) (has_refused input)) }
-        ensures long_data { IfOk result (λ d. d.long_data ≡ long_data) }
+        ensures { IfOk result (λ d. (old : Option (List ℕ)) (input : List ℕ) → DecodesOn long_data d old old input input) }
     {
         let line = Text::new(alloc)?;
         let text = Text::new(alloc)?;
@@ -160,31 +159,6 @@ impl Decoder {
         Ok(())
     }
 
-    /// Takes a piece of the text, and writes the answers to the lines that have ended.
-    pub fn take_piece<W: Sink>(&mut self, piece: &[u8], writer: &mut W) -> Result<(), Failed>
-        ensures written { OnOk result (self.new.text ≡ []) }
-        ensures kept { OnOk result (W.is_marked writer.new ≡ W.is_marked writer.old) }
-        ensures leads { (old : Option (List ℕ)) (rest all : List ℕ) (any : Bool)
-            → LeadsFrom old (W.contents writer.old) self.old (piece.now ++ rest) all any
-            → MatchResult result (λ _. LeadsFrom old (W.contents writer.new) self.new rest all any)
-            (λ _. AppendsBeginning old (W.contents writer.new) all) }
-        ensures marked { OnErr result (W.is_marked writer.new ≡ true) }
-        ensures long_data { self.new.long_data ≡ self.old.long_data }
-    {
-        let mut left = piece;
-        while let Some((tail, after)) = split_line(left) {
-            if let Err(failed) = self.close(tail, writer) {
-                return Err(failed);
-            }
-            left = after;
-        }
-        self.hold(left);
-        match self.flush(writer) {
-            Ok(()) => Ok(()),
-            Err(failed) => Err(failed),
-        }
-    }
-
     /// Answers the last line, where it has no line feed, and writes what waits.
     fn finish<W: Sink>(&mut self, writer: &mut W) -> Result<(), Failed>
         ensures kept { OnOk result (W.is_marked writer.new ≡ W.is_marked writer.old) }
@@ -203,35 +177,51 @@ impl Decoder {
         self.answer_held();
         self.flush(writer)
     }
+}
 
-    /// Writes what waits at the end of the text, and answers the status.
-    pub fn end<W: Sink>(mut self, writer: &mut W) -> Result<u8, Fault>
-        ensures zero_or_one { IfOk result (λ status. status ≤ 1) }
-        ensures kept { OnOk result (W.is_marked writer.new ≡ W.is_marked writer.old) }
-        ensures text { (old : Option (List ℕ)) (all : List ℕ) (any : Bool)
-            → LeadsFrom old (W.contents writer.old) self [] all any
-            → MatchResult result (λ status. Appends old (W.contents writer.new) all × (status ≡ (if any then 1 else 0)))
-            (λ _. AppendsBeginning old (W.contents writer.new) all) }
-        ensures write { IfErr result (λ fault. fault ≡ Fault.Write) }
-        ensures marked { OnErr result (W.is_marked writer.new ≡ true) }
-    {
+impl TextTaker for Decoder {
+    ghost use Rattle.std.specs.Prelude.{Bool};
+    ghost use Rattle.x25_program.specs.Decoded.{output_of, status_of as status_of_input};
+    ghost use Rattle.x25_program.specs.Stream.{DecodesOn, WritesEnded};
+
+    // Whether user data may be long.
+    ghost Setting = { Bool };
+
+    ghost text_of = { output_of };
+
+    ghost status_of = { λ _. status_of_input };
+
+    ghost leads = { DecodesOn };
+
+    ghost ended = { λ long old now rest input. WritesEnded long old now rest (output_of long input) };
+
+    ghost waiting = { λ d. d.text };
+
+    ghost may_want = { ⊥ };
+
+    fn take_piece<W: Sink>(&mut self, piece: &[u8], writer: &mut W) -> Result<(), Fault> {
+        let mut left = piece;
+        while let Some((tail, after)) = split_line(left) {
+            if let Err(_) = self.close(tail, writer) {
+                return Err(Fault::Write);
+            }
+            left = after;
+        }
+        self.hold(left);
+        match self.flush(writer) {
+            Ok(()) => Ok(()),
+            Err(_) => Err(Fault::Write),
+        }
+    }
+
+    fn end<W: Sink>(mut self, writer: &mut W) -> Result<u8, Fault> {
         match self.finish(writer) {
             Ok(()) => Ok(u8::from(self.is_refused)),
             Err(_) => Err(Fault::Write),
         }
     }
 
-    /// Writes what waits after a failed read, and answers the fault: `Write` where that fails too.
-    pub fn give_up<W: Sink>(mut self, writer: &mut W) -> Fault
-        ensures text { (old : Option (List ℕ)) (rest all : List ℕ) (any : Bool)
-            → LeadsFrom old (W.contents writer.old) self rest all any
-            → AppendsBeginning old (W.contents writer.new) all }
-        ensures ended { (old : Option (List ℕ)) (rest all : List ℕ) (any : Bool)
-            → LeadsFrom old (W.contents writer.old) self rest all any
-            → result ≡ Fault.Read → WritesEnded self.long_data old (W.contents writer.new) rest all }
-        ensures memory { result ≢ Fault.NoMemory }
-        ensures marked { result ≡ Fault.Write → W.is_marked writer.new ≡ true }
-    {
+    fn give_up<W: Sink>(mut self, writer: &mut W) -> Fault {
         if let Err(_) = self.flush(writer) {
             return Fault::Write;
         }

@@ -1,56 +1,15 @@
 //! Lines of octets answered by lines of text.
-ghost use Rattle.std.specs.Prelude.{◌≡◌, ◌<◌, ◌≤◌, ◌-◌, ◌^◌, ℕ, Bool, true, List, Option, Some, if◌then◌else◌, IfOk, OnOk, OnErr, IfSome, IsErrOf, MatchResult, length};
+ghost use Rattle.std.specs.Prelude.{◌≡◌, ◌<◌, ◌≤◌, ◌-◌, ◌^◌, ℕ, true, List, Some, IfOk, OnOk, OnErr, IfSome, IsErrOf, length};
 ghost use Rattle.std.specs.Io.KnownBytes.{Appends};
 ghost use Rattle.x25_program.specs.Decoded.{output_of, status_of};
-ghost use Rattle.x25_program.specs.Stream.{LeadsFrom, WritesEnded};
+ghost use Rattle.x25_program.specs.Stream.{WritesEnded};
 ghost use Rattle.x25_program.specs.Written.{AppendsBeginning};
 
 use crate::decoder::Decoder;
 use crate::device::{Sink, Source};
 use crate::fault::Fault;
+use crate::pieces::{PIECE, take_text};
 use std::alloc::Global;
-
-/// The most octets that are read at once.
-const PIECE: usize = 65_536;
-
-/// Reads piece by piece, and answers the status at the end.
-///
-/// A reader is called at most 2^64 - 1 times; then its input counts as ended.
-fn decode_pieces<R: Source, W: Sink>(
-    mut decoder: Decoder,
-    piece: &mut [u8],
-    reader: &mut R,
-    writer: &mut W,
-) -> Result<u8, Fault>
-    requires room { 0 < length piece.old }
-    ensures clean { OnOk result ((R.is_marked reader.new ≡ R.is_marked reader.old) × (W.is_marked writer.new ≡ W.is_marked writer.old)) }
-    ensures zero_or_one { IfOk result (λ status. status ≤ 1) }
-    ensures text { (old : Option (List ℕ)) (input all : List ℕ) (any : Bool) → R.remaining reader.old ≡ Some input
-        → length input < 2 ^ 64 - 1
-        → LeadsFrom old (W.contents writer.old) decoder input all any
-        → MatchResult result (λ status. Appends old (W.contents writer.new) all × (status ≡ (if any then 1 else 0)))
-        (λ _. AppendsBeginning old (W.contents writer.new) all) }
-    ensures ended { (old : Option (List ℕ)) (input all : List ℕ) (any : Bool) → R.remaining reader.old ≡ Some input
-        → LeadsFrom old (W.contents writer.old) decoder input all any
-        → IsErrOf result Fault.Read
-        → (rest : List ℕ) × (R.remaining reader.new ≡ Some rest) × WritesEnded decoder.long_data old (W.contents writer.new) rest all }
-    ensures memory { IsErrOf result Fault.NoMemory → ⊥ }
-    ensures read { IsErrOf result Fault.Read → R.is_marked reader.new ≡ true }
-    ensures write { IsErrOf result Fault.Write → W.is_marked writer.new ≡ true }
-{
-    for _ in 0..u64::MAX {
-        let Ok(count) = reader.read(piece) else {
-            return Err(decoder.give_up(writer));
-        };
-        if count == 0 {
-            return decoder.end(writer);
-        }
-        if let Err(_) = decoder.take_piece(&piece[..count], writer) {
-            return Err(Fault::Write);
-        }
-    }
-    decoder.end(writer)
-}
 
 /// Answers each line that the reader gives by a line to the writer, and answers the status: 1 where a line was refused,
 /// else 0.
@@ -92,5 +51,5 @@ pub fn decode_lines<R: Source, W: Sink>(
     let Ok(decoder) = Decoder::new(alloc, long) else {
         return Err(Fault::NoMemory);
     };
-    decode_pieces(decoder, piece.as_mut_slice(), reader, writer)
+    take_text(decoder, piece.as_mut_slice(), reader, writer)
 }

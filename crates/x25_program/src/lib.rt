@@ -8,6 +8,7 @@ mod decoding;
 mod device;
 mod fault;
 mod lines;
+mod pieces;
 mod status;
 mod test_vectors;
 
@@ -15,5 +16,6 @@ pub use decoding::decode_lines;
 pub use device::{Device, Failed, Sink, Source, write_all};
 pub use fault::Fault;
 pub use lines::split_line;
+pub use pieces::{PIECE, TextTaker, take_text};
 pub use status::exit_status;
 pub use test_vectors::{vectors, vectors_hold};

@@ -3,4 +3,4 @@ use Rattle.x25_program.proofs.ReadLemmas.{start}
 use Rattle.x25_program.proofs.decoder.Decoder.new.Goals as goal
 
 pub returns : goal.returns
-returns c = record { fresh = λ old input. start c.args.long_data old _ _ _ _ input c.in_ok-line.ensures refl c.in_ok-text.ensures refl; long_data = refl }
+returns c = λ old input. (refl, start c.args.long_data old _ _ _ _ input c.in_ok-line.ensures refl c.in_ok-text.ensures refl)

@@ -1,6 +1,6 @@
 use Rattle.std.proofs.Common.{◌≡◌, ℕ, length, ◌++◌, List, Option, Bool}
 use Rattle.x25_program.specs.Stream.{LeadsFrom}
-use Rattle.x25_program.proofs.decoder.Decoder.take_piece.Given as goal
+use Rattle.x25_program.proofs.decoder.DecoderTextTaker.take_piece.Given as goal
 
 -- what is left of the piece is still to be answered
 abbrev pub invariant-loop-tail : goal.invariant-loop-tail
