@@ -2,6 +2,7 @@
 use Rattle.std.proofs.Common.{◌≡◌, ◌∙◌, ℕ, Bool, List, ◌++◌, Option, ap, sym, subst}
 use Rattle.std.specs.Prelude.{◌||◌}
 use Rattle.std.proofs.lemmas.List.{append-nil}
+use Rattle.std.proofs.Math.Bool.{or-false}
 use Rattle.x25_program.specs.Written.{AppendsBeginning}
 use Rattle.x25_station.specs.declared.config.Cfg.{Cfg}
 use Rattle.x25_world.specs.World.{World}
@@ -11,7 +12,6 @@ use Rattle.x25_sim.specs.Simulated.{Turn, quiet, and_then}
 use Rattle.x25_sim.specs.Stands.{Stands}
 use Rattle.x25_sim.specs.Leaves.{Leaves}
 use Rattle.x25_sim.proofs.ToldLemmas.{beginning_more, begins}
-use Rattle.x25_sim.proofs.StepLemmas.{or_false}
 use Rattle.x25_sim.proofs.StandLemmas.{StandsAt, BeginsAt, parts_text, parts_refused}
 
 module _ (cfg : Cfg) (tap : Bool) (old now next : Option (List ℕ)) (s u : Stage) (told : List ℕ) (refused : Bool) (whole : Turn) where
@@ -32,7 +32,7 @@ module _ (cfg : Cfg) (tap : Bool) (old now next : Option (List ℕ)) (s u : Stag
   none_left rest l is =
       let at : l.at ≡ whole.next = sym (ap (λ t. t.next) is) ∙ l.next in
       let text : l.text ≡ told ++ sayings_text whole.sayings = sym (append-nil l.text) ∙ sym (ap (λ t. l.text ++ sayings_text t.sayings) is) ∙ l.same in
-      let any : l.status ≡ (refused || has_refusal whole.sayings) = sym (or_false l.status) ∙ sym (ap (λ t. l.status || has_refusal t.sayings) is) ∙ l.any in
+      let any : l.status ≡ (refused || has_refusal whole.sayings) = sym (or-false l.status) ∙ sym (ap (λ t. l.status || has_refusal t.sayings) is) ∙ l.any in
       subst (λ w. Stands cfg tap old now s w (told ++ sayings_text whole.sayings) (refused || has_refusal whole.sayings)) at
       (subst (λ t. Stands cfg tap old now s l.at t (refused || has_refusal whole.sayings)) text
       (subst (Stands cfg tap old now s l.at l.text) any l.stands))

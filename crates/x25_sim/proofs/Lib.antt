@@ -6,6 +6,5 @@ pub mod StandLemmas
 pub mod LeaveLemmas
 pub mod DrainLemmas
 pub mod StreamLemmas
-pub mod ReadLemmas
 pub mod SimLemmas
 pub mod RunLemmas

@@ -1,5 +1,6 @@
 -- A whole script.
-use Rattle.std.proofs.Common.{◌≡◌, ℕ, Bool, false, List, [], Option, refl, sym, subst}
+use Rattle.std.proofs.Common.{◌≡◌, ℕ, Bool, false, List, [], Option, Some, None, refl, sym, subst}
+use Rattle.std.specs.Prelude.{IfSome}
 use Rattle.x25_program.specs.Lines.{lines_of}
 use Rattle.x25_program.specs.Written.{AppendsBeginning}
 use Rattle.x25_station.specs.declared.config.Cfg.{Cfg}
@@ -12,6 +13,10 @@ use Rattle.x25_sim.specs.declared.simulator.Simulator.{Simulator}
 use Rattle.x25_sim.specs.declared.stage.Stage.{Stage}
 use Rattle.x25_sim.proofs.ToldLemmas.{none_told, begins_more}
 use Rattle.x25_sim.proofs.StandLemmas.{StandsAt, BeginsAt, begins_before, parts_text, parts_refused}
+
+pub if_some : (o : Option (List ℕ)) (P : List ℕ → Type 0) → ((script : List ℕ) → o ≡ Some script → P script) → IfSome o P
+if_some None P f = tt
+if_some (Some script) P f = f script refl
 
 -- before the first step
 pub nothing_written : (written : Option (List ℕ)) (text : List ℕ) → AppendsBeginning written written text

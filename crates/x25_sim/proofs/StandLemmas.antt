@@ -2,6 +2,7 @@
 use Rattle.std.proofs.Common.{◌≡◌, ◌∙◌, ℕ, Bool, true, false, List, [], ◌∷◌, ◌++◌, Option, Some, None, append_assoc, ap, sym, subst, refl, codes, inl, inr}
 use Rattle.std.specs.Prelude.{◌⊎◌, ◌||◌}
 use Rattle.std.proofs.lemmas.List.Folds.{list_any-append}
+use Rattle.std.proofs.Math.Bool.{or_assoc, or-false, or-true}
 use Rattle.x25_program.specs.Written.{AppendsBeginning}
 use Rattle.x25_station.specs.declared.config.Cfg.{Cfg}
 use Rattle.x25_world.specs.World.{World, WorldOutcome, refusal_of, after, start, connected}
@@ -14,7 +15,7 @@ use Rattle.x25_sim.specs.Stands.{Stands, opening}
 use Rattle.x25_sim.specs.Written.{Tells}
 use Rattle.x25_sim.proofs.ToldLemmas.{beginning_more}
 use Rattle.x25_sim.proofs.SayingLemmas.{text-append}
-use Rattle.x25_sim.proofs.StepLemmas.{happened_turn, declined_turn, step_accepts, refusal_told, or_false, or_true}
+use Rattle.x25_sim.proofs.StepLemmas.{happened_turn, declined_turn, step_accepts, refusal_told}
 
 -- where it stands, by the turn that led there
 abbrev pub StandsAt : Cfg → Bool → Option (List ℕ) → Option (List ℕ) → Stage → List ℕ → Bool → Turn → Type 0
@@ -36,7 +37,7 @@ module _ (cfg : Cfg) (tap : Bool) (old now next : Option (List ℕ)) (s u : Stag
           fits = fits;
           asked = asked ∙ h.asked;
           tells = subst (λ b. Tells old next u.output (told ++ sayings_text (told_between b w (after w o)))) h.asked tells;
-          status = status ∙ h.status ∙ sym (or_false refused) ∙ ap (λ b. refused || b) (sym (step_accepts tap w (after w o)));
+          status = status ∙ h.status ∙ sym (or-false refused) ∙ ap (λ b. refused || b) (sym (step_accepts tap w (after w o)));
         } in
         subst (StandsAt cfg tap old next u told refused) (sym (happened_turn tap w o accepted)) stands
 
@@ -56,7 +57,7 @@ module _ (cfg : Cfg) (tap : Bool) (old now next : Option (List ℕ)) (s u : Stag
           fits = subst (λ v. FitsWorld cfg v w (all_of w)) (sym world) h.fits;
           asked = asked ∙ h.asked;
           tells = subst (λ t. Tells old next u.output (told ++ t)) (sym (refusal_told error)) tells;
-          status = status ∙ sym (or_true refused);
+          status = status ∙ sym (or-true refused);
         } in
         subst (StandsAt cfg tap old next u told refused) (sym (declined_turn tap w o error refusal)) stands
 
@@ -81,7 +82,7 @@ module _ (cfg : Cfg) (tap : Bool) (old now next : Option (List ℕ)) (s u : Stag
     fits = subst (λ v. FitsWorld cfg v w (all_of w)) (sym world) h.fits;
     asked = asked ∙ h.asked;
     tells = subst (λ t. Tells old next u.output (told ++ t)) (sym nothing_read) tells;
-    status = status ∙ sym (or_true refused);
+    status = status ∙ sym (or-true refused);
   }
 
 pub begins_unread : (cfg : Cfg) (tap : Bool) (old next : Option (List ℕ)) (w : World) (told : List ℕ) → AppendsBeginning old next (told ++ codes "? 60\n")
@@ -89,10 +90,6 @@ pub begins_unread : (cfg : Cfg) (tap : Bool) (old next : Option (List ℕ)) (w :
 begins_unread cfg tap old next w told b = subst (λ t. AppendsBeginning old next (told ++ t)) (sym nothing_read) b
 
 -- ---- one turn behind another
-
-or_assoc : (a b c : Bool) → ((a || b) || c) ≡ (a || (b || c))
-or_assoc true b c = refl
-or_assoc false b c = refl
 
 -- what is said in two parts
 pub parts_text : (told : List ℕ) (first second : List Saying) → (told ++ sayings_text first) ++ sayings_text second ≡ told ++ sayings_text (first ++ second)

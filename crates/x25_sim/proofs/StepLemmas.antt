@@ -1,8 +1,8 @@
 -- A step of the world, as it is told.
 use Rattle.std.proofs.Common.{◌≡◌, ◌∙◌, ℕ, Bool, true, false, List, [], ◌∷◌, ◌++◌, length, drop, map, Some, None, append_assoc, ap, sym, refl}
-use Rattle.std.specs.Prelude.{◌||◌}
 use Rattle.std.proofs.lemmas.List.{append-nil}
 use Rattle.std.proofs.Math.Seq.{drop-append_seam}
+use Rattle.std.proofs.lemmas.Option.{same_Some}
 use Rattle.x25_station.specs.declared.config.Cfg.{Cfg}
 use Rattle.x25_world.specs.World.{World, OnTap, AtEnd, WorldOutcome, Happened, Declined, refusal_of, after}
 use Rattle.x25_world.specs.ShownWorld.{ShownWorld}
@@ -40,10 +40,7 @@ happened_turn tap w (Declined error) e = absurd (cc)
 
 pub declined_turn : (tap : Bool) (w : World) (o : WorldOutcome) (error : WorldError) → refusal_of o ≡ Some error → turn_of tap w o ≡ record { next = w; sayings = refuses error ∷ [] }
 declined_turn tap w (Happened next) error e = absurd (cc)
-declined_turn tap w (Declined found) error e = ap (λ x. record { next = w; sayings = refuses x ∷ [] }) (same found error e)
-  where
-    same : (x y : WorldError) → Some x ≡ Some y → x ≡ y
-    same x y e = cc
+declined_turn tap w (Declined found) error e = ap (λ x. record { next = w; sayings = refuses x ∷ [] }) (same_Some found error e)
 
 -- entries and frames are no refusals
 none_refused : (tap : Bool) (entries : List AtEnd) (frames : List OnTap) → has_refusal (step_told tap entries frames) ≡ false
@@ -60,14 +57,6 @@ none_refused tap (e ∷ entries) frames = none_refused tap entries frames
 
 pub step_accepts : (tap : Bool) (w next : World) → has_refusal (told_between tap w next) ≡ false
 step_accepts tap w next = none_refused tap (drop (length w.transcript) next.transcript) (drop (length w.tap) next.tap)
-
-pub or_false : (b : Bool) → (b || false) ≡ b
-or_false true = refl
-or_false false = refl
-
-pub or_true : (b : Bool) → (b || true) ≡ true
-or_true true = refl
-or_true false = refl
 
 pub refusal_told : (error : WorldError) → sayings_text (refuses error ∷ []) ≡ refusal_line error
 unfolding saying_line

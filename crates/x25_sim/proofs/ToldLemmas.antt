@@ -1,23 +1,14 @@
 -- What was told, as it is written.
-use Rattle.std.proofs.Common.{◌≡◌, ◌∙◌, ℕ, List, [], ◌++◌, Option, Some, None, append_assoc, ap, sym, subst}
+use Rattle.std.proofs.Common.{◌≡◌, ◌∙◌, ℕ, List, [], ◌++◌, Option, append_assoc, ap, sym, subst}
 use Rattle.std.specs.Io.KnownBytes.{Appends}
 use Rattle.std.proofs.lemmas.List.{append-nil}
+use Rattle.std.proofs.KnownBytes.{Appends-nil, Appends-trans}
 use Rattle.x25_program.specs.Written.{AppendsBeginning}
 use Rattle.x25_sim.specs.Written.{Tells}
 
-appends_more : (a b c : Option (List ℕ)) (x y : List ℕ) → Appends a b x → Appends b c y → Appends a c (x ++ y)
-appends_more None b c x y h k = tt
-appends_more (Some xs) None c x y h k = absurd h
-appends_more (Some xs) (Some ys) None x y h k = absurd k
-appends_more (Some xs) (Some ys) (Some zs) x y h k = k ∙ ap (λ front. front ++ y) h ∙ append_assoc xs x y
-
-appends_none : (a : Option (List ℕ)) → Appends a a []
-appends_none None = tt
-appends_none (Some xs) = sym (append-nil xs)
-
 -- nothing was told
 pub none_told : (old : Option (List ℕ)) (text : List ℕ) → text ≡ [] → Tells old old text []
-none_told old text e = record { written = []; appends = appends_none old; same = e }
+none_told old text e = record { written = []; appends = Appends-nil old; same = e }
 
 -- a line that waits
 pub more_waits : (old now : Option (List ℕ)) (text next told line : List ℕ) → Tells old now text told → next ≡ text ++ line → Tells old now next (told ++ line)
@@ -31,7 +22,7 @@ more_waits old now text next told line h e = record {
 pub all_written : (old now next : Option (List ℕ)) (text rest told : List ℕ) → Tells old now text told → Appends now next text → rest ≡ [] → Tells old next rest told
 all_written old now next text rest told h a none = record {
   written = h.written ++ text;
-  appends = appends_more old now next h.written text h.appends a;
+  appends = Appends-trans old now next h.written text h.appends a;
   same = ap (λ t. (h.written ++ text) ++ t) none ∙ append-nil (h.written ++ text) ∙ h.same;
 }
 
@@ -41,7 +32,7 @@ part_written old now next text told h b = (
   h.written ++ b.0,
   b.1,
   sym h.same ∙ ap (λ t. h.written ++ t) b.2 ∙ sym (append_assoc h.written b.0 b.1),
-  appends_more old now next h.written b.0 h.appends b.3,
+  Appends-trans old now next h.written b.0 h.appends b.3,
 )
 
 -- a beginning of what was told is one of what will have been told
@@ -56,7 +47,7 @@ begins old now text told h = (h.written, text, sym h.same, h.appends)
 pub line_written : (old now next : Option (List ℕ)) (text told line : List ℕ) → Tells old now text told → text ≡ [] → Appends now next line → Tells old next text (told ++ line)
 line_written old now next text told line h none a = record {
   written = h.written ++ line;
-  appends = appends_more old now next h.written line h.appends a;
+  appends = Appends-trans old now next h.written line h.appends a;
   same = ap (λ t. (h.written ++ line) ++ t) none ∙ append-nil (h.written ++ line)
       ∙ ap (λ t. t ++ line) (sym (append-nil h.written) ∙ ap (λ t. h.written ++ t) (sym none) ∙ h.same);
 }
@@ -67,7 +58,7 @@ line_begun old now next text told line h none b =
       h.written ++ b.0,
       b.1,
       ap (λ t. t ++ line) (sym all) ∙ ap (λ t. h.written ++ t) b.2 ∙ sym (append_assoc h.written b.0 b.1),
-      appends_more old now next h.written b.0 h.appends b.3,
+      Appends-trans old now next h.written b.0 h.appends b.3,
     )
 
 pub begins_more : (old now : Option (List ℕ)) (text told more : List ℕ) → Tells old now text told → AppendsBeginning old now (told ++ more)

@@ -1,61 +1,17 @@
 //! Scripts answered by transcripts.
-ghost use Rattle.std.specs.Prelude.{◌≡◌, ◌<◌, ◌≤◌, ◌-◌, ◌^◌, ℕ, Bool, true, List, Option, Some, None, if◌then◌else◌, IfOk, OnOk, OnErr, IfSome, IsErrOf, MatchResult, length};
+ghost use Rattle.std.specs.Prelude.{◌≡◌, ◌<◌, ◌≤◌, ◌-◌, ◌^◌, ℕ, true, List, Some, None, IfOk, OnOk, OnErr, IfSome, IsErrOf, length};
 ghost use Rattle.std.specs.Io.KnownBytes.{Appends};
 ghost use Rattle.x25_program.specs.Written.{AppendsBeginning};
-ghost use Rattle.x25_station.specs.declared.config.Cfg.{Cfg as Settings};
 ghost use Rattle.x25_station.specs.Settings.{config_refusal};
-ghost use Rattle.x25_sim.specs.Sayings.{has_refusal, sayings_text};
-ghost use Rattle.x25_sim.specs.Simulated.{Turn, simulated, sim_status, sim_text};
-ghost use Rattle.x25_sim.specs.Stream.{Leads, WritesEnded};
+ghost use Rattle.x25_sim.specs.Simulated.{simulated, sim_status, sim_text};
+ghost use Rattle.x25_sim.specs.Stream.{WritesEnded};
 
 use crate::held_line::HeldLine;
 use crate::simulator::Simulator;
 use crate::stage::Stage;
 use std::alloc::Global;
-use x25_program::{Fault, Sink, Source};
+use x25_program::{Fault, PIECE, Sink, Source, take_text};
 use x25_station::Cfg;
-
-/// The most octets that are read at once.
-const PIECE: usize = 65_536;
-
-/// Reads piece by piece, and answers the status at the end.
-///
-/// A reader is called at most 2^64 - 1 times; then its script counts as ended.
-fn simulate_pieces<R: Source, W: Sink>(
-    simulator: &mut Simulator,
-    piece: &mut [u8],
-    reader: &mut R,
-    writer: &mut W,
-) -> Result<u8, Fault>
-    requires room { 0 < length piece.old }
-    ensures clean { OnOk result ((R.is_marked reader.new ≡ R.is_marked reader.old) × (W.is_marked writer.new ≡ W.is_marked writer.old)) }
-    ensures zero_or_one { IfOk result (λ status. status ≤ 1) }
-    ensures text { (cfg : Settings) (tap : Bool) (old : Option (List ℕ)) (script : List ℕ) (whole : Turn) → R.remaining reader.old ≡ Some script
-        → length script < 2 ^ 64 - 1
-        → Leads cfg tap old (W.contents writer.old) simulator.old script whole
-        → MatchResult result (λ status. Appends old (W.contents writer.new) (sayings_text whole.sayings) × (status ≡ (if has_refusal whole.sayings then 1 else 0)))
-        (λ _. AppendsBeginning old (W.contents writer.new) (sayings_text whole.sayings)) }
-    ensures ended { (cfg : Settings) (tap : Bool) (old : Option (List ℕ)) (script : List ℕ) (whole : Turn) → R.remaining reader.old ≡ Some script
-        → Leads cfg tap old (W.contents writer.old) simulator.old script whole
-        → IsErrOf result Fault.Read
-        → (rest : List ℕ) × (R.remaining reader.new ≡ Some rest) × WritesEnded cfg tap old (W.contents writer.new) rest whole }
-    ensures read { IsErrOf result Fault.Read → R.is_marked reader.new ≡ true }
-    ensures write { IsErrOf result Fault.Write → W.is_marked writer.new ≡ true }
-    ensures memory { IsErrOf result Fault.NoMemory → (R.is_marked reader.new ≡ R.is_marked reader.old) × (W.is_marked writer.new ≡ W.is_marked writer.old) }
-{
-    for _ in 0..u64::MAX {
-        let Ok(count) = reader.read(piece) else {
-            return Err(simulator.give_up(writer));
-        };
-        if count == 0 {
-            return simulator.end(writer);
-        }
-        if let Err(fault) = simulator.take_piece(&piece[..count], writer) {
-            return Err(fault);
-        }
-    }
-    simulator.end(writer)
-}
 
 /// Sets two stations up over a line, does what the lines of the script that the reader gives ask for, and writes what
 /// happens: the entries of the transcript, and with `tap` behind the entries of each step the frames that were put on the
@@ -110,6 +66,6 @@ pub fn sim<R: Source, W: Sink>(
     if let Err(fault) = stage.open(down, writer) {
         return Err(fault);
     }
-    let mut simulator = Simulator::new(held, stage);
-    simulate_pieces(&mut simulator, piece.as_mut_slice(), reader, writer)
+    let simulator = Simulator::new(held, stage);
+    take_text(simulator, piece.as_mut_slice(), reader, writer)
 }

@@ -6,7 +6,7 @@ ghost use Rattle.x25_sim.specs.Simulated.{asked_in};
 
 use crate::held_line::HeldLine;
 use crate::stage::Stage;
-use x25_program::{Fault, Sink, split_line};
+use x25_program::{Fault, Sink, TextTaker, split_line};
 use x25_script::{ScriptLine, read_line};
 
 /// The line that has begun, and the stations.
@@ -26,7 +26,7 @@ fn script_line(held: &HeldLine) -> Option<ScriptLine<'_>>
 }
 
 impl Simulator {
-    ghost use Rattle.std.specs.Prelude.{◌≡◌, ◌≢◌, ◌≤◌, ◌++◌, ◌∷◌, [], true, false, Bool, Option, OnOk, IfOk, IsErrOf, MatchResult, if◌then◌else◌};
+    ghost use Rattle.std.specs.Prelude.{◌≡◌, ◌++◌, ◌∷◌, [], true, false, Bool, Option, OnOk, IsErrOf, MatchResult};
     ghost use Rattle.std.specs.Io.KnownBytes.{Appends};
     ghost use Rattle.x25_program.specs.Lines.{IsOpen, lines_of};
     ghost use Rattle.x25_program.specs.Written.{AppendsBeginning};
@@ -35,7 +35,7 @@ impl Simulator {
     ghost use Rattle.x25_sim.specs.Simulated.{Turn, turn, turns};
     ghost use Rattle.x25_sim.specs.Leaves.{Leaves};
     ghost use Rattle.x25_sim.specs.Stands.{Turns};
-    ghost use Rattle.x25_sim.specs.Stream.{Leads, WritesEnded};
+    ghost use Rattle.x25_sim.specs.Stream.{Leads};
 
     /// No line has begun.
     pub(crate) fn new(held: HeldLine, stage: Stage) -> Simulator
@@ -97,30 +97,6 @@ impl Simulator {
         }
     }
 
-    /// Takes a piece of the script, and writes what is said of the lines that have ended.
-    pub(crate) fn take_piece<W: Sink>(&mut self, piece: &[u8], writer: &mut W) -> Result<(), Fault>
-        ensures kept { OnOk result (W.is_marked writer.new ≡ W.is_marked writer.old) }
-        ensures leads { (cfg : Settings) (tap : Bool) (old : Option (List ℕ)) (rest : List ℕ) (whole : Turn)
-            → Leads cfg tap old (W.contents writer.old) self.old (piece.now ++ rest) whole
-            → MatchResult result (λ _. Leads cfg tap old (W.contents writer.new) self.new rest whole) (λ _. AppendsBeginning old (W.contents writer.new) (sayings_text whole.sayings)) }
-        ensures write { IsErrOf result Fault.Write → W.is_marked writer.new ≡ true }
-        ensures memory { IsErrOf result Fault.NoMemory → W.is_marked writer.new ≡ W.is_marked writer.old }
-        ensures read { IsErrOf result Fault.Read → ⊥ }
-    {
-        let mut left = piece;
-        while let Some((tail, after)) = split_line(left) {
-            if let Err(fault) = self.close(tail, writer) {
-                return Err(fault);
-            }
-            left = after;
-        }
-        self.held.hold(left);
-        match self.stage.flush(writer) {
-            Ok(()) => Ok(()),
-            Err(fault) => Err(fault),
-        }
-    }
-
     /// Writes what waits behind the last line.
     fn write_rest<W: Sink>(&mut self, writer: &mut W) -> Result<(), Fault>
         ensures kept { OnOk result (W.is_marked writer.new ≡ W.is_marked writer.old) }
@@ -156,33 +132,50 @@ impl Simulator {
         }
         self.write_rest(writer)
     }
+}
 
-    /// Writes what waits at the end of the script, and answers the status.
-    pub(crate) fn end<W: Sink>(&mut self, writer: &mut W) -> Result<u8, Fault>
-        ensures zero_or_one { IfOk result (λ status. status ≤ 1) }
-        ensures kept { OnOk result (W.is_marked writer.new ≡ W.is_marked writer.old) }
-        ensures text { (cfg : Settings) (tap : Bool) (old : Option (List ℕ)) (whole : Turn) → Leads cfg tap old (W.contents writer.old) self.old [] whole
-            → MatchResult result (λ status. Appends old (W.contents writer.new) (sayings_text whole.sayings) × (status ≡ (if has_refusal whole.sayings then 1 else 0)))
-            (λ _. AppendsBeginning old (W.contents writer.new) (sayings_text whole.sayings)) }
-        ensures write { IsErrOf result Fault.Write → W.is_marked writer.new ≡ true }
-        ensures memory { IsErrOf result Fault.NoMemory → W.is_marked writer.new ≡ W.is_marked writer.old }
-        ensures read { IsErrOf result Fault.Read → ⊥ }
-    {
+impl TextTaker for Simulator {
+    ghost use Rattle.x25_sim.specs.Simulated.{sim_status, sim_text, simulated};
+    ghost use Rattle.x25_sim.specs.Stream.{Asked, Simulates, WritesEnded};
+
+    // How the simulation was asked for.
+    ghost Setting = { Asked };
+
+    ghost text_of = { λ a. sim_text a.cfg a.down a.tap };
+
+    ghost status_of = { λ a. sim_status a.cfg a.down a.tap };
+
+    ghost leads = { Simulates };
+
+    ghost ended = { λ a old now rest script. WritesEnded a.cfg a.tap old now rest (simulated a.cfg a.down a.tap script) };
+
+    ghost waiting = { λ s. s.stage.output };
+
+    ghost may_want = { Unit {0} };
+
+    fn take_piece<W: Sink>(&mut self, piece: &[u8], writer: &mut W) -> Result<(), Fault> {
+        let mut left = piece;
+        while let Some((tail, after)) = split_line(left) {
+            if let Err(fault) = self.close(tail, writer) {
+                return Err(fault);
+            }
+            left = after;
+        }
+        self.held.hold(left);
+        match self.stage.flush(writer) {
+            Ok(()) => Ok(()),
+            Err(fault) => Err(fault),
+        }
+    }
+
+    fn end<W: Sink>(mut self, writer: &mut W) -> Result<u8, Fault> {
         match self.finish(writer) {
             Ok(()) => Ok(u8::from(self.stage.is_refused())),
             Err(fault) => Err(fault),
         }
     }
 
-    /// Writes what waits after a failed read, and answers the fault: `Write` where that fails too.
-    pub(crate) fn give_up<W: Sink>(&mut self, writer: &mut W) -> Fault
-        ensures text { (cfg : Settings) (tap : Bool) (old : Option (List ℕ)) (rest : List ℕ) (whole : Turn) → Leads cfg tap old (W.contents writer.old) self.old rest whole
-            → AppendsBeginning old (W.contents writer.new) (sayings_text whole.sayings) }
-        ensures ended { (cfg : Settings) (tap : Bool) (old : Option (List ℕ)) (rest : List ℕ) (whole : Turn) → Leads cfg tap old (W.contents writer.old) self.old rest whole
-            → result ≡ Fault.Read → WritesEnded cfg tap old (W.contents writer.new) rest whole }
-        ensures memory { result ≢ Fault.NoMemory }
-        ensures marked { result ≡ Fault.Write → W.is_marked writer.new ≡ true }
-    {
+    fn give_up<W: Sink>(mut self, writer: &mut W) -> Fault {
         match self.stage.flush(writer) {
             Ok(()) => Fault::Read,
             Err(_) => Fault::Write,

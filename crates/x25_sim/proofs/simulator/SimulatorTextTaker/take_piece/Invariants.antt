@@ -2,7 +2,7 @@ use Rattle.std.proofs.Common.{◌≡◌, ◌++◌, ℕ, List, Option, Bool, leng
 use Rattle.x25_station.specs.declared.config.Cfg.{Cfg}
 use Rattle.x25_sim.specs.Simulated.{Turn}
 use Rattle.x25_sim.specs.Stream.{Leads}
-use Rattle.x25_sim.proofs.simulator.Simulator.take_piece.Given as goal
+use Rattle.x25_sim.proofs.simulator.SimulatorTextTaker.take_piece.Given as goal
 
 -- what is left of the piece is still to come
 abbrev pub invariant-loop-tail : goal.invariant-loop-tail
