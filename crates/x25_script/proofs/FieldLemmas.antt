@@ -37,9 +37,9 @@ parts_found at text e =
     let h = position-Some is_blank text at 0 e in
     cut_at at text h.0 h.2 h.1 ∙ ap (λ n. Some (take at text, drop n text)) (sym (add-one at))
 
-none_found : (b : Bool) (n : ℕ) → cond b (Some n) None ≡ None → b ≡ false
-none_found true n e = cc
-none_found false n e = refl
+pub none_found : {A : Type 0} (b : Bool) (x : A) → cond b (Some x) None ≡ None → b ≡ false
+none_found true x e = cc
+none_found false x e = refl
 
 pub no_parts : (text : List ℕ) → position is_blank text ≡ None → parts_of text ≡ None
 no_parts text e =

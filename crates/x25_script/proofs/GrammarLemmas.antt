@@ -3,6 +3,7 @@ use Rattle.std.proofs.Common.{ℕ, ◌==◌, ◌≤◌, ◌≡◌, ◌∙◌, in
 use Rattle.std.specs.Prelude.{cond, option_map, codes, decimal, nat_lt}
 use Rattle.std.specs.Str.{bytes_eq}
 use Rattle.std.proofs.lemmas.Bool.{eqb-false, ltb-true}
+use Rattle.std.proofs.lemmas.Option.{same_Some, none-some, cond_some}
 use Rattle.x25_bits.specs.declared.role.Role.{Role}
 use Rattle.x25_script.specs.declared.words.Keyword.{Keyword}
 use Rattle.x25_script.specs.declared.words.Keyword.TheVariants.{End, T1, Deliver, Lose, Damage, Drain}
@@ -12,8 +13,8 @@ use Rattle.x25_script.specs.declared.params.Params.{Params}
 use Rattle.x25_script.specs.PlainLine.{PlainCommand, clear, reset, ready, not_ready, restart, connect, disconnect, PlainLine}
 use Rattle.x25_script.specs.Spelling.{end_text, direction_text, q_text, address_text, IsNumber, AreParams, params_text, SpellsCommand, Spells}
 use Rattle.x25_script.specs.Reading.{parts_of, end_in, from_in, q_in, number_in, address_in, octets_in, verb_in, keyword_in, small_number_in, params_in, with_params_of, with_params_in, call_in, accept_in, send_in, interrupt_in, on_channel, with_fields, bare_command_in, command_of, command_in, lose_in, damage_in, drain_in, after, line_in}
-use Rattle.x25_script.proofs.NumberLemmas.{number_found, when_some}
-use Rattle.x25_script.proofs.PartLemmas.{chosen, same_some, none_some, bind_found, bytes_same, parts_joined, end_found, from_found, q_found, address_found, octets_found}
+use Rattle.x25_script.proofs.NumberLemmas.{number_found}
+use Rattle.x25_script.proofs.PartLemmas.{chosen, bind_found, bytes_same, parts_joined, end_found, from_found, q_found, address_found, octets_found}
 
 -- ---- what is read is spelled so
 
@@ -41,7 +42,7 @@ keyword_text Drain = codes "drain"
 verb_step : (text word : List ℕ) (this verb : Verb) (rest : Option Verb) → word ≡ verb_text this → cond (bytes_eq text word) (Some this) rest ≡ Some verb
     → (rest ≡ Some verb → text ≡ verb_text verb) → text ≡ verb_text verb
 verb_step text word this verb rest is e others = elim (chosen (bytes_eq text word) _ _ _ e) [
-  | inl p ↦ bytes_same text word p.0 ∙ is ∙ ap verb_text (same_some p.1)
+  | inl p ↦ bytes_same text word p.0 ∙ is ∙ ap verb_text (same_Some _ _ p.1)
   | inr p ↦ others p.1
 ]
 
@@ -54,19 +55,19 @@ verb_found text verb e =
     verb_step text (codes "int") Interrupt verb _ refl e (λ e.
     verb_step text (codes "reset") Reset verb _ refl e (λ e.
     verb_step text (codes "ready") Ready verb _ refl e (λ e.
-    verb_step text (codes "notready") NotReady verb _ refl e (λ e. absurd (none_some e)))))))))
+    verb_step text (codes "notready") NotReady verb _ refl e (λ e. absurd (none-some _ e)))))))))
 
 keyword_step : (text word : List ℕ) (this keyword : Keyword) (rest : Option Keyword) → word ≡ keyword_text this → cond (bytes_eq text word) (Some this) rest ≡ Some keyword
     → (rest ≡ Some keyword → text ≡ keyword_text keyword) → text ≡ keyword_text keyword
 keyword_step text word this keyword rest is e others = elim (chosen (bytes_eq text word) _ _ _ e) [
-  | inl p ↦ bytes_same text word p.0 ∙ is ∙ ap keyword_text (same_some p.1)
+  | inl p ↦ bytes_same text word p.0 ∙ is ∙ ap keyword_text (same_Some _ _ p.1)
   | inr p ↦ others p.1
 ]
 
 end_keyword : (text : List ℕ) (read : Option Role) (keyword : Keyword) → ((end : Role) → read ≡ Some end → text ≡ end_text end)
     → option_map (λ end. End end) read ≡ Some keyword → text ≡ keyword_text keyword
-end_keyword text (Some end) keyword found e = found end refl ∙ ap keyword_text (same_some e)
-end_keyword text None keyword found e = absurd (none_some e)
+end_keyword text (Some end) keyword found e = found end refl ∙ ap keyword_text (same_Some _ _ e)
+end_keyword text None keyword found e = absurd (none-some _ e)
 
 pub keyword_found : (text : List ℕ) (keyword : Keyword) → keyword_in text ≡ Some keyword → text ≡ keyword_text keyword
 keyword_found text keyword e =
@@ -90,7 +91,7 @@ small_spelled : (text : List ℕ) (n : ℕ) → small_number_in text ≡ Some n 
 unfolding small_number_in
 small_spelled text n e =
     let read = bind_found (number_in text) _ n e in
-    let test = when_some (nat_lt read.0 256) read.0 n read.2 in
+    let test = cond_some (nat_lt read.0 256) read.0 n read.2 in
     let small = ltb-true read.0 256 test.0 in
     subst (λ m. (m ≤ 255) × (text ≡ decimal m)) test.1 (omega (arith, small), (number_spelled text read.0 read.1).1)
 
@@ -111,17 +112,17 @@ params_found text p e =
     let windows = fields_two second.0.1 third.0.0 third.0.1 (decimal win_called.0) _ (parts_joined second.0.1 third.0 third.1) three.1 four.1 in
     let rest = fields_two first.0.1 second.0.0 second.0.1 (decimal size_calling.0) _ (parts_joined first.0.1 second.0 second.1) two.1 windows in
     let all = fields_two text first.0.0 first.0.1 (decimal size_called.0) _ (parts_joined text first.0 first.1) one.1 rest in
-    subst (λ (q : Params). AreParams (Some q) × (32 ∷ text ≡ params_text (Some q))) (same_some win_calling.2)
+    subst (λ (q : Params). AreParams (Some q) × (32 ∷ text ≡ params_text (Some q))) (same_Some _ _ win_calling.2)
     ((one.0, two.0, three.0, four.0), ap (λ t. 32 ∷ t) all)
 
 with_params_parts : (text : List ℕ) (parts : Option (List ℕ × List ℕ)) (last : List ℕ × Option Params) → parts_of text ≡ parts
     → with_params_of text parts ≡ Some last → AreParams last.1 × (text ≡ last.0 ++ params_text last.1)
 with_params_parts text None last same e =
-    subst (λ (l : List ℕ × Option Params). AreParams l.1 × (text ≡ l.0 ++ params_text l.1)) (same_some e) (tt, sym (append-nil text))
+    subst (λ (l : List ℕ × Option Params). AreParams l.1 × (text ≡ l.0 ++ params_text l.1)) (same_Some _ _ e) (tt, sym (append-nil text))
 with_params_parts text (Some parts) last same e =
     let params = bind_found (params_in parts.1) _ last e in
     let found = params_found parts.1 params.0 params.1 in
-    subst (λ (l : List ℕ × Option Params). AreParams l.1 × (text ≡ l.0 ++ params_text l.1)) (same_some params.2)
+    subst (λ (l : List ℕ × Option Params). AreParams l.1 × (text ≡ l.0 ++ params_text l.1)) (same_Some _ _ params.2)
     (found.0, parts_joined text parts same ∙ ap (λ t. parts.0 ++ t) found.1)
 
 with_params_found : (text : List ℕ) (last : List ℕ × Option Params) → with_params_in text ≡ Some last → AreParams last.1 × (text ≡ last.0 ++ params_text last.1)
@@ -142,7 +143,7 @@ call_found fields v e =
     let two = address_found second.0.0 calling.0 calling.1 in
     let rest = fields_two first.0.1 second.0.0 second.0.1 (address_text calling.0) _ (parts_joined first.0.1 second.0 second.1) two.1 behind.1 in
     let all = fields_two fields first.0.0 first.0.1 (address_text called.0) _ (parts_joined fields first.0 first.1) one.1 rest in
-    subst (λ (w : PlainCommand). SpellsCommand w (codes "call " ++ fields)) (same_some user.2)
+    subst (λ (w : PlainCommand). SpellsCommand w (codes "call " ++ fields)) (same_Some _ _ user.2)
     (one.0, two.0, behind.0, (last.0.0, octets_found last.0.0 user.0 user.1, ap (λ t. codes "call " ++ t) all))
 
 accept_found : (fields : List ℕ) (v : PlainCommand) → accept_in fields ≡ Some v → SpellsCommand v (codes "accept " ++ fields)
@@ -153,7 +154,7 @@ accept_found fields v e =
     let one = number_spelled last.0.0 channel.0 channel.1 in
     let behind = with_params_found fields last.0 last.1 in
     let all = behind.1 ∙ ap (λ t. t ++ params_text last.0.1) one.1 in
-    subst (λ (w : PlainCommand). SpellsCommand w (codes "accept " ++ fields)) (same_some channel.2)
+    subst (λ (w : PlainCommand). SpellsCommand w (codes "accept " ++ fields)) (same_Some _ _ channel.2)
     (one.0, behind.0, ap (λ t. codes "accept " ++ t) all)
 
 send_found : (fields : List ℕ) (v : PlainCommand) → send_in fields ≡ Some v → SpellsCommand v (codes "send " ++ fields)
@@ -168,7 +169,7 @@ send_found fields v e =
     let two = q_found second.0.0 q.0 q.1 in
     let rest = fields_two first.0.1 second.0.0 second.0.1 (q_text q.0) second.0.1 (parts_joined first.0.1 second.0 second.1) two refl in
     let all = fields_two fields first.0.0 first.0.1 (decimal channel.0) _ (parts_joined fields first.0 first.1) one.1 rest in
-    subst (λ (w : PlainCommand). SpellsCommand w (codes "send " ++ fields)) (same_some user.2)
+    subst (λ (w : PlainCommand). SpellsCommand w (codes "send " ++ fields)) (same_Some _ _ user.2)
     (one.0, (second.0.1, octets_found second.0.1 user.0 user.1, ap (λ t. codes "send " ++ t) all))
 
 interrupt_found : (fields : List ℕ) (v : PlainCommand) → interrupt_in fields ≡ Some v → SpellsCommand v (codes "int " ++ fields)
@@ -179,7 +180,7 @@ interrupt_found fields v e =
     let user = bind_found (octets_in parts.0.1) _ v channel.2 in
     let one = number_spelled parts.0.0 channel.0 channel.1 in
     let all = fields_two fields parts.0.0 parts.0.1 (decimal channel.0) parts.0.1 (parts_joined fields parts.0 parts.1) one.1 refl in
-    subst (λ (w : PlainCommand). SpellsCommand w (codes "int " ++ fields)) (same_some user.2)
+    subst (λ (w : PlainCommand). SpellsCommand w (codes "int " ++ fields)) (same_Some _ _ user.2)
     (one.0, (parts.0.1, octets_found parts.0.1 user.0 user.1, ap (λ t. codes "int " ++ t) all))
 
 channel_found : (asked : ℕ → PlainCommand) (word fields : List ℕ) (v : PlainCommand) → on_channel asked fields ≡ Some v
@@ -187,7 +188,7 @@ channel_found : (asked : ℕ → PlainCommand) (word fields : List ℕ) (v : Pla
 channel_found asked word fields v e spell =
     let channel = bind_found (number_in fields) _ v e in
     let one = number_spelled fields channel.0 channel.1 in
-    subst (λ (w : PlainCommand). SpellsCommand w (word ++ fields)) (same_some channel.2)
+    subst (λ (w : PlainCommand). SpellsCommand w (word ++ fields)) (same_Some _ _ channel.2)
     (subst (λ (t : List ℕ). SpellsCommand (asked channel.0) (word ++ t)) (sym one.1) (spell channel.0 one.0))
 
 with_fields_found : (verb : Verb) (fields : List ℕ) (v : PlainCommand) → with_fields verb fields ≡ Some v → SpellsCommand v (verb_text verb ++ (32 ∷ fields))
@@ -205,7 +206,7 @@ with_fields_found NotReady fields v e = channel_found not_ready (codes "notready
 bare_step : (text word : List ℕ) (this v : PlainCommand) (rest : Option PlainCommand) → SpellsCommand this word → cond (bytes_eq text word) (Some this) rest ≡ Some v
     → (rest ≡ Some v → SpellsCommand v text) → SpellsCommand v text
 bare_step text word this v rest spells e others = elim (chosen (bytes_eq text word) _ _ _ e) [
-  | inl p ↦ subst (λ (w : PlainCommand). SpellsCommand w text) (same_some p.1)
+  | inl p ↦ subst (λ (w : PlainCommand). SpellsCommand w text) (same_Some _ _ p.1)
       (subst (λ (t : List ℕ). SpellsCommand this t) (sym (bytes_same text word p.0)) spells)
   | inr p ↦ others p.1
 ]
@@ -214,7 +215,7 @@ bare_found : (text : List ℕ) (v : PlainCommand) → bare_command_in text ≡ S
 bare_found text v e =
     bare_step text (codes "restart") restart v _ refl e (λ e.
     bare_step text (codes "connect") connect v _ refl e (λ e.
-    bare_step text (codes "disconnect") disconnect v _ refl e (λ e. absurd (none_some e))))
+    bare_step text (codes "disconnect") disconnect v _ refl e (λ e. absurd (none-some _ e))))
 
 command_parts : (text : List ℕ) (parts : Option (List ℕ × List ℕ)) (v : PlainCommand) → parts_of text ≡ parts → command_of text parts ≡ Some v → SpellsCommand v text
 command_parts text None v same e = bare_found text v e
@@ -236,7 +237,7 @@ lose_found fields v e =
     let place = bind_found (number_in parts.0.1) _ v from.2 in
     let two = number_spelled parts.0.1 place.0 place.1 in
     let all = fields_two fields parts.0.0 parts.0.1 (direction_text from.0) (decimal place.0) (parts_joined fields parts.0 parts.1) (from_found parts.0.0 from.0 from.1) two.1 in
-    subst (λ (w : PlainLine). Spells w (codes "lose " ++ fields)) (same_some place.2) (two.0, ap (λ t. codes "lose " ++ t) all)
+    subst (λ (w : PlainLine). Spells w (codes "lose " ++ fields)) (same_Some _ _ place.2) (two.0, ap (λ t. codes "lose " ++ t) all)
 
 damage_found : (fields : List ℕ) (v : PlainLine) → damage_in fields ≡ Some v → Spells v (codes "damage " ++ fields)
 unfolding damage_in
@@ -249,7 +250,7 @@ damage_found fields v e =
     let two = number_spelled second.0.0 place.0 place.1 in
     let rest = fields_two first.0.1 second.0.0 second.0.1 (decimal place.0) second.0.1 (parts_joined first.0.1 second.0 second.1) two.1 refl in
     let all = fields_two fields first.0.0 first.0.1 (direction_text from.0) _ (parts_joined fields first.0 first.1) (from_found first.0.0 from.0 from.1) rest in
-    subst (λ (w : PlainLine). Spells w (codes "damage " ++ fields)) (same_some octets.2)
+    subst (λ (w : PlainLine). Spells w (codes "damage " ++ fields)) (same_Some _ _ octets.2)
     (two.0, (second.0.1, octets_found second.0.1 octets.0 octets.1, ap (λ t. codes "damage " ++ t) all))
 
 drain_found : (fields : List ℕ) (v : PlainLine) → drain_in fields ≡ Some v → Spells v (codes "drain " ++ fields)
@@ -258,23 +259,23 @@ drain_found fields v e =
     let count = bind_found (number_in fields) _ v e in
     let one = number_spelled fields count.0 count.1 in
     elim (chosen (count.0 == 0) _ _ _ count.2) [
-      | inl p ↦ absurd (none_some p.1)
+      | inl p ↦ absurd (none-some _ p.1)
       | inr p ↦
           let other = eqb-false count.0 0 p.0 in
           let some : 1 ≤ count.0 = omega (arith, other) in
-          subst (λ (w : PlainLine). Spells w (codes "drain " ++ fields)) (same_some p.1) (one.0, some, ap (λ t. codes "drain " ++ t) one.1)
+          subst (λ (w : PlainLine). Spells w (codes "drain " ++ fields)) (same_Some _ _ p.1) (one.0, some, ap (λ t. codes "drain " ++ t) one.1)
     ]
 
 after_found : (keyword : Keyword) (fields : List ℕ) (v : PlainLine) → after keyword fields ≡ Some v → Spells v (keyword_text keyword ++ (32 ∷ fields))
 after_found (End end) fields v e =
     let asked = bind_found (command_in fields) _ v e in
-    subst (λ (w : PlainLine). Spells w (end_text end ++ (32 ∷ fields))) (same_some asked.2) (fields, refl, command_found fields asked.0 asked.1)
+    subst (λ (w : PlainLine). Spells w (end_text end ++ (32 ∷ fields))) (same_Some _ _ asked.2) (fields, refl, command_found fields asked.0 asked.1)
 after_found T1 fields v e =
     let end = bind_found (end_in fields) _ v e in
-    subst (λ (w : PlainLine). Spells w (codes "t1 " ++ fields)) (same_some end.2) (ap (λ t. codes "t1 " ++ t) (end_found fields end.0 end.1))
+    subst (λ (w : PlainLine). Spells w (codes "t1 " ++ fields)) (same_Some _ _ end.2) (ap (λ t. codes "t1 " ++ t) (end_found fields end.0 end.1))
 after_found Deliver fields v e =
     let from = bind_found (from_in fields) _ v e in
-    subst (λ (w : PlainLine). Spells w (codes "deliver " ++ fields)) (same_some from.2) (ap (λ t. codes "deliver " ++ t) (from_found fields from.0 from.1))
+    subst (λ (w : PlainLine). Spells w (codes "deliver " ++ fields)) (same_Some _ _ from.2) (ap (λ t. codes "deliver " ++ t) (from_found fields from.0 from.1))
 after_found Lose fields v e = lose_found fields v e
 after_found Damage fields v e = damage_found fields v e
 after_found Drain fields v e = drain_found fields v e

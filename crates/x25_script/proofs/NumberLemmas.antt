@@ -1,5 +1,5 @@
 -- A number and its decimal text.
-use Rattle.std.proofs.Common.{ℕ, zero, suc, ◌^◌, ◌<◌, ◌≤◌, ◌≡◌, ◌∙◌, Bool, true, false, List, length, get_or, Option, Some, None, Result, Ok, Err, nat_lt, refl, ap, sym, subst, arith, rules}
+use Rattle.std.proofs.Common.{ℕ, zero, suc, ◌^◌, ◌<◌, ◌≤◌, ◌≡◌, ◌∙◌, true, false, List, length, get_or, Option, Some, None, Result, Ok, Err, nat_lt, refl, ap, sym, subst, arith, rules}
 use Rattle.std.specs.Prelude.{cond, decimal, ◌&&◌}
 use Rattle.std.specs.Char.{is_ascii_digit}
 use Rattle.std.specs.List.{list_all}
@@ -10,21 +10,18 @@ use Rattle.std.proofs.lemmas.Bool.{and_parts, and_from, ltb-true, lt-ltb}
 use Rattle.std.proofs.lemmas.Fmt.{decimal_digit, decimal_nonempty, first_decimal, digits_decimal, digits_value-decimal, decimal-digits_value}
 use Rattle.std.proofs.lemmas.Slice.Eq.{bytes_eq-Decides}
 use Rattle.std.proofs.lemmas.Str.Parse.{IsNumeralModel, numerals_by_value, parse_digits}
+use Rattle.std.proofs.lemmas.Option.{cond_some}
 use Rattle.x25_script.specs.Reading.{number_in}
 
 pub own : IsNumeralModel (λ digits. list_all is_ascii_digit digits ≡ true) (digits_value 10)
 own = numerals_by_value _ (search rules)
-
-pub when_some : (b : Bool) (n m : ℕ) → cond b (Some n) None ≡ Some m → (b ≡ true) × (n ≡ m)
-when_some true n m e = (refl, cc)
-when_some false n m e = absurd (cc)
 
 -- what is read is written so
 pub number_found : (text : List ℕ) (n : ℕ) → number_in text ≡ Some n → (n < 65536) × (text ≡ decimal n)
 unfolding number_in
 number_found text n e =
     let value = digits_value 10 text in
-    let test = when_some _ value n e in
+    let test = cond_some _ value n e in
     let parts = and_parts (nat_lt value 65536) (bytes_eq (decimal value) text) test.0 in
     let small = ltb-true value 65536 parts.0 in
     let same : decimal value ≡ text = (bytes_eq-Decides (decimal value) text).0 parts.1 in

@@ -4,7 +4,7 @@ use Rattle.std.specs.Prelude.{cond, not, option_map, option_and_then, ◌&&◌, 
 use Rattle.std.specs.Char.{is_ascii_digit, is_ascii_hexdigit}
 use Rattle.std.specs.List.{list_all}
 use Rattle.std.specs.Str.{bytes_eq}
-use Rattle.std.proofs.lemmas.Bool.{and_parts, and_from, eqb-true, eqb-false}
+use Rattle.std.proofs.lemmas.Bool.{and_parts, and_from, eqb-true, eqb-false, false_from_ne_true, not-true}
 use Rattle.std.proofs.lemmas.Bool.Decides.{nat_tests}
 use Rattle.std.proofs.lemmas.Slice.Eq.{bytes_eq-Decides}
 use Rattle.x25_bits.specs.declared.role.Role.{Role}
@@ -16,6 +16,7 @@ use Rattle.hex.specs.declared.error.FromHexError.{FromHexError}
 use Rattle.hex.specs.Hex.{decode_of}
 use Rattle.hex.proofs.HexLemmas.{decode_of-ok}
 use Rattle.std.specs.Result.{result_ok}
+use Rattle.std.proofs.lemmas.Option.{same_Some, none-some}
 use Rattle.x25_script.proofs.OctetLemmas.{passes_digits}
 
 -- which way a test went
@@ -23,20 +24,14 @@ pub chosen : {A : Type 0} (b : Bool) (x y z : A) → cond b x y ≡ z → ((b �
 chosen true x y z e = inl (refl, e)
 chosen false x y z e = inr (refl, e)
 
-pub same_some : {A : Type 0} {x y : A} → (let a : Option A = Some x in let b : Option A = Some y in a ≡ b) → x ≡ y
-same_some h = cc
-
-pub none_some : {A : Type 0} {x : A} → (let a : Option A = None in let b : Option A = Some x in a ≡ b) → ⊥
-none_some h = cc
-
 -- what the steps before a step read
 pub bind_found : {A B : Type 0} (read : Option A) (f : A → Option B) (y : B) → option_and_then f read ≡ Some y → (x : A) × (read ≡ Some x) × (f x ≡ Some y)
 bind_found (Some x) f y e = (x, refl, e)
-bind_found None f y e = absurd (none_some e)
+bind_found None f y e = absurd (none-some _ e)
 
 map_found : {A B : Type 0} (read : Option A) (f : A → B) (y : B) → option_map f read ≡ Some y → (x : A) × (read ≡ Some x) × (f x ≡ y)
-map_found (Some x) f y e = (x, refl, same_some e)
-map_found None f y e = absurd (none_some e)
+map_found (Some x) f y e = (x, refl, same_Some _ _ e)
+map_found None f y e = absurd (none-some _ e)
 
 pub bytes_same : (a b : List ℕ) → bytes_eq a b ≡ true → a ≡ b
 bytes_same a b h = (bytes_eq-Decides a b).0 h
@@ -45,10 +40,10 @@ bytes_same a b h = (bytes_eq-Decides a b).0 h
 
 pub parts_joined : (text : List ℕ) (parts : List ℕ × List ℕ) → parts_of text ≡ Some parts → text ≡ parts.0 ++ (32 ∷ parts.1)
 unfolding parts_of
-parts_joined [] parts e = absurd (none_some e)
+parts_joined [] parts e = absurd (none-some _ e)
 parts_joined (c ∷ text) parts e = elim (chosen (c == 32) (Some ([], text)) (option_map (onto_first c) (parts_of text)) (Some parts) e) [
   | inl p ↦
-      let same : (let x : List ℕ × List ℕ = ([], text) in x) ≡ parts = same_some p.1 in
+      let same : (let x : List ℕ × List ℕ = ([], text) in x) ≡ parts = same_Some _ _ p.1 in
       let first = eqb-true c 32 p.0 in
       ap (λ d. d ∷ text) first ∙ ap (λ (q : List ℕ × List ℕ). q.0 ++ (32 ∷ q.1)) same
   | inr p ↦
@@ -60,11 +55,7 @@ abbrev pub no_blank : ℕ → Bool
 no_blank c = not (c == 32)
 
 not_blank : (c : ℕ) → no_blank c ≡ true → (c == 32) ≡ false
-not_blank c h = turned (c == 32) h
-  where
-    turned : (b : Bool) → not b ≡ true → b ≡ false
-    turned true h = absurd (cc)
-    turned false h = refl
+not_blank c h = not-true (c == 32) h
 
 pub parts_again : (front rest : List ℕ) → list_all no_blank front ≡ true → parts_of (front ++ (32 ∷ rest)) ≡ Some (front, rest)
 unfolding parts_of
@@ -112,10 +103,10 @@ octets_no_blank text (c ∷ octets) h = hexes_no_blank text (passes_digits text 
 
 pub end_found : (text : List ℕ) (end : Role) → end_in text ≡ Some end → text ≡ end_text end
 end_found text end e = elim (chosen (bytes_eq text (codes "dte")) _ _ _ e) [
-  | inl p ↦ bytes_same text _ p.0 ∙ ap end_text (same_some p.1)
+  | inl p ↦ bytes_same text _ p.0 ∙ ap end_text (same_Some _ _ p.1)
   | inr p ↦ elim (chosen (bytes_eq text (codes "dce")) _ _ _ p.1) [
-    | inl q ↦ bytes_same text _ q.0 ∙ ap end_text (same_some q.1)
-    | inr q ↦ absurd (none_some q.1)
+    | inl q ↦ bytes_same text _ q.0 ∙ ap end_text (same_Some _ _ q.1)
+    | inr q ↦ absurd (none-some _ q.1)
   ]
 ]
 
@@ -125,10 +116,10 @@ end_again Dce = refl
 
 pub from_found : (text : List ℕ) (from : Role) → from_in text ≡ Some from → text ≡ direction_text from
 from_found text from e = elim (chosen (bytes_eq text (codes ">")) _ _ _ e) [
-  | inl p ↦ bytes_same text _ p.0 ∙ ap direction_text (same_some p.1)
+  | inl p ↦ bytes_same text _ p.0 ∙ ap direction_text (same_Some _ _ p.1)
   | inr p ↦ elim (chosen (bytes_eq text (codes "<")) _ _ _ p.1) [
-    | inl q ↦ bytes_same text _ q.0 ∙ ap direction_text (same_some q.1)
-    | inr q ↦ absurd (none_some q.1)
+    | inl q ↦ bytes_same text _ q.0 ∙ ap direction_text (same_Some _ _ q.1)
+    | inr q ↦ absurd (none-some _ q.1)
   ]
 ]
 
@@ -138,10 +129,10 @@ from_again Dce = refl
 
 pub q_found : (text : List ℕ) (q : Bool) → q_in text ≡ Some q → text ≡ q_text q
 q_found text q e = elim (chosen (bytes_eq text (codes "0")) _ _ _ e) [
-  | inl p ↦ bytes_same text _ p.0 ∙ ap q_text (same_some p.1)
+  | inl p ↦ bytes_same text _ p.0 ∙ ap q_text (same_Some _ _ p.1)
   | inr p ↦ elim (chosen (bytes_eq text (codes "1")) _ _ _ p.1) [
-    | inl r ↦ bytes_same text _ r.0 ∙ ap q_text (same_some r.1)
-    | inr r ↦ absurd (none_some r.1)
+    | inl r ↦ bytes_same text _ r.0 ∙ ap q_text (same_Some _ _ r.1)
+    | inr r ↦ absurd (none-some _ r.1)
   ]
 ]
 
@@ -157,12 +148,12 @@ some_digits (c ∷ text) h = refl
 
 pub address_found : (text digits : List ℕ) → address_in text ≡ Some digits → IsAddress digits × (text ≡ address_text digits)
 address_found text digits e = elim (chosen (bytes_eq text (codes "-")) _ _ _ e) [
-  | inl p ↦ none text digits (bytes_same text _ p.0) (same_some p.1)
+  | inl p ↦ none text digits (bytes_same text _ p.0) (same_Some _ _ p.1)
   | inr p ↦ elim (chosen (length text == 0) _ _ _ p.1) [
-    | inl q ↦ absurd (none_some q.1)
+    | inl q ↦ absurd (none-some _ q.1)
     | inr q ↦ elim (chosen (list_all is_ascii_digit text) _ _ _ q.1) [
-      | inl r ↦ some text digits q.0 r.0 (same_some r.1)
-      | inr r ↦ absurd (none_some r.1)
+      | inl r ↦ some text digits q.0 r.0 (same_Some _ _ r.1)
+      | inr r ↦ absurd (none-some _ r.1)
     ]
   ]
 ]
@@ -175,10 +166,6 @@ address_found text digits e = elim (chosen (bytes_eq text (codes "-")) _ _ _ e) 
     some text digits long all same =
         (ap (list_all is_ascii_digit) (sym same) ∙ all, sym (some_digits text long) ∙ ap address_text same)
 
-differs : (b : Bool) → (b ≡ true → ⊥) → b ≡ false
-differs true f = absurd (f refl)
-differs false f = refl
-
 no_dash : (c : ℕ) → is_ascii_digit c ≡ true → nat_eq c 45 ≡ false
 no_dash c h = grind (arith, nat_tests, h)
 
@@ -187,7 +174,7 @@ address_again [] h = refl
 address_again (c ∷ digits) h =
     let first = and_parts (is_ascii_digit c) (list_all is_ascii_digit digits) h in
     let other : bytes_eq (c ∷ digits) (codes "-") ≡ false = ap (λ b. b && bytes_eq digits []) (no_dash c first.0) in
-    let some : (length (c ∷ digits) == 0) ≡ false = differs (length (c ∷ digits) == 0) (λ t. let none = eqb-true (length (c ∷ digits)) 0 t in omega (arith, none)) in
+    let some : (length (c ∷ digits) == 0) ≡ false = false_from_ne_true (length (c ∷ digits) == 0) (λ t. let none = eqb-true (length (c ∷ digits)) 0 t in omega (arith, none)) in
     ap (λ b. cond b (Some []) (cond (length (c ∷ digits) == 0) None (digits_in (c ∷ digits)))) other
     ∙ ap (λ b. cond b None (digits_in (c ∷ digits))) some ∙ ap (λ b. cond b (Some (c ∷ digits)) None) h
 
@@ -197,14 +184,14 @@ ok_of : (text octets : List ℕ) → octets_of text ≡ Some octets → decode_o
 ok_of text octets e = go (decode_of text) e
   where
     go : (r : Result (List ℕ) FromHexError) → result_ok r ≡ Some octets → r ≡ Ok octets
-    go (Ok read) e = ap (λ o. Ok o) (same_some e)
-    go (Err fault) e = absurd (none_some e)
+    go (Ok read) e = ap (λ o. Ok o) (same_Some _ _ e)
+    go (Err fault) e = absurd (none-some _ e)
 
 pub octets_found : (text octets : List ℕ) → octets_in text ≡ Some octets → Writes text octets
 octets_found text octets e = elim (chosen (bytes_eq text (codes "-")) _ _ _ e) [
-  | inl p ↦ none text octets (bytes_same text _ p.0) (same_some p.1)
+  | inl p ↦ none text octets (bytes_same text _ p.0) (same_Some _ _ p.1)
   | inr p ↦ elim (chosen (length text == 0) _ _ _ p.1) [
-    | inl q ↦ absurd (none_some q.1)
+    | inl q ↦ absurd (none-some _ q.1)
     | inr q ↦ some text octets (eqb-false (length text) 0 q.0) (ok_of text octets q.1)
   ]
 ]
@@ -223,7 +210,7 @@ octets_again text (c ∷ octets) h =
     let read = decode_of-ok text (c ∷ octets) h in
     let even = read.0 in
     let size = read.2 in
-    let other : bytes_eq text (codes "-") ≡ false = differs (bytes_eq text (codes "-")) (λ t. let one = ap length (bytes_same text (codes "-") t) in omega (arith, one, even)) in
-    let some : (length text == 0) ≡ false = differs (length text == 0) (λ t. let none = eqb-true (length text) 0 t in omega (arith, none, size)) in
+    let other : bytes_eq text (codes "-") ≡ false = false_from_ne_true (bytes_eq text (codes "-")) (λ t. let one = ap length (bytes_same text (codes "-") t) in omega (arith, one, even)) in
+    let some : (length text == 0) ≡ false = false_from_ne_true (length text == 0) (λ t. let none = eqb-true (length text) 0 t in omega (arith, none, size)) in
     ap (λ b. cond b (Some []) (cond (length text == 0) None (octets_of text))) other
     ∙ ap (λ b. cond b None (octets_of text)) some ∙ ap result_ok h

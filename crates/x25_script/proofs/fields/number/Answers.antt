@@ -1,19 +1,12 @@
-use Rattle.std.proofs.Common.{◌≡◌, ◌≤◌, ◌∙◌, sym, subst, true, false, Bool, List, ℕ, Some, None, length, get_or, refl}
-use Rattle.std.specs.Prelude.{cond}
+use Rattle.std.proofs.Common.{◌≡◌, ◌≤◌, ◌∙◌, sym, subst, List, ℕ, length, get_or}
 use Rattle.std.specs.Char.{is_ascii_digit}
 use Rattle.std.specs.List.{list_all}
 use Rattle.std.specs.Str.Parse.{ParsesUnsigned}
+use Rattle.std.proofs.lemmas.Option.{cond_some}
+use Rattle.x25_script.proofs.FieldLemmas.{none_found}
 use Rattle.x25_script.proofs.NumberLemmas.{no_number_behind_zero, no_number_of_others, number_parsed}
 use Rattle.x25_script.proofs.fields.number.Goals.{else-text-gt1-via-then-text-gt1+else-text-eq48, else-text-gt1-via-else-text-gt1}
 use Rattle.x25_script.proofs.fields.number.Goals as goal
-
-others : (b : Bool) (text : List ℕ) → cond b (Some text) None ≡ None → b ≡ false
-others true text e = absurd (cc)
-others false text e = refl
-
-all_digits : (b : Bool) (text read : List ℕ) → cond b (Some text) None ≡ Some read → (b ≡ true) × (text ≡ read)
-all_digits true text read e = (refl, cc)
-all_digits false text read e = absurd (cc)
 
 pub returns-then-text-eq48 : goal.returns-then-text-eq48
 returns-then-text-eq48 c = sym (no_number_behind_zero c.args.text.now c.if-text-gt1.true c.if-text-eq48.true)
@@ -21,12 +14,12 @@ returns-then-text-eq48 c = sym (no_number_behind_zero c.args.text.now c.if-text-
 pub returns-in_err-digits : goal.returns-in_err-digits
 returns-in_err-digits c =
     c.from_residual.ensures
-    ∙ sym (no_number_of_others c.args.text.now (others (list_all is_ascii_digit c.args.text.now) c.args.text.now c.in_err-digits.ensures))
+    ∙ sym (no_number_of_others c.args.text.now (none_found (list_all is_ascii_digit c.args.text.now) c.args.text.now c.in_err-digits.ensures))
 
 pub returns : goal.returns
 returns c =
     let text = c.args.text.now in
-    let read = all_digits (list_all is_ascii_digit text) text c.in_ok-digits.field-0.now c.in_ok-digits.ensures in
+    let read = cond_some (list_all is_ascii_digit text) text c.in_ok-digits.field-0.now c.in_ok-digits.ensures in
     let first : get_or text 0 0 ≡ 48 → length text ≤ 1 = elim c.else-text-gt1.branch [
       | else-text-gt1-via-then-text-gt1+else-text-eq48 w ↦ λ e. absurd (w.if-text-eq48.false e)
       | else-text-gt1-via-else-text-gt1 w ↦ λ e. w.if-text-gt1.false

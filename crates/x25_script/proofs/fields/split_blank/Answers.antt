@@ -1,5 +1,5 @@
-use Rattle.std.proofs.Common.{◌≡◌, ◌∙◌, ◌+◌, ◌-◌, sym, ap, take, drop, length, Some, arith, length-drop}
-use Rattle.std.proofs.lemmas.List.{take_all}
+use Rattle.std.proofs.Common.{◌∙◌, ◌+◌, sym, ap, take, Some}
+use Rattle.std.proofs.lemmas.List.{take_rest}
 use Rattle.x25_script.proofs.FieldLemmas.{parts_found, no_parts}
 use Rattle.x25_script.proofs.fields.split_blank.Goals as goal
 
@@ -7,9 +7,7 @@ pub returns-in-Some : goal.returns-in-Some
 returns-in-Some c =
     let text = c.args.text.now in
     let at = c.in-Some.at in
-    let whole : take (length text - (at + 1)) (drop (at + 1) text) ≡ drop (at + 1) text =
-    take_all (length text - (at + 1)) (drop (at + 1) text) (omega (arith, length-drop (at + 1) text)) in
-    parts_found at text (sym c.in-Some.ensures) ∙ ap (λ rest. Some (take at text, rest)) (sym whole)
+    parts_found at text (sym c.in-Some.ensures) ∙ ap (λ rest. Some (take at text, rest)) (sym (take_rest text (at + 1)))
 
 pub returns-in-None : goal.returns-in-None
 returns-in-None c = no_parts c.args.text.now (sym c.in-None.ensures)

@@ -1,9 +1,9 @@
 use Rattle.std.proofs.Common.{◌≡◌, ◌∙◌, sym, IfSome, IsSomeAnd, Option, Some, None}
+use Rattle.std.proofs.lemmas.Option.{same_Some, none-some}
 use Rattle.x25_script.specs.declared.script_line.ScriptLine.{ScriptLine}
 use Rattle.x25_script.specs.PlainLine.{PlainLine, plain}
 use Rattle.x25_script.specs.Reading.{line_in, GivesLine}
 use Rattle.x25_script.specs.Spelling.{Spells}
-use Rattle.x25_script.proofs.PartLemmas.{same_some, none_some}
 use Rattle.x25_script.proofs.GrammarLemmas.{line_found}
 use Rattle.x25_script.proofs.AgainLemmas.{line_again}
 use Rattle.x25_script.proofs.reading.read_line.Goals as goal
@@ -20,5 +20,5 @@ returns-clause-only c = λ v spells. go c.read.result c.read.ensures v (line_aga
   where
     go : (r : Option ScriptLine) → GivesLine r (line_in c.args.line.now) → (v : PlainLine) → line_in c.args.line.now ≡ Some v
         → IsSomeAnd r (λ w. plain w ≡ v)
-    go (Some w) e v h = same_some (sym e ∙ h)
-    go None e v h = absurd (none_some (sym e ∙ h))
+    go (Some w) e v h = same_Some _ _ (sym e ∙ h)
+    go None e v h = absurd (none-some _ (sym e ∙ h))
