@@ -1,5 +1,5 @@
 -- A number and its decimal text.
-use Rattle.std.proofs.Common.{◌≡◌, ◌∙◌, ◌<◌, ◌≤◌, ℕ, Bool, true, false, List, Option, Some, None, Result, nat_le, ap, refl, sym, subst, arith, decimal}
+use Rattle.std.proofs.Common.{◌≡◌, ◌∙◌, ◌<◌, ◌≤◌, ℕ, true, List, Option, Some, None, Result, nat_le, ap, refl, sym, subst, arith, decimal}
 use Rattle.std.specs.Prelude.{cond, ◌&&◌}
 use Rattle.std.specs.Str.{bytes_eq}
 use Rattle.std.specs.Str.Parse.{ParsesUnsigned, digits_value}
@@ -8,18 +8,15 @@ use Rattle.std.proofs.lemmas.Bool.{and_parts, and_from}
 use Rattle.std.proofs.lemmas.Bool.Decides.{nat_tests}
 use Rattle.std.proofs.lemmas.Fmt.{decimal_is_IsNumeral, parse-decimal}
 use Rattle.std.proofs.lemmas.Slice.Eq.{bytes_eq-Decides}
+use Rattle.std.proofs.lemmas.Option.{cond_some}
 use Rattle.x25_settings.specs.Choosing.{number_in}
-
-when_some : (b : Bool) (n m : ℕ) → cond b (Some n) None ≡ Some m → (b ≡ true) × (n ≡ m)
-when_some true n m e = (refl, cc)
-when_some false n m e = absurd (cc)
 
 -- what is read is in its range, and written so
 pub number_found : (most : ℕ) (text : List ℕ) (n : ℕ) → number_in most text ≡ Some n → (1 ≤ n) × (n ≤ most) × (text ≡ decimal n)
 unfolding number_in
 number_found most text n e =
     let value = digits_value 10 text in
-    let test = when_some _ value n e in
+    let test = cond_some _ value n e in
     let parts = and_parts (nat_le 1 value && nat_le value most) (bytes_eq (decimal value) text) test.0 in
     let bounds = and_parts (nat_le 1 value) (nat_le value most) parts.0 in
     let same : decimal value ≡ text = (bytes_eq-Decides (decimal value) text).0 parts.1 in

@@ -3,6 +3,7 @@ use Rattle.std.proofs.Common.{◌≡◌, ◌∙◌, ℕ, Bool, true, false, List
 use Rattle.std.specs.Prelude.{cond, option_map}
 use Rattle.std.specs.Str.{bytes_eq}
 use Rattle.std.proofs.lemmas.Slice.Eq.{bytes_eq-Decides}
+use Rattle.std.proofs.lemmas.Option.{same_Some}
 use Rattle.x25_settings.specs.declared.options.Chosen.{Chosen}
 use Rattle.x25_settings.specs.declared.options.Simulation.{Simulation}
 use Rattle.x25_settings.specs.declared.words.Task.{Task}
@@ -42,12 +43,9 @@ by_chosen words s (Some end) is e = (end, found words end is, cc)
 found_simulation : (words : List (List ℕ)) (s : Simulation) → simulation_in words ≡ Some s → SaySimulation words s
 found_simulation words s e = by_chosen words s (chosen_in nothing words) refl e
 
-same_task : (t u : Task) → Some t ≡ Some u → t ≡ u
-same_task t u e = cc
-
 -- what is read says the task that was answered
 given : (words : List (List ℕ)) (t task : Task) → Some t ≡ Some task → Say words t → Say words task
-given words t task e say = subst (Say words) (same_task t task e) say
+given words t task e say = subst (Say words) (same_Some t task e) say
 
 found_decode : (word : List ℕ) (words : List (List ℕ)) (task : Task) → word ≡ codes "decode" → decode_in words ≡ Some task → Say (word ∷ words) task
 found_decode word [] task is e = given (word ∷ []) (Decode false) task e (ap (λ w. w ∷ []) is)
