@@ -1,5 +1,5 @@
--- Set-up: SABM and UA are taken, both ends put RESTART, and so begin the run of two links and the run of two layers.
-use Rattle.std.proofs.Common.{◌≡◌, ℕ, List, [], ◌∷◌, ◌++◌, map, Bool, true, not, Option, None, Ok, refl, sym, ap, ap₂, ◌∙◌, subst, arith}
+-- Set-up: SABM and UA are taken, and both ends put RESTART, as two stations from a link just set up.
+use Rattle.std.proofs.Common.{◌≡◌, ℕ, List, [], ◌∷◌, ◌++◌, map, Bool, true, Option, None, Ok, refl, sym, ap, ap₂, ◌∙◌, subst, arith}
 use Rattle.x25_bits.specs.declared.role.Role.{Role}
 use Rattle.x25_bits.specs.declared.role.Role.TheVariants.{Dte, Dce}
 use Rattle.x25_frame.specs.PlainFrame.{PlainFrame, sabm, ua}
@@ -15,19 +15,17 @@ use Rattle.x25_link.specs.MustSend.{Step as LinkStep}
 use Rattle.x25_link.specs.Steps.{take_step, put_step}
 use Rattle.x25_line.specs.Stations as line
 use Rattle.x25_layer.specs.Layer.{at_rest, goes_up, restart_cause}
-use Rattle.x25_layer.specs.World as layer
 use Rattle.x25_station.specs.declared.config.Cfg.{Cfg}
 use Rattle.x25_station.specs.Settings.{settings_from, longest_packet}
-use Rattle.x25_station.specs.Entries.{StationEntry, link_up, entries_noted, layer_entries, layer_notices}
+use Rattle.x25_station.specs.Entries.{StationEntry, link_up, entries_noted}
 use Rattle.x25_station.specs.Station.{Station, new_station}
 use Rattle.x25_station.specs.Steps.{Step, follows, receives}
 use Rattle.x25_station.specs.KeepLaw.{IsKept}
-use Rattle.x25_world.specs.World.{OnTap, AtEnd, World, swapped, tapped, entered, after_step, delivered, after, Event, Receives, happens, refusal_of, AreAccepted, connected, established}
-use Rattle.x25_world.specs.Claims.{link_of, entries_at, ups_in}
+use Rattle.x25_world.specs.World.{World, swapped, entered, after_step, delivered, after, Event, Receives, happens, refusal_of, AreAccepted, connected, established}
+use Rattle.x25_world.specs.Claims.{link_of}
 use Rattle.x25_world.proofs.Reaches.{layer_of}
 use Rattle.x25_world.proofs.Known.{Laws}
-use Rattle.x25_world.proofs.Joined.{Joined, AreOnTap, on_tap}
-use Rattle.x25_world.proofs.LinkSteps.{puts_up}
+use Rattle.x25_world.proofs.SessionLinks.{puts_up}
 
 -- ---- an end that comes up
 
@@ -99,6 +97,22 @@ dte_step cfg = receives (settings_from Dte cfg) waiting ua_octets
 abbrev at_dte : Cfg → List (List ℕ) → World
 at_dte cfg back = after_step (settings_from Dte cfg) (at_dce cfg) back (dte_step cfg)
 
+-- ---- two stations from a link just set up: each is handed RESTART
+
+abbrev pub both_put : List line.Event
+both_put = line.Far (line.Put (restart_of Dce)) ∷ line.Near (line.Put (restart_of Dte)) ∷ []
+
+abbrev pub two_links : Cfg → line.Stations
+two_links cfg = line.run (link_of cfg Dte) (link_of cfg Dce) both_put line.start
+
+-- a world with these stations and lines, whose ends have told of LinkUp alone
+pub record IsJustSetUp (cfg : Cfg) (w : World) : Type 0 where
+  pub near : (two_links cfg).near.station ≡ w.near.link
+  pub far : (two_links cfg).far.station ≡ w.far.link
+  pub out : (two_links cfg).out ≡ w.out
+  pub back : (two_links cfg).back ≡ w.back
+  pub told : w.transcript ≡ record { at = Dce; entry = link_up } ∷ record { at = Dte; entry = link_up } ∷ []
+
 module _ (laws : Laws) (cfg : Cfg) where
   dce_up : ComesUpAt cfg Dce (ua true ∷ []) (dce_step cfg)
   dce_up =
@@ -125,59 +139,14 @@ module _ (laws : Laws) (cfg : Cfg) where
       let ua_comes : refusal_of (happens cfg (at_dce cfg) (comes_to Dte)) ≡ None = ap (λ (l : List (List ℕ)). refusal_of (delivered (settings_from Dte cfg) (at_dce cfg) l)) back_is in
       subst (λ (w : World). AreAccepted cfg (comes_to Dce ∷ comes_to Dte ∷ []) w) (sym (connected_is cfg)) (refl, (ua_comes, tt))
 
-  -- the two links: each is handed RESTART
-  abbrev two_links : line.Stations
-  two_links = line.run (link_of cfg Dte) (link_of cfg Dce) (line.Far (line.Put (restart_of Dce)) ∷ line.Near (line.Put (restart_of Dte)) ∷ []) line.start
-
-  abbrev two_layers : layer.World
-  two_layers = layer.start cfg.long_data cfg.channels
-
   abbrev started : World
   started = at_dte cfg (map (spelling_of Dce) (restarted cfg Dce).side.out)
 
-  kept_waiting : IsKept waiting
-  kept_waiting = record { few = omega arith; rests = λ off. refl }
-
-  transcript_is : started.transcript ≡ record { at = Dce; entry = link_up } ∷ record { at = Dte; entry = link_up } ∷ []
-  transcript_is = ap₂ (λ (a b : List StationEntry). ([] ++ entered Dce a) ++ entered Dte b) dce_up.entries dte_up.entries
-
-  pub established_joined : (asks : Bool) → Joined asks cfg Dte (established cfg)
-  established_joined asks = subst (λ (x : World). Joined asks cfg Dte x) (sym established_is) (record {
-    links = two_links;
-    layers = two_layers;
-    links_reach = record { events = line.Far (line.Put (restart_of Dce)) ∷ line.Near (line.Put (restart_of Dte)) ∷ []; unasked = λ free. (tt, (tt, tt)); once = record { near = refl; far = refl }; run = refl };
-    layers_reach = record { events = []; octets = tt; run = refl };
-    near = record {
-      link = sym dte_up.link;
-      layer = sym dte_up.layer;
-      down = refl;
-      up = refl;
-      entries = sym (ap (λ (t : List AtEnd). layer_entries (entries_at Dte t)) transcript_is);
-      told = sym (ap (λ (t : List AtEnd). layer_notices (entries_at Dte t)) transcript_is);
-      out = sym (ap not dte_up.up);
-      kept = laws.receive_keeps (settings_from Dte cfg) waiting ua_octets kept_waiting;
-      once = ap (λ (t : List AtEnd). ups_in (entries_at Dte t)) transcript_is;
-    };
-    far = record {
-      link = sym dce_up.link;
-      layer = sym dce_up.layer;
-      down = refl;
-      up = refl;
-      entries = sym (ap (λ (t : List AtEnd). layer_entries (entries_at Dce t)) transcript_is);
-      told = sym (ap (λ (t : List AtEnd). layer_notices (entries_at Dce t)) transcript_is);
-      out = sym (ap not dce_up.up);
-      kept = laws.receive_keeps (settings_from Dce cfg) new_station sabm_octets kept_new;
-      once = ap (λ (t : List AtEnd). ups_in (entries_at Dce t)) transcript_is;
-    };
+  pub just_set_up : IsJustSetUp cfg (established cfg)
+  just_set_up = subst (λ (x : World). IsJustSetUp cfg x) (sym established_is) (record {
+    near = sym dte_up.link;
+    far = sym dce_up.link;
     out = ap (λ (fs : List PlainFrame). [] ++ map (spelling_of Dte) fs) (sym dte_up.out);
     back = refl;
-    tap = tap;
+    told = ap₂ (λ (a b : List StationEntry). ([] ++ entered Dce a) ++ entered Dte b) dce_up.entries dte_up.entries;
   })
-    where
-      tap_is : started.tap ≡ (record { from = Dte; octets = sabm_octets } ∷ tapped Dce (map (spelling_of Dce) (ua true ∷ (restarted cfg Dce).side.out))) ++ tapped Dte (map (spelling_of Dte) (restarted cfg Dte).side.out)
-      tap_is = ap₂ (λ (fs gs : List PlainFrame). (record { from = Dte; octets = sabm_octets } ∷ tapped Dce (map (spelling_of Dce) fs)) ++ tapped Dte (map (spelling_of Dte) gs)) dce_up.out dte_up.out
-
-      tap : AreOnTap started.tap (sabm true ∷ ua true ∷ two_links.sent)
-      tap = subst (λ (t : List OnTap). AreOnTap t (sabm true ∷ ua true ∷ two_links.sent)) (sym tap_is)
-          (on_tap Dte (record { from = Dte; octets = sabm_octets } ∷ tapped Dce (map (spelling_of Dce) (ua true ∷ (restarted cfg Dce).side.out))) (sabm true ∷ ua true ∷ (restarted cfg Dce).side.out) (restarted cfg Dte).side.out
-          (on_tap Dce (record { from = Dte; octets = sabm_octets } ∷ []) (sabm true ∷ []) (ua true ∷ (restarted cfg Dce).side.out) (refl, tt)))

@@ -1,16 +1,8 @@
 pub mod Reaches
+pub mod OneLink
 pub mod Known
-pub mod Joined
-pub mod LinkSteps
-pub mod Follows
-pub mod Timers
-pub mod NoUps
-pub mod Requests
-pub mod Receives
-pub mod Grows
-pub mod Runs
+pub mod Growing
 pub mod Established
-pub mod Lawful
 pub mod QuietTap
 pub mod Headline
 pub mod SessionTrace
@@ -32,6 +24,7 @@ pub mod SessionLawful
 pub mod SessionNamed
 pub mod SessionArrives
 pub mod SessionQuiet
+pub mod SetUpOnce
 pub mod SessionHeadline
 pub mod RowLemmas
 pub mod OnLineLemmas

@@ -1,8 +1,6 @@
 -- No error of procedure is ever put on the line, or told to a user.
-use Rattle.std.proofs.Common.{◌≡◌, ℕ, Bool, zero, suc, List, [], ◌∷◌, ◌++◌, inl, inr, Result, Ok, Contains, refl, sym, subst, arith}
-use Rattle.std.proofs.lemmas.List.Elements.{Contains-append_cases}
+use Rattle.std.proofs.Common.{◌≡◌, ℕ, Bool, zero, suc, List, [], ◌∷◌, Result, Ok, Contains, sym, subst, arith}
 use Rattle.x25_bits.specs.declared.role.Role.{Role}
-use Rattle.x25_bits.specs.declared.role.Role.TheVariants.{Dte, Dce}
 use Rattle.x25_frame.specs.PlainFrame.{PlainFrame, info, rr, rnr, rej, sabm, disc, ua, dm, frmr}
 use Rattle.x25_frame.specs.Spelling.{spelling_of}
 use Rattle.x25_frame.specs.Reading.{frame_of}
@@ -12,18 +10,14 @@ use Rattle.x25_packet.specs.PlainPacket.{PlainPacket}
 use Rattle.x25_packet.specs.Spelling as packet
 use Rattle.x25_packet.specs.Reading.{packet_of}
 use Rattle.x25_packet.specs.declared.error.PacketError.{PacketError}
-use Rattle.x25_line.specs.StationClaims.{NoFrmr, NoFrmrSent, IsWhole, AreWhole, AllSentAreWhole}
-use Rattle.x25_layer.specs.Quiet.{AreQuiet, AreNoFaults}
-use Rattle.x25_layer.specs.Law.{IsQuietWorld}
+use Rattle.x25_line.specs.StationClaims.{NoFrmr, IsWhole, AreWhole}
+use Rattle.x25_layer.specs.Quiet.{AreQuiet}
 use Rattle.x25_packet.specs.Spelling.{longest_user}
-use Rattle.x25_station.specs.declared.config.Cfg.{Cfg}
 use Rattle.x25_station.specs.Settings.{longest_packet}
-use Rattle.x25_station.specs.Entries.{layer_notices}
 use Rattle.x25_station.specs.ReadLaw.{AreReadable}
-use Rattle.x25_world.specs.World.{OnTap, World}
-use Rattle.x25_world.specs.Claims.{IsQuietRead, IsQuietFrame, IsQuietTap, HasNoProcedureError, entries_at}
-use Rattle.x25_world.proofs.Known.{Laws, IsConfigured, known_links, known_layers, near_readable, far_readable}
-use Rattle.x25_world.proofs.Joined.{Joined, spelled, AreOnTap}
+use Rattle.x25_world.specs.World.{OnTap}
+use Rattle.x25_world.specs.Claims.{IsQuietRead, IsQuietFrame, IsQuietTap}
+use Rattle.x25_world.proofs.Growing.{spelled, AreOnTap}
 
 -- ---- packets
 
@@ -67,36 +61,3 @@ quiet_tap reads long_data channels given quiet (t ∷ tap) (f ∷ fs) on whole n
     (quiet_read reads long_data channels t.from given f t.octets whole.0 on.0 here.0, quiet_tap reads long_data channels given quiet tap fs on.1 whole.1 here.1)
 quiet_tap reads long_data channels given quiet [] (f ∷ fs) on whole none = absurd on
 quiet_tap reads long_data channels given quiet (t ∷ tap) [] on whole none = absurd on
-
--- ---- of a world
-
-pub has_no_error : (laws : Laws) (asks : Bool) (cfg : Cfg) → IsConfigured cfg → (w : World) → Joined asks cfg Dte w → HasNoProcedureError cfg w
-has_no_error laws asks cfg fine w h = record {
-  tap = quiet_tap laws.reads cfg.long_data cfg.channels (h.links.near.down ++ h.links.far.down) quiet w.tap _ h.tap
-      (record { in_range = tt; carries = refl; within = tt; packet = tt }, (record { in_range = tt; carries = refl; within = tt; packet = tt }, known_links laws asks cfg fine AllSentAreWhole laws.whole Dte h.links h.links_reach))
-      (known_links laws asks cfg fine NoFrmrSent laws.no_frmr Dte h.links h.links_reach);
-  told = told;
-}
-  where
-    law : IsQuietWorld cfg.channels h.layers
-    law = known_layers laws asks cfg fine (IsQuietWorld cfg.channels) (laws.layers_quiet cfg.long_data cfg.channels) Dte h.layers h.layers_reach
-
-    near : (octets : List ℕ) → Contains h.links.near.down octets → IsQuietOctets cfg.long_data cfg.channels octets
-    near octets there =
-        quiet_octets cfg.long_data cfg.channels h.layers.near.given law.near.given (near_readable laws asks cfg fine Dte h.layers h.layers_reach) octets
-        (subst (λ (l : List (List ℕ)). Contains l octets) h.near.down there)
-
-    far : (octets : List ℕ) → Contains h.links.far.down octets → IsQuietOctets cfg.long_data cfg.channels octets
-    far octets there =
-        quiet_octets cfg.long_data cfg.channels h.layers.far.given law.far.given (far_readable laws asks cfg fine Dte h.layers h.layers_reach) octets
-        (subst (λ (l : List (List ℕ)). Contains l octets) h.far.down there)
-
-    quiet : (octets : List ℕ) → Contains (h.links.near.down ++ h.links.far.down) octets → IsQuietOctets cfg.long_data cfg.channels octets
-    quiet octets there = elim (Contains-append_cases h.links.near.down h.links.far.down octets there) [
-      | inl here ↦ near octets here
-      | inr here ↦ far octets here
-    ]
-
-    told : (end : Role) → AreNoFaults (layer_notices (entries_at end w.transcript))
-    told Dte = subst AreNoFaults h.near.told law.near.told
-    told Dce = subst AreNoFaults h.far.told law.far.told

@@ -1,5 +1,5 @@
 -- Where a stretch is open, the sessions of both ends that stand meet each other; and where the one end is idle, all arrived.
-use Rattle.std.proofs.Common.{◌≡◌, ℕ, ◌≤◌, inl, inr, List, [], length, Bool, true, false, Some, refl, sym, ap, ◌∙◌, subst, arith}
+use Rattle.std.proofs.Common.{◌≡◌, ℕ, ◌≤◌, inl, inr, List, [], length, Bool, true, false, Some, refl, sym, ap, ◌∙◌, subst, arith, Option, None, if◌then◌else◌, ◌+◌, ◌==◌, zero, suc, nat_le}
 use Rattle.x25_bits.specs.declared.role.Role.{Role}
 use Rattle.x25_bits.specs.declared.role.Role.TheVariants.{Dte, Dce}
 use Rattle.x25_link.specs.MustSend.{other}
@@ -9,9 +9,9 @@ use Rattle.x25_line.specs.Sessions.{Meeting}
 use Rattle.x25_line.specs.SessionClaims.{EachMeetsLatest, IdleHasArrived}
 use Rattle.x25_circuit.specs.declared.state.State.{State}
 use Rattle.x25_circuit.specs.declared.state.State.TheVariants.{Open}
-use Rattle.x25_circuit.specs.Circuit.{is_free_in, is_open_in, is_open}
+use Rattle.x25_circuit.specs.Circuit.{is_free_in, is_open_in, is_open, Circuit, waits}
 use Rattle.x25_epochs.specs.Names.{Name}
-use Rattle.x25_layer.specs.Layer.{Layer, at_rest}
+use Rattle.x25_layer.specs.Layer.{Layer, at_rest, is_channel}
 use Rattle.x25_layer.specs.Transcript.{Entry, name_of}
 use Rattle.x25_layer.specs.World as layer
 use Rattle.x25_layer.specs.Law.{HasAllOf, IsIdleTo}
@@ -24,13 +24,82 @@ use Rattle.x25_world.specs.World.{World, swapped}
 use Rattle.x25_world.specs.Sessions.{Progress, last_session, handed_in, meets}
 use Rattle.x25_world.specs.SessionClaims.{OpenStretchesMeet, AllArrive}
 use Rattle.x25_world.proofs.Reaches.{layer_of}
-use Rattle.x25_world.proofs.Known.{IsConfigured}
-use Rattle.x25_world.proofs.Joined.{spelled, spelled_none}
-use Rattle.x25_world.proofs.Lawful.{stretch_of, link_idle, idle_between}
+use Rattle.x25_world.proofs.Known.{IsConfigured, both_true, true_false}
+use Rattle.x25_world.proofs.Growing.{spelled, spelled_none}
 use Rattle.x25_world.proofs.SessionTrace.{Done, own_in, own, pair_in}
-use Rattle.x25_world.proofs.SessionReaches.{known_sessions}
+use Rattle.x25_world.proofs.SessionReaches.{Beginning, known_sessions}
 use Rattle.x25_world.proofs.SessionJoined.{HasMet, PairIsInOrder, SessionsJoined, sessions_swapped}
 use Rattle.x25_world.proofs.SessionKnown.{SessionLaws, all_some, some_map, met_in_order, pair_world, world_here, world_there}
+use Rattle.x25_packet.specs.Spelling as packet
+use Rattle.x25_layer.specs.FitsLayer.{waits_up_to}
+use Rattle.std.proofs.lemmas.Bool.{eqb-true, eq-eqb, leb-true}
+use Rattle.std.proofs.lemmas.List.{length-map}
+
+-- ---- a stretch that is open
+
+record IsStretch (channels : ℕ) (l : Layer) (k : ℕ) (name : Name) : Type 0 where
+  pub channel : is_channel channels k ≡ true
+  pub opened : is_open (l.circuits k) ≡ true
+  pub named : name_of l k ≡ name
+
+abbrev name_if : Bool → Name → Option Name
+name_if b name = if b then Some name else None
+
+abbrev open_if : Bool → Bool → Bool
+open_if b o = if b then o else false
+
+stretch_of : (channels : ℕ) (l : Layer) (k : ℕ) (name : Name) → name_if (open_if (is_channel channels k) (is_open (l.circuits k))) (name_of l k) ≡ Some name → IsStretch channels l k name
+stretch_of channels l k name is = by (is_channel channels k) (is_open (l.circuits k)) refl refl is
+  where
+    some_is : (m n : Name) → Some m ≡ Some n → m ≡ n
+    some_is m n e = cc
+
+    by : (b o : Bool) → is_channel channels k ≡ b → is_open (l.circuits k) ≡ o → name_if (open_if b o) (name_of l k) ≡ Some name → IsStretch channels l k name
+    by true true channel opened there = record { channel = channel; opened = opened; named = some_is (name_of l k) name there }
+    by true false channel opened there = absurd (cc)
+    by false o channel opened there = absurd (cc)
+
+none_of_sum : (a b : ℕ) → a + b ≡ 0 → (a ≡ 0) × (b ≡ 0)
+none_of_sum a b e = (omega arith, omega arith)
+
+none_waits : (circuits : ℕ → Circuit) (n k : ℕ) → waits_up_to circuits n ≡ 0 → 1 ≤ k → k ≤ n → waits (circuits k) ≡ 0
+none_waits circuits zero k none low high = absurd (omega arith)
+none_waits circuits (suc n) k none low high =
+    let parts = none_of_sum (waits_up_to circuits n) (waits (circuits (suc n))) none in
+    by (k == suc n) refl (λ below. none_waits circuits n k parts.0 low below) parts.1
+  where
+    lower : k ≤ suc n → (k ≡ suc n → ⊥) → k ≤ n
+    lower le not_same = omega (arith, le, not_same)
+
+    by : (b : Bool) → (k == suc n) ≡ b → (k ≤ n → waits (circuits k) ≡ 0) → waits (circuits (suc n)) ≡ 0 → waits (circuits k) ≡ 0
+    by true is rest here = ap (λ (j : ℕ). waits (circuits j)) (eqb-true k (suc n) is) ∙ here
+    by false is rest here = rest (lower high (λ (e : k ≡ suc n). true_false (sym (eq-eqb k (suc n) e) ∙ is)))
+
+-- ---- an end that is idle
+
+link_idle : (cfg : Cfg) (end : Role) (s : Station) → is_idle (settings_from end cfg) s ≡ true → link.is_idle s.link ≡ true
+link_idle cfg end s idle = (both_true (link.is_idle s.link) (waits_up_to s.layer.circuits cfg.channels == 0) idle).0
+
+-- .. to the other one, where all that its link was handed down arrived, and the same stretch is open at both
+idle_between : (cfg : Cfg) (end : Role) (s t : Station) (giver taker : layer.End) (k : ℕ) (name : Name) → giver.layer ≡ s.layer → taker.layer ≡ t.layer → is_idle (settings_from end cfg) s ≡ true
+    → stretch (settings_from end cfg) s k ≡ Some name → stretch (settings_from (other end) cfg) t k ≡ Some name → spelled taker.taken ≡ spelled giver.given → IsIdleTo k giver taker (length giver.given)
+idle_between cfg end s t giver taker k name of_giver of_taker idle here there all =
+    let both = both_true (link.is_idle s.link) (waits_up_to s.layer.circuits cfg.channels == 0) idle in
+    let opened = stretch_of cfg.channels s.layer k name here in
+    let opened_there = stretch_of cfg.channels t.layer k name there in
+    let bounds = both_true (nat_le 1 k) (nat_le k cfg.channels) opened.channel in
+    let none : waits (s.layer.circuits k) ≡ 0 =
+    none_waits s.layer.circuits cfg.channels k (eqb-true (waits_up_to s.layer.circuits cfg.channels) 0 both.1) (leb-true 1 k bounds.0) (leb-true k cfg.channels bounds.1) in
+    let count : length taker.taken ≡ length giver.given =
+    sym (length-map taker.taken packet.spelling_of) ∙ ap (λ (l : List (List ℕ)). length l) all ∙ length-map giver.given packet.spelling_of in
+    record {
+      all_acked = refl;
+      acked_taken = omega (arith, count);
+      no_message = ap (λ (l : Layer). waits (l.circuits k)) of_giver ∙ none;
+      opened = ap (λ (l : Layer). is_open (l.circuits k)) of_giver ∙ opened.opened;
+      opened_there = ap (λ (l : Layer). is_open (l.circuits k)) of_taker ∙ opened_there.opened;
+      same_name = ap (λ (l : Layer). name_of l k) of_giver ∙ opened.named ∙ sym (ap (λ (l : Layer). name_of l k) of_taker ∙ opened_there.named);
+    }
 
 -- ---- an open stretch
 
@@ -66,7 +135,7 @@ module _ (laws : SessionLaws) (cfg : Cfg) where
       (subst (λ (f : layer.End). ArrivesFrom (pair_world laws cfg end n m trace).near f) (world_there laws cfg end n m trace) (arrives_here end n m trace order))
 
 -- the sessions of both ends that stand meet each other, as the near end sees it
-record StandingMeet (cfg : Cfg) (end : Role) (w : World) (h : SessionsJoined cfg end w) : Type 0 where
+record StandingMeet {since : Beginning} (cfg : Cfg) (end : Role) (w : World) (h : SessionsJoined since cfg end w) : Type 0 where
   pub up : is_up w.near.link.phase ≡ true
   pub told : meets end h.links.near.begun w.transcript ≡ Some h.links.far.begun
   pub has_met : HasMet h.links.near.begun h.links.far.begun h.links.met
@@ -75,7 +144,7 @@ record StandingMeet (cfg : Cfg) (end : Role) (w : World) (h : SessionsJoined cfg
 module _ (laws : SessionLaws) (cfg : Cfg) (fine : IsConfigured cfg) where
   -- ---- the sessions that stand
 
-  meet_from : (end : Role) (w : World) (h : SessionsJoined cfg end w) (k : ℕ) (name : Name) → stretch (settings_from end cfg) w.near k ≡ Some name → StandingMeet cfg end w h
+  meet_from : {since : Beginning} (end : Role) (w : World) (h : SessionsJoined since cfg end w) (k : ℕ) (name : Name) → stretch (settings_from end cfg) w.near k ≡ Some name → StandingMeet cfg end w h
   meet_from end w h k name here = elim (h.near_hears n) [ inl none ↦ absurd (not_silent none.0) | inr one ↦ standing one.session (is_latest one.session one.has_met) one.told one.has_met one.begun.1 ]
     where
       n : ℕ
@@ -108,24 +177,24 @@ module _ (laws : SessionLaws) (cfg : Cfg) (fine : IsConfigured cfg) where
         begun = (h.near.first up, subst (λ (x : ℕ). 1 ≤ x) same low);
       }
 
-  latest_near : (end : Role) (w : World) (h : SessionsJoined cfg end w) → h.links.near.begun ≡ last_session end w
+  latest_near : {since : Beginning} (end : Role) (w : World) (h : SessionsJoined since cfg end w) → h.links.near.begun ≡ last_session end w
   latest_near end w h = sym (ap (λ (p : Progress). p.begun) h.near.progress)
 
-  latest_far : (end : Role) (w : World) (h : SessionsJoined cfg end w) → h.links.far.begun ≡ last_session (other end) w
+  latest_far : {since : Beginning} (end : Role) (w : World) (h : SessionsJoined since cfg end w) → h.links.far.begun ≡ last_session (other end) w
   latest_far end w h = sym (ap (λ (p : Progress). p.begun) h.far.progress)
 
-  latest_meet : (end : Role) (w : World) (h : SessionsJoined cfg end w) (k : ℕ) (name : Name) → stretch (settings_from end cfg) w.near k ≡ Some name
+  latest_meet : {since : Beginning} (end : Role) (w : World) (h : SessionsJoined since cfg end w) (k : ℕ) (name : Name) → stretch (settings_from end cfg) w.near k ≡ Some name
       → meets end (last_session end w) w.transcript ≡ Some (last_session (other end) w)
   latest_meet end w h k name here =
       subst (λ (n : ℕ). meets end n w.transcript ≡ Some (last_session (other end) w)) (latest_near end w h) ((meet_from end w h k name here).told ∙ ap (λ (m : ℕ). Some m) (latest_far end w h))
 
-  pub open_stretches_meet : (w : World) → SessionsJoined cfg Dte w → OpenStretchesMeet cfg w
+  pub open_stretches_meet : {since : Beginning} (w : World) → SessionsJoined since cfg Dte w → OpenStretchesMeet cfg w
   open_stretches_meet w h Dte channel there name name_there here at_other = latest_meet Dte w h channel name here
   open_stretches_meet w h Dce channel there name name_there here at_other = latest_meet Dce (swapped w) (sessions_swapped cfg Dte w h) channel name here
 
   -- ---- all arrived
 
-  arrives_from : (end : Role) (w : World) → SessionsJoined cfg end w → (k : ℕ) (name : Name) → is_idle (settings_from end cfg) w.near ≡ true → stretch (settings_from end cfg) w.near k ≡ Some name
+  arrives_from : {since : Beginning} (end : Role) (w : World) → SessionsJoined since cfg end w → (k : ℕ) (name : Name) → is_idle (settings_from end cfg) w.near ≡ true → stretch (settings_from end cfg) w.near k ≡ Some name
       → stretch (settings_from (other end) cfg) w.far k ≡ Some name → HasAllOf k name (handed_in end (last_session end w) w) (handed_in (other end) (last_session (other end) w) w)
   arrives_from end w h k name idle here there =
       let stands = meet_from end w h k name here in
@@ -149,6 +218,6 @@ module _ (laws : SessionLaws) (cfg : Cfg) (fine : IsConfigured cfg) where
       (subst (λ (es : List Entry). HasAllOf k (name_of giver.layer k) es (handed_in (other end) m w)) near_session.entries
       (subst (λ (es : List Entry). HasAllOf k (name_of giver.layer k) giver.entries es) far_session.entries has_all))))
 
-  pub all_arrive : (w : World) → SessionsJoined cfg Dte w → AllArrive cfg w
+  pub all_arrive : {since : Beginning} (w : World) → SessionsJoined since cfg Dte w → AllArrive cfg w
   all_arrive w h Dte k name idle here there = arrives_from Dte w h k name idle here there
   all_arrive w h Dce k name idle here there = arrives_from Dce (swapped w) (sessions_swapped cfg Dte w h) k name idle here there

@@ -26,15 +26,25 @@ use Rattle.x25_world.specs.World.{World, after_step}
 use Rattle.x25_world.specs.Claims.{link_of}
 use Rattle.x25_world.specs.Sessions.{Progress, is_in, entry_if}
 use Rattle.x25_world.proofs.Reaches.{layer_of}
-use Rattle.x25_world.proofs.Known.{IsConfigured}
-use Rattle.x25_world.proofs.Follows.{true_false, Lead, no_command, connect, disconnect, lead_of}
-use Rattle.x25_world.proofs.LinkSteps.{puts_up}
+use Rattle.x25_world.proofs.Known.{IsConfigured, true_false}
 use Rattle.x25_world.proofs.SessionTrace.{own, TakeNothing}
-use Rattle.x25_world.proofs.SessionReaches.{SessionsReach, known_sessions}
+use Rattle.x25_world.proofs.SessionReaches.{Beginning, SessionsReach, known_sessions}
 use Rattle.x25_world.proofs.SessionJoined.{HasMet, PairsAreInOrder, SessionsJoined}
 use Rattle.x25_world.proofs.SessionKnown.{SessionLaws, nothing_in_order, own_readable}
-use Rattle.x25_world.proofs.SessionLinks.{SessionGoes, puts_go}
+use Rattle.x25_world.proofs.SessionLinks.{SessionGoes, puts_go, puts_up}
 use Rattle.x25_world.proofs.SessionGoes.{IsSilent, Begins, not_in, rests, begins_session}
+
+-- the command that a step is of, if it is one of the link
+pub data Lead : Type 0 where
+  no_command : Lead
+  connect : Lead
+  disconnect : Lead
+
+-- its entry comes first
+abbrev pub lead_of : Lead → List StationEntry
+lead_of no_command = []
+lead_of connect = connect_asked ∷ []
+lead_of disconnect = disconnect_asked ∷ []
 
 -- ---- entries that aren't the layer's
 
@@ -51,11 +61,12 @@ asked_elsewhere n p e differs = ap (λ (b : Bool). entry_if b e ++ []) (not_in n
 
 -- where nothing is noted
 quiet_silent : (lead : Lead) (p : Progress) (still : Bool) → p.stands ≡ still → IsSilent p still (lead_of lead ++ [])
-quiet_silent no_command p still same = record { progress = ap (λ (b : Bool). record { begun = p.begun; stands = b }) same; entries = λ n. refl; told = λ n. refl; all_told = refl; later = λ n differs. refl }
+quiet_silent no_command p still same = record { progress = ap (λ (b : Bool). record { begun = p.begun; stands = b }) same; entries = λ n. refl; told = λ n. refl; all_entries = refl; all_told = refl; later = λ n differs. refl }
 quiet_silent connect p still same = record {
   progress = ap (λ (b : Bool). record { begun = p.begun; stands = b }) same;
   entries = λ n. asked_entries (is_in n p) connect_asked refl;
   told = λ n. asked_told (is_in n p) connect_asked refl;
+  all_entries = refl;
   all_told = refl;
   later = λ n differs. asked_elsewhere n p connect_asked differs;
 }
@@ -63,17 +74,19 @@ quiet_silent disconnect p still same = record {
   progress = ap (λ (b : Bool). record { begun = p.begun; stands = b }) same;
   entries = λ n. asked_entries (is_in n p) disconnect_asked refl;
   told = λ n. asked_told (is_in n p) disconnect_asked refl;
+  all_entries = refl;
   all_told = refl;
   later = λ n differs. asked_elsewhere n p disconnect_asked differs;
 }
 
 -- LinkDown alone
 down_silent : (lead : Lead) (p : Progress) (reason : Reason) → IsSilent p false (lead_of lead ++ link_down reason ∷ [])
-down_silent no_command p reason = record { progress = refl; entries = λ n. refl; told = λ n. refl; all_told = refl; later = λ n differs. refl }
+down_silent no_command p reason = record { progress = refl; entries = λ n. refl; told = λ n. refl; all_entries = refl; all_told = refl; later = λ n differs. refl }
 down_silent connect p reason = record {
   progress = refl;
   entries = λ n. asked_entries (is_in n p) connect_asked refl;
   told = λ n. asked_told (is_in n p) connect_asked refl;
+  all_entries = refl;
   all_told = refl;
   later = λ n differs. asked_elsewhere n p connect_asked differs;
 }
@@ -81,6 +94,7 @@ down_silent disconnect p reason = record {
   progress = refl;
   entries = λ n. asked_entries (is_in n p) disconnect_asked refl;
   told = λ n. asked_told (is_in n p) disconnect_asked refl;
+  all_entries = refl;
   all_told = refl;
   later = λ n differs. asked_elsewhere n p disconnect_asked differs;
 }
@@ -91,6 +105,7 @@ up_begins p None = record {
   progress = refl;
   entries = λ m. asked_entries (m == suc p.begun) link_up refl;
   told = λ m. asked_told (m == suc p.begun) link_up refl;
+  all_entries = refl;
   all_told = refl;
   others = λ m differs. asked_elsewhere m (record { begun = suc p.begun; stands = true }) link_up differs;
 }
@@ -98,14 +113,15 @@ up_begins p (Some reason) = record {
   progress = refl;
   entries = λ m. asked_entries (m == suc p.begun) link_up refl;
   told = λ m. asked_told (m == suc p.begun) link_up refl;
+  all_entries = refl;
   all_told = refl;
   others = λ m differs. asked_elsewhere m (record { begun = suc p.begun; stands = true }) link_up differs;
 }
 
 -- ---- the link's step, at `v`, and the layer's
 
-module _ (laws : SessionLaws) (cfg : Cfg) (fine : IsConfigured cfg) (end : Role) (w : World) (h : SessionsJoined cfg end w) (lead : Lead) (back : List (List ℕ)) (k : LinkStep) (v : Sessions)
-    (reach : SessionsReach cfg end v) (pairs : PairsAreInOrder cfg end h.trace v.met) (more : (n m : ℕ) → HasMet n m h.links.met → HasMet n m v.met) (tells : Tells w.near.link k) where
+module _ {since : Beginning} (laws : SessionLaws) (cfg : Cfg) (fine : IsConfigured cfg) (end : Role) (w : World) (h : SessionsJoined since cfg end w) (lead : Lead) (back : List (List ℕ)) (k : LinkStep) (v : Sessions)
+    (reach : SessionsReach since cfg end v) (pairs : PairsAreInOrder cfg end h.trace v.met) (more : (n m : ℕ) → HasMet n m h.links.met → HasMet n m v.met) (tells : Tells w.near.link k) where
   abbrev whole_step : Step
   whole_step = led_by (lead_of lead) (follows (settings_from end cfg) w.near.layer k)
 
@@ -115,30 +131,30 @@ module _ (laws : SessionLaws) (cfg : Cfg) (fine : IsConfigured cfg) (end : Role)
   abbrev standing : Progress
   standing = record { begun = h.links.near.begun; stands = is_up w.near.link.phase }
 
-  quiet_step : GoesTo h.links.near.begun → k.packet ≡ None → IsKept whole_step.near → IsQuiet k → SessionsJoined cfg end (after_step (settings_from end cfg) w back whole_step)
+  quiet_step : GoesTo h.links.near.begun → k.packet ≡ None → IsKept whole_step.near → IsQuiet k → SessionsJoined since cfg end (after_step (settings_from end cfg) w back whole_step)
   quiet_step g none kept quiet =
       let is = laws.stations.quiet (settings_from end cfg) w.near.layer k none quiet in
       let step : Step = record { near = station_with k.side.near w.near.layer; out = k.side.out; entries = lead_of lead ++ [] } in
       let same : step ≡ whole_step = ap (λ (s : Step). led_by (lead_of lead) s) (sym is) in
-      subst (λ (s : Step). SessionsJoined cfg end (after_step (settings_from end cfg) w back s)) same
+      subst (λ (s : Step). SessionsJoined since cfg end (after_step (settings_from end cfg) w back s)) same
       (rests cfg end w h step back v v.met g (quiet_silent lead standing (is_up k.side.near.phase) (sym (tells.stays quiet))) (λ still. (sym (tells.stays quiet) ∙ still, refl))
       (subst (λ (s : Step). IsKept s.near) (sym same) kept) reach pairs more)
 
   down_step : GoesTo h.links.near.begun → IsKept whole_step.near → (reason : Reason) → k.notes ≡ record { down = Some reason; up = false }
-      → SessionsJoined cfg end (after_step (settings_from end cfg) w back whole_step)
+      → SessionsJoined since cfg end (after_step (settings_from end cfg) w back whole_step)
   down_step g kept reason noted =
       let is = laws.stations.down (settings_from end cfg) w.near.layer k reason noted in
       let step : Step = record { near = station_with k.side.near at_rest; out = k.side.out; entries = lead_of lead ++ link_down reason ∷ [] } in
       let same : step ≡ whole_step = ap (λ (s : Step). led_by (lead_of lead) s) (sym is) in
       let off : is_up k.side.near.phase ≡ false = tells.left reason (ap (λ (n : Notes). n.down) noted) (ap (λ (n : Notes). n.up) noted) in
-      subst (λ (s : Step). SessionsJoined cfg end (after_step (settings_from end cfg) w back s)) same
+      subst (λ (s : Step). SessionsJoined since cfg end (after_step (settings_from end cfg) w back s)) same
       (rests cfg end w h step back v v.met g (subst (λ (b : Bool). IsSilent standing b (lead_of lead ++ link_down reason ∷ [])) (sym off) (down_silent lead standing reason)) (λ still. true_false (sym still ∙ off))
       (subst (λ (s : Step). IsKept s.near) (sym same) kept) reach pairs more)
 
-  pub follows_silent : k.notes.up ≡ false → GoesTo h.links.near.begun → k.packet ≡ None → IsKept whole_step.near → SessionsJoined cfg end (after_step (settings_from end cfg) w back whole_step)
+  pub follows_silent : k.notes.up ≡ false → GoesTo h.links.near.begun → k.packet ≡ None → IsKept whole_step.near → SessionsJoined since cfg end (after_step (settings_from end cfg) w back whole_step)
   follows_silent not_up g none kept = by k.notes.down refl
     where
-      by : (o : Option Reason) → k.notes.down ≡ o → SessionsJoined cfg end (after_step (settings_from end cfg) w back whole_step)
+      by : (o : Option Reason) → k.notes.down ≡ o → SessionsJoined since cfg end (after_step (settings_from end cfg) w back whole_step)
       by None is = quiet_step g none kept (ap₂ (λ (d : Option Reason) (u : Bool). record { down = d; up = u }) is not_up)
       by (Some reason) is = down_step g kept reason (ap₂ (λ (d : Option Reason) (u : Bool). record { down = d; up = u }) is not_up)
 
@@ -157,7 +173,7 @@ module _ (laws : SessionLaws) (cfg : Cfg) (fine : IsConfigured cfg) (end : Role)
       (nothing_in_order cfg end h.trace n m (subst TakeNothing (sym (h.near.later n (omega arith)).moves) tt) (subst TakeNothing (sym (h.far.later m (omega arith)).moves) tt)) h.octets)
 
   pub follows_up : k.notes.up ≡ true → GoesTo (suc h.links.near.begun) → IsKept (follows (settings_from end cfg) w.near.layer k).near
-      → SessionsJoined cfg end (after_step (settings_from end cfg) w back (follows (settings_from end cfg) w.near.layer k))
+      → SessionsJoined since cfg end (after_step (settings_from end cfg) w back (follows (settings_from end cfg) w.near.layer k))
   follows_up up g kept =
       let c = link_of cfg end in
       let step : Step = follows (settings_from end cfg) w.near.layer k in

@@ -27,11 +27,11 @@ use Rattle.x25_world.specs.World.{World, tapped, entered, after_step}
 use Rattle.x25_world.specs.Claims.{entries_at, link_of}
 use Rattle.x25_world.specs.Sessions.{Progress, none_begun, after_entries, is_in, session_from, first_of, met_by, meets}
 use Rattle.x25_world.proofs.Reaches.{layer_of}
-use Rattle.x25_world.proofs.Joined.{spelled, spelled_none, grown, AreOnTap, entries_more, entries_other, layer_append, notices_append, on_tap}
-use Rattle.x25_world.proofs.Follows.{true_false}
+use Rattle.x25_world.proofs.Growing.{spelled, spelled_none, grown, AreOnTap, entries_more, entries_other, layer_append, notices_append, on_tap}
+use Rattle.x25_world.proofs.Known.{true_false}
 use Rattle.x25_world.proofs.SessionTrace.{Done, moved, own_in, own, own_more, own_same, own_other, own_goes, same_number, other_number, TakeNothing, nothing_append, BringOctets, octets_append}
-use Rattle.x25_world.proofs.SessionReaches.{SessionsReach}
-use Rattle.x25_world.proofs.SessionJoined.{IsSession, IsLayer, IsEnd, HasMet, Meets, Hears, PairsAreInOrder, SessionsJoined}
+use Rattle.x25_world.proofs.SessionReaches.{Beginning, SessionsReach}
+use Rattle.x25_world.proofs.SessionJoined.{HaveAll, IsSession, IsLayer, IsEnd, HasMet, Meets, Hears, PairsAreInOrder, SessionsJoined}
 use Rattle.x25_world.proofs.SessionEntries.{after_append, session_append, meets_more, meets_other, none_met, ArePlain, plain_progress, plain_here, plain_elsewhere, restart_met, elsewhere_met}
 use Rattle.x25_world.proofs.SessionLinks.{SessionGoes, extended_none}
 
@@ -76,6 +76,7 @@ pub record IsSilent (p : Progress) (still : Bool) (es : List StationEntry) : Typ
   pub progress : after_entries p es ≡ record { begun = p.begun; stands = still }
   pub entries : (n : ℕ) → layer_entries (session_from n p es) ≡ []
   pub told : (n : ℕ) → layer_notices (session_from n p es) ≡ []
+  pub all_entries : layer_entries es ≡ []
   pub all_told : layer_notices es ≡ []
   pub later : (n : ℕ) → (n ≡ p.begun → ⊥) → session_from n p es ≡ []
 
@@ -84,6 +85,7 @@ pub record Begins (n : ℕ) (p : Progress) (es : List StationEntry) : Type 0 whe
   pub progress : after_entries p es ≡ record { begun = suc n; stands = true }
   pub entries : (m : ℕ) → layer_entries (session_from m p es) ≡ []
   pub told : (m : ℕ) → layer_notices (session_from m p es) ≡ []
+  pub all_entries : layer_entries es ≡ []
   pub all_told : layer_notices es ≡ []
   pub others : (m : ℕ) → (m ≡ suc n → ⊥) → session_from m p es ≡ []
 
@@ -138,6 +140,7 @@ end_stays cfg end s k t t₂ es same h = record {
   now = λ up. subst (λ (e : layer.End). IsLayer e s) (sym (own_stays k.begun)) (h.now up);
   alone = λ n none. subst TakeNothing (sym (same n)) (h.alone n none);
   no_fault = h.no_fault;
+  first_has_all = h.first_has_all;
 }
   where
     own_stays : (n : ℕ) → own cfg end n t₂ ≡ own cfg end n t
@@ -161,7 +164,7 @@ pub record IsNews (n m : ℕ) (met : List Meeting) (notices : List LayerNotice) 
   pub restarts : BeginsRestarted notices
   pub begun : 1 ≤ m
 
-module _ (cfg : Cfg) (end : Role) (w : World) (h : SessionsJoined cfg end w) (step : Step) (back : List (List ℕ)) (v : Sessions) (met : List Meeting) where
+module _ {since : Beginning} (cfg : Cfg) (end : Role) (w : World) (h : SessionsJoined since cfg end w) (step : Step) (back : List (List ℕ)) (v : Sessions) (met : List Meeting) where
   abbrev session : ℕ
   session = h.links.near.begun
 
@@ -180,6 +183,15 @@ module _ (cfg : Cfg) (end : Role) (w : World) (h : SessionsJoined cfg end w) (st
       session_append n none_begun told_before step.entries
       ∙ ap (λ (p : Progress). session_from n none_begun told_before ++ session_from n p step.entries) h.near.progress
 
+  all_more : HaveAll (session_from 1 none_begun told_before) told_before → HaveAll (session_from 1 standing step.entries) step.entries
+      → HaveAll (session_from 1 none_begun (told_before ++ step.entries)) (told_before ++ step.entries)
+  all_more before more = record {
+    entries = ap layer_entries (session_more 1) ∙ layer_append (session_from 1 none_begun told_before) (session_from 1 standing step.entries)
+        ∙ ap₂ (λ (a b : List Entry). a ++ b) before.entries more.entries ∙ sym (layer_append told_before step.entries);
+    told = ap layer_notices (session_more 1) ∙ notices_append (session_from 1 none_begun told_before) (session_from 1 standing step.entries)
+        ∙ ap₂ (λ (a b : List LayerNotice). a ++ b) before.told more.told ∙ sym (notices_append told_before step.entries);
+  }
+
   progress_more : after_entries none_begun (told_before ++ step.entries) ≡ after_entries standing step.entries
   progress_more = after_append none_begun told_before step.entries ∙ ap (λ (p : Progress). after_entries p step.entries) h.near.progress
 
@@ -191,11 +203,11 @@ module _ (cfg : Cfg) (end : Role) (w : World) (h : SessionsJoined cfg end w) (st
       ∙ ap (λ (p : Progress). first_of (meets end n w.transcript) (met_by n p (after_entries none_begun told_there) step.entries)) h.near.progress
 
   -- the sessions of both ends, where the near end's part is known
-  joined_of : (moves : List OwnMove) (at : ℕ) → SessionsReach cfg end v → v.far ≡ h.links.far → octets_of v.out ≡ octets_of h.links.out ++ map (spelling_of end) step.out → octets_of v.back ≡ back
+  joined_of : (moves : List OwnMove) (at : ℕ) → SessionsReach since cfg end v → v.far ≡ h.links.far → octets_of v.out ≡ octets_of h.links.out ++ map (spelling_of end) step.out → octets_of v.back ≡ back
       → v.sent ≡ h.links.sent ++ step.out → v.met ≡ met → IsEnd cfg end step.near v.near (h.trace ++ moved end at moves) (told_before ++ step.entries) → BringOctets (moved end at moves)
       → PairsAreInOrder cfg end (h.trace ++ moved end at moves) met → ((n m : ℕ) → HasMet n m h.links.met → HasMet n m met)
       → ((n : ℕ) → Hears (λ (n m : ℕ). HasMet n m met) n (v.near.up n) (meets end n (w.transcript ++ entered end step.entries)))
-      → SessionsJoined cfg end (after_step (settings_from end cfg) w back step)
+      → SessionsJoined since cfg end (after_step (settings_from end cfg) w back step)
   joined_of moves at reach far out left sent same_met near octets pairs more hears = record {
     links = v;
     trace = h.trace ++ moved end at moves;
@@ -298,8 +310,14 @@ module _ (cfg : Cfg) (end : Role) (w : World) (h : SessionsJoined cfg end w) (st
           (subst (λ (e : layer.End). IsLayer e step.near) (sym (own_goes cfg end session h.trace moves)) (record { layer = o.layer; out = o.out }));
       alone = nothing_taken alone;
       no_fault = subst AreNoFaults (sym (notices_append told_before step.entries)) (no_faults_append (layer_notices told_before) (layer_notices step.entries) h.near.no_fault no_fault);
+      first_has_all = λ low. (let most = subst (λ (n : ℕ). n ≤ 1) g.begun low in
+          let all = plain_here 1 standing step.entries plain (subst (λ (n : ℕ). is_in n standing ≡ true) (first_one session (h.near.first up) most) stands_here) in
+          all_more (h.near.first_has_all most) (record { entries = ap layer_entries all; told = ap layer_notices all }));
     }
       where
+        first_one : (n : ℕ) → 1 ≤ n → n ≤ 1 → n ≡ 1
+        first_one n low high = omega (arith, low, high)
+
         none : 0 ≡ session → ⊥
         none is = (let low = h.near.first up in omega (arith, low, is))
 
@@ -312,10 +330,10 @@ module _ (cfg : Cfg) (end : Role) (w : World) (h : SessionsJoined cfg end w) (st
     abbrev all_of : ℕ → Option ℕ
     all_of n = meets end n (w.transcript ++ entered end step.entries)
 
-    pub goes_on : SessionsReach cfg end v → (lifted ≡ [] → TakeNothing moves) → AreNoFaults (layer_notices step.entries) → BringOctets (moved end session moves)
+    pub goes_on : SessionsReach since cfg end v → (lifted ≡ [] → TakeNothing moves) → AreNoFaults (layer_notices step.entries) → BringOctets (moved end session moves)
         → PairsAreInOrder cfg end trace_on met → ((n m : ℕ) → HasMet n m h.links.met → HasMet n m met)
         → ((own cfg end session h.trace).taken ≡ [] → ((lifted ≡ []) × (layer_notices step.entries ≡ [])) ⊎ IsNews session h.links.far.begun met (layer_notices step.entries))
-        → SessionsJoined cfg end (after_step (settings_from end cfg) w back step)
+        → SessionsJoined since cfg end (after_step (settings_from end cfg) w back step)
     goes_on reach alone no_fault octets pairs more news =
         joined_of moves session reach g.far g.out g.back g.sent g.met (near_goes_on alone no_fault) octets pairs more hears
       where
@@ -380,12 +398,13 @@ module _ (cfg : Cfg) (end : Role) (w : World) (h : SessionsJoined cfg end w) (st
           subst (λ (n : ℕ). IsLayer (own cfg end n h.trace) step.near) (sym g.begun) (record { layer = old.layer ∙ sym before.1; out = old.out }));
       alone = λ n none. h.near.alone n (sym (up_same n) ∙ none);
       no_fault = subst AreNoFaults (sym (notices_append told_before step.entries ∙ ap (λ (ns : List LayerNotice). layer_notices told_before ++ ns) silent.all_told ∙ append-nil (layer_notices told_before))) h.near.no_fault;
+      first_has_all = λ low. all_more (h.near.first_has_all (subst (λ (n : ℕ). n ≤ 1) g.begun low)) (record { entries = silent.entries 1 ∙ sym silent.all_entries; told = silent.told 1 ∙ sym silent.all_told });
     }
       where
         over : (n : ℕ) → session < n → n ≡ session → ⊥
         over n more is = omega (arith, more, is)
 
-    pub rests : SessionsReach cfg end v → PairsAreInOrder cfg end h.trace met → ((n m : ℕ) → HasMet n m h.links.met → HasMet n m met) → SessionsJoined cfg end (after_step (settings_from end cfg) w back step)
+    pub rests : SessionsReach since cfg end v → PairsAreInOrder cfg end h.trace met → ((n m : ℕ) → HasMet n m h.links.met → HasMet n m met) → SessionsJoined since cfg end (after_step (settings_from end cfg) w back step)
     rests reach pairs more =
         joined_of [] session reach g.far g.out g.back g.sent g.met (subst (λ (t : List Done). IsEnd cfg end step.near v.near t (told_before ++ step.entries)) (sym (append-nil h.trace)) near_rests) tt
         (subst (λ (t : List Done). PairsAreInOrder cfg end t met) (sym (append-nil h.trace)) pairs) more
@@ -449,6 +468,8 @@ module _ (cfg : Cfg) (end : Role) (w : World) (h : SessionsJoined cfg end w) (st
           (subst (λ (e : layer.End). IsLayer e step.near) (sym own_afresh) (record { layer = sym layer_begins; out = refl }));
       alone = λ n none. h.near.alone n (sym (begun_up_same n) ∙ none);
       no_fault = subst AreNoFaults (sym (notices_append told_before step.entries ∙ ap (λ (ns : List LayerNotice). layer_notices told_before ++ ns) begins.all_told ∙ append-nil (layer_notices told_before))) h.near.no_fault;
+      first_has_all = λ low. (let most = subst (λ (n : ℕ). n ≤ 1) g.begun low in
+          all_more (h.near.first_has_all (omega (arith, most))) (record { entries = begins.entries 1 ∙ sym begins.all_entries; told = begins.told 1 ∙ sym begins.all_told }));
     }
       where
         none : 0 ≡ the_next → ⊥
@@ -465,7 +486,7 @@ module _ (cfg : Cfg) (end : Role) (w : World) (h : SessionsJoined cfg end w) (st
             session_rests (own cfg end n h.trace) (own cfg end n h.trace) (session_from n none_begun told_before) (session_from n none_begun (told_before ++ step.entries)) (session_from n standing step.entries)
             (h.links.near.down n) (h.links.near.up n) (v.near.down n) (v.near.up n) refl (h.near.sessions n low high) (session_more n) (begins.entries n) (begins.told n) (begun_down_same n differs) (begun_up_same n)
 
-    pub begins_session : SessionsReach cfg end v → PairsAreInOrder cfg end h.trace met → ((n m : ℕ) → HasMet n m h.links.met → HasMet n m met) → SessionsJoined cfg end (after_step (settings_from end cfg) w back step)
+    pub begins_session : SessionsReach since cfg end v → PairsAreInOrder cfg end h.trace met → ((n m : ℕ) → HasMet n m h.links.met → HasMet n m met) → SessionsJoined since cfg end (after_step (settings_from end cfg) w back step)
     begins_session reach pairs more =
         joined_of [] session reach g.far g.out g.back g.sent g.met (subst (λ (t : List Done). IsEnd cfg end step.near v.near t (told_before ++ step.entries)) (sym (append-nil h.trace)) near_begins) tt
         (subst (λ (t : List Done). PairsAreInOrder cfg end t met) (sym (append-nil h.trace)) pairs) more

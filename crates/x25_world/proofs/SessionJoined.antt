@@ -18,11 +18,16 @@ use Rattle.x25_station.specs.KeepLaw.{IsKept}
 use Rattle.x25_world.specs.World.{World, swapped}
 use Rattle.x25_world.specs.Claims.{entries_at}
 use Rattle.x25_world.specs.Sessions.{none_begun, after_entries, session_from, meets}
-use Rattle.x25_world.proofs.Joined.{spelled, AreOnTap}
+use Rattle.x25_world.proofs.Growing.{spelled, AreOnTap}
 use Rattle.x25_world.proofs.SessionTrace.{Done, own_in, own, pair_at, pair_turned, TakeNothing, BringOctets}
-use Rattle.x25_world.proofs.SessionReaches.{SessionsReach, reach_swapped}
+use Rattle.x25_world.proofs.SessionReaches.{Beginning, SessionsReach, reach_swapped}
 
 -- ---- an end
+
+-- what is of the layer in some of the entries is all
+pub record HaveAll (some all : List StationEntry) : Type 0 where
+  pub entries : layer_entries some ≡ layer_entries all
+  pub told : layer_notices some ≡ layer_notices all
 
 -- the layer's end in a session, the packets that its link was handed down and handed up there, and the entries
 pub record IsSession (e : layer.End) (handed lifted : List (List ℕ)) (es : List StationEntry) : Type 0 where
@@ -55,6 +60,8 @@ pub record IsEnd (cfg : Cfg) (end : Role) (s : Station) (k : SessionEnd) (trace 
   -- where nothing was handed up, the layer took nothing
   pub alone : (n : ℕ) → k.up n ≡ [] → TakeNothing (own_in end n trace)
   pub no_fault : AreNoFaults (layer_notices es)
+  -- where no session followed the first
+  pub first_has_all : k.begun ≤ 1 → HaveAll (session_from 1 none_begun es) es
 
 -- ---- who meets whom
 
@@ -80,10 +87,10 @@ PairIsInOrder cfg end trace n m = AreInOrder cfg.long_data cfg.channels (pair_at
 abbrev pub PairsAreInOrder : Cfg → Role → List Done → List Meeting → Type 0
 PairsAreInOrder cfg end trace met = AllMet (λ (p : Meeting). PairIsInOrder cfg end trace p.near p.far) met
 
-pub record SessionsJoined (cfg : Cfg) (end : Role) (w : World) : Type 0 where
+pub record SessionsJoined (since : Beginning) (cfg : Cfg) (end : Role) (w : World) : Type 0 where
   pub links : Sessions
   pub trace : List Done
-  pub reach : SessionsReach cfg end links
+  pub reach : SessionsReach since cfg end links
   pub near : IsEnd cfg end w.near links.near trace (entries_at end w.transcript)
   pub far : IsEnd cfg (other end) w.far links.far trace (entries_at (other end) w.transcript)
   pub out : octets_of links.out ≡ w.out
@@ -113,7 +120,7 @@ hears_turned n up met ms h = elim h [ inl none ↦ inl none | inr some ↦ inr (
 hears_back : (n : ℕ) (up : List (List ℕ)) (met : Option ℕ) (ms : List Meeting) → Hears (λ (n m : ℕ). HasMet m n ms) n up met → Hears (λ (n m : ℕ). HasMet n m (map turned ms)) n up met
 hears_back n up met ms h = elim h [ inl none ↦ inl none | inr some ↦ inr (record { session = some.session; told = some.told; has_met = met_turned some.session n ms some.has_met; begun = some.begun }) ]
 
-pub sessions_swapped : (cfg : Cfg) (end : Role) (w : World) → SessionsJoined cfg end w → SessionsJoined cfg (other end) (swapped w)
+pub sessions_swapped : {since : Beginning} (cfg : Cfg) (end : Role) (w : World) → SessionsJoined since cfg end w → SessionsJoined since cfg (other end) (swapped w)
 sessions_swapped cfg Dte w h = record {
   links = links.swapped h.links;
   trace = h.trace;
@@ -143,7 +150,7 @@ sessions_swapped cfg Dce w h = record {
   far_hears = λ n. hears_turned n (h.links.near.up n) (meets Dce n w.transcript) h.links.met (h.near_hears n);
 }
 
-pub links_swapped : (cfg : Cfg) (end : Role) (w : World) (h : SessionsJoined cfg end w) → (sessions_swapped cfg end w h).links ≡ links.swapped h.links
+pub links_swapped : {since : Beginning} (cfg : Cfg) (end : Role) (w : World) (h : SessionsJoined since cfg end w) → (sessions_swapped cfg end w h).links ≡ links.swapped h.links
 unfolding sessions_swapped
 links_swapped cfg Dte w h = refl
 links_swapped cfg Dce w h = refl

@@ -17,9 +17,9 @@ use Rattle.x25_world.specs.Sessions.{Progress, none_begun, after_entry, is_in, e
 use Rattle.x25_world.specs.SessionClaims.{AreLawfulWhereMet, UnmetAreToldNothing}
 use Rattle.x25_world.proofs.Reaches.{layer_of}
 use Rattle.x25_world.proofs.Known.{IsConfigured}
-use Rattle.x25_world.proofs.Joined.{spelled_none}
+use Rattle.x25_world.proofs.Growing.{spelled_none}
 use Rattle.x25_world.proofs.SessionTrace.{Done, own_in, own, pair_in}
-use Rattle.x25_world.proofs.SessionReaches.{known_sessions}
+use Rattle.x25_world.proofs.SessionReaches.{Beginning, known_sessions}
 use Rattle.x25_world.proofs.SessionJoined.{HasMet, PairIsInOrder, SessionsJoined, sessions_swapped}
 use Rattle.x25_world.proofs.SessionKnown.{SessionLaws, met_in_order, pair_world, world_here, world_there}
 use Rattle.x25_world.proofs.SessionMeets.{told_met, begun_both}
@@ -78,14 +78,14 @@ module _ (laws : SessionLaws) (cfg : Cfg) where
   lawful_here Dte n m trace order = (laws.layers_lawful cfg.long_data cfg.channels (pair_in n m trace) order).near
   lawful_here Dce n m trace order = (laws.layers_lawful cfg.long_data cfg.channels (pair_in m n trace) order).far
 
-  own_lawful : (end : Role) (n m : ℕ) (trace : List Done) → PairIsInOrder cfg end trace n m → HandsUpLawfully (own cfg end n trace).entries (own cfg (other end) m trace).entries
+  pub own_lawful : (end : Role) (n m : ℕ) (trace : List Done) → PairIsInOrder cfg end trace n m → HandsUpLawfully (own cfg end n trace).entries (own cfg (other end) m trace).entries
   own_lawful end n m trace order = subst (λ (e : layer.End). HandsUpLawfully e.entries (own cfg (other end) m trace).entries) (world_here laws cfg end n m trace)
       (subst (λ (e : layer.End). HandsUpLawfully (pair_world laws cfg end n m trace).near.entries e.entries) (world_there laws cfg end n m trace) (lawful_here end n m trace order))
 
 module _ (laws : SessionLaws) (cfg : Cfg) (fine : IsConfigured cfg) where
   -- ---- in a session that meets one
 
-  lawful_from : (end : Role) (w : World) → SessionsJoined cfg end w → (n m : ℕ) → meets end n w.transcript ≡ Some m → HandsUpLawfully (handed_in end n w) (handed_in (other end) m w)
+  lawful_from : {since : Beginning} (end : Role) (w : World) → SessionsJoined since cfg end w → (n m : ℕ) → meets end n w.transcript ≡ Some m → HandsUpLawfully (handed_in end n w) (handed_in (other end) m w)
   lawful_from end w h n m told =
       let met = told_met (λ (n m : ℕ). HasMet n m h.links.met) n m (h.links.near.up n) (meets end n w.transcript) (h.near_hears n) told in
       let high = begun_both h.links.near.begun h.links.far.begun h.links.met n m (known_sessions OnlyBegunHaveLists laws.begun cfg fine end h.links h.reach).met met.has_met in
@@ -95,13 +95,13 @@ module _ (laws : SessionLaws) (cfg : Cfg) (fine : IsConfigured cfg) where
       (subst (λ (f : List Entry). HandsUpLawfully (own cfg end n h.trace).entries f) there.entries
       (own_lawful laws cfg end n m h.trace (met_in_order cfg end h.trace h.links.met n m h.pairs met.has_met)))
 
-  pub are_lawful : (w : World) → SessionsJoined cfg Dte w → AreLawfulWhereMet cfg w
+  pub are_lawful : {since : Beginning} (w : World) → SessionsJoined since cfg Dte w → AreLawfulWhereMet cfg w
   are_lawful w h Dte n m told = lawful_from Dte w h n m told
   are_lawful w h Dce n m told = lawful_from Dce (swapped w) (sessions_swapped cfg Dte w h) n m told
 
   -- ---- in one that meets none
 
-  untold_from : (end : Role) (w : World) → SessionsJoined cfg end w → (n : ℕ) → meets end n w.transcript ≡ None → layer_notices (session_at end n w.transcript) ≡ []
+  untold_from : {since : Beginning} (end : Role) (w : World) → SessionsJoined since cfg end w → (n : ℕ) → meets end n w.transcript ≡ None → layer_notices (session_at end n w.transcript) ≡ []
   untold_from end w h n unmet = elim (which_session h.links.near.begun n) [
     | inl never ↦ elim never [
       | inl zeroth ↦ ap (λ (k : ℕ). layer_notices (session_from k none_begun (entries_at end w.transcript))) zeroth ∙ ap layer_notices (session_zero (entries_at end w.transcript))
@@ -124,6 +124,6 @@ module _ (laws : SessionLaws) (cfg : Cfg) (fine : IsConfigured cfg) where
           let session = h.near.sessions n low high in
           sym session.told ∙ (laws.alone (layer_of cfg end) (own_in end n h.trace) (spelled_none (own cfg end n h.trace).taken (sym session.up ∙ nothing_up))).told
 
-  pub unmet_told_nothing : (w : World) → SessionsJoined cfg Dte w → UnmetAreToldNothing cfg w
+  pub unmet_told_nothing : {since : Beginning} (w : World) → SessionsJoined since cfg Dte w → UnmetAreToldNothing cfg w
   unmet_told_nothing w h Dte n unmet = untold_from Dte w h n unmet
   unmet_told_nothing w h Dce n unmet = untold_from Dce (swapped w) (sessions_swapped cfg Dte w h) n unmet

@@ -8,13 +8,13 @@ use Rattle.x25_line.specs.SessionClaims.{octets_of}
 use Rattle.x25_station.specs.declared.config.Cfg.{Cfg}
 use Rattle.x25_world.specs.World.{World, Happened, Declined, on_line, lost, damaged, after}
 use Rattle.x25_world.specs.declared.error.WorldError.TheVariants as error
-use Rattle.x25_world.proofs.SessionReaches.{SessionsReach, sessions_act}
+use Rattle.x25_world.proofs.OneLink.{octets_removed, octets_replaced}
+use Rattle.x25_world.proofs.SessionReaches.{Beginning, SessionsReach, sessions_act}
 use Rattle.x25_world.proofs.SessionJoined.{SessionsJoined}
-use Rattle.x25_world.proofs.SessionLinks.{octets_removed, octets_replaced}
 
 -- other octets are left on the line
-left_joined : (cfg : Cfg) (end : Role) (w : World) (h : SessionsJoined cfg end w) (es : List links.Entry) (left : List (List ℕ)) → octets_of es ≡ left → SessionsReach cfg end (record h.links { back = es })
-    → SessionsJoined cfg end (on_line w left)
+left_joined : {since : Beginning} (cfg : Cfg) (end : Role) (w : World) (h : SessionsJoined since cfg end w) (es : List links.Entry) (left : List (List ℕ)) → octets_of es ≡ left → SessionsReach since cfg end (record h.links { back = es })
+    → SessionsJoined since cfg end (on_line w left)
 left_joined cfg end w h es left same reach = record {
   links = record h.links { back = es };
   trace = h.trace;
@@ -30,19 +30,19 @@ left_joined cfg end w h es left same reach = record {
   far_hears = h.far_hears;
 }
 
-pub lost_joined : (cfg : Cfg) (end : Role) (w : World) → SessionsJoined cfg end w → (place : ℕ) → SessionsJoined cfg end (after w (lost w place))
-lost_joined cfg end w h place = by (nat_lt place (length w.back))
+pub lost_joined : {since : Beginning} (cfg : Cfg) (end : Role) (w : World) → SessionsJoined since cfg end w → (place : ℕ) → SessionsJoined since cfg end (after w (lost w place))
+lost_joined {since} cfg end w h place = by (nat_lt place (length w.back))
   where
-    by : (b : Bool) → SessionsJoined cfg end (after w (if b then Happened (on_line w (remove w.back place)) else Declined error.NoSuchFrame))
+    by : (b : Bool) → SessionsJoined since cfg end (after w (if b then Happened (on_line w (remove w.back place)) else Declined error.NoSuchFrame))
     by true = left_joined cfg end w h (remove h.links.back place) (remove w.back place) (octets_removed h.links.back place ∙ ap (λ (l : List (List ℕ)). remove l place) h.back)
-        (sessions_act cfg end (line.Lose place) h.links tt h.reach)
+        (sessions_act cfg end (line.Lose place) h.links tt (λ off s same. tt) h.reach)
     by false = h
 
-pub damaged_joined : (cfg : Cfg) (end : Role) (w : World) → SessionsJoined cfg end w → (place : ℕ) (octets : List ℕ) → SessionsJoined cfg end (after w (damaged w place octets))
-damaged_joined cfg end w h place octets = by (nat_lt place (length w.back)) (is_visible octets) (sessions_act cfg end (line.Damage place octets) h.links tt h.reach)
+pub damaged_joined : {since : Beginning} (cfg : Cfg) (end : Role) (w : World) → SessionsJoined since cfg end w → (place : ℕ) (octets : List ℕ) → SessionsJoined since cfg end (after w (damaged w place octets))
+damaged_joined {since} cfg end w h place octets = by (nat_lt place (length w.back)) (is_visible octets) (sessions_act cfg end (line.Damage place octets) h.links tt (λ off s same. tt) h.reach)
   where
-    by : (b seen : Bool) → SessionsReach cfg end (if seen then record h.links { back = links.replaced h.links.back place octets } else h.links)
-        → SessionsJoined cfg end (after w (if b then (if seen then Happened (on_line w (line.replaced w.back place octets)) else Declined error.Unseen) else Declined error.NoSuchFrame))
+    by : (b seen : Bool) → SessionsReach since cfg end (if seen then record h.links { back = links.replaced h.links.back place octets } else h.links)
+        → SessionsJoined since cfg end (after w (if b then (if seen then Happened (on_line w (line.replaced w.back place octets)) else Declined error.Unseen) else Declined error.NoSuchFrame))
     by true true reach = left_joined cfg end w h (links.replaced h.links.back place octets) (line.replaced w.back place octets)
         (octets_replaced h.links.back place octets ∙ ap (λ (l : List (List ℕ)). line.replaced l place octets) h.back) reach
     by true false reach = h

@@ -1,5 +1,5 @@
 -- Of two links with their sessions: a step of the near end, and the packets that are handed down to it behind that.
-use Rattle.std.proofs.Common.{◌≡◌, ℕ, zero, suc, ◌==◌, ◌≤◌, List, [], ◌∷◌, ◌++◌, length, map, remove, Bool, true, false, if◌then◌else◌, None, option_to_list, refl, sym, ap, ap₂, ◌∙◌, subst, append_assoc, append-nil}
+use Rattle.std.proofs.Common.{◌≡◌, ℕ, ◌==◌, ◌≤◌, List, [], ◌∷◌, ◌++◌, length, map, Bool, true, false, if◌then◌else◌, None, option_to_list, refl, sym, ap, ap₂, ◌∙◌, subst, append_assoc, append-nil}
 use Rattle.std.proofs.lemmas.Bool.{le-leb}
 use Rattle.std.proofs.lemmas.List.{map-append}
 use Rattle.x25_bits.specs.declared.role.Role.{Role}
@@ -8,7 +8,7 @@ use Rattle.x25_frame.specs.Spelling.{spelling_of}
 use Rattle.x25_packet.specs.PlainPacket.{PlainPacket}
 use Rattle.x25_packet.specs.Spelling as packet
 use Rattle.x25_link.specs.MustSend.{Step as LinkStep}
-use Rattle.x25_link.specs.Station.{Settings as LinkSettings, Station as LinkStation, Side}
+use Rattle.x25_link.specs.Station.{Settings as LinkSettings, Station as LinkStation, Side, is_up}
 use Rattle.x25_link.specs.Steps.{put_refusal, put_step, take_step}
 use Rattle.x25_line.specs.Stations as line
 use Rattle.x25_line.specs.Sessions as links
@@ -19,8 +19,10 @@ use Rattle.x25_station.specs.Station.{put_on, all_put}
 use Rattle.x25_station.specs.JoinLaw.{AreAccepted}
 use Rattle.x25_station.specs.ReadLaw.{AreReadable}
 use Rattle.x25_world.specs.Claims.{link_of}
-use Rattle.x25_world.proofs.Joined.{spelled}
-use Rattle.x25_world.proofs.SessionReaches.{SessionsReach, sessions_act}
+use Rattle.x25_world.proofs.Growing.{spelled}
+use Rattle.x25_world.proofs.OneLink.{octets_append, octets_sent}
+use Rattle.x25_world.proofs.SessionReaches.{Beginning, SessionsReach, sessions_act}
+use Rattle.x25_link.specs.NoteLaw.{PutTells}
 
 -- The near link goes to this one in this session, and puts these frames; it was handed down and hands up these packets in it, and
 -- these sessions have met.
@@ -34,27 +36,6 @@ pub record SessionGoes (c : LinkSettings) (v v₂ : Sessions) (session : ℕ) (l
   pub back : octets_of v₂.back ≡ left
   pub sent : v₂.sent ≡ v.sent ++ frames
   pub met : v₂.met ≡ all_met
-
--- ---- lines
-
-octets_append : (xs ys : List links.Entry) → octets_of (xs ++ ys) ≡ octets_of xs ++ octets_of ys
-octets_append [] ys = refl
-octets_append (x ∷ xs) ys = ap (λ (l : List (List ℕ)). x.octets ∷ l) (octets_append xs ys)
-
-octets_sent : (session : ℕ) (from : Role) (frames : List PlainFrame) → octets_of (sent_in session from frames) ≡ map (spelling_of from) frames
-octets_sent session from [] = refl
-octets_sent session from (f ∷ frames) = ap (λ (l : List (List ℕ)). spelling_of from f ∷ l) (octets_sent session from frames)
-
-pub octets_removed : (es : List links.Entry) (i : ℕ) → octets_of (remove es i) ≡ remove (octets_of es) i
-octets_removed [] zero = refl
-octets_removed [] (suc i) = refl
-octets_removed (e ∷ es) zero = refl
-octets_removed (e ∷ es) (suc i) = ap (λ (l : List (List ℕ)). e.octets ∷ l) (octets_removed es i)
-
-pub octets_replaced : (es : List links.Entry) (i : ℕ) (octets : List ℕ) → octets_of (links.replaced es i octets) ≡ line.replaced (octets_of es) i octets
-octets_replaced [] i octets = refl
-octets_replaced (e ∷ es) zero octets = refl
-octets_replaced (e ∷ es) (suc i) octets = ap (λ (l : List (List ℕ)). e.octets ∷ l) (octets_replaced es i octets)
 
 -- ---- the link's own step
 
@@ -129,26 +110,31 @@ put_goes c v v₁ session t down up back met p short none g =
     })
 
 -- one after another
-pub record PutsGo (cfg : Cfg) (end : Role) (v : Sessions) (session : ℕ) (packets : List PlainPacket) (t : Side) (handed lifted left : List (List ℕ)) (met : List Meeting) : Type 0 where
+pub record PutsGo (since : Beginning) (cfg : Cfg) (end : Role) (v : Sessions) (session : ℕ) (packets : List PlainPacket) (t : Side) (handed lifted left : List (List ℕ)) (met : List Meeting) : Type 0 where
   pub links : Sessions
-  pub reach : SessionsReach cfg end links
+  pub reach : SessionsReach since cfg end links
   pub goes : SessionGoes (link_of cfg end) v links session (all_put (link_of cfg end) packets t).near (all_put (link_of cfg end) packets t).out handed lifted left met
 
-pub puts_go : (cfg : Cfg) (end : Role) (v v₁ : Sessions) (session : ℕ) (packets : List PlainPacket) (t : Side) (down up back : List (List ℕ)) (met : List Meeting)
-    → SessionsReach cfg end v₁ → SessionGoes (link_of cfg end) v v₁ session t.near t.out down up back met → AreAccepted (link_of cfg end) packets t → AreReadable cfg.long_data packets
-    → PutsGo cfg end v session packets t (down ++ spelled packets) up back met
+pub puts_go : {since : Beginning} (cfg : Cfg) (end : Role) (v v₁ : Sessions) (session : ℕ) (packets : List PlainPacket) (t : Side) (down up back : List (List ℕ)) (met : List Meeting)
+    → SessionsReach since cfg end v₁ → SessionGoes (link_of cfg end) v v₁ session t.near t.out down up back met → AreAccepted (link_of cfg end) packets t → AreReadable cfg.long_data packets
+    → PutsGo since cfg end v session packets t (down ++ spelled packets) up back met
 puts_go cfg end v v₁ session [] t down up back met reach g ok readable = record {
   links = v₁;
   reach = reach;
   goes = subst (λ (d : List (List ℕ)). SessionGoes (link_of cfg end) v v₁ session t.near t.out d up back met) (sym (append-nil down)) g;
 }
-puts_go cfg end v v₁ session (p ∷ packets) t down up back met reach g ok readable =
+puts_go {since} cfg end v v₁ session (p ∷ packets) t down up back met reach g ok readable =
     let c : LinkSettings = link_of cfg end in
     let o : List ℕ = packet.spelling_of p in
-    subst (λ (d : List (List ℕ)). PutsGo cfg end v session (p ∷ packets) t d up back met) (append_assoc down (o ∷ []) (spelled packets))
-    (more (puts_go cfg end v (links.acts c (line.Put o) v₁) session packets (put_on c p t) (down ++ o ∷ []) up back met (sessions_act cfg end (line.Put o) v₁ tt reach)
+    subst (λ (d : List (List ℕ)). PutsGo since cfg end v session (p ∷ packets) t d up back met) (append_assoc down (o ∷ []) (spelled packets))
+    (more (puts_go cfg end v (links.acts c (line.Put o) v₁) session packets (put_on c p t) (down ++ o ∷ []) up back met (sessions_act cfg end (line.Put o) v₁ tt (λ off s same. tt) reach)
     (put_goes c v v₁ session t down up back met p readable.0.short ok.0 g) ok.1 readable.1))
   where
-    more : PutsGo cfg end v session packets (put_on (link_of cfg end) p t) ((down ++ packet.spelling_of p ∷ []) ++ spelled packets) up back met
-        → PutsGo cfg end v session (p ∷ packets) t ((down ++ packet.spelling_of p ∷ []) ++ spelled packets) up back met
+    more : PutsGo since cfg end v session packets (put_on (link_of cfg end) p t) ((down ++ packet.spelling_of p ∷ []) ++ spelled packets) up back met
+        → PutsGo since cfg end v session (p ∷ packets) t ((down ++ packet.spelling_of p ∷ []) ++ spelled packets) up back met
     more r = record { links = r.links; reach = r.reach; goes = r.goes }
+
+-- a link that accepts packets stays up
+pub puts_up : PutTells → (c : LinkSettings) (packets : List PlainPacket) (t : Side) → is_up t.near.phase ≡ true → is_up (all_put c packets t).near.phase ≡ true
+puts_up tells c [] t up = up
+puts_up tells c (p ∷ packets) t up = puts_up tells c packets (put_on c p t) ((tells c (packet.spelling_of p) t.near up).stays refl ∙ up)

@@ -11,7 +11,7 @@ use Rattle.x25_world.specs.World.{World}
 use Rattle.x25_world.specs.Sessions.{Progress, last_session, meets}
 use Rattle.x25_world.specs.SessionClaims.{MeetInStep}
 use Rattle.x25_world.proofs.Known.{IsConfigured}
-use Rattle.x25_world.proofs.SessionReaches.{known_sessions}
+use Rattle.x25_world.proofs.SessionReaches.{Beginning, known_sessions}
 use Rattle.x25_world.proofs.SessionJoined.{HasMet, Hears, SessionsJoined}
 use Rattle.x25_world.proofs.SessionKnown.{SessionLaws, all_no_earlier, all_some}
 
@@ -84,7 +84,7 @@ told_met Met n m up met hears some = elim hears [
     of_same : (a : ℕ) → a ≡ m → MetBegun (Met n a) n a → MetBegun (Met n m) n m
     of_same a same h = subst (λ (b : ℕ). MetBegun (Met n b) n b) same h
 
-module _ (laws : SessionLaws) (cfg : Cfg) (fine : IsConfigured cfg) (w : World) (h : SessionsJoined cfg Dte w) where
+module _ {since : Beginning} (laws : SessionLaws) (cfg : Cfg) (fine : IsConfigured cfg) (w : World) (h : SessionsJoined since cfg Dte w) where
   met_by_links : (end : Role) (n m : ℕ) → meets end n w.transcript ≡ Some m → MetBegun (HasMetAt end n m h.links.met) n m
   met_by_links Dte n m told = told_met (λ (n m : ℕ). HasMet n m h.links.met) n m (h.links.near.up n) (meets Dte n w.transcript) (h.near_hears n) told
   met_by_links Dce n m told = told_met (λ (n m : ℕ). HasMet m n h.links.met) n m (h.links.far.up n) (meets Dce n w.transcript) (h.far_hears n) told

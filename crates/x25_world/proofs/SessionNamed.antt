@@ -14,6 +14,7 @@ use Rattle.x25_world.specs.Sessions.{Progress, session_at, last_session}
 use Rattle.x25_world.specs.SessionClaims.{AreNamedInSessions}
 use Rattle.x25_world.proofs.Known.{IsConfigured}
 use Rattle.x25_world.proofs.SessionTrace.{Done, own, pair_in}
+use Rattle.x25_world.proofs.SessionReaches.{Beginning}
 use Rattle.x25_world.proofs.SessionJoined.{PairIsInOrder, SessionsJoined, sessions_swapped}
 use Rattle.x25_world.proofs.SessionKnown.{SessionLaws, pair_world, world_here}
 use Rattle.x25_world.proofs.SessionRequests.{session_pair}
@@ -27,7 +28,7 @@ module _ (laws : SessionLaws) (cfg : Cfg) where
   own_counts end n m trace order = subst (λ (e : layer.End). IsCounted e) (world_here laws cfg end n m trace) (counts_here end n m trace order)
 
 module _ (laws : SessionLaws) (cfg : Cfg) (fine : IsConfigured cfg) where
-  named_from : (end : Role) (w : World) → SessionsJoined cfg end w → (k : ℕ) → is_up w.near.link.phase ≡ true
+  named_from : {since : Beginning} (end : Role) (w : World) → SessionsJoined since cfg end w → (k : ℕ) → is_up w.near.link.phase ≡ true
       → name_of w.near.layer k ≡ counted k first_name (layer_notices (session_at end (last_session end w) w.transcript))
   named_from end w h k up =
       let n = h.links.near.begun in
@@ -37,6 +38,6 @@ module _ (laws : SessionLaws) (cfg : Cfg) (fine : IsConfigured cfg) where
       ap (λ (l : Layer). name_of l k) (sym now.layer) ∙ own_counts laws cfg end n pair.0 h.trace pair.1 k now.out ∙ ap (λ (ns : List LayerNotice). counted k first_name ns) session.told
       ∙ ap (λ (p : Progress). counted k first_name (layer_notices (session_at end p.begun w.transcript))) (sym h.near.progress)
 
-  pub are_named : (w : World) → SessionsJoined cfg Dte w → AreNamedInSessions cfg w
+  pub are_named : {since : Beginning} (w : World) → SessionsJoined since cfg Dte w → AreNamedInSessions cfg w
   are_named w h Dte k up = named_from Dte w h k up
   are_named w h Dce k up = named_from Dce (swapped w) (sessions_swapped cfg Dte w h) k up

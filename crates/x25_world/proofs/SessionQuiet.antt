@@ -12,7 +12,7 @@ use Rattle.x25_world.specs.Claims.{HasNoProcedureError, entries_at}
 use Rattle.x25_world.proofs.Known.{IsConfigured}
 use Rattle.x25_world.proofs.QuietTap.{IsQuietOctets, quiet_octets, quiet_tap}
 use Rattle.x25_world.proofs.SessionTrace.{TakeNothing, own}
-use Rattle.x25_world.proofs.SessionReaches.{known_sessions}
+use Rattle.x25_world.proofs.SessionReaches.{Beginning, known_sessions}
 use Rattle.x25_world.proofs.SessionJoined.{PairIsInOrder, SessionsJoined, sessions_swapped, links_swapped}
 use Rattle.x25_world.proofs.SessionKnown.{SessionLaws, met_in_order, nothing_in_order, own_quiet, own_readable}
 use Rattle.x25_world.proofs.SessionLawful.{which_session}
@@ -20,7 +20,7 @@ use Rattle.x25_world.proofs.SessionLawful.{which_session}
 module _ (laws : SessionLaws) (cfg : Cfg) (fine : IsConfigured cfg) where
   -- ---- each session is one of two in order: with the one that it meets, or with one that isn't begun
 
-  in_order : (end : Role) (w : World) (h : SessionsJoined cfg end w) (n : ℕ) → (m : ℕ) × PairIsInOrder cfg end h.trace n m
+  in_order : {since : Beginning} (end : Role) (w : World) (h : SessionsJoined since cfg end w) (n : ℕ) → (m : ℕ) × PairIsInOrder cfg end h.trace n m
   in_order end w h n = elim (h.near_hears n) [
     | inl none ↦ (suc h.links.far.begun, nothing_in_order cfg end h.trace n (suc h.links.far.begun) (h.near.alone n none.0) (subst TakeNothing (sym (h.far.later (suc h.links.far.begun) (omega arith)).moves) tt))
     | inr one ↦ (one.session, met_in_order cfg end h.trace h.links.met n one.session h.pairs one.has_met)
@@ -31,7 +31,7 @@ module _ (laws : SessionLaws) (cfg : Cfg) (fine : IsConfigured cfg) where
   nowhere : (octets : List ℕ) → Contains [] octets → IsQuietOctets cfg.long_data cfg.channels octets
   nowhere octets (k, low, is) = absurd (omega (arith, low))
 
-  quiet_from : (end : Role) (w : World) (h : SessionsJoined cfg end w) (n : ℕ) (octets : List ℕ) → Contains (h.links.near.down n) octets → IsQuietOctets cfg.long_data cfg.channels octets
+  quiet_from : {since : Beginning} (end : Role) (w : World) (h : SessionsJoined since cfg end w) (n : ℕ) (octets : List ℕ) → Contains (h.links.near.down n) octets → IsQuietOctets cfg.long_data cfg.channels octets
   quiet_from end w h n octets there = elim (which_session h.links.near.begun n) [
     | inl never ↦ nowhere octets (subst (λ (l : List (List ℕ)). Contains l octets) (nothing_down never) there)
     | inr begun ↦ at_session begun.0 begun.1
@@ -51,7 +51,7 @@ module _ (laws : SessionLaws) (cfg : Cfg) (fine : IsConfigured cfg) where
 
   -- ---- of a world
 
-  pub has_no_error : (w : World) → SessionsJoined cfg Dte w → HasNoProcedureError cfg w
+  pub has_no_error : {since : Beginning} (w : World) → SessionsJoined since cfg Dte w → HasNoProcedureError cfg w
   has_no_error w h =
       let whole = known_sessions AllSessionsSendWhole laws.whole cfg fine Dte h.links h.reach in
       record {

@@ -1,17 +1,18 @@
 -- Two links over set-up and re-set-up, as either end sees them: a run of the same events, with the ends swapped.
-use Rattle.std.proofs.Common.{◌≡◌, List, [], ◌∷◌, ◌++◌, inl, refl, sym, ap, ◌∙◌, subst, map}
+use Rattle.std.proofs.Common.{◌≡◌, Bool, false, List, [], ◌∷◌, ◌++◌, inl, refl, sym, ap, ◌∙◌, subst, map}
 use Rattle.x25_bits.specs.declared.role.Role.{Role}
 use Rattle.x25_bits.specs.declared.role.Role.TheVariants.{Dte, Dce}
 use Rattle.x25_link.specs.Station.{Settings as LinkSettings}
 use Rattle.x25_link.specs.MustSend.{other}
 use Rattle.x25_line.specs.Stations as line
-use Rattle.x25_line.specs.StationClaims.{AreJoined}
+use Rattle.x25_line.specs.StationClaims.{AreJoined, AcceptsNoConnect}
 use Rattle.x25_line.specs.Sessions as links
 use Rattle.x25_line.specs.Sessions.{Meeting, Sessions, turned, from_nothing, IsTimely, IsTimelyAt, AreTimely}
 use Rattle.x25_line.specs.SessionClaims.{Throughout}
 use Rattle.x25_station.specs.declared.config.Cfg.{Cfg}
 use Rattle.x25_world.specs.Claims.{link_of}
 use Rattle.x25_world.proofs.Known.{IsConfigured}
+use Rattle.x25_world.proofs.OneLink.{OneLink, one_turned, one_acts}
 
 -- ---- the ends swapped
 
@@ -51,21 +52,30 @@ timely_flipped c d (e ∷ es) w h = (
 
 -- ---- as an end sees them
 
-pub record SessionsReach (cfg : Cfg) (end : Role) (v : Sessions) : Type 0 where
+-- How a run began: with both links down; or with a link just set up, where, if `asks` is false, none of the two has asked for set-up since.
+pub data Beginning : Type 0 where
+  both_down : Beginning
+  set_up : (asks : Bool) → Beginning
+
+-- From a link just set up it is a run of two stations too.
+pub record SessionsReach (since : Beginning) (cfg : Cfg) (end : Role) (v : Sessions) : Type 0 where
   pub events : List line.Event
   pub timely : AreTimely (link_of cfg end) (link_of cfg (other end)) events from_nothing
   pub run : links.run (link_of cfg end) (link_of cfg (other end)) events from_nothing ≡ v
+  pub one_link : (asks : Bool) → since ≡ set_up asks → OneLink asks cfg end v
 
-pub reach_swapped : (cfg : Cfg) (end : Role) (v : Sessions) → SessionsReach cfg end v → SessionsReach cfg (other end) (links.swapped v)
+pub reach_swapped : {since : Beginning} (cfg : Cfg) (end : Role) (v : Sessions) → SessionsReach since cfg end v → SessionsReach since cfg (other end) (links.swapped v)
 reach_swapped cfg Dte v h = record {
   events = all_flipped h.events;
   timely = timely_flipped (link_of cfg Dte) (link_of cfg Dce) h.events from_nothing h.timely;
   run = run_flipped (link_of cfg Dte) (link_of cfg Dce) h.events from_nothing ∙ ap links.swapped h.run;
+  one_link = λ asks is. one_turned asks cfg Dte v (h.one_link asks is);
 }
 reach_swapped cfg Dce v h = record {
   events = all_flipped h.events;
   timely = timely_flipped (link_of cfg Dce) (link_of cfg Dte) h.events from_nothing h.timely;
   run = run_flipped (link_of cfg Dce) (link_of cfg Dte) h.events from_nothing ∙ ap links.swapped h.run;
+  one_link = λ asks is. one_turned asks cfg Dce v (h.one_link asks is);
 }
 
 run_more : (c d : LinkSettings) (es : List line.Event) (e : line.Event) (v : Sessions) → links.run c d (es ++ e ∷ []) v ≡ links.happens c d e (links.run c d es v)
@@ -76,16 +86,21 @@ timely_more : (c d : LinkSettings) (es : List line.Event) (e : line.Event) (v : 
 timely_more c d [] e v h g = (g, tt)
 timely_more c d (x ∷ es) e v h g = (h.0, timely_more c d es e (links.happens c d x v) h.1 g)
 
+-- where the run began so, it is no Connect that is accepted
+abbrev pub MayAct : Beginning → line.Act → Sessions → Type 0
+MayAct since act v = since ≡ set_up false → (s : line.Stations) → s.near.station ≡ v.near.station → AcceptsNoConnect act s
+
 -- one act more of the end
-pub sessions_act : (cfg : Cfg) (end : Role) (act : line.Act) (v : Sessions) → IsTimely (link_of cfg end) (link_of cfg (other end)) act v → SessionsReach cfg end v
-    → SessionsReach cfg end (links.acts (link_of cfg end) act v)
-sessions_act cfg end act v timely h =
+pub sessions_act : {since : Beginning} (cfg : Cfg) (end : Role) (act : line.Act) (v : Sessions) → IsTimely (link_of cfg end) (link_of cfg (other end)) act v → MayAct since act v → SessionsReach since cfg end v
+    → SessionsReach since cfg end (links.acts (link_of cfg end) act v)
+sessions_act cfg end act v timely may h =
     let c = link_of cfg end in
     let d = link_of cfg (other end) in
     record {
       events = h.events ++ line.Near act ∷ [];
       timely = timely_more c d h.events (line.Near act) from_nothing h.timely (subst (λ (x : Sessions). IsTimely c d act x) (sym h.run) timely);
       run = run_more c d h.events (line.Near act) from_nothing ∙ ap (λ (x : Sessions). links.acts c act x) h.run;
+      one_link = λ asks is. one_acts asks cfg end act v (λ free. may (is ∙ ap set_up free)) (h.one_link asks is);
     }
 
 pub joined_at : (cfg : Cfg) (end : Role) → IsConfigured cfg → AreJoined (link_of cfg end) (link_of cfg (other end))
@@ -93,7 +108,7 @@ joined_at cfg Dte fine = record { near_role = refl; far_role = refl; longest = r
 joined_at cfg Dce fine = record { near_role = refl; far_role = refl; longest = refl; near_low = fine.low; near_high = fine.high; far_low = fine.low; far_high = fine.high }
 
 -- what always holds of two links
-pub known_sessions : (P : _) → Throughout P → (cfg : Cfg) → IsConfigured cfg → (end : Role) (v : Sessions) → SessionsReach cfg end v → P (link_of cfg end) (link_of cfg (other end)) v
+pub known_sessions : {since : Beginning} (P : _) → Throughout P → (cfg : Cfg) → IsConfigured cfg → (end : Role) (v : Sessions) → SessionsReach since cfg end v → P (link_of cfg end) (link_of cfg (other end)) v
 known_sessions P law cfg fine end v h =
     subst (λ (x : Sessions). P (link_of cfg end) (link_of cfg (other end)) x) h.run
     (law (link_of cfg end) (link_of cfg (other end)) (joined_at cfg end fine) from_nothing (inl refl) h.events h.timely)

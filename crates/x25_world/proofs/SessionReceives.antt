@@ -37,22 +37,34 @@ use Rattle.x25_station.specs.ReadLaw.{AreReadable, IsReadable}
 use Rattle.x25_world.specs.World.{World, delivered, after, after_step}
 use Rattle.x25_world.specs.Claims.{link_of}
 use Rattle.x25_world.proofs.Reaches.{layer_of}
-use Rattle.x25_world.proofs.Known.{IsConfigured, both_true}
-use Rattle.x25_world.proofs.Joined.{spelled}
-use Rattle.x25_world.proofs.Follows.{true_false, no_command}
-use Rattle.x25_world.proofs.Receives.{Front, front_of}
-use Rattle.x25_world.proofs.Requests.{readable_behind}
+use Rattle.x25_world.proofs.Known.{IsConfigured, both_true, true_false}
+use Rattle.x25_world.proofs.Growing.{spelled}
 use Rattle.x25_world.proofs.SessionTrace.{Done, moved, own, own_goes, events_of, pair_turned, nothing_goes}
-use Rattle.x25_world.proofs.SessionReaches.{SessionsReach, known_sessions, sessions_act}
+use Rattle.x25_world.proofs.SessionReaches.{Beginning, SessionsReach, known_sessions, sessions_act}
 use Rattle.x25_world.proofs.SessionJoined.{HasMet, PairIsInOrder, PairsAreInOrder, SessionsJoined}
 use Rattle.x25_world.proofs.SessionKnown.{SessionLaws, all_no_earlier, met_in_order, pair_ends, here_in, here_is, there_is, pair_world, own_order, own_first, own_readable, nothing_in_order}
 use Rattle.x25_world.proofs.SessionEntries.{heard_plain}
 use Rattle.x25_world.proofs.SessionLinks.{SessionGoes, own_step, deliver_goes}
 use Rattle.x25_world.proofs.SessionGoes.{here_extended}
-use Rattle.x25_world.proofs.SessionFollows.{follows_silent, follows_up}
+use Rattle.x25_world.proofs.SessionFollows.{no_command, follows_silent, follows_up}
 use Rattle.x25_world.proofs.SessionMoves.{own_pulls, pulls_take_nothing, pulls_bring_octets, near_pulls, take_takes}
-use Rattle.x25_world.proofs.SessionRequests.{pair_goes, pair_stays, joins}
+use Rattle.x25_world.proofs.SessionRequests.{readable_behind, pair_goes, pair_stays, joins}
 use Rattle.x25_world.proofs.SessionTimers.{not_begun_by}
+
+-- the packet in front of those in flight, by its octets
+record Front (octets : List ℕ) (flight : List PlainPacket) : Type 0 where
+  pub packet : PlainPacket
+  pub others : List PlainPacket
+  pub is : flight ≡ packet ∷ others
+  pub spells : octets ≡ spelling_of packet
+
+abbrev first_of : List ℕ → List (List ℕ) → List ℕ
+first_of none [] = none
+first_of none (x ∷ xs) = x
+
+front_of : (octets : List ℕ) (rest : List (List ℕ)) (flight : List PlainPacket) → octets ∷ rest ≡ spelled flight → Front octets flight
+front_of octets rest [] is = absurd (cc)
+front_of octets rest (p ∷ flight) is = record { packet = p; others = flight; is = refl; spells = ap (first_of []) is }
 
 -- ---- the line
 
@@ -103,7 +115,7 @@ next_at : (cfg : Cfg) (end : Role) (ends : Ends) (packet : PlainPacket) (channel
 next_at cfg Dte ends packet channels begins = (λ out. begins, nothing_goes cfg.long_data cfg.channels Dte (own_pulls channels) _ (pulls_take_nothing channels))
 next_at cfg Dce ends packet channels begins = (λ out. begins, nothing_goes cfg.long_data cfg.channels Dce (own_pulls channels) _ (pulls_take_nothing channels))
 
-module _ (laws : SessionLaws) (cfg : Cfg) (fine : IsConfigured cfg) (end : Role) (w : World) (h : SessionsJoined cfg end w) where
+module _ {since : Beginning} (laws : SessionLaws) (cfg : Cfg) (fine : IsConfigured cfg) (end : Role) (w : World) (h : SessionsJoined since cfg end w) where
   abbrev here : ℕ
   here = h.links.near.begun
 
@@ -130,7 +142,7 @@ module _ (laws : SessionLaws) (cfg : Cfg) (fine : IsConfigured cfg) (end : Role)
     pub pairs : PairsAreInOrder cfg end h.trace v.met
     pub more : (n m : ℕ) → HasMet n m h.links.met → HasMet n m v.met
 
-  have_met : (v : Sessions) (e f : SessionEnd) → SessionsReach cfg end v → MeetsOne line.Deliver now_met e f h.links.met v.met → HaveMet v
+  have_met : (v : Sessions) (e f : SessionEnd) → SessionsReach since cfg end v → MeetsOne line.Deliver now_met e f h.links.met v.met → HaveMet v
   have_met v e f reach one = elim one [
     | inl now ↦ (let step = subst InStep now.met (known_sessions met.MeetInStep laws.step cfg fine end v reach) in
         record {
@@ -160,7 +172,7 @@ module _ (laws : SessionLaws) (cfg : Cfg) (fine : IsConfigured cfg) (end : Role)
     gone = links.acts (link_of cfg end) (line.Lose 0) (links.acts (link_of cfg end) line.Abandon h.links)
 
     abandoned : abandons (settings_from end cfg) w.near ≡ true → IsKept (follows (settings_from end cfg) w.near.layer (abandon_step (link_of cfg end) w.near.link)).near
-        → SessionsJoined cfg end (after_step (settings_from end cfg) w back (follows (settings_from end cfg) w.near.layer (abandon_step (link_of cfg end) w.near.link)))
+        → SessionsJoined since cfg end (after_step (settings_from end cfg) w back (follows (settings_from end cfg) w.near.layer (abandon_step (link_of cfg end) w.near.link)))
     abandoned full kept =
         let c = link_of cfg end in
         let up : is_up w.near.link.phase ≡ true = (both_true (is_up w.near.link.phase) (is_full (layer_settings (settings_from end cfg)) w.near.layer) full).0 in
@@ -177,7 +189,7 @@ module _ (laws : SessionLaws) (cfg : Cfg) (fine : IsConfigured cfg) (end : Role)
         (subst (λ (os : List (List ℕ)). SessionGoes c h.links (record (left w.near.link) { back = remove h.links.back 0 }) (begun_by k.notes.up here) k.side.near k.side.out [] [] os h.links.met)
         (ap (λ (es : List links.Entry). octets_of (remove es 0)) f.is ∙ f.left) g) in
         follows_silent laws cfg fine end w h no_command back k gone
-        (sessions_act cfg end (line.Lose 0) (links.acts c line.Abandon h.links) tt (sessions_act cfg end line.Abandon h.links tt h.reach))
+        (sessions_act cfg end (line.Lose 0) (links.acts c line.Abandon h.links) tt (λ off s same. tt) (sessions_act cfg end line.Abandon h.links tt (λ off s same. tt) h.reach))
         (subst (λ (x : Sessions). PairsAreInOrder cfg end h.trace x.met) (sym same) h.pairs) (λ n m has. subst (λ (x : Sessions). HasMet n m x.met) (sym same) has) (laws.stations.abandon_tells c w.near.link) not_up
         (subst (λ (x : Sessions). SessionGoes c h.links x here k.side.near k.side.out [] [] back x.met) (sym same) goes) refl kept
 
@@ -189,8 +201,8 @@ module _ (laws : SessionLaws) (cfg : Cfg) (fine : IsConfigured cfg) (end : Role)
     abbrev after_taken : Sessions
     after_taken = links.acts (link_of cfg end) line.Deliver h.links
 
-    reach_taken : SessionsReach cfg end after_taken
-    reach_taken = sessions_act cfg end line.Deliver h.links tt h.reach
+    reach_taken : SessionsReach since cfg end after_taken
+    reach_taken = sessions_act cfg end line.Deliver h.links tt (λ off s same. tt) h.reach
 
     goes_taken : SessionGoes (link_of cfg end) h.links after_taken (begun_by taken.notes.up here) taken.side.near taken.side.out [] (option_to_list taken.packet) back after_taken.met
     goes_taken =
@@ -331,7 +343,7 @@ module _ (laws : SessionLaws) (cfg : Cfg) (fine : IsConfigured cfg) (end : Role)
             (subst (λ (ps : List PlainPacket). IsToldFirst ps (own cfg end here trace_on).told) (taken_on ∙ ap (λ (ps : List PlainPacket). ps ++ in_front.packet ∷ []) none) (own_first laws cfg end here there trace_on pair_on))
 
       handed : abandons (settings_from end cfg) w.near ≡ false → IsKept (follows (settings_from end cfg) w.near.layer taken).near
-          → SessionsJoined cfg end (after_step (settings_from end cfg) w back (follows (settings_from end cfg) w.near.layer taken))
+          → SessionsJoined since cfg end (after_step (settings_from end cfg) w back (follows (settings_from end cfg) w.near.layer taken))
       handed none kept =
           let c : Settings = settings_from end cfg in
           let step : Step = follows c w.near.layer taken in
@@ -373,10 +385,10 @@ module _ (laws : SessionLaws) (cfg : Cfg) (fine : IsConfigured cfg) (end : Role)
     -- ---- all that may come
 
     takes_joined : abandons (settings_from end cfg) w.near ≡ false → IsKept (follows (settings_from end cfg) w.near.layer taken).near
-        → SessionsJoined cfg end (after_step (settings_from end cfg) w back (follows (settings_from end cfg) w.near.layer taken))
+        → SessionsJoined since cfg end (after_step (settings_from end cfg) w back (follows (settings_from end cfg) w.near.layer taken))
     takes_joined none kept = by taken.notes.up taken.packet refl refl
       where
-        by : (up : Bool) (o : Option (List ℕ)) → taken.notes.up ≡ up → taken.packet ≡ o → SessionsJoined cfg end (after_step (settings_from end cfg) w back (follows (settings_from end cfg) w.near.layer taken))
+        by : (up : Bool) (o : Option (List ℕ)) → taken.notes.up ≡ up → taken.packet ≡ o → SessionsJoined since cfg end (after_step (settings_from end cfg) w back (follows (settings_from end cfg) w.near.layer taken))
         by true None up is =
             follows_up laws cfg fine end w h no_command back taken after_taken reach_taken met_taken.pairs met_taken.more (laws.stations.take_tells (link_of cfg end) octets w.near.link) up (goes_in true None up is) kept
         by true (Some packet_octets) up is =
@@ -385,19 +397,19 @@ module _ (laws : SessionLaws) (cfg : Cfg) (fine : IsConfigured cfg) (end : Role)
             follows_silent laws cfg fine end w h no_command back taken after_taken reach_taken met_taken.pairs met_taken.more (laws.stations.take_tells (link_of cfg end) octets w.near.link) up (goes_in false None up is) is kept
         by false (Some packet_octets) up is = handed up packet_octets is none kept
 
-    came_joined : SessionsJoined cfg end (after_step (settings_from end cfg) w back (receives (settings_from end cfg) w.near octets))
+    came_joined : SessionsJoined since cfg end (after_step (settings_from end cfg) w back (receives (settings_from end cfg) w.near octets))
     came_joined = by (abandons (settings_from end cfg) w.near) refl (laws.stations.receive_keeps (settings_from end cfg) w.near octets h.near.kept)
       where
         step : Bool → Step
         step b = follows (settings_from end cfg) w.near.layer (if b then abandon_step (link_of cfg end) w.near.link else taken)
 
-        by : (b : Bool) → abandons (settings_from end cfg) w.near ≡ b → IsKept (step b).near → SessionsJoined cfg end (after_step (settings_from end cfg) w back (step b))
+        by : (b : Bool) → abandons (settings_from end cfg) w.near ≡ b → IsKept (step b).near → SessionsJoined since cfg end (after_step (settings_from end cfg) w back (step b))
         by true is kept = abandoned is kept
         by false is kept = takes_joined is kept
 
-  pub receives_joined : SessionsJoined cfg end (after w (delivered (settings_from end cfg) w w.back))
+  pub receives_joined : SessionsJoined since cfg end (after w (delivered (settings_from end cfg) w w.back))
   receives_joined = by w.back refl
     where
-      by : (l : List (List ℕ)) → w.back ≡ l → SessionsJoined cfg end (after w (delivered (settings_from end cfg) w l))
+      by : (l : List (List ℕ)) → w.back ≡ l → SessionsJoined since cfg end (after w (delivered (settings_from end cfg) w l))
       by [] is = h
       by (octets ∷ back) is = came_joined octets back is

@@ -1,5 +1,5 @@
 -- A command to the layer in a session: its own packet is put, and then what waits.
-use Rattle.std.proofs.Common.{◌≡◌, ℕ, suc, ◌==◌, ◌⊎◌, inl, inr, List, [], ◌∷◌, ◌++◌, map, Bool, true, refl, sym, ap, ◌∙◌, subst, append-nil, arith}
+use Rattle.std.proofs.Common.{◌≡◌, ℕ, suc, ◌==◌, ◌⊎◌, inl, inr, List, [], ◌∷◌, ◌++◌, map, Bool, true, refl, sym, ap, ◌∙◌, subst, append-nil, arith, false, if◌then◌else◌}
 use Rattle.std.proofs.lemmas.List.{append_cancel_left}
 use Rattle.x25_bits.specs.declared.role.Role.{Role}
 use Rattle.x25_frame.specs.PlainFrame.{PlainFrame}
@@ -11,7 +11,7 @@ use Rattle.x25_link.specs.Steps.{alone}
 use Rattle.x25_line.specs.Sessions.{Meeting, Sessions}
 use Rattle.x25_line.specs.SessionClaims.{SomeMet, UnmetHandNothingUp, octets_of}
 use Rattle.x25_layer.specs.Layer.{Layer, LayerNotice}
-use Rattle.x25_layer.specs.Calls.{LayerRequest}
+use Rattle.x25_layer.specs.Calls.{LayerRequest, layer_outcome}
 use Rattle.x25_layer.specs.Quiet.{AreNoFaults}
 use Rattle.x25_layer.specs.World as layer
 use Rattle.x25_layer.specs.World.{Requests as Requested}
@@ -19,10 +19,10 @@ use Rattle.x25_layer.specs.RoundLaw.{moves_all, pulls_of}
 use Rattle.x25_layer.specs.Apart as apart
 use Rattle.x25_layer.specs.Apart.{OwnMove, Requests, apart_start, own_moves, own_run, AreInOrder}
 use Rattle.x25_station.specs.declared.config.Cfg.{Cfg}
-use Rattle.x25_station.specs.Settings.{Settings, settings_from, layer_settings}
+use Rattle.x25_station.specs.Settings.{Settings, settings_from, layer_settings, link_settings}
 use Rattle.x25_station.specs.Command as command
-use Rattle.x25_station.specs.Entries.{layer_notices}
-use Rattle.x25_station.specs.Steps.{Step, Outcome, Did, Refused, requests}
+use Rattle.x25_station.specs.Entries.{layer_notices, StationEntry}
+use Rattle.x25_station.specs.Steps.{Step, Outcome, Did, Refused, requests, did, entries_of_outcome}
 use Rattle.x25_station.specs.JoinLaw.{station_with, IsJoined}
 use Rattle.x25_station.specs.KeepLaw.{IsKept, KeptBy}
 use Rattle.x25_station.specs.ReadLaw.{AreReadable, RequestsOctets}
@@ -30,18 +30,50 @@ use Rattle.x25_world.specs.World.{World, of_station, after, after_step}
 use Rattle.x25_world.specs.Claims.{link_of}
 use Rattle.x25_world.proofs.Reaches.{layer_of}
 use Rattle.x25_world.proofs.Known.{IsConfigured}
-use Rattle.x25_world.proofs.Joined.{spelled}
-use Rattle.x25_world.proofs.LinkSteps.{puts_up}
-use Rattle.x25_world.proofs.NoUps.{did_entries}
-use Rattle.x25_world.proofs.Requests.{readable_behind, did_up}
+use Rattle.x25_world.proofs.Growing.{spelled}
 use Rattle.x25_world.proofs.SessionTrace.{Done, moved, own, own_goes, pair_at, events_of, pair_more, pair_same, TakeNothing, nothing_goes, BringOctets, octets_append}
-use Rattle.x25_world.proofs.SessionReaches.{SessionsReach, known_sessions}
+use Rattle.x25_world.proofs.SessionReaches.{Beginning, SessionsReach, known_sessions}
 use Rattle.x25_world.proofs.SessionJoined.{HasMet, PairIsInOrder, PairsAreInOrder, SessionsJoined}
 use Rattle.x25_world.proofs.SessionKnown.{SessionLaws, met_in_order, all_map, pair_ends, own_quiet, own_readable, nothing_in_order}
 use Rattle.x25_world.proofs.SessionEntries.{ArePlain, outcome_plain}
-use Rattle.x25_world.proofs.SessionLinks.{SessionGoes, puts_go, extended_none}
+use Rattle.x25_world.proofs.SessionLinks.{puts_up, SessionGoes, puts_go, extended_none}
 use Rattle.x25_world.proofs.SessionGoes.{same_or_not, IsNews, goes_on}
 use Rattle.x25_world.proofs.SessionMoves.{own_pulls, pulls_take_nothing, pulls_bring_octets, near_pulls, request_leaves}
+use Rattle.x25_station.specs.declared.error.StationError.{StationError}
+use Rattle.x25_station.specs.declared.error.StationError.TheVariants as error
+use Rattle.x25_layer.specs.declared.error.LayerError.TheVariants as layer_error
+use Rattle.x25_station.specs.Station.{Station, view_of}
+use Rattle.x25_layer.specs.Rounds.{LinkView, Answered, Went, Refuses, went}
+
+abbrev step_in : Step → Outcome → Step
+step_in k (Did step) = step
+step_in k (Refused e) = k
+
+refused_did : {A : Type 0} (e : StationError) (step : Step) → Refused e ≡ Did step → A
+refused_did e step is = absurd (subst (λ (o : Outcome). elim o as (λ _. Type 0) [ Did x ↦ ⊥ | Refused y ↦ Unit {0} ]) is tt)
+
+-- the entries of a command that is accepted
+did_entries : (c : Settings) (t : Side) (entries : List StationEntry) (a : Answered) (step : Step) → did c t entries a ≡ Did step → step.entries ≡ entries
+did_entries c t entries (Went s) step is = ap (λ (o : Outcome). (step_in step o).entries) (sym is)
+did_entries c t entries (Refuses e) step is = refused_did (error.Layer e) step is
+
+pub readable_behind : (long_data : Bool) (ps qs : List PlainPacket) → AreReadable long_data (ps ++ qs) → AreReadable long_data qs
+readable_behind long_data [] qs h = h
+readable_behind long_data (p ∷ ps) qs h = readable_behind long_data ps qs h.1
+
+-- a link that isn't up refuses a command to the layer
+did_up : (c : Settings) (s : Station) (request : LayerRequest) (step : Step) → requests c s request ≡ Did step → is_up s.link.phase ≡ true
+did_up c s request step is = by (is_up s.link.phase) refl
+  where
+    view : LinkView
+    view = view_of (link_settings c) s.link
+
+    by : (b : Bool) → is_up s.link.phase ≡ b → is_up s.link.phase ≡ true
+    by true up = up
+    by false off =
+        refused_did (error.Layer layer_error.NotUp) step
+        (sym (ap (λ (b : Bool). did c (alone s.link) (entries_of_outcome (layer_settings c) s.layer request (layer_outcome (layer_settings c) (view.waits [] == 256) s.layer request))
+        (if b then went view (layer_settings c) (layer_outcome (layer_settings c) (view.waits [] == 256) s.layer request) else Refuses layer_error.NotUp)) off) ∙ is)
 
 no_faults_behind : (xs ys : List LayerNotice) → AreNoFaults (xs ++ ys) → AreNoFaults ys
 no_faults_behind [] ys h = h
@@ -82,7 +114,7 @@ module _ (laws : SessionLaws) (cfg : Cfg) (end : Role) (trace : List Done) (sess
   pairs_go_quietly nothing met pairs =
       all_map (λ (p : Meeting). PairIsInOrder cfg end trace p.near p.far) (λ (p : Meeting). PairIsInOrder cfg end trace_on p.near p.far) (λ (p : Meeting) order. pair_goes_quietly nothing p.near p.far order) met pairs
 
-module _ (laws : SessionLaws) (cfg : Cfg) (fine : IsConfigured cfg) (end : Role) (w : World) (h : SessionsJoined cfg end w) where
+module _ {since : Beginning} (laws : SessionLaws) (cfg : Cfg) (fine : IsConfigured cfg) (end : Role) (w : World) (h : SessionsJoined since cfg end w) where
   abbrev session : ℕ
   session = h.links.near.begun
 
@@ -118,9 +150,9 @@ module _ (laws : SessionLaws) (cfg : Cfg) (fine : IsConfigured cfg) (end : Role)
         (subst (AreReadable cfg.long_data) (ap (λ (e : layer.End). e.given) (own_goes cfg end session h.trace moves) ∙ given_then)
         (own_readable laws cfg fine end session paired.0 (h.trace ++ moved end session moves) paired.1 (octets_append h.trace (moved end session moves) h.octets octets)))
 
-    pub joins : SessionsReach cfg end v → (lifted ≡ [] → TakeNothing moves) → PairsAreInOrder cfg end (h.trace ++ moved end session moves) v.met → ((n m : ℕ) → HasMet n m h.links.met → HasMet n m v.met)
+    pub joins : SessionsReach since cfg end v → (lifted ≡ [] → TakeNothing moves) → PairsAreInOrder cfg end (h.trace ++ moved end session moves) v.met → ((n m : ℕ) → HasMet n m h.links.met → HasMet n m v.met)
         → (own_now.taken ≡ [] → ((lifted ≡ []) × (layer_notices step.entries ≡ [])) ⊎ IsNews session h.links.far.begun v.met (layer_notices step.entries))
-        → SessionsJoined cfg end (after_step (settings_from end cfg) w back step)
+        → SessionsJoined since cfg end (after_step (settings_from end cfg) w back step)
     joins reach alone pairs more news =
         let r = puts_go cfg end h.links v session j.packets t [] (spelled lifted) back v.met reach g j.link.accepted puts_readable in
         let still : is_up step.near.link.phase ≡ true = ap (λ (s : LinkStation). is_up s.phase) j.link.link ∙ puts_up laws.stations.put_tells (link_of cfg end) j.packets t up_after in
@@ -152,7 +184,7 @@ module _ (laws : SessionLaws) (cfg : Cfg) (fine : IsConfigured cfg) (end : Role)
   -- ---- a command
 
   accepted_joined : (request : LayerRequest) → RequestsOctets request → (step : Step) → requests (settings_from end cfg) w.near request ≡ Did step
-      → SessionsJoined cfg end (after_step (settings_from end cfg) w w.back step)
+      → SessionsJoined since cfg end (after_step (settings_from end cfg) w w.back step)
   accepted_joined request octets step is =
       let c : Settings = settings_from end cfg in
       let up = did_up c w.near request step is in
@@ -186,9 +218,9 @@ module _ (laws : SessionLaws) (cfg : Cfg) (fine : IsConfigured cfg) (end : Role)
       (subst KeptBy is (laws.stations.command_keeps c w.near (command.Requests request) h.near.kept)) (octets, pulls_bring_octets end session j.0) (pair.0, pair_goes_quietly laws cfg end h.trace session moves nothing session pair.0 pair.1)
       h.reach (λ none. nothing) (pairs_go_quietly laws cfg end h.trace session moves nothing h.links.met h.pairs) (λ n m has. has) (λ none. inl (refl, untold))
 
-  pub requests_joined : (request : LayerRequest) → RequestsOctets request → SessionsJoined cfg end (after w (of_station (settings_from end cfg) w (requests (settings_from end cfg) w.near request)))
+  pub requests_joined : (request : LayerRequest) → RequestsOctets request → SessionsJoined since cfg end (after w (of_station (settings_from end cfg) w (requests (settings_from end cfg) w.near request)))
   requests_joined request octets = by (requests (settings_from end cfg) w.near request) refl
     where
-      by : (o : Outcome) → requests (settings_from end cfg) w.near request ≡ o → SessionsJoined cfg end (after w (of_station (settings_from end cfg) w o))
+      by : (o : Outcome) → requests (settings_from end cfg) w.near request ≡ o → SessionsJoined since cfg end (after w (of_station (settings_from end cfg) w o))
       by (Did step) is = accepted_joined request octets step is
       by (Refused e) is = h

@@ -1,5 +1,5 @@
 -- Timer T1 runs out, and the link is connected and disconnected, over set-up and re-set-up.
-use Rattle.std.proofs.Common.{◌≡◌, ℕ, ◌+◌, List, [], ◌∷◌, Bool, true, false, ◌&&◌, ◌||◌, if◌then◌else◌, Option, Some, None, Result, Ok, Err, option_to_list, refl, sym, ap, ◌∙◌, subst, arith}
+use Rattle.std.proofs.Common.{◌≡◌, ℕ, ◌+◌, List, [], ◌∷◌, Bool, true, false, ◌&&◌, ◌||◌, if◌then◌else◌, Option, Some, None, Result, Ok, Err, option_to_list, refl, sym, ap, ◌∙◌, subst, arith, nat_lt}
 use Rattle.std.specs.List.{list_any}
 use Rattle.x25_bits.specs.Role as bits
 use Rattle.x25_bits.specs.declared.role.Role.{Role}
@@ -9,11 +9,11 @@ use Rattle.x25_frame.specs.Reading.{frame_of}
 use Rattle.x25_frame.specs.declared.error.FrameError.{FrameError}
 use Rattle.x25_link.specs.declared.error.LinkError.{LinkError}
 use Rattle.x25_link.specs.declared.phase.Phase.{Phase}
-use Rattle.x25_link.specs.declared.phase.Phase.TheVariants.{Waiting}
-use Rattle.x25_link.specs.Station.{Station as LinkStation, is_waiting}
-use Rattle.x25_link.specs.MustSend.{other, Step as LinkStep}
+use Rattle.x25_link.specs.declared.phase.Phase.TheVariants.{Waiting, Down, Up, Closed}
+use Rattle.x25_link.specs.Station.{Station as LinkStation, is_waiting, Settings as LinkSettings, with_near}
+use Rattle.x25_link.specs.MustSend.{other, Step as LinkStep, quiet, leaves}
 use Rattle.x25_link.specs.NoteLaw.{Tells}
-use Rattle.x25_link.specs.Steps.{timer_refusal, timer_step, connect_refusal, connect_step, disconnect_refusal, disconnect_step}
+use Rattle.x25_link.specs.Steps.{timer_refusal, timer_step, connect_refusal, connect_step, disconnect_refusal, disconnect_step, alone, closed_by, asks_again}
 use Rattle.x25_line.specs.Stations as line
 use Rattle.x25_line.specs.Sessions as links
 use Rattle.x25_line.specs.Sessions.{Sessions, begun_by, sabm_in, ua_in, how_many, IsTimely}
@@ -21,23 +21,37 @@ use Rattle.x25_line.specs.SessionClaims.{octets_of}
 use Rattle.x25_station.specs.declared.config.Cfg.{Cfg}
 use Rattle.x25_station.specs.Settings.{settings_from, longest_packet}
 use Rattle.x25_station.specs.Command.{Connects, Disconnects}
-use Rattle.x25_station.specs.Entries.{disconnect_asked}
+use Rattle.x25_station.specs.Entries.{connect_asked, disconnect_asked}
 use Rattle.x25_station.specs.Steps.{Step, follows, led_by, fires, connects, connects_asked, disconnects, unless}
 use Rattle.x25_station.specs.KeepLaw.{IsKept, KeptBy, ConnectKeeps}
 use Rattle.x25_world.specs.SetUpFrames.{is_a, reads_as, carries}
 use Rattle.x25_world.specs.declared.set_up.SetUpFrame.{SetUpFrame}
 use Rattle.x25_world.specs.declared.set_up.SetUpFrame.TheVariants.{Sabm, Ua}
 use Rattle.x25_world.specs.declared.error.WorldError.TheVariants as error
-use Rattle.x25_world.specs.World.{World, Declined, of_station, is_on_line, fired, after, after_step}
-use Rattle.x25_world.specs.Claims.{link_of}
-use Rattle.x25_world.proofs.Known.{IsConfigured}
-use Rattle.x25_world.proofs.Follows.{true_false, second_false, Lead, no_command, connect, disconnect, lead_of}
-use Rattle.x25_world.proofs.Timers.{timer_packet, was_down}
-use Rattle.x25_world.proofs.SessionReaches.{SessionsReach, sessions_act}
+use Rattle.x25_world.specs.World.{World, Declined, Commands, of_station, refusal_of, is_on_line, fired, after, after_step}
+use Rattle.x25_world.specs.Claims.{link_of, IsNoConnect}
+use Rattle.x25_world.proofs.Known.{IsConfigured, true_false, second_false}
+use Rattle.x25_world.proofs.SessionReaches.{Beginning, set_up, MayAct, SessionsReach, sessions_act}
 use Rattle.x25_world.proofs.SessionJoined.{SessionsJoined}
 use Rattle.x25_world.proofs.SessionKnown.{SessionLaws}
 use Rattle.x25_world.proofs.SessionLinks.{SessionGoes, own_step}
-use Rattle.x25_world.proofs.SessionFollows.{follows_silent}
+use Rattle.x25_world.proofs.SessionFollows.{Lead, no_command, connect, disconnect, lead_of, follows_silent}
+use Rattle.x25_link.specs.declared.phase.Reason.TheVariants.{Retries}
+
+timer_packet : (c : LinkSettings) (s : LinkStation) → (timer_step c s).packet ≡ None
+timer_packet c s = by (nat_lt s.tries c.retries)
+  where
+    by : (b : Bool)
+        → (closed_by c.window (if b then quiet (asks_again s.phase (with_near (alone s) (record s { tries = s.tries + 1 }))) else leaves Retries (alone s))).packet ≡ None
+    by true = refl
+    by false = refl
+
+-- connect is accepted in Down alone
+was_down : (p : Phase) → connect_refusal p ≡ None → p ≡ Down
+was_down Down is = refl
+was_down Waiting is = absurd (cc)
+was_down Up is = absurd (cc)
+was_down Closed is = absurd (cc)
 
 -- ---- frames of a set-up on the line
 
@@ -89,15 +103,15 @@ pub not_begun_by : (b : Bool) (n : ℕ) → begun_by b n ≡ n → b ≡ false
 not_begun_by true n e = absurd (omega (arith, e))
 not_begun_by false n e = refl
 
-module _ (laws : SessionLaws) (cfg : Cfg) (fine : IsConfigured cfg) (end : Role) (w : World) (h : SessionsJoined cfg end w) where
+module _ {since : Beginning} (laws : SessionLaws) (cfg : Cfg) (fine : IsConfigured cfg) (end : Role) (w : World) (h : SessionsJoined since cfg end w) where
   -- an act of the link that isn't refused, and hands nothing up
   act_follows : (lead : Lead) (act : line.Act) (refusal : LinkStation → Option LinkError) (step : LinkStation → LinkStep)
       → links.acts (link_of cfg end) act h.links
       ≡ links.unless (refusal h.links.near.station) h.links (links.after_step (link_of cfg end) h.links h.links.back h.links.met [] (step h.links.near.station))
-      → (links.acts (link_of cfg end) act h.links).near.begun ≡ h.links.near.begun → IsTimely (link_of cfg end) (link_of cfg (other end)) act h.links → refusal w.near.link ≡ None
+      → (links.acts (link_of cfg end) act h.links).near.begun ≡ h.links.near.begun → IsTimely (link_of cfg end) (link_of cfg (other end)) act h.links → MayAct since act h.links → refusal w.near.link ≡ None
       → (step w.near.link).packet ≡ None → Tells w.near.link (step w.near.link) → IsKept (led_by (lead_of lead) (follows (settings_from end cfg) w.near.layer (step w.near.link))).near
-      → SessionsJoined cfg end (after_step (settings_from end cfg) w w.back (led_by (lead_of lead) (follows (settings_from end cfg) w.near.layer (step w.near.link))))
-  act_follows lead act refusal step is same timely accepted none tells kept =
+      → SessionsJoined since cfg end (after_step (settings_from end cfg) w w.back (led_by (lead_of lead) (follows (settings_from end cfg) w.near.layer (step w.near.link))))
+  act_follows lead act refusal step is same timely may accepted none tells kept =
       let c = link_of cfg end in
       let k = step w.near.link in
       let v = links.after_step c h.links h.links.back h.links.met [] k in
@@ -105,7 +119,7 @@ module _ (laws : SessionLaws) (cfg : Cfg) (fine : IsConfigured cfg) (end : Role)
       is ∙ ap (λ (s : LinkStation). links.unless (refusal s) h.links (links.after_step c h.links h.links.back h.links.met [] (step s))) h.near.link
       ∙ ap (λ (o : Option LinkError). links.unless o h.links v) accepted in
       let not_up : k.notes.up ≡ false = not_begun_by k.notes.up h.links.near.begun (sym (ap (λ (x : Sessions). x.near.begun) done) ∙ same) in
-      follows_silent laws cfg fine end w h lead w.back k v (subst (λ (x : Sessions). SessionsReach cfg end x) done (sessions_act cfg end act h.links timely h.reach)) h.pairs (λ n m has. has) tells not_up
+      follows_silent laws cfg fine end w h lead w.back k v (subst (λ (x : Sessions). SessionsReach since cfg end x) done (sessions_act cfg end act h.links timely may h.reach)) h.pairs (λ n m has. has) tells not_up
       (subst (λ (b : Bool). SessionGoes c h.links v (begun_by b h.links.near.begun) k.side.near k.side.out [] [] w.back h.links.met) not_up
       (subst (λ (p : Option (List ℕ)). SessionGoes c h.links v (begun_by k.notes.up h.links.near.begun) k.side.near k.side.out [] (option_to_list p) w.back h.links.met) none
       (subst (λ (os : List (List ℕ)). SessionGoes c h.links v (begun_by k.notes.up h.links.near.begun) k.side.near k.side.out [] (option_to_list k.packet) os h.links.met) h.back
@@ -126,57 +140,60 @@ module _ (laws : SessionLaws) (cfg : Cfg) (fine : IsConfigured cfg) (end : Role)
       by Dte none = none
       by Dce none = none
 
-  fires_joined : (is_waiting w.near.link.phase && is_on_line (settings_from end cfg) w) ≡ false → SessionsJoined cfg end (after w (of_station (settings_from end cfg) w (fires (settings_from end cfg) w.near)))
+  fires_joined : (is_waiting w.near.link.phase && is_on_line (settings_from end cfg) w) ≡ false → SessionsJoined since cfg end (after w (of_station (settings_from end cfg) w (fires (settings_from end cfg) w.near)))
   fires_joined off = by (timer_refusal w.near.link) refl
     where
       step : Step
       step = follows (settings_from end cfg) w.near.layer (timer_step (link_of cfg end) w.near.link)
 
-      by : (o : Option LinkError) → timer_refusal w.near.link ≡ o → SessionsJoined cfg end (after w (of_station (settings_from end cfg) w (unless o step)))
+      by : (o : Option LinkError) → timer_refusal w.near.link ≡ o → SessionsJoined since cfg end (after w (of_station (settings_from end cfg) w (unless o step)))
       by (Some e) is = h
       by None is =
-          act_follows no_command line.T1 timer_refusal (timer_step (link_of cfg end)) refl (laws.hands (link_of cfg end) (link_of cfg end) (line.Near line.T1) h.links).0.begun (is_timely off) is
+          act_follows no_command line.T1 timer_refusal (timer_step (link_of cfg end)) refl (laws.hands (link_of cfg end) (link_of cfg end) (line.Near line.T1) h.links).0.begun (is_timely off) (λ off s same. tt) is
           (timer_packet (link_of cfg end) w.near.link) (laws.stations.timer_tells (link_of cfg end) w.near.link)
           (subst (λ (o : Option LinkError). KeptBy (unless o step)) is (laws.stations.timer_keeps (settings_from end cfg) w.near h.near.kept))
 
-  pub fired_joined : SessionsJoined cfg end (after w (fired (settings_from end cfg) w))
+  pub fired_joined : SessionsJoined since cfg end (after w (fired (settings_from end cfg) w))
   fired_joined = by (is_waiting w.near.link.phase && is_on_line (settings_from end cfg) w) refl
     where
       by : (b : Bool) → (is_waiting w.near.link.phase && is_on_line (settings_from end cfg) w) ≡ b
-          → SessionsJoined cfg end (after w (if b then Declined error.OnLine else of_station (settings_from end cfg) w (fires (settings_from end cfg) w.near)))
+          → SessionsJoined since cfg end (after w (if b then Declined error.OnLine else of_station (settings_from end cfg) w (fires (settings_from end cfg) w.near)))
       by true is = h
       by false is = fires_joined is
 
   -- set-up is asked for, by a command or not
-  connecting : (lead : Lead) → KeptBy (unless (connect_refusal w.near.link.phase) (led_by (lead_of lead) (follows (settings_from end cfg) w.near.layer (connect_step (link_of cfg end) w.near.link))))
-      → SessionsJoined cfg end
+  connecting : (lead : Lead) → (since ≡ set_up false → connect_refusal w.near.link.phase ≡ None → ⊥) → KeptBy (unless (connect_refusal w.near.link.phase) (led_by (lead_of lead) (follows (settings_from end cfg) w.near.layer (connect_step (link_of cfg end) w.near.link))))
+      → SessionsJoined since cfg end
       (after w (of_station (settings_from end cfg) w (unless (connect_refusal w.near.link.phase) (led_by (lead_of lead) (follows (settings_from end cfg) w.near.layer (connect_step (link_of cfg end) w.near.link))))))
-  connecting lead keeps = by (connect_refusal w.near.link.phase) refl keeps
+  connecting lead may keeps = by (connect_refusal w.near.link.phase) refl keeps
     where
       step : Step
       step = led_by (lead_of lead) (follows (settings_from end cfg) w.near.layer (connect_step (link_of cfg end) w.near.link))
 
-      by : (o : Option LinkError) → connect_refusal w.near.link.phase ≡ o → KeptBy (unless o step) → SessionsJoined cfg end (after w (of_station (settings_from end cfg) w (unless o step)))
+      by : (o : Option LinkError) → connect_refusal w.near.link.phase ≡ o → KeptBy (unless o step) → SessionsJoined since cfg end (after w (of_station (settings_from end cfg) w (unless o step)))
       by (Some e) is keeps = h
       by None is keeps =
-          act_follows lead line.Connect (λ (s : LinkStation). connect_refusal s.phase) (connect_step (link_of cfg end)) refl (laws.hands (link_of cfg end) (link_of cfg end) (line.Near line.Connect) h.links).0.begun tt is refl
+          act_follows lead line.Connect (λ (s : LinkStation). connect_refusal s.phase) (connect_step (link_of cfg end)) refl (laws.hands (link_of cfg end) (link_of cfg end) (line.Near line.Connect) h.links).0.begun tt
+          (λ free s same accepted. may free (ap (λ (x : LinkStation). connect_refusal x.phase) (sym (same ∙ h.near.link)) ∙ accepted)) is refl
           (laws.stations.connect_tells (link_of cfg end) w.near.link (was_down w.near.link.phase is)) keeps
 
-  pub connects_joined : SessionsJoined cfg end (after w (of_station (settings_from end cfg) w (connects_asked (settings_from end cfg) w.near)))
-  connects_joined = connecting connect (laws.stations.command_keeps (settings_from end cfg) w.near Connects h.near.kept)
+  pub connects_joined : (since ≡ set_up false → IsNoConnect (Commands Connects) (refusal_of (of_station (settings_from end cfg) w (connects_asked (settings_from end cfg) w.near))))
+      → SessionsJoined since cfg end (after w (of_station (settings_from end cfg) w (connects_asked (settings_from end cfg) w.near)))
+  connects_joined none = connecting connect (λ free accepted. subst (λ (o : Option LinkError). IsNoConnect (Commands Connects) (refusal_of (of_station (settings_from end cfg) w (unless o
+      (led_by (connect_asked ∷ []) (follows (settings_from end cfg) w.near.layer (connect_step (link_of cfg end) w.near.link))))))) accepted (none free)) (laws.stations.command_keeps (settings_from end cfg) w.near Connects h.near.kept)
 
-  pub connects_alone_joined : ConnectKeeps → SessionsJoined cfg end (after w (of_station (settings_from end cfg) w (connects (settings_from end cfg) w.near)))
-  connects_alone_joined keeps = connecting no_command (keeps (settings_from end cfg) w.near h.near.kept)
+  pub connects_alone_joined : (since ≡ set_up false → ⊥) → ConnectKeeps → SessionsJoined since cfg end (after w (of_station (settings_from end cfg) w (connects (settings_from end cfg) w.near)))
+  connects_alone_joined unasked keeps = connecting no_command (λ free accepted. unasked free) (keeps (settings_from end cfg) w.near h.near.kept)
 
-  pub disconnects_joined : SessionsJoined cfg end (after w (of_station (settings_from end cfg) w (disconnects (settings_from end cfg) w.near)))
+  pub disconnects_joined : SessionsJoined since cfg end (after w (of_station (settings_from end cfg) w (disconnects (settings_from end cfg) w.near)))
   disconnects_joined = by (disconnect_refusal w.near.link.phase) refl
     where
       step : Step
       step = led_by (disconnect_asked ∷ []) (follows (settings_from end cfg) w.near.layer (disconnect_step (link_of cfg end) w.near.link))
 
-      by : (o : Option LinkError) → disconnect_refusal w.near.link.phase ≡ o → SessionsJoined cfg end (after w (of_station (settings_from end cfg) w (unless o step)))
+      by : (o : Option LinkError) → disconnect_refusal w.near.link.phase ≡ o → SessionsJoined since cfg end (after w (of_station (settings_from end cfg) w (unless o step)))
       by (Some e) is = h
       by None is =
           act_follows disconnect line.Disconnect (λ (s : LinkStation). disconnect_refusal s.phase) (disconnect_step (link_of cfg end)) refl
-          (laws.hands (link_of cfg end) (link_of cfg end) (line.Near line.Disconnect) h.links).0.begun tt is refl (laws.stations.disconnect_tells (link_of cfg end) w.near.link)
+          (laws.hands (link_of cfg end) (link_of cfg end) (line.Near line.Disconnect) h.links).0.begun tt (λ off s same. tt) is refl (laws.stations.disconnect_tells (link_of cfg end) w.near.link)
           (subst (λ (o : Option LinkError). KeptBy (unless o step)) is (laws.stations.command_keeps (settings_from end cfg) w.near Disconnects h.near.kept))

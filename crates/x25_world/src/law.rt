@@ -7,12 +7,8 @@ ghost use Rattle.x25_world.specs.Claims.{ActsInOctets, Always, IsSetUp, IsLawful
 
 use crate::Event;
 use x25_frame::reads_what_is_spelled;
-use x25_layer::{
-    apart_layers_keep_order, each_end_is_by_itself, names_are_told, two_layers_keep_order,
-};
-use x25_line::{
-    each_event_hands_one, each_session_event_hands_one, sessions_keep_order, stations_keep_order,
-};
+use x25_layer::{apart_layers_keep_order, each_end_is_by_itself};
+use x25_line::{each_session_event_hands_one, sessions_keep_order, stations_keep_order};
 use x25_link::{notes_what_changes, sets_up_by_rows};
 use x25_station::{Cmd, puts_are_readable, steps_are_joined, steps_keep_bounds};
 
@@ -42,9 +38,10 @@ pub fn two_stations_keep_order()
     ensures up_once { UpOnceUnlessConnected }
 {
     stations_keep_order();
-    each_event_hands_one();
-    two_layers_keep_order();
-    names_are_told();
+    sessions_keep_order();
+    each_session_event_hands_one();
+    apart_layers_keep_order();
+    each_end_is_by_itself();
     steps_are_joined();
     steps_keep_bounds();
     puts_are_readable();
@@ -86,10 +83,6 @@ pub fn stations_meet_in_sessions()
     each_session_event_hands_one();
     apart_layers_keep_order();
     each_end_is_by_itself();
-    stations_keep_order();
-    each_event_hands_one();
-    two_layers_keep_order();
-    names_are_told();
     steps_are_joined();
     steps_keep_bounds();
     puts_are_readable();

@@ -1,0 +1,149 @@
+-- Where the link is set up once, each end has one session, these are in order, and all that the ends told of their layers is in them.
+use Rattle.std.proofs.Common.{◌≡◌, ℕ, ◌+◌, ◌≤◌, inl, inr, List, [], ◌∷◌, Bool, true, false, refl, sym, ap, ◌∙◌, subst, arith}
+use Rattle.x25_bits.specs.declared.role.Role.{Role}
+use Rattle.x25_bits.specs.declared.role.Role.TheVariants.{Dte, Dce}
+use Rattle.x25_link.specs.MustSend.{other}
+use Rattle.x25_line.specs.Stations as line
+use Rattle.x25_line.specs.StationClaims as links
+use Rattle.x25_line.specs.StationClaims.{IsSetUpOnce, OneLinkUnlessConnected, AreInWindow}
+use Rattle.x25_line.specs.Sessions.{SessionEnd}
+use Rattle.x25_line.specs.SessionClaims.{OnlyBegunHaveLists}
+use Rattle.x25_layer.specs.Layer.{LayerNotice}
+use Rattle.x25_layer.specs.Law.{HandsUpLawfully, HasAllOf}
+use Rattle.x25_layer.specs.NameLaw.{first_name, counted}
+use Rattle.x25_layer.specs.Transcript.{Entry}
+use Rattle.x25_station.specs.declared.config.Cfg.{Cfg}
+use Rattle.x25_station.specs.Entries.{StationEntry, of_channel, restart_asked, connect_asked, disconnect_asked, link_up, link_down, was_restarted, restart_confirmed, at_fault}
+use Rattle.x25_station.specs.Station.{Station}
+use Rattle.x25_world.specs.World.{World}
+use Rattle.x25_world.specs.Claims.{entries_at, ups_in, IsUpOnce, handed_at, link_of, IsLawful, IsNamed, ArrivesAll, IsInWindow}
+use Rattle.x25_world.specs.Sessions.{Progress, none_begun, after_entry, after_entries, session_at, last_session, handed_in}
+use Rattle.x25_world.proofs.Known.{IsConfigured}
+use Rattle.x25_world.proofs.OneLink.{IsAnew, OneLink}
+use Rattle.x25_world.proofs.SessionTrace.{Done, own}
+use Rattle.x25_world.proofs.SessionReaches.{set_up, known_sessions, joined_at}
+use Rattle.x25_world.proofs.SessionJoined.{HaveAll, IsEnd, HasMet, PairIsInOrder, SessionsJoined}
+use Rattle.x25_world.proofs.SessionKnown.{SessionLaws, met_in_order, nothing_in_order}
+use Rattle.x25_world.proofs.SessionMeets.{begun_both}
+use Rattle.x25_world.proofs.SessionLawful.{own_lawful}
+use Rattle.x25_world.proofs.SessionNamed.{are_named}
+use Rattle.x25_world.proofs.SessionArrives.{all_arrive}
+
+-- ---- how many sessions an end began
+
+begun_more : (p : Progress) (es : List StationEntry) → (after_entries p es).begun ≡ p.begun + ups_in es
+begun_more p [] = omega arith
+begun_more p (of_channel e ∷ es) = begun_more p es
+begun_more p (restart_asked ∷ es) = begun_more p es
+begun_more p (connect_asked ∷ es) = begun_more p es
+begun_more p (disconnect_asked ∷ es) = begun_more p es
+begun_more p (link_up ∷ es) = let rest = begun_more (after_entry p link_up) es in omega (arith, rest)
+begun_more p (link_down reason ∷ es) = begun_more (after_entry p (link_down reason)) es
+begun_more p (was_restarted cause diagnostic ∷ es) = begun_more p es
+begun_more p (restart_confirmed ∷ es) = begun_more p es
+begun_more p (at_fault diagnostic ∷ es) = begun_more p es
+
+pub ups_are_begun : {cfg : Cfg} {end : Role} {s : Station} {k : SessionEnd} {trace : List Done} {es : List StationEntry} → IsEnd cfg end s k trace es → ups_in es ≡ k.begun
+ups_are_begun {es = es} h =
+    let all = begun_more none_begun es in
+    let told = ap (λ (p : Progress). p.begun) h.progress in
+    omega (arith, all, told)
+
+-- an end that began its first session alone didn't come up anew, and the other way round
+
+not_anew : (came_up : Bool) (begun : ℕ) → IsAnew came_up begun → begun ≡ 1 → came_up ≡ false
+not_anew came_up begun h first = elim h [ inl once ↦ once.0 | inr again ↦ (let more = again.1 in absurd (omega (arith, more, first))) ]
+
+first_alone : (came_up : Bool) (begun : ℕ) → IsAnew came_up begun → came_up ≡ false → begun ≡ 1
+first_alone came_up begun h not_up = elim h [ inl once ↦ once.1 | inr again ↦ absurd (never (sym again.0 ∙ not_up)) ]
+  where
+    never : true ≡ false → ⊥
+    never e = cc
+
+-- ---- where none asks for set-up
+
+pub is_up_once : OneLinkUnlessConnected → (cfg : Cfg) → IsConfigured cfg → (w : World) → SessionsJoined (set_up false) cfg Dte w → IsUpOnce cfg w
+is_up_once law cfg fine w h = by
+  where
+    one : OneLink false cfg Dte h.links
+    one = h.reach.one_link false refl
+
+    still : IsSetUpOnce one.stations
+    still = subst IsSetUpOnce one.reach.run (law (link_of cfg Dte) (link_of cfg Dce) (joined_at cfg Dte fine) one.reach.events (one.reach.unasked refl)).once
+
+    by : (end : Role) → ups_in (entries_at end w.transcript) ≡ 1
+    by Dte = ups_are_begun h.near ∙ first_alone one.stations.near.came_up h.links.near.begun one.alike.near.anew still.near
+    by Dce = ups_are_begun h.far ∙ first_alone one.stations.far.came_up h.links.far.begun one.alike.far.anew still.far
+
+module _ (laws : SessionLaws) (cfg : Cfg) (fine : IsConfigured cfg) (w : World) (h : SessionsJoined (set_up true) cfg Dte w) (once : IsUpOnce cfg w) where
+  near_first : h.links.near.begun ≡ 1
+  near_first = sym (ups_are_begun h.near) ∙ once Dte
+
+  far_first : h.links.far.begun ≡ 1
+  far_first = sym (ups_are_begun h.far) ∙ once Dce
+
+  -- ---- the window
+
+  pub in_window : links.Always AreInWindow → IsInWindow cfg w
+  in_window law =
+      let one = h.reach.one_link true refl in
+      let still : IsSetUpOnce one.stations = record {
+        near = not_anew one.stations.near.came_up h.links.near.begun one.alike.near.anew near_first;
+        far = not_anew one.stations.far.came_up h.links.far.begun one.alike.far.anew far_first;
+      } in (
+        one.stations,
+        record { events = one.reach.events; run = one.reach.run; near = one.alike.near.station ∙ h.near.link; far = one.alike.far.station ∙ h.far.link; out = one.alike.out ∙ h.out; back = one.alike.back ∙ h.back },
+        subst (λ (v : line.Stations). AreInWindow (link_of cfg Dte) (link_of cfg Dce) v) one.reach.run
+            (law (link_of cfg Dte) (link_of cfg Dce) (joined_at cfg Dte fine) one.reach.events (subst IsSetUpOnce (sym one.reach.run) still)),
+      )
+
+  -- ---- the first session of an end has all that it told of its layer
+
+  has_all : (end : Role) → HaveAll (session_at end 1 w.transcript) (entries_at end w.transcript)
+  has_all Dte = h.near.first_has_all (omega (arith, near_first))
+  has_all Dce = h.far.first_has_all (omega (arith, far_first))
+
+  last_has_all : (end : Role) → HaveAll (session_at end (last_session end w) w.transcript) (entries_at end w.transcript)
+  last_has_all end =
+      let began = begun_more none_begun (entries_at end w.transcript) in
+      let told = once end in
+      let last : last_session end w ≡ 1 = omega (arith, began, told) in
+      subst (λ (n : ℕ). HaveAll (session_at end n w.transcript) (entries_at end w.transcript)) (sym last) (has_all end)
+
+  -- ---- the claims
+
+  -- the first sessions are in order
+  paired : PairIsInOrder cfg Dte h.trace 1 1
+  paired = elim (h.near_hears 1) [
+    | inl none ↦ elim (h.far_hears 1) [
+      | inl none_there ↦ nothing_in_order cfg Dte h.trace 1 1 (h.near.alone 1 none.0) (h.far.alone 1 none_there.0)
+      | inr one ↦ met_in_order cfg Dte h.trace h.links.met 1 1 h.pairs (subst (λ (n : ℕ). HasMet n 1 h.links.met) (first_of h.links.near.begun one.session near_first one.begun.1 (begun one.session 1 one.has_met).0) one.has_met)
+    ]
+    | inr one ↦ met_in_order cfg Dte h.trace h.links.met 1 1 h.pairs (subst (λ (m : ℕ). HasMet 1 m h.links.met) (first_of h.links.far.begun one.session far_first one.begun.1 (begun 1 one.session one.has_met).1) one.has_met)
+  ]
+    where
+      begun : (n m : ℕ) → HasMet n m h.links.met → (n ≤ h.links.near.begun) × (m ≤ h.links.far.begun)
+      begun n m met = begun_both h.links.near.begun h.links.far.begun h.links.met n m (known_sessions OnlyBegunHaveLists laws.begun cfg fine Dte h.links h.reach).met met
+
+      first_of : (last n : ℕ) → last ≡ 1 → 1 ≤ n → n ≤ last → n ≡ 1
+      first_of last n is low high = omega (arith, is, low, high)
+
+  handed : (end : Role) → (own cfg end 1 h.trace).entries ≡ handed_at end w
+  handed Dte = (h.near.sessions 1 (omega arith) (omega (arith, near_first))).entries ∙ (has_all Dte).entries
+  handed Dce = (h.far.sessions 1 (omega arith) (omega (arith, far_first))).entries ∙ (has_all Dce).entries
+
+  pub lawful_once : IsLawful cfg w
+  lawful_once end = subst (λ (e : List Entry). HandsUpLawfully e (handed_at (other end) w)) (handed end)
+      (subst (λ (f : List Entry). HandsUpLawfully (own cfg end 1 h.trace).entries f) (handed (other end)) (own_lawful laws cfg end 1 1 h.trace (by end)))
+    where
+      by : (end : Role) → PairIsInOrder cfg end h.trace 1 1
+      by Dte = paired
+      by Dce = paired
+
+  pub named_once : IsNamed cfg w
+  named_once end channel up = are_named laws cfg fine w h end channel up ∙ ap (λ (ns : List LayerNotice). counted channel first_name ns) (last_has_all end).told
+
+  pub arrives_once : ArrivesAll cfg w
+  arrives_once end channel name idle here there =
+      subst (λ (e : List Entry). HasAllOf channel name e (handed_at (other end) w)) (last_has_all end).entries
+      (subst (λ (f : List Entry). HasAllOf channel name (handed_in end (last_session end w) w) f) (last_has_all (other end)).entries (all_arrive laws cfg fine w h end channel name idle here there))
