@@ -23,7 +23,7 @@ use Rattle.x25_station.specs.Steps.{Step, follows, receives}
 use Rattle.x25_station.specs.KeepLaw.{IsKept}
 use Rattle.x25_world.specs.World.{World, swapped, entered, after_step, delivered, after, Event, Receives, happens, refusal_of, AreAccepted, connected, established}
 use Rattle.x25_world.specs.Claims.{link_of}
-use Rattle.x25_world.proofs.Reaches.{layer_of}
+use Rattle.x25_world.proofs.SessionTrace.{layer_of}
 use Rattle.x25_world.proofs.Known.{Laws}
 use Rattle.x25_world.proofs.SessionLinks.{puts_up}
 

@@ -1,9 +1,7 @@
-pub mod Reaches
 pub mod OneLink
 pub mod Known
 pub mod Growing
 pub mod Established
-pub mod QuietTap
 pub mod Headline
 pub mod SessionTrace
 pub mod SessionReaches

@@ -23,10 +23,9 @@ use Rattle.x25_station.specs.Told.{is_idle, stretch}
 use Rattle.x25_world.specs.World.{World, swapped}
 use Rattle.x25_world.specs.Sessions.{Progress, last_session, handed_in, meets}
 use Rattle.x25_world.specs.SessionClaims.{OpenStretchesMeet, AllArrive}
-use Rattle.x25_world.proofs.Reaches.{layer_of}
 use Rattle.x25_world.proofs.Known.{IsConfigured, both_true, true_false}
 use Rattle.x25_world.proofs.Growing.{spelled, spelled_none}
-use Rattle.x25_world.proofs.SessionTrace.{Done, own_in, own, pair_in}
+use Rattle.x25_world.proofs.SessionTrace.{layer_of, Done, own_in, own, pair_in}
 use Rattle.x25_world.proofs.SessionReaches.{Beginning, known_sessions}
 use Rattle.x25_world.proofs.SessionJoined.{HasMet, PairIsInOrder, SessionsJoined, sessions_swapped}
 use Rattle.x25_world.proofs.SessionKnown.{SessionLaws, all_some, some_map, met_in_order, pair_world, world_here, world_there}

@@ -25,9 +25,8 @@ use Rattle.x25_station.specs.ReadLaw.{AreReadable}
 use Rattle.x25_world.specs.World.{World, after_step}
 use Rattle.x25_world.specs.Claims.{link_of}
 use Rattle.x25_world.specs.Sessions.{Progress, is_in, entry_if}
-use Rattle.x25_world.proofs.Reaches.{layer_of}
 use Rattle.x25_world.proofs.Known.{IsConfigured, true_false}
-use Rattle.x25_world.proofs.SessionTrace.{own, TakeNothing}
+use Rattle.x25_world.proofs.SessionTrace.{layer_of, own, TakeNothing}
 use Rattle.x25_world.proofs.SessionReaches.{Beginning, SessionsReach, known_sessions}
 use Rattle.x25_world.proofs.SessionJoined.{HasMet, PairsAreInOrder, SessionsJoined}
 use Rattle.x25_world.proofs.SessionKnown.{SessionLaws, nothing_in_order, own_readable}

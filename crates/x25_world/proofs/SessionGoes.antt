@@ -26,10 +26,9 @@ use Rattle.x25_station.specs.KeepLaw.{IsKept}
 use Rattle.x25_world.specs.World.{World, tapped, entered, after_step}
 use Rattle.x25_world.specs.Claims.{entries_at, link_of}
 use Rattle.x25_world.specs.Sessions.{Progress, none_begun, after_entries, is_in, session_from, first_of, met_by, meets}
-use Rattle.x25_world.proofs.Reaches.{layer_of}
 use Rattle.x25_world.proofs.Growing.{spelled, spelled_none, grown, AreOnTap, entries_more, entries_other, layer_append, notices_append, on_tap}
 use Rattle.x25_world.proofs.Known.{true_false}
-use Rattle.x25_world.proofs.SessionTrace.{Done, moved, own_in, own, own_more, own_same, own_other, own_goes, same_number, other_number, TakeNothing, nothing_append, BringOctets, octets_append}
+use Rattle.x25_world.proofs.SessionTrace.{layer_of, Done, moved, own_in, own, own_more, own_same, own_other, own_goes, same_number, other_number, TakeNothing, nothing_append, BringOctets, octets_append}
 use Rattle.x25_world.proofs.SessionReaches.{Beginning, SessionsReach}
 use Rattle.x25_world.proofs.SessionJoined.{HaveAll, IsSession, IsLayer, IsEnd, HasMet, Meets, Hears, PairsAreInOrder, SessionsJoined}
 use Rattle.x25_world.proofs.SessionEntries.{after_append, session_append, meets_more, meets_other, none_met, ArePlain, plain_progress, plain_here, plain_elsewhere, restart_met, elsewhere_met}

@@ -15,9 +15,8 @@ use Rattle.x25_layer.specs.ApartLaw.{IsOverLinks, IsToldFirst, RestartsFirst, Be
 use Rattle.x25_station.specs.declared.config.Cfg.{Cfg}
 use Rattle.x25_station.specs.ReadLaw.{AreReadable, MovesOctets, BringOctets}
 use Rattle.x25_world.proofs.Known.{Laws, IsConfigured}
-use Rattle.x25_world.proofs.Reaches.{layer_of}
 use Rattle.x25_world.proofs.SessionTrace as traced
-use Rattle.x25_world.proofs.SessionTrace.{Done, own_in, own, pair_one, pair_in, pair_at, pair_turned, near_of_pair, far_of_pair, TakeNothing, order_of_nothing}
+use Rattle.x25_world.proofs.SessionTrace.{layer_of, Done, own_in, own, pair_one, pair_in, pair_at, pair_turned, near_of_pair, far_of_pair, TakeNothing, order_of_nothing}
 use Rattle.x25_world.proofs.SessionJoined.{HasMet, PairIsInOrder, PairsAreInOrder}
 
 -- the laws that all rests on

@@ -15,10 +15,9 @@ use Rattle.x25_world.specs.World.{World, swapped}
 use Rattle.x25_world.specs.Claims.{entries_at}
 use Rattle.x25_world.specs.Sessions.{Progress, none_begun, after_entry, is_in, entry_if, session_from, session_at, handed_in, meets}
 use Rattle.x25_world.specs.SessionClaims.{AreLawfulWhereMet, UnmetAreToldNothing}
-use Rattle.x25_world.proofs.Reaches.{layer_of}
 use Rattle.x25_world.proofs.Known.{IsConfigured}
 use Rattle.x25_world.proofs.Growing.{spelled_none}
-use Rattle.x25_world.proofs.SessionTrace.{Done, own_in, own, pair_in}
+use Rattle.x25_world.proofs.SessionTrace.{layer_of, Done, own_in, own, pair_in}
 use Rattle.x25_world.proofs.SessionReaches.{Beginning, known_sessions}
 use Rattle.x25_world.proofs.SessionJoined.{HasMet, PairIsInOrder, SessionsJoined, sessions_swapped}
 use Rattle.x25_world.proofs.SessionKnown.{SessionLaws, met_in_order, pair_world, world_here, world_there}

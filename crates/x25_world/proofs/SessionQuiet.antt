@@ -1,31 +1,82 @@
 -- Over set-up and re-set-up no error of procedure is ever put on the line, or told to a user.
-use Rattle.std.proofs.Common.{◌≡◌, ℕ, suc, ◌≤◌, ◌<◌, ◌⊎◌, inl, inr, List, [], Contains, sym, subst, arith}
+use Rattle.std.proofs.Common.{◌≡◌, ℕ, Bool, zero, suc, List, [], ◌∷◌, Result, Ok, Contains, sym, subst, arith, ◌≤◌, ◌<◌, ◌⊎◌, inl, inr}
 use Rattle.x25_bits.specs.declared.role.Role.{Role}
+use Rattle.x25_frame.specs.PlainFrame.{PlainFrame, info, rr, rnr, rej, sabm, disc, ua, dm, frmr}
+use Rattle.x25_frame.specs.Spelling.{spelling_of}
+use Rattle.x25_frame.specs.Reading.{frame_of}
+use Rattle.x25_frame.specs.ReadingLaw.{ReadsSpelled}
+use Rattle.x25_frame.specs.declared.error.FrameError.{FrameError}
+use Rattle.x25_packet.specs.PlainPacket.{PlainPacket}
+use Rattle.x25_packet.specs.Spelling as packet
+use Rattle.x25_packet.specs.Reading.{packet_of}
+use Rattle.x25_packet.specs.declared.error.PacketError.{PacketError}
+use Rattle.x25_line.specs.StationClaims.{NoFrmr, IsWhole, AreWhole}
+use Rattle.x25_layer.specs.Quiet.{AreQuiet, AreNoFaults}
+use Rattle.x25_packet.specs.Spelling.{longest_user}
+use Rattle.x25_station.specs.Settings.{longest_packet}
+use Rattle.x25_station.specs.ReadLaw.{AreReadable}
+use Rattle.x25_world.specs.World.{OnTap, World, swapped}
+use Rattle.x25_world.proofs.Growing.{spelled, AreOnTap}
 use Rattle.x25_bits.specs.declared.role.Role.TheVariants.{Dte, Dce}
 use Rattle.x25_line.specs.Sessions.{Sessions}
 use Rattle.x25_line.specs.SessionClaims.{OnlyBegunHaveLists, NoSessionSendsFrmr, AllSessionsSendWhole}
-use Rattle.x25_layer.specs.Quiet.{AreNoFaults}
 use Rattle.x25_station.specs.declared.config.Cfg.{Cfg}
 use Rattle.x25_station.specs.Entries.{layer_notices}
-use Rattle.x25_world.specs.World.{World, swapped}
-use Rattle.x25_world.specs.Claims.{HasNoProcedureError, entries_at}
+use Rattle.x25_world.specs.Claims.{IsQuietRead, IsQuietFrame, IsQuietTap, HasNoProcedureError, entries_at}
 use Rattle.x25_world.proofs.Known.{IsConfigured}
-use Rattle.x25_world.proofs.QuietTap.{IsQuietOctets, quiet_octets, quiet_tap}
-use Rattle.x25_world.proofs.SessionTrace.{TakeNothing, own}
+use Rattle.x25_world.proofs.SessionTrace.{own}
 use Rattle.x25_world.proofs.SessionReaches.{Beginning, known_sessions}
-use Rattle.x25_world.proofs.SessionJoined.{PairIsInOrder, SessionsJoined, sessions_swapped, links_swapped}
-use Rattle.x25_world.proofs.SessionKnown.{SessionLaws, met_in_order, nothing_in_order, own_quiet, own_readable}
+use Rattle.x25_world.proofs.SessionJoined.{SessionsJoined, sessions_swapped, links_swapped}
+use Rattle.x25_world.proofs.SessionKnown.{SessionLaws, own_quiet, own_readable}
 use Rattle.x25_world.proofs.SessionLawful.{which_session}
+use Rattle.x25_world.proofs.SessionRequests.{session_pair}
+
+-- ---- packets
+
+abbrev IsQuietOctets : Bool → ℕ → List ℕ → Type 0
+IsQuietOctets long_data channels octets = IsQuietRead channels (packet_of (longest_user long_data) octets)
+
+quiet_one : (long_data : Bool) (channels : ℕ) (p : PlainPacket) (ps : List PlainPacket) → AreQuiet channels (p ∷ ps) → AreReadable long_data (p ∷ ps) → IsQuietOctets long_data channels (packet.spelling_of p)
+quiet_one long_data channels p ps quiet readable = subst (λ (r : Result PlainPacket PacketError). IsQuietRead channels r) (sym readable.0.reads) quiet.0
+
+quiet_octets : (long_data : Bool) (channels : ℕ) (ps : List PlainPacket) → AreQuiet channels ps → AreReadable long_data ps → (octets : List ℕ) → Contains (spelled ps) octets → IsQuietOctets long_data channels octets
+quiet_octets long_data channels [] quiet readable octets (k, low, is) = absurd (omega (arith, low))
+quiet_octets long_data channels (p ∷ ps) quiet readable octets (zero, low, is) = subst (IsQuietOctets long_data channels) is (quiet_one long_data channels p ps quiet readable)
+quiet_octets long_data channels (p ∷ ps) quiet readable octets (suc k, low, is) = quiet_octets long_data channels ps quiet.1 readable.1 octets (k, omega (arith, low), is)
+
+-- ---- frames
+
+quiet_frame : (long_data : Bool) (channels : ℕ) (given : List (List ℕ)) → ((octets : List ℕ) → Contains given octets → IsQuietOctets long_data channels octets) → (f : PlainFrame) (fs : List PlainFrame) → IsWhole longest_packet given f
+    → NoFrmr (f ∷ fs) → IsQuietFrame long_data channels (Ok f) × NoFrmr fs
+quiet_frame long_data channels given quiet (info ns nr p x) fs whole none = (quiet x whole.packet, none)
+quiet_frame long_data channels given quiet (rr command nr pf) fs whole none = (tt, none)
+quiet_frame long_data channels given quiet (rnr command nr pf) fs whole none = (tt, none)
+quiet_frame long_data channels given quiet (rej command nr pf) fs whole none = (tt, none)
+quiet_frame long_data channels given quiet (sabm p) fs whole none = (tt, none)
+quiet_frame long_data channels given quiet (disc p) fs whole none = (tt, none)
+quiet_frame long_data channels given quiet (ua f) fs whole none = (tt, none)
+quiet_frame long_data channels given quiet (dm f) fs whole none = (tt, none)
+quiet_frame long_data channels given quiet (frmr f why) fs whole none = absurd none
+
+-- octets that spell a frame read as it
+quiet_read : ReadsSpelled → (long_data : Bool) (channels : ℕ) (from : Role) (given : List (List ℕ)) (f : PlainFrame) (octets : List ℕ) → IsWhole longest_packet given f → octets ≡ spelling_of from f → IsQuietFrame long_data channels (Ok f)
+    → IsQuietFrame long_data channels (frame_of from longest_packet octets)
+quiet_read reads long_data channels from given f octets whole is quiet =
+    subst (λ (r : Result PlainFrame FrameError). IsQuietFrame long_data channels r)
+    (sym (reads from longest_packet f octets (record { in_range = whole.in_range; carries = whole.carries; within = whole.within; spelling = is }))) quiet
+
+quiet_tap : ReadsSpelled → (long_data : Bool) (channels : ℕ) (given : List (List ℕ)) → ((octets : List ℕ) → Contains given octets → IsQuietOctets long_data channels octets) → (tap : List OnTap) (fs : List PlainFrame) → AreOnTap tap fs
+    → AreWhole longest_packet given fs → NoFrmr fs → IsQuietTap long_data channels tap
+quiet_tap reads long_data channels given quiet [] [] on whole none = tt
+quiet_tap reads long_data channels given quiet (t ∷ tap) (f ∷ fs) on whole none =
+    let here = quiet_frame long_data channels given quiet f fs whole.0 none in
+    (quiet_read reads long_data channels t.from given f t.octets whole.0 on.0 here.0, quiet_tap reads long_data channels given quiet tap fs on.1 whole.1 here.1)
+quiet_tap reads long_data channels given quiet [] (f ∷ fs) on whole none = absurd on
+quiet_tap reads long_data channels given quiet (t ∷ tap) [] on whole none = absurd on
+
+-- ---- of a world
 
 module _ (laws : SessionLaws) (cfg : Cfg) (fine : IsConfigured cfg) where
-  -- ---- each session is one of two in order: with the one that it meets, or with one that isn't begun
-
-  in_order : {since : Beginning} (end : Role) (w : World) (h : SessionsJoined since cfg end w) (n : ℕ) → (m : ℕ) × PairIsInOrder cfg end h.trace n m
-  in_order end w h n = elim (h.near_hears n) [
-    | inl none ↦ (suc h.links.far.begun, nothing_in_order cfg end h.trace n (suc h.links.far.begun) (h.near.alone n none.0) (subst TakeNothing (sym (h.far.later (suc h.links.far.begun) (omega arith)).moves) tt))
-    | inr one ↦ (one.session, met_in_order cfg end h.trace h.links.met n one.session h.pairs one.has_met)
-  ]
-
   -- ---- what was handed down
 
   nowhere : (octets : List ℕ) → Contains [] octets → IsQuietOctets cfg.long_data cfg.channels octets
@@ -45,7 +96,7 @@ module _ (laws : SessionLaws) (cfg : Cfg) (fine : IsConfigured cfg) where
 
       at_session : 1 ≤ n → n ≤ h.links.near.begun → IsQuietOctets cfg.long_data cfg.channels octets
       at_session low high =
-          let pair = in_order end w h n in
+          let pair = session_pair laws cfg fine end w h n in
           quiet_octets cfg.long_data cfg.channels (own cfg end n h.trace).given (own_quiet laws cfg end n pair.0 h.trace pair.1).given (own_readable laws cfg fine end n pair.0 h.trace pair.1 h.octets) octets
           (subst (λ (l : List (List ℕ)). Contains l octets) (h.near.sessions n low high).down there)
 

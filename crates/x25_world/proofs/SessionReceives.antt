@@ -36,10 +36,9 @@ use Rattle.x25_station.specs.KeepLaw.{IsKept}
 use Rattle.x25_station.specs.ReadLaw.{AreReadable, IsReadable}
 use Rattle.x25_world.specs.World.{World, delivered, after, after_step}
 use Rattle.x25_world.specs.Claims.{link_of}
-use Rattle.x25_world.proofs.Reaches.{layer_of}
 use Rattle.x25_world.proofs.Known.{IsConfigured, both_true, true_false}
 use Rattle.x25_world.proofs.Growing.{spelled}
-use Rattle.x25_world.proofs.SessionTrace.{Done, moved, own, own_goes, events_of, pair_turned, nothing_goes}
+use Rattle.x25_world.proofs.SessionTrace.{layer_of, Done, moved, own, own_goes, events_of, pair_turned, nothing_goes}
 use Rattle.x25_world.proofs.SessionReaches.{Beginning, SessionsReach, known_sessions, sessions_act}
 use Rattle.x25_world.proofs.SessionJoined.{HasMet, PairIsInOrder, PairsAreInOrder, SessionsJoined}
 use Rattle.x25_world.proofs.SessionKnown.{SessionLaws, all_no_earlier, met_in_order, pair_ends, here_in, here_is, there_is, pair_world, own_order, own_first, own_readable, nothing_in_order}

@@ -9,7 +9,7 @@ use Rattle.x25_link.specs.Outgoing.{waits}
 use Rattle.x25_link.specs.Station.{Station as LinkStation, Side, is_up}
 use Rattle.x25_link.specs.Steps.{alone}
 use Rattle.x25_line.specs.Sessions.{Meeting, Sessions}
-use Rattle.x25_line.specs.SessionClaims.{SomeMet, UnmetHandNothingUp, octets_of}
+use Rattle.x25_line.specs.SessionClaims.{octets_of}
 use Rattle.x25_layer.specs.Layer.{Layer, LayerNotice}
 use Rattle.x25_layer.specs.Calls.{LayerRequest, layer_outcome}
 use Rattle.x25_layer.specs.Quiet.{AreNoFaults}
@@ -28,11 +28,10 @@ use Rattle.x25_station.specs.KeepLaw.{IsKept, KeptBy}
 use Rattle.x25_station.specs.ReadLaw.{AreReadable, RequestsOctets}
 use Rattle.x25_world.specs.World.{World, of_station, after, after_step}
 use Rattle.x25_world.specs.Claims.{link_of}
-use Rattle.x25_world.proofs.Reaches.{layer_of}
 use Rattle.x25_world.proofs.Known.{IsConfigured}
 use Rattle.x25_world.proofs.Growing.{spelled}
-use Rattle.x25_world.proofs.SessionTrace.{Done, moved, own, own_goes, pair_at, events_of, pair_more, pair_same, TakeNothing, nothing_goes, BringOctets, octets_append}
-use Rattle.x25_world.proofs.SessionReaches.{Beginning, SessionsReach, known_sessions}
+use Rattle.x25_world.proofs.SessionTrace.{layer_of, Done, moved, own, own_goes, pair_at, events_of, pair_more, pair_same, TakeNothing, nothing_goes, BringOctets, octets_append}
+use Rattle.x25_world.proofs.SessionReaches.{Beginning, SessionsReach}
 use Rattle.x25_world.proofs.SessionJoined.{HasMet, PairIsInOrder, PairsAreInOrder, SessionsJoined}
 use Rattle.x25_world.proofs.SessionKnown.{SessionLaws, met_in_order, all_map, pair_ends, own_quiet, own_readable, nothing_in_order}
 use Rattle.x25_world.proofs.SessionEntries.{ArePlain, outcome_plain}
@@ -79,14 +78,6 @@ no_faults_behind : (xs ys : List LayerNotice) → AreNoFaults (xs ++ ys) → Are
 no_faults_behind [] ys h = h
 no_faults_behind (x ∷ xs) ys h = no_faults_behind xs ys h.1
 
--- a session that met some, with the one that it met
-pub one_met : (n : ℕ) (met : List Meeting) → SomeMet (λ (m : Meeting). m.near ≡ n) met → (m : ℕ) × HasMet n m met
-one_met n [] h = absurd h
-one_met n (p ∷ met) h = elim h [
-  | inl here ↦ (p.far, inl (here, refl))
-  | inr there ↦ (let rest = one_met n met there in (rest.0, inr rest.1))
-]
-
 -- ---- more moves of the near end in the session that stands
 
 module _ (laws : SessionLaws) (cfg : Cfg) (end : Role) (trace : List Done) (session : ℕ) (moves : List OwnMove) where
@@ -121,12 +112,11 @@ module _ {since : Beginning} (laws : SessionLaws) (cfg : Cfg) (fine : IsConfigur
   abbrev own_now : layer.End
   own_now = own cfg end session h.trace
 
-  -- each session is one of two in order
+  -- each session is one of two in order: with the one that it meets, or with one that isn't begun
   pub session_pair : (n : ℕ) → (m : ℕ) × PairIsInOrder cfg end h.trace n m
-  session_pair n = elim ((known_sessions UnmetHandNothingUp laws.unmet cfg fine end h.links h.reach).near n) [
-    | inl empty ↦ (let m = suc h.links.far.begun in
-        (m, nothing_in_order cfg end h.trace n m (h.near.alone n empty) (subst TakeNothing (sym (h.far.later m (omega arith)).moves) tt)))
-    | inr some ↦ (let one = one_met n h.links.met some in (one.0, met_in_order cfg end h.trace h.links.met n one.0 h.pairs one.1))
+  session_pair n = elim (h.near_hears n) [
+    | inl none ↦ (let m = suc h.links.far.begun in (m, nothing_in_order cfg end h.trace n m (h.near.alone n none.0) (subst TakeNothing (sym (h.far.later m (omega arith)).moves) tt)))
+    | inr one ↦ (one.session, met_in_order cfg end h.trace h.links.met n one.session h.pairs one.has_met)
   ]
 
   -- the link's own step is at `v`, with the side `t`; behind it go the packets that the layer puts

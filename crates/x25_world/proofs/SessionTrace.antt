@@ -10,8 +10,11 @@ use Rattle.x25_layer.specs.World as layer
 use Rattle.x25_layer.specs.World.{started}
 use Rattle.x25_layer.specs.Apart.{OwnMove, Requests, Pulls, Takes, GoesDown, as_move, own_moves, own_run, Ends, ApartEvent, apart_happens, near_moves, far_moves, IsNext, IsInOrder, AreInOrder}
 use Rattle.x25_station.specs.declared.config.Cfg.{Cfg}
+use Rattle.x25_station.specs.Settings.{settings_from, layer_settings}
 use Rattle.x25_station.specs.ReadLaw.{MovesOctets}
-use Rattle.x25_world.proofs.Reaches.{layer_of}
+
+abbrev pub layer_of : Cfg → Role → LayerSettings
+layer_of cfg end = layer_settings (settings_from end cfg)
 
 pub record Done : Type 0 where
   pub at : Role
