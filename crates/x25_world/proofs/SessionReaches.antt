@@ -86,7 +86,7 @@ timely_more : (c d : LinkSettings) (es : List line.Event) (e : line.Event) (v : 
 timely_more c d [] e v h g = (g, tt)
 timely_more c d (x ∷ es) e v h g = (h.0, timely_more c d es e (links.happens c d x v) h.1 g)
 
--- where the run began so, it is no Connect that is accepted
+-- Since a set-up after which none may ask for another, the act is no Connect that is accepted.
 abbrev pub MayAct : Beginning → line.Act → Sessions → Type 0
 MayAct since act v = since ≡ set_up false → (s : line.Stations) → s.near.station ≡ v.near.station → AcceptsNoConnect act s
 
