@@ -190,8 +190,6 @@ pub fn longest_user(long_data: bool) -> usize
 /// ITU-T X.25 (10/96), section 5. Errors 20 to 26, the first that applies: fewer than three octets (20), the general
 /// format identifier (21), the type on this channel (22), then the body from its front to its end: octets missing (20),
 /// digits (24), facilities (25 and 26), octets left over (23).
-// In place wherever it is called: of two calls in one program the compiler would make none so, and `decode` wants it for each packet.
-#[inline(always)]
 pub fn decode_within<'a>(most: usize, octets: &'a [u8]) -> Result<Packet<'a>, PacketError>
     ensures exact { Gives result (packet_of most octets.now) }
     // The first error, from the front.
