@@ -58,14 +58,6 @@ fn proposal(values: [u8; 4]) -> Proposal {
     })
 }
 
-fn zeros(alloc: Global, count: usize) -> Result<Vec<u8>, AllocError> {
-    let mut octets = Vec::new(alloc);
-    for _ in 0..count {
-        octets.push(0)?;
-    }
-    Ok(octets)
-}
-
 fn hex_text(alloc: Global, octets: &[u8]) -> Result<String, AllocError> {
     if octets.is_empty() {
         return format!(in alloc; "-");
@@ -255,7 +247,7 @@ impl Player {
     }
 
     fn data(&mut self, s: u8, r: u8, m: bool, q: bool, count: usize) -> Result<String, Fail> {
-        let octets = zeros(self.alloc, count)?;
+        let octets = vec![in self.alloc; 0u8; count]?;
         self.circuit.room(count)?;
         self.take_packet(&Packet::Data {
             channel: 1,
@@ -276,7 +268,7 @@ impl Player {
     }
 
     fn send(&mut self, q: bool, count: usize) -> Result<String, Fail> {
-        match self.circuit.send(q, zeros(self.alloc, count)?) {
+        match self.circuit.send(q, vec![in self.alloc; 0u8; count]?) {
             Ok(()) => Ok(String::new(self.alloc)),
             Err(error) => Ok(refusal_text(self.alloc, error)?),
         }
@@ -304,12 +296,12 @@ impl Player {
     }
 
     fn interrupt(&mut self, count: usize) -> Result<String, Fail> {
-        let user = zeros(self.alloc, count)?;
+        let user = vec![in self.alloc; 0u8; count]?;
         Ok(sent_text(self.alloc, self.circuit.interrupt(user.as_slice()))?)
     }
 
     fn call(&mut self, called: &str, calling: &str, count: usize) -> Result<String, Fail> {
-        let user = zeros(self.alloc, count)?;
+        let user = vec![in self.alloc; 0u8; count]?;
         Ok(sent_text(
             self.alloc,
             self.circuit.call(called, calling, user.as_slice()),

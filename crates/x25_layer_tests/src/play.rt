@@ -77,14 +77,6 @@ fn params_of(values: Values) -> Params {
     }
 }
 
-fn zeros(alloc: Global, count: usize) -> Result<Vec<u8>, AllocError> {
-    let mut octets = Vec::new(alloc);
-    for _ in 0..count {
-        octets.push(0)?;
-    }
-    Ok(octets)
-}
-
 // Tells the layer that a link came up, of which that is asked first.
 fn came_up<L: OrderedLink>(layer: &mut Layer, link: &mut L) -> Result<(), LayerError>
     requires { 4099 ≤ L.longest link.old }
@@ -191,7 +183,7 @@ fn happens<L: OrderedLink>(
             channel_text(alloc, layer.call_with(link, "1", "2", &[], params))
         }
         Send(channel, q, count) => {
-            let user = zeros(alloc, count)?;
+            let user = vec![in alloc; 0u8; count]?;
             done_text(alloc, layer.send(link, channel, q, user))
         }
         _ => done_text(alloc, asks(layer, link, event)),
