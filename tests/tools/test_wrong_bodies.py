@@ -9,10 +9,17 @@ from support import ToolCase
 
 # Answers for each edit as its text says.
 RT = b"""#!/bin/sh
+if [ "$*" = "all check" ]; then
+    touch proved
+    exit
+fi
 for edit in crates/$2/must-fail/*.edit; do
     echo "must-fail $2/$(basename $edit): $(cat $edit)"
 done
 """
+
+# The same, and refuses to try an edit where the crates aren't proved.
+RT_OF_PROVED = RT.replace(b"for edit", b"[ -e proved ] || exit 2\nfor edit")
 
 
 class WrongBodies(ToolCase):
@@ -21,6 +28,7 @@ class WrongBodies(ToolCase):
         for name, text in edits.items():
             os.makedirs(os.path.dirname(f"{self.folder}/crates/{name}"), exist_ok=True)
             self.file(f"crates/{name}", text)
+        self.file("crates.txt", b"# lowest first\na: thiserror\nb: a\nc: a b\n")
         os.makedirs(f"{self.folder}/.ci")
         shutil.copy(f"{support.ROOT}/.ci/wrong_bodies", f"{self.folder}/.ci")
         os.chmod(self.file("rt", rt), 0o755)
@@ -41,7 +49,15 @@ class WrongBodies(ToolCase):
         self.assertEqual(self.tried(edits, ["b"]), (0, "1 refused, 0 not refused"))
 
     def test_no_such_crate(self):
-        self.assertEqual(self.tried({"a/wrong-bodies/1.edit": b""}, ["b"]), (2, "There is no crate b."))
+        self.assertEqual(self.tried({"a/wrong-bodies/1.edit": b""}, ["d"]), (2, "There is no crate d."))
 
     def test_rt_stops(self):
         self.assertEqual(self.tried({"a/wrong-bodies/1.edit": b""}, rt=b"#!/bin/sh\nexit 2\n"), (2, "0 refused, 0 not refused"))
+
+    def test_several_crates_are_proved_first(self):
+        edits = {"a/wrong-bodies/1.edit": b"refused, as it must be", "b/wrong-bodies/1.edit": b"refused, as it must be"}
+        self.assertEqual(self.tried(edits, rt=RT_OF_PROVED), (0, "2 refused, 0 not refused"))
+
+    def test_a_crate_is_not_proved(self):
+        edits = {"a/wrong-bodies/1.edit": b"refused, as it must be", "b/wrong-bodies/1.edit": b"refused, as it must be"}
+        self.assertEqual(self.tried(edits, rt=RT.replace(b"touch proved\n    exit", b"exit 1")), (2, "rt did not prove the crates."))
