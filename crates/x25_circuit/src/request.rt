@@ -51,10 +51,7 @@ fn with_packet<'a>(
 ) -> Result<Option<Packet<'a>>, CircuitError>
     ensures { result ≡ with_packet answer.entry }
 {
-    match answer {
-        Ok(packet) => Ok(Some(packet)),
-        Err(error) => Err(error),
-    }
+    Ok(Some(answer?))
 }
 
 fn is_address(text: &str) -> bool
@@ -93,10 +90,10 @@ impl Circuit {
             } => with_packet(self.call_with(called, calling, user, proposal)),
             Request::Accept { answer } => with_packet(self.accept_as(answer)),
             Request::Clear => with_packet(self.clear()),
-            Request::Send { q, user } => match self.send(q, user) {
-                Ok(()) => Ok(None),
-                Err(error) => Err(error),
-            },
+            Request::Send { q, user } => {
+                self.send(q, user)?;
+                Ok(None)
+            }
             Request::Interrupt { user } => with_packet(self.interrupt(user)),
             Request::Reset => with_packet(self.reset()),
             Request::Ready => with_packet(self.ready()),

@@ -88,10 +88,8 @@ impl Layer {
             user,
             proposal: &proposal,
         };
-        match self.ask_ready(link, channel, request) {
-            Ok(()) => Ok(channel),
-            Err(error) => Err(error),
-        }
+        self.ask_ready(link, channel, request)?;
+        Ok(channel)
     }
 
     /// Accepts the call that came on a channel, with the packet sizes and windows that it proposes: CALL ACCEPTED goes.

@@ -154,9 +154,7 @@ impl RawEnd {
             return Err(RawError::Empty);
         }
         let frame = back[0];
-        if let Err(error) = self.hear(frame) {
-            return Err(error);
-        }
+        self.hear(frame)?;
         back.remove(0);
         Ok(())
     }

@@ -80,6 +80,12 @@ module _ (long_data : Bool) (old : Option (List ℕ)) where
     Appends-trans old w v h.written a.0 h.appends a.3,
   )
 
+  pub flush_either : {T E : Type 0} (r : Result T E) (w v : Option (List ℕ)) (line : List ℕ) (long : Bool) (text text2 : List ℕ) (refused : Bool) (rest all : List ℕ) (any : Bool)
+      → Leads long_data old w line long text refused rest all any → OnOk r (Appends w v text) → OnOk r (text2 ≡ []) → OnErr r (AppendsBeginning w v text)
+      → MatchResult r (λ _. Leads long_data old v line long text2 refused rest all any) (λ _. AppendsBeginning old v all)
+  flush_either (Ok x) w v line long text text2 refused rest all any h ok empty err = rw empty (flush_ok w v line long text refused rest all any h ok)
+  flush_either (Err e) w v line long text text2 refused rest all any h ok empty err = flush_err w v line long text refused rest all any h err
+
   pub flushed : (w v : Option (List ℕ)) (line : List ℕ) (long : Bool) (text : List ℕ) (refused : Bool) (rest all : List ℕ) (any : Bool)
       → Leads long_data old w line long text refused rest all any → Appends w v text → WritesEnded long_data old v rest all
   flushed w v line long text refused rest all any h a = record {

@@ -127,10 +127,7 @@ impl Decoder {
         ensures long_data { self.new.long_data ≡ self.old.long_data }
     {
         if self.text.len() > ROOM - MOST_ANSWER {
-            return match self.flush(writer) {
-                Ok(()) => Ok(()),
-                Err(failed) => Err(failed),
-            };
+            return self.flush(writer);
         }
         Ok(())
     }
@@ -146,9 +143,7 @@ impl Decoder {
         ensures marked { OnErr result (W.is_marked writer.new ≡ true) }
         ensures long_data { self.new.long_data ≡ self.old.long_data }
     {
-        if let Err(failed) = self.make_room(writer) {
-            return Err(failed);
-        }
+        self.make_room(writer)?;
         if self.line.is_empty() {
             let refused = answer(self.long_data, tail, &mut self.octets, &mut self.text);
             self.is_refused |= refused;
@@ -171,9 +166,7 @@ impl Decoder {
         if self.line.is_empty() {
             return self.flush(writer);
         }
-        if let Err(failed) = self.make_room(writer) {
-            return Err(failed);
-        }
+        self.make_room(writer)?;
         self.answer_held();
         self.flush(writer)
     }

@@ -93,9 +93,7 @@ pub fn take_text<T: TextTaker, R: Source, W: Sink>(
         if count == 0 {
             return taker.end(writer);
         }
-        if let Err(fault) = taker.take_piece(&piece[..count], writer) {
-            return Err(fault);
-        }
+        taker.take_piece(&piece[..count], writer)?;
     }
     taker.end(writer)
 }

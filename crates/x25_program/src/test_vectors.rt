@@ -112,9 +112,7 @@ fn write_verdict<W: Sink>(writer: &mut W, name: &str, is_right: bool) -> Result<
     ensures kept { OnOk result (W.is_marked writer.new ≡ W.is_marked writer.old) }
     ensures marked { OnErr result (W.is_marked writer.new ≡ true) }
 {
-    if let Err(failed) = write_all(writer, name.as_bytes()) {
-        return Err(failed);
-    }
+    write_all(writer, name.as_bytes())?;
     if is_right {
         write_all(writer, b" ok\n")
     } else {
@@ -144,9 +142,7 @@ fn write_each<W: Sink>(vectors: &[Vector], text: &mut Text, writer: &mut W) -> R
     let mut all_right = true;
     for vector in vectors {
         let is_right = holds(vector, &mut octets, text);
-        if let Err(failed) = write_verdict(writer, vector.name, is_right) {
-            return Err(failed);
-        }
+        write_verdict(writer, vector.name, is_right)?;
         all_right &= is_right;
     }
     Ok(all_right)
@@ -160,13 +156,9 @@ fn write_verdicts<W: Sink>(text: &mut Text, writer: &mut W) -> Result<bool, Fail
     ensures marked { OnErr result (W.is_marked writer.new ≡ true) }
 {
     let check_right = fcs(b"123456789") == CHECK_VALUE;
-    if let Err(failed) = write_verdict(writer, "V1", check_right) {
-        return Err(failed);
-    }
-    match write_each(&VECTORS, text, writer) {
-        Ok(others_right) => Ok(check_right & others_right),
-        Err(failed) => Err(failed),
-    }
+    write_verdict(writer, "V1", check_right)?;
+    let others_right = write_each(&VECTORS, text, writer)?;
+    Ok(check_right & others_right)
 }
 
 /// Writes a line for each vector, its name and `ok` or `bad`, and answers the status: 1 where one is bad, else 0.

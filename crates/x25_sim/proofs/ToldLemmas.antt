@@ -1,5 +1,6 @@
 -- What was told, as it is written.
-use Rattle.std.proofs.Common.{◌≡◌, ◌∙◌, ℕ, List, [], ◌++◌, Option, append_assoc, ap, sym, subst}
+use Rattle.std.proofs.Common.{◌≡◌, ◌∙◌, ℕ, List, [], ◌++◌, Option, Result, Ok, Err, append_assoc, ap, sym, subst}
+use Rattle.std.specs.Prelude.{OnOk, MatchResult}
 use Rattle.std.specs.Io.KnownBytes.{Appends}
 use Rattle.std.proofs.lemmas.List.{append-nil}
 use Rattle.std.proofs.KnownBytes.{Appends-nil, Appends-trans}
@@ -68,3 +69,8 @@ begins_more old now text told more h = beginning_more old now told more (begins 
 pub part_of_all : (old now : Option (List ℕ)) (told first second all : List ℕ) → all ≡ first ++ second → AppendsBeginning old now (told ++ first) → AppendsBeginning old now (told ++ all)
 part_of_all old now told first second all e b =
     subst (AppendsBeginning old now) (append_assoc told first second ∙ ap (λ t. told ++ t) (sym e)) (beginning_more old now (told ++ first) second b)
+
+-- with what holds besides where it is Ok
+pub with_ok : {T E : Type 0} (r : Result T E) (A : T → Type 0) (B : E → Type 0) (Q : Type 0) → MatchResult r A B → OnOk r Q → MatchResult r (λ x. A x × Q) B
+with_ok (Ok x) A B Q m q = (m, q)
+with_ok (Err e) A B Q m q = m

@@ -38,9 +38,7 @@ impl Output {
         ensures empty { OnOk result (self.new ≡ []) }
         ensures marked { OnErr result (W.is_marked writer.new ≡ true) }
     {
-        if let Err(failed) = write_all(writer, self.text.as_slice()) {
-            return Err(failed);
-        }
+        write_all(writer, self.text.as_slice())?;
         self.text.clear();
         Ok(())
     }
@@ -57,10 +55,7 @@ impl Output {
         if self.text.len() <= ROOM - count {
             return Ok(());
         }
-        match self.flush(writer) {
-            Ok(()) => Ok(()),
-            Err(failed) => Err(failed),
-        }
+        self.flush(writer)
     }
 
     /// Writes what waits, and the line behind it.
@@ -70,13 +65,8 @@ impl Output {
             → MatchResult result (λ _. Tells old (W.contents writer.new) self.new (told ++ line.now)) (λ _. AppendsBeginning old (W.contents writer.new) (told ++ line.now)) }
         ensures marked { OnErr result (W.is_marked writer.new ≡ true) }
     {
-        if let Err(failed) = self.flush(writer) {
-            return Err(failed);
-        }
-        match write_all(writer, line) {
-            Ok(()) => Ok(()),
-            Err(failed) => Err(failed),
-        }
+        self.flush(writer)?;
+        write_all(writer, line)
     }
 
     /// Tells a line: it waits behind what was told before. One that is longer than the buffer is written.
@@ -89,9 +79,7 @@ impl Output {
         if line.len() > ROOM {
             return self.write_line(line, writer);
         }
-        if let Err(failed) = self.make_room(line.len(), writer) {
-            return Err(failed);
-        }
+        self.make_room(line.len(), writer)?;
         self.text.push(line);
         Ok(())
     }

@@ -59,13 +59,8 @@ pub fn sim<R: Source, W: Sink>(
     let Ok(held) = HeldLine::new(alloc) else {
         return Err(Fault::NoMemory);
     };
-    let mut stage = match Stage::new(alloc, down, cfg, tap) {
-        Ok(stage) => stage,
-        Err(fault) => return Err(fault),
-    };
-    if let Err(fault) = stage.open(down, writer) {
-        return Err(fault);
-    }
+    let mut stage = Stage::new(alloc, down, cfg, tap)?;
+    stage.open(down, writer)?;
     let simulator = Simulator::new(held, stage);
     take_text(simulator, piece.as_mut_slice(), reader, writer)
 }

@@ -72,9 +72,7 @@ impl Simulator {
         ensures memory { IsErrOf result Fault.NoMemory → W.is_marked writer.new ≡ W.is_marked writer.old }
         ensures read { IsErrOf result Fault.Read → ⊥ }
     {
-        if let Err(fault) = self.obey_line(writer) {
-            return Err(fault);
-        }
+        self.obey_line(writer)?;
         self.held.clear();
         Ok(())
     }
@@ -91,10 +89,7 @@ impl Simulator {
         ensures read { IsErrOf result Fault.Read → ⊥ }
     {
         self.held.hold(tail);
-        match self.take_line(writer) {
-            Ok(()) => Ok(()),
-            Err(fault) => Err(fault),
-        }
+        self.take_line(writer)
     }
 
     /// Writes what waits behind the last line.
@@ -108,10 +103,7 @@ impl Simulator {
         ensures memory { IsErrOf result Fault.NoMemory → W.is_marked writer.new ≡ W.is_marked writer.old }
         ensures read { IsErrOf result Fault.Read → ⊥ }
     {
-        match self.stage.flush(writer) {
-            Ok(()) => Ok(()),
-            Err(fault) => Err(fault),
-        }
+        self.stage.flush(writer)
     }
 
     /// The last line has ended, where it has no line feed.
@@ -127,9 +119,7 @@ impl Simulator {
         if self.held.is_empty() {
             return self.write_rest(writer);
         }
-        if let Err(fault) = self.take_line(writer) {
-            return Err(fault);
-        }
+        self.take_line(writer)?;
         self.write_rest(writer)
     }
 }
@@ -156,23 +146,16 @@ impl TextTaker for Simulator {
     fn take_piece<W: Sink>(&mut self, piece: &[u8], writer: &mut W) -> Result<(), Fault> {
         let mut left = piece;
         while let Some((tail, after)) = split_line(left) {
-            if let Err(fault) = self.close(tail, writer) {
-                return Err(fault);
-            }
+            self.close(tail, writer)?;
             left = after;
         }
         self.held.hold(left);
-        match self.stage.flush(writer) {
-            Ok(()) => Ok(()),
-            Err(fault) => Err(fault),
-        }
+        self.stage.flush(writer)
     }
 
     fn end<W: Sink>(mut self, writer: &mut W) -> Result<u8, Fault> {
-        match self.finish(writer) {
-            Ok(()) => Ok(u8::from(self.stage.is_refused())),
-            Err(fault) => Err(fault),
-        }
+        self.finish(writer)?;
+        Ok(u8::from(self.stage.is_refused()))
     }
 
     fn give_up<W: Sink>(mut self, writer: &mut W) -> Fault {

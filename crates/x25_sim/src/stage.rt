@@ -101,21 +101,16 @@ impl Stage {
         ensures memory { IsErrOf result Fault.NoMemory → W.is_marked writer.new ≡ W.is_marked writer.old }
         ensures read { IsErrOf result Fault.Read → ⊥ }
     {
-        if let Err(fault) = tell_entries(
+        tell_entries(
             self.alloc,
             self.world.transcript(),
             &mut self.output,
             writer,
-        ) {
-            return Err(fault);
-        }
+        )?;
         if !self.tap {
             return Ok(());
         }
-        match tell_frames(self.alloc, self.world.tap(), &mut self.output, writer) {
-            Ok(()) => Ok(()),
-            Err(fault) => Err(fault),
-        }
+        tell_frames(self.alloc, self.world.tap(), &mut self.output, writer)
     }
 
     /// Tells a step, and lets go of its entries and frames.
@@ -131,9 +126,7 @@ impl Stage {
         ensures memory { IsErrOf result Fault.NoMemory → W.is_marked writer.new ≡ W.is_marked writer.old }
         ensures read { IsErrOf result Fault.Read → ⊥ }
     {
-        if let Err(fault) = self.tell_step(writer) {
-            return Err(fault);
-        }
+        self.tell_step(writer)?;
         self.world.let_go();
         Ok(())
     }
@@ -152,10 +145,7 @@ impl Stage {
             return Err(Fault::NoMemory);
         }
         self.is_refused = true;
-        match tell_refusal(self.alloc, error, &mut self.output, writer) {
-            Ok(()) => Ok(()),
-            Err(fault) => Err(fault),
-        }
+        tell_refusal(self.alloc, error, &mut self.output, writer)
     }
 
     /// An event happens, and is told, or it is told that it is refused.
@@ -168,14 +158,8 @@ impl Stage {
         ensures read { IsErrOf result Fault.Read → ⊥ }
     {
         match self.world.apply(event) {
-            Ok(()) => match self.end_step(writer) {
-                Ok(()) => Ok(()),
-                Err(fault) => Err(fault),
-            },
-            Err(error) => match self.refuse(error, writer) {
-                Ok(()) => Ok(()),
-                Err(fault) => Err(fault),
-            },
+            Ok(()) => self.end_step(writer),
+            Err(error) => self.refuse(error, writer),
         }
     }
 
@@ -205,9 +189,7 @@ impl Stage {
             let Some(direction) = self.next_direction() else {
                 return Ok(());
             };
-            if let Err(fault) = self.happen(Event::Deliver(direction), writer) {
-                return Err(fault);
-            }
+            self.happen(Event::Deliver(direction), writer)?;
         }
         Ok(())
     }
@@ -222,10 +204,7 @@ impl Stage {
         ensures read { IsErrOf result Fault.Read → ⊥ }
     {
         self.is_refused = true;
-        match tell(b"? 60\n", &mut self.output, writer) {
-            Ok(()) => Ok(()),
-            Err(fault) => Err(fault),
-        }
+        tell(b"? 60\n", &mut self.output, writer)
     }
 
     /// What the user of an end asks for happens.
@@ -311,16 +290,9 @@ impl Stage {
         ensures memory { IsErrOf result Fault.NoMemory → W.is_marked writer.new ≡ W.is_marked writer.old }
         ensures read { IsErrOf result Fault.Read → ⊥ }
     {
-        if let Err(fault) = self.end_step(writer) {
-            return Err(fault);
-        }
-        if let Err(fault) = self.happen(Event::Deliver(Direction::ToDce), writer) {
-            return Err(fault);
-        }
-        match self.happen(Event::Deliver(Direction::ToDte), writer) {
-            Ok(()) => Ok(()),
-            Err(fault) => Err(fault),
-        }
+        self.end_step(writer)?;
+        self.happen(Event::Deliver(Direction::ToDce), writer)?;
+        self.happen(Event::Deliver(Direction::ToDte), writer)
     }
 
     /// The link is set up, and that is told; with `down` both links stay down, and nothing is told.
@@ -336,9 +308,6 @@ impl Stage {
         if down {
             return Ok(());
         }
-        match self.set_up(writer) {
-            Ok(()) => Ok(()),
-            Err(fault) => Err(fault),
-        }
+        self.set_up(writer)
     }
 }

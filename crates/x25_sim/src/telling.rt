@@ -118,9 +118,7 @@ pub(crate) fn tell_entries<W: Sink>(
     ensures read { IsErrOf result Fault.Read → ⊥ }
 {
     for entered in entries {
-        if let Err(fault) = tell_entry(alloc, entered, output, writer) {
-            return Err(fault);
-        }
+        tell_entry(alloc, entered, output, writer)?;
     }
     Ok(())
 }
@@ -140,9 +138,7 @@ pub(crate) fn tell_frames<W: Sink>(
     ensures read { IsErrOf result Fault.Read → ⊥ }
 {
     for frame in frames {
-        if let Err(fault) = tell_frame(alloc, frame, output, writer) {
-            return Err(fault);
-        }
+        tell_frame(alloc, frame, output, writer)?;
     }
     Ok(())
 }

@@ -75,9 +75,7 @@ impl World {
         ensures refused { RefusesConfig result (config_refusal cfg) }
     {
         let mut world = World::start(alloc, cfg)?;
-        if let Err(error) = world.connect() {
-            return Err(error);
-        }
+        world.connect()?;
         Ok(world)
     }
 
@@ -112,9 +110,7 @@ impl World {
         two_stations_keep_order();
         stations_meet_in_sessions();
         let mut world = World::connecting(alloc, cfg)?;
-        if let Err(error) = world.set_up() {
-            return Err(error);
-        }
+        world.set_up()?;
         Ok(world)
     }
 
@@ -124,9 +120,7 @@ impl World {
         ensures refused { (cfg : Cfg) → FitsWorld cfg self.old (connected cfg) nothing_gone → IfErr result (λ e. e ≡ WorldError.NoMemory) }
     {
         two_stations_keep_order();
-        if let Err(error) = self.apply(Event::Deliver(Direction::ToDce)) {
-            return Err(error);
-        }
+        self.apply(Event::Deliver(Direction::ToDce))?;
         self.apply(Event::Deliver(Direction::ToDte))
     }
 
@@ -193,10 +187,8 @@ impl World {
         if place >= self.on_line(direction) {
             return Err(WorldError::NoSuchFrame);
         }
-        match octets_of_damage(bits) {
-            Ok(octets) => self.apply(Event::Damage(direction, place, octets.as_slice())),
-            Err(error) => Err(error),
-        }
+        let octets = octets_of_damage(bits)?;
+        self.apply(Event::Damage(direction, place, octets.as_slice()))
     }
 
     // The step of `apply`, without the laws of runs.

@@ -1,6 +1,6 @@
 use Rattle.std.proofs.Common.{◌≡◌, ◌∙◌, ◌<◌, ◌≤◌, ◌-◌, ◌^◌, ℕ, List, length, arith, subst}
 use Rattle.std.specs.Io.KnownBytes.{Appends}
-use Rattle.std.proofs.lemmas.Result.{MatchResult-weaker}
+use Rattle.std.proofs.lemmas.Result.{err_from_is_err_and, MatchResult-weaker}
 use Rattle.x25_program.specs.Written.{AppendsBeginning}
 use Rattle.x25_program.specs.declared.fault.Fault.TheVariants.{Read}
 use Rattle.x25_program.proofs.ReadLemmas.{at_end, consumed, fewer, if_some, kept, told_ok, told_fault}
@@ -44,24 +44,26 @@ returns-then-count-eq0-clause-fault g c = λ setting old begins. told_fault (g.R
     MatchResult-weaker c.end.result
     (c.end.ensures.all setting old text (subst (λ rest. g.T.TextTaker.leads setting c.loop.taker old (g.W.Sink.contents c.loop.writer) rest text) end at.3)) (λ _ _. tt) (λ _ part. part))
 
-pub returns-in-Err-clause-fault : goal.returns-in-Err-clause-fault
-returns-in-Err-clause-fault g c = λ setting old begins. if_some (g.R.Source.remaining c.args.reader.now) _
+pub returns-in_err-take_piece-clause-fault : goal.returns-in_err-take_piece-clause-fault
+returns-in_err-take_piece-clause-fault g c = λ setting old begins.
+    let p = err_from_is_err_and c.from_residual.result c.from_residual.ensures.1 in
+    rw p.1 (if_some (g.R.Source.remaining c.args.reader.now) _
     (λ text is few.
     let at = c.loop.invariant.2 setting old text is (begins text) in
     let left = consumed _ _ at.0 _ at.1 c.in-Ok.ensures.octets.0 in
-    c.in-Err.ensures.on setting old left.0 text (subst (λ rest. g.T.TextTaker.leads setting c.loop.taker old (g.W.Sink.contents c.loop.writer) rest text) left.2 at.3))
+    c.in_err-take_piece.ensures.on setting old left.0 text (subst (λ rest. g.T.TextTaker.leads setting c.loop.taker old (g.W.Sink.contents c.loop.writer) rest text) left.2 at.3)))
 
 pub loop-preserved : goal.loop-preserved
 loop-preserved g c = (
   c.in-Ok.ensures.kept ∙ c.loop.invariant.0,
-  c.in_default-take_piece.ensures.kept ∙ c.loop.invariant.1,
+  c.in_ok-take_piece.ensures.kept ∙ c.loop.invariant.1,
   λ setting old text is h.
       let at = c.loop.invariant.2 setting old text is h in
       let left = consumed _ _ at.0 _ at.1 c.in-Ok.ensures.octets.0 in (
         left.0,
         left.1,
         fewer c.loop.counter c.in-Ok.count at.0 c.read.new.buffer left.0 text left.2 c.in-Ok.ensures.bound c.if-count-eq0.false at.2,
-        c.in_default-take_piece.ensures.on setting old left.0 text
+        c.in_ok-take_piece.ensures.on setting old left.0 text
             (subst (λ rest. g.T.TextTaker.leads setting c.loop.taker old (g.W.Sink.contents c.loop.writer) rest text) left.2 at.3),
       ),
 )

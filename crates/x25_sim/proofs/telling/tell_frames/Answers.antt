@@ -1,4 +1,5 @@
 use Rattle.std.proofs.Common.{◌++◌, append_assoc, take, map, subst}
+use Rattle.std.proofs.lemmas.Result.{err_from_is_err_and}
 use Rattle.x25_program.specs.Written.{AppendsBeginning}
 use Rattle.x25_world.specs.PlainTold.{plain_tapped}
 use Rattle.x25_sim.specs.Sayings.{taps, saying_line, sayings_text}
@@ -6,9 +7,10 @@ use Rattle.x25_sim.proofs.ToldLemmas.{part_of_all}
 use Rattle.x25_sim.proofs.SayingLemmas.{all_parts}
 use Rattle.x25_sim.proofs.telling.tell_frames.Goals as goal
 
-pub returns-in-Err-clause-tells : goal.returns-in-Err-clause-tells
-returns-in-Err-clause-tells g c = λ old told h.
+pub returns-in_err-tell_frame-clause-tells : goal.returns-in_err-tell_frame-clause-tells
+returns-in_err-tell_frame-clause-tells g c = λ old told h.
+    let p = err_from_is_err_and c.from_residual.result c.from_residual.ensures.1 in
     let first = sayings_text (map taps (map plain_tapped (take c.loop-frame.frame-index c.args.frames.now))) in
-    part_of_all old _ told (first ++ saying_line (taps (plain_tapped c.frame-item.result))) _ _
+    rw p.1 (part_of_all old _ told (first ++ saying_line (taps (plain_tapped c.frame-item.result))) _ _
     (all_parts plain_tapped taps c.args.frames.now c.loop-frame.frame-index c.frame-item.result c.loop-frame-test.true c.frame-item.is)
-    (subst (AppendsBeginning old (g.W.Sink.contents c.tell_frame.new.writer)) (append_assoc told first _) (c.in-Err.ensures.tells old (told ++ first) (c.loop-frame.invariant.1 old told h)))
+    (subst (AppendsBeginning old (g.W.Sink.contents c.tell_frame.new.writer)) (append_assoc told first _) (c.in_err-tell_frame.ensures.tells old (told ++ first) (c.loop-frame.invariant.1 old told h))))

@@ -1,4 +1,5 @@
 use Rattle.std.proofs.Common.{◌≡◌, ◌∙◌, Bool, true, false, ap, refl, if◌then◌else◌}
+use Rattle.std.proofs.lemmas.Result.{err_from_is_err_and}
 use mir.Val.{bool_byte}
 use Rattle.x25_sim.specs.Simulated.{simulated}
 use Rattle.x25_sim.proofs.simulator.SimulatorTextTaker.end.Goals as goal
@@ -7,10 +8,12 @@ byte_is : (b : Bool) → bool_byte b ≡ (if b then 1 else 0)
 byte_is true = refl
 byte_is false = refl
 
-pub returns-in-Ok-clause-all : goal.returns-in-Ok-clause-all
-returns-in-Ok-clause-all g c = λ a old script l.
-    let done = c.in-Ok.ensures.text a.cfg a.tap old (simulated a.cfg a.down a.tap script) l in
+pub returns-clause-all : goal.returns-clause-all
+returns-clause-all g c = λ a old script l.
+    let done = c.in_ok-finish.ensures.text a.cfg a.tap old (simulated a.cfg a.down a.tap script) l in
     (done.0, c.from.ensures ∙ ap bool_byte (c.is_refused.ensures ∙ done.1) ∙ byte_is _)
 
-pub returns-clause-all : goal.returns-clause-all
-returns-clause-all g c = λ a old script l. c.in-Err.ensures.text a.cfg a.tap old (simulated a.cfg a.down a.tap script) l
+pub returns-in_err-finish-clause-all : goal.returns-in_err-finish-clause-all
+returns-in_err-finish-clause-all g c = λ a old script l.
+    let p = err_from_is_err_and c.from_residual.result c.from_residual.ensures.1 in
+    rw p.1 (c.in_err-finish.ensures.text a.cfg a.tap old (simulated a.cfg a.down a.tap script) l)

@@ -1,4 +1,5 @@
 use Rattle.std.proofs.Common.{◌∙◌, ◌-◌, ◌+◌, sym, arith}
+use Rattle.std.proofs.lemmas.Result.{err_from_is_err_and}
 use Rattle.x25_line.specs.RawMachine.{end_of}
 use Rattle.x25_world.specs.World.{Receives}
 use Rattle.x25_world.specs.FitsWorld.{all_of}
@@ -13,23 +14,24 @@ returns-in_default-clause-turns g c = λ cfg tap old w told refused h.
     none_left cfg tap old _ old c.loop.self c.loop.self told refused _ _ l
     (drained_empty cfg tap _ l.at (sym (line_is cfg c.loop.self.world l.at (all_of l.at) l.stands.fits) ∙ sym c.in_default.ensures))
 
-pub returns-in-Err-clause-turns : goal.returns-in-Err-clause-turns
-returns-in-Err-clause-turns g c = λ cfg tap old w told refused h.
+pub returns-in_err-happen-clause-turns : goal.returns-in_err-happen-clause-turns
+returns-in_err-happen-clause-turns g c = λ cfg tap old w told refused h.
+    let p = err_from_is_err_and c.from_residual.result c.from_residual.ensures.1 in
     let l = c.loop.invariant.1 cfg tap old w told refused h in
     let at = end_of c.in-Some.direction in
-    part_failed cfg tap old _ _ c.loop.self c.loop.self told refused _ _ (event_turn cfg tap (record { at = at; act = Receives })) (drained cfg tap (c.args.count - (c.loop.counter + 1))) l
+    rw p.1 (part_failed cfg tap old _ _ c.loop.self c.loop.self told refused _ _ (event_turn cfg tap (record { at = at; act = Receives })) (drained cfg tap (c.args.count - (c.loop.counter + 1))) l
     (drained_more cfg tap _ _ l.at at (omega (arith, c.loop-test.true)) (sym (line_is cfg c.loop.self.world l.at (all_of l.at) l.stands.fits) ∙ sym c.in-Some.ensures))
-    (c.in-Err.ensures.turns cfg tap old l.at l.text l.status l.stands)
+    (c.in_err-happen.ensures.turns cfg tap old l.at l.text l.status l.stands))
 
 pub loop-preserved : goal.loop-preserved
 loop-preserved g c = (
-  c.in_default-happen.ensures.kept ∙ c.loop.invariant.0,
+  c.in_ok-happen.ensures.kept ∙ c.loop.invariant.0,
   λ cfg tap old w told refused h.
       let l = c.loop.invariant.1 cfg tap old w told refused h in
       let at = end_of c.in-Some.direction in
       part_done cfg tap old _ _ c.loop.self c.happen.new.self told refused _ _ (event_turn cfg tap (record { at = at; act = Receives })) (drained cfg tap (c.args.count - (c.loop.counter + 1))) l
       (drained_more cfg tap _ _ l.at at (omega (arith, c.loop-test.true)) (sym (line_is cfg c.loop.self.world l.at (all_of l.at) l.stands.fits) ∙ sym c.in-Some.ensures))
-      (c.in_default-happen.ensures.turns cfg tap old l.at l.text l.status l.stands),
+      (c.in_ok-happen.ensures.turns cfg tap old l.at l.text l.status l.stands),
 )
 
 pub returns-clause-turns : goal.returns-clause-turns

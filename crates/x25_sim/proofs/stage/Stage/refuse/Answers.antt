@@ -1,4 +1,5 @@
 use Rattle.std.proofs.Common.{refl}
+use Rattle.std.proofs.lemmas.Result.{MatchResult-weaker}
 use Rattle.x25_sim.proofs.ToldLemmas.{begins_more}
 use Rattle.x25_sim.proofs.StandLemmas.{stands_refused, begins_refused, refusal_is}
 use Rattle.x25_sim.proofs.stage.Stage.refuse.Goals as goal
@@ -6,12 +7,9 @@ use Rattle.x25_sim.proofs.stage.Stage.refuse.Goals as goal
 pub returns-then-is_memory-clause-stood : goal.returns-then-is_memory-clause-stood
 returns-then-is_memory-clause-stood g c = λ cfg tap old w outcome told refused h how. begins_more _ _ _ told _ h.tells
 
-pub returns-in-Ok-clause-stood : goal.returns-in-Ok-clause-stood
-returns-in-Ok-clause-stood g c = λ cfg tap old w outcome told refused h how.
+pub returns-clause-stood : goal.returns-clause-stood
+returns-clause-stood g c = λ cfg tap old w outcome told refused h how.
     let refusal = refusal_is how (λ is. let yes = c.is_memory.ensures.1 is in let no_memory = c.if-is_memory.false in cc) in
-    stands_refused cfg tap old _ _ _ _ w outcome told refused h c.args.error refusal refl refl refl (c.in-Ok.ensures.tells old told h.tells)
-
-pub returns-in-Err-clause-stood : goal.returns-in-Err-clause-stood
-returns-in-Err-clause-stood g c = λ cfg tap old w outcome told refused h how.
-    let refusal = refusal_is how (λ is. let yes = c.is_memory.ensures.1 is in let no_memory = c.if-is_memory.false in cc) in
-    begins_refused cfg tap old _ _ c.args.self.now c.args.self.now w outcome told refused h c.args.error refusal (c.in-Err.ensures.tells old told h.tells)
+    MatchResult-weaker c.tell_refusal.result (c.tell_refusal.ensures.tells old told h.tells)
+    (λ _ tells. stands_refused cfg tap old _ _ _ _ w outcome told refused h c.args.error refusal refl refl refl tells)
+    (λ _ begins. begins_refused cfg tap old _ _ c.args.self.now c.args.self.now w outcome told refused h c.args.error refusal begins)

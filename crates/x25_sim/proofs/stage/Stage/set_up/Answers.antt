@@ -1,4 +1,5 @@
 use Rattle.std.proofs.Common.{◌∙◌, [], false}
+use Rattle.std.proofs.lemmas.Result.{err_from_is_err_and, MatchResult-weaker}
 use Rattle.x25_bits.specs.declared.role.Role.TheVariants.{Dte, Dce}
 use Rattle.x25_world.specs.World.{Event, Receives, start, connected}
 use Rattle.x25_sim.specs.Simulated.{and_then, connecting, event_turn, set_up}
@@ -12,36 +13,31 @@ to_dce = record { at = Dce; act = Receives }
 abbrev to_dte : Event
 to_dte = record { at = Dte; act = Receives }
 
-pub returns-in-Err-clause-stood : goal.returns-in-Err-clause-stood
+pub returns-in_err-end_step-clause-stood : goal.returns-in_err-end_step-clause-stood
 unfolding set_up IsOpening
-returns-in-Err-clause-stood g c = λ cfg old fits status tells.
+returns-in_err-end_step-clause-stood g c = λ cfg old fits status tells.
+    let p = err_from_is_err_and c.from_residual.result c.from_residual.ensures.1 in
     let tap = c.args.self.now.tap in
-    begins_before cfg tap old _ c.end_step.new.self [] false (event_turn cfg tap to_dte) (and_then (event_turn cfg tap to_dce) (connecting cfg tap))
-    (begins_before cfg tap old _ c.end_step.new.self [] false (event_turn cfg tap to_dce) (connecting cfg tap) (c.in-Err.ensures.tells cfg old [] start (connected cfg) fits tells))
+    rw p.1 (begins_before cfg tap old _ c.end_step.new.self [] false (event_turn cfg tap to_dte) (and_then (event_turn cfg tap to_dce) (connecting cfg tap))
+    (begins_before cfg tap old _ c.end_step.new.self [] false (event_turn cfg tap to_dce) (connecting cfg tap) (c.in_err-end_step.ensures.tells cfg old [] start (connected cfg) fits tells)))
 
-pub returns-in-Err-happen-clause-stood : goal.returns-in-Err-happen-clause-stood
+pub returns-in_err-happen-clause-stood : goal.returns-in_err-happen-clause-stood
 unfolding set_up IsOpening
-returns-in-Err-happen-clause-stood g c = λ cfg old fits status tells.
+returns-in_err-happen-clause-stood g c = λ cfg old fits status tells.
+    let p = err_from_is_err_and c.from_residual-in_err-happen.result c.from_residual-in_err-happen.ensures.1 in
     let tap = c.args.self.now.tap in
-    let first = stands_connecting cfg tap old _ c.end_step.new.self (c.in_default.ensures.world cfg start (connected cfg) fits) c.in_default.ensures.tap (c.in_default.ensures.is_refused ∙ status)
-    (c.in_default.ensures.tells cfg old [] start (connected cfg) fits tells) in
-    begins_before cfg tap old _ c.happen.new.self [] false (event_turn cfg tap to_dte) (and_then (event_turn cfg tap to_dce) (connecting cfg tap))
-    (begins_behind cfg tap old _ c.happen.new.self [] false (event_turn cfg tap to_dce) (connecting cfg tap) (c.in-Err-happen.ensures.turns cfg tap old _ _ _ first))
+    let first = stands_connecting cfg tap old _ c.end_step.new.self (c.in_ok-end_step.ensures.world cfg start (connected cfg) fits) c.in_ok-end_step.ensures.tap (c.in_ok-end_step.ensures.is_refused ∙ status)
+    (c.in_ok-end_step.ensures.tells cfg old [] start (connected cfg) fits tells) in
+    rw p.1 (begins_before cfg tap old _ c.happen.new.self [] false (event_turn cfg tap to_dte) (and_then (event_turn cfg tap to_dce) (connecting cfg tap))
+    (begins_behind cfg tap old _ c.happen.new.self [] false (event_turn cfg tap to_dce) (connecting cfg tap) (c.in_err-happen.ensures.turns cfg tap old _ _ _ first)))
 
-pub returns-in-Ok-clause-stood : goal.returns-in-Ok-clause-stood
+pub returns-clause-stood : goal.returns-clause-stood
 unfolding set_up IsOpening
-returns-in-Ok-clause-stood g c = λ cfg old fits status tells.
+returns-clause-stood g c = λ cfg old fits status tells.
     let tap = c.args.self.now.tap in
-    let first = stands_connecting cfg tap old _ c.end_step.new.self (c.in_default.ensures.world cfg start (connected cfg) fits) c.in_default.ensures.tap (c.in_default.ensures.is_refused ∙ status)
-    (c.in_default.ensures.tells cfg old [] start (connected cfg) fits tells) in
-    let second = stands_behind cfg tap old _ c.happen.new.self [] false (event_turn cfg tap to_dce) (connecting cfg tap) (c.in_default-happen.ensures.turns cfg tap old _ _ _ first) in
-    stands_behind cfg tap old _ c.happen-2.new.self [] false (event_turn cfg tap to_dte) (and_then (event_turn cfg tap to_dce) (connecting cfg tap)) (c.in-Ok.ensures.turns cfg tap old _ _ _ second)
-
-pub returns-in-Err-happen-2-clause-stood : goal.returns-in-Err-happen-2-clause-stood
-unfolding set_up IsOpening
-returns-in-Err-happen-2-clause-stood g c = λ cfg old fits status tells.
-    let tap = c.args.self.now.tap in
-    let first = stands_connecting cfg tap old _ c.end_step.new.self (c.in_default.ensures.world cfg start (connected cfg) fits) c.in_default.ensures.tap (c.in_default.ensures.is_refused ∙ status)
-    (c.in_default.ensures.tells cfg old [] start (connected cfg) fits tells) in
-    let second = stands_behind cfg tap old _ c.happen.new.self [] false (event_turn cfg tap to_dce) (connecting cfg tap) (c.in_default-happen.ensures.turns cfg tap old _ _ _ first) in
-    begins_behind cfg tap old _ c.happen-2.new.self [] false (event_turn cfg tap to_dte) (and_then (event_turn cfg tap to_dce) (connecting cfg tap)) (c.in-Err-happen-2.ensures.turns cfg tap old _ _ _ second)
+    let first = stands_connecting cfg tap old _ c.end_step.new.self (c.in_ok-end_step.ensures.world cfg start (connected cfg) fits) c.in_ok-end_step.ensures.tap (c.in_ok-end_step.ensures.is_refused ∙ status)
+    (c.in_ok-end_step.ensures.tells cfg old [] start (connected cfg) fits tells) in
+    let second = stands_behind cfg tap old _ c.happen.new.self [] false (event_turn cfg tap to_dce) (connecting cfg tap) (c.in_ok-happen.ensures.turns cfg tap old _ _ _ first) in
+    MatchResult-weaker c.happen-2.result (c.happen-2.ensures.turns cfg tap old _ _ _ second)
+    (λ _ stands. stands_behind cfg tap old _ c.happen-2.new.self [] false (event_turn cfg tap to_dte) (and_then (event_turn cfg tap to_dce) (connecting cfg tap)) stands)
+    (λ _ begins. begins_behind cfg tap old _ c.happen-2.new.self [] false (event_turn cfg tap to_dte) (and_then (event_turn cfg tap to_dce) (connecting cfg tap)) begins)

@@ -1,35 +1,43 @@
 use Rattle.std.proofs.Common.{◌≡◌, ◌∙◌, ◌<◌, List, ℕ, length, false, ap, sym, subst, arith}
+use Rattle.std.proofs.lemmas.Result.{err_from_is_err_and}
 use Rattle.x25_bits.specs.Sealed.{is_sealed}
 use Rattle.x25_world.specs.ShownWorld.{line_of}
 use Rattle.x25_world.specs.World.{Event}
 use Rattle.x25_world.specs.FitsWorld.{FitsRun, and_then}
+use Rattle.x25_world.specs.Claims.{IsInWindow}
 use Rattle.x25_world.specs.SessionClaims.{SessionsKeepOrder}
 use Rattle.x25_world.proofs.BitDamageLemmas.{damage_is, refuses_bits}
-use Rattle.x25_world.proofs.WorldLemmas.{holds_throughout, all_of_sessions}
+use Rattle.x25_world.proofs.WorldLemmas.{holds_after, holds_throughout, all_of_sessions}
 use Rattle.x25_world.proofs.world.World.damage_bits.Goals as goal
 
-pub returns-in-Ok-clause-refused : goal.returns-in-Ok-clause-refused
-returns-in-Ok-clause-refused c = λ cfg w gone fits.
+pub returns-clause-refused : goal.returns-clause-refused
+returns-clause-refused c = λ cfg w gone fits.
     let octets : List ℕ = c.as_slice.result.now in
     let there : c.args.place < length (line_of c.args.self.now c.args.direction) = omega (arith, c.if-place-on_line.false, c.on_line.ensures) in
-    let visible : is_sealed octets ≡ false = ap is_sealed c.as_slice.ensures.value ∙ c.in-Ok.ensures.visible in
+    let visible : is_sealed octets ≡ false = ap is_sealed c.as_slice.ensures.value ∙ c.in_ok-octets.ensures.visible in
     refuses_bits cfg c.args.self.now w gone c.args.direction c.args.place c.args.bits.now octets c.apply.result fits there visible (c.apply.ensures.refused cfg w gone fits)
 
-pub returns-in-Ok-clause-run : goal.returns-in-Ok-clause-run
-returns-in-Ok-clause-run c = λ cfg from past gone h.
+pub returns-clause-run : goal.returns-clause-run
+returns-clause-run c = λ cfg from past gone h.
     let octets : List ℕ = c.as_slice.result.now in
-    let same = damage_is c.args.direction c.args.place c.args.bits.now octets (c.as_slice.ensures.value ∙ c.in-Ok.ensures.octets) in
+    let same = damage_is c.args.direction c.args.place c.args.bits.now octets (c.as_slice.ensures.value ∙ c.in_ok-octets.ensures.octets) in
     subst (λ (e : Event). FitsRun cfg from c.apply.new.self (and_then past e c.apply.result) gone) (sym same) (c.apply.ensures.run cfg from past gone h)
 
-pub returns-in-Ok-clause-sessions : goal.returns-in-Ok-clause-sessions
-returns-in-Ok-clause-sessions c = λ cfg from past gone begins h.
+pub returns-clause-sessions : goal.returns-clause-sessions
+returns-clause-sessions c = λ cfg from past gone begins h.
     let law = c.stations_meet_in_sessions.ensures in
-    holds_throughout SessionsKeepOrder _ cfg from _ gone (all_of_sessions law.step law.lawful law.named law.arrives law.unmet law.stand law.quiet) begins ((returns-in-Ok-clause-run c) cfg from past gone h)
+    holds_throughout SessionsKeepOrder _ cfg from _ gone (all_of_sessions law.step law.lawful law.named law.arrives law.unmet law.stand law.quiet) begins ((returns-clause-run c) cfg from past gone h)
 
-pub returns-in-Err-clause-sessions : goal.returns-in-Err-clause-sessions
-returns-in-Err-clause-sessions c = λ cfg from past gone begins h.
+pub returns-in_err-octets-clause-window : goal.returns-in_err-octets-clause-window
+returns-in_err-octets-clause-window c =
+    let p = err_from_is_err_and c.from_residual.result c.from_residual.ensures.1 in
+    rw p.1 (λ cfg past gone h once. holds_after IsInWindow _ cfg past gone c.two_stations_keep_order.ensures.window h once)
+
+pub returns-in_err-octets-clause-sessions : goal.returns-in_err-octets-clause-sessions
+returns-in_err-octets-clause-sessions c = λ cfg from past gone begins h.
+    let p = err_from_is_err_and c.from_residual.result c.from_residual.ensures.1 in
     let law = c.stations_meet_in_sessions.ensures in
-    holds_throughout SessionsKeepOrder _ cfg from past gone (all_of_sessions law.step law.lawful law.named law.arrives law.unmet law.stand law.quiet) begins h
+    rw p.1 (holds_throughout SessionsKeepOrder _ cfg from past gone (all_of_sessions law.step law.lawful law.named law.arrives law.unmet law.stand law.quiet) begins h)
 
 pub returns-then-place-on_line-clause-sessions : goal.returns-then-place-on_line-clause-sessions
 returns-then-place-on_line-clause-sessions c = λ cfg from past gone begins h.

@@ -1,6 +1,12 @@
 use Rattle.std.proofs.Common.{[], inr, refl}
-use Rattle.x25_world.proofs.WorldLemmas.{in_range, all_of_sessions}
+use Rattle.std.proofs.lemmas.Result.{err_from_is_err_and}
+use Rattle.x25_world.proofs.WorldLemmas.{in_range, all_of_sessions, refused_later}
 use Rattle.x25_world.proofs.world.World.establish.Goals as goal
+
+pub returns-in_err-set_up-clause-refused : goal.returns-in_err-set_up-clause-refused
+returns-in_err-set_up-clause-refused c =
+    let p = err_from_is_err_and c.from_residual-in_err-set_up.result c.from_residual-in_err-set_up.ensures.1 in
+    rw (p.1, p.2) (refused_later _ _ c.in_ok-world.world c.in_err-set_up.field-0.0 c.in_ok-world.ensures.refused (c.in_err-set_up.ensures.refused c.args.cfg c.in_ok-world.ensures.fits))
 
 pub returns-clause-lawful : goal.returns-clause-lawful
 returns-clause-lawful c =
