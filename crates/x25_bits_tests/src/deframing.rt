@@ -1,4 +1,6 @@
-use crate::spans::{FLAG, SABM, STUFFED, bits_of, found_in, is_content, some_octets};
+use crate::spans::{
+    FLAG, SABM, STUFFED, bits_of, found_in, found_in_pieces, is_content, some_octets,
+};
 use std::alloc::Global;
 use std::test::Fail;
 use x25_bits::{Bits, Found, NoMemory, put};
@@ -38,7 +40,7 @@ fn is_wanted(found: &[Found], wanted: Wanted) -> bool {
 }
 
 /// Bits, and what is found in them.
-const ROWS: [(&[&str], Wanted); 8] = [
+static ROWS: [(&[&str], Wanted); 8] = [
     (&["0111111001111110"], Wanted::Nothing),
     (&["011111101111110"], Wanted::Nothing),
     (&[FLAG, "11111110", FLAG], Wanted::Abort),
@@ -62,6 +64,14 @@ fn classes_spans(rt: HostRuntime) -> Result<(), Fail> {
             assert!(rt; is_wanted(found.as_slice(), wanted), "{texts:?} by {size}");
         }
     }
+    Ok(())
+}
+
+/// Both flags are cut in two, and the bits between them are one piece.
+#[test]
+fn finds_a_content_between_flags_that_are_cut(rt: HostRuntime) -> Result<(), Fail> {
+    let found = found_in_pieces(rt.alloc(), &["0111", "1110", STUFFED, "01111", "110"])?;
+    assert!(rt; is_content(found.as_slice(), &SABM));
     Ok(())
 }
 

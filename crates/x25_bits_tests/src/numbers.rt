@@ -2,7 +2,7 @@ use std::test::Fail;
 use x25_bits::{NoMemory, Role, Seq};
 
 /// A number, whether it is a sequence number, what it is modulo 8, and the one after that.
-const ROWS: [(u8, bool, u8, u8); 5] = [
+static ROWS: [(u8, bool, u8, u8); 5] = [
     (0, true, 0, 1),
     (7, true, 7, 0),
     (8, false, 0, 1),

@@ -2,7 +2,7 @@ use std::test::Fail;
 use x25_bits::{check, fcs, seal};
 
 /// Octets, and whether the last two of them are the frame check sequence of the others.
-const ROWS: [(&[u8], bool); 4] = [
+static ROWS: [(&[u8], bool); 4] = [
     (&[0x01, 0x3F, 0xEB, 0xDF], true),
     (&[0x01, 0x3F, 0xEB, 0xDE], false),
     (&[0, 0], true),

@@ -56,6 +56,16 @@ pub fn found_in(
     Ok(found)
 }
 
+/// What is found in the bits of these texts, each a piece of its own.
+pub fn found_in_pieces(alloc: Global, texts: &[&str]) -> Result<Vec<Found>, NoMemory> {
+    let mut found = Vec::new(alloc);
+    let mut deframer = Deframer::new(alloc);
+    for text in texts {
+        deframer.feed(&bits_of(alloc, &[text])?, &mut found)?;
+    }
+    Ok(found)
+}
+
 /// Whether all that is found is a content of these octets.
 pub fn is_content(found: &[Found], octets: &[u8]) -> bool {
     match found {

@@ -2,7 +2,7 @@ use std::test::Fail;
 use x25_frame::{FrameError, Role, decode};
 
 /// Octets sent by the DTE, and the number of their error where an I frame has at most 4 octets of information.
-const ROWS: [(&[u8], u8); 6] = [
+static ROWS: [(&[u8], u8); 6] = [
     (&[0x01, 0x01], 1),
     (&[0x01, 0x3F, 0xEB, 0xDE], 2),
     (&[0x05, 0x3F, 0x8B, 0xB8], 3),
@@ -21,7 +21,7 @@ fn tells_the_first_error(rt: HostRuntime) -> Result<(), Fail> {
 }
 
 /// Each error, its number and its message.
-const MESSAGES: [(FrameError, u8, &str); 8] = [
+static MESSAGES: [(FrameError, u8, &str); 8] = [
     (FrameError::Short, 1, "fewer than four octets"),
     (FrameError::BadFcs, 2, "a wrong frame check sequence"),
     (

@@ -47,7 +47,7 @@ fn frame_of(kind: Kind) -> Frame<'static> {
 }
 
 /// Who sends the octets, the octets, and the frame that they spell.
-const ROWS: [(Role, &[u8], Kind); 8] = [
+static ROWS: [(Role, &[u8], Kind); 8] = [
     (Dte, &[0x01, 0x3F, 0xEB, 0xDF], Kind::Sabm),
     (Dce, &[0x01, 0x73, 0x83, 0x57], Kind::Ua),
     (Dce, &[0x01, 0x87, 0x20, 0x00, 0x08, 0x0F, 0x31], Kind::Frmr),
@@ -75,7 +75,7 @@ fn octets_and_frames(rt: HostRuntime) -> Result<(), Fail> {
 }
 
 /// A kind, whether it is a command, its poll or final bit, and whether it is a poll.
-const KINDS: [(Kind, bool, bool, bool); 7] = [
+static KINDS: [(Kind, bool, bool, bool); 7] = [
     (Kind::Sabm, true, true, true),
     (Kind::Ua, false, true, false),
     (Kind::Frmr, false, false, false),

@@ -1,5 +1,5 @@
 //! Tests of `x25_layer`: the numbers of its errors, the user's calls, LinkUp, LinkDown and restart, what
-//! the link hands up, user data of calls, and the rounds of pulls.
+//! the link hands up, user data of calls, the rounds of pulls, and two layers that are joined.
 #![tactic(auto)]
 
 #[cfg(test)]
@@ -10,6 +10,8 @@ mod calls;
 mod errors;
 #[cfg(test)]
 mod hearing;
+#[cfg(test)]
+mod joined;
 #[cfg(test)]
 mod long_data;
 #[cfg(test)]

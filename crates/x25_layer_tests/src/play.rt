@@ -100,19 +100,28 @@ fn fill<L: OrderedLink>(alloc: Global, link: &mut L, count: usize) -> Result<Str
     Ok(String::new(alloc))
 }
 
-// Hands octets up to a layer that may take them.
+/// Hands octets up to a layer that may take them.
+pub fn hand_up<L: OrderedLink>(
+    alloc: Global,
+    layer: &mut Layer,
+    link: &mut L,
+    octets: &[u8],
+) -> Result<String, Fail> {
+    if !link.is_up() || link.waiting() == 256 || link.limit() < 4099 || layer.full() {
+        return Err("the layer takes no packet")?;
+    }
+    let told = layer.packet(link, octets)?;
+    Ok(told_text(alloc, &told)?)
+}
+
 fn take<L: OrderedLink>(
     alloc: Global,
     layer: &mut Layer,
     link: &mut L,
     octets: &str,
 ) -> Result<String, Fail> {
-    if !link.is_up() || link.waiting() == 256 || link.limit() < 4099 || layer.full() {
-        return Err("the layer takes no packet")?;
-    }
     let octets = hex::decode(alloc, octets)?;
-    let told = layer.packet(link, octets.as_slice())?;
-    Ok(told_text(alloc, &told)?)
+    hand_up(alloc, layer, link, octets.as_slice())
 }
 
 // Sets memory aside for packets of 4,099 octets.
@@ -157,7 +166,8 @@ fn looks<L: OrderedLink>(
     }
 }
 
-fn happens<L: OrderedLink>(
+/// Lets an event happen, and says what it shows.
+pub fn happens<L: OrderedLink>(
     alloc: Global,
     layer: &mut Layer,
     link: &mut L,

@@ -102,7 +102,7 @@ pub fn agreed_text(alloc: Global, layer: &Layer, channel: u16) -> Result<String,
 }
 
 /// A packet in hexadecimal, one of more than 16 octets by its first five.
-fn packet_text(alloc: Global, packet: &[u8]) -> Result<String, AllocError> {
+pub fn packet_text(alloc: Global, packet: &[u8]) -> Result<String, AllocError> {
     let shown = if packet.len() > 16 { 5 } else { packet.len() };
     hex::encode(alloc, &packet[..shown])
 }

@@ -2,7 +2,7 @@ use std::test::Fail;
 use x25_packet::{Digits, Directions, Facilities, PacketError};
 
 /// A text, and how many digits it is, where it is an address.
-const TEXTS: [(&str, Option<usize>); 5] = [
+static TEXTS: [(&str, Option<usize>); 5] = [
     ("4567", Some(4)),
     ("", Some(0)),
     ("123456789012345", Some(15)),

@@ -6,7 +6,7 @@ use x25_packet::{
 };
 
 /// Octets in hexadecimal, and the number of their error, 0 where they spell a packet.
-const ROWS: [(&str, u8); 29] = [
+static ROWS: [(&str, u8); 29] = [
     ("1000fb0000", 0),
     ("1000fb0700", 0),
     ("1000ff", 0),
@@ -66,7 +66,7 @@ fn packets_and_errors(rt: HostRuntime) -> Result<(), Fail> {
 }
 
 /// The first octets of a packet, how many 0 octets may follow, and the error of one more.
-const LONGEST: [(&[u8], usize); 3] = [
+static LONGEST: [(&[u8], usize); 3] = [
     (&[0x10, 0x01, 0x23], 32),
     (&[0x10, 0x01, 0x00], 4096),
     (&[0x10, 0x01, 0x0B, 0, 0], 16),
@@ -105,7 +105,7 @@ fn number_in(read: Result<Packet, PacketError>) -> u8 {
 }
 
 /// How many octets of user data a CALL has, and the errors that `decode` and `decode_long` tell of it.
-const USER_DATA: [(usize, u8, u8); 5] = [
+static USER_DATA: [(usize, u8, u8); 5] = [
     (0, 0, 0),
     (16, 0, 0),
     (17, 23, 0),
@@ -171,7 +171,7 @@ fn another_channel(rt: HostRuntime) -> Result<(), Fail> {
 }
 
 /// Each error, its number, its diagnostic code and its message.
-const ERRORS: [(PacketError, u8, u8, &str); 8] = [
+static ERRORS: [(PacketError, u8, u8, &str); 8] = [
     (PacketError::TooShort, 20, 38, "too few octets"),
     (
         PacketError::BadFormat,

@@ -1,7 +1,7 @@
 use std::test::Fail;
 use x25_text::{hexadecimal_digits, read_hexadecimal};
 
-const DIGITS: [u8; 58] = *b"0123456789abcdefABCDEF0011223344556677889900aaBBccDDeeFF12";
+static DIGITS: [u8; 58] = *b"0123456789abcdefABCDEF0011223344556677889900aaBBccDDeeFF12";
 
 /// For each number of octets, with and without a block over the one before.
 #[test]

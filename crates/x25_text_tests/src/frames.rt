@@ -3,7 +3,7 @@ use x25_frame::{Role, decode};
 use x25_text::{Text, push_fault, push_frame};
 
 /// The sender and the octets of a frame in hexadecimal, and their text.
-const ROWS: [(Role, &str, &str); 8] = [
+static ROWS: [(Role, &str, &str); 8] = [
     (Role::Dte, "013febdf", "SABM cmd P=1"),
     (Role::Dce, "01738357", "UA rsp F=1"),
     (Role::Dce, "01211426", "RR rsp F=0 R=1"),

@@ -3,7 +3,7 @@ use std::test::Fail;
 use x25_text::{Text, push_information};
 
 /// The octets of a packet in hexadecimal, and their text.
-const ROWS: [(&str, &str); 29] = [
+static ROWS: [(&str, &str); 29] = [
     ("1000fb0000", "RESTART cause=0 diag=0"),
     ("1000fb0700", "RESTART cause=7 diag=0"),
     ("1000ff", "RESTARTCONF"),
