@@ -3,10 +3,11 @@
 # make test  the gate: every proof from nothing, the must-fail edits, the tests and the programs, the golden cases, the tools
 # make golden       runs the stored cases of tests/golden on the program
 # make check-tools  runs the tests of tools/, without the kit too; those that need the program are left out where it isn't built
+# make refused      runs stored cases on the program with each allocation refused in turn; it needs a C compiler
 # make wrong-bodies [CRATE=NAME]  tries the edits of crates/NAME/wrong-bodies/, which the gate leaves out
 # make clean removes what these made
 
-.PHONY: x25 demo test golden check-tools wrong-bodies clean kit
+.PHONY: x25 demo test golden check-tools refused wrong-bodies clean kit
 
 x25: build/x25
 
@@ -37,6 +38,9 @@ golden: build/x25
 
 check-tools:
 	python3 tests/check_tools.py
+
+refused: build/x25
+	python3 tests/refused.py --program build/x25
 
 wrong-bodies: kit
 	.ci/wrong_bodies $(CRATE)
