@@ -4,7 +4,8 @@ use x25_layer::Params;
 /// octets.
 #[derive(Clone, Copy, Debug)]
 pub enum Cmd<'a> {
-    /// Calls the other end on a free channel, with addresses of 0 to 15 digits and at most 16 octets of user data.
+    /// Calls the other end on a free channel, with addresses of 0 to 15 digits and at most 16 octets of user data, or
+    /// 128 where `Cfg::long_data` is set.
     Call {
         called: &'a str,
         calling: &'a str,

@@ -47,8 +47,8 @@ pub enum Said {
 /// What the user of a channel asked.
 #[derive(Debug, Drop)]
 pub enum Asked {
-    /// A call, with addresses of 0 to 15 figures and at most 16 octets of user data, and the packet sizes and windows that it
-    /// proposes.
+    /// A call, with addresses of 0 to 15 figures and at most 16 octets of user data, or 128 where `Cfg::long_data` is set, and the
+    /// packet sizes and windows that it proposes.
     Call {
         called: String,
         calling: String,
