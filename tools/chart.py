@@ -10,59 +10,30 @@ Reads the lines of `x25 decode`, the lines of a trace, also with a time and a ta
 `x25 sim --tap`. Frames in hexadecimal digits are given to `x25 decode`. A run alone doesn't say which of its frames was lost:
 with --script the run is made here from its script, by `x25 sim --tap`, and what the script loses or damages is marked.
 
-The program is the one that --x25 names, or `x25` of the PATH, or else build/x25 of this repository.
+The program is the one that --x25 or the variable X25 names, or `x25` of the PATH, or else build/x25 of this repository.
 
 Exit status: 0, or 2 for bad words or bad input, where a chart as text has the rows before it.
 """
 
 import argparse
 import itertools
-import os
-import re
-import shutil
 import sys
 
+import decoding
 import drawing
 import simruns
 import x25lines
 from drawing import Entry, Frame, Note
 from x25lines import BadInput
 
-BUILT = os.path.join(os.path.dirname(os.path.dirname(os.path.abspath(__file__))), "build", "x25")
-# How many lines are held at a time, so that frames are decoded together.
-AT_ONCE = 4096
 LEAST_WIDTH, MOST_WIDTH = 40, 400
 
-TEXT_LINE = re.compile(rb"(?:([0-9.]{1,30})\t)?([<>]) ((?:I|RR|RNR|REJ|SABM|DISC|UA|DM|FRMR|fault) [ -~]*)")
 
-
-class Decoder:
-    """Gives frames to the program's `decode`."""
-
-    def __init__(self, program):
-        self._program = program
-
-    def texts(self, frames):
-        """The texts of some frame lines, without their directions."""
-        if not frames:
-            return []
-        if self._program is None:
-            raise BadInput("frames in hexadecimal digits need the program x25: build it (make x25) or name it (--x25)")
-        given = "".join(frame.text() + "\n" for frame in frames).encode()
-        lines = simruns.answer(self._program, ["decode"], given).splitlines()
-        if len(lines) != len(frames):
-            raise BadInput(f"{self._program} decode didn't answer line by line")
-        return [line[2:] for line in lines]
-
-    def rows(self, lines):
-        """Yields a row for each line, given with its number; frames in digits are decoded some thousands at a time."""
-        lines = iter(lines)
-        while part := list(itertools.islice(lines, AT_ONCE)):
-            read = [reading(number, line) for number, line in part]
-            frames = [it for it in read if isinstance(it, x25lines.FrameLine)]
-            texts = iter(self.texts(frames))
-            for it in read:
-                yield Frame(it.direction, next(texts), None, time_of(it)) if isinstance(it, x25lines.FrameLine) else it
+def rows(decoder, lines):
+    """Yields a row for each line, given with its number."""
+    for number, line in lines:
+        it = reading(number, line)
+        yield Frame(it.direction, decoder.text(it), None, time_of(it)) if isinstance(it, x25lines.FrameLine) else it
 
 
 def time_of(frame):
@@ -75,7 +46,7 @@ def reading(number, line):
     frame = x25lines.frame_line(line)
     if frame is not None:
         return frame
-    if found := TEXT_LINE.fullmatch(line):
+    if found := decoding.TEXT_LINE.fullmatch(line):
         return Frame(found[2].decode(), found[3].decode(), None, (found[1] or b"").decode())
     if found := x25lines.ENTRY_LINE.fullmatch(line):
         return Entry(found[1].decode(), found[2].decode())
@@ -87,10 +58,10 @@ def reading(number, line):
 def rows_of_script(decoder, program, file, words):
     """The rows of the run of a script, with what became of each frame."""
     run = simruns.run(program, file, words)
-    rows = list(decoder.rows(run.lines))
+    drawn = list(rows(decoder, run.lines))
     for index, fate in run.fates.items():
-        rows[index] = rows[index]._replace(fate=fate)
-    return rows
+        drawn[index] = drawn[index]._replace(fate=fate)
+    return drawn
 
 
 def draw(rows, options, out):
@@ -114,7 +85,7 @@ def words():
     parser.add_argument("--sim", default="", metavar="WORDS", help="with --script, more words for `x25 sim`, as in --sim '--k 2'")
     parser.add_argument("--svg", action="store_true", help="draw SVG")
     parser.add_argument("--width", type=int, default=76, metavar="N", help="characters between the two ends (76)")
-    parser.add_argument("--x25", default=shutil.which("x25") or (BUILT if os.path.isfile(BUILT) else None), metavar="PROGRAM", help="the program")
+    decoding.add_program(parser)
     options = parser.parse_args()
     if not LEAST_WIDTH <= options.width <= MOST_WIDTH:
         parser.error(f"the width is from {LEAST_WIDTH} to {MOST_WIDTH}")
@@ -125,13 +96,12 @@ def words():
 
 def main():
     options = words()
-    decoder = Decoder(options.x25)
-    with x25lines.opened(options.file) as file:
+    with x25lines.opened(options.file) as file, decoding.Decoder(options.x25) as decoder:
         if options.script:
-            rows = rows_of_script(decoder, options.x25, file, options.sim.split())
+            drawn = rows_of_script(decoder, options.x25, file, options.sim.split())
         else:
-            rows = decoder.rows(x25lines.lines_of(file))
-        draw(rows, options, sys.stdout)
+            drawn = rows(decoder, x25lines.lines_of(file))
+        draw(drawn, options, sys.stdout)
     return 0
 
 

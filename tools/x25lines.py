@@ -5,9 +5,11 @@ sequence. A timed line has the time in seconds and a tab before that. docs/FORMA
 """
 
 import binascii
+import gzip
 import os
 import re
 import sys
+import zlib
 from typing import NamedTuple, Optional
 
 # Of a frame: 4,099 octets of information between address and control and the frame check sequence.
@@ -16,6 +18,9 @@ MOST_INFORMATION = MOST_OCTETS - 4
 # A time, a tab, a direction, a blank and the digits; what is longer is no line of a trace or a run.
 MOST_CHARACTERS = 131_264
 NANOSECONDS = 10**9
+# The latest time that a line can have.
+MOST_TIME = 10**10 * NANOSECONDS - 1
+GZIP = b"\x1f"
 
 FRAME_LINE = re.compile(rb"(?:([0-9]{1,10})(?:\.([0-9]{1,9}))?\t)?([<>]) ((?:[0-9a-fA-F]{2})*)")
 
@@ -92,13 +97,16 @@ def shown(line):
 
 
 def opened(path):
-    """Opens a file to read its octets; `-` is standard input."""
+    """Opens a file to read its octets, unpacked where gzip packed it; `-` is standard input."""
     if path == "-":
-        return sys.stdin.buffer
-    try:
-        return open(path, "rb")
-    except OSError as error:
-        raise BadInput(f"{path}: {error.strerror}") from error
+        file = sys.stdin.buffer
+    else:
+        try:
+            file = open(path, "rb")
+        except OSError as error:
+            raise BadInput(f"{path}: {error.strerror}") from error
+    # No line and no capture begins with the first octet of a packed file.
+    return gzip.GzipFile(fileobj=file) if file.peek(1)[:1] == GZIP else file
 
 
 def add_input(parser, what):
@@ -112,13 +120,21 @@ def warn(text):
 
 
 def run(main):
-    """Runs a script's `main` and ends with the status that it answers; bad input is told in a line and ends with 2."""
+    """Runs a script's `main` and ends with the status that it answers; bad input is told in a line and ends with 2.
+
+    Each line is written as soon as it is known, also on a pipe.
+    """
+    sys.stdout.reconfigure(line_buffering=True)
     try:
         status = main()
         sys.stdout.flush()
     except BadInput as error:
         sys.stdout.flush()
         warn(error)
+        status = 2
+    except (EOFError, zlib.error):
+        sys.stdout.flush()
+        warn("the file, packed by gzip, is cut off or damaged")
         status = 2
     except BrokenPipeError:
         # The reader of standard output has gone, as `head` does; nothing more can be written there.

@@ -41,7 +41,7 @@ def packet(frame):
 
 
 def convert(file, out):
-    """Writes a packet for each frame line of a file."""
+    """Writes a packet for each frame line of a file, as soon as it is read."""
     writer = captures.Writer(out, SITA)
     for number, line in x25lines.lines_of(file):
         frame = x25lines.frame_line(line)
@@ -49,6 +49,7 @@ def convert(file, out):
             time = number * MILLISECOND if frame.time is None else frame.time
             octets, flags = packet(frame)
             writer.packet(octets, time, flags)
+            out.flush()
         elif not (x25lines.ENTRY_LINE.fullmatch(line) or x25lines.REFUSAL_LINE.fullmatch(line)):
             raise BadInput(f"line {number} is no line of a trace or a run: {x25lines.shown(line)}")
 

@@ -3,16 +3,14 @@
 TCP's segments are put in order here. What the capture lacks is told by `Xot.notes`, and reading goes on behind it.
 """
 
+import ipaddress
 import struct
-from collections import Counter
 from typing import NamedTuple
 
 XOT_PORT = 1998
 
-ETHERNET, RAW_IP, OLD_RAW_IP, OTHER_RAW_IP, IPV4, IPV6 = 1, 101, 12, 14, 228, 229
-NULL, LOOP, LINUX_COOKED, LINUX_COOKED_2 = 0, 108, 113, 276
-VLAN_TAGS = (0x8100, 0x88A8, 0x9100)
-TYPE_IPV4, TYPE_IPV6 = 0x0800, 0x86DD
+RAW_IP, OLD_RAW_IP, OTHER_RAW_IP, IPV4, IPV6 = 101, 12, 14, 228, 229
+NULL, LOOP = 0, 108
 TCP = 6
 # Extension headers of IPv6 that say their own length in the same way.
 EXTENSIONS = (0, 43, 60)
@@ -44,29 +42,8 @@ class Segment(NamedTuple):
     octets: bytes
 
 
-def _after(octets, type_at, header):
-    """What follows a link header with an Ethernet type, or nothing where that isn't IP."""
-    kind = octets[type_at : type_at + 2]
-    is_ip = kind in (TYPE_IPV4.to_bytes(2, "big"), TYPE_IPV6.to_bytes(2, "big"))
-    return octets[header:] if is_ip else b""
-
-
-def _after_ethernet(octets):
-    header = 14
-    while len(octets) >= header + 4 and int.from_bytes(octets[header - 2 : header], "big") in VLAN_TAGS:
-        header += 4
-    return _after(octets, header - 2, header)
-
-
-# For each link type that may hold IP, what answers the packet of IP in a frame.
-IP_OF = {
-    ETHERNET: _after_ethernet,
-    LINUX_COOKED: lambda octets: _after(octets, 14, 16),
-    LINUX_COOKED_2: lambda octets: _after(octets, 0, 20),
-    NULL: lambda octets: octets[4:],
-    LOOP: lambda octets: octets[4:],
-    **{raw: lambda octets: octets for raw in (RAW_IP, OLD_RAW_IP, OTHER_RAW_IP, IPV4, IPV6)},
-}
+# For each link type that holds IP and no addresses of a local network, the octets of its header.
+IP_AT = {NULL: 4, LOOP: 4, **dict.fromkeys((RAW_IP, OLD_RAW_IP, OTHER_RAW_IP, IPV4, IPV6), 0)}
 
 
 def _of_ipv4(octets):
@@ -192,28 +169,47 @@ class Stream:
             self._held.clear()
 
 
-class Xot:
-    """All connections of a capture to and from one port. `notes` counts what was left out, by why."""
+def _end(end):
+    """An address and a port as they are written."""
+    host = str(ipaddress.ip_address(end[0]))
+    return f"[{host}]:{end[1]}" if ":" in host else f"{host}:{end[1]}"
 
-    def __init__(self, port=XOT_PORT):
+
+def is_like_xot(octets):
+    """True where octets are a whole packet of XOT: version 0, its length, an X.25 packet modulo 8 or 128."""
+    return len(octets) >= 7 and octets[:2] == b"\0\0" and int.from_bytes(octets[2:4], "big") == len(octets) - 4 and octets[4] & 0x30 in (0x10, 0x20)
+
+
+class Xot:
+    """All connections of a capture to and from one port, each known by its two ends.
+
+    `notes` counts what was left out, by why, and `passed` what was no part of it.
+    """
+
+    def __init__(self, port, notes, passed):
         self._port = port
         self._streams = {}
-        self.notes = Counter()
+        self._notes = notes
+        self._passed = passed
 
-    def take(self, record):
-        """Takes a record of the capture; yields direction and X.25 packet of each packet that is whole now.
+    def take(self, octets):
+        """Takes a packet of IP; yields the connection's name, whether the DTE sent it, and X.25 packet of each that is whole now.
 
-        `>` is to the port of XOT, so from the end that opened the connection.
+        The DTE is the end that opened the connection to the port of XOT.
         """
-        found, missing = segment(IP_OF[record.link_type](record.octets))
-        if found is None or self._port not in (found.source[1], found.target[1]):
+        found, missing = segment(octets)
+        if found is None:
+            self._passed["packet of IP without a whole segment of TCP"] += 1
+            return
+        ports = found.source[1], found.target[1]
+        if self._port not in ports:
+            self._passed[f"segment of TCP like XOT, to or from port {min(ports)} (--port)" if is_like_xot(found.octets) else f"segment of TCP of other ports than {self._port}"] += 1
             return
         if missing > 0:
-            self.notes["segment that was captured in part"] += 1
-        direction = ">" if found.target[1] == self._port else "<"
+            self._notes["segment that was captured in part"] += 1
         ends = found.source, found.target
-        stream = self._streams.setdefault(ends, Stream(self.notes))
-        yield from ((direction, packet) for packet in stream.take(found))
+        stream = self._streams.setdefault(ends, Stream(self._notes))
+        yield from self._told(ends, stream.take(found))
         if len(self._streams) > MOST_STREAMS:
             yield from self._close(next(iter(self._streams)))
 
@@ -223,5 +219,11 @@ class Xot:
             yield from self._close(ends)
 
     def _close(self, ends):
-        direction = ">" if ends[1][1] == self._port else "<"
-        yield from ((direction, packet) for packet in self._streams.pop(ends).end())
+        yield from self._told(ends, self._streams.pop(ends).end())
+
+    def _told(self, ends, packets):
+        """The packets of one way of a connection, with its name and whether they are the DTE's."""
+        is_of_dte = ends[1][1] == self._port
+        client, server = ends if is_of_dte else ends[::-1]
+        for packet in packets:
+            yield f"XOT {_end(client)} > {_end(server)}", is_of_dte, packet

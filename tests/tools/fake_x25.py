@@ -55,10 +55,12 @@ def sim(lines):
 
 
 def main():
-    lines = sys.stdin.read().splitlines()
     if sys.argv[1:] == ["decode"]:
-        answer = [TEXTS[line] for line in lines]
-    elif sys.argv[1:3] == ["sim", "--tap"]:
+        for line in sys.stdin:
+            print(TEXTS[line.rstrip("\n")], flush=True)
+        return
+    lines = sys.stdin.read().splitlines()
+    if sys.argv[1:3] == ["sim", "--tap"]:
         answer = sim(lines)
     else:
         sys.exit(2)

@@ -61,9 +61,9 @@ def tcp(to_server, sequence, octets, flags=0x10, port=1998, total=None):
     return struct.pack(">HHIIBBHHH", *ends, sequence % (1 << 32), 0, 5 << 4, flags, 1000, 0, 0) + octets
 
 
-def ipv4(to_server, segment, fragment=0):
-    """A packet of IPv4 with a segment."""
-    ends = (b"\x0a\x00\x00\x01", b"\x0a\x00\x00\x02")
+def ipv4(to_server, segment, fragment=0, client=1):
+    """A packet of IPv4 with a segment; clients are told apart by the last octet of their address."""
+    ends = (b"\x0a\x00\x00" + bytes([client]), b"\x0a\x00\x00\x02")
     source, target = ends if to_server else ends[::-1]
     return struct.pack(">BBHHHBBH", 0x45, 0, 20 + len(segment), 0, fragment, 64, 6, 0) + source + target + segment
 
@@ -85,3 +85,22 @@ def ethernet(packet, kind=0x0800, tags=b""):
 def xot(*packets):
     """X.25 packets as XOT puts them into a stream."""
     return b"".join(struct.pack(">HH", 0, len(packet)) + packet for packet in packets)
+
+
+def station(number):
+    """The address of a station of Ethernet."""
+    return bytes([2, 0, 0, 0, 0, number])
+
+
+def lapbether(source, frame, length=None):
+    """A frame of LAPB without its frame check sequence, as Linux's lapbether sends it over Ethernet."""
+    length = len(frame) if length is None else length
+    body = b"\xff" * 6 + station(source) + b"\x60\x00" + struct.pack("<H", length) + frame
+    return body + bytes(max(0, 60 - len(body)))
+
+
+def llc(source, target, control, octets=b""):
+    """A frame of LLC with the access point 7e at both ends."""
+    body = b"\x7e\x7e" + control + octets
+    frame = station(target) + station(source) + struct.pack(">H", len(body)) + body
+    return frame + bytes(max(0, 60 - len(frame)))

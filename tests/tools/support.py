@@ -1,6 +1,7 @@
 """What the tests of the tools share: the folders, running a script, the built program."""
 
 import os
+import select
 import subprocess
 import sys
 import tempfile
@@ -22,6 +23,31 @@ def run(script, *words, given=b""):
     """Runs a script of tools/ on some octets; answers what it did: returncode, stdout, stderr."""
     command = [sys.executable, os.path.join(TOOLS, script), *words]
     return subprocess.run(command, input=given, capture_output=True, timeout=60)
+
+
+class Live:
+    """A script that runs while a test feeds it, with Python's normal buffering; `line` answers what comes within seconds."""
+
+    def __init__(self, script, *words):
+        command = [sys.executable, os.path.join(TOOLS, script), *words]
+        environment = {name: value for name, value in os.environ.items() if name != "PYTHONUNBUFFERED"}
+        self._child = subprocess.Popen(command, stdin=subprocess.PIPE, stdout=subprocess.PIPE, stderr=subprocess.PIPE, env=environment)
+
+    def give(self, octets):
+        """Writes octets to the script, and leaves its input open."""
+        self._child.stdin.write(octets)
+        self._child.stdin.flush()
+
+    def some(self):
+        """The octets that the script writes next; none within ten seconds are an error of the test."""
+        if not select.select([self._child.stdout], [], [], 10)[0]:
+            raise AssertionError("nothing was written before the end of the input")
+        return os.read(self._child.stdout.fileno(), 1 << 16)
+
+    def end(self):
+        """Ends the input; answers the status and what else was written."""
+        out, said = self._child.communicate(timeout=60)
+        return self._child.returncode, out, said
 
 
 def decode(trace):

@@ -1,5 +1,6 @@
 """Tests of pcap2x25.py and x25pcap.py: captures in and out."""
 
+import gzip
 import io
 import os
 import types
@@ -22,7 +23,7 @@ TRACES += [f"tests/golden/{name}.in" for name in ("frames_of_each_kind", "packet
 
 def words(**given):
     """What `pcap2x25.words` answers, with no words but these."""
-    return types.SimpleNamespace(**{"swap": False, "fcs": False, "lapb": None, "sent_by": None, "port": 1998, **given})
+    return types.SimpleNamespace(**{"swap": False, "fcs": False, "lapb": None, "sent_by": None, "port": 1998, "dte": None, "connection": None, **given})
 
 
 def lines(capture, **given):
@@ -227,6 +228,144 @@ class XotStreams(unittest.TestCase):
         self.assertEqual(self.read(segments), (self.expected, {"packet broken off at the end of its connection": 1}))
 
 
+class LocalNetworks(ToolCase):
+    """lapbether and LLC."""
+
+    def ethernet(self, *frames, **given):
+        return lines(samples.pcap([(0, 0, frame) for frame in frames], link_type=1), **given)
+
+    def test_lapbether_tells_its_directions_by_its_frames(self):
+        sabm, ua = samples.lapbether(1, SABM), samples.lapbether(2, UA)
+        self.assertEqual(self.ethernet(sabm, ua), (SET_UP.decode(), {}))
+        # The DCE's frame comes first, and so tells that the other station is the DTE; a supervisory frame follows that.
+        ready = bytes.fromhex("0121")
+        self.assertEqual(self.ethernet(ua, samples.lapbether(1, ready))[0], f"< 01738357\n> 0121{x25lines.fcs(ready).hex()}\n")
+        self.assertEqual(self.ethernet(sabm, ua, swap=True)[0], "< 013febdf\n> 01738357\n")
+
+    def test_lapbether_without_a_frame_that_tells(self):
+        ready = samples.lapbether(1, bytes.fromhex("0121"))
+        text, notes = self.ethernet(ready, samples.lapbether(1, SABM))
+        self.assertEqual((text, notes), ("> 013febdf\n", {"frame of lapbether before one that tells which end is the DTE (--dte says it)": 1}))
+        self.assertEqual(self.ethernet(ready, dte=samples.station(2))[0][:6], "< 0121")
+
+    def test_lapbether_of_a_wrong_length_and_of_a_third_station(self):
+        sabm = samples.lapbether(1, SABM)
+        self.assertEqual(self.ethernet(sabm, samples.lapbether(2, UA, 300))[1], {"frame of lapbether that is shorter than it says": 1})
+        self.assertEqual(self.ethernet(sabm, samples.lapbether(2, UA), samples.lapbether(3, UA)), (SET_UP.decode(), {"frame of a third station of lapbether": 1}))
+
+    def test_lapbether_in_cooked_captures(self):
+        for link_type, head in ((113, lambda at: bytes(6) + samples.station(at) + bytes(2) + b"\x60\x00"), (276, lambda at: b"\x60\x00" + bytes(10) + samples.station(at) + bytes(2))):
+            records = [(0, 0, head(at) + len(frame).to_bytes(2, "little") + frame) for at, frame in ((1, SABM), (2, UA))]
+            self.assertEqual(lines(samples.pcap(records, link_type=link_type)), (SET_UP.decode(), {}))
+
+    def test_packets_of_llc(self):
+        set_up = samples.llc(1, 2, b"\x7f"), samples.llc(2, 1, b"\x73")
+        call, again, accept = (samples.llc(*ends, bytes([0, 0]), packet) for ends, packet in (((1, 2), CALL), ((1, 2), CALL), ((2, 1), ACCEPT)))
+        text, notes = self.ethernet(*set_up, call, samples.llc(2, 1, b"\x01\x02"), again, accept)
+        frames = [x25lines.frame_line(line.encode()) for line in text.splitlines()]
+        self.assertEqual([(frame.direction, frame.octets[:-2]) for frame in frames], [(">", b"\x01\x00" + CALL), ("<", b"\x03\x20" + ACCEPT)])
+        self.assertEqual(notes, {})
+        _, notes = self.ethernet(*set_up, samples.llc(1, 2, b"\x00\x00", CALL), samples.llc(1, 2, b"\x04\x00", CALL))
+        self.assertEqual(notes, {"gap in a connection of LLC": 1})
+
+    def test_the_dte_of_llc_may_be_named(self):
+        frame = samples.llc(1, 2, b"\x00\x00", CALL)
+        self.assertEqual([self.ethernet(frame, dte=dte)[0][:1] for dte in (None, samples.station(2))], [">", "<"])
+
+
+class Connections(ToolCase):
+    """Connections aren't merged, and what wasn't found is told."""
+
+    def capture(self, port=1998):
+        packets = [(1, samples.xot(CALL)), (9, samples.xot(ACCEPT)), (1, samples.xot(ACCEPT))]
+        at, records = {1: 1, 9: 1}, []
+        for client, octets in packets:
+            records.append((0, 0, samples.ethernet(samples.ipv4(True, samples.tcp(True, at[client], octets, port=port), client=client))))
+            at[client] += len(octets)
+        return samples.pcap(records, link_type=1)
+
+    def test_one_is_written_and_the_others_are_told(self):
+        done = support.run("pcap2x25.py", given=self.capture())
+        frames = [x25lines.frame_line(line) for line in done.stdout.splitlines()]
+        self.assertEqual([frame.octets[:2] for frame in frames], [b"\x01\x00", b"\x01\x02"])
+        self.assertEqual((done.returncode, done.stderr.count(b"\n")), (1, 1))
+        self.assertIn(b"1 more connections", done.stderr)
+
+    def test_a_connection_by_its_number(self):
+        done = support.run("pcap2x25.py", "--connection", "2", given=self.capture())
+        self.assertEqual((done.returncode, done.stdout.count(b"\n"), done.stderr), (0, 1, b""))
+        self.assertEqual(x25lines.frame_line(done.stdout[:-1]).octets[:-2], b"\x01\x00" + ACCEPT)
+        self.assert_refused(support.run("pcap2x25.py", "--connection", "3", given=self.capture()), "there are 2 connections, and no number 3")
+        self.assertEqual(support.run("pcap2x25.py", "--connection", "0").returncode, 2)
+
+    def test_the_list(self):
+        done = support.run("pcap2x25.py", "--list", given=self.capture())
+        self.assertEqual(done.stdout, b"1\tXOT 10.0.0.1:40000 > 10.0.0.2:1998\t> 2\t< 0\n2\tXOT 10.0.0.9:40000 > 10.0.0.2:1998\t> 1\t< 0\n")
+        self.assertEqual((done.returncode, done.stderr), (0, b""))
+
+    def test_nothing_found_says_why(self):
+        for capture, said in (
+            (self.capture(port=2000), b"passed over: segment of TCP like XOT, to or from port 2000 (--port) (3)"),
+            (samples.pcap([(0, 0, samples.ethernet(bytes(28), 0x0806))], link_type=1), b"passed over: frame of the type 0806 (1)"),
+            (samples.pcap([]), b"the capture has no records"),
+            (samples.pcap([(0, 0, SABM)] * 2, link_type=105), b"left out: record of the link type 105, of which nothing is read (--help lists those that are) (2)"),
+        ):
+            done = support.run("pcap2x25.py", given=capture)
+            self.assertEqual((done.returncode, done.stdout), (1, b""))
+            self.assertIn(b"nothing was found", done.stderr)
+            self.assertIn(said, done.stderr)
+
+    def test_a_record_of_another_link_type_is_passed_over(self):
+        file = samples.section() + samples.interface(207) + samples.interface(105)
+        file += samples.packet(b"\x01" + SABM) + samples.packet(b"\x00" * 9, index=1) + samples.packet(b"\x00" + UA)
+        done = support.run("pcap2x25.py", given=file)
+        self.assertEqual((done.returncode, done.stdout, done.stderr.count(b"\n")), (1, SET_UP, 1))
+
+
+class Packed(ToolCase):
+    def test_gzip_is_read_from_a_file_and_a_pipe(self):
+        packed = gzip.compress(samples.pcap([(0, 0, b"\x01" + SABM), (0, 0, b"\x00" + UA)]))
+        self.assertEqual(support.run("pcap2x25.py", self.file("trace.pcap.gz", packed)).stdout, SET_UP)
+        self.assertEqual(support.run("pcap2x25.py", given=packed).stdout, SET_UP)
+        for bad in (packed[:-9], packed[:20], packed[:12] + bytes(20), b"\x1f\x8b", b"\x1fno"):
+            done = support.run("pcap2x25.py", given=bad)
+            self.assertEqual((done.returncode, done.stderr.count(b"\n")), (2, 1), done.stderr)
+
+    def test_packed_lines_are_read(self):
+        back = support.run("pcap2x25.py", given=support.run("x25pcap.py", given=gzip.compress(SET_UP)).stdout)
+        self.assertEqual(back.stdout, SET_UP)
+
+
+class OddClocks(ToolCase):
+    def test_times_go_through_both_tools(self):
+        for resolution, ticks in ((b"\x00", (1 << 64) - 1), (b"\x00", 10**10), (b"\x00", 10**10 - 1), (b"\xff", 5), (b"\x7f", 5), (b"\x01", 7), (b"\x80", 1 << 63)):
+            file = samples.section() + samples.interface(207, samples.option(9, resolution)) + samples.packet(b"\x01" + SABM, ticks)
+            timed = support.run("pcap2x25.py", "--time", given=file)
+            capture = support.run("x25pcap.py", given=timed.stdout)
+            self.assertEqual((capture.returncode, capture.stderr), (0, b""))
+            self.assertEqual(support.run("pcap2x25.py", "--time", given=capture.stdout).stdout, timed.stdout)
+            self.assertEqual(timed.returncode, 1 if ticks > 10**10 - 1 else 0)
+
+
+class Pipes(ToolCase):
+    """What comes of a line, or a record, is written before the next is there."""
+
+    def test_pcap2x25(self):
+        whole = samples.pcap([(0, 0, b"\x01" + SABM), (0, 0, b"\x00" + UA)])
+        live, first = support.Live("pcap2x25.py"), len(samples.pcap([(0, 0, b"\x01" + SABM)]))
+        live.give(whole[:first])
+        self.assertEqual(live.some(), b"> 013febdf\n")
+        live.give(whole[first:])
+        self.assertEqual(live.some(), b"< 01738357\n")
+        self.assertEqual(live.end(), (0, b"", b""))
+
+    def test_x25pcap(self):
+        live = support.Live("x25pcap.py")
+        live.give(b"> 013febdf\n")
+        self.assertEqual(lines(live.some())[0], "> 013febdf\n")
+        self.assertEqual(live.end(), (0, b"", b""))
+
+
 class Hostile(ToolCase):
     """Files that are cut off, damaged, or no captures at all end with a message; none ends with a traceback."""
 
@@ -237,6 +376,8 @@ class Hostile(ToolCase):
             "pcap": samples.pcap(frames),
             "pcapng": support.run("x25pcap.py", given=SET_UP).stdout,
             "xot": samples.pcap(segments, link_type=1),
+            "lapbether": samples.pcap([(0, 0, samples.lapbether(1, SABM)), (0, 0, samples.lapbether(2, UA))], link_type=1),
+            "llc": samples.pcap([(0, 0, samples.llc(1, 2, b"\x00\x00", CALL)), (0, 0, samples.llc(2, 1, b"\x00\x02", ACCEPT))], link_type=1),
             "options": samples.section() + samples.interface(207, samples.option(9, b"\x06")) + samples.packet(frames[0][2], flags=2),
         }
 
@@ -269,7 +410,6 @@ class Hostile(ToolCase):
             "the file ends within the file header": samples.pcap([])[:20],
             "record 1 has a wrong length": samples.pcap([]) + bytes.fromhex("0000000000000000ffffffffffffffff"),
             "the file ends within record 1": samples.pcap([(0, 0, b"\x01" + SABM)])[:-1],
-            "record 1 has the link type 105": samples.pcap([(0, 0, SABM)], link_type=105),
             "record 1 names the interface 7": whole + samples.packet(SABM, index=7),
             "a section header has no byte order": samples.section()[:8] + bytes(20),
             "the two lengths": whole[:-1] + b"\x01",
@@ -306,7 +446,7 @@ class Hostile(ToolCase):
 
     def test_what_was_left_out_makes_status_1(self):
         done = support.run("pcap2x25.py", given=samples.pcap([(0, 0, b"\x01" + SABM, 40)]))
-        self.assertEqual((done.returncode, done.stderr), (1, b"pcap2x25.py: left out: frame that was captured in part (1)\n"))
+        self.assertEqual((done.returncode, done.stderr), (1, b"pcap2x25.py: left out: frame that was captured in part (1)\npcap2x25.py: nothing was found\n"))
 
     def test_help_and_bad_words(self):
         for script in ("pcap2x25.py", "x25pcap.py"):

@@ -136,7 +136,18 @@ class Charts(ToolCase):
         self.assertEqual(self.chart(trace, "--x25", support.PROGRAM), self.chart(decoded))
 
     @support.needs_program
-    def test_more_frames_than_are_decoded_at_once(self):
+    def test_a_row_is_written_before_the_next_line_is_there(self):
+        live = support.Live("chart.py", "--x25", support.PROGRAM)
+        live.give(b"> 013febdf\n")
+        written = live.some()
+        while b"SABM" not in written:
+            written += live.some()
+        live.give(b"< RR rsp F=0 R=1\n")
+        self.assertIn(b"RR rsp F=0 R=1", live.some())
+        self.assertEqual(live.end(), (0, b"", b""))
+
+    @support.needs_program
+    def test_many_frames(self):
         chart = self.chart(b"> 013febdf\n? 60\n" * 5000, "--x25", support.PROGRAM)
         self.assertEqual(chart.count("SABM cmd P=1"), 5000)
 

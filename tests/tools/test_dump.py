@@ -1,0 +1,234 @@
+"""Tests of x25dump.py: lines as they come, names, channels, connections, messages, numbers, colours."""
+
+import gzip
+import os
+import pty
+import re
+import subprocess
+import sys
+import unittest
+
+import samples
+import support
+from support import ToolCase
+
+import messages
+import x25names
+
+CALL, DATA = bytes.fromhex("10010b43123456700041"), bytes.fromhex("1001006869")
+DECODED = b"""0.5\t> SABM cmd P=1
+0.75\t< UA rsp F=1
+< I cmd P=0 S=0 R=0 | CLEAR ch=7 cause=19 diag=1
+dte cleared ch=7 cause=0 diag=0
+! 30
+< FRMR rsp F=0 why=200008
+hello
+"""
+SHOWN = """0.5 > SABM cmd P=1
+0.75 < UA rsp F=1
+< I cmd P=0 S=0 R=0 | CLEAR ch=7 cause=19 diag=1  (local procedure error; invalid P(S))
+dte cleared ch=7 cause=0 diag=0  (DTE originated)
+! 30 not in this state of the channel
+< FRMR rsp F=0 why=200008  (control 20, V(S)=0 V(R)=0, invalid N(R))
+? 60 no such line
+"""
+
+
+def data(number, text, more=0, channel=1, acknowledged=0):
+    """The text of an I frame with data."""
+    return f"I cmd P=0 S={number} R={acknowledged} | DATA ch={channel} S=0 R=0 M={more} Q=0 data={text.encode().hex() or '-'}"
+
+
+def joined(frames, due=None):
+    """Sort and octets of what frames, each direction and text, complete."""
+    line = messages.Messages(due)
+    found = [it for frame in frames for it in line.take(*frame)]
+    return [(it.sort, it.octets.decode()) for it in [*found, *line.end()]]
+
+
+def shown_messages(text):
+    """The messages of what x25dump.py shows: the end that gets each, its channel, Q, its octets as an entry has them."""
+    found = []
+    for line in text.splitlines():
+        if head := re.match(r"([<>]) ch=(\d+) Q=(\d) message, ", line):
+            found.append([{">": "dce", "<": "dte"}[head[1]], head[2], head[3], ""])
+        elif line.startswith("    "):
+            found[-1][3] += line[10:57].replace(" ", "")
+        else:
+            found.append(["", "", "", ""])
+    return [(*it[:3], it[3] or "-") for it in found]
+
+
+class Names(unittest.TestCase):
+    def test_refusals_are_those_of_the_document(self):
+        table = support.read("docs/FORMATS.md").decode().split("| Number | Why |")[1].split("\n\n")[0]
+        said = {}
+        for numbers, why in re.findall(r"^\| ([0-9, ]+) \| (.*) \|$", table, re.MULTILINE):
+            said |= dict(zip(map(int, numbers.split(", ")), why.split("; ") if "," in numbers else [why]))
+        self.assertGreater(len(said), 15)
+        self.assertEqual({number: x25names.REFUSALS[number] for number in said}, said)
+
+    def test_causes_and_diagnostics_are_those_of_the_document(self):
+        table = support.read("docs/FORMATS.md").decode().split("| Diagnostic | Name |")[1].split("\n\n")[0]
+        causes = {(sort, int(number)): name for sort, number, name in re.findall(r"\| (CLEAR|RESET|RESTART) (\d+) \| ([^|]+) \|", table)}
+        self.assertEqual({it: x25names.CAUSES[it[0]][it[1]] for it in causes}, causes)
+        diagnostics = {int(number): name for number, name in re.findall(r"^\| (\d+) \| ([^|]+) \|", table, re.MULTILINE)}
+        self.assertGreater(len(diagnostics), 6)
+        self.assertEqual({number: x25names.DIAGNOSTICS[number] for number in diagnostics}, diagnostics)
+
+    def test_numbers_without_a_name_are_told(self):
+        self.assertEqual(x25names.words("I cmd P=0 S=0 R=0 | RESET ch=1 cause=99 diag=250"), "cause 99; diagnostic 250")
+        self.assertEqual(x25names.words("I cmd P=0 S=0 R=0 | fault 21 diag=40"), "invalid general format identifier")
+        self.assertEqual(x25names.words("SABM cmd P=1"), "")
+
+
+class Joining(unittest.TestCase):
+    def test_data_is_joined_by_m_in_its_channel_and_way(self):
+        frames = (">", data(0, "a", 1)), (">", data(1, "x", 0, 2)), ("<", data(0, "y", 0)), (">", data(2, "b"))
+        self.assertEqual(joined(frames, 0), [("message", "x"), ("message", "y"), ("message", "ab")])
+
+    def test_a_repeated_frame_counts_once(self):
+        frames = (">", data(0, "a")), (">", data(0, "a")), ("<", "RR rsp F=0 R=1"), (">", data(1, "b")), ("<", "REJ rsp F=0 R=1"), (">", data(1, "b"))
+        self.assertEqual(joined(frames, 0), [("message", "a"), ("message", "b")])
+
+    def test_a_frame_behind_a_lost_one_counts_when_it_comes_again(self):
+        frames = (">", "fault 2 fcs"), (">", data(1, "b")), ("<", "REJ rsp F=0 R=0"), (">", data(0, "a")), (">", data(1, "b")), ("<", "RR rsp F=0 R=2")
+        self.assertEqual(joined(frames, 0), [("message", "a"), ("message", "b")])
+
+    def test_a_frame_that_the_recorder_missed(self):
+        frames = (">", data(1, "b")), ("<", "RR rsp F=0 R=2"), (">", data(2, "c"))
+        self.assertEqual(joined(frames, 0), [("packet not recorded", ""), ("message", "b"), ("message", "c")])
+
+    def test_an_acknowledgement_of_what_was_not_sent_tells_nothing(self):
+        frames = (">", data(0, "a")), ("<", "RR rsp F=0 R=5"), ("<", "RR rsp F=0 R=1"), ("<", "RR rsp F=0 R=0"), (">", data(1, "b"))
+        self.assertEqual(joined(frames, 0), [("message", "a"), ("message", "b")])
+
+    def test_a_trace_that_begins_in_the_midst(self):
+        for frames, expected in (
+            ([(">", data(4, "b")), ("<", "REJ rsp F=0 R=3"), (">", data(3, "a")), (">", data(4, "b"))], ["a", "b"]),
+            ([(">", data(4, "b")), (">", data(5, "c")), ("<", "RR rsp F=0 R=5"), (">", data(6, "d"))], ["b", "c", "d"]),
+            ([(">", data(number % 8, str(number))) for number in range(3, 20)], [str(number) for number in range(3, 20)]),
+            ([(">", data(4, "b"))], ["b"]),
+        ):
+            self.assertEqual(joined(frames), [("message", text) for text in expected])
+
+    def test_what_ends_a_message(self):
+        for packet in ("RESET ch=1 cause=0 diag=0", "RESETCONF ch=1", "RESTART cause=0 diag=0", "RESTARTCONF", "CLEAR ch=1 cause=0 diag=0", "CLEARCONF ch=1"):
+            # What the other end sends doesn't end it: it may cross.
+            frames = (">", data(0, "a", 1)), ("<", f"I cmd P=0 S=0 R=0 | {packet}"), (">", data(1, "b", 1)), (">", f"I cmd P=0 S=2 R=1 | {packet}"), (">", data(3, "c", 0, 1, 1))
+            self.assertEqual(joined(frames, 0), [(f"message broken off by {packet.split()[0]}", "ab"), ("message", "c")])
+        frames = (">", data(5, "a", 1)), ("<", "RR rsp F=0 R=6"), (">", "SABM cmd P=1"), (">", data(0, "b"))
+        self.assertEqual(joined(frames), [("message broken off by link set up", "a"), ("message", "b")])
+
+
+class Dump(ToolCase):
+    def dump(self, given, *words, status=0):
+        done = support.run("x25dump.py", *words, given=given)
+        self.assertEqual(done.returncode, status, done.stderr)
+        return done.stdout.decode()
+
+    def capture(self):
+        """Two connections of XOT, with a call and a message each."""
+        records = []
+        for client in (1, 9):
+            stream = samples.xot(CALL, DATA)
+            records.append((client, 0, samples.ethernet(samples.ipv4(True, samples.tcp(True, 1, stream), client=client))))
+        return samples.pcap(records, link_type=1)
+
+    def test_decoded_lines_with_names(self):
+        self.assertEqual(self.dump(DECODED, status=1), SHOWN)
+        self.assertEqual(self.dump(gzip.compress(DECODED), status=1), SHOWN)
+
+    def test_one_channel(self):
+        self.assertEqual(self.dump(DECODED, "--channel", "7", status=1), "".join(SHOWN.splitlines(True)[2:4]))
+        self.assertEqual(self.dump(b"> I cmd P=0 S=0 R=0 | RESTART cause=0 diag=0\n", "--channel", "0").count("\n"), 1)
+
+    def test_messages_as_digits_and_text(self):
+        given = b"".join(b"1.5\t> " + data(number, "x" * 9, int(number == 0)).encode() + b"\n" for number in (0, 1))
+        rows = "    0000  " + "78 " * 16 + " " + "x" * 16 + "\n    0010  " + "78 78".ljust(48) + " xx\n"
+        self.assertEqual(self.dump(given, "--messages"), "1.5 > ch=1 Q=0 message, 18 octets\n" + rows)
+        self.assertEqual(self.dump(given, "--messages", "--channel", "2"), "")
+
+    def test_numbers(self):
+        given = b"1.5\t> SABM cmd P=1\n2.5\t> " + data(0, "ab").encode() + b"\n3\t> " + data(0, "ab").encode() + b"\n"
+        rows = [row.split() for row in self.dump(given, "--stats").splitlines()]
+        self.assertEqual(rows[:4], [["the", "trace", ">", "<"], ["I", "2", "0"], ["SABM", "1", "0"], ["|", "DATA", "2", "0"]])
+        self.assertEqual(rows[4:], [["I", "frames", "out", "of", "order,", "or", "again", "1", "0"], ["octets", "of", "data", "4", "0"], ["from", "1.5", "to", "3"]])
+
+    @support.needs_program
+    def test_a_trace_by_the_program(self):
+        trace = support.read("examples/exchange.trace")
+        text = [re.sub(r"  \(.*\)$", "", line) for line in self.dump(trace, "--x25", support.PROGRAM).splitlines()]
+        self.assertEqual(text, support.decode(trace))
+        self.assertIn("Hello, X.25", self.dump(support.run("x25pcap.py", given=trace).stdout, "--messages", "--x25", support.PROGRAM))
+
+    @support.needs_program
+    def test_messages_of_a_run_with_losses_have_those_that_its_users_were_told(self):
+        """Of random runs each message that a user was told is shown, once and in its order; of those shown some may be lost by a reset."""
+        count = 0
+        for seed in range(1, 13):
+            script = support.run("losses.py", str(seed), "400").stdout
+            run = subprocess.run([support.PROGRAM, "sim", "--tap"], input=script, capture_output=True, timeout=60).stdout
+            shown = shown_messages(self.dump(run, "--messages", "--x25", support.PROGRAM))
+            told = re.findall(r"^(dte|dce) message ch=(\d+) at \S+ q=(\d) data=(\S+)$", run.decode(), re.MULTILINE)
+            for key in {(end, channel) for end, channel, _, _ in told}:
+                rest = iter([it[2:] for it in shown if it[:2] == key])
+                with self.subTest(seed=seed, key=key):
+                    self.assertTrue(all((q, data) in rest for *at, q, data in told if tuple(at) == key))
+                    count += 1
+        self.assertGreater(count, 12)
+
+    @support.needs_program
+    def test_connections_of_a_capture(self):
+        rows = self.dump(self.capture(), "--x25", support.PROGRAM).splitlines()
+        self.assertEqual([rows[0], rows[3]], [f"connection {number}: XOT 10.0.0.{client}:40000 > 10.0.0.2:1998" for number, client in ((1, 1), (2, 9))])
+        self.assertEqual(rows[4], "9.000000000 #2 > CALL ch=1 called=123 calling=4567 fac=- data=41")
+        one = self.dump(self.capture(), "--connection", "2", "--messages", "--x25", support.PROGRAM)
+        self.assertEqual(one, "9.000000000 #2 > ch=1 Q=0 message, 2 octets\n    0000  " + "68 69".ljust(48) + " hi\n")
+        self.assert_refused(support.run("x25dump.py", "--connection", "3", "--x25", support.PROGRAM, given=self.capture()), "and no number 3")
+
+    @support.needs_program
+    def test_a_capture_without_x25(self):
+        done = support.run("x25dump.py", given=samples.pcap([]))
+        self.assertEqual((done.returncode, done.stdout), (1, b""))
+        self.assertIn(b"nothing was found", done.stderr)
+
+    @support.needs_program
+    def test_a_line_is_shown_before_the_next_is_there(self):
+        live = support.Live("x25dump.py", "--x25", support.PROGRAM)
+        for given, shown in ((b"> 013febdf\n", b"> SABM cmd P=1\n"), (b"< 01738357\n", b"< UA rsp F=1\n"), (b"! 50\n", b"! 50 nothing is on the line\n")):
+            live.give(given)
+            self.assertEqual(live.some(), shown)
+        self.assertEqual(live.end(), (0, b"", b""))
+
+    @support.needs_program
+    def test_a_capture_is_shown_record_by_record(self):
+        live = support.Live("x25dump.py", "--x25", support.PROGRAM)
+        live.give(samples.pcap([(5, 0, b"\x01\x01\x3f")]))
+        written = live.some()
+        while b"SABM" not in written:
+            written += live.some()
+        self.assertEqual(written, b"connection 1: LAPB\n5.000000000 > SABM cmd P=1\n")
+        self.assertEqual(live.end(), (0, b"", b""))
+
+    def test_colours_are_for_a_terminal(self):
+        self.assertNotIn("\x1b", self.dump(DECODED, status=1))
+        for environment, has_colour in (({}, True), ({"NO_COLOR": "1"}, False)):
+            read, write = pty.openpty()
+            command = [sys.executable, os.path.join(support.TOOLS, "x25dump.py"), self.file("decoded", b"> SABM cmd P=1\n")]
+            subprocess.run(command, stdout=write, timeout=60, check=True, env={**os.environ, **environment})
+            os.close(write)
+            self.assertEqual(b"\x1b[" in os.read(read, 1000), has_colour)
+            os.close(read)
+
+    def test_refused(self):
+        self.assert_refused(support.run("x25dump.py", "--x25", "/bin/true", given=b"> 013febdf\n"), "didn't answer line by line")
+        self.assert_refused(support.run("x25dump.py", os.path.join(self.folder, "none")), "No such file")
+        self.assert_refused(support.run("x25dump.py", given=samples.pcap([])[:9]), "the file ends within the file header")
+        self.assert_refused(support.run("x25dump.py", self.sparse("trace", DECODED)), "is longer than")
+        for words in (["--judge"], ["--messages", "--stats"], ["--channel", "x"]):
+            self.assertEqual(support.run("x25dump.py", *words).returncode, 2)
+
+
+if __name__ == "__main__":
+    unittest.main()

@@ -1,0 +1,66 @@
+"""The program's `decode` as a child process that answers frame by frame, and where the program is found."""
+
+import os
+import re
+import shutil
+import subprocess
+
+from x25lines import BadInput
+
+BUILT = os.path.join(os.path.dirname(os.path.dirname(os.path.abspath(__file__))), "build", "x25")
+MISSING = "frames in hexadecimal digits need the program x25: build it (make x25) or name it (--x25)"
+# A line of `decode`, with a time and a tab before it where there is one.
+TEXT_LINE = re.compile(rb"(?:([0-9.]{1,30})\t)?([<>]) ((?:I|RR|RNR|REJ|SABM|DISC|UA|DM|FRMR|fault) [ -~]*)")
+
+
+def find_program():
+    """The program that the variable X25 names, or `x25` of the PATH, or else build/x25 of this repository; None where there is none."""
+    return os.environ.get("X25") or shutil.which("x25") or (BUILT if os.path.isfile(BUILT) else None)
+
+
+def add_program(parser):
+    """Adds the word that names the program to a parser of words."""
+    parser.add_argument("--x25", default=find_program(), metavar="PROGRAM", help="the program")
+
+
+class Decoder:
+    """Gives frames to the program's `decode`, one at a time, so that a line is answered before the next is there."""
+
+    def __init__(self, program, words=()):
+        self._program = program
+        self._words = words
+        self._child = None
+
+    def __enter__(self):
+        return self
+
+    def __exit__(self, *_):
+        if self._child is not None:
+            self._child.stdout.close()
+            try:
+                self._child.stdin.close()
+            except BrokenPipeError:
+                pass
+            self._child.wait()
+
+    def text(self, frame):
+        """The text of a frame line, without its direction."""
+        if self._child is None:
+            self._child = self._begun()
+        try:
+            self._child.stdin.write(frame.text().encode() + b"\n")
+            self._child.stdin.flush()
+            line = self._child.stdout.readline()
+        except BrokenPipeError:
+            line = b""
+        if not line.endswith(b"\n") or line[:2] != f"{frame.direction} ".encode():
+            raise BadInput(f"{self._program} decode didn't answer line by line")
+        return line[2:-1].decode("ascii", "replace")
+
+    def _begun(self):
+        if self._program is None:
+            raise BadInput(MISSING)
+        try:
+            return subprocess.Popen([self._program, "decode", *self._words], stdin=subprocess.PIPE, stdout=subprocess.PIPE)
+        except OSError as error:
+            raise BadInput(f"{self._program}: {error.strerror}") from error
