@@ -92,3 +92,8 @@ pub left_bits : (k left : ℕ) (rest : List Bool) → k < 8 → low_bits (8 - k)
 left_bits k left rest h =
     let at : 8 - k ≡ suc (8 - (k + 1)) = omega arith in
     rw (at, low_bits-suc (8 - (k + 1)) left, and_one left) refl
+
+pub next_bits : (k left : ℕ) → k < 8 → low_bits (8 - k) left ≡ nat_eq (bit_and left 1) 1 ∷ low_bits (8 - (k + 1)) (left / 2)
+next_bits k left h =
+    let at : 8 - k ≡ suc (8 - (k + 1)) = omega arith in
+    rw (at, low_bits-suc (8 - (k + 1)) left, and_one left) refl

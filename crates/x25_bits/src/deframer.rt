@@ -1,6 +1,8 @@
 //! The spans between flags, found in bits that come in any cut, ITU-T X.25 (10/96), section 2.2.
 ghost use Rattle.std.specs.Prelude.{ℕ, ◌≡◌, ◌<◌, ◌≤◌, ◌++◌, ◌∷◌, [], Bool, List, length, take, drop, unwrap_or, IfOk, OnOk, OnErr, true, false, if◌then◌else◌};
 ghost use Rattle.x25_bits.specs.Begins.{Begins};
+ghost use Rattle.x25_bits.specs.Fcs.{bits_of, low_bits};
+ghost use Rattle.x25_bits.specs.Cuts.{found_more};
 ghost use Rattle.x25_bits.specs.SpanClass.{found_of};
 ghost use Rattle.x25_bits.specs.Held.{Seen, seen_next, seen_found, seen_from, found_from, ends, closing, keeps, kept_next, kept_found};
 ghost use Rattle.x25_bits.specs.Plain.{plains, listed_span};
@@ -64,6 +66,68 @@ impl Deframer {
             self.restore(scan, held, aside);
             out.truncate(found);
             return Err(error);
+        }
+        Ok(())
+    }
+
+    /// Takes octets of a synchronous line: it is `feed` of their bits, each octet's lowest bit first. At most 32,831 bits
+    /// are held. Error 70 where there is no memory for it.
+    pub fn feed_octets(&mut self, octets: &[u8], out: &mut Vec<Found>) -> Result<(), NoMemory>
+        ensures fits { OnOk result ((before : List Bool) → Fits self.old before → Fits self.new (before ++ bits_of octets.now)) }
+        ensures found { OnOk result ((before : List Bool) → Fits self.old before
+            → plains out.new.items ≡ plains out.old.items ++ found_more before (bits_of octets.now)) }
+        ensures same { OnErr result (self.new ≡ self.old) }
+        ensures kept { OnErr result (out.new.items ≡ out.old.items) }
+        ensures few { count_held self.new ≤ 32831 }
+    {
+        let began = self.scan;
+        let size = self.kept.len();
+        let count = out.len();
+        let mut aside = None;
+        if let Err(error) = self.take_octets(octets, &mut aside, out) {
+            self.restore(began, size, aside);
+            out.truncate(count);
+            return Err(error);
+        }
+        Ok(())
+    }
+
+    /// Takes the bits of these octets.
+    fn take_octets(
+        &mut self,
+        octets: &[u8],
+        aside: &mut Option<Bits>,
+        out: &mut Vec<Found>,
+    ) -> Result<(), NoMemory>
+        ensures fits { OnOk result ((v : Seen) → FitsSeen self.old v → FitsSeen self.new (seen_from v (bits_of octets.now))) }
+        ensures found { OnOk result ((v : Seen) → FitsSeen self.old v → plains out.new.items ≡ plains out.old.items ++ found_from v (bits_of octets.now)) }
+        ensures undo { Begins (unwrap_or aside.old self.old.kept) (unwrap_or aside.new self.new.kept) }
+        ensures begins { Begins out.old.items out.new.items }
+        ensures alloc { self.new.alloc ≡ self.old.alloc }
+    {
+        for octet in octets {
+            self.take_octet(*octet, aside, out)?;
+        }
+        Ok(())
+    }
+
+    /// Takes the bits of an octet, the lowest first.
+    fn take_octet(
+        &mut self,
+        octet: u8,
+        aside: &mut Option<Bits>,
+        out: &mut Vec<Found>,
+    ) -> Result<(), NoMemory>
+        ensures fits { OnOk result ((v : Seen) → FitsSeen self.old v → FitsSeen self.new (seen_from v (low_bits 8 octet))) }
+        ensures found { OnOk result ((v : Seen) → FitsSeen self.old v → plains out.new.items ≡ plains out.old.items ++ found_from v (low_bits 8 octet)) }
+        ensures undo { Begins (unwrap_or aside.old self.old.kept) (unwrap_or aside.new self.new.kept) }
+        ensures begins { Begins out.old.items out.new.items }
+        ensures alloc { self.new.alloc ≡ self.old.alloc }
+    {
+        let mut left = octet;
+        for _ in 0..8u8 {
+            self.take(left & 1 == 1, aside, out)?;
+            left >>= 1;
         }
         Ok(())
     }

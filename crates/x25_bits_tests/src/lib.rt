@@ -10,6 +10,8 @@ mod numbers;
 #[cfg(test)]
 mod octets;
 #[cfg(test)]
+mod octets_of_a_line;
+#[cfg(test)]
 mod sealing;
 #[cfg(test)]
 mod spans;

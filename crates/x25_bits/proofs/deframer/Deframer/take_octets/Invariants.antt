@@ -1,0 +1,16 @@
+use Rattle.std.proofs.Common.{◌≡◌, drop, unwrap_or}
+use Rattle.x25_bits.specs.Begins.{Begins}
+use Rattle.x25_bits.specs.Fcs.{bits_of}
+use Rattle.x25_bits.specs.Held.{Seen}
+use Rattle.x25_bits.specs.Plain.{plains}
+use Rattle.x25_bits.specs.FitsSeen.{FitsSeen}
+use Rattle.x25_bits.proofs.LeadsLemmas.{Leads}
+use Rattle.x25_bits.proofs.deframer.Deframer.take_octets.Given as goal
+
+abbrev pub invariant-loop-octet : goal.invariant-loop-octet
+invariant-loop-octet l = record {
+  leads : (v : Seen) → FitsSeen l.initial.self v → Leads v (bits_of l.octets) (plains l.initial.out.items) l.self (bits_of (drop l.octet-index l.octets)) (plains l.out.items);
+  undo : Begins (unwrap_or l.initial.aside l.initial.self.kept) (unwrap_or l.aside l.self.kept);
+  begins : Begins l.initial.out.items l.out.items;
+  alloc : l.self.alloc ≡ l.initial.self.alloc;
+}
