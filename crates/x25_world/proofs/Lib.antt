@@ -26,6 +26,7 @@ pub mod SetUpOnce
 pub mod SessionHeadline
 pub mod RowLemmas
 pub mod OnLineLemmas
+pub mod LateLemmas
 pub mod LetGoLemmas
 pub mod SetUpLemmas
 pub mod SideLemmas

@@ -1,5 +1,5 @@
 -- A frame on the line: the octets of a frame of the tap, which isn't copied, or octets of its own.
-use Rattle.std.specs.Prelude.{◌≡◌, ℕ, zero, suc, ◌+◌, ◌≤◌, ◌<◌, ◌==◌, if◌then◌else◌, List, [], ◌∷◌, map}
+use Rattle.std.specs.Prelude.{◌≡◌, ℕ, zero, suc, ◌+◌, ◌≤◌, ◌<◌, ◌==◌, ◌-◌, if◌then◌else◌, List, [], ◌∷◌, length, map, take}
 use Rattle.x25_world.specs.World.{OnTap}
 use Rattle.x25_world.specs.ShownLine.{ShownLine}
 use Rattle.x25_world.specs.PlainTold.{plain_tapped}
@@ -34,6 +34,10 @@ abbrev pub shares : ℕ → List OnLine → ℕ
 shares i [] = 0
 shares i (frame.Tapped j ∷ frames) = if i == j then suc (shares i frames) else shares i frames
 shares i (frame.Own octets ∷ frames) = shares i frames
+
+-- None of the frames that are further from the back than the tap has frames is the tap's.
+abbrev pub AreLate : ℕ → List OnLine → Type 0
+AreLate count frames = (i : ℕ) → shares i (take (length frames - count) frames) ≡ 0
 
 -- No frame of the tap is on the line twice, in either direction, and each that is on the line is on the tap.
 pub record AreApart (count : ℕ) (to_dce to_dte : List OnLine) : Type 0 where

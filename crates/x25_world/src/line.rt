@@ -2,7 +2,7 @@ ghost use Rattle.std.specs.Prelude.{◌≡◌, ℕ, ◌+◌, ◌<◌, ◌≤◌,
 ghost use Rattle.x25_line.specs.Stations.{replaced};
 ghost use Rattle.x25_world.specs.ShownLine.{ShownLine, line_to, with_line_to, put_by};
 ghost use Rattle.x25_world.specs.PlainTold.{plain_tapped};
-ghost use Rattle.x25_world.specs.OnLine.{octets_of, IsThere, shares};
+ghost use Rattle.x25_world.specs.OnLine.{octets_of, AreLate, IsThere, shares};
 ghost use Rattle.x25_world.specs.declared.on_line.OnLine.{OnLine};
 ghost use Rattle.std.specs.VecDeque.{deque_len, deque_capacity};
 
@@ -29,7 +29,7 @@ pub struct Line {
 impl Model for Line {
     ghost use Rattle.std.specs.Prelude.{◌+◌, ◌≤◌, length, vec_len, vec_capacity};
     ghost use Rattle.std.specs.VecDeque.{deque_len, deque_capacity};
-    ghost use Rattle.x25_world.specs.OnLine.{shown_line, AreApart};
+    ghost use Rattle.x25_world.specs.OnLine.{shown_line, AreApart, AreLate};
     ghost use Rattle.x25_world.specs.ShownLine.{ShownLine};
 
     ghost Value = { ShownLine };
@@ -37,7 +37,8 @@ impl Model for Line {
     ghost view = { λ l. shown_line l.to_dce.items l.to_dte.items l.tap.items l.room };
 
     ghost invariant = { λ l. AreApart (length l.tap.items) l.to_dce.items l.to_dte.items × (deque_len l.to_dce + l.room ≤ deque_capacity l.to_dce)
-        × (deque_len l.to_dte + l.room ≤ deque_capacity l.to_dte) × (vec_len l.tap + l.room ≤ vec_capacity l.tap) };
+        × (deque_len l.to_dte + l.room ≤ deque_capacity l.to_dte) × (vec_len l.tap + l.room ≤ vec_capacity l.tap)
+        × AreLate (length l.tap.items) l.to_dce.items × AreLate (length l.tap.items) l.to_dte.items };
 }
 
 impl Line {
@@ -206,10 +207,12 @@ fn put_in(queue: &mut VecDeque<OnLine>, place: usize, octets: Vec<u8>)
     queue[place] = OnLine::Own(octets);
 }
 
-// The frames on the line take the octets that they share with the tap, and leave none there.
+// The frames on the line take the octets that they share with the tap, and leave none there. A frame that was put before all that the
+// tap holds has octets of its own.
 fn own_all(queue: &mut VecDeque<OnLine>, tap: &mut Vec<Tapped>, alloc: Global)
     requires once { (i : ℕ) → shares i queue.old.items ≤ 1 }
     requires there { (i : ℕ) → length tap.old.items ≤ i → shares i queue.old.items ≡ 0 }
+    requires late { AreLate (length tap.old.items) queue.old.items }
     ensures octets { map (octets_of (map plain_tapped tap.new.items)) queue.new.items ≡ map (octets_of (map plain_tapped tap.old.items)) queue.old.items }
     ensures own { (i : ℕ) → shares i queue.new.items ≡ 0 }
     ensures others { (frames : List OnLine) → ((i : ℕ) → shares i queue.old.items + shares i frames ≤ 1) →
@@ -219,7 +222,7 @@ fn own_all(queue: &mut VecDeque<OnLine>, tap: &mut Vec<Tapped>, alloc: Global)
     ensures len { deque_len queue.new ≡ deque_len queue.old }
     ensures capacity { deque_capacity queue.new ≡ deque_capacity queue.old }
 {
-    for place in 0..queue.len() {
+    for place in queue.len().saturating_sub(tap.len())..queue.len() {
         own_one(queue, tap, place, alloc);
     }
 }

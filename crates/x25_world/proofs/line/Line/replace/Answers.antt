@@ -1,6 +1,7 @@
 use Rattle.std.proofs.Common.{arith, refl}
 use Rattle.x25_world.specs.declared.on_line.OnLine.TheVariants.{Own}
 use Rattle.x25_world.proofs.OnLineLemmas.{apart_fewer, shares-set, map-replaced}
+use Rattle.x25_world.proofs.LateLemmas.{late_set}
 use Rattle.x25_world.proofs.line.Line.replace.Goals as goal
 
 pub invariant_of-self : goal.invariant_of-self
@@ -10,6 +11,8 @@ invariant_of-self c = (
   omega arith,
   omega arith,
   omega arith,
+  rw c.put_in.ensures.items (late_set _ c.args.place c.self.inside.to_dce.items (Own c.in_ok-own.own) tt c.self.invariant.4),
+  c.self.invariant.5,
 )
 
 pub invariant_of-self-in-Dte : goal.invariant_of-self-in-Dte
@@ -19,6 +22,8 @@ invariant_of-self-in-Dte c = (
   omega arith,
   omega arith,
   omega arith,
+  c.self.invariant.4,
+  rw c.put_in-in-Dte.ensures.items (late_set _ c.args.place c.self.inside.to_dte.items (Own c.in_ok-own.own) tt c.self.invariant.5),
 )
 
 pub returns-in-Dce : goal.returns-in-Dce
