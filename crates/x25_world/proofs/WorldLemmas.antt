@@ -12,16 +12,16 @@ use Rattle.x25_station.specs.declared.config.Cfg.{Cfg}
 use Rattle.x25_station.specs.declared.error.StationError.{StationError}
 use Rattle.x25_station.specs.declared.station.Station as code
 use Rattle.x25_station.specs.FitsStation.{FitsStation}
-use Rattle.x25_station.specs.Settings.{Settings, settings_from}
+use Rattle.x25_station.specs.Settings.{Settings, settings_from, config_refusal}
 use Rattle.x25_station.specs.Steps.{Outcome, Did, Refused, commands, fires}
 use Rattle.x25_world.specs.declared.event.Event as code_event
 use Rattle.x25_world.specs.declared.error.WorldError.{WorldError}
 use Rattle.x25_world.specs.declared.error.WorldError.TheVariants as error
 use Rattle.x25_world.specs.World.{World, swapped, Event, Act, Commands, Receives, Fires, Loses, Damages, WorldOutcome, Happened, Declined, of_station, delivered, is_on_line, acts, swapped_back, event_of, happens, after, refusal_of, run, AreAccepted, established, start}
-use Rattle.x25_world.specs.Claims.{ActsInOctets, AreInOctets, NoneConnects, SetsUpOnce, UpOnceUnlessConnected, Always, HasNoProcedureError}
+use Rattle.x25_world.specs.Claims.{ActsInOctets, AreInOctets, IsUpOnce, NoneConnects, SetsUpOnce, UpOnceUnlessConnected, Always, HasNoProcedureError}
 use Rattle.x25_world.specs.SessionClaims.{Throughout, MeetInStep, AreLawfulWhereMet, AreNamedInSessions, AllArrive, UnmetAreToldNothing, OpenStretchesMeet, SessionsKeepOrder}
 use Rattle.x25_world.specs.ShownWorld.{ShownWorld, ShownSide}
-use Rattle.x25_world.specs.FitsWorld.{Gone, FitsWorld, FitsRun, and_then, FitsSide, HasHappened, IsRefusal, StopsAt, RefusesConfig}
+use Rattle.x25_world.specs.FitsWorld.{Gone, nothing_gone, FitsWorld, FitsRun, Leaves, with_gone, and_then, FitsSide, HasHappened, IsRefusal, StopsAt, RefusesConfig}
 
 -- ---- the far end is as it was
 
@@ -189,13 +189,24 @@ run_and_then cfg from old new past gone e (Ok x) h octets step accepted stays = 
 }
 run_and_then cfg from old new past gone e (Err x) h octets step accepted stays = record { settings = h.settings; octets = h.octets; accepted = h.accepted; fits = stays (run cfg past from) h.fits }
 
--- so a law of all runs holds of it
-pub holds_after : (Holds : Cfg → World → Type 0) (v : ShownWorld) (cfg : Cfg) (events : List Event) (gone : Gone) → Always Holds → FitsRun cfg (established cfg) v events gone → SetsUpOnce cfg events → Holds cfg (run cfg events (established cfg))
-holds_after Holds v cfg events gone law h once = law cfg h.settings events h.octets once
+-- so a law of all runs holds of it, and of what is held
+
+pub held_is : (cfg : Cfg) (v : ShownWorld) (w : World) (gone : Gone) → FitsWorld cfg v w gone → w ≡ with_gone gone v w
+held_is cfg v w gone h = rw (h.to_dce, h.to_dte, sym h.tap, sym h.transcript) refl
+
+pub leaves : (Holds : Cfg → World → Type 0) (v : ShownWorld) (cfg : Cfg) (from : World) (events : List Event) (gone : Gone) → FitsRun cfg from v events gone → Holds cfg (run cfg events from) → Leaves Holds cfg from v events gone
+leaves Holds v cfg from events gone h holds = record { fits = h; holds = holds; held = subst (λ (w : World). Holds cfg w) (held_is cfg v (run cfg events from) gone h.fits) holds }
+
+pub holds_after : (Holds : Cfg → World → Type 0) (v : ShownWorld) (cfg : Cfg) (events : List Event) (gone : Gone) → Always Holds → FitsRun cfg (established cfg) v events gone → SetsUpOnce cfg events → Leaves Holds cfg (established cfg) v events gone
+holds_after Holds v cfg events gone law h once = leaves Holds v cfg (established cfg) events gone h (law cfg h.settings events h.octets once)
 
 pub holds_throughout : (Holds : Cfg → World → Type 0) (v : ShownWorld) (cfg : Cfg) (from : World) (events : List Event) (gone : Gone) → Throughout Holds → (from ≡ start) ⊎ (from ≡ established cfg) → FitsRun cfg from v events gone
-    → Holds cfg (run cfg events from)
-holds_throughout Holds v cfg from events gone law begins h = law cfg h.settings from begins events h.octets
+    → Leaves Holds cfg from v events gone
+holds_throughout Holds v cfg from events gone law begins h = leaves Holds v cfg from events gone h (law cfg h.settings from begins events h.octets)
+
+-- a world that was just made
+pub new_run : (cfg : Cfg) (from : World) (v : ShownWorld) → config_refusal cfg ≡ None → FitsWorld cfg v from nothing_gone → FitsRun cfg from v [] nothing_gone
+new_run cfg from v fine fits = record { settings = fine; octets = tt; accepted = tt; fits = fits }
 
 -- the claims on sessions together
 pub all_of_sessions : Throughout MeetInStep → Throughout AreLawfulWhereMet → Throughout AreNamedInSessions → Throughout AllArrive → Throughout UnmetAreToldNothing → Throughout OpenStretchesMeet → Throughout HasNoProcedureError → Throughout SessionsKeepOrder
@@ -209,8 +220,8 @@ all_of_sessions step lawful named arrives unmet stand quiet cfg fine from begins
   quiet = quiet cfg fine from begins events octets;
 }
 
-pub up_once_after : (v : ShownWorld) (cfg : Cfg) (events : List Event) (gone : Gone) → UpOnceUnlessConnected → FitsRun cfg (established cfg) v events gone → NoneConnects cfg events (established cfg) → SetsUpOnce cfg events
-up_once_after v cfg events gone law h none = law cfg h.settings events h.octets none
+pub up_once_after : (v : ShownWorld) (cfg : Cfg) (events : List Event) (gone : Gone) → UpOnceUnlessConnected → FitsRun cfg (established cfg) v events gone → NoneConnects cfg events (established cfg) → Leaves IsUpOnce cfg (established cfg) v events gone
+up_once_after v cfg events gone law h none = leaves IsUpOnce v cfg (established cfg) events gone h (law cfg h.settings events h.octets none)
 
 pub run_more : (cfg : Cfg) (from : World) (v : ShownWorld) (past : List Event) (gone : Gone) (events : List code_event.Event) (i : ℕ) (d : code_event.Event) → i < length events
     → FitsRun cfg from v ((past ++ map event_of (take i events)) ++ event_of (get_or events i d) ∷ []) gone → FitsRun cfg from v (past ++ map event_of (take (i + 1) events)) gone

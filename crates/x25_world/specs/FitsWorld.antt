@@ -8,7 +8,7 @@ use Rattle.x25_station.specs.declared.error.StationError.{StationError}
 use Rattle.x25_station.specs.Settings.{settings_from, config_refusal}
 use Rattle.x25_station.specs.FitsStation.{FitsStation}
 use Rattle.x25_world.specs.World.{OnTap, AtEnd, World, Event, Act, Loses, WorldOutcome, Happened, Declined, happens, refusal_of, run, AreAccepted, start, established}
-use Rattle.x25_world.specs.Claims.{AreInOctets, SetsUpOnce, NoneConnects}
+use Rattle.x25_world.specs.Claims.{AreInOctets, IsUpOnce, SetsUpOnce, NoneConnects}
 use Rattle.x25_world.specs.ShownLine.{line_to}
 use Rattle.x25_world.specs.ShownWorld.{ShownWorld, ShownSide}
 use Rattle.x25_world.specs.declared.error.WorldError.{WorldError}
@@ -72,18 +72,29 @@ abbrev pub and_all : List Event → List Event → Result (Unit {0}) WorldRefuse
 and_all events more (Ok done) = events ++ more
 and_all events more (Err refused) = events ++ take refused.index more
 
--- this holds of the world after each run that leads here and goes on so, from a link just set up, which isn't set up anew
-abbrev pub HoldsAfter : (Cfg → World → Type 0) → ShownWorld → (List Event → List Event) → Type 0
-HoldsAfter Holds v more = (cfg : Cfg) (past : List Event) (gone : Gone) → FitsRun cfg (established cfg) v past gone → SetsUpOnce cfg (more past) → Holds cfg (run cfg (more past) (established cfg))
+-- what was let go of, and then what is held here; the stations stand for those of w
+abbrev pub with_gone : Gone → ShownWorld → World → World
+with_gone gone v w = record { near = w.near; far = w.far; out = v.to_dce; back = v.to_dte; tap = gone.tap ++ v.tap; transcript = gone.transcript ++ v.transcript }
+
+-- These events lead here, and this holds of what is here: of the world that they lead to, and of line, tap and transcript as they are held.
+pub record Leaves (Holds : Cfg → World → Type 0) (cfg : Cfg) (from : World) (v : ShownWorld) (events : List Event) (gone : Gone) : Type 0 where
+  pub fits : FitsRun cfg from v events gone
+  pub holds : Holds cfg (run cfg events from)
+  pub held : Holds cfg (with_gone gone v (run cfg events from))
+
+-- After each run that leads to the world before, it goes on so to the world that is left, and this holds of that: from a link just set up,
+-- which isn't set up anew.
+abbrev pub HoldsAfter : (Cfg → World → Type 0) → ShownWorld → ShownWorld → (List Event → List Event) → Type 0
+HoldsAfter Holds old new more = (cfg : Cfg) (past : List Event) (gone : Gone) → FitsRun cfg (established cfg) old past gone → SetsUpOnce cfg (more past) → Leaves Holds cfg (established cfg) new (more past) gone
 
 -- .. from both links down, or from a link just set up, which may be set up anew
-abbrev pub HoldsThroughout : (Cfg → World → Type 0) → ShownWorld → (List Event → List Event) → Type 0
-HoldsThroughout Holds v more =
-    (cfg : Cfg) (from : World) (past : List Event) (gone : Gone) → (from ≡ start) ⊎ (from ≡ established cfg) → FitsRun cfg from v past gone → Holds cfg (run cfg (more past) from)
+abbrev pub HoldsThroughout : (Cfg → World → Type 0) → ShownWorld → ShownWorld → (List Event → List Event) → Type 0
+HoldsThroughout Holds old new more =
+    (cfg : Cfg) (from : World) (past : List Event) (gone : Gone) → (from ≡ start) ⊎ (from ≡ established cfg) → FitsRun cfg from old past gone → Leaves Holds cfg from new (more past) gone
 
 -- where no `connect` was accepted in it, the link isn't set up anew
-abbrev pub UpOnceAfter : ShownWorld → (List Event → List Event) → Type 0
-UpOnceAfter v more = (cfg : Cfg) (past : List Event) (gone : Gone) → FitsRun cfg (established cfg) v past gone → NoneConnects cfg (more past) (established cfg) → SetsUpOnce cfg (more past)
+abbrev pub UpOnceAfter : ShownWorld → ShownWorld → (List Event → List Event) → Type 0
+UpOnceAfter old new more = (cfg : Cfg) (past : List Event) (gone : Gone) → FitsRun cfg (established cfg) old past gone → NoneConnects cfg (more past) (established cfg) → Leaves IsUpOnce cfg (established cfg) new (more past) gone
 
 -- ---- an end and what it shares with the other; the other end is as it was
 

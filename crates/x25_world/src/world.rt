@@ -7,7 +7,7 @@ ghost use Rattle.x25_bits.specs.Harmless.{IsHarmless};
 ghost use Rattle.x25_world.specs.BitDamage.{bit_damage, RefusesBits};
 ghost use Rattle.x25_world.specs.PlainTold.{plain_tapped, plain_entered};
 ghost use Rattle.x25_world.specs.ShownWorld.{line_of, station_of};
-ghost use Rattle.x25_world.specs.FitsWorld.{Gone, all_of, nothing_gone, FitsWorld, FitsRun, and_then, and_all, HoldsAfter, HoldsThroughout, UpOnceAfter, IsRefusal, TakesMemory, StopsAt, RefusesConfig};
+ghost use Rattle.x25_world.specs.FitsWorld.{Gone, all_of, nothing_gone, FitsWorld, FitsRun, Leaves, and_then, and_all, HoldsAfter, HoldsThroughout, UpOnceAfter, IsRefusal, TakesMemory, StopsAt, RefusesConfig};
 ghost use Rattle.x25_world.specs.Claims.{IsLawful, IsNamed, ArrivesAll, HasNoProcedureError, IsInWindow, IsUpOnce};
 ghost use Rattle.x25_world.specs.SessionClaims.{SessionsKeepOrder};
 ghost use Rattle.x25_world.specs.World as definition;
@@ -56,7 +56,7 @@ impl World {
         ensures fits { IfOk result (λ v. FitsWorld cfg v start nothing_gone) }
         ensures run { IfOk result (λ v. FitsRun cfg start v [] nothing_gone) }
         ensures refused { RefusesConfig result (config_refusal cfg) }
-        ensures sessions { OnOk result (SessionsKeepOrder cfg start) }
+        ensures sessions { IfOk result (λ v. Leaves SessionsKeepOrder cfg start v [] nothing_gone) }
     {
         stations_meet_in_sessions();
         Ok(World {
@@ -99,13 +99,13 @@ impl World {
         ensures fits { IfOk result (λ v. FitsWorld cfg v (established cfg) nothing_gone) }
         ensures run { IfOk result (λ v. FitsRun cfg (established cfg) v [] nothing_gone) }
         ensures refused { RefusesConfig result (config_refusal cfg) }
-        ensures lawful { OnOk result (IsLawful cfg (established cfg)) }
-        ensures named { OnOk result (IsNamed cfg (established cfg)) }
-        ensures arrives { OnOk result (ArrivesAll cfg (established cfg)) }
-        ensures quiet { OnOk result (HasNoProcedureError cfg (established cfg)) }
-        ensures window { OnOk result (IsInWindow cfg (established cfg)) }
-        ensures up_once { OnOk result (IsUpOnce cfg (established cfg)) }
-        ensures sessions { OnOk result (SessionsKeepOrder cfg (established cfg)) }
+        ensures lawful { IfOk result (λ v. Leaves IsLawful cfg (established cfg) v [] nothing_gone) }
+        ensures named { IfOk result (λ v. Leaves IsNamed cfg (established cfg) v [] nothing_gone) }
+        ensures arrives { IfOk result (λ v. Leaves ArrivesAll cfg (established cfg) v [] nothing_gone) }
+        ensures quiet { IfOk result (λ v. Leaves HasNoProcedureError cfg (established cfg) v [] nothing_gone) }
+        ensures window { IfOk result (λ v. Leaves IsInWindow cfg (established cfg) v [] nothing_gone) }
+        ensures up_once { IfOk result (λ v. Leaves IsUpOnce cfg (established cfg) v [] nothing_gone) }
+        ensures sessions { IfOk result (λ v. Leaves SessionsKeepOrder cfg (established cfg) v [] nothing_gone) }
     {
         two_stations_keep_order();
         stations_meet_in_sessions();
@@ -137,15 +137,15 @@ impl World {
 
         // The world is that of a run, and of each run from a link just set up, which isn't set up anew, this is proved.
         ensures run { (cfg : Cfg) (from : definition.World) (past : List definition.Event) (gone : Gone) → FitsRun cfg from self.old past gone → FitsRun cfg from self.new (and_then past (event_of event.entry) result) gone }
-        ensures lawful { HoldsAfter IsLawful self.old (λ past. and_then past (event_of event.entry) result) }
-        ensures named { HoldsAfter IsNamed self.old (λ past. and_then past (event_of event.entry) result) }
-        ensures arrives { HoldsAfter ArrivesAll self.old (λ past. and_then past (event_of event.entry) result) }
-        ensures quiet { HoldsAfter HasNoProcedureError self.old (λ past. and_then past (event_of event.entry) result) }
-        ensures window { HoldsAfter IsInWindow self.old (λ past. and_then past (event_of event.entry) result) }
-        ensures up_once { UpOnceAfter self.old (λ past. and_then past (event_of event.entry) result) }
+        ensures lawful { HoldsAfter IsLawful self.old self.new (λ past. and_then past (event_of event.entry) result) }
+        ensures named { HoldsAfter IsNamed self.old self.new (λ past. and_then past (event_of event.entry) result) }
+        ensures arrives { HoldsAfter ArrivesAll self.old self.new (λ past. and_then past (event_of event.entry) result) }
+        ensures quiet { HoldsAfter HasNoProcedureError self.old self.new (λ past. and_then past (event_of event.entry) result) }
+        ensures window { HoldsAfter IsInWindow self.old self.new (λ past. and_then past (event_of event.entry) result) }
+        ensures up_once { UpOnceAfter self.old self.new (λ past. and_then past (event_of event.entry) result) }
 
         // .. and of each run from there or from both links down, also where it is set up anew, this is.
-        ensures sessions { HoldsThroughout SessionsKeepOrder self.old (λ past. and_then past (event_of event.entry) result) }
+        ensures sessions { HoldsThroughout SessionsKeepOrder self.old self.new (λ past. and_then past (event_of event.entry) result) }
     {
         two_stations_keep_order();
         stations_meet_in_sessions();
@@ -172,15 +172,15 @@ impl World {
 
         // The world is that of a run, and of each run from a link just set up, which isn't set up anew, this is proved.
         ensures run { (cfg : Cfg) (from : definition.World) (past : List definition.Event) (gone : Gone) → FitsRun cfg from self.old past gone → FitsRun cfg from self.new (and_then past (bit_damage direction place bits.now) result) gone }
-        ensures lawful { HoldsAfter IsLawful self.old (λ past. and_then past (bit_damage direction place bits.now) result) }
-        ensures named { HoldsAfter IsNamed self.old (λ past. and_then past (bit_damage direction place bits.now) result) }
-        ensures arrives { HoldsAfter ArrivesAll self.old (λ past. and_then past (bit_damage direction place bits.now) result) }
-        ensures quiet { HoldsAfter HasNoProcedureError self.old (λ past. and_then past (bit_damage direction place bits.now) result) }
-        ensures window { HoldsAfter IsInWindow self.old (λ past. and_then past (bit_damage direction place bits.now) result) }
-        ensures up_once { UpOnceAfter self.old (λ past. and_then past (bit_damage direction place bits.now) result) }
+        ensures lawful { HoldsAfter IsLawful self.old self.new (λ past. and_then past (bit_damage direction place bits.now) result) }
+        ensures named { HoldsAfter IsNamed self.old self.new (λ past. and_then past (bit_damage direction place bits.now) result) }
+        ensures arrives { HoldsAfter ArrivesAll self.old self.new (λ past. and_then past (bit_damage direction place bits.now) result) }
+        ensures quiet { HoldsAfter HasNoProcedureError self.old self.new (λ past. and_then past (bit_damage direction place bits.now) result) }
+        ensures window { HoldsAfter IsInWindow self.old self.new (λ past. and_then past (bit_damage direction place bits.now) result) }
+        ensures up_once { UpOnceAfter self.old self.new (λ past. and_then past (bit_damage direction place bits.now) result) }
 
         // .. and of each run from there or from both links down, also where it is set up anew, this is.
-        ensures sessions { HoldsThroughout SessionsKeepOrder self.old (λ past. and_then past (bit_damage direction place bits.now) result) }
+        ensures sessions { HoldsThroughout SessionsKeepOrder self.old self.new (λ past. and_then past (bit_damage direction place bits.now) result) }
     {
         two_stations_keep_order();
         stations_meet_in_sessions();
@@ -225,15 +225,15 @@ impl World {
 
         // The world is that of a run, and of each run from a link just set up, which isn't set up anew, this is proved.
         ensures run { (cfg : Cfg) (from : definition.World) (past : List definition.Event) (gone : Gone) → FitsRun cfg from self.old past gone → FitsRun cfg from self.new (and_all past (map event_of events.now) result) gone }
-        ensures lawful { HoldsAfter IsLawful self.old (λ past. and_all past (map event_of events.now) result) }
-        ensures named { HoldsAfter IsNamed self.old (λ past. and_all past (map event_of events.now) result) }
-        ensures arrives { HoldsAfter ArrivesAll self.old (λ past. and_all past (map event_of events.now) result) }
-        ensures quiet { HoldsAfter HasNoProcedureError self.old (λ past. and_all past (map event_of events.now) result) }
-        ensures window { HoldsAfter IsInWindow self.old (λ past. and_all past (map event_of events.now) result) }
-        ensures up_once { UpOnceAfter self.old (λ past. and_all past (map event_of events.now) result) }
+        ensures lawful { HoldsAfter IsLawful self.old self.new (λ past. and_all past (map event_of events.now) result) }
+        ensures named { HoldsAfter IsNamed self.old self.new (λ past. and_all past (map event_of events.now) result) }
+        ensures arrives { HoldsAfter ArrivesAll self.old self.new (λ past. and_all past (map event_of events.now) result) }
+        ensures quiet { HoldsAfter HasNoProcedureError self.old self.new (λ past. and_all past (map event_of events.now) result) }
+        ensures window { HoldsAfter IsInWindow self.old self.new (λ past. and_all past (map event_of events.now) result) }
+        ensures up_once { UpOnceAfter self.old self.new (λ past. and_all past (map event_of events.now) result) }
 
         // .. and of each run from there or from both links down, also where it is set up anew, this is.
-        ensures sessions { HoldsThroughout SessionsKeepOrder self.old (λ past. and_all past (map event_of events.now) result) }
+        ensures sessions { HoldsThroughout SessionsKeepOrder self.old self.new (λ past. and_all past (map event_of events.now) result) }
     {
         two_stations_keep_order();
         stations_meet_in_sessions();

@@ -4,10 +4,10 @@ use Rattle.x25_bits.specs.Sealed.{is_sealed}
 use Rattle.x25_world.specs.ShownWorld.{line_of}
 use Rattle.x25_world.specs.World.{Event}
 use Rattle.x25_world.specs.FitsWorld.{FitsRun, and_then}
-use Rattle.x25_world.specs.Claims.{IsInWindow}
+use Rattle.x25_world.specs.Claims.{IsLawful, IsNamed, ArrivesAll, HasNoProcedureError, IsInWindow}
 use Rattle.x25_world.specs.SessionClaims.{SessionsKeepOrder}
 use Rattle.x25_world.proofs.BitDamageLemmas.{damage_is, refuses_bits}
-use Rattle.x25_world.proofs.WorldLemmas.{holds_after, holds_throughout, all_of_sessions}
+use Rattle.x25_world.proofs.WorldLemmas.{holds_after, up_once_after, holds_throughout, all_of_sessions}
 use Rattle.x25_world.proofs.world.World.damage_bits.Goals as goal
 
 pub returns-clause-refused : goal.returns-clause-refused
@@ -23,10 +23,43 @@ returns-clause-run c = λ cfg from past gone h.
     let same = damage_is c.args.direction c.args.place c.args.bits.now octets (c.as_slice.ensures.value ∙ c.in_ok-octets.ensures.octets) in
     subst (λ (e : Event). FitsRun cfg from c.apply.new.self (and_then past e c.apply.result) gone) (sym same) (c.apply.ensures.run cfg from past gone h)
 
+pub returns-clause-lawful : goal.returns-clause-lawful
+returns-clause-lawful c = λ cfg past gone h once. holds_after IsLawful _ cfg _ gone c.two_stations_keep_order.ensures.lawful ((returns-clause-run c) cfg _ past gone h) once
+
+pub returns-clause-named : goal.returns-clause-named
+returns-clause-named c = λ cfg past gone h once. holds_after IsNamed _ cfg _ gone c.two_stations_keep_order.ensures.named ((returns-clause-run c) cfg _ past gone h) once
+
+pub returns-clause-arrives : goal.returns-clause-arrives
+returns-clause-arrives c = λ cfg past gone h once. holds_after ArrivesAll _ cfg _ gone c.two_stations_keep_order.ensures.arrives ((returns-clause-run c) cfg _ past gone h) once
+
+pub returns-clause-quiet : goal.returns-clause-quiet
+returns-clause-quiet c = λ cfg past gone h once. holds_after HasNoProcedureError _ cfg _ gone c.two_stations_keep_order.ensures.quiet ((returns-clause-run c) cfg _ past gone h) once
+
+pub returns-clause-window : goal.returns-clause-window
+returns-clause-window c = λ cfg past gone h once. holds_after IsInWindow _ cfg _ gone c.two_stations_keep_order.ensures.window ((returns-clause-run c) cfg _ past gone h) once
+
+pub returns-clause-up_once : goal.returns-clause-up_once
+returns-clause-up_once c = λ cfg past gone h none. up_once_after _ cfg _ gone c.two_stations_keep_order.ensures.up_once ((returns-clause-run c) cfg _ past gone h) none
+
 pub returns-clause-sessions : goal.returns-clause-sessions
 returns-clause-sessions c = λ cfg from past gone begins h.
     let law = c.stations_meet_in_sessions.ensures in
     holds_throughout SessionsKeepOrder _ cfg from _ gone (all_of_sessions law.step law.lawful law.named law.arrives law.unmet law.stand law.quiet) begins ((returns-clause-run c) cfg from past gone h)
+
+pub returns-in_err-octets-clause-lawful : goal.returns-in_err-octets-clause-lawful
+returns-in_err-octets-clause-lawful c =
+    let p = err_from_is_err_and c.from_residual.result c.from_residual.ensures.1 in
+    rw p.1 (λ cfg past gone h once. holds_after IsLawful _ cfg past gone c.two_stations_keep_order.ensures.lawful h once)
+
+pub returns-in_err-octets-clause-named : goal.returns-in_err-octets-clause-named
+returns-in_err-octets-clause-named c =
+    let p = err_from_is_err_and c.from_residual.result c.from_residual.ensures.1 in
+    rw p.1 (λ cfg past gone h once. holds_after IsNamed _ cfg past gone c.two_stations_keep_order.ensures.named h once)
+
+pub returns-in_err-octets-clause-arrives : goal.returns-in_err-octets-clause-arrives
+returns-in_err-octets-clause-arrives c =
+    let p = err_from_is_err_and c.from_residual.result c.from_residual.ensures.1 in
+    rw p.1 (λ cfg past gone h once. holds_after ArrivesAll _ cfg past gone c.two_stations_keep_order.ensures.arrives h once)
 
 pub returns-in_err-octets-clause-window : goal.returns-in_err-octets-clause-window
 returns-in_err-octets-clause-window c =
