@@ -1,28 +1,76 @@
-"""Runs the scripts of examples/ on the simulator: each writes the transcript that stands beside it."""
+"""Runs the scripts of examples/ on the simulator, and says where its traces come from.
 
+Each script writes the transcript that stands beside it. Each trace is what went over the line in a run of a script, or the
+beginning of that: so two stations sent each of its frames, and the other one took it without fault, but for a damaged one.
+"""
+
+import io
 import os
+import re
 import subprocess
 import unittest
 
 import support
 
+import drawing
+import simruns
+
 EXAMPLES = os.path.join(support.ROOT, "examples")
 
+# What a run says where a station was told of a fault, or refused what came.
+FAULT = re.compile(r"linkdown (?!local|disc)|(?:restarted|wasreset|cleared) .*cause=(?!0 diag=0$|7 diag=0$)|^! |^\? ")
 
-def scripts():
-    """The names of the scripts, without their ending."""
-    return sorted(name[: -len(".script")] for name in os.listdir(EXAMPLES) if name.endswith(".script"))
+
+def names(ending):
+    """The names of the examples of a kind, without their ending."""
+    return sorted(name[: -len(ending)] for name in os.listdir(EXAMPLES) if name.endswith(ending))
+
+
+def frames_of(script):
+    """The lines of the frames that went over the line in a run; a damaged frame is as it came."""
+    text = support.read("examples", f"{script}.script")
+    run = simruns.run(support.PROGRAM, io.BytesIO(text), [])
+    damage = re.findall(rb"^damage . 0 (\w+)$", text, re.MULTILINE)
+    frames, faults = [], []
+    for place, (_, line) in enumerate(run.lines):
+        if line[:1] not in b"<>":
+            faults += re.findall(FAULT, line.decode())
+        elif place in run.fates:
+            if run.fates[place] != drawing.DAMAGED:
+                raise AssertionError(f"{script}: {line} was lost, or is still on the line")
+            frames.append(line[:2] + damage.pop(0))
+        else:
+            frames.append(line)
+    if faults or damage:
+        raise AssertionError(f"{script}: {faults or damage}")
+    return frames
 
 
 class Scripts(unittest.TestCase):
     def test_there_are_some(self):
-        self.assertGreaterEqual(len(scripts()), 4)
+        self.assertGreaterEqual(len(names(".script")), 4)
 
     @support.needs_program
     def test_each_writes_its_transcript(self):
-        for name in scripts():
+        for name in names(".script"):
             with self.subTest(name):
                 script = support.read("examples", f"{name}.script")
                 done = subprocess.run([support.PROGRAM, "sim"], input=script, capture_output=True, timeout=60)
                 self.assertEqual(done.stdout, support.read("examples", f"{name}.transcript"))
                 self.assertEqual(done.returncode, 0)
+
+
+class Traces(unittest.TestCase):
+    @support.needs_program
+    def test_each_went_over_the_line_without_fault(self):
+        runs = {"setup": "exchange"}
+        self.assertGreaterEqual(len(names(".trace")), 3)
+        for name in names(".trace"):
+            with self.subTest(name):
+                frames = frames_of(runs.get(name, name))
+                trace = support.read("examples", f"{name}.trace").splitlines()
+                self.assertEqual(trace, frames[: len(trace)] if name in runs else frames)
+
+
+if __name__ == "__main__":
+    unittest.main()

@@ -36,13 +36,29 @@ class Examples(ToolCase):
                 with self.subTest(document=document, command=command):
                     done = subprocess.run(["bash", "-c", command], cwd=self.folder, env=self.environment, capture_output=True, text=True, timeout=60)
                     self.assertEqual(done.stdout, output, done.stderr)
+        self.assertEqual(sorted(os.listdir(self.folder)), ["build", "examples", "tools"])
 
     def test_each_subcommand_has_one(self):
-        usage = subprocess.run([support.PROGRAM, "--help"], capture_output=True, text=True, timeout=60).stderr
+        usage = subprocess.run([support.PROGRAM, "--help"], capture_output=True, text=True, timeout=60).stdout
         subcommands = set(re.findall(r"^  (\w+)  ", usage, re.MULTILINE)) - {"help"}
         commands = "\n".join(command for command, _ in examples("docs/MANUAL.md"))
         self.assertTrue(subcommands)
         self.assertEqual({name for name in subcommands if not re.search(rf"\bx25 {name}\b", commands)}, set())
+
+
+    def test_each_example_of_the_help_runs(self):
+        for words in ([], ["decode"], ["vectors"], ["sim"]):
+            done = subprocess.run([support.PROGRAM, *words, "--help"], capture_output=True, text=True, timeout=60)
+            self.assertEqual((done.returncode, done.stderr), (0, ""))
+            self.assertIn("Usage: x25", done.stdout)
+            commands = re.findall(r"^  (x25 .*)$", done.stdout.partition("Examples:")[2], re.MULTILINE)
+            self.assertEqual(bool(commands), words == ["sim"])
+            for command in commands:
+                with self.subTest(command):
+                    done = subprocess.run(["bash", "-o", "pipefail", "-c", command], cwd=self.folder, env=self.environment, capture_output=True, text=True, timeout=60)
+                    self.assertEqual((done.returncode, done.stderr), (0, ""), command)
+                    self.assertTrue(done.stdout)
+                    self.assertNotRegex(done.stdout, "(?m)^[!?]|fault")
 
 
 class Documents(unittest.TestCase):

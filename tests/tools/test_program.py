@@ -37,6 +37,17 @@ class Program(unittest.TestCase):
         self.assertEqual(status, 2)
         self.assertTrue(said)
 
+    def test_help_and_the_version_go_to_standard_output(self):
+        for words in (["--help"], ["-h"], ["help"], ["decode", "--help"], ["sim", "--help"], ["vectors", "--help"], ["--version"]):
+            with self.subTest(words):
+                done = subprocess.run([support.PROGRAM, *words], input=b"> 013febdf\n", capture_output=True, timeout=60)
+                self.assertEqual((done.returncode, done.stderr), (0, b""))
+                self.assertRegex(done.stdout, rb"^x25 \d" if words == ["--version"] else rb"Usage: x25")
+
+    def test_help_that_can_not_be_written(self):
+        with open("/dev/full", "wb") as full:
+            self.assertEqual(self.run_on(["--help"], input=b"", stdout=full), (3, b"write failed\n"))
+
     def test_a_line_is_answered_before_the_input_ends(self):
         with subprocess.Popen([support.PROGRAM, "decode"], stdin=subprocess.PIPE, stdout=subprocess.PIPE) as child:
             for _ in range(3):

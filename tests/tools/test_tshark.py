@@ -147,7 +147,7 @@ class Tshark(ToolCase):
     @support.needs_program
     def test_the_example(self):
         trace = support.read("examples/exchange.trace")
-        self.check(trace, support.decode(trace), 25)
+        self.check(trace, support.decode(trace), 36)
 
     @support.needs_program
     def test_a_long_trace(self):

@@ -1,21 +1,23 @@
 //! `x25`: traces of X.25 on lines of text.
 //!
-//! Exit statuses: 0; 1 where a line was refused; 2 for words that ask for nothing it does, help words too; 3 where a
-//! read, a write or memory failed.
+//! Exit statuses: 0, also where help or the version is asked for; 1 where a line was refused; 2 for words that ask for
+//! nothing it does; 3 where a read, a write or memory failed.
 #![tactic(auto)]
 
-ghost use Rattle.std.specs.Prelude.{◌≡◌};
-ghost use Rattle.x25_settings.specs.Simulation as options;
+ghost use Rattle.clap.specs.Values.{kind_of};
+ghost use Rattle.std.specs.Prelude.{◌≡◌, ◌⊎◌, IfOk, OnErr};
+ghost use Rattle.x25.specs.Shown.{IsShown};
 ghost use Rattle.x25_settings.specs.Words.{AreInRange};
 
-use std::alloc::Global;
+mod tasks;
+
 use std::io::ErrorKind;
 use std::process::ExitCode;
 use std::rt::Env;
 use std::{env, io};
-use x25_program::{Device, Fault, Sink, Source, decode_lines, exit_status, vectors};
-use x25_settings::{SettingsError, Simulation, Task, settings};
-use x25_sim::{Cfg, sim};
+use tasks::perform;
+use x25_program::{Device, Fault, exit_status};
+use x25_settings::{SettingsError, Task, settings};
 
 /// The exit status of a usage fault.
 const USAGE: u8 = 2;
@@ -28,50 +30,39 @@ fn report<R: Eprint>(rt: &R, fault: Fault) -> u8
     exit_status(&Err(fault))
 }
 
-/// Runs the simulator as the words of the command line ask for.
-fn simulate<R: Source, W: Sink>(
-    alloc: Global,
-    simulation: Simulation,
-    reader: &mut R,
-    writer: &mut W,
-) -> Result<u8, Fault>
-    requires { options.AreInRange simulation }
+/// The exit status of a run. A fault is told on standard error.
+fn conclude<R: Eprint>(rt: &R, run: Result<u8, Fault>) -> u8
+    ensures answered { IfOk run (λ status. result ≡ status) }
+    ensures fault { OnErr run (result ≡ 3) }
 {
-    let Simulation {
-        down,
-        long,
-        tap,
-        k,
-        n2,
-        channels,
-    } = simulation;
-    let cfg = Cfg {
-        k,
-        n2,
-        channels,
-        long_data: long,
-    };
-    sim(alloc, down, cfg, tap, reader, writer)
+    match run {
+        Ok(_) => exit_status(&run),
+        Err(fault) => report(rt, fault),
+    }
 }
 
 fn run<R: Input + Print + Eprint + AllocGlobal>(rt: &R, task: Task) -> u8
     requires { AreInRange task }
 {
+    let mut reader = Device::new(rt.reader());
     let mut writer = Device::new(io::writer(rt));
-    let result = match task {
-        Task::Decode { long } => {
-            let mut reader = Device::new(rt.reader());
-            decode_lines(rt.alloc(), long, &mut reader, &mut writer)
-        }
-        Task::Sim(simulation) => {
-            let mut reader = Device::new(rt.reader());
-            simulate(rt.alloc(), simulation, &mut reader, &mut writer)
-        }
-        Task::Vectors => vectors(rt.alloc(), &mut writer),
-    };
-    match result {
-        Ok(_) => exit_status(&result),
-        Err(fault) => report(rt, fault),
+    let result = perform(rt.alloc(), task, &mut reader, &mut writer);
+    conclude(rt, result)
+}
+
+/// Tells the parser's text, and answers the exit status: help and the version go to standard output with 0, and why other
+/// words aren't plain to standard error with 2. Profile.
+fn tell<R: Print + Eprint>(rt: &R, error: clap::Error) -> u8
+    ensures asked { IsShown (kind_of error) → (result ≡ 0) ⊎ (result ≡ 3) }
+    ensures usage { ¬ IsShown (kind_of error) → result ≡ 2 }
+{
+    if error.use_stderr() {
+        rt.eprint(&error).ok();
+        return USAGE;
+    }
+    match rt.print(&error) {
+        Ok(()) => 0,
+        Err(_) => report(rt, Fault::Write),
     }
 }
 
@@ -79,10 +70,7 @@ fn start<R: Input + Print + Eprint + AllocGlobal>(rt: &R, words: &[String]) -> u
     match settings(rt.alloc(), words) {
         Ok(task) => run(rt, task),
         Err(SettingsError::NoMemory) => report(rt, Fault::NoMemory),
-        Err(SettingsError::Usage(error)) => {
-            rt.eprint(&error).ok();
-            SettingsError::Usage(error).exit_status()
-        }
+        Err(SettingsError::Usage(error)) => tell(rt, error),
     }
 }
 

@@ -5,7 +5,7 @@ use std::alloc::{AllocError, Global};
 /// What is told behind the options of `sim`.
 const EXAMPLES: &str = "Examples:
   x25 sim < examples/call.script
-  x25 sim --tap --channels 2 < examples/call.script | grep '^[<>]' | x25 decode";
+  x25 sim --tap < examples/call.script | grep '^[<>]' | x25 decode";
 
 /// An option with a number.
 fn number_option<'a>(
@@ -81,6 +81,7 @@ pub(crate) fn command<'a>(alloc: Global) -> Result<Command<'a>, AllocError> {
         .override_usage("x25 vectors");
     Command::new(alloc, "x25")
         .about("X.25 packet layer over LAPB, on lines of text")
+        .version("0.1.0")
         .no_binary_name(true)
         .subcommand_required(true)
         .subcommand(decode)?

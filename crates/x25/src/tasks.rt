@@ -1,0 +1,89 @@
+//! What each task does, over any reader and writer.
+ghost use Rattle.std.specs.Prelude.{◌≡◌, ◌≤◌, ◌<◌, ◌-◌, ◌^◌, ℕ, true, List, Some, IfOk, OnOk, OnErr, IfSome, IsErrOf, length};
+ghost use Rattle.std.specs.Io.KnownBytes.{Appends};
+ghost use Rattle.x25.specs.Tasks.{WritesEnded, WritesEndedScript, script_status, script_text, settings_in, task_status, task_text};
+ghost use Rattle.x25_program.specs.Written.{AppendsBeginning};
+ghost use Rattle.x25_settings.specs.Simulation as options;
+ghost use Rattle.x25_settings.specs.Words.{AreInRange};
+
+use std::alloc::Global;
+use x25_program::{Fault, Sink, Source, decode_lines, vectors};
+use x25_settings::{Simulation, Task};
+use x25_sim::{Cfg, sim};
+
+/// The settings of both stations, as the words of the command line say them.
+fn settings_of(simulation: Simulation) -> Cfg
+    ensures { result ≡ settings_in simulation }
+{
+    Cfg {
+        k: simulation.k,
+        n2: simulation.n2,
+        channels: simulation.channels,
+        long_data: simulation.long,
+    }
+}
+
+/// Runs the simulator as the words of the command line ask for.
+fn simulate<R: Source, W: Sink>(
+    alloc: Global,
+    simulation: Simulation,
+    reader: &mut R,
+    writer: &mut W,
+) -> Result<u8, Fault>
+    requires { options.AreInRange simulation }
+    ensures clean { OnOk result ((R.is_marked reader.new ≡ R.is_marked reader.old) × (W.is_marked writer.new ≡ W.is_marked writer.old)) }
+    ensures zero_or_one { IfOk result (λ status. status ≤ 1) }
+    ensures text { OnOk result (IfSome (R.remaining reader.old) (λ script. length script < 2 ^ 64 - 1
+        → Appends (W.contents writer.old) (W.contents writer.new) (script_text simulation script))) }
+    ensures status { IfOk result (λ status. IfSome (R.remaining reader.old) (λ script. length script < 2 ^ 64 - 1
+        → status ≡ script_status simulation script)) }
+    ensures fault { OnErr result (IfSome (R.remaining reader.old) (λ script. length script < 2 ^ 64 - 1
+        → AppendsBeginning (W.contents writer.old) (W.contents writer.new) (script_text simulation script))) }
+    ensures ended { IsErrOf result Fault.Read → IfSome (R.remaining reader.old) (λ script.
+        (rest : List ℕ) × (R.remaining reader.new ≡ Some rest)
+        × WritesEndedScript simulation (W.contents writer.old) (W.contents writer.new) rest script) }
+    ensures read { IsErrOf result Fault.Read → R.is_marked reader.new ≡ true }
+    ensures write { IsErrOf result Fault.Write → W.is_marked writer.new ≡ true }
+    ensures memory { IsErrOf result Fault.NoMemory → (R.is_marked reader.new ≡ R.is_marked reader.old) × (W.is_marked writer.new ≡ W.is_marked writer.old) }
+{
+    let Simulation { down, tap, .. } = simulation;
+    sim(alloc, down, settings_of(simulation), tap, reader, writer)
+}
+
+/// Does a task, and answers the exit status: 1 where a line was refused or a vector is bad, else 0.
+pub(crate) fn perform<R: Source, W: Sink>(
+    alloc: Global,
+    task: Task,
+    reader: &mut R,
+    writer: &mut W,
+) -> Result<u8, Fault>
+    requires { AreInRange task }
+    // Where a status is answered, no call of the reader or of the writer failed.
+    ensures clean { OnOk result ((R.is_marked reader.new ≡ R.is_marked reader.old) × (W.is_marked writer.new ≡ W.is_marked writer.old)) }
+    ensures zero_or_one { IfOk result (λ status. status ≤ 1) }
+    // What is written is the task's text of all that was read, and the status is the task's.
+    ensures text { OnOk result (IfSome (R.remaining reader.old) (λ input. length input < 2 ^ 64 - 1
+        → Appends (W.contents writer.old) (W.contents writer.new) (task_text task input))) }
+    ensures status { IfOk result (λ status. IfSome (R.remaining reader.old) (λ input. length input < 2 ^ 64 - 1
+        → status ≡ task_status task input)) }
+
+    // What was written before a fault is a beginning of it.
+    ensures fault { OnErr result (IfSome (R.remaining reader.old) (λ input. length input < 2 ^ 64 - 1
+        → AppendsBeginning (W.contents writer.old) (W.contents writer.new) (task_text task input))) }
+    // At a failed read all that the lines that had ended gave is written.
+    ensures ended { IsErrOf result Fault.Read → IfSome (R.remaining reader.old) (λ input.
+        (rest : List ℕ) × (R.remaining reader.new ≡ Some rest)
+        × WritesEnded task (W.contents writer.old) (W.contents writer.new) rest input) }
+
+    ensures read { IsErrOf result Fault.Read → R.is_marked reader.new ≡ true }
+    ensures write { IsErrOf result Fault.Write → W.is_marked writer.new ≡ true }
+    // Nor did any where want of memory is answered.
+    ensures memory { IsErrOf result Fault.NoMemory → (R.is_marked reader.new ≡ R.is_marked reader.old) × (W.is_marked writer.new ≡ W.is_marked writer.old) }
+    ensures unread { task ≡ Task.Vectors → reader.new ≡ reader.old }
+{
+    match task {
+        Task::Decode { long } => decode_lines(alloc, long, reader, writer),
+        Task::Sim(simulation) => simulate(alloc, simulation, reader, writer),
+        Task::Vectors => vectors(alloc, writer),
+    }
+}
