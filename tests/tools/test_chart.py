@@ -147,6 +147,11 @@ class Charts(ToolCase):
         self.assertEqual(live.end(), (0, b"", b""))
 
     @support.needs_program
+    def test_the_picture_of_the_manual(self):
+        picture = self.chart(support.read("examples/repeat.trace"), "--svg", "--x25", support.PROGRAM)
+        self.assertEqual(picture, support.read("docs/repeat.svg").decode())
+
+    @support.needs_program
     def test_many_frames(self):
         chart = self.chart(b"> 013febdf\n? 60\n" * 5000, "--x25", support.PROGRAM)
         self.assertEqual(chart.count("SABM cmd P=1"), 5000)

@@ -1,0 +1,22 @@
+# Completion of the words of `x25` for bash: `source share/x25.bash`, or put this into /usr/share/bash-completion/completions/x25.
+
+_x25() {
+    local word=${COMP_WORDS[COMP_CWORD]} before=${COMP_WORDS[COMP_CWORD - 1]} words=
+    COMPREPLY=()
+    if ((COMP_CWORD == 1)); then
+        words="decode vectors sim help --help"
+    else
+        case ${COMP_WORDS[1]}:$before in
+            sim:--k) words="1 2 3 4 5 6 7" ;;
+            sim:--n2) words="1 10 255" ;;
+            sim:--channels) words="1 2 3 4 5 6 7 8 9 10 11 12 13 14 15 16" ;;
+            sim:*) words="--tap --down --long --k --n2 --channels --help" ;;
+            decode:*) words="--long --help" ;;
+            vectors:*) words="--help" ;;
+            help:*) ((COMP_CWORD == 2)) && words="decode vectors sim help" ;;
+        esac
+    fi
+    mapfile -t COMPREPLY < <(compgen -W "$words" -- "$word")
+}
+
+complete -F _x25 -o default x25

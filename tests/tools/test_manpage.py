@@ -1,0 +1,66 @@
+"""Tests of manpage.py and of the completion for bash."""
+
+import os
+import re
+import shutil
+import subprocess
+import unittest
+
+import support
+from support import ToolCase
+
+import manpage
+
+COMPLETION = os.path.join(support.ROOT, "share", "x25.bash")
+
+
+def complete(*words):
+    """What bash offers for the last of some words after `x25`."""
+    script = 'source "$1"; shift; COMP_WORDS=(x25 "$@"); COMP_CWORD=$#; _x25; echo "${COMPREPLY[*]}"'
+    done = subprocess.run(["bash", "-c", script, "bash", COMPLETION, *words], capture_output=True, text=True, timeout=60, check=True)
+    return done.stdout.split()
+
+
+class Page(ToolCase):
+    def test_what_the_manual_is_written_in(self):
+        text = "## `x25` \"a\"\n\nIt's `--k` **or**\n.no request\n\n    $ a\\b\n\n    'c\n\n| H | I |\n|---|---|\n| a \\| b | c |\n- one\n  two\n"
+        drawn = support.run("manpage.py", self.file("manual", text.encode())).stdout.decode()
+        body = drawn.split(".SH DESCRIPTION\n")[1]
+        expected = ".SH x25 \\(dqa\\(dq\n.PP\nIt's \\fB\\-\\-k\\fR \\fBor\\fR\n\\&.no request\n.PP\n.PP\n.nf\n.RS 4\n$ a\\eb\n\\&\n\\&'c\n\\&\n.RE\n.fi\n"
+        expected += ".TP\nH\nI\n.TP\na | b\nc\n.IP \\(bu 2\none\ntwo\n"
+        self.assertEqual(body, expected)
+
+    def test_the_manual_keeps_its_headings_and_examples(self):
+        manual = support.read("docs/MANUAL.md").decode()
+        lines = "\n".join(manpage.roff(manual.splitlines())).splitlines()
+        self.assertEqual(sum(line.startswith(".SH") for line in lines), 3 + len(re.findall("^## ", manual, re.MULTILINE)))
+        self.assertEqual(sum(line.startswith("$ ") for line in lines), len(re.findall(r"^    \$ ", manual, re.MULTILINE)))
+        self.assertEqual(lines.count(".nf"), lines.count(".fi"))
+
+    @unittest.skipUnless(shutil.which("groff"), "groff isn't installed")
+    def test_groff_takes_it_without_a_warning(self):
+        page = support.run("manpage.py").stdout
+        done = subprocess.run(["groff", "-man", "-Tascii", "-ww", "-z"], input=page, capture_output=True, timeout=60)
+        said = [line for line in done.stderr.decode().splitlines() if "break" not in line and "adjust" not in line]
+        self.assertEqual((done.returncode, said), (0, []))
+
+
+class Completion(unittest.TestCase):
+    def test_words(self):
+        self.assertEqual(complete("de"), ["decode"])
+        self.assertEqual(complete("decode", "--l"), ["--long"])
+        self.assertEqual(complete("sim", "--tap", "--k", ""), list("1234567"))
+        self.assertEqual(complete("vectors", "x"), [])
+
+    @support.needs_program
+    def test_all_words_of_the_program_are_offered(self):
+        for words in ([], ["decode"], ["sim"], ["vectors"]):
+            done = subprocess.run([support.PROGRAM, *words, "--help"], capture_output=True, text=True, timeout=60)
+            usage = done.stdout + done.stderr
+            said = set(re.findall(r"^  (?:    |-h, )?(--\w+)", usage, re.MULTILINE)) | set(re.findall(r"^  (\w+)  ", usage, re.MULTILINE) if not words else [])
+            self.assertTrue(said)
+            self.assertEqual(set(complete(*words, "")) | set(complete(*words, "--")), said, words)
+
+
+if __name__ == "__main__":
+    unittest.main()

@@ -1,0 +1,94 @@
+#!/usr/bin/env python3
+"""Makes the manual page x25(1) of docs/MANUAL.md.
+
+    manpage.py > x25.1; man ./x25.1
+
+Reads what the manual is written in, and no more of Markdown: headings, paragraphs, list items, tables, indented examples, `code`
+and **bold**.
+
+Exit status: 0, or 2 for bad words or bad input.
+"""
+
+import argparse
+import os
+import re
+import sys
+
+import x25lines
+
+MANUAL = os.path.join(os.path.dirname(os.path.dirname(os.path.abspath(__file__))), "docs", "MANUAL.md")
+HEAD = [
+    ".TH X25 1",
+    ".SH NAME",
+    "x25 \\- X.25 packet layer over LAPB, on lines of text",
+    ".SH SYNOPSIS",
+    ".B x25 decode\n[\\-\\-long]\n.br\n.B x25 vectors\n.br\n.B x25 sim\n[\\-\\-tap] [\\-\\-down] [\\-\\-long] [\\-\\-k N] [\\-\\-n2 N] [\\-\\-channels N]",
+    ".SH DESCRIPTION",
+]
+RULE = re.compile(r"\|[-| :]+\|")
+
+
+def escaped(text):
+    """A text whose characters stand for themselves in roff."""
+    text = text.replace("\\", "\\e").replace("-", "\\-")
+    return "\\&" + text if text[:1] in (".", "'") else text
+
+
+def inline(text):
+    """A text with its code and bold words in bold type."""
+    parts = re.split(r"(`[^`]*`|\*\*[^*]+\*\*)", text)
+    drawn = [f"\\fB{escaped(part.strip('`*'))}\\fR" if part[:1] == "`" or part[:2] == "**" else escaped(part) for part in parts if part]
+    return "".join(drawn)
+
+
+def table_row(line):
+    """The cells of a row of a table; a bar that is part of a cell stands behind a backslash."""
+    return [cell.strip().replace("\\|", "|") for cell in re.split(r"(?<!\\)\|", line)[1:-1]]
+
+
+def roff(lines):
+    """Yields the lines of the manual page."""
+    yield from HEAD
+    is_example = False
+    for line in lines:
+        if is_example != line.startswith("    ") and (line.strip() or not is_example):
+            is_example = not is_example
+            yield ".PP\n.nf\n.RS 4" if is_example else ".RE\n.fi"
+        if is_example:
+            yield escaped(line[4:]) or "\\&"
+        elif line.strip():
+            yield from prose(line)
+        else:
+            yield ".PP"
+    if is_example:
+        yield ".RE\n.fi"
+
+
+def prose(line):
+    """Yields what a line outside of the examples becomes; the heading of the whole is that of the page."""
+    if found := re.fullmatch(r"(#+) (.*)", line):
+        if len(found[1]) > 1:
+            yield {2: ".SH ", 3: ".SS "}.get(len(found[1]), ".SS ") + escaped(found[2].replace("`", "")).replace('"', '\\(dq')
+    elif line.startswith("|"):
+        if not RULE.fullmatch(line):
+            first, *rest = table_row(line)
+            yield ".TP\n" + (inline(first) or "\\&") + "\n" + (inline("; ".join(filter(None, rest))) or "\\&")
+    elif line.startswith("- "):
+        yield ".IP \\(bu 2\n" + inline(line[2:])
+    elif not line.startswith("!["):
+        yield inline(line.strip())
+
+
+def main():
+    parser = argparse.ArgumentParser(description=__doc__, formatter_class=argparse.RawDescriptionHelpFormatter)
+    parser.add_argument("file", nargs="?", default=MANUAL, metavar="FILE", help="the manual; docs/MANUAL.md where it is missing")
+    options = parser.parse_args()
+    with x25lines.opened(options.file) as file:
+        lines = [line.decode("utf-8", "replace") for _, line in x25lines.lines_of(file)]
+    for line in roff(lines):
+        sys.stdout.write(line + "\n")
+    return 0
+
+
+if __name__ == "__main__":
+    x25lines.run(main)
