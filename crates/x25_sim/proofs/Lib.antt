@@ -8,3 +8,4 @@ pub mod DrainLemmas
 pub mod StreamLemmas
 pub mod SimLemmas
 pub mod RunLemmas
+pub mod WritesLemmas

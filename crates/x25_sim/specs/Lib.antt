@@ -1,6 +1,7 @@
 pub mod Sayings
 pub mod Simulated
 pub mod RunLaw
+pub mod WritesRun
 pub mod ScriptRows
 pub mod Written
 pub mod HeldLine

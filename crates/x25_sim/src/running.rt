@@ -5,8 +5,12 @@ ghost use Rattle.x25_program.specs.Written.{AppendsBeginning};
 ghost use Rattle.x25_station.specs.Settings.{config_refusal};
 ghost use Rattle.x25_sim.specs.Simulated.{simulated, sim_status, sim_text};
 ghost use Rattle.x25_sim.specs.Stream.{WritesEnded};
+ghost use Rattle.x25_sim.specs.WritesRun.{Writes, WritesOnce};
+ghost use Rattle.x25_world.specs.Claims.{ArrivesAll, HasNoProcedureError, IsInWindow, IsLawful, IsNamed};
+ghost use Rattle.x25_world.specs.SessionClaims.{SessionsKeepOrder};
 
 use crate::held_line::HeldLine;
+use crate::law::{scripts_keep_order, scripts_meet_in_sessions};
 use crate::simulator::Simulator;
 use crate::stage::Stage;
 use std::alloc::Global;
@@ -40,6 +44,22 @@ pub fn sim<R: Source, W: Sink>(
     ensures status { IfOk result (λ status. IfSome (R.remaining reader.old) (λ script. length script < 2 ^ 64 - 1
         → status ≡ sim_status cfg down tap script)) }
 
+    // What is written is the transcript of a run of two stations, and with `tap` its frames, of which the claims hold: of a script that begins with
+    // the link set up, as long as neither end goes up again, ..
+    ensures lawful { OnOk result (IfSome (R.remaining reader.old) (λ script. length script < 2 ^ 64 - 1
+        → WritesOnce IsLawful cfg down tap script (W.contents writer.old) (W.contents writer.new))) }
+    ensures named { OnOk result (IfSome (R.remaining reader.old) (λ script. length script < 2 ^ 64 - 1
+        → WritesOnce IsNamed cfg down tap script (W.contents writer.old) (W.contents writer.new))) }
+    ensures arrives { OnOk result (IfSome (R.remaining reader.old) (λ script. length script < 2 ^ 64 - 1
+        → WritesOnce ArrivesAll cfg down tap script (W.contents writer.old) (W.contents writer.new))) }
+    ensures quiet { OnOk result (IfSome (R.remaining reader.old) (λ script. length script < 2 ^ 64 - 1
+        → WritesOnce HasNoProcedureError cfg down tap script (W.contents writer.old) (W.contents writer.new))) }
+    ensures window { OnOk result (IfSome (R.remaining reader.old) (λ script. length script < 2 ^ 64 - 1
+        → WritesOnce IsInWindow cfg down tap script (W.contents writer.old) (W.contents writer.new))) }
+    // .. and of every script those on sessions.
+    ensures sessions { OnOk result (IfSome (R.remaining reader.old) (λ script. length script < 2 ^ 64 - 1
+        → Writes SessionsKeepOrder cfg down tap script (W.contents writer.old) (W.contents writer.new))) }
+
     // What was written before a fault is a beginning of it.
     ensures fault { OnErr result (IfSome (R.remaining reader.old) (λ script. length script < 2 ^ 64 - 1
         → AppendsBeginning (W.contents writer.old) (W.contents writer.new) (sim_text cfg down tap script))) }
@@ -53,6 +73,8 @@ pub fn sim<R: Source, W: Sink>(
     // Nor did any where want of memory is answered.
     ensures memory { IsErrOf result Fault.NoMemory → (R.is_marked reader.new ≡ R.is_marked reader.old) × (W.is_marked writer.new ≡ W.is_marked writer.old) }
 {
+    scripts_keep_order();
+    scripts_meet_in_sessions();
     let Ok(mut piece) = vec![in alloc; 0u8; PIECE] else {
         return Err(Fault::NoMemory);
     };

@@ -3,6 +3,8 @@ use Rattle.std.proofs.lemmas.Result.{err_from_is_err_and, on_ok_weaker}
 use Rattle.x25_sim.specs.Simulated.{sim_text}
 use Rattle.x25_sim.proofs.ToldLemmas.{none_told}
 use Rattle.x25_sim.proofs.SimLemmas.{if_some, nothing_written, opening_failed, script_begins}
+use Rattle.x25_sim.proofs.WritesLemmas.{all_of_scripts, written_in_sessions, written_once}
+use Rattle.x25_world.specs.Claims.{ArrivesAll, HasNoProcedureError, IsInWindow, IsLawful, IsNamed}
 use Rattle.x25_sim.proofs.running.sim.Goals as goal
 
 pub returns-in_default-new-clause-fault : goal.returns-in_default-new-clause-fault
@@ -58,3 +60,35 @@ returns-clause-ended g c =
     (λ script. script_begins c.args.cfg c.args.down c.args.tap c.in_ok-stage.stage.tap c.in_ok-stage.ensures.tap written (g.W.Sink.contents c.open.new.writer) c.open.new.self script c.new-simulator.result c.in-Ok-new.held
     c.new-simulator.ensures.held c.new-simulator.ensures.stage c.in-Ok-new.ensures
     (c.in_ok-open.ensures.stood c.args.cfg written c.in_ok-stage.ensures.opening c.in_ok-stage.ensures.is_refused (none_told written c.in_ok-stage.stage.output c.in_ok-stage.ensures.empty)))
+
+pub returns-clause-lawful : goal.returns-clause-lawful
+returns-clause-lawful g c =
+    let law = c.scripts_keep_order.ensures in
+    on_ok_weaker c.take_text.result (written_once c.args.cfg c.requires.range c.args.down c.args.tap (g.W.Sink.contents c.args.writer.now) _ (g.R.Source.remaining c.args.reader.now) law.told law.tapped IsLawful law.lawful) (returns-clause-text g c)
+
+pub returns-clause-named : goal.returns-clause-named
+returns-clause-named g c =
+    let law = c.scripts_keep_order.ensures in
+    on_ok_weaker c.take_text.result (written_once c.args.cfg c.requires.range c.args.down c.args.tap (g.W.Sink.contents c.args.writer.now) _ (g.R.Source.remaining c.args.reader.now) law.told law.tapped IsNamed law.named) (returns-clause-text g c)
+
+pub returns-clause-arrives : goal.returns-clause-arrives
+returns-clause-arrives g c =
+    let law = c.scripts_keep_order.ensures in
+    on_ok_weaker c.take_text.result (written_once c.args.cfg c.requires.range c.args.down c.args.tap (g.W.Sink.contents c.args.writer.now) _ (g.R.Source.remaining c.args.reader.now) law.told law.tapped ArrivesAll law.arrives) (returns-clause-text g c)
+
+pub returns-clause-quiet : goal.returns-clause-quiet
+returns-clause-quiet g c =
+    let law = c.scripts_keep_order.ensures in
+    on_ok_weaker c.take_text.result (written_once c.args.cfg c.requires.range c.args.down c.args.tap (g.W.Sink.contents c.args.writer.now) _ (g.R.Source.remaining c.args.reader.now) law.told law.tapped HasNoProcedureError law.quiet) (returns-clause-text g c)
+
+pub returns-clause-window : goal.returns-clause-window
+returns-clause-window g c =
+    let law = c.scripts_keep_order.ensures in
+    on_ok_weaker c.take_text.result (written_once c.args.cfg c.requires.range c.args.down c.args.tap (g.W.Sink.contents c.args.writer.now) _ (g.R.Source.remaining c.args.reader.now) law.told law.tapped IsInWindow law.window) (returns-clause-text g c)
+
+pub returns-clause-sessions : goal.returns-clause-sessions
+returns-clause-sessions g c =
+    let law = c.scripts_keep_order.ensures in
+    let of = c.scripts_meet_in_sessions.ensures in
+    let all = all_of_scripts of.step of.lawful of.named of.arrives of.unmet of.stand of.quiet in
+    on_ok_weaker c.take_text.result (written_in_sessions c.args.cfg c.requires.range c.args.down c.args.tap (g.W.Sink.contents c.args.writer.now) _ (g.R.Source.remaining c.args.reader.now) law.told law.tapped all) (returns-clause-text g c)
