@@ -1,4 +1,4 @@
-ghost use Rattle.std.specs.Prelude.{◌≡◌, ℕ, ◌<◌, ◌≤◌, false, length, IfOk, IfErr, OnOk, OnErr};
+ghost use Rattle.std.specs.Prelude.{◌≡◌, ℕ, ◌<◌, ◌≤◌, false, length, min, max, IfOk, IfErr, OnOk, OnErr};
 ghost use Rattle.x25_circuit.specs.declared.state.State.{State};
 ghost use Rattle.x25_circuit.specs.Messages.{no_part, joining};
 ghost use Rattle.x25_circuit.specs.Params.{default_params};
@@ -154,16 +154,18 @@ impl Circuit {
         self.transfer.partial.len()
     }
 
-    /// Sets memory aside for one `packet` with at most `count` octets of user data, or one `undecoded`.
+    /// Sets memory aside for one `packet` with at most `count` octets of user data, or one `undecoded`, but for no more than
+    /// the 4,096 octets of the longest data packet.
     ///
     /// 70 alone.
     pub fn room(&mut self, count: usize) -> Result<(), CircuitError>
         ensures fits { (c : Settings) (x : Channel) → FitsCircuit c self.old x → FitsCircuit c self.new x }
-        ensures ok { OnOk result (count ≤ room_of self.new) }
+        ensures ok { OnOk result (min count 4096 ≤ room_of self.new) }
         ensures clears { clears_of self.new ≡ clears_of self.old }
         ensures resets { resets_of self.new ≡ resets_of self.old }
         ensures grows { room_of self.old ≤ room_of self.new }
-        ensures missing { OnErr result (room_of self.old < count) }
+        ensures most { room_of self.new ≤ max (room_of self.old) 4096 }
+        ensures missing { OnErr result (room_of self.old < min count 4096) }
         ensures err { IfErr result (λ e. e ≡ CircuitError.NoMemory) }
         ensures unchanged { OnErr result (self.new ≡ self.old) }
     {

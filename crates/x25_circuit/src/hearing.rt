@@ -1,5 +1,5 @@
 //! Packets that come. ITU-T X.25 (10/96), sections 4.3.7 and 4.4.1, and Annex C.
-ghost use Rattle.std.specs.Prelude.{◌≡◌, ℕ, ◌+◌, ◌-◌, ◌^◌, ◌<◌, ◌≤◌, length, [], ◌∷◌, Some, None, true, false, option_to_list, OnOk, OnErr, IfOk, IfErr, IsOk};
+ghost use Rattle.std.specs.Prelude.{min, ◌≡◌, ℕ, ◌+◌, ◌-◌, ◌^◌, ◌<◌, ◌≤◌, length, [], ◌∷◌, Some, None, true, false, option_to_list, OnOk, OnErr, IfOk, IfErr, IsOk};
 ghost use Rattle.x25_packet.specs.PlainPacket.{plain, user_data};
 ghost use Rattle.x25_packet.specs.Spelling.{HasChannel, IsInRange};
 ghost use Rattle.x25_circuit.specs.Circuit.{Settings};
@@ -118,7 +118,7 @@ impl Circuit {
             IfOk result (λ reply. Says reply (row_open c x x.talk (user_data 1 q m ps.number pr.number user.now)).owed (row_open c x x.talk (user_data 1 q m ps.number pr.number user.now)).notices) }
         ensures range { IfOk result (λ reply. IsSendable (plain_owed reply.packet)) }
         ensures err { IfErr result (λ e. e ≡ CircuitError.NoMemory) }
-        ensures missing { OnErr result (room_of self.old < length user.now) }
+        ensures missing { OnErr result (room_of self.old < min (length user.now) 4096) }
         ensures unchanged { OnErr result (self.new ≡ self.old) }
     {
         match self
@@ -140,7 +140,7 @@ impl Circuit {
             IfOk result (λ reply. Says reply (row_open c x x.talk (plain packet.now)).owed (row_open c x x.talk (plain packet.now)).notices) }
         ensures range { IfOk result (λ reply. IsSendable (plain_owed reply.packet)) }
         ensures err { IfErr result (λ e. e ≡ CircuitError.NoMemory) }
-        ensures missing { OnErr result (room_of self.old < length (user_octets (plain packet.now))) }
+        ensures missing { OnErr result (room_of self.old < min (length (user_octets (plain packet.now))) 4096) }
         ensures unchanged { OnErr result (self.new ≡ self.old) }
     {
         match packet {
@@ -170,7 +170,7 @@ impl Circuit {
             IfOk result (λ reply. Says reply (row_data c x self.old.state (plain packet.now)).owed (row_data c x self.old.state (plain packet.now)).notices) }
         ensures range { IfOk result (λ reply. IsSendable (plain_owed reply.packet)) }
         ensures err { IfErr result (λ e. e ≡ CircuitError.NoMemory) }
-        ensures missing { OnErr result (room_of self.old < length (user_octets (plain packet.now))) }
+        ensures missing { OnErr result (room_of self.old < min (length (user_octets (plain packet.now))) 4096) }
         ensures unchanged { OnErr result (self.new ≡ self.old) }
     {
         match self.state {
@@ -193,7 +193,7 @@ impl Circuit {
             IfOk result (λ reply. Says reply (answers c x (plain packet.now)).owed (answers c x (plain packet.now)).notices) }
         ensures range { IfOk result (λ reply. IsSendable (plain_owed reply.packet)) }
         ensures err { IfErr result (λ e. e ≡ CircuitError.NoMemory) }
-        ensures missing { OnErr result (room_of self.old < length (user_octets (plain packet.now))) }
+        ensures missing { OnErr result (room_of self.old < min (length (user_octets (plain packet.now))) 4096) }
         ensures unchanged { OnErr result (self.new ≡ self.old) }
     {
         match packet {

@@ -1,10 +1,13 @@
-ghost use Rattle.std.specs.Prelude.{◌≡◌, ℕ, ◌+◌, ◌<◌, ◌≤◌, length, Option, IsOk, OnOk, OnErr, option_to_list};
+ghost use Rattle.std.specs.Prelude.{◌≡◌, ℕ, ◌+◌, ◌<◌, ◌≤◌, length, min, max, IfNone, Option, IsOk, OnOk, OnErr, option_to_list};
 
 use crate::message::Message;
 use crate::octets::{LONGEST_MESSAGE, Octets};
 use std::alloc::{AllocError, Global};
 use std::marker::Model;
 use std::mem;
+
+/// The most octets of user data in a data packet.
+const LONGEST_DATA: usize = 4096;
 
 /// The message of which some packets were taken: its qualifier, where it has begun, and its octets so far.
 #[derive(Drop)]
@@ -48,7 +51,8 @@ impl PartialMessage {
 
     /// The diagnostic for which so many octets with this qualifier are refused behind what has begun, if any: 39 or 83.
     pub fn ground(&self, size: usize, count: usize, q: bool) -> Option<u8>
-        ensures { result ≡ ground_of size self.now.part count q }
+        ensures value { result ≡ ground_of size self.now.part count q }
+        ensures fits { IfNone result (count ≤ size) }
     {
         if count > size || count > LONGEST_MESSAGE - self.len() {
             return Some(39);
@@ -59,15 +63,23 @@ impl PartialMessage {
         }
     }
 
-    /// Sets memory aside for at least so many octets.
+    /// Sets memory aside for at least so many octets, but for no more than those of the longest data packet.
     pub fn reserve(&mut self, count: usize) -> Result<(), AllocError>
         ensures part { self.new.part ≡ self.old.part }
-        ensures ok { OnOk result (count ≤ self.new.room) }
+        ensures ok { OnOk result (min count 4096 ≤ self.new.room) }
         ensures grows { self.old.room ≤ self.new.room }
-        ensures missing { OnErr result (self.old.room < count) }
+        ensures most { self.new.room ≤ max self.old.room 4096 }
+        ensures missing { OnErr result (self.old.room < min count 4096) }
         ensures err { OnErr result (self.new ≡ self.old) }
     {
-        self.user.reserve(count)
+        let len = self.user.len();
+        let count = count.min(LONGEST_DATA);
+        // It doubles, up to steps of the longest packet, so that a message of short packets isn't copied for each of them.
+        let step = count.max(len.min(LONGEST_DATA));
+        if count <= self.user.capacity() - len {
+            return Ok(());
+        }
+        self.user.reserve_exact(step)
     }
 
     /// Joins a packet, and gives the message that ends with it, if one does.

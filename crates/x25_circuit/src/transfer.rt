@@ -105,6 +105,7 @@ impl Transfer {
         ensures value { (out : ℕ) (t : Talk) → FitsTalk out self.now t → result ≡ (if ps.number == length t.taken % 8 then ground_of size (joining no_part t.taken) count q else Some 1) }
         ensures wanted { IfNone result (ps.number ≡ self.now.receiver.number) }
         ensures short { IfNone result (length self.now.partial.part.user + count ≤ 65535) }
+        ensures fits { IfNone result (count ≤ size) }
     {
         if ps != self.receiver.wanted() {
             return Some(1);

@@ -1,5 +1,5 @@
 -- What a layer is asked before a packet: whether its counts have room, and whether memory is set aside (profile).
-use Rattle.std.specs.Prelude.{◌≡◌, ℕ, ◌<◌, ◌≤◌, ◌^◌, ◌-◌, List, Some, slice_get}
+use Rattle.std.specs.Prelude.{◌≡◌, ℕ, ◌<◌, ◌≤◌, ◌^◌, ◌-◌, List, Some, slice_get, min}
 use Rattle.x25_circuit.specs.declared.circuit.Circuit as circuit_code
 use Rattle.x25_circuit.specs.FitsCircuit.{room_of, clears_of, resets_of}
 use Rattle.x25_layer.specs.declared.layer.Layer as code
@@ -17,9 +17,13 @@ pub record IsNotFull (v : code.Layer) : Type 0 where
   pub restarts : v.restarts < 2 ^ 64 - 1
   pub circuits : HaveCountsLeft v.circuits.items
 
--- each circuit has memory for so many octets of user data of a packet
+-- each circuit has memory for so many octets of user data of a packet, or for those of the longest data packet
 abbrev pub HaveRoom : ℕ → List circuit_code.Circuit → Type 0
-HaveRoom len vs = (k : ℕ) (v : circuit_code.Circuit) → slice_get vs k ≡ Some v → len ≤ room_of v
+HaveRoom len vs = (k : ℕ) (v : circuit_code.Circuit) → slice_get vs k ≡ Some v → min len 4096 ≤ room_of v
+
+-- none of the circuits has memory for more octets
+abbrev pub HaveAtMost : ℕ → List circuit_code.Circuit → Type 0
+HaveAtMost bound vs = (k : ℕ) (v : circuit_code.Circuit) → slice_get vs k ≡ Some v → room_of v ≤ bound
 
 -- Memory is set aside for a packet of at most so many octets, or for LinkDown and LinkUp: for 16 packets that are put, in the layer
 -- and in its link (n), which are the owed one and 15 data packets, and in each circuit for the user data.

@@ -1,5 +1,5 @@
 //! Packets that a layer puts into its link.
-ghost use Rattle.std.specs.Prelude.{◌≡◌, ℕ, ◌+◌, ◌-◌, ◌<◌, ◌≤◌, length, true, IfErr, OnOk, OnErr};
+ghost use Rattle.std.specs.Prelude.{◌≡◌, ℕ, ◌+◌, ◌-◌, ◌<◌, ◌≤◌, length, max, true, IfErr, OnOk, OnErr};
 ghost use Rattle.x25_layer.specs.Layer.{LayerSettings};
 ghost use Rattle.x25_layer.specs.Layer.{Layer as State};
 ghost use Rattle.x25_layer.specs.FitsLayer.{FitsLayer};
@@ -28,6 +28,8 @@ impl Layer {
         ensures fits { (c : LayerSettings) (l : State) → FitsLayer c self.old l → FitsLayer c self.new l }
         ensures memory { OnOk result (count ≤ self.new.memory) }
         ensures spares { OnOk result (count ≤ L.spares link.new) }
+        ensures most_memory { self.new.memory ≤ max self.old.memory count }
+        ensures most_spares { L.spares link.new ≤ max (L.spares link.old) count }
         ensures link { (x : L.State) → L.fits link.old x → L.fits link.new x }
         ensures longest { L.longest link.new ≡ L.longest link.old }
         ensures waits { L.waits link.new ≡ L.waits link.old }

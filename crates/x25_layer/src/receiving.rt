@@ -1,5 +1,5 @@
 //! Octets that the link handed up. ITU-T X.25 (10/96), sections 3.3 and 4, and Annex C.
-ghost use Rattle.std.specs.Prelude.{◌≡◌, ℕ, ◌+◌, ◌-◌, ◌^◌, ◌<◌, ◌≤◌, length, true, IfErr, IfOk, IsOk, OnOk, OnErr, option_to_list};
+ghost use Rattle.std.specs.Prelude.{◌≡◌, ℕ, ◌+◌, ◌-◌, ◌^◌, ◌<◌, ◌≤◌, length, min, true, IfErr, IfOk, IsOk, OnOk, OnErr, option_to_list};
 ghost use Rattle.x25_packet.specs.Reading.{packet_of};
 ghost use Rattle.x25_packet.specs.Spelling.{longest_user};
 ghost use Rattle.x25_circuit.specs.Circuit.{Settings};
@@ -34,7 +34,7 @@ fn hear_circuit<'a>(
     ensures next { (c : Settings) (x : Channel) → FitsCircuit c circuit.old x → OnOk result (FitsCircuit c circuit.new (circuit_hears c x (plain_read read.entry)).next) }
     ensures says { (c : Settings) (x : Channel) → FitsCircuit c circuit.old x → IfOk result (λ reply. Says reply (circuit_hears c x (plain_read read.entry)).owed (circuit_hears c x (plain_read read.entry)).notices) }
     ensures range { IfOk result (λ reply. IsSendable (plain_owed reply.packet)) }
-    ensures missing { OnErr result (room_of circuit.old < brings (plain_read read.entry)) }
+    ensures missing { OnErr result (room_of circuit.old < min (brings (plain_read read.entry)) 4096) }
     ensures unchanged { OnErr result (circuit.new ≡ circuit.old) }
 {
     match read {

@@ -1,12 +1,12 @@
 //! What a layer is asked before a packet is handed up: whether its counts have room, and memory to be set aside.
-ghost use Rattle.std.specs.Prelude.{◌≡◌, ℕ, ◌≤◌, ◌||◌, length, false, IfErr, IsOk, OnOk, OnErr};
+ghost use Rattle.std.specs.Prelude.{◌≡◌, ℕ, ◌≤◌, ◌||◌, length, max, false, IfErr, IsOk, OnOk, OnErr};
 ghost use Rattle.x25_circuit.specs.Circuit.{Settings};
 ghost use Rattle.x25_circuit.specs.Circuit.{Circuit as Channel};
 ghost use Rattle.x25_circuit.specs.FitsCircuit.{FitsCircuit};
 ghost use Rattle.x25_layer.specs.Layer.{LayerSettings};
 ghost use Rattle.x25_layer.specs.Layer.{Layer as State};
 ghost use Rattle.x25_layer.specs.FitsLayer.{FitsLayer, FitsCircuits, is_most, full_up_to, is_full};
-ghost use Rattle.x25_layer.specs.Room.{HasCountsLeft, HaveCountsLeft, IsNotFull, HaveRoom, HasRoom};
+ghost use Rattle.x25_layer.specs.Room.{HasCountsLeft, HaveCountsLeft, IsNotFull, HaveRoom, HasRoom, HaveAtMost};
 
 use crate::error::LayerError;
 use crate::layer::Layer;
@@ -35,7 +35,7 @@ fn any_full(circuits: &[Circuit]) -> bool
     any
 }
 
-// Sets memory aside in each circuit for so many octets of user data of a packet.
+// Sets memory aside in each circuit for so many octets of user data of a packet, but for no more than the longest has.
 fn room_in_all(circuits: &mut Vec<Circuit>, len: usize) -> Result<(), LayerError>
     ensures fits { (c : LayerSettings) (f : ℕ → Channel) → FitsCircuits c circuits.old.items f → FitsCircuits c circuits.new.items f }
     ensures count { length circuits.new.items ≡ length circuits.old.items }
@@ -43,6 +43,7 @@ fn room_in_all(circuits: &mut Vec<Circuit>, len: usize) -> Result<(), LayerError
     ensures room { OnOk result (HaveRoom len circuits.new.items) }
     ensures err { IfErr result (λ e. e ≡ LayerError.NoMemory) }
     ensures enough { HaveRoom len circuits.old.items → IsOk result }
+    ensures most { (bound : ℕ) → 4096 ≤ bound → HaveAtMost bound circuits.old.items → HaveAtMost bound circuits.new.items }
 {
     for circuit in circuits.iter_mut() {
         if circuit.room(len).is_err() {
@@ -62,7 +63,8 @@ impl Layer {
     }
 
     /// Sets memory aside, here and in the link, for one `packet` of at most `len` octets, or for `up`, or for `down` and then
-    /// `up`, which are then not refused with 70. It changes nothing else.
+    /// `up`, which are then not refused with 70. It changes nothing else. However long the octets are, and however often it is
+    /// asked, memory is set aside for 16 packets that are put, and in each circuit for 4,096 octets, or for what was before.
     ///
     /// 70 alone, and only where less was set aside.
     pub fn room<L: OrderedLink>(&mut self, link: &mut L, len: usize) -> Result<(), LayerError>
@@ -74,6 +76,9 @@ impl Layer {
         ensures waits { L.waits link.new ≡ L.waits link.old }
         ensures up { L.up link.new ≡ L.up link.old }
         ensures enough { HasRoom len self.old (L.spares link.old) → IsOk result }
+        ensures most_memory { self.new.memory ≤ max self.old.memory 16 }
+        ensures most_spares { L.spares link.new ≤ max (L.spares link.old) 16 }
+        ensures most_circuits { (bound : ℕ) → 4096 ≤ bound → HaveAtMost bound self.old.circuits.items → HaveAtMost bound self.new.circuits.items }
         ensures err { IfErr result (λ e. e ≡ LayerError.NoMemory) }
     {
         room_in_all(&mut self.circuits, len)?;

@@ -1,4 +1,4 @@
-ghost use Rattle.std.specs.Prelude.{◌≡◌, ℕ, ◌+◌, ◌-◌, ◌<◌, ◌≤◌, ◌↔◌, List, length, vec_len, Bool, true, false, IfErr, OnOk, OnErr, IsOk, IsErrOf};
+ghost use Rattle.std.specs.Prelude.{◌≡◌, ℕ, ◌+◌, ◌-◌, ◌<◌, ◌≤◌, ◌↔◌, List, length, max, vec_len, Bool, true, false, IfErr, OnOk, OnErr, IsOk, IsErrOf};
 ghost use Rattle.x25_link.specs.LinkError.{RefusesPut};
 ghost use Rattle.x25_link.specs.Lists.{Lists, handed_down};
 
@@ -55,12 +55,14 @@ pub trait OrderedLink {
     fn spare(&self) -> usize
         ensures { result ≡ spares self.now };
 
-    /// Sets memory aside for at least so many calls of `put`, and changes nothing else.
+    /// Sets memory aside for at least so many calls of `put`, and for no more than these or those before. It changes nothing
+    /// else.
     ///
     /// Refused with 70 alone, and only where memory is set aside for fewer.
     fn room(&mut self, count: usize) -> Result<(), LinkError>
         ensures enough { OnOk result (count ≤ spares self.new) }
         ensures no_fewer { spares self.old ≤ spares self.new }
+        ensures most { spares self.new ≤ max (spares self.old) count }
         ensures state { (x : State) → fits self.old x → fits self.new x }
         ensures longest_stays { longest self.new ≡ longest self.old }
         ensures waits_stays { waits self.new ≡ waits self.old }

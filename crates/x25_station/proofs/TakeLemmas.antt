@@ -1,5 +1,5 @@
 -- What holds of a link that has taken octets: what it hands up is short, and where it came up or hands up it takes packets.
-use Rattle.std.proofs.Common.{◌≡◌, ℕ, ◌+◌, ◌<◌, ◌≤◌, List, ◌++◌, All, length, Option, Some, None, IfSome, map, Result, Ok, Err, Bool, true, false, if◌then◌else◌, refl, ap, sym, subst, ◌∙◌, arith}
+use Rattle.std.proofs.Common.{◌≡◌, ℕ, ◌+◌, ◌<◌, ◌≤◌, min, List, ◌++◌, All, length, Option, Some, None, IfSome, map, Result, Ok, Err, Bool, true, false, if◌then◌else◌, refl, ap, sym, subst, ◌∙◌, arith}
 use Rattle.std.proofs.lemmas.Option.{none-some, same_Some}
 use Rattle.std.proofs.Math.Logic.{∥∥₁_elim}
 use Rattle.std.proofs.Props.{props}
@@ -134,7 +134,7 @@ pub less_room : (n m : ℕ) (y : layer_code.Layer) (a b : ℕ) → n ≤ m → a
 less_room n m y a b low same room = record {
   memory = room.memory;
   spares = subst (λ (x : ℕ). 16 ≤ x) same room.spares;
-  circuits = λ k v is. (let high : m ≤ room_of v = room.circuits k v is in omega (arith, low, high));
+  circuits = λ k v is. (let high : min m 4096 ≤ room_of v = room.circuits k v is in omega (arith, low, high));
 }
 
 pub few_frames : {X : Type 0} (role : Role) (frames : List X) (octets_of : X → List ℕ) (out : List PlainFrame) (n : ℕ) → map octets_of frames ≡ map (spelling_of role) out → length out ≤ n → length frames ≤ n

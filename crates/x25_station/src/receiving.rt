@@ -1,11 +1,11 @@
 //! Octets that come: the step of the link, and what the packet layer does at it.
-ghost use Rattle.std.specs.Prelude.{◌≡◌, ℕ, ◌+◌, ◌<◌, ◌≤◌, ◌++◌, List, [], length, map, true, false, None, option_copied, vec_len, vec_capacity, IfSome, IfOk, IfErr, OnOk, OnErr};
+ghost use Rattle.std.specs.Prelude.{◌≡◌, ℕ, ◌+◌, ◌<◌, ◌≤◌, ◌++◌, List, [], length, max, map, true, false, None, option_copied, vec_len, vec_capacity, IfSome, IfOk, IfErr, OnOk, OnErr};
 ghost use Rattle.x25_link.specs.Station.{Side};
 ghost use Rattle.x25_link.specs.Steps.{alone};
 ghost use Rattle.x25_link.specs.Link.{FitsWhole, up_of};
 ghost use Rattle.x25_layer.specs.Layer.{Layer as LayerState};
 ghost use Rattle.x25_layer.specs.FitsLayer.{FitsLayer};
-ghost use Rattle.x25_layer.specs.Room.{HasRoom, IsNotFull};
+ghost use Rattle.x25_layer.specs.Room.{HasRoom, HaveAtMost, IsNotFull};
 ghost use Rattle.x25_layer.specs.Rounds.{Putting, hears, comes_up};
 ghost use Rattle.x25_station.specs.Entries.{entries_up, entries_noted};
 ghost use Rattle.x25_station.specs.FitsStation.{FitsStation, Leaves, Sends, Enters};
@@ -166,7 +166,8 @@ impl Station {
         })
     }
 
-    // Sets memory aside for all that octets may bring: room for frames and entries, and their texts.
+    // Sets memory aside for all that octets may bring: room for frames and entries, and their texts. However long the octets are,
+    // it is for 16 packets, 3 texts and 4,096 octets a circuit, or for what was before.
     fn set_aside(&mut self, len: usize) -> Result<(Vec<Vec<u8>>, Vec<Entry>), StationError>
         ensures fits { (c : Settings) (s : State) → FitsStation c self.old s → FitsStation c self.new s }
         ensures left { IsNotFull self.old.layer → IsNotFull self.new.layer }
@@ -177,6 +178,10 @@ impl Station {
         ensures entries { IfOk result (λ made. made.1.items ≡ []) }
         ensures entries_room { IfOk result (λ made. 3 ≤ vec_capacity made.1) }
         ensures refused { IfErr result (λ e. e ≡ StationError.NoMemory) }
+        ensures most_texts { self.new.texts ≤ max self.old.texts 3 }
+        ensures most_memory { self.new.layer.memory ≤ max self.old.layer.memory 16 }
+        ensures most_spares { self.new.link.outgoing.long ≤ max self.old.link.outgoing.long 16 }
+        ensures most_circuits { (bound : ℕ) → 4096 ≤ bound → HaveAtMost bound self.old.layer.circuits.items → HaveAtMost bound self.new.layer.circuits.items }
     {
         let Ok(frames) = Vec::with_capacity(self.alloc, MOST_FRAMES) else {
             return Err(StationError::NoMemory);

@@ -1,4 +1,4 @@
-use Rattle.std.proofs.Common.{ℕ, suc, ◌≡◌, ◌≤◌, ◌∙◌, List, length, sym, subst, ap, arith}
+use Rattle.std.proofs.Common.{min, ℕ, suc, ◌≡◌, ◌≤◌, ◌∙◌, List, length, sym, subst, ap, arith}
 use Rattle.std.proofs.lemmas.Option.{slice_get-get_or}
 use Rattle.x25_circuit.specs.declared.circuit.Circuit as circuit_code
 use Rattle.x25_circuit.specs.Circuit.{Circuit, forgotten}
@@ -30,7 +30,7 @@ loop-circuit-preserved c =
           let here = before i _ read in
           let a = c.forget.ensures.room in
           let b = c.zero.ensures.room in
-          all_changed (λ (k : ℕ) (v : circuit_code.Circuit). len ≤ room_of v) c.loop-circuit.circuit-items i c.zero.new.self before (omega (arith, here, a, b));
+          all_changed (λ (k : ℕ) (v : circuit_code.Circuit). min len 4096 ≤ room_of v) c.loop-circuit.circuit-items i c.zero.new.self before (omega (arith, here, a, b));
     }
 
 pub returns : goal.returns

@@ -1,11 +1,11 @@
-use Rattle.std.proofs.Common.{◌≡◌, ◌≤◌, ◌∙◌, ◌<◌, ℕ, suc, List, length, set, sym, subst, arith, false, Result, Ok, Err, OnOk}
+use Rattle.std.proofs.Common.{◌≡◌, ◌≤◌, ◌∙◌, ◌<◌, ℕ, suc, List, length, min, set, sym, subst, arith, false, Result, Ok, Err, OnOk}
 use Rattle.std.specs.Result.{is_err}
 use Rattle.std.proofs.lemmas.List.{length-set}
 use Rattle.std.proofs.lemmas.Option.{slice_get_within, slice_get-get_or}
 use Rattle.x25_circuit.specs.declared.circuit.Circuit as circuit_code
 use Rattle.x25_circuit.specs.FitsCircuit.{FitsCircuit, room_of, clears_of, resets_of}
 use Rattle.x25_layer.specs.FitsLayer.{FitsCircuits}
-use Rattle.x25_layer.specs.Room.{HasCountsLeft, HaveCountsLeft, HaveRoom}
+use Rattle.x25_layer.specs.Room.{HasCountsLeft, HaveCountsLeft, HaveRoom, HaveAtMost}
 use Rattle.x25_layer.proofs.FitLemmas.{refused_with, written_back, all_changed, below_changed}
 use Rattle.x25_layer.proofs.room.room_in_all.Goals as goal
 
@@ -36,8 +36,13 @@ loop-circuit-preserved c =
           let before = c.loop-circuit.invariant.enough all in
           let here = before i _ found in
           let grows = c.room.ensures.grows in
-          all_changed (λ (k : ℕ) (v : circuit_code.Circuit). c.args.len ≤ room_of v) c.loop-circuit.circuit-items i c.room.new.self before (omega (arith, here, grows));
-      room = below_changed (λ (v : circuit_code.Circuit). c.args.len ≤ room_of v) c.loop-circuit.circuit-items i c.room.new.self c.loop-circuit.invariant.room
+          all_changed (λ (k : ℕ) (v : circuit_code.Circuit). min c.args.len 4096 ≤ room_of v) c.loop-circuit.circuit-items i c.room.new.self before (omega (arith, here, grows));
+      most = λ bound high all.
+          let before = c.loop-circuit.invariant.most bound high all in
+          let here = before i _ found in
+          let most = c.room.ensures.most in
+          all_changed (λ (k : ℕ) (v : circuit_code.Circuit). room_of v ≤ bound) c.loop-circuit.circuit-items i c.room.new.self before (omega (arith, here, most, high));
+      room = below_changed (λ (v : circuit_code.Circuit). min c.args.len 4096 ≤ room_of v) c.loop-circuit.circuit-items i c.room.new.self c.loop-circuit.invariant.room
           (kept_ok c.room.result (sym c.is_err.ensures.value ∙ c.if-is_err.false) c.room.ensures.ok);
     }
 
@@ -67,6 +72,20 @@ returns-then-is_err-clause-left c =
     subst (λ (vs : List circuit_code.Circuit). HaveCountsLeft vs) (sym all)
     (all_changed (λ (k : ℕ) (v : circuit_code.Circuit). HasCountsLeft v) c.loop-circuit.circuit-items i c.room.new.self before (counts_left _ c.room.new.self c.room.ensures.clears c.room.ensures.resets (before i _ found)))
 
+pub returns-then-is_err-clause-most : goal.returns-then-is_err-clause-most
+returns-then-is_err-clause-most c =
+    let i : ℕ = c.loop-circuit.circuit-index in
+    let items : List circuit_code.Circuit = set c.loop-circuit.circuit-items i c.room.new.self in
+    let found = slice_get-get_or c.loop-circuit.circuit-items i c.circuit-item.result (omega arith) in
+    let long : length items ≡ length c.loop-circuit.circuit-items = length-set c.loop-circuit.circuit-items i c.room.new.self in
+    let all = written_back c.args.circuits.now.len c.args.circuits.now.items items (omega arith) (omega (arith, long)) in
+    λ bound high few.
+    let before = c.loop-circuit.invariant.most bound high (subst (λ (vs : List circuit_code.Circuit). HaveAtMost bound vs) (sym c.deref_mut-circuit-items.ensures.value) few) in
+    let here = before i _ found in
+    let most = c.room.ensures.most in
+    subst (λ (vs : List circuit_code.Circuit). HaveAtMost bound vs) (sym all)
+    (all_changed (λ (k : ℕ) (v : circuit_code.Circuit). room_of v ≤ bound) c.loop-circuit.circuit-items i c.room.new.self before (omega (arith, here, most, high)))
+
 -- no memory is taken where there is enough
 pub returns-then-is_err-clause-enough : goal.returns-then-is_err-clause-enough
 returns-then-is_err-clause-enough c = λ enough.
@@ -90,6 +109,12 @@ returns-clause-left c =
     let all = written_back c.args.circuits.now.len c.args.circuits.now.items c.loop-circuit.circuit-items (omega arith) (omega arith) in
     λ left. subst (λ (vs : List circuit_code.Circuit). HaveCountsLeft vs) (sym all)
     (c.loop-circuit.invariant.left (subst (λ (vs : List circuit_code.Circuit). HaveCountsLeft vs) (sym c.deref_mut-circuit-items.ensures.value) left))
+
+pub returns-clause-most : goal.returns-clause-most
+returns-clause-most c =
+    let all = written_back c.args.circuits.now.len c.args.circuits.now.items c.loop-circuit.circuit-items (omega arith) (omega arith) in
+    λ bound high few. subst (λ (vs : List circuit_code.Circuit). HaveAtMost bound vs) (sym all)
+    (c.loop-circuit.invariant.most bound high (subst (λ (vs : List circuit_code.Circuit). HaveAtMost bound vs) (sym c.deref_mut-circuit-items.ensures.value) few))
 
 pub returns-clause-room : goal.returns-clause-room
 returns-clause-room c =

@@ -1,10 +1,10 @@
-use Rattle.std.proofs.Common.{◌≡◌, ℕ, ◌<◌, ◌≤◌, Some, slice_get}
+use Rattle.std.proofs.Common.{◌≡◌, ℕ, ◌<◌, ◌≤◌, Some, slice_get, min}
 use Rattle.x25_circuit.specs.declared.circuit.Circuit as circuit_code
 use Rattle.x25_circuit.specs.Circuit.{Circuit}
 use Rattle.x25_circuit.specs.FitsCircuit.{room_of}
 use Rattle.x25_layer.specs.Layer.{LayerSettings}
 use Rattle.x25_layer.specs.FitsLayer.{FitsCircuits}
-use Rattle.x25_layer.specs.Room.{HaveCountsLeft, HaveRoom}
+use Rattle.x25_layer.specs.Room.{HaveCountsLeft, HaveRoom, HaveAtMost}
 use Rattle.x25_layer.proofs.room.room_in_all.Given as goal
 
 abbrev pub invariant-loop-circuit : goal.invariant-loop-circuit
@@ -12,5 +12,6 @@ invariant-loop-circuit l = record {
   fits : (c : LayerSettings) (f : ℕ → Circuit) → FitsCircuits c l.initial.circuit-items f → FitsCircuits c l.circuit-items f;
   left : HaveCountsLeft l.initial.circuit-items → HaveCountsLeft l.circuit-items;
   enough : HaveRoom l.len l.initial.circuit-items → HaveRoom l.len l.circuit-items;
-  room : (k : ℕ) (v : circuit_code.Circuit) → k < l.circuit-index → slice_get l.circuit-items k ≡ Some v → l.len ≤ room_of v;
+  most : (bound : ℕ) → 4096 ≤ bound → HaveAtMost bound l.initial.circuit-items → HaveAtMost bound l.circuit-items;
+  room : (k : ℕ) (v : circuit_code.Circuit) → k < l.circuit-index → slice_get l.circuit-items k ≡ Some v → min l.len 4096 ≤ room_of v;
 }

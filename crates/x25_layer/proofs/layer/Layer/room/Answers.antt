@@ -1,4 +1,6 @@
-use Rattle.std.proofs.Common.{◌∙◌}
+use Rattle.std.proofs.Common.{◌∙◌, sym, subst}
+use Rattle.x25_layer.specs.declared.layer.Layer as layer_code
+use Rattle.x25_layer.specs.Room.{HaveAtMost}
 use Rattle.x25_layer.proofs.layer.Layer.room.Goals as goal
 
 pub returns-in_err-room_in_all-clause-layer : goal.returns-in_err-room_in_all-clause-layer
@@ -20,3 +22,7 @@ returns-clause-layer g c = λ s l fits. c.set_aside.ensures.fits s l (record {
   restarts = fits.restarts;
   circuits = c.room_in_all.ensures.fits s l.circuits fits.circuits;
 })
+
+pub returns-clause-most_circuits : goal.returns-clause-most_circuits
+returns-clause-most_circuits g c = λ bound high few.
+    subst (λ (y : layer_code.Layer). HaveAtMost bound y.circuits.items) (sym c.set_aside.ensures.layer) (c.room_in_all.ensures.most bound high few)
