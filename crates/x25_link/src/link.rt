@@ -1,7 +1,7 @@
-ghost use Rattle.std.specs.Prelude.{◌≡◌, ℕ, ◌+◌, ◌-◌, ◌<◌, ◌≤◌, ◌↔◌, ◌++◌, List, [], length, map, vec_len, Bool, true, false, Some, None, IfOk, IfErr, OnOk, OnErr, IsOk, IsErrOf};
+ghost use Rattle.std.specs.Prelude.{◌≡◌, ℕ, ◌+◌, ◌-◌, ◌%◌, ◌<◌, ◌≤◌, ◌↔◌, ◌++◌, List, [], length, map, vec_len, Bool, true, false, Some, None, IfOk, IfErr, OnOk, OnErr, IsOk, IsErrOf};
 ghost use Rattle.x25_frame.specs.Spelling.{spelling_of};
 ghost use Rattle.x25_link.specs.Station.{Settings, Station as StationState, is_waiting, with_nothing};
-ghost use Rattle.x25_link.specs.Steps.{Refuses, config_refusal, take_step, put_refusal, put_step, connect_refusal, connect_step, disconnect_refusal, disconnect_step, timer_refusal, timer_step, abandon_step, is_idle};
+ghost use Rattle.x25_link.specs.Steps.{Refuses, config_refusal, take_step, put_refusal, put_step, connect_refusal, connect_step, disconnect_refusal, disconnect_step, timer_refusal, timer_runs, timer_step, abandon_step, is_idle};
 ghost use Rattle.x25_link.specs.LinkError.{RefusesPut};
 ghost use Rattle.x25_link.specs.Link.{FitsLink, IsAnswer, limit_of, up_of, waiting_of};
 ghost use Rattle.x25_link.specs.declared.phase.Phase.TheVariants.{Down};
@@ -19,7 +19,7 @@ use crate::step::Step;
 use crate::waiting_packets::PLACES;
 use std::alloc::Global;
 use std::marker::Model;
-use x25_bits::Role;
+use x25_bits::{Role, Seq};
 use x25_window::Receiver;
 
 /// The most other frames that one call sends.
@@ -206,6 +206,20 @@ impl Link {
         ensures { (c : Settings) (s : StationState) → FitsLink c self.now s → result ≡ is_waiting s.phase }
     {
         self.station.phase.is_waiting()
+    }
+
+    /// Whether timer T1 runs: exactly where `t1` isn't refused with 11.
+    pub fn timer_runs(&self) -> bool
+        ensures { (c : Settings) (s : StationState) → FitsLink c self.now s → result ≡ timer_runs s.phase s }
+    {
+        self.station.timer_runs()
+    }
+
+    /// The number of the first I frame that the other end didn't acknowledge: all below it are. Section 2.4.5.6.
+    pub fn acknowledged(&self) -> Seq
+        ensures { (c : Settings) (s : StationState) → FitsLink c self.now s → result.number ≡ s.outgoing.acked % 8 }
+    {
+        self.station.backlog.first()
     }
 
     // Hands a packet down, and keeps the frames.

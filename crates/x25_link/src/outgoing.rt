@@ -69,6 +69,14 @@ impl Outgoing {
         self.sender.top()
     }
 
+    /// The number of the first frame that isn't acknowledged.
+    pub fn first(&self) -> Seq
+        ensures { (k : ℕ) (o : OutgoingState) → FitsBacklog k self.now o → result.number ≡ o.acked % 8 }
+    {
+        let unacked = self.sender.unacked();
+        Seq::modulo(self.sender.top().get() + 8 - unacked)
+    }
+
     /// Lets a packet wait.
     pub fn add(&mut self, packet: Octets)
         requires { length self.old.queue < 256 }

@@ -25,3 +25,5 @@ pub mod ResultLemmas
 pub mod OutcomeLemmas
 pub mod StationRows
 pub mod FewLemmas
+pub mod TimerLemmas
+pub mod TimerRows

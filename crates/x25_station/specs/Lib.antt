@@ -13,3 +13,4 @@ pub mod FitsParts
 pub mod FitsStation
 pub mod Receiving
 pub mod HoldLaw
+pub mod TimerLaw

@@ -3,6 +3,7 @@ ghost use Rattle.x25_station.specs.JoinLaw.{RequestIsJoined, ReceiveIsJoined, Qu
 ghost use Rattle.x25_station.specs.KeepLaw.{ConnectKeeps, TimerKeeps, CommandKeeps, ReceiveKeeps};
 ghost use Rattle.x25_station.specs.ReadLaw.{PutsAreReadable};
 ghost use Rattle.x25_station.specs.HoldLaw.{FewWait, FewStand, FewMessages};
+ghost use Rattle.x25_station.specs.TimerLaw.{DeadlineIsTrue, FiringIsTaken, OffIsRefused};
 
 use x25_circuit::values_are_agreed;
 use x25_layer::calls_are_runs;
@@ -52,3 +53,12 @@ pub fn stations_hold_few()
 {
     holds_few();
 }
+
+/// T1 and one who has a clock, over any events from a new station on. He drops his deadline at a step behind which T1 is off, sets it at
+/// one that begins T1 anew, and leaves it at any other and at a refusal: then it stands exactly while T1 runs, so that a firing when it
+/// passes is never refused with 11.
+pub fn deadlines_are_true()
+    ensures deadline { DeadlineIsTrue }
+    ensures taken { FiringIsTaken }
+    ensures off { OffIsRefused }
+{}

@@ -17,7 +17,9 @@ pub use command::Cmd;
 pub use config::Cfg;
 pub use entry::{Asked, Entry, Said, Told};
 pub use error::StationError;
-pub use law::{puts_are_readable, stations_hold_few, steps_are_joined, steps_keep_bounds};
+pub use law::{
+    deadlines_are_true, puts_are_readable, stations_hold_few, steps_are_joined, steps_keep_bounds,
+};
 pub use station::Station;
 pub use step::{MOST_ENTRIES, MOST_FRAMES, Step};
 pub use x25_bits::Role;

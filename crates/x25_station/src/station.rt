@@ -4,7 +4,7 @@ use crate::config::Cfg;
 use crate::entering::LONGEST_TEXT;
 use crate::error::StationError;
 use std::alloc::Global;
-use x25_bits::Role;
+use x25_bits::{Role, Seq};
 use x25_layer::{Layer, LayerError, Stretch};
 use x25_link::{Blanks, LONGEST_PACKET, Link, LinkError};
 
@@ -22,13 +22,14 @@ pub struct Station {
 }
 
 impl Station {
-    ghost use Rattle.std.specs.Prelude.{◌≡◌, IfOk};
+    ghost use Rattle.std.specs.Prelude.{◌≡◌, ◌%◌, IfOk};
     ghost use Rattle.x25_station.specs.FitsStation.{FitsStation, RefusesWith};
     ghost use Rattle.x25_station.specs.Settings.{Settings, settings_from, config_refusal};
     ghost use Rattle.x25_station.specs.Station.{Station as State, new_station};
     ghost use Rattle.x25_station.specs.Told.{is_idle, stretch};
     ghost use Rattle.x25_layer.specs.FitsLayer.{plain_stretch};
     ghost use Rattle.x25_link.specs.Station.{is_waiting};
+    ghost use Rattle.x25_link.specs.Steps.{timer_runs};
 
     /// A station whose link is down.
     ///
@@ -68,6 +69,23 @@ impl Station {
         ensures { (c : Settings) (s : State) → FitsStation c self.now s → result ≡ is_waiting s.link.phase }
     {
         self.link.is_waiting()
+    }
+
+    /// Whether timer T1 runs: exactly where `t1` isn't refused with 11.
+    pub fn timer_runs(&self) -> bool
+        ensures { (c : Settings) (s : State) → FitsStation c self.now s → result ≡ timer_runs s.link.phase s.link }
+    {
+        self.link.timer_runs()
+    }
+
+    /// The number of the first I frame that the other end didn't acknowledge: all below it are.
+    ///
+    /// T1 begins anew at a step behind which it runs, and before which it didn't; that was its firing; that told LinkUp; or behind which
+    /// this number is another one: see `deadlines_are_true`.
+    pub fn acknowledged(&self) -> Seq
+        ensures { (c : Settings) (s : State) → FitsStation c self.now s → result.number ≡ s.link.outgoing.acked % 8 }
+    {
+        self.link.acknowledged()
     }
 
     /// The name of the stretch that is open on a channel, in p4 with d1, where one is.
