@@ -5,6 +5,7 @@ ghost use Rattle.x25_frame.specs.Spelling.{bit};
 ghost use Rattle.x25_text.specs.OctetText.{octet_text, octets_text};
 ghost use Rattle.x25_text.specs.declared.text.TheConstants.{ROOM};
 
+use crate::hexadecimal::write_digits;
 use itoa::Buffer;
 use std::alloc::{AllocError, Global};
 use std::marker::Model;
@@ -40,7 +41,7 @@ fn write_hexadecimal(octets: &[u8], buffer: &mut [u8], from: usize)
     ensures size { length buffer.new ≡ length buffer.old }
 {
     let digits = &mut buffer[from..from + 2 * octets.len()];
-    hex::encode_to_slice(octets, digits).unwrap();
+    write_digits(octets, digits);
 }
 
 /// A number of one digit as a character.
