@@ -4,3 +4,4 @@ pub mod DigitTable
 pub mod PairLemmas
 pub mod LaneLemmas
 pub mod BlockLemmas
+pub mod ShownLemmas

@@ -8,25 +8,27 @@ ghost use Rattle.x25_text.specs.PacketText.{information_text};
 ghost use Rattle.x25_text.specs.FrameText.{fault_text, frame_text, supervisory_text, why_text};
 
 use crate::packet_text::push_information;
-use crate::text::{ROOM, Text};
+use crate::text::{ROOM, Text, bit_digit, seq_digit};
 use x25_frame::{Frame, FrameError, Seq};
 
 /// The most characters of a frame or of a fault on one line, without its mark and line feed.
 pub const MOST_TEXT: usize = 8_300;
 
+#[inline]
 fn push_supervisory(label: &[u8], command: bool, pf: bool, nr: Seq, text: &mut Text)
     requires room { length text.old + (length label.now + 11) ≤ ROOM }
     ensures text { text.new ≡ text.old ++ (label.now ++ supervisory_text command pf nr.number) }
     ensures size { length text.new ≡ length text.old + (length label.now + 11) }
 {
     text.push(label);
-    if command {
-        text.push_bit(b"cmd P=", pf);
-        text.push_seq(b" R=", nr);
+    let mut characters = if command {
+        *b"cmd P=_ R=_"
     } else {
-        text.push_bit(b"rsp F=", pf);
-        text.push_seq(b" R=", nr);
-    }
+        *b"rsp F=_ R=_"
+    };
+    characters[6] = bit_digit(pf);
+    characters[10] = seq_digit(nr);
+    text.push(&characters);
 }
 
 /// Appends a label and then octets as hexadecimal digits.
@@ -46,10 +48,11 @@ fn push_info(long_data: bool, ns: Seq, nr: Seq, p: bool, information: &[u8], tex
         ++ codes " R=" ++ decimal nr.number ++ codes " | " ++ information_text long_data information.now) }
     ensures size { length text.new ≤ length text.old + MOST_TEXT }
 {
-    text.push_bit(b"I cmd P=", p);
-    text.push_seq(b" S=", ns);
-    text.push_seq(b" R=", nr);
-    text.push(b" | ");
+    let mut characters = *b"I cmd P=_ S=_ R=_ | ";
+    characters[8] = bit_digit(p);
+    characters[12] = seq_digit(ns);
+    characters[16] = seq_digit(nr);
+    text.push(&characters);
     push_information(long_data, information, text);
 }
 

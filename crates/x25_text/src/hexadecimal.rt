@@ -1,5 +1,5 @@
 //! Octets from hexadecimal digits, and as such.
-ghost use Rattle.std.specs.Prelude.{◌≡◌, ◌+◌, ◌*◌, ◌≤◌, nat_lt, if◌then◌else◌, length, take, drop, map, Some, None, IfOk, IsTrue, string_bytes};
+ghost use Rattle.std.specs.Prelude.{◌≡◌, ◌+◌, ◌*◌, ◌≤◌, ◌++◌, nat_lt, if◌then◌else◌, length, take, drop, map, Some, None, IfOk, IsTrue, string_bytes};
 ghost use Rattle.std.specs.List.{flat_map, list_all};
 ghost use Rattle.std.specs.Result.{result_ok};
 ghost use Rattle.hex.specs.Hex.{decode_of};
@@ -116,6 +116,49 @@ pub fn read_hexadecimal(digits: &[u8], octets: &mut [u8]) -> bool
         }
     }
     read_eight(digits, octets, count - 8)
+}
+
+/// The digits of eight octets.
+#[inline]
+fn digits_of(octets: u8x8) -> u8x16
+    ensures { result ≡ flat_map octet_text octets }
+{
+    let high = octets >> u8x8::splat(4);
+    let low = octets & u8x8::splat(15);
+    let halves: u8x16 = high.shuffle(low, [0, 8, 1, 9, 2, 10, 3, 11, 4, 12, 5, 13, 6, 14, 7, 15]);
+    let base = halves
+        .simd_lt(u8x16::splat(10))
+        .select(u8x16::splat(b'0'), u8x16::splat(b'a' - 10));
+    halves + base
+}
+
+/// Writes the digits of the eight octets from a place on.
+#[inline]
+fn write_eight(octets: &[u8], digits: &mut [u8], place: usize)
+    requires digits { length digits.old ≡ 2 * length octets.now }
+    requires room { place + 8 ≤ length octets.now }
+    ensures { take (2 * (place + 8)) digits.new ≡ take (2 * place) digits.old ++ flat_map octet_text (take 8 (drop place octets.now)) }
+{
+    digits_of(u8x8::from_slice(&octets[place..])).copy_to_slice(&mut digits[2 * place..]);
+}
+
+/// Writes the octets as hexadecimal digits in lower case, two for each.
+///
+/// Eight octets at a time; the digits of the last eight may be written over some that are there.
+#[inline]
+pub(crate) fn write_digits(octets: &[u8], digits: &mut [u8])
+    requires { length digits.old ≡ 2 * length octets.now }
+    ensures { digits.new ≡ flat_map octet_text octets.now }
+{
+    let count = octets.len();
+    if count < 8 {
+        hex::encode_to_slice(octets, digits).unwrap();
+        return;
+    }
+    for eight in 0..count / 8 {
+        write_eight(octets, digits, 8 * eight);
+    }
+    write_eight(octets, digits, count - 8);
 }
 
 /// The octets as hexadecimal digits in lower case, two for each, in memory of their own.

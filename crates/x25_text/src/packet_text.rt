@@ -5,7 +5,7 @@ ghost use Rattle.x25_packet.specs.Spelling.{IsInRange};
 ghost use Rattle.x25_text.specs.OctetText.{octets_text};
 ghost use Rattle.x25_text.specs.PacketText.{addresses_text, digits_text, fields_text, information_text, marks_text, numbers_text, packet_fault_text, packet_text, reason_text};
 
-use crate::text::{MOST_OCTETS, ROOM, Text};
+use crate::text::{MOST_OCTETS, ROOM, Text, bit_digit, seq_digit};
 use x25_frame::Seq;
 use x25_packet::{Digits, Packet, PacketError, decode_within, longest_user};
 
@@ -77,22 +77,18 @@ fn push_fields(facilities: &[u8], user: &[u8], text: &mut Text)
     push_field(b" data=", user, text);
 }
 
-fn push_marks(m: bool, q: bool, text: &mut Text)
-    requires room { length text.old + 8 ≤ ROOM }
-    ensures text { text.new ≡ text.old ++ marks_text m q }
-    ensures size { length text.new ≡ length text.old + 8 }
+/// Appends the numbers and marks of a DATA packet, and the label of its user data.
+fn push_marks(ps: Seq, pr: Seq, m: bool, q: bool, text: &mut Text)
+    requires room { length text.old + 22 ≤ ROOM }
+    ensures text { text.new ≡ text.old ++ (numbers_text ps.number pr.number ++ marks_text m q ++ codes " data=") }
+    ensures size { length text.new ≡ length text.old + 22 }
 {
-    text.push_bit(b" M=", m);
-    text.push_bit(b" Q=", q);
-}
-
-fn push_numbers(ps: Seq, pr: Seq, text: &mut Text)
-    requires room { length text.old + 8 ≤ ROOM }
-    ensures text { text.new ≡ text.old ++ numbers_text ps.number pr.number }
-    ensures size { length text.new ≡ length text.old + 8 }
-{
-    text.push_seq(b" S=", ps);
-    text.push_seq(b" R=", pr);
+    let mut characters = *b" S=_ R=_ M=_ Q=_ data=";
+    characters[3] = seq_digit(ps);
+    characters[7] = seq_digit(pr);
+    characters[11] = bit_digit(m);
+    characters[15] = bit_digit(q);
+    text.push(&characters);
 }
 
 /// Appends a packet on one line. A CALL has at most 128 octets of user data.
@@ -140,9 +136,8 @@ pub fn push_packet(packet: &Packet, text: &mut Text)
             user,
         } => {
             text.push_number(b"DATA ch=", *channel);
-            push_numbers(*ps, *pr, text);
-            push_marks(*m, *q, text);
-            push_field(b" data=", user, text);
+            push_marks(*ps, *pr, *m, *q, text);
+            text.push_octets(user);
         }
         Packet::Rr { channel, pr } => {
             text.push_number(b"RR ch=", *channel);

@@ -1,10 +1,11 @@
 //! A text that waits to be written.
-ghost use Rattle.std.specs.Prelude.{◌≡◌, ◌↔◌, ◌+◌, ◌*◌, ◌≤◌, ◌<◌, ◌++◌, [], ℕ, List, IfOk, IsTrue, length, take, decimal};
+ghost use Rattle.std.specs.Prelude.{◌≡◌, ◌↔◌, ◌+◌, ◌*◌, ◌≤◌, ◌<◌, ◌++◌, [], ◌∷◌, ℕ, List, IfOk, IsTrue, length, take, decimal};
 ghost use Rattle.std.specs.List.{flat_map};
 ghost use Rattle.x25_frame.specs.Spelling.{bit};
 ghost use Rattle.x25_text.specs.OctetText.{octet_text, octets_text};
 ghost use Rattle.x25_text.specs.declared.text.TheConstants.{ROOM};
 
+use crate::hexadecimal::write_digits;
 use itoa::Buffer;
 use std::alloc::{AllocError, Global};
 use std::marker::Model;
@@ -40,7 +41,32 @@ fn write_hexadecimal(octets: &[u8], buffer: &mut [u8], from: usize)
     ensures size { length buffer.new ≡ length buffer.old }
 {
     let digits = &mut buffer[from..from + 2 * octets.len()];
-    hex::encode_to_slice(octets, digits).unwrap();
+    write_digits(octets, digits);
+}
+
+/// A number of one digit as a character.
+#[inline]
+fn digit(number: u8) -> u8
+    requires { number < 10 }
+    ensures { decimal number ≡ result ∷ [] }
+{
+    b'0' + number
+}
+
+/// A bit as a character.
+#[inline]
+pub(crate) fn bit_digit(is_set: bool) -> u8
+    ensures { decimal (bit is_set) ≡ result ∷ [] }
+{
+    digit(u8::from(is_set))
+}
+
+/// A sequence number as a character.
+#[inline]
+pub(crate) fn seq_digit(number: Seq) -> u8
+    ensures { decimal number.number ≡ result ∷ [] }
+{
+    digit(number.get())
 }
 
 impl Text {
@@ -96,7 +122,7 @@ impl Text {
         ensures text { self.new ≡ self.old ++ decimal number }
         ensures size { length self.new ≡ length self.old + 1 }
     {
-        self.push(&[b'0' + number]);
+        self.push(&[digit(number)]);
     }
 
     /// Appends a label and then a bit.
@@ -120,14 +146,19 @@ impl Text {
     }
 
     /// Appends a label and then a number in decimal.
+    #[inline]
     pub fn push_number(&mut self, label: &[u8], number: u16)
         requires room { length self.old + (length label.now + 5) ≤ ROOM }
         ensures text { self.new ≡ self.old ++ (label.now ++ decimal number) }
         ensures size { length self.new ≤ length self.old + (length label.now + 5) }
     {
-        let mut buffer = Buffer::new();
         self.push(label);
-        self.push(buffer.format(number).as_bytes());
+        if number < 10 {
+            self.push_digit(number as u8);
+        } else {
+            let mut buffer = Buffer::new();
+            self.push(buffer.format(number).as_bytes());
+        }
     }
 
     /// Appends the octets as hexadecimal digits, two for each.
