@@ -7,7 +7,7 @@ use Rattle.x25_window.specs.Receiving.{FitsTaken}
 use Rattle.x25_window.specs.Window.{End, Numbered, Frame}
 use Rattle.x25_line.specs.Line.{arrived}
 use Rattle.x25_line.specs.InWindow.{InWindow}
-use Rattle.x25_line.specs.RawMachine.{RawState, is_wanted, refusal_of, event_refusal, run, start, AllAccepted}
+use Rattle.x25_line.specs.RawMachine.{RawState, is_wanted, refusal_of, event_refusal, act_of_event, run, start, AllAccepted}
 use Rattle.x25_line.specs.RawShown.{ShownEnd, ShownWorld}
 use Rattle.x25_bits.specs.declared.role.Role.{Role}
 use Rattle.x25_bits.specs.declared.role.Role.TheVariants.{Dte, Dce}
@@ -91,6 +91,15 @@ pub record FitsWorld (v : ShownWorld) (s : RawState) : Type 0 where
 -- an event is refused by its ground alone, or for want of memory
 abbrev pub IsRefusal : RawState → RawEvent → RawError → Type 0
 IsRefusal s e error = (event_refusal s e ≡ Some error) ⊎ (error ≡ NoMemory)
+
+-- what is lost takes no memory, nor does a place that falls back
+abbrev pub TakesMemory : RawAct → Type 0
+TakesMemory (act.Offer item) = Unit {0}
+TakesMemory act.Next = Unit {0}
+TakesMemory act.Again = ⊥
+TakesMemory act.Tell = Unit {0}
+TakesMemory act.Deliver = Unit {0}
+TakesMemory (act.Lose place) = ⊥
 
 -- the events before the one that was refused were accepted and have happened
 pub record StopsAt (events : List RawEvent) (s : RawState) (v : ShownWorld) (refused : RawRefused) : Type 0 where

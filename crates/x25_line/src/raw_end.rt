@@ -1,10 +1,10 @@
-ghost use Rattle.std.specs.Prelude.{ℕ, ◌≡◌, ◌≢◌, ◌+◌, ◌%◌, ◌<◌, ◌≤◌, List, [], ◌∷◌, ◌++◌, length, remove, max, OnOk, OnErr, IfOk, IfErr, MatchOption, Option, Some, None, Err, ◌⊎◌, slice_get};
+ghost use Rattle.std.specs.Prelude.{ℕ, ◌≡◌, ◌≢◌, ◌+◌, ◌%◌, ◌<◌, ◌≤◌, List, [], ◌∷◌, ◌++◌, length, remove, max, OnOk, OnErr, IfOk, IfErr, MatchOption, Option, Some, None, Err, ◌⊎◌, slice_get, IsErrOf};
 ghost use Rattle.x25_window.specs.Window.{End, Step, Frame, after, frame_of, frames_of, fresh_end};
 ghost use Rattle.x25_window.specs.Window.Step.{HandDown, Send};
 ghost use Rattle.x25_window.specs.Modulo.{resolved};
 ghost use Rattle.x25_line.specs.Line.{arrived};
 ghost use Rattle.x25_line.specs.RawMachine.{RawState, acts, refusal_of, place_after_offer, is_wanted};
-ghost use Rattle.x25_line.specs.RawFitting.{FitsLine, FitsFrame, FitsEnd, FitsSide, Delivered, BringsBadAck, IsDue};
+ghost use Rattle.x25_line.specs.RawFitting.{FitsLine, FitsFrame, FitsEnd, FitsSide, Delivered, BringsBadAck, IsDue, TakesMemory};
 
 use crate::raw_error::RawError;
 use crate::raw_event::RawAct;
@@ -209,6 +209,7 @@ pub fn act(
         OnOk result (FitsSide near.new out.new.items back.new.items (acts s act)) }
     ensures accepted { (s : RawState) → FitsSide near.old out.old.items back.old.items s → OnOk result (refusal_of s act ≡ None) }
     ensures refused { (s : RawState) → FitsSide near.old out.old.items back.old.items s → IfErr result (IsDue s act) }
+    ensures memory { IsErrOf result RawError.NoMemory → TakesMemory act }
     ensures unchanged { OnErr result ((near.new ≡ near.old) × (out.new.items ≡ out.old.items) × (back.new.items ≡ back.old.items)) }
 {
     match act {

@@ -1,6 +1,6 @@
-ghost use Rattle.std.specs.Prelude.{ℕ, ◌≡◌, ◌≢◌, ◌<◌, ◌≤◌, OnOk, OnErr, IfOk, IfErr, MatchOption, length, take, slice_get, Some, None, Err, List};
-ghost use Rattle.x25_line.specs.RawMachine.{RawState, happens, run, start, event_refusal, AllAccepted};
-ghost use Rattle.x25_line.specs.RawFitting.{FitsWorld, InOrder, IsBeginning, IsRefusal, StopsAt, RunInWindow, shown_end, other_end};
+ghost use Rattle.std.specs.Prelude.{ℕ, ◌≡◌, ◌≢◌, ◌<◌, ◌≤◌, OnOk, OnErr, IfOk, IfErr, IfSome, MatchOption, length, take, slice_get, Some, None, Err, IsErrOf, List};
+ghost use Rattle.x25_line.specs.RawMachine.{RawState, happens, run, start, event_refusal, act_of_event, AllAccepted};
+ghost use Rattle.x25_line.specs.RawFitting.{FitsWorld, InOrder, IsBeginning, IsRefusal, StopsAt, TakesMemory, RunInWindow, shown_end, other_end};
 
 use crate::raw_end::{RawEnd, act};
 use crate::raw_error::{RawError, RawRefused};
@@ -56,13 +56,15 @@ impl RawWorld {
 
     /// Lets the event happen.
     ///
-    /// Refused with the one ground that applies, 8, 50, 51 or 55, and else accepted; 70 where memory is refused. Then the
-    /// world is as before. It is never refused with 7: each N(R) that arrives is valid.
+    /// Refused with the one ground that applies, 8, 50, 51 or 55, and else accepted; 70 where memory is refused, which
+    /// `Again` and `Lose` take none of. Then the world is as before. It is never refused with 7: each N(R) that arrives is
+    /// valid.
     pub fn apply(&mut self, event: RawEvent) -> Result<(), RawError>
         ensures step { (s : RawState) → FitsWorld self.old s → OnOk result (FitsWorld self.new (happens s event)) }
         ensures accepted { (s : RawState) → FitsWorld self.old s → OnOk result (event_refusal s event ≡ None) }
         ensures refused { (s : RawState) → FitsWorld self.old s → IfErr result (IsRefusal s event) }
         ensures unchanged { OnErr result (self.new ≡ self.old) }
+        ensures memory { IsErrOf result RawError.NoMemory → TakesMemory (act_of_event event) }
         ensures never_bad { result ≢ Err RawError.BadAck }
 
         // What was taken is a beginning of what was given. All along, the window holds.
@@ -78,11 +80,12 @@ impl RawWorld {
     }
 
     /// Lets the events happen in order, as by `apply`, up to the first that is refused. The events before it were accepted,
-    /// and stand.
+    /// and stand. Refused with 70 only at an event that takes memory.
     pub fn run(&mut self, events: &[RawEvent]) -> Result<(), RawRefused>
         ensures step { (s : RawState) → FitsWorld self.old s → OnOk result (FitsWorld self.new (run events.now s)) }
         ensures accepted { (s : RawState) → FitsWorld self.old s → OnOk result (AllAccepted s events.now) }
         ensures stopped { (s : RawState) → FitsWorld self.old s → IfErr result (StopsAt events.now s self.new) }
+        ensures memory { IfErr result (λ refused. refused.error ≡ RawError.NoMemory → IfSome (slice_get events.now refused.index) (λ event. TakesMemory (act_of_event event))) }
         ensures never_bad { IfErr result (λ refused. refused.error ≢ RawError.BadAck) }
         ensures there { InOrder self.new.dte self.new.dce }
         ensures back { InOrder self.new.dce self.new.dte }
