@@ -90,7 +90,7 @@ low_bits-number_of zero (b ∷ bits) h = absurd (omega arith)
 low_bits-number_of (suc k) [] h = absurd (omega arith)
 low_bits-number_of (suc k) (b ∷ bits) h = rw (odd b (number_of bits), half b (number_of bits), low_bits-number_of k bits (omega arith)) refl
 
-bits_of-octets_by : (n : ℕ) (bits : List Bool) → length bits ≡ 8 * n → bits_of (octets_by n bits) ≡ bits
+pub bits_of-octets_by : (n : ℕ) (bits : List Bool) → length bits ≡ 8 * n → bits_of (octets_by n bits) ≡ bits
 unfolding octets_by
 bits_of-octets_by zero [] h = refl
 bits_of-octets_by zero (b ∷ bits) h = absurd (omega arith)

@@ -69,7 +69,7 @@ bits_written (suc i) k y b (o ∷ octets) h s e =
 one_more : (j : ℕ) → 1 + j ≡ suc j
 one_more j = omega arith
 
-bits_of-append : (a b : List ℕ) → bits_of (a ++ b) ≡ bits_of a ++ bits_of b
+pub bits_of-append : (a b : List ℕ) → bits_of (a ++ b) ≡ bits_of a ++ bits_of b
 bits_of-append [] b = refl
 bits_of-append (o ∷ a) b = ap (λ l. low_bits 8 o ++ l) (bits_of-append a b) ∙ sym (append_assoc (low_bits 8 o) (bits_of a) (bits_of b))
 

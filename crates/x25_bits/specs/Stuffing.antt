@@ -1,5 +1,5 @@
 -- Stuffing. ITU-T X.25 (10/96), section 2.2.6 (transparency).
-use Rattle.std.specs.Prelude.{ℕ, ◌+◌, ◌==◌, Bool, true, false, if◌then◌else◌, List, [], ◌∷◌, ◌++◌}
+use Rattle.std.specs.Prelude.{ℕ, ◌+◌, ◌-◌, ◌%◌, ◌==◌, Bool, true, false, if◌then◌else◌, List, [], ◌∷◌, ◌++◌, length, replicate}
 use Rattle.x25_bits.specs.Fcs.{bits_of}
 use Rattle.x25_bits.specs.Spans.{flag}
 
@@ -24,3 +24,8 @@ unstuff bits = unstuffed_from 0 bits
 -- what is put on the line for octets: a flag, their stuffed bits, a flag
 abbrev pub framed : List ℕ → List Bool
 framed octets = flag ++ stuff (bits_of octets) ++ flag
+
+-- the bits, and as few 1 bits behind them as make whole octets: what an idle line carries, of which no flag and no
+-- content comes; a flag would fit there only where it shared its 0 bits, so often that it took up to six octets. Profile.
+abbrev pub filled : List Bool → List Bool
+filled bits = bits ++ replicate ((8 - length bits % 8) % 8) true

@@ -7,6 +7,7 @@ mod found;
 mod frame_check;
 mod harmless_bits;
 mod laws;
+mod line_octets;
 mod no_memory;
 mod octets;
 mod role;
@@ -23,6 +24,7 @@ pub use laws::{
     content_stuffs_again, cuts_agree, flag_parts, harmless_bits_lose_a_frame, put_is_found,
     sealed_is_tested, stuffing_is_undone,
 };
+pub use line_octets::put_octets;
 pub use no_memory::NoMemory;
 pub use octets::Octets;
 pub use role::Role;

@@ -53,7 +53,7 @@ fn put_octet(run: u8, octet: u8, bits: &mut Bits) -> Result<u8, NoMemory>
     Ok(after)
 }
 
-fn put_octets(octets: &[u8], bits: &mut Bits) -> Result<(), NoMemory>
+fn put_stuffed(octets: &[u8], bits: &mut Bits) -> Result<(), NoMemory>
     ensures ok { OnOk result (bits.new ≡ bits.old ++ stuffed_from 0 (bits_of octets.now)) }
     ensures begins { Begins bits.old bits.new }
 {
@@ -69,7 +69,7 @@ fn put_framed(octets: &[u8], bits: &mut Bits) -> Result<(), NoMemory>
     ensures begins { Begins bits.old bits.new }
 {
     put_flag(bits)?;
-    put_octets(octets, bits)?;
+    put_stuffed(octets, bits)?;
     put_flag(bits)
 }
 

@@ -2,7 +2,7 @@ use Rattle.std.proofs.Common.{◌≡◌, ◌<◌, ◌++◌, drop}
 use Rattle.x25_bits.specs.Begins.{Begins}
 use Rattle.x25_bits.specs.Fcs.{bits_of}
 use Rattle.x25_bits.specs.Stuffing.{stuffed_from}
-use Rattle.x25_bits.proofs.stuffing.put_octets.Given as goal
+use Rattle.x25_bits.proofs.stuffing.put_stuffed.Given as goal
 
 abbrev pub invariant-loop-octet : goal.invariant-loop-octet
 invariant-loop-octet l = record {

@@ -1,7 +1,7 @@
 use Rattle.std.proofs.Common.{◌≡◌, ◌∙◌, [], drop, sym}
 use Rattle.std.proofs.lemmas.List.{append-nil, drop_all}
 use Rattle.x25_bits.specs.Stuffing.{stuffed_from}
-use Rattle.x25_bits.proofs.stuffing.put_octets.Goals as goal
+use Rattle.x25_bits.proofs.stuffing.put_stuffed.Goals as goal
 
 pub returns-clause-ok : goal.returns-clause-ok
 unfolding stuffed_from

@@ -1,0 +1,48 @@
+//! Frames put as octets of a synchronous line, each octet lowest bit first. Profile.
+ghost use Rattle.std.specs.Prelude.{ℕ, ◌≡◌, ◌≤◌, ◌++◌, ◌∷◌, [], Bool, true, List, length, IfOk, OnOk, OnErr};
+ghost use Rattle.x25_bits.specs.Begins.{Begins};
+ghost use Rattle.x25_bits.specs.Fcs.{bits_of};
+ghost use Rattle.x25_bits.specs.SpanClass.{Content, found_of, octets_of};
+ghost use Rattle.x25_bits.specs.Spans.{flag};
+ghost use Rattle.x25_bits.specs.Stuffing.{framed, filled};
+
+use crate::bits::Bits;
+use crate::no_memory::NoMemory;
+use crate::stuffing::put;
+use std::alloc::Global;
+
+/// Appends 1 bits up to a whole octet.
+fn fill(bits: &mut Bits) -> Result<(), NoMemory>
+    ensures ok { OnOk result (bits.new ≡ filled bits.old) }
+{
+    let missing = (8 - bits.len() % 8) % 8;
+    for _ in 0..missing {
+        bits.push(true)?;
+    }
+    Ok(())
+}
+
+/// A flag, the octets' stuffed bits, a flag, and 1 bits up to a whole octet.
+fn whole_frame(octets: &[u8], alloc: Global) -> Result<Bits, NoMemory>
+    ensures ok { IfOk result (λ bits. bits ≡ filled (framed octets.now)) }
+{
+    let mut bits = Bits::new(alloc);
+    put(octets, &mut bits)?;
+    fill(&mut bits)?;
+    Ok(bits)
+}
+
+/// Appends octets of a synchronous line, whose bits, lowest first, are those that `put` appends, and then as few 1 bits
+/// as fill the last octet. Of 4 to 4,103 octets the content between the flags is found, behind any octets before it.
+/// Error 70 where there is no memory for it.
+pub fn put_octets(octets: &[u8], line: &mut Vec<u8>) -> Result<(), NoMemory>
+    ensures ok { OnOk result (bits_of line.new.items ≡ bits_of line.old.items ++ filled (framed octets.now)) }
+    ensures begins { Begins line.old.items line.new.items }
+    ensures found { OnOk result (4 ≤ length octets.now → length octets.now ≤ 4103
+        → found_of (bits_of line.new.items) ≡ found_of (bits_of line.old.items ++ flag) ++ Content octets.now ∷ []) }
+    ensures err { OnErr result (line.new.items ≡ line.old.items) }
+{
+    let bits = whole_frame(octets, *line.allocator())?;
+    line.extend_from_slice(bits.whole_octets())?;
+    Ok(())
+}
