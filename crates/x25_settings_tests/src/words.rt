@@ -126,7 +126,7 @@ const SAYS: &str =
 
 /// What asks for help is told.
 const HELP: &str =
-    "X.25 packet layer over LAPB, on lines of text\n\nUsage: x25 <COMMAND>\n\nCommands:\n  decode   Answer lines of octets, `> HEX` from the DTE and `< HEX` from the DCE, by lines of text\n  vectors  Run the stored test vectors\n  sim      Run a script of two stations joined by a line, and write what each end is told\n  help     Print this message or the help of the given subcommand(s)\n\nOptions:\n  -h, --help  Print help\n";
+    "X.25 packet layer over LAPB, on lines of text\n\nUsage: x25 <COMMAND>\n\nCommands:\n  decode   Answer lines of octets, `> HEX` from the DTE and `< HEX` from the DCE, by lines of text\n  vectors  Run the stored test vectors\n  sim      Run a script of two stations joined by a line, and write what each end is told\n  help     Print this message or the help of the given subcommand(s)\n\nOptions:\n  -h, --help     Print help\n  -V, --version  Print version\n";
 
 /// A number that is out of its range.
 const RANGE: &str =
@@ -142,7 +142,7 @@ const DECODE: &str =
 
 /// The help of `sim`.
 const SIM: &str =
-    "Run a script of two stations joined by a line, and write what each end is told\n\nUsage: x25 sim [OPTIONS] < SCRIPT\n\nOptions:\n      --tap           Tell the frames of each step behind its entries, as lines for `decode`\n      --down          Begin with both links down, in place of just set up\n      --long          Take up to 128 octets of user data in a CALL, in place of 16\n      --k <N>         The window of the link: 1 to 7 [default: 7]\n      --n2 <N>        How often an unanswered command of the link is sent again: 1 to 255 [default: 10]\n      --channels <N>  The number of logical channels: 1 to 16 [default: 1]\n  -h, --help          Print help\n\nExamples:\n  x25 sim < examples/call.script\n  x25 sim --tap --channels 2 < examples/call.script | grep '^[<>]' | x25 decode\n";
+    "Run a script of two stations joined by a line, and write what each end is told\n\nUsage: x25 sim [OPTIONS] < SCRIPT\n\nOptions:\n      --tap           Tell the frames of each step behind its entries, as lines for `decode`\n      --down          Begin with both links down, in place of just set up\n      --long          Take up to 128 octets of user data in a CALL, in place of 16\n      --k <N>         The window of the link: 1 to 7 [default: 7]\n      --n2 <N>        How often an unanswered command of the link is sent again: 1 to 255 [default: 10]\n      --channels <N>  The number of logical channels: 1 to 16 [default: 1]\n  -h, --help          Print help\n\nExamples:\n  x25 sim < examples/call.script\n  x25 sim --tap < examples/call.script | grep '^[<>]' | x25 decode\n";
 
 #[test]
 fn says_what_is_wrong(rt: HostRuntime) -> Result<(), Fail> {
