@@ -179,4 +179,4 @@ module _ {since : Beginning} (laws : SessionLaws) (cfg : Cfg) (fine : IsConfigur
       let met = open_stretches_meet laws cfg fine w h end channel channel name name here there in
       let begun = (meet_in_step laws cfg fine w h).begun end (last_session end w) (last_session (other end) w) met in
       subst (λ (e : List Entry). HasAllOf channel name e (handed_at (other end) w)) (last_has_all end begun.0).entries
-      (subst (λ (f : List Entry). HasAllOf channel name (handed_in end (last_session end w) w) f) (last_has_all (other end) begun.1.1.0).entries (all_arrive laws cfg fine w h end channel name idle here there))
+      (subst (λ (f : List Entry). HasAllOf channel name (handed_in end (last_session end w) w) f) (last_has_all (other end) begun.2).entries (all_arrive laws cfg fine w h end channel name idle here there))
