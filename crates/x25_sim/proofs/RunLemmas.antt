@@ -16,11 +16,11 @@ use Rattle.x25_script.specs.ReadingLaw.{AsksInOctets, IsInOctets, ReadsOctets}
 use Rattle.x25_program.specs.Lines.{lines_of}
 use Rattle.x25_world.specs.World.{World, OnTap, AtEnd, swapped, Act, Commands, Receives, Fires, Loses, Damages, Event, WorldOutcome, Happened, Declined, of_station, delivered, on_line, is_on_line, acts, swapped_back, acts_at, happens, refusal_of, after, run, AreAccepted, start, connected, established}
 use Rattle.x25_world.specs.declared.error.WorldError.{WorldError}
-use Rattle.x25_world.specs.Claims.{ActsInOctets, AreInOctets, IsUpOnce, IsNoConnect, NoneConnects, UpOnceUnlessConnected, Always}
+use Rattle.x25_world.specs.Claims.{ActsInOctets, AreInOctets, IsUpOnce, IsUpAtMostOnce, IsBeginning, IsNoConnect, NoneConnects, UpOnceUnlessConnected, Always, UntilSecondUp}
 use Rattle.x25_world.specs.SessionClaims.{Throughout}
 use Rattle.x25_sim.specs.Sayings.{Saying, enters, taps, reads_nothing, refuses}
 use Rattle.x25_sim.specs.Simulated.{Turn, and_then, step_told, told_between, turn_of, event_turn, next_end, delivered_to, drained, command_asked, line_turn, most_line, asked_in, asked_turn, turn, turns, connecting, set_up, opened, simulated}
-use Rattle.x25_sim.specs.RunLaw.{entries_in, frames_in, begins, IsNoConnectLine, NoneAsks, IsRun, ScriptsAreRuns, OfScripts, OfAllScripts, UpOnceUnlessAsked, ScriptsAreTold, ScriptsAreTapped}
+use Rattle.x25_sim.specs.RunLaw.{entries_in, frames_in, begins, IsNoConnectLine, NoneAsks, IsRun, ScriptsAreRuns, OfScripts, OfScriptsSetUp, OfAllScripts, UpOnceUnlessAsked, ScriptsAreTold, ScriptsAreTapped}
 
 -- ---- a world only grows
 
@@ -328,8 +328,16 @@ script_runs reads cfg down tap script =
 
 -- ---- what holds of runs
 
-pub of_script : (Holds : Cfg → World → Type 0) → Always Holds → ScriptsAreRuns → OfScripts Holds
-of_script Holds always runs = λ cfg range tap script once. let r = runs cfg false tap script in
+begins_there : (cfg : Cfg) (down : Bool) → IsBeginning cfg (begins cfg down)
+begins_there cfg true = inl refl
+begins_there cfg false = inr (inr refl)
+
+pub of_script : (Holds : Cfg → World → Type 0) → UntilSecondUp Holds → ScriptsAreRuns → OfScripts Holds
+of_script Holds until runs = λ cfg range down tap script once. let r = runs cfg down tap script in
+    subst (Holds cfg) (sym r.next) (until cfg range (begins cfg down) (begins_there cfg down) r.events r.octets (subst (IsUpAtMostOnce cfg) r.next once))
+
+pub of_script_set_up : (Holds : Cfg → World → Type 0) → Always Holds → ScriptsAreRuns → OfScriptsSetUp Holds
+of_script_set_up Holds always runs = λ cfg range tap script once. let r = runs cfg false tap script in
     subst (Holds cfg) (sym r.next) (always cfg range r.events r.octets (subst (IsUpOnce cfg) r.next once))
 
 begins_so : (cfg : Cfg) (down : Bool) → (begins cfg down ≡ start) ⊎ (begins cfg down ≡ established cfg)

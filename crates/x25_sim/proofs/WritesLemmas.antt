@@ -9,8 +9,8 @@ use Rattle.x25_world.specs.Claims.{IsUpOnce, HasNoProcedureError}
 use Rattle.x25_world.specs.SessionClaims.{MeetInStep, AreLawfulWhereMet, AreNamedInSessions, AllArrive, UnmetAreToldNothing, OpenStretchesMeet, SessionsKeepOrder}
 use Rattle.x25_sim.specs.Sayings.{sayings_text}
 use Rattle.x25_sim.specs.Simulated.{simulated, sim_text}
-use Rattle.x25_sim.specs.RunLaw.{frames_in, OfScripts, OfAllScripts, ScriptsAreTold, ScriptsAreTapped}
-use Rattle.x25_sim.specs.WritesRun.{Writes, WritesOnce}
+use Rattle.x25_sim.specs.RunLaw.{frames_in, OfScripts, OfScriptsSetUp, OfAllScripts, ScriptsAreTold, ScriptsAreTapped}
+use Rattle.x25_sim.specs.WritesRun.{Writes, WritesOnce, WritesSetUp}
 
 tapped : (cfg : Cfg) (down tap : Bool) (script : List ℕ) → ScriptsAreTapped → tap ≡ true → frames_in (simulated cfg down tap script).sayings ≡ (simulated cfg down tap script).next.tap
 tapped cfg down true script law asked = law cfg down script
@@ -32,13 +32,17 @@ module _ (cfg : Cfg) (fine : config_refusal cfg ≡ None) (down tap : Bool) (old
   by_script P Q None f h = tt
   by_script P Q (Some script) f h = λ few. f script (h few)
 
-  once : (Holds : Cfg → World → Type 0) → OfScripts Holds → (down : Bool) (script : List ℕ) → Appends old now (sim_text cfg down tap script) → WritesOnce Holds cfg down tap script old now
-  once Holds law true script text up first = absurd (cc)
-  once Holds law false script text up first = writes Holds cfg false tap script old now told taps text (law cfg fine tap script first)
+  set_up : (Holds : Cfg → World → Type 0) → OfScriptsSetUp Holds → (down : Bool) (script : List ℕ) → Appends old now (sim_text cfg down tap script) → WritesSetUp Holds cfg down tap script old now
+  set_up Holds law true script text up first = absurd (cc)
+  set_up Holds law false script text up first = writes Holds cfg false tap script old now told taps text (law cfg fine tap script first)
 
   pub written_once : (Holds : Cfg → World → Type 0) → OfScripts Holds → IfSome script_left (λ script. length script < 2 ^ 64 - 1 → Appends old now (sim_text cfg down tap script))
       → IfSome script_left (λ script. length script < 2 ^ 64 - 1 → WritesOnce Holds cfg down tap script old now)
-  written_once Holds law h = by_script _ _ script_left (λ script text. once Holds law down script text) h
+  written_once Holds law h = by_script _ _ script_left (λ script text few. writes Holds cfg down tap script old now told taps text (law cfg fine down tap script few)) h
+
+  pub written_set_up : (Holds : Cfg → World → Type 0) → OfScriptsSetUp Holds → IfSome script_left (λ script. length script < 2 ^ 64 - 1 → Appends old now (sim_text cfg down tap script))
+      → IfSome script_left (λ script. length script < 2 ^ 64 - 1 → WritesSetUp Holds cfg down tap script old now)
+  written_set_up Holds law h = by_script _ _ script_left (λ script text. set_up Holds law down script text) h
 
   pub written_in_sessions : OfAllScripts SessionsKeepOrder → IfSome script_left (λ script. length script < 2 ^ 64 - 1 → Appends old now (sim_text cfg down tap script))
       → IfSome script_left (λ script. length script < 2 ^ 64 - 1 → Writes SessionsKeepOrder cfg down tap script old now)

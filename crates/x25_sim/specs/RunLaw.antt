@@ -5,7 +5,7 @@ use Rattle.x25_station.specs.Settings.{config_refusal}
 use Rattle.x25_script.specs.PlainLine.{connect, PlainLine, command}
 use Rattle.x25_program.specs.Lines.{lines_of}
 use Rattle.x25_world.specs.World.{World, OnTap, AtEnd, Event, AreAccepted, run, start, established}
-use Rattle.x25_world.specs.Claims.{AreInOctets, IsUpOnce, NoneConnects}
+use Rattle.x25_world.specs.Claims.{AreInOctets, IsUpOnce, IsUpAtMostOnce, NoneConnects}
 use Rattle.x25_sim.specs.Sayings.{Saying, enters, taps, reads_nothing, refuses}
 use Rattle.x25_sim.specs.Simulated.{asked_in, simulated}
 
@@ -54,9 +54,14 @@ pub record IsRun (cfg : Cfg) (down tap : Bool) (script : List ℕ) : Type 0 wher
 abbrev pub ScriptsAreRuns : Type 0
 ScriptsAreRuns = (cfg : Cfg) (down tap : Bool) (script : List ℕ) → IsRun cfg down tap script
 
--- what holds of each world to which a script leads from a link just set up, which isn't set up anew
+-- what holds of each world to which a script leads, up to the moment at which an end goes up a second time
 abbrev pub OfScripts : (Cfg → World → Type 0) → Type 0
-OfScripts Holds = (cfg : Cfg) → config_refusal cfg ≡ None → (tap : Bool) (script : List ℕ) → IsUpOnce cfg (simulated cfg false tap script).next
+OfScripts Holds = (cfg : Cfg) → config_refusal cfg ≡ None → (down tap : Bool) (script : List ℕ) → IsUpAtMostOnce cfg (simulated cfg down tap script).next
+    → Holds cfg (simulated cfg down tap script).next
+
+-- .. from a link just set up, which isn't set up anew
+abbrev pub OfScriptsSetUp : (Cfg → World → Type 0) → Type 0
+OfScriptsSetUp Holds = (cfg : Cfg) → config_refusal cfg ≡ None → (tap : Bool) (script : List ℕ) → IsUpOnce cfg (simulated cfg false tap script).next
     → Holds cfg (simulated cfg false tap script).next
 
 -- by a script in which no line asks for it the link isn't set up anew

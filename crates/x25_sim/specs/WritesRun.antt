@@ -3,7 +3,7 @@ use Rattle.std.specs.Prelude.{◌≡◌, ℕ, Bool, true, false, List, Option}
 use Rattle.std.specs.Io.KnownBytes.{Appends}
 use Rattle.x25_station.specs.declared.config.Cfg.{Cfg}
 use Rattle.x25_world.specs.World.{World}
-use Rattle.x25_world.specs.Claims.{IsUpOnce}
+use Rattle.x25_world.specs.Claims.{IsUpOnce, IsUpAtMostOnce}
 use Rattle.x25_sim.specs.Sayings.{Saying, sayings_text}
 use Rattle.x25_sim.specs.Simulated.{simulated}
 use Rattle.x25_sim.specs.RunLaw.{entries_in, frames_in}
@@ -17,6 +17,10 @@ pub record Writes (Holds : Cfg → World → Type 0) (cfg : Cfg) (down tap : Boo
   pub frames : tap ≡ true → frames_in sayings ≡ (simulated cfg down tap script).next.tap
   pub holds : Holds cfg (simulated cfg down tap script).next
 
--- .. of a script that begins with the link set up, as long as neither end goes up again
+-- .. as long as neither end goes up a second time
 abbrev pub WritesOnce : (Cfg → World → Type 0) → Cfg → Bool → Bool → List ℕ → Option (List ℕ) → Option (List ℕ) → Type 0
-WritesOnce Holds cfg down tap script old now = down ≡ false → IsUpOnce cfg (simulated cfg down tap script).next → Writes Holds cfg down tap script old now
+WritesOnce Holds cfg down tap script old now = IsUpAtMostOnce cfg (simulated cfg down tap script).next → Writes Holds cfg down tap script old now
+
+-- .. of a script that begins with the link set up, which isn't set up anew
+abbrev pub WritesSetUp : (Cfg → World → Type 0) → Cfg → Bool → Bool → List ℕ → Option (List ℕ) → Option (List ℕ) → Type 0
+WritesSetUp Holds cfg down tap script old now = down ≡ false → IsUpOnce cfg (simulated cfg down tap script).next → Writes Holds cfg down tap script old now

@@ -2,7 +2,7 @@
 //! does nothing.
 ghost use Rattle.x25_world.specs.Claims.{ArrivesAll, HasNoProcedureError, IsInWindow, IsLawful, IsNamed};
 ghost use Rattle.x25_world.specs.SessionClaims.{AllArrive, AreLawfulWhereMet, AreNamedInSessions, MeetInStep, OpenStretchesMeet, UnmetAreToldNothing};
-ghost use Rattle.x25_sim.specs.RunLaw.{OfAllScripts, OfScripts, ScriptsAreRuns, ScriptsAreTapped, ScriptsAreTold, UpOnceUnlessAsked};
+ghost use Rattle.x25_sim.specs.RunLaw.{OfAllScripts, OfScripts, OfScriptsSetUp, ScriptsAreRuns, ScriptsAreTapped, ScriptsAreTold, UpOnceUnlessAsked};
 ghost use Rattle.x25_sim.specs.ScriptRows.{BothEndsGoDown, CallsCollide, DamageIsSeen, FramesAreWritten, LinkGoesDown, LinkIsSetUp, LinkIsSetUpAgain, LinksComeUp, LostUaComesAgain, MessagesArrive, OtherLinesAreRefused, ResetIsDone, RestartIsDone};
 
 use x25_script::lines_are_in_octets;
@@ -17,10 +17,10 @@ pub fn scripts_are_runs()
     lines_are_in_octets();
 }
 
-/// For every script that begins with both links up, as long as the link isn't set up anew, by which an end is told of LinkUp again: what
-/// `two_stations_keep_order` says of two stations holds of those to which the script leads. By `up_once` it isn't where no line of the
-/// script is `connect`, so that such a script has no other premise than those below. For every script, and also with `down`, transcript
-/// and tap are the entries and the frames that are written.
+/// For every script, with `down` or without, as long as neither end is told of LinkUp a second time: what `two_stations_keep_order` says of two
+/// stations holds of those to which the script leads, `window` of a script that begins with both links up. By `up_once` each end of such a script
+/// is told of it once where no line is `connect`, so that it has no other premise than those below. For every script transcript and tap are the
+/// entries and the frames that are written.
 ///
 /// Premises: k is 1 to 7, N2 1 to 255, channels 1 to 16.
 pub fn scripts_keep_order()
@@ -28,7 +28,7 @@ pub fn scripts_keep_order()
     ensures named { OfScripts IsNamed }
     ensures arrives { OfScripts ArrivesAll }
     ensures quiet { OfScripts HasNoProcedureError }
-    ensures window { OfScripts IsInWindow }
+    ensures window { OfScriptsSetUp IsInWindow }
     ensures up_once { UpOnceUnlessAsked }
     ensures told { ScriptsAreTold }
     ensures tapped { ScriptsAreTapped }

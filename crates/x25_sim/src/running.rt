@@ -5,7 +5,7 @@ ghost use Rattle.x25_program.specs.Written.{AppendsBeginning};
 ghost use Rattle.x25_station.specs.Settings.{config_refusal};
 ghost use Rattle.x25_sim.specs.Simulated.{simulated, sim_status, sim_text};
 ghost use Rattle.x25_sim.specs.Stream.{WritesEnded};
-ghost use Rattle.x25_sim.specs.WritesRun.{Writes, WritesOnce};
+ghost use Rattle.x25_sim.specs.WritesRun.{Writes, WritesOnce, WritesSetUp};
 ghost use Rattle.x25_world.specs.Claims.{ArrivesAll, HasNoProcedureError, IsInWindow, IsLawful, IsNamed};
 ghost use Rattle.x25_world.specs.SessionClaims.{SessionsKeepOrder};
 
@@ -44,8 +44,8 @@ pub fn sim<R: Source, W: Sink>(
     ensures status { IfOk result (λ status. IfSome (R.remaining reader.old) (λ script. length script < 2 ^ 64 - 1
         → status ≡ sim_status cfg down tap script)) }
 
-    // What is written is the transcript of a run of two stations, and with `tap` its frames, of which the claims hold: of a script that begins with
-    // the link set up, as long as neither end goes up again, ..
+    // What is written is the transcript of a run of two stations, and with `tap` its frames, of which the claims hold: as long as neither end
+    // goes up a second time, `window` of a script that begins with the link set up, ..
     ensures lawful { OnOk result (IfSome (R.remaining reader.old) (λ script. length script < 2 ^ 64 - 1
         → WritesOnce IsLawful cfg down tap script (W.contents writer.old) (W.contents writer.new))) }
     ensures named { OnOk result (IfSome (R.remaining reader.old) (λ script. length script < 2 ^ 64 - 1
@@ -55,7 +55,7 @@ pub fn sim<R: Source, W: Sink>(
     ensures quiet { OnOk result (IfSome (R.remaining reader.old) (λ script. length script < 2 ^ 64 - 1
         → WritesOnce HasNoProcedureError cfg down tap script (W.contents writer.old) (W.contents writer.new))) }
     ensures window { OnOk result (IfSome (R.remaining reader.old) (λ script. length script < 2 ^ 64 - 1
-        → WritesOnce IsInWindow cfg down tap script (W.contents writer.old) (W.contents writer.new))) }
+        → WritesSetUp IsInWindow cfg down tap script (W.contents writer.old) (W.contents writer.new))) }
     // .. and of every script those on sessions.
     ensures sessions { OnOk result (IfSome (R.remaining reader.old) (λ script. length script < 2 ^ 64 - 1
         → Writes SessionsKeepOrder cfg down tap script (W.contents writer.old) (W.contents writer.new))) }

@@ -75,6 +75,10 @@ connected_is : (cfg : Cfg) → connected cfg ≡ asked
 unfolding pumped
 connected_is cfg = refl
 
+-- no transcript tells of it
+pub connected_tells : (cfg : Cfg) → (connected cfg).transcript ≡ []
+connected_tells cfg = ap (λ (w : World). w.transcript) (connected_is cfg)
+
 pub kept_new : IsKept new_station
 kept_new = record { few = omega arith; rests = λ off. refl }
 

@@ -1,5 +1,5 @@
 -- After each list of events by which the link isn't set up anew the claims hold, as they do on its sessions.
-use Rattle.std.proofs.Common.{◌≡◌, List, true, false, None, inr, refl}
+use Rattle.std.proofs.Common.{◌≡◌, List, true, false, None}
 use Rattle.x25_bits.specs.declared.role.Role.TheVariants.{Dte}
 use Rattle.x25_line.specs.StationClaims as links
 use Rattle.x25_line.specs.StationClaims.{OneLinkUnlessConnected, AreInWindow}
@@ -7,14 +7,14 @@ use Rattle.x25_station.specs.declared.config.Cfg.{Cfg}
 use Rattle.x25_station.specs.Settings.{config_refusal}
 use Rattle.x25_station.specs.KeepLaw.{ConnectKeeps}
 use Rattle.x25_world.specs.World.{Event, run, established}
-use Rattle.x25_world.specs.Claims.{Always, AreInOctets, UpOnceUnlessConnected, IsSetUp, IsLawful, IsNamed, ArrivesAll, HasNoProcedureError, IsInWindow}
+use Rattle.x25_world.specs.Claims.{Always, UntilSecondUp, AreInOctets, UpOnceUnlessConnected, IsSetUp, IsLawful, IsNamed, ArrivesAll, HasNoProcedureError, IsInWindow}
 use Rattle.x25_world.proofs.Known.{is_configured}
 use Rattle.x25_world.proofs.Established.{set_up_accepted}
 use Rattle.x25_world.proofs.SessionReaches.{set_up}
 use Rattle.x25_world.proofs.SessionJoined.{SessionsJoined}
 use Rattle.x25_world.proofs.SessionKnown.{SessionLaws}
-use Rattle.x25_world.proofs.SessionRuns.{set_up_throughout}
-use Rattle.x25_world.proofs.SessionHeadline.{throughout_quiet}
+use Rattle.x25_world.proofs.SessionRuns.{set_up_throughout, joined_from}
+use Rattle.x25_world.proofs.SessionQuiet.{has_no_error}
 use Rattle.x25_world.proofs.SetUpOnce.{lawful_once, named_once, arrives_once, in_window, is_up_once}
 
 module _ (laws : SessionLaws) (keeps : ConnectKeeps) where
@@ -27,17 +27,17 @@ module _ (laws : SessionLaws) (keeps : ConnectKeeps) where
   pub is_set_up : IsSetUp
   is_set_up cfg = set_up_accepted laws.stations cfg
 
-  pub always_lawful : Always IsLawful
-  always_lawful cfg fine events octets once = lawful_once laws cfg (is_configured cfg fine) (run cfg events (established cfg)) (joined cfg fine events octets) once
+  pub always_lawful : UntilSecondUp IsLawful
+  always_lawful cfg fine begin which events octets once = lawful_once laws cfg (is_configured cfg fine) (run cfg events begin) (joined_from laws keeps cfg fine begin which events octets) once
 
-  pub always_named : Always IsNamed
-  always_named cfg fine events octets once = named_once laws cfg (is_configured cfg fine) (run cfg events (established cfg)) (joined cfg fine events octets) once
+  pub always_named : UntilSecondUp IsNamed
+  always_named cfg fine begin which events octets once = named_once laws cfg (is_configured cfg fine) (run cfg events begin) (joined_from laws keeps cfg fine begin which events octets) once
 
-  pub always_arrives : Always ArrivesAll
-  always_arrives cfg fine events octets once = arrives_once laws cfg (is_configured cfg fine) (run cfg events (established cfg)) (joined cfg fine events octets) once
+  pub always_arrives : UntilSecondUp ArrivesAll
+  always_arrives cfg fine begin which events octets once = arrives_once laws cfg (is_configured cfg fine) (run cfg events begin) (joined_from laws keeps cfg fine begin which events octets) once
 
-  pub always_quiet : Always HasNoProcedureError
-  always_quiet cfg fine events octets once = throughout_quiet laws keeps cfg fine (established cfg) (inr refl) events octets
+  pub always_quiet : UntilSecondUp HasNoProcedureError
+  always_quiet cfg fine begin which events octets once = has_no_error laws cfg (is_configured cfg fine) (run cfg events begin) (joined_from laws keeps cfg fine begin which events octets)
 
   pub always_in_window : links.Always AreInWindow → Always IsInWindow
   always_in_window law cfg fine events octets once = in_window laws cfg (is_configured cfg fine) (run cfg events (established cfg)) (joined cfg fine events octets) once law

@@ -10,7 +10,7 @@ use Rattle.x25_station.specs.Command.{Requests, Connects, Disconnects}
 use Rattle.x25_station.specs.Station.{new_station}
 use Rattle.x25_station.specs.KeepLaw.{ConnectKeeps}
 use Rattle.x25_world.specs.World.{AtEnd, World, swapped, WorldOutcome, Happened, Declined, swapped_back, Act, Commands, Receives, Fires, Loses, Damages, acts, Event, happens, refusal_of, after, run, start, connected, established}
-use Rattle.x25_world.specs.Claims.{ActsInOctets, AreInOctets, IsNoConnect, NoneConnects}
+use Rattle.x25_world.specs.Claims.{ActsInOctets, AreInOctets, IsBeginning, IsNoConnect, NoneConnects}
 use Rattle.x25_world.specs.Sessions.{Progress, progress_at, last_session}
 use Rattle.x25_world.specs.SessionClaims.{Throughout}
 use Rattle.x25_world.proofs.Known.{IsConfigured, is_configured}
@@ -102,10 +102,12 @@ module _ (laws : SessionLaws) (cfg : Cfg) (fine : IsConfigured cfg) where
     far_hears = λ n. inl (refl, refl);
   }
 
+  connected_joined : ConnectKeeps → SessionsJoined both_down cfg Dte (connected cfg)
+  connected_joined keeps = connects_alone_joined laws cfg fine Dte start start_joined (λ off. not_set_up false off) keeps
+
   established_joined : ConnectKeeps → SessionsJoined both_down cfg Dte (established cfg)
   established_joined keeps =
-      run_joined (record { at = Dce; act = Receives } ∷ record { at = Dte; act = Receives } ∷ []) (connected cfg) (tt, (tt, tt)) (λ off. not_set_up false off)
-      (connects_alone_joined laws cfg fine Dte start start_joined (λ off. not_set_up false off) keeps)
+      run_joined (record { at = Dce; act = Receives } ∷ record { at = Dte; act = Receives } ∷ []) (connected cfg) (tt, (tt, tt)) (λ off. not_set_up false off) (connected_joined keeps)
 
   -- .. from which two stations run too
   set_up_joined : (asks : Bool) → ConnectKeeps → SessionsJoined (set_up asks) cfg Dte (established cfg)
@@ -141,6 +143,18 @@ module _ (laws : SessionLaws) (cfg : Cfg) (fine : IsConfigured cfg) where
         near_hears = h.near_hears;
         far_hears = h.far_hears;
       }
+
+-- at each world of a run from any beginning
+pub joined_from : (laws : SessionLaws) → ConnectKeeps → (cfg : Cfg) → config_refusal cfg ≡ None → (begin : World) → IsBeginning cfg begin → (events : List Event) → AreInOctets events
+    → SessionsJoined both_down cfg Dte (run cfg events begin)
+joined_from laws keeps cfg fine begin is events octets =
+    run_joined laws cfg (is_configured cfg fine) events begin octets (λ off. not_set_up false off) (elim is [
+      | inl same ↦ subst (λ (w : World). SessionsJoined both_down cfg Dte w) (sym same) (start_joined laws cfg (is_configured cfg fine))
+      | inr rest ↦ elim rest [
+        | inl same ↦ subst (λ (w : World). SessionsJoined both_down cfg Dte w) (sym same) (connected_joined laws cfg (is_configured cfg fine) keeps)
+        | inr same ↦ subst (λ (w : World). SessionsJoined both_down cfg Dte w) (sym same) (established_joined laws cfg (is_configured cfg fine) keeps)
+      ]
+    ])
 
 -- at each world of such a run
 pub throughout_joined : (laws : SessionLaws) → ConnectKeeps → Throughout (λ (cfg : Cfg) (w : World). SessionsJoined both_down cfg Dte w)

@@ -1,5 +1,5 @@
 -- Where the link is set up once, each end has one session, these are in order, and all that the ends told of their layers is in them.
-use Rattle.std.proofs.Common.{◌≡◌, ℕ, ◌+◌, ◌≤◌, inl, inr, List, [], ◌∷◌, Bool, true, false, refl, sym, ap, ◌∙◌, subst, arith}
+use Rattle.std.proofs.Common.{◌≡◌, ℕ, zero, suc, ◌+◌, ◌≤◌, ◌⊎◌, inl, inr, List, [], ◌∷◌, Bool, true, false, refl, sym, ap, ◌∙◌, subst, arith}
 use Rattle.x25_bits.specs.declared.role.Role.{Role}
 use Rattle.x25_bits.specs.declared.role.Role.TheVariants.{Dte, Dce}
 use Rattle.x25_link.specs.MustSend.{other}
@@ -12,22 +12,26 @@ use Rattle.x25_layer.specs.Layer.{LayerNotice}
 use Rattle.x25_layer.specs.Law.{HandsUpLawfully, HasAllOf}
 use Rattle.x25_layer.specs.NameLaw.{first_name, counted}
 use Rattle.x25_layer.specs.Transcript.{Entry}
+use Rattle.x25_layer.specs.Layer.{goes_up}
+use Rattle.x25_layer.specs.Apart.{OwnMove, own_run}
+use Rattle.x25_layer.specs.World.{started}
+use Rattle.x25_link.specs.Station.{is_up}
 use Rattle.x25_station.specs.declared.config.Cfg.{Cfg}
-use Rattle.x25_station.specs.Entries.{StationEntry, of_channel, restart_asked, connect_asked, disconnect_asked, link_up, link_down, was_restarted, restart_confirmed, at_fault}
+use Rattle.x25_station.specs.Entries.{StationEntry, of_channel, restart_asked, connect_asked, disconnect_asked, link_up, link_down, layer_entries, was_restarted, restart_confirmed, at_fault}
 use Rattle.x25_station.specs.Station.{Station}
 use Rattle.x25_world.specs.World.{World}
-use Rattle.x25_world.specs.Claims.{entries_at, ups_in, IsUpOnce, handed_at, link_of, IsLawful, IsNamed, ArrivesAll, IsInWindow}
+use Rattle.x25_world.specs.Claims.{station_at, entries_at, ups_in, IsUpOnce, IsUpAtMostOnce, handed_at, link_of, IsLawful, IsNamed, ArrivesAll, IsInWindow}
 use Rattle.x25_world.specs.Sessions.{Progress, none_begun, after_entry, after_entries, session_at, last_session, handed_in}
 use Rattle.x25_world.proofs.Known.{IsConfigured}
 use Rattle.x25_world.proofs.OneLink.{IsAnew, OneLink}
-use Rattle.x25_world.proofs.SessionTrace.{Done, own}
-use Rattle.x25_world.proofs.SessionReaches.{set_up, known_sessions, joined_at}
+use Rattle.x25_world.proofs.SessionTrace.{Done, layer_of, own}
+use Rattle.x25_world.proofs.SessionReaches.{Beginning, set_up, known_sessions, joined_at}
 use Rattle.x25_world.proofs.SessionJoined.{HaveAll, IsEnd, HasMet, PairIsInOrder, SessionsJoined}
 use Rattle.x25_world.proofs.SessionKnown.{SessionLaws, met_in_order, nothing_in_order}
-use Rattle.x25_world.proofs.SessionMeets.{begun_both}
+use Rattle.x25_world.proofs.SessionMeets.{begun_both, meet_in_step}
 use Rattle.x25_world.proofs.SessionLawful.{own_lawful}
 use Rattle.x25_world.proofs.SessionNamed.{are_named}
-use Rattle.x25_world.proofs.SessionArrives.{all_arrive}
+use Rattle.x25_world.proofs.SessionArrives.{all_arrive, open_stretches_meet}
 
 -- ---- how many sessions an end began
 
@@ -97,18 +101,37 @@ module _ (laws : SessionLaws) (cfg : Cfg) (fine : IsConfigured cfg) (w : World) 
             (law (link_of cfg Dte) (link_of cfg Dce) (joined_at cfg Dte fine) one.reach.events (subst IsSetUpOnce (sym one.reach.run) still)),
       )
 
+-- ---- where neither end goes up a second time
+
+-- an end that goes up once at most began one session, or none
+few_begun : (begun : ℕ) → begun ≤ 1 → (begun ≡ 0) ⊎ (begun ≡ 1)
+few_begun zero few = inl refl
+few_begun (suc zero) few = inr refl
+few_begun (suc (suc n)) few = absurd (omega (arith, few))
+
+module _ {since : Beginning} (laws : SessionLaws) (cfg : Cfg) (fine : IsConfigured cfg) (w : World) (h : SessionsJoined since cfg Dte w) (once : IsUpAtMostOnce cfg w) where
+  near_few : h.links.near.begun ≤ 1
+  near_few = let told = once Dte in let is = ups_are_begun h.near in omega (arith, told, is)
+
+  far_few : h.links.far.begun ≤ 1
+  far_few = let told = once Dce in let is = ups_are_begun h.far in omega (arith, told, is)
+
   -- ---- the first session of an end has all that it told of its layer
 
   has_all : (end : Role) → HaveAll (session_at end 1 w.transcript) (entries_at end w.transcript)
-  has_all Dte = h.near.first_has_all (omega (arith, near_first))
-  has_all Dce = h.far.first_has_all (omega (arith, far_first))
+  has_all Dte = h.near.first_has_all near_few
+  has_all Dce = h.far.first_has_all far_few
 
-  last_has_all : (end : Role) → HaveAll (session_at end (last_session end w) w.transcript) (entries_at end w.transcript)
-  last_has_all end =
+  last_has_all : (end : Role) → 1 ≤ last_session end w → HaveAll (session_at end (last_session end w) w.transcript) (entries_at end w.transcript)
+  last_has_all end some =
       let began = begun_more none_begun (entries_at end w.transcript) in
       let told = once end in
-      let last : last_session end w ≡ 1 = omega (arith, began, told) in
+      let last : last_session end w ≡ 1 = omega (arith, began, told, some) in
       subst (λ (n : ℕ). HaveAll (session_at end n w.transcript) (entries_at end w.transcript)) (sym last) (has_all end)
+
+  up_began : (end : Role) → is_up (station_at end w).link.phase ≡ true → 1 ≤ last_session end w
+  up_began Dte up = let begun = h.near.first up in let is = ap (λ (p : Progress). p.begun) h.near.progress in omega (arith, begun, is)
+  up_began Dce up = let begun = h.far.first up in let is = ap (λ (p : Progress). p.begun) h.far.progress in omega (arith, begun, is)
 
   -- ---- the claims
 
@@ -117,20 +140,28 @@ module _ (laws : SessionLaws) (cfg : Cfg) (fine : IsConfigured cfg) (w : World) 
   paired = elim (h.near_hears 1) [
     | inl none ↦ elim (h.far_hears 1) [
       | inl none_there ↦ nothing_in_order cfg Dte h.trace 1 1 (h.near.alone 1 none.0) (h.far.alone 1 none_there.0)
-      | inr one ↦ met_in_order cfg Dte h.trace h.links.met 1 1 h.pairs (subst (λ (n : ℕ). HasMet n 1 h.links.met) (first_of h.links.near.begun one.session near_first one.begun.1 (begun one.session 1 one.has_met).0) one.has_met)
+      | inr one ↦ met_in_order cfg Dte h.trace h.links.met 1 1 h.pairs (subst (λ (n : ℕ). HasMet n 1 h.links.met) (first_of h.links.near.begun one.session near_few one.begun.1 (begun one.session 1 one.has_met).0) one.has_met)
     ]
-    | inr one ↦ met_in_order cfg Dte h.trace h.links.met 1 1 h.pairs (subst (λ (m : ℕ). HasMet 1 m h.links.met) (first_of h.links.far.begun one.session far_first one.begun.1 (begun 1 one.session one.has_met).1) one.has_met)
+    | inr one ↦ met_in_order cfg Dte h.trace h.links.met 1 1 h.pairs (subst (λ (m : ℕ). HasMet 1 m h.links.met) (first_of h.links.far.begun one.session far_few one.begun.1 (begun 1 one.session one.has_met).1) one.has_met)
   ]
     where
       begun : (n m : ℕ) → HasMet n m h.links.met → (n ≤ h.links.near.begun) × (m ≤ h.links.far.begun)
       begun n m met = begun_both h.links.near.begun h.links.far.begun h.links.met n m (known_sessions OnlyBegunHaveLists laws.begun cfg fine Dte h.links h.reach).met met
 
-      first_of : (last n : ℕ) → last ≡ 1 → 1 ≤ n → n ≤ last → n ≡ 1
-      first_of last n is low high = omega (arith, is, low, high)
+      first_of : (last n : ℕ) → last ≤ 1 → 1 ≤ n → n ≤ last → n ≡ 1
+      first_of last n few low high = omega (arith, few, low, high)
+
+  handed_by : (end : Role) {s : Station} {k : SessionEnd} → IsEnd cfg end s k h.trace (entries_at end w.transcript) → k.begun ≤ 1 → (own cfg end 1 h.trace).entries ≡ handed_at end w
+  handed_by end {s} {k} e few = elim (few_begun k.begun few) [
+    | inl none ↦ (let nothing = e.later 1 (omega (arith, none)) in
+      ap (λ (moves : List OwnMove). (own_run (layer_of cfg end) moves (started (goes_up (layer_of cfg end)))).entries) nothing.moves
+      ∙ sym (ap layer_entries nothing.entries) ∙ (e.first_has_all few).entries)
+    | inr one ↦ (e.sessions 1 (omega arith) (omega (arith, one))).entries ∙ (e.first_has_all few).entries
+  ]
 
   handed : (end : Role) → (own cfg end 1 h.trace).entries ≡ handed_at end w
-  handed Dte = (h.near.sessions 1 (omega arith) (omega (arith, near_first))).entries ∙ (has_all Dte).entries
-  handed Dce = (h.far.sessions 1 (omega arith) (omega (arith, far_first))).entries ∙ (has_all Dce).entries
+  handed Dte = handed_by Dte h.near near_few
+  handed Dce = handed_by Dce h.far far_few
 
   pub lawful_once : IsLawful cfg w
   lawful_once end = subst (λ (e : List Entry). HandsUpLawfully e (handed_at (other end) w)) (handed end)
@@ -141,9 +172,11 @@ module _ (laws : SessionLaws) (cfg : Cfg) (fine : IsConfigured cfg) (w : World) 
       by Dce = paired
 
   pub named_once : IsNamed cfg w
-  named_once end channel up = are_named laws cfg fine w h end channel up ∙ ap (λ (ns : List LayerNotice). counted channel first_name ns) (last_has_all end).told
+  named_once end channel up = are_named laws cfg fine w h end channel up ∙ ap (λ (ns : List LayerNotice). counted channel first_name ns) (last_has_all end (up_began end up)).told
 
   pub arrives_once : ArrivesAll cfg w
   arrives_once end channel name idle here there =
-      subst (λ (e : List Entry). HasAllOf channel name e (handed_at (other end) w)) (last_has_all end).entries
-      (subst (λ (f : List Entry). HasAllOf channel name (handed_in end (last_session end w) w) f) (last_has_all (other end)).entries (all_arrive laws cfg fine w h end channel name idle here there))
+      let met = open_stretches_meet laws cfg fine w h end channel channel name name here there in
+      let begun = (meet_in_step laws cfg fine w h).begun end (last_session end w) (last_session (other end) w) met in
+      subst (λ (e : List Entry). HasAllOf channel name e (handed_at (other end) w)) (last_has_all end begun.0).entries
+      (subst (λ (f : List Entry). HasAllOf channel name (handed_in end (last_session end w) w) f) (last_has_all (other end) begun.2).entries (all_arrive laws cfg fine w h end channel name idle here there))

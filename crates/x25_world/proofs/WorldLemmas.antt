@@ -17,8 +17,9 @@ use Rattle.x25_station.specs.Steps.{Outcome, Did, Refused, commands, fires}
 use Rattle.x25_world.specs.declared.event.Event as code_event
 use Rattle.x25_world.specs.declared.error.WorldError.{WorldError}
 use Rattle.x25_world.specs.declared.error.WorldError.TheVariants as error
-use Rattle.x25_world.specs.World.{World, swapped, Event, Act, Commands, Receives, Fires, Loses, Damages, WorldOutcome, Happened, Declined, of_station, delivered, is_on_line, acts, swapped_back, event_of, happens, after, refusal_of, run, AreAccepted, established, start}
-use Rattle.x25_world.specs.Claims.{ActsInOctets, AreInOctets, IsUpOnce, NoneConnects, SetsUpOnce, UpOnceUnlessConnected, Always, HasNoProcedureError}
+use Rattle.x25_world.specs.World.{World, swapped, Event, Act, Commands, Receives, Fires, Loses, Damages, WorldOutcome, Happened, Declined, of_station, delivered, is_on_line, acts, swapped_back, event_of, AtEnd, happens, after, refusal_of, run, AreAccepted, connected, established, start}
+use Rattle.x25_world.specs.Claims.{ActsInOctets, AreInOctets, entries_at, ups_in, IsUpOnce, IsUpAtMostOnce, IsBeginning, NoneConnects, SetsUpOnce, UpOnceUnlessConnected, Always, UntilSecondUp, HasNoProcedureError}
+use Rattle.x25_world.proofs.Established.{connected_tells}
 use Rattle.x25_world.specs.SessionClaims.{Throughout, MeetInStep, AreLawfulWhereMet, AreNamedInSessions, AllArrive, UnmetAreToldNothing, OpenStretchesMeet, SessionsKeepOrder}
 use Rattle.x25_world.specs.ShownWorld.{ShownWorld, ShownSide}
 use Rattle.x25_world.specs.FitsWorld.{Gone, nothing_gone, FitsWorld, FitsRun, Leaves, with_gone, and_then, FitsSide, HasHappened, IsRefusal, StopsAt, RefusesConfig}
@@ -197,8 +198,26 @@ held_is cfg v w gone h = rw (h.to_dce, h.to_dte, sym h.tap, sym h.transcript) re
 pub leaves : (Holds : Cfg → World → Type 0) (v : ShownWorld) (cfg : Cfg) (from : World) (events : List Event) (gone : Gone) → FitsRun cfg from v events gone → Holds cfg (run cfg events from) → Leaves Holds cfg from v events gone
 leaves Holds v cfg from events gone h holds = record { fits = h; holds = holds; held = subst (λ (w : World). Holds cfg w) (held_is cfg v (run cfg events from) gone h.fits) holds }
 
-pub holds_after : (Holds : Cfg → World → Type 0) (v : ShownWorld) (cfg : Cfg) (events : List Event) (gone : Gone) → Always Holds → FitsRun cfg (established cfg) v events gone → SetsUpOnce cfg events → Leaves Holds cfg (established cfg) v events gone
-holds_after Holds v cfg events gone law h once = leaves Holds v cfg (established cfg) events gone h (law cfg h.settings events h.octets once)
+pub holds_after_set_up : (Holds : Cfg → World → Type 0) (v : ShownWorld) (cfg : Cfg) (events : List Event) (gone : Gone) → Always Holds → FitsRun cfg (established cfg) v events gone → SetsUpOnce cfg events → Leaves Holds cfg (established cfg) v events gone
+holds_after_set_up Holds v cfg events gone law h once = leaves Holds v cfg (established cfg) events gone h (law cfg h.settings events h.octets once)
+
+pub holds_after : (Holds : Cfg → World → Type 0) (v : ShownWorld) (cfg : Cfg) (from : World) (events : List Event) (gone : Gone) → UntilSecondUp Holds → IsBeginning cfg from → FitsRun cfg from v events gone
+    → IsUpAtMostOnce cfg (run cfg events from) → Leaves Holds cfg from v events gone
+holds_after Holds v cfg from events gone law begins h once = leaves Holds v cfg from events gone h (law cfg h.settings from begins events h.octets once)
+
+-- where nothing was told no end went up
+none_up : (cfg : Cfg) (w : World) → w.transcript ≡ [] → IsUpAtMostOnce cfg w
+none_up cfg w nothing end = subst (λ (t : List AtEnd). ups_in (entries_at end t) ≤ 1) (sym nothing) (omega arith)
+
+pub start_up : (cfg : Cfg) → IsUpAtMostOnce cfg start
+start_up cfg = none_up cfg start refl
+
+pub connected_up : (cfg : Cfg) → IsUpAtMostOnce cfg (connected cfg)
+connected_up cfg = none_up cfg (connected cfg) (connected_tells cfg)
+
+-- an end that went up once went up once at most
+pub once_at_most : (cfg : Cfg) (w : World) → IsUpOnce cfg w → IsUpAtMostOnce cfg w
+once_at_most cfg w once = λ end. let told = once end in omega (arith, told)
 
 pub holds_throughout : (Holds : Cfg → World → Type 0) (v : ShownWorld) (cfg : Cfg) (from : World) (events : List Event) (gone : Gone) → Throughout Holds → (from ≡ start) ⊎ (from ≡ established cfg) → FitsRun cfg from v events gone
     → Leaves Holds cfg from v events gone

@@ -1,5 +1,5 @@
 -- What holds of two stations and the line between them after every list of events, as long as the link isn't set up anew.
-use Rattle.std.specs.Prelude.{◌≡◌, Bool, ℕ, suc, true, List, [], ◌∷◌, ◌++◌, Option, Some, None, Result, Ok, Err}
+use Rattle.std.specs.Prelude.{◌≡◌, ◌≤◌, ◌⊎◌, Bool, ℕ, suc, true, List, [], ◌∷◌, ◌++◌, Option, Some, None, Result, Ok, Err}
 use Rattle.x25_bits.specs.declared.role.Role.{Role}
 use Rattle.x25_bits.specs.declared.role.Role.TheVariants.{Dte, Dce}
 use Rattle.x25_packet.specs.PlainPacket.{PlainPacket}
@@ -26,7 +26,7 @@ use Rattle.x25_station.specs.ReadLaw.{RequestsOctets}
 use Rattle.x25_station.specs.Station.{Station}
 use Rattle.x25_station.specs.Told.{is_idle, stretch}
 use Rattle.x25_world.specs.declared.error.WorldError.{WorldError}
-use Rattle.x25_world.specs.World.{OnTap, AtEnd, World, Act, Commands, Receives, Event, happens, refusal_of, after, run, AreAccepted, connected, established}
+use Rattle.x25_world.specs.World.{OnTap, AtEnd, World, Act, Commands, Receives, Event, happens, refusal_of, after, run, AreAccepted, start, connected, established}
 
 -- ---- an end and its transcript
 
@@ -54,6 +54,10 @@ ups_in (entry ∷ entries) = ups_in entries
 abbrev pub IsUpOnce : Cfg → World → Type 0
 IsUpOnce cfg w = (end : Role) → ups_in (entries_at end w.transcript) ≡ 1
 
+-- neither end told of LinkUp a second time
+abbrev pub IsUpAtMostOnce : Cfg → World → Type 0
+IsUpAtMostOnce cfg w = (end : Role) → ups_in (entries_at end w.transcript) ≤ 1
+
 -- ---- every list of events
 
 -- what users hand down is octets
@@ -78,6 +82,14 @@ SetsUpOnce cfg events = IsUpOnce cfg (run cfg events (established cfg))
 -- what holds after each list of events, of commands, deliveries, losses, damage and timer T1, from a link just set up, which isn't set up anew
 abbrev pub Always : (Cfg → World → Type 0) → Type 0
 Always Holds = (cfg : Cfg) → config_refusal cfg ≡ None → (events : List Event) → AreInOctets events → SetsUpOnce cfg events → Holds cfg (run cfg events (established cfg))
+
+-- from where a run begins: both links are down, the DTE has asked that the link be set up, or it was just set up
+abbrev pub IsBeginning : Cfg → World → Type 0
+IsBeginning cfg begin = (begin ≡ start) ⊎ ((begin ≡ connected cfg) ⊎ (begin ≡ established cfg))
+
+-- what holds after each list of events from there, up to the moment at which an end goes up a second time
+abbrev pub UntilSecondUp : (Cfg → World → Type 0) → Type 0
+UntilSecondUp Holds = (cfg : Cfg) → config_refusal cfg ≡ None → (begin : World) → IsBeginning cfg begin → (events : List Event) → AreInOctets events → IsUpAtMostOnce cfg (run cfg events begin) → Holds cfg (run cfg events begin)
 
 -- not a `connect` that is accepted
 abbrev pub IsNoConnect : Act → Option WorldError → Type 0

@@ -8,7 +8,7 @@ use Rattle.x25_station.specs.declared.error.StationError.{StationError}
 use Rattle.x25_station.specs.Settings.{settings_from, config_refusal}
 use Rattle.x25_station.specs.FitsStation.{FitsStation}
 use Rattle.x25_world.specs.World.{OnTap, AtEnd, World, Event, Act, Loses, WorldOutcome, Happened, Declined, happens, refusal_of, run, AreAccepted, start, established}
-use Rattle.x25_world.specs.Claims.{AreInOctets, IsUpOnce, SetsUpOnce, NoneConnects}
+use Rattle.x25_world.specs.Claims.{AreInOctets, IsUpOnce, IsUpAtMostOnce, SetsUpOnce, IsBeginning, NoneConnects}
 use Rattle.x25_world.specs.ShownLine.{line_to}
 use Rattle.x25_world.specs.ShownWorld.{ShownWorld, ShownSide}
 use Rattle.x25_world.specs.declared.error.WorldError.{WorldError}
@@ -82,10 +82,15 @@ pub record Leaves (Holds : Cfg → World → Type 0) (cfg : Cfg) (from : World) 
   pub holds : Holds cfg (run cfg events from)
   pub held : Holds cfg (with_gone gone v (run cfg events from))
 
--- After each run that leads to the world before, it goes on so to the world that is left, and this holds of that: from a link just set up,
--- which isn't set up anew.
+-- After each run that leads to the world before, it goes on so to the world that is left, and this holds of that: up to the moment at which an
+-- end goes up a second time.
 abbrev pub HoldsAfter : (Cfg → World → Type 0) → ShownWorld → ShownWorld → (List Event → List Event) → Type 0
-HoldsAfter Holds old new more = (cfg : Cfg) (past : List Event) (gone : Gone) → FitsRun cfg (established cfg) old past gone → SetsUpOnce cfg (more past) → Leaves Holds cfg (established cfg) new (more past) gone
+HoldsAfter Holds old new more =
+    (cfg : Cfg) (from : World) (past : List Event) (gone : Gone) → IsBeginning cfg from → FitsRun cfg from old past gone → IsUpAtMostOnce cfg (run cfg (more past) from) → Leaves Holds cfg from new (more past) gone
+
+-- .. from a link just set up, which isn't set up anew
+abbrev pub HoldsAfterSetUp : (Cfg → World → Type 0) → ShownWorld → ShownWorld → (List Event → List Event) → Type 0
+HoldsAfterSetUp Holds old new more = (cfg : Cfg) (past : List Event) (gone : Gone) → FitsRun cfg (established cfg) old past gone → SetsUpOnce cfg (more past) → Leaves Holds cfg (established cfg) new (more past) gone
 
 -- .. from both links down, or from a link just set up, which may be set up anew
 abbrev pub HoldsThroughout : (Cfg → World → Type 0) → ShownWorld → ShownWorld → (List Event → List Event) → Type 0

@@ -3,7 +3,7 @@ ghost use Rattle.x25_station.specs.ReadLaw.{AreOctets};
 ghost use Rattle.x25_world.specs.World.{event_of};
 ghost use Rattle.x25_world.specs.WorldRows.{SetsUp, MessageArrives, LostArrives, DamagedArrives, DisconnectEndsBoth, ConnectSetsUp, ConnectGoesAgain, SecondMeetsFirst, SecondMeet, TimerWaits, IsRefused};
 ghost use Rattle.x25_world.specs.SessionClaims.{Throughout, MeetInStep, AreLawfulWhereMet, AreNamedInSessions, AllArrive, UnmetAreToldNothing, OpenStretchesMeet};
-ghost use Rattle.x25_world.specs.Claims.{ActsInOctets, Always, IsSetUp, IsLawful, IsNamed, ArrivesAll, HasNoProcedureError, IsInWindow, UpOnceUnlessConnected};
+ghost use Rattle.x25_world.specs.Claims.{ActsInOctets, Always, UntilSecondUp, IsSetUp, IsLawful, IsNamed, ArrivesAll, HasNoProcedureError, IsInWindow, UpOnceUnlessConnected};
 
 use crate::Event;
 use x25_frame::reads_what_is_spelled;
@@ -30,10 +30,10 @@ use x25_station::{Cmd, puts_are_readable, steps_are_joined, steps_keep_bounds};
 /// Premises: k is 1 to 7, N2 1 to 255, channels 1 to 16, and the users hand down octets.
 pub fn two_stations_keep_order()
     ensures set_up { IsSetUp }
-    ensures lawful { Always IsLawful }
-    ensures named { Always IsNamed }
-    ensures arrives { Always ArrivesAll }
-    ensures quiet { Always HasNoProcedureError }
+    ensures lawful { UntilSecondUp IsLawful }
+    ensures named { UntilSecondUp IsNamed }
+    ensures arrives { UntilSecondUp ArrivesAll }
+    ensures quiet { UntilSecondUp HasNoProcedureError }
     ensures window { Always IsInWindow }
     ensures up_once { UpOnceUnlessConnected }
 {

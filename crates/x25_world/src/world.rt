@@ -7,7 +7,7 @@ ghost use Rattle.x25_bits.specs.Harmless.{IsHarmless};
 ghost use Rattle.x25_world.specs.BitDamage.{bit_damage, RefusesBits};
 ghost use Rattle.x25_world.specs.PlainTold.{plain_tapped, plain_entered};
 ghost use Rattle.x25_world.specs.ShownWorld.{line_of, station_of};
-ghost use Rattle.x25_world.specs.FitsWorld.{Gone, all_of, nothing_gone, FitsWorld, FitsRun, Leaves, and_then, and_all, HoldsAfter, HoldsThroughout, UpOnceAfter, IsRefusal, TakesMemory, StopsAt, RefusesConfig};
+ghost use Rattle.x25_world.specs.FitsWorld.{Gone, all_of, nothing_gone, FitsWorld, FitsRun, Leaves, and_then, and_all, HoldsAfter, HoldsAfterSetUp, HoldsThroughout, UpOnceAfter, IsRefusal, TakesMemory, StopsAt, RefusesConfig};
 ghost use Rattle.x25_world.specs.Claims.{IsLawful, IsNamed, ArrivesAll, HasNoProcedureError, IsInWindow, IsUpOnce};
 ghost use Rattle.x25_world.specs.SessionClaims.{SessionsKeepOrder};
 ghost use Rattle.x25_world.specs.World as definition;
@@ -56,8 +56,13 @@ impl World {
         ensures fits { IfOk result (λ v. FitsWorld cfg v start nothing_gone) }
         ensures run { IfOk result (λ v. FitsRun cfg start v [] nothing_gone) }
         ensures refused { RefusesConfig result (config_refusal cfg) }
+        ensures lawful { IfOk result (λ v. Leaves IsLawful cfg start v [] nothing_gone) }
+        ensures named { IfOk result (λ v. Leaves IsNamed cfg start v [] nothing_gone) }
+        ensures arrives { IfOk result (λ v. Leaves ArrivesAll cfg start v [] nothing_gone) }
+        ensures quiet { IfOk result (λ v. Leaves HasNoProcedureError cfg start v [] nothing_gone) }
         ensures sessions { IfOk result (λ v. Leaves SessionsKeepOrder cfg start v [] nothing_gone) }
     {
+        two_stations_keep_order();
         stations_meet_in_sessions();
         Ok(World {
             dte: new_station(alloc, Role::Dte, cfg)?,
@@ -72,8 +77,14 @@ impl World {
     /// 14 where a setting is out of its range, and else 70 alone.
     pub fn connecting(alloc: Global, cfg: Cfg) -> Result<World, WorldError>
         ensures fits { IfOk result (λ v. FitsWorld cfg v (connected cfg) nothing_gone) }
+        ensures run { IfOk result (λ v. FitsRun cfg (connected cfg) v [] nothing_gone) }
         ensures refused { RefusesConfig result (config_refusal cfg) }
+        ensures lawful { IfOk result (λ v. Leaves IsLawful cfg (connected cfg) v [] nothing_gone) }
+        ensures named { IfOk result (λ v. Leaves IsNamed cfg (connected cfg) v [] nothing_gone) }
+        ensures arrives { IfOk result (λ v. Leaves ArrivesAll cfg (connected cfg) v [] nothing_gone) }
+        ensures quiet { IfOk result (λ v. Leaves HasNoProcedureError cfg (connected cfg) v [] nothing_gone) }
     {
+        two_stations_keep_order();
         let mut world = World::start(alloc, cfg)?;
         world.connect()?;
         Ok(world)
@@ -135,13 +146,13 @@ impl World {
         ensures stays { (cfg : Cfg) (w : definition.World) (gone : Gone) → FitsWorld cfg self.old w gone → OnErr result (FitsWorld cfg self.new w gone) }
         ensures memory { IsErrOf result WorldError.NoMemory → TakesMemory (event_of event.entry).act }
 
-        // The world is that of a run, and of each run from a link just set up, which isn't set up anew, this is proved.
+        // The world is that of a run, and of each run up to the moment at which an end goes up a second time this is proved, `window` and `up_once` from a link just set up.
         ensures run { (cfg : Cfg) (from : definition.World) (past : List definition.Event) (gone : Gone) → FitsRun cfg from self.old past gone → FitsRun cfg from self.new (and_then past (event_of event.entry) result) gone }
         ensures lawful { HoldsAfter IsLawful self.old self.new (λ past. and_then past (event_of event.entry) result) }
         ensures named { HoldsAfter IsNamed self.old self.new (λ past. and_then past (event_of event.entry) result) }
         ensures arrives { HoldsAfter ArrivesAll self.old self.new (λ past. and_then past (event_of event.entry) result) }
         ensures quiet { HoldsAfter HasNoProcedureError self.old self.new (λ past. and_then past (event_of event.entry) result) }
-        ensures window { HoldsAfter IsInWindow self.old self.new (λ past. and_then past (event_of event.entry) result) }
+        ensures window { HoldsAfterSetUp IsInWindow self.old self.new (λ past. and_then past (event_of event.entry) result) }
         ensures up_once { UpOnceAfter self.old self.new (λ past. and_then past (event_of event.entry) result) }
 
         // .. and of each run from there or from both links down, also where it is set up anew, this is.
@@ -170,13 +181,13 @@ impl World {
         ensures refused { (cfg : Cfg) (w : definition.World) (gone : Gone) → FitsWorld cfg self.old w gone → IfErr result (RefusesBits (line_of self.old direction) place bits.now) }
         ensures stays { (cfg : Cfg) (w : definition.World) (gone : Gone) → FitsWorld cfg self.old w gone → OnErr result (FitsWorld cfg self.new w gone) }
 
-        // The world is that of a run, and of each run from a link just set up, which isn't set up anew, this is proved.
+        // The world is that of a run, and of each run up to the moment at which an end goes up a second time this is proved, `window` and `up_once` from a link just set up.
         ensures run { (cfg : Cfg) (from : definition.World) (past : List definition.Event) (gone : Gone) → FitsRun cfg from self.old past gone → FitsRun cfg from self.new (and_then past (bit_damage direction place bits.now) result) gone }
         ensures lawful { HoldsAfter IsLawful self.old self.new (λ past. and_then past (bit_damage direction place bits.now) result) }
         ensures named { HoldsAfter IsNamed self.old self.new (λ past. and_then past (bit_damage direction place bits.now) result) }
         ensures arrives { HoldsAfter ArrivesAll self.old self.new (λ past. and_then past (bit_damage direction place bits.now) result) }
         ensures quiet { HoldsAfter HasNoProcedureError self.old self.new (λ past. and_then past (bit_damage direction place bits.now) result) }
-        ensures window { HoldsAfter IsInWindow self.old self.new (λ past. and_then past (bit_damage direction place bits.now) result) }
+        ensures window { HoldsAfterSetUp IsInWindow self.old self.new (λ past. and_then past (bit_damage direction place bits.now) result) }
         ensures up_once { UpOnceAfter self.old self.new (λ past. and_then past (bit_damage direction place bits.now) result) }
 
         // .. and of each run from there or from both links down, also where it is set up anew, this is.
@@ -223,13 +234,13 @@ impl World {
         ensures accepted { (cfg : Cfg) (w : definition.World) (gone : Gone) → FitsWorld cfg self.old w gone → OnOk result (AreAccepted cfg (map event_of events.now) w) }
         ensures stopped { (cfg : Cfg) (w : definition.World) (gone : Gone) → FitsWorld cfg self.old w gone → IfErr result (StopsAt cfg (map event_of events.now) w gone self.new) }
 
-        // The world is that of a run, and of each run from a link just set up, which isn't set up anew, this is proved.
+        // The world is that of a run, and of each run up to the moment at which an end goes up a second time this is proved, `window` and `up_once` from a link just set up.
         ensures run { (cfg : Cfg) (from : definition.World) (past : List definition.Event) (gone : Gone) → FitsRun cfg from self.old past gone → FitsRun cfg from self.new (and_all past (map event_of events.now) result) gone }
         ensures lawful { HoldsAfter IsLawful self.old self.new (λ past. and_all past (map event_of events.now) result) }
         ensures named { HoldsAfter IsNamed self.old self.new (λ past. and_all past (map event_of events.now) result) }
         ensures arrives { HoldsAfter ArrivesAll self.old self.new (λ past. and_all past (map event_of events.now) result) }
         ensures quiet { HoldsAfter HasNoProcedureError self.old self.new (λ past. and_all past (map event_of events.now) result) }
-        ensures window { HoldsAfter IsInWindow self.old self.new (λ past. and_all past (map event_of events.now) result) }
+        ensures window { HoldsAfterSetUp IsInWindow self.old self.new (λ past. and_all past (map event_of events.now) result) }
         ensures up_once { UpOnceAfter self.old self.new (λ past. and_all past (map event_of events.now) result) }
 
         // .. and of each run from there or from both links down, also where it is set up anew, this is.

@@ -3,7 +3,7 @@ use Rattle.std.proofs.lemmas.Result.{err_from_is_err_and, on_ok_weaker}
 use Rattle.x25_sim.specs.Simulated.{sim_text}
 use Rattle.x25_sim.proofs.ToldLemmas.{none_told}
 use Rattle.x25_sim.proofs.SimLemmas.{if_some, nothing_written, opening_failed, script_begins}
-use Rattle.x25_sim.proofs.WritesLemmas.{all_of_scripts, written_in_sessions, written_once}
+use Rattle.x25_sim.proofs.WritesLemmas.{all_of_scripts, written_in_sessions, written_once, written_set_up}
 use Rattle.x25_world.specs.Claims.{ArrivesAll, HasNoProcedureError, IsInWindow, IsLawful, IsNamed}
 use Rattle.x25_sim.proofs.running.sim.Goals as goal
 
@@ -84,7 +84,7 @@ returns-clause-quiet g c =
 pub returns-clause-window : goal.returns-clause-window
 returns-clause-window g c =
     let law = c.scripts_keep_order.ensures in
-    on_ok_weaker c.take_text.result (written_once c.args.cfg c.requires.range c.args.down c.args.tap (g.W.Sink.contents c.args.writer.now) _ (g.R.Source.remaining c.args.reader.now) law.told law.tapped IsInWindow law.window) (returns-clause-text g c)
+    on_ok_weaker c.take_text.result (written_set_up c.args.cfg c.requires.range c.args.down c.args.tap (g.W.Sink.contents c.args.writer.now) _ (g.R.Source.remaining c.args.reader.now) law.told law.tapped IsInWindow law.window) (returns-clause-text g c)
 
 pub returns-clause-sessions : goal.returns-clause-sessions
 returns-clause-sessions g c =

@@ -1,4 +1,4 @@
-use Rattle.x25_world.proofs.WorldLemmas.{run_and_then, holds_after, up_once_after, holds_throughout, all_of_sessions}
+use Rattle.x25_world.proofs.WorldLemmas.{run_and_then, holds_after, holds_after_set_up, up_once_after, holds_throughout, all_of_sessions}
 use Rattle.x25_world.specs.Claims.{IsLawful, IsNamed, ArrivesAll, HasNoProcedureError, IsInWindow}
 use Rattle.x25_world.specs.SessionClaims.{SessionsKeepOrder}
 use Rattle.x25_world.proofs.world.World.apply.Goals as goal
@@ -9,24 +9,24 @@ returns-clause-run c = λ cfg from past gone h.
     run_and_then cfg from _ _ past gone _ c.happen.result h c.hands_down_octets.ensures (λ w. called.step cfg w gone) (λ w. called.accepted cfg w gone) (λ w. called.stays cfg w gone)
 
 pub returns-clause-lawful : goal.returns-clause-lawful
-returns-clause-lawful c = λ cfg past gone h once.
-    holds_after IsLawful _ cfg _ gone c.two_stations_keep_order.ensures.lawful ((returns-clause-run c) cfg _ past gone h) once
+returns-clause-lawful c = λ cfg from past gone begins h once.
+    holds_after IsLawful _ cfg from _ gone c.two_stations_keep_order.ensures.lawful begins ((returns-clause-run c) cfg from past gone h) once
 
 pub returns-clause-named : goal.returns-clause-named
-returns-clause-named c = λ cfg past gone h once.
-    holds_after IsNamed _ cfg _ gone c.two_stations_keep_order.ensures.named ((returns-clause-run c) cfg _ past gone h) once
+returns-clause-named c = λ cfg from past gone begins h once.
+    holds_after IsNamed _ cfg from _ gone c.two_stations_keep_order.ensures.named begins ((returns-clause-run c) cfg from past gone h) once
 
 pub returns-clause-arrives : goal.returns-clause-arrives
-returns-clause-arrives c = λ cfg past gone h once.
-    holds_after ArrivesAll _ cfg _ gone c.two_stations_keep_order.ensures.arrives ((returns-clause-run c) cfg _ past gone h) once
+returns-clause-arrives c = λ cfg from past gone begins h once.
+    holds_after ArrivesAll _ cfg from _ gone c.two_stations_keep_order.ensures.arrives begins ((returns-clause-run c) cfg from past gone h) once
 
 pub returns-clause-quiet : goal.returns-clause-quiet
-returns-clause-quiet c = λ cfg past gone h once.
-    holds_after HasNoProcedureError _ cfg _ gone c.two_stations_keep_order.ensures.quiet ((returns-clause-run c) cfg _ past gone h) once
+returns-clause-quiet c = λ cfg from past gone begins h once.
+    holds_after HasNoProcedureError _ cfg from _ gone c.two_stations_keep_order.ensures.quiet begins ((returns-clause-run c) cfg from past gone h) once
 
 pub returns-clause-window : goal.returns-clause-window
 returns-clause-window c = λ cfg past gone h once.
-    holds_after IsInWindow _ cfg _ gone c.two_stations_keep_order.ensures.window ((returns-clause-run c) cfg _ past gone h) once
+    holds_after_set_up IsInWindow _ cfg _ gone c.two_stations_keep_order.ensures.window ((returns-clause-run c) cfg _ past gone h) once
 
 pub returns-clause-up_once : goal.returns-clause-up_once
 returns-clause-up_once c = λ cfg past gone h none.

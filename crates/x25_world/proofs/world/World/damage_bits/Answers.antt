@@ -7,7 +7,7 @@ use Rattle.x25_world.specs.FitsWorld.{FitsRun, and_then}
 use Rattle.x25_world.specs.Claims.{IsLawful, IsNamed, ArrivesAll, HasNoProcedureError, IsInWindow}
 use Rattle.x25_world.specs.SessionClaims.{SessionsKeepOrder}
 use Rattle.x25_world.proofs.BitDamageLemmas.{damage_is, refuses_bits}
-use Rattle.x25_world.proofs.WorldLemmas.{holds_after, up_once_after, holds_throughout, all_of_sessions}
+use Rattle.x25_world.proofs.WorldLemmas.{holds_after, holds_after_set_up, up_once_after, holds_throughout, all_of_sessions}
 use Rattle.x25_world.proofs.world.World.damage_bits.Goals as goal
 
 pub returns-clause-refused : goal.returns-clause-refused
@@ -24,19 +24,19 @@ returns-clause-run c = λ cfg from past gone h.
     subst (λ (e : Event). FitsRun cfg from c.apply.new.self (and_then past e c.apply.result) gone) (sym same) (c.apply.ensures.run cfg from past gone h)
 
 pub returns-clause-lawful : goal.returns-clause-lawful
-returns-clause-lawful c = λ cfg past gone h once. holds_after IsLawful _ cfg _ gone c.two_stations_keep_order.ensures.lawful ((returns-clause-run c) cfg _ past gone h) once
+returns-clause-lawful c = λ cfg from past gone begins h once. holds_after IsLawful _ cfg from _ gone c.two_stations_keep_order.ensures.lawful begins ((returns-clause-run c) cfg from past gone h) once
 
 pub returns-clause-named : goal.returns-clause-named
-returns-clause-named c = λ cfg past gone h once. holds_after IsNamed _ cfg _ gone c.two_stations_keep_order.ensures.named ((returns-clause-run c) cfg _ past gone h) once
+returns-clause-named c = λ cfg from past gone begins h once. holds_after IsNamed _ cfg from _ gone c.two_stations_keep_order.ensures.named begins ((returns-clause-run c) cfg from past gone h) once
 
 pub returns-clause-arrives : goal.returns-clause-arrives
-returns-clause-arrives c = λ cfg past gone h once. holds_after ArrivesAll _ cfg _ gone c.two_stations_keep_order.ensures.arrives ((returns-clause-run c) cfg _ past gone h) once
+returns-clause-arrives c = λ cfg from past gone begins h once. holds_after ArrivesAll _ cfg from _ gone c.two_stations_keep_order.ensures.arrives begins ((returns-clause-run c) cfg from past gone h) once
 
 pub returns-clause-quiet : goal.returns-clause-quiet
-returns-clause-quiet c = λ cfg past gone h once. holds_after HasNoProcedureError _ cfg _ gone c.two_stations_keep_order.ensures.quiet ((returns-clause-run c) cfg _ past gone h) once
+returns-clause-quiet c = λ cfg from past gone begins h once. holds_after HasNoProcedureError _ cfg from _ gone c.two_stations_keep_order.ensures.quiet begins ((returns-clause-run c) cfg from past gone h) once
 
 pub returns-clause-window : goal.returns-clause-window
-returns-clause-window c = λ cfg past gone h once. holds_after IsInWindow _ cfg _ gone c.two_stations_keep_order.ensures.window ((returns-clause-run c) cfg _ past gone h) once
+returns-clause-window c = λ cfg past gone h once. holds_after_set_up IsInWindow _ cfg _ gone c.two_stations_keep_order.ensures.window ((returns-clause-run c) cfg _ past gone h) once
 
 pub returns-clause-up_once : goal.returns-clause-up_once
 returns-clause-up_once c = λ cfg past gone h none. up_once_after _ cfg _ gone c.two_stations_keep_order.ensures.up_once ((returns-clause-run c) cfg _ past gone h) none
@@ -49,22 +49,22 @@ returns-clause-sessions c = λ cfg from past gone begins h.
 pub returns-in_err-octets-clause-lawful : goal.returns-in_err-octets-clause-lawful
 returns-in_err-octets-clause-lawful c =
     let p = err_from_is_err_and c.from_residual.result c.from_residual.ensures.1 in
-    rw p.1 (λ cfg past gone h once. holds_after IsLawful _ cfg past gone c.two_stations_keep_order.ensures.lawful h once)
+    rw p.1 (λ cfg from past gone begins h once. holds_after IsLawful _ cfg from past gone c.two_stations_keep_order.ensures.lawful begins h once)
 
 pub returns-in_err-octets-clause-named : goal.returns-in_err-octets-clause-named
 returns-in_err-octets-clause-named c =
     let p = err_from_is_err_and c.from_residual.result c.from_residual.ensures.1 in
-    rw p.1 (λ cfg past gone h once. holds_after IsNamed _ cfg past gone c.two_stations_keep_order.ensures.named h once)
+    rw p.1 (λ cfg from past gone begins h once. holds_after IsNamed _ cfg from past gone c.two_stations_keep_order.ensures.named begins h once)
 
 pub returns-in_err-octets-clause-arrives : goal.returns-in_err-octets-clause-arrives
 returns-in_err-octets-clause-arrives c =
     let p = err_from_is_err_and c.from_residual.result c.from_residual.ensures.1 in
-    rw p.1 (λ cfg past gone h once. holds_after ArrivesAll _ cfg past gone c.two_stations_keep_order.ensures.arrives h once)
+    rw p.1 (λ cfg from past gone begins h once. holds_after ArrivesAll _ cfg from past gone c.two_stations_keep_order.ensures.arrives begins h once)
 
 pub returns-in_err-octets-clause-window : goal.returns-in_err-octets-clause-window
 returns-in_err-octets-clause-window c =
     let p = err_from_is_err_and c.from_residual.result c.from_residual.ensures.1 in
-    rw p.1 (λ cfg past gone h once. holds_after IsInWindow _ cfg past gone c.two_stations_keep_order.ensures.window h once)
+    rw p.1 (λ cfg past gone h once. holds_after_set_up IsInWindow _ cfg past gone c.two_stations_keep_order.ensures.window h once)
 
 pub returns-in_err-octets-clause-sessions : goal.returns-in_err-octets-clause-sessions
 returns-in_err-octets-clause-sessions c = λ cfg from past gone begins h.

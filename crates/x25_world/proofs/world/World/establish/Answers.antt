@@ -1,6 +1,6 @@
 use Rattle.std.proofs.Common.{[], inr, refl}
 use Rattle.std.proofs.lemmas.Result.{err_from_is_err_and}
-use Rattle.x25_world.proofs.WorldLemmas.{in_range, new_run, holds_after, up_once_after, holds_throughout, all_of_sessions, refused_later}
+use Rattle.x25_world.proofs.WorldLemmas.{in_range, new_run, holds_after, holds_after_set_up, once_at_most, up_once_after, holds_throughout, all_of_sessions, refused_later}
 use Rattle.x25_world.specs.World.{established}
 use Rattle.x25_world.specs.FitsWorld.{nothing_gone}
 use Rattle.x25_world.specs.Claims.{IsLawful, IsNamed, ArrivesAll, HasNoProcedureError, IsInWindow}
@@ -18,27 +18,27 @@ returns-clause-run c = new_run c.args.cfg (established c.args.cfg) _ (in_range _
 pub returns-clause-lawful : goal.returns-clause-lawful
 returns-clause-lawful c =
     let h = returns-clause-run c in
-    holds_after IsLawful _ c.args.cfg [] nothing_gone c.two_stations_keep_order.ensures.lawful h (c.two_stations_keep_order.ensures.up_once c.args.cfg h.settings [] tt tt)
+    holds_after IsLawful _ c.args.cfg (established c.args.cfg) [] nothing_gone c.two_stations_keep_order.ensures.lawful (inr (inr refl)) h (once_at_most c.args.cfg _ (c.two_stations_keep_order.ensures.up_once c.args.cfg h.settings [] tt tt))
 
 pub returns-clause-named : goal.returns-clause-named
 returns-clause-named c =
     let h = returns-clause-run c in
-    holds_after IsNamed _ c.args.cfg [] nothing_gone c.two_stations_keep_order.ensures.named h (c.two_stations_keep_order.ensures.up_once c.args.cfg h.settings [] tt tt)
+    holds_after IsNamed _ c.args.cfg (established c.args.cfg) [] nothing_gone c.two_stations_keep_order.ensures.named (inr (inr refl)) h (once_at_most c.args.cfg _ (c.two_stations_keep_order.ensures.up_once c.args.cfg h.settings [] tt tt))
 
 pub returns-clause-arrives : goal.returns-clause-arrives
 returns-clause-arrives c =
     let h = returns-clause-run c in
-    holds_after ArrivesAll _ c.args.cfg [] nothing_gone c.two_stations_keep_order.ensures.arrives h (c.two_stations_keep_order.ensures.up_once c.args.cfg h.settings [] tt tt)
+    holds_after ArrivesAll _ c.args.cfg (established c.args.cfg) [] nothing_gone c.two_stations_keep_order.ensures.arrives (inr (inr refl)) h (once_at_most c.args.cfg _ (c.two_stations_keep_order.ensures.up_once c.args.cfg h.settings [] tt tt))
 
 pub returns-clause-quiet : goal.returns-clause-quiet
 returns-clause-quiet c =
     let h = returns-clause-run c in
-    holds_after HasNoProcedureError _ c.args.cfg [] nothing_gone c.two_stations_keep_order.ensures.quiet h (c.two_stations_keep_order.ensures.up_once c.args.cfg h.settings [] tt tt)
+    holds_after HasNoProcedureError _ c.args.cfg (established c.args.cfg) [] nothing_gone c.two_stations_keep_order.ensures.quiet (inr (inr refl)) h (once_at_most c.args.cfg _ (c.two_stations_keep_order.ensures.up_once c.args.cfg h.settings [] tt tt))
 
 pub returns-clause-window : goal.returns-clause-window
 returns-clause-window c =
     let h = returns-clause-run c in
-    holds_after IsInWindow _ c.args.cfg [] nothing_gone c.two_stations_keep_order.ensures.window h (c.two_stations_keep_order.ensures.up_once c.args.cfg h.settings [] tt tt)
+    holds_after_set_up IsInWindow _ c.args.cfg [] nothing_gone c.two_stations_keep_order.ensures.window h (c.two_stations_keep_order.ensures.up_once c.args.cfg h.settings [] tt tt)
 
 pub returns-clause-up_once : goal.returns-clause-up_once
 returns-clause-up_once c = up_once_after _ c.args.cfg [] nothing_gone c.two_stations_keep_order.ensures.up_once (returns-clause-run c) tt
