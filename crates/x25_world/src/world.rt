@@ -1,4 +1,4 @@
-ghost use Rattle.std.specs.Prelude.{◌≡◌, List, [], length, map, OnOk, OnErr, IfOk, IfErr, IsErrOf};
+ghost use Rattle.std.specs.Prelude.{◌≡◌, List, [], length, map, slice_get, OnOk, OnErr, IfOk, IfErr, IfSome, IsErrOf};
 ghost use Rattle.x25_station.specs.declared.config.Cfg.{Cfg};
 ghost use Rattle.x25_station.specs.FitsStation.{FitsStation};
 ghost use Rattle.x25_station.specs.Settings.{settings_from, config_refusal};
@@ -229,10 +229,12 @@ impl World {
     }
 
     /// Lets the events happen in order, as by `apply`, up to the first that is refused. The events before it were accepted, and stand.
+    /// Refused with 70 only at an event that takes memory.
     pub fn run(&mut self, events: &[Event]) -> Result<(), WorldRefused>
         ensures step { (cfg : Cfg) (w : definition.World) (gone : Gone) → FitsWorld cfg self.old w gone → OnOk result (FitsWorld cfg self.new (run cfg (map event_of events.now) w) gone) }
         ensures accepted { (cfg : Cfg) (w : definition.World) (gone : Gone) → FitsWorld cfg self.old w gone → OnOk result (AreAccepted cfg (map event_of events.now) w) }
         ensures stopped { (cfg : Cfg) (w : definition.World) (gone : Gone) → FitsWorld cfg self.old w gone → IfErr result (StopsAt cfg (map event_of events.now) w gone self.new) }
+        ensures memory { IfErr result (λ refused. refused.error ≡ WorldError.NoMemory → IfSome (slice_get (map event_of events.now) refused.index) (λ event. TakesMemory event.act)) }
 
         // The world is that of a run, and of each run up to the moment at which an end goes up a second time this is proved, `window` and `up_once` from a link just set up.
         ensures run { (cfg : Cfg) (from : definition.World) (past : List definition.Event) (gone : Gone) → FitsRun cfg from self.old past gone → FitsRun cfg from self.new (and_all past (map event_of events.now) result) gone }
@@ -256,6 +258,7 @@ impl World {
         ensures step { (cfg : Cfg) (w : definition.World) (gone : Gone) → FitsWorld cfg self.old w gone → OnOk result (FitsWorld cfg self.new (run cfg (map event_of events.now) w) gone) }
         ensures accepted { (cfg : Cfg) (w : definition.World) (gone : Gone) → FitsWorld cfg self.old w gone → OnOk result (AreAccepted cfg (map event_of events.now) w) }
         ensures stopped { (cfg : Cfg) (w : definition.World) (gone : Gone) → FitsWorld cfg self.old w gone → IfErr result (StopsAt cfg (map event_of events.now) w gone self.new) }
+        ensures memory { IfErr result (λ refused. refused.error ≡ WorldError.NoMemory → IfSome (slice_get (map event_of events.now) refused.index) (λ event. TakesMemory event.act)) }
         ensures run { (cfg : Cfg) (from : definition.World) (past : List definition.Event) (gone : Gone) → FitsRun cfg from self.old past gone → FitsRun cfg from self.new (and_all past (map event_of events.now) result) gone }
     {
         for index in 0..events.len() {
