@@ -340,13 +340,9 @@ pub of_script_set_up : (Holds : Cfg → World → Type 0) → Always Holds → S
 of_script_set_up Holds always runs = λ cfg range tap script once. let r = runs cfg false tap script in
     subst (Holds cfg) (sym r.next) (always cfg range r.events r.octets (subst (IsUpOnce cfg) r.next once))
 
-begins_so : (cfg : Cfg) (down : Bool) → (begins cfg down ≡ start) ⊎ (begins cfg down ≡ established cfg)
-begins_so cfg true = inl refl
-begins_so cfg false = inr refl
-
 pub of_all_scripts : (Holds : Cfg → World → Type 0) → Throughout Holds → ScriptsAreRuns → OfAllScripts Holds
 of_all_scripts Holds throughout runs = λ cfg range down tap script. let r = runs cfg down tap script in
-    subst (Holds cfg) (sym r.next) (throughout cfg range (begins cfg down) (begins_so cfg down) r.events r.octets)
+    subst (Holds cfg) (sym r.next) (throughout cfg range (begins cfg down) (begins_there cfg down) r.events r.octets)
 
 pub up_once : UpOnceUnlessConnected → ScriptsAreRuns → UpOnceUnlessAsked
 up_once once runs = λ cfg range tap script none. let r = runs cfg false tap script in

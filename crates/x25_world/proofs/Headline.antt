@@ -13,7 +13,7 @@ use Rattle.x25_world.proofs.Established.{set_up_accepted}
 use Rattle.x25_world.proofs.SessionReaches.{set_up}
 use Rattle.x25_world.proofs.SessionJoined.{SessionsJoined}
 use Rattle.x25_world.proofs.SessionKnown.{SessionLaws}
-use Rattle.x25_world.proofs.SessionRuns.{set_up_throughout, joined_from}
+use Rattle.x25_world.proofs.SessionRuns.{set_up_throughout, throughout_joined}
 use Rattle.x25_world.proofs.SessionQuiet.{has_no_error}
 use Rattle.x25_world.proofs.SetUpOnce.{lawful_once, named_once, arrives_once, in_window, is_up_once}
 
@@ -28,16 +28,16 @@ module _ (laws : SessionLaws) (keeps : ConnectKeeps) where
   is_set_up cfg = set_up_accepted laws.stations cfg
 
   pub always_lawful : UntilSecondUp IsLawful
-  always_lawful cfg fine begin which events octets once = lawful_once laws cfg (is_configured cfg fine) (run cfg events begin) (joined_from laws keeps cfg fine begin which events octets) once
+  always_lawful cfg fine begin which events octets once = lawful_once laws cfg (is_configured cfg fine) (run cfg events begin) (throughout_joined laws keeps cfg fine begin which events octets) once
 
   pub always_named : UntilSecondUp IsNamed
-  always_named cfg fine begin which events octets once = named_once laws cfg (is_configured cfg fine) (run cfg events begin) (joined_from laws keeps cfg fine begin which events octets) once
+  always_named cfg fine begin which events octets once = named_once laws cfg (is_configured cfg fine) (run cfg events begin) (throughout_joined laws keeps cfg fine begin which events octets) once
 
   pub always_arrives : UntilSecondUp ArrivesAll
-  always_arrives cfg fine begin which events octets once = arrives_once laws cfg (is_configured cfg fine) (run cfg events begin) (joined_from laws keeps cfg fine begin which events octets) once
+  always_arrives cfg fine begin which events octets once = arrives_once laws cfg (is_configured cfg fine) (run cfg events begin) (throughout_joined laws keeps cfg fine begin which events octets) once
 
   pub always_quiet : UntilSecondUp HasNoProcedureError
-  always_quiet cfg fine begin which events octets once = has_no_error laws cfg (is_configured cfg fine) (run cfg events begin) (joined_from laws keeps cfg fine begin which events octets)
+  always_quiet cfg fine begin which events octets once = has_no_error laws cfg (is_configured cfg fine) (run cfg events begin) (throughout_joined laws keeps cfg fine begin which events octets)
 
   pub always_in_window : links.Always AreInWindow → Always IsInWindow
   always_in_window law cfg fine events octets once = in_window laws cfg (is_configured cfg fine) (run cfg events (established cfg)) (joined cfg fine events octets) once law

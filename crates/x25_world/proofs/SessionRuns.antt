@@ -10,7 +10,7 @@ use Rattle.x25_station.specs.Command.{Requests, Connects, Disconnects}
 use Rattle.x25_station.specs.Station.{new_station}
 use Rattle.x25_station.specs.KeepLaw.{ConnectKeeps}
 use Rattle.x25_world.specs.World.{AtEnd, World, swapped, WorldOutcome, Happened, Declined, swapped_back, Act, Commands, Receives, Fires, Loses, Damages, acts, Event, happens, refusal_of, after, run, start, connected, established}
-use Rattle.x25_world.specs.Claims.{ActsInOctets, AreInOctets, IsBeginning, IsNoConnect, NoneConnects}
+use Rattle.x25_world.specs.Claims.{ActsInOctets, AreInOctets, IsNoConnect, NoneConnects}
 use Rattle.x25_world.specs.Sessions.{Progress, progress_at, last_session}
 use Rattle.x25_world.specs.SessionClaims.{Throughout}
 use Rattle.x25_world.proofs.Known.{IsConfigured, is_configured}
@@ -145,23 +145,14 @@ module _ (laws : SessionLaws) (cfg : Cfg) (fine : IsConfigured cfg) where
       }
 
 -- at each world of a run from any beginning
-pub joined_from : (laws : SessionLaws) → ConnectKeeps → (cfg : Cfg) → config_refusal cfg ≡ None → (begin : World) → IsBeginning cfg begin → (events : List Event) → AreInOctets events
-    → SessionsJoined both_down cfg Dte (run cfg events begin)
-joined_from laws keeps cfg fine begin is events octets =
+pub throughout_joined : (laws : SessionLaws) → ConnectKeeps → Throughout (λ (cfg : Cfg) (w : World). SessionsJoined both_down cfg Dte w)
+throughout_joined laws keeps cfg fine begin is events octets =
     run_joined laws cfg (is_configured cfg fine) events begin octets (λ off. not_set_up false off) (elim is [
       | inl same ↦ subst (λ (w : World). SessionsJoined both_down cfg Dte w) (sym same) (start_joined laws cfg (is_configured cfg fine))
       | inr rest ↦ elim rest [
         | inl same ↦ subst (λ (w : World). SessionsJoined both_down cfg Dte w) (sym same) (connected_joined laws cfg (is_configured cfg fine) keeps)
         | inr same ↦ subst (λ (w : World). SessionsJoined both_down cfg Dte w) (sym same) (established_joined laws cfg (is_configured cfg fine) keeps)
       ]
-    ])
-
--- at each world of such a run
-pub throughout_joined : (laws : SessionLaws) → ConnectKeeps → Throughout (λ (cfg : Cfg) (w : World). SessionsJoined both_down cfg Dte w)
-throughout_joined laws keeps cfg fine begin is events octets =
-    run_joined laws cfg (is_configured cfg fine) events begin octets (λ off. not_set_up false off) (elim is [
-      | inl same ↦ subst (λ (w : World). SessionsJoined both_down cfg Dte w) (sym same) (start_joined laws cfg (is_configured cfg fine))
-      | inr same ↦ subst (λ (w : World). SessionsJoined both_down cfg Dte w) (sym same) (established_joined laws cfg (is_configured cfg fine) keeps)
     ])
 
 -- .. and of one from a link just set up, after which, where `asks` is false, no `connect` is accepted

@@ -219,7 +219,7 @@ connected_up cfg = none_up cfg (connected cfg) (connected_tells cfg)
 pub once_at_most : (cfg : Cfg) (w : World) → IsUpOnce cfg w → IsUpAtMostOnce cfg w
 once_at_most cfg w once = λ end. let told = once end in omega (arith, told)
 
-pub holds_throughout : (Holds : Cfg → World → Type 0) (v : ShownWorld) (cfg : Cfg) (from : World) (events : List Event) (gone : Gone) → Throughout Holds → (from ≡ start) ⊎ (from ≡ established cfg) → FitsRun cfg from v events gone
+pub holds_throughout : (Holds : Cfg → World → Type 0) (v : ShownWorld) (cfg : Cfg) (from : World) (events : List Event) (gone : Gone) → Throughout Holds → IsBeginning cfg from → FitsRun cfg from v events gone
     → Leaves Holds cfg from v events gone
 holds_throughout Holds v cfg from events gone law begins h = leaves Holds v cfg from events gone h (law cfg h.settings from begins events h.octets)
 

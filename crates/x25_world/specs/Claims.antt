@@ -1,4 +1,4 @@
--- What holds of two stations and the line between them after every list of events, as long as the link isn't set up anew.
+-- What holds of two stations and the line between them after every list of events, up to the moment at which an end goes up a second time.
 use Rattle.std.specs.Prelude.{◌≡◌, ◌≤◌, ◌⊎◌, Bool, ℕ, suc, true, List, [], ◌∷◌, ◌++◌, Option, Some, None, Result, Ok, Err}
 use Rattle.x25_bits.specs.declared.role.Role.{Role}
 use Rattle.x25_bits.specs.declared.role.Role.TheVariants.{Dte, Dce}

@@ -7,7 +7,7 @@ use Rattle.x25_station.specs.declared.config.Cfg.{Cfg}
 use Rattle.x25_station.specs.declared.error.StationError.{StationError}
 use Rattle.x25_station.specs.Settings.{settings_from, config_refusal}
 use Rattle.x25_station.specs.FitsStation.{FitsStation}
-use Rattle.x25_world.specs.World.{OnTap, AtEnd, World, Event, Act, Loses, WorldOutcome, Happened, Declined, happens, refusal_of, run, AreAccepted, start, established}
+use Rattle.x25_world.specs.World.{OnTap, AtEnd, World, Event, Act, Loses, WorldOutcome, Happened, Declined, happens, refusal_of, run, AreAccepted, established}
 use Rattle.x25_world.specs.Claims.{AreInOctets, IsUpOnce, IsUpAtMostOnce, SetsUpOnce, IsBeginning, NoneConnects}
 use Rattle.x25_world.specs.ShownLine.{line_to}
 use Rattle.x25_world.specs.ShownWorld.{ShownWorld, ShownSide}
@@ -92,10 +92,10 @@ HoldsAfter Holds old new more =
 abbrev pub HoldsAfterSetUp : (Cfg → World → Type 0) → ShownWorld → ShownWorld → (List Event → List Event) → Type 0
 HoldsAfterSetUp Holds old new more = (cfg : Cfg) (past : List Event) (gone : Gone) → FitsRun cfg (established cfg) old past gone → SetsUpOnce cfg (more past) → Leaves Holds cfg (established cfg) new (more past) gone
 
--- .. from both links down, or from a link just set up, which may be set up anew
+-- .. of each of these runs, also where the link is set up anew
 abbrev pub HoldsThroughout : (Cfg → World → Type 0) → ShownWorld → ShownWorld → (List Event → List Event) → Type 0
 HoldsThroughout Holds old new more =
-    (cfg : Cfg) (from : World) (past : List Event) (gone : Gone) → (from ≡ start) ⊎ (from ≡ established cfg) → FitsRun cfg from old past gone → Leaves Holds cfg from new (more past) gone
+    (cfg : Cfg) (from : World) (past : List Event) (gone : Gone) → IsBeginning cfg from → FitsRun cfg from old past gone → Leaves Holds cfg from new (more past) gone
 
 -- where no `connect` was accepted in it, the link isn't set up anew
 abbrev pub UpOnceAfter : ShownWorld → ShownWorld → (List Event → List Event) → Type 0

@@ -1,5 +1,5 @@
 -- What holds of two stations and the line between them after every list of events, over set-up and re-set-up at any moment.
-use Rattle.std.specs.Prelude.{◌≡◌, ◌≤◌, ◌<◌, ◌⊎◌, ℕ, true, List, [], Some, None}
+use Rattle.std.specs.Prelude.{◌≡◌, ◌≤◌, ◌<◌, ℕ, true, List, [], Some, None}
 use Rattle.x25_link.specs.MustSend.{other}
 use Rattle.x25_link.specs.Station.{is_up}
 use Rattle.x25_bits.specs.declared.role.Role.{Role}
@@ -11,15 +11,15 @@ use Rattle.x25_station.specs.declared.config.Cfg.{Cfg}
 use Rattle.x25_station.specs.Settings.{settings_from, config_refusal}
 use Rattle.x25_station.specs.Entries.{layer_notices}
 use Rattle.x25_station.specs.Told.{is_idle, stretch}
-use Rattle.x25_world.specs.World.{World, Event, run, start, established}
-use Rattle.x25_world.specs.Claims.{AreInOctets, HasNoProcedureError, station_at}
+use Rattle.x25_world.specs.World.{World, Event, run}
+use Rattle.x25_world.specs.Claims.{AreInOctets, IsBeginning, HasNoProcedureError, station_at}
 use Rattle.x25_world.specs.Sessions.{session_at, last_session, handed_in, meets}
 
--- what holds after each list of events, of commands with `connect` at any moment, deliveries, losses, damage and timer T1, from both links
--- down and nothing on the line, or from a link just set up
+-- what holds after each list of events, of commands with `connect` at any moment, deliveries, losses, damage and timer T1, from where a run
+-- begins
 abbrev pub Throughout : (Cfg → World → Type 0) → Type 0
 Throughout Holds =
-    (cfg : Cfg) → config_refusal cfg ≡ None → (begin : World) → (begin ≡ start) ⊎ (begin ≡ established cfg) → (events : List Event) → AreInOctets events → Holds cfg (run cfg events begin)
+    (cfg : Cfg) → config_refusal cfg ≡ None → (begin : World) → IsBeginning cfg begin → (events : List Event) → AreInOctets events → Holds cfg (run cfg events begin)
 
 -- Sessions that meet were begun. Of two sessions of an end that each meet one, the later meets the later one. Where a session meets one that
 -- meets any, that one meets it.

@@ -83,8 +83,10 @@ impl World {
         ensures named { IfOk result (λ v. Leaves IsNamed cfg (connected cfg) v [] nothing_gone) }
         ensures arrives { IfOk result (λ v. Leaves ArrivesAll cfg (connected cfg) v [] nothing_gone) }
         ensures quiet { IfOk result (λ v. Leaves HasNoProcedureError cfg (connected cfg) v [] nothing_gone) }
+        ensures sessions { IfOk result (λ v. Leaves SessionsKeepOrder cfg (connected cfg) v [] nothing_gone) }
     {
         two_stations_keep_order();
+        stations_meet_in_sessions();
         let mut world = World::start(alloc, cfg)?;
         world.connect()?;
         Ok(world)
@@ -155,7 +157,7 @@ impl World {
         ensures window { HoldsAfterSetUp IsInWindow self.old self.new (λ past. and_then past (event_of event.entry) result) }
         ensures up_once { UpOnceAfter self.old self.new (λ past. and_then past (event_of event.entry) result) }
 
-        // .. and of each run from there or from both links down, also where it is set up anew, this is.
+        // .. and of each run this is, also where the link is set up anew.
         ensures sessions { HoldsThroughout SessionsKeepOrder self.old self.new (λ past. and_then past (event_of event.entry) result) }
     {
         two_stations_keep_order();
@@ -190,7 +192,7 @@ impl World {
         ensures window { HoldsAfterSetUp IsInWindow self.old self.new (λ past. and_then past (bit_damage direction place bits.now) result) }
         ensures up_once { UpOnceAfter self.old self.new (λ past. and_then past (bit_damage direction place bits.now) result) }
 
-        // .. and of each run from there or from both links down, also where it is set up anew, this is.
+        // .. and of each run this is, also where the link is set up anew.
         ensures sessions { HoldsThroughout SessionsKeepOrder self.old self.new (λ past. and_then past (bit_damage direction place bits.now) result) }
     {
         two_stations_keep_order();
@@ -245,7 +247,7 @@ impl World {
         ensures window { HoldsAfterSetUp IsInWindow self.old self.new (λ past. and_all past (map event_of events.now) result) }
         ensures up_once { UpOnceAfter self.old self.new (λ past. and_all past (map event_of events.now) result) }
 
-        // .. and of each run from there or from both links down, also where it is set up anew, this is.
+        // .. and of each run this is, also where the link is set up anew.
         ensures sessions { HoldsThroughout SessionsKeepOrder self.old self.new (λ past. and_all past (map event_of events.now) result) }
     {
         two_stations_keep_order();

@@ -1,9 +1,10 @@
 use Rattle.std.proofs.Common.{[], inl, inr, refl}
 use Rattle.std.proofs.lemmas.Result.{err_from_is_err_and}
-use Rattle.x25_world.proofs.WorldLemmas.{in_range, new_run, holds_after, connected_up, refused_later}
+use Rattle.x25_world.proofs.WorldLemmas.{in_range, new_run, holds_after, connected_up, holds_throughout, all_of_sessions, refused_later}
 use Rattle.x25_world.specs.World.{connected}
 use Rattle.x25_world.specs.FitsWorld.{nothing_gone}
 use Rattle.x25_world.specs.Claims.{IsLawful, IsNamed, ArrivesAll, HasNoProcedureError}
+use Rattle.x25_world.specs.SessionClaims.{SessionsKeepOrder}
 use Rattle.x25_world.proofs.world.World.connecting.Goals as goal
 
 pub returns-in_err-connect-clause-refused : goal.returns-in_err-connect-clause-refused
@@ -25,3 +26,8 @@ returns-clause-arrives c = holds_after ArrivesAll _ c.args.cfg (connected c.args
 
 pub returns-clause-quiet : goal.returns-clause-quiet
 returns-clause-quiet c = holds_after HasNoProcedureError _ c.args.cfg (connected c.args.cfg) [] nothing_gone c.two_stations_keep_order.ensures.quiet (inr (inl refl)) (returns-clause-run c) (connected_up c.args.cfg)
+
+pub returns-clause-sessions : goal.returns-clause-sessions
+returns-clause-sessions c =
+    let law = c.stations_meet_in_sessions.ensures in
+    holds_throughout SessionsKeepOrder _ c.args.cfg (connected c.args.cfg) [] nothing_gone (all_of_sessions law.step law.lawful law.named law.arrives law.unmet law.stand law.quiet) (inr (inl refl)) (returns-clause-run c)
