@@ -12,10 +12,11 @@ use x25_line::{each_session_event_hands_one, sessions_keep_order, stations_keep_
 use x25_link::{notes_what_changes, sets_up_by_rows};
 use x25_station::{Cmd, puts_are_readable, steps_are_joined, steps_keep_bounds};
 
-/// Two stations joined by a line of octets that keeps order and may lose or visibly damage any frame, from a link just set up: what
-/// holds after each list of commands, deliveries, losses, damage and firings of timer T1, wherever an event is refused, as long as the link
-/// isn't set up anew, by which an end tells of LinkUp again. By `up_once` it never is where no `connect` of the list is accepted, so that a
-/// list without `connect` has no other premise than those below.
+/// Two stations joined by a line of octets that keeps order and may lose or visibly damage any frame, from both links down and nothing
+/// on the line, from the DTE's SABM on the line, or from a link just set up: what holds after each list of commands, deliveries, losses,
+/// damage and firings of timer T1, wherever an event is refused, up to the moment at which an end tells of LinkUp a second time.
+/// `window` is said from a link just set up alone. By `up_once` no end goes up again from there where no `connect` of the list is accepted,
+/// so that a list without `connect` has no other premise than those below.
 ///
 /// - `set_up`: SABM is there to be delivered, and then UA.
 /// - `lawful`: on each channel and under each name of a stretch, the messages, interrupts and calls that an end hands up are a
@@ -24,8 +25,8 @@ use x25_station::{Cmd, puts_are_readable, steps_are_joined, steps_keep_bounds};
 /// - `arrives`: what is handed up is all of the messages and interrupts of a stretch, where the end that gives is idle and both ends have that stretch
 ///   open.
 /// - `quiet`: no FRMR, no CLEAR, RESET or RESTART with a cause of an error was ever put on the line, and no user was told of a fault.
-/// - `window`: the two links are a run of the window machine, with the unbounded numbers behind those on the line in its window.
-/// - `up_once`: where no `connect` is accepted, each end tells of LinkUp once, in set-up.
+/// - `window`: from a link just set up the two links are a run of the window machine, with the unbounded numbers behind those on the line in its window.
+/// - `up_once`: from a link just set up, where no `connect` is accepted, each end tells of LinkUp once, in set-up.
 ///
 /// Premises: k is 1 to 7, N2 1 to 255, channels 1 to 16, and the users hand down octets.
 pub fn two_stations_keep_order()
@@ -52,7 +53,7 @@ pub fn two_stations_keep_order()
 
 /// Two stations joined by such a line, over set-up and re-set-up at any moment: what holds after each list of commands, `connect` among
 /// them, deliveries, losses, damage and firings of timer T1, wherever an event is refused, from both links down and nothing on the
-/// line, and from a link just set up.
+/// line, from the DTE's SABM on the line, and from a link just set up.
 ///
 /// A session of an end lasts from a `linkup` to the next `linkup` or `linkdown` there. It meets the session that the other end began last
 /// before its own first `restarted`. Without one it meets none.
