@@ -154,8 +154,8 @@ module _ {since : Beginning} (laws : SessionLaws) (cfg : Cfg) (fine : IsConfigur
   handed_by : (end : Role) {s : Station} {k : SessionEnd} → IsEnd cfg end s k h.trace (entries_at end w.transcript) → k.begun ≤ 1 → (own cfg end 1 h.trace).entries ≡ handed_at end w
   handed_by end {s} {k} e few = elim (few_begun k.begun few) [
     | inl none ↦ (let nothing = e.later 1 (omega (arith, none)) in
-      ap (λ (moves : List OwnMove). (own_run (layer_of cfg end) moves (started (goes_up (layer_of cfg end)))).entries) nothing.moves
-      ∙ sym (ap layer_entries nothing.entries) ∙ (e.first_has_all few).entries)
+        ap (λ (moves : List OwnMove). (own_run (layer_of cfg end) moves (started (goes_up (layer_of cfg end)))).entries) nothing.moves
+        ∙ sym (ap layer_entries nothing.entries) ∙ (e.first_has_all few).entries)
     | inr one ↦ (e.sessions 1 (omega arith) (omega (arith, one))).entries ∙ (e.first_has_all few).entries
   ]
 
