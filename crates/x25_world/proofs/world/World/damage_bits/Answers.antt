@@ -61,6 +61,11 @@ returns-in_err-octets-clause-arrives c =
     let p = err_from_is_err_and c.from_residual.result c.from_residual.ensures.1 in
     rw p.1 (λ cfg from past gone begins h once. holds_after ArrivesAll _ cfg from past gone c.two_stations_keep_order.ensures.arrives begins h once)
 
+pub returns-in_err-octets-clause-quiet : goal.returns-in_err-octets-clause-quiet
+returns-in_err-octets-clause-quiet c =
+    let p = err_from_is_err_and c.from_residual.result c.from_residual.ensures.1 in
+    rw p.1 (λ cfg from past gone begins h once. holds_after HasNoProcedureError _ cfg from past gone c.two_stations_keep_order.ensures.quiet begins h once)
+
 pub returns-in_err-octets-clause-window : goal.returns-in_err-octets-clause-window
 returns-in_err-octets-clause-window c =
     let p = err_from_is_err_and c.from_residual.result c.from_residual.ensures.1 in
@@ -71,6 +76,18 @@ returns-in_err-octets-clause-sessions c = λ cfg from past gone begins h.
     let p = err_from_is_err_and c.from_residual.result c.from_residual.ensures.1 in
     let law = c.stations_meet_in_sessions.ensures in
     rw p.1 (holds_throughout SessionsKeepOrder _ cfg from past gone (all_of_sessions law.step law.lawful law.named law.arrives law.unmet law.stand law.quiet) begins h)
+
+pub returns-then-place-on_line-clause-lawful : goal.returns-then-place-on_line-clause-lawful
+returns-then-place-on_line-clause-lawful c = λ cfg from past gone begins h once. holds_after IsLawful _ cfg from past gone c.two_stations_keep_order.ensures.lawful begins h once
+
+pub returns-then-place-on_line-clause-named : goal.returns-then-place-on_line-clause-named
+returns-then-place-on_line-clause-named c = λ cfg from past gone begins h once. holds_after IsNamed _ cfg from past gone c.two_stations_keep_order.ensures.named begins h once
+
+pub returns-then-place-on_line-clause-arrives : goal.returns-then-place-on_line-clause-arrives
+returns-then-place-on_line-clause-arrives c = λ cfg from past gone begins h once. holds_after ArrivesAll _ cfg from past gone c.two_stations_keep_order.ensures.arrives begins h once
+
+pub returns-then-place-on_line-clause-quiet : goal.returns-then-place-on_line-clause-quiet
+returns-then-place-on_line-clause-quiet c = λ cfg from past gone begins h once. holds_after HasNoProcedureError _ cfg from past gone c.two_stations_keep_order.ensures.quiet begins h once
 
 pub returns-then-place-on_line-clause-sessions : goal.returns-then-place-on_line-clause-sessions
 returns-then-place-on_line-clause-sessions c = λ cfg from past gone begins h.

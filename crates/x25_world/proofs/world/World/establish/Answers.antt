@@ -18,22 +18,22 @@ returns-clause-run c = new_run c.args.cfg (established c.args.cfg) _ (in_range _
 pub returns-clause-lawful : goal.returns-clause-lawful
 returns-clause-lawful c =
     let h = returns-clause-run c in
-    holds_after IsLawful _ c.args.cfg (established c.args.cfg) [] nothing_gone c.two_stations_keep_order.ensures.lawful (inr (inr refl)) h (once_at_most c.args.cfg _ (c.two_stations_keep_order.ensures.up_once c.args.cfg h.settings [] tt tt))
+    holds_after IsLawful _ c.args.cfg (established c.args.cfg) [] nothing_gone c.two_stations_keep_order.ensures.lawful (inr (inr refl)) h (once_at_most c.args.cfg (established c.args.cfg) (c.two_stations_keep_order.ensures.up_once c.args.cfg h.settings [] tt tt))
 
 pub returns-clause-named : goal.returns-clause-named
 returns-clause-named c =
     let h = returns-clause-run c in
-    holds_after IsNamed _ c.args.cfg (established c.args.cfg) [] nothing_gone c.two_stations_keep_order.ensures.named (inr (inr refl)) h (once_at_most c.args.cfg _ (c.two_stations_keep_order.ensures.up_once c.args.cfg h.settings [] tt tt))
+    holds_after IsNamed _ c.args.cfg (established c.args.cfg) [] nothing_gone c.two_stations_keep_order.ensures.named (inr (inr refl)) h (once_at_most c.args.cfg (established c.args.cfg) (c.two_stations_keep_order.ensures.up_once c.args.cfg h.settings [] tt tt))
 
 pub returns-clause-arrives : goal.returns-clause-arrives
 returns-clause-arrives c =
     let h = returns-clause-run c in
-    holds_after ArrivesAll _ c.args.cfg (established c.args.cfg) [] nothing_gone c.two_stations_keep_order.ensures.arrives (inr (inr refl)) h (once_at_most c.args.cfg _ (c.two_stations_keep_order.ensures.up_once c.args.cfg h.settings [] tt tt))
+    holds_after ArrivesAll _ c.args.cfg (established c.args.cfg) [] nothing_gone c.two_stations_keep_order.ensures.arrives (inr (inr refl)) h (once_at_most c.args.cfg (established c.args.cfg) (c.two_stations_keep_order.ensures.up_once c.args.cfg h.settings [] tt tt))
 
 pub returns-clause-quiet : goal.returns-clause-quiet
 returns-clause-quiet c =
     let h = returns-clause-run c in
-    holds_after HasNoProcedureError _ c.args.cfg (established c.args.cfg) [] nothing_gone c.two_stations_keep_order.ensures.quiet (inr (inr refl)) h (once_at_most c.args.cfg _ (c.two_stations_keep_order.ensures.up_once c.args.cfg h.settings [] tt tt))
+    holds_after HasNoProcedureError _ c.args.cfg (established c.args.cfg) [] nothing_gone c.two_stations_keep_order.ensures.quiet (inr (inr refl)) h (once_at_most c.args.cfg (established c.args.cfg) (c.two_stations_keep_order.ensures.up_once c.args.cfg h.settings [] tt tt))
 
 pub returns-clause-window : goal.returns-clause-window
 returns-clause-window c =
