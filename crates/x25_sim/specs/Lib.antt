@@ -2,8 +2,6 @@ pub mod Sayings
 pub mod Simulated
 pub mod RunLaw
 pub mod ScriptRows
-pub mod Written
-pub mod HeldLine
 pub mod Stands
 pub mod Leaves
 pub mod Stream

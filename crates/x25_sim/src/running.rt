@@ -6,10 +6,10 @@ ghost use Rattle.x25_station.specs.Settings.{config_refusal};
 ghost use Rattle.x25_sim.specs.Simulated.{simulated, sim_status, sim_text};
 ghost use Rattle.x25_sim.specs.Stream.{WritesEnded};
 
-use crate::held_line::HeldLine;
 use crate::simulator::Simulator;
 use crate::stage::Stage;
 use std::alloc::Global;
+use x25_console::HeldLine;
 use x25_program::{Fault, PIECE, Sink, Source, take_text};
 use x25_station::Cfg;
 

@@ -1,7 +1,7 @@
 use Rattle.std.proofs.Common.{◌∙◌}
 use Rattle.std.proofs.lemmas.Result.{err_from_is_err_and, on_ok_weaker}
 use Rattle.x25_sim.specs.Simulated.{sim_text}
-use Rattle.x25_sim.proofs.ToldLemmas.{none_told}
+use Rattle.x25_console.proofs.ToldLemmas.{none_told}
 use Rattle.x25_sim.proofs.SimLemmas.{if_some, nothing_written, opening_failed, script_begins}
 use Rattle.x25_sim.proofs.running.sim.Goals as goal
 
