@@ -1,27 +1,23 @@
 -- What one station behind a pipe does with what it reads (profile): each line is an event of this end, and it is answered by what the step
 -- tells, entries and then frames, or by a refusal, and then by one mark.
-use Rattle.std.specs.Prelude.{ℕ, ◌==◌, nat_le, Bool, true, false, List, [], ◌∷◌, ◌++◌, length, map, if◌then◌else◌, Option, Some, None, option_map, option_and_then, unwrap_or, codes, decimal}
+use Rattle.std.specs.Prelude.{ℕ, nat_le, Bool, true, false, List, [], ◌∷◌, ◌++◌, length, map, if◌then◌else◌, Option, Some, None, option_and_then, codes}
 use Rattle.std.specs.List.{flat_map, list_any}
 use Rattle.x25_bits.specs.Role.{other}
 use Rattle.x25_bits.specs.declared.role.Role.{Role}
 use Rattle.x25_bits.specs.declared.role.Role.TheVariants.{Dte, Dce}
-use Rattle.x25_circuit.specs.declared.params.Params.{Params}
-use Rattle.x25_circuit.specs.Params.{default_params}
-use Rattle.x25_circuit.specs.Calls.{Accepts, Clears, Sends, Interrupts, Resets, SaysReady, SaysNotReady}
-use Rattle.x25_layer.specs.Calls.{Asks as AsksChannel, Dials, Restarts}
 use Rattle.x25_frame.specs.Spelling.{spelling_of}
-use Rattle.x25_text.specs.OctetText.{octet_text}
 use Rattle.x25_entries.specs.EntryText.{entry_line}
-use Rattle.x25_script.specs.declared.params.Params.{Params as Numbers}
-use Rattle.x25_script.specs.PlainLine.{PlainCommand, call, accept, clear, send, interrupt, reset, ready, not_ready, restart, connect, disconnect, PlainLine, command, t1, deliver, lose, damage, drain}
+use Rattle.x25_script.specs.PlainLine.{PlainLine, command, t1, deliver, lose, damage, drain}
 use Rattle.x25_script.specs.Reading.{line_in}
-use Rattle.x25_program.specs.Decoded.{mark_of, sent_in}
+use Rattle.x25_program.specs.Decoded.{sent_in}
 use Rattle.x25_program.specs.Lines.{lines_of}
+use Rattle.x25_console.specs.Commands.{command_asked}
+use Rattle.x25_console.specs.HeldLine.{most_line}
+use Rattle.x25_console.specs.Lines.{frame_line, refusal_line, nothing_line}
 use Rattle.x25_station.specs.declared.config.Cfg.{Cfg}
 use Rattle.x25_station.specs.declared.error.StationError.{StationError}
 use Rattle.x25_station.specs.StationError.{number_of}
 use Rattle.x25_station.specs.Settings.{Settings, settings_from}
-use Rattle.x25_station.specs.Command.{Command, Requests, Connects, Disconnects}
 use Rattle.x25_station.specs.Entries.{StationEntry}
 use Rattle.x25_station.specs.Station.{Station, new_station}
 use Rattle.x25_station.specs.Steps.{Step, Outcome, Did, Refused}
@@ -30,23 +26,6 @@ use Rattle.x25_station.specs.TimerLaw as timer
 use Rattle.x25_station.specs.TimerLaw.{Event, Comes, Asks, Fires, Mark, Off, On, Start}
 
 -- ---- what a line asks for: this end's commands and T1, and frames of the other end
-
--- x25_sim.specs.Simulated has these two as they stand: they are to be moved below both
-abbrev pub params_of : Numbers → Params
-params_of p = record { size_called = p.size_called; size_calling = p.size_calling; win_called = p.win_called; win_calling = p.win_calling }
-
-abbrev pub command_asked : PlainCommand → Command
-command_asked (call called calling user params) = Requests (Dials called calling user (unwrap_or (option_map params_of params) default_params))
-command_asked (accept channel params) = Requests (AsksChannel channel (Accepts (option_map params_of params)))
-command_asked (clear channel) = Requests (AsksChannel channel Clears)
-command_asked (send channel q user) = Requests (AsksChannel channel (Sends q user))
-command_asked (interrupt channel user) = Requests (AsksChannel channel (Interrupts user))
-command_asked (reset channel) = Requests (AsksChannel channel Resets)
-command_asked (ready channel) = Requests (AsksChannel channel SaysReady)
-command_asked (not_ready channel) = Requests (AsksChannel channel SaysNotReady)
-command_asked restart = Requests Restarts
-command_asked connect = Connects
-command_asked disconnect = Disconnects
 
 abbrev pub is_same : Role → Role → Bool
 is_same Dte Dte = true
@@ -75,9 +54,6 @@ or_else None second = second
 or_else (Some x) second = Some x
 
 -- a longer line isn't in the grammar
-abbrev pub most_line : ℕ
-most_line = 131200
-
 unfoldable pub event_in : Role → List ℕ → Option Event
 event_in end line = if nat_le (length line) most_line
     then or_else (option_and_then (trace_event end) (sent_in line)) (option_and_then (script_event end) (line_in line))
@@ -104,9 +80,9 @@ work_text false = codes "busy"
 -- a frame is marked by this end, so that the other end takes the line as it is
 unfoldable pub saying_line : Role → Saying → List ℕ
 saying_line end (enters e) = entry_line end e
-saying_line end (sends octets) = mark_of end ++ flat_map octet_text octets ++ codes "\n"
-saying_line end reads_nothing = codes "? 60\n"
-saying_line end (refuses error) = codes "! " ++ decimal (number_of error) ++ codes "\n"
+saying_line end (sends octets) = frame_line end octets
+saying_line end reads_nothing = nothing_line
+saying_line end (refuses error) = refusal_line (number_of error)
 saying_line end (marks mark is_idle) = codes ". " ++ mark_text mark ++ codes " " ++ work_text is_idle ++ codes "\n"
 
 -- ---- turns
