@@ -2,7 +2,7 @@
 
 use crate::pair::{DCE, DTE, Row, play, play_up};
 use crate::station::Event::{
-    Abandon, Ask, Connect, Deliver, Disconnect, HearDisc, HearSabm, Put, T1,
+    Abandon, Ask, Connect, Deliver, Disconnect, HearDisc, HearSabm, Put, T1, Timer,
 };
 use std::test::Fail;
 use x25_link::{Link, LinkError};
@@ -17,12 +17,15 @@ fn a_disc_is_answered_once_by_ua(rt: HostRuntime) -> Result<(), Fail> {
     play_up(&rt, rt.alloc(), 7, TWO_DISCS.as_slice())
 }
 
-static NO_ANSWER: [Row; 8] = [
+static NO_ANSWER: [Row; 11] = [
     (DTE, Ask, "0 wait"),
+    (DTE, Timer, "T1 is off, 0"),
     (DTE, Connect, "SABM cmd P=1"),
     (DTE, Ask, "UA is awaited"),
+    (DTE, Timer, "T1 runs, 0"),
     (DTE, T1, "SABM cmd P=1"),
     (DTE, T1, "down (retries)"),
+    (DTE, Timer, "T1 is off, 0"),
     (DTE, Ask, "0 wait"),
     (DTE, T1, "refused 11"),
     (DTE, Put(0), "refused 9"),

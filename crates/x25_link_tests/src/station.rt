@@ -40,13 +40,15 @@ pub enum Event<'a> {
     Look(usize),
     /// Nothing happens. The text says how many packets wait, that the station is idle, or that it awaits UA.
     Ask,
+    /// Nothing happens. The text says whether T1 runs, and the number of the first frame that isn't acknowledged.
+    Timer,
     /// Nothing happens. The text says how many frames are on the line to this station.
     Count,
 }
 
 use Event::{
     Abandon, Ask, Connect, Count, Deliver, Disconnect, HearDisc, HearLong, HearRej, HearRr,
-    HearSabm, Look, Lose, Put, PutMany, Reply, T1, Take,
+    HearSabm, Look, Lose, Put, PutMany, Reply, T1, Take, Timer,
 };
 
 /// What an event shows, and the frames to send.
@@ -171,6 +173,7 @@ impl End {
             Lose => self.lose(alloc),
             Look(place) => self.look(alloc, place),
             Ask => self.ask(alloc),
+            Timer => self.timer(alloc),
             Count => self.count(alloc),
         }
     }
@@ -235,6 +238,16 @@ impl End {
     fn look(&self, alloc: Global, place: usize) -> Result<Shown, Fail> {
         let octets = self.line.get(place).ok_or("no frame is there")?;
         silent(alloc, hex_text(alloc, octets.as_slice())?)
+    }
+
+    fn timer(&self, alloc: Global) -> Result<Shown, Fail> {
+        let first = self.link.acknowledged().get();
+        let runs = if self.link.timer_runs() {
+            "runs"
+        } else {
+            "is off"
+        };
+        silent(alloc, format!(in alloc; "T1 {runs}, {first}")?)
     }
 
     fn ask(&self, alloc: Global) -> Result<Shown, Fail> {

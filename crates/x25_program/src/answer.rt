@@ -44,7 +44,7 @@ fn read_octets(digits: &[u8], octets: &mut [u8]) -> Option<usize>
 }
 
 /// Reads the octets of a line to the front of `octets`, and answers their sender and how many they are.
-fn read_line(line: &[u8], octets: &mut [u8]) -> Option<(Role, usize)>
+pub fn read_sent(line: &[u8], octets: &mut [u8]) -> Option<(Role, usize)>
     requires { length octets.old ≡ MOST_OCTETS }
     ensures sent { MatchOption result (sent_in line.now ≡ None)
         (λ sent. (sent.1 ≤ MOST_OCTETS) × (sent_in line.now ≡ Some (sent.0, take sent.1 octets.new))) }
@@ -83,7 +83,7 @@ pub fn answer(long_data: bool, line: &[u8], octets: &mut [u8], text: &mut Text) 
     ensures text { text.new ≡ text.old ++ answer_to long_data line.now }
     ensures refused { result ≡ is_refused line.now }
 {
-    match read_line(line, octets) {
+    match read_sent(line, octets) {
         Some((from, count)) => {
             match from {
                 Role::Dte => text.push(b"> "),

@@ -12,6 +12,7 @@ mod pieces;
 mod status;
 mod test_vectors;
 
+pub use answer::read_sent;
 pub use decoding::decode_lines;
 pub use device::{Device, Failed, Sink, Source, write_all};
 pub use fault::Fault;

@@ -1,5 +1,4 @@
 pub mod SimRows
-pub mod ToldLemmas
 pub mod SayingLemmas
 pub mod StepLemmas
 pub mod StandLemmas

@@ -19,7 +19,9 @@ use Rattle.x25_world.specs.declared.error.WorldError.{WorldError}
 use Rattle.x25_world.specs.Claims.{ActsInOctets, AreInOctets, IsUpOnce, IsUpAtMostOnce, IsBeginning, IsNoConnect, NoneConnects, UpOnceUnlessConnected, Always, UntilSecondUp}
 use Rattle.x25_world.specs.SessionClaims.{Throughout}
 use Rattle.x25_sim.specs.Sayings.{Saying, enters, taps, reads_nothing, refuses}
-use Rattle.x25_sim.specs.Simulated.{Turn, and_then, step_told, told_between, turn_of, event_turn, next_end, delivered_to, drained, command_asked, line_turn, most_line, asked_in, asked_turn, turn, turns, connecting, set_up, opened, simulated}
+use Rattle.x25_console.specs.Commands.{command_asked}
+use Rattle.x25_console.specs.HeldLine.{most_line}
+use Rattle.x25_sim.specs.Simulated.{Turn, and_then, step_told, told_between, turn_of, event_turn, next_end, delivered_to, drained, line_turn, asked_in, asked_turn, turn, turns, connecting, set_up, opened, simulated}
 use Rattle.x25_sim.specs.RunLaw.{entries_in, frames_in, begins, IsNoConnectLine, NoneAsks, IsRun, ScriptsAreRuns, OfScripts, OfScriptsSetUp, OfAllScripts, UpOnceUnlessAsked, ScriptsAreTold, ScriptsAreTapped}
 
 -- ---- a world only grows

@@ -12,7 +12,8 @@ use Rattle.x25_link.specs.Station.{pumped}
 use Rattle.x25_script.specs.Reading.{parts_of, number_in, small_number_in, params_in, with_params_in, call_in, accept_in, send_in, interrupt_in, with_fields, command_in, lose_in, damage_in, drain_in, line_in}
 use Rattle.x25_program.specs.Lines.{lines_of}
 use Rattle.x25_entries.specs.EntryText.{entry_line}
-use Rattle.x25_sim.specs.Sayings.{frame_line, refusal_line, saying_line}
+use Rattle.x25_console.specs.Lines.{frame_line, refusal_line}
+use Rattle.x25_sim.specs.Sayings.{saying_line}
 use Rattle.x25_sim.specs.Simulated.{event_turn, drained, line_turn, asked_in, turn, turns, set_up, simulated}
 use Rattle.x25_sim.specs.ScriptRows.{LinksComeUp, FramesAreWritten, LinkGoesDown, DamageIsSeen, CallsCollide, OtherLinesAreRefused, MessagesArrive, ResetIsDone, RestartIsDone, BothEndsGoDown, LinkIsSetUp, LostUaComesAgain, LinkIsSetUpAgain}
 

@@ -9,11 +9,12 @@ use Rattle.x25_world.specs.World.{World, WorldOutcome, refusal_of, after, start,
 use Rattle.x25_world.specs.FitsWorld.{FitsWorld, all_of, nothing_gone}
 use Rattle.x25_world.specs.declared.error.WorldError.{WorldError}
 use Rattle.x25_sim.specs.declared.stage.Stage.{Stage}
-use Rattle.x25_sim.specs.Sayings.{Saying, refuses, reads_nothing, sayings_text, saying_line, refusal_line, is_refusal, has_refusal}
+use Rattle.x25_sim.specs.Sayings.{Saying, refuses, reads_nothing, sayings_text, saying_line, refusal_number, is_refusal, has_refusal}
 use Rattle.x25_sim.specs.Simulated.{Turn, and_then, turn_of, told_between, asked_turn, connecting, opened}
 use Rattle.x25_sim.specs.Stands.{Stands, opening}
-use Rattle.x25_sim.specs.Written.{Tells}
-use Rattle.x25_sim.proofs.ToldLemmas.{beginning_more}
+use Rattle.x25_console.specs.Lines.{refusal_line}
+use Rattle.x25_console.specs.Written.{Tells}
+use Rattle.x25_console.proofs.ToldLemmas.{beginning_more}
 use Rattle.x25_sim.proofs.SayingLemmas.{text-append}
 use Rattle.x25_sim.proofs.StepLemmas.{happened_turn, declined_turn, step_accepts, refusal_told}
 
@@ -49,7 +50,7 @@ module _ (cfg : Cfg) (tap : Bool) (old now next : Option (List ℕ)) (s u : Stag
   -- ---- an event was refused
 
   module _ (error : WorldError) (refusal : refusal_of o ≡ Some error) where
-    pub stands_refused : u.world ≡ s.world → u.tap ≡ s.tap → u.is_refused ≡ true → Tells old next u.output (told ++ refusal_line error)
+    pub stands_refused : u.world ≡ s.world → u.tap ≡ s.tap → u.is_refused ≡ true → Tells old next u.output (told ++ refusal_line (refusal_number error))
         → StandsAt cfg tap old next u told refused (turn_of tap w o)
     stands_refused world asked status tells =
         let declined : Turn = record { next = w; sayings = refuses error ∷ [] } in
@@ -61,7 +62,7 @@ module _ (cfg : Cfg) (tap : Bool) (old now next : Option (List ℕ)) (s u : Stag
         } in
         subst (StandsAt cfg tap old next u told refused) (sym (declined_turn tap w o error refusal)) stands
 
-    pub begins_refused : AppendsBeginning old next (told ++ refusal_line error) → BeginsAt old next told (turn_of tap w o)
+    pub begins_refused : AppendsBeginning old next (told ++ refusal_line (refusal_number error)) → BeginsAt old next told (turn_of tap w o)
     begins_refused b =
         subst (BeginsAt old next told) (sym (declined_turn tap w o error refusal)) (subst (λ t. AppendsBeginning old next (told ++ t)) (sym (refusal_told error)) b)
 

@@ -8,7 +8,8 @@ use Rattle.x25_world.specs.World.{World, OnTap, AtEnd, WorldOutcome, Happened, D
 use Rattle.x25_world.specs.ShownWorld.{ShownWorld}
 use Rattle.x25_world.specs.FitsWorld.{FitsWorld, all_of}
 use Rattle.x25_world.specs.declared.error.WorldError.{WorldError}
-use Rattle.x25_sim.specs.Sayings.{enters, taps, refuses, sayings_text, saying_line, refusal_line, has_refusal}
+use Rattle.x25_sim.specs.Sayings.{enters, taps, refuses, sayings_text, saying_line, refusal_number, has_refusal}
+use Rattle.x25_console.specs.Lines.{refusal_line}
 use Rattle.x25_sim.specs.Simulated.{frames_told, step_told, told_between, turn_of}
 use Rattle.x25_sim.proofs.SayingLemmas.{text-append}
 
@@ -58,6 +59,6 @@ none_refused tap (e ∷ entries) frames = none_refused tap entries frames
 pub step_accepts : (tap : Bool) (w next : World) → has_refusal (told_between tap w next) ≡ false
 step_accepts tap w next = none_refused tap (drop (length w.transcript) next.transcript) (drop (length w.tap) next.tap)
 
-pub refusal_told : (error : WorldError) → sayings_text (refuses error ∷ []) ≡ refusal_line error
+pub refusal_told : (error : WorldError) → sayings_text (refuses error ∷ []) ≡ refusal_line (refusal_number error)
 unfolding saying_line
-refusal_told error = append-nil (refusal_line error)
+refusal_told error = append-nil (refusal_line (refusal_number error))

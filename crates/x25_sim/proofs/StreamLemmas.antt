@@ -9,7 +9,7 @@ use Rattle.x25_station.specs.declared.config.Cfg.{Cfg}
 use Rattle.x25_world.specs.World.{World}
 use Rattle.x25_sim.specs.Sayings.{sayings_text, has_refusal}
 use Rattle.x25_sim.specs.Simulated.{Turn, quiet, and_then, turn, turns}
-use Rattle.x25_sim.specs.HeldLine.{HoldsLine}
+use Rattle.x25_console.specs.HeldLine.{HoldsLine}
 use Rattle.x25_sim.specs.Stands.{Stands}
 use Rattle.x25_sim.specs.Leaves.{Leaves}
 use Rattle.x25_sim.specs.Stream.{Leads, WritesEnded}

@@ -3,8 +3,6 @@ pub mod Simulated
 pub mod RunLaw
 pub mod WritesRun
 pub mod ScriptRows
-pub mod Written
-pub mod HeldLine
 pub mod Stands
 pub mod Leaves
 pub mod Stream

@@ -1,10 +1,9 @@
 -- What the simulator says of a script, one line each, and the text of that (profile).
-use Rattle.std.specs.Prelude.{ℕ, Bool, true, false, List, ◌++◌, codes, decimal}
+use Rattle.std.specs.Prelude.{ℕ, Bool, true, false, List}
 use Rattle.std.specs.List.{flat_map, list_any}
 use Rattle.x25_station.specs.StationError as station
-use Rattle.x25_text.specs.OctetText.{octet_text}
 use Rattle.x25_entries.specs.EntryText.{entry_line}
-use Rattle.x25_program.specs.Decoded.{mark_of}
+use Rattle.x25_console.specs.Lines.{frame_line, refusal_line, nothing_line}
 use Rattle.x25_world.specs.World.{AtEnd, OnTap}
 use Rattle.x25_world.specs.WorldError as world
 use Rattle.x25_world.specs.declared.error.WorldError.{WorldError}
@@ -22,18 +21,11 @@ abbrev pub refusal_number : WorldError → ℕ
 refusal_number (Station error) = station.number_of error
 refusal_number error = world.number_of error
 
--- a frame, as a line for `decode`
-unfoldable pub frame_line : OnTap → List ℕ
-frame_line frame = mark_of frame.from ++ flat_map octet_text frame.octets ++ codes "\n"
-
-unfoldable pub refusal_line : WorldError → List ℕ
-refusal_line error = codes "! " ++ decimal (refusal_number error) ++ codes "\n"
-
 unfoldable pub saying_line : Saying → List ℕ
 saying_line (enters e) = entry_line e.at e.entry
-saying_line (taps frame) = frame_line frame
-saying_line reads_nothing = codes "? 60\n"
-saying_line (refuses error) = refusal_line error
+saying_line (taps frame) = frame_line frame.from frame.octets
+saying_line reads_nothing = nothing_line
+saying_line (refuses error) = refusal_line (refusal_number error)
 
 abbrev pub sayings_text : List Saying → List ℕ
 sayings_text sayings = flat_map saying_line sayings

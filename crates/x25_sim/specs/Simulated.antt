@@ -1,19 +1,15 @@
 -- What the simulator does with a script (profile): each line is an event of a world of two stations, `drain` several deliveries, and
 -- what happens is said.
-use Rattle.std.specs.Prelude.{ℕ, zero, suc, nat_le, Bool, true, false, List, [], ◌∷◌, ◌++◌, length, drop, map, if◌then◌else◌, Option, Some, None, option_map, unwrap_or}
+use Rattle.std.specs.Prelude.{ℕ, zero, suc, nat_le, Bool, true, false, List, [], ◌∷◌, ◌++◌, length, drop, map, if◌then◌else◌, Option, Some, None}
 use Rattle.x25_bits.specs.Role.{other}
 use Rattle.x25_bits.specs.declared.role.Role.{Role}
 use Rattle.x25_bits.specs.declared.role.Role.TheVariants.{Dte, Dce}
-use Rattle.x25_circuit.specs.declared.params.Params.{Params}
-use Rattle.x25_circuit.specs.Params.{default_params}
-use Rattle.x25_circuit.specs.Calls.{Accepts, Clears, Sends, Interrupts, Resets, SaysReady, SaysNotReady}
-use Rattle.x25_layer.specs.Calls.{Asks, Dials, Restarts}
 use Rattle.x25_station.specs.declared.config.Cfg.{Cfg}
-use Rattle.x25_station.specs.Command.{Command, Requests, Connects, Disconnects}
-use Rattle.x25_script.specs.declared.params.Params.{Params as Numbers}
-use Rattle.x25_script.specs.PlainLine.{PlainCommand, call, accept, clear, send, interrupt, reset, ready, not_ready, restart, connect, disconnect, PlainLine, command, t1, deliver, lose, damage, drain}
+use Rattle.x25_script.specs.PlainLine.{PlainLine, command, t1, deliver, lose, damage, drain}
 use Rattle.x25_script.specs.Reading.{line_in}
 use Rattle.x25_program.specs.Lines.{lines_of}
+use Rattle.x25_console.specs.Commands.{command_asked}
+use Rattle.x25_console.specs.HeldLine.{most_line}
 use Rattle.x25_world.specs.World.{World, OnTap, AtEnd, Event, Commands, Receives, Fires, Loses, Damages, WorldOutcome, Happened, Declined, happens, start, connected}
 use Rattle.x25_sim.specs.Sayings.{Saying, enters, taps, reads_nothing, refuses, sayings_text, has_refusal}
 
@@ -71,31 +67,6 @@ drained cfg tap (suc n) w = delivered_to cfg tap (drained cfg tap n) w (next_end
 
 -- ---- lines
 
--- packet sizes and windows, from the four numbers of a line
-abbrev pub params_of : Numbers → Params
-params_of p = record { size_called = p.size_called; size_calling = p.size_calling; win_called = p.win_called; win_calling = p.win_calling }
-
--- A call without the four numbers proposes the default, and an acceptance without them accepts what was proposed.
-abbrev pub command_asked : PlainCommand → Command
-command_asked (call called calling user params) = Requests (Dials called calling user (unwrap_or (option_map params_of params) default_params))
-command_asked (accept channel params) = Requests (Asks channel (Accepts (option_map params_of params)))
-command_asked (clear channel) = Requests (Asks channel Clears)
-command_asked (send channel q user) = Requests (Asks channel (Sends q user))
-command_asked (interrupt channel user) = Requests (Asks channel (Interrupts user))
-command_asked (reset channel) = Requests (Asks channel Resets)
-command_asked (ready channel) = Requests (Asks channel SaysReady)
-command_asked (not_ready channel) = Requests (Asks channel SaysNotReady)
-command_asked restart = Requests Restarts
-command_asked connect = Connects
-command_asked disconnect = Disconnects
-
--- the user data of a command, none where it has no such field
-abbrev pub user_in : PlainCommand → List ℕ
-user_in (call called calling user params) = user
-user_in (send channel q user) = user
-user_in (interrupt channel user) = user
-user_in asked = []
-
 -- A direction leads away from an end, and frames are delivered, lost and damaged at the other one.
 unfoldable pub line_turn : Cfg → Bool → PlainLine → World → Turn
 line_turn cfg tap (command end asked) w = event_turn cfg tap (record { at = end; act = Commands (command_asked asked) }) w
@@ -104,10 +75,6 @@ line_turn cfg tap (deliver from) w = event_turn cfg tap (record { at = other fro
 line_turn cfg tap (lose from place) w = event_turn cfg tap (record { at = other from; act = Loses place }) w
 line_turn cfg tap (damage from place octets) w = event_turn cfg tap (record { at = other from; act = Damages place octets }) w
 line_turn cfg tap (drain count) w = drained cfg tap count w
-
--- the most characters of a line, without its line feed
-abbrev pub most_line : ℕ
-most_line = 131200
 
 -- a longer line isn't in the grammar
 unfoldable pub asked_in : List ℕ → Option PlainLine

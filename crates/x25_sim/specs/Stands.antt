@@ -7,7 +7,7 @@ use Rattle.x25_program.specs.Written.{AppendsBeginning}
 use Rattle.x25_program.specs.declared.fault.Fault.{Fault}
 use Rattle.x25_sim.specs.Sayings.{sayings_text, has_refusal}
 use Rattle.x25_sim.specs.Simulated.{Turn}
-use Rattle.x25_sim.specs.Written.{Tells}
+use Rattle.x25_console.specs.Written.{Tells}
 use Rattle.x25_sim.specs.declared.stage.Stage.{Stage}
 
 -- The writer held `old` at first and holds `now`.

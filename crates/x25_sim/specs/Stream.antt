@@ -6,7 +6,7 @@ use Rattle.x25_station.specs.declared.config.Cfg.{Cfg}
 use Rattle.x25_world.specs.World.{World}
 use Rattle.x25_sim.specs.Sayings.{sayings_text}
 use Rattle.x25_sim.specs.Simulated.{Turn, simulated, turns}
-use Rattle.x25_sim.specs.HeldLine.{HoldsLine}
+use Rattle.x25_console.specs.HeldLine.{HoldsLine}
 use Rattle.x25_sim.specs.Leaves.{Leaves}
 use Rattle.x25_sim.specs.declared.simulator.Simulator.{Simulator}
 

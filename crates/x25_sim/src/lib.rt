@@ -3,10 +3,7 @@
 //! docs/MANUAL.md says how scripts are written. Profile.
 #![tactic(auto)]
 
-mod commands;
-mod held_line;
 mod law;
-mod output;
 mod running;
 mod simulator;
 mod stage;

@@ -9,11 +9,11 @@ ghost use Rattle.x25_sim.specs.WritesRun.{Writes, WritesOnce, WritesSetUp};
 ghost use Rattle.x25_world.specs.Claims.{ArrivesAll, HasNoProcedureError, IsInWindow, IsLawful, IsNamed};
 ghost use Rattle.x25_world.specs.SessionClaims.{SessionsKeepOrder};
 
-use crate::held_line::HeldLine;
 use crate::law::{scripts_keep_order, scripts_meet_in_sessions};
 use crate::simulator::Simulator;
 use crate::stage::Stage;
 use std::alloc::Global;
+use x25_console::HeldLine;
 use x25_program::{Fault, PIECE, Sink, Source, take_text};
 use x25_station::Cfg;
 

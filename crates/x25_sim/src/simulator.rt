@@ -1,11 +1,11 @@
 //! A script, a piece at a time.
 ghost use Rattle.std.specs.Prelude.{ℕ, List};
 ghost use Rattle.x25_script.specs.Reading.{GivesLine};
-ghost use Rattle.x25_sim.specs.HeldLine.{HoldsLine};
+ghost use Rattle.x25_console.specs.HeldLine.{HoldsLine};
 ghost use Rattle.x25_sim.specs.Simulated.{asked_in};
 
-use crate::held_line::HeldLine;
 use crate::stage::Stage;
+use x25_console::HeldLine;
 use x25_program::{Fault, Sink, TextTaker, split_line};
 use x25_script::{ScriptLine, read_line};
 

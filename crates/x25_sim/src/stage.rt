@@ -5,10 +5,9 @@ ghost use Rattle.x25_line.specs.RawMachine.{end_of};
 ghost use Rattle.x25_world.specs.FitsWorld.{FitsWorld, nothing_gone};
 ghost use Rattle.x25_sim.specs.Stands.{opening};
 
-use crate::commands::{octets_of, station_command, user_octets};
-use crate::output::Output;
-use crate::telling::{tell, tell_entries, tell_frames, tell_refusal};
+use crate::telling::{tell_entries, tell_frames, tell_refusal};
 use std::alloc::Global;
+use x25_console::{Output, octets_of, station_command, tell_nothing, user_octets};
 use x25_program::{Fault, Sink};
 use x25_script::{Command, ScriptLine};
 use x25_station::Cfg;
@@ -60,9 +59,10 @@ impl Stage {
     ghost use Rattle.x25_world.specs.World.{World as State, Commands, WorldOutcome, event_of, refusal_of};
     ghost use Rattle.x25_world.specs.FitsWorld.{all_of};
     ghost use Rattle.x25_sim.specs.Sayings.{sayings_text};
-    ghost use Rattle.x25_sim.specs.Simulated.{asked_turn, command_asked, drained, event_turn, line_turn, next_end, opened, set_up, step_told, told_between, turn_of};
+    ghost use Rattle.x25_console.specs.Commands.{command_asked};
+    ghost use Rattle.x25_sim.specs.Simulated.{asked_turn, drained, event_turn, line_turn, next_end, opened, set_up, step_told, told_between, turn_of};
     ghost use Rattle.x25_sim.specs.Stands.{IsOpening, Stands, Stood, Turns};
-    ghost use Rattle.x25_sim.specs.Written.{Tells};
+    ghost use Rattle.x25_console.specs.Written.{Tells};
 
     /// The first world, of which nothing was told.
     #[tactic(auto, unfolding(crate::specs::Stands::IsOpening))]
@@ -204,7 +204,7 @@ impl Stage {
         ensures read { IsErrOf result Fault.Read → ⊥ }
     {
         self.is_refused = true;
-        tell(b"? 60\n", &mut self.output, writer)
+        tell_nothing(&mut self.output, writer)
     }
 
     /// What the user of an end asks for happens.

@@ -1,30 +1,16 @@
 //! What is told of a step: a line for each entry, and for each frame where frames are asked for.
-ghost use Rattle.std.specs.Prelude.{◌≡◌, ◌++◌, true, ℕ, List, Option, IfOk, OnOk, IsErrOf, MatchResult, map};
+ghost use Rattle.std.specs.Prelude.{◌≡◌, ◌++◌, true, ℕ, List, Option, OnOk, IsErrOf, MatchResult, map};
 ghost use Rattle.x25_program.specs.Written.{AppendsBeginning};
 ghost use Rattle.x25_world.specs.PlainTold.{plain_entered, plain_tapped};
-ghost use Rattle.x25_sim.specs.Sayings.{enters, taps, frame_line as line_of_frame, refusal_line as line_of_refusal, refusal_number as number_of_refusal, saying_line, sayings_text};
-ghost use Rattle.x25_sim.specs.Written.{Tells};
+ghost use Rattle.x25_console.specs.Lines.{refusal_line as line_of_refusal};
+ghost use Rattle.x25_sim.specs.Sayings.{enters, taps, refusal_number as number_of_refusal, saying_line, sayings_text};
+ghost use Rattle.x25_console.specs.Written.{Tells};
 
-use crate::output::Output;
-use std::alloc::{AllocError, Global};
-use x25_entries::{Line, entry_line};
+use std::alloc::Global;
+use x25_console::{Output, frame_line, refusal_line, tell};
+use x25_entries::entry_line;
 use x25_program::{Fault, Sink};
 use x25_world::{Entered, Role, Tapped, WorldError};
-
-/// A frame that was put on the line, as a line for `decode`.
-#[tactic(auto, unfolding(crate::specs::Sayings::frame_line))]
-fn frame_line(alloc: Global, frame: &Tapped) -> Result<Line, AllocError>
-    ensures { IfOk result (λ line. line ≡ line_of_frame (plain_tapped frame.now)) }
-{
-    let mut line = Line::new(alloc)?;
-    line.push(match frame.from {
-        Role::Dte => b"> ",
-        Role::Dce => b"< ",
-    })?;
-    line.push_hexadecimal(frame.octets.as_slice())?;
-    line.push(b"\n")?;
-    Ok(line)
-}
 
 /// The number of a refusal, the station's own where the station refuses.
 fn refusal_number(error: WorldError) -> u8
@@ -33,31 +19,6 @@ fn refusal_number(error: WorldError) -> u8
     match error {
         WorldError::Station(error) => error.number(),
         _ => error.number(),
-    }
-}
-
-#[tactic(auto, unfolding(crate::specs::Sayings::refusal_line))]
-fn refusal_line(alloc: Global, error: WorldError) -> Result<Line, AllocError>
-    ensures { IfOk result (λ line. line ≡ line_of_refusal error) }
-{
-    let mut line = Line::new(alloc)?;
-    line.push_number(b"! ", u64::from(refusal_number(error)))?;
-    line.push(b"\n")?;
-    Ok(line)
-}
-
-/// Tells a line.
-pub(crate) fn tell<W: Sink>(line: &[u8], output: &mut Output, writer: &mut W) -> Result<(), Fault>
-    ensures kept { OnOk result (W.is_marked writer.new ≡ W.is_marked writer.old) }
-    ensures tells { (old : Option (List ℕ)) (told : List ℕ) → Tells old (W.contents writer.old) output.old told
-        → MatchResult result (λ _. Tells old (W.contents writer.new) output.new (told ++ line.now)) (λ _. AppendsBeginning old (W.contents writer.new) (told ++ line.now)) }
-    ensures write { IsErrOf result Fault.Write → W.is_marked writer.new ≡ true }
-    ensures memory { IsErrOf result Fault.NoMemory → W.is_marked writer.new ≡ W.is_marked writer.old }
-    ensures read { IsErrOf result Fault.Read → ⊥ }
-{
-    match output.tell(line, writer) {
-        Ok(()) => Ok(()),
-        Err(_) => Err(Fault::Write),
     }
 }
 
@@ -97,7 +58,7 @@ fn tell_frame<W: Sink>(
     ensures memory { IsErrOf result Fault.NoMemory → W.is_marked writer.new ≡ W.is_marked writer.old }
     ensures read { IsErrOf result Fault.Read → ⊥ }
 {
-    let Ok(line) = frame_line(alloc, frame) else {
+    let Ok(line) = frame_line(alloc, frame.from, frame.octets.as_slice()) else {
         return Err(Fault::NoMemory);
     };
     tell(line.as_slice(), output, writer)
@@ -152,13 +113,13 @@ pub(crate) fn tell_refusal<W: Sink>(
 ) -> Result<(), Fault>
     ensures kept { OnOk result (W.is_marked writer.new ≡ W.is_marked writer.old) }
     ensures tells { (old : Option (List ℕ)) (told : List ℕ) → Tells old (W.contents writer.old) output.old told
-        → MatchResult result (λ _. Tells old (W.contents writer.new) output.new (told ++ line_of_refusal error))
-        (λ _. AppendsBeginning old (W.contents writer.new) (told ++ line_of_refusal error)) }
+        → MatchResult result (λ _. Tells old (W.contents writer.new) output.new (told ++ line_of_refusal (number_of_refusal error)))
+        (λ _. AppendsBeginning old (W.contents writer.new) (told ++ line_of_refusal (number_of_refusal error))) }
     ensures write { IsErrOf result Fault.Write → W.is_marked writer.new ≡ true }
     ensures memory { IsErrOf result Fault.NoMemory → W.is_marked writer.new ≡ W.is_marked writer.old }
     ensures read { IsErrOf result Fault.Read → ⊥ }
 {
-    let Ok(line) = refusal_line(alloc, error) else {
+    let Ok(line) = refusal_line(alloc, refusal_number(error)) else {
         return Err(Fault::NoMemory);
     };
     tell(line.as_slice(), output, writer)

@@ -2,7 +2,7 @@
 
 use crate::peer::{Act, Row, Table, play};
 use crate::rows::{CALL, READY_DTE, SEND, UA};
-use Act::{Ask, Connect, HearRr, Idle, Stretch, T1, Take};
+use Act::{Ask, Connect, HearRr, Idle, Stretch, T1, Take, Timer};
 use std::alloc::Global;
 use std::test::Fail;
 use x25_station::{Cfg, Cmd, Role, Station, StationError};
@@ -29,12 +29,14 @@ fn a_setting_out_of_its_range(rt: HostRuntime) {
     }
 }
 
-const NO_ANSWER: [Row; 11] = [
+const NO_ANSWER: [Row; 13] = [
     (Idle, &["not idle"]),
+    (Timer, &["T1 is off", "0"]),
     (Stretch(1), &["-"]),
     (Ask(Cmd::Restart), &["! 9"]),
     (T1, &["! 11"]),
     (Connect, &["SABM cmd P=1"]),
+    (Timer, &["T1 runs", "0"]),
     (Connect, &["! 12"]),
     (Ask(SEND), &["! 9"]),
     (T1, &["SABM cmd P=1"]),
@@ -74,9 +76,11 @@ fn links_that_are_down(rt: HostRuntime) -> Result<(), Fail> {
     play(&rt, rt.alloc(), (Role::Dte, 1), &[], DOWN.as_slice())
 }
 
-const CLOSED: [Row; 7] = [
+const CLOSED: [Row; 9] = [
     (Connect, &["! 15"]),
+    (Timer, &["T1 runs", "0"]),
     (HearRr(1), &[]),
+    (Timer, &["T1 is off", "1"]),
     (T1, &["! 11"]),
     (Idle, &["idle"]),
     (

@@ -31,6 +31,8 @@ pub enum Act {
     HearRr(u8),
     /// Nothing happens. It is shown whether the station is idle, and whether it awaits UA.
     Idle,
+    /// Nothing happens. It is shown whether T1 runs, and the number of the first frame that isn't acknowledged.
+    Timer,
     /// Nothing happens. The name of the stretch that is open on this channel is shown.
     Stretch(u16),
 }
@@ -104,6 +106,16 @@ impl End {
                     (false, false) => "not idle",
                 };
                 Ok(lines(self.alloc, &[shown])?)
+            }
+            Act::Timer => {
+                let runs = if self.station.timer_runs() {
+                    "T1 runs"
+                } else {
+                    "T1 is off"
+                };
+                let first = self.station.acknowledged().get();
+                let number = format!(in self.alloc; "{first}")?;
+                Ok(lines(self.alloc, &[runs, number.as_str()])?)
             }
             Act::Stretch(channel) => {
                 let name = self.station.stretch(channel);

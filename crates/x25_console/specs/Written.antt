@@ -1,4 +1,4 @@
--- What the simulator told so far: what was written, and what waits to be written.
+-- What was told so far: what was written, and what waits to be written.
 use Rattle.std.specs.Prelude.{◌≡◌, ℕ, List, ◌++◌, Option}
 use Rattle.std.specs.Io.KnownBytes.{Appends}
 

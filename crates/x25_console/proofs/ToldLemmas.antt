@@ -5,7 +5,7 @@ use Rattle.std.specs.Io.KnownBytes.{Appends}
 use Rattle.std.proofs.lemmas.List.{append-nil}
 use Rattle.std.proofs.KnownBytes.{Appends-nil, Appends-trans}
 use Rattle.x25_program.specs.Written.{AppendsBeginning}
-use Rattle.x25_sim.specs.Written.{Tells}
+use Rattle.x25_console.specs.Written.{Tells}
 
 -- nothing was told
 pub none_told : (old : Option (List ℕ)) (text : List ℕ) → text ≡ [] → Tells old old text []

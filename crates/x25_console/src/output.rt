@@ -2,7 +2,7 @@
 ghost use Rattle.std.specs.Prelude.{◌≡◌, ◌≤◌, ◌+◌, ◌++◌, [], true, ℕ, List, Option, IfOk, OnOk, OnErr, MatchResult, length};
 ghost use Rattle.x25_text.specs.declared.text.TheConstants.{ROOM};
 ghost use Rattle.x25_program.specs.Written.{AppendsBeginning};
-ghost use Rattle.x25_sim.specs.Written.{Tells};
+ghost use Rattle.x25_console.specs.Written.{Tells};
 
 use std::alloc::{AllocError, Global};
 use std::marker::Model;
@@ -11,7 +11,7 @@ use x25_text::{ROOM, Text};
 
 /// Text that waits to be written, in a buffer. No call but `new` takes memory.
 #[derive(Drop)]
-pub(crate) struct Output {
+pub struct Output {
     text: Text,
 }
 
@@ -23,7 +23,7 @@ impl Model for Output {
 
 impl Output {
     /// Nothing waits.
-    pub(crate) fn new(alloc: Global) -> Result<Output, AllocError>
+    pub fn new(alloc: Global) -> Result<Output, AllocError>
         ensures { IfOk result (λ output. output ≡ []) }
     {
         let text = Text::new(alloc)?;
@@ -31,7 +31,7 @@ impl Output {
     }
 
     /// Writes what waits.
-    pub(crate) fn flush<W: Sink>(&mut self, writer: &mut W) -> Result<(), Failed>
+    pub fn flush<W: Sink>(&mut self, writer: &mut W) -> Result<(), Failed>
         ensures kept { OnOk result (W.is_marked writer.new ≡ W.is_marked writer.old) }
         ensures tells { (old : Option (List ℕ)) (told : List ℕ) → Tells old (W.contents writer.old) self.old told
             → MatchResult result (λ _. Tells old (W.contents writer.new) self.new told) (λ _. AppendsBeginning old (W.contents writer.new) told) }
@@ -70,7 +70,7 @@ impl Output {
     }
 
     /// Tells a line: it waits behind what was told before. One that is longer than the buffer is written.
-    pub(crate) fn tell<W: Sink>(&mut self, line: &[u8], writer: &mut W) -> Result<(), Failed>
+    pub fn tell<W: Sink>(&mut self, line: &[u8], writer: &mut W) -> Result<(), Failed>
         ensures kept { OnOk result (W.is_marked writer.new ≡ W.is_marked writer.old) }
         ensures tells { (old : Option (List ℕ)) (told : List ℕ) → Tells old (W.contents writer.old) self.old told
             → MatchResult result (λ _. Tells old (W.contents writer.new) self.new (told ++ line.now)) (λ _. AppendsBeginning old (W.contents writer.new) (told ++ line.now)) }

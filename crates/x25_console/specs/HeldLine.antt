@@ -1,7 +1,10 @@
 -- What is held of a line that has begun (profile).
 use Rattle.std.specs.Prelude.{◌≡◌, ℕ, ◌<◌, Bool, true, false, List, length}
-use Rattle.x25_sim.specs.Simulated.{most_line}
-use Rattle.x25_sim.specs.declared.held_line.HeldLine.{HeldLine}
+use Rattle.x25_console.specs.declared.held_line.HeldLine.{HeldLine}
+
+-- the most characters of a line, without its line feed
+abbrev pub most_line : ℕ
+most_line = 131200
 
 -- its characters, or that it is longer than any line of the grammar
 abbrev pub HoldsIn : List ℕ → List ℕ → Bool → Type 0

@@ -8,7 +8,7 @@ const MOST_LINE: usize = 131_200;
 
 /// The line that has begun, as far as it is held: its characters, or that it is too long. No call but `new` takes memory.
 #[derive(Drop)]
-pub(crate) struct HeldLine {
+pub struct HeldLine {
     characters: Vec<u8>,
     is_long: bool,
     ghost few: { vec_len characters ≤ 131200 },
@@ -17,11 +17,11 @@ pub(crate) struct HeldLine {
 
 impl HeldLine {
     ghost use Rattle.std.specs.Prelude.{◌≡◌, ◌≤◌, ◌<◌, ◌++◌, ◌↔◌, [], ℕ, List, IfOk, IsTrue, MatchOption, length};
-    ghost use Rattle.x25_sim.specs.HeldLine.{HoldsLine};
-    ghost use Rattle.x25_sim.specs.Simulated.{most_line};
+    ghost use Rattle.x25_console.specs.HeldLine.{HoldsLine};
+    ghost use Rattle.x25_console.specs.HeldLine.{most_line};
 
     /// No line has begun.
-    pub(crate) fn new(alloc: Global) -> Result<HeldLine, AllocError>
+    pub fn new(alloc: Global) -> Result<HeldLine, AllocError>
         ensures { IfOk result (HoldsLine []) }
     {
         let characters = Vec::with_capacity(alloc, MOST_LINE)?;
@@ -32,7 +32,7 @@ impl HeldLine {
     }
 
     /// Holds what follows of the line.
-    pub(crate) fn hold(&mut self, part: &[u8])
+    pub fn hold(&mut self, part: &[u8])
         ensures { (begun : List ℕ) → HoldsLine begun self.old → HoldsLine (begun ++ part.now) self.new }
     {
         if self.is_long {
@@ -46,14 +46,14 @@ impl HeldLine {
     }
 
     /// Whether no line has begun.
-    pub(crate) fn is_empty(&self) -> bool
+    pub fn is_empty(&self) -> bool
         ensures { (begun : List ℕ) → HoldsLine begun self.now → (IsTrue result ↔ (begun ≡ [])) }
     {
         !self.is_long && self.characters.is_empty()
     }
 
     /// The line, where it isn't too long.
-    pub(crate) fn line(&self) -> Option<&[u8]>
+    pub fn line(&self) -> Option<&[u8]>
         ensures { (begun : List ℕ) → HoldsLine begun self.now
             → MatchOption result (most_line < length begun) (λ line. (line.now ≡ begun) × (length begun ≤ most_line)) }
     {
@@ -65,7 +65,7 @@ impl HeldLine {
     }
 
     /// The line has ended.
-    pub(crate) fn clear(&mut self)
+    pub fn clear(&mut self)
         ensures { HoldsLine [] self.new }
     {
         self.characters.clear();

@@ -1,6 +1,6 @@
 use Rattle.std.proofs.lemmas.Result.{err_from_is_err_and, on_err_weaker, on_ok_weaker, MatchResult-from_both}
-use Rattle.x25_sim.proofs.ToldLemmas.{beginning_more, line_begun, line_written}
-use Rattle.x25_sim.proofs.output.Output.write_line.Goals as goal
+use Rattle.x25_console.proofs.ToldLemmas.{beginning_more, line_begun, line_written}
+use Rattle.x25_console.proofs.output.Output.write_line.Goals as goal
 
 pub returns-in_err-flush-clause-tells : goal.returns-in_err-flush-clause-tells
 returns-in_err-flush-clause-tells g c = λ old told h.

@@ -2,8 +2,8 @@ use Rattle.std.proofs.Common.{◌∙◌, subst}
 use Rattle.std.proofs.lemmas.Result.{err_from_is_err_and}
 use Rattle.std.specs.Io.KnownBytes.{Appends}
 use Rattle.x25_program.specs.Written.{AppendsBeginning}
-use Rattle.x25_sim.proofs.ToldLemmas.{all_written, part_written}
-use Rattle.x25_sim.proofs.output.Output.flush.Goals as goal
+use Rattle.x25_console.proofs.ToldLemmas.{all_written, part_written}
+use Rattle.x25_console.proofs.output.Output.flush.Goals as goal
 
 pub returns-in_err-write_all-clause-tells : goal.returns-in_err-write_all-clause-tells
 returns-in_err-write_all-clause-tells g c = λ old told h.

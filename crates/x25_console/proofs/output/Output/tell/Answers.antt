@@ -1,6 +1,6 @@
 use Rattle.std.proofs.lemmas.Result.{err_from_is_err_and}
-use Rattle.x25_sim.proofs.ToldLemmas.{beginning_more}
-use Rattle.x25_sim.proofs.output.Output.tell.Goals as goal
+use Rattle.x25_console.proofs.ToldLemmas.{beginning_more}
+use Rattle.x25_console.proofs.output.Output.tell.Goals as goal
 
 pub returns-in_err-make_room-clause-tells : goal.returns-in_err-make_room-clause-tells
 returns-in_err-make_room-clause-tells g c = λ old told h.

@@ -2,7 +2,7 @@
 ghost use Rattle.std.specs.Prelude.{◌≡◌, IfOk};
 ghost use Rattle.x25_script.specs.PlainLine.{plain_command};
 ghost use Rattle.x25_station.specs.Command.{command_of};
-ghost use Rattle.x25_sim.specs.Simulated.{command_asked, params_of, user_in};
+ghost use Rattle.x25_console.specs.Commands.{command_asked, params_of, user_in};
 
 use std::alloc::{AllocError, Global};
 use x25_circuit::Params;
@@ -10,7 +10,7 @@ use x25_script::{Command, HexDigits};
 use x25_station::Cmd;
 
 /// The octets that the digits write.
-pub(crate) fn octets_of(alloc: Global, digits: &HexDigits) -> Result<Vec<u8>, AllocError>
+pub fn octets_of(alloc: Global, digits: &HexDigits) -> Result<Vec<u8>, AllocError>
     ensures { IfOk result (λ octets. octets.items ≡ digits.now) }
 {
     let mut octets = vec![in alloc; 0u8; digits.len()]?;
@@ -19,7 +19,7 @@ pub(crate) fn octets_of(alloc: Global, digits: &HexDigits) -> Result<Vec<u8>, Al
 }
 
 /// The octets of user data that a command has, none where it has no such field.
-pub(crate) fn user_octets(alloc: Global, command: &Command) -> Result<Vec<u8>, AllocError>
+pub fn user_octets(alloc: Global, command: &Command) -> Result<Vec<u8>, AllocError>
     ensures { IfOk result (λ octets. octets.items ≡ user_in (plain_command command.now)) }
 {
     match command {
@@ -42,7 +42,7 @@ fn params_of(numbers: &x25_script::Params) -> Params
 }
 
 /// The command with its octets of user data.
-pub(crate) fn station_command<'a>(command: &Command<'a>, user: &'a [u8]) -> Cmd<'a>
+pub fn station_command<'a>(command: &Command<'a>, user: &'a [u8]) -> Cmd<'a>
     requires { user.now ≡ user_in (plain_command command.now) }
     ensures { command_of result ≡ command_asked (plain_command command.now) }
 {
