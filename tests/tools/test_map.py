@@ -1,6 +1,7 @@
-"""The map of docs/ARCHITECTURE.md, by which a newcomer finds a rule's code, definition, proof and wrong bodies.
+"""The map of docs/ARCHITECTURE.md, by which a newcomer finds a rule's code, definition, proof and wrong bodies, and docs/WALK.md.
 
-It names nothing that isn't there, and leaves out no source, no definition and no file of proofs that stands by itself.
+The map names nothing that isn't there, and leaves out no source, no definition and no file of proofs that stands by itself. Each hop
+of a walk is a function of the file that it names.
 """
 
 import os
@@ -75,6 +76,18 @@ class Map(unittest.TestCase):
             if not crate.endswith("_tests"):
                 with self.subTest(crate):
                     self.assertEqual(sorted(os.path.relpath(file, CRATES) for file in files(crate) - told), [])
+
+
+class Walk(unittest.TestCase):
+    def test_each_hop_is_a_function_of_its_file(self):
+        text = support.read(os.path.join(support.ROOT, "docs", "WALK.md")).decode()
+        hops = re.findall(r"^\d+\. `(x25\w*)/(\w+\.rt)` `(\w+)`: ", text, re.MULTILINE)
+        self.assertEqual(len(hops), len(re.findall(r"^\d+\. ", text, re.MULTILINE)))
+        self.assertLessEqual(text.count("\n"), 80)
+        for crate, file, function in hops:
+            with self.subTest(f"{crate}/{file} {function}"):
+                source = support.read(os.path.join(CRATES, crate, "src", file)).decode()
+                self.assertRegex(source, rf"\bfn {function}\b")
 
 
 if __name__ == "__main__":
