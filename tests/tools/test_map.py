@@ -1,0 +1,94 @@
+"""The map of docs/ARCHITECTURE.md, by which a newcomer finds a rule's code, definition, proof and wrong bodies, and docs/WALK.md.
+
+The map names nothing that isn't there, and leaves out no source, no definition and no file of proofs that stands by itself. Each hop
+of a walk is a function of the file that it names.
+"""
+
+import os
+import re
+import unittest
+from glob import glob
+
+import support
+
+CRATES = os.path.join(support.ROOT, "crates")
+HEAD = "| Rule | Code | Definition | Proof | Wrong bodies |"
+WRONG_BODIES = 4
+
+
+def rows():
+    """The rows of the map, each a list of five cells."""
+    text = support.read(os.path.join(support.ROOT, "docs", "ARCHITECTURE.md")).decode()
+    table = text[text.index(HEAD):].split("\n\n")[0].splitlines()[2:]
+    return [[cell.strip() for cell in row.strip("|").split(" | ")] for row in table]
+
+
+def crates_of(row):
+    """The crates that a row names."""
+    named = re.findall(r"\bx25(?:_[a-z]+)?\b", " ".join(row))
+    return [crate for crate in sorted(set(named)) if os.path.isdir(os.path.join(CRATES, crate))]
+
+
+def names(cell):
+    """What a cell names: the words between backticks, but for crates, traits and paths of the repository."""
+    words = re.findall(r"`([^`]+)`", re.sub(r"the traits? `\w+`( and `\w+`)?", "", cell))
+    return [word for word in words if not os.path.exists(os.path.join(CRATES, word)) and not glob(os.path.join(support.ROOT, word))]
+
+
+def stands_for(crate, place, word):
+    """The files of a crate that a word in a cell of the map means."""
+    if word.endswith("/"):
+        return glob(os.path.join(CRATES, crate, word))
+    if place == WRONG_BODIES:
+        return glob(os.path.join(CRATES, crate, "*", f"{word}.edit"))
+    if word.endswith(".rt"):
+        return glob(os.path.join(CRATES, crate, "src", "**", word.rpartition("src/")[2]), recursive=True)
+    if "/" in word:
+        return glob(os.path.join(CRATES, crate, word)) + glob(os.path.join(CRATES, crate, f"{word}.antt"))
+    return glob(os.path.join(CRATES, crate, "specs", f"{word}.antt")) + glob(os.path.join(CRATES, crate, "proofs", f"{word}.antt"))
+
+
+def files(crate):
+    """The files of a crate that a reader looks for: sources, definitions, and proofs that aren't those of one function."""
+    found = glob(os.path.join(CRATES, crate, "src", "**", "*.rt"), recursive=True)
+    found += glob(os.path.join(CRATES, crate, "specs", "*.antt")) + glob(os.path.join(CRATES, crate, "proofs", "*.antt"))
+    return {path for path in found if os.path.basename(path) not in ("lib.rt", "main.rt", "Lib.antt")}
+
+
+class Map(unittest.TestCase):
+    def test_each_row_is_whole(self):
+        for row in rows():
+            with self.subTest(row[0]):
+                self.assertEqual(len(row), 5)
+                self.assertTrue(crates_of(row))
+
+    def test_each_name_is_there(self):
+        for row in rows():
+            for place, cell in enumerate(row[1:], 1):
+                for word in names(cell):
+                    with self.subTest(f"{row[0]}: {word}"):
+                        self.assertTrue([file for crate in crates_of(row) for file in stands_for(crate, place, word)])
+
+    def test_each_file_stands_in_a_row(self):
+        told = {file for row in rows() for place, cell in enumerate(row[1:], 1) for word in re.findall(r"`([^`]+)`", cell)
+                for crate in crates_of(row) for file in stands_for(crate, place, word)}
+        for crate in sorted(os.listdir(CRATES)):
+            if not crate.endswith("_tests"):
+                with self.subTest(crate):
+                    self.assertEqual(sorted(os.path.relpath(file, CRATES) for file in files(crate) - told), [])
+
+
+class Walk(unittest.TestCase):
+    def test_each_hop_is_a_function_of_its_file(self):
+        text = support.read(os.path.join(support.ROOT, "docs", "WALK.md")).decode()
+        hops = re.findall(r"^\d+\. `(x25\w*)/(\w+\.rt)` `(\w+)`: ", text, re.MULTILINE)
+        self.assertEqual(len(hops), len(re.findall(r"^\d+\. ", text, re.MULTILINE)))
+        self.assertLessEqual(text.count("\n"), 80)
+        for crate, file, function in hops:
+            with self.subTest(f"{crate}/{file} {function}"):
+                source = support.read(os.path.join(CRATES, crate, "src", file)).decode()
+                self.assertRegex(source, rf"\bfn {function}\b")
+
+
+if __name__ == "__main__":
+    unittest.main()
