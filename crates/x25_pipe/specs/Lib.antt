@@ -1,2 +1,0 @@
-pub mod Piped
-pub mod PipeRows
