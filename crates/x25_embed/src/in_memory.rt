@@ -1,0 +1,79 @@
+//! One end of a line in memory: a line that is a list, a timer that is a flag, and a user whose notices are text.
+use crate::driving::{Line, Timer, User};
+use std::alloc::{AllocError, Global};
+use x25_entries::entry_line;
+use x25_station::{Entry, Role};
+
+/// Frames that were sent and haven't come yet, the first in front.
+#[derive(Drop)]
+pub struct Frames {
+    alloc: Global,
+    frames: Vec<Vec<u8>>,
+}
+
+impl Frames {
+    pub fn new(alloc: Global) -> Frames {
+        Frames {
+            alloc,
+            frames: Vec::new(alloc),
+        }
+    }
+
+    /// The frame that comes next.
+    pub fn next(&mut self) -> Option<Vec<u8>> {
+        if self.frames.is_empty() {
+            return None;
+        }
+        Some(self.frames.remove(0))
+    }
+}
+
+impl Line for Frames {
+    fn send(&mut self, frame: &[u8]) -> Result<(), AllocError> {
+        let mut octets = Vec::with_capacity(self.alloc, frame.len())?;
+        octets.extend_from_slice(frame)?;
+        self.frames.push(octets)?;
+        Ok(())
+    }
+}
+
+/// A timer without a clock: who holds it sees whether it runs.
+#[derive(Drop)]
+pub struct Flag {
+    pub runs: bool,
+}
+
+impl Timer for Flag {
+    fn start(&mut self) {
+        self.runs = true;
+    }
+
+    fn stop(&mut self) {
+        self.runs = false;
+    }
+}
+
+/// What the user of an end was told, as lines of a transcript.
+#[derive(Drop)]
+pub struct Told {
+    alloc: Global,
+    end: Role,
+    pub text: Vec<u8>,
+}
+
+impl Told {
+    pub fn new(alloc: Global, end: Role) -> Told {
+        Told {
+            alloc,
+            end,
+            text: Vec::new(alloc),
+        }
+    }
+}
+
+impl User for Told {
+    fn notice(&mut self, entry: &Entry) -> Result<(), AllocError> {
+        let line = entry_line(self.alloc, self.end, entry)?;
+        self.text.extend_from_slice(line.as_slice())
+    }
+}
