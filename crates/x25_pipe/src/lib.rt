@@ -1,0 +1,17 @@
+//! One station of X.25 behind a pipe: lines of a trace that come to it and lines of a script of its user are answered by what it
+//! does and by what its timer T1 does, over any readers and writers.
+//!
+//! docs/MANUAL.md says how the lines are written. Profile.
+#![tactic(auto)]
+
+mod answerer;
+mod law;
+mod mark;
+mod pipe;
+mod running;
+mod telling;
+
+pub use law::answers_as_worked;
+pub use running::station;
+pub use x25_program::{Device, Failed, Fault, Sink, Source};
+pub use x25_station::{Cfg, Role};
