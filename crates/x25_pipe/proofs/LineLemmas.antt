@@ -1,0 +1,17 @@
+-- What a line asks for.
+use Rattle.std.proofs.Common.{◌≡◌, ◌∙◌, ◌≤◌, ◌<◌, ℕ, true, false, List, length, if◌then◌else◌, Option, Some, None, nat_le, ap, sym}
+use Rattle.std.proofs.lemmas.Bool.{le-leb, lt-leb}
+use Rattle.x25_bits.specs.declared.role.Role.{Role}
+use Rattle.x25_program.specs.Decoded.{sent_in}
+use Rattle.x25_console.specs.HeldLine.{most_line}
+use Rattle.x25_station.specs.TimerLaw.{Event}
+use Rattle.x25_pipe.specs.Piped.{event_in, read_event}
+
+-- a line that isn't too long is read
+pub event_read : (end : Role) (line : List ℕ) (sent : Option (Role × List ℕ)) → length line ≤ most_line → sent_in line ≡ sent → event_in end line ≡ read_event end line sent
+unfolding event_in
+event_read end line sent few is = ap (λ b. if b then read_event end line (sent_in line) else None) (le-leb (length line) most_line few) ∙ ap (read_event end line) is
+
+pub event_long : (end : Role) (line : List ℕ) → most_line < length line → event_in end line ≡ None
+unfolding event_in
+event_long end line long = ap (λ b. if b then read_event end line (sent_in line) else None) (lt-leb (length line) most_line long)
