@@ -1,5 +1,5 @@
 -- Worked input of one station behind a pipe: what is written for it, and the status.
-use Rattle.std.specs.Prelude.{◌≡◌, ◌×◌, ℕ, false, List, [], codes}
+use Rattle.std.specs.Prelude.{◌≡◌, ℕ, false, List, [], codes}
 use Rattle.x25_bits.specs.declared.role.Role.{Role}
 use Rattle.x25_bits.specs.declared.role.Role.TheVariants.{Dte, Dce}
 use Rattle.x25_station.specs.declared.config.Cfg.{Cfg}

@@ -230,20 +230,20 @@ impl Pipe {
     }
 
     /// The user of this end asks for something.
-    fn command<W: Sink>(&mut self, command: &Command, writer: &mut W) -> Result<(), Fault>
+    fn command<W: Sink>(&mut self, command: Command, writer: &mut W) -> Result<(), Fault>
         ensures kept { OnOk result (W.is_marked writer.new ≡ W.is_marked writer.old) }
         ensures turns { (c : Settings) (old : Option (List ℕ)) → Turns c old (W.contents writer.old) (W.contents writer.new) self.old self.new result
-            (λ s. event_turn c s (Asks (command_asked (plain_command command.now)))) }
+            (λ s. event_turn c s (Asks (command_asked (plain_command command.entry)))) }
         ensures written { OnOk result (self.new.output ≡ []) }
         ensures write { IsErrOf result Fault.Write → W.is_marked writer.new ≡ true }
         ensures memory { IsErrOf result Fault.NoMemory → W.is_marked writer.new ≡ W.is_marked writer.old }
         ensures read { IsErrOf result Fault.Read → ⊥ }
     {
-        let Ok(user) = user_octets(self.alloc, command) else {
+        let Ok(user) = user_octets(self.alloc, &command) else {
             return Err(Fault::NoMemory);
         };
         let before = Watch::of(&self.station);
-        match self.station.command(station_command(command, user.as_slice())) {
+        match self.station.command(station_command(&command, user.as_slice())) {
             Ok(step) => self.tell_step(before, false, &step, writer),
             Err(error) => self.refuse(error, writer),
         }
@@ -266,10 +266,10 @@ impl Pipe {
     }
 
     /// The user of an end asks for something.
-    fn command_at<W: Sink>(&mut self, end: Role, command: &Command, writer: &mut W) -> Result<(), Fault>
+    fn command_at<W: Sink>(&mut self, end: Role, command: Command, writer: &mut W) -> Result<(), Fault>
         ensures kept { OnOk result (W.is_marked writer.new ≡ W.is_marked writer.old) }
         ensures turns { (c : Settings) (old : Option (List ℕ)) → Turns c old (W.contents writer.old) (W.contents writer.new) self.old self.new result
-            (λ s. asked_turn c s (only_of self.old.end end (Asks (command_asked (plain_command command.now))))) }
+            (λ s. asked_turn c s (only_of self.old.end end (Asks (command_asked (plain_command command.entry))))) }
         ensures written { OnOk result (self.new.output ≡ []) }
         ensures write { IsErrOf result Fault.Write → W.is_marked writer.new ≡ true }
         ensures memory { IsErrOf result Fault.NoMemory → W.is_marked writer.new ≡ W.is_marked writer.old }
@@ -308,7 +308,7 @@ impl Pipe {
         ensures read { IsErrOf result Fault.Read → ⊥ }
     {
         match line {
-            ScriptLine::Command { end, command } => self.command_at(end, &command, writer),
+            ScriptLine::Command { end, command } => self.command_at(end, command, writer),
             ScriptLine::T1 { end } => self.fire_at(end, writer),
             ScriptLine::Deliver { .. } => self.read_nothing(writer),
             ScriptLine::Lose { .. } => self.read_nothing(writer),
