@@ -11,7 +11,8 @@ use Rattle.x25_pipe.specs.Piped.{Turn, quiet, and_then, sayings_text, has_refusa
 use Rattle.x25_pipe.specs.Stands.{Stands}
 use Rattle.x25_pipe.specs.Leaves.{Leaves}
 use Rattle.x25_console.proofs.ToldLemmas.{beginning_more, begins}
-use Rattle.x25_pipe.proofs.StandLemmas.{StandsAt, BeginsAt, parts_text, parts_refused}
+use Rattle.x25_pipe.proofs.SayingLemmas.{parts_text, parts_refused}
+use Rattle.x25_pipe.proofs.StandLemmas.{StandsAt, BeginsAt}
 
 module _ (c : Settings) (old now next : Option (List ℕ)) (s u : Pipe) (told : List ℕ) (refused : Bool) (whole : Turn) where
   -- nothing of it is left
