@@ -112,6 +112,7 @@ impl Answerer {
 }
 
 impl TextTaker for Answerer {
+    ghost use Rattle.x25_station.specs.Settings.{Settings};
     ghost use Rattle.x25_pipe.specs.Piped.{piped, status_of as status, text_of as text};
     ghost use Rattle.x25_pipe.specs.Stream.{Answers, WritesEnded};
 

@@ -30,7 +30,7 @@ returns-clause-stood g c = λ k old s event o told refused before firing is role
     let m = mark s event (Did plain) in
     let told_all = said plain.near (step_told k plain) in
     let here : IsStep k u.station step (Did plain) = subst (λ v. IsStep k v step (Did plain)) (sym c.tell_answer.ensures.station) h in
-    let up = c.tells_up-is_up.ensures ∙ ap (λ entries. tells_up (map plain_entry entries)) c.as_slice.ensures ∙ ap tells_up h.enters in
+    let up = c.tells_up-is_up.ensures ∙ ap (λ entries. tells_up (map plain_entry entries)) c.as_slice.ensures.value ∙ ap tells_up h.enters in
     let stands = stands_told k old _ u step plain told refused here (c.tell_answer.ensures.role ∙ role)
         (subst (λ end. Tells old (g.W.Sink.contents c.tell_answer.new.writer) u.output (told ++ sayings_text end (answer_told step))) role (c.in_ok-tell_answer.ensures.tells old told tells))
         (c.tell_answer.ensures.is_refused ∙ status) in
