@@ -1,7 +1,6 @@
 -- A whole input.
 use Rattle.std.proofs.Common.{◌≡◌, ℕ, false, List, [], Option, Some, None, refl, sym, subst}
 use Rattle.std.specs.Prelude.{IfSome}
-use Rattle.x25_bits.specs.declared.role.Role.{Role}
 use Rattle.x25_program.specs.Lines.{lines_of}
 use Rattle.x25_program.specs.Written.{AppendsBeginning}
 use Rattle.x25_station.specs.Settings.{Settings}

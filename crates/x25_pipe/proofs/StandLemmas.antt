@@ -1,11 +1,10 @@
 -- How it stands after a turn.
-use Rattle.std.proofs.Common.{◌≡◌, ◌∙◌, ℕ, Bool, true, false, List, [], ◌∷◌, ◌++◌, map, Option, Result, Ok, Err, ap, sym, subst, refl, inl, inr}
-use Rattle.std.specs.Prelude.{◌⊎◌, ◌||◌}
+use Rattle.std.proofs.Common.{◌≡◌, ◌∙◌, ℕ, Bool, true, false, List, [], ◌∷◌, ◌++◌, map, Option, ap, sym, subst, refl, inl, inr}
+use Rattle.std.specs.Prelude.{◌||◌}
 use Rattle.std.proofs.lemmas.List.{append-nil}
 use Rattle.std.proofs.Math.Bool.{or-false, or-true}
 use Rattle.x25_bits.specs.declared.role.Role.{Role}
 use Rattle.x25_program.specs.Written.{AppendsBeginning}
-use Rattle.x25_frame.specs.PlainFrame.{PlainFrame}
 use Rattle.x25_frame.specs.Spelling.{spelling_of}
 use Rattle.x25_station.specs.declared.error.StationError.{StationError}
 use Rattle.x25_station.specs.declared.error.StationError.TheVariants.{NoMemory}
@@ -13,17 +12,15 @@ use Rattle.x25_station.specs.declared.station.Station as code
 use Rattle.x25_station.specs.declared.step.Step as code_step
 use Rattle.x25_station.specs.Entries.{StationEntry}
 use Rattle.x25_station.specs.FitsStation.{FitsStation}
-use Rattle.x25_station.specs.PlainEntry.{plain_entry}
 use Rattle.x25_station.specs.Settings.{Settings}
 use Rattle.x25_station.specs.StationError.{number_of}
 use Rattle.x25_station.specs.Station.{Station}
 use Rattle.x25_station.specs.Steps.{Step, Outcome, Did, Refused}
-use Rattle.x25_station.specs.TimerLaw.{Event, Mark, after, mark}
 use Rattle.x25_console.specs.Lines.{nothing_line, refusal_line}
 use Rattle.x25_console.specs.Written.{Tells}
 use Rattle.x25_console.proofs.ToldLemmas.{beginning_more}
-use Rattle.x25_pipe.specs.Piped.{Saying, enters, sends, refuses, reads_nothing, saying_line, sayings_text, has_refusal, Turn, and_then, said, mark_turn, standing, step_told, outcome_told, turn_of, asked_turn}
-use Rattle.x25_pipe.specs.Stands.{Stands, Stood, IsStep, IsError, answer_told}
+use Rattle.x25_pipe.specs.Piped.{Saying, enters, sends, refuses, reads_nothing, saying_line, sayings_text, has_refusal, Turn, and_then, said, step_told}
+use Rattle.x25_pipe.specs.Stands.{Stands, IsStep, IsError, answer_told}
 use Rattle.x25_pipe.specs.declared.pipe.Pipe.{Pipe}
 use Rattle.x25_pipe.proofs.SayingLemmas.{parts_text, parts_refused}
 

@@ -145,7 +145,13 @@ impl Pipe {
     }
 
     /// Tells a step of the station, which stood as `before` says: its entries, its frames and its mark.
-    fn tell_step<W: Sink>(&mut self, before: Watch, is_firing: bool, step: &Step, writer: &mut W) -> Result<(), Fault>
+    fn tell_step<W: Sink>(
+        &mut self,
+        before: Watch,
+        is_firing: bool,
+        step: &Step,
+        writer: &mut W,
+    ) -> Result<(), Fault>
         ensures kept { OnOk result (W.is_marked writer.new ≡ W.is_marked writer.old) }
         ensures stood { (c : Settings) (old : Option (List ℕ)) (s : State) (event : Event) (o : Outcome) (told : List ℕ) (refused : Bool)
             → Watches before s → is_firing ≡ is_firing_of event → IsStep c self.old.station step.now o → self.old.end ≡ c.role
@@ -243,7 +249,10 @@ impl Pipe {
             return Err(Fault::NoMemory);
         };
         let before = Watch::of(&self.station);
-        match self.station.command(station_command(&command, user.as_slice())) {
+        match self
+            .station
+            .command(station_command(&command, user.as_slice()))
+        {
             Ok(step) => self.tell_step(before, false, &step, writer),
             Err(error) => self.refuse(error, writer),
         }
@@ -266,7 +275,12 @@ impl Pipe {
     }
 
     /// The user of an end asks for something.
-    fn command_at<W: Sink>(&mut self, end: Role, command: Command, writer: &mut W) -> Result<(), Fault>
+    fn command_at<W: Sink>(
+        &mut self,
+        end: Role,
+        command: Command,
+        writer: &mut W,
+    ) -> Result<(), Fault>
         ensures kept { OnOk result (W.is_marked writer.new ≡ W.is_marked writer.old) }
         ensures turns { (c : Settings) (old : Option (List ℕ)) → Turns c old (W.contents writer.old) (W.contents writer.new) self.old self.new result
             (λ s. asked_turn c s (only_of self.old.end end (Asks (command_asked (plain_command command.entry))))) }

@@ -11,7 +11,8 @@ const USUAL: Cfg = Cfg {
 
 const INPUT: &str = "dte connect\nx\n< 01738357\nx\n";
 
-const TEXT: &str = ". off busy\ndte connect\n> 013febdf\n. start busy\n? 60\n. on busy\ndte linkup\n> 01001000fb00007702\n. start busy\n? 60\n. on busy\n";
+const TEXT: &str =
+    ". off busy\ndte connect\n> 013febdf\n. start busy\n? 60\n. on busy\ndte linkup\n> 01001000fb00007702\n. start busy\n? 60\n. on busy\n";
 
 /// The calls that read it seven octets at a time, the one at its end among them.
 const READS: usize = 5;

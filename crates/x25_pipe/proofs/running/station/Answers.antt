@@ -1,4 +1,4 @@
-use Rattle.std.proofs.Common.{◌∙◌, [], false, refl}
+use Rattle.std.proofs.Common.{◌∙◌, [], false}
 use Rattle.std.proofs.lemmas.Result.{err_from_is_err_and, on_ok_weaker}
 use Rattle.x25_station.specs.Settings.{settings_from}
 use Rattle.x25_station.specs.Station.{new_station}

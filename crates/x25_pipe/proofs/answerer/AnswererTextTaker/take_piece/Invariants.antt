@@ -1,4 +1,4 @@
-use Rattle.std.proofs.Common.{◌≡◌, ◌++◌, ℕ, List, Option, Bool, length}
+use Rattle.std.proofs.Common.{◌≡◌, ◌++◌, ℕ, List, Option, length}
 use Rattle.x25_station.specs.Settings.{Settings}
 use Rattle.x25_pipe.specs.Piped.{Turn}
 use Rattle.x25_pipe.specs.Stream.{Leads}

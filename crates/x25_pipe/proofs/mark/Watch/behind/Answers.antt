@@ -1,4 +1,4 @@
-use Rattle.std.proofs.Common.{◌∙◌, ap, sym}
+use Rattle.std.proofs.Common.{◌∙◌, ap}
 use Rattle.std.specs.Prelude.{not, ◌==◌, ◌%◌}
 use Rattle.x25_station.specs.TimerLaw.{mark_of}
 use Rattle.x25_pipe.proofs.MarkLemmas.{mark_is}

@@ -1,4 +1,4 @@
-use Rattle.std.proofs.Common.{◌≡◌, ◌∙◌, true, false, if◌then◌else◌, Some, None, sym, subst}
+use Rattle.std.proofs.Common.{◌∙◌, if◌then◌else◌, Some, None, sym, subst}
 use Rattle.x25_station.specs.TimerLaw.{Asks}
 use Rattle.x25_script.specs.PlainLine.{plain_command}
 use Rattle.x25_console.specs.Commands.{command_asked}

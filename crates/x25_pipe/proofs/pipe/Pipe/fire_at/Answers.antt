@@ -1,4 +1,4 @@
-use Rattle.std.proofs.Common.{◌≡◌, ◌∙◌, true, false, if◌then◌else◌, Some, None, sym, subst}
+use Rattle.std.proofs.Common.{◌∙◌, if◌then◌else◌, Some, None, sym, subst}
 use Rattle.x25_station.specs.TimerLaw.{Fires}
 use Rattle.x25_pipe.specs.Piped.{asked_turn}
 use Rattle.x25_pipe.specs.Stands.{Stood}

@@ -1,4 +1,4 @@
-use Rattle.std.proofs.Common.{◌≡◌, ◌∙◌, true, false, take, if◌then◌else◌, Some, None, ap, sym, subst}
+use Rattle.std.proofs.Common.{◌∙◌, take, if◌then◌else◌, Some, None, ap, sym, subst}
 use Rattle.x25_station.specs.TimerLaw.{Comes}
 use Rattle.x25_pipe.specs.Piped.{asked_turn, is_same}
 use Rattle.x25_pipe.specs.Stands.{Stood}

@@ -1,4 +1,4 @@
-use Rattle.std.proofs.Common.{◌≡◌, ◌++◌, ◌∷◌, [], refl, sym, subst}
+use Rattle.std.proofs.Common.{◌++◌, ◌∷◌, [], refl, sym, subst}
 use Rattle.std.proofs.lemmas.Result.{err_from_is_err_and, MatchResult-weaker}
 use Rattle.x25_program.specs.Written.{AppendsBeginning}
 use Rattle.x25_console.proofs.ToldLemmas.{begins_more}

@@ -22,9 +22,9 @@ returns-clause-tells g c = λ old told h.
     let end = c.args.self.now.end in
     let step = c.args.step.now in
     let both =
-        ap (λ entries. (told ++ sayings_text end (map enters (map plain_entry entries))) ++ sayings_text end (map sends (map (λ frame. frame.items) c.as_slice-frames.result.now))) c.as_slice-entries.ensures.value
-        ∙ ap (λ frames. (told ++ sayings_text end (map enters (map plain_entry step.entries.items))) ++ sayings_text end (map sends (map (λ frame. frame.items) frames))) c.as_slice-frames.ensures.value
-        ∙ parts_text end told (map enters (map plain_entry step.entries.items)) (map sends (map (λ frame. frame.items) step.frames.items)) in
+    ap (λ entries. (told ++ sayings_text end (map enters (map plain_entry entries))) ++ sayings_text end (map sends (map (λ frame. frame.items) c.as_slice-frames.result.now))) c.as_slice-entries.ensures.value
+    ∙ ap (λ frames. (told ++ sayings_text end (map enters (map plain_entry step.entries.items))) ++ sayings_text end (map sends (map (λ frame. frame.items) frames))) c.as_slice-frames.ensures.value
+    ∙ parts_text end told (map enters (map plain_entry step.entries.items)) (map sends (map (λ frame. frame.items) step.frames.items)) in
     MatchResult-weaker c.tell_frames.result (c.tell_frames.ensures.tells old _ (c.in_ok-tell_entries.ensures.tells old told h))
     (λ _ tells. subst (Tells old (g.W.Sink.contents c.tell_frames.new.writer) c.tell_frames.new.output) both tells)
     (λ _ begins. subst (AppendsBeginning old (g.W.Sink.contents c.tell_frames.new.writer)) both begins)

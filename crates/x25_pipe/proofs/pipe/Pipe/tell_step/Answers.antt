@@ -1,4 +1,4 @@
-use Rattle.std.proofs.Common.{◌≡◌, ◌∙◌, ◌++◌, map, ap, sym, subst}
+use Rattle.std.proofs.Common.{◌∙◌, ◌++◌, map, ap, sym, subst}
 use Rattle.std.proofs.lemmas.Result.{err_from_is_err_and, MatchResult-weaker}
 use Rattle.x25_program.specs.Written.{AppendsBeginning}
 use Rattle.x25_station.specs.PlainEntry.{plain_entry}
@@ -32,8 +32,8 @@ returns-clause-stood g c = λ k old s event o told refused before firing is role
     let here : IsStep k u.station step (Did plain) = subst (λ v. IsStep k v step (Did plain)) (sym c.tell_answer.ensures.station) h in
     let up = c.tells_up-is_up.ensures ∙ ap (λ entries. tells_up (map plain_entry entries)) c.as_slice.ensures.value ∙ ap tells_up h.enters in
     let stands = stands_told k old _ u step plain told refused here (c.tell_answer.ensures.role ∙ role)
-        (subst (λ end. Tells old (g.W.Sink.contents c.tell_answer.new.writer) u.output (told ++ sayings_text end (answer_told step))) role (c.in_ok-tell_answer.ensures.tells old told tells))
-        (c.tell_answer.ensures.is_refused ∙ status) in
+    (subst (λ end. Tells old (g.W.Sink.contents c.tell_answer.new.writer) u.output (told ++ sayings_text end (answer_told step))) role (c.in_ok-tell_answer.ensures.tells old told tells))
+    (c.tell_answer.ensures.is_refused ∙ status) in
     MatchResult-weaker c.mark.result (c.mark.ensures.turns k old m (c.behind.ensures s event plain before (c.of-next.ensures k plain.near here.leaves) firing up) plain.near _ _ stands)
     (λ _ h. stands_behind k old _ told refused (mark_turn k m) told_all c.mark.new.self h)
     (λ _ b. begins_behind k old _ told refused (mark_turn k m) told_all b))
