@@ -4,16 +4,18 @@ _x25() {
     local word=${COMP_WORDS[COMP_CWORD]} before=${COMP_WORDS[COMP_CWORD - 1]} words=
     COMPREPLY=()
     if ((COMP_CWORD == 1)); then
-        words="decode vectors sim help --help"
+        words="decode vectors sim station help --help"
     else
         case ${COMP_WORDS[1]}:$before in
-            sim:--k) words="1 2 3 4 5 6 7" ;;
-            sim:--n2) words="1 10 255" ;;
-            sim:--channels) words="1 2 3 4 5 6 7 8 9 10 11 12 13 14 15 16" ;;
+            sim:--k | station:--k) words="1 2 3 4 5 6 7" ;;
+            sim:--n2 | station:--n2) words="1 10 255" ;;
+            sim:--channels | station:--channels) words="1 2 3 4 5 6 7 8 9 10 11 12 13 14 15 16" ;;
             sim:*) words="--tap --down --long --k --n2 --channels --help" ;;
+            station:station) words="dte dce --help" ;;
+            station:*) words="--long --k --n2 --channels --help" ;;
             decode:*) words="--long --help" ;;
             vectors:*) words="--help" ;;
-            help:*) ((COMP_CWORD == 2)) && words="decode vectors sim help" ;;
+            help:*) ((COMP_CWORD == 2)) && words="decode vectors sim station help" ;;
         esac
     fi
     mapfile -t COMPREPLY < <(compgen -W "$words" -- "$word")

@@ -1,14 +1,15 @@
 //! What each task does, over any reader and writer.
 ghost use Rattle.std.specs.Prelude.{◌≡◌, ◌≤◌, ◌<◌, ◌-◌, ◌^◌, ℕ, true, List, Some, IfOk, OnOk, OnErr, IfSome, IsErrOf, length};
 ghost use Rattle.std.specs.Io.KnownBytes.{Appends};
-ghost use Rattle.x25.specs.Tasks.{WritesEnded, WritesEndedScript, script_status, script_text, settings_in, task_status, task_text};
+ghost use Rattle.x25.specs.Tasks.{WritesEnded, WritesEndedLines, WritesEndedScript, cfg_in, lines_status, lines_text, role_in, script_status, script_text, settings_in, task_status, task_text};
 ghost use Rattle.x25_program.specs.Written.{AppendsBeginning};
 ghost use Rattle.x25_settings.specs.Simulation as options;
 ghost use Rattle.x25_settings.specs.Words.{AreInRange};
 
 use std::alloc::Global;
+use x25_pipe::{Role, station};
 use x25_program::{Fault, Sink, Source, decode_lines, vectors};
-use x25_settings::{Simulation, Task};
+use x25_settings::{End, Place, Simulation, Task};
 use x25_sim::{Cfg, sim};
 
 /// The settings of both stations, as the words of the command line say them.
@@ -21,6 +22,54 @@ fn settings_of(simulation: Simulation) -> Cfg
         channels: simulation.channels,
         long_data: simulation.long,
     }
+}
+
+/// The end of a station, as the words of the command line say it.
+fn role_of(end: End) -> Role
+    ensures { result ≡ role_in end }
+{
+    match end {
+        End::Dte => Role::Dte,
+        End::Dce => Role::Dce,
+    }
+}
+
+/// The settings of a station, as the words of the command line say them.
+fn cfg_of(place: Place) -> Cfg
+    ensures { result ≡ cfg_in place }
+{
+    Cfg {
+        k: place.k,
+        n2: place.n2,
+        channels: place.channels,
+        long_data: place.long,
+    }
+}
+
+/// Runs one station as the words of the command line ask for.
+fn answer_lines<R: Source, W: Sink>(
+    alloc: Global,
+    place: Place,
+    reader: &mut R,
+    writer: &mut W,
+) -> Result<u8, Fault>
+    requires { options.PlaceIsInRange place }
+    ensures clean { OnOk result ((R.is_marked reader.new ≡ R.is_marked reader.old) × (W.is_marked writer.new ≡ W.is_marked writer.old)) }
+    ensures zero_or_one { IfOk result (λ status. status ≤ 1) }
+    ensures text { OnOk result (IfSome (R.remaining reader.old) (λ input. length input < 2 ^ 64 - 1
+        → Appends (W.contents writer.old) (W.contents writer.new) (lines_text place input))) }
+    ensures status { IfOk result (λ status. IfSome (R.remaining reader.old) (λ input. length input < 2 ^ 64 - 1
+        → status ≡ lines_status place input)) }
+    ensures fault { OnErr result (IfSome (R.remaining reader.old) (λ input. length input < 2 ^ 64 - 1
+        → AppendsBeginning (W.contents writer.old) (W.contents writer.new) (lines_text place input))) }
+    ensures ended { IsErrOf result Fault.Read → IfSome (R.remaining reader.old) (λ input.
+        (rest : List ℕ) × (R.remaining reader.new ≡ Some rest)
+        × WritesEndedLines place (W.contents writer.old) (W.contents writer.new) rest input) }
+    ensures read { IsErrOf result Fault.Read → R.is_marked reader.new ≡ true }
+    ensures write { IsErrOf result Fault.Write → W.is_marked writer.new ≡ true }
+    ensures memory { IsErrOf result Fault.NoMemory → (R.is_marked reader.new ≡ R.is_marked reader.old) × (W.is_marked writer.new ≡ W.is_marked writer.old) }
+{
+    station(alloc, role_of(place.end), cfg_of(place), reader, writer)
 }
 
 /// Runs the simulator as the words of the command line ask for.
@@ -84,6 +133,7 @@ pub(crate) fn perform<R: Source, W: Sink>(
     match task {
         Task::Decode { long } => decode_lines(alloc, long, reader, writer),
         Task::Sim(simulation) => simulate(alloc, simulation, reader, writer),
+        Task::Station(place) => answer_lines(alloc, place, reader, writer),
         Task::Vectors => vectors(alloc, writer),
     }
 }

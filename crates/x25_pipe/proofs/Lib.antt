@@ -1,1 +1,8 @@
 pub mod PipeRowLemmas
+pub mod MarkLemmas
+pub mod SayingLemmas
+pub mod StandLemmas
+pub mod LeaveLemmas
+pub mod StreamLemmas
+pub mod LineLemmas
+pub mod PipeLemmas

@@ -33,8 +33,8 @@ is_same Dte Dce = false
 is_same Dce Dte = false
 is_same Dce Dce = true
 
-abbrev pub only_of : {T : Type 0} → Role → Role → T → Option T
-only_of end found x = if is_same end found then Some x else None
+abbrev pub only_of : Role → Role → Event → Option Event
+only_of end found event = if is_same end found then Some event else None
 
 -- the events of a station alone; a line has nothing on it to deliver, lose or damage
 abbrev pub script_event : Role → PlainLine → Option Event
@@ -48,16 +48,14 @@ script_event end (drain count) = None
 abbrev pub trace_event : Role → Role × List ℕ → Option Event
 trace_event end sent = only_of (other end) sent.0 (Comes sent.1)
 
--- a line of a trace is none of a script, and the other way round
-abbrev pub or_else : {T : Type 0} → Option T → Option T → Option T
-or_else None second = second
-or_else (Some x) second = Some x
+-- what is sent in a line of a trace is read so, and any other line as one of a script
+abbrev pub read_event : Role → List ℕ → Option (Role × List ℕ) → Option Event
+read_event end line None = option_and_then (script_event end) (line_in line)
+read_event end line (Some sent) = trace_event end sent
 
 -- a longer line isn't in the grammar
 unfoldable pub event_in : Role → List ℕ → Option Event
-event_in end line = if nat_le (length line) most_line
-    then or_else (option_and_then (trace_event end) (sent_in line)) (option_and_then (script_event end) (line_in line))
-    else None
+event_in end line = if nat_le (length line) most_line then read_event end line (sent_in line) else None
 
 -- ---- what is said of it
 
@@ -85,56 +83,8 @@ saying_line end reads_nothing = nothing_line
 saying_line end (refuses error) = refusal_line (number_of error)
 saying_line end (marks mark is_idle) = codes ". " ++ mark_text mark ++ codes " " ++ work_text is_idle ++ codes "\n"
 
--- ---- turns
-
--- the station after a line, and what is said, the mark last
-pub record Turn : Type 0 where
-  pub next : Station
-  pub sayings : List Saying
-
-abbrev pub marked : Settings → Mark → Station → List Saying → Turn
-marked c mark s sayings = record { next = s; sayings = sayings ++ marks mark (is_idle c s) ∷ [] }
-
--- behind no event T1 is as it was
-abbrev pub standing : Station → Mark
-standing s = timer.mark_of (timer.runs s) false
-
-abbrev pub step_told : Settings → Step → List Saying
-step_told c step = map enters step.entries ++ map sends (map (spelling_of c.role) step.out)
-
-abbrev pub outcome_told : Settings → Outcome → List Saying
-outcome_told c (Did step) = step_told c step
-outcome_told c (Refused error) = refuses error ∷ []
-
-unfoldable pub event_turn : Settings → Station → Event → Turn
-event_turn c s event =
-    let o = timer.outcome c s event in
-    marked c (timer.mark s event o) (timer.after s o) (outcome_told c o)
-
-abbrev pub asked_turn : Settings → Station → Option Event → Turn
-asked_turn c s None = marked c (standing s) s (reads_nothing ∷ [])
-asked_turn c s (Some event) = event_turn c s event
-
-unfoldable pub turn : Settings → List ℕ → Station → Turn
-turn c line s = asked_turn c s (event_in c.role line)
-
-abbrev pub and_then : (Station → Turn) → Turn → Turn
-and_then rest t = record { next = (rest t.next).next; sayings = t.sayings ++ (rest t.next).sayings }
-
--- one line after another
-unfoldable pub turns : Settings → List (List ℕ) → Station → Turn
-turns c [] s = record { next = s; sayings = [] }
-turns c (line ∷ lines) s = and_then (turns c lines) (turn c line s)
-
--- ---- the whole: the first mark comes before anything is read
-
-unfoldable pub piped : Role → Cfg → List ℕ → Turn
-piped end cfg input =
-    let c = settings_from end cfg in
-    and_then (turns c (lines_of input)) (marked c (standing new_station) new_station [])
-
-abbrev pub station_text : Role → Cfg → List ℕ → List ℕ
-station_text end cfg input = flat_map (saying_line end) (piped end cfg input).sayings
+abbrev pub sayings_text : Role → List Saying → List ℕ
+sayings_text end sayings = flat_map (saying_line end) sayings
 
 abbrev pub is_refusal : Saying → Bool
 is_refusal (enters e) = false
@@ -143,5 +93,80 @@ is_refusal reads_nothing = true
 is_refusal (refuses error) = true
 is_refusal (marks mark is_idle) = false
 
+abbrev pub has_refusal : List Saying → Bool
+has_refusal sayings = list_any is_refusal sayings
+
+-- ---- turns
+
+-- the station after a line, and what is said, the mark last
+pub record Turn : Type 0 where
+  pub next : Station
+  pub sayings : List Saying
+
+abbrev pub quiet : Station → Turn
+quiet s = record { next = s; sayings = [] }
+
+abbrev pub said : Station → List Saying → Turn
+said s sayings = record { next = s; sayings = sayings }
+
+-- a turn, and then what is done from where it led
+abbrev pub and_then : (Station → Turn) → Turn → Turn
+and_then rest t = record { next = (rest t.next).next; sayings = t.sayings ++ (rest t.next).sayings }
+
+-- one mark, and whether the station has work
+abbrev pub mark_turn : Settings → Mark → Station → Turn
+mark_turn c mark s = said s (marks mark (is_idle c s) ∷ [])
+
+abbrev pub marked : Settings → Mark → Station → List Saying → Turn
+marked c mark s sayings = and_then (mark_turn c mark) (said s sayings)
+
+-- behind no event T1 is as it was
+abbrev pub standing : Station → Mark
+standing s = timer.mark_of (timer.runs s) false
+
+abbrev pub standing_turn : Settings → Station → Turn
+standing_turn c s = mark_turn c (standing s) s
+
+abbrev pub step_told : Settings → Step → List Saying
+step_told c step = map enters step.entries ++ map sends (map (spelling_of c.role) step.out)
+
+abbrev pub outcome_told : Settings → Outcome → List Saying
+outcome_told c (Did step) = step_told c step
+outcome_told c (Refused error) = refuses error ∷ []
+
+abbrev pub turn_of : Settings → Station → Event → Outcome → Turn
+turn_of c s event o = marked c (timer.mark s event o) (timer.after s o) (outcome_told c o)
+
+unfoldable pub event_turn : Settings → Station → Event → Turn
+event_turn c s event = turn_of c s event (timer.outcome c s event)
+
+abbrev pub asked_turn : Settings → Station → Option Event → Turn
+asked_turn c s None = marked c (standing s) s (reads_nothing ∷ [])
+asked_turn c s (Some event) = event_turn c s event
+
+unfoldable pub turn : Settings → List ℕ → Station → Turn
+turn c line s = asked_turn c s (event_in c.role line)
+
+-- one line after another
+unfoldable pub turns : Settings → List (List ℕ) → Station → Turn
+turns c [] s = quiet s
+turns c (line ∷ lines) s = and_then (turns c lines) (turn c line s)
+
+-- ---- the whole: the first mark comes before anything is read
+
+unfoldable pub piped : Settings → List ℕ → Turn
+piped c input = and_then (turns c (lines_of input)) (standing_turn c new_station)
+
+abbrev pub text_of : Settings → List ℕ → List ℕ
+text_of c input = sayings_text c.role (piped c input).sayings
+
+abbrev pub status_of : Settings → List ℕ → ℕ
+status_of c input = if has_refusal (piped c input).sayings then 1 else 0
+
+-- what is written for an input
+abbrev pub station_text : Role → Cfg → List ℕ → List ℕ
+station_text end cfg input = text_of (settings_from end cfg) input
+
+-- a line or an event was refused
 abbrev pub station_status : Role → Cfg → List ℕ → ℕ
-station_status end cfg input = if list_any is_refusal (piped end cfg input).sayings then 1 else 0
+station_status end cfg input = status_of (settings_from end cfg) input

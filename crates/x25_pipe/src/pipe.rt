@@ -1,4 +1,7 @@
 //! A station, and what is told of it.
+ghost use Rattle.std.specs.Prelude.{◌≡◌, ◌↔◌, IsTrue};
+ghost use Rattle.x25_pipe.specs.Piped.{is_same as are_same};
+
 use crate::mark::{Mark, Watch, tells_up};
 use crate::telling::{tell_entries, tell_frames, tell_mark, tell_refusal};
 use std::alloc::Global;
@@ -19,16 +22,48 @@ pub(crate) struct Pipe {
     is_refused: bool,
 }
 
-fn is_same(end: Role, found: Role) -> bool {
+fn is_same(end: Role, found: Role) -> bool
+    ensures { result ≡ are_same end found }
+{
     matches!(
         (end, found),
         (Role::Dte, Role::Dte) | (Role::Dce, Role::Dce)
     )
 }
 
+/// Whether memory was refused.
+fn is_memory(error: StationError) -> bool
+    ensures { IsTrue result ↔ (error ≡ StationError.NoMemory) }
+{
+    matches!(error, StationError::NoMemory)
+}
+
 impl Pipe {
+    ghost use Rattle.std.specs.Prelude.{◌++◌, ◌≤◌, [], ◌∷◌, ℕ, Bool, true, false, List, Option, Some, None, OnOk, OnErr, IfOk, IfErr, IsErrOf, MatchResult, length, take};
+    ghost use Rattle.x25_console.specs.Commands.{command_asked};
+    ghost use Rattle.x25_console.specs.HeldLine.{most_line};
+    ghost use Rattle.x25_console.specs.Written.{Tells};
+    ghost use Rattle.x25_program.specs.Written.{AppendsBeginning};
+    ghost use Rattle.x25_script.specs.PlainLine.{plain, plain_command};
+    ghost use Rattle.x25_script.specs.Reading.{line_in};
+    ghost use Rattle.x25_station.specs.FitsStation.{FitsStation};
+    ghost use Rattle.x25_station.specs.Settings.{Settings, config_refusal, settings_from};
+    ghost use Rattle.x25_station.specs.Station.{Station as State, new_station};
+    ghost use Rattle.x25_station.specs.Steps.{Outcome};
+    ghost use Rattle.x25_station.specs.TimerLaw.{Asks, Comes, Event, Fires, Mark as TimerMark, is_firing as is_firing_of};
+    ghost use Rattle.x25_pipe.specs.Piped.{asked_turn, event_turn, mark_turn, only_of, read_event, sayings_text, script_event, standing_turn, trace_event, turn, turn_of};
+    ghost use Rattle.x25_pipe.specs.Stands.{IsError, IsStep, Stands, Stood, Turns, answer_told};
+    ghost use Rattle.x25_pipe.specs.Watched.{Watches, plain_mark};
+
     /// A station that never was up, and nothing was told.
-    pub(crate) fn new(alloc: Global, end: Role, cfg: Cfg) -> Result<Pipe, Fault> {
+    pub(crate) fn new(alloc: Global, end: Role, cfg: Cfg) -> Result<Pipe, Fault>
+        requires range { config_refusal cfg ≡ None }
+        ensures fits { IfOk result (λ p. FitsStation (settings_from end cfg) p.station new_station) }
+        ensures role { IfOk result (λ p. p.end ≡ end) }
+        ensures empty { IfOk result (λ p. p.output ≡ []) }
+        ensures is_refused { IfOk result (λ p. p.is_refused ≡ false) }
+        ensures memory { IfErr result (λ fault. fault ≡ Fault.NoMemory) }
+    {
         let Ok(output) = Output::new(alloc) else {
             return Err(Fault::NoMemory);
         };
@@ -46,7 +81,16 @@ impl Pipe {
     }
 
     /// Writes what waits.
-    pub(crate) fn flush<W: Sink>(&mut self, writer: &mut W) -> Result<(), Fault> {
+    pub(crate) fn flush<W: Sink>(&mut self, writer: &mut W) -> Result<(), Fault>
+        ensures kept { OnOk result (W.is_marked writer.new ≡ W.is_marked writer.old) }
+        ensures stands { (c : Settings) (old : Option (List ℕ)) (s : State) (told : List ℕ) (refused : Bool)
+            → Stands c old (W.contents writer.old) self.old s told refused
+            → MatchResult result (λ _. Stands c old (W.contents writer.new) self.new s told refused) (λ _. AppendsBeginning old (W.contents writer.new) told) }
+        ensures written { OnOk result (self.new.output ≡ []) }
+        ensures is_refused { self.new.is_refused ≡ self.old.is_refused }
+        ensures write { IfErr result (λ fault. fault ≡ Fault.Write) }
+        ensures marked { OnErr result (W.is_marked writer.new ≡ true) }
+    {
         match self.output.flush(writer) {
             Ok(()) => Ok(()),
             Err(_) => Err(Fault::Write),
@@ -54,36 +98,88 @@ impl Pipe {
     }
 
     /// Tells a mark, and writes what waits.
-    fn mark<W: Sink>(&mut self, mark: Mark, writer: &mut W) -> Result<(), Fault> {
-        tell_mark(mark, self.station.idle(), &mut self.output, writer)?;
+    fn mark<W: Sink>(&mut self, mark: Mark, writer: &mut W) -> Result<(), Fault>
+        ensures kept { OnOk result (W.is_marked writer.new ≡ W.is_marked writer.old) }
+        ensures turns { (c : Settings) (old : Option (List ℕ)) (shown : TimerMark) → plain_mark mark ≡ shown
+            → Turns c old (W.contents writer.old) (W.contents writer.new) self.old self.new result (mark_turn c shown) }
+        ensures written { OnOk result (self.new.output ≡ []) }
+        ensures write { IsErrOf result Fault.Write → W.is_marked writer.new ≡ true }
+        ensures memory { IsErrOf result Fault.NoMemory → W.is_marked writer.new ≡ W.is_marked writer.old }
+        ensures read { IsErrOf result Fault.Read → ⊥ }
+    {
+        let is_idle = self.station.idle();
+        tell_mark(mark, is_idle, &mut self.output, writer)?;
         self.flush(writer)
     }
 
     /// The mark that comes before anything is read, or behind what changed nothing.
-    pub(crate) fn mark_standing<W: Sink>(&mut self, writer: &mut W) -> Result<(), Fault> {
+    pub(crate) fn mark_standing<W: Sink>(&mut self, writer: &mut W) -> Result<(), Fault>
+        ensures kept { OnOk result (W.is_marked writer.new ≡ W.is_marked writer.old) }
+        ensures turns { (c : Settings) (old : Option (List ℕ)) → Turns c old (W.contents writer.old) (W.contents writer.new) self.old self.new result (standing_turn c) }
+        ensures written { OnOk result (self.new.output ≡ []) }
+        ensures write { IsErrOf result Fault.Write → W.is_marked writer.new ≡ true }
+        ensures memory { IsErrOf result Fault.NoMemory → W.is_marked writer.new ≡ W.is_marked writer.old }
+        ensures read { IsErrOf result Fault.Read → ⊥ }
+    {
         let mark = Watch::of(&self.station).standing();
         self.mark(mark, writer)
     }
 
-    /// Tells a step: its entries, its frames and its mark.
+    /// Tells the entries of a step, and behind these its frames.
+    fn tell_answer<W: Sink>(&mut self, step: &Step, writer: &mut W) -> Result<(), Fault>
+        ensures kept { OnOk result (W.is_marked writer.new ≡ W.is_marked writer.old) }
+        ensures tells { (old : Option (List ℕ)) (told : List ℕ) → Tells old (W.contents writer.old) self.old.output told
+            → MatchResult result (λ _. Tells old (W.contents writer.new) self.new.output (told ++ sayings_text self.old.end (answer_told step.now)))
+            (λ _. AppendsBeginning old (W.contents writer.new) (told ++ sayings_text self.old.end (answer_told step.now))) }
+        ensures station { self.new.station ≡ self.old.station }
+        ensures role { self.new.end ≡ self.old.end }
+        ensures is_refused { self.new.is_refused ≡ self.old.is_refused }
+        ensures write { IsErrOf result Fault.Write → W.is_marked writer.new ≡ true }
+        ensures memory { IsErrOf result Fault.NoMemory → W.is_marked writer.new ≡ W.is_marked writer.old }
+        ensures read { IsErrOf result Fault.Read → ⊥ }
+    {
+        let entries = step.entries.as_slice();
+        tell_entries(self.alloc, self.end, entries, &mut self.output, writer)?;
+        let frames = step.frames.as_slice();
+        tell_frames(self.alloc, self.end, frames, &mut self.output, writer)
+    }
+
+    /// Tells a step of the station, which stood as `before` says: its entries, its frames and its mark.
     fn tell_step<W: Sink>(
         &mut self,
         before: Watch,
         is_firing: bool,
         step: &Step,
         writer: &mut W,
-    ) -> Result<(), Fault> {
-        let entries = step.entries.as_slice();
-        tell_entries(self.alloc, self.end, entries, &mut self.output, writer)?;
-        let frames = step.frames.as_slice();
-        tell_frames(self.alloc, self.end, frames, &mut self.output, writer)?;
+    ) -> Result<(), Fault>
+        ensures kept { OnOk result (W.is_marked writer.new ≡ W.is_marked writer.old) }
+        ensures stood { (c : Settings) (old : Option (List ℕ)) (s : State) (event : Event) (o : Outcome) (told : List ℕ) (refused : Bool)
+            → Watches before s → is_firing ≡ is_firing_of event → IsStep c self.old.station step.now o → self.old.end ≡ c.role
+            → Tells old (W.contents writer.old) self.old.output told → self.old.is_refused ≡ refused
+            → Stood c old (W.contents writer.new) self.new told refused result (turn_of c s event o) }
+        ensures written { OnOk result (self.new.output ≡ []) }
+        ensures write { IsErrOf result Fault.Write → W.is_marked writer.new ≡ true }
+        ensures memory { IsErrOf result Fault.NoMemory → W.is_marked writer.new ≡ W.is_marked writer.old }
+        ensures read { IsErrOf result Fault.Read → ⊥ }
+    {
+        self.tell_answer(step, writer)?;
+        let is_up = tells_up(step.entries.as_slice());
         let next = Watch::of(&self.station);
-        self.mark(before.behind(next, is_firing, tells_up(entries)), writer)
+        self.mark(before.behind(next, is_firing, is_up), writer)
     }
 
     /// Tells that an event is refused; want of memory is a fault.
-    fn refuse<W: Sink>(&mut self, error: StationError, writer: &mut W) -> Result<(), Fault> {
-        if matches!(error, StationError::NoMemory) {
+    fn refuse<W: Sink>(&mut self, error: StationError, writer: &mut W) -> Result<(), Fault>
+        ensures kept { OnOk result (W.is_marked writer.new ≡ W.is_marked writer.old) }
+        ensures stood { (c : Settings) (old : Option (List ℕ)) (s : State) (event : Event) (o : Outcome) (told : List ℕ) (refused : Bool)
+            → Stands c old (W.contents writer.old) self.old s told refused → IsError error o
+            → Stood c old (W.contents writer.new) self.new told refused result (turn_of c s event o) }
+        ensures written { OnOk result (self.new.output ≡ []) }
+        ensures write { IsErrOf result Fault.Write → W.is_marked writer.new ≡ true }
+        ensures memory { IsErrOf result Fault.NoMemory → W.is_marked writer.new ≡ W.is_marked writer.old }
+        ensures read { IsErrOf result Fault.Read → ⊥ }
+    {
+        if is_memory(error) {
             return Err(Fault::NoMemory);
         }
         self.is_refused = true;
@@ -92,76 +188,184 @@ impl Pipe {
     }
 
     /// Tells that a line asks for nothing.
-    pub(crate) fn read_nothing<W: Sink>(&mut self, writer: &mut W) -> Result<(), Fault> {
+    pub(crate) fn read_nothing<W: Sink>(&mut self, writer: &mut W) -> Result<(), Fault>
+        ensures kept { OnOk result (W.is_marked writer.new ≡ W.is_marked writer.old) }
+        ensures turns { (c : Settings) (old : Option (List ℕ)) → Turns c old (W.contents writer.old) (W.contents writer.new) self.old self.new result (λ s. asked_turn c s None) }
+        ensures written { OnOk result (self.new.output ≡ []) }
+        ensures write { IsErrOf result Fault.Write → W.is_marked writer.new ≡ true }
+        ensures memory { IsErrOf result Fault.NoMemory → W.is_marked writer.new ≡ W.is_marked writer.old }
+        ensures read { IsErrOf result Fault.Read → ⊥ }
+    {
         self.is_refused = true;
         tell_nothing(&mut self.output, writer)?;
         self.mark_standing(writer)
     }
 
-    /// Tells what came of an event.
-    fn answer<W: Sink>(
-        &mut self,
-        before: Watch,
-        is_firing: bool,
-        result: Result<Step, StationError>,
-        writer: &mut W,
-    ) -> Result<(), Fault> {
-        match result {
-            Ok(step) => self.tell_step(before, is_firing, &step, writer),
+    /// The first `count` octets of those read come.
+    fn receive<W: Sink>(&mut self, count: usize, writer: &mut W) -> Result<(), Fault>
+        requires { count ≤ length self.old.octets }
+        ensures kept { OnOk result (W.is_marked writer.new ≡ W.is_marked writer.old) }
+        ensures turns { (c : Settings) (old : Option (List ℕ)) → Turns c old (W.contents writer.old) (W.contents writer.new) self.old self.new result (λ s. event_turn c s (Comes (take count self.old.octets))) }
+        ensures written { OnOk result (self.new.output ≡ []) }
+        ensures write { IsErrOf result Fault.Write → W.is_marked writer.new ≡ true }
+        ensures memory { IsErrOf result Fault.NoMemory → W.is_marked writer.new ≡ W.is_marked writer.old }
+        ensures read { IsErrOf result Fault.Read → ⊥ }
+    {
+        let before = Watch::of(&self.station);
+        match self.station.receive(&self.octets[..count]) {
+            Ok(step) => self.tell_step(before, false, &step, writer),
             Err(error) => self.refuse(error, writer),
         }
     }
 
-    /// The first `count` octets come from an end.
-    fn hear<W: Sink>(&mut self, from: Role, count: usize, writer: &mut W) -> Result<(), Fault> {
-        if is_same(self.end, from) {
-            return self.read_nothing(writer);
+    /// The first `count` octets of those read were sent by an end.
+    fn hear<W: Sink>(&mut self, from: Role, count: usize, writer: &mut W) -> Result<(), Fault>
+        requires { count ≤ length self.old.octets }
+        ensures kept { OnOk result (W.is_marked writer.new ≡ W.is_marked writer.old) }
+        ensures turns { (c : Settings) (old : Option (List ℕ)) → Turns c old (W.contents writer.old) (W.contents writer.new) self.old self.new result
+            (λ s. asked_turn c s (trace_event self.old.end (from, take count self.old.octets))) }
+        ensures written { OnOk result (self.new.output ≡ []) }
+        ensures write { IsErrOf result Fault.Write → W.is_marked writer.new ≡ true }
+        ensures memory { IsErrOf result Fault.NoMemory → W.is_marked writer.new ≡ W.is_marked writer.old }
+        ensures read { IsErrOf result Fault.Read → ⊥ }
+    {
+        if is_same(self.end.other(), from) {
+            return self.receive(count, writer);
         }
-        let before = Watch::of(&self.station);
-        let result = self.station.receive(&self.octets[..count]);
-        self.answer(before, false, result, writer)
+        self.read_nothing(writer)
     }
 
-    /// The user asks for something.
-    fn command<W: Sink>(&mut self, command: &Command, writer: &mut W) -> Result<(), Fault> {
-        let Ok(user) = user_octets(self.alloc, command) else {
+    /// The user of this end asks for something.
+    fn command<W: Sink>(&mut self, command: Command, writer: &mut W) -> Result<(), Fault>
+        ensures kept { OnOk result (W.is_marked writer.new ≡ W.is_marked writer.old) }
+        ensures turns { (c : Settings) (old : Option (List ℕ)) → Turns c old (W.contents writer.old) (W.contents writer.new) self.old self.new result
+            (λ s. event_turn c s (Asks (command_asked (plain_command command.entry)))) }
+        ensures written { OnOk result (self.new.output ≡ []) }
+        ensures write { IsErrOf result Fault.Write → W.is_marked writer.new ≡ true }
+        ensures memory { IsErrOf result Fault.NoMemory → W.is_marked writer.new ≡ W.is_marked writer.old }
+        ensures read { IsErrOf result Fault.Read → ⊥ }
+    {
+        let Ok(user) = user_octets(self.alloc, &command) else {
             return Err(Fault::NoMemory);
         };
         let before = Watch::of(&self.station);
-        let result = self
+        match self
             .station
-            .command(station_command(command, user.as_slice()));
-        self.answer(before, false, result, writer)
+            .command(station_command(&command, user.as_slice()))
+        {
+            Ok(step) => self.tell_step(before, false, &step, writer),
+            Err(error) => self.refuse(error, writer),
+        }
     }
 
     /// T1 runs out.
-    fn fire<W: Sink>(&mut self, writer: &mut W) -> Result<(), Fault> {
+    fn fire<W: Sink>(&mut self, writer: &mut W) -> Result<(), Fault>
+        ensures kept { OnOk result (W.is_marked writer.new ≡ W.is_marked writer.old) }
+        ensures turns { (c : Settings) (old : Option (List ℕ)) → Turns c old (W.contents writer.old) (W.contents writer.new) self.old self.new result (λ s. event_turn c s Fires) }
+        ensures written { OnOk result (self.new.output ≡ []) }
+        ensures write { IsErrOf result Fault.Write → W.is_marked writer.new ≡ true }
+        ensures memory { IsErrOf result Fault.NoMemory → W.is_marked writer.new ≡ W.is_marked writer.old }
+        ensures read { IsErrOf result Fault.Read → ⊥ }
+    {
         let before = Watch::of(&self.station);
-        let result = self.station.t1();
-        self.answer(before, true, result, writer)
+        match self.station.t1() {
+            Ok(step) => self.tell_step(before, true, &step, writer),
+            Err(error) => self.refuse(error, writer),
+        }
+    }
+
+    /// The user of an end asks for something.
+    fn command_at<W: Sink>(
+        &mut self,
+        end: Role,
+        command: Command,
+        writer: &mut W,
+    ) -> Result<(), Fault>
+        ensures kept { OnOk result (W.is_marked writer.new ≡ W.is_marked writer.old) }
+        ensures turns { (c : Settings) (old : Option (List ℕ)) → Turns c old (W.contents writer.old) (W.contents writer.new) self.old self.new result
+            (λ s. asked_turn c s (only_of self.old.end end (Asks (command_asked (plain_command command.entry))))) }
+        ensures written { OnOk result (self.new.output ≡ []) }
+        ensures write { IsErrOf result Fault.Write → W.is_marked writer.new ≡ true }
+        ensures memory { IsErrOf result Fault.NoMemory → W.is_marked writer.new ≡ W.is_marked writer.old }
+        ensures read { IsErrOf result Fault.Read → ⊥ }
+    {
+        if is_same(self.end, end) {
+            return self.command(command, writer);
+        }
+        self.read_nothing(writer)
+    }
+
+    /// T1 of an end runs out.
+    fn fire_at<W: Sink>(&mut self, end: Role, writer: &mut W) -> Result<(), Fault>
+        ensures kept { OnOk result (W.is_marked writer.new ≡ W.is_marked writer.old) }
+        ensures turns { (c : Settings) (old : Option (List ℕ)) → Turns c old (W.contents writer.old) (W.contents writer.new) self.old self.new result
+            (λ s. asked_turn c s (only_of self.old.end end Fires)) }
+        ensures written { OnOk result (self.new.output ≡ []) }
+        ensures write { IsErrOf result Fault.Write → W.is_marked writer.new ≡ true }
+        ensures memory { IsErrOf result Fault.NoMemory → W.is_marked writer.new ≡ W.is_marked writer.old }
+        ensures read { IsErrOf result Fault.Read → ⊥ }
+    {
+        if is_same(self.end, end) {
+            return self.fire(writer);
+        }
+        self.read_nothing(writer)
     }
 
     /// What a line of a script asks of this end happens; a line of the other end, or of the line between, asks for nothing.
-    fn follow<W: Sink>(&mut self, line: &[u8], writer: &mut W) -> Result<(), Fault> {
+    fn follow<W: Sink>(&mut self, line: ScriptLine, writer: &mut W) -> Result<(), Fault>
+        ensures kept { OnOk result (W.is_marked writer.new ≡ W.is_marked writer.old) }
+        ensures turns { (c : Settings) (old : Option (List ℕ)) → Turns c old (W.contents writer.old) (W.contents writer.new) self.old self.new result
+            (λ s. asked_turn c s (script_event self.old.end (plain line.entry))) }
+        ensures written { OnOk result (self.new.output ≡ []) }
+        ensures write { IsErrOf result Fault.Write → W.is_marked writer.new ≡ true }
+        ensures memory { IsErrOf result Fault.NoMemory → W.is_marked writer.new ≡ W.is_marked writer.old }
+        ensures read { IsErrOf result Fault.Read → ⊥ }
+    {
+        match line {
+            ScriptLine::Command { end, command } => self.command_at(end, command, writer),
+            ScriptLine::T1 { end } => self.fire_at(end, writer),
+            ScriptLine::Deliver { .. } => self.read_nothing(writer),
+            ScriptLine::Lose { .. } => self.read_nothing(writer),
+            ScriptLine::Damage { .. } => self.read_nothing(writer),
+            ScriptLine::Drain { .. } => self.read_nothing(writer),
+        }
+    }
+
+    /// What a line that is none of a trace asks for happens.
+    fn obey_script<W: Sink>(&mut self, line: &[u8], writer: &mut W) -> Result<(), Fault>
+        ensures kept { OnOk result (W.is_marked writer.new ≡ W.is_marked writer.old) }
+        ensures turns { (c : Settings) (old : Option (List ℕ)) → Turns c old (W.contents writer.old) (W.contents writer.new) self.old self.new result
+            (λ s. asked_turn c s (read_event self.old.end line.now None)) }
+        ensures written { OnOk result (self.new.output ≡ []) }
+        ensures write { IsErrOf result Fault.Write → W.is_marked writer.new ≡ true }
+        ensures memory { IsErrOf result Fault.NoMemory → W.is_marked writer.new ≡ W.is_marked writer.old }
+        ensures read { IsErrOf result Fault.Read → ⊥ }
+    {
         match read_line(line) {
-            Some(ScriptLine::Command { end, command }) if is_same(self.end, end) => {
-                self.command(&command, writer)
-            }
-            Some(ScriptLine::T1 { end }) if is_same(self.end, end) => self.fire(writer),
-            _ => self.read_nothing(writer),
+            Some(asked) => self.follow(asked, writer),
+            None => self.read_nothing(writer),
         }
     }
 
     /// What a line asks for happens.
-    pub(crate) fn obey<W: Sink>(&mut self, line: &[u8], writer: &mut W) -> Result<(), Fault> {
+    pub(crate) fn obey<W: Sink>(&mut self, line: &[u8], writer: &mut W) -> Result<(), Fault>
+        ensures kept { OnOk result (W.is_marked writer.new ≡ W.is_marked writer.old) }
+        ensures turns { length line.now ≤ most_line → (c : Settings) (old : Option (List ℕ)) → Turns c old (W.contents writer.old) (W.contents writer.new) self.old self.new result (turn c line.now) }
+        ensures written { OnOk result (self.new.output ≡ []) }
+        ensures write { IsErrOf result Fault.Write → W.is_marked writer.new ≡ true }
+        ensures memory { IsErrOf result Fault.NoMemory → W.is_marked writer.new ≡ W.is_marked writer.old }
+        ensures read { IsErrOf result Fault.Read → ⊥ }
+    {
         match read_sent(line, self.octets.as_mut_slice()) {
             Some((from, count)) => self.hear(from, count, writer),
-            None => self.follow(line, writer),
+            None => self.obey_script(line, writer),
         }
     }
 
     /// Whether a line or an event was refused.
-    pub(crate) fn is_refused(&self) -> bool {
+    pub(crate) fn is_refused(&self) -> bool
+        ensures { result ≡ self.now.is_refused }
+    {
         self.is_refused
     }
 }

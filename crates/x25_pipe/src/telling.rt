@@ -1,4 +1,13 @@
 //! What is told of a step of the station: a line for each entry and behind these for each frame, and the mark.
+ghost use Rattle.std.specs.Prelude.{◌≡◌, ◌++◌, true, ℕ, List, Option, OnOk, IsErrOf, MatchResult, map};
+ghost use Rattle.x25_program.specs.Written.{AppendsBeginning};
+ghost use Rattle.x25_console.specs.Lines.{refusal_line as line_of_refusal};
+ghost use Rattle.x25_console.specs.Written.{Tells};
+ghost use Rattle.x25_station.specs.PlainEntry.{plain_entry};
+ghost use Rattle.x25_station.specs.StationError.{number_of};
+ghost use Rattle.x25_pipe.specs.Piped.{enters, marks, saying_line, sayings_text, sends};
+ghost use Rattle.x25_pipe.specs.Watched.{plain_mark};
+
 use crate::mark::Mark;
 use std::alloc::Global;
 use x25_console::{Output, frame_line, refusal_line, tell};
@@ -6,27 +15,45 @@ use x25_entries::entry_line;
 use x25_program::{Fault, Sink};
 use x25_station::{Entry, Role, StationError};
 
+#[tactic(auto, unfolding(crate::specs::Piped::saying_line))]
 fn tell_entry<W: Sink>(
     alloc: Global,
     end: Role,
     entry: &Entry,
     output: &mut Output,
     writer: &mut W,
-) -> Result<(), Fault> {
+) -> Result<(), Fault>
+    ensures kept { OnOk result (W.is_marked writer.new ≡ W.is_marked writer.old) }
+    ensures tells { (old : Option (List ℕ)) (told : List ℕ) → Tells old (W.contents writer.old) output.old told
+        → MatchResult result (λ _. Tells old (W.contents writer.new) output.new (told ++ saying_line end (enters (plain_entry entry.now))))
+        (λ _. AppendsBeginning old (W.contents writer.new) (told ++ saying_line end (enters (plain_entry entry.now)))) }
+    ensures write { IsErrOf result Fault.Write → W.is_marked writer.new ≡ true }
+    ensures memory { IsErrOf result Fault.NoMemory → W.is_marked writer.new ≡ W.is_marked writer.old }
+    ensures read { IsErrOf result Fault.Read → ⊥ }
+{
     let Ok(line) = entry_line(alloc, end, entry) else {
         return Err(Fault::NoMemory);
     };
     tell(line.as_slice(), output, writer)
 }
 
+#[tactic(auto, unfolding(crate::specs::Piped::saying_line))]
 fn tell_frame<W: Sink>(
     alloc: Global,
     end: Role,
-    octets: &[u8],
+    frame: &Vec<u8>,
     output: &mut Output,
     writer: &mut W,
-) -> Result<(), Fault> {
-    let Ok(line) = frame_line(alloc, end, octets) else {
+) -> Result<(), Fault>
+    ensures kept { OnOk result (W.is_marked writer.new ≡ W.is_marked writer.old) }
+    ensures tells { (old : Option (List ℕ)) (told : List ℕ) → Tells old (W.contents writer.old) output.old told
+        → MatchResult result (λ _. Tells old (W.contents writer.new) output.new (told ++ saying_line end (sends frame.now.items)))
+        (λ _. AppendsBeginning old (W.contents writer.new) (told ++ saying_line end (sends frame.now.items))) }
+    ensures write { IsErrOf result Fault.Write → W.is_marked writer.new ≡ true }
+    ensures memory { IsErrOf result Fault.NoMemory → W.is_marked writer.new ≡ W.is_marked writer.old }
+    ensures read { IsErrOf result Fault.Read → ⊥ }
+{
+    let Ok(line) = frame_line(alloc, end, frame.as_slice()) else {
         return Err(Fault::NoMemory);
     };
     tell(line.as_slice(), output, writer)
@@ -38,7 +65,15 @@ pub(crate) fn tell_entries<W: Sink>(
     entries: &[Entry],
     output: &mut Output,
     writer: &mut W,
-) -> Result<(), Fault> {
+) -> Result<(), Fault>
+    ensures kept { OnOk result (W.is_marked writer.new ≡ W.is_marked writer.old) }
+    ensures tells { (old : Option (List ℕ)) (told : List ℕ) → Tells old (W.contents writer.old) output.old told
+        → MatchResult result (λ _. Tells old (W.contents writer.new) output.new (told ++ sayings_text end (map enters (map plain_entry entries.now))))
+        (λ _. AppendsBeginning old (W.contents writer.new) (told ++ sayings_text end (map enters (map plain_entry entries.now)))) }
+    ensures write { IsErrOf result Fault.Write → W.is_marked writer.new ≡ true }
+    ensures memory { IsErrOf result Fault.NoMemory → W.is_marked writer.new ≡ W.is_marked writer.old }
+    ensures read { IsErrOf result Fault.Read → ⊥ }
+{
     for entry in entries {
         tell_entry(alloc, end, entry, output, writer)?;
     }
@@ -51,9 +86,17 @@ pub(crate) fn tell_frames<W: Sink>(
     frames: &[Vec<u8>],
     output: &mut Output,
     writer: &mut W,
-) -> Result<(), Fault> {
+) -> Result<(), Fault>
+    ensures kept { OnOk result (W.is_marked writer.new ≡ W.is_marked writer.old) }
+    ensures tells { (old : Option (List ℕ)) (told : List ℕ) → Tells old (W.contents writer.old) output.old told
+        → MatchResult result (λ _. Tells old (W.contents writer.new) output.new (told ++ sayings_text end (map sends (map (λ frame. frame.items) frames.now))))
+        (λ _. AppendsBeginning old (W.contents writer.new) (told ++ sayings_text end (map sends (map (λ frame. frame.items) frames.now)))) }
+    ensures write { IsErrOf result Fault.Write → W.is_marked writer.new ≡ true }
+    ensures memory { IsErrOf result Fault.NoMemory → W.is_marked writer.new ≡ W.is_marked writer.old }
+    ensures read { IsErrOf result Fault.Read → ⊥ }
+{
     for frame in frames {
-        tell_frame(alloc, end, frame.as_slice(), output, writer)?;
+        tell_frame(alloc, end, frame, output, writer)?;
     }
     Ok(())
 }
@@ -64,7 +107,15 @@ pub(crate) fn tell_refusal<W: Sink>(
     error: StationError,
     output: &mut Output,
     writer: &mut W,
-) -> Result<(), Fault> {
+) -> Result<(), Fault>
+    ensures kept { OnOk result (W.is_marked writer.new ≡ W.is_marked writer.old) }
+    ensures tells { (old : Option (List ℕ)) (told : List ℕ) → Tells old (W.contents writer.old) output.old told
+        → MatchResult result (λ _. Tells old (W.contents writer.new) output.new (told ++ line_of_refusal (number_of error)))
+        (λ _. AppendsBeginning old (W.contents writer.new) (told ++ line_of_refusal (number_of error))) }
+    ensures write { IsErrOf result Fault.Write → W.is_marked writer.new ≡ true }
+    ensures memory { IsErrOf result Fault.NoMemory → W.is_marked writer.new ≡ W.is_marked writer.old }
+    ensures read { IsErrOf result Fault.Read → ⊥ }
+{
     let Ok(line) = refusal_line(alloc, error.number()) else {
         return Err(Fault::NoMemory);
     };
@@ -72,7 +123,10 @@ pub(crate) fn tell_refusal<W: Sink>(
 }
 
 /// The line of a mark: what T1 does, and whether the station is idle.
-fn mark_line(mark: Mark, is_idle: bool) -> &'static [u8] {
+#[tactic(auto, unfolding(crate::specs::Piped::saying_line))]
+fn mark_line(mark: Mark, is_idle: bool) -> &'static [u8]
+    ensures { (end : Role) → result.now ≡ saying_line end (marks (plain_mark mark) is_idle) }
+{
     match (mark, is_idle) {
         (Mark::Off, true) => b". off idle\n",
         (Mark::Off, false) => b". off busy\n",
@@ -89,6 +143,14 @@ pub(crate) fn tell_mark<W: Sink>(
     is_idle: bool,
     output: &mut Output,
     writer: &mut W,
-) -> Result<(), Fault> {
+) -> Result<(), Fault>
+    ensures kept { OnOk result (W.is_marked writer.new ≡ W.is_marked writer.old) }
+    ensures tells { (end : Role) (old : Option (List ℕ)) (told : List ℕ) → Tells old (W.contents writer.old) output.old told
+        → MatchResult result (λ _. Tells old (W.contents writer.new) output.new (told ++ saying_line end (marks (plain_mark mark) is_idle)))
+        (λ _. AppendsBeginning old (W.contents writer.new) (told ++ saying_line end (marks (plain_mark mark) is_idle))) }
+    ensures write { IsErrOf result Fault.Write → W.is_marked writer.new ≡ true }
+    ensures memory { IsErrOf result Fault.NoMemory → W.is_marked writer.new ≡ W.is_marked writer.old }
+    ensures read { IsErrOf result Fault.Read → ⊥ }
+{
     tell(mark_line(mark, is_idle), output, writer)
 }

@@ -1,15 +1,18 @@
 -- What the words of the command line say.
 use Rattle.std.proofs.Common.{◌≡◌, ◌∙◌, ℕ, Bool, true, false, List, [], ◌∷◌, Option, Some, None, ap, refl, sym, subst, codes}
-use Rattle.std.specs.Prelude.{cond, option_map}
+use Rattle.std.specs.Prelude.{cond, option_map, option_and_then, ◌||◌}
 use Rattle.std.specs.Str.{bytes_eq}
 use Rattle.std.proofs.lemmas.Slice.Eq.{bytes_eq-Decides}
 use Rattle.std.proofs.lemmas.Option.{same_Some}
 use Rattle.x25_settings.specs.declared.options.Chosen.{Chosen}
 use Rattle.x25_settings.specs.declared.options.Simulation.{Simulation}
+use Rattle.x25_settings.specs.declared.options.End.{End}
+use Rattle.x25_settings.specs.declared.options.End.TheVariants.{Dte, Dce}
+use Rattle.x25_settings.specs.declared.options.Place.{Place}
 use Rattle.x25_settings.specs.declared.words.Task.{Task}
-use Rattle.x25_settings.specs.declared.words.Task.TheVariants.{Decode, Vectors, Sim}
-use Rattle.x25_settings.specs.Choosing.{chosen_in, simulation_in, decode_in, vectors_in, task_behind, task_in}
-use Rattle.x25_settings.specs.Simulation.{nothing, settled, SaySimulation}
+use Rattle.x25_settings.specs.declared.words.Task.TheVariants.{Decode, Vectors, Sim, Station}
+use Rattle.x25_settings.specs.Choosing.{chosen_in, simulation_in, station_in, place_in, end_in, placed, decode_in, vectors_in, task_behind, task_in}
+use Rattle.x25_settings.specs.Simulation.{nothing, settled, settled_at, SaySimulation, SayPlace, Choose, end_word, PlaceIsInRange}
 use Rattle.x25_settings.specs.Simulation as simulation
 use Rattle.x25_settings.specs.Words.{AreInRange, Say}
 use Rattle.x25_settings.proofs.ChoiceLemmas.{found, read, in_range}
@@ -27,12 +30,23 @@ said_behind words word behind e = sym (ap task_in e)
 again_simulation : (words : List (List ℕ)) (s : Simulation) → SaySimulation words s → simulation_in words ≡ Some s
 again_simulation words s say = ap (option_map settled) (read words say.0 say.1) ∙ ap (λ x. Some x) (sym say.2)
 
+again_end : (end : End) → end_in (end_word end) ≡ Some end
+again_end Dte = refl
+again_end Dce = refl
+
+again_place : (words : List (List ℕ)) (p : Place) → SayPlace words p → station_in words ≡ Some p
+again_place words p say =
+    ap station_in say.words_are ∙ ap (place_in say.rest) (again_end p.end) ∙ ap (option_and_then (placed p.end)) (read say.rest say.end say.choose)
+    ∙ ap (λ b. cond (b || say.end.tap) None (Some (settled_at p.end say.end))) say.no_down ∙ ap (λ b. cond b None (Some (settled_at p.end say.end))) say.no_tap
+    ∙ ap (λ q. Some q) (sym say.same)
+
 pub again : (words : List (List ℕ)) (task : Task) → Say words task → task_in words ≡ Some task
 unfolding task_in
 again words (Decode true) e = ap task_in e
 again words (Decode false) e = ap task_in e
 again words Vectors e = ap task_in e
 again words (Sim s) say = ap task_in say.1 ∙ ap (option_map (λ s. Sim s)) (again_simulation say.0 s say.2)
+again words (Station p) say = ap task_in say.1 ∙ ap (option_map (λ p. Station p)) (again_place say.0 p say.2)
 
 -- ---- what is read is plain
 
@@ -65,15 +79,51 @@ found_sim : (word : List ℕ) (words : List (List ℕ)) (task : Task) → word �
 found_sim word words task is None reads e = absurd (cc)
 found_sim word words task is (Some s) reads e = given (word ∷ words) (Sim s) task e (words, ap (λ w. w ∷ words) is, found_simulation words s reads)
 
-found_behind : (word : List ℕ) (words : List (List ℕ)) (task : Task) → task_behind word words ≡ Some task → Say (word ∷ words) task
-found_behind word words task e = go (bytes_eq word (codes "decode")) (bytes_eq word (codes "vectors")) (bytes_eq word (codes "sim")) refl refl refl e
+end_found : (word : List ℕ) (end : End) → end_in word ≡ Some end → word ≡ end_word end
+end_found word end e = go (bytes_eq word (codes "dte")) (bytes_eq word (codes "dce")) refl refl e
   where
-    go : (a b c : Bool) → bytes_eq word (codes "decode") ≡ a → bytes_eq word (codes "vectors") ≡ b → bytes_eq word (codes "sim") ≡ c
-        → cond a (decode_in words) (cond b (vectors_in words) (cond c (option_map (λ s. Sim s) (simulation_in words)) None)) ≡ Some task → Say (word ∷ words) task
-    go true b c is _ _ e = found_decode word words task ((bytes_eq-Decides word (codes "decode")).0 is) e
-    go false true c _ is _ e = found_vectors word words task ((bytes_eq-Decides word (codes "vectors")).0 is) e
-    go false false true _ _ is e = found_sim word words task ((bytes_eq-Decides word (codes "sim")).0 is) (simulation_in words) refl e
-    go false false false _ _ _ e = absurd (cc)
+    go : (a b : Bool) → bytes_eq word (codes "dte") ≡ a → bytes_eq word (codes "dce") ≡ b → cond a (Some Dte) (cond b (Some Dce) None) ≡ Some end → word ≡ end_word end
+    go true b is _ e = let same : Dte ≡ end = cc in (bytes_eq-Decides word (codes "dte")).0 is ∙ ap end_word same
+    go false true _ is e = let same : Dce ≡ end = cc in (bytes_eq-Decides word (codes "dce")).0 is ∙ ap end_word same
+    go false false _ _ e = absurd (cc)
+
+place_found : (word : List ℕ) (words : List (List ℕ)) (end : End) (c : Chosen) (p : Place) → word ≡ end_word end → Choose words c
+    → (down tap : Bool) → c.down ≡ down → c.tap ≡ tap → cond (down || tap) None (Some (settled_at end c)) ≡ Some p → SayPlace (word ∷ words) p
+place_found word words end c p is chosen true tap no_down no_tap e = absurd (cc)
+place_found word words end c p is chosen false true no_down no_tap e = absurd (cc)
+place_found word words end c p is chosen false false no_down no_tap e =
+    subst (SayPlace (word ∷ words)) (same_Some (settled_at end c) p e)
+    (record { rest = words; end = c; words_are = ap (λ w. w ∷ words) is; choose = chosen; no_down = no_down; no_tap = no_tap; same = refl })
+
+place_chosen : (word : List ℕ) (words : List (List ℕ)) (end : End) (p : Place) → word ≡ end_word end → (o : Option Chosen) → chosen_in nothing words ≡ o
+    → option_and_then (placed end) o ≡ Some p → SayPlace (word ∷ words) p
+place_chosen word words end p is None reads e = absurd (cc)
+place_chosen word words end p is (Some c) reads e = place_found word words end c p is (found words c reads) c.down c.tap refl refl e
+
+place_at : (word : List ℕ) (words : List (List ℕ)) (p : Place) → (o : Option End) → end_in word ≡ o → place_in words o ≡ Some p → SayPlace (word ∷ words) p
+place_at word words p None reads e = absurd (cc)
+place_at word words p (Some end) reads e = place_chosen word words end p (end_found word end reads) (chosen_in nothing words) refl e
+
+found_place : (words : List (List ℕ)) (p : Place) → station_in words ≡ Some p → SayPlace words p
+found_place [] p e = absurd (cc)
+found_place (word ∷ words) p e = place_at word words p (end_in word) refl e
+
+found_station : (word : List ℕ) (words : List (List ℕ)) (task : Task) → word ≡ codes "station" → (o : Option Place) → station_in words ≡ o
+    → option_map (λ p. Station p) o ≡ Some task → Say (word ∷ words) task
+found_station word words task is None reads e = absurd (cc)
+found_station word words task is (Some p) reads e = given (word ∷ words) (Station p) task e (words, ap (λ w. w ∷ words) is, found_place words p reads)
+
+found_behind : (word : List ℕ) (words : List (List ℕ)) (task : Task) → task_behind word words ≡ Some task → Say (word ∷ words) task
+found_behind word words task e = go (bytes_eq word (codes "decode")) (bytes_eq word (codes "vectors")) (bytes_eq word (codes "sim")) (bytes_eq word (codes "station")) refl refl refl refl e
+  where
+    go : (a b c d : Bool) → bytes_eq word (codes "decode") ≡ a → bytes_eq word (codes "vectors") ≡ b → bytes_eq word (codes "sim") ≡ c → bytes_eq word (codes "station") ≡ d
+        → cond a (decode_in words) (cond b (vectors_in words) (cond c (option_map (λ s. Sim s) (simulation_in words)) (cond d (option_map (λ p. Station p) (station_in words)) None))) ≡ Some task
+        → Say (word ∷ words) task
+    go true b c d is _ _ _ e = found_decode word words task ((bytes_eq-Decides word (codes "decode")).0 is) e
+    go false true c d _ is _ _ e = found_vectors word words task ((bytes_eq-Decides word (codes "vectors")).0 is) e
+    go false false true d _ _ is _ e = found_sim word words task ((bytes_eq-Decides word (codes "sim")).0 is) (simulation_in words) refl e
+    go false false false true _ _ _ is e = found_station word words task ((bytes_eq-Decides word (codes "station")).0 is) (station_in words) refl e
+    go false false false false _ _ _ _ e = absurd (cc)
 
 pub found_task : (words : List (List ℕ)) (task : Task) → task_in words ≡ Some task → Say words task
 unfolding task_in
@@ -84,3 +134,4 @@ pub within : (words : List (List ℕ)) (task : Task) → Say words task → AreI
 within words (Decode long) say = tt
 within words Vectors say = tt
 within words (Sim s) say = subst simulation.AreInRange (sym say.2.2) (in_range say.0 say.2.0 say.2.1)
+within words (Station p) say = subst PlaceIsInRange (sym say.2.same) (in_range say.2.rest say.2.end say.2.choose)

@@ -1,16 +1,19 @@
 -- What the words say, read one after another (profile).
-use Rattle.std.specs.Prelude.{ℕ, ◌&&◌, nat_le, true, false, List, [], ◌∷◌, Option, Some, None, codes, decimal, if◌then◌else◌, option_map, option_and_then, is_some}
+use Rattle.std.specs.Prelude.{ℕ, ◌&&◌, ◌||◌, nat_le, true, false, List, [], ◌∷◌, Option, Some, None, codes, decimal, if◌then◌else◌, option_map, option_and_then, is_some}
 use Rattle.std.specs.Str.{bytes_eq}
 use Rattle.std.specs.Str.Parse.{digits_value}
 use Rattle.x25_settings.specs.declared.options.Chosen.{Chosen}
+use Rattle.x25_settings.specs.declared.options.End.{End}
+use Rattle.x25_settings.specs.declared.options.End.TheVariants.{Dte, Dce}
 use Rattle.x25_settings.specs.declared.options.Flag.{Flag}
 use Rattle.x25_settings.specs.declared.options.Flag.TheVariants.{Down, Long, Tap}
 use Rattle.x25_settings.specs.declared.options.Numbered.{Numbered}
 use Rattle.x25_settings.specs.declared.options.Numbered.TheVariants.{Window, Tries, Channels}
+use Rattle.x25_settings.specs.declared.options.Place.{Place}
 use Rattle.x25_settings.specs.declared.options.Simulation.{Simulation}
 use Rattle.x25_settings.specs.declared.words.Task.{Task}
-use Rattle.x25_settings.specs.declared.words.Task.TheVariants.{Decode, Vectors, Sim}
-use Rattle.x25_settings.specs.Simulation.{most_of, nothing, chosen_flag, with_flag, chosen_number, with_number, settled}
+use Rattle.x25_settings.specs.declared.words.Task.TheVariants.{Decode, Vectors, Sim, Station}
+use Rattle.x25_settings.specs.Simulation.{most_of, nothing, chosen_flag, with_flag, chosen_number, with_number, settled, settled_at}
 
 abbrev pub flag_in : List ℕ → Option Flag
 flag_in word = if bytes_eq word (codes "--down") then Some Down
@@ -60,6 +63,22 @@ chosen_in c (word ∷ text ∷ rest) = if is_some (flag_in word)
 abbrev pub simulation_in : List (List ℕ) → Option Simulation
 simulation_in words = option_map settled (chosen_in nothing words)
 
+abbrev pub end_in : List ℕ → Option End
+end_in word = if bytes_eq word (codes "dte") then Some Dte else if bytes_eq word (codes "dce") then Some Dce else None
+
+-- `--down` and `--tap` are of `sim` alone
+abbrev pub placed : End → Chosen → Option Place
+placed end c = if c.down || c.tap then None else Some (settled_at end c)
+
+abbrev pub place_in : List (List ℕ) → Option End → Option Place
+place_in words None = None
+place_in words (Some end) = option_and_then (placed end) (chosen_in nothing words)
+
+-- the words behind `station`
+abbrev pub station_in : List (List ℕ) → Option Place
+station_in [] = None
+station_in (word ∷ words) = place_in words (end_in word)
+
 -- the words behind `decode`
 abbrev pub decode_in : List (List ℕ) → Option Task
 decode_in [] = Some (Decode false)
@@ -74,7 +93,8 @@ vectors_in (word ∷ words) = None
 abbrev pub task_behind : List ℕ → List (List ℕ) → Option Task
 task_behind word words = if bytes_eq word (codes "decode") then decode_in words
     else if bytes_eq word (codes "vectors") then vectors_in words
-    else if bytes_eq word (codes "sim") then option_map (λ s. Sim s) (simulation_in words) else None
+    else if bytes_eq word (codes "sim") then option_map (λ s. Sim s) (simulation_in words)
+    else if bytes_eq word (codes "station") then option_map (λ p. Station p) (station_in words) else None
 
 unfoldable pub task_in : List (List ℕ) → Option Task
 task_in [] = None

@@ -1,7 +1,10 @@
--- The words behind `sim`, and what plain ones say (profile).
+-- The words behind `sim` and `station`, and what plain ones say (profile).
 use Rattle.std.specs.Prelude.{◌≡◌, ◌≤◌, ℕ, Bool, true, false, List, [], ◌∷◌, Option, Some, None, unwrap_or, codes, decimal}
 use Rattle.std.specs.List.{flat_map}
 use Rattle.x25_settings.specs.declared.options.Simulation.{Simulation}
+use Rattle.x25_settings.specs.declared.options.End.{End}
+use Rattle.x25_settings.specs.declared.options.End.TheVariants.{Dte, Dce}
+use Rattle.x25_settings.specs.declared.options.Place.{Place}
 use Rattle.x25_settings.specs.declared.options.Chosen.{Chosen}
 use Rattle.x25_settings.specs.declared.options.Flag.{Flag}
 use Rattle.x25_settings.specs.declared.options.Flag.TheVariants.{Down, Long, Tap}
@@ -77,6 +80,9 @@ Leads c (choice ∷ choices) end = IsOpen c choice × Leads (with_choice c choic
 abbrev pub settled : Chosen → Simulation
 settled c = record { down = c.down; long = c.long; tap = c.tap; k = unwrap_or c.k 7; n2 = unwrap_or c.n2 10; channels = unwrap_or c.channels 1 }
 
+abbrev pub settled_at : End → Chosen → Place
+settled_at end c = record { end = end; long = c.long; k = unwrap_or c.k 7; n2 = unwrap_or c.n2 10; channels = unwrap_or c.channels 1 }
+
 -- these words choose this
 abbrev pub Choose : List (List ℕ) → Chosen → Type 0
 Choose words end = (choices : List Choice) × (words ≡ flat_map words_of choices) × Leads nothing choices end
@@ -84,6 +90,23 @@ Choose words end = (choices : List Choice) × (words ≡ flat_map words_of choic
 -- the words are plain, and they say this
 abbrev pub SaySimulation : List (List ℕ) → Simulation → Type 0
 SaySimulation words s = (end : Chosen) × Choose words end × (s ≡ settled end)
+
+abbrev pub end_word : End → List ℕ
+end_word Dte = codes "dte"
+end_word Dce = codes "dce"
+
+-- the first word is the end, and of the options `--down` and `--tap` are none
+pub record SayPlace (words : List (List ℕ)) (p : Place) : Type 0 where
+  pub rest : List (List ℕ)
+  pub end : Chosen
+  pub words_are : words ≡ end_word p.end ∷ rest
+  pub choose : Choose rest end
+  pub no_down : end.down ≡ false
+  pub no_tap : end.tap ≡ false
+  pub same : p ≡ settled_at p.end end
+
+abbrev pub PlaceIsInRange : Place → Type 0
+PlaceIsInRange p = ((1 ≤ p.k) × (p.k ≤ 7)) × ((1 ≤ p.n2) × (p.n2 ≤ 255)) × ((1 ≤ p.channels) × (p.channels ≤ 16))
 
 abbrev pub AreInRange : Simulation → Type 0
 AreInRange s = ((1 ≤ s.k) × (s.k ≤ 7)) × ((1 ≤ s.n2) × (s.n2 ≤ 255)) × ((1 ≤ s.channels) × (s.channels ≤ 16))

@@ -1,7 +1,7 @@
-//! The words behind `sim`.
+//! The words behind `sim` and `station`.
 ghost use Rattle.std.specs.Prelude.{◌≡◌, ◌<◌, ◌↔◌, ◌∷◌, [], IfSome, MatchOption, IsTrue, decimal, map, length};
 ghost use Rattle.std.specs.Str.{bytes_eq};
-ghost use Rattle.x25_settings.specs.Choosing.{chosen_in, flag_in, number_in, numbered_in, put_flag, put_number, simulation_in};
+ghost use Rattle.x25_settings.specs.Choosing.{chosen_in, end_in, flag_in, number_in, numbered_in, placed, put_flag, put_number, simulation_in, station_in};
 ghost use Rattle.x25_settings.specs.Simulation.{nothing, settled};
 
 use itoa::Buffer;
@@ -16,6 +16,28 @@ pub struct Simulation {
     pub long: bool,
     /// The frames of each step are told behind its entries.
     pub tap: bool,
+    /// The window of the link, 1 to 7.
+    pub k: u8,
+    /// How often a command of the link that isn't answered is sent again, 1 to 255.
+    pub n2: u8,
+    /// The number of channels, 1 to 16.
+    pub channels: u8,
+}
+
+/// An end of the link: the terminal (DTE) or the network's side (DCE).
+#[derive(Clone, Copy, Debug, PartialEq, Eq)]
+pub enum End {
+    Dte,
+    Dce,
+}
+
+/// What `station` is run with.
+#[derive(Clone, Copy, Debug, PartialEq, Eq)]
+pub struct Place {
+    /// The end at which the station is.
+    pub end: End,
+    /// A CALL has up to 128 octets of user data, in place of up to 16.
+    pub long: bool,
     /// The window of the link, 1 to 7.
     pub k: u8,
     /// How often a command of the link that isn't answered is sent again, 1 to 255.
@@ -80,6 +102,18 @@ fn numbered_option(word: &str) -> Option<Numbered>
         Some(Numbered::Tries)
     } else if is(word, "--channels") {
         Some(Numbered::Channels)
+    } else {
+        None
+    }
+}
+
+fn end_word(word: &str) -> Option<End>
+    ensures { result ≡ end_in word.now }
+{
+    if is(word, "dte") {
+        Some(End::Dte)
+    } else if is(word, "dce") {
+        Some(End::Dce)
     } else {
         None
     }
@@ -151,6 +185,23 @@ impl Chosen {
         }
     }
 
+    /// At an end, with the defaults for the rest, where nothing was chosen that `sim` alone has.
+    fn at(self, end: End) -> Option<Place>
+        ensures { result ≡ placed end self }
+    {
+        if self.down || self.tap {
+            return None;
+        }
+        let rest = self.with_defaults();
+        Some(Place {
+            end,
+            long: rest.long,
+            k: rest.k,
+            n2: rest.n2,
+            channels: rest.channels,
+        })
+    }
+
     /// The defaults for the rest.
     fn with_defaults(self) -> Simulation
         ensures { result ≡ settled self }
@@ -208,4 +259,14 @@ pub(crate) fn read_simulation<S: AsStr>(words: &[S]) -> Option<Simulation>
 {
     let chosen = choose(words)?;
     Some(chosen.with_defaults())
+}
+
+/// What the words behind `station` say, where they are plain.
+pub(crate) fn read_place<S: AsStr>(words: &[S]) -> Option<Place>
+    ensures { result ≡ station_in (map S.text words.now) }
+{
+    let (word, behind) = split_word(words)?;
+    let end = end_word(word)?;
+    let chosen = choose(behind)?;
+    chosen.at(end)
 }

@@ -7,6 +7,13 @@ const EXAMPLES: &str = "Examples:
   x25 sim < examples/call.script
   x25 sim --tap < examples/call.script | grep '^[<>]' | x25 decode";
 
+/// The words for an end.
+const ENDS: &[&str] = &["dte", "dce"];
+
+/// What is told behind the options of `station`.
+const STATION_EXAMPLE: &str = "Examples:
+  printf 'dte connect\\n< 01738357\\n' | x25 station dte";
+
 /// An option with a number.
 fn number_option<'a>(
     alloc: Global,
@@ -31,16 +38,8 @@ fn long_option<'a>(alloc: Global) -> Arg<'a> {
         .help("Take up to 128 octets of user data in a CALL, in place of 16")
 }
 
-fn sim_command<'a>(alloc: Global) -> Result<Command<'a>, AllocError> {
-    let tap = Arg::new(alloc, "tap")
-        .long("tap")
-        .action(ArgAction::SetTrue)
-        .help("Tell the frames of each step behind its entries, as lines for `decode`");
-    let down = Arg::new(alloc, "down")
-        .long("down")
-        .action(ArgAction::SetTrue)
-        .help("Begin with both links down, in place of just set up");
-    let long = long_option(alloc);
+/// The window, the tries and the channels.
+fn with_numbers<'a>(alloc: Global, command: Command<'a>) -> Result<Command<'a>, AllocError> {
     let window = number_option(alloc, "k", 7, "7", "The window of the link: 1 to 7");
     let tries = number_option(
         alloc,
@@ -56,16 +55,41 @@ fn sim_command<'a>(alloc: Global) -> Result<Command<'a>, AllocError> {
         "1",
         "The number of logical channels: 1 to 16",
     );
-    Command::new(alloc, "sim")
+    command.arg(window)?.arg(tries)?.arg(channels)
+}
+
+fn sim_command<'a>(alloc: Global) -> Result<Command<'a>, AllocError> {
+    let tap = Arg::new(alloc, "tap")
+        .long("tap")
+        .action(ArgAction::SetTrue)
+        .help("Tell the frames of each step behind its entries, as lines for `decode`");
+    let down = Arg::new(alloc, "down")
+        .long("down")
+        .action(ArgAction::SetTrue)
+        .help("Begin with both links down, in place of just set up");
+    let long = long_option(alloc);
+    let command = Command::new(alloc, "sim")
         .about("Run a script of two stations joined by a line, and write what each end is told")
         .override_usage("x25 sim [OPTIONS] < SCRIPT")
         .after_help(EXAMPLES)
         .arg(tap)?
         .arg(down)?
-        .arg(long)?
-        .arg(window)?
-        .arg(tries)?
-        .arg(channels)
+        .arg(long)?;
+    with_numbers(alloc, command)
+}
+
+fn station_command<'a>(alloc: Global) -> Result<Command<'a>, AllocError> {
+    let end = Arg::new(alloc, "END")
+        .required(true)
+        .value_parser(ENDS)
+        .help("The end at which the station is");
+    let command = Command::new(alloc, "station")
+        .about("Run one station: lines of the other end and of its user in, what it does out")
+        .override_usage("x25 station END [OPTIONS] < LINES")
+        .after_help(STATION_EXAMPLE)
+        .arg(end)?
+        .arg(long_option(alloc))?;
+    with_numbers(alloc, command)
 }
 
 /// The command line of the program.
@@ -86,5 +110,6 @@ pub(crate) fn command<'a>(alloc: Global) -> Result<Command<'a>, AllocError> {
         .subcommand_required(true)
         .subcommand(decode)?
         .subcommand(vectors)?
-        .subcommand(sim_command(alloc)?)
+        .subcommand(sim_command(alloc)?)?
+        .subcommand(station_command(alloc)?)
 }

@@ -5,7 +5,7 @@ ghost use Rattle.x25_settings.specs.Words.{AreInRange, Say};
 ghost use Rattle.x25_settings.specs.declared.words.SettingsError.TheVariants.{NoMemory};
 ghost use Rattle.x25_settings.specs.declared.words.Task.{Task as TaskValue};
 
-use crate::options::{Simulation, is, read_simulation, split_word};
+use crate::options::{Place, Simulation, is, read_place, read_simulation, split_word};
 use crate::parser::command;
 use clap::error::ErrorKind;
 use std::alloc::{AllocError, Global};
@@ -20,6 +20,7 @@ pub enum Task {
     },
     Vectors,
     Sim(Simulation),
+    Station(Place),
 }
 
 /// Why nothing runs.
@@ -94,6 +95,8 @@ fn read_behind<S: AsStr>(word: &str, words: &[S]) -> Option<Task>
         read_vectors(words)
     } else if is(word, "sim") {
         Some(Task::Sim(read_simulation(words)?))
+    } else if is(word, "station") {
+        Some(Task::Station(read_place(words)?))
     } else {
         None
     }
@@ -130,7 +133,8 @@ fn usage_fault<'a, S: AsStr>(alloc: Global, words: &'a [S]) -> SettingsError {
 ///
 /// Plain words are `decode`, which `--long` may follow, `vectors`, or `sim` and then each at most once and in any order
 /// `--tap`, `--down`, `--long`, `--k N`, `--n2 N` and `--channels N`, with N in decimal without leading zeros, from 1 to 7, 255
-/// and 16; what isn't said is 7, 10 and 1. All others are a usage fault, help words too. Plain words take no memory. Profile.
+/// and 16; what isn't said is 7, 10 and 1. Or they are `station`, then `dte` or `dce`, and then these options but `--tap` and
+/// `--down`. All others are a usage fault, help words too. Plain words take no memory. Profile.
 pub fn settings<'a, S: AsStr>(alloc: Global, words: &'a [S]) -> Result<Task, SettingsError>
     ensures plain { (task : TaskValue) → Say (map S.text words.now) task → result ≡ Ok task }
     ensures only { IfOk result (Say (map S.text words.now)) }

@@ -1,5 +1,5 @@
 use std::test::Fail;
-use x25_settings::{SettingsError, Simulation, Task, settings};
+use x25_settings::{End, Place, SettingsError, Simulation, Task, settings};
 
 const DEFAULTS: Simulation = Simulation {
     down: false,
@@ -10,9 +10,17 @@ const DEFAULTS: Simulation = Simulation {
     channels: 1,
 };
 
+const PLACE: Place = Place {
+    end: End::Dte,
+    long: false,
+    k: 7,
+    n2: 10,
+    channels: 1,
+};
+
 #[test]
 fn takes_plain_words_alone(rt: HostRuntime) {
-    let plain: [(&[&str], Task); 10] = [
+    let plain: [(&[&str], Task); 13] = [
         (&["decode"], Task::Decode { long: false }),
         (&["decode", "--long"], Task::Decode { long: true }),
         (&["vectors"], Task::Vectors),
@@ -71,6 +79,33 @@ fn takes_plain_words_alone(rt: HostRuntime) {
                 ..DEFAULTS
             }),
         ),
+        (&["station", "dte"], Task::Station(PLACE)),
+        (
+            &["station", "dce", "--long"],
+            Task::Station(Place {
+                end: End::Dce,
+                long: true,
+                ..PLACE
+            }),
+        ),
+        (
+            &[
+                "station",
+                "dte",
+                "--channels",
+                "16",
+                "--n2",
+                "255",
+                "--k",
+                "1",
+            ],
+            Task::Station(Place {
+                k: 1,
+                n2: 255,
+                channels: 16,
+                ..PLACE
+            }),
+        ),
     ];
     for (words, task) in plain {
         let Ok(answer) = settings(rt.alloc(), words) else {
@@ -83,7 +118,7 @@ fn takes_plain_words_alone(rt: HostRuntime) {
 
 #[test]
 fn takes_no_other_words(rt: HostRuntime) {
-    let others: [&[&str]; 30] = [
+    let others: [&[&str]; 36] = [
         &[],
         &["dec"],
         &["decode", "decode"],
@@ -114,6 +149,12 @@ fn takes_no_other_words(rt: HostRuntime) {
         &["sim", "--tap", "--"],
         &["sim", "script"],
         &["sim", "--help"],
+        &["station"],
+        &["station", "--k", "3"],
+        &["station", "DTE"],
+        &["station", "dte", "--tap"],
+        &["station", "dte", "--down"],
+        &["station", "--long", "dte"],
     ];
     for words in others {
         let is_usage = matches!(settings(rt.alloc(), words), Err(SettingsError::Usage(_)));
@@ -126,7 +167,7 @@ const SAYS: &str =
 
 /// What asks for help is told.
 const HELP: &str =
-    "X.25 packet layer over LAPB, on lines of text\n\nUsage: x25 <COMMAND>\n\nCommands:\n  decode   Answer lines of octets, `> HEX` from the DTE and `< HEX` from the DCE, by lines of text\n  vectors  Run the stored test vectors\n  sim      Run a script of two stations joined by a line, and write what each end is told\n  help     Print this message or the help of the given subcommand(s)\n\nOptions:\n  -h, --help     Print help\n  -V, --version  Print version\n";
+    "X.25 packet layer over LAPB, on lines of text\n\nUsage: x25 <COMMAND>\n\nCommands:\n  decode   Answer lines of octets, `> HEX` from the DTE and `< HEX` from the DCE, by lines of text\n  vectors  Run the stored test vectors\n  sim      Run a script of two stations joined by a line, and write what each end is told\n  station  Run one station: lines of the other end and of its user in, what it does out\n  help     Print this message or the help of the given subcommand(s)\n\nOptions:\n  -h, --help     Print help\n  -V, --version  Print version\n";
 
 /// A number that is out of its range.
 const RANGE: &str =

@@ -1,0 +1,20 @@
+-- What a line asks for.
+use Rattle.std.proofs.Common.{◌≡◌, ◌∙◌, ◌≤◌, ◌<◌, ℕ, List, length, if◌then◌else◌, Option, None, ap, sym}
+use Rattle.std.proofs.lemmas.Bool.{le-leb, lt-leb}
+use Rattle.x25_bits.specs.declared.role.Role.{Role}
+use Rattle.x25_program.specs.Decoded.{sent_in}
+use Rattle.x25_console.specs.HeldLine.{most_line}
+use Rattle.x25_pipe.specs.Piped.{event_in, read_event}
+
+-- a line that isn't too long is read
+event_read : (end : Role) (line : List ℕ) (sent : Option (Role × List ℕ)) → length line ≤ most_line → sent_in line ≡ sent → event_in end line ≡ read_event end line sent
+unfolding event_in
+event_read end line sent few is = ap (λ b. if b then read_event end line (sent_in line) else None) (le-leb (length line) most_line few) ∙ ap (read_event end line) is
+
+pub event_long : (end : Role) (line : List ℕ) → most_line < length line → event_in end line ≡ None
+unfolding event_in
+event_long end line long = ap (λ b. if b then read_event end line (sent_in line) else None) (lt-leb (length line) most_line long)
+
+pub event_read_at : (end role : Role) (line : List ℕ) (sent : Option (Role × List ℕ)) → end ≡ role → length line ≤ most_line → sent_in line ≡ sent
+    → read_event end line sent ≡ event_in role line
+event_read_at end role line sent same few is = ap (λ e. read_event e line sent) same ∙ sym (event_read role line sent few is)

@@ -1,0 +1,60 @@
+-- A whole input.
+use Rattle.std.proofs.Common.{◌≡◌, ℕ, false, List, [], Option, Some, None, refl, sym, subst}
+use Rattle.std.specs.Prelude.{IfSome}
+use Rattle.x25_program.specs.Lines.{lines_of}
+use Rattle.x25_program.specs.Written.{AppendsBeginning}
+use Rattle.x25_station.specs.Settings.{Settings}
+use Rattle.x25_station.specs.Station.{new_station}
+use Rattle.x25_console.specs.HeldLine.{HoldsLine}
+use Rattle.x25_console.specs.declared.held_line.HeldLine.{HeldLine}
+use Rattle.x25_console.proofs.ToldLemmas.{none_told, begins_more}
+use Rattle.x25_station.specs.FitsStation.{FitsStation}
+use Rattle.x25_pipe.specs.Piped.{sayings_text, has_refusal, turns, standing_turn, piped, text_of}
+use Rattle.x25_pipe.specs.Stands.{Stands}
+use Rattle.x25_pipe.specs.Stream.{Leads}
+use Rattle.x25_pipe.specs.declared.answerer.Answerer.{Answerer}
+use Rattle.x25_pipe.specs.declared.pipe.Pipe.{Pipe}
+use Rattle.x25_pipe.proofs.SayingLemmas.{parts_text, parts_refused}
+use Rattle.x25_pipe.proofs.StandLemmas.{StandsAt, BeginsAt, begins_before}
+
+pub if_some : (o : Option (List ℕ)) (P : List ℕ → Type 0) → ((input : List ℕ) → o ≡ Some input → P input) → IfSome o P
+if_some None P f = tt
+if_some (Some input) P f = f input refl
+
+-- before the first mark
+pub nothing_written : (written : Option (List ℕ)) (text : List ℕ) → AppendsBeginning written written text
+nothing_written written text = begins_more written written [] [] text (none_told written [] refl)
+
+-- a station that never was up
+pub stands_first : (c : Settings) (written : Option (List ℕ)) (p : Pipe) → FitsStation c p.station new_station → p.end ≡ c.role → p.output ≡ [] → p.is_refused ≡ false
+    → Stands c written written p new_station [] false
+stands_first c written p fits role empty status = record { fits = fits; role = role; tells = none_told written p.output empty; status = status }
+
+module _ (c : Settings) (old now : Option (List ℕ)) (p : Pipe) (input : List ℕ) where
+  -- the first mark failed
+  pub mark_failed : BeginsAt c old now [] (standing_turn c new_station) → AppendsBeginning old now (text_of c input)
+  unfolding piped
+  mark_failed b = begins_before c old now [] false (turns c (lines_of input)) (standing_turn c new_station) b
+
+  -- the input is still to come
+  begins_input : (a : Answerer) → HoldsLine [] a.held → StandsAt c old now a.pipe [] false (standing_turn c new_station) → Leads c old now a input (piped c input)
+  unfolding piped
+  begins_input a empty h = record {
+    begun = [];
+    is_open = tt;
+    holds = empty;
+    leaves = record {
+      at = new_station;
+      text = sayings_text c.role (standing_turn c new_station).sayings;
+      status = has_refusal (standing_turn c new_station).sayings;
+      stands = h;
+      next = refl;
+      same = parts_text c.role [] (standing_turn c new_station).sayings (turns c (lines_of input) new_station).sayings;
+      any = parts_refused false (standing_turn c new_station).sayings (turns c (lines_of input) new_station).sayings;
+    };
+  }
+
+  pub input_begins : (a : Answerer) (held : HeldLine) → a.held ≡ held → a.pipe ≡ p → HoldsLine [] held → StandsAt c old now p [] false (standing_turn c new_station)
+      → Leads c old now a input (piped c input)
+  input_begins a held is_held is_pipe empty h =
+      begins_input a (subst (HoldsLine []) (sym is_held) empty) (subst (λ u. StandsAt c old now u [] false (standing_turn c new_station)) (sym is_pipe) h)

@@ -1,0 +1,126 @@
+-- How it stands after a turn.
+use Rattle.std.proofs.Common.{◌≡◌, ◌∙◌, ℕ, Bool, true, false, List, [], ◌∷◌, ◌++◌, map, Option, ap, sym, subst, refl, inl, inr}
+use Rattle.std.specs.Prelude.{◌||◌}
+use Rattle.std.proofs.lemmas.List.{append-nil}
+use Rattle.std.proofs.Math.Bool.{or-false, or-true}
+use Rattle.x25_bits.specs.declared.role.Role.{Role}
+use Rattle.x25_program.specs.Written.{AppendsBeginning}
+use Rattle.x25_frame.specs.Spelling.{spelling_of}
+use Rattle.x25_station.specs.declared.error.StationError.{StationError}
+use Rattle.x25_station.specs.declared.error.StationError.TheVariants.{NoMemory}
+use Rattle.x25_station.specs.declared.station.Station as code
+use Rattle.x25_station.specs.declared.step.Step as code_step
+use Rattle.x25_station.specs.Entries.{StationEntry}
+use Rattle.x25_station.specs.FitsStation.{FitsStation}
+use Rattle.x25_station.specs.Settings.{Settings}
+use Rattle.x25_station.specs.StationError.{number_of}
+use Rattle.x25_station.specs.Station.{Station}
+use Rattle.x25_station.specs.Steps.{Step, Outcome, Did, Refused}
+use Rattle.x25_console.specs.Lines.{nothing_line, refusal_line}
+use Rattle.x25_console.specs.Written.{Tells}
+use Rattle.x25_console.proofs.ToldLemmas.{beginning_more}
+use Rattle.x25_pipe.specs.Piped.{Saying, enters, sends, refuses, reads_nothing, saying_line, sayings_text, has_refusal, Turn, and_then, said, step_told}
+use Rattle.x25_pipe.specs.Stands.{Stands, IsStep, IsError, answer_told}
+use Rattle.x25_pipe.specs.declared.pipe.Pipe.{Pipe}
+use Rattle.x25_pipe.proofs.SayingLemmas.{parts_text, parts_refused}
+
+-- how it stands, by the turn that led there
+abbrev pub StandsAt : Settings → Option (List ℕ) → Option (List ℕ) → Pipe → List ℕ → Bool → Turn → Type 0
+StandsAt c old next u told refused t = Stands c old next u t.next (told ++ sayings_text c.role t.sayings) (refused || has_refusal t.sayings)
+
+abbrev pub BeginsAt : Settings → Option (List ℕ) → Option (List ℕ) → List ℕ → Turn → Type 0
+BeginsAt c old next told t = AppendsBeginning old next (told ++ sayings_text c.role t.sayings)
+
+-- ---- one turn behind another
+
+module _ (c : Settings) (old next : Option (List ℕ)) (told : List ℕ) (refused : Bool) (rest : Station → Turn) (t : Turn) where
+  pub stands_behind : (u : Pipe) → StandsAt c old next u (told ++ sayings_text c.role t.sayings) (refused || has_refusal t.sayings) (rest t.next) → StandsAt c old next u told refused (and_then rest t)
+  stands_behind u h =
+      subst (λ text. Stands c old next u (rest t.next).next text (refused || has_refusal (and_then rest t).sayings)) (parts_text c.role told t.sayings (rest t.next).sayings)
+      (subst (Stands c old next u (rest t.next).next ((told ++ sayings_text c.role t.sayings) ++ sayings_text c.role (rest t.next).sayings)) (parts_refused refused t.sayings (rest t.next).sayings) h)
+
+  pub begins_behind : BeginsAt c old next (told ++ sayings_text c.role t.sayings) (rest t.next) → BeginsAt c old next told (and_then rest t)
+  begins_behind b = subst (AppendsBeginning old next) (parts_text c.role told t.sayings (rest t.next).sayings) b
+
+  pub begins_before : BeginsAt c old next told t → BeginsAt c old next told (and_then rest t)
+  begins_before b =
+      subst (AppendsBeginning old next) (parts_text c.role told t.sayings (rest t.next).sayings) (beginning_more old next (told ++ sayings_text c.role t.sayings) (sayings_text c.role (rest t.next).sayings) b)
+
+-- ---- one saying
+
+pub one_told : (end : Role) (told : List ℕ) (x : Saying) → told ++ saying_line end x ≡ told ++ sayings_text end (x ∷ [])
+one_told end told x = ap (λ t. told ++ t) (sym (append-nil (saying_line end x)))
+
+pub stands_marked : (c : Settings) (old next : Option (List ℕ)) (u : Pipe) (s : Station) (told line : List ℕ) (refused : Bool) (x : Saying) → has_refusal (x ∷ []) ≡ false
+    → line ≡ saying_line c.role x → FitsStation c u.station s → u.end ≡ c.role → u.is_refused ≡ refused → Tells old next u.output (told ++ line)
+    → StandsAt c old next u told refused (said s (x ∷ []))
+stands_marked c old next u s told line refused x none same fits role status tells = record {
+  fits = fits;
+  role = role;
+  tells = subst (Tells old next u.output) (ap (λ t. told ++ t) same ∙ one_told c.role told x) tells;
+  status = status ∙ sym (or-false refused) ∙ ap (λ b. refused || b) (sym none);
+}
+
+-- what was refused
+pub stands_refused : (c : Settings) (old next : Option (List ℕ)) (u : Pipe) (s : Station) (told line : List ℕ) (refused : Bool) (x : Saying) → has_refusal (x ∷ []) ≡ true
+    → line ≡ saying_line c.role x → FitsStation c u.station s → u.end ≡ c.role → u.is_refused ≡ true → Tells old next u.output (told ++ line)
+    → StandsAt c old next u told refused (said s (x ∷ []))
+stands_refused c old next u s told line refused x is same fits role status tells = record {
+  fits = fits;
+  role = role;
+  tells = subst (Tells old next u.output) (ap (λ t. told ++ t) same ∙ one_told c.role told x) tells;
+  status = status ∙ sym (or-true refused) ∙ ap (λ b. refused || b) (sym is);
+}
+
+pub begins_told : (c : Settings) (old next : Option (List ℕ)) (s : Station) (told line : List ℕ) (x : Saying) → line ≡ saying_line c.role x → AppendsBeginning old next (told ++ line)
+    → BeginsAt c old next told (said s (x ∷ []))
+begins_told c old next s told line x same b = subst (AppendsBeginning old next) (ap (λ t. told ++ t) same ∙ one_told c.role told x) b
+
+pub refusal_said : (end : Role) (error : StationError) → refusal_line (number_of error) ≡ saying_line end (refuses error)
+unfolding saying_line
+refusal_said end error = refl
+
+pub nothing_said : (end : Role) → nothing_line ≡ saying_line end reads_nothing
+unfolding saying_line
+nothing_said end = refl
+
+-- ---- what a call of the station answered
+
+-- an error that isn't want of memory
+pub error_is : (error : StationError) (o : Outcome) → IsError error o → (error ≡ NoMemory → ⊥) → o ≡ Refused error
+error_is error (Did step) is other = absurd (other is)
+error_is error (Refused e) (inl same) other = ap Refused (sym same)
+error_is error (Refused e) (inr none) other = absurd (other none)
+
+-- entries and frames are no refusals
+none_refused : (entries : List StationEntry) (frames : List (List ℕ)) → has_refusal (map enters entries ++ map sends frames) ≡ false
+none_refused [] [] = refl
+none_refused [] (f ∷ frames) = none_refused [] frames
+none_refused (e ∷ entries) frames = none_refused entries frames
+
+-- what is said of it is what the definition says
+pub answer_is : (c : Settings) (v : code.Station) (step : code_step.Step) (plain : Step) → IsStep c v step (Did plain) → answer_told step ≡ step_told c plain
+answer_is c v step plain h =
+    ap (λ entries. map enters entries ++ map sends (map (λ frame. frame.items) step.frames.items)) h.enters
+    ∙ ap (λ frames. map enters plain.entries ++ map sends frames) h.sends
+
+-- a step of which entries and frames are told
+pub stands_told : (c : Settings) (old next : Option (List ℕ)) (u : Pipe) (step : code_step.Step) (plain : Step) (told : List ℕ) (refused : Bool)
+    → IsStep c u.station step (Did plain) → u.end ≡ c.role → Tells old next u.output (told ++ sayings_text c.role (answer_told step)) → u.is_refused ≡ refused
+    → StandsAt c old next u told refused (said plain.near (step_told c plain))
+stands_told c old next u step plain told refused h role tells status = record {
+  fits = h.leaves;
+  role = role;
+  tells = subst (λ sayings. Tells old next u.output (told ++ sayings_text c.role sayings)) (answer_is c u.station step plain h) tells;
+  status = status ∙ sym (or-false refused) ∙ ap (λ b. refused || b) (sym (none_refused plain.entries (map (spelling_of c.role) plain.out)));
+}
+
+pub begins_step : (c : Settings) (old next : Option (List ℕ)) (v : code.Station) (step : code_step.Step) (plain : Step) (told : List ℕ)
+    → IsStep c v step (Did plain) → AppendsBeginning old next (told ++ sayings_text c.role (answer_told step)) → BeginsAt c old next told (said plain.near (step_told c plain))
+begins_step c old next v step plain told h b = subst (λ sayings. AppendsBeginning old next (told ++ sayings_text c.role sayings)) (answer_is c v step plain h) b
+
+-- no step is answered where the definition refuses
+pub is_step : (c : Settings) (v : code.Station) (step : code_step.Step) (P : Outcome → Type 0) → ((plain : Step) → IsStep c v step (Did plain) → P (Did plain))
+    → (o : Outcome) → IsStep c v step o → P o
+is_step c v step P f (Did plain) h = f plain h
+is_step c v step P f (Refused e) h = absurd h.accepted

@@ -1,0 +1,27 @@
+use Rattle.std.proofs.Common.{refl, subst}
+use Rattle.x25_station.specs.Command.{command_of}
+use Rattle.x25_station.specs.TimerLaw.{Asks, outcome}
+use Rattle.x25_console.proofs.ToldLemmas.{begins_more}
+use Rattle.x25_pipe.specs.Piped.{event_turn}
+use Rattle.x25_pipe.specs.Stands.{Stood}
+use Rattle.x25_pipe.proofs.pipe.Pipe.command.Goals as goal
+
+pub returns-in_default-clause-turns : goal.returns-in_default-clause-turns
+returns-in_default-clause-turns g c = λ k old s told refused h. begins_more _ _ _ told _ h.tells
+
+pub returns-in-Ok-command-clause-turns : goal.returns-in-Ok-command-clause-turns
+unfolding event_turn
+returns-in-Ok-command-clause-turns g c = λ k old s told refused h.
+    let came = c.in-Ok-command.ensures in
+    let event = Asks (command_of c.station_command.result) in
+    subst (λ asked. Stood k old (g.W.Sink.contents c.tell_step.new.writer) c.tell_step.new.self told refused c.tell_step.result (event_turn k s (Asks asked))) c.station_command.ensures
+    (c.tell_step.ensures.stood k old s event (outcome k s event) told refused (c.of-before.ensures k s h.fits) refl
+    (record { leaves = came.state k s h.fits; sends = came.frames k s h.fits; enters = came.entries k s h.fits; accepted = came.refused k s h.fits }) h.role h.tells h.status)
+
+pub returns-clause-turns : goal.returns-clause-turns
+unfolding event_turn
+returns-clause-turns g c = λ k old s told refused h.
+    let event = Asks (command_of c.station_command.result) in
+    subst (λ asked. Stood k old (g.W.Sink.contents c.refuse.new.writer) c.refuse.new.self told refused c.refuse.result (event_turn k s (Asks asked))) c.station_command.ensures
+    (c.refuse.ensures.stood k old s event (outcome k s event) told refused
+    (record { fits = c.in-Err.ensures.stays k s h.fits; role = h.role; tells = h.tells; status = h.status }) (c.in-Err.ensures.refused k s h.fits))

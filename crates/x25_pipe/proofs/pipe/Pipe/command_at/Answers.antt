@@ -1,0 +1,17 @@
+use Rattle.std.proofs.Common.{◌∙◌, if◌then◌else◌, Some, None, sym, subst}
+use Rattle.x25_station.specs.TimerLaw.{Asks}
+use Rattle.x25_script.specs.PlainLine.{plain_command}
+use Rattle.x25_console.specs.Commands.{command_asked}
+use Rattle.x25_pipe.specs.Piped.{asked_turn}
+use Rattle.x25_pipe.specs.Stands.{Stood}
+use Rattle.x25_pipe.proofs.pipe.Pipe.command_at.Goals as goal
+
+pub returns-then-is_same-clause-turns : goal.returns-then-is_same-clause-turns
+returns-then-is_same-clause-turns g c = λ k old s told refused h.
+    subst (λ b. Stood k old (g.W.Sink.contents c.command.new.writer) c.command.new.self told refused c.command.result (asked_turn k s (if b then Some (Asks (command_asked (plain_command c.args.command))) else None))) (sym (sym c.is_same.ensures ∙ c.if-is_same.true))
+    (c.command.ensures.turns k old s told refused h)
+
+pub returns-clause-turns : goal.returns-clause-turns
+returns-clause-turns g c = λ k old s told refused h.
+    subst (λ b. Stood k old (g.W.Sink.contents c.read_nothing.new.writer) c.read_nothing.new.self told refused c.read_nothing.result (asked_turn k s (if b then Some (Asks (command_asked (plain_command c.args.command))) else None))) (sym (sym c.is_same.ensures ∙ c.if-is_same.false))
+    (c.read_nothing.ensures.turns k old s told refused h)

@@ -1,0 +1,17 @@
+use Rattle.std.proofs.Common.{refl}
+use Rattle.x25_station.specs.TimerLaw.{Fires, outcome}
+use Rattle.x25_pipe.specs.Piped.{event_turn}
+use Rattle.x25_pipe.proofs.pipe.Pipe.fire.Goals as goal
+
+pub returns-in-Ok-clause-turns : goal.returns-in-Ok-clause-turns
+unfolding event_turn
+returns-in-Ok-clause-turns g c = λ k old s told refused h.
+    let came = c.in-Ok.ensures in
+    c.tell_step.ensures.stood k old s Fires (outcome k s Fires) told refused (c.of-before.ensures k s h.fits) refl
+    (record { leaves = came.state k s h.fits; sends = came.frames k s h.fits; enters = came.entries k s h.fits; accepted = came.refused k s h.fits }) h.role h.tells h.status
+
+pub returns-in-Err-clause-turns : goal.returns-in-Err-clause-turns
+unfolding event_turn
+returns-in-Err-clause-turns g c = λ k old s told refused h.
+    c.refuse.ensures.stood k old s Fires (outcome k s Fires) told refused
+    (record { fits = c.in-Err.ensures.stays k s h.fits; role = h.role; tells = h.tells; status = h.status }) (c.in-Err.ensures.refused k s h.fits)

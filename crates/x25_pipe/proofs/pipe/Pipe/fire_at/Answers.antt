@@ -1,0 +1,15 @@
+use Rattle.std.proofs.Common.{◌∙◌, if◌then◌else◌, Some, None, sym, subst}
+use Rattle.x25_station.specs.TimerLaw.{Fires}
+use Rattle.x25_pipe.specs.Piped.{asked_turn}
+use Rattle.x25_pipe.specs.Stands.{Stood}
+use Rattle.x25_pipe.proofs.pipe.Pipe.fire_at.Goals as goal
+
+pub returns-then-is_same-clause-turns : goal.returns-then-is_same-clause-turns
+returns-then-is_same-clause-turns g c = λ k old s told refused h.
+    subst (λ b. Stood k old (g.W.Sink.contents c.fire.new.writer) c.fire.new.self told refused c.fire.result (asked_turn k s (if b then Some (Fires) else None))) (sym (sym c.is_same.ensures ∙ c.if-is_same.true))
+    (c.fire.ensures.turns k old s told refused h)
+
+pub returns-clause-turns : goal.returns-clause-turns
+returns-clause-turns g c = λ k old s told refused h.
+    subst (λ b. Stood k old (g.W.Sink.contents c.read_nothing.new.writer) c.read_nothing.new.self told refused c.read_nothing.result (asked_turn k s (if b then Some (Fires) else None))) (sym (sym c.is_same.ensures ∙ c.if-is_same.false))
+    (c.read_nothing.ensures.turns k old s told refused h)

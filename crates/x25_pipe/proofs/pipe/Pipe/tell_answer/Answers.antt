@@ -1,0 +1,30 @@
+use Rattle.std.proofs.Common.{◌∙◌, ◌++◌, map, ap, subst}
+use Rattle.std.proofs.lemmas.Result.{err_from_is_err_and, MatchResult-weaker}
+use Rattle.x25_program.specs.Written.{AppendsBeginning}
+use Rattle.x25_station.specs.PlainEntry.{plain_entry}
+use Rattle.x25_console.specs.Written.{Tells}
+use Rattle.x25_console.proofs.ToldLemmas.{part_of_all}
+use Rattle.x25_pipe.specs.Piped.{enters, sends, sayings_text}
+use Rattle.x25_pipe.proofs.SayingLemmas.{text-append, parts_text}
+use Rattle.x25_pipe.proofs.pipe.Pipe.tell_answer.Goals as goal
+
+pub returns-in_err-tell_entries-clause-tells : goal.returns-in_err-tell_entries-clause-tells
+returns-in_err-tell_entries-clause-tells g c = λ old told h.
+    let p = err_from_is_err_and c.from_residual.result c.from_residual.ensures.1 in
+    let end = c.args.self.now.end in
+    let step = c.args.step.now in
+    rw p.1 (part_of_all old _ told _ _ _ (text-append end (map enters (map plain_entry step.entries.items)) (map sends (map (λ frame. frame.items) step.frames.items)))
+    (subst (λ entries. AppendsBeginning old (g.W.Sink.contents c.tell_entries.new.writer) (told ++ sayings_text end (map enters (map plain_entry entries)))) c.as_slice-entries.ensures.value
+    (c.in_err-tell_entries.ensures.tells old told h)))
+
+pub returns-clause-tells : goal.returns-clause-tells
+returns-clause-tells g c = λ old told h.
+    let end = c.args.self.now.end in
+    let step = c.args.step.now in
+    let both =
+    ap (λ entries. (told ++ sayings_text end (map enters (map plain_entry entries))) ++ sayings_text end (map sends (map (λ frame. frame.items) c.as_slice-frames.result.now))) c.as_slice-entries.ensures.value
+    ∙ ap (λ frames. (told ++ sayings_text end (map enters (map plain_entry step.entries.items))) ++ sayings_text end (map sends (map (λ frame. frame.items) frames))) c.as_slice-frames.ensures.value
+    ∙ parts_text end told (map enters (map plain_entry step.entries.items)) (map sends (map (λ frame. frame.items) step.frames.items)) in
+    MatchResult-weaker c.tell_frames.result (c.tell_frames.ensures.tells old _ (c.in_ok-tell_entries.ensures.tells old told h))
+    (λ _ tells. subst (Tells old (g.W.Sink.contents c.tell_frames.new.writer) c.tell_frames.new.output) both tells)
+    (λ _ begins. subst (AppendsBeginning old (g.W.Sink.contents c.tell_frames.new.writer)) both begins)
