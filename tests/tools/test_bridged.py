@@ -92,19 +92,41 @@ class Two(ToolCase):
         told_dte, told_dce, _ = self.play(self.begin("dte", "--udp", f"{other}:{one}", "--t1", "1", "--quiet", "1"), dce, OPENING + "dte send 1 0 6869\n")
         self.assert_call(told_dte, told_dce)
 
+    def by_files(self, end, commands):
+        """Words that have commands come from a file and notices go to another, and the path of that."""
+        paths = [os.path.join(self.folder, f"{end}.{name}") for name in ("commands", "told")]
+        with open(paths[0], "w") as file:
+            file.write(commands)
+        return ["--commands", paths[0], "--notices", paths[1]], paths[1]
+
+    def told(self, path):
+        return support.read(path).decode().splitlines()
+
+    def test_a_call_over_pipes(self):
+        (from_dce, to_dte), (from_dte, to_dce) = os.pipe(), os.pipe()
+        dce_files, dce_told = self.by_files("dce", ANSWER)
+        dte_files, dte_told = self.by_files("dte", OPENING + "dte send 1 0 6869\n")
+        both = []
+        for end, reader, writer, words in (("dce", from_dte, to_dte, ["--quiet", "2", *dce_files]), ("dte", from_dce, to_dce, dte_files)):
+            command = [sys.executable, os.path.join(support.TOOLS, "bridge.py"), end, "--stdio", "--t1", "1", "--x25", support.PROGRAM, *words]
+            both.append(subprocess.Popen(command, stdin=reader, stdout=writer, stderr=subprocess.PIPE))
+            self.addCleanup(both[-1].kill)
+        for number in (from_dce, to_dte, from_dte, to_dce):
+            os.close(number)
+        for child in both:
+            self.assertEqual((child.communicate(timeout=SECONDS)[1], child.returncode), (b"", 0))
+        self.assert_call(self.told(dte_told), self.told(dce_told))
+
     @unittest.skipUnless(os.geteuid() == 0 and shutil.which("ip") and shutil.which("unshare"), "only root makes interfaces of Ethernet, by ip and unshare")
     def test_a_call_over_ethernet(self):
         script = "ip link add x0 type veth peer name x1 && ip link set x0 up && ip link set x1 up && "
         bridge = f"{sys.executable} {os.path.join(support.TOOLS, 'bridge.py')} --x25 {support.PROGRAM} --t1 1"
-        files = [os.path.join(self.folder, name) for name in ("dce.commands", "dte.commands", "dce.told", "dte.told")]
-        for path, text in zip(files, (ANSWER, OPENING + "dte send 1 0 6869\n")):
-            with open(path, "w") as file:
-                file.write(text)
-        script += f"{{ {bridge} --ethernet x0 --quiet 3 --commands {files[0]} --notices {files[2]} dce & {bridge} --ethernet x1 --commands {files[1]} --notices {files[3]} dte; wait; }}"
+        dce_files, dce_told = self.by_files("dce", ANSWER)
+        dte_files, dte_told = self.by_files("dte", OPENING + "dte send 1 0 6869\n")
+        script += f"{{ {bridge} --ethernet x0 --quiet 3 {' '.join(dce_files)} dce & {bridge} --ethernet x1 {' '.join(dte_files)} dte; wait; }}"
         done = subprocess.run(["unshare", "-n", "sh", "-c", script], capture_output=True, timeout=SECONDS)
         self.assertEqual((done.returncode, done.stderr), (0, b""))
-        told = [support.read(path).decode().splitlines() for path in files[2:]]
-        self.assert_call(told[1], told[0])
+        self.assert_call(self.told(dte_told), self.told(dce_told))
 
     def test_a_command_that_is_refused(self):
         dce, words = self.listening("--t1", "1", "--quiet", "1")
