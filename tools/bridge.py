@@ -228,8 +228,8 @@ class Bridge:
         octets = self._coming.happen(octets)
         if octets is None:
             return
-        octets = shortened(octets) if self._options.short_accept else octets
         self._note(OTHER[self._direction], octets)
+        octets = shortened(octets) if self._options.short_accept else octets
         self._is_full = False
         self._heed(self._station.ask(FrameLine(OTHER[self._direction], octets).text()))
 
@@ -284,7 +284,7 @@ class Bridge:
             self._wire.send(octets)
 
     def _note(self, direction, octets):
-        """Writes a frame to the trace: what the station sent, and what came to it."""
+        """Writes a frame to the trace: what the station sent, and what came over the line, before --short-accept."""
         if self._trace is not None:
             self._trace.write(FrameLine(direction, octets, time.time_ns()).text(timed=True) + "\n")
 
@@ -353,7 +353,7 @@ def words():
     parser.add_argument("--stay", action="store_true", help="end only when the line does")
     parser.add_argument("--commands", metavar="FILE", help="where commands come from (standard input)")
     parser.add_argument("--notices", metavar="FILE", help="where notices go to (standard output)")
-    parser.add_argument("--trace", metavar="FILE", help="write the frames that the station sent and took, each with its time")
+    parser.add_argument("--trace", metavar="FILE", help="write the frames that the station sent and those that came, each with its time")
     parser.add_argument("--stats", action="store_true", help="say at the end how many frames went and came")
     options = parser.parse_args()
     if options.lose + options.damage > 1:

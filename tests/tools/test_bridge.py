@@ -252,9 +252,11 @@ class Joined(ToolCase):
         self.assertEqual(self.end()[0], 0)
 
     def test_short_accept(self):
-        self.begin(f". off idle\n= {line(sealed(SHORT))}\n. off idle\n", "--short-accept")
+        trace = os.path.join(self.folder, "trace")
+        self.begin(f". off idle\n= {line(sealed(SHORT))}\n. off idle\n", "--short-accept", "--trace", trace)
         self.sends(line(sealed(LONG)))
         self.assertEqual(self.end()[0], 0)
+        self.assertTrue(support.read(trace).endswith(f"\t{line(sealed(LONG))}\n".encode()))
 
     def test_without_it_a_long_one_stays(self):
         self.begin(f". off idle\n= {line(sealed(LONG))}\n. off idle\n")
