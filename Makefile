@@ -5,9 +5,10 @@
 # make check-tools  runs the tests of tools/, without the kit too; those that need the program are left out where it isn't built
 # make refused      runs stored cases on the program with each allocation refused in turn; it needs a C compiler
 # make wrong-bodies [CRATE=NAME]  tries the edits of crates/NAME/wrong-bodies/, which the gate leaves out
+# make interop      plays the program's station against Linux's X.25 in a guest; interop/README.md says what that needs
 # make clean removes what these made
 
-.PHONY: x25 demo test golden check-tools refused wrong-bodies clean kit
+.PHONY: x25 demo test golden check-tools refused wrong-bodies interop clean kit
 
 x25: build/x25
 
@@ -44,6 +45,10 @@ refused: build/x25
 
 wrong-bodies: kit
 	.ci/wrong_bodies $(CRATE)
+
+interop: build/x25
+	interop/build.sh build/interop
+	python3 interop/play.py build/interop
 
 clean:
 	rm -rf build crates/*/out

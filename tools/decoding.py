@@ -9,6 +9,7 @@ from x25lines import BadInput
 
 BUILT = os.path.join(os.path.dirname(os.path.dirname(os.path.abspath(__file__))), "build", "x25")
 MISSING = "frames in hexadecimal digits need the program x25: build it (make x25) or name it (--x25)"
+MISSING_STATION = "a station needs the program x25: build it (make x25) or name it (--x25)"
 # A line of `decode`, with a time and a tab before it where there is one.
 TEXT_LINE = re.compile(rb"(?:([0-9.]{1,30})\t)?([<>]) ((?:I|RR|RNR|REJ|SABM|DISC|UA|DM|FRMR|fault) [ -~]*)")
 

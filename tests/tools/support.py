@@ -19,6 +19,17 @@ PROGRAM = find_program()
 needs_program = unittest.skipUnless(PROGRAM, "the program x25 isn't built")
 
 
+def has_station():
+    """Whether the program is built, and has the word `station`: that writes a mark before it reads anything."""
+    if not PROGRAM:
+        return False
+    done = subprocess.run([PROGRAM, "station", "dte"], stdin=subprocess.DEVNULL, stdout=subprocess.PIPE, stderr=subprocess.DEVNULL, timeout=60)
+    return done.stdout.startswith(b". ")
+
+
+needs_station = unittest.skipUnless(has_station(), "the program has no word `station` yet" if PROGRAM else "the program x25 isn't built")
+
+
 def run(script, *words, given=b""):
     """Runs a script of tools/ on some octets; answers what it did: returncode, stdout, stderr."""
     command = [sys.executable, os.path.join(TOOLS, script), *words]

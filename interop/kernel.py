@@ -1,0 +1,88 @@
+"""Linux's X.25 in a guest: its console's lines, and how it is booted."""
+
+import re
+import signal
+import subprocess
+import threading
+import time
+
+# What the guest's frames go to and come from: datagrams, each a frame of Ethernet.
+NETWORK = "dgram,id=n0,local.type=inet,local.host=127.0.0.1,local.port={},remote.type=inet,remote.host=127.0.0.1,remote.port={}"
+# The firmware clears the screen, on the line of the guest's first word.
+ESCAPES = re.compile(r"\x1b(?:c|\[[?0-9;]*[A-Za-z])")
+
+
+class Talker:
+    """A program that is told lines and says lines."""
+
+    def __init__(self, name, command, is_shown):
+        self.name, self._is_shown = name, is_shown
+        self._child = subprocess.Popen(command, stdin=subprocess.PIPE, stdout=subprocess.PIPE, stderr=subprocess.STDOUT, text=True, errors="replace", bufsize=1)
+        self.said, self._has_ended = [], False
+        self._changed = threading.Condition()
+        self._thread = threading.Thread(target=self._listen, daemon=True)
+        self._thread.start()
+
+    def _listen(self):
+        for line in self._child.stdout:
+            line = ESCAPES.sub("", line).strip()
+            if self._is_shown:
+                print(f"{time.monotonic():.2f} {self.name}: {line[:120]}", flush=True)
+            with self._changed:
+                self.said.append(line)
+                self._changed.notify_all()
+        with self._changed:
+            self._has_ended = True
+            self._changed.notify_all()
+
+    def tell(self, line):
+        """Tells it a line."""
+        self._child.stdin.write(line + "\n")
+        self._child.stdin.flush()
+
+    def mark(self):
+        """A place in what it says: `hear` looks behind it."""
+        return len(self.said)
+
+    def hear(self, since, beginning, seconds, count=1):
+        """The lines behind a place that begin so, once there are so many; an error where they don't come."""
+        last = time.monotonic() + seconds
+        with self._changed:
+            while True:
+                found = [line for line in self.said[since:] if line.startswith(beginning)]
+                if len(found) >= count:
+                    return found
+                left = last - time.monotonic()
+                if left <= 0 or self._has_ended:
+                    raise Missing(f"{self.name} didn't say `{beginning}`" + (f" {count} times" if count > 1 else "") + f"; it said {[line[:60] for line in self.said[since:][-6:]]}")
+                self._changed.wait(left)
+
+    def stop(self):
+        """Has it end, as from the keyboard."""
+        self._child.send_signal(signal.SIGINT)
+        self.end(10)
+
+    def end(self, seconds):
+        """Waits for its end, and ends it where it doesn't end."""
+        try:
+            self._child.stdin.close()
+        except BrokenPipeError:
+            pass
+        try:
+            self._child.wait(seconds)
+        except subprocess.TimeoutExpired:
+            self._child.terminate()
+            self._child.wait()
+        self._thread.join()
+
+
+class Missing(Exception):
+    """Something that had to be said wasn't."""
+
+
+def booted(folder, local, remote, is_shown):
+    """A guest of the folder that build.sh made; its network is the port `local` of this host, and sends to `remote`."""
+    command = ["qemu-system-x86_64", "-M", "q35", "-accel", "tcg", "-m", "256", "-nographic", "-no-reboot"]
+    command += ["-kernel", f"{folder}/vmlinuz", "-initrd", f"{folder}/initrd.gz", "-append", "console=ttyS0 quiet loglevel=1 panic=-1"]
+    command += ["-netdev", NETWORK.format(local, remote), "-device", "e1000,netdev=n0", "-serial", "mon:stdio"]
+    return Talker("kernel", command, is_shown)

@@ -1,0 +1,162 @@
+"""Tests of bridge.py with the program's `station`: two bridges, each with a station, and what the users of both are told."""
+
+import os
+import re
+import shutil
+import socket
+import subprocess
+import sys
+import threading
+import unittest
+
+import support
+from support import ToolCase
+
+CALL = "dte call 123 4567 41"
+ANSWER = "wait dce incoming\ndce accept 1\n"
+OPENING = f"dte connect\nwait dte restarted\n{CALL}\nwait dte connected\n"
+SECONDS = 240
+
+
+def free_ports(count):
+    """Numbers of ports for datagrams that nobody has."""
+    sockets = [socket.socket(socket.AF_INET, socket.SOCK_DGRAM) for _ in range(count)]
+    for each in sockets:
+        each.bind(("127.0.0.1", 0))
+    ports = [each.getsockname()[1] for each in sockets]
+    for each in sockets:
+        each.close()
+    return ports
+
+
+def message(end, number):
+    """The octets of a message: each is another one; now and then it takes several packets."""
+    return f"{end}{number:04d}".encode().hex() * (60 if number % 40 == 7 else 1)
+
+
+def messages(notices):
+    """What was handed up, in order."""
+    return [found[1] for notice in notices if (found := re.fullmatch(r"\w+ message ch=1 at 1\.0\.0 q=0 data=(\w+)", notice))]
+
+
+@support.needs_station
+class Two(ToolCase):
+    def begin(self, end, *words, prefix=()):
+        command = [*prefix, sys.executable, os.path.join(support.TOOLS, "bridge.py"), end, "--x25", support.PROGRAM, *words]
+        child = subprocess.Popen(command, stdin=subprocess.PIPE, stdout=subprocess.PIPE, stderr=subprocess.PIPE, text=True)
+        self.addCleanup(child.kill)
+        return child
+
+    def listening(self, *words):
+        """A bridge of the DCE that listens, and the words for one that calls it."""
+        dce = self.begin("dce", "--listen", "0", *words)
+        return dce, ["--connect", "127.0.0.1:" + dce.stderr.readline().rsplit(":", 1)[1].strip()]
+
+    def play(self, dte, dce, commands, answers=ANSWER):
+        """Gives both their commands; answers the notices of both, and what both said."""
+        results = {}
+
+        def talk(name, child, text):
+            results[name] = child.communicate(text, timeout=SECONDS)
+
+        threads = [threading.Thread(target=talk, args=row) for row in (("dte", dte, commands), ("dce", dce, answers))]
+        for thread in threads:
+            thread.start()
+        for thread in threads:
+            thread.join()
+        told = {name: out.splitlines() for name, (out, _) in results.items()}
+        said = {name: text for name, (_, text) in results.items()}
+        self.assertEqual((dte.returncode, dce.returncode), (0, 0), said)
+        return told["dte"], told["dce"], said
+
+    def assert_call(self, told_dte, told_dce):
+        """The call of the README was made and a message went."""
+        self.assertEqual(told_dte[-3:], ["dte call ch=1 at 1.0.0 called=123 calling=4567 data=41", "dte connected ch=1", "dte send ch=1 at 1.0.0 q=0 data=6869"])
+        self.assertEqual(told_dce[-3:], ["dce incoming ch=1 at 1.0.0 called=123 calling=4567 data=41", "dce accept ch=1", "dce message ch=1 at 1.0.0 q=0 data=6869"])
+
+    def test_a_call_over_tcp(self):
+        trace = os.path.join(self.folder, "trace")
+        dce, words = self.listening("--t1", "2", "--quiet", "1")
+        told_dte, told_dce, _ = self.play(self.begin("dte", *words, "--t1", "2", "--quiet", "0.5", "--trace", trace), dce, OPENING + "dte send 1 0 6869\n")
+        self.assert_call(told_dte, told_dce)
+        with open(trace, "rb") as file:
+            rows = file.read().splitlines()
+        # What stands in the trace is read without fault.
+        decoded = support.decode(b"".join(row.split(b"\t")[1] + b"\n" for row in rows))
+        self.assertIn("> I cmd P=0 S=1 R=1 | CALL ch=1 called=123 calling=4567 fac=- data=41", decoded)
+        self.assertEqual([text for text in decoded if "fault" in text], [])
+
+    def test_a_call_over_datagrams(self):
+        one, other = free_ports(2)
+        dce = self.begin("dce", "--udp", f"{one}:{other}", "--t1", "1", "--quiet", "3")
+        told_dte, told_dce, _ = self.play(self.begin("dte", "--udp", f"{other}:{one}", "--t1", "1", "--quiet", "1"), dce, OPENING + "dte send 1 0 6869\n")
+        self.assert_call(told_dte, told_dce)
+
+    def by_files(self, end, commands):
+        """Words that have commands come from a file and notices go to another, and the path of that."""
+        paths = [os.path.join(self.folder, f"{end}.{name}") for name in ("commands", "told")]
+        with open(paths[0], "w") as file:
+            file.write(commands)
+        return ["--commands", paths[0], "--notices", paths[1]], paths[1]
+
+    def told(self, path):
+        return support.read(path).decode().splitlines()
+
+    def test_a_call_over_pipes(self):
+        (from_dce, to_dte), (from_dte, to_dce) = os.pipe(), os.pipe()
+        dce_files, dce_told = self.by_files("dce", ANSWER)
+        dte_files, dte_told = self.by_files("dte", OPENING + "dte send 1 0 6869\n")
+        both = []
+        for end, reader, writer, words in (("dce", from_dte, to_dte, ["--quiet", "2", *dce_files]), ("dte", from_dce, to_dce, dte_files)):
+            command = [sys.executable, os.path.join(support.TOOLS, "bridge.py"), end, "--stdio", "--t1", "1", "--x25", support.PROGRAM, *words]
+            both.append(subprocess.Popen(command, stdin=reader, stdout=writer, stderr=subprocess.PIPE))
+            self.addCleanup(both[-1].kill)
+        for number in (from_dce, to_dte, from_dte, to_dce):
+            os.close(number)
+        for child in both:
+            self.assertEqual((child.communicate(timeout=SECONDS)[1], child.returncode), (b"", 0))
+        self.assert_call(self.told(dte_told), self.told(dce_told))
+
+    @unittest.skipUnless(os.geteuid() == 0 and shutil.which("ip") and shutil.which("unshare"), "only root makes interfaces of Ethernet, by ip and unshare")
+    def test_a_call_over_ethernet(self):
+        script = "ip link add x0 type veth peer name x1 && ip link set x0 up && ip link set x1 up && "
+        bridge = f"{sys.executable} {os.path.join(support.TOOLS, 'bridge.py')} --x25 {support.PROGRAM} --t1 1"
+        dce_files, dce_told = self.by_files("dce", ANSWER)
+        dte_files, dte_told = self.by_files("dte", OPENING + "dte send 1 0 6869\n")
+        script += f"{{ {bridge} --ethernet x0 --quiet 3 {' '.join(dce_files)} dce & {bridge} --ethernet x1 {' '.join(dte_files)} dte; wait; }}"
+        done = subprocess.run(["unshare", "-n", "sh", "-c", script], capture_output=True, timeout=SECONDS)
+        self.assertEqual((done.returncode, done.stderr), (0, b""))
+        self.assert_call(self.told(dte_told), self.told(dce_told))
+
+    def test_a_command_that_is_refused(self):
+        dce, words = self.listening("--t1", "1", "--quiet", "1")
+        dte = self.begin("dte", *words, "--t1", "1", "--quiet", "0.3")
+        dce.stdin.close()
+        out, said = dte.communicate("dte call 1 2 -\n", timeout=SECONDS)
+        self.assertEqual((dte.returncode, out), (1, "! 9\n"), said)
+        dce.stdout.close()
+        dce.stderr.close()
+        dce.wait(SECONDS)
+
+    def thousand(self, *words):
+        """Joins two by TCP, and sends 1,000 messages each way; answers what both said at the end."""
+        sent = {end: [message(end, number) for number in range(1000)] for end in ("dte", "dce")}
+        sends = {end: "".join(f"{end} send 1 0 {octets}\n" for octets in sent[end]) for end in sent}
+        dce, line = self.listening("--t1", "0.1", "--quiet", "5", "--n2", "200", "--stats", *words)
+        dte = self.begin("dte", *line, "--t1", "0.1", "--quiet", "5", "--n2", "200", "--stats", *words)
+        told_dte, told_dce, said = self.play(dte, dce, OPENING + sends["dte"], ANSWER + sends["dce"])
+        self.assertEqual(messages(told_dce), sent["dte"])
+        self.assertEqual(messages(told_dte), sent["dce"])
+        return said
+
+    def test_a_thousand_messages_each_way(self):
+        self.assertIn("0 + 0 lost, 0 + 0 damaged", self.thousand()["dte"])
+
+    def test_a_thousand_messages_each_way_over_losses(self):
+        for name, text in self.thousand("--lose", "0.03", "--damage", "0.02", "--seed", "7").items():
+            counts = [int(number) for number in re.search(r"(\d+) \+ (\d+) lost, (\d+) \+ (\d+) damaged", text).groups()]
+            self.assertTrue(all(count > 10 for count in counts), (name, text))
+
+
+if __name__ == "__main__":
+    unittest.main()
