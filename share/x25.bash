@@ -4,7 +4,7 @@ _x25() {
     local word=${COMP_WORDS[COMP_CWORD]} before=${COMP_WORDS[COMP_CWORD - 1]} words=
     COMPREPLY=()
     if ((COMP_CWORD == 1)); then
-        words="decode vectors sim station help --help"
+        words="decode vectors sim station help --help --version"
     else
         case ${COMP_WORDS[1]}:$before in
             sim:--k | station:--k) words="1 2 3 4 5 6 7" ;;

@@ -48,6 +48,7 @@ class Page(ToolCase):
 class Completion(unittest.TestCase):
     def test_words(self):
         self.assertEqual(complete("de"), ["decode"])
+        self.assertEqual(complete("--"), ["--help", "--version"])
         self.assertEqual(complete("decode", "--l"), ["--long"])
         self.assertEqual(complete("sim", "--tap", "--k", ""), list("1234567"))
         self.assertEqual(complete("station", "d"), ["dte", "dce"])
@@ -59,7 +60,7 @@ class Completion(unittest.TestCase):
         for words in ([], ["decode"], ["sim"], ["station", "dte"], ["vectors"]):
             done = subprocess.run([support.PROGRAM, *words, "--help"], capture_output=True, text=True, timeout=60)
             usage = done.stdout + done.stderr
-            said = set(re.findall(r"^  (?:    |-h, )?(--\w+)", usage, re.MULTILINE)) | set(re.findall(r"^  (\w+)  ", usage, re.MULTILINE) if not words else [])
+            said = set(re.findall(r"^  (?:    |-[hV], )?(--\w+)", usage, re.MULTILINE)) | set(re.findall(r"^  (\w+)  ", usage, re.MULTILINE) if not words else [])
             self.assertTrue(said)
             self.assertEqual(set(complete(*words, "")) | set(complete(*words, "--")), said, words)
 

@@ -27,6 +27,21 @@ class Program(unittest.TestCase):
             self.assertEqual(self.run_on(["decode"], input=b"> 013febdf\n", stdout=full), (3, b"write failed\n"))
             self.assertEqual(self.run_on(["vectors"], input=b"", stdout=full), (3, b"write failed\n"))
 
+    def test_a_write_that_nobody_reads(self):
+        for words, lines in (["decode"], b"> 013febdf\n"), (["sim"], b"drain 9\n"), (["vectors"], b""), (["--help"], b""), (["--version"], b""):
+            with self.subTest(words):
+                left, right = os.pipe()
+                os.close(left)
+                with open(right, "wb") as unread:
+                    self.assertEqual(self.run_on(words, input=lines, stdout=unread), (3, b""))
+
+    def test_head_takes_a_line_of_an_endless_answer(self):
+        for words, line, first in ("decode", "> 013febdf", b"> SABM cmd P=1\n"), ("sim --down", "x", b"? 60\n"):
+            with self.subTest(words):
+                script = f'yes "$1" | "$0" {words} | head -1; echo "${{PIPESTATUS[1]}}"'
+                done = subprocess.run(["bash", "-c", script, support.PROGRAM, line], capture_output=True, timeout=60)
+                self.assertEqual((done.stdout, done.stderr), (first + b"3\n", b""))
+
     def test_a_read_that_fails(self):
         folder = os.open("/", os.O_RDONLY)
         self.addCleanup(os.close, folder)

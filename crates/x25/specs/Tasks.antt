@@ -1,5 +1,6 @@
 -- What the program writes for a task, and the status that it ends with (profile).
-use Rattle.std.specs.Prelude.{ℕ, List, if◌then◌else◌, Option}
+use Rattle.std.specs.Prelude.{◌≡◌, ◌≤◌, ◌<◌, ◌-◌, ◌^◌, ◌⊎◌, ⊤, ℕ, Bool, true, false, List, length, if◌then◌else◌, Option, IfSome}
+use Rattle.std.specs.Io.KnownBytes.{Appends}
 use Rattle.x25_bits.specs.declared.role.Role.{Role}
 use Rattle.x25_bits.specs.declared.role.Role.TheVariants as role
 use Rattle.x25_pipe.specs.Piped.{piped, station_text, station_status}
@@ -7,6 +8,7 @@ use Rattle.x25_pipe.specs.Stream as pipe
 use Rattle.x25_program.specs.Decoded as decode
 use Rattle.x25_program.specs.Stream as decoder
 use Rattle.x25_program.specs.Vectors.{verdicts, are_right}
+use Rattle.x25_program.specs.Written.{AppendsBeginning}
 use Rattle.x25_settings.specs.declared.options.End.{End}
 use Rattle.x25_settings.specs.declared.options.End.TheVariants.{Dte, Dce}
 use Rattle.x25_settings.specs.declared.options.Place.{Place}
@@ -17,6 +19,9 @@ use Rattle.x25_station.specs.declared.config.Cfg.{Cfg}
 use Rattle.x25_station.specs.Settings.{settings_from}
 use Rattle.x25_sim.specs.Simulated.{simulated, sim_text, sim_status}
 use Rattle.x25_sim.specs.Stream as simulator
+use Rattle.x25_sim.specs.WritesRun as written
+use Rattle.x25_world.specs.Claims.{IsUpOnce}
+use Rattle.x25_world.specs.World.{World}
 
 -- the settings of both stations
 abbrev pub settings_in : Simulation → Cfg
@@ -71,3 +76,44 @@ WritesEnded (Decode long) old now rest input = decoder.WritesEnded long old now 
 WritesEnded Vectors old now rest input = ⊥
 WritesEnded (Sim s) old now rest input = WritesEndedScript s old now rest input
 WritesEnded (Station p) old now rest input = WritesEndedLines p old now rest input
+
+-- What was written for a script, behind `old`, is the transcript of a run of two stations, and with `--tap` its frames; of these stations this
+-- holds: ..
+abbrev pub WritesScript : (Cfg → World → Type 0) → Simulation → List ℕ → Option (List ℕ) → Option (List ℕ) → Type 0
+WritesScript Holds s script old now = written.Writes Holds (settings_in s) s.down s.tap script old now
+
+-- .. as long as neither end goes up a second time, ..
+abbrev pub WritesScriptOnce : (Cfg → World → Type 0) → Simulation → List ℕ → Option (List ℕ) → Option (List ℕ) → Type 0
+WritesScriptOnce Holds s script old now = written.WritesOnce Holds (settings_in s) s.down s.tap script old now
+
+-- .. of a script that begins with the link set up.
+abbrev pub WritesScriptSetUp : (Cfg → World → Type 0) → Simulation → List ℕ → Option (List ℕ) → Option (List ℕ) → Type 0
+WritesScriptSetUp Holds s script old now = s.down ≡ false → IsUpOnce (settings_in s) (simulated (settings_in s) s.down s.tap script).next
+    → WritesScript Holds s script old now
+
+-- of a task that runs a script; of the others nothing is said
+abbrev pub OfScript : (Simulation → List ℕ → Option (List ℕ) → Option (List ℕ) → Type 0) → Task → List ℕ → Option (List ℕ) → Option (List ℕ) → Type 0
+OfScript Holds (Decode long) script old now = ⊤
+OfScript Holds Vectors script old now = ⊤
+OfScript Holds (Sim s) script old now = Holds s script old now
+OfScript Holds (Station p) script old now = ⊤
+
+-- a task that asks for memory before it reads and writes alone
+abbrev pub is_plain : Task → Bool
+is_plain (Decode long) = true
+is_plain Vectors = true
+is_plain (Sim s) = false
+is_plain (Station p) = false
+
+-- How a run ends. Either the task is done: the status is its own, 0 or 1, and what is written its text of all that was read ..
+abbrev pub IsDone : Task → ℕ → Option (List ℕ) → Option (List ℕ) → Option (List ℕ) → Type 0
+IsDone task status input old now = (status ≤ 1) × IfSome input (λ input. length input < 2 ^ 64 - 1
+    → (status ≡ task_status task input) × Appends old now (task_text task input))
+
+-- .. or a fault ended it: the status is 3, and what is written a beginning of that text.
+abbrev pub IsCutShort : Task → ℕ → Option (List ℕ) → Option (List ℕ) → Option (List ℕ) → Type 0
+IsCutShort task status input old now = (status ≡ 3) × IfSome input (λ input. length input < 2 ^ 64 - 1
+    → AppendsBeginning old now (task_text task input))
+
+abbrev pub Ends : Task → ℕ → Option (List ℕ) → Option (List ℕ) → Option (List ℕ) → Type 0
+Ends task status input old now = IsDone task status input old now ⊎ IsCutShort task status input old now

@@ -5,54 +5,66 @@
 #![tactic(auto)]
 
 ghost use Rattle.clap.specs.Values.{kind_of};
-ghost use Rattle.std.specs.Prelude.{◌≡◌, ◌⊎◌, IfOk, OnErr};
+ghost use Rattle.std.specs.Prelude.{◌≡◌, ◌≤◌, ◌⊎◌, IfOk, OnErr, map};
 ghost use Rattle.x25.specs.Shown.{IsShown};
-ghost use Rattle.x25_settings.specs.Words.{AreInRange};
+ghost use Rattle.x25.specs.Tasks.{Ends};
+ghost use Rattle.x25_settings.specs.Words.{AreInRange, Say};
+ghost use Rattle.x25_settings.specs.declared.words.Task.{Task as TaskValue};
 
+mod output;
 mod tasks;
 
-use std::io::ErrorKind;
+use output::{Output, is_unread};
+use std::convert::AsStr;
+use std::io::{ErrorKind, Write};
 use std::process::ExitCode;
 use std::rt::Env;
 use std::{env, io};
 use tasks::perform;
-use x25_program::{Device, Fault, exit_status};
+use x25_program::{Device, Fault, Source, exit_status};
 use x25_settings::{SettingsError, Task, settings};
 
 /// The exit status of a usage fault.
 const USAGE: u8 = 2;
 
 /// Tells a fault on standard error, and answers its exit status. Where standard error fails too, nothing is told.
-fn report<R: Eprint>(rt: &R, fault: Fault) -> u8
+fn report<E: Eprint>(rt: &E, fault: Fault) -> u8
     ensures { result ≡ 3 }
 {
     eprintln!(rt; "{fault}").ok();
     exit_status(&Err(fault))
 }
 
-/// The exit status of a run. A fault is told on standard error.
-fn conclude<R: Eprint>(rt: &R, run: Result<u8, Fault>) -> u8
+/// The exit status of a run. A fault is told on standard error, but where nobody reads any more what is written.
+fn conclude<E: Eprint>(rt: &E, run: Result<u8, Fault>, is_closed: bool) -> u8
     ensures answered { IfOk run (λ status. result ≡ status) }
     ensures fault { OnErr run (result ≡ 3) }
 {
     match run {
         Ok(_) => exit_status(&run),
+        Err(_) if is_closed => exit_status(&run),
         Err(fault) => report(rt, fault),
     }
 }
 
-fn run<R: Input + Print + Eprint + AllocGlobal>(rt: &R, task: Task) -> u8
+/// Does a task, and answers the exit status: the task's, or 3 at a fault.
+fn run<E: Eprint + AllocGlobal, R: Source, W: Write>(
+    rt: &E,
+    task: Task,
+    reader: &mut R,
+    writer: &mut Output<W>,
+) -> u8
     requires { AreInRange task }
+    ensures { Ends task result (R.remaining reader.old) (W.contents writer.old.writer) (W.contents writer.new.writer) }
 {
-    let mut reader = Device::new(rt.reader());
-    let mut writer = Device::new(io::writer(rt));
-    let result = perform(rt.alloc(), task, &mut reader, &mut writer);
-    conclude(rt, result)
+    let result = perform(rt.alloc(), task, reader, writer);
+    conclude(rt, result, writer.is_closed())
 }
 
 /// Tells the parser's text, and answers the exit status: help and the version go to standard output with 0, and why other
 /// words aren't plain to standard error with 2. Profile.
-fn tell<R: Print + Eprint>(rt: &R, error: clap::Error) -> u8
+fn tell<E: Print + Eprint>(rt: &E, error: clap::Error) -> u8
+    ensures range { (result ≡ 0) ⊎ (result ≡ 2) ⊎ (result ≡ 3) }
     ensures asked { IsShown (kind_of error) → (result ≡ 0) ⊎ (result ≡ 3) }
     ensures usage { ¬ IsShown (kind_of error) → result ≡ 2 }
 {
@@ -62,20 +74,36 @@ fn tell<R: Print + Eprint>(rt: &R, error: clap::Error) -> u8
     }
     match rt.print(&error) {
         Ok(()) => 0,
-        Err(_) => report(rt, Fault::Write),
+        Err(failed) => conclude(rt, Err(Fault::Write), is_unread(&failed)),
     }
 }
 
-fn start<R: Input + Print + Eprint + AllocGlobal>(rt: &R, words: &[String]) -> u8 {
+/// Does what the words behind the program's name ask for, and answers the exit status.
+fn start<E: Print + Eprint + AllocGlobal, R: Source, W: Write, S: AsStr>(
+    rt: &E,
+    words: &[S],
+    reader: &mut R,
+    writer: &mut Output<W>,
+) -> u8
+    ensures range { result ≤ 3 }
+    // Plain words have their task done.
+    ensures plain { (task : TaskValue) → Say (map S.text words.now) task
+        → Ends task result (R.remaining reader.old) (W.contents writer.old.writer) (W.contents writer.new.writer) }
+    // For others nothing is read, nothing but the parser's text is written, and no status is a task's 1.
+    ensures other { ((task : TaskValue) → ¬ Say (map S.text words.now) task) → (result ≡ 0) ⊎ (result ≡ 2) ⊎ (result ≡ 3) }
+    ensures untouched { ((task : TaskValue) → ¬ Say (map S.text words.now) task) → (reader.new ≡ reader.old) × (writer.new ≡ writer.old) }
+{
     match settings(rt.alloc(), words) {
-        Ok(task) => run(rt, task),
+        Ok(task) => run(rt, task, reader, writer),
         Err(SettingsError::NoMemory) => report(rt, Fault::NoMemory),
         Err(SettingsError::Usage(error)) => tell(rt, error),
     }
 }
 
 /// Does what the words of the command line ask for, and answers the exit status.
-fn answer<R: Input + Print + Eprint + Env + AllocGlobal>(rt: &R) -> u8 {
+fn answer<R: Input + Print + Eprint + Env + AllocGlobal>(rt: &R) -> u8
+    ensures { result ≤ 3 }
+{
     let words = match env::args(rt) {
         Ok(words) => words,
         Err(error) if error.kind() == ErrorKind::OutOfMemory => {
@@ -89,7 +117,9 @@ fn answer<R: Input + Print + Eprint + Env + AllocGlobal>(rt: &R) -> u8 {
     let Ok(words) = words.skip(1).collect::<Vec<String>>(rt.alloc()) else {
         return report(rt, Fault::NoMemory);
     };
-    start(rt, words.as_slice())
+    let mut reader = Device::new(rt.reader());
+    let mut writer = Output::new(io::writer(rt));
+    start(rt, words.as_slice(), &mut reader, &mut writer)
 }
 
 fn main(rt: HostRuntime) -> ExitCode {

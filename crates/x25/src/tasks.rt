@@ -1,10 +1,12 @@
 //! What each task does, over any reader and writer.
 ghost use Rattle.std.specs.Prelude.{◌≡◌, ◌≤◌, ◌<◌, ◌-◌, ◌^◌, ℕ, true, List, Some, IfOk, OnOk, OnErr, IfSome, IsErrOf, length};
 ghost use Rattle.std.specs.Io.KnownBytes.{Appends};
-ghost use Rattle.x25.specs.Tasks.{WritesEnded, WritesEndedLines, WritesEndedScript, cfg_in, lines_status, lines_text, role_in, script_status, script_text, settings_in, task_status, task_text};
+ghost use Rattle.x25.specs.Tasks.{OfScript, WritesEnded, WritesEndedLines, WritesEndedScript, WritesScript, WritesScriptOnce, WritesScriptSetUp, cfg_in, is_plain, lines_status, lines_text, role_in, script_status, script_text, settings_in, task_status, task_text};
 ghost use Rattle.x25_program.specs.Written.{AppendsBeginning};
 ghost use Rattle.x25_settings.specs.Simulation as options;
 ghost use Rattle.x25_settings.specs.Words.{AreInRange};
+ghost use Rattle.x25_world.specs.Claims.{ArrivesAll, HasNoProcedureError, IsInWindow, IsLawful, IsNamed};
+ghost use Rattle.x25_world.specs.SessionClaims.{SessionsKeepOrder};
 
 use std::alloc::Global;
 use x25_pipe::{Role, station};
@@ -86,6 +88,23 @@ fn simulate<R: Source, W: Sink>(
         → Appends (W.contents writer.old) (W.contents writer.new) (script_text simulation script))) }
     ensures status { IfOk result (λ status. IfSome (R.remaining reader.old) (λ script. length script < 2 ^ 64 - 1
         → status ≡ script_status simulation script)) }
+
+    // What is written for a script is the transcript of a run of two stations, of which the claims hold: as long as neither end goes up
+    // a second time, `window` of a script that begins with the link set up, ..
+    ensures lawful { OnOk result (IfSome (R.remaining reader.old) (λ script. length script < 2 ^ 64 - 1
+        → WritesScriptOnce IsLawful simulation script (W.contents writer.old) (W.contents writer.new))) }
+    ensures named { OnOk result (IfSome (R.remaining reader.old) (λ script. length script < 2 ^ 64 - 1
+        → WritesScriptOnce IsNamed simulation script (W.contents writer.old) (W.contents writer.new))) }
+    ensures arrives { OnOk result (IfSome (R.remaining reader.old) (λ script. length script < 2 ^ 64 - 1
+        → WritesScriptOnce ArrivesAll simulation script (W.contents writer.old) (W.contents writer.new))) }
+    ensures quiet { OnOk result (IfSome (R.remaining reader.old) (λ script. length script < 2 ^ 64 - 1
+        → WritesScriptOnce HasNoProcedureError simulation script (W.contents writer.old) (W.contents writer.new))) }
+    ensures window { OnOk result (IfSome (R.remaining reader.old) (λ script. length script < 2 ^ 64 - 1
+        → WritesScriptSetUp IsInWindow simulation script (W.contents writer.old) (W.contents writer.new))) }
+    // .. and of every script those on sessions.
+    ensures sessions { OnOk result (IfSome (R.remaining reader.old) (λ script. length script < 2 ^ 64 - 1
+        → WritesScript SessionsKeepOrder simulation script (W.contents writer.old) (W.contents writer.new))) }
+
     ensures fault { OnErr result (IfSome (R.remaining reader.old) (λ script. length script < 2 ^ 64 - 1
         → AppendsBeginning (W.contents writer.old) (W.contents writer.new) (script_text simulation script))) }
     ensures ended { IsErrOf result Fault.Read → IfSome (R.remaining reader.old) (λ script.
@@ -116,6 +135,22 @@ pub(crate) fn perform<R: Source, W: Sink>(
     ensures status { IfOk result (λ status. IfSome (R.remaining reader.old) (λ input. length input < 2 ^ 64 - 1
         → status ≡ task_status task input)) }
 
+    // What is written for a script is the transcript of a run of two stations, of which the claims hold: as long as neither end goes up
+    // a second time, `window` of a script that begins with the link set up, ..
+    ensures lawful { OnOk result (IfSome (R.remaining reader.old) (λ script. length script < 2 ^ 64 - 1
+        → OfScript (WritesScriptOnce IsLawful) task script (W.contents writer.old) (W.contents writer.new))) }
+    ensures named { OnOk result (IfSome (R.remaining reader.old) (λ script. length script < 2 ^ 64 - 1
+        → OfScript (WritesScriptOnce IsNamed) task script (W.contents writer.old) (W.contents writer.new))) }
+    ensures arrives { OnOk result (IfSome (R.remaining reader.old) (λ script. length script < 2 ^ 64 - 1
+        → OfScript (WritesScriptOnce ArrivesAll) task script (W.contents writer.old) (W.contents writer.new))) }
+    ensures quiet { OnOk result (IfSome (R.remaining reader.old) (λ script. length script < 2 ^ 64 - 1
+        → OfScript (WritesScriptOnce HasNoProcedureError) task script (W.contents writer.old) (W.contents writer.new))) }
+    ensures window { OnOk result (IfSome (R.remaining reader.old) (λ script. length script < 2 ^ 64 - 1
+        → OfScript (WritesScriptSetUp IsInWindow) task script (W.contents writer.old) (W.contents writer.new))) }
+    // .. and of every script those on sessions.
+    ensures sessions { OnOk result (IfSome (R.remaining reader.old) (λ script. length script < 2 ^ 64 - 1
+        → OfScript (WritesScript SessionsKeepOrder) task script (W.contents writer.old) (W.contents writer.new))) }
+
     // What was written before a fault is a beginning of it.
     ensures fault { OnErr result (IfSome (R.remaining reader.old) (λ input. length input < 2 ^ 64 - 1
         → AppendsBeginning (W.contents writer.old) (W.contents writer.new) (task_text task input))) }
@@ -128,6 +163,8 @@ pub(crate) fn perform<R: Source, W: Sink>(
     ensures write { IsErrOf result Fault.Write → W.is_marked writer.new ≡ true }
     // Nor did any where want of memory is answered.
     ensures memory { IsErrOf result Fault.NoMemory → (R.is_marked reader.new ≡ R.is_marked reader.old) × (W.is_marked writer.new ≡ W.is_marked writer.old) }
+    // Of `decode` and `vectors` it is answered with nothing read and nothing written.
+    ensures untouched { IsErrOf result Fault.NoMemory → is_plain task ≡ true → (reader.new ≡ reader.old) × (writer.new ≡ writer.old) }
     ensures unread { task ≡ Task.Vectors → reader.new ≡ reader.old }
 {
     match task {
