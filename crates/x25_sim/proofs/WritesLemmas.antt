@@ -5,8 +5,9 @@ use Rattle.std.specs.Io.KnownBytes.{Appends}
 use Rattle.x25_station.specs.declared.config.Cfg.{Cfg}
 use Rattle.x25_station.specs.Settings.{config_refusal}
 use Rattle.x25_world.specs.World.{World}
-use Rattle.x25_world.specs.Claims.{IsUpOnce, HasNoProcedureError}
+use Rattle.x25_world.specs.Claims.{HasNoProcedureError}
 use Rattle.x25_world.specs.SessionClaims.{MeetInStep, AreLawfulWhereMet, AreNamedInSessions, AllArrive, UnmetAreToldNothing, OpenStretchesMeet, SessionsKeepOrder}
+use Rattle.x25_world.specs.SessionWindow.{UpIsInWindow}
 use Rattle.x25_sim.specs.Sayings.{sayings_text}
 use Rattle.x25_sim.specs.Simulated.{simulated, sim_text}
 use Rattle.x25_sim.specs.RunLaw.{frames_in, OfScripts, OfScriptsSetUp, OfAllScripts, ScriptsAreTold, ScriptsAreTapped}
@@ -49,8 +50,8 @@ module _ (cfg : Cfg) (fine : config_refusal cfg ≡ None) (down tap : Bool) (old
   written_in_sessions law h = by_script _ _ script_left (λ script text. writes SessionsKeepOrder cfg down tap script old now told taps text (law cfg fine down tap script)) h
 
 pub all_of_scripts : OfAllScripts MeetInStep → OfAllScripts AreLawfulWhereMet → OfAllScripts AreNamedInSessions → OfAllScripts AllArrive → OfAllScripts UnmetAreToldNothing → OfAllScripts OpenStretchesMeet
-    → OfAllScripts HasNoProcedureError → OfAllScripts SessionsKeepOrder
-all_of_scripts step lawful named arrives unmet stand quiet cfg fine down tap script = record {
+    → OfAllScripts HasNoProcedureError → OfAllScripts UpIsInWindow → OfAllScripts SessionsKeepOrder
+all_of_scripts step lawful named arrives unmet stand quiet window cfg fine down tap script = record {
   step = step cfg fine down tap script;
   lawful = lawful cfg fine down tap script;
   named = named cfg fine down tap script;
@@ -58,4 +59,5 @@ all_of_scripts step lawful named arrives unmet stand quiet cfg fine down tap scr
   unmet = unmet cfg fine down tap script;
   stand = stand cfg fine down tap script;
   quiet = quiet cfg fine down tap script;
+  window = window cfg fine down tap script;
 }

@@ -2,6 +2,7 @@
 //! does nothing.
 ghost use Rattle.x25_world.specs.Claims.{ArrivesAll, HasNoProcedureError, IsInWindow, IsLawful, IsNamed};
 ghost use Rattle.x25_world.specs.SessionClaims.{AllArrive, AreLawfulWhereMet, AreNamedInSessions, MeetInStep, OpenStretchesMeet, UnmetAreToldNothing};
+ghost use Rattle.x25_world.specs.SessionWindow.{UpIsInWindow};
 ghost use Rattle.x25_sim.specs.RunLaw.{OfAllScripts, OfScripts, OfScriptsSetUp, ScriptsAreRuns, ScriptsAreTapped, ScriptsAreTold, UpOnceUnlessAsked};
 ghost use Rattle.x25_sim.specs.ScriptRows.{BothEndsGoDown, CallsCollide, DamageIsSeen, FramesAreWritten, LinkGoesDown, LinkIsSetUp, LinkIsSetUpAgain, LinksComeUp, LostUaComesAgain, MessagesArrive, OtherLinesAreRefused, ResetIsDone, RestartIsDone};
 
@@ -49,6 +50,7 @@ pub fn scripts_meet_in_sessions()
     ensures unmet { OfAllScripts UnmetAreToldNothing }
     ensures stand { OfAllScripts OpenStretchesMeet }
     ensures quiet { OfAllScripts HasNoProcedureError }
+    ensures window { OfAllScripts UpIsInWindow }
 {
     scripts_are_runs();
     stations_meet_in_sessions();

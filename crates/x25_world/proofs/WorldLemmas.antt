@@ -21,6 +21,7 @@ use Rattle.x25_world.specs.World.{World, swapped, Event, Act, Commands, Receives
 use Rattle.x25_world.specs.Claims.{ActsInOctets, AreInOctets, entries_at, ups_in, IsUpOnce, IsUpAtMostOnce, IsBeginning, NoneConnects, SetsUpOnce, UpOnceUnlessConnected, Always, UntilSecondUp, HasNoProcedureError}
 use Rattle.x25_world.proofs.Established.{connected_tells}
 use Rattle.x25_world.specs.SessionClaims.{Throughout, MeetInStep, AreLawfulWhereMet, AreNamedInSessions, AllArrive, UnmetAreToldNothing, OpenStretchesMeet, SessionsKeepOrder}
+use Rattle.x25_world.specs.SessionWindow.{UpIsInWindow}
 use Rattle.x25_world.specs.ShownWorld.{ShownWorld, ShownSide}
 use Rattle.x25_world.specs.FitsWorld.{Gone, nothing_gone, FitsWorld, FitsRun, Leaves, with_gone, and_then, FitsSide, HasHappened, IsRefusal, StopsAt, RefusesConfig}
 
@@ -228,8 +229,9 @@ pub new_run : (cfg : Cfg) (from : World) (v : ShownWorld) → config_refusal cfg
 new_run cfg from v fine fits = record { settings = fine; octets = tt; accepted = tt; fits = fits }
 
 -- the claims on sessions together
-pub all_of_sessions : Throughout MeetInStep → Throughout AreLawfulWhereMet → Throughout AreNamedInSessions → Throughout AllArrive → Throughout UnmetAreToldNothing → Throughout OpenStretchesMeet → Throughout HasNoProcedureError → Throughout SessionsKeepOrder
-all_of_sessions step lawful named arrives unmet stand quiet cfg fine from begins events octets = record {
+pub all_of_sessions : Throughout MeetInStep → Throughout AreLawfulWhereMet → Throughout AreNamedInSessions → Throughout AllArrive → Throughout UnmetAreToldNothing → Throughout OpenStretchesMeet → Throughout HasNoProcedureError → Throughout UpIsInWindow
+    → Throughout SessionsKeepOrder
+all_of_sessions step lawful named arrives unmet stand quiet window cfg fine from begins events octets = record {
   step = step cfg fine from begins events octets;
   lawful = lawful cfg fine from begins events octets;
   named = named cfg fine from begins events octets;
@@ -237,6 +239,7 @@ all_of_sessions step lawful named arrives unmet stand quiet cfg fine from begins
   unmet = unmet cfg fine from begins events octets;
   stand = stand cfg fine from begins events octets;
   quiet = quiet cfg fine from begins events octets;
+  window = window cfg fine from begins events octets;
 }
 
 pub up_once_after : (v : ShownWorld) (cfg : Cfg) (events : List Event) (gone : Gone) → UpOnceUnlessConnected → FitsRun cfg (established cfg) v events gone → NoneConnects cfg events (established cfg) → Leaves IsUpOnce cfg (established cfg) v events gone

@@ -14,6 +14,7 @@ use Rattle.x25_station.specs.Told.{is_idle, stretch}
 use Rattle.x25_world.specs.World.{World, Event, run}
 use Rattle.x25_world.specs.Claims.{AreInOctets, IsBeginning, HasNoProcedureError, station_at}
 use Rattle.x25_world.specs.Sessions.{session_at, last_session, handed_in, meets}
+use Rattle.x25_world.specs.SessionWindow.{UpIsInWindow}
 
 -- what holds after each list of events, of commands with `connect` at any moment, deliveries, losses, damage and timer T1, from where a run
 -- begins
@@ -57,7 +58,7 @@ abbrev pub AreNamedInSessions : Cfg → World → Type 0
 AreNamedInSessions cfg w = (end : Role) (channel : ℕ) → is_up (station_at end w).link.phase ≡ true →
     name_of (station_at end w).layer channel ≡ counted channel first_name (layer_notices (session_at end (last_session end w) w.transcript))
 
--- all of these, and no error of procedure
+-- all of these, no error of procedure, and the window
 pub record SessionsKeepOrder (cfg : Cfg) (w : World) : Type 0 where
   pub step : MeetInStep cfg w
   pub lawful : AreLawfulWhereMet cfg w
@@ -66,3 +67,4 @@ pub record SessionsKeepOrder (cfg : Cfg) (w : World) : Type 0 where
   pub unmet : UnmetAreToldNothing cfg w
   pub stand : OpenStretchesMeet cfg w
   pub quiet : HasNoProcedureError cfg w
+  pub window : UpIsInWindow cfg w

@@ -4,6 +4,7 @@ ghost use Rattle.x25_world.specs.World.{event_of};
 ghost use Rattle.x25_world.specs.WorldRows.{SetsUp, MessageArrives, LostArrives, DamagedArrives, DisconnectEndsBoth, ConnectSetsUp, ConnectGoesAgain, SecondMeetsFirst, SecondMeet, TimerWaits, IsRefused};
 ghost use Rattle.x25_world.specs.SessionClaims.{Throughout, MeetInStep, AreLawfulWhereMet, AreNamedInSessions, AllArrive, UnmetAreToldNothing, OpenStretchesMeet};
 ghost use Rattle.x25_world.specs.Claims.{ActsInOctets, Always, UntilSecondUp, IsSetUp, IsLawful, IsNamed, ArrivesAll, HasNoProcedureError, IsInWindow, UpOnceUnlessConnected};
+ghost use Rattle.x25_world.specs.SessionWindow.{UpIsInWindow};
 
 use crate::Event;
 use x25_frame::reads_what_is_spelled;
@@ -69,6 +70,8 @@ pub fn two_stations_keep_order()
 /// - `unmet`: in a session that meets none the layer tells its user nothing: no message, no interrupt and no call.
 /// - `stand`: where a stretch is open at both ends, on whichever channels, the two sessions that stand meet each other.
 /// - `quiet`: no FRMR, no CLEAR, RESET or RESTART with a cause of an error was ever put on the line, and no user was told of a fault.
+/// - `window`: at an end whose link is up, the session that stands and the one of the other end that it meets or is to meet are in the window
+///   machine, with the unbounded numbers behind those on the line to that end, and behind those on both lines where both links are up.
 ///
 /// Premises: k is 1 to 7, N2 1 to 255, channels 1 to 16, and the users hand down octets.
 pub fn stations_meet_in_sessions()
@@ -79,6 +82,7 @@ pub fn stations_meet_in_sessions()
     ensures unmet { Throughout UnmetAreToldNothing }
     ensures stand { Throughout OpenStretchesMeet }
     ensures quiet { Throughout HasNoProcedureError }
+    ensures window { Throughout UpIsInWindow }
 {
     sessions_keep_order();
     each_session_event_hands_one();

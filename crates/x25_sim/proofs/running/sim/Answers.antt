@@ -90,5 +90,5 @@ pub returns-clause-sessions : goal.returns-clause-sessions
 returns-clause-sessions g c =
     let law = c.scripts_keep_order.ensures in
     let of = c.scripts_meet_in_sessions.ensures in
-    let all = all_of_scripts of.step of.lawful of.named of.arrives of.unmet of.stand of.quiet in
+    let all = all_of_scripts of.step of.lawful of.named of.arrives of.unmet of.stand of.quiet of.window in
     on_ok_weaker c.take_text.result (written_in_sessions c.args.cfg c.requires.range c.args.down c.args.tap (g.W.Sink.contents c.args.writer.now) _ (g.R.Source.remaining c.args.reader.now) law.told law.tapped all) (returns-clause-text g c)

@@ -35,4 +35,4 @@ returns-clause-up_once c = λ cfg past gone h none.
 pub returns-clause-sessions : goal.returns-clause-sessions
 returns-clause-sessions c = λ cfg from past gone begins h.
     let law = c.stations_meet_in_sessions.ensures in
-    holds_throughout SessionsKeepOrder _ cfg from _ gone (all_of_sessions law.step law.lawful law.named law.arrives law.unmet law.stand law.quiet) begins ((returns-clause-run c) cfg from past gone h)
+    holds_throughout SessionsKeepOrder _ cfg from _ gone (all_of_sessions law.step law.lawful law.named law.arrives law.unmet law.stand law.quiet law.window) begins ((returns-clause-run c) cfg from past gone h)

@@ -30,4 +30,4 @@ returns-clause-quiet c = holds_after HasNoProcedureError _ c.args.cfg (connected
 pub returns-clause-sessions : goal.returns-clause-sessions
 returns-clause-sessions c =
     let law = c.stations_meet_in_sessions.ensures in
-    holds_throughout SessionsKeepOrder _ c.args.cfg (connected c.args.cfg) [] nothing_gone (all_of_sessions law.step law.lawful law.named law.arrives law.unmet law.stand law.quiet) (inr (inl refl)) (returns-clause-run c)
+    holds_throughout SessionsKeepOrder _ c.args.cfg (connected c.args.cfg) [] nothing_gone (all_of_sessions law.step law.lawful law.named law.arrives law.unmet law.stand law.quiet law.window) (inr (inl refl)) (returns-clause-run c)

@@ -44,7 +44,7 @@ returns-clause-up_once c = λ cfg past gone h none. up_once_after _ cfg _ gone c
 pub returns-clause-sessions : goal.returns-clause-sessions
 returns-clause-sessions c = λ cfg from past gone begins h.
     let law = c.stations_meet_in_sessions.ensures in
-    holds_throughout SessionsKeepOrder _ cfg from _ gone (all_of_sessions law.step law.lawful law.named law.arrives law.unmet law.stand law.quiet) begins ((returns-clause-run c) cfg from past gone h)
+    holds_throughout SessionsKeepOrder _ cfg from _ gone (all_of_sessions law.step law.lawful law.named law.arrives law.unmet law.stand law.quiet law.window) begins ((returns-clause-run c) cfg from past gone h)
 
 pub returns-in_err-octets-clause-lawful : goal.returns-in_err-octets-clause-lawful
 returns-in_err-octets-clause-lawful c =
@@ -75,7 +75,7 @@ pub returns-in_err-octets-clause-sessions : goal.returns-in_err-octets-clause-se
 returns-in_err-octets-clause-sessions c = λ cfg from past gone begins h.
     let p = err_from_is_err_and c.from_residual.result c.from_residual.ensures.1 in
     let law = c.stations_meet_in_sessions.ensures in
-    rw p.1 (holds_throughout SessionsKeepOrder _ cfg from past gone (all_of_sessions law.step law.lawful law.named law.arrives law.unmet law.stand law.quiet) begins h)
+    rw p.1 (holds_throughout SessionsKeepOrder _ cfg from past gone (all_of_sessions law.step law.lawful law.named law.arrives law.unmet law.stand law.quiet law.window) begins h)
 
 pub returns-then-place-on_line-clause-lawful : goal.returns-then-place-on_line-clause-lawful
 returns-then-place-on_line-clause-lawful c = λ cfg from past gone begins h once. holds_after IsLawful _ cfg from past gone c.two_stations_keep_order.ensures.lawful begins h once
@@ -92,4 +92,4 @@ returns-then-place-on_line-clause-quiet c = λ cfg from past gone begins h once.
 pub returns-then-place-on_line-clause-sessions : goal.returns-then-place-on_line-clause-sessions
 returns-then-place-on_line-clause-sessions c = λ cfg from past gone begins h.
     let law = c.stations_meet_in_sessions.ensures in
-    holds_throughout SessionsKeepOrder _ cfg from past gone (all_of_sessions law.step law.lawful law.named law.arrives law.unmet law.stand law.quiet) begins h
+    holds_throughout SessionsKeepOrder _ cfg from past gone (all_of_sessions law.step law.lawful law.named law.arrives law.unmet law.stand law.quiet law.window) begins h

@@ -46,4 +46,4 @@ returns-clause-up_once c = up_once_after _ c.args.cfg [] nothing_gone c.two_stat
 pub returns-clause-sessions : goal.returns-clause-sessions
 returns-clause-sessions c =
     let law = c.stations_meet_in_sessions.ensures in
-    holds_throughout SessionsKeepOrder _ c.args.cfg (established c.args.cfg) [] nothing_gone (all_of_sessions law.step law.lawful law.named law.arrives law.unmet law.stand law.quiet) (inr (inr refl)) (returns-clause-run c)
+    holds_throughout SessionsKeepOrder _ c.args.cfg (established c.args.cfg) [] nothing_gone (all_of_sessions law.step law.lawful law.named law.arrives law.unmet law.stand law.quiet law.window) (inr (inr refl)) (returns-clause-run c)
