@@ -142,8 +142,10 @@ class Two(ToolCase):
         """Joins two by TCP, and sends 1,000 messages each way; answers what both said at the end."""
         sent = {end: [message(end, number) for number in range(1000)] for end in ("dte", "dce")}
         sends = {end: "".join(f"{end} send 1 0 {octets}\n" for octets in sent[end]) for end in sent}
-        dce, line = self.listening("--t1", "0.1", "--quiet", "5", "--n2", "200", "--stats", *words)
-        dte = self.begin("dte", *line, "--t1", "0.1", "--quiet", "5", "--n2", "200", "--stats", *words)
+        # T1 has to be longer than the way there and back, also on a machine that does much else.
+        same = ["--t1", "0.5", "--quiet", "6", "--n2", "200", "--stats", *words]
+        dce, line = self.listening(*same)
+        dte = self.begin("dte", *line, *same)
         told_dte, told_dce, said = self.play(dte, dce, OPENING + sends["dte"], ANSWER + sends["dce"])
         self.assertEqual(messages(told_dce), sent["dte"])
         self.assertEqual(messages(told_dte), sent["dce"])
