@@ -1,5 +1,5 @@
 -- A list that begins another one.
-use Rattle.std.proofs.Common.{◌∙◌, Bool, List, [], ◌++◌, ap, sym, append_assoc, Option, Some, None, unwrap_or}
+use Rattle.std.proofs.Common.{◌∙◌, List, [], ◌++◌, ap, sym, append_assoc}
 use Rattle.std.proofs.lemmas.List.{append-nil}
 use Rattle.x25_bits.specs.Begins.{Begins}
 
@@ -8,8 +8,3 @@ begins_none a = ([], sym (append-nil a))
 
 pub begins_more : {A : Type 0} (a b c : List A) → Begins a b → Begins b c → Begins a c
 begins_more a b c h k = (h.0 ++ k.0, k.1 ∙ ap (λ l. l ++ k.0) h.1 ∙ append_assoc a h.0 k.0)
-
--- what was put aside stays
-pub begins_aside : (aside : Option (List Bool)) (old new : List Bool) → Begins old new → Begins (unwrap_or aside old) (unwrap_or aside new)
-begins_aside None old new h = h
-begins_aside (Some kept) old new h = begins_none kept

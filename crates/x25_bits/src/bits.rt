@@ -77,6 +77,14 @@ impl Bits {
         *self.octets.allocator()
     }
 
+    /// Octets whose bits begin with these.
+    pub(crate) fn octets(&self) -> &[u8]
+        ensures bits { take (length self.now) (bits_of result.now) ≡ self.now }
+        ensures len { length self.now ≤ 8 * length result.now }
+    {
+        self.octets.as_slice()
+    }
+
     /// The bit at a place.
     pub(crate) fn bit(&self, place: usize) -> bool
         requires { place < length self.now }
@@ -112,10 +120,11 @@ fn with_bit(octet: u8, size: usize, bit: bool) -> u8
 }
 
 /// Writes a bit behind the first `place` bits of the octets, which grow where all of their bits come before.
-fn write_bit(octets: &mut Vec<u8>, place: usize, bit: bool) -> Result<(), NoMemory>
+pub(crate) fn write_bit(octets: &mut Vec<u8>, place: usize, bit: bool) -> Result<(), NoMemory>
     requires { place ≤ 8 * length octets.old.items }
     ensures ok { OnOk result (take (place + 1) (bits_of octets.new.items) ≡ take place (bits_of octets.old.items) ++ bit ∷ []) }
     ensures room { OnOk result (place + 1 ≤ 8 * length octets.new.items) }
+    ensures grows { length octets.old.items ≤ length octets.new.items }
     ensures err { OnErr result (octets.new.items ≡ octets.old.items) }
 {
     let at = place / 8;
@@ -123,12 +132,22 @@ fn write_bit(octets: &mut Vec<u8>, place: usize, bit: bool) -> Result<(), NoMemo
         octets.push(u8::from(bit))?;
         return Ok(());
     }
-    octets[at] = with_bit(octets[at], place % 8, bit);
+    set_bit(octets, place, bit);
     Ok(())
 }
 
+/// Writes a bit behind the first `place` bits of the octets, of which there are more.
+pub(crate) fn set_bit(octets: &mut Vec<u8>, place: usize, bit: bool)
+    requires { place < 8 * length octets.old.items }
+    ensures bits { take (place + 1) (bits_of octets.new.items) ≡ take place (bits_of octets.old.items) ++ bit ∷ [] }
+    ensures len { length octets.new.items ≡ length octets.old.items }
+{
+    let at = place / 8;
+    octets[at] = with_bit(octets[at], place % 8, bit);
+}
+
 /// The bit at a place of the octets' bits.
-fn read_bit(octets: &[u8], place: usize) -> bool
+pub(crate) fn read_bit(octets: &[u8], place: usize) -> bool
     requires { place < 8 * length octets.now }
     ensures { result ≡ slice_index_or (bits_of octets.now) place false }
 {
@@ -136,7 +155,7 @@ fn read_bit(octets: &[u8], place: usize) -> bool
 }
 
 /// The octets that the first `count` bits fill.
-fn whole_octets(octets: &[u8], count: usize) -> &[u8]
+pub(crate) fn whole_octets(octets: &[u8], count: usize) -> &[u8]
     requires { count ≤ 8 * length octets.now }
     ensures { result.now ≡ octets_by (count / 8) (take count (bits_of octets.now)) }
 {

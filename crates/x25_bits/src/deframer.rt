@@ -4,11 +4,14 @@ ghost use Rattle.x25_bits.specs.Begins.{Begins};
 ghost use Rattle.x25_bits.specs.Fcs.{bits_of, low_bits};
 ghost use Rattle.x25_bits.specs.Cuts.{found_more};
 ghost use Rattle.x25_bits.specs.SpanClass.{found_of};
-ghost use Rattle.x25_bits.specs.Held.{Seen, seen_next, seen_found, seen_from, found_from, ends, closing, keeps, kept_next, kept_found};
+ghost use Rattle.x25_bits.specs.Held.{Held, Seen, seen_next, seen_found, seen_from, found_from, ends, closing, keeps, kept_next, kept_found};
+ghost use Rattle.x25_bits.specs.Keeping.{with_bits};
 ghost use Rattle.x25_bits.specs.Plain.{plains, listed_span};
+ghost use Rattle.x25_bits.specs.Shows.{Shows};
 
 use crate::bits::Bits;
 use crate::found::{Found, Span};
+use crate::kept::Kept;
 use crate::no_memory::NoMemory;
 use crate::scan::Scan;
 use std::alloc::Global;
@@ -21,20 +24,22 @@ const FEWEST: usize = 32;
 const MOST: usize = 32_824;
 
 /// The most unstuffed bits that are held: one more than the longest content and the first six bits of a flag.
-const HELD: usize = 32_831;
+pub(crate) const HELD: usize = 32_831;
 
 /// Finds the spans between flags, in bits that come in any cut.
 #[derive(Debug, Drop)]
 pub struct Deframer {
-    scan: Scan,
+    pub(crate) scan: Scan,
     /// The unstuffed bits behind the last flag, as long as they can be content.
-    kept: Bits,
+    pub(crate) kept: Kept,
+    /// Those that the last flag closed, where a call lends what their span is.
+    pub(crate) last: Kept,
     alloc: Global,
-    ghost few: { length kept ≤ 32831 },
+    ghost few: { length kept.bits ≤ 32831 },
 }
 
 impl Deframer {
-    ghost use Rattle.x25_bits.specs.Fits.{Fits, count_held};
+    ghost use Rattle.x25_bits.specs.Fits.{Fits, count_held, has_buffer};
     ghost use Rattle.x25_bits.specs.FitsSeen.{FitsSeen};
 
     /// A deframer that no bits have come to.
@@ -43,13 +48,37 @@ impl Deframer {
     {
         Deframer {
             scan: Scan::START,
-            kept: Bits::new(alloc),
+            kept: Kept::new(alloc),
+            last: Kept::new(alloc),
             alloc,
         }
     }
 
+    /// The same with memory for all that it ever holds, and for a content that it lends. Error 70 where there is none.
+    pub fn with_buffer(alloc: Global) -> Result<Deframer, NoMemory>
+        ensures fits { IfOk result (λ deframer. Fits deframer []) }
+        ensures buffer { IfOk result (λ deframer. has_buffer deframer ≡ true) }
+    {
+        let kept = Kept::with_room(alloc)?;
+        let last = Kept::with_room(alloc)?;
+        Ok(Deframer {
+            scan: Scan::START,
+            kept,
+            last,
+            alloc,
+        })
+    }
+
+    /// Whether it was made by `with_buffer`.
+    pub fn has_buffer(&self) -> bool
+        ensures { result ≡ has_buffer self.now }
+    {
+        self.kept.is_roomy() && self.last.is_roomy()
+    }
+
     /// Takes more bits. Appended to `out` is what the spans are that these bits close, in order, however the bits
     /// so far were cut. At most 32,831 bits are held. Error 70 where there is no memory for it.
+    #[tactic(auto, using(crate::proofs::KeepingLemmas::put_back))]
     pub fn feed(&mut self, bits: &Bits, out: &mut Vec<Found>) -> Result<(), NoMemory>
         ensures fits { OnOk result ((before : List Bool) → Fits self.old before → Fits self.new (before ++ bits.now)) }
         ensures found { OnOk result ((before : List Bool) → Fits self.old before
@@ -57,6 +86,7 @@ impl Deframer {
         ensures same { OnErr result (self.new ≡ self.old) }
         ensures kept { OnErr result (out.new.items ≡ out.old.items) }
         ensures few { count_held self.new ≤ 32831 }
+        ensures buffer { has_buffer self.new ≡ has_buffer self.old }
     {
         let scan = self.scan;
         let held = self.kept.len();
@@ -67,11 +97,13 @@ impl Deframer {
             out.truncate(found);
             return Err(error);
         }
+        self.settle(aside);
         Ok(())
     }
 
     /// Takes octets of a synchronous line: it is `feed` of their bits, each octet's lowest bit first. At most 32,831 bits
     /// are held. Error 70 where there is no memory for it.
+    #[tactic(auto, using(crate::proofs::KeepingLemmas::put_back))]
     pub fn feed_octets(&mut self, octets: &[u8], out: &mut Vec<Found>) -> Result<(), NoMemory>
         ensures fits { OnOk result ((before : List Bool) → Fits self.old before → Fits self.new (before ++ bits_of octets.now)) }
         ensures found { OnOk result ((before : List Bool) → Fits self.old before
@@ -79,6 +111,7 @@ impl Deframer {
         ensures same { OnErr result (self.new ≡ self.old) }
         ensures kept { OnErr result (out.new.items ≡ out.old.items) }
         ensures few { count_held self.new ≤ 32831 }
+        ensures buffer { has_buffer self.new ≡ has_buffer self.old }
     {
         let began = self.scan;
         let size = self.kept.len();
@@ -89,6 +122,7 @@ impl Deframer {
             out.truncate(count);
             return Err(error);
         }
+        self.settle(aside);
         Ok(())
     }
 
@@ -96,14 +130,16 @@ impl Deframer {
     fn take_octets(
         &mut self,
         octets: &[u8],
-        aside: &mut Option<Bits>,
+        aside: &mut Option<Kept>,
         out: &mut Vec<Found>,
     ) -> Result<(), NoMemory>
         ensures fits { OnOk result ((v : Seen) → FitsSeen self.old v → FitsSeen self.new (seen_from v (bits_of octets.now))) }
         ensures found { OnOk result ((v : Seen) → FitsSeen self.old v → plains out.new.items ≡ plains out.old.items ++ found_from v (bits_of octets.now)) }
-        ensures undo { Begins (unwrap_or aside.old self.old.kept) (unwrap_or aside.new self.new.kept) }
+        ensures undo { Begins (unwrap_or aside.old self.old.kept).bits (unwrap_or aside.new self.new.kept).bits }
+        ensures roomy { (unwrap_or aside.new self.new.kept).is_roomy ≡ (unwrap_or aside.old self.old.kept).is_roomy }
         ensures begins { Begins out.old.items out.new.items }
         ensures alloc { self.new.alloc ≡ self.old.alloc }
+        ensures last { self.new.last ≡ self.old.last }
     {
         for octet in octets {
             self.take_octet(*octet, aside, out)?;
@@ -115,14 +151,16 @@ impl Deframer {
     fn take_octet(
         &mut self,
         octet: u8,
-        aside: &mut Option<Bits>,
+        aside: &mut Option<Kept>,
         out: &mut Vec<Found>,
     ) -> Result<(), NoMemory>
         ensures fits { OnOk result ((v : Seen) → FitsSeen self.old v → FitsSeen self.new (seen_from v (low_bits 8 octet))) }
         ensures found { OnOk result ((v : Seen) → FitsSeen self.old v → plains out.new.items ≡ plains out.old.items ++ found_from v (low_bits 8 octet)) }
-        ensures undo { Begins (unwrap_or aside.old self.old.kept) (unwrap_or aside.new self.new.kept) }
+        ensures undo { Begins (unwrap_or aside.old self.old.kept).bits (unwrap_or aside.new self.new.kept).bits }
+        ensures roomy { (unwrap_or aside.new self.new.kept).is_roomy ≡ (unwrap_or aside.old self.old.kept).is_roomy }
         ensures begins { Begins out.old.items out.new.items }
         ensures alloc { self.new.alloc ≡ self.old.alloc }
+        ensures last { self.new.last ≡ self.old.last }
     {
         let mut left = octet;
         for _ in 0..8u8 {
@@ -136,14 +174,16 @@ impl Deframer {
     fn take_all(
         &mut self,
         bits: &Bits,
-        aside: &mut Option<Bits>,
+        aside: &mut Option<Kept>,
         out: &mut Vec<Found>,
     ) -> Result<(), NoMemory>
         ensures fits { OnOk result ((v : Seen) → FitsSeen self.old v → FitsSeen self.new (seen_from v bits.now)) }
         ensures found { OnOk result ((v : Seen) → FitsSeen self.old v → plains out.new.items ≡ plains out.old.items ++ found_from v bits.now) }
-        ensures undo { Begins (unwrap_or aside.old self.old.kept) (unwrap_or aside.new self.new.kept) }
+        ensures undo { Begins (unwrap_or aside.old self.old.kept).bits (unwrap_or aside.new self.new.kept).bits }
+        ensures roomy { (unwrap_or aside.new self.new.kept).is_roomy ≡ (unwrap_or aside.old self.old.kept).is_roomy }
         ensures begins { Begins out.old.items out.new.items }
         ensures alloc { self.new.alloc ≡ self.old.alloc }
+        ensures last { self.new.last ≡ self.old.last }
     {
         for place in 0..bits.len() {
             self.take(bits.bit(place), aside, out)?;
@@ -155,14 +195,16 @@ impl Deframer {
     fn take(
         &mut self,
         bit: bool,
-        aside: &mut Option<Bits>,
+        aside: &mut Option<Kept>,
         out: &mut Vec<Found>,
     ) -> Result<(), NoMemory>
         ensures fits { OnOk result ((v : Seen) → FitsSeen self.old v → FitsSeen self.new (seen_next v bit)) }
         ensures found { OnOk result ((v : Seen) → FitsSeen self.old v → plains out.new.items ≡ plains out.old.items ++ seen_found v bit) }
-        ensures undo { Begins (unwrap_or aside.old self.old.kept) (unwrap_or aside.new self.new.kept) }
+        ensures undo { Begins (unwrap_or aside.old self.old.kept).bits (unwrap_or aside.new self.new.kept).bits }
+        ensures roomy { (unwrap_or aside.new self.new.kept).is_roomy ≡ (unwrap_or aside.old self.old.kept).is_roomy }
         ensures begins { Begins out.old.items out.new.items }
         ensures alloc { self.new.alloc ≡ self.old.alloc }
+        ensures last { self.new.last ≡ self.old.last }
     {
         if !self.scan.ends(bit) {
             return self.next(bit);
@@ -175,8 +217,10 @@ impl Deframer {
     /// Takes a bit that ends no flag.
     fn next(&mut self, bit: bool) -> Result<(), NoMemory>
         ensures fits { OnOk result ((v : Seen) → FitsSeen self.old v → ends v bit ≡ false → FitsSeen self.new (seen_next v bit)) }
-        ensures begins { Begins self.old.kept self.new.kept }
+        ensures begins { Begins self.old.kept.bits self.new.kept.bits }
+        ensures roomy { self.new.kept.is_roomy ≡ self.old.kept.is_roomy }
         ensures alloc { self.new.alloc ≡ self.old.alloc }
+        ensures last { self.new.last ≡ self.old.last }
     {
         self.keep(bit)?;
         self.scan = self.scan.next(bit);
@@ -186,9 +230,11 @@ impl Deframer {
     /// Keeps the bit, where it can be content.
     fn keep(&mut self, bit: bool) -> Result<(), NoMemory>
         ensures fits { OnOk result ((v : Seen) → FitsSeen self.old v → FitsSeen self.new (kept_next v bit)) }
-        ensures begins { Begins self.old.kept self.new.kept }
+        ensures begins { Begins self.old.kept.bits self.new.kept.bits }
+        ensures roomy { self.new.kept.is_roomy ≡ self.old.kept.is_roomy }
         ensures scan { self.new.scan ≡ self.old.scan }
         ensures alloc { self.new.alloc ≡ self.old.alloc }
+        ensures last { self.new.last ≡ self.old.last }
     {
         if !self.scan.is_open {
             return Ok(());
@@ -219,37 +265,51 @@ impl Deframer {
     fn closing(&self) -> Option<Span<'_>>
         ensures { (v : Seen) → FitsSeen self.now v → v.is_open ≡ true → listed_span result ≡ closing v.held }
     {
-        if self.scan.is_aborted {
-            return Some(Span::Abort);
-        }
-        if self.scan.is_inserted {
-            return Some(Span::Ragged);
-        }
-        span_in(&self.kept)
+        span_of(self.scan, &self.kept)
     }
 
     /// Begins behind a flag. The first bits that a call gives up are put aside, so that they can be put back.
-    fn reopen(&mut self, aside: &mut Option<Bits>)
+    fn reopen(&mut self, aside: &mut Option<Kept>)
         ensures fits { (v : Seen) (b : Bool) → FitsSeen self.old v → ends v b ≡ true → FitsSeen self.new (seen_next v b) }
         ensures undo { unwrap_or aside.new self.new.kept ≡ unwrap_or aside.old self.old.kept }
         ensures alloc { self.new.alloc ≡ self.old.alloc }
+        ensures last { self.new.last ≡ self.old.last }
     {
         self.scan = Scan::OPEN;
         if aside.is_some() {
             self.kept.truncate(0);
             return;
         }
-        let closed = mem::replace(&mut self.kept, Bits::new(self.alloc));
+        let closed = mem::replace(&mut self.kept, Kept::new(self.alloc));
         *aside = Some(closed);
     }
 
+    /// Behind a call that kept bits in memory of its own: keeps them in that which was put aside, where it was set aside
+    /// for all.
+    fn settle(&mut self, aside: Option<Kept>)
+        ensures fits { (v : Seen) → FitsSeen self.old v → FitsSeen self.new v }
+        ensures roomy { self.new.kept.is_roomy ≡ (unwrap_or aside self.old.kept).is_roomy }
+        ensures last { self.new.last ≡ self.old.last }
+    {
+        let Some(mut room) = aside else {
+            return;
+        };
+        if !room.is_roomy() {
+            self.kept.release();
+            return;
+        }
+        room.copy_from(&self.kept);
+        self.kept = room;
+    }
+
     /// Puts back what was held before a call: so many of the bits put aside, or else of those that are kept.
-    fn restore(&mut self, scan: Scan, held: usize, aside: Option<Bits>)
+    fn restore(&mut self, scan: Scan, held: usize, aside: Option<Kept>)
         requires few { held ≤ 32831 }
-        requires there { held ≤ length (unwrap_or aside self.old.kept) }
+        requires there { held ≤ length (unwrap_or aside self.old.kept).bits }
         ensures scan { self.new.scan ≡ scan }
-        ensures kept { self.new.kept ≡ take held (unwrap_or aside self.old.kept) }
+        ensures kept { self.new.kept ≡ with_bits (unwrap_or aside self.old.kept) (take held (unwrap_or aside self.old.kept).bits) }
         ensures alloc { self.new.alloc ≡ self.old.alloc }
+        ensures last { self.new.last ≡ self.old.last }
     {
         self.scan = scan;
         match aside {
@@ -263,10 +323,11 @@ impl Deframer {
 }
 
 /// Keeps the bit, where it can be content and there are not too many.
-fn push_if(is_kept: bool, bit: bool, kept: &mut Bits) -> Result<(), NoMemory>
-    ensures fits { OnOk result ((all : List Bool) → kept.old ≡ take 32831 all → kept.new ≡ take 32831 (if is_kept then all ++ bit ∷ [] else all)) }
-    ensures begins { Begins kept.old kept.new }
-    ensures few { length kept.old ≤ 32831 → length kept.new ≤ 32831 }
+fn push_if(is_kept: bool, bit: bool, kept: &mut Kept) -> Result<(), NoMemory>
+    ensures fits { OnOk result ((all : List Bool) → kept.old.bits ≡ take 32831 all → kept.new.bits ≡ take 32831 (if is_kept then all ++ bit ∷ [] else all)) }
+    ensures begins { Begins kept.old.bits kept.new.bits }
+    ensures roomy { kept.new.is_roomy ≡ kept.old.is_roomy }
+    ensures few { length kept.old.bits ≤ 32831 → length kept.new.bits ≤ 32831 }
 {
     if !is_kept {
         return Ok(());
@@ -278,9 +339,22 @@ fn push_if(is_kept: bool, bit: bool, kept: &mut Bits) -> Result<(), NoMemory>
     Ok(())
 }
 
+/// What the span is that a flag closes behind this scan and these kept bits.
+pub(crate) fn span_of(scan: Scan, kept: &Kept) -> Option<Span<'_>>
+    ensures { (h : Held) → Shows scan kept.now.bits h → listed_span result ≡ closing h }
+{
+    if scan.is_aborted {
+        return Some(Span::Abort);
+    }
+    if scan.is_inserted {
+        return Some(Span::Ragged);
+    }
+    span_in(kept)
+}
+
 /// What the span is whose unstuffed bits and the first six of a flag these are.
-fn span_in(kept: &Bits) -> Option<Span<'_>>
-    ensures { (all : List Bool) → kept.now ≡ take 32831 all → listed_span result ≡ kept_found all }
+fn span_in(kept: &Kept) -> Option<Span<'_>>
+    ensures { (all : List Bool) → kept.now.bits ≡ take 32831 all → listed_span result ≡ kept_found all }
 {
     if kept.len() <= 6 {
         return None;

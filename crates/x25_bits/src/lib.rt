@@ -6,7 +6,9 @@ mod deframer;
 mod found;
 mod frame_check;
 mod harmless_bits;
+mod kept;
 mod laws;
+mod lending;
 mod line_octets;
 mod no_memory;
 mod octets;
@@ -17,7 +19,7 @@ mod stuffing;
 
 pub use bits::Bits;
 pub use deframer::Deframer;
-pub use found::Found;
+pub use found::{Found, Span};
 pub use frame_check::{check, fcs, seal};
 pub use harmless_bits::{first_content, harmless};
 pub use laws::{

@@ -136,7 +136,7 @@ fn finds_each_length(rt: HostRuntime) -> Result<(), Fail> {
 }
 
 /// Contents with stray bits between them.
-fn contents_and_stray_bits(alloc: Global) -> Result<Bits, NoMemory> {
+pub fn contents_and_stray_bits(alloc: Global) -> Result<Bits, NoMemory> {
     let octets = some_octets(alloc, 400)?;
     let mut line = Bits::new(alloc);
     for part in octets.as_slice().chunks(9) {

@@ -26,7 +26,7 @@ pub fn bits_of(alloc: Global, texts: &[&str]) -> Result<Bits, NoMemory> {
 }
 
 /// These bits from one place up to another.
-fn part_of(alloc: Global, bits: &Bits, from: usize, to: usize) -> Result<Bits, NoMemory> {
+pub fn part_of(alloc: Global, bits: &Bits, from: usize, to: usize) -> Result<Bits, NoMemory> {
     let mut part = Bits::new(alloc);
     for place in from..to {
         part.push(bits.get(place) == Some(true))?;

@@ -9,7 +9,7 @@ use Rattle.x25_bits.proofs.deframer.Deframer.take_all.Goals as goal
 
 pub loop-place-init : goal.loop-place-init
 unfolding seen_from found_from
-loop-place-init c = record { fits = λ v h. h; found = λ v h. sym (append-nil _); undo = begins_none _; begins = begins_none _; alloc = refl }
+loop-place-init c = record { fits = λ v h. h; found = λ v h. sym (append-nil _); undo = begins_none _; begins = begins_none _; roomy = refl; alloc = refl; last = refl }
 
 pub loop-place-preserved : goal.loop-place-preserved
 loop-place-preserved c =
@@ -27,6 +27,8 @@ loop-place-preserved c =
       undo = begins_more _ _ _ before.undo c.in_ok-take.ensures.undo;
       begins = begins_more _ _ _ before.begins c.in_ok-take.ensures.begins;
       alloc = c.in_ok-take.ensures.alloc ∙ before.alloc;
+      roomy = c.in_ok-take.ensures.roomy ∙ before.roomy;
+      last = c.in_ok-take.ensures.last ∙ before.last;
     }
 
 pub returns-clause-fits : goal.returns-clause-fits

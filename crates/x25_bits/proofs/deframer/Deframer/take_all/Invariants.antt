@@ -9,7 +9,9 @@ abbrev pub invariant-loop-place : goal.invariant-loop-place
 invariant-loop-place l = record {
   fits : (v : Seen) → FitsSeen l.initial.self v → FitsSeen l.self (seen_from v (take l.place l.bits));
   found : (v : Seen) → FitsSeen l.initial.self v → plains l.out.items ≡ plains l.initial.out.items ++ found_from v (take l.place l.bits);
-  undo : Begins (unwrap_or l.initial.aside l.initial.self.kept) (unwrap_or l.aside l.self.kept);
+  undo : Begins (unwrap_or l.initial.aside l.initial.self.kept).bits (unwrap_or l.aside l.self.kept).bits;
+  roomy : (unwrap_or l.aside l.self.kept).is_roomy ≡ (unwrap_or l.initial.aside l.initial.self.kept).is_roomy;
   begins : Begins l.initial.out.items l.out.items;
   alloc : l.self.alloc ≡ l.initial.self.alloc;
+  last : l.self.last ≡ l.initial.self.last;
 }

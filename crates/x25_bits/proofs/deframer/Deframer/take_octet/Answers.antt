@@ -6,7 +6,7 @@ use Rattle.x25_bits.proofs.PutLemmas.{next_bits}
 use Rattle.x25_bits.proofs.deframer.Deframer.take_octet.Goals as goal
 
 pub loop-init : goal.loop-init
-loop-init c = record { leads = λ v h. (v, h, refl, refl); undo = begins_none _; begins = begins_none _; alloc = refl }
+loop-init c = record { leads = λ v h. (v, h, refl, refl); undo = begins_none _; begins = begins_none _; roomy = refl; alloc = refl; last = refl }
 
 pub loop-preserved : goal.loop-preserved
 loop-preserved c = record {
@@ -14,6 +14,8 @@ loop-preserved c = record {
   undo = begins_more _ _ _ c.loop.invariant.undo c.in_ok-take.ensures.undo;
   begins = begins_more _ _ _ c.loop.invariant.begins c.in_ok-take.ensures.begins;
   alloc = c.in_ok-take.ensures.alloc ∙ c.loop.invariant.alloc;
+  roomy = c.in_ok-take.ensures.roomy ∙ c.loop.invariant.roomy;
+  last = c.in_ok-take.ensures.last ∙ c.loop.invariant.last;
 }
 
 pub returns-clause-fits : goal.returns-clause-fits

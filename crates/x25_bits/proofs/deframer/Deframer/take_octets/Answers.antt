@@ -6,7 +6,7 @@ use Rattle.x25_bits.proofs.LeadsLemmas.{leads_bits, led_fits, led_found}
 use Rattle.x25_bits.proofs.deframer.Deframer.take_octets.Goals as goal
 
 pub loop-octet-init : goal.loop-octet-init
-loop-octet-init c = record { leads = λ v h. (v, h, refl, refl); undo = begins_none _; begins = begins_none _; alloc = refl }
+loop-octet-init c = record { leads = λ v h. (v, h, refl, refl); undo = begins_none _; begins = begins_none _; roomy = refl; alloc = refl; last = refl }
 
 pub loop-octet-preserved : goal.loop-octet-preserved
 loop-octet-preserved c = record {
@@ -14,6 +14,8 @@ loop-octet-preserved c = record {
   undo = begins_more _ _ _ c.loop-octet.invariant.undo c.in_ok-take_octet.ensures.undo;
   begins = begins_more _ _ _ c.loop-octet.invariant.begins c.in_ok-take_octet.ensures.begins;
   alloc = c.in_ok-take_octet.ensures.alloc ∙ c.loop-octet.invariant.alloc;
+  roomy = c.in_ok-take_octet.ensures.roomy ∙ c.loop-octet.invariant.roomy;
+  last = c.in_ok-take_octet.ensures.last ∙ c.loop-octet.invariant.last;
 }
 
 pub returns-clause-fits : goal.returns-clause-fits

@@ -10,7 +10,9 @@ use Rattle.x25_bits.proofs.deframer.Deframer.take_octets.Given as goal
 abbrev pub invariant-loop-octet : goal.invariant-loop-octet
 invariant-loop-octet l = record {
   leads : (v : Seen) → FitsSeen l.initial.self v → Leads v (bits_of l.octets) (plains l.initial.out.items) l.self (bits_of (drop l.octet-index l.octets)) (plains l.out.items);
-  undo : Begins (unwrap_or l.initial.aside l.initial.self.kept) (unwrap_or l.aside l.self.kept);
+  undo : Begins (unwrap_or l.initial.aside l.initial.self.kept).bits (unwrap_or l.aside l.self.kept).bits;
+  roomy : (unwrap_or l.aside l.self.kept).is_roomy ≡ (unwrap_or l.initial.aside l.initial.self.kept).is_roomy;
   begins : Begins l.initial.out.items l.out.items;
   alloc : l.self.alloc ≡ l.initial.self.alloc;
+  last : l.self.last ≡ l.initial.self.last;
 }

@@ -1,0 +1,143 @@
+//! The bits that are kept between flags, in memory that grows or that was set aside for all of them.
+ghost use Rattle.std.specs.Prelude.{ℕ, ◌≡◌, ◌+◌, ◌*◌, ◌<◌, ◌≤◌, ◌++◌, ◌∷◌, [], Bool, true, false, length, take, IfOk, OnOk, OnErr, slice_index_or};
+ghost use Rattle.x25_bits.specs.SpanClass.{octets_of};
+ghost use Rattle.x25_bits.specs.Keeping.{Keeping, with_bits};
+
+use crate::bits::{read_bit, set_bit, whole_octets, write_bit};
+use crate::no_memory::NoMemory;
+use std::alloc::Global;
+use std::marker::Model;
+
+/// The octets that 32,832 bits fill.
+const ROOM: usize = 4104;
+
+/// A list of bits, kept eight in an octet.
+#[derive(Debug, Drop)]
+pub struct Kept {
+    octets: Vec<u8>,
+    count: usize,
+    /// Memory for 32,832 bits is counted on.
+    is_roomy: bool,
+}
+
+impl Model for Kept {
+    ghost use Rattle.std.specs.Prelude.{◌≡◌, ◌≤◌, ◌*◌, true, length, take};
+    ghost use Rattle.x25_bits.specs.Fcs.{bits_of};
+    ghost use Rattle.x25_bits.specs.Keeping.{Keeping};
+
+    ghost Value = { Keeping };
+
+    ghost view = { λ k. record { bits = take k.count (bits_of k.octets.items); is_roomy = k.is_roomy } };
+
+    ghost invariant = { λ k. (k.count ≤ 8 * length k.octets.items) × (k.is_roomy ≡ true → 4104 ≤ length k.octets.items) };
+}
+
+impl Kept {
+    /// No bits, in memory that grows.
+    pub fn new(alloc: Global) -> Kept
+        ensures bits { result.bits ≡ [] }
+        ensures roomy { result.is_roomy ≡ false }
+    {
+        Kept {
+            octets: Vec::new(alloc),
+            count: 0,
+            is_roomy: false,
+        }
+    }
+
+    /// No bits, and memory for 32,832 of them.
+    pub fn with_room(alloc: Global) -> Result<Kept, NoMemory>
+        ensures bits { IfOk result (λ kept. kept.bits ≡ []) }
+        ensures roomy { IfOk result (λ kept. kept.is_roomy ≡ true) }
+    {
+        Ok(Kept {
+            octets: vec![in alloc; 0u8; ROOM]?,
+            count: 0,
+            is_roomy: true,
+        })
+    }
+
+    /// Appends a bit. Error 70 where there is no memory for it.
+    pub fn push(&mut self, bit: bool) -> Result<(), NoMemory>
+        ensures bits { OnOk result (self.new.bits ≡ self.old.bits ++ bit ∷ []) }
+        ensures roomy { self.new.is_roomy ≡ self.old.is_roomy }
+        ensures err { OnErr result (self.new ≡ self.old) }
+    {
+        let Some(count) = self.count.checked_add(1) else {
+            return Err(NoMemory);
+        };
+        write_bit(&mut self.octets, self.count, bit)?;
+        self.count = count;
+        Ok(())
+    }
+
+    /// Appends a bit, in memory that was set aside.
+    #[tactic(auto, using(crate::proofs::KeepingLemmas::count_of))]
+    pub fn push_within(&mut self, bit: bool)
+        requires room { self.old.is_roomy ≡ true }
+        requires few { length self.old.bits < 32832 }
+        ensures bits { self.new.bits ≡ self.old.bits ++ bit ∷ [] }
+        ensures roomy { self.new.is_roomy ≡ true }
+    {
+        set_bit(&mut self.octets, self.count, bit);
+        self.count += 1;
+    }
+
+    /// Whether memory for 32,832 bits is counted on.
+    pub fn is_roomy(&self) -> bool
+        ensures { result ≡ self.now.is_roomy }
+    {
+        self.is_roomy
+    }
+
+    /// Counts no more on memory that was set aside.
+    pub fn release(&mut self)
+        ensures bits { self.new.bits ≡ self.old.bits }
+        ensures roomy { self.new.is_roomy ≡ false }
+    {
+        self.is_roomy = false;
+    }
+
+    /// The number of bits.
+    pub fn len(&self) -> usize
+        ensures { result ≡ length self.now.bits }
+    {
+        self.count
+    }
+
+    /// The bit at a place.
+    pub fn bit(&self, place: usize) -> bool
+        requires { place < length self.now.bits }
+        ensures { result ≡ slice_index_or self.now.bits place false }
+    {
+        read_bit(self.octets.as_slice(), place)
+    }
+
+    /// Drops all bits but the first `count`.
+    pub fn truncate(&mut self, count: usize)
+        requires { count ≤ length self.old.bits }
+        ensures { self.new ≡ with_bits self.old (take count self.old.bits) }
+    {
+        self.count = count;
+    }
+
+    /// Takes the bits of the other one in place of its own, in memory that was set aside.
+    pub fn copy_from(&mut self, other: &Kept)
+        requires room { self.old.is_roomy ≡ true }
+        requires few { length other.now.bits < 32832 }
+        ensures bits { self.new.bits ≡ other.now.bits }
+        ensures roomy { self.new.is_roomy ≡ true }
+    {
+        self.truncate(0);
+        for place in 0..other.len() {
+            self.push_within(other.bit(place));
+        }
+    }
+
+    /// The whole octets of the bits, each lowest bit first.
+    pub fn whole_octets(&self) -> &[u8]
+        ensures { result.now ≡ octets_of self.now.bits }
+    {
+        whole_octets(self.octets.as_slice(), self.count)
+    }
+}
