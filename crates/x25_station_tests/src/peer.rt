@@ -107,21 +107,21 @@ impl End {
                 };
                 Ok(lines(self.alloc, &[shown])?)
             }
-            Act::Timer => {
-                let runs = if self.station.timer_runs() {
-                    "T1 runs"
-                } else {
-                    "T1 is off"
-                };
-                let first = self.station.acknowledged().get();
-                let number = format!(in self.alloc; "{first}")?;
-                Ok(lines(self.alloc, &[runs, number.as_str()])?)
-            }
+            Act::Timer => self.timer(),
             Act::Stretch(channel) => {
                 let name = self.station.stretch(channel);
                 Ok(stretch_line(self.alloc, name)?)
             }
         }
+    }
+
+    fn timer(&self) -> Result<Line, Fail> {
+        let first = self.station.acknowledged().get();
+        let number = format!(in self.alloc; "{first}")?;
+        if self.station.timer_runs() {
+            return Ok(lines(self.alloc, &["T1 runs", number.as_str()])?);
+        }
+        Ok(lines(self.alloc, &["T1 is off", number.as_str()])?)
     }
 
     fn asks(&mut self, count: u16, command: Cmd<'_>) -> Result<Line, Fail> {
