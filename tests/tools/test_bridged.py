@@ -15,7 +15,7 @@ from support import ToolCase
 CALL = "dte call 123 4567 41"
 ANSWER = "wait dce incoming\ndce accept 1\n"
 OPENING = f"dte connect\nwait dte restarted\n{CALL}\nwait dte connected\n"
-SECONDS = 240
+SECONDS = 900
 
 
 def free_ports(count):
@@ -76,8 +76,8 @@ class Two(ToolCase):
 
     def test_a_call_over_tcp(self):
         trace = os.path.join(self.folder, "trace")
-        dce, words = self.listening("--t1", "2", "--quiet", "1")
-        told_dte, told_dce, _ = self.play(self.begin("dte", *words, "--t1", "2", "--quiet", "0.5", "--trace", trace), dce, OPENING + "dte send 1 0 6869\n")
+        dce, words = self.listening("--t1", "2", "--quiet", "8")
+        told_dte, told_dce, _ = self.play(self.begin("dte", *words, "--t1", "2", "--quiet", "3", "--trace", trace), dce, OPENING + "dte send 1 0 6869\n")
         self.assert_call(told_dte, told_dce)
         with open(trace, "rb") as file:
             rows = file.read().splitlines()
@@ -88,8 +88,8 @@ class Two(ToolCase):
 
     def test_a_call_over_datagrams(self):
         one, other = free_ports(2)
-        dce = self.begin("dce", "--udp", f"{one}:{other}", "--t1", "1", "--quiet", "3")
-        told_dte, told_dce, _ = self.play(self.begin("dte", "--udp", f"{other}:{one}", "--t1", "1", "--quiet", "1"), dce, OPENING + "dte send 1 0 6869\n")
+        dce = self.begin("dce", "--udp", f"{one}:{other}", "--t1", "1", "--quiet", "8")
+        told_dte, told_dce, _ = self.play(self.begin("dte", "--udp", f"{other}:{one}", "--t1", "1", "--quiet", "3"), dce, OPENING + "dte send 1 0 6869\n")
         self.assert_call(told_dte, told_dce)
 
     def by_files(self, end, commands):
@@ -107,7 +107,7 @@ class Two(ToolCase):
         dce_files, dce_told = self.by_files("dce", ANSWER)
         dte_files, dte_told = self.by_files("dte", OPENING + "dte send 1 0 6869\n")
         both = []
-        for end, reader, writer, words in (("dce", from_dte, to_dte, ["--quiet", "2", *dce_files]), ("dte", from_dce, to_dce, dte_files)):
+        for end, reader, writer, words in (("dce", from_dte, to_dte, ["--quiet", "8", *dce_files]), ("dte", from_dce, to_dce, dte_files)):
             command = [sys.executable, os.path.join(support.TOOLS, "bridge.py"), end, "--stdio", "--t1", "1", "--x25", support.PROGRAM, *words]
             both.append(subprocess.Popen(command, stdin=reader, stdout=writer, stderr=subprocess.PIPE))
             self.addCleanup(both[-1].kill)
@@ -123,14 +123,14 @@ class Two(ToolCase):
         bridge = f"{sys.executable} {os.path.join(support.TOOLS, 'bridge.py')} --x25 {support.PROGRAM} --t1 1"
         dce_files, dce_told = self.by_files("dce", ANSWER)
         dte_files, dte_told = self.by_files("dte", OPENING + "dte send 1 0 6869\n")
-        script += f"{{ {bridge} --ethernet x0 --quiet 3 {' '.join(dce_files)} dce & {bridge} --ethernet x1 {' '.join(dte_files)} dte; wait; }}"
+        script += f"{{ {bridge} --ethernet x0 --quiet 8 {' '.join(dce_files)} dce & {bridge} --ethernet x1 {' '.join(dte_files)} dte; wait; }}"
         done = subprocess.run(["unshare", "-n", "sh", "-c", script], capture_output=True, timeout=SECONDS)
         self.assertEqual((done.returncode, done.stderr), (0, b""))
         self.assert_call(self.told(dte_told), self.told(dce_told))
 
     def test_a_command_that_is_refused(self):
-        dce, words = self.listening("--t1", "1", "--quiet", "1")
-        dte = self.begin("dte", *words, "--t1", "1", "--quiet", "0.3")
+        dce, words = self.listening("--t1", "1", "--quiet", "8")
+        dte = self.begin("dte", *words, "--t1", "1", "--quiet", "3")
         dce.stdin.close()
         out, said = dte.communicate("dte call 1 2 -\n", timeout=SECONDS)
         self.assertEqual((dte.returncode, out), (1, "! 9\n"), said)
@@ -143,7 +143,7 @@ class Two(ToolCase):
         sent = {end: [message(end, number) for number in range(1000)] for end in ("dte", "dce")}
         sends = {end: "".join(f"{end} send 1 0 {octets}\n" for octets in sent[end]) for end in sent}
         # T1 has to be longer than the way there and back, also on a machine that does much else.
-        same = ["--t1", "0.5", "--quiet", "6", "--n2", "200", "--stats", *words]
+        same = ["--t1", "0.5", "--quiet", "8", "--n2", "200", "--stats", *words]
         dce, line = self.listening(*same)
         dte = self.begin("dte", *line, *same)
         told_dte, told_dce, said = self.play(dte, dce, OPENING + sends["dte"], ANSWER + sends["dce"])
