@@ -24,6 +24,16 @@ def add_program(parser):
     parser.add_argument("--x25", default=find_program(), metavar="PROGRAM", help="the program")
 
 
+def let_end(child):
+    """Closes the pipes of a program that is asked line by line, which ends it, and waits for its end."""
+    child.stdout.close()
+    try:
+        child.stdin.close()
+    except BrokenPipeError:
+        pass
+    child.wait()
+
+
 class Decoder:
     """Gives frames to the program's `decode`, one at a time, so that a line is answered before the next is there."""
 
@@ -37,12 +47,7 @@ class Decoder:
 
     def __exit__(self, *_):
         if self._child is not None:
-            self._child.stdout.close()
-            try:
-                self._child.stdin.close()
-            except BrokenPipeError:
-                pass
-            self._child.wait()
+            let_end(self._child)
 
     def text(self, frame):
         """The text of a frame line, without its direction."""

@@ -9,7 +9,7 @@ import subprocess
 from typing import List, NamedTuple, Optional
 
 import x25lines
-from decoding import MISSING_STATION
+from decoding import MISSING_STATION, let_end
 from x25lines import BadInput, FrameLine
 
 T1 = {b"off", b"on", b"start"}
@@ -45,12 +45,7 @@ class Station:
         return self
 
     def __exit__(self, *_):
-        self._child.stdout.close()
-        try:
-            self._child.stdin.close()
-        except BrokenPipeError:
-            pass
-        self._child.wait()
+        let_end(self._child)
 
     def ask(self, event):
         """The answer to an event, a line without its line feed."""
