@@ -5,10 +5,10 @@ use Rattle.x25_bits.specs.declared.role.Role.{Role}
 use Rattle.x25_bits.specs.declared.role.Role.TheVariants as role
 use Rattle.x25_pipe.specs.Piped.{piped, station_text, station_status}
 use Rattle.x25_pipe.specs.Stream as pipe
-use Rattle.x25_program.specs.Decoded as decode
-use Rattle.x25_program.specs.Stream as decoder
-use Rattle.x25_program.specs.Vectors.{verdicts, are_right}
-use Rattle.x25_program.specs.Written.{AppendsBeginning}
+use Rattle.x25_decode.specs.Decoded as decode
+use Rattle.x25_decode.specs.Stream as decoder
+use Rattle.x25_decode.specs.Vectors.{verdicts, are_right}
+use Rattle.x25_io.specs.Written.{AppendsBeginning}
 use Rattle.x25_settings.specs.declared.options.End.{End}
 use Rattle.x25_settings.specs.declared.options.End.TheVariants.{Dte, Dce}
 use Rattle.x25_settings.specs.declared.options.Place.{Place}

@@ -21,7 +21,7 @@ use std::process::ExitCode;
 use std::rt::Env;
 use std::{env, io};
 use tasks::perform;
-use x25_program::{Device, Fault, Source, exit_status};
+use x25_io::{Device, Fault, Source, exit_status};
 use x25_settings::{SettingsError, Task, settings};
 
 /// The exit status of a usage fault.

@@ -3,7 +3,7 @@ ghost use Rattle.std.specs.Prelude.{◌≡◌, ◌↔◌, true, false, IsTrue};
 ghost use Rattle.std.specs.IoError.{error_kind};
 
 use std::io::{Error, ErrorKind, Write};
-use x25_program::{Failed, Sink};
+use x25_io::{Failed, Sink};
 
 /// Whether a write failed since nobody reads what is written any more, as `head` ends once it has its lines.
 pub(crate) fn is_unread(error: &Error) -> bool

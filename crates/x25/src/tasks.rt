@@ -2,15 +2,16 @@
 ghost use Rattle.std.specs.Prelude.{◌≡◌, ◌≤◌, ◌<◌, ◌-◌, ◌^◌, ℕ, true, List, Some, IfOk, OnOk, OnErr, IfSome, IsErrOf, length};
 ghost use Rattle.std.specs.Io.KnownBytes.{Appends};
 ghost use Rattle.x25.specs.Tasks.{OfScript, WritesEnded, WritesEndedLines, WritesEndedScript, WritesScript, WritesScriptOnce, WritesScriptSetUp, cfg_in, is_plain, lines_status, lines_text, role_in, script_status, script_text, settings_in, task_status, task_text};
-ghost use Rattle.x25_program.specs.Written.{AppendsBeginning};
+ghost use Rattle.x25_io.specs.Written.{AppendsBeginning};
 ghost use Rattle.x25_settings.specs.Simulation as options;
 ghost use Rattle.x25_settings.specs.Words.{AreInRange};
 ghost use Rattle.x25_world.specs.Claims.{ArrivesAll, HasNoProcedureError, IsInWindow, IsLawful, IsNamed};
 ghost use Rattle.x25_world.specs.SessionClaims.{SessionsKeepOrder};
 
 use std::alloc::Global;
+use x25_decode::{decode_lines, vectors};
+use x25_io::{Fault, Sink, Source};
 use x25_pipe::{Role, station};
-use x25_program::{Fault, Sink, Source, decode_lines, vectors};
 use x25_settings::{End, Place, Simulation, Task};
 use x25_sim::{Cfg, sim};
 

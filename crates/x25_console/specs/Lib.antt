@@ -1,4 +1,2 @@
 pub mod Commands
-pub mod Written
-pub mod HeldLine
 pub mod Lines

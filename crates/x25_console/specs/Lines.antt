@@ -3,7 +3,7 @@ use Rattle.std.specs.Prelude.{ℕ, List, ◌++◌, codes, decimal}
 use Rattle.std.specs.List.{flat_map}
 use Rattle.x25_bits.specs.declared.role.Role.{Role}
 use Rattle.x25_text.specs.OctetText.{octet_text}
-use Rattle.x25_program.specs.Decoded.{mark_of}
+use Rattle.x25_decode.specs.Decoded.{mark_of}
 
 -- a frame and the end that sent it, as a line for `decode`
 unfoldable pub frame_line : Role → List ℕ → List ℕ

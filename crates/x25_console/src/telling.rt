@@ -1,13 +1,11 @@
 //! Lines that tell of frames and of refusals.
 ghost use Rattle.std.specs.Prelude.{◌≡◌, ◌++◌, true, ℕ, List, Option, IfOk, OnOk, IsErrOf, MatchResult};
 ghost use Rattle.x25_console.specs.Lines.{frame_line as line_of_frame, nothing_line, refusal_line as line_of_refusal};
-ghost use Rattle.x25_console.specs.Written.{Tells};
-ghost use Rattle.x25_program.specs.Written.{AppendsBeginning};
+ghost use Rattle.x25_io.specs.Written.{AppendsBeginning, Tells};
 
-use crate::output::Output;
 use std::alloc::{AllocError, Global};
 use x25_entries::Line;
-use x25_program::{Fault, Sink};
+use x25_io::{Fault, Output, Sink};
 use x25_station::Role;
 
 /// A frame that an end sent, as a line for `decode`.

@@ -3,14 +3,14 @@ use Rattle.std.proofs.Common.{◌≡◌, ◌∙◌, ℕ, Bool, List, ◌++◌, O
 use Rattle.std.specs.Prelude.{◌||◌}
 use Rattle.std.proofs.lemmas.List.{append-nil}
 use Rattle.std.proofs.Math.Bool.{or-false}
-use Rattle.x25_program.specs.Written.{AppendsBeginning}
+use Rattle.x25_io.specs.Written.{AppendsBeginning}
 use Rattle.x25_station.specs.Settings.{Settings}
 use Rattle.x25_station.specs.Station.{Station}
 use Rattle.x25_pipe.specs.declared.pipe.Pipe.{Pipe}
 use Rattle.x25_pipe.specs.Piped.{Turn, quiet, and_then, sayings_text, has_refusal}
 use Rattle.x25_pipe.specs.Stands.{Stands}
 use Rattle.x25_pipe.specs.Leaves.{Leaves}
-use Rattle.x25_console.proofs.ToldLemmas.{beginning_more, begins}
+use Rattle.x25_io.proofs.ToldLemmas.{beginning_more, begins}
 use Rattle.x25_pipe.proofs.SayingLemmas.{parts_text, parts_refused}
 use Rattle.x25_pipe.proofs.StandLemmas.{StandsAt, BeginsAt}
 

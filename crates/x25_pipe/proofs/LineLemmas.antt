@@ -2,8 +2,8 @@
 use Rattle.std.proofs.Common.{◌≡◌, ◌∙◌, ◌≤◌, ◌<◌, ℕ, List, length, if◌then◌else◌, Option, None, ap, sym}
 use Rattle.std.proofs.lemmas.Bool.{le-leb, lt-leb}
 use Rattle.x25_bits.specs.declared.role.Role.{Role}
-use Rattle.x25_program.specs.Decoded.{sent_in}
-use Rattle.x25_console.specs.HeldLine.{most_line}
+use Rattle.x25_decode.specs.Decoded.{sent_in}
+use Rattle.x25_io.specs.HeldLine.{most_line}
 use Rattle.x25_pipe.specs.Piped.{event_in, read_event}
 
 -- a line that isn't too long is read

@@ -1,13 +1,13 @@
 -- A whole input.
 use Rattle.std.proofs.Common.{◌≡◌, ℕ, false, List, [], Option, Some, None, refl, sym, subst}
 use Rattle.std.specs.Prelude.{IfSome}
-use Rattle.x25_program.specs.Lines.{lines_of}
-use Rattle.x25_program.specs.Written.{AppendsBeginning}
+use Rattle.x25_io.specs.Lines.{lines_of}
+use Rattle.x25_io.specs.Written.{AppendsBeginning}
 use Rattle.x25_station.specs.Settings.{Settings}
 use Rattle.x25_station.specs.Station.{new_station}
-use Rattle.x25_console.specs.HeldLine.{HoldsLine}
-use Rattle.x25_console.specs.declared.held_line.HeldLine.{HeldLine}
-use Rattle.x25_console.proofs.ToldLemmas.{none_told, begins_more}
+use Rattle.x25_io.specs.HeldLine.{HoldsLine}
+use Rattle.x25_io.specs.declared.held_line.HeldLine.{HeldLine}
+use Rattle.x25_io.proofs.ToldLemmas.{none_told, begins_more}
 use Rattle.x25_station.specs.FitsStation.{FitsStation}
 use Rattle.x25_pipe.specs.Piped.{sayings_text, has_refusal, turns, standing_turn, piped, text_of}
 use Rattle.x25_pipe.specs.Stands.{Stands}

@@ -4,7 +4,7 @@ use Rattle.std.specs.Prelude.{◌||◌}
 use Rattle.std.proofs.lemmas.List.{append-nil}
 use Rattle.std.proofs.Math.Bool.{or-false, or-true}
 use Rattle.x25_bits.specs.declared.role.Role.{Role}
-use Rattle.x25_program.specs.Written.{AppendsBeginning}
+use Rattle.x25_io.specs.Written.{AppendsBeginning, Tells}
 use Rattle.x25_frame.specs.Spelling.{spelling_of}
 use Rattle.x25_station.specs.declared.error.StationError.{StationError}
 use Rattle.x25_station.specs.declared.error.StationError.TheVariants.{NoMemory}
@@ -17,8 +17,7 @@ use Rattle.x25_station.specs.StationError.{number_of}
 use Rattle.x25_station.specs.Station.{Station}
 use Rattle.x25_station.specs.Steps.{Step, Outcome, Did, Refused}
 use Rattle.x25_console.specs.Lines.{nothing_line, refusal_line}
-use Rattle.x25_console.specs.Written.{Tells}
-use Rattle.x25_console.proofs.ToldLemmas.{beginning_more}
+use Rattle.x25_io.proofs.ToldLemmas.{beginning_more}
 use Rattle.x25_pipe.specs.Piped.{Saying, enters, sends, refuses, reads_nothing, saying_line, sayings_text, has_refusal, Turn, and_then, said, step_told}
 use Rattle.x25_pipe.specs.Stands.{Stands, IsStep, IsError, answer_told}
 use Rattle.x25_pipe.specs.declared.pipe.Pipe.{Pipe}

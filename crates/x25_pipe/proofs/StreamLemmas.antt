@@ -3,12 +3,12 @@ use Rattle.std.proofs.Common.{◌≡◌, ◌∙◌, ℕ, false, List, [], ◌∷
 use Rattle.std.specs.Io.KnownBytes.{Appends}
 use Rattle.std.proofs.lemmas.Bool.{ne_eqb}
 use Rattle.std.proofs.lemmas.List.{append-nil}
-use Rattle.x25_program.specs.Lines.{IsOpen, lines_of}
-use Rattle.x25_program.specs.Written.{AppendsBeginning}
+use Rattle.x25_io.specs.Lines.{IsOpen, lines_of}
+use Rattle.x25_io.specs.Written.{AppendsBeginning}
 use Rattle.x25_station.specs.Settings.{Settings}
 use Rattle.x25_station.specs.Station.{Station}
 use Rattle.x25_pipe.specs.Piped.{Turn, quiet, and_then, turn, turns, sayings_text, has_refusal}
-use Rattle.x25_console.specs.HeldLine.{HoldsLine}
+use Rattle.x25_io.specs.HeldLine.{HoldsLine}
 use Rattle.x25_pipe.specs.Stands.{Stands}
 use Rattle.x25_pipe.specs.Leaves.{Leaves}
 use Rattle.x25_pipe.specs.Stream.{Leads, WritesEnded}

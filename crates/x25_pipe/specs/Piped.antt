@@ -9,10 +9,10 @@ use Rattle.x25_frame.specs.Spelling.{spelling_of}
 use Rattle.x25_entries.specs.EntryText.{entry_line}
 use Rattle.x25_script.specs.PlainLine.{PlainLine, command, t1, deliver, lose, damage, drain}
 use Rattle.x25_script.specs.Reading.{line_in}
-use Rattle.x25_program.specs.Decoded.{sent_in}
-use Rattle.x25_program.specs.Lines.{lines_of}
+use Rattle.x25_decode.specs.Decoded.{sent_in}
+use Rattle.x25_io.specs.Lines.{lines_of}
 use Rattle.x25_console.specs.Commands.{command_asked}
-use Rattle.x25_console.specs.HeldLine.{most_line}
+use Rattle.x25_io.specs.HeldLine.{most_line}
 use Rattle.x25_console.specs.Lines.{frame_line, refusal_line, nothing_line}
 use Rattle.x25_station.specs.declared.config.Cfg.{Cfg}
 use Rattle.x25_station.specs.declared.error.StationError.{StationError}

@@ -1,7 +1,7 @@
 -- What is held in the midst of an input: a station of which all was told, and what was told.
 use Rattle.std.specs.Prelude.{◌≡◌, ℕ, Bool, ◌||◌, List, ◌++◌, map, Option, Result, Ok, Err, MatchResult}
-use Rattle.x25_program.specs.Written.{AppendsBeginning}
-use Rattle.x25_program.specs.declared.fault.Fault.{Fault}
+use Rattle.x25_io.specs.Written.{AppendsBeginning, Tells}
+use Rattle.x25_io.specs.declared.fault.Fault.{Fault}
 use Rattle.x25_station.specs.declared.error.StationError.{StationError}
 use Rattle.x25_station.specs.declared.station.Station as code
 use Rattle.x25_station.specs.declared.step.Step as code_step
@@ -10,7 +10,6 @@ use Rattle.x25_station.specs.PlainEntry.{plain_entry}
 use Rattle.x25_station.specs.Settings.{Settings}
 use Rattle.x25_station.specs.Station.{Station}
 use Rattle.x25_station.specs.Steps.{Outcome}
-use Rattle.x25_console.specs.Written.{Tells}
 use Rattle.x25_pipe.specs.Piped.{Saying, enters, sends, Turn, sayings_text, has_refusal}
 use Rattle.x25_pipe.specs.declared.pipe.Pipe.{Pipe}
 

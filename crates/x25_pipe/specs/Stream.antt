@@ -1,10 +1,10 @@
 -- What is held in the midst of an input that comes in pieces.
 use Rattle.std.specs.Prelude.{◌≡◌, ℕ, false, List, [], ◌++◌, Option}
 use Rattle.std.specs.Io.KnownBytes.{Appends}
-use Rattle.x25_program.specs.Lines.{IsOpen, lines_of}
+use Rattle.x25_io.specs.Lines.{IsOpen, lines_of}
 use Rattle.x25_station.specs.Settings.{Settings}
 use Rattle.x25_station.specs.Station.{Station}
-use Rattle.x25_console.specs.HeldLine.{HoldsLine}
+use Rattle.x25_io.specs.HeldLine.{HoldsLine}
 use Rattle.x25_pipe.specs.Piped.{Turn, sayings_text, piped, turns}
 use Rattle.x25_pipe.specs.Leaves.{Leaves}
 use Rattle.x25_pipe.specs.declared.answerer.Answerer.{Answerer}

@@ -1,7 +1,6 @@
 //! Lines answered as they come, with at most one line held.
 use crate::pipe::Pipe;
-use x25_console::HeldLine;
-use x25_program::{Fault, Sink, TextTaker, split_line};
+use x25_io::{Fault, HeldLine, Sink, TextTaker, split_line};
 
 /// The line that has begun, and the station.
 #[derive(Drop)]
@@ -13,10 +12,10 @@ pub(crate) struct Answerer {
 impl Answerer {
     ghost use Rattle.std.specs.Prelude.{◌≡◌, ◌++◌, ◌∷◌, [], ℕ, List, Option, true, false, OnOk, IsErrOf, MatchResult};
     ghost use Rattle.std.specs.Io.KnownBytes.{Appends};
-    ghost use Rattle.x25_program.specs.Lines.{IsOpen, lines_of};
-    ghost use Rattle.x25_program.specs.Written.{AppendsBeginning};
+    ghost use Rattle.x25_io.specs.Lines.{IsOpen, lines_of};
+    ghost use Rattle.x25_io.specs.Written.{AppendsBeginning};
     ghost use Rattle.x25_station.specs.Settings.{Settings};
-    ghost use Rattle.x25_console.specs.HeldLine.{HoldsLine};
+    ghost use Rattle.x25_io.specs.HeldLine.{HoldsLine};
     ghost use Rattle.x25_pipe.specs.Leaves.{Leaves};
     ghost use Rattle.x25_pipe.specs.Piped.{Turn, has_refusal, sayings_text, turn, turns};
     ghost use Rattle.x25_pipe.specs.Stands.{Turns};

@@ -13,5 +13,5 @@ mod telling;
 
 pub use law::answers_as_worked;
 pub use running::station;
-pub use x25_program::{Device, Failed, Fault, Sink, Source};
+pub use x25_io::{Device, Failed, Fault, Sink, Source};
 pub use x25_station::{Cfg, Role};

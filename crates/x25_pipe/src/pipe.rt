@@ -5,8 +5,9 @@ ghost use Rattle.x25_pipe.specs.Piped.{is_same as are_same};
 use crate::mark::{Mark, Watch, tells_up};
 use crate::telling::{tell_entries, tell_frames, tell_mark, tell_refusal};
 use std::alloc::Global;
-use x25_console::{Output, station_command, tell_nothing, user_octets};
-use x25_program::{Fault, Sink, read_sent};
+use x25_console::{station_command, tell_nothing, user_octets};
+use x25_decode::read_sent;
+use x25_io::{Fault, Output, Sink};
 use x25_script::{Command, ScriptLine, read_line};
 use x25_station::{Cfg, Role, Station, StationError, Step};
 use x25_text::MOST_OCTETS;
@@ -41,9 +42,8 @@ fn is_memory(error: StationError) -> bool
 impl Pipe {
     ghost use Rattle.std.specs.Prelude.{◌++◌, ◌≤◌, [], ◌∷◌, ℕ, Bool, true, false, List, Option, Some, None, OnOk, OnErr, IfOk, IfErr, IsErrOf, MatchResult, length, take};
     ghost use Rattle.x25_console.specs.Commands.{command_asked};
-    ghost use Rattle.x25_console.specs.HeldLine.{most_line};
-    ghost use Rattle.x25_console.specs.Written.{Tells};
-    ghost use Rattle.x25_program.specs.Written.{AppendsBeginning};
+    ghost use Rattle.x25_io.specs.HeldLine.{most_line};
+    ghost use Rattle.x25_io.specs.Written.{AppendsBeginning, Tells};
     ghost use Rattle.x25_script.specs.PlainLine.{plain, plain_command};
     ghost use Rattle.x25_script.specs.Reading.{line_in};
     ghost use Rattle.x25_station.specs.FitsStation.{FitsStation};

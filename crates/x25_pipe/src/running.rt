@@ -1,7 +1,7 @@
 //! Lines answered by one station.
 ghost use Rattle.std.specs.Prelude.{◌≡◌, ◌<◌, ◌≤◌, ◌-◌, ◌^◌, ℕ, true, List, Some, None, IfOk, OnOk, OnErr, IfSome, IsErrOf, length};
 ghost use Rattle.std.specs.Io.KnownBytes.{Appends};
-ghost use Rattle.x25_program.specs.Written.{AppendsBeginning};
+ghost use Rattle.x25_io.specs.Written.{AppendsBeginning};
 ghost use Rattle.x25_station.specs.Settings.{config_refusal, settings_from};
 ghost use Rattle.x25_pipe.specs.Piped.{piped, station_status, station_text};
 ghost use Rattle.x25_pipe.specs.Stream.{WritesEnded};
@@ -9,8 +9,7 @@ ghost use Rattle.x25_pipe.specs.Stream.{WritesEnded};
 use crate::answerer::Answerer;
 use crate::pipe::Pipe;
 use std::alloc::Global;
-use x25_console::HeldLine;
-use x25_program::{Fault, PIECE, Sink, Source, take_text};
+use x25_io::{Fault, HeldLine, PIECE, Sink, Source, take_text};
 use x25_station::{Cfg, Role};
 
 /// Writes the first mark, has the station at an end do what each line that the reader gives asks for, and answers each line by what

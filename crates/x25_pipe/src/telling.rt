@@ -1,8 +1,7 @@
 //! What is told of a step of the station: a line for each entry and behind these for each frame, and the mark.
 ghost use Rattle.std.specs.Prelude.{◌≡◌, ◌++◌, true, ℕ, List, Option, OnOk, IsErrOf, MatchResult, map};
-ghost use Rattle.x25_program.specs.Written.{AppendsBeginning};
+ghost use Rattle.x25_io.specs.Written.{AppendsBeginning, Tells};
 ghost use Rattle.x25_console.specs.Lines.{refusal_line as line_of_refusal};
-ghost use Rattle.x25_console.specs.Written.{Tells};
 ghost use Rattle.x25_station.specs.PlainEntry.{plain_entry};
 ghost use Rattle.x25_station.specs.StationError.{number_of};
 ghost use Rattle.x25_pipe.specs.Piped.{enters, marks, saying_line, sayings_text, sends};
@@ -10,9 +9,9 @@ ghost use Rattle.x25_pipe.specs.Watched.{plain_mark};
 
 use crate::mark::Mark;
 use std::alloc::Global;
-use x25_console::{Output, frame_line, refusal_line, tell};
+use x25_console::{frame_line, refusal_line, tell};
 use x25_entries::entry_line;
-use x25_program::{Fault, Sink};
+use x25_io::{Fault, Output, Sink};
 use x25_station::{Entry, Role, StationError};
 
 #[tactic(auto, unfolding(crate::specs::Piped::saying_line))]

@@ -1,5 +1,5 @@
 use std::test::Fail;
-use x25_fakes::{FailingReader, FailingWriter};
+use x25_failing_devices::{FailingReader, FailingWriter};
 use x25_pipe::{Cfg, Device, Fault, Role, station};
 
 const USUAL: Cfg = Cfg {

@@ -3,7 +3,7 @@ use Rattle.std.proofs.Common.{◌≡◌, ◌∙◌, ℕ, Bool, List, ◌++◌, O
 use Rattle.std.specs.Prelude.{◌||◌}
 use Rattle.std.proofs.lemmas.List.{append-nil}
 use Rattle.std.proofs.Math.Bool.{or-false}
-use Rattle.x25_program.specs.Written.{AppendsBeginning}
+use Rattle.x25_io.specs.Written.{AppendsBeginning}
 use Rattle.x25_station.specs.declared.config.Cfg.{Cfg}
 use Rattle.x25_world.specs.World.{World}
 use Rattle.x25_sim.specs.declared.stage.Stage.{Stage}
@@ -11,7 +11,7 @@ use Rattle.x25_sim.specs.Sayings.{sayings_text, has_refusal}
 use Rattle.x25_sim.specs.Simulated.{Turn, quiet, and_then}
 use Rattle.x25_sim.specs.Stands.{Stands}
 use Rattle.x25_sim.specs.Leaves.{Leaves}
-use Rattle.x25_console.proofs.ToldLemmas.{beginning_more, begins}
+use Rattle.x25_io.proofs.ToldLemmas.{beginning_more, begins}
 use Rattle.x25_sim.proofs.StandLemmas.{StandsAt, BeginsAt, parts_text, parts_refused}
 
 module _ (cfg : Cfg) (tap : Bool) (old now next : Option (List ℕ)) (s u : Stage) (told : List ℕ) (refused : Bool) (whole : Turn) where

@@ -13,14 +13,14 @@ use Rattle.x25_station.specs.Steps.{Outcome, Did, Refused, fires, commands}
 use Rattle.x25_script.specs.PlainLine.{PlainCommand, call, accept, clear, send, interrupt, reset, ready, not_ready, restart, connect, disconnect, PlainLine, command, t1, deliver, lose, damage, drain}
 use Rattle.x25_script.specs.Reading.{line_in}
 use Rattle.x25_script.specs.ReadingLaw.{AsksInOctets, IsInOctets, ReadsOctets}
-use Rattle.x25_program.specs.Lines.{lines_of}
+use Rattle.x25_io.specs.Lines.{lines_of}
 use Rattle.x25_world.specs.World.{World, OnTap, AtEnd, swapped, Act, Commands, Receives, Fires, Loses, Damages, Event, WorldOutcome, Happened, Declined, of_station, delivered, on_line, is_on_line, acts, swapped_back, acts_at, happens, refusal_of, after, run, AreAccepted, start, connected, established}
 use Rattle.x25_world.specs.declared.error.WorldError.{WorldError}
 use Rattle.x25_world.specs.Claims.{ActsInOctets, AreInOctets, IsUpOnce, IsUpAtMostOnce, IsBeginning, IsNoConnect, NoneConnects, UpOnceUnlessConnected, Always, UntilSecondUp}
 use Rattle.x25_world.specs.SessionClaims.{Throughout}
 use Rattle.x25_sim.specs.Sayings.{Saying, enters, taps, reads_nothing, refuses}
 use Rattle.x25_console.specs.Commands.{command_asked}
-use Rattle.x25_console.specs.HeldLine.{most_line}
+use Rattle.x25_io.specs.HeldLine.{most_line}
 use Rattle.x25_sim.specs.Simulated.{Turn, and_then, step_told, told_between, turn_of, event_turn, next_end, delivered_to, drained, line_turn, asked_in, asked_turn, turn, turns, connecting, set_up, opened, simulated}
 use Rattle.x25_sim.specs.RunLaw.{entries_in, frames_in, begins, IsNoConnectLine, NoneAsks, IsRun, ScriptsAreRuns, OfScripts, OfScriptsSetUp, OfAllScripts, UpOnceUnlessAsked, ScriptsAreTold, ScriptsAreTapped}
 

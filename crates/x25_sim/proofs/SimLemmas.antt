@@ -1,17 +1,17 @@
 -- A whole script.
 use Rattle.std.proofs.Common.{◌≡◌, ℕ, Bool, false, List, [], Option, Some, None, refl, sym, subst}
 use Rattle.std.specs.Prelude.{IfSome}
-use Rattle.x25_program.specs.Lines.{lines_of}
-use Rattle.x25_program.specs.Written.{AppendsBeginning}
+use Rattle.x25_io.specs.Lines.{lines_of}
+use Rattle.x25_io.specs.Written.{AppendsBeginning}
 use Rattle.x25_station.specs.declared.config.Cfg.{Cfg}
 use Rattle.x25_sim.specs.Sayings.{sayings_text, has_refusal}
 use Rattle.x25_sim.specs.Simulated.{turns, opened, simulated, sim_text}
-use Rattle.x25_console.specs.HeldLine.{HoldsLine}
+use Rattle.x25_io.specs.HeldLine.{HoldsLine}
 use Rattle.x25_sim.specs.Stream.{Leads}
-use Rattle.x25_console.specs.declared.held_line.HeldLine.{HeldLine}
+use Rattle.x25_io.specs.declared.held_line.HeldLine.{HeldLine}
 use Rattle.x25_sim.specs.declared.simulator.Simulator.{Simulator}
 use Rattle.x25_sim.specs.declared.stage.Stage.{Stage}
-use Rattle.x25_console.proofs.ToldLemmas.{none_told, begins_more}
+use Rattle.x25_io.proofs.ToldLemmas.{none_told, begins_more}
 use Rattle.x25_sim.proofs.StandLemmas.{StandsAt, BeginsAt, begins_before, parts_text, parts_refused}
 
 pub if_some : (o : Option (List ℕ)) (P : List ℕ → Type 0) → ((script : List ℕ) → o ≡ Some script → P script) → IfSome o P

@@ -3,7 +3,7 @@ use Rattle.std.proofs.Common.{◌≡◌, ◌∙◌, ℕ, Bool, true, false, List
 use Rattle.std.specs.Prelude.{◌⊎◌, ◌||◌}
 use Rattle.std.proofs.lemmas.List.Folds.{list_any-append}
 use Rattle.std.proofs.Math.Bool.{or_assoc, or-false, or-true}
-use Rattle.x25_program.specs.Written.{AppendsBeginning}
+use Rattle.x25_io.specs.Written.{AppendsBeginning, Tells}
 use Rattle.x25_station.specs.declared.config.Cfg.{Cfg}
 use Rattle.x25_world.specs.World.{World, WorldOutcome, refusal_of, after, start, connected}
 use Rattle.x25_world.specs.FitsWorld.{FitsWorld, all_of, nothing_gone}
@@ -13,8 +13,7 @@ use Rattle.x25_sim.specs.Sayings.{Saying, refuses, reads_nothing, sayings_text, 
 use Rattle.x25_sim.specs.Simulated.{Turn, and_then, turn_of, told_between, asked_turn, connecting, opened}
 use Rattle.x25_sim.specs.Stands.{Stands, opening}
 use Rattle.x25_console.specs.Lines.{refusal_line}
-use Rattle.x25_console.specs.Written.{Tells}
-use Rattle.x25_console.proofs.ToldLemmas.{beginning_more}
+use Rattle.x25_io.proofs.ToldLemmas.{beginning_more}
 use Rattle.x25_sim.proofs.SayingLemmas.{text-append}
 use Rattle.x25_sim.proofs.StepLemmas.{happened_turn, declined_turn, step_accepts, refusal_told}
 

@@ -3,13 +3,13 @@ use Rattle.std.proofs.Common.{◌≡◌, ◌∙◌, ℕ, Bool, false, List, [], 
 use Rattle.std.specs.Io.KnownBytes.{Appends}
 use Rattle.std.proofs.lemmas.Bool.{ne_eqb}
 use Rattle.std.proofs.lemmas.List.{append-nil}
-use Rattle.x25_program.specs.Lines.{IsOpen, lines_of}
-use Rattle.x25_program.specs.Written.{AppendsBeginning}
+use Rattle.x25_io.specs.Lines.{IsOpen, lines_of}
+use Rattle.x25_io.specs.Written.{AppendsBeginning}
 use Rattle.x25_station.specs.declared.config.Cfg.{Cfg}
 use Rattle.x25_world.specs.World.{World}
 use Rattle.x25_sim.specs.Sayings.{sayings_text, has_refusal}
 use Rattle.x25_sim.specs.Simulated.{Turn, quiet, and_then, turn, turns}
-use Rattle.x25_console.specs.HeldLine.{HoldsLine}
+use Rattle.x25_io.specs.HeldLine.{HoldsLine}
 use Rattle.x25_sim.specs.Stands.{Stands}
 use Rattle.x25_sim.specs.Leaves.{Leaves}
 use Rattle.x25_sim.specs.Stream.{Leads, WritesEnded}

@@ -3,7 +3,7 @@ use Rattle.std.specs.Prelude.{◌≡◌, ℕ, Bool, true, false, List, [], ◌�
 use Rattle.x25_station.specs.declared.config.Cfg.{Cfg}
 use Rattle.x25_station.specs.Settings.{config_refusal}
 use Rattle.x25_script.specs.PlainLine.{connect, PlainLine, command}
-use Rattle.x25_program.specs.Lines.{lines_of}
+use Rattle.x25_io.specs.Lines.{lines_of}
 use Rattle.x25_world.specs.World.{World, OnTap, AtEnd, Event, AreAccepted, run, start, established}
 use Rattle.x25_world.specs.Claims.{AreInOctets, IsUpOnce, IsUpAtMostOnce, NoneConnects}
 use Rattle.x25_sim.specs.Sayings.{Saying, enters, taps, reads_nothing, refuses}

@@ -7,9 +7,9 @@ use Rattle.x25_bits.specs.declared.role.Role.TheVariants.{Dte, Dce}
 use Rattle.x25_station.specs.declared.config.Cfg.{Cfg}
 use Rattle.x25_script.specs.PlainLine.{PlainLine, command, t1, deliver, lose, damage, drain}
 use Rattle.x25_script.specs.Reading.{line_in}
-use Rattle.x25_program.specs.Lines.{lines_of}
+use Rattle.x25_io.specs.Lines.{lines_of}
 use Rattle.x25_console.specs.Commands.{command_asked}
-use Rattle.x25_console.specs.HeldLine.{most_line}
+use Rattle.x25_io.specs.HeldLine.{most_line}
 use Rattle.x25_world.specs.World.{World, OnTap, AtEnd, Event, Commands, Receives, Fires, Loses, Damages, WorldOutcome, Happened, Declined, happens, start, connected}
 use Rattle.x25_sim.specs.Sayings.{Saying, enters, taps, reads_nothing, refuses, sayings_text, has_refusal}
 

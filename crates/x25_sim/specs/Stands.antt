@@ -3,11 +3,10 @@ use Rattle.std.specs.Prelude.{◌≡◌, ℕ, Bool, true, false, ◌||◌, List,
 use Rattle.x25_station.specs.declared.config.Cfg.{Cfg}
 use Rattle.x25_world.specs.World.{World, start, connected}
 use Rattle.x25_world.specs.FitsWorld.{FitsWorld, all_of, nothing_gone}
-use Rattle.x25_program.specs.Written.{AppendsBeginning}
-use Rattle.x25_program.specs.declared.fault.Fault.{Fault}
+use Rattle.x25_io.specs.Written.{AppendsBeginning, Tells}
+use Rattle.x25_io.specs.declared.fault.Fault.{Fault}
 use Rattle.x25_sim.specs.Sayings.{sayings_text, has_refusal}
 use Rattle.x25_sim.specs.Simulated.{Turn}
-use Rattle.x25_console.specs.Written.{Tells}
 use Rattle.x25_sim.specs.declared.stage.Stage.{Stage}
 
 -- The writer held `old` at first and holds `now`.

@@ -1,12 +1,12 @@
 -- What the simulator holds in the midst of a script that comes in pieces.
 use Rattle.std.specs.Prelude.{◌≡◌, ℕ, Bool, false, List, [], ◌++◌, Option}
 use Rattle.std.specs.Io.KnownBytes.{Appends}
-use Rattle.x25_program.specs.Lines.{IsOpen, lines_of}
+use Rattle.x25_io.specs.Lines.{IsOpen, lines_of}
 use Rattle.x25_station.specs.declared.config.Cfg.{Cfg}
 use Rattle.x25_world.specs.World.{World}
 use Rattle.x25_sim.specs.Sayings.{sayings_text}
 use Rattle.x25_sim.specs.Simulated.{Turn, simulated, turns}
-use Rattle.x25_console.specs.HeldLine.{HoldsLine}
+use Rattle.x25_io.specs.HeldLine.{HoldsLine}
 use Rattle.x25_sim.specs.Leaves.{Leaves}
 use Rattle.x25_sim.specs.declared.simulator.Simulator.{Simulator}
 

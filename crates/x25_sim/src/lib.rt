@@ -11,5 +11,5 @@ mod telling;
 
 pub use law::{scripts_are_runs, scripts_keep_order, scripts_meet_in_sessions, scripts_move};
 pub use running::sim;
-pub use x25_program::{Device, Failed, Fault, Sink, Source};
+pub use x25_io::{Device, Failed, Fault, Sink, Source};
 pub use x25_station::Cfg;

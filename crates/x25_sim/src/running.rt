@@ -1,7 +1,7 @@
 //! Scripts answered by transcripts.
 ghost use Rattle.std.specs.Prelude.{◌≡◌, ◌<◌, ◌≤◌, ◌-◌, ◌^◌, ℕ, true, List, Some, None, IfOk, OnOk, OnErr, IfSome, IsErrOf, length};
 ghost use Rattle.std.specs.Io.KnownBytes.{Appends};
-ghost use Rattle.x25_program.specs.Written.{AppendsBeginning};
+ghost use Rattle.x25_io.specs.Written.{AppendsBeginning};
 ghost use Rattle.x25_station.specs.Settings.{config_refusal};
 ghost use Rattle.x25_sim.specs.Simulated.{simulated, sim_status, sim_text};
 ghost use Rattle.x25_sim.specs.Stream.{WritesEnded};
@@ -13,8 +13,7 @@ use crate::law::{scripts_keep_order, scripts_meet_in_sessions};
 use crate::simulator::Simulator;
 use crate::stage::Stage;
 use std::alloc::Global;
-use x25_console::HeldLine;
-use x25_program::{Fault, PIECE, Sink, Source, take_text};
+use x25_io::{Fault, HeldLine, PIECE, Sink, Source, take_text};
 use x25_station::Cfg;
 
 /// Sets two stations up over a line, does what the lines of the script that the reader gives ask for, and writes what

@@ -1,12 +1,11 @@
 //! A script, a piece at a time.
 ghost use Rattle.std.specs.Prelude.{ℕ, List};
 ghost use Rattle.x25_script.specs.Reading.{GivesLine};
-ghost use Rattle.x25_console.specs.HeldLine.{HoldsLine};
+ghost use Rattle.x25_io.specs.HeldLine.{HoldsLine};
 ghost use Rattle.x25_sim.specs.Simulated.{asked_in};
 
 use crate::stage::Stage;
-use x25_console::HeldLine;
-use x25_program::{Fault, Sink, TextTaker, split_line};
+use x25_io::{Fault, HeldLine, Sink, TextTaker, split_line};
 use x25_script::{ScriptLine, read_line};
 
 /// The line that has begun, and the stations.
@@ -28,8 +27,8 @@ fn script_line(held: &HeldLine) -> Option<ScriptLine<'_>>
 impl Simulator {
     ghost use Rattle.std.specs.Prelude.{◌≡◌, ◌++◌, ◌∷◌, [], true, false, Bool, Option, OnOk, IsErrOf, MatchResult};
     ghost use Rattle.std.specs.Io.KnownBytes.{Appends};
-    ghost use Rattle.x25_program.specs.Lines.{IsOpen, lines_of};
-    ghost use Rattle.x25_program.specs.Written.{AppendsBeginning};
+    ghost use Rattle.x25_io.specs.Lines.{IsOpen, lines_of};
+    ghost use Rattle.x25_io.specs.Written.{AppendsBeginning};
     ghost use Rattle.x25_station.specs.declared.config.Cfg.{Cfg as Settings};
     ghost use Rattle.x25_sim.specs.Sayings.{has_refusal, sayings_text};
     ghost use Rattle.x25_sim.specs.Simulated.{Turn, turn, turns};

@@ -7,8 +7,8 @@ ghost use Rattle.x25_sim.specs.Stands.{opening};
 
 use crate::telling::{tell_entries, tell_frames, tell_refusal};
 use std::alloc::Global;
-use x25_console::{Output, octets_of, station_command, tell_nothing, user_octets};
-use x25_program::{Fault, Sink};
+use x25_console::{octets_of, station_command, tell_nothing, user_octets};
+use x25_io::{Fault, Output, Sink};
 use x25_script::{Command, ScriptLine};
 use x25_station::Cfg;
 use x25_world::{Direction, Event, Role, World, WorldError};
@@ -54,7 +54,7 @@ fn away_from(end: Role) -> Direction
 impl Stage {
     ghost use Rattle.std.specs.Prelude.{◌≡◌, ◌⊎◌, ◌++◌, true, ℕ, List, Bool, Option, Some, None, [], false, OnOk, OnErr, IfErr, IsErrOf, MatchResult, option_map};
     ghost use Rattle.x25_script.specs.PlainLine.{plain, plain_command};
-    ghost use Rattle.x25_program.specs.Written.{AppendsBeginning};
+    ghost use Rattle.x25_io.specs.Written.{AppendsBeginning, Tells};
     ghost use Rattle.x25_station.specs.declared.config.Cfg.{Cfg as Settings};
     ghost use Rattle.x25_world.specs.World.{World as State, Commands, WorldOutcome, event_of, refusal_of};
     ghost use Rattle.x25_world.specs.FitsWorld.{all_of};
@@ -62,7 +62,6 @@ impl Stage {
     ghost use Rattle.x25_console.specs.Commands.{command_asked};
     ghost use Rattle.x25_sim.specs.Simulated.{asked_turn, drained, event_turn, line_turn, next_end, opened, set_up, step_told, told_between, turn_of};
     ghost use Rattle.x25_sim.specs.Stands.{IsOpening, Stands, Stood, Turns};
-    ghost use Rattle.x25_console.specs.Written.{Tells};
 
     /// The first world, of which nothing was told.
     #[tactic(auto, unfolding(crate::specs::Stands::IsOpening))]

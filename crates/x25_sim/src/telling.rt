@@ -1,15 +1,14 @@
 //! What is told of a step: a line for each entry, and for each frame where frames are asked for.
 ghost use Rattle.std.specs.Prelude.{◌≡◌, ◌++◌, true, ℕ, List, Option, OnOk, IsErrOf, MatchResult, map};
-ghost use Rattle.x25_program.specs.Written.{AppendsBeginning};
+ghost use Rattle.x25_io.specs.Written.{AppendsBeginning, Tells};
 ghost use Rattle.x25_world.specs.PlainTold.{plain_entered, plain_tapped};
 ghost use Rattle.x25_console.specs.Lines.{refusal_line as line_of_refusal};
 ghost use Rattle.x25_sim.specs.Sayings.{enters, taps, refusal_number as number_of_refusal, saying_line, sayings_text};
-ghost use Rattle.x25_console.specs.Written.{Tells};
 
 use std::alloc::Global;
-use x25_console::{Output, frame_line, refusal_line, tell};
+use x25_console::{frame_line, refusal_line, tell};
 use x25_entries::entry_line;
-use x25_program::{Fault, Sink};
+use x25_io::{Fault, Output, Sink};
 use x25_world::{Entered, Role, Tapped, WorldError};
 
 /// The number of a refusal, the station's own where the station refuses.

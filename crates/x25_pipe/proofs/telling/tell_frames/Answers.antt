@@ -1,8 +1,8 @@
 use Rattle.std.proofs.Common.{◌++◌, append_assoc, take, map, subst}
 use Rattle.std.proofs.lemmas.Result.{err_from_is_err_and}
-use Rattle.x25_program.specs.Written.{AppendsBeginning}
+use Rattle.x25_io.specs.Written.{AppendsBeginning}
 use Rattle.x25_pipe.specs.Piped.{sends, saying_line, sayings_text}
-use Rattle.x25_console.proofs.ToldLemmas.{part_of_all}
+use Rattle.x25_io.proofs.ToldLemmas.{part_of_all}
 use Rattle.x25_pipe.proofs.SayingLemmas.{all_parts}
 use Rattle.x25_pipe.proofs.telling.tell_frames.Goals as goal
 

@@ -1,6 +1,5 @@
 use Rattle.std.proofs.Common.{◌++◌, MatchResult, subst}
-use Rattle.x25_program.specs.Written.{AppendsBeginning}
-use Rattle.x25_console.specs.Written.{Tells}
+use Rattle.x25_io.specs.Written.{AppendsBeginning, Tells}
 use Rattle.x25_pipe.proofs.telling.tell_mark.Goals as goal
 
 pub returns-clause-tells : goal.returns-clause-tells

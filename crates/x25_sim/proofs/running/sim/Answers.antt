@@ -1,7 +1,7 @@
 use Rattle.std.proofs.Common.{◌∙◌}
 use Rattle.std.proofs.lemmas.Result.{err_from_is_err_and, on_ok_weaker}
 use Rattle.x25_sim.specs.Simulated.{sim_text}
-use Rattle.x25_console.proofs.ToldLemmas.{none_told}
+use Rattle.x25_io.proofs.ToldLemmas.{none_told}
 use Rattle.x25_sim.proofs.SimLemmas.{if_some, nothing_written, opening_failed, script_begins}
 use Rattle.x25_sim.proofs.WritesLemmas.{all_of_scripts, written_in_sessions, written_once, written_set_up}
 use Rattle.x25_world.specs.Claims.{ArrivesAll, HasNoProcedureError, IsInWindow, IsLawful, IsNamed}

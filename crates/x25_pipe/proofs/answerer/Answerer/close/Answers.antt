@@ -1,6 +1,6 @@
 use Rattle.std.proofs.Common.{◌∷◌, refl}
 use Rattle.std.proofs.lemmas.Result.{MatchResult-weaker}
-use Rattle.x25_console.proofs.ToldLemmas.{with_ok}
+use Rattle.x25_io.proofs.ToldLemmas.{with_ok}
 use Rattle.x25_pipe.proofs.StreamLemmas.{held_more, line_done, line_failed}
 use Rattle.x25_pipe.proofs.answerer.Answerer.close.Goals as goal
 

@@ -1,5 +1,5 @@
 use Rattle.std.proofs.Common.{◌≤◌, length, sym, subst}
-use Rattle.x25_console.specs.HeldLine.{most_line}
+use Rattle.x25_io.specs.HeldLine.{most_line}
 use Rattle.x25_pipe.specs.Piped.{asked_turn, turn}
 use Rattle.x25_pipe.specs.Stands.{Stood, Turns}
 use Rattle.x25_pipe.proofs.LineLemmas.{event_long}

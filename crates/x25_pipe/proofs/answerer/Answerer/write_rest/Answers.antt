@@ -1,5 +1,5 @@
 use Rattle.std.proofs.lemmas.Result.{MatchResult-weaker}
-use Rattle.x25_console.proofs.ToldLemmas.{with_ok}
+use Rattle.x25_io.proofs.ToldLemmas.{with_ok}
 use Rattle.x25_pipe.proofs.StreamLemmas.{left_written, left_begun, whole_told}
 use Rattle.x25_pipe.proofs.answerer.Answerer.write_rest.Goals as goal
 

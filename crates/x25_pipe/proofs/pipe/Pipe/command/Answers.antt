@@ -1,7 +1,7 @@
 use Rattle.std.proofs.Common.{refl, subst}
 use Rattle.x25_station.specs.Command.{command_of}
 use Rattle.x25_station.specs.TimerLaw.{Asks, outcome}
-use Rattle.x25_console.proofs.ToldLemmas.{begins_more}
+use Rattle.x25_io.proofs.ToldLemmas.{begins_more}
 use Rattle.x25_pipe.specs.Piped.{event_turn}
 use Rattle.x25_pipe.specs.Stands.{Stood}
 use Rattle.x25_pipe.proofs.pipe.Pipe.command.Goals as goal

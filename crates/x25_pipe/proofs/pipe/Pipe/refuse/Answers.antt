@@ -1,7 +1,7 @@
 use Rattle.std.proofs.Common.{◌++◌, ◌∷◌, [], refl, sym, subst}
 use Rattle.std.proofs.lemmas.Result.{err_from_is_err_and, MatchResult-weaker}
-use Rattle.x25_program.specs.Written.{AppendsBeginning}
-use Rattle.x25_console.proofs.ToldLemmas.{begins_more}
+use Rattle.x25_io.specs.Written.{AppendsBeginning}
+use Rattle.x25_io.proofs.ToldLemmas.{begins_more}
 use Rattle.x25_pipe.specs.Piped.{mark_turn, refuses, said, sayings_text, standing, turn_of}
 use Rattle.x25_pipe.specs.Stands.{Stood}
 use Rattle.x25_pipe.proofs.StandLemmas.{begins_before, begins_behind, begins_told, error_is, refusal_said, stands_behind, stands_refused}

@@ -1,9 +1,8 @@
 use Rattle.std.proofs.Common.{◌∙◌, ◌++◌, map, ap, subst}
 use Rattle.std.proofs.lemmas.Result.{err_from_is_err_and, MatchResult-weaker}
-use Rattle.x25_program.specs.Written.{AppendsBeginning}
+use Rattle.x25_io.specs.Written.{AppendsBeginning, Tells}
 use Rattle.x25_station.specs.PlainEntry.{plain_entry}
-use Rattle.x25_console.specs.Written.{Tells}
-use Rattle.x25_console.proofs.ToldLemmas.{part_of_all}
+use Rattle.x25_io.proofs.ToldLemmas.{part_of_all}
 use Rattle.x25_pipe.specs.Piped.{enters, sends, sayings_text}
 use Rattle.x25_pipe.proofs.SayingLemmas.{text-append, parts_text}
 use Rattle.x25_pipe.proofs.pipe.Pipe.tell_answer.Goals as goal

@@ -1,10 +1,9 @@
 use Rattle.std.proofs.Common.{◌∙◌, ◌++◌, map, ap, sym, subst}
 use Rattle.std.proofs.lemmas.Result.{err_from_is_err_and, MatchResult-weaker}
-use Rattle.x25_program.specs.Written.{AppendsBeginning}
+use Rattle.x25_io.specs.Written.{AppendsBeginning, Tells}
 use Rattle.x25_station.specs.PlainEntry.{plain_entry}
 use Rattle.x25_station.specs.Steps.{Did}
 use Rattle.x25_station.specs.TimerLaw.{mark, tells_up}
-use Rattle.x25_console.specs.Written.{Tells}
 use Rattle.x25_pipe.specs.Piped.{mark_turn, said, sayings_text, step_told, turn_of}
 use Rattle.x25_pipe.specs.Stands.{IsStep, Stood, answer_told}
 use Rattle.x25_pipe.proofs.StandLemmas.{begins_before, begins_behind, begins_step, is_step, stands_behind, stands_told}

@@ -1,6 +1,6 @@
 use Rattle.std.proofs.Common.{◌++◌, sym, subst}
 use Rattle.std.proofs.lemmas.Result.{err_from_is_err_and}
-use Rattle.x25_program.specs.Written.{AppendsBeginning}
+use Rattle.x25_io.specs.Written.{AppendsBeginning}
 use Rattle.x25_world.specs.FitsWorld.{FitsWorld, all_of}
 use Rattle.x25_sim.specs.Sayings.{sayings_text}
 use Rattle.x25_sim.proofs.StepLemmas.{new_told}

@@ -1,4 +1,4 @@
-use Rattle.x25_console.proofs.ToldLemmas.{begins_more}
+use Rattle.x25_io.proofs.ToldLemmas.{begins_more}
 use Rattle.x25_sim.proofs.stage.Stage.obey.Goals as goal
 
 pub returns-in_default-clause-turns : goal.returns-in_default-clause-turns

@@ -1,6 +1,6 @@
 use Rattle.std.proofs.Common.{refl}
 use Rattle.std.proofs.lemmas.Result.{MatchResult-weaker}
-use Rattle.x25_console.proofs.ToldLemmas.{begins_more}
+use Rattle.x25_io.proofs.ToldLemmas.{begins_more}
 use Rattle.x25_sim.proofs.StandLemmas.{stands_refused, begins_refused, refusal_is}
 use Rattle.x25_sim.proofs.stage.Stage.refuse.Goals as goal
 

@@ -1,9 +1,8 @@
 use Rattle.std.proofs.Common.{◌++◌, subst, map}
 use Rattle.std.proofs.lemmas.Result.{err_from_is_err_and, MatchResult-weaker}
-use Rattle.x25_program.specs.Written.{AppendsBeginning}
-use Rattle.x25_console.specs.Written.{Tells}
+use Rattle.x25_io.specs.Written.{AppendsBeginning, Tells}
 use Rattle.x25_sim.specs.Sayings.{enters, sayings_text}
-use Rattle.x25_console.proofs.ToldLemmas.{part_of_all}
+use Rattle.x25_io.proofs.ToldLemmas.{part_of_all}
 use Rattle.x25_sim.proofs.StepLemmas.{entries_first, both_told}
 use Rattle.x25_sim.proofs.stage.Stage.tell_step.Goals as goal
 

@@ -1,0 +1,4 @@
+pub mod StreamLemmas
+pub mod HeldLemmas
+pub mod VectorLemmas
+pub mod VerdictLemmas

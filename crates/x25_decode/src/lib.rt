@@ -1,0 +1,13 @@
+//! `decode` and the stored test vectors, over any readers and writers: lines of a trace answered by lines of text.
+//!
+//! docs/FORMATS.md has the lines and their answers. Profile.
+#![tactic(auto)]
+
+mod answer;
+mod decoder;
+mod decoding;
+mod test_vectors;
+
+pub use answer::read_sent;
+pub use decoding::decode_lines;
+pub use test_vectors::{vectors, vectors_hold};

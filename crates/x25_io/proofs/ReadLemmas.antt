@@ -1,0 +1,46 @@
+-- From the pieces that are read to the whole text.
+use Rattle.std.proofs.Common.{◌≡◌, ◌∙◌, ◌+◌, ◌≤◌, ℕ, List, [], ◌++◌, length, take, Option, Some, None, Result, Ok, Err, ap, sym, subst, refl, arith}
+use Rattle.std.specs.Prelude.{IfSome, IfOk, OnErr}
+use Rattle.std.specs.Io.KnownBytes.{Consumes, IsAtEnd, Keeps}
+use Rattle.std.proofs.lemmas.List.{length-append, length-take-le}
+use Rattle.std.proofs.lemmas.Option.{same_Some}
+use Rattle.x25_io.specs.declared.fault.Fault.{Fault}
+
+-- what is left behind the octets read
+pub consumed : (a b : Option (List ℕ)) (rest octets : List ℕ) → a ≡ Some rest → Consumes a b octets
+    → (more : List ℕ) × (b ≡ Some more) × (rest ≡ octets ++ more)
+consumed None b rest octets e h = let bad : None ≡ Some rest = e in cc bad
+consumed (Some xs) None rest octets e h = absurd h
+consumed (Some xs) (Some ys) rest octets e h = (ys, refl, sym (same_Some xs rest e) ∙ h)
+
+-- a failed read keeps what is left
+pub kept : (a b : Option (List ℕ)) (rest : List ℕ) → a ≡ Some rest → Keeps a b → b ≡ Some rest
+kept None b rest e h = let bad : None ≡ Some rest = e in cc bad
+kept (Some xs) None rest e h = absurd h
+kept (Some xs) (Some ys) rest e h = ap (λ o. Some o) h ∙ e
+
+pub at_end : (a b : Option (List ℕ)) (rest octets : List ℕ) (count : ℕ) → a ≡ Some rest → Consumes a b (take count octets) → count ≡ 0 → IsAtEnd b → rest ≡ []
+at_end a b rest octets count e h none end =
+    let left = consumed a b rest (take count octets) e h in left.2 ∙ ap (λ n. take n octets ++ left.0) none ∙ subst IsAtEnd left.1 end
+
+-- a read gives an octet at least
+pub fewer : (counter count : ℕ) (rest buffer more input : List ℕ) → rest ≡ take count buffer ++ more → count ≤ length buffer → (count ≡ 0 → ⊥)
+    → counter + length rest ≤ length input → counter + 1 + length more ≤ length input
+fewer counter count rest buffer more input split fits some before =
+    let size : length rest ≡ length (take count buffer) + length more = ap length split ∙ length-append (take count buffer) more in
+    omega (arith, size, length-take-le count buffer fits, some, before)
+
+pub if_some : (o : Option (List ℕ)) (P : List ℕ → Type 0) → ((input : List ℕ) → o ≡ Some input → P input) → IfSome o P
+if_some None P f = tt
+if_some (Some input) P f = f input refl
+
+-- what a run came to, where its input is known
+pub told_ok : (o : Option (List ℕ)) (r : Result ℕ Fault) (K : List ℕ → Type 0) (A : ℕ → List ℕ → Type 0) → ((input : List ℕ) → o ≡ Some input → K input → IfOk r (λ n. A n input))
+    → IfOk r (λ n. IfSome o (λ input. K input → A n input))
+told_ok o (Ok n) K A told = if_some o (λ input. K input → A n input) told
+told_ok o (Err fault) K A told = tt
+
+pub told_fault : (o : Option (List ℕ)) (r : Result ℕ Fault) (K A : List ℕ → Type 0) → ((input : List ℕ) → o ≡ Some input → K input → OnErr r (A input))
+    → OnErr r (IfSome o (λ input. K input → A input))
+told_fault o (Ok n) K A told = tt
+told_fault o (Err fault) K A told = if_some o (λ input. K input → A input) told

@@ -1,0 +1,73 @@
+//! The line that has begun.
+ghost use Rattle.std.specs.Prelude.{◌≤◌, vec_len, vec_capacity};
+
+use std::alloc::{AllocError, Global};
+
+/// The most characters of a line, without its line feed.
+const MOST_LINE: usize = 131_200;
+
+/// The line that has begun, as far as it is held: its characters, or that it is too long. No call but `new` takes memory.
+#[derive(Drop)]
+pub struct HeldLine {
+    characters: Vec<u8>,
+    is_long: bool,
+    ghost few: { vec_len characters ≤ 131200 },
+    ghost room: { 131200 ≤ vec_capacity characters },
+}
+
+impl HeldLine {
+    ghost use Rattle.std.specs.Prelude.{◌≡◌, ◌≤◌, ◌<◌, ◌++◌, ◌↔◌, [], ℕ, List, IfOk, IsTrue, MatchOption, length};
+    ghost use Rattle.x25_io.specs.HeldLine.{HoldsLine, most_line};
+
+    /// No line has begun.
+    pub fn new(alloc: Global) -> Result<HeldLine, AllocError>
+        ensures { IfOk result (HoldsLine []) }
+    {
+        let characters = Vec::with_capacity(alloc, MOST_LINE)?;
+        Ok(HeldLine {
+            characters,
+            is_long: false,
+        })
+    }
+
+    /// Holds what follows of the line.
+    pub fn hold(&mut self, part: &[u8])
+        ensures { (begun : List ℕ) → HoldsLine begun self.old → HoldsLine (begun ++ part.now) self.new }
+    {
+        if self.is_long {
+            return;
+        }
+        if MOST_LINE - self.characters.len() < part.len() {
+            self.is_long = true;
+        } else {
+            self.characters.extend_from_slice(part).unwrap();
+        }
+    }
+
+    /// Whether no line has begun.
+    pub fn is_empty(&self) -> bool
+        ensures { (begun : List ℕ) → HoldsLine begun self.now → (IsTrue result ↔ (begun ≡ [])) }
+    {
+        !self.is_long && self.characters.is_empty()
+    }
+
+    /// The line, where it isn't too long.
+    pub fn line(&self) -> Option<&[u8]>
+        ensures { (begun : List ℕ) → HoldsLine begun self.now
+            → MatchOption result (most_line < length begun) (λ line. (line.now ≡ begun) × (length begun ≤ most_line)) }
+    {
+        if self.is_long {
+            None
+        } else {
+            Some(self.characters.as_slice())
+        }
+    }
+
+    /// The line has ended.
+    pub fn clear(&mut self)
+        ensures { HoldsLine [] self.new }
+    {
+        self.characters.clear();
+        self.is_long = false;
+    }
+}

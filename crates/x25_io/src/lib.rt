@@ -1,0 +1,19 @@
+//! What programs over readers and writers share: devices that remember a fault, a text in pieces, its lines, the line that has
+//! begun, text on its way to a writer, and what ends a run. Profile.
+#![tactic(auto)]
+
+mod device;
+mod fault;
+mod held_line;
+mod lines;
+mod output;
+mod pieces;
+mod status;
+
+pub use device::{Device, Failed, Sink, Source, write_all};
+pub use fault::Fault;
+pub use held_line::HeldLine;
+pub use lines::split_line;
+pub use output::Output;
+pub use pieces::{PIECE, TextTaker, take_text};
+pub use status::exit_status;

@@ -1,6 +1,0 @@
-use Rattle.std.proofs.Common.{refl}
-use Rattle.x25_program.proofs.ReadLemmas.{start}
-use Rattle.x25_program.proofs.decoder.Decoder.new.Goals as goal
-
-pub returns : goal.returns
-returns c = λ old input. (refl, start c.args.long_data old _ _ _ _ input c.in_ok-line.ensures refl c.in_ok-text.ensures refl)
