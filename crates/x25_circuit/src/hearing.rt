@@ -217,11 +217,11 @@ impl Circuit {
                 ..
             } => Ok(self.hear_reset(*cause, *diagnostic)),
             Packet::ResetConf { .. } => Ok(self.hear_reset_conf()),
-            Packet::Data { .. } => self.hear_transfer(packet),
-            Packet::Rr { .. } => self.hear_transfer(packet),
-            Packet::Rnr { .. } => self.hear_transfer(packet),
-            Packet::Interrupt { .. } => self.hear_transfer(packet),
-            Packet::InterruptConf { .. } => self.hear_transfer(packet),
+            Packet::Data { .. }
+            | Packet::Rr { .. }
+            | Packet::Rnr { .. }
+            | Packet::Interrupt { .. }
+            | Packet::InterruptConf { .. } => self.hear_transfer(packet),
             Packet::Restart { .. } | Packet::RestartConf => unreachable!(),
         }
     }

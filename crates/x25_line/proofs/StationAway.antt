@@ -2,7 +2,7 @@
 use Rattle.std.proofs.Common.{◌≡◌, ℕ, zero, suc, List, Bool, true, false, if◌then◌else◌, Option, None, Result, Ok, Err, refl, sym, ap, ◌∙◌, subst}
 use Rattle.std.specs.Prelude.{◌&&◌, ◌||◌}
 use Rattle.x25_frame.specs.PlainFrame.{PlainFrame, info, rr, rnr, rej, sabm, disc, ua, dm, frmr}
-use Rattle.x25_frame.specs.Spelling.{is_command}
+use Rattle.x25_frame.specs.Spelling.{is_command, poll_or_final}
 use Rattle.x25_frame.specs.Reading.{frame_of}
 use Rattle.x25_frame.specs.declared.error.FrameError.{FrameError}
 use Rattle.x25_link.specs.declared.phase.Phase.{Phase}
@@ -12,7 +12,7 @@ use Rattle.x25_link.specs.declared.phase.Notes.{Notes}
 use Rattle.x25_link.specs.NoteLaw.{IsQuiet}
 use Rattle.x25_link.specs.Station.{Settings, Station, Side, is_up, sends, pumped, pumped_once, ended}
 use Rattle.x25_link.specs.MustSend.{Step, quiet, other}
-use Rattle.x25_link.specs.Steps.{alone, closed_by, hears, poll_of, take_step, connect_refusal}
+use Rattle.x25_link.specs.Steps.{alone, closed_by, hears, take_step, connect_refusal}
 use Rattle.x25_link.specs.SetUp.{waiting_after, waiting_sends, waiting_up, TakesPart}
 use Rattle.x25_link.specs.WindowLaw.{IsOut, StaysOut}
 use Rattle.x25_line.proofs.StationLines.{AreParting}
@@ -40,7 +40,7 @@ declines_out true s out = record { out = out; frames = tt; packet = refl; quiet 
 declines_out false s out = record { out = out; frames = tt; packet = refl; quiet = refl }
 
 closed_row : (c : Settings) (octets : List ℕ) (s : Station) → IsOut s.phase → (read : Result PlainFrame FrameError) → StaysOut (hears c octets read Closed (alone s))
-closed_row c octets s out (Ok frame) = declines_out (is_command frame && poll_of frame) s out
+closed_row c octets s out (Ok frame) = declines_out (is_command frame && poll_or_final frame) s out
 closed_row c octets s out (Err e) = record { out = out; frames = tt; packet = refl; quiet = refl }
 
 pub closed_takes : (c : Settings) (octets : List ℕ) (s : Station) → s.phase ≡ Closed → StaysOut (take_step c octets s)

@@ -2,6 +2,7 @@
 -- ITU-T X.25 (10/96), sections 2.4.5 to 2.4.7.
 use Rattle.std.specs.Prelude.{ℕ, ◌+◌, ◌*◌, ◌/◌, ◌%◌, ◌==◌, nat_le, Bool, true, false, not, ◌&&◌, if◌then◌else◌, List, [], ◌∷◌, ◌++◌, slice_index, Option, Some, None, Result, Ok, Err}
 use Rattle.x25_bits.specs.declared.role.Role.{Role}
+pub use Rattle.x25_bits.specs.Role.{other}
 use Rattle.x25_bits.specs.declared.role.Role.TheVariants.{Dte, Dce}
 use Rattle.x25_frame.specs.PlainFrame.{PlainFrame, info, rr, rnr, rej, sabm, disc, ua, dm, frmr}
 use Rattle.x25_frame.specs.Spelling.{address_of}
@@ -28,10 +29,6 @@ quiet t = record { side = t; packet = None; notes = record { down = None; up = f
 -- Up is left: the queue and what is unacknowledged are dropped (profile)
 abbrev pub leaves : Reason → Side → Step
 leaves reason t = record { side = with_near t (with_nothing Down t.near.tries); packet = None; notes = record { down = Some reason; up = false } }
-
-abbrev pub other : Role → Role
-other Dte = Dce
-other Dce = Dte
 
 -- ---- FRMR
 

@@ -2,7 +2,7 @@
 -- ITU-T X.25 (10/96), section 2.4.4, and where it leaves a choice the profile.
 use Rattle.std.specs.Prelude.{◌≡◌, ℕ, ◌+◌, ◌==◌, nat_lt, nat_le, Bool, true, false, not, ◌&&◌, ◌||◌, if◌then◌else◌, List, [], Option, Some, None, Result, Ok, Err, IfErr}
 use Rattle.x25_frame.specs.PlainFrame.{PlainFrame, info, rr, rnr, rej, sabm, disc, ua, dm, frmr}
-use Rattle.x25_frame.specs.Spelling.{is_command}
+use Rattle.x25_frame.specs.Spelling.{is_command, poll_or_final}
 use Rattle.x25_frame.specs.Reading.{frame_of}
 use Rattle.x25_frame.specs.declared.error.FrameError.{FrameError}
 use Rattle.x25_link.specs.declared.error.LinkError.{LinkError}
@@ -33,20 +33,9 @@ goes_up t = record { side = with_near t fresh; packet = None; notes = record { d
 
 -- ---- frames outside of Up (sections 2.4.4.1 to 2.4.4.4)
 
-abbrev pub poll_of : PlainFrame → Bool
-poll_of (info ns nr p packet) = p
-poll_of (rr command nr pf) = pf
-poll_of (rnr command nr pf) = pf
-poll_of (rej command nr pf) = pf
-poll_of (sabm p) = p
-poll_of (disc p) = p
-poll_of (ua f) = f
-poll_of (dm f) = f
-poll_of (frmr f why) = f
-
 -- a command with P=1 is answered by DM
 abbrev pub declines : PlainFrame → Side → Side
-declines frame t = if is_command frame && poll_of frame then sends (dm true) t else t
+declines frame t = if is_command frame && poll_or_final frame then sends (dm true) t else t
 
 abbrev pub when_down : PlainFrame → Side → Step
 when_down (sabm p) t = goes_up (sends (ua p) t)

@@ -1,7 +1,7 @@
 //! FRMR: how a station rejects a frame. ITU-T X.25 (10/96), sections 2.3.4.9 and 2.4.7.3.
 ghost use Rattle.std.specs.Prelude.{◌≡◌, ℕ, ◌+◌, ◌*◌, ◌/◌, ◌%◌, ◌<◌, ◌≤◌, ◌==◌, List, length, slice_index, true, if◌then◌else◌};
 ghost use Rattle.x25_frame.specs.PlainFrame.{plain};
-ghost use Rattle.x25_frame.specs.Spelling.{address_of, information_of};
+ghost use Rattle.x25_frame.specs.Spelling.{information_of};
 ghost use Rattle.x25_link.specs.Station.{Settings, Station as StationState, Side};
 ghost use Rattle.x25_link.specs.Backlog.{window_of};
 ghost use Rattle.x25_link.specs.Fits.{FitsStation, FitsSide, FitsHeard};
@@ -10,19 +10,8 @@ ghost use Rattle.x25_link.specs.MustSend.{rejects, reject_of};
 use crate::heard::Heard;
 use crate::outbox::Outbox;
 use crate::phase::Reason;
-use crate::station::{Station, other};
-use x25_bits::Role;
-use x25_frame::Frame;
-
-// The address of the commands of this end.
-fn command_address(from: Role) -> u8
-    ensures { result ≡ address_of from true }
-{
-    match from {
-        Role::Dte => 1,
-        Role::Dce => 3,
-    }
-}
+use crate::station::Station;
+use x25_frame::{Frame, command_address};
 
 // The octet at this place, or 0 where there is none.
 fn octet_at(octets: &[u8], place: usize) -> u8
@@ -55,7 +44,7 @@ impl Station {
         ensures short { length (information_of (plain result)) ≤ 3 }
     {
         let control = octet_at(octets, 1);
-        let command = octet_at(octets, 0) == command_address(other(self.role));
+        let command = octet_at(octets, 0) == command_address(self.role.other());
         let of_response = if command { 0 } else { 16 };
         let numbers = 2 * self.backlog.top().get()
             + of_response

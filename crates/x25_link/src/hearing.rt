@@ -7,27 +7,14 @@ ghost use Rattle.x25_link.specs.Station.{Settings, Station as StationState, Side
 ghost use Rattle.x25_link.specs.Backlog.{window_of, before_in};
 ghost use Rattle.x25_link.specs.Fits.{FitsStation, FitsSide, FitsHeard};
 ghost use Rattle.x25_link.specs.MustSend.{numbered, hears_info, polls, peer_is, goes_back, quiet, row_of_frame, row_of, other};
-ghost use Rattle.x25_link.specs.Steps.{poll_of, declines, when_down, when_waiting, hears, alone, take_step};
+ghost use Rattle.x25_link.specs.Steps.{declines, when_down, when_waiting, hears, alone, take_step};
 
 use crate::heard::Heard;
 use crate::outbox::Outbox;
 use crate::phase::{Phase, Reason};
-use crate::station::{Station, other};
+use crate::station::Station;
 use x25_bits::Seq;
 use x25_frame::{Frame, FrameError, decode};
-
-// Whether the frame is a command with P=1.
-fn is_poll(frame: &Frame) -> bool
-    ensures { result ≡ (is_command (plain frame.now) && poll_of (plain frame.now)) }
-{
-    match frame {
-        Frame::I { p, .. } | Frame::Sabm { p } | Frame::Disc { p } => *p,
-        Frame::Rr { command, pf, .. }
-        | Frame::Rnr { command, pf, .. }
-        | Frame::Rej { command, pf, .. } => *command && *pf,
-        Frame::Ua { .. } | Frame::Dm { .. } | Frame::Frmr { .. } => false,
-    }
-}
 
 impl Station {
     // ---- Up
@@ -164,7 +151,7 @@ impl Station {
         ensures long { out.new.long ≡ out.old.long }
         ensures short { out.old.short ≤ out.new.short + 1 }
     {
-        if is_poll(frame) {
+        if frame.is_poll() {
             self.send(&Frame::Dm { f: true }, out);
         }
     }
@@ -267,7 +254,7 @@ impl Station {
         ensures room { window_of self.new.backlog ≤ out.new.long + before_in self.new.backlog }
         ensures short { out.old.short ≤ out.new.short + 1 }
     {
-        match decode(other(self.role), self.parameters.n1, octets) {
+        match decode(self.role.other(), self.parameters.n1, octets) {
             Ok(frame) => self.hear_read(octets, frame, out),
             Err(error) => self.hear_unread(octets, error, out),
         }

@@ -1,7 +1,7 @@
 ghost use Rattle.std.specs.Prelude.{◌≡◌, ℕ, ◌+◌, ◌<◌, ◌≤◌, ◌&&◌, not, nat_lt, List, length, if◌then◌else◌};
 ghost use Rattle.x25_frame.specs.PlainFrame.{plain};
 ghost use Rattle.x25_frame.specs.Spelling.{information_of};
-ghost use Rattle.x25_link.specs.MustSend.{leaves, other};
+ghost use Rattle.x25_link.specs.MustSend.{leaves};
 ghost use Rattle.x25_link.specs.Station.{Settings, Station as StationState, Side, is_busy, sends, ready, with_nothing, with_near, fresh, may_send, pumped_once, pumped, finished, ended};
 
 use crate::heard::Heard;
@@ -40,16 +40,6 @@ pub struct Station {
     pub rejecting: bool,
     /// RNR was the last of RR and RNR that were sent.
     pub said_busy: bool,
-}
-
-/// The other end.
-pub fn other(role: Role) -> Role
-    ensures { result ≡ other role }
-{
-    match role {
-        Role::Dte => Role::Dce,
-        Role::Dce => Role::Dte,
-    }
 }
 
 impl Station {
