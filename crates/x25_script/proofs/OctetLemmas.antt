@@ -1,6 +1,6 @@
 -- Octets and the hexadecimal digits that write them.
-use Rattle.std.proofs.Common.{ℕ, ◌*◌, ◌%◌, ◌≡◌, ◌∙◌, true, false, List, [], ◌∷◌, length, Option, Some, None, Result, Ok, Err, refl, ap, sym, subst, arith}
-use Rattle.std.specs.Prelude.{◌&&◌, is_some, unwrap_or, MatchResult}
+use Rattle.std.proofs.Common.{ℕ, Bool, ◌*◌, ◌%◌, ◌≡◌, ◌∙◌, true, false, List, [], ◌∷◌, length, Option, Some, None, Result, Ok, Err, if◌then◌else◌, refl, ap, sym, arith}
+use Rattle.std.specs.Prelude.{◌&&◌, is_some, unwrap_or}
 use Rattle.std.specs.Char.{is_ascii_hexdigit}
 use Rattle.std.specs.List.{list_all, AllPass}
 use Rattle.std.specs.Result.{result_ok}
@@ -8,8 +8,8 @@ use Rattle.std.proofs.lemmas.Bool.{and_parts}
 use Rattle.std.proofs.lemmas.Bool.Decides.{nat_tests}
 use Rattle.std.proofs.lemmas.List.Elements.{All-cons, All-head, All-nil, All-tail}
 use Rattle.hex.specs.declared.error.FromHexError.{FromHexError}
-use Rattle.hex.specs.Hex.{decode_of, decode_pairs, decode_sized, is_hex_digit}
-use Rattle.hex.proofs.HexLemmas.{decode_of-ok, decode_of-digits, decode_sized-twice}
+use Rattle.hex.specs.Hex.{decode_of, decode_pairs, is_hex_digit}
+use Rattle.hex.proofs.HexLemmas.{decode_of-ok, decode_of-digits}
 use Rattle.x25_script.specs.Octets.{octets_of, octets_written, AreWritten}
 
 digit_same : (c : ℕ) → is_ascii_hexdigit c ≡ is_hex_digit c
@@ -67,11 +67,7 @@ octets_of_none = refl
 pub length_written : (text : List ℕ) → AreWritten text → length text ≡ 2 * length (octets_written text)
 length_written text h = (decode_of-ok text (octets_written text) (written_decodes text h)).2
 
-pub sized_is : (text : List ℕ) (n : ℕ) → AreWritten text → n ≡ length (octets_written text) → decode_sized text n ≡ Ok (octets_written text)
-sized_is text n h size = let long = length_written text h in decode_sized-twice text n (omega arith) ∙ written_decodes text h
-
--- what decoding into room for the octets answers
-pub decodes_into : {E : Type 0} (sized : Result (List ℕ) E) (r : Result (Unit {0}) E) (octets new : List ℕ) → sized ≡ Ok octets
-    → MatchResult sized (λ bytes. (r ≡ Ok tt) × (new ≡ bytes)) (λ e. r ≡ Err e) → (r ≡ Ok tt) × (new ≡ octets)
-decodes_into {E} sized r octets new e h =
-    subst (λ (s : Result (List ℕ) E). MatchResult s (λ bytes. (r ≡ Ok tt) × (new ≡ bytes)) (λ f. r ≡ Err f)) e h
+-- Where digits are read as far as they write octets, all of them are.
+pub all_read : (text new : List ℕ) (is_read : Bool) → AreWritten text → octets_of text ≡ (if is_read then Some new else None) → new ≡ octets_written text
+all_read text new true h read = ap (λ o. unwrap_or o []) (sym read)
+all_read text new false h read = let lost : Some (octets_written text) ≡ None = sym (written_is text h) ∙ read in absurd (cc)

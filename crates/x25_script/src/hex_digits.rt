@@ -5,6 +5,7 @@ ghost use Rattle.std.specs.List.{list_all};
 ghost use Rattle.x25_script.specs.Octets.{octets_of, octets_written, AreWritten};
 
 use std::marker::Model;
+use x25_text::read_hexadecimal;
 
 fn are_hex_digits(text: &[u8]) -> bool
     ensures { result ≡ list_all is_ascii_hexdigit text.now }
@@ -56,6 +57,7 @@ impl<'a> HexDigits<'a> {
         requires { length octets.old ≡ length self.now }
         ensures { octets.new ≡ self.now }
     {
-        hex::decode_to_slice(self.digits, octets).unwrap();
+        // They are digits, so all of them are read.
+        read_hexadecimal(self.digits, octets);
     }
 }
