@@ -64,6 +64,9 @@ few_messages c v s (suc k) fits is =
     let f = found v.layer.circuits.items k (omega (arith, high, n)) in
     of_circuit c f.item (s.layer.circuits (suc k)) (fits.layer.circuits k f.item f.is)
 
+pub few_held : law.FewHeld
+few_held v k u is = let few = u.transfer.queue.few in omega (arith, few)
+
 pub few_stand : LinkStands → WindowIsSmall → law.FewStand
 few_stand stands small c v s fits =
     let room = (stands (link_settings c) v.link s.link fits.link).room in
