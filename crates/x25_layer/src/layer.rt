@@ -36,6 +36,7 @@ impl Layer {
     ghost use Rattle.x25_layer.specs.Layer.{Layer as State};
     ghost use Rattle.x25_layer.specs.Room.{HasRoom};
     ghost use Rattle.x25_layer.specs.FitsLayer.{FitsLayer, plain_stretch, name_at, params_at, is_open_at, waits_up_to, is_full};
+    ghost use Rattle.x25_layer.specs.InPart.{joined_at};
 
     /// The layer of an end whose link isn't up, with so many channels, 1 to 16. A call has at most 16 octets of user data.
     ///
@@ -116,6 +117,18 @@ impl Layer {
             waits += circuit.waits();
         }
         waits
+    }
+
+    /// How many octets have come of the message of which some packets came on a channel, at most 65,535; 0 where there is none, or the
+    /// channel isn't configured.
+    pub fn octets_joined(&self, channel: u16) -> usize
+        ensures value { (c : LayerSettings) (l : State) → FitsLayer c self.now l → result ≡ joined_at c l channel }
+        ensures short { result ≤ 65535 }
+    {
+        match self.circuit(channel) {
+            Some(circuit) => circuit.octets_joined(),
+            None => 0,
+        }
     }
 
     /// Drops everything, at LinkDown: no restart is under way, and all counts are 0. Memory that was set aside is kept.
