@@ -33,8 +33,8 @@ pub fn puts_are_readable()
     values_are_agreed();
 }
 
-/// What each step of a station keeps, whatever comes: at most 256 packets wait in the link, and the packet layer is at rest where the
-/// link isn't up.
+/// What each step of a station keeps, whatever comes: at most 256 packets wait in the link, and the packet layer is as LinkDown leaves it
+/// where the link isn't up.
 pub fn steps_keep_bounds()
     ensures connect { ConnectKeeps }
     ensures timer { TimerKeeps }
