@@ -5,7 +5,8 @@ use Rattle.x25_circuit.specs.declared.circuit.Circuit as circuit_code
 use Rattle.x25_circuit.specs.Circuit as circuit
 use Rattle.x25_layer.specs.Layer.{is_channel}
 use Rattle.x25_station.specs.declared.station.Station as code
-use Rattle.x25_station.specs.Settings.{Settings}
+use Rattle.x25_layer.specs.InPart.{joined_at}
+use Rattle.x25_station.specs.Settings.{Settings, layer_settings}
 use Rattle.x25_station.specs.Station.{Station}
 use Rattle.x25_station.specs.FitsStation.{FitsStation}
 
@@ -20,6 +21,10 @@ FewStand = (c : Settings) (v : code.Station) (s : Station) → FitsStation c v s
 -- messages that wait in the circuit of each channel
 abbrev pub FewMessages : Type 0
 FewMessages = (c : Settings) (v : code.Station) (s : Station) (h : ℕ) → FitsStation c v s → is_channel c.channels h ≡ true → circuit.waits (s.layer.circuits h) ≤ 8
+
+-- octets of the message of which some packets came, on each channel
+abbrev pub FewJoined : Type 0
+FewJoined = (c : Settings) (v : code.Station) (s : Station) (h : ℕ) → FitsStation c v s → joined_at (layer_settings c) s.layer h ≤ 65535
 
 -- how many messages a circuit holds of those handed down: the one that is cut, or was cut last, and those behind it
 abbrev pub holds : circuit_code.Circuit → ℕ
