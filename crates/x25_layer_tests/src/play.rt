@@ -187,7 +187,9 @@ pub fn happens<L: OrderedLink>(
             layer.down();
             Ok(String::new(alloc))
         }
-        State(_) | Agreed(_) | Waits | Joined(_) | Full | Waiting => looks(alloc, layer, link, event),
+        State(_) | Agreed(_) | Waits | Joined(_) | Full | Waiting => looks(
+            alloc, layer, link, event,
+        ),
         Call(called, calling, user) => {
             channel_text(alloc, layer.call(link, called, calling, user))
         }
