@@ -1,5 +1,5 @@
 -- What a circuit's variables stand for after a small change.
-use Rattle.std.proofs.Common.{◌≡◌, ℕ, ◌+◌, Bool, true, false, IsTrue, if◌then◌else◌, List, [], length, refl, sym, ap, subst, ◌∙◌, ◌==◌, ◌%◌, nat_le, Option, Some, None}
+use Rattle.std.proofs.Common.{◌≡◌, ℕ, ◌+◌, ◌≤◌, Bool, true, false, IsTrue, if◌then◌else◌, List, [], length, refl, sym, ap, subst, ◌∙◌, ◌==◌, ◌%◌, nat_le, Option, Some, None}
 use Rattle.x25_window.specs.Modulo.{resolved}
 use Rattle.x25_window.specs.Receiving.{FitsTaken}
 use Rattle.x25_window.specs.declared.receiver.Receiver.{Receiver}
@@ -34,13 +34,13 @@ pub same_transfer : (c : Settings) (v : code.Circuit) (x : Circuit) (u : Transfe
 same_transfer c v x u fits same = with_transfer c v x u x.talk fits (subst (λ (w : Transfer). FitsTalk (outgoing x).size w x.talk) (sym same) fits.talk)
 
 pub own_fits : (size : ℕ) (v : Transfer) (t : Talk) (b : Bool) → FitsTalk size v t → FitsTalk size (record v { own_ready = b }) (with_own b t)
-own_fits size v t b fits = record { numbers = fits.numbers; taken = fits.taken; rest = fits.rest; part = fits.part; int_out = fits.int_out; peer_ready = fits.peer_ready; own_ready = refl }
+own_fits size v t b fits = record { numbers = fits.numbers; taken = fits.taken; rest = fits.rest; part = fits.part; short = fits.short; int_out = fits.int_out; peer_ready = fits.peer_ready; own_ready = refl }
 
 pub peer_fits : (size : ℕ) (v : Transfer) (t : Talk) (b : Bool) → FitsTalk size v t → FitsTalk size (record v { peer_ready = b }) (with_peer b t)
-peer_fits size v t b fits = record { numbers = fits.numbers; taken = fits.taken; rest = fits.rest; part = fits.part; int_out = fits.int_out; peer_ready = refl; own_ready = fits.own_ready }
+peer_fits size v t b fits = record { numbers = fits.numbers; taken = fits.taken; rest = fits.rest; part = fits.part; short = fits.short; int_out = fits.int_out; peer_ready = refl; own_ready = fits.own_ready }
 
 pub interrupt_fits : (size : ℕ) (v : Transfer) (t : Talk) (b : Bool) → FitsTalk size v t → FitsTalk size (record v { interrupt_out = b }) (with_interrupt b t)
-interrupt_fits size v t b fits = record { numbers = fits.numbers; taken = fits.taken; rest = fits.rest; part = fits.part; int_out = refl; peer_ready = fits.peer_ready; own_ready = fits.own_ready }
+interrupt_fits size v t b fits = record { numbers = fits.numbers; taken = fits.taken; rest = fits.rest; part = fits.part; short = fits.short; int_out = refl; peer_ready = fits.peer_ready; own_ready = fits.own_ready }
 
 pub taken_more : (r : Receiver) (b : Bool) (n m : ℕ) → IsTrue b → FitsTaken r (if b then n + 1 else n) → m ≡ n + 1 → FitsTaken r m
 taken_more r true n m h fits e = rw e fits
@@ -52,7 +52,7 @@ piece_ground_of size j q false user = refl
 
 -- memory that is set aside is no part of what is stood for
 pub partial_fits : (size : ℕ) (v : Transfer) (t : Talk) (p : ShownPartial) → FitsTalk size v t → p.part ≡ v.partial.part → FitsTalk size (record v { partial = p }) t
-partial_fits size v t p fits same = record { numbers = fits.numbers; taken = fits.taken; rest = fits.rest; part = same ∙ fits.part; int_out = fits.int_out; peer_ready = fits.peer_ready; own_ready = fits.own_ready }
+partial_fits size v t p fits same = record { numbers = fits.numbers; taken = fits.taken; rest = fits.rest; part = same ∙ fits.part; short = subst (λ (j : Partial). length j.user ≤ 65535) (sym same) fits.short; int_out = fits.int_out; peer_ready = fits.peer_ready; own_ready = fits.own_ready }
 
 pub waits_are : (size : ℕ) (v : Transfer) (t : Talk) → FitsTalk size v t → wholes t.rest ≡ length (waiting v.queue)
 waits_are size v t fits = ap wholes fits.rest ∙ wholes_all size (waiting v.queue)

@@ -88,6 +88,7 @@ impl PartialMessage {
         requires short { length self.old.part.user + length user.now ≤ 65535 }
         ensures part { self.new.part ≡ joined self.old.part (piece_of q m user.now) }
         ensures message { option_to_list result ≡ completed self.old.part (piece_of q m user.now) }
+        ensures short { length self.new.part.user ≤ 65535 }
     {
         self.user.extend_from_slice(user).unwrap();
         if m {

@@ -1,5 +1,5 @@
 //! A line that grows.
-ghost use Rattle.std.specs.Prelude.{◌≡◌, ◌++◌, [], ℕ, List, IfOk, OnOk, decimal};
+ghost use Rattle.std.specs.Prelude.{◌≡◌, ◌++◌, [], ℕ, List, IfOk, OnOk, OnErr, decimal};
 ghost use Rattle.std.specs.List.{flat_map};
 ghost use Rattle.x25_packet.specs.Spelling.{bit};
 ghost use Rattle.x25_text.specs.OctetText.{octet_text, octets_text};
@@ -12,7 +12,7 @@ use x25_text::hexadecimal_digits;
 /// The characters that are set aside at first.
 const ROOM: usize = 128;
 
-/// Characters, in memory of their own. Each call that appends some may be refused memory.
+/// Characters, in memory of their own. Each call that appends some may be refused memory, and leaves the line as before then.
 #[derive(Drop)]
 pub struct Line {
     alloc: Global,
@@ -43,22 +43,35 @@ impl Line {
     /// Appends the characters.
     pub fn push(&mut self, characters: &[u8]) -> Result<(), AllocError>
         ensures text { OnOk result (self.new ≡ self.old ++ characters.now) }
+        ensures unchanged { OnErr result (self.new ≡ self.old) }
     {
         self.characters.extend_from_slice(characters)
+    }
+
+    // Appends a label and then other characters, in memory that is set aside for both first.
+    fn push_both(&mut self, label: &[u8], rest: &[u8]) -> Result<(), AllocError>
+        ensures text { OnOk result (self.new ≡ self.old ++ (label.now ++ rest.now)) }
+        ensures unchanged { OnErr result (self.new ≡ self.old) }
+    {
+        self.characters.reserve(label.len() + rest.len())?;
+        self.characters.extend_from_slice(label).unwrap();
+        self.characters.extend_from_slice(rest).unwrap();
+        Ok(())
     }
 
     /// Appends a label and then a number in decimal.
     pub fn push_number(&mut self, label: &[u8], number: u64) -> Result<(), AllocError>
         ensures text { OnOk result (self.new ≡ self.old ++ (label.now ++ decimal number)) }
+        ensures unchanged { OnErr result (self.new ≡ self.old) }
     {
         let mut buffer = Buffer::new();
-        self.push(label)?;
-        self.push(buffer.format(number).as_bytes())
+        self.push_both(label, buffer.format(number).as_bytes())
     }
 
     /// Appends a label and then a bit.
     pub fn push_bit(&mut self, label: &[u8], is_set: bool) -> Result<(), AllocError>
         ensures text { OnOk result (self.new ≡ self.old ++ (label.now ++ decimal (bit is_set))) }
+        ensures unchanged { OnErr result (self.new ≡ self.old) }
     {
         self.push_number(label, u64::from(is_set))
     }
@@ -66,6 +79,7 @@ impl Line {
     /// Appends the octets as hexadecimal digits, two for each.
     pub fn push_hexadecimal(&mut self, octets: &[u8]) -> Result<(), AllocError>
         ensures text { OnOk result (self.new ≡ self.old ++ flat_map octet_text octets.now) }
+        ensures unchanged { OnErr result (self.new ≡ self.old) }
     {
         let digits = hexadecimal_digits(self.alloc, octets)?;
         self.push(digits.as_bytes())
@@ -74,11 +88,14 @@ impl Line {
     /// Appends a label and then octets as hexadecimal digits, `-` where there are none.
     pub fn push_octets(&mut self, label: &[u8], octets: &[u8]) -> Result<(), AllocError>
         ensures text { OnOk result (self.new ≡ self.old ++ (label.now ++ octets_text octets.now)) }
+        ensures unchanged { OnErr result (self.new ≡ self.old) }
     {
-        self.push(label)?;
         match octets {
-            [] => self.push(b"-"),
-            _ => self.push_hexadecimal(octets),
+            [] => self.push_both(label, b"-"),
+            _ => {
+                let digits = hexadecimal_digits(self.alloc, octets)?;
+                self.push_both(label, digits.as_bytes())
+            }
         }
     }
 }

@@ -6,7 +6,7 @@ use Rattle.x25_epochs.specs.Handshake.{Side, Live, Left, At, state_of}
 use Rattle.x25_epochs.specs.Layers.{LayerPacket, Channels, LayerStep, OnChannel, Pair, Acts, Takes, LinkDown, first_error, pair_moves, layer_acts, layer_takes}
 use Rattle.x25_epochs.specs.Layers as nested
 use Rattle.x25_epochs.specs.Books.{circuit_at}
-use Rattle.x25_layer.specs.Layer.{LayerSettings, Layer, LayerNotice, LayerAnswer, is_channel, layer_answers, at_rest}
+use Rattle.x25_layer.specs.Layer.{LayerSettings, Layer, LayerNotice, LayerAnswer, is_channel, layer_answers, rested}
 use Rattle.x25_layer.specs.Calls.{LayerOutcome, Accepted, Declined, layer_outcome, LayerPulled, layer_pulled}
 use Rattle.x25_layer.specs.Quiet.{AreQuiet, AreNoFaults}
 use Rattle.x25_layer.specs.Transcript.{Entry}
@@ -21,7 +21,7 @@ use Rattle.x25_layer.proofs.LayerLemmas.{true≢false, layer_follows, layer_heed
 -- what an end is of one of the nested handshakes; an end that is out has stopped there
 abbrev pub SeesEnd : End → Side (At Channels) → Type 0
 SeesEnd e (Live z) = (e.is_out ≡ false) × SeesLayer e.layer z
-SeesEnd e (Left z) = (e.is_out ≡ true) × (e.layer ≡ at_rest)
+SeesEnd e (Left z) = (e.is_out ≡ true) × (e.layer ≡ rested e.layer)
 
 pub record Sees (channels : ℕ) (w : World) (j : Pair) : Type 0 where
   pub near : SeesEnd w.near j.near

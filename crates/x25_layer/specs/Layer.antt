@@ -104,9 +104,13 @@ layer_undecoded c l h error = undecoded_in c l.restarting l.restarts l.circuits 
 
 -- ---- link up and down
 
--- the link isn't up
+-- the link was never up
 abbrev pub at_rest : Layer
 at_rest = is_ready 0 (λ k. begun)
+
+-- At LinkDown all is dropped: no restart is under way, and all channels are in p1. The counts are as they were, until LinkUp.
+abbrev pub rested : Layer → Layer
+rested l = is_ready l.restarts (λ k. forgotten (l.circuits k))
 
 -- at LinkUp an end sends RESTART: the DTE with cause 0, the DCE with cause 7, network operational (profile)
 abbrev pub restart_cause : Role → ℕ

@@ -5,6 +5,7 @@ pub mod Quiet
 pub mod Rounds
 pub mod Transcript
 pub mod FitsLayer
+pub mod InPart
 pub mod OverLink
 pub mod Pulling
 pub mod Room

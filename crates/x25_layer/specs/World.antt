@@ -6,7 +6,7 @@ use Rattle.x25_bits.specs.declared.role.Role.TheVariants.{Dte, Dce}
 use Rattle.x25_packet.specs.PlainPacket.{PlainPacket}
 use Rattle.x25_circuit.specs.Circuit.{Circuit}
 use Rattle.x25_circuit.specs.Calls.{Request, Calls, Accepts}
-use Rattle.x25_layer.specs.Layer.{LayerSettings, Layer, LayerNotice, on_channel, LayerAnswer, is_channel, layer_answers, at_rest, goes_up}
+use Rattle.x25_layer.specs.Layer.{LayerSettings, Layer, LayerNotice, on_channel, LayerAnswer, is_channel, layer_answers, rested, goes_up}
 use Rattle.x25_layer.specs.Calls.{LayerRequest, Asks, Dials, Restarts, LayerOutcome, Accepted, Declined, free_channel, layer_outcome, LayerPulled, layer_pulled}
 use Rattle.x25_layer.specs.Transcript.{Entry, Asked, Told, name_of}
 
@@ -104,10 +104,10 @@ abbrev pub handed_up : LayerSettings → World → List PlainPacket → World
 handed_up c w [] = w
 handed_up c w (packet ∷ back) = answered w packet back (layer_answers c w.near.layer packet)
 
--- everything is dropped
+-- everything is dropped but the counts
 abbrev pub goes_down : World → World
 goes_down w = record {
-  near = record { layer = at_rest; is_out = true; given = w.near.given; taken = w.near.taken; told = w.near.told; entries = w.near.entries };
+  near = record { layer = rested w.near.layer; is_out = true; given = w.near.given; taken = w.near.taken; told = w.near.told; entries = w.near.entries };
   far = w.far;
   out = w.out;
   back = w.back;

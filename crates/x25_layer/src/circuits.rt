@@ -50,6 +50,7 @@ pub(crate) fn begin_all(circuits: &mut Vec<Circuit>)
 pub(crate) fn forget_all(circuits: &mut Vec<Circuit>)
     ensures fits { (c : LayerSettings) (f : ℕ → Channel) → FitsCircuits c circuits.old.items f → FitsCircuits c circuits.new.items (λ k. forgotten (f k)) }
     ensures count { length circuits.new.items ≡ length circuits.old.items }
+    ensures room { (len : ℕ) → HaveRoom len circuits.old.items → HaveRoom len circuits.new.items }
 {
     for circuit in circuits.iter_mut() {
         circuit.forget();

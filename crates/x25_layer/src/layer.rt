@@ -1,6 +1,6 @@
 ghost use Rattle.std.specs.Prelude.{◌≡◌, ℕ, ◌≤◌, ◌↔◌, length, true, false, IfOk, IfErr, IfSome, IfNone, IsErrOf};
 
-use crate::circuits::{begin_all, begun_circuits};
+use crate::circuits::{begun_circuits, forget_all};
 use crate::error::LayerError;
 use crate::stretch::Stretch;
 use std::alloc::Global;
@@ -32,10 +32,11 @@ pub struct Layer {
 
 impl Layer {
     ghost use Rattle.x25_circuit.specs.FitsCircuit.{FitsCircuit};
-    ghost use Rattle.x25_layer.specs.Layer.{LayerSettings, at_rest, is_channel};
+    ghost use Rattle.x25_layer.specs.Layer.{LayerSettings, at_rest, is_channel, rested};
     ghost use Rattle.x25_layer.specs.Layer.{Layer as State};
     ghost use Rattle.x25_layer.specs.Room.{HasRoom};
     ghost use Rattle.x25_layer.specs.FitsLayer.{FitsLayer, plain_stretch, name_at, params_at, is_open_at, waits_up_to, is_full};
+    ghost use Rattle.x25_layer.specs.InPart.{joined_at};
 
     /// The layer of an end whose link isn't up, with so many channels, 1 to 16. A call has at most 16 octets of user data.
     ///
@@ -118,14 +119,26 @@ impl Layer {
         waits
     }
 
-    /// Drops everything, at LinkDown: no restart is under way, and all counts are 0. Memory that was set aside is kept.
+    /// How many octets have come of the message of which some packets came on a channel, at most 65,535; 0 where there is none, or the
+    /// channel isn't configured.
+    pub fn octets_joined(&self, channel: u16) -> usize
+        ensures value { (c : LayerSettings) (l : State) → FitsLayer c self.now l → result ≡ joined_at c l channel }
+        ensures short { result ≤ 65535 }
+    {
+        match self.circuit(channel) {
+            Some(circuit) => circuit.octets_joined(),
+            None => 0,
+        }
+    }
+
+    /// Drops everything, at LinkDown: no restart is under way, and all channels are in p1. The counts are as they were, until `up`
+    /// sets them to 0. Memory that was set aside is kept.
     pub fn down(&mut self)
-        ensures layer { (c : LayerSettings) (l : State) → FitsLayer c self.old l → FitsLayer c self.new at_rest }
+        ensures layer { (c : LayerSettings) (l : State) → FitsLayer c self.old l → FitsLayer c self.new (rested l) }
         ensures room { (len spares : ℕ) → HasRoom len self.old spares → HasRoom len self.new spares }
     {
         self.restarting = false;
-        self.restarts = 0;
-        begin_all(&mut self.circuits);
+        forget_all(&mut self.circuits);
     }
 
     /// The circuit of a channel.

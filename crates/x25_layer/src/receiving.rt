@@ -1,12 +1,12 @@
 //! Octets that the link handed up. ITU-T X.25 (10/96), sections 3.3 and 4, and Annex C.
-ghost use Rattle.std.specs.Prelude.{◌≡◌, ℕ, ◌+◌, ◌-◌, ◌^◌, ◌<◌, ◌≤◌, length, min, true, IfErr, IfOk, IsOk, OnOk, OnErr, option_to_list};
+ghost use Rattle.std.specs.Prelude.{◌≡◌, ℕ, ◌+◌, ◌-◌, ◌^◌, ◌<◌, ◌≤◌, [], length, min, true, IfErr, IfOk, IsOk, OnOk, OnErr, option_to_list};
 ghost use Rattle.x25_packet.specs.Reading.{packet_of};
 ghost use Rattle.x25_packet.specs.Spelling.{longest_user};
 ghost use Rattle.x25_circuit.specs.Circuit.{Settings};
 ghost use Rattle.x25_circuit.specs.Circuit.{Circuit as Channel};
 ghost use Rattle.x25_circuit.specs.FitsCircuit.{FitsCircuit, room_of};
-ghost use Rattle.x25_circuit.specs.Replies.{Says, IsSendable, plain_owed};
-ghost use Rattle.x25_layer.specs.Layer.{LayerSettings, is_channel};
+ghost use Rattle.x25_circuit.specs.Replies.{Says, IsSendable, notices_of, plain_owed};
+ghost use Rattle.x25_layer.specs.Layer.{LayerSettings, is_channel, notices_on};
 ghost use Rattle.x25_layer.specs.Layer.{Layer as State};
 ghost use Rattle.x25_layer.specs.FitsLayer.{FitsLayer};
 ghost use Rattle.x25_layer.specs.OverLink.{view_of, after_all};
@@ -20,7 +20,7 @@ use crate::error::LayerError;
 use crate::layer::Layer;
 use crate::putting::MOST_PUT;
 use crate::told::Told;
-use x25_circuit::{Circuit, CircuitError, Reply};
+use x25_circuit::{Circuit, CircuitError, Notice, Reply};
 use x25_link::OrderedLink;
 use x25_packet::{Packet, PacketError, channel, decode_within, longest_user};
 
@@ -40,6 +40,26 @@ fn hear_circuit<'a>(
     match read {
         Ok(packet) => circuit.packet(&packet),
         Err(error) => Ok(circuit.undecoded(error)),
+    }
+}
+
+// What the user of a channel is told by its circuit.
+fn told_on<'a>(channel: u16, collided: bool, notice: Option<Notice<'a>>) -> Told<'a>
+    ensures told { plain_told result ≡ notices_on channel (notices_of collided notice.entry) }
+    ensures nothing { plain_told result ≡ [] → result ≡ Told.Nothing }
+{
+    match notice {
+        Some(notice) => Told::Channel {
+            channel,
+            collided,
+            notice: Some(notice),
+        },
+        None if collided => Told::Channel {
+            channel,
+            collided: true,
+            notice: None,
+        },
+        None => Told::Nothing,
     }
 }
 
@@ -86,6 +106,7 @@ impl Layer {
         ensures layer { (c : LayerSettings) (l : State) → FitsLayer c self.old l → OnOk result (FitsLayer c self.new (hears_on c l l.restarting channel (plain_read read.entry)).next) }
         ensures link { (c : LayerSettings) (l : State) (x : L.State) → FitsLayer c self.old l → L.fits link.old x → OnOk result (L.fits link.new (after_all L.after_put x (option_to_list (hears_on c l l.restarting channel (plain_read read.entry)).owed))) }
         ensures told { (c : LayerSettings) (l : State) → FitsLayer c self.old l → IfOk result (λ told. plain_told told ≡ (hears_on c l l.restarting channel (plain_read read.entry)).notices) }
+        ensures nothing { IfOk result (λ told. plain_told told ≡ [] → told ≡ Told.Nothing) }
         ensures memory { OnOk result (self.old.memory ≤ self.new.memory + 1) }
         ensures spares { OnOk result (L.spares link.old ≤ L.spares link.new + 1) }
         ensures longest { L.longest link.new ≡ L.longest link.old }
@@ -108,11 +129,7 @@ impl Layer {
             notice,
         } = reply;
         self.put_owed(link, channel, packet);
-        Ok(Told::Channel {
-            channel,
-            collided,
-            notice,
-        })
+        Ok(told_on(channel, collided, notice))
     }
 
     // Octets that the link handed up, whatever they are. The packet that is owed for them is put.
@@ -130,6 +147,7 @@ impl Layer {
         ensures layer { (c : LayerSettings) (l : State) → FitsLayer c self.old l → OnOk result (FitsLayer c self.new (answer_to c l octets.now (packet_of (longest_user self.old.long_data) octets.now)).next) }
         ensures link { (c : LayerSettings) (l : State) (x : L.State) → FitsLayer c self.old l → L.fits link.old x → OnOk result (L.fits link.new (after_all L.after_put x (option_to_list (answer_to c l octets.now (packet_of (longest_user self.old.long_data) octets.now)).owed))) }
         ensures told { (c : LayerSettings) (l : State) → FitsLayer c self.old l → IfOk result (λ told. plain_told told ≡ (answer_to c l octets.now (packet_of (longest_user self.old.long_data) octets.now)).notices) }
+        ensures nothing { IfOk result (λ told. plain_told told ≡ [] → told ≡ Told.Nothing) }
         ensures memory { OnOk result (self.old.memory ≤ self.new.memory + 1) }
         ensures spares { OnOk result (L.spares link.old ≤ L.spares link.new + 1) }
         ensures longest { L.longest link.new ≡ L.longest link.old }
@@ -154,7 +172,7 @@ impl Layer {
     }
 
     /// Takes octets that the link handed up, puts the packet that is owed for them, and pulls data packets. It answers what
-    /// the users are told; a stretch has its name after the call.
+    /// the users are told, `Told::Nothing` exactly where that is nothing; a stretch has its name after the call.
     ///
     /// No count is full, the link is up, fewer than 256 packets wait in it, and it takes packets of 4,099 octets. Octets that
     /// spell no packet go to the channel that the first two name. They are dropped where they name no configured channel, and,
@@ -173,6 +191,7 @@ impl Layer {
         ensures layer { (c : LayerSettings) (l : State) (x : L.State) → FitsLayer c self.old l → L.fits link.old x → OnOk result (FitsLayer c self.new (hears (view_of L.up_in L.waits_in L.after_put x) c l octets.now).step.layer) }
         ensures link { (c : LayerSettings) (l : State) (x : L.State) → FitsLayer c self.old l → L.fits link.old x → OnOk result (L.fits link.new (after_all L.after_put x (hears (view_of L.up_in L.waits_in L.after_put x) c l octets.now).step.put)) }
         ensures told { (c : LayerSettings) (l : State) (view : LinkView) → FitsLayer c self.old l → IfOk result (λ told. plain_told told ≡ (hears view c l octets.now).notices) }
+        ensures nothing { IfOk result (λ told. plain_told told ≡ [] → told ≡ Told.Nothing) }
         ensures longest { L.longest link.new ≡ L.longest link.old }
         ensures err { IfErr result (λ e. e ≡ LayerError.NoMemory) }
         ensures enough { (len : ℕ) → length octets.now ≤ len → HasRoom len self.old (L.spares link.old) → IsOk result }

@@ -1,5 +1,5 @@
 //! Restart. ITU-T X.25 (10/96), section 3.3.
-ghost use Rattle.std.specs.Prelude.{◌≡◌, ℕ, suc, ◌+◌, ◌-◌, ◌^◌, ◌<◌, ◌≤◌, true, false, option_to_list, IfErr, OnOk, OnErr, IsOk, IsErrOf};
+ghost use Rattle.std.specs.Prelude.{◌≡◌, ℕ, suc, ◌+◌, ◌-◌, ◌^◌, ◌<◌, ◌≤◌, [], true, false, option_to_list, IfErr, OnOk, OnErr, IsOk, IsErrOf};
 ghost use Rattle.x25_packet.specs.PlainPacket.{restart, restart_conf};
 ghost use Rattle.x25_packet.specs.Spelling.{spelling_of};
 ghost use Rattle.x25_circuit.specs.Circuit.{begun};
@@ -153,6 +153,7 @@ impl Layer {
         ensures layer { (c : LayerSettings) (l : State) → FitsLayer c self.old l → FitsLayer c self.new (layer_answers c l (restart cause diagnostic)).next }
         ensures link { (c : LayerSettings) (l : State) (x : L.State) → FitsLayer c self.old l → L.fits link.old x → L.fits link.new (after_all L.after_put x (option_to_list (layer_answers c l (restart cause diagnostic)).owed)) }
         ensures told { (c : LayerSettings) (l : State) → FitsLayer c self.old l → plain_told result ≡ (layer_answers c l (restart cause diagnostic)).notices }
+        ensures nothing { plain_told result ≡ [] → result ≡ Told.Nothing }
         ensures memory { self.old.memory ≤ self.new.memory + 1 }
         ensures spares { L.spares link.old ≤ L.spares link.new + 1 }
         ensures longest { L.longest link.new ≡ L.longest link.old }
@@ -178,6 +179,7 @@ impl Layer {
         ensures layer { (c : LayerSettings) (l : State) → FitsLayer c self.old l → FitsLayer c self.new (layer_answers c l restart_conf).next }
         ensures link { (c : LayerSettings) (l : State) (x : L.State) → FitsLayer c self.old l → L.fits link.old x → L.fits link.new (after_all L.after_put x (option_to_list (layer_answers c l restart_conf).owed)) }
         ensures told { (c : LayerSettings) (l : State) → FitsLayer c self.old l → plain_told result ≡ (layer_answers c l restart_conf).notices }
+        ensures nothing { plain_told result ≡ [] → result ≡ Told.Nothing }
         ensures memory { self.old.memory ≤ self.new.memory + 1 }
         ensures spares { L.spares link.old ≤ L.spares link.new + 1 }
         ensures longest { L.longest link.new ≡ L.longest link.old }

@@ -4,12 +4,12 @@ use x25_circuit::Notice;
 /// over whole.
 #[derive(Debug, Drop)]
 pub enum Told<'a> {
-    /// Nothing: they were dropped.
+    /// Nothing: they were dropped, or there is nothing to tell of them.
     Nothing,
-    /// The user of a channel, by its notice, where there is one.
+    /// The user of a channel, by a notice, or at least that this end's own call was dropped.
     Channel {
         channel: u16,
-        /// Before it: this end's own call was dropped for the one of the notice.
+        /// Before the notice: this end's own call was dropped for the one of the notice.
         collided: bool,
         notice: Option<Notice<'a>>,
     },

@@ -48,6 +48,8 @@ pub enum Event<'a> {
     Agreed(u16),
     /// Nothing happens. The text says how many messages wait.
     Waits,
+    /// Nothing happens. The text says how many octets came of the channel's message in part.
+    Joined(u16),
     /// Nothing happens. The text says whether a count is full.
     Full,
     /// Nothing happens. The text says how many packets wait in the link.
@@ -56,7 +58,7 @@ pub enum Event<'a> {
 
 use Event::{
     Accept, AcceptWith, Agreed, AskToAccept, Call, CallWith, Clear, Down, Fill, Full, Interrupt,
-    NotReady, Ready, Reset, Restart, Room, Send, State, Take, Up, Waiting, Waits,
+    Joined, NotReady, Ready, Reset, Restart, Room, Send, State, Take, Up, Waiting, Waits,
 };
 
 /// What happens, and what it shows.
@@ -161,6 +163,7 @@ fn looks<L: OrderedLink>(
         State(channel) => state_text(alloc, layer, channel),
         Agreed(channel) => agreed_text(alloc, layer, channel),
         Waits => format!(in alloc; "{}", layer.waits()),
+        Joined(channel) => format!(in alloc; "{}", layer.octets_joined(channel)),
         Full => format!(in alloc; "{}", layer.full()),
         _ => format!(in alloc; "{}", link.waiting()),
     }
@@ -184,7 +187,9 @@ pub fn happens<L: OrderedLink>(
             layer.down();
             Ok(String::new(alloc))
         }
-        State(_) | Agreed(_) | Waits | Full | Waiting => looks(alloc, layer, link, event),
+        State(_) | Agreed(_) | Waits | Joined(_) | Full | Waiting => looks(
+            alloc, layer, link, event,
+        ),
         Call(called, calling, user) => {
             channel_text(alloc, layer.call(link, called, calling, user))
         }

@@ -1,6 +1,6 @@
 //! LinkUp, LinkDown and restart over a plain link.
 
-use crate::play::Event::{Down, Fill, Restart, State, Up, Waiting, Waits};
+use crate::play::Event::{Down, Fill, Restart, State, Take, Up, Waiting, Waits};
 use crate::play::{Row, STAY, play};
 use std::test::Fail;
 use x25_layer::{Layer, LayerError, Role};
@@ -25,6 +25,21 @@ static ONE_AT_A_TIME: [Row; 4] = [
 #[test]
 fn one_restart_at_a_time(rt: HostRuntime) -> Result<(), Fail> {
     play(&rt, rt.alloc(), Role::Dce, 3, &[ONE_AT_A_TIME.as_slice()])
+}
+
+// LinkDown leaves the counts, and LinkUp sets them to 0.
+static COUNTS_STAND: [Row; 6] = [
+    (Up, "ok", "1000fb0000"),
+    (Take("1000fb0700"), "restarted 7 0", ""),
+    (Down, "", ""),
+    (State(1), "1.0.0, not open", ""),
+    (Up, "ok", "1000fb0000"),
+    (State(1), "0.0.0, not open", ""),
+];
+
+#[test]
+fn link_down_leaves_the_counts(rt: HostRuntime) -> Result<(), Fail> {
+    play(&rt, rt.alloc(), Role::Dte, 1, &[COUNTS_STAND.as_slice()])
 }
 
 static FULL_QUEUE: [Row; 3] = [

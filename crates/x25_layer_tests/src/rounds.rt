@@ -1,6 +1,6 @@
 //! Data packets that are pulled in rounds, one of each channel.
 
-use crate::play::Event::{Accept, Fill, Send, Take, Waits};
+use crate::play::Event::{Accept, Fill, Joined, Send, Take, Waits};
 use crate::play::{Row, STAY, play};
 use std::test::Fail;
 use x25_layer::Role;
@@ -13,8 +13,8 @@ static TWO_OPEN: [Row; 4] = [
 ];
 
 // Where eight packets wait, nothing is pulled. Then octets that are dropped pull, and two packets of each channel fill its window.
-// RR opens it, and the packet that is owed goes before the pulled ones.
-static ALTERNATING: [Row; 9] = [
+// RR opens it, and the packet that is owed goes before the pulled ones. Then a message begins to come.
+static ALTERNATING: [Row; 12] = [
     (Fill(8), "", STAY),
     (Send(1, false, 300), "ok", STAY),
     (Send(2, false, 300), "ok", STAY),
@@ -24,10 +24,13 @@ static ALTERNATING: [Row; 9] = [
         "nothing",
         "1001100000 1002100000 1001120000 1002120000",
     ),
-    (Take("100241"), "2:", "1002040000"),
+    (Take("100241"), "nothing", "1002040000"),
     (Take("100123aa"), "1: interrupt 1", "100127"),
     (Take("10014000"), "1: message 1", "100121 1001240000"),
     (Waits, "0", ""),
+    (Take("100152aabb"), "nothing", "100141"),
+    (Joined(1), "2", ""),
+    (Joined(3), "0", ""),
 ];
 
 #[test]

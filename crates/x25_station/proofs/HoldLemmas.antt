@@ -1,14 +1,18 @@
 -- What a station holds at most: as many messages wait in a circuit as its queue has.
-use Rattle.std.proofs.Common.{◌≡◌, ℕ, zero, suc, ◌+◌, ◌<◌, ◌≤◌, nat_le, List, [], ◌∷◌, ◌++◌, length, take, drop, Some, Bool, true, false, if◌then◌else◌, refl, ap, arith}
+use Rattle.std.proofs.Common.{◌≡◌, ℕ, zero, suc, ◌+◌, ◌<◌, ◌≤◌, nat_le, List, [], ◌∷◌, ◌++◌, length, take, drop, Some, Bool, true, false, if◌then◌else◌, refl, subst, ap, arith}
 use Rattle.std.specs.List.{slice_get}
 use Rattle.std.proofs.lemmas.Bool.{and_parts, leb-true}
 use Rattle.std.proofs.lemmas.List.{length-append}
 use Rattle.x25_circuit.specs.declared.circuit.Circuit as circuit_code
 use Rattle.x25_circuit.specs.declared.message.Message.{Message}
-use Rattle.x25_circuit.specs.Messages.{Piece, More, Last, cut_from, cut_all, wholes}
+use Rattle.x25_circuit.specs.Messages.{Piece, More, Last, cut_from, cut_all, wholes, Partial, no_part, joining}
 use Rattle.x25_circuit.specs.Circuit as circuit
 use Rattle.x25_circuit.specs.FitsCircuit.{FitsCircuit}
 use Rattle.x25_link.specs.Bounds.{FewStand as LinkStands, WindowIsSmall}
+use Rattle.x25_layer.specs.Layer.{is_channel}
+use Rattle.x25_station.specs.declared.station.Station as code
+use Rattle.x25_station.specs.FitsStation.{FitsStation}
+use Rattle.x25_station.specs.Station.{Station}
 use Rattle.x25_station.specs.Settings.{Settings, link_settings, layer_settings}
 use Rattle.x25_station.specs.HoldLaw as law
 
@@ -53,16 +57,32 @@ of_circuit c v x fits =
     let size : length (q.cutter.left ++ q.ring.items) ≡ length q.cutter.left + length q.ring.items = length-append q.cutter.left q.ring.items in
     omega (arith, same, all, size, q.few)
 
-pub few_messages : law.FewMessages
-few_messages c v s zero fits is = absurd (zero_true is)
-  where
-    zero_true : false ≡ true → ⊥
-    zero_true e = cc
-few_messages c v s (suc k) fits is =
+zero_true : false ≡ true → ⊥
+zero_true e = cc
+
+-- the code's circuit of a configured channel
+circuit_on : (c : Settings) (v : code.Station) (s : Station) (h : ℕ) → FitsStation c v s → is_channel c.channels h ≡ true → (u : circuit_code.Circuit) × FitsCircuit (layer_settings c).circuit u (s.layer.circuits h)
+circuit_on c v s zero fits is = absurd (zero_true is)
+circuit_on c v s (suc k) fits is =
     let high : suc k ≤ c.channels = leb-true (suc k) c.channels (and_parts (nat_le 1 (suc k)) (nat_le (suc k) c.channels) is).1 in
     let n = fits.layer.channels in
     let f = found v.layer.circuits.items k (omega (arith, high, n)) in
-    of_circuit c f.item (s.layer.circuits (suc k)) (fits.layer.circuits k f.item f.is)
+    (f.item, fits.layer.circuits k f.item f.is)
+
+pub few_messages : law.FewMessages
+few_messages c v s h fits is = let u = circuit_on c v s h fits is in of_circuit c u.0 (s.layer.circuits h) u.1
+
+pub few_joined : law.FewJoined
+few_joined c v s h fits = test (is_channel c.channels h) refl
+  where
+    test : (b : Bool) → is_channel c.channels h ≡ b → (if b then length (joining no_part (s.layer.circuits h).talk.taken).user else 0) ≤ 65535
+    test false is = omega arith
+    test true is =
+        let u = circuit_on c v s h fits is in
+        subst (λ (j : Partial). length j.user ≤ 65535) u.1.talk.part u.1.talk.short
+
+pub few_held : law.FewHeld
+few_held v k u is = let few = u.transfer.queue.few in omega (arith, few)
 
 pub few_stand : LinkStands → WindowIsSmall → law.FewStand
 few_stand stands small c v s fits =

@@ -9,7 +9,7 @@ use Rattle.x25_link.specs.MustSend.{Step as LinkStep}
 use Rattle.x25_link.specs.NoteLaw.{IsQuiet}
 use Rattle.x25_link.specs.Steps.{alone, put_refusal, take_step}
 use Rattle.x25_link.specs.declared.phase.Reason.{Reason}
-use Rattle.x25_layer.specs.Layer.{Layer, at_rest, goes_up, restart_cause}
+use Rattle.x25_layer.specs.Layer.{Layer, rested, goes_up, restart_cause}
 use Rattle.x25_layer.specs.Calls.{LayerRequest}
 use Rattle.x25_packet.specs.Spelling.{longest_user}
 use Rattle.x25_layer.specs.World.{World, Move, Requests, HandsUp}
@@ -76,10 +76,10 @@ ReceiveIsJoined = (c : Settings) (link : LinkStation) (w : World) (octets packet
 abbrev pub QuietIsJoined : Type 0
 QuietIsJoined = (c : Settings) (l : Layer) (k : LinkStep) → k.packet ≡ None → IsQuiet k → follows c l k ≡ record { near = station_with k.side.near l; out = k.side.out; entries = [] }
 
--- LinkDown alone: the layer is at rest, and nothing is put
+-- LinkDown alone: the layer drops everything but its counts, and nothing is put
 abbrev pub DownIsJoined : Type 0
 DownIsJoined = (c : Settings) (l : Layer) (k : LinkStep) (reason : Reason) → k.notes ≡ record { down = Some reason; up = false } →
-    follows c l k ≡ record { near = station_with k.side.near at_rest; out = k.side.out; entries = link_down reason ∷ [] }
+    follows c l k ≡ record { near = station_with k.side.near (rested l); out = k.side.out; entries = link_down reason ∷ [] }
 
 -- LinkUp: RESTART alone is put, and the link accepts it
 pub record ComesUp (c : Settings) (k : LinkStep) (step : Step) : Type 0 where

@@ -1,9 +1,9 @@
--- What every step of a station keeps, whatever comes: at most 256 packets wait in the link, and where the link isn't up the layer is at
--- rest.
+-- What every step of a station keeps, whatever comes: at most 256 packets wait in the link, and where the link isn't up the layer is as
+-- LinkDown leaves it.
 use Rattle.std.specs.Prelude.{◌≡◌, ℕ, ◌≤◌, false, List}
 use Rattle.x25_link.specs.Outgoing.{waits}
 use Rattle.x25_link.specs.Station.{is_up}
-use Rattle.x25_layer.specs.Layer.{at_rest}
+use Rattle.x25_layer.specs.Layer.{rested}
 use Rattle.x25_station.specs.Settings.{Settings}
 use Rattle.x25_station.specs.Command.{Command}
 use Rattle.x25_station.specs.Station.{Station}
@@ -11,7 +11,7 @@ use Rattle.x25_station.specs.Steps.{Outcome, Did, Refused, connects, fires, rece
 
 pub record IsKept (s : Station) : Type 0 where
   pub few : waits s.link.outgoing ≤ 256
-  pub rests : is_up s.link.phase ≡ false → s.layer ≡ at_rest
+  pub rests : is_up s.link.phase ≡ false → s.layer ≡ rested s.layer
 
 -- a refusal changes nothing
 abbrev pub KeptBy : Outcome → Type 0

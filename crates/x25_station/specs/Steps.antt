@@ -9,7 +9,7 @@ use Rattle.x25_link.specs.declared.phase.Reason.{Reason}
 use Rattle.x25_link.specs.Station.{Station as LinkStation, Side, is_up}
 use Rattle.x25_link.specs.MustSend.{Step as LinkStep}
 use Rattle.x25_link.specs.Steps.{alone, take_step, timer_refusal, timer_step, connect_refusal, connect_step, disconnect_refusal, disconnect_step, abandon_step}
-use Rattle.x25_layer.specs.Layer.{LayerSettings, Layer, LayerAnswer, at_rest}
+use Rattle.x25_layer.specs.Layer.{LayerSettings, Layer, LayerAnswer, rested}
 use Rattle.x25_layer.specs.Calls.{LayerRequest, LayerOutcome, Accepted, Declined, layer_outcome}
 use Rattle.x25_layer.specs.FitsLayer.{is_full}
 use Rattle.x25_layer.specs.Rounds.{LinkView, Putting, Answered, Went, Refuses, calls, hears, comes_up, answer_to}
@@ -42,15 +42,15 @@ with_puts c t s entries =
 abbrev pub rests : Layer → Putting
 rests l = record { layer = l; put = [] }
 
--- at rest where the link went down
+-- what LinkDown leaves of it
 abbrev pub layer_down : Layer → Option Reason → Layer
 layer_down l None = l
-layer_down l (Some reason) = at_rest
+layer_down l (Some reason) = rested l
 
 -- LinkDown; then LinkUp; else the packet that is handed up. Where there is none of these nothing is asked of the layer, so nothing is pulled.
 abbrev pub layer_at : LinkView → LayerSettings → Layer → Option (List ℕ) → Option Reason → Bool → Putting
 layer_at link c l packet down true = (comes_up link c).step
-layer_at link c l packet (Some reason) false = rests at_rest
+layer_at link c l packet (Some reason) false = rests (rested l)
 layer_at link c l (Some octets) None false = (hears link c l octets).step
 layer_at link c l None None false = rests l
 

@@ -2,7 +2,7 @@
 ghost use Rattle.x25_station.specs.JoinLaw.{RequestIsJoined, ReceiveIsJoined, QuietIsJoined, DownIsJoined, UpIsJoined};
 ghost use Rattle.x25_station.specs.KeepLaw.{ConnectKeeps, TimerKeeps, CommandKeeps, ReceiveKeeps};
 ghost use Rattle.x25_station.specs.ReadLaw.{PutsAreReadable};
-ghost use Rattle.x25_station.specs.HoldLaw.{FewWait, FewStand, FewMessages};
+ghost use Rattle.x25_station.specs.HoldLaw.{FewWait, FewStand, FewMessages, FewJoined, FewHeld};
 ghost use Rattle.x25_station.specs.TimerLaw.{DeadlineIsTrue, FiringIsTaken, OffIsRefused};
 
 use x25_circuit::values_are_agreed;
@@ -33,8 +33,8 @@ pub fn puts_are_readable()
     values_are_agreed();
 }
 
-/// What each step of a station keeps, whatever comes: at most 256 packets wait in the link, and the packet layer is at rest where the
-/// link isn't up.
+/// What each step of a station keeps, whatever comes: at most 256 packets wait in the link, and the packet layer is as LinkDown leaves it
+/// where the link isn't up.
 pub fn steps_keep_bounds()
     ensures connect { ConnectKeeps }
     ensures timer { TimerKeeps }
@@ -45,11 +45,14 @@ pub fn steps_keep_bounds()
 }
 
 /// What a station holds at most: 256 packets that wait in its link, 7 that were sent and aren't acknowledged, and for each channel
-/// 8 messages that wait.
+/// 8 messages that wait, and one more whose last packet was pulled, until the next is begun, and one of which some packets came. A
+/// message, also one in part, has at most 65,535 octets.
 pub fn stations_hold_few()
     ensures wait { FewWait }
     ensures stand { FewStand }
     ensures messages { FewMessages }
+    ensures joined { FewJoined }
+    ensures held { FewHeld }
 {
     holds_few();
 }

@@ -22,12 +22,13 @@ pub struct Station {
 }
 
 impl Station {
-    ghost use Rattle.std.specs.Prelude.{◌≡◌, ◌%◌, IfOk};
+    ghost use Rattle.std.specs.Prelude.{◌≡◌, ◌≤◌, ◌%◌, IfOk};
     ghost use Rattle.x25_station.specs.FitsStation.{FitsStation, RefusesWith};
-    ghost use Rattle.x25_station.specs.Settings.{Settings, settings_from, config_refusal};
+    ghost use Rattle.x25_station.specs.Settings.{Settings, layer_settings, settings_from, config_refusal};
     ghost use Rattle.x25_station.specs.Station.{Station as State, new_station};
     ghost use Rattle.x25_station.specs.Told.{is_idle, stretch};
     ghost use Rattle.x25_layer.specs.FitsLayer.{plain_stretch};
+    ghost use Rattle.x25_layer.specs.InPart.{joined_at};
     ghost use Rattle.x25_link.specs.Station.{is_waiting};
     ghost use Rattle.x25_link.specs.Steps.{timer_runs};
 
@@ -86,6 +87,15 @@ impl Station {
         ensures { (c : Settings) (s : State) → FitsStation c self.now s → result.number ≡ s.link.outgoing.acked % 8 }
     {
         self.link.acknowledged()
+    }
+
+    /// How many octets have come of the message of which some packets came on a channel, at most 65,535; 0 where there is none, or the
+    /// channel isn't configured.
+    pub fn octets_joined(&self, channel: u16) -> usize
+        ensures value { (c : Settings) (s : State) → FitsStation c self.now s → result ≡ joined_at (layer_settings c) s.layer channel }
+        ensures short { result ≤ 65535 }
+    {
+        self.layer.octets_joined(channel)
     }
 
     /// The name of the stretch that is open on a channel, in p4 with d1, where one is.

@@ -2,7 +2,7 @@
 
 use crate::peer::{Act, Row, Table, play};
 use crate::rows::{CALL, CALLED_DCE, READY_DCE};
-use Act::{Ask, AskMany, Hear, HearMany, HearRr, Idle, Stretch, Take};
+use Act::{Ask, AskMany, Hear, HearMany, HearRr, Idle, Joined, Stretch, Take};
 use std::test::Fail;
 use x25_station::{Cmd, Role};
 
@@ -52,11 +52,12 @@ fn what_comes_before_a_call(rt: HostRuntime) -> Result<(), Fail> {
     )
 }
 
-const LAWFUL: [Row; 8] = [
+const LAWFUL: [Row; 9] = [
     (
         Hear(2, 2, "1001106869"),
         &["RR rsp F=0 R=3", "I cmd P=0 S=2 R=3 | RR ch=1 R=1"],
     ),
+    (Joined(1), &["2"]),
     (
         Hear(3, 3, "1001026a"),
         &[

@@ -35,6 +35,8 @@ pub enum Act {
     Timer,
     /// Nothing happens. The name of the stretch that is open on this channel is shown.
     Stretch(u16),
+    /// Nothing happens. It is shown how many octets came of the message in part on this channel.
+    Joined(u16),
 }
 
 /// What happens, and what it shows: the entries that it makes and the frames to send, or `!` and the number of the refusal.
@@ -112,7 +114,14 @@ impl End {
                 let name = self.station.stretch(channel);
                 Ok(stretch_line(self.alloc, name)?)
             }
+            Act::Joined(channel) => self.joined(channel),
         }
+    }
+
+    fn joined(&self, channel: u16) -> Result<Line, Fail> {
+        let count = self.station.octets_joined(channel);
+        let shown = format!(in self.alloc; "{count}")?;
+        Ok(lines(self.alloc, &[shown.as_str()])?)
     }
 
     fn timer(&self) -> Result<Line, Fail> {

@@ -11,7 +11,7 @@ use Rattle.x25_circuit.specs.declared.state.State.{State}
 use Rattle.x25_circuit.specs.declared.state.State.TheVariants.{Open}
 use Rattle.x25_circuit.specs.Circuit.{is_free_in, is_open_in, is_open, Circuit, waits}
 use Rattle.x25_epochs.specs.Names.{Name}
-use Rattle.x25_layer.specs.Layer.{Layer, at_rest, is_channel}
+use Rattle.x25_layer.specs.Layer.{Layer, rested, is_channel}
 use Rattle.x25_layer.specs.Transcript.{Entry, name_of}
 use Rattle.x25_layer.specs.World as layer
 use Rattle.x25_layer.specs.Law.{HasAllOf, IsIdleTo}
@@ -110,12 +110,12 @@ not_both s free opened = absurd (cc)
 up_where_open : (s : Station) (k : ℕ) → IsKept s → is_open (s.layer.circuits k) ≡ true → is_up s.link.phase ≡ true
 up_where_open s k kept opened = by (is_up s.link.phase) refl
   where
-    at_rest_not : is_open (at_rest.circuits k) ≡ true → ⊥
-    at_rest_not e = cc
+    rested_not : is_open ((rested s.layer).circuits k) ≡ true → ⊥
+    rested_not e = cc
 
     by : (b : Bool) → is_up s.link.phase ≡ b → b ≡ true
     by true is = refl
-    by false is = absurd (at_rest_not (ap (λ (l : Layer). is_open (l.circuits k)) (sym (kept.rests is)) ∙ opened))
+    by false is = absurd (rested_not (ap (λ (l : Layer). is_open (l.circuits k)) (sym (kept.rests is)) ∙ opened))
 
 -- ---- of two layers in order
 

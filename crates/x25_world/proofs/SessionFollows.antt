@@ -11,7 +11,7 @@ use Rattle.x25_link.specs.MustSend.{Step as LinkStep}
 use Rattle.x25_link.specs.NoteLaw.{IsQuiet, Tells}
 use Rattle.x25_line.specs.Sessions.{Sessions}
 use Rattle.x25_line.specs.SessionClaims.{octets_of, OnlyBegunHaveLists}
-use Rattle.x25_layer.specs.Layer.{at_rest, restart_cause, goes_up}
+use Rattle.x25_layer.specs.Layer.{rested, restart_cause, goes_up}
 use Rattle.x25_layer.specs.World as layer
 use Rattle.x25_layer.specs.World.{started}
 use Rattle.x25_layer.specs.Apart.{OwnMove, own_run}
@@ -143,7 +143,7 @@ module _ {since : Beginning} (laws : SessionLaws) (cfg : Cfg) (fine : IsConfigur
       → SessionsJoined since cfg end (after_step (settings_from end cfg) w back whole_step)
   down_step g kept reason noted =
       let is = laws.stations.down (settings_from end cfg) w.near.layer k reason noted in
-      let step : Step = record { near = station_with k.side.near at_rest; out = k.side.out; entries = lead_of lead ++ link_down reason ∷ [] } in
+      let step : Step = record { near = station_with k.side.near (rested w.near.layer); out = k.side.out; entries = lead_of lead ++ link_down reason ∷ [] } in
       let same : step ≡ whole_step = ap (λ (s : Step). led_by (lead_of lead) s) (sym is) in
       let off : is_up k.side.near.phase ≡ false = tells.left reason (ap (λ (n : Notes). n.down) noted) (ap (λ (n : Notes). n.up) noted) in
       subst (λ (s : Step). SessionsJoined since cfg end (after_step (settings_from end cfg) w back s)) same

@@ -1,20 +1,35 @@
-use Rattle.std.proofs.Common.{suc, ◌≡◌, ◌≤◌, ◌∙◌, List, length, sym, subst, ap, arith}
+use Rattle.std.proofs.Common.{min, ℕ, suc, ◌≡◌, ◌≤◌, ◌∙◌, List, length, sym, subst, ap, arith}
 use Rattle.std.proofs.lemmas.Option.{slice_get-get_or}
 use Rattle.x25_circuit.specs.declared.circuit.Circuit as circuit_code
 use Rattle.x25_circuit.specs.Circuit.{Circuit, forgotten}
+use Rattle.x25_circuit.specs.FitsCircuit.{room_of}
 use Rattle.x25_layer.specs.FitsLayer.{FitsCircuits}
-use Rattle.x25_layer.proofs.FitLemmas.{changed_none, changed_more, changed_all, written_back}
+use Rattle.x25_layer.specs.Room.{HaveRoom}
+use Rattle.x25_layer.proofs.FitLemmas.{changed_none, changed_more, changed_all, written_back, all_changed}
 use Rattle.x25_layer.proofs.circuits.forget_all.Goals as goal
 
 pub loop-circuit-init : goal.loop-circuit-init
-loop-circuit-init c = λ s f fits. changed_none s _ f (λ k. forgotten (f k)) fits
+loop-circuit-init c = record {
+  fits = λ s f fits. changed_none s _ f (λ k. forgotten (f k)) fits;
+  room = λ len all. all;
+}
 
 pub loop-circuit-preserved : goal.loop-circuit-preserved
-loop-circuit-preserved c = λ s f fits.
-    let before = c.loop-circuit.invariant s f fits in
-    let x : Circuit = f (suc c.loop-circuit.circuit-index) in
-    let found = before.above c.loop-circuit.circuit-index _ (omega arith) (slice_get-get_or c.loop-circuit.circuit-items c.loop-circuit.circuit-index c.circuit-item.result (omega arith)) in
-    changed_more s c.loop-circuit.circuit-index _ f (λ k. forgotten (f k)) _ before (c.forget.ensures.fits s.circuit x found)
+loop-circuit-preserved c =
+    let i : ℕ = c.loop-circuit.circuit-index in
+    let read = slice_get-get_or c.loop-circuit.circuit-items i c.circuit-item.result (omega arith) in
+    record {
+      fits = λ s f fits.
+          let before = c.loop-circuit.invariant.fits s f fits in
+          let x : Circuit = f (suc i) in
+          let found = before.above i _ (omega arith) read in
+          changed_more s i _ f (λ k. forgotten (f k)) _ before (c.forget.ensures.fits s.circuit x found);
+      room = λ len all.
+          let before = c.loop-circuit.invariant.room len all in
+          let here = before i _ read in
+          let more = c.forget.ensures.room in
+          all_changed (λ (k : ℕ) (v : circuit_code.Circuit). min len 4096 ≤ room_of v) c.loop-circuit.circuit-items i c.forget.new.self before (omega (arith, here, more));
+    }
 
 pub returns : goal.returns
 returns c =
@@ -24,7 +39,9 @@ returns c =
     record {
       fits = λ s f fits. subst (λ (vs : List circuit_code.Circuit). FitsCircuits s vs (λ k. forgotten (f k))) (sym all)
           (changed_all s c.loop-circuit.circuit-index c.loop-circuit.circuit-items f (λ k. forgotten (f k))
-          (c.loop-circuit.invariant s f (subst (λ (vs : List circuit_code.Circuit). FitsCircuits s vs f) (sym c.deref_mut-circuit-items.ensures.value) fits))
+          (c.loop-circuit.invariant.fits s f (subst (λ (vs : List circuit_code.Circuit). FitsCircuits s vs f) (sym c.deref_mut-circuit-items.ensures.value) fits))
           (omega arith));
       count = ap length all ∙ count;
+      room = λ len have. subst (λ (vs : List circuit_code.Circuit). HaveRoom len vs) (sym all)
+          (c.loop-circuit.invariant.room len (subst (λ (vs : List circuit_code.Circuit). HaveRoom len vs) (sym c.deref_mut-circuit-items.ensures.value) have));
     }

@@ -1,5 +1,5 @@
-use Rattle.x25_station.proofs.HoldLemmas.{few_wait, few_stand, few_messages}
+use Rattle.x25_station.proofs.HoldLemmas.{few_wait, few_stand, few_messages, few_joined, few_held}
 use Rattle.x25_station.proofs.law.stations_hold_few.Goals as goal
 
 pub returns : goal.returns
-returns c = record { wait = few_wait; stand = few_stand c.holds_few.ensures.stand c.holds_few.ensures.window; messages = few_messages }
+returns c = record { wait = few_wait; stand = few_stand c.holds_few.ensures.stand c.holds_few.ensures.window; messages = few_messages; joined = few_joined; held = few_held }

@@ -25,6 +25,7 @@ returns-clause-some c = λ t fits.
         taken = fits.taken;
         rest = refl;
         part = fits.part;
+        short = fits.short;
         int_out = fits.int_out;
         peer_ready = fits.peer_ready;
         own_ready = fits.own_ready;

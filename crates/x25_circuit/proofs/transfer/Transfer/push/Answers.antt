@@ -13,6 +13,7 @@ returns-clause-fits c = λ size t fits.
       rest = ap (λ (ps : List Piece). ps ++ cut size message.q message.user) fits.rest
           ∙ sym (ap (cut_all size) c.push.ensures ∙ cut_all_push size (waiting c.args.self.now.queue) message);
       part = fits.part;
+      short = fits.short;
       int_out = fits.int_out;
       peer_ready = fits.peer_ready;
       own_ready = fits.own_ready;

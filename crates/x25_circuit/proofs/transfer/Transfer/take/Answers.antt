@@ -13,6 +13,7 @@ returns-clause-fits c = λ size t fits.
       taken = taken_more c.accept.new.self c.accept.result (length t.taken) _ (c.accept.ensures.held.1 c.requires.wanted) (c.accept.ensures.step (length t.taken) fits.taken) (length_push t.taken piece);
       rest = fits.rest;
       part = c.join.ensures.part ∙ ap (λ (j : Partial). joined j piece) fits.part ∙ sym (joining_push no_part t.taken piece);
+      short = c.join.ensures.short;
       int_out = fits.int_out;
       peer_ready = fits.peer_ready;
       own_ready = fits.own_ready;

@@ -5,11 +5,11 @@ pub returns-clause-layer : goal.returns-clause-layer
 returns-clause-layer c = λ s l fits. record {
   role = fits.role;
   long_data = fits.long_data;
-  channels = c.begin_all.ensures.count ∙ fits.channels;
+  channels = c.forget_all.ensures.count ∙ fits.channels;
   restarting = refl;
-  restarts = refl;
-  circuits = c.begin_all.ensures.fits s l.circuits fits.circuits;
+  restarts = fits.restarts;
+  circuits = c.forget_all.ensures.fits s l.circuits fits.circuits;
 }
 
 pub returns-clause-room : goal.returns-clause-room
-returns-clause-room c = λ len spares has. record { memory = has.memory; spares = has.spares; circuits = c.begin_all.ensures.room len has.circuits }
+returns-clause-room c = λ len spares has. record { memory = has.memory; spares = has.spares; circuits = c.forget_all.ensures.room len has.circuits }

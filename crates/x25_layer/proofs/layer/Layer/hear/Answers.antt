@@ -60,6 +60,7 @@ returns-in_default-packet g c =
       link = λ s l x fits link.
           subst (λ (a : LayerAnswer). OnOk c.hear_on-in_default-packet.result (g.L.OrderedLink.fits c.hear_on-in_default-packet.new.link (after_all g.L.OrderedLink.after_put x (option_to_list a.owed)))) (same s l) (hears.link s l x fits link);
       told = λ s l fits. subst (λ (a : LayerAnswer). IfOk c.hear_on-in_default-packet.result (λ told. plain_told told ≡ a.notices)) (same s l) (hears.told s l fits);
+      nothing = hears.nothing;
       memory = hears.memory;
       spares = hears.spares;
       longest = hears.longest;
