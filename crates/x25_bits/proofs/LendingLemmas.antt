@@ -13,9 +13,10 @@ use Rattle.x25_bits.specs.SpanClass.{Class}
 use Rattle.x25_bits.specs.declared.deframer.Deframer.{Deframer}
 use Rattle.x25_bits.specs.declared.found.Span.{Span}
 use Rattle.x25_bits.specs.declared.scan.Scan.{Scan}
-use Rattle.x25_bits.proofs.FeedLemmas.{seen_all, found_all}
+use Rattle.x25_bits.proofs.FeedLemmas.{seen_all, found_all, found-append}
 use Rattle.x25_bits.proofs.FitsLemmas.{seen_fits, fits_seen}
-use Rattle.x25_bits.proofs.ReadingLemmas.{part_none, read_seen, read_found, found_before}
+use Rattle.x25_bits.proofs.FoundLemmas.{seen-append}
+use Rattle.x25_bits.proofs.ReadingLemmas.{part_join, part_none, read_seen, read_found, found_before}
 
 if_true : (b : Bool) (x y : List Class) → b ≡ true → (if b then x else y) ≡ x
 if_true b x y e = rw e refl
@@ -105,6 +106,19 @@ pub reads_more : (d e f : Deframer) (r : Option Scan) (at place : ℕ) (bits kep
 reads_more d e f r at place bits kept b reads low high is fits lends nothing = record {
   fits = bit_fits d e f at place bits b reads low high is fits;
   none = λ v h. subst (λ o. Lends o kept (found_from v (part at (place + 1) bits))) (is_nothing r nothing) (bit_lends d e r at place bits kept b reads low high is lends v h);
+}
+
+-- more bits, in which nothing is found
+pub reads_part : (d e f : Deframer) (at place next : ℕ) (bits : List Bool) → Reads d at place bits e → at ≤ place → place ≤ next
+    → ((v : Seen) → FitsSeen e v → FitsSeen f (seen_from v (part place next bits)))
+    → ((v : Seen) → FitsSeen e v → found_from v (part place next bits) ≡ [])
+    → Reads d at next bits f
+reads_part d e f at place next bits reads low high fits none = record {
+  fits = λ v h. subst (FitsSeen f) (sym (ap (seen_from v) (part_join at place next bits low high) ∙ seen-append v (part at place bits) (part place next bits)))
+      (fits (seen_from v (part at place bits)) (reads.fits v h));
+  none = λ v h. ap (found_from v) (part_join at place next bits low high) ∙ found-append v (part at place bits) (part place next bits)
+      ∙ ap (λ l. l ++ found_from (seen_from v (part at place bits)) (part place next bits)) (reads.none v h)
+      ∙ none (seen_from v (part at place bits)) (reads.fits v h);
 }
 
 -- by whole lists of bits

@@ -165,7 +165,7 @@ same [] (b ∷ q) = false
 same (a ∷ p) [] = false
 same (a ∷ p) (b ∷ q) = if xor a b then false else same p q
 
-same_is : (p q : List Bool) → same p q ≡ true → p ≡ q
+pub same_is : (p q : List Bool) → same p q ≡ true → p ≡ q
 unfolding same
 same_is [] [] h = refl
 same_is [] (b ∷ q) h = cc h

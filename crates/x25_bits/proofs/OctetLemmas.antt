@@ -10,6 +10,8 @@ use Rattle.std.proofs.lemmas.Bool.Decides.{nat_tests}
 use Rattle.std.proofs.Math.ListN.{get_or-append, set}
 use Rattle.x25_bits.specs.Fcs.{bits_of, low_bits, number_of}
 use Rattle.x25_bits.proofs.FcsLemmas.{length-low_bits, low_bits-mod, and_one}
+use Rattle.x25_bits.proofs.LinearLemmas.{low_bits-join}
+use Rattle.std.proofs.Math.Seq.{drop-append-add}
 use Rattle.x25_bits.specs.SpanClass.{octets_by}
 
 low_bits-snoc : (k n : ℕ) (b : Bool) → n < 2 ^ k → low_bits (suc k) (n + (if b then 2 ^ k else 0)) ≡ low_bits k n ++ b ∷ []
@@ -182,3 +184,92 @@ none_seen count (b ∷ bits) e h = absurd (grind (arith, nat_tests))
 
 pub zero_seen : (count : ℕ) (bits : List Bool) → count ≡ length bits → bits ≡ [] → (count == 0) ≡ true
 zero_seen count bits e h = rw (e, h) refl
+
+-- ---- an octet's bits behind others
+
+take_two : (n x y s : ℕ) (rest : List Bool) → n ≤ 16 → x < 256 → x + y * 256 ≡ s → take n (low_bits 8 x ++ (low_bits 8 y ++ rest)) ≡ low_bits n s
+take_two n x y s rest h small e =
+    let a = length-low_bits 8 x in
+    let b = length-low_bits 8 y in
+    let size = length-append (low_bits 8 x) (low_bits 8 y) in
+    let both : low_bits 8 x ++ low_bits 8 y ≡ low_bits 16 s = sym (low_bits-join 8 8 x y small) ∙ ap (low_bits 16) e in
+    ap (take n) (sym (append_assoc (low_bits 8 x) (low_bits 8 y) rest))
+    ∙ take-append-le n (low_bits 8 x ++ low_bits 8 y) rest (omega arith)
+    ∙ ap (take n) both ∙ take_low n 16 s h
+
+octet_written : (i k o x y : ℕ) (octets : List ℕ) → suc i < length octets → k < 8 → x < 256 → x + y * 256 ≡ get_or octets i 0 % 2 ^ k + o * 2 ^ k
+    → (count : ℕ) → count ≤ 8 → take (8 * i + k + count) (bits_of (set (set octets i x) (suc i) y)) ≡ take (8 * i + k) (bits_of octets) ++ low_bits count o
+octet_written i k o x y [] h s f e count c = absurd (omega arith)
+octet_written zero k o x y (a ∷ []) h s f e count c = absurd (omega arith)
+octet_written zero k o x y (a ∷ b ∷ octets) h s f e count c =
+    let new : 8 * 0 + k + count ≡ k + count = omega arith in
+    let old : 8 * 0 + k ≡ k = omega arith in
+    ap (λ n. take n (bits_of (x ∷ y ∷ octets))) new
+    ∙ take_two (k + count) x y (a % 2 ^ k + o * 2 ^ k) (bits_of octets) (omega arith) f e
+    ∙ low_bits-join k count (a % 2 ^ k) o (mod_below a (2 ^ k) (pow_pos k))
+    ∙ ap (λ l. l ++ low_bits count o) (low_bits-mod k a ∙ sym (take_first k a (bits_of (b ∷ octets)) (omega arith)) ∙ ap (λ n. take n (bits_of (a ∷ b ∷ octets))) (sym old))
+octet_written (suc i) k o x y (a ∷ octets) h s f e count c =
+    let new : 8 * suc i + k + count ≡ 8 + (8 * i + k + count) = omega arith in
+    let old : 8 * suc i + k ≡ 8 + (8 * i + k) = omega arith in
+    ap (λ n. take n (bits_of (a ∷ set (set octets i x) (suc i) y))) new
+    ∙ take_behind (8 * i + k + count) a (bits_of (set (set octets i x) (suc i) y))
+    ∙ ap (λ l. low_bits 8 a ++ l) (octet_written i k o x y octets (omega arith) s f e count c)
+    ∙ sym (append_assoc (low_bits 8 a) (take (8 * i + k) (bits_of octets)) (low_bits count o))
+    ∙ ap (λ l. l ++ low_bits count o) (sym (take_behind (8 * i + k) a (bits_of octets)) ∙ ap (λ n. take n (bits_of (a ∷ octets))) (sym old))
+
+-- the bits before an octet that is written behind them, and its first ones
+pub place_octet : (place o x y : ℕ) (octets : List ℕ) → place / 8 + 1 < length octets → x < 256 → x + y * 256 ≡ get_or octets (place / 8) 0 % 2 ^ (place % 8) + o * 2 ^ (place % 8)
+    → (count : ℕ) → count ≤ 8 → take (place + count) (bits_of (set (set octets (place / 8) x) (place / 8 + 1) y)) ≡ take place (bits_of octets) ++ low_bits count o
+place_octet place o x y octets h f e count c =
+    let at : 8 * (place / 8) + place % 8 ≡ place = omega arith in
+    let next : place / 8 + 1 ≡ suc (place / 8) = omega arith in
+    ap (λ n. take (place + count) (bits_of (set (set octets (place / 8) x) n y))) next
+    ∙ ap (λ n. take (n + count) (bits_of (set (set octets (place / 8) x) (suc (place / 8)) y))) (sym at)
+    ∙ octet_written (place / 8) (place % 8) o x y octets (omega arith) (omega arith) f e count c
+    ∙ ap (λ n. take n (bits_of octets) ++ low_bits count o) at
+
+-- the sum that two octets are made of
+pub sum_behind : (k x y : ℕ) → k < 8 → x < 256 → y < 256 → x % (1 * 2 ^ k % 256) + y * 2 ^ k % 65536 ≡ x % 2 ^ k + y * 2 ^ k
+sum_behind zero x y h a b = omega arith
+sum_behind (suc zero) x y h a b = omega arith
+sum_behind (suc (suc zero)) x y h a b = omega arith
+sum_behind (suc (suc (suc zero))) x y h a b = omega arith
+sum_behind (suc (suc (suc (suc zero)))) x y h a b = omega arith
+sum_behind (suc (suc (suc (suc (suc zero))))) x y h a b = omega arith
+sum_behind (suc (suc (suc (suc (suc (suc zero)))))) x y h a b = omega arith
+sum_behind (suc (suc (suc (suc (suc (suc (suc zero))))))) x y h a b = omega arith
+sum_behind (suc (suc (suc (suc (suc (suc (suc (suc k)))))))) x y h a b = absurd (omega arith)
+
+pub sum_fits : (k x y : ℕ) → k < 8 → x < 256 → y < 256 → x % (1 * 2 ^ k % 256) + y * 2 ^ k % 65536 < 65536
+sum_fits zero x y h a b = omega arith
+sum_fits (suc zero) x y h a b = omega arith
+sum_fits (suc (suc zero)) x y h a b = omega arith
+sum_fits (suc (suc (suc zero))) x y h a b = omega arith
+sum_fits (suc (suc (suc (suc zero)))) x y h a b = omega arith
+sum_fits (suc (suc (suc (suc (suc zero))))) x y h a b = omega arith
+sum_fits (suc (suc (suc (suc (suc (suc zero)))))) x y h a b = omega arith
+sum_fits (suc (suc (suc (suc (suc (suc (suc zero))))))) x y h a b = omega arith
+sum_fits (suc (suc (suc (suc (suc (suc (suc (suc k)))))))) x y h a b = absurd (omega arith)
+
+-- the first bits are no others where octets stand behind
+pub take_grown : (count : ℕ) (octets grown more : List ℕ) → count ≤ 8 * length octets → grown ≡ octets ++ more → take count (bits_of grown) ≡ take count (bits_of octets)
+take_grown count octets grown more h e =
+    let size = length-bits_of octets in
+    ap (λ o. take count (bits_of o)) e ∙ ap (take count) (bits_of-append octets more) ∙ take-append-le count (bits_of octets) (bits_of more) (omega arith)
+
+octet_at : (i : ℕ) (octets : List ℕ) → i < length octets → take 8 (drop (8 * i) (bits_of octets)) ≡ low_bits 8 (get_or octets i 0)
+octet_at i [] h = absurd (omega arith)
+octet_at zero (o ∷ octets) h = take_first 8 o (bits_of octets) (omega arith)
+octet_at (suc i) (o ∷ octets) h =
+    let size = length-low_bits 8 o in
+    let there : 8 * suc i ≡ length (low_bits 8 o) + 8 * i = omega arith in
+    ap (λ n. take 8 (drop n (low_bits 8 o ++ bits_of octets))) there
+    ∙ ap (take 8) (drop-append-add (low_bits 8 o) (bits_of octets) (8 * i))
+    ∙ octet_at i octets (omega arith)
+
+-- the eight bits that begin where an octet does
+pub part_octet : (place : ℕ) (octets : List ℕ) → place % 8 ≡ 0 → place / 8 < length octets → take (place + 8 - place) (drop place (bits_of octets)) ≡ low_bits 8 (get_or octets (place / 8) 0)
+part_octet place octets h k =
+    let eight : place + 8 - place ≡ 8 = omega arith in
+    let at : place ≡ 8 * (place / 8) = omega arith in
+    ap (λ n. take n (drop place (bits_of octets))) eight ∙ ap (λ n. take 8 (drop n (bits_of octets))) at ∙ octet_at (place / 8) octets k

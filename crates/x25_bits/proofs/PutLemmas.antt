@@ -1,5 +1,5 @@
 -- What is put is found.
-use Rattle.std.proofs.Common.{ℕ, zero, suc, ◌+◌, ◌-◌, ◌*◌, ◌/◌, ◌%◌, ◌<◌, ◌≤◌, ◌≡◌, ◌∙◌, Bool, true, false, ◌==◌, nat_eq, bit_and, List, [], ◌∷◌, ◌++◌, length, get_or, refl, ap, sym, arith, append_assoc}
+use Rattle.std.proofs.Common.{ℕ, zero, suc, ◌+◌, ◌-◌, ◌*◌, ◌/◌, ◌%◌, ◌<◌, ◌≤◌, ◌≡◌, ◌∙◌, Bool, true, false, nat_eq, bit_and, List, [], ◌∷◌, ◌++◌, length, get_or, refl, ap, sym, arith, append_assoc}
 use Rattle.std.specs.Prelude.{nat_lt}
 use Rattle.std.proofs.lemmas.List.{append-nil, take_all}
 use Rattle.std.proofs.lemmas.Bool.Decides.{nat_tests}
@@ -74,24 +74,6 @@ put_found octets small low high =
     ∙ class_content octets small low high
 
 -- ---- steps of the code
-
-pub stuffs_zero : (run : ℕ) (old new rest : List Bool) → new ≡ old ++ false ∷ [] → new ++ stuffed_from 0 rest ≡ old ++ stuffed_from run (false ∷ rest)
-unfolding stuffed_from
-stuffs_zero run old new rest e = rw e (append_assoc old (false ∷ []) (stuffed_from 0 rest))
-
-pub stuffs_one : (run : ℕ) (old new rest : List Bool) → run < 4 → new ≡ old ++ true ∷ [] → new ++ stuffed_from (run + 1) rest ≡ old ++ stuffed_from run (true ∷ rest)
-unfolding stuffed_from
-stuffs_one run old new rest h e = let t : (run == 4) ≡ false = grind (arith, nat_tests) in rw (e, t) (append_assoc old (true ∷ []) (stuffed_from (run + 1) rest))
-
-pub stuffs_five : (run : ℕ) (old mid new rest : List Bool) → run ≡ 4 → mid ≡ old ++ true ∷ [] → new ≡ mid ++ false ∷ []
-    → new ++ stuffed_from 0 rest ≡ old ++ stuffed_from run (true ∷ rest)
-unfolding stuffed_from
-stuffs_five run old mid new rest h e f = rw (f, e, h) (append_assoc (old ++ true ∷ []) (false ∷ []) (stuffed_from 0 rest) ∙ append_assoc old (true ∷ []) (false ∷ stuffed_from 0 rest))
-
-pub left_bits : (k left : ℕ) (rest : List Bool) → k < 8 → low_bits (8 - k) left ++ rest ≡ nat_eq (bit_and left 1) 1 ∷ (low_bits (8 - (k + 1)) (left / 2) ++ rest)
-left_bits k left rest h =
-    let at : 8 - k ≡ suc (8 - (k + 1)) = omega arith in
-    rw (at, low_bits-suc (8 - (k + 1)) left, and_one left) refl
 
 pub next_bits : (k left : ℕ) → k < 8 → low_bits (8 - k) left ≡ nat_eq (bit_and left 1) 1 ∷ low_bits (8 - (k + 1)) (left / 2)
 next_bits k left h =

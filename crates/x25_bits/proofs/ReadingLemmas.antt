@@ -1,6 +1,7 @@
 -- Reading bits from place to place.
 use Rattle.std.proofs.Common.{ℕ, ◌+◌, ◌-◌, ◌<◌, ◌≤◌, ◌≡◌, ◌∙◌, Bool, false, List, [], ◌∷◌, ◌++◌, length, take, drop, refl, ap, sym, arith, get_or}
-use Rattle.std.proofs.lemmas.List.{get_or-drop, drop-take, take-take, take-append-drop, length-drop}
+use Rattle.std.proofs.lemmas.List.{get_or-drop, drop-take, take-take, take-append-drop, length-drop, drop-drop}
+use Rattle.std.proofs.Math.Seq.{take-add}
 use Rattle.x25_bits.specs.SpanClass.{Class}
 use Rattle.x25_bits.specs.Held.{Seen, seen_next, seen_found, seen_from, found_from}
 use Rattle.x25_bits.specs.Reading.{part}
@@ -48,3 +49,12 @@ found_before v at n p bits h e =
     let short : take (n - at) long ≡ part at n bits = take-take (n - at) (p - at) (drop at bits) (omega arith) in
     let split : take (n - at) long ++ drop (n - at) long ≡ long = take-append-drop (n - at) long in
     ap (found_from v) (sym short) ∙ left_none (found_from v (take (n - at) long)) _ (sym (found-append v (take (n - at) long) (drop (n - at) long)) ∙ ap (found_from v) split ∙ e)
+
+-- one part behind another
+pub part_join : (at place next : ℕ) (bits : List Bool) → at ≤ place → place ≤ next → part at next bits ≡ part at place bits ++ part place next bits
+part_join at place next bits h k =
+    let whole : next - at ≡ (place - at) + (next - place) = omega arith in
+    let there : at + (place - at) ≡ place = omega arith in
+    ap (λ n. take n (drop at bits)) whole
+    ∙ take-add (place - at) (next - place) (drop at bits)
+    ∙ ap (λ l. take (place - at) (drop at bits) ++ take (next - place) l) (drop-drop (place - at) at bits ∙ ap (λ n. drop n bits) there)

@@ -1,4 +1,5 @@
-ghost use Rattle.std.specs.Prelude.{ℕ, ◌≡◌, ◌+◌, ◌*◌, ◌/◌, ◌%◌, ◌<◌, ◌≤◌, ◌++◌, ◌∷◌, [], ◌==◌, ◌↔◌, Bool, List, false, length, take, IsTrue, OnOk, OnErr, slice_get, slice_index, slice_index_or};
+ghost use Rattle.std.specs.Prelude.{ℕ, ◌≡◌, ◌+◌, ◌*◌, ◌/◌, ◌%◌, ◌^◌, ◌<◌, ◌≤◌, ◌++◌, ◌∷◌, [], ◌==◌, ◌↔◌, Bool, List, false, length, take, IsTrue, OnOk, OnErr, slice_get, slice_index, slice_index_or};
+ghost use Rattle.x25_bits.specs.Begins.{Begins};
 ghost use Rattle.x25_bits.specs.Fcs.{bits_of, low_bits};
 ghost use Rattle.x25_bits.specs.SpanClass.{octets_by, octets_of};
 
@@ -45,6 +46,21 @@ impl Bits {
         };
         write_bit(&mut self.octets, self.count, bit)?;
         self.count = count;
+        Ok(())
+    }
+
+    /// Appends the lowest `count` bits of an octet. Error 70 as for `push`.
+    pub(crate) fn append(&mut self, octet: u8, count: u8) -> Result<(), NoMemory>
+        requires { count ≤ 8 }
+        ensures ok { OnOk result (self.new ≡ self.old ++ low_bits count octet) }
+        ensures err { OnErr result (self.new ≡ self.old) }
+    {
+        let Some(after) = self.count.checked_add(count as usize) else {
+            return Err(NoMemory);
+        };
+        grow(&mut self.octets, self.count / 8 + 2)?;
+        set_octet(&mut self.octets, self.count, octet);
+        self.count = after;
         Ok(())
     }
 
@@ -144,6 +160,39 @@ pub(crate) fn set_bit(octets: &mut Vec<u8>, place: usize, bit: bool)
 {
     let at = place / 8;
     octets[at] = with_bit(octets[at], place % 8, bit);
+}
+
+/// The lowest `size` bits of an octet, and those of another one behind them.
+#[inline]
+fn behind(octet: u8, size: usize, next: u8) -> u16
+    requires { size < 8 }
+    ensures { result ≡ octet % 2 ^ size + next * 2 ^ size }
+{
+    (octet % (1u8 << size)) as u16 + ((next as u16) << size)
+}
+
+/// Writes the bits of an octet behind the first `place` bits of the octets, of which one more stands behind that place's.
+#[inline]
+pub(crate) fn set_octet(octets: &mut Vec<u8>, place: usize, octet: u8)
+    requires { place / 8 + 1 < length octets.old.items }
+    ensures bits { (count : ℕ) → count ≤ 8 → take (place + count) (bits_of octets.new.items) ≡ take place (bits_of octets.old.items) ++ low_bits count octet }
+    ensures len { length octets.new.items ≡ length octets.old.items }
+{
+    let at = place / 8;
+    let both = behind(octets[at], place % 8, octet);
+    octets[at] = (both % 256) as u8;
+    octets[at + 1] = (both / 256) as u8;
+}
+
+/// Puts octets of 0 behind these, up to so many in all.
+pub(crate) fn grow(octets: &mut Vec<u8>, count: usize) -> Result<(), NoMemory>
+    ensures room { OnOk result (count ≤ length octets.new.items) }
+    ensures begins { Begins octets.old.items octets.new.items }
+{
+    for _ in octets.len()..count {
+        octets.push(0)?;
+    }
+    Ok(())
 }
 
 /// The bit at a place of the octets' bits.

@@ -162,6 +162,28 @@ impl Deframer {
         ensures alloc { self.new.alloc ≡ self.old.alloc }
         ensures last { self.new.last ≡ self.old.last }
     {
+        let Some(passed) = self.passed(octet) else {
+            return self.take_bits(octet, aside, out);
+        };
+        self.keep_passed(passed)?;
+        Ok(())
+    }
+
+    /// Takes the bits of an octet one by one, the lowest first.
+    fn take_bits(
+        &mut self,
+        octet: u8,
+        aside: &mut Option<Kept>,
+        out: &mut Vec<Found>,
+    ) -> Result<(), NoMemory>
+        ensures fits { OnOk result ((v : Seen) → FitsSeen self.old v → FitsSeen self.new (seen_from v (low_bits 8 octet))) }
+        ensures found { OnOk result ((v : Seen) → FitsSeen self.old v → plains out.new.items ≡ plains out.old.items ++ found_from v (low_bits 8 octet)) }
+        ensures undo { Begins (unwrap_or aside.old self.old.kept).bits (unwrap_or aside.new self.new.kept).bits }
+        ensures roomy { (unwrap_or aside.new self.new.kept).is_roomy ≡ (unwrap_or aside.old self.old.kept).is_roomy }
+        ensures begins { Begins out.old.items out.new.items }
+        ensures alloc { self.new.alloc ≡ self.old.alloc }
+        ensures last { self.new.last ≡ self.old.last }
+    {
         let mut left = octet;
         for _ in 0..8u8 {
             self.take(left & 1 == 1, aside, out)?;

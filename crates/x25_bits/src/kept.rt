@@ -1,9 +1,10 @@
 //! The bits that are kept between flags, in memory that grows or that was set aside for all of them.
 ghost use Rattle.std.specs.Prelude.{ℕ, ◌≡◌, ◌+◌, ◌*◌, ◌<◌, ◌≤◌, ◌++◌, ◌∷◌, [], Bool, true, false, length, take, IfOk, OnOk, OnErr, slice_index_or};
+ghost use Rattle.x25_bits.specs.Fcs.{low_bits};
 ghost use Rattle.x25_bits.specs.SpanClass.{octets_of};
 ghost use Rattle.x25_bits.specs.Keeping.{Keeping, with_bits};
 
-use crate::bits::{read_bit, set_bit, whole_octets, write_bit};
+use crate::bits::{grow, read_bit, set_bit, set_octet, whole_octets, write_bit};
 use crate::no_memory::NoMemory;
 use std::alloc::Global;
 use std::marker::Model;
@@ -81,6 +82,32 @@ impl Kept {
     {
         set_bit(&mut self.octets, self.count, bit);
         self.count += 1;
+    }
+
+    /// Appends the lowest `size` bits of an octet. Error 70 where there is no memory for it.
+    pub fn append(&mut self, octet: u8, size: u8) -> Result<(), NoMemory>
+        requires size { size ≤ 8 }
+        requires few { length self.old.bits ≤ 32823 }
+        ensures bits { OnOk result (self.new.bits ≡ self.old.bits ++ low_bits size octet) }
+        ensures roomy { self.new.is_roomy ≡ self.old.is_roomy }
+        ensures err { OnErr result (self.new ≡ self.old) }
+    {
+        grow(&mut self.octets, self.count / 8 + 2)?;
+        set_octet(&mut self.octets, self.count, octet);
+        self.count += size as usize;
+        Ok(())
+    }
+
+    /// Appends the lowest `size` bits of an octet, in memory that was set aside.
+    pub fn append_within(&mut self, octet: u8, size: u8)
+        requires size { size ≤ 8 }
+        requires room { self.old.is_roomy ≡ true }
+        requires few { length self.old.bits ≤ 32823 }
+        ensures bits { self.new.bits ≡ self.old.bits ++ low_bits size octet }
+        ensures roomy { self.new.is_roomy ≡ true }
+    {
+        set_octet(&mut self.octets, self.count, octet);
+        self.count += size as usize;
     }
 
     /// Whether memory for 32,832 bits is counted on.

@@ -92,10 +92,17 @@ impl Deframer {
         ensures first { (before : List Bool) (n : ℕ) → Fits self.old before → n < result.0 → found_more before (part at n (bits_of octets.now)) ≡ [] }
         ensures end { IfNone result.1 (result.0 ≡ end) }
     {
-        for place in at..end {
+        let mut place = at;
+        while place < end {
+            if let Some(passed) = self.passed_at(octets, place, end) {
+                self.keep_passed_within(passed);
+                place += 8;
+                continue;
+            }
             let closed = self.step(read_bit(octets, place));
+            place += 1;
             if closed.is_some() {
-                return (place + 1, closed);
+                return (place, closed);
             }
         }
         (end, None)

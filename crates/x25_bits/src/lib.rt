@@ -12,6 +12,7 @@ mod lending;
 mod line_octets;
 mod no_memory;
 mod octets;
+mod passing;
 mod role;
 mod scan;
 mod seq;

@@ -1,6 +1,8 @@
 ghost use Rattle.std.specs.Prelude.{◌≡◌, ◌==◌, ◌&&◌, ◌||◌, not, if◌then◌else◌};
 ghost use Rattle.x25_bits.specs.Held.{up, keeps};
 
+use crate::passing::Passed;
+
 /// What the bits so far say, beside those that are kept.
 #[derive(Clone, Copy, Debug)]
 pub struct Scan {
@@ -61,6 +63,21 @@ impl Scan {
             is_open: self.is_open,
             is_aborted: aborts(self, bit),
             is_inserted: inserts(self, bit),
+        }
+    }
+
+    /// After bits in which no flag ends and no seventh 1 bit comes.
+    pub fn behind(self, passed: Passed) -> Scan
+        ensures run { result.run ≡ passed.run }
+        ensures opened { result.is_open ≡ self.is_open }
+        ensures aborted { result.is_aborted ≡ self.is_aborted }
+        ensures inserted { result.is_inserted ≡ passed.is_inserted }
+    {
+        Scan {
+            run: passed.run,
+            is_open: self.is_open,
+            is_aborted: self.is_aborted,
+            is_inserted: passed.is_inserted,
         }
     }
 }

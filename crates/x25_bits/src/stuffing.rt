@@ -8,34 +8,58 @@ ghost use Rattle.x25_bits.specs.Stuffing.{stuffed_from, framed};
 use crate::bits::Bits;
 use crate::no_memory::NoMemory;
 
+/// A flag's bits, the first the lowest.
+const FLAG: u8 = 0x7e;
+
 /// Appends a flag.
 pub(crate) fn put_flag(bits: &mut Bits) -> Result<(), NoMemory>
     ensures ok { OnOk result (bits.new ≡ bits.old ++ flag) }
     ensures begins { Begins bits.old bits.new }
 {
-    bits.push(false)?;
-    for _ in 0..6u8 {
-        bits.push(true)?;
-    }
-    bits.push(false)
+    bits.append(FLAG, 8)?;
+    Ok(())
 }
 
-/// One more bit behind `run` 1 bits, and a 0 behind the fifth of them; answers how many stand there then.
-fn put_bit(run: u8, bit: bool, bits: &mut Bits) -> Result<u8, NoMemory>
-    requires { run < 5 }
+/// Of four bits, the first the lowest, they and the 0 inserted among them: sixteen entries where no 1 bits came before,
+/// sixteen where one came, and so on up to four.
+static STUFFED: [u8; 80] = [
+    0, 1, 2, 3, 4, 5, 6, 7, 8, 9, 10, 11, 12, 13, 14, 15, //
+    0, 1, 2, 3, 4, 5, 6, 7, 8, 9, 10, 11, 12, 13, 14, 15, //
+    0, 1, 2, 3, 4, 5, 6, 7, 8, 9, 10, 11, 12, 13, 14, 23, //
+    0, 1, 2, 3, 4, 5, 6, 11, 8, 9, 10, 19, 12, 13, 14, 27, //
+    0, 1, 2, 5, 4, 9, 6, 13, 8, 17, 10, 21, 12, 25, 14, 29, //
+];
+
+/// How many bits these are, by the same places.
+static SIZE: [u8; 80] = [
+    4, 4, 4, 4, 4, 4, 4, 4, 4, 4, 4, 4, 4, 4, 4, 4, //
+    4, 4, 4, 4, 4, 4, 4, 4, 4, 4, 4, 4, 4, 4, 4, 5, //
+    4, 4, 4, 4, 4, 4, 4, 5, 4, 4, 4, 4, 4, 4, 4, 5, //
+    4, 4, 4, 5, 4, 4, 4, 5, 4, 4, 4, 5, 4, 4, 4, 5, //
+    4, 5, 4, 5, 4, 5, 4, 5, 4, 5, 4, 5, 4, 5, 4, 5, //
+];
+
+/// The 1 bits at the end of them, counted afresh behind an inserted 0, by the same places.
+static AFTER: [u8; 80] = [
+    0, 0, 0, 0, 0, 0, 0, 0, 1, 1, 1, 1, 2, 2, 3, 4, //
+    0, 0, 0, 0, 0, 0, 0, 0, 1, 1, 1, 1, 2, 2, 3, 0, //
+    0, 0, 0, 0, 0, 0, 0, 0, 1, 1, 1, 1, 2, 2, 3, 1, //
+    0, 0, 0, 0, 0, 0, 0, 0, 1, 1, 1, 1, 2, 2, 3, 2, //
+    0, 0, 0, 0, 0, 0, 0, 0, 1, 1, 1, 1, 2, 2, 3, 3, //
+];
+
+/// Four more bits behind `run` 1 bits, and a 0 behind the fifth of them; answers how many stand there then.
+#[inline]
+fn put_four(run: u8, four: u8, bits: &mut Bits) -> Result<u8, NoMemory>
+    requires run { run < 5 }
+    requires four { four < 16 }
     ensures few { IfOk result (λ after. after < 5) }
-    ensures stuffs { IfOk result (λ after. (rest : List Bool) → bits.new ++ stuffed_from after rest ≡ bits.old ++ stuffed_from run (bit ∷ rest)) }
+    ensures stuffs { IfOk result (λ after. (rest : List Bool) → bits.new ++ stuffed_from after rest ≡ bits.old ++ stuffed_from run (low_bits 4 four ++ rest)) }
     ensures begins { Begins bits.old bits.new }
 {
-    bits.push(bit)?;
-    if !bit {
-        return Ok(0);
-    }
-    if run < 4 {
-        return Ok(run + 1);
-    }
-    bits.push(false)?;
-    Ok(0)
+    let at = run as usize * 16 + four as usize;
+    bits.append(STUFFED[at], SIZE[at])?;
+    Ok(AFTER[at])
 }
 
 fn put_octet(run: u8, octet: u8, bits: &mut Bits) -> Result<u8, NoMemory>
@@ -44,12 +68,8 @@ fn put_octet(run: u8, octet: u8, bits: &mut Bits) -> Result<u8, NoMemory>
     ensures stuffs { IfOk result (λ after. (rest : List Bool) → bits.new ++ stuffed_from after rest ≡ bits.old ++ stuffed_from run (low_bits 8 octet ++ rest)) }
     ensures begins { Begins bits.old bits.new }
 {
-    let mut after = run;
-    let mut left = octet;
-    for _ in 0..8u8 {
-        after = put_bit(after, left & 1 == 1, bits)?;
-        left >>= 1;
-    }
+    let between = put_four(run, octet % 16, bits)?;
+    let after = put_four(between, octet / 16, bits)?;
     Ok(after)
 }
 

@@ -51,3 +51,16 @@ fn finds_what_is_put(rt: HostRuntime) -> Result<(), Fail> {
     }
     Ok(())
 }
+
+/// Frames of nine equal octets, of each value, so that 1 bits run on from octet to octet.
+#[test]
+fn finds_octets_of_each_value(rt: HostRuntime) -> Result<(), Fail> {
+    for value in 0..=255u8 {
+        let octets = vec![in rt.alloc(); value; 9]?;
+        let mut line = Vec::new(rt.alloc());
+        put_octets(octets.as_slice(), &mut line)?;
+        let found = found_by(rt.alloc(), line.as_slice(), 4)?;
+        assert!(rt; is_content(found.as_slice(), octets.as_slice()), "{value}");
+    }
+    Ok(())
+}

@@ -1,18 +1,38 @@
-use Rattle.std.proofs.Common.{◌+◌, ◌≡◌, ◌∙◌, ◌++◌, sym, subst, arith}
+use Rattle.std.proofs.Common.{◌+◌, ◌≡◌, ◌<◌, ◌≤◌, ◌∙◌, ◌++◌, sym, subst, arith}
 use Rattle.x25_bits.specs.Fcs.{bits_of}
 use Rattle.x25_bits.specs.Fits.{Fits}
 use Rattle.x25_bits.specs.Reading.{part}
-use Rattle.x25_bits.proofs.LendingLemmas.{reads_none, reads_more, bit_fits, bit_lends, all_fit, all_lend, none_first}
+use Rattle.x25_bits.proofs.LendingLemmas.{reads_none, reads_more, reads_part, bit_fits, bit_lends, all_fit, all_lend, none_first}
 use Rattle.x25_bits.proofs.OctetLemmas.{length-bits_of}
+use Rattle.x25_bits.proofs.PassingLemmas.{passed_fits, passed_found}
 use Rattle.x25_bits.proofs.deframer.Deframer.read.Goals as goal
 
 pub loop-place-init : goal.loop-place-init
-loop-place-init c = record { buffer = c.requires.buffer; reads = reads_none c.args.self.now c.args.at (bits_of c.args.octets.now) }
+loop-place-init c = record { low = omega arith; high = c.requires.at; buffer = c.requires.buffer; reads = reads_none c.args.self.now c.args.at (bits_of c.args.octets.now) }
+
+pub loop-place-preserved-in-Some : goal.loop-place-preserved-in-Some
+loop-place-preserved-in-Some c =
+    let low : c.args.at ≤ c.loop-place.place = c.loop-place.invariant.low in
+    let next : c.loop-place.place + 8 ≤ c.args.end = c.in-Some.ensures.inside in
+    let bits = part c.loop-place.place (c.loop-place.place + 8) (bits_of c.args.octets.now) in
+    record {
+      low = omega arith;
+      high = next;
+      buffer = c.keep_passed_within.ensures.buffer;
+      reads = reads_part c.args.self.now c.loop-place.self c.keep_passed_within.new.self c.args.at c.loop-place.place (c.loop-place.place + 8) (bits_of c.args.octets.now) c.loop-place.invariant.reads low (omega arith)
+          (passed_fits c.loop-place.self c.keep_passed_within.new.self c.in-Some.passed bits c.in-Some.ensures.opened c.in-Some.ensures.going c.in-Some.ensures.room c.in-Some.ensures.size
+          c.in-Some.ensures.passes c.keep_passed_within.ensures.run c.keep_passed_within.ensures.opened c.keep_passed_within.ensures.aborted c.keep_passed_within.ensures.inserted c.keep_passed_within.ensures.kept)
+          (passed_found c.loop-place.self c.in-Some.passed bits c.in-Some.ensures.passes);
+    }
 
 pub loop-place-preserved : goal.loop-place-preserved
 loop-place-preserved c =
     let size = length-bits_of c.args.octets.now in
+    let low : c.args.at ≤ c.loop-place.place = c.loop-place.invariant.low in
+    let inside : c.loop-place.place < c.args.end = c.loop-place-test.true in
     record {
+      low = omega arith;
+      high = omega arith;
       buffer = c.step-closed.ensures.buffer;
       reads = reads_more c.args.self.now c.loop-place.self c.step-closed.new.self c.step-closed.result c.args.at c.loop-place.place (bits_of c.args.octets.now) c.step-closed.new.self.last.bits c.read_bit.result
           c.loop-place.invariant.reads (omega arith) (omega arith) c.read_bit.ensures c.step-closed.ensures.fits c.step-closed.ensures.found (sym c.is_some.ensures ∙ c.if-is_some.false);
@@ -21,12 +41,16 @@ loop-place-preserved c =
 pub returns-then-is_some-clause-fits : goal.returns-then-is_some-clause-fits
 returns-then-is_some-clause-fits c = λ before h.
     let size = length-bits_of c.args.octets.now in
+    let low : c.args.at ≤ c.loop-place.place = c.loop-place.invariant.low in
+    let inside : c.loop-place.place < c.args.end = c.loop-place-test.true in
     all_fit c.args.self.now c.step-closed.new.self c.args.at (c.loop-place.place + 1) (bits_of c.args.octets.now) before
     (bit_fits c.args.self.now c.loop-place.self c.step-closed.new.self c.args.at c.loop-place.place (bits_of c.args.octets.now) c.read_bit.result c.loop-place.invariant.reads (omega arith) (omega arith) c.read_bit.ensures c.step-closed.ensures.fits) h
 
 pub returns-then-is_some-clause-found : goal.returns-then-is_some-clause-found
 returns-then-is_some-clause-found c = λ before h.
     let size = length-bits_of c.args.octets.now in
+    let low : c.args.at ≤ c.loop-place.place = c.loop-place.invariant.low in
+    let inside : c.loop-place.place < c.args.end = c.loop-place-test.true in
     all_lend c.args.self.now c.step-closed.result c.args.at (c.loop-place.place + 1) (bits_of c.args.octets.now) c.step-closed.new.self.last.bits before
     (bit_lends c.args.self.now c.loop-place.self c.step-closed.result c.args.at c.loop-place.place (bits_of c.args.octets.now) c.step-closed.new.self.last.bits c.read_bit.result c.loop-place.invariant.reads (omega arith) (omega arith) c.read_bit.ensures c.step-closed.ensures.found) h
 
@@ -36,14 +60,15 @@ returns-then-is_some-clause-first c = λ before n h less.
 
 pub returns-clause-fits : goal.returns-clause-fits
 returns-clause-fits c = λ before h.
-    let same : c.loop-place.place ≡ c.args.end = omega arith in
+    let high : c.loop-place.place ≤ c.args.end = c.loop-place.invariant.high in
+    let same : c.loop-place.place ≡ c.args.end = omega (arith, c.loop-place-test.false) in
     subst (λ n. Fits c.loop-place.self (before ++ part c.args.at n (bits_of c.args.octets.now))) same
     (all_fit c.args.self.now c.loop-place.self c.args.at c.loop-place.place (bits_of c.args.octets.now) before c.loop-place.invariant.reads.fits h)
 
 pub returns-clause-found : goal.returns-clause-found
 returns-clause-found c = λ before h.
-    none_first c.args.self.now c.loop-place.self c.args.at c.args.end c.loop-place.place (bits_of c.args.octets.now) before c.loop-place.invariant.reads (omega arith) h
+    none_first c.args.self.now c.loop-place.self c.args.at c.args.end c.loop-place.place (bits_of c.args.octets.now) before c.loop-place.invariant.reads (omega (arith, c.loop-place-test.false)) h
 
 pub returns-clause-first : goal.returns-clause-first
 returns-clause-first c = λ before n h less.
-    none_first c.args.self.now c.loop-place.self c.args.at n c.loop-place.place (bits_of c.args.octets.now) before c.loop-place.invariant.reads (omega arith) h
+    none_first c.args.self.now c.loop-place.self c.args.at n c.loop-place.place (bits_of c.args.octets.now) before c.loop-place.invariant.reads (omega (arith, c.loop-place-test.false)) h

@@ -1,4 +1,4 @@
-use Rattle.std.proofs.Common.{◌≡◌, true}
+use Rattle.std.proofs.Common.{◌≡◌, ◌≤◌, ◌-◌, true}
 use Rattle.x25_bits.specs.Fcs.{bits_of}
 use Rattle.x25_bits.specs.Fits.{has_buffer}
 use Rattle.x25_bits.proofs.LendingLemmas.{Reads}
@@ -6,6 +6,11 @@ use Rattle.x25_bits.proofs.deframer.Deframer.read.Given as goal
 
 abbrev pub invariant-loop-place : goal.invariant-loop-place
 invariant-loop-place l = record {
+  low : l.at ≤ l.place;
+  high : l.place ≤ l.end;
   buffer : has_buffer l.self ≡ true;
   reads : Reads l.initial.self l.at l.place (bits_of l.octets) l.self;
 }
+
+abbrev pub decreases-loop-place : goal.decreases-loop-place
+decreases-loop-place l = l.end - l.place

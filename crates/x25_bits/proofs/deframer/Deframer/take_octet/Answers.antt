@@ -1,29 +1,22 @@
-use Rattle.std.proofs.Common.{◌≡◌, ◌∙◌, ◌-◌, arith, refl, ap}
+use Rattle.std.proofs.Common.{◌∙◌, ◌++◌, ap, sym}
+use Rattle.std.proofs.lemmas.List.{append-nil}
 use Rattle.x25_bits.specs.Fcs.{low_bits}
-use Rattle.x25_bits.proofs.BeginsLemmas.{begins_none, begins_more}
-use Rattle.x25_bits.proofs.LeadsLemmas.{leads_bit, led_fits, led_found}
-use Rattle.x25_bits.proofs.PutLemmas.{next_bits}
+use Rattle.x25_bits.specs.Plain.{plains}
+use Rattle.x25_bits.proofs.KeepingLemmas.{aside_begins}
+use Rattle.x25_bits.proofs.PassingLemmas.{passed_fits, passed_found}
 use Rattle.x25_bits.proofs.deframer.Deframer.take_octet.Goals as goal
 
-pub loop-init : goal.loop-init
-loop-init c = record { leads = λ v h. (v, h, refl, refl); undo = begins_none _; begins = begins_none _; roomy = refl; alloc = refl; last = refl }
+pub returns-in_err-keep_passed-clause-undo : goal.returns-in_err-keep_passed-clause-undo
+returns-in_err-keep_passed-clause-undo c = aside_begins c.args.aside.now _ _ c.keep_passed.ensures.begins
 
-pub loop-preserved : goal.loop-preserved
-loop-preserved c = record {
-  leads = λ v h. leads_bit _ _ _ _ _ _ _ _ _ _ (c.loop.invariant.leads v h) (next_bits c.loop.counter c.loop.left c.loop-test.true) c.in_ok-take.ensures.fits c.in_ok-take.ensures.found;
-  undo = begins_more _ _ _ c.loop.invariant.undo c.in_ok-take.ensures.undo;
-  begins = begins_more _ _ _ c.loop.invariant.begins c.in_ok-take.ensures.begins;
-  alloc = c.in_ok-take.ensures.alloc ∙ c.loop.invariant.alloc;
-  roomy = c.in_ok-take.ensures.roomy ∙ c.loop.invariant.roomy;
-  last = c.in_ok-take.ensures.last ∙ c.loop.invariant.last;
-}
+pub returns-clause-undo : goal.returns-clause-undo
+returns-clause-undo c = aside_begins c.args.aside.now _ _ c.keep_passed.ensures.begins
 
 pub returns-clause-fits : goal.returns-clause-fits
-unfolding low_bits
-returns-clause-fits c = λ v h. let none : 8 - c.loop.counter ≡ 0 = omega arith in
-    led_fits _ _ _ _ _ _ (c.loop.invariant.leads v h) (ap (λ n. low_bits n c.loop.left) none)
+returns-clause-fits c = λ v h.
+    passed_fits c.args.self.now c.keep_passed.new.self c.in-Some.passed (low_bits 8 c.args.octet) c.in-Some.ensures.opened c.in-Some.ensures.going c.in-Some.ensures.room c.in-Some.ensures.size
+    c.in-Some.ensures.passes c.in_ok-keep_passed.ensures.run c.in_ok-keep_passed.ensures.opened c.in_ok-keep_passed.ensures.aborted c.in_ok-keep_passed.ensures.inserted c.in_ok-keep_passed.ensures.kept v h
 
 pub returns-clause-found : goal.returns-clause-found
-unfolding low_bits
-returns-clause-found c = λ v h. let none : 8 - c.loop.counter ≡ 0 = omega arith in
-    led_found _ _ _ _ _ _ (c.loop.invariant.leads v h) (ap (λ n. low_bits n c.loop.left) none)
+returns-clause-found c = λ v h.
+    sym (append-nil _) ∙ ap (λ l. plains c.args.out.now.items ++ l) (sym (passed_found c.args.self.now c.in-Some.passed (low_bits 8 c.args.octet) c.in-Some.ensures.passes v h))

@@ -5,7 +5,7 @@ use Rattle.x25_bits.specs.Held.{Seen}
 use Rattle.x25_bits.specs.Plain.{plains}
 use Rattle.x25_bits.specs.FitsSeen.{FitsSeen}
 use Rattle.x25_bits.proofs.LeadsLemmas.{Leads}
-use Rattle.x25_bits.proofs.deframer.Deframer.take_octet.Given as goal
+use Rattle.x25_bits.proofs.deframer.Deframer.take_bits.Given as goal
 
 abbrev pub invariant-loop : goal.invariant-loop
 invariant-loop l = record {

@@ -1,0 +1,184 @@
+-- Bits in which no flag ends and no seventh 1 bit comes.
+use Rattle.std.proofs.Common.{ℕ, zero, suc, ◌+◌, ◌*◌, ◌/◌, ◌%◌, ◌^◌, ◌<◌, ◌≤◌, ◌≡◌, ◌∙◌, Bool, true, false, not, ◌==◌, ◌&&◌, List, [], ◌∷◌, ◌++◌, length, take, refl, ap, sym, subst, arith, append_assoc, length-append}
+use Rattle.std.specs.Prelude.{if◌then◌else◌, ◌||◌}
+use Rattle.std.proofs.lemmas.Nat.{pow-add}
+use Rattle.std.proofs.lemmas.List.{append-nil, take_all}
+use Rattle.x25_bits.specs.Fcs.{low_bits}
+use Rattle.x25_bits.specs.Fits.{ones_from}
+use Rattle.x25_bits.specs.FitsSeen.{FitsSeen}
+use Rattle.x25_bits.specs.Held.{Seen, up, keeps, ends, seen_next, seen_found, seen_from, found_from, closing}
+use Rattle.x25_bits.specs.Passing.{passes, kept_from, inserted_after, Passes}
+use Rattle.x25_bits.specs.SpanClass.{Class}
+use Rattle.x25_bits.specs.declared.deframer.Deframer.{Deframer}
+use Rattle.x25_bits.specs.declared.passing.Passed.{Passed}
+use Rattle.x25_bits.proofs.FcsLemmas.{length-low_bits}
+use Rattle.x25_bits.proofs.KeptLemmas.{take_short}
+use Rattle.x25_bits.proofs.LinearLemmas.{low_bits-join}
+
+-- ---- eight bits are four and four
+
+step_so : (t u : Bool) → (if t then false else u) ≡ true → (t ≡ false) × (u ≡ true)
+step_so true u h = let bad : false ≡ true = h in cc
+step_so false u h = (refl, h)
+
+passes_step : (run : ℕ) (b : Bool) (bits : List Bool) → passes run (b ∷ bits) ≡ true → ((run == 6) ≡ false) × (passes (up run b) bits ≡ true)
+unfolding passes
+passes_step run b bits h = step_so (run == 6) (passes (up run b) bits) h
+
+passes-append : (run : ℕ) (a b : List Bool) → passes run a ≡ true → passes (ones_from run a) b ≡ true → passes run (a ++ b) ≡ true
+unfolding passes ones_from
+passes-append run [] b h k = k
+passes-append run (x ∷ a) b h k =
+    let s = passes_step run x a h in
+    ap (λ t. if t then false else passes (up run x) (a ++ b)) s.0 ∙ passes-append (up run x) a b s.1 k
+
+ones_from-append : (run : ℕ) (a b : List Bool) → ones_from run (a ++ b) ≡ ones_from (ones_from run a) b
+unfolding ones_from
+ones_from-append run [] b = refl
+ones_from-append run (x ∷ a) b = ones_from-append (up run x) a b
+
+inserted_after-append : (run : ℕ) (last : Bool) (a b : List Bool) → inserted_after run last (a ++ b) ≡ inserted_after (ones_from run a) (inserted_after run last a) b
+unfolding ones_from inserted_after
+inserted_after-append run last [] b = refl
+inserted_after-append run last (x ∷ a) b = inserted_after-append (up run x) (if x then last else run == 5) a b
+
+if_more : (t : Bool) (x : Bool) (l m n : List Bool) → l ≡ m ++ n → (if t then x ∷ l else l) ≡ (if t then x ∷ m else m) ++ n
+if_more true x l m n e = ap (λ (k : List Bool). x ∷ k) e
+if_more false x l m n e = e
+
+kept_from-append : (run : ℕ) (a b : List Bool) → kept_from run (a ++ b) ≡ kept_from run a ++ kept_from (ones_from run a) b
+unfolding ones_from kept_from
+kept_from-append run [] b = refl
+kept_from-append run (x ∷ a) b = if_more (keeps run x) x (kept_from (up run x) (a ++ b)) (kept_from (up run x) a) (kept_from (ones_from (up run x) a) b) (kept_from-append (up run x) a b)
+
+pub octet_halves : (o : ℕ) → low_bits 8 o ≡ low_bits 4 (o % 16) ++ low_bits 4 (o / 16)
+octet_halves o =
+    let whole : o ≡ o % 16 + o / 16 * 2 ^ 4 = omega arith in
+    ap (low_bits 8) whole ∙ low_bits-join 4 4 (o % 16) (o / 16) (omega arith)
+
+-- of both halves
+pub octet_passes : (first last p : Passed) (run : ℕ) (was : Bool) (o : ℕ) → Passes first run was (low_bits 4 (o % 16)) → Passes last first.run first.is_inserted (low_bits 4 (o / 16))
+    → low_bits p.count p.kept ≡ low_bits first.count first.kept ++ low_bits last.count last.kept → p.kept < 2 ^ p.count → p.run ≡ last.run → p.is_inserted ≡ last.is_inserted
+    → Passes p run was (low_bits 8 o)
+octet_passes first last p run was o f l kept small ones inserted =
+    let a = low_bits 4 (o % 16) in
+    let b = low_bits 4 (o / 16) in
+    let same : first.run ≡ ones_from run a = f.ones in
+    subst (Passes p run was) (sym (octet_halves o)) (record {
+      quiet = passes-append run a b f.quiet (ap (λ r. passes r b) (sym same) ∙ l.quiet);
+      kept = kept ∙ ap (λ k. k ++ low_bits last.count last.kept) f.kept ∙ ap (λ k. kept_from run a ++ k) (l.kept ∙ ap (λ r. kept_from r b) same) ∙ sym (kept_from-append run a b);
+      small = small;
+      ones = ones ∙ l.ones ∙ ap (λ r. ones_from r b) same ∙ sym (ones_from-append run a b);
+      inserted = inserted ∙ l.inserted ∙ ap (λ r. inserted_after r first.is_inserted b) same ∙ ap (λ i. inserted_after (ones_from run a) i b) f.inserted ∙ sym (inserted_after-append run was a b);
+    })
+
+small_pow : (k : ℕ) → k ≤ 4 → 2 ^ k ≤ 16
+small_pow zero h = omega arith
+small_pow (suc zero) h = omega arith
+small_pow (suc (suc zero)) h = omega arith
+small_pow (suc (suc (suc zero))) h = omega arith
+small_pow (suc (suc (suc (suc zero)))) h = omega arith
+small_pow (suc (suc (suc (suc (suc k))))) h = absurd (omega arith)
+
+-- the sum of what is kept of both halves
+abbrev pub Sums : ℕ → ℕ → ℕ → ℕ → Type 0
+Sums a b x y = (y * 2 ^ a < 256) × (x + y * 2 ^ a < 256) × (x + y * 2 ^ a < 2 ^ (a + b))
+
+pub sums : (a b x y : ℕ) → a ≤ 4 → b ≤ 4 → x < 2 ^ a → y < 2 ^ b → Sums a b x y
+sums zero b x y h k low high = let p = small_pow b k in let q = pow-add 2 0 b in (omega arith, omega arith, omega arith)
+sums (suc zero) b x y h k low high = let p = small_pow b k in let q = pow-add 2 1 b in (omega arith, omega arith, omega arith)
+sums (suc (suc zero)) b x y h k low high = let p = small_pow b k in let q = pow-add 2 2 b in (omega arith, omega arith, omega arith)
+sums (suc (suc (suc zero))) b x y h k low high = let p = small_pow b k in let q = pow-add 2 3 b in (omega arith, omega arith, omega arith)
+sums (suc (suc (suc (suc zero)))) b x y h k low high = let p = small_pow b k in let q = pow-add 2 4 b in (omega arith, omega arith, omega arith)
+sums (suc (suc (suc (suc (suc a))))) b x y h k low high = absurd (omega arith)
+
+pub joined_bits : (a b x y : ℕ) → a ≤ 4 → b ≤ 4 → x < 2 ^ a → y < 2 ^ b → low_bits (a + b) (x + y * 2 ^ a % 256) ≡ low_bits a x ++ low_bits b y
+joined_bits a b x y h k low high =
+    let s = (sums a b x y h k low high).0 in
+    let fits : y * 2 ^ a % 256 ≡ y * 2 ^ a = omega arith in
+    ap (λ z. low_bits (a + b) (x + z)) fits ∙ low_bits-join a b x y low
+
+-- ---- what is seen
+
+abbrev seen : Bool → ℕ → Bool → Bool → List Bool → Seen
+seen o r a i k = record { is_open = o; held = record { run = r; is_aborted = a; is_inserted = i; kept = k } }
+
+keep_if : (t : Bool) (k : List Bool) (b : Bool) (rest : List Bool) → (if t then k ++ b ∷ [] else k) ++ rest ≡ k ++ (if t then b ∷ rest else rest)
+keep_if true k b rest = append_assoc k (b ∷ []) rest
+keep_if false k b rest = refl
+
+no_end : (b s : Bool) → s ≡ false → (not b && s) ≡ false
+no_end true s e = refl
+no_end false s e = e
+
+no_abort : (a b s : Bool) → s ≡ false → (a || (b && s)) ≡ a
+no_abort true b s e = refl
+no_abort false true s e = e
+no_abort false false s e = refl
+
+next_passes : (o : Bool) (r : ℕ) (a i : Bool) (k : List Bool) (b : Bool) → (r == 6) ≡ false
+    → seen_next (seen o r a i k) b ≡ seen o (up r b) a (if b then i else r == 5) (if keeps r b then k ++ b ∷ [] else k)
+next_passes o r a i k b e =
+    ap (λ t. if t then record { is_open = true; held = record { run = 0; is_aborted = false; is_inserted = false; kept = [] } } else seen o (up r b) (a || (b && r == 6)) (if b then i else r == 5) (if keeps r b then k ++ b ∷ [] else k)) (no_end b (r == 6) e)
+    ∙ ap (λ t. seen o (up r b) t (if b then i else r == 5) (if keeps r b then k ++ b ∷ [] else k)) (no_abort a b (r == 6) e)
+
+found_passes_one : (v : Seen) (b : Bool) → (v.held.run == 6) ≡ false → seen_found v b ≡ []
+found_passes_one v b e = go (ends v b) (if v.is_open then closing v.held else []) (no_end b (v.held.run == 6) e)
+  where
+    go : (t : Bool) (l : List Class) → t ≡ false → (if t then l else []) ≡ []
+    go true l d = let bad : true ≡ false = d in cc
+    go false l d = refl
+
+seen_passes : (o : Bool) (r : ℕ) (a i : Bool) (k bits : List Bool) → passes r bits ≡ true
+    → seen_from (seen o r a i k) bits ≡ seen o (ones_from r bits) a (inserted_after r i bits) (k ++ kept_from r bits)
+unfolding seen_from ones_from inserted_after kept_from
+seen_passes o r a i k [] h = ap (seen o r a i) (sym (append-nil k))
+seen_passes o r a i k (b ∷ bits) h =
+    let s = passes_step r b bits h in
+    ap (λ v. seen_from v bits) (next_passes o r a i k b s.0)
+    ∙ seen_passes o (up r b) a (if b then i else r == 5) (if keeps r b then k ++ b ∷ [] else k) bits s.1
+    ∙ ap (seen o (ones_from (up r b) bits) a (inserted_after (up r b) (if b then i else r == 5) bits)) (keep_if (keeps r b) k b (kept_from (up r b) bits))
+
+found_passes : (o : Bool) (r : ℕ) (a i : Bool) (k bits : List Bool) → passes r bits ≡ true → found_from (seen o r a i k) bits ≡ []
+unfolding found_from
+found_passes o r a i k [] h = refl
+found_passes o r a i k (b ∷ bits) h =
+    let s = passes_step r b bits h in
+    ap (λ l. l ++ found_from (seen_next (seen o r a i k) b) bits) (found_passes_one (seen o r a i k) b s.0)
+    ∙ ap (λ v. found_from v bits) (next_passes o r a i k b s.0)
+    ∙ found_passes o (up r b) a (if b then i else r == 5) (if keeps r b then k ++ b ∷ [] else k) bits s.1
+
+-- ---- of the code
+
+kept_so : (n : ℕ) (kept after all more : List Bool) → kept ≡ take n all → length kept < n → length kept + length more ≤ n → after ≡ kept ++ more → after ≡ take n (all ++ more)
+kept_so n kept after all more e h k a =
+    let whole : kept ≡ all = e ∙ take_short n all (rw e at h) in
+    let size = length-append all more in
+    let short : length all + length more ≤ n = rw whole at k in
+    a ∙ ap (λ l. l ++ more) whole ∙ sym (take_all n (all ++ more) (omega arith))
+
+pub passed_found : (d : Deframer) (p : Passed) (bits : List Bool) → Passes p d.scan.run d.scan.is_inserted bits → (v : Seen) → FitsSeen d v → found_from v bits ≡ []
+passed_found d p bits h v f =
+    found_passes v.is_open v.held.run v.held.is_aborted v.held.is_inserted v.held.kept bits (ap (λ r. passes r bits) (sym f.run) ∙ h.quiet)
+
+pub passed_fits : (d e : Deframer) (p : Passed) (bits : List Bool) → d.scan.is_open ≡ true → d.scan.is_aborted ≡ false → length d.kept.bits ≤ 32823 → p.count ≤ 8
+    → Passes p d.scan.run d.scan.is_inserted bits
+    → e.scan.run ≡ p.run → e.scan.is_open ≡ d.scan.is_open → e.scan.is_aborted ≡ d.scan.is_aborted → e.scan.is_inserted ≡ p.is_inserted
+    → e.kept.bits ≡ d.kept.bits ++ low_bits p.count p.kept
+    → (v : Seen) → FitsSeen d v → FitsSeen e (seen_from v bits)
+passed_fits d e p bits opens going few count h run is_open aborted inserted kept v f =
+    let quiet : passes v.held.run bits ≡ true = ap (λ r. passes r bits) (sym f.run) ∙ h.quiet in
+    let opened : v.is_open ≡ true = sym f.is_open ∙ opens in
+    let on : v.held.is_aborted ≡ false = sym (f.aborted opened) ∙ going in
+    let more : low_bits p.count p.kept ≡ kept_from v.held.run bits = h.kept ∙ ap (λ r. kept_from r bits) f.run in
+    let size : length (kept_from v.held.run bits) ≡ p.count = ap length (sym more) ∙ length-low_bits p.count p.kept in
+    let room : length d.kept.bits + length (kept_from v.held.run bits) ≤ 32831 = omega arith in
+    let less : length d.kept.bits < 32831 = omega arith in
+    subst (FitsSeen e) (sym (seen_passes v.is_open v.held.run v.held.is_aborted v.held.is_inserted v.held.kept bits quiet)) (record {
+      is_open = is_open ∙ f.is_open;
+      run = run ∙ h.ones ∙ ap (λ r. ones_from r bits) f.run;
+      aborted = λ a. aborted ∙ f.aborted a;
+      inserted = λ a b. inserted ∙ h.inserted ∙ ap (λ r. inserted_after r d.scan.is_inserted bits) f.run ∙ ap (λ i. inserted_after v.held.run i bits) (f.inserted opened on);
+      kept = λ a b. kept_so 32831 d.kept.bits e.kept.bits v.held.kept (kept_from v.held.run bits) (f.kept opened on) less room
+          (kept ∙ ap (λ l. d.kept.bits ++ l) more);
+    })

@@ -1,0 +1,13 @@
+use Rattle.std.proofs.Common.{◌≤◌, ◌≡◌, ◌+◌, ◌∙◌, arith, ap, length, length-append}
+use Rattle.x25_bits.specs.Fcs.{low_bits}
+use Rattle.x25_bits.proofs.FcsLemmas.{length-low_bits}
+use Rattle.x25_bits.proofs.deframer.Deframer.keep_passed_within.Goals as goal
+
+pub invariant_of-self : goal.invariant_of-self
+invariant_of-self c =
+    let kept = c.args.self.now.kept.bits in
+    let more = low_bits c.args.passed.count c.args.passed.kept in
+    let count : length more ≡ c.args.passed.count = length-low_bits c.args.passed.count c.args.passed.kept in
+    let size : length c.append_within.new.self.bits ≡ length kept + length more = ap length c.append_within.ensures.bits ∙ length-append kept more in
+    let few : length c.append_within.new.self.bits ≤ 32831 = omega (arith, c.requires.room, c.requires.size) in
+    record { few = few }

@@ -1,0 +1,27 @@
+use Rattle.std.proofs.Common.{◌≤◌, ◌≡◌, ◌∙◌, ap, length, arith}
+use Rattle.x25_bits.specs.Keeping.{Keeping}
+use Rattle.x25_bits.proofs.KeepingLemmas.{count_of}
+use Rattle.x25_bits.proofs.kept.Kept.append_within.Goals as goal
+
+pub set_octet-requires : goal.set_octet-requires
+set_octet-requires c =
+    let size : c.self.inside.count ≡ length c.args.self.now.bits = count_of c.self.inside.count c.self.inside.octets.items c.self.inside.is_roomy c.args.self.now c.self.invariant.0 c.self.view_is in
+    let room : 4104 ≤ length c.self.inside.octets.items = c.self.invariant.1 (ap (λ (k : Keeping). k.is_roomy) c.self.view_is ∙ c.requires.room) in
+    let few : length c.args.self.now.bits ≤ 32823 = c.requires.few in
+    omega arith
+
+pub overflow_add-self : goal.overflow_add-self
+overflow_add-self c =
+    let size : c.self.inside.count ≡ length c.args.self.now.bits = count_of c.self.inside.count c.self.inside.octets.items c.self.inside.is_roomy c.args.self.now c.self.invariant.0 c.self.view_is in
+    let few : length c.args.self.now.bits ≤ 32823 = c.requires.few in
+    let small : c.args.size ≤ 8 = c.requires.size in
+    omega arith
+
+pub invariant_of-self : goal.invariant_of-self
+invariant_of-self c =
+    let size : c.self.inside.count ≡ length c.args.self.now.bits = count_of c.self.inside.count c.self.inside.octets.items c.self.inside.is_roomy c.args.self.now c.self.invariant.0 c.self.view_is in
+    let room : 4104 ≤ length c.self.inside.octets.items = c.self.invariant.1 (ap (λ (k : Keeping). k.is_roomy) c.self.view_is ∙ c.requires.room) in
+    let few : length c.args.self.now.bits ≤ 32823 = c.requires.few in
+    let small : c.args.size ≤ 8 = c.requires.size in
+    let same : length c.set_octet.new.octets.items ≡ length c.self.inside.octets.items = c.set_octet.ensures.len in
+    (omega arith, λ e. omega arith)
