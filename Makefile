@@ -3,7 +3,8 @@
 # make test  the gate: every proof from nothing, the must-fail edits, the tests and the programs, the golden cases, the tools
 # make golden       runs the stored cases of tests/golden on the program
 # make check-tools  runs the tests of tools/, without the kit too; those that need the program are left out where it isn't built
-# make refused      runs stored cases on the program with each allocation refused in turn; it needs a C compiler
+# make refused      runs stored cases on the program, and scripts at links, stations and worlds, with each allocation refused in turn; it
+#                   needs a C compiler
 # make wrong-bodies [CRATE=NAME]  tries the edits of crates/NAME/wrong-bodies/, which the gate leaves out
 # make interop      plays the program's station against Linux's X.25 in a guest; interop/README.md says what that needs
 # make clean removes what these made
@@ -18,6 +19,13 @@ build/x25: crates.txt $(shell find crates -path '*/out' -prune -o -type f -print
 	cd crates/x25 && rt run -- decode < /dev/null > /dev/null
 	mkdir -p build
 	cp crates/x25/out/x25 build/x25
+
+# The player of scripts whose calls are refused memory, proved and built the same way.
+build/x25_refusals: crates.txt $(shell find crates -path '*/out' -prune -o -type f -print) | kit
+	.ci/prove x25_refusals
+	cd crates/x25_refusals && rt run > /dev/null
+	mkdir -p build
+	cp crates/x25_refusals/out/x25_refusals build/x25_refusals
 
 demo: build/x25
 	@for trace in examples/*.trace; do \
@@ -40,8 +48,8 @@ golden: build/x25
 check-tools:
 	python3 tests/check_tools.py
 
-refused: build/x25
-	python3 tests/refused.py --program build/x25
+refused: build/x25 build/x25_refusals
+	python3 tests/refused.py --program build/x25 --player build/x25_refusals
 
 wrong-bodies: kit
 	.ci/wrong_bodies $(CRATE)

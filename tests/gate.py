@@ -18,12 +18,13 @@ from program import ROOT
 CLOSING = re.compile(r"(\d+) passed, (\d+) failed\n?")
 # What `rt ci` leaves: LLVM's build, and that of Rattle's own compiler where that compiles the program.
 BUILD, SECOND_BUILD = "crates/x25/out/x25", "crates/x25/out/x25.by-rattle"
+PLAYER = "crates/x25_refusals/out/x25_refusals"
 
 
 def quick():
     """Runs the tests of the tools that need no program, before all else; answers whether they pass."""
     command = [sys.executable, os.path.join(ROOT, "tests", "check_tools.py")]
-    return subprocess.run(command, cwd=ROOT, env={**os.environ, "X25": ""}).returncode == 0
+    return subprocess.run(command, cwd=ROOT, env={**os.environ, "X25": "", "X25_REFUSALS": ""}).returncode == 0
 
 
 def proofs():
@@ -58,6 +59,7 @@ def golden_cases():
 def tools():
     """Runs the tests of the tools, those that need a program on the one that `rt ci` built."""
     os.environ["X25"] = os.path.join(ROOT, BUILD)
+    os.environ["X25_REFUSALS"] = os.path.join(ROOT, PLAYER)
     return check_tools.run()
 
 

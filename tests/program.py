@@ -1,15 +1,27 @@
-"""Where the built program `x25` is found by the tests."""
+"""Where the built programs are found by the tests."""
 
 import os
 
 ROOT = os.path.dirname(os.path.dirname(os.path.abspath(__file__)))
 
-# The copy that `make x25` leaves, then the file that `rt run` and `rt ci` leave.
+# The copy that the Makefile leaves, then the file that `rt run` and `rt ci` leave.
 PLACES = ["build/x25", "crates/x25/out/x25"]
+PLACES_OF_THE_PLAYER = ["build/x25_refusals", "crates/x25_refusals/out/x25_refusals"]
+
+
+def last_built(variable, places):
+    """Answers the path of the file that was built last, or None where there is none; the variable, if set, names the one to take."""
+    files = [os.environ[variable]] if variable in os.environ else [os.path.join(ROOT, place) for place in places]
+    built = [os.path.abspath(path) for path in files if os.path.isfile(path)]
+    return max(built, key=os.path.getmtime, default=None)
 
 
 def find_program():
-    """Answers the path of the program that was built last, or None where there is none; the variable X25, if set, names the one to take."""
-    places = [os.environ["X25"]] if "X25" in os.environ else [os.path.join(ROOT, place) for place in PLACES]
-    built = [os.path.abspath(path) for path in places if os.path.isfile(path)]
-    return max(built, key=os.path.getmtime, default=None)
+    """Answers the path of the program `x25` that was built last, or None; the variable X25, if set, names the one to take."""
+    return last_built("X25", PLACES)
+
+
+def find_player():
+    """Answers the path of the player of scripts `x25_refusals` that was built last, or None; the variable X25_REFUSALS, if set, names the
+    one to take."""
+    return last_built("X25_REFUSALS", PLACES_OF_THE_PLAYER)

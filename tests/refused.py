@@ -1,16 +1,23 @@
 #!/usr/bin/env python3
-"""Runs golden cases with one allocation refused, each in turn, and looks at what the program does then.
+"""Refuses one allocation, each in turn, and looks at what is done then: by the program on golden cases, and by the player of scripts.
 
-    refused.py [--program PROGRAM] [--every K] [NAME ..]
+    refused.py [--program PROGRAM] [--player PLAYER] [--every K] [NAME ..]
 
-Where its Nth allocation is refused, the program has to write a beginning of what the case wants, say `no memory` on standard error
-and end with status 3, where `decode` writes nothing; or, where it can do without, as where a list that was filled is made smaller, to do all that the case wants. N is 1, 2, 3, .. up to the number of allocations of the case; with --every K, N is 1 to 20 and each Kth from there.
-With names, these cases alone. It needs a C compiler, `cc`, and the GNU C library. Exit status: 0 all is so, 1 something differs, 2 there
-is no program, no compiler or no such case.
+The program `x25`, where its Nth allocation is refused, has to write a beginning of what the case wants, say `no memory` on standard error
+and end with status 3, where `decode` writes nothing; or, where it can do without, as where a list that was filled is made smaller, to do
+all that the case wants. The player `x25_refusals` plays scripts at links, stations and worlds, and makes a call that was refused again: it
+has to print all that it prints where none is refused, beside which call it was, and end with status 0. Which calls met how many refusals is
+said, and which met none.
+
+N is 1, 2, 3, .. up to the number of allocations of the run; with --every K, N is 1 to 20 and each Kth from there. With names, these golden
+cases alone. It needs a C compiler, `cc`, and the GNU C library. Exit status: 0 all is so, 1 something differs, 2 there is no program, no
+compiler or no such case.
 """
 
 import argparse
+import collections
 import os
+import re
 import shutil
 import subprocess
 import sys
@@ -18,7 +25,7 @@ import tempfile
 from concurrent.futures import ThreadPoolExecutor
 
 import golden
-from program import find_program
+from program import find_player, find_program
 
 SOURCE = os.path.join(os.path.dirname(os.path.abspath(__file__)), "refuse_allocation.c")
 CASES = [
@@ -35,6 +42,8 @@ CASES = [
 ]
 FIRST = 20
 NO_MEMORY, DONE_WITHOUT = "no memory", "done without"
+MADE = re.compile(rb"(.+) calls=(\d+)\n")
+REFUSED = re.compile(rb"(.+) refused=(\d+)\n")
 
 
 class Refusing:
@@ -45,35 +54,36 @@ class Refusing:
         self.library = os.path.join(folder, "refuse_allocation.so")
         subprocess.run(["cc", "-O2", "-shared", "-fPIC", "-o", self.library, SOURCE], check=True)
 
-    def run(self, case, **named):
-        """Runs a case with these variables set for the library."""
+    def run(self, words=(), given=b"", **named):
+        """Runs the program on these words and octets, with these variables set for the library."""
         environment = {**os.environ, "LD_PRELOAD": self.library, **named}
-        return subprocess.run([self.program, *case.words], input=case.input, env=environment, capture_output=True, timeout=60)
+        return subprocess.run([self.program, *words], input=given, env=environment, capture_output=True, timeout=60)
 
-    def allocations(self, case):
-        """How many allocations the case asks for, where none is refused."""
-        file = os.path.join(self.folder, case.name)
-        self.run(case, COUNT=file)
+    def allocations(self, words=(), given=b""):
+        """How many allocations the run asks for, where none is refused."""
+        file = os.path.join(self.folder, "count")
+        self.run(words, given, COUNT=file)
         with open(file) as count:
             return int(count.read())
-
-    def answer(self, case, number):
-        """Runs a case with this allocation refused; answers NO_MEMORY or DONE_WITHOUT where all is as it has to be, else what isn't."""
-        done = self.run(case, REFUSE=str(number))
-        if (done.stdout, done.returncode, done.stderr) == (case.output, case.status, b""):
-            return DONE_WITHOUT
-        if case.words[0] == "decode" and done.stdout:
-            return f"decode, which takes its memory first, wrote {done.stdout[:200]!r}"
-        if not case.output.startswith(done.stdout):
-            return golden.first_difference(case.output, done.stdout)
-        if (done.returncode, done.stderr) != (3, b"no memory\n"):
-            return f"status {done.returncode}, standard error {done.stderr!r}"
-        return NO_MEMORY
 
 
 def chosen(count, every):
     """The numbers of the allocations that are refused, of so many."""
     return [number for number in range(1, count + 1) if number <= FIRST or number % every == 0]
+
+
+def case_answer(refusing, case, number):
+    """Runs a golden case with this allocation refused; answers NO_MEMORY or DONE_WITHOUT where all is as it has to be, else what isn't."""
+    done = refusing.run(case.words, case.input, REFUSE=str(number))
+    if (done.stdout, done.returncode, done.stderr) == (case.output, case.status, b""):
+        return DONE_WITHOUT
+    if case.words[0] == "decode" and done.stdout:
+        return f"decode, which takes its memory first, wrote {done.stdout[:200]!r}"
+    if not case.output.startswith(done.stdout):
+        return golden.first_difference(case.output, done.stdout)
+    if (done.returncode, done.stderr) != (3, b"no memory\n"):
+        return f"status {done.returncode}, standard error {done.stderr!r}"
+    return NO_MEMORY
 
 
 def run(program, names, every):
@@ -82,9 +92,9 @@ def run(program, names, every):
     with tempfile.TemporaryDirectory() as folder, ThreadPoolExecutor(os.cpu_count()) as pool:
         refusing = Refusing(program, folder)
         for case in map(golden.Case, names):
-            count = refusing.allocations(case)
+            count = refusing.allocations(case.words, case.input)
             numbers = chosen(count, every)
-            answers = list(pool.map(lambda number: refusing.answer(case, number), numbers))
+            answers = list(pool.map(lambda number: case_answer(refusing, case, number), numbers))
             differing = [row for row in zip(numbers, answers) if row[1] not in (NO_MEMORY, DONE_WITHOUT)]
             for number, difference in differing:
                 print(f"{case.name}, allocation {number} refused: {difference}")
@@ -94,20 +104,72 @@ def run(program, names, every):
     return total
 
 
+def player_answer(refusing, whole, number):
+    """Runs the player with this allocation refused; answers the call that met it, None where none did, and what isn't as it has to be."""
+    done = refusing.run(REFUSE=str(number))
+    lines = done.stdout.splitlines(keepends=True)
+    met = [line for line in lines if REFUSED.fullmatch(line)]
+    text = b"".join(line for line in lines if line not in met)
+    if text != whole:
+        return None, golden.first_difference(whole, text)
+    if (done.returncode, done.stderr) != (0, b""):
+        return None, f"status {done.returncode}, standard error {done.stderr!r}"
+    if len(met) > 1 or not all(line.endswith(b" refused=1\n") for line in met):
+        return None, f"one refusal was met more than once: {b''.join(met)!r}"
+    return REFUSED.fullmatch(met[0])[1].decode() if met else None, None
+
+
+def tell_calls(whole, met):
+    """Says how many refusals each call met, and which calls met none."""
+    made = [MADE.fullmatch(line) for line in whole.splitlines(keepends=True)]
+    calls = {row[1].decode(): int(row[2]) for row in made if row}
+    for name, count in calls.items():
+        if met[name]:
+            print(f"  {name}: {met[name]} refusals in {count} calls")
+    never = [name for name in calls if not met[name]]
+    if never:
+        print(f"  never refused: {', '.join(never)}")
+
+
+def play(player, every):
+    """Runs the player; says how many refusals each call met, and which allocation was refused where something differs; answers how many
+    differ."""
+    with tempfile.TemporaryDirectory() as folder, ThreadPoolExecutor(os.cpu_count()) as pool:
+        refusing = Refusing(player, folder)
+        whole = refusing.run().stdout
+        count = refusing.allocations()
+        numbers = chosen(count, every)
+        answers = list(pool.map(lambda number: player_answer(refusing, whole, number), numbers))
+    differing = [(number, difference) for number, (_, difference) in zip(numbers, answers) if difference]
+    for number, difference in differing:
+        print(f"the player, allocation {number} refused: {difference}")
+    met = collections.Counter(name for name, _ in answers if name)
+    print(f"the player: {len(numbers)} of {count} allocations refused in turn: {sum(met.values())} met by calls, "
+          f"{len(numbers) - sum(met.values()) - len(differing)} by the player itself, {len(differing)} differ")
+    tell_calls(whole, met)
+    return len(differing)
+
+
 def main():
     parser = argparse.ArgumentParser(description=__doc__, formatter_class=argparse.RawDescriptionHelpFormatter)
-    parser.add_argument("--program", default=find_program(), help="the program to run; else the one that was built last")
+    parser.add_argument("--program", default=find_program(), help="the program x25 to run; else the one that was built last")
+    parser.add_argument("--player", default=find_player(), help="the player x25_refusals to run; else the one that was built last")
     parser.add_argument("--every", type=int, default=1, metavar="K", help="refuse each Kth allocation; else each")
-    parser.add_argument("name", nargs="*", help="a golden case to run; else ten of them")
+    parser.add_argument("name", nargs="*", help="a golden case to run; else ten of them, and the player")
     options = parser.parse_args()
+    every = max(options.every, 1)
     unknown = sorted(set(options.name) - set(golden.names()))
     if options.program is None or not os.path.isfile(options.program):
         parser.error("the program x25 isn't built: `make x25` builds it")
+    if not options.name and (options.player is None or not os.path.isfile(options.player)):
+        parser.error("the player x25_refusals isn't built: `make refused` builds it")
     if shutil.which("cc") is None:
         parser.error("there is no C compiler `cc`")
     if unknown:
         parser.error(f"no such case: {' '.join(unknown)}")
-    differing = run(options.program, options.name or CASES, max(options.every, 1))
+    differing = run(options.program, options.name or CASES, every)
+    if not options.name:
+        differing += play(options.player, every)
     print(f"refused allocations: {differing} runs differ")
     return 1 if differing else 0
 

@@ -1,5 +1,6 @@
-"""Tests of the program where memory is refused: each allocation of some runs, in turn."""
+"""Tests of the programs where memory is refused: each allocation of some runs of `x25`, and of `x25_refusals`, in turn."""
 
+import collections
 import contextlib
 import io
 import shutil
@@ -8,16 +9,36 @@ import unittest
 import support
 import refused
 
+PLAYER = refused.find_player()
+needs_compiler = unittest.skipUnless(shutil.which("cc"), "there is no C compiler")
+
+
+def said_by(function, *words):
+    """What a function answers, and what it prints."""
+    said = io.StringIO()
+    with contextlib.redirect_stdout(said):
+        return function(*words), said.getvalue()
+
 
 @support.needs_program
-@unittest.skipUnless(shutil.which("cc"), "there is no C compiler")
+@needs_compiler
 class Refused(unittest.TestCase):
     def test_no_memory_and_a_beginning_of_the_text(self):
-        said = io.StringIO()
-        with contextlib.redirect_stdout(said):
-            differing = refused.run(support.PROGRAM, refused.CASES, every=1)
-        self.assertEqual(differing, 0, said.getvalue())
-        self.assertEqual(said.getvalue().count("refused in turn"), len(refused.CASES))
+        differing, said = said_by(refused.run, support.PROGRAM, refused.CASES, 1)
+        self.assertEqual(differing, 0, said)
+        self.assertEqual(said.count("refused in turn"), len(refused.CASES))
+
+
+@unittest.skipUnless(PLAYER, "the player x25_refusals isn't built")
+@needs_compiler
+class Played(unittest.TestCase):
+    def test_a_refused_call_changes_nothing_and_is_made_again(self):
+        differing, said = said_by(refused.play, PLAYER, 1)
+        self.assertEqual(differing, 0, said)
+        for name in ("Link::take", "Station::receive", "World::apply(Deliver)"):
+            self.assertIn(f"  {name}: ", said)
+        # A loss takes no memory.
+        self.assertRegex(said, r"never refused: .*\bWorld::apply\(Lose\)")
 
 
 class Chosen(unittest.TestCase):
@@ -25,3 +46,40 @@ class Chosen(unittest.TestCase):
         self.assertEqual(refused.chosen(3, 1), [1, 2, 3])
         self.assertEqual(refused.chosen(90, 40), [*range(1, 21), 40, 80])
         self.assertEqual(refused.chosen(0, 7), [])
+
+
+Done = collections.namedtuple("Done", "stdout returncode stderr")
+
+
+class Player:
+    """A stand-in for the player, which writes this."""
+
+    def __init__(self, *done):
+        self.done = Done(*done)
+
+    def run(self, **named):
+        return self.done
+
+
+class Answers(unittest.TestCase):
+    WHOLE = b"-- a script\ndte up\nLink::take calls=2\nLink::t1 calls=1\n"
+
+    def answer(self, *done):
+        return refused.player_answer(Player(*done), self.WHOLE, 3)
+
+    def test_the_call_that_met_the_refusal(self):
+        text = self.WHOLE.replace(b"=2\n", b"=2\nLink::take refused=1\n")
+        self.assertEqual(self.answer(text, 0, b""), ("Link::take", None))
+        self.assertEqual(self.answer(self.WHOLE, 0, b""), (None, None))
+
+    def test_what_differs(self):
+        twice = self.WHOLE + b"Link::take refused=2\n"
+        for done in [(b"", 0, b""), (self.WHOLE, 1, b"it changed\n"), (twice, 0, b""), (self.WHOLE + b"x\n", 0, b"")]:
+            with self.subTest(done):
+                name, difference = self.answer(*done)
+                self.assertIsNone(name)
+                self.assertTrue(difference)
+
+    def test_calls_that_met_none_are_named(self):
+        _, said = said_by(refused.tell_calls, self.WHOLE, collections.Counter(["Link::take"] * 3))
+        self.assertEqual(said, "  Link::take: 3 refusals in 2 calls\n  never refused: Link::t1\n")

@@ -1,0 +1,111 @@
+//! What scripts are played at: two ends and the lines between them.
+use crate::lines::Lines;
+use std::alloc::AllocError;
+use thiserror::Error;
+use x25_layer::Stretch;
+use x25_station::Station;
+use x25_world::{Direction, Event};
+
+/// Why the player ends.
+#[derive(Debug, Drop, Error)]
+pub enum Trouble {
+    /// A call that was refused memory changed something.
+    #[error("a call that was refused memory changed something")]
+    Changed,
+    /// Memory was refused twice.
+    #[error("no memory")]
+    NoMemory,
+    /// What is played has no such call.
+    #[error("there is no such call")]
+    NoSuchCall,
+    /// What is shown can't be written.
+    #[error("write failed")]
+    Write,
+}
+
+impl From<AllocError> for Trouble {
+    fn from(_: AllocError) -> Trouble {
+        Trouble::NoMemory
+    }
+}
+
+/// What becomes of an event.
+#[derive(Clone, Copy)]
+pub enum Outcome {
+    Accepted,
+    /// Refused with this number.
+    Refused(u8),
+    /// Refused for want of memory.
+    NoMemory,
+}
+
+impl Outcome {
+    /// Of an error with this number.
+    pub fn of_number(number: u8) -> Outcome {
+        match number {
+            70 => Outcome::NoMemory,
+            _ => Outcome::Refused(number),
+        }
+    }
+}
+
+/// What a queue of packets answers, or which stretch is open on channel 1.
+#[derive(Clone, Copy, Debug, PartialEq, Eq)]
+pub enum Holds {
+    Packets {
+        is_up: bool,
+        waiting: usize,
+        spare: usize,
+        limit: usize,
+    },
+    Stretch(Option<Stretch>),
+}
+
+/// What an end answers.
+#[derive(Clone, Copy, Debug, PartialEq, Eq)]
+pub struct Answers {
+    pub is_idle: bool,
+    pub is_waiting: bool,
+    pub timer_runs: bool,
+    pub acknowledged: u8,
+    pub holds: Holds,
+}
+
+/// What a station answers.
+pub fn answers_of(station: &Station) -> Answers {
+    Answers {
+        is_idle: station.idle(),
+        is_waiting: station.is_waiting(),
+        timer_runs: station.timer_runs(),
+        acknowledged: station.acknowledged().get(),
+        holds: Holds::Stretch(station.stretch(1)),
+    }
+}
+
+/// What both ends answer, and how many frames are on the lines.
+#[derive(Clone, Copy, Debug, PartialEq, Eq)]
+pub struct Seen {
+    pub dte: Answers,
+    pub dce: Answers,
+    pub to_dce: usize,
+    pub to_dte: usize,
+}
+
+/// Two ends and the lines between them.
+pub trait Ends {
+    /// Lets the event happen once. Where it is accepted, what it tells and the frames that it sends are shown.
+    fn happens(&mut self, event: Event<'static>, shown: &mut Lines) -> Result<Outcome, Trouble>;
+
+    fn seen(&self) -> Seen;
+
+    /// Whether all that was told and sent stands as it was shown.
+    fn stands(&self) -> Result<bool, AllocError>;
+
+    fn on_line(&self, direction: Direction) -> usize {
+        let seen = self.seen();
+        match direction {
+            Direction::ToDce => seen.to_dce,
+            Direction::ToDte => seen.to_dte,
+        }
+    }
+}

@@ -1,0 +1,255 @@
+//! Two links, and the lines between them. What a user sends is handed down as one packet by `put_packet`, and what interrupts by
+//! `room` and `put`, as the packet layer hands packets down.
+ghost use Rattle.std.specs.Prelude.{◌≤◌, vec_len};
+ghost use Rattle.x25_link.specs.Link.{limit_of};
+
+use crate::counts::{Counts, Kind};
+use crate::ends::{Answers, Ends, Holds, Outcome, Seen, Trouble};
+use crate::lines::{Lines, end_name};
+use crate::stations::end_of;
+use crate::wire::Wire;
+use std::alloc::{AllocError, Global};
+use x25_link::{LONGEST_PACKET, Link, LinkError, OrderedLink, Reason, Step};
+use x25_station::{Cfg, Cmd, Role};
+use x25_world::{Direction, Event};
+
+/// A link, and the line that leads to it.
+#[derive(Drop)]
+struct End {
+    alloc: Global,
+    role: Role,
+    link: Link,
+    wire: Wire,
+}
+
+/// Two links, and the lines between them.
+#[derive(Drop)]
+pub struct Links {
+    dte: End,
+    dce: End,
+}
+
+fn link(alloc: Global, role: Role, cfg: Cfg, counts: &mut Counts) -> Result<Link, LinkError> {
+    counts.called(Kind::New);
+    match Link::new(alloc, role, cfg.k, LONGEST_PACKET, cfg.n2) {
+        Err(LinkError::NoMemory) => {
+            counts.refused(Kind::New);
+            Link::new(alloc, role, cfg.k, LONGEST_PACKET, cfg.n2)
+        }
+        made => made,
+    }
+}
+
+/// The note that a link went down.
+fn reason_line(reason: Reason) -> &'static [u8] {
+    match reason {
+        Reason::Retries => b"down retries\n",
+        Reason::Disc => b"down disc\n",
+        Reason::Dm => b"down dm\n",
+        Reason::FrmrSent => b"down frmr-sent\n",
+        Reason::FrmrGot => b"down frmr-got\n",
+        Reason::Reset => b"down reset\n",
+        Reason::Local => b"down local\n",
+        Reason::Counts => b"down counts\n",
+    }
+}
+
+/// Shows the packet that a step hands up, what it notes and the frames that it sends.
+fn shows(from: Role, step: &Step, shown: &mut Lines) -> Result<(), AllocError> {
+    if let Some(packet) = step.packet {
+        shown.push(end_name(from))?;
+        shown.push(b"packet ")?;
+        shown.push(packet)?;
+        shown.push(b"\n")?;
+    }
+    if let Some(reason) = step.notes.down {
+        shown.push(end_name(from))?;
+        shown.push(reason_line(reason))?;
+    }
+    if step.notes.up {
+        shown.push(end_name(from))?;
+        shown.push(b"up\n")?;
+    }
+    shows_frames(from, step.frames.as_slice(), shown)
+}
+
+fn shows_frames(from: Role, frames: &[Vec<u8>], shown: &mut Lines) -> Result<(), AllocError> {
+    for frame in frames {
+        shown.push_frame(from, frame.as_slice())?;
+    }
+    Ok(())
+}
+
+fn answered(
+    from: Role,
+    answer: Result<Step, LinkError>,
+    to: &mut Wire,
+    shown: &mut Lines,
+) -> Result<Outcome, Trouble> {
+    match answer {
+        Ok(step) => {
+            shows(from, &step, shown)?;
+            to.put(step.frames)?;
+            Ok(Outcome::Accepted)
+        }
+        Err(error) => Ok(Outcome::of_number(error.number())),
+    }
+}
+
+fn packet_of(alloc: Global, octets: &[u8]) -> Result<Vec<u8>, AllocError> {
+    let mut packet = match Vec::with_capacity(alloc, octets.len()) {
+        Ok(packet) => packet,
+        Err(_) => Vec::with_capacity(alloc, octets.len())?,
+    };
+    packet.extend_from_slice(octets)?;
+    Ok(packet)
+}
+
+/// Sets memory aside, and hands a packet down.
+fn room_and_put(link: &mut Link, packet: Vec<u8>) -> Result<(), LinkError>
+    requires { vec_len packet ≤ limit_of link.old }
+{
+    link.room(1)?;
+    link.put(packet)
+}
+
+impl End {
+    fn new(alloc: Global, role: Role, cfg: Cfg, counts: &mut Counts) -> Result<End, Trouble> {
+        let wire = Wire::new(alloc)?;
+        match link(alloc, role, cfg, counts) {
+            Ok(link) => Ok(End {
+                alloc,
+                role,
+                link,
+                wire,
+            }),
+            Err(_) => Err(Trouble::NoMemory),
+        }
+    }
+
+    fn puts(
+        &mut self,
+        octets: &[u8],
+        to: &mut Wire,
+        shown: &mut Lines,
+    ) -> Result<Outcome, Trouble> {
+        let packet = packet_of(self.alloc, octets)?;
+        if packet.len() > self.link.limit() {
+            return Err(Trouble::NoSuchCall);
+        }
+        answered(self.role, self.link.put_packet(packet), to, shown)
+    }
+
+    fn puts_as_a_layer(
+        &mut self,
+        octets: &[u8],
+        to: &mut Wire,
+        shown: &mut Lines,
+    ) -> Result<Outcome, Trouble> {
+        let packet = packet_of(self.alloc, octets)?;
+        if packet.len() > self.link.limit() {
+            return Err(Trouble::NoSuchCall);
+        }
+        if let Err(error) = room_and_put(&mut self.link, packet) {
+            return Ok(Outcome::of_number(error.number()));
+        }
+        let frames = self.link.sent();
+        shows_frames(self.role, frames.as_slice(), shown)?;
+        to.put(frames)?;
+        Ok(Outcome::Accepted)
+    }
+
+    fn asks(
+        &mut self,
+        command: Cmd<'_>,
+        to: &mut Wire,
+        shown: &mut Lines,
+    ) -> Result<Outcome, Trouble> {
+        match command {
+            Cmd::Connect => answered(self.role, self.link.connect(), to, shown),
+            Cmd::Disconnect => answered(self.role, self.link.disconnect(), to, shown),
+            Cmd::Send { user, .. } => self.puts(user, to, shown),
+            Cmd::Interrupt { user, .. } => self.puts_as_a_layer(user, to, shown),
+            _ => Err(Trouble::NoSuchCall),
+        }
+    }
+
+    fn fires(&mut self, to: &mut Wire, shown: &mut Lines) -> Result<Outcome, Trouble> {
+        answered(self.role, self.link.t1(), to, shown)
+    }
+
+    /// The front frame arrives. It leaves the line where it is accepted.
+    fn receives(&mut self, to: &mut Wire, shown: &mut Lines) -> Result<Outcome, Trouble> {
+        let Some(octets) = self.wire.front() else {
+            return Ok(Outcome::Refused(50));
+        };
+        let answer = self.link.take(octets);
+        let outcome = answered(self.role, answer, to, shown)?;
+        if matches!(outcome, Outcome::Accepted) {
+            self.wire.take_off(0);
+        }
+        Ok(outcome)
+    }
+
+    fn happens(
+        &mut self,
+        event: Event<'_>,
+        to: &mut Wire,
+        shown: &mut Lines,
+    ) -> Result<Outcome, Trouble> {
+        match event {
+            Event::Command(_, command) => self.asks(command, to, shown),
+            Event::T1(_) => self.fires(to, shown),
+            Event::Deliver(_) => self.receives(to, shown),
+            Event::Lose(_, place) => Ok(self.wire.loses(place)),
+            Event::Damage(_, _, _) => Err(Trouble::NoSuchCall),
+        }
+    }
+
+    fn answers(&self) -> Answers {
+        Answers {
+            is_idle: self.link.idle(),
+            is_waiting: self.link.is_waiting(),
+            timer_runs: self.link.timer_runs(),
+            acknowledged: self.link.acknowledged().get(),
+            holds: Holds::Packets {
+                is_up: self.link.is_up(),
+                waiting: self.link.waiting(),
+                spare: self.link.spare(),
+                limit: self.link.limit(),
+            },
+        }
+    }
+}
+
+impl Links {
+    /// Two links that are down. One that is refused memory is made again.
+    pub fn new(alloc: Global, cfg: Cfg, counts: &mut Counts) -> Result<Links, Trouble> {
+        let dte = End::new(alloc, Role::Dte, cfg, counts)?;
+        let dce = End::new(alloc, Role::Dce, cfg, counts)?;
+        Ok(Links { dte, dce })
+    }
+}
+
+impl Ends for Links {
+    fn happens(&mut self, event: Event<'static>, shown: &mut Lines) -> Result<Outcome, Trouble> {
+        match end_of(event) {
+            Role::Dte => self.dte.happens(event, &mut self.dce.wire, shown),
+            Role::Dce => self.dce.happens(event, &mut self.dte.wire, shown),
+        }
+    }
+
+    fn seen(&self) -> Seen {
+        Seen {
+            dte: self.dte.answers(),
+            dce: self.dce.answers(),
+            to_dce: self.dce.wire.len(),
+            to_dte: self.dte.wire.len(),
+        }
+    }
+
+    // A link keeps nothing of what it told.
+    fn stands(&self) -> Result<bool, AllocError> {
+        Ok(true)
+    }
+}

@@ -1,0 +1,192 @@
+//! `x25_refusals`: scripts that are played at two links, at two stations and at a world, by a player that goes on where a call is
+//! refused memory: the call has to leave all as it was, and is made again.
+//!
+//! It prints what each script shows, and how often each kind of call was made and refused. `tests/refused.py` runs it with each
+//! allocation refused in turn: but for the refusals, it has to print the same. Exit status: 1 where a call that was refused changed
+//! something, or the player can't go on.
+#![tactic(auto)]
+
+mod counts;
+mod ends;
+mod lines;
+mod links;
+mod player;
+mod scripts;
+mod stations;
+mod wire;
+mod worlds;
+
+use counts::{Counts, Kind};
+use ends::Trouble;
+use lines::Lines;
+use links::Links;
+use player::{Book, plays};
+use scripts::{OF_LINKS, OF_WORLDS_UP, SCRIPTS, Script};
+use stations::Stations;
+use std::alloc::Global;
+use std::io::{self, Write};
+use std::process::ExitCode;
+use worlds::Worlds;
+
+/// The calls of a link.
+static CALLS_OF_LINKS: [(Kind, &str); 8] = [
+    (Kind::New, "Link::new"),
+    (Kind::Send, "Link::put_packet"),
+    (Kind::Interrupt, "Link::room and put"),
+    (Kind::Connect, "Link::connect"),
+    (Kind::Disconnect, "Link::disconnect"),
+    (Kind::Deliver, "Link::take"),
+    (Kind::Lose, "the loss of a frame to a link"),
+    (Kind::T1, "Link::t1"),
+];
+
+/// The calls of a station.
+static CALLS_OF_STATIONS: [(Kind, &str); 17] = [
+    (Kind::New, "Station::new"),
+    (Kind::Call, "Station::command(Call)"),
+    (Kind::CallWith, "Station::command(CallWith)"),
+    (Kind::Accept, "Station::command(Accept)"),
+    (Kind::AcceptWith, "Station::command(AcceptWith)"),
+    (Kind::Clear, "Station::command(Clear)"),
+    (Kind::Send, "Station::command(Send)"),
+    (Kind::Interrupt, "Station::command(Interrupt)"),
+    (Kind::Reset, "Station::command(Reset)"),
+    (Kind::Ready, "Station::command(Ready)"),
+    (Kind::NotReady, "Station::command(NotReady)"),
+    (Kind::Restart, "Station::command(Restart)"),
+    (Kind::Connect, "Station::connect"),
+    (Kind::Disconnect, "Station::command(Disconnect)"),
+    (Kind::Deliver, "Station::receive"),
+    (Kind::Lose, "the loss of a frame to a station"),
+    (Kind::T1, "Station::t1"),
+];
+
+/// The calls of a world.
+static CALLS_OF_WORLDS: [(Kind, &str); 19] = [
+    (Kind::New, "World::start"),
+    (Kind::Establish, "World::establish"),
+    (Kind::Call, "World::apply(Call)"),
+    (Kind::CallWith, "World::apply(CallWith)"),
+    (Kind::Accept, "World::apply(Accept)"),
+    (Kind::AcceptWith, "World::apply(AcceptWith)"),
+    (Kind::Clear, "World::apply(Clear)"),
+    (Kind::Send, "World::apply(Send)"),
+    (Kind::Interrupt, "World::apply(Interrupt)"),
+    (Kind::Reset, "World::apply(Reset)"),
+    (Kind::Ready, "World::apply(Ready)"),
+    (Kind::NotReady, "World::apply(NotReady)"),
+    (Kind::Restart, "World::apply(Restart)"),
+    (Kind::Connect, "World::apply(Connect)"),
+    (Kind::Disconnect, "World::apply(Disconnect)"),
+    (Kind::Deliver, "World::apply(Deliver)"),
+    (Kind::Lose, "World::apply(Lose)"),
+    (Kind::Damage, "World::apply(Damage)"),
+    (Kind::T1, "World::apply(T1)"),
+];
+
+fn titled(place: &str, script: &Script, shown: &mut Lines) -> Result<(), Trouble> {
+    shown.push(b"-- ")?;
+    shown.push(place.as_bytes())?;
+    shown.push(script.name.as_bytes())?;
+    shown.push(b"\n")?;
+    Ok(())
+}
+
+fn play_links(alloc: Global, script: &Script, book: &mut Book) -> Result<(), Trouble> {
+    titled("two links: ", script, &mut book.shown)?;
+    let mut ends = Links::new(alloc, script.cfg, &mut book.counts)?;
+    plays(&mut ends, script, book)
+}
+
+fn play_stations(alloc: Global, script: &Script, book: &mut Book) -> Result<(), Trouble> {
+    titled("two stations: ", script, &mut book.shown)?;
+    let mut ends = Stations::new(alloc, script.cfg, &mut book.counts)?;
+    plays(&mut ends, script, book)
+}
+
+fn play_world(alloc: Global, script: &Script, book: &mut Book) -> Result<(), Trouble> {
+    titled("a world: ", script, &mut book.shown)?;
+    let mut ends = Worlds::start(alloc, script.cfg, &mut book.counts)?;
+    plays(&mut ends, script, book)
+}
+
+/// .. whose link was just set up.
+fn play_world_up(alloc: Global, script: &Script, book: &mut Book) -> Result<(), Trouble> {
+    titled("a world: ", script, &mut book.shown)?;
+    let mut ends = Worlds::establish(alloc, script.cfg, &mut book.counts)?;
+    plays_up(&mut ends, script, book)
+}
+
+fn plays_up(ends: &mut Worlds, script: &Script, book: &mut Book) -> Result<(), Trouble> {
+    ends.tells(&mut book.shown)?;
+    plays(ends, script, book)
+}
+
+/// Writes what is shown.
+fn flushes<W: Write>(shown: &mut Lines, writer: &mut W) -> Result<(), Trouble> {
+    if writer.write_all(shown.as_slice()).is_err() {
+        return Err(Trouble::Write);
+    }
+    shown.clear();
+    Ok(())
+}
+
+/// Tells of the calls that were made, under these names, and writes it.
+fn closes<W: Write>(
+    book: &mut Book,
+    names: &[(Kind, &str)],
+    writer: &mut W,
+) -> Result<(), Trouble> {
+    book.counts.tell(names, &mut book.shown)?;
+    book.counts = Counts::new();
+    flushes(&mut book.shown, writer)
+}
+
+fn all_links<W: Write>(alloc: Global, book: &mut Book, writer: &mut W) -> Result<(), Trouble> {
+    for script in &OF_LINKS {
+        play_links(alloc, script, book)?;
+        flushes(&mut book.shown, writer)?;
+    }
+    closes(book, CALLS_OF_LINKS.as_slice(), writer)
+}
+
+fn all_stations<W: Write>(alloc: Global, book: &mut Book, writer: &mut W) -> Result<(), Trouble> {
+    for script in &SCRIPTS {
+        play_stations(alloc, script, book)?;
+        flushes(&mut book.shown, writer)?;
+    }
+    closes(book, CALLS_OF_STATIONS.as_slice(), writer)
+}
+
+fn all_worlds<W: Write>(alloc: Global, book: &mut Book, writer: &mut W) -> Result<(), Trouble> {
+    for script in &SCRIPTS {
+        play_world(alloc, script, book)?;
+        flushes(&mut book.shown, writer)?;
+    }
+    for script in &OF_WORLDS_UP {
+        play_world_up(alloc, script, book)?;
+        flushes(&mut book.shown, writer)?;
+    }
+    closes(book, CALLS_OF_WORLDS.as_slice(), writer)
+}
+
+fn play_all<W: Write>(alloc: Global, writer: &mut W) -> Result<(), Trouble> {
+    let mut book = Book {
+        counts: Counts::new(),
+        shown: Lines::new(alloc)?,
+    };
+    all_links(alloc, &mut book, writer)?;
+    all_stations(alloc, &mut book, writer)?;
+    all_worlds(alloc, &mut book, writer)
+}
+
+fn main(rt: HostRuntime) -> ExitCode {
+    let mut writer = io::writer(&rt);
+    match play_all(rt.alloc(), &mut writer) {
+        Ok(()) => ExitCode::SUCCESS,
+        Err(trouble) => {
+            eprintln!(rt; "{trouble}").ok();
+            ExitCode::FAILURE
+        }
+    }
+}

@@ -1,0 +1,337 @@
+//! Scripts of two stations, and stories of two links.
+use Act::{Do, Drain, Send};
+use x25_layer::Params;
+use x25_station::{Cfg, Cmd};
+use x25_world::Direction::{ToDce, ToDte};
+use x25_world::Event::{Command, Damage, Deliver, Lose, T1};
+use x25_world::Role::{Dce, Dte};
+use x25_world::{Event, Role};
+
+/// What is played.
+#[derive(Clone, Copy)]
+pub enum Act {
+    Do(Event<'static>),
+    /// The user of this end sends this message on channel 1.
+    Send(Role, &'static [u8]),
+    /// Deliveries, first those to the DCE, until nothing is on the line.
+    Drain,
+}
+
+/// What is played at two ends.
+#[derive(Clone, Copy)]
+pub struct Script {
+    pub name: &'static str,
+    pub cfg: Cfg,
+    pub acts: &'static [Act],
+}
+
+const USUAL: Cfg = Cfg {
+    k: 7,
+    n2: 10,
+    channels: 1,
+    long_data: false,
+};
+
+const ONE_TRY: Cfg = Cfg {
+    k: 7,
+    n2: 1,
+    channels: 1,
+    long_data: false,
+};
+
+const CONNECTS: Act = Do(Command(Dte, Cmd::Connect));
+
+const DISCONNECTS: Act = Do(Command(Dte, Cmd::Disconnect));
+
+const CALLS: Act = Do(Command(
+    Dte,
+    Cmd::Call {
+        called: "123",
+        calling: "4567",
+        user: b"A",
+    },
+));
+
+const CALLS_12: Act = Do(Command(
+    Dte,
+    Cmd::Call {
+        called: "1",
+        calling: "2",
+        user: b"",
+    },
+));
+
+const DCE_CALLS_34: Act = Do(Command(
+    Dce,
+    Cmd::Call {
+        called: "3",
+        calling: "4",
+        user: b"",
+    },
+));
+
+const PROPOSES: Act = Do(Command(
+    Dte,
+    Cmd::CallWith {
+        called: "1",
+        calling: "2",
+        user: b"",
+        params: Params {
+            size_called: 8,
+            size_calling: 8,
+            win_called: 3,
+            win_calling: 3,
+        },
+    },
+));
+
+const ACCEPTS: Act = Do(Command(Dce, Cmd::Accept { channel: 1 }));
+
+const ANSWERS: Act = Do(Command(
+    Dce,
+    Cmd::AcceptWith {
+        channel: 1,
+        params: Params {
+            size_called: 7,
+            size_calling: 8,
+            win_called: 3,
+            win_calling: 2,
+        },
+    },
+));
+
+const CLEARS: Act = Do(Command(Dte, Cmd::Clear { channel: 1 }));
+
+const DCE_CLEARS: Act = Do(Command(Dce, Cmd::Clear { channel: 1 }));
+
+const RESETS: Act = Do(Command(Dte, Cmd::Reset { channel: 1 }));
+
+const RESTARTS: Act = Do(Command(Dte, Cmd::Restart));
+
+const INTERRUPTS: Act = Do(Command(
+    Dte,
+    Cmd::Interrupt {
+        channel: 1,
+        user: b"!",
+    },
+));
+
+const DCE_INTERRUPTS: Act = Do(Command(
+    Dce,
+    Cmd::Interrupt {
+        channel: 1,
+        user: b"d",
+    },
+));
+
+const DCE_IS_READY: Act = Do(Command(Dce, Cmd::Ready { channel: 1 }));
+
+const DCE_IS_NOT_READY: Act = Do(Command(Dce, Cmd::NotReady { channel: 1 }));
+
+const T1_FIRES: Act = Do(T1(Dte));
+
+const LOSES: Act = Do(Lose(ToDce, 0));
+
+const COMES: Act = Do(Deliver(ToDce));
+
+const COMES_BACK: Act = Do(Deliver(ToDte));
+
+/// Played at two stations, and at a world.
+pub static SCRIPTS: [Script; 9] = [
+    Script {
+        name: "a call, and two messages",
+        cfg: USUAL,
+        acts: &[
+            CONNECTS,
+            Drain,
+            CALLS,
+            Drain,
+            ACCEPTS,
+            Drain,
+            Send(Dte, b"hi"),
+            Send(Dte, b""),
+            Drain,
+        ],
+    },
+    Script {
+        name: "two calls collide, and both ends clear at once",
+        cfg: USUAL,
+        acts: &[
+            CONNECTS,
+            Drain,
+            CALLS_12,
+            DCE_CALLS_34,
+            Drain,
+            CLEARS,
+            DCE_CLEARS,
+            Drain,
+        ],
+    },
+    Script {
+        name: "a reset and a clear, and a call under the next name",
+        cfg: USUAL,
+        acts: &[
+            CONNECTS, Drain, CALLS, Drain, ACCEPTS, Drain, RESETS, CLEARS, Drain, CALLS_12, Drain,
+        ],
+    },
+    Script {
+        name: "a link that is given up",
+        cfg: ONE_TRY,
+        acts: &[
+            CONNECTS, COMES, COMES_BACK, LOSES, T1_FIRES, T1_FIRES, CALLS_12,
+        ],
+    },
+    Script {
+        name: "timer T1 fires early",
+        cfg: USUAL,
+        acts: &[
+            CONNECTS,
+            Drain,
+            CALLS,
+            Drain,
+            ACCEPTS,
+            Drain,
+            Send(Dte, b"a"),
+            T1_FIRES,
+            Drain,
+        ],
+    },
+    Script {
+        name: "an I frame is lost, and comes again",
+        cfg: USUAL,
+        acts: &[
+            CONNECTS,
+            Drain,
+            CALLS,
+            Drain,
+            ACCEPTS,
+            Drain,
+            Send(Dte, b"a"),
+            LOSES,
+            Drain,
+            T1_FIRES,
+            Drain,
+        ],
+    },
+    Script {
+        name: "a call that proposes sizes and windows",
+        cfg: USUAL,
+        acts: &[CONNECTS, Drain, PROPOSES, Drain, ANSWERS, Drain],
+    },
+    Script {
+        name: "an interrupt, and messages to an end that isn't ready",
+        cfg: USUAL,
+        acts: &[
+            CONNECTS,
+            Drain,
+            CALLS,
+            Drain,
+            ACCEPTS,
+            Drain,
+            DCE_IS_NOT_READY,
+            Drain,
+            Send(Dte, b"a"),
+            Send(Dte, b"b"),
+            INTERRUPTS,
+            Drain,
+            DCE_IS_READY,
+            Drain,
+        ],
+    },
+    Script {
+        name: "a restart, and the end of the link",
+        cfg: USUAL,
+        acts: &[
+            CONNECTS,
+            Drain,
+            CALLS,
+            Drain,
+            RESTARTS,
+            CALLS,
+            Drain,
+            DISCONNECTS,
+            Drain,
+        ],
+    },
+];
+
+/// Played at a world alone, whose line damages too, from link set-up on.
+pub static OF_WORLDS_UP: [Script; 1] = [Script {
+    name: "a frame is damaged, and comes again",
+    cfg: USUAL,
+    acts: &[
+        Drain,
+        CALLS,
+        Do(Damage(ToDce, 0, b"\x01\x22")),
+        Drain,
+        T1_FIRES,
+        Drain,
+    ],
+}];
+
+/// Played at two links.
+pub static OF_LINKS: [Script; 4] = [
+    Script {
+        name: "the first I frame is lost, and comes again behind polls",
+        cfg: USUAL,
+        acts: &[
+            CONNECTS,
+            Drain,
+            Send(Dte, b"a"),
+            LOSES,
+            T1_FIRES,
+            T1_FIRES,
+            COMES,
+            COMES,
+            COMES_BACK,
+            Send(Dte, b"b"),
+            Send(Dte, b"c"),
+            Send(Dte, b"d"),
+            Send(Dte, b"e"),
+            Send(Dte, b"f"),
+            Send(Dte, b"g"),
+            T1_FIRES,
+            COMES_BACK,
+            Drain,
+            Send(Dte, b"h"),
+            Drain,
+        ],
+    },
+    Script {
+        name: "the first I frame of three is lost",
+        cfg: USUAL,
+        acts: &[
+            CONNECTS,
+            Drain,
+            Send(Dte, b"a"),
+            Send(Dte, b"b"),
+            Send(Dte, b"c"),
+            LOSES,
+            COMES,
+            COMES,
+            COMES_BACK,
+            Drain,
+            DCE_INTERRUPTS,
+            Drain,
+        ],
+    },
+    Script {
+        name: "a set-up without an answer, and another one",
+        cfg: ONE_TRY,
+        acts: &[
+            CONNECTS, LOSES, T1_FIRES, LOSES, T1_FIRES, T1_FIRES, CONNECTS, Drain,
+        ],
+    },
+    Script {
+        name: "a packet under way as the link ends",
+        cfg: USUAL,
+        acts: &[
+            CONNECTS,
+            Drain,
+            Send(Dte, b"a"),
+            DISCONNECTS,
+            Drain,
+            DISCONNECTS,
+        ],
+    },
+];

@@ -1,0 +1,143 @@
+//! A world, and what it told and sent since it began.
+use crate::counts::{Counts, Kind};
+use crate::ends::{Ends, Outcome, Seen, Trouble, answers_of};
+use crate::lines::Lines;
+use std::alloc::{AllocError, Global};
+use x25_station::{Cfg, Role};
+use x25_world::{Direction, Entered, Event, Tapped, World, WorldError};
+
+/// A world, and the lines of its transcript and of its tap as they were shown.
+#[derive(Drop)]
+pub struct Worlds {
+    alloc: Global,
+    world: World,
+    told: usize,
+    tapped: usize,
+    transcript: Lines,
+    tap: Lines,
+}
+
+fn started(alloc: Global, cfg: Cfg, counts: &mut Counts) -> Result<World, WorldError> {
+    counts.called(Kind::New);
+    match World::start(alloc, cfg) {
+        Err(WorldError::NoMemory) => {
+            counts.refused(Kind::New);
+            World::start(alloc, cfg)
+        }
+        made => made,
+    }
+}
+
+fn established(alloc: Global, cfg: Cfg, counts: &mut Counts) -> Result<World, WorldError> {
+    counts.called(Kind::Establish);
+    match World::establish(alloc, cfg) {
+        Err(WorldError::NoMemory) => {
+            counts.refused(Kind::Establish);
+            World::establish(alloc, cfg)
+        }
+        made => made,
+    }
+}
+
+fn push_entries(entries: &[Entered], lines: &mut Lines) -> Result<(), AllocError> {
+    for entered in entries {
+        lines.push_entry(entered.at, &entered.entry)?;
+    }
+    Ok(())
+}
+
+fn push_frames(frames: &[Tapped], lines: &mut Lines) -> Result<(), AllocError> {
+    for tapped in frames {
+        lines.push_frame(tapped.from, tapped.octets.as_slice())?;
+    }
+    Ok(())
+}
+
+/// The number of a refusal, that of the station where it refuses.
+fn number_of(error: WorldError) -> u8 {
+    match error {
+        WorldError::Station(error) => error.number(),
+        error => error.number(),
+    }
+}
+
+impl Worlds {
+    /// A world whose links are down. One that is refused memory is made again.
+    pub fn start(alloc: Global, cfg: Cfg, counts: &mut Counts) -> Result<Worlds, Trouble> {
+        match started(alloc, cfg, counts) {
+            Ok(world) => Ok(Worlds::of(alloc, world)?),
+            Err(_) => Err(Trouble::NoMemory),
+        }
+    }
+
+    /// A world whose link is up. One that is refused memory is made again.
+    pub fn establish(alloc: Global, cfg: Cfg, counts: &mut Counts) -> Result<Worlds, Trouble> {
+        match established(alloc, cfg, counts) {
+            Ok(world) => Ok(Worlds::of(alloc, world)?),
+            Err(_) => Err(Trouble::NoMemory),
+        }
+    }
+
+    fn of(alloc: Global, world: World) -> Result<Worlds, AllocError> {
+        let transcript = Lines::new(alloc)?;
+        let tap = Lines::new(alloc)?;
+        Ok(Worlds {
+            alloc,
+            world,
+            told: 0,
+            tapped: 0,
+            transcript,
+            tap,
+        })
+    }
+
+    /// Shows what was told and sent since it was last called.
+    pub fn tells(&mut self, shown: &mut Lines) -> Result<(), AllocError> {
+        for entered in self.world.transcript().iter().skip(self.told) {
+            shown.push_entry(entered.at, &entered.entry)?;
+            self.transcript.push_entry(entered.at, &entered.entry)?;
+        }
+        self.told = self.world.transcript().len();
+        for tapped in self.world.tap().iter().skip(self.tapped) {
+            shown.push_frame(tapped.from, tapped.octets.as_slice())?;
+            self.tap.push_frame(tapped.from, tapped.octets.as_slice())?;
+        }
+        self.tapped = self.world.tap().len();
+        Ok(())
+    }
+
+    fn transcript_stands(&self) -> Result<bool, AllocError> {
+        let mut lines = Lines::new(self.alloc)?;
+        push_entries(self.world.transcript(), &mut lines)?;
+        Ok(lines.as_slice() == self.transcript.as_slice())
+    }
+
+    fn tap_stands(&self) -> Result<bool, AllocError> {
+        let mut lines = Lines::new(self.alloc)?;
+        push_frames(self.world.tap(), &mut lines)?;
+        Ok(lines.as_slice() == self.tap.as_slice())
+    }
+}
+
+impl Ends for Worlds {
+    fn happens(&mut self, event: Event<'static>, shown: &mut Lines) -> Result<Outcome, Trouble> {
+        if let Err(error) = self.world.apply(event) {
+            return Ok(Outcome::of_number(number_of(error)));
+        }
+        self.tells(shown)?;
+        Ok(Outcome::Accepted)
+    }
+
+    fn seen(&self) -> Seen {
+        Seen {
+            dte: answers_of(self.world.station(Role::Dte)),
+            dce: answers_of(self.world.station(Role::Dce)),
+            to_dce: self.world.on_line(Direction::ToDce),
+            to_dte: self.world.on_line(Direction::ToDte),
+        }
+    }
+
+    fn stands(&self) -> Result<bool, AllocError> {
+        Ok(self.transcript_stands()? && self.tap_stands()?)
+    }
+}
