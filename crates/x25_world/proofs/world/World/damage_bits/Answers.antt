@@ -100,6 +100,9 @@ returns-then-place-on_line-clause-arrives c = λ cfg from past gone begins h onc
 pub returns-then-place-on_line-clause-quiet : goal.returns-then-place-on_line-clause-quiet
 returns-then-place-on_line-clause-quiet c = λ cfg from past gone begins h once. holds_after HasNoProcedureError _ cfg from past gone c.two_stations_keep_order.ensures.quiet begins h once
 
+pub returns-then-place-on_line-clause-window : goal.returns-then-place-on_line-clause-window
+returns-then-place-on_line-clause-window c = λ cfg past gone h once. holds_after_set_up StaysInWindow _ cfg past gone c.two_stations_keep_order.ensures.window h once
+
 pub returns-then-place-on_line-clause-sessions : goal.returns-then-place-on_line-clause-sessions
 returns-then-place-on_line-clause-sessions c = λ cfg from past gone begins h.
     let law = c.stations_meet_in_sessions.ensures in
