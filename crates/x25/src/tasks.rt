@@ -5,7 +5,8 @@ ghost use Rattle.x25.specs.Tasks.{OfScript, WritesEnded, WritesEndedLines, Write
 ghost use Rattle.x25_io.specs.Written.{AppendsBeginning};
 ghost use Rattle.x25_settings.specs.Simulation as options;
 ghost use Rattle.x25_settings.specs.Words.{AreInRange};
-ghost use Rattle.x25_world.specs.Claims.{ArrivesAll, HasNoProcedureError, IsInWindow, IsLawful, IsNamed};
+ghost use Rattle.x25_world.specs.Claims.{ArrivesAll, HasNoProcedureError, IsLawful, IsNamed};
+ghost use Rattle.x25_world.specs.WindowGoes.{IsInWindow};
 ghost use Rattle.x25_world.specs.SessionClaims.{SessionsKeepOrder};
 
 use std::alloc::Global;

@@ -85,7 +85,7 @@ module _ (c d : Settings) (joined : AreJoined c d) (reads : ReadsSpelled) (laws 
       let stays = laws.window.put c packet w.near.station i.running in
       live_goes_on c d joined reads w h i.view w.back h.alone.back (packet ∷ []) (put_step c packet w.near.station)
       (subst (λ (s : Station). Holds ⊥ c d (one.after_step c h.alone h.alone.back (packet ∷ []) (put_step c packet s))) i.view.1
-      (put_up ⊥ c d joined reads laws h.alone h.holds.0 packet h.holds.1 i.machine short))
+      (let p = put_up ⊥ c d joined reads laws h.alone h.holds.0 packet h.holds.1 i.machine short in (p.0, p.1)))
       i.comes h.line (stays_answers w c.window (hands_down packet) w.near.station (put_step c packet w.near.station) stays)
       (stays_no_packet c.window (hands_down packet) w.near.station (put_step c packet w.near.station) (λ v y k. k) stays)
 
@@ -99,8 +99,8 @@ module _ (c d : Settings) (joined : AreJoined c d) (reads : ReadsSpelled) (laws 
       let follows = laws.window.timer c s i.running in
       live_goes_on c d joined reads w h i.view w.back h.alone.back [] step
       (subst (λ (z : Station). Holds ⊥ c d (one.after_step c h.alone h.alone.back [] (timer_step c z))) i.view.1
-      (timer_by ⊥ c d joined reads laws h.alone h.holds.0 h.holds.1 i.machine (nat_lt t.tries c.retries) (timer_step c t) (laws.timer_tells c t)
-      (laws.window.timer c t (record { up = i.machine.up; sound = i.machine.sound }))))
+      (let p = timer_by ⊥ c d joined reads laws h.alone h.holds.0 h.holds.1 i.machine (nat_lt t.tries c.retries) (timer_step c t) (laws.timer_tells c t)
+      (laws.window.timer c t (record { up = i.machine.up; sound = i.machine.sound })) in (p.0, p.1)))
       i.comes h.line (follows_answers w o c.window nothing s step (λ reason e. retries_answer (nat_lt s.tries c.retries) w.far.station.phase reason e) follows)
       (follows_no_packet o c.window (Err Short) s step refl follows)
 
@@ -116,8 +116,8 @@ module _ (c d : Settings) (joined : AreJoined c d) (reads : ReadsSpelled) (laws 
       let i = in_session c d w h up in
       let t = h.alone.near.station in
       leaves_held w h i Local tt (disconnect_step c)
-      (ends_joint ⊥ c d joined reads h.alone h.holds.0 h.holds.1 i.machine.up h.alone.back (disconnect_step c t) Local tt h.holds.1.back h.holds.1.back_orderly (laws.disconnect_tells c t)
-      (laws.window.disconnect c t (record { up = i.machine.up; sound = i.machine.sound })))
+      (let p = ends_joint ⊥ c d joined reads h.alone h.holds.0 h.holds.1 i.machine.up h.alone.back (disconnect_step c t) Local tt h.holds.1.back h.holds.1.back_orderly (laws.disconnect_tells c t)
+      (laws.window.disconnect c t (record { up = i.machine.up; sound = i.machine.sound })) in (p.0, p.1))
       (laws.window.disconnect c w.near.station i.running)
 
   pub abandon_held : (w : Sessions) → Held c d w → is_up w.near.station.phase ≡ true → Held c d (after_step c w w.back w.met [] (abandon_step c w.near.station))
@@ -125,8 +125,8 @@ module _ (c d : Settings) (joined : AreJoined c d) (reads : ReadsSpelled) (laws 
       let i = in_session c d w h up in
       let t = h.alone.near.station in
       leaves_held w h i Counts tt (abandon_step c)
-      (ends_joint ⊥ c d joined reads h.alone h.holds.0 h.holds.1 i.machine.up h.alone.back (abandon_step c t) Counts tt h.holds.1.back h.holds.1.back_orderly (laws.abandon_tells c t)
-      (laws.window.abandon c t (record { up = i.machine.up; sound = i.machine.sound })))
+      (let p = ends_joint ⊥ c d joined reads h.alone h.holds.0 h.holds.1 i.machine.up h.alone.back (abandon_step c t) Counts tt h.holds.1.back h.holds.1.back_orderly (laws.abandon_tells c t)
+      (laws.window.abandon c t (record { up = i.machine.up; sound = i.machine.sound })) in (p.0, p.1))
       (laws.window.abandon c w.near.station i.running)
 
   -- ---- SABM and DISC

@@ -11,7 +11,7 @@ use Rattle.x25_link.specs.WindowMachine.{ShowAll}
 use Rattle.x25_line.specs.Stations.{Stations}
 use Rattle.x25_line.specs.StationClaims.{AreJoined}
 use Rattle.x25_line.specs.Sessions.{Entry, Sessions, ua_in, how_many}
-use Rattle.x25_line.proofs.StationLines.{taken_out}
+use Rattle.x25_line.specs.WholeNumbers.{taken_out}
 use Rattle.x25_line.proofs.StationSteps.{Holds}
 use Rattle.x25_line.proofs.StationRuns.{Laws, taken_off}
 use Rattle.x25_line.proofs.SessionLines.{of_ua, numbers, carried, carried_numbers, carried_orderly, Change, nothing, lost, damaged, further, change_many, change_of, change_place, change_shows}
@@ -26,10 +26,11 @@ module _ (c d : Settings) (joined : AreJoined c d) (reads : ReadsSpelled) (laws 
       → Holds ⊥ c d (record v { back = carried (other c.role) c.longest ys }) × Comes (other c.role) c.longest ys (carried (other c.role) c.longest ys) q
   comes_change v h q xs ys change comes =
       let shows : ShowAll (numbers (other c.role) c.longest xs) h.0.back = subst (λ (fs : List PlainFrame). ShowAll fs h.0.back) (sym comes.0) h.1.back in
-      let less = change_shows (other c.role) c.longest xs ys change h.0.back shows in (
-        taken_off ⊥ c d joined reads laws v h.0 (change_place (other c.role) c.longest xs ys change) (carried (other c.role) c.longest ys) h.1
-            (subst (λ (fs : List PlainFrame). ShowAll fs (taken_out (change_place (other c.role) c.longest xs ys change) h.0.back)) (sym (carried_numbers (other c.role) c.longest ys)) less)
-            (carried_orderly (other c.role) c.longest ys),
+      let less = change_shows (other c.role) c.longest xs ys change h.0.back shows in
+      let p = taken_off ⊥ c d joined reads laws v h.0 (change_place (other c.role) c.longest xs ys change) (carried (other c.role) c.longest ys) h.1
+      (subst (λ (fs : List PlainFrame). ShowAll fs (taken_out (change_place (other c.role) c.longest xs ys change) h.0.back)) (sym (carried_numbers (other c.role) c.longest ys)) less)
+      (carried_orderly (other c.role) c.longest ys) in (
+        (p.0, p.1),
         (sym (carried_numbers (other c.role) c.longest ys), change_of (other c.role) c.longest q xs ys change comes.1),
       )
 

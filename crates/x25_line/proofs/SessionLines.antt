@@ -15,7 +15,8 @@ use Rattle.x25_line.specs.Stations.{is_visible}
 use Rattle.x25_line.specs.StationClaims.{number_in, numbered_on, AreWhole}
 use Rattle.x25_line.specs.Sessions.{Entry, sabm_in, ua_in, disc_in, how_many, sent_in, replaced}
 use Rattle.x25_line.specs.SessionClaims.{octets_of, AllOf}
-use Rattle.x25_line.proofs.StationLines.{IsOrderly, AreOrderly, consed, numbered_append, first_of, behind, taken_out, shows_first, shows_behind, visible_reads}
+use Rattle.x25_line.specs.WholeNumbers.{first_of, behind, taken_out}
+use Rattle.x25_line.proofs.StationLines.{IsOrderly, AreOrderly, consed, numbered_append, shows_first, shows_behind, visible_reads}
 
 abbrev pub Read : Type 0
 Read = Result PlainFrame FrameError

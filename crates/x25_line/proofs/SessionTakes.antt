@@ -331,9 +331,9 @@ module _ (c d : Settings) (joined : AreJoined c d) (reads : ReadsSpelled) (laws 
         holds : Holds ⊥ c d (one.after_step c h.alone (carried (other c.role) c.longest es) [] (step_of c w e))
         holds =
             subst (λ (z : Station). Holds ⊥ c d (one.after_step c h.alone (carried (other c.role) c.longest es) [] (take_step c e.octets z))) i.view.1
-            (read_joint ⊥ c d joined reads h.alone h.holds.0 h.holds.1 i.machine (read_of c e) (carried (other c.role) c.longest es) (take_step c e.octets h.alone.near.station)
+            (let p = read_joint ⊥ c d joined reads h.alone h.holds.0 h.holds.1 i.machine (read_of c e) (carried (other c.role) c.longest es) (take_step c e.octets h.alone.near.station)
             (orderly no_sabm) (carried_orderly (other c.role) c.longest es) shows (laws.take_tells c e.octets h.alone.near.station)
-            (laws.window.take c e.octets h.alone.near.station (record { up = i.machine.up; sound = i.machine.sound }) (read_of c e) refl))
+            (laws.window.take c e.octets h.alone.near.station (record { up = i.machine.up; sound = i.machine.sound }) (read_of c e) refl) in (p.0, p.1))
 
         follows : Follows (ending_of (read_of c e) (window_of c.window w.near.station)) c.window (brought_by (read_of c e)) w.near.station (step_of c w e)
         follows = laws.window.take c e.octets w.near.station i.running (read_of c e) refl

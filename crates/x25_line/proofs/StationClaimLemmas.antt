@@ -12,11 +12,13 @@ use Rattle.x25_link.specs.Station.{Settings, Station, is_up, lists_of}
 use Rattle.x25_link.specs.Steps.{is_idle}
 use Rattle.x25_link.specs.WindowMachine.{Window}
 use Rattle.x25_line.specs.InWindow.{Begins}
-use Rattle.x25_line.specs.Stations.{StationEnd, Stations, run, start}
-use Rattle.x25_line.specs.StationClaims.{AreJoined, Always, InOrder, BothInOrder, HasItsLists, BothHaveTheirLists, NotesItsEnd, BothNoteTheirEnds, OneLinkUnlessConnected, AreInWindow, NoFrmrSent, AreWhole, AllSentAreWhole}
+use Rattle.x25_line.specs.Line.{Line}
+use Rattle.x25_line.specs.Stations.{StationEnd, Stations, Event, run, start}
+use Rattle.x25_line.specs.WholeNumbers.{machine_run, machine_at_start, MachineGoesAlong}
+use Rattle.x25_line.specs.StationClaims.{AreJoined, IsSetUpOnce, Always, InOrder, BothInOrder, HasItsLists, BothHaveTheirLists, NotesItsEnd, BothNoteTheirEnds, OneLinkUnlessConnected, IsBehind, AreInWindow, NoFrmrSent, AreWhole, AllSentAreWhole}
 use Rattle.x25_line.proofs.Kept.{Way, Way-acked, InWindow-from_Kept}
-use Rattle.x25_line.proofs.StationSteps.{away_is_not_up, AsUp, FitsEnd, NotesOnce, Holds, not_both}
-use Rattle.x25_line.proofs.StationRuns.{Laws, run_once, run_unasked, start_joint}
+use Rattle.x25_line.proofs.StationSteps.{away_is_not_up, AsUp, FitsEnd, NotesOnce, Joint, Holds, not_both}
+use Rattle.x25_line.proofs.StationRuns.{Laws, run_once, run_unasked, start_machine}
 
 -- beginnings of one list, the shorter is one of the longer
 take_of_take : (a r : ℕ) (xs : List (List ℕ)) → a ≤ r → take a (take r xs) ≡ take a xs
@@ -127,27 +129,28 @@ holds_lists MayAsk c d w holds =
     let h = holds.1 in
     (has_lists MayAsk c w.near l.near h.near h.near_down h.near_up, has_lists MayAsk d w.far l.far h.far h.far_down h.far_up)
 
+pub is_behind : (MayAsk : Type 0) (c d : Settings) (w : Stations) (l : Line (List ℕ)) → Joint MayAsk c d w l → IsBehind c d w l
+is_behind MayAsk c d w l h = record {
+  reached = h.reached;
+  near = record { given = h.near_down; taken = h.near_up; numbers = λ is_on. (up_of MayAsk c w.near.station l.near h.near is_on).same };
+  far = record { given = h.far_down; taken = h.far_up; numbers = λ is_on. (up_of MayAsk d w.far.station l.far h.far is_on).same };
+  out = h.out;
+  back = h.back;
+  window = InWindow-from_Kept l h.kept;
+}
+
 pub holds_window : (MayAsk : Type 0) (c d : Settings) (w : Stations) → Holds MayAsk c d w → AreInWindow c d w
-holds_window MayAsk c d w holds =
-    let l = holds.0 in
-    let h = holds.1 in (
-      l,
-      record {
-        reached = h.reached;
-        near = record { given = h.near_down; taken = h.near_up; numbers = λ is_on. (up_of MayAsk c w.near.station l.near h.near is_on).same };
-        far = record { given = h.far_down; taken = h.far_up; numbers = λ is_on. (up_of MayAsk d w.far.station l.far h.far is_on).same };
-        out = h.out;
-        back = h.back;
-        window = InWindow-from_Kept l h.kept;
-      },
-    )
+holds_window MayAsk c d w holds = (holds.0, is_behind MayAsk c d w holds.0 holds.1)
 
 pub holds_whole : (MayAsk : Type 0) (c d : Settings) → AreJoined c d → (w : Stations) → Holds MayAsk c d w → AllSentAreWhole c d w
 holds_whole MayAsk c d joined w holds = subst (λ (n : ℕ). AreWhole n (w.near.down ++ w.far.down) w.sent) (sym joined.longest) holds.1.whole
 
 module _ (reads : ReadsSpelled) (laws : Laws) where
+  machine : (c d : Settings) → AreJoined c d → (events : List Event) → IsSetUpOnce (run c d events start) → Joint (Unit {0}) c d (run c d events start) (machine_run c d events start (machine_at_start c d))
+  machine c d joined events once = run_once c d joined reads laws events start (machine_at_start c d) (start_machine (Unit {0}) c d joined) once
+
   reached : Always (Holds (Unit {0}))
-  reached c d joined events once = run_once c d joined reads laws events start (start_joint (Unit {0}) c d joined) once
+  reached c d joined events once = (machine_run c d events start (machine_at_start c d), machine c d joined events once)
 
   pub keeps_order : Always BothInOrder
   keeps_order c d joined events once = holds_order (Unit {0}) c d (run c d events start) (reached c d joined events once)
@@ -160,8 +163,8 @@ module _ (reads : ReadsSpelled) (laws : Laws) where
       let h = (reached c d joined events once).1 in
       (notes_end (run c d events start).near h.near_notes, notes_end (run c d events start).far h.far_notes)
 
-  pub keeps_window : Always AreInWindow
-  keeps_window c d joined events once = holds_window (Unit {0}) c d (run c d events start) (reached c d joined events once)
+  pub goes_along : MachineGoesAlong
+  goes_along c d joined events once = is_behind (Unit {0}) c d (run c d events start) (machine_run c d events start (machine_at_start c d)) (machine c d joined events once)
 
   pub sends_no_frmr : Always NoFrmrSent
   sends_no_frmr c d joined events once = (reached c d joined events once).1.no_frmr
@@ -172,5 +175,5 @@ module _ (reads : ReadsSpelled) (laws : Laws) where
   pub stays_one_link : OneLinkUnlessConnected
   stays_one_link c d joined events none =
       let w = run c d events start in
-      let h = (run_unasked c d joined reads laws events start (start_joint ⊥ c d joined) none).1 in
+      let h = run_unasked c d joined reads laws events start (machine_at_start c d) (start_machine ⊥ c d joined) none in
       record { once = record { near = h.near_notes.once; far = h.far_notes.once }; near = one_ending w.near h.near_notes; far = one_ending w.far h.far_notes }

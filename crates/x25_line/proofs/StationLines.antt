@@ -15,6 +15,7 @@ use Rattle.x25_frame.specs.ReadingLaw.{ReadsSpelled}
 use Rattle.x25_link.specs.WindowMachine.{ShowsItem, Shows, ShowAll}
 use Rattle.x25_line.specs.Stations.{replaced, is_visible}
 use Rattle.x25_line.specs.StationClaims.{number_in, numbered_on, NoFrmr, IsHandedDown, AreWhole}
+use Rattle.x25_line.specs.WholeNumbers.{first_of, one_more, behind, place_of, taken_out}
 
 -- ---- frames by frames
 
@@ -278,28 +279,6 @@ module _ (reads : ReadsSpelled) (from : Role) (n1 : ℕ) where
   parting_orderly MayAsk (frmr f why ∷ fs) h = absurd h
 
 -- ---- what is lost or damaged
-
--- which of the numbered frames stands at this place of the line, where one does
-abbrev pub first_of : Option PlainFrame → Option ℕ
-first_of None = None
-first_of (Some frame) = Some 0
-
-abbrev pub one_more : Option ℕ → Option ℕ
-one_more None = None
-one_more (Some n) = Some (suc n)
-
-abbrev pub behind : Option PlainFrame → Option ℕ → Option ℕ
-behind None place = place
-behind (Some frame) place = one_more place
-
-abbrev pub place_of : Role → ℕ → List (List ℕ) → ℕ → Option ℕ
-place_of from n1 [] i = None
-place_of from n1 (o ∷ os) zero = first_of (number_in (frame_of from n1 o))
-place_of from n1 (o ∷ os) (suc i) = behind (number_in (frame_of from n1 o)) (place_of from n1 os i)
-
-abbrev pub taken_out : Option ℕ → List (Frame (List ℕ)) → List (Frame (List ℕ))
-taken_out None gs = gs
-taken_out (Some n) gs = remove gs n
 
 taken_out_behind : (p : Option ℕ) (g : Frame (List ℕ)) (gs : List (Frame (List ℕ))) → taken_out (one_more p) (g ∷ gs) ≡ g ∷ taken_out p gs
 taken_out_behind None g gs = refl

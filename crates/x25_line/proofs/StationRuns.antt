@@ -22,11 +22,12 @@ use Rattle.x25_link.specs.WindowLaw.{Follows, IsOut, sets_up, StaysOut, StationL
 use Rattle.x25_line.specs.Line.{Line, moved, swapped as line_swapped}
 use Rattle.x25_line.specs.Line.Move.{HandsDown, Loses}
 use Rattle.x25_line.specs.Stations.{StationEnd, Stations, Act, Put, Deliver, T1, Connect, Disconnect, Abandon, Lose, Damage, Event, Near, Far, after_step, unless, delivered, replaced, is_visible, acts, swapped, happens, run, fresh_station, start}
+use Rattle.x25_line.specs.WholeNumbers.{first_of, place_of, taken_out, left_at, place_taken, machine_acts, machine_happens, machine_run, machine_at_start}
 use Rattle.x25_line.specs.StationClaims.{AreJoined, IsSetUpOnce, AcceptsNoConnect, AcceptsNoConnectAt, NoneConnects, number_in, numbered_on, IsReached, at_start, near_moves, far_moves, AreWhole, NotesUp, HandsOne}
 use Rattle.x25_line.proofs.Kept.{Kept, Kept-moved, Kept-swapped}
-use Rattle.x25_line.proofs.StationLines.{IsOrderly, orderly_where, AreOrderly, AreParting, taken_out, place_of, shows_lost, shows_damaged, orderly_lost, orderly_damaged, visible_reads, whole_more, either_way}
+use Rattle.x25_line.proofs.StationLines.{IsOrderly, orderly_where, AreOrderly, AreParting, shows_lost, shows_damaged, orderly_lost, orderly_damaged, visible_reads, whole_more, either_way}
 use Rattle.x25_line.proofs.StationSends.{AllWithin, within_push}
-use Rattle.x25_line.proofs.StationSteps.{MayBeAway, away_is_not_up, out_is_away, AsUp, IsAway, FitsEnd, NotesOnce, Joint, Holds, J-stays, not_both, quiet_notes, vain_notes, quiet_joint, parts_joint, ends_joint, read_joint, away_joint, declining_parting}
+use Rattle.x25_line.proofs.StationSteps.{MayBeAway, away_is_not_up, out_is_away, AsUp, IsAway, FitsEnd, NotesOnce, Joint, Holds, Leads, goes_is, left_alone, stands_still, J-stays, not_both, quiet_notes, vain_notes, quiet_joint, parts_joint, ends_joint, read_joint, away_joint, declining_parting}
 use Rattle.x25_line.proofs.StationAway.{closed_takes, waits_on, waiting_parting, quiet_by, up_takes_part, connects_from, first_false, second_false}
 use Rattle.x25_line.proofs.StationEvents.{each_hands_one}
 
@@ -35,13 +36,15 @@ reached_swapped k j l at_start = at_start
 reached_swapped k j l (near_moves v m h ok) = far_moves (line_swapped v) m (reached_swapped k j v h) ok
 reached_swapped k j l (far_moves v m h ok) = near_moves (line_swapped v) m (reached_swapped k j v h) ok
 
-holds_unless : (MayAsk : Type 0) (c d : Settings) (o : Option LinkError) (w v : Stations) → Holds MayAsk c d w → (o ≡ None → Holds MayAsk c d v) → Holds MayAsk c d (unless o w v)
-holds_unless MayAsk c d (Some e) w v h g = h
-holds_unless MayAsk c d None w v h g = g refl
+-- what is refused changes nothing
+leads_unless : (MayAsk : Type 0) (c d : Settings) (o : Option LinkError) (w v : Stations) (l : Line (List ℕ)) → Joint MayAsk c d w l → (o ≡ None → Leads MayAsk c d w l l.back v)
+    → Leads MayAsk c d w l l.back (unless o w v)
+leads_unless MayAsk c d (Some e) w v l h g = stands_still MayAsk c d w l h
+leads_unless MayAsk c d None w v l h g = g refl
 
-pub holds_if : (MayAsk : Type 0) (c d : Settings) (b : Bool) (w v : Stations) → (b ≡ true → Holds MayAsk c d w) → Holds MayAsk c d v → Holds MayAsk c d (if b then w else v)
-holds_if MayAsk c d true w v h g = h refl
-holds_if MayAsk c d false w v h g = g
+leads_if : (MayAsk : Type 0) (c d : Settings) (b : Bool) (w v : Stations) (l : Line (List ℕ)) → Joint MayAsk c d w l → (b ≡ true → Leads MayAsk c d w l l.back v) → Leads MayAsk c d w l l.back (if b then v else w)
+leads_if MayAsk c d true w v l h g = g refl
+leads_if MayAsk c d false w v l h g = stands_still MayAsk c d w l h
 
 pub orderly_sets_up : (r : Result PlainFrame FrameError) → IsOrderly ⊥ r → sets_up r ≡ false
 orderly_sets_up (Ok (info ns nr p x)) h = refl
@@ -77,8 +80,8 @@ module _ (MayAsk : Type 0) (c d : Settings) (joined : AreJoined c d) (reads : Re
   -- ---- what comes
 
   deliver_joint : (w : Stations) (l : Line (List ℕ)) (os : List (List ℕ)) → w.back ≡ os → Joint MayAsk c d w l → (MayAsk → (delivered c os w).near.came_up ≡ false)
-      → Holds MayAsk c d (delivered c os w)
-  deliver_joint w l [] is h once = (l, h)
+      → Leads MayAsk c d w l (left_at (other c.role) c.longest os (Some 0) l.back) (delivered c os w)
+  deliver_joint w l [] is h once = stands_still MayAsk c d w l h
   deliver_joint w l (o ∷ os) is h once = go h.near
     where
       s : Station
@@ -103,25 +106,25 @@ module _ (MayAsk : Type 0) (c d : Settings) (joined : AreJoined c d) (reads : Re
       no_sabm : TakesPart s.phase → IsOrderly ⊥ r
       no_sabm part = orderly_where MayAsk ⊥ r (λ p sabm ask. not_both step.notes.up (laws.set_up.sets_up c o s part p sabm).up (not_up ask)) orderly.0
 
-      stays : IsAway MayAsk s → StaysOut step → Holds MayAsk c d (after_step c w os [] step)
+      stays : IsAway MayAsk s → StaysOut step → Leads MayAsk c d w l (taken_out (first_of (number_in r)) l.back) (after_step c w os [] step)
       stays away out =
           let off = away_is_not_up MayAsk s.phase away.away in
           away_joint MayAsk c d joined reads w l h (number_in r) os step orderly.1 shows (declining_parting MayAsk c d joined reads step.side.out out.frames)
           (record { away = out_is_away MayAsk step.side.near.phase out.out; empty = (laws.take_tells c o s).empty out.quiet off away.empty }) out.packet out.quiet off
 
-      waits : IsAway MayAsk s → s.phase ≡ Waiting → MayAsk → Holds MayAsk c d (after_step c w os [] step)
+      waits : IsAway MayAsk s → s.phase ≡ Waiting → MayAsk → Leads MayAsk c d w l (taken_out (first_of (number_in r)) l.back) (after_step c w os [] step)
       waits away waiting ask =
           let i = laws.set_up.waits c o s waiting r refl in
           away_joint MayAsk c d joined reads w l h (number_in r) os step orderly.1 shows (subst (AreParting MayAsk) (sym i.out) (waiting_parting MayAsk r))
           (subst (IsAway MayAsk) (sym (i.near ∙ waits_on r s (sym i.up ∙ not_up ask))) away) i.packet (quiet_by step i.down (not_up ask)) (ap is_up waiting)
 
-      by_phase : (p : Phase) → s.phase ≡ p → IsAway MayAsk s → MayBeAway MayAsk p → Holds MayAsk c d (after_step c w os [] step)
+      by_phase : (p : Phase) → s.phase ≡ p → IsAway MayAsk s → MayBeAway MayAsk p → Leads MayAsk c d w l (taken_out (first_of (number_in r)) l.back) (after_step c w os [] step)
       by_phase Down phase away may = stays away (laws.window.take_out c o s (subst IsOut (sym phase) tt) (orderly_sets_up r (no_sabm (subst TakesPart (sym phase) tt))))
       by_phase Waiting phase away may = waits away phase may
       by_phase Up phase away may = absurd may
       by_phase Closed phase away may = stays away (closed_takes c o s phase)
 
-      go : FitsEnd MayAsk c s l.near → Holds MayAsk c d (delivered c (o ∷ os) w)
+      go : FitsEnd MayAsk c s l.near → Leads MayAsk c d w l (taken_out (first_of (number_in r)) l.back) (delivered c (o ∷ os) w)
       go (inl u) =
           read_joint MayAsk c d joined reads w l h u r os step (no_sabm (up_takes_part s.phase u.up)) orderly.1 shows (laws.take_tells c o s)
           (laws.window.take c o s (record { up = u.up; sound = u.sound }) r refl)
@@ -130,7 +133,7 @@ module _ (MayAsk : Type 0) (c d : Settings) (joined : AreJoined c d) (reads : Re
   -- ---- what is handed down
 
   pub put_up : (w : Stations) (l : Line (List ℕ)) (packet : List ℕ) → Joint MayAsk c d w l → AsUp c w.near.station l.near → length packet ≤ c.longest
-      → Holds MayAsk c d (after_step c w w.back (packet ∷ []) (put_step c packet w.near.station))
+      → Leads MayAsk c d w l l.back (after_step c w w.back (packet ∷ []) (put_step c packet w.near.station))
   put_up w l packet h u short =
       let longest = joined.longest in
       J-stays MayAsk c d joined reads w l (moved (HandsDown packet) l) w.back (packet ∷ []) (hands_down packet) (put_step c packet w.near.station) h u.up
@@ -145,27 +148,28 @@ module _ (MayAsk : Type 0) (c d : Settings) (joined : AreJoined c d) (reads : Re
         given = ap (λ (xs : List (List ℕ)). xs ++ packet ∷ []) (h.near_down ∙ sym (ap (λ (z : Window). z.given) u.same));
         taken = append-nil w.near.up ∙ h.near_up ∙ sym (ap (λ (z : Window). z.taken) u.same);
         within = within_push d.longest w.near.station.outgoing.given packet (subst (AllWithin d.longest) (sym (ap (λ (z : Window). z.given) u.same)) h.near_within) (omega arith);
+        same_sent = ap (λ (z : Window). z.sent) u.same;
       })
       (laws.window.put c packet w.near.station (record { up = u.up; sound = u.sound }))
 
   put_joint : (w : Stations) (l : Line (List ℕ)) (packet : List ℕ) → Joint MayAsk c d w l → length packet ≤ c.longest
-      → Holds MayAsk c d (unless (put_refusal w.near.station) w (after_step c w w.back (packet ∷ []) (put_step c packet w.near.station)))
+      → Leads MayAsk c d w l l.back (unless (put_refusal w.near.station) w (after_step c w w.back (packet ∷ []) (put_step c packet w.near.station)))
   put_joint w l packet h short = go h.near
     where
-      go : FitsEnd MayAsk c w.near.station l.near → Holds MayAsk c d (unless (put_refusal w.near.station) w (after_step c w w.back (packet ∷ []) (put_step c packet w.near.station)))
-      go (inl u) = holds_unless MayAsk c d (put_refusal w.near.station) w _ (l, h) (λ _. put_up w l packet h u short)
-      go (inr away) = rw (away_is_not_up MayAsk w.near.station.phase away.away) (l, h)
+      go : FitsEnd MayAsk c w.near.station l.near → Leads MayAsk c d w l l.back (unless (put_refusal w.near.station) w (after_step c w w.back (packet ∷ []) (put_step c packet w.near.station)))
+      go (inl u) = leads_unless MayAsk c d (put_refusal w.near.station) w _ l h (λ _. put_up w l packet h u short)
+      go (inr away) = rw (away_is_not_up MayAsk w.near.station.phase away.away) (stands_still MayAsk c d w l h)
 
   -- ---- timer T1
 
   pub timer_by : (w : Stations) (l : Line (List ℕ)) → Joint MayAsk c d w l → AsUp c w.near.station l.near → (b : Bool) (step : Step) → Tells w.near.station step
-      → Follows (if b then None else Some Retries) c.window nothing w.near.station step → Holds MayAsk c d (after_step c w w.back [] step)
+      → Follows (if b then None else Some Retries) c.window nothing w.near.station step → Leads MayAsk c d w l l.back (after_step c w w.back [] step)
   timer_by w l h u true step tells follows = quiet_joint MayAsk c d joined reads w l h u w.back h.back_orderly h.back nothing step refl (λ y k. k) follows
   timer_by w l h u false step tells follows = ends_joint MayAsk c d joined reads w l h u.up w.back step Retries tt h.back h.back_orderly tells follows
 
   -- an end that isn't Up sends SABM or DISC, and notes nothing
   asks_joint : (w : Stations) (l : Line (List ℕ)) → Joint MayAsk c d w l → is_up w.near.station.phase ≡ false → (near : Station) (frames : List PlainFrame) (step : Step)
-      → Is near frames None false step → AreParting MayAsk frames → IsAway MayAsk near → Holds MayAsk c d (after_step c w w.back [] step)
+      → Is near frames None false step → AreParting MayAsk frames → IsAway MayAsk near → Leads MayAsk c d w l l.back (after_step c w w.back [] step)
   asks_joint w l h was_away near frames step i parting away =
       let off : is_up step.side.near.phase ≡ false = ap (λ (z : Station). is_up z.phase) i.near ∙ away_is_not_up MayAsk near.phase away.away in
       parts_joint MayAsk c d joined reads w l h l.back w.back step h.kept h.reached h.back h.back_orderly (subst (AreParting MayAsk) (sym i.out) parting)
@@ -174,7 +178,7 @@ module _ (MayAsk : Type 0) (c d : Settings) (joined : AreJoined c d) (reads : Re
 
   waiting_timer : (w : Stations) (l : Line (List ℕ)) → Joint MayAsk c d w l → IsAway MayAsk w.near.station → w.near.station.phase ≡ Waiting → MayAsk → (b : Bool) (step : Step)
       → (let s = w.near.station in Is (if b then record s { tries = suc s.tries } else with_nothing Down s.tries) (if b then sabm true ∷ [] else []) (if b then None else Some Retries) false step)
-      → Holds MayAsk c d (after_step c w w.back [] step)
+      → Leads MayAsk c d w l l.back (after_step c w w.back [] step)
   waiting_timer w l h away phase ask true step i =
       asks_joint w l h (ap is_up phase) (record w.near.station { tries = suc w.near.station.tries }) (sabm true ∷ []) step i (ask, tt) (record { away = away.away; empty = away.empty })
   waiting_timer w l h away phase ask false step i =
@@ -182,48 +186,48 @@ module _ (MayAsk : Type 0) (c d : Settings) (joined : AreJoined c d) (reads : Re
       (subst (IsAway MayAsk) (sym i.near) (record { away = tt; empty = refl })) i.packet
       (vain_notes MayAsk c w w.back step h.near_notes (ap is_up phase) ask i.down i.up (ap (λ (z : Station). is_up z.phase) i.near))
 
-  timer_joint : (w : Stations) (l : Line (List ℕ)) → Joint MayAsk c d w l → Holds MayAsk c d (unless (timer_refusal w.near.station) w (after_step c w w.back [] (timer_step c w.near.station)))
+  timer_joint : (w : Stations) (l : Line (List ℕ)) → Joint MayAsk c d w l → Leads MayAsk c d w l l.back (unless (timer_refusal w.near.station) w (after_step c w w.back [] (timer_step c w.near.station)))
   timer_joint w l h = go h.near
     where
       s : Station
       s = w.near.station
 
-      by_phase : (p : Phase) → s.phase ≡ p → IsAway MayAsk s → MayBeAway MayAsk p → Holds MayAsk c d (unless (timer_refusal s) w (after_step c w w.back [] (timer_step c s)))
-      by_phase Down phase away may = rw (ap (λ (p : Phase). timer_runs p s) phase) (l, h)
+      by_phase : (p : Phase) → s.phase ≡ p → IsAway MayAsk s → MayBeAway MayAsk p → Leads MayAsk c d w l l.back (unless (timer_refusal s) w (after_step c w w.back [] (timer_step c s)))
+      by_phase Down phase away may = rw (ap (λ (p : Phase). timer_runs p s) phase) (stands_still MayAsk c d w l h)
       by_phase Waiting phase away may =
-          holds_unless MayAsk c d (timer_refusal s) w _ (l, h) (λ _. waiting_timer w l h away phase may (nat_lt s.tries c.retries) (timer_step c s) (laws.set_up.timer c s phase))
+          leads_unless MayAsk c d (timer_refusal s) w _ l h (λ _. waiting_timer w l h away phase may (nat_lt s.tries c.retries) (timer_step c s) (laws.set_up.timer c s phase))
       by_phase Up phase away may = absurd may
-      by_phase Closed phase away may = rw (ap (λ (p : Phase). timer_runs p s) phase) (l, h)
+      by_phase Closed phase away may = rw (ap (λ (p : Phase). timer_runs p s) phase) (stands_still MayAsk c d w l h)
 
-      go : FitsEnd MayAsk c s l.near → Holds MayAsk c d (unless (timer_refusal s) w (after_step c w w.back [] (timer_step c s)))
+      go : FitsEnd MayAsk c s l.near → Leads MayAsk c d w l l.back (unless (timer_refusal s) w (after_step c w w.back [] (timer_step c s)))
       go (inl u) =
-          holds_unless MayAsk c d (timer_refusal s) w _ (l, h)
+          leads_unless MayAsk c d (timer_refusal s) w _ l h
           (λ _. timer_by w l h u (nat_lt s.tries c.retries) (timer_step c s) (laws.timer_tells c s) (laws.window.timer c s (record { up = u.up; sound = u.sound })))
       go (inr away) = by_phase s.phase refl away away.away
 
   -- ---- connect, disconnect and abandon
 
   connect_joint : (w : Stations) (l : Line (List ℕ)) → Joint MayAsk c d w l → (connect_refusal w.near.station.phase ≡ None → MayAsk)
-      → Holds MayAsk c d (unless (connect_refusal w.near.station.phase) w (after_step c w w.back [] (connect_step c w.near.station)))
-  connect_joint w l h may = holds_unless MayAsk c d (connect_refusal w.near.station.phase) w _ (l, h) (λ accepted. go (may accepted) (connects_from w.near.station.phase accepted) h.near)
+      → Leads MayAsk c d w l l.back (unless (connect_refusal w.near.station.phase) w (after_step c w w.back [] (connect_step c w.near.station)))
+  connect_joint w l h may = leads_unless MayAsk c d (connect_refusal w.near.station.phase) w _ l h (λ accepted. go (may accepted) (connects_from w.near.station.phase accepted) h.near)
     where
       s : Station
       s = w.near.station
 
-      go : MayAsk → s.phase ≡ Down → FitsEnd MayAsk c s l.near → Holds MayAsk c d (after_step c w w.back [] (connect_step c s))
+      go : MayAsk → s.phase ≡ Down → FitsEnd MayAsk c s l.near → Leads MayAsk c d w l l.back (after_step c w w.back [] (connect_step c s))
       go ask phase (inl u) = not_both (is_up s.phase) u.up (ap is_up phase)
       go ask phase (inr away) =
           asks_joint w l h (ap is_up phase) (record s { phase = Waiting; tries = 0 }) (sabm true ∷ []) (connect_step c s) (laws.set_up.connects c s phase) (ask, tt)
           (record { away = ask; empty = away.empty })
 
   disconnect_joint : (w : Stations) (l : Line (List ℕ)) → Joint MayAsk c d w l
-      → Holds MayAsk c d (unless (disconnect_refusal w.near.station.phase) w (after_step c w w.back [] (disconnect_step c w.near.station)))
-  disconnect_joint w l h = holds_unless MayAsk c d (disconnect_refusal w.near.station.phase) w _ (l, h) (λ _. go h.near)
+      → Leads MayAsk c d w l l.back (unless (disconnect_refusal w.near.station.phase) w (after_step c w w.back [] (disconnect_step c w.near.station)))
+  disconnect_joint w l h = leads_unless MayAsk c d (disconnect_refusal w.near.station.phase) w _ l h (λ _. go h.near)
     where
       s : Station
       s = w.near.station
 
-      closes : IsOut s.phase → IsAway MayAsk s → Holds MayAsk c d (after_step c w w.back [] (disconnect_step c s))
+      closes : IsOut s.phase → IsAway MayAsk s → Leads MayAsk c d w l l.back (after_step c w w.back [] (disconnect_step c s))
       closes out away =
           let closed = laws.window.disconnect_out c s out in
           let off = away_is_not_up MayAsk s.phase away.away in
@@ -232,21 +236,21 @@ module _ (MayAsk : Type 0) (c d : Settings) (joined : AreJoined c d) (reads : Re
           (subst (AreParting MayAsk) (sym closed.frames) tt) (record { away = subst (MayBeAway MayAsk) (sym closed.phase) tt; empty = empty }) closed.packet
           (quiet_notes MayAsk c w w.back [] (disconnect_step c s) h.near_notes closed.quiet (ap is_up closed.phase ∙ sym off))
 
-      by_phase : (p : Phase) → s.phase ≡ p → IsAway MayAsk s → MayBeAway MayAsk p → Holds MayAsk c d (after_step c w w.back [] (disconnect_step c s))
+      by_phase : (p : Phase) → s.phase ≡ p → IsAway MayAsk s → MayBeAway MayAsk p → Leads MayAsk c d w l l.back (after_step c w w.back [] (disconnect_step c s))
       by_phase Down phase away may = closes (subst IsOut (sym phase) tt) away
       by_phase Waiting phase away may =
           asks_joint w l h (ap is_up phase) (with_nothing Closed s.tries) (disc true ∷ []) (disconnect_step c s) (laws.set_up.disconnects c s phase) tt (record { away = tt; empty = refl })
       by_phase Up phase away may = absurd may
       by_phase Closed phase away may = closes (subst IsOut (sym phase) tt) away
 
-      go : FitsEnd MayAsk c s l.near → Holds MayAsk c d (after_step c w w.back [] (disconnect_step c s))
+      go : FitsEnd MayAsk c s l.near → Leads MayAsk c d w l l.back (after_step c w w.back [] (disconnect_step c s))
       go (inl u) = ends_joint MayAsk c d joined reads w l h u.up w.back (disconnect_step c s) Local tt h.back h.back_orderly (laws.disconnect_tells c s) (laws.window.disconnect c s (record { up = u.up; sound = u.sound }))
       go (inr away) = by_phase s.phase refl away away.away
 
-  abandon_joint : (w : Stations) (l : Line (List ℕ)) → Joint MayAsk c d w l → is_up w.near.station.phase ≡ true → Holds MayAsk c d (after_step c w w.back [] (abandon_step c w.near.station))
+  abandon_joint : (w : Stations) (l : Line (List ℕ)) → Joint MayAsk c d w l → is_up w.near.station.phase ≡ true → Leads MayAsk c d w l l.back (after_step c w w.back [] (abandon_step c w.near.station))
   abandon_joint w l h up = go h.near
     where
-      go : FitsEnd MayAsk c w.near.station l.near → Holds MayAsk c d (after_step c w w.back [] (abandon_step c w.near.station))
+      go : FitsEnd MayAsk c w.near.station l.near → Leads MayAsk c d w l l.back (after_step c w w.back [] (abandon_step c w.near.station))
       go (inl u) = ends_joint MayAsk c d joined reads w l h u.up w.back (abandon_step c w.near.station) Counts tt h.back h.back_orderly (laws.abandon_tells c w.near.station) (laws.window.abandon c w.near.station (record { up = u.up; sound = u.sound }))
       go (inr away) = not_both (is_up w.near.station.phase) up (away_is_not_up MayAsk w.near.station.phase away.away)
 
@@ -254,7 +258,7 @@ module _ (MayAsk : Type 0) (c d : Settings) (joined : AreJoined c d) (reads : Re
 
   left_joint : (w : Stations) (l : Line (List ℕ)) (gs : List (Frame (List ℕ))) (os : List (List ℕ)) → Joint MayAsk c d w l
       → IsReached c.window d.window (record { near = l.near; far = l.far; out = l.out; back = gs }) → Kept (record { near = l.near; far = l.far; out = l.out; back = gs })
-      → ShowAll (numbered_on (other c.role) c.longest os) gs → AreOrderly MayAsk (other c.role) c.longest os → Holds MayAsk c d (record w { back = os })
+      → ShowAll (numbered_on (other c.role) c.longest os) gs → AreOrderly MayAsk (other c.role) c.longest os → Leads MayAsk c d w l gs (record w { back = os })
   left_joint w l gs os h reached kept shows orderly = (
     record { near = l.near; far = l.far; out = l.out; back = gs },
     record {
@@ -277,15 +281,17 @@ module _ (MayAsk : Type 0) (c d : Settings) (joined : AreJoined c d) (reads : Re
       no_frmr = h.no_frmr;
       whole = h.whole;
     },
+    left_alone MayAsk c d w (record w { back = os }) l (record { near = l.near; far = l.far; out = l.out; back = gs }) h refl refl refl refl refl,
   )
 
   -- the machine loses the frame at this place, where one stands there
   pub taken_off : (w : Stations) (l : Line (List ℕ)) (p : Option ℕ) (os : List (List ℕ)) → Joint MayAsk c d w l → ShowAll (numbered_on (other c.role) c.longest os) (taken_out p l.back)
-      → AreOrderly MayAsk (other c.role) c.longest os → Holds MayAsk c d (record w { back = os })
+      → AreOrderly MayAsk (other c.role) c.longest os → Leads MayAsk c d w l (taken_out p l.back) (record w { back = os })
   taken_off w l None os h shows orderly = left_joint w l l.back os h h.reached h.kept shows orderly
   taken_off w l (Some n) os h shows orderly = left_joint w l (remove l.back n) os h (near_moves l (Loses n) h.reached tt) (Kept-moved (Loses n) l tt h.kept) shows orderly
 
-  damage_joint : (w : Stations) (l : Line (List ℕ)) (i : ℕ) (octets : List ℕ) → Joint MayAsk c d w l → is_visible octets ≡ true → Holds MayAsk c d (record w { back = replaced w.back i octets })
+  damage_joint : (w : Stations) (l : Line (List ℕ)) (i : ℕ) (octets : List ℕ) → Joint MayAsk c d w l → is_visible octets ≡ true
+      → Leads MayAsk c d w l (left_at (other c.role) c.longest w.back (Some i) l.back) (record w { back = replaced w.back i octets })
   damage_joint w l i octets h visible = elim (visible_reads (other c.role) c.longest octets visible) [
     | inl short ↦ taken_off w l (place_of (other c.role) c.longest w.back i) (replaced w.back i octets) h
         (shows_damaged (other c.role) c.longest octets (ap number_in short) w.back i l.back h.back)
@@ -295,19 +301,32 @@ module _ (MayAsk : Type 0) (c d : Settings) (joined : AreJoined c d) (reads : Re
         (orderly_damaged MayAsk (other c.role) c.longest octets (subst (IsOrderly MayAsk) (sym bad) tt) w.back i h.back_orderly)
   ]
 
-  pub acts_joint : (a : Act) (w : Stations) → (MayAsk → (acts c a w).near.came_up ≡ false) → (Connects a w → MayAsk) → Holds MayAsk c d w → Holds MayAsk c d (acts c a w)
-  acts_joint (Put packet) w once may h =
-      holds_if MayAsk c d (nat_le (length packet) c.longest) (unless (put_refusal w.near.station) w (after_step c w w.back (packet ∷ []) (put_step c packet w.near.station))) w
-      (λ short. put_joint w h.0 packet h.1 (leb-true _ _ short)) h
-  acts_joint Deliver w once may h = deliver_joint w h.0 w.back refl h.1 once
-  acts_joint T1 w once may h = timer_joint w h.0 h.1
-  acts_joint Connect w once may h = connect_joint w h.0 h.1 may
-  acts_joint Disconnect w once may h = disconnect_joint w h.0 h.1
-  acts_joint Abandon w once may h = holds_if MayAsk c d (is_up w.near.station.phase) (after_step c w w.back [] (abandon_step c w.near.station)) w (λ up. abandon_joint w h.0 h.1 up) h
-  acts_joint (Lose i) w once may h =
-      taken_off w h.0 (place_of (other c.role) c.longest w.back i) (remove w.back i) h.1 (shows_lost (other c.role) c.longest w.back i h.0.back h.1.back)
-      (orderly_lost MayAsk (other c.role) c.longest w.back i h.1.back_orderly)
-  acts_joint (Damage i octets) w once may h = holds_if MayAsk c d (is_visible octets) (record w { back = replaced w.back i octets }) w (λ visible. damage_joint w h.0 i octets h.1 visible) h
+  damage_by : (b : Bool) (w : Stations) (l : Line (List ℕ)) (i : ℕ) (octets : List ℕ) → Joint MayAsk c d w l → is_visible octets ≡ b
+      → Leads MayAsk c d w l (left_at (other c.role) c.longest w.back (if b then Some i else None) l.back) (if b then record w { back = replaced w.back i octets } else w)
+  damage_by true w l i octets h visible = damage_joint w l i octets h visible
+  damage_by false w l i octets h visible = stands_still MayAsk c d w l h
+
+  acts_joint : (a : Act) (w : Stations) (l : Line (List ℕ)) → (MayAsk → (acts c a w).near.came_up ≡ false) → (Connects a w → MayAsk) → Joint MayAsk c d w l
+      → Leads MayAsk c d w l (left_at (other c.role) c.longest w.back (place_taken a) l.back) (acts c a w)
+  acts_joint (Put packet) w l once may h =
+      leads_if MayAsk c d (nat_le (length packet) c.longest) w (unless (put_refusal w.near.station) w (after_step c w w.back (packet ∷ []) (put_step c packet w.near.station))) l h
+      (λ short. put_joint w l packet h (leb-true _ _ short))
+  acts_joint Deliver w l once may h = deliver_joint w l w.back refl h once
+  acts_joint T1 w l once may h = timer_joint w l h
+  acts_joint Connect w l once may h = connect_joint w l h may
+  acts_joint Disconnect w l once may h = disconnect_joint w l h
+  acts_joint Abandon w l once may h = leads_if MayAsk c d (is_up w.near.station.phase) w (after_step c w w.back [] (abandon_step c w.near.station)) l h (λ up. abandon_joint w l h up)
+  acts_joint (Lose i) w l once may h =
+      taken_off w l (place_of (other c.role) c.longest w.back i) (remove w.back i) h (shows_lost (other c.role) c.longest w.back i l.back h.back)
+      (orderly_lost MayAsk (other c.role) c.longest w.back i h.back_orderly)
+  acts_joint (Damage i octets) w l once may h = damage_by (is_visible octets) w l i octets h refl
+
+  -- the machine of the definition is behind what comes of an act
+  pub machine_joint : (a : Act) (w : Stations) (l : Line (List ℕ)) → (MayAsk → (acts c a w).near.came_up ≡ false) → (Connects a w → MayAsk) → Joint MayAsk c d w l
+      → Joint MayAsk c d (acts c a w) (machine_acts c a w l)
+  machine_joint a w l once may h =
+      let p = acts_joint a w l once may h in
+      subst (λ (m : Line (List ℕ)). Joint MayAsk c d (acts c a w) m) (goes_is c w (acts c a w) l p.0 (left_at (other c.role) c.longest w.back (place_taken a) l.back) p.2) p.1
 
 -- ---- runs
 
@@ -315,39 +334,38 @@ pub joined_swapped : (c d : Settings) → AreJoined c d → AreJoined d c
 joined_swapped c d j =
     record { near_role = j.far_role; far_role = j.near_role; longest = sym j.longest; near_low = j.far_low; near_high = j.far_high; far_low = j.near_low; far_high = j.near_high }
 
-pub holds_swapped : (MayAsk : Type 0) (c d : Settings) → c.longest ≡ d.longest → (w : Stations) → Holds MayAsk c d w → Holds MayAsk d c (swapped w)
-holds_swapped MayAsk c d same w holds =
-    let l = holds.0 in
-    let h = holds.1 in (
-      line_swapped l,
-      record {
-        reached = reached_swapped c.window d.window l h.reached;
-        kept = Kept-swapped l h.kept;
-        near = h.far;
-        far = h.near;
-        out = h.back;
-        back = h.out;
-        out_orderly = h.back_orderly;
-        back_orderly = h.out_orderly;
-        near_down = h.far_down;
-        near_up = h.far_up;
-        far_down = h.near_down;
-        far_up = h.near_up;
-        near_within = h.far_within;
-        far_within = h.near_within;
-        near_notes = h.far_notes;
-        far_notes = h.near_notes;
-        no_frmr = h.no_frmr;
-        whole = whole_more c.longest (w.near.down ++ w.far.down) (w.far.down ++ w.near.down) (either_way w.near.down w.far.down) w.sent (subst (λ (n : ℕ). AreWhole n (w.near.down ++ w.far.down) w.sent) (sym same) h.whole);
-      },
-    )
+pub joint_swapped : (MayAsk : Type 0) (c d : Settings) → c.longest ≡ d.longest → (w : Stations) (l : Line (List ℕ)) → Joint MayAsk c d w l → Joint MayAsk d c (swapped w) (line_swapped l)
+joint_swapped MayAsk c d same w l h =
+    record {
+      reached = reached_swapped c.window d.window l h.reached;
+      kept = Kept-swapped l h.kept;
+      near = h.far;
+      far = h.near;
+      out = h.back;
+      back = h.out;
+      out_orderly = h.back_orderly;
+      back_orderly = h.out_orderly;
+      near_down = h.far_down;
+      near_up = h.far_up;
+      far_down = h.near_down;
+      far_up = h.near_up;
+      near_within = h.far_within;
+      far_within = h.near_within;
+      near_notes = h.far_notes;
+      far_notes = h.near_notes;
+      no_frmr = h.no_frmr;
+      whole = whole_more c.longest (w.near.down ++ w.far.down) (w.far.down ++ w.near.down) (either_way w.near.down w.far.down) w.sent (subst (λ (n : ℕ). AreWhole n (w.near.down ++ w.far.down) w.sent) (sym same) h.whole);
+    }
 
-event_joint : (MayAsk : Type 0) (c d : Settings) → AreJoined c d → ReadsSpelled → Laws → (e : Event) (w : Stations) → (MayAsk → IsSetUpOnce (happens c d e w)) → (ConnectsAt e w → MayAsk)
-    → Holds MayAsk c d w → Holds MayAsk c d (happens c d e w)
-event_joint MayAsk c d joined reads laws (Near act) w once may h = acts_joint MayAsk c d joined reads laws act w (λ ask. (once ask).near) may h
-event_joint MayAsk c d joined reads laws (Far act) w once may h =
-    holds_swapped MayAsk d c (sym joined.longest) (acts d act (swapped w))
-    (acts_joint MayAsk d c (joined_swapped c d joined) reads laws act (swapped w) (λ ask. (once ask).far) may (holds_swapped MayAsk c d joined.longest w h))
+pub holds_swapped : (MayAsk : Type 0) (c d : Settings) → c.longest ≡ d.longest → (w : Stations) → Holds MayAsk c d w → Holds MayAsk d c (swapped w)
+holds_swapped MayAsk c d same w holds = (line_swapped holds.0, joint_swapped MayAsk c d same w holds.0 holds.1)
+
+event_joint : (MayAsk : Type 0) (c d : Settings) → AreJoined c d → ReadsSpelled → Laws → (e : Event) (w : Stations) (l : Line (List ℕ)) → (MayAsk → IsSetUpOnce (happens c d e w)) → (ConnectsAt e w → MayAsk)
+    → Joint MayAsk c d w l → Joint MayAsk c d (happens c d e w) (machine_happens c d e w l)
+event_joint MayAsk c d joined reads laws (Near act) w l once may h = machine_joint MayAsk c d joined reads laws act w l (λ ask. (once ask).near) may h
+event_joint MayAsk c d joined reads laws (Far act) w l once may h =
+    joint_swapped MayAsk d c (sym joined.longest) (acts d act (swapped w)) (machine_acts d act (swapped w) (line_swapped l))
+    (machine_joint MayAsk d c (joined_swapped c d joined) reads laws act (swapped w) (line_swapped l) (λ ask. (once ask).far) may (joint_swapped MayAsk c d joined.longest w l h))
 
 -- ---- LinkUp that was noted stays so
 
@@ -373,16 +391,17 @@ event_before c d (Far act) w once =
     let before = before_act act (swapped w) (acts d act (swapped w)) (each_hands_one c d (Far act) w) (record { near = once.far; far = once.near }) in
     record { near = before.far; far = before.near }
 
-once_before : (c d : Settings) (es : List Event) (w : Stations) → IsSetUpOnce (run c d es w) → IsSetUpOnce w
+pub once_before : (c d : Settings) (es : List Event) (w : Stations) → IsSetUpOnce (run c d es w) → IsSetUpOnce w
 once_before c d [] w h = h
 once_before c d (e ∷ es) w h = event_before c d e w (once_before c d es (happens c d e w) h)
 
 -- ---- runs in which an end may ask for set-up, and runs in which none does
 
-pub run_once : (c d : Settings) → AreJoined c d → ReadsSpelled → Laws → (es : List Event) (w : Stations) → Holds (Unit {0}) c d w → IsSetUpOnce (run c d es w) → Holds (Unit {0}) c d (run c d es w)
-run_once c d joined reads laws [] w h once = h
-run_once c d joined reads laws (e ∷ es) w h once =
-    run_once c d joined reads laws es (happens c d e w) (event_joint (Unit {0}) c d joined reads laws e w (λ _. once_before c d es (happens c d e w) once) (λ _. tt) h) once
+pub run_once : (c d : Settings) → AreJoined c d → ReadsSpelled → Laws → (es : List Event) (w : Stations) (l : Line (List ℕ)) → Joint (Unit {0}) c d w l → IsSetUpOnce (run c d es w)
+    → Joint (Unit {0}) c d (run c d es w) (machine_run c d es w l)
+run_once c d joined reads laws [] w l h once = h
+run_once c d joined reads laws (e ∷ es) w l h once =
+    run_once c d joined reads laws es (happens c d e w) (machine_happens c d e w l) (event_joint (Unit {0}) c d joined reads laws e w l (λ _. once_before c d es (happens c d e w) once) (λ _. tt) h) once
 
 none_accepted : (a : Act) (w : Stations) → AcceptsNoConnect a w → Connects a w → ⊥
 none_accepted (Put packet) w h never = never
@@ -398,42 +417,44 @@ none_at : (e : Event) (w : Stations) → AcceptsNoConnectAt e w → ConnectsAt e
 none_at (Near act) w = none_accepted act w
 none_at (Far act) w = none_accepted act (swapped w)
 
-pub run_unasked : (c d : Settings) → AreJoined c d → ReadsSpelled → Laws → (es : List Event) (w : Stations) → Holds ⊥ c d w → NoneConnects c d es w → Holds ⊥ c d (run c d es w)
-run_unasked c d joined reads laws [] w h none = h
-run_unasked c d joined reads laws (e ∷ es) w h none =
-    run_unasked c d joined reads laws es (happens c d e w) (event_joint ⊥ c d joined reads laws e w (λ never. absurd never) (none_at e w none.0) h) none.1
+pub run_unasked : (c d : Settings) → AreJoined c d → ReadsSpelled → Laws → (es : List Event) (w : Stations) (l : Line (List ℕ)) → Joint ⊥ c d w l → NoneConnects c d es w
+    → Joint ⊥ c d (run c d es w) (machine_run c d es w l)
+run_unasked c d joined reads laws [] w l h none = h
+run_unasked c d joined reads laws (e ∷ es) w l h none =
+    run_unasked c d joined reads laws es (happens c d e w) (machine_happens c d e w l) (event_joint ⊥ c d joined reads laws e w l (λ never. absurd never) (none_at e w none.0) h) none.1
 
 fresh_notes : (MayAsk : Type 0) → NotesOnce MayAsk fresh_station
 fresh_notes MayAsk = record { still_up = λ on. refl; left = λ off. not_both true refl off; once = refl }
 
-pub start_joint : (MayAsk : Type 0) (c d : Settings) → AreJoined c d → Holds MayAsk c d start
-start_joint MayAsk c d joined =
+pub start_machine : (MayAsk : Type 0) (c d : Settings) → AreJoined c d → Joint MayAsk c d start (machine_at_start c d)
+start_machine MayAsk c d joined =
     let near_low = joined.near_low in
     let near_high = joined.near_high in
     let far_low = joined.far_low in
-    let far_high = joined.far_high in (
-      _,
-      record {
-        reached = at_start;
-        kept = record {
-          from_near = record { low = near_low; high = near_high; room = omega arith; held = omega arith; acks = omega arith; tops = omega arith; begins = refl };
-          from_far = record { low = far_low; high = far_high; room = omega arith; held = omega arith; acks = omega arith; tops = omega arith; begins = refl };
-        };
-        near = inl (record { up = refl; sound = record { place_low = omega arith; place_high = omega arith; sent_high = omega arith; room = omega arith }; same = refl });
-        far = inl (record { up = refl; sound = record { place_low = omega arith; place_high = omega arith; sent_high = omega arith; room = omega arith }; same = refl });
-        out = tt;
-        back = tt;
-        out_orderly = tt;
-        back_orderly = tt;
-        near_down = refl;
-        near_up = refl;
-        far_down = refl;
-        far_up = refl;
-        near_within = tt;
-        far_within = tt;
-        near_notes = fresh_notes MayAsk;
-        far_notes = fresh_notes MayAsk;
-        no_frmr = tt;
-        whole = tt;
-      },
-    )
+    let far_high = joined.far_high in
+    record {
+      reached = at_start;
+      kept = record {
+        from_near = record { low = near_low; high = near_high; room = omega arith; held = omega arith; acks = omega arith; tops = omega arith; begins = refl };
+        from_far = record { low = far_low; high = far_high; room = omega arith; held = omega arith; acks = omega arith; tops = omega arith; begins = refl };
+      };
+      near = inl (record { up = refl; sound = record { place_low = omega arith; place_high = omega arith; sent_high = omega arith; room = omega arith }; same = refl });
+      far = inl (record { up = refl; sound = record { place_low = omega arith; place_high = omega arith; sent_high = omega arith; room = omega arith }; same = refl });
+      out = tt;
+      back = tt;
+      out_orderly = tt;
+      back_orderly = tt;
+      near_down = refl;
+      near_up = refl;
+      far_down = refl;
+      far_up = refl;
+      near_within = tt;
+      far_within = tt;
+      near_notes = fresh_notes MayAsk;
+      far_notes = fresh_notes MayAsk;
+      no_frmr = tt;
+      whole = tt;
+    }
+
+pub start_joint : (MayAsk : Type 0) (c d : Settings) → AreJoined c d → Holds MayAsk c d start
+start_joint MayAsk c d joined = (machine_at_start c d, start_machine MayAsk c d joined)

@@ -1,15 +1,17 @@
 -- A run of a station that only sends is moves of the window machine that it allows, and its frames show those of the machine.
-use Rattle.std.proofs.Common.{◌≡◌, ℕ, zero, suc, ◌%◌, ◌<◌, ◌≤◌, List, [], ◌∷◌, ◌++◌, length, Option, Some, None, refl, sym, ap, ◌∙◌, subst, arith, append_assoc, append-nil}
+use Rattle.std.proofs.Common.{◌≡◌, ℕ, zero, suc, ◌+◌, ◌%◌, ◌<◌, ◌≤◌, max, List, [], ◌∷◌, ◌++◌, length, Option, Some, None, refl, sym, ap, ◌∙◌, subst, arith, append_assoc, append-nil}
 use Rattle.std.specs.List.{slice_get}
 use Rattle.std.proofs.lemmas.Option.{slice_get_within, get_or_from_slice_get}
 use Rattle.x25_frame.specs.PlainFrame.{PlainFrame, info, rr, rnr, rej, sabm, disc, ua, dm, frmr}
-use Rattle.x25_window.specs.Window.{Step, Frame, Allows, after, frame_of, frames_of, numbered}
+use Rattle.x25_window.specs.Modulo.{resolved}
+use Rattle.x25_window.specs.Window.{Step, Numbered, Frame, Allows, after, frame_of, frames_of, numbered}
 use Rattle.x25_window.specs.Window.Step.{HandDown, Send, Tell, Hear, Take}
 use Rattle.x25_link.specs.WindowMachine.{Window, ShowsItem, Shows, ShowAll, IsSent, Runs, rests, goes_on}
 use Rattle.x25_line.specs.Line.{Line, steps}
 use Rattle.x25_line.specs.Line.Move.{Sends, Tells}
 use Rattle.x25_line.specs.StationClaims.{IsReached, near_moves, IsHandedDown}
-use Rattle.x25_line.proofs.Kept.{Kept, Kept-moved}
+use Rattle.x25_line.specs.WholeNumbers.{given}
+use Rattle.x25_line.proofs.Kept.{Kept, Kept-moved, resolved_is}
 use Rattle.x25_line.proofs.StationLines.{shows_append, IsGood, AllGood, good_append, AllHandedDown, handed_append}
 
 -- ---- packets
@@ -109,6 +111,50 @@ send_handed n1 n w i (ua p) h = tt
 send_handed n1 n w i (dm p) h = tt
 send_handed n1 n w i (frmr p why) h = tt
 
+-- ---- the numbers of what goes
+
+-- a frame of the machine is given to the one that shows it, behind which more are given
+abbrev Gives : ℕ → ℕ → ℕ → ℕ → PlainFrame → Frame (List ℕ) → Type 0
+Gives acked r m top f g = (es : List PlainFrame) → given acked r m (f ∷ es) ≡ g ∷ given acked r top es
+
+single_given : (acked r m top : ℕ) (g : Frame (List ℕ)) → ((f : PlainFrame) → Shows f g → Gives acked r m top f g) → (fs : List PlainFrame) → ShowAll fs (g ∷ [])
+    → (es : List PlainFrame) → given acked r m (fs ++ es) ≡ g ∷ given acked r top es
+single_given acked r m top g gives [] h es = absurd h
+single_given acked r m top g gives (f ∷ []) h es = gives f h.0 es
+single_given acked r m top g gives (f ∷ e ∷ fs) h es = absurd h.1
+
+tell_given : (acked : ℕ) (w : Window) (f : PlainFrame) → Shows f (frame_of w None) → Gives acked (length w.taken) w.sent w.sent f (frame_of w None)
+tell_given acked w (info ns nr p x) h es = absurd h.0
+tell_given acked w (rr command nr pf) h es = refl
+tell_given acked w (rnr command nr pf) h es = refl
+tell_given acked w (rej command nr pf) h es = refl
+tell_given acked w (sabm p) h es = absurd h
+tell_given acked w (disc p) h es = absurd h
+tell_given acked w (ua p) h es = absurd h
+tell_given acked w (dm p) h es = absurd h
+tell_given acked w (frmr p why) h es = absurd h
+
+-- an I frame with these numbers, and then more
+abbrev with_number : ℕ → ℕ → ℕ → Option (Numbered (List ℕ)) → ℕ → List PlainFrame → List (Frame (List ℕ))
+with_number acked r m carried n es = record { carried = carried; ack = r; top = max m (n + 1) } ∷ given acked r (max m (n + 1)) es
+
+send_given : (n1 n : ℕ) (w : Window) → Item n1 w.given n → w.window ≤ 7 → Allows w (Send n) → (f : PlainFrame) → Shows f (frame_of (after w (Send n)) (numbered n (slice_get w.given n)))
+    → Gives w.acked (length w.taken) w.sent (after w (Send n)).sent f (frame_of (after w (Send n)) (numbered n (slice_get w.given n)))
+send_given n1 n w i high may (info ns nr p x) h es =
+    let shown : ShowsItem (numbered n (Some i.item)) ns x = subst (λ (o : Option (List ℕ)). ShowsItem (numbered n o) ns x) i.is h.0 in
+    let is : resolved w.acked ns ≡ n = ap (resolved w.acked) shown.0 ∙ resolved_is w.acked n may.0 (let room = may.2 in omega (arith, room, high)) in
+    ap (λ (k : ℕ). with_number w.acked (length w.taken) w.sent (Some (record { number = k; item = x })) k es) is
+    ∙ ap (λ (y : List ℕ). with_number w.acked (length w.taken) w.sent (Some (record { number = n; item = y })) n es) shown.1
+    ∙ ap (λ (o : Option (List ℕ)). with_number w.acked (length w.taken) w.sent (numbered n o) n es) (sym i.is)
+send_given n1 n w i high may (rr command nr pf) h es = absurd (not_none n w.given i.item i.is h.0)
+send_given n1 n w i high may (rnr command nr pf) h es = absurd (not_none n w.given i.item i.is h.0)
+send_given n1 n w i high may (rej command nr pf) h es = absurd (not_none n w.given i.item i.is h.0)
+send_given n1 n w i high may (sabm p) h es = absurd h
+send_given n1 n w i high may (disc p) h es = absurd h
+send_given n1 n w i high may (ua p) h es = absurd h
+send_given n1 n w i high may (dm p) h es = absurd h
+send_given n1 n w i high may (frmr p why) h es = absurd h
+
 -- ---- runs
 
 -- the line once the frames of a run are on it
@@ -122,16 +168,25 @@ pub record Sent (k j n1 : ℕ) (l : Line (List ℕ)) (from w : Window) (frames :
   pub behind : List (Frame (List ℕ))
   pub out : line.out ≡ l.out ++ behind
   pub shows : ShowAll frames behind
+  pub numbers : (es : List PlainFrame) → given from.acked (length from.taken) l.near.sent (frames ++ es) ≡ behind ++ given from.acked (length from.taken) line.near.sent es
   pub good : AllGood n1 frames
   pub handed : AllHandedDown from.given frames
   pub given : w.given ≡ from.given
   pub taken : w.taken ≡ from.taken
+  pub acked : w.acked ≡ from.acked
+
+-- what such frames are given, by the end once they went
+pub sent_given : (k j n1 : ℕ) (l : Line (List ℕ)) (from w : Window) (frames : List PlainFrame) (h : Sent k j n1 l from w frames) → h.behind ≡ given w.acked (length w.taken) l.near.sent frames
+sent_given k j n1 l from w frames h =
+    sym (append-nil h.behind) ∙ sym (h.numbers []) ∙ ap (given from.acked (length from.taken) l.near.sent) (append-nil frames)
+    ∙ ap (λ (a : ℕ). given a (length from.taken) l.near.sent frames) (sym h.acked) ∙ ap (λ (xs : List (List ℕ)). given w.acked (length xs) l.near.sent frames) (sym h.taken)
 
 -- one step more
 sent_more : (k j n1 : ℕ) (l : Line (List ℕ)) (from w : Window) (frames : List PlainFrame) (h : Sent k j n1 l from w frames) (s : Step (List ℕ)) (fs : List PlainFrame)
-    → IsReached k j (steps h.line s) → Kept (steps h.line s) → (after w s).given ≡ w.given → (after w s).taken ≡ w.taken → ShowAll fs (frames_of w s) → AllGood n1 fs
-    → AllHandedDown from.given fs → Sent k j n1 l from (after w s) (frames ++ fs)
-sent_more k j n1 l from w frames h s fs reached kept given taken shows good handed =
+    → IsReached k j (steps h.line s) → Kept (steps h.line s) → (after w s).given ≡ w.given → (after w s).taken ≡ w.taken → (after w s).acked ≡ w.acked → ShowAll fs (frames_of w s) → AllGood n1 fs
+    → AllHandedDown from.given fs → ((es : List PlainFrame) → given w.acked (length w.taken) w.sent (fs ++ es) ≡ frames_of w s ++ given w.acked (length w.taken) (after w s).sent es)
+    → Sent k j n1 l from (after w s) (frames ++ fs)
+sent_more k j n1 l from w frames h s fs reached kept handed_down taken acked shows good handed gives =
     record {
       line = steps h.line s;
       reached = reached;
@@ -144,9 +199,21 @@ sent_more k j n1 l from w frames h s fs reached kept given taken shows good hand
       shows = shows_append frames fs h.behind (frames_of h.line.near s) h.shows (subst (λ (z : Window). ShowAll fs (frames_of z s)) (sym h.near) shows);
       good = good_append n1 frames fs h.good good;
       handed = handed_append from.given frames fs h.handed handed;
-      given = given ∙ h.given;
+      given = handed_down ∙ h.given;
       taken = taken ∙ h.taken;
+      acked = acked ∙ h.acked;
+      numbers = λ es.
+          ap (given from.acked (length from.taken) l.near.sent) (append_assoc frames fs es)
+          ∙ h.numbers (fs ++ es)
+          ∙ ap (λ (gs : List (Frame (List ℕ))). h.behind ++ gs) (here es)
+          ∙ sym (append_assoc h.behind (frames_of h.line.near s) (given from.acked (length from.taken) (steps h.line s).near.sent es));
     }
+  where
+    here : (es : List PlainFrame) → given from.acked (length from.taken) h.line.near.sent (fs ++ es) ≡ frames_of h.line.near s ++ given from.acked (length from.taken) (steps h.line s).near.sent es
+    here es =
+        subst (λ (z : Window). given from.acked (length from.taken) z.sent (fs ++ es) ≡ frames_of z s ++ given from.acked (length from.taken) (after z s).sent es) (sym h.near)
+        (subst (λ (a : ℕ). given a (length from.taken) w.sent (fs ++ es) ≡ frames_of w s ++ given a (length from.taken) (after w s).sent es) h.acked
+        (subst (λ (xs : List (List ℕ)). given w.acked (length xs) w.sent (fs ++ es) ≡ frames_of w s ++ given w.acked (length xs) (after w s).sent es) h.taken (gives es)))
 
 more : (k j n1 : ℕ) (l : Line (List ℕ)) (from w : Window) (frames : List PlainFrame) → AllWithin n1 from.given → (s : Step (List ℕ)) (fs : List PlainFrame)
     → IsSent s → Allows w s → ShowAll fs (frames_of w s) → Sent k j n1 l from w frames → Sent k j n1 l from (after w s) (frames ++ fs)
@@ -154,16 +221,19 @@ more k j n1 l from w frames within (HandDown x) fs sends may shows h = absurd se
 more k j n1 l from w frames within (Hear ack) fs sends may shows h = absurd sends
 more k j n1 l from w frames within (Take n x) fs sends may shows h = absurd sends
 more k j n1 l from w frames within Tell fs sends may shows h =
-    sent_more k j n1 l from w frames h Tell fs (near_moves h.line Tells h.reached tt) (Kept-moved Tells h.line tt h.kept) refl refl shows
+    sent_more k j n1 l from w frames h Tell fs (near_moves h.line Tells h.reached tt) (Kept-moved Tells h.line tt h.kept) refl refl refl shows
     (single_good n1 (frame_of w None) (tell_good n1 w) fs shows)
     (single_handed from.given (frame_of w None) (tell_handed from.given w) fs shows)
+    (single_given w.acked (length w.taken) w.sent w.sent (frame_of w None) (tell_given w.acked w) fs shows)
 more k j n1 l from w frames within (Send n) fs sends may shows h =
     let ok : Allows h.line.near (Send n) = subst (λ (z : Window). Allows z (Send n)) (sym h.near) may in
     let item = item_at n1 w.given n may.3 (subst (AllWithin n1) (sym h.given) within) in
-    sent_more k j n1 l from w frames h (Send n) fs (near_moves h.line (Sends n) h.reached ok) (Kept-moved (Sends n) h.line ok h.kept) refl refl shows
+    sent_more k j n1 l from w frames h (Send n) fs (near_moves h.line (Sends n) h.reached ok) (Kept-moved (Sends n) h.line ok h.kept) refl refl refl shows
     (single_good n1 (frame_of (after w (Send n)) (numbered n (slice_get w.given n))) (send_good n1 n w item) fs shows)
     (subst (λ (given : List (List ℕ)). AllHandedDown given fs) h.given
     (single_handed w.given (frame_of (after w (Send n)) (numbered n (slice_get w.given n))) (send_handed n1 n w item) fs shows))
+    (single_given w.acked (length w.taken) w.sent (after w (Send n)).sent (frame_of (after w (Send n)) (numbered n (slice_get w.given n)))
+    (send_given n1 n w item (subst (λ (z : Window). z.window ≤ 7) h.near h.kept.from_near.high) may) fs shows)
 
 pub runs_sent : (k j n1 : ℕ) (l : Line (List ℕ)) (from : Window) → IsReached k j l → Kept l → l.near ≡ from → AllWithin n1 from.given
     → (w : Window) (frames : List PlainFrame) → Runs from w frames → Sent k j n1 l from w frames
@@ -182,6 +252,8 @@ runs_sent k j n1 l from reached kept near within w frames rests =
       handed = tt;
       given = refl;
       taken = refl;
+      acked = refl;
+      numbers = λ es. refl;
     }
 runs_sent k j n1 l from reached kept near within w frames (goes_on v fs s gs run sends may shows) =
     more k j n1 l from v fs within s gs sends may shows (runs_sent k j n1 l from reached kept near within v fs run)

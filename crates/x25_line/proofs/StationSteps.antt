@@ -1,6 +1,6 @@
 -- What holds of two stations and the window machine behind the line, and that a step of the near end keeps it.
 use Rattle.std.proofs.Common.{◌≡◌, ℕ, ◌+◌, ◌%◌, arith, List, [], ◌∷◌, ◌++◌, ◌⊎◌, inl, inr, length, map, remove, Bool, true, false, Option, Some, None, Result, Ok, Err, refl, sym, ap, ◌∙◌, subst, append-nil}
-use Rattle.std.specs.Prelude.{◌≤◌, option_to_list, replicate, ◌||◌}
+use Rattle.std.specs.Prelude.{◌≤◌, option_to_list, replicate, drop, if◌then◌else◌, ◌||◌}
 use Rattle.std.proofs.lemmas.Bool.{le-leb}
 use Rattle.std.proofs.lemmas.List.{replicate_more}
 use Rattle.x25_bits.specs.declared.role.Role.{Role}
@@ -27,9 +27,10 @@ use Rattle.x25_line.specs.Line.{Line, MayTake, FrontMayBeTaken, arrived, front_a
 use Rattle.x25_line.specs.Line.Move.{Arrives, Loses}
 use Rattle.x25_line.specs.Stations.{StationEnd, Stations, after_step}
 use Rattle.x25_line.specs.StationClaims.{AreJoined, IsReached, near_moves, number_in, numbered_on, NoFrmr, AreWhole}
+use Rattle.x25_line.specs.WholeNumbers.{given, first_of, taken_out, counted, went_on}
 use Rattle.x25_line.proofs.Kept.{Kept, Way, Kept-moved, hears_valid}
 use Rattle.x25_line.proofs.StationLines.{shows_append, Front, front_of, carried_of, IsOrderly, AreOrderly, consed, numbered_append, orderly_append, AllGood, AreParting, no_frmr_append, good_no_frmr, parting_no_frmr, good_numbered, good_orderly, parting_numbered, parting_orderly, AllHandedDown, whole_more, whole_append, good_whole, parting_whole, first_more}
-use Rattle.x25_line.proofs.StationSends.{AllWithin, runs_sent}
+use Rattle.x25_line.proofs.StationSends.{AllWithin, Sent, sent_given, runs_sent}
 
 -- Down or Closed, and Waiting where an end may ask for set-up
 abbrev pub MayBeAway : Type 0 → Phase → Type 0
@@ -109,6 +110,68 @@ pub record Joint (MayAsk : Type 0) (c d : Settings) (w : Stations) (l : Line (Li
 abbrev pub Holds : Type 0 → Settings → Settings → Stations → Type 0
 Holds MayAsk c d w = (l : Line (List ℕ)) × Joint MayAsk c d w l
 
+-- ---- the machine goes on
+
+abbrev pub not_taken : List (List ℕ) → List (List ℕ) → List (List ℕ)
+not_taken before now = drop (length before) now
+
+-- the machine `m` is `l` once the near end has acted, with these frames left on the line to it
+pub record Goes (c : Settings) (w v : Stations) (l m : Line (List ℕ)) (left : List (Frame (List ℕ))) : Type 0 where
+  pub near : m.near ≡ counted c.window v.near.station l.near
+  pub far : m.far ≡ l.far
+  pub out : m.out ≡ l.out ++ given m.near.acked (length m.near.taken) l.near.sent (numbered_on c.role c.longest (not_taken w.out v.out))
+  pub back : m.back ≡ left
+
+abbrev pub Leads : Type 0 → Settings → Settings → Stations → Line (List ℕ) → List (Frame (List ℕ)) → Stations → Type 0
+Leads MayAsk c d w l left v = (m : Line (List ℕ)) × Joint MayAsk c d v m × Goes c w v l m left
+
+-- so it is the machine that the definition says
+pub goes_is : (c : Settings) (w v : Stations) (l m : Line (List ℕ)) (left : List (Frame (List ℕ))) → Goes c w v l m left
+    → m ≡ (let e = counted c.window v.near.station l.near in
+    record { near = e; far = l.far; out = l.out ++ given e.acked (length e.taken) l.near.sent (numbered_on c.role c.longest (not_taken w.out v.out)); back = left })
+goes_is c w v l m left g =
+    let put : List PlainFrame = numbered_on c.role c.longest (not_taken w.out v.out) in
+    let made : End (List ℕ) → End (List ℕ) → List (Frame (List ℕ)) → List (Frame (List ℕ)) → Line (List ℕ) = λ near far out back. record { near = near; far = far; out = out; back = back } in
+    ap (λ (out : List (Frame (List ℕ))). made m.near m.far out m.back) g.out
+    ∙ ap (λ (e : End (List ℕ)). made e m.far (l.out ++ given e.acked (length e.taken) l.near.sent put) m.back) g.near
+    ∙ ap (λ (far : End (List ℕ)). (let e = counted c.window v.near.station l.near in made e far (l.out ++ given e.acked (length e.taken) l.near.sent put) m.back)) g.far
+    ∙ ap (λ (back : List (Frame (List ℕ))). (let e = counted c.window v.near.station l.near in made e l.far (l.out ++ given e.acked (length e.taken) l.near.sent put) back)) g.back
+
+pub counted_up : (k : ℕ) (s : Station) (e : Window) → is_up s.phase ≡ true → counted k s e ≡ window_of k s
+counted_up k s e up = rw up refl
+
+pub counted_off : (k : ℕ) (s : Station) (e : Window) → is_up s.phase ≡ false → counted k s e ≡ e
+counted_off k s e off = rw off refl
+
+pub counted_fits : (MayAsk : Type 0) (c : Settings) (s : Station) (e : Window) → FitsEnd MayAsk c s e → counted c.window s e ≡ e
+counted_fits MayAsk c s e (inl u) = counted_up c.window s e u.up ∙ u.same
+counted_fits MayAsk c s e (inr away) = counted_off c.window s e (away_is_not_up MayAsk s.phase away.away)
+
+pub put_behind : (xs ys : List (List ℕ)) → not_taken xs (xs ++ ys) ≡ ys
+put_behind [] ys = refl
+put_behind (x ∷ xs) ys = put_behind xs ys
+
+-- nothing that carries a number was put
+pub none_put : (l : Line (List ℕ)) (a r : ℕ) (fs : List PlainFrame) → fs ≡ [] → l.out ≡ l.out ++ given a r l.near.sent fs
+none_put l a r fs none = sym (append-nil l.out) ∙ ap (λ (es : List PlainFrame). l.out ++ given a r l.near.sent es) (sym none)
+
+pub nothing_put : (xs : List (List ℕ)) → not_taken xs xs ≡ []
+nothing_put [] = refl
+nothing_put (x ∷ xs) = nothing_put xs
+
+-- the line is as it was, with these frames left on that to the near end
+pub left_alone : (MayAsk : Type 0) (c d : Settings) (w v : Stations) (l m : Line (List ℕ)) → Joint MayAsk c d w l → v.near.station ≡ w.near.station → v.out ≡ w.out → m.near ≡ l.near → m.far ≡ l.far
+    → m.out ≡ l.out → Goes c w v l m m.back
+left_alone MayAsk c d w v l m h station out near far frames = record {
+  near = near ∙ sym (counted_fits MayAsk c w.near.station l.near h.near) ∙ ap (λ (s : Station). counted c.window s l.near) (sym station);
+  far = far;
+  out = frames ∙ none_put l m.near.acked (length m.near.taken) (numbered_on c.role c.longest (not_taken w.out v.out)) (ap (λ (os : List (List ℕ)). numbered_on c.role c.longest os) (ap (not_taken w.out) out ∙ nothing_put w.out));
+  back = refl;
+}
+
+pub stands_still : (MayAsk : Type 0) (c d : Settings) (w : Stations) (l : Line (List ℕ)) → Joint MayAsk c d w l → Leads MayAsk c d w l l.back w
+stands_still MayAsk c d w l h = (l, h, left_alone MayAsk c d w w l l h refl refl refl refl refl)
+
 -- ---- what is noted
 
 -- a step that notes nothing, Up or out as before
@@ -176,6 +239,7 @@ pub record Stage (MayAsk : Type 0) (c d : Settings) (w : Stations) (start l : Li
   pub given : w.near.down ++ down ≡ v.given
   pub taken : w.near.up ++ option_to_list packet ≡ v.taken
   pub within : AllWithin d.longest v.given
+  pub same_sent : v.sent ≡ start.near.sent
 
 module _ (MayAsk : Type 0) (c d : Settings) (joined : AreJoined c d) (reads : ReadsSpelled) where
   good_out : (out : List (List ℕ)) (fs : List PlainFrame) (gs hs : List (Frame (List ℕ))) → AllGood d.longest fs → ShowAll (numbered_on (other d.role) d.longest out) gs → ShowAll fs hs
@@ -208,10 +272,18 @@ module _ (MayAsk : Type 0) (c d : Settings) (joined : AreJoined c d) (reads : Re
       orderly_append MayAsk (other d.role) d.longest out (map (spelling_of c.role) fs) f
       (subst (λ (r : Role). AreOrderly MayAsk r d.longest (map (spelling_of c.role) fs)) (sym joined.near_role) (parting_orderly reads c.role d.longest MayAsk fs parting))
 
+  -- what is put, as its own end reads it
+  good_put : (out : List (List ℕ)) (fs : List PlainFrame) → AllGood d.longest fs → numbered_on c.role c.longest (not_taken out (out ++ map (spelling_of c.role) fs)) ≡ fs
+  good_put out fs good =
+      ap (numbered_on c.role c.longest) (put_behind out (map (spelling_of c.role) fs)) ∙ good_numbered reads c.role c.longest fs (subst (λ (n : ℕ). AllGood n fs) (sym joined.longest) good)
+
+  parting_put : (out : List (List ℕ)) (fs : List PlainFrame) → AreParting MayAsk fs → numbered_on c.role c.longest (not_taken out (out ++ map (spelling_of c.role) fs)) ≡ []
+  parting_put out fs parting = ap (numbered_on c.role c.longest) (put_behind out (map (spelling_of c.role) fs)) ∙ parting_numbered reads c.role c.longest MayAsk fs parting
+
   -- a station that stays Up: what comes has come, and then it sends
   pub J-stays : (w : Stations) (l m : Line (List ℕ)) (back down : List (List ℕ)) (input : Input) (step : Step) → Joint MayAsk c d w l → is_up w.near.station.phase ≡ true
       → Stage MayAsk c d w l m back down step.packet (after_input input step.packet (window_of c.window w.near.station)) → Stays c.window input w.near.station step
-      → Holds MayAsk c d (after_step c w back down step)
+      → Leads MayAsk c d w l m.back (after_step c w back down step)
   J-stays w l m back down input step h was_up g stays =
       let v : Window = after_input input step.packet (window_of c.window w.near.station) in
       let t = runs_sent c.window d.window d.longest m v g.reached g.kept g.near g.within (window_of c.window step.side.near) step.side.out stays.sends in
@@ -240,7 +312,20 @@ module _ (MayAsk : Type 0) (c d : Settings) (joined : AreJoined c d) (reads : Re
               (whole_more d.longest (w.near.down ++ w.far.down) ((w.near.down ++ down) ++ w.far.down) (first_more w.near.down w.far.down down) w.sent h.whole)
               (good_whole d.longest (w.near.down ++ down) w.far.down step.side.out t.good (subst (λ (given : List (List ℕ)). AllHandedDown given step.side.out) (sym g.given) t.handed));
         },
+        record {
+          near = t.near ∙ sym (counted_up c.window step.side.near l.near stays.up);
+          far = far;
+          out = t.out ∙ ap (λ (gs : List (Frame (List ℕ))). gs ++ t.behind) g.out ∙ ap (λ (gs : List (Frame (List ℕ))). l.out ++ gs) (sends m v (window_of c.window step.side.near) step.side.out t (ap (λ (z : Window). z.sent) g.near ∙ g.same_sent) t.near)
+              ∙ ap (λ (fs : List PlainFrame). l.out ++ given t.line.near.acked (length t.line.near.taken) l.near.sent fs) (sym (good_put w.out step.side.out t.good));
+          back = t.back;
+        },
       )
+    where
+      sends : (m : Line (List ℕ)) (v z : Window) (fs : List PlainFrame) (t : Sent c.window d.window d.longest m v z fs) → m.near.sent ≡ l.near.sent → t.line.near ≡ z
+          → t.behind ≡ given t.line.near.acked (length t.line.near.taken) l.near.sent fs
+      sends m v z fs t same is =
+          sent_given c.window d.window d.longest m v z fs t ∙ ap (λ (top : ℕ). given z.acked (length z.taken) top fs) same
+          ∙ ap (λ (e : Window). given e.acked (length e.taken) l.near.sent fs) (sym is)
 
   -- ---- what comes to an end that is Up
 
@@ -256,7 +341,7 @@ module _ (MayAsk : Type 0) (c d : Settings) (joined : AreJoined c d) (reads : Re
       → ShowAll (numbered_on (other c.role) c.longest os) gs → (packet : Option (List ℕ)) (v : Window) → arrived (is_some packet) g l.near ≡ v
       → MayTake (is_some packet) (length l.near.taken) g.carried → v.given ≡ l.near.given → w.near.up ++ option_to_list packet ≡ v.taken
       → Stage MayAsk c d w l (come l (is_some packet) g gs) os [] packet v
-  stage_arrives w l h os orderly g gs is shows packet v near ok given taken =
+  stage_arrives w l h os orderly g gs is shows packet v near ok same_given taken =
       let e = l.near in
       let may = subst (λ (bs : List (Frame (List ℕ))). FrontMayBeTaken (is_some packet) (length e.taken) bs) (sym is) ok in
       record {
@@ -268,10 +353,16 @@ module _ (MayAsk : Type 0) (c d : Settings) (joined : AreJoined c d) (reads : Re
         out = refl;
         left = shows;
         orderly = orderly;
-        given = append-nil w.near.down ∙ h.near_down ∙ sym given;
+        given = append-nil w.near.down ∙ h.near_down ∙ sym same_given;
         taken = taken;
-        within = subst (AllWithin d.longest) (sym given) h.near_within;
+        within = subst (AllWithin d.longest) (sym same_given) h.near_within;
+        same_sent = sym (ap (λ (z : Window). z.sent) near) ∙ arrived_sent (is_some packet) g.carried (after e (Hear (g.ack % 8)));
       }
+    where
+      arrived_sent : (b : Bool) (o : Option (Numbered (List ℕ))) (e : Window) → (takes_item b o e).sent ≡ e.sent
+      arrived_sent true (Some q) e = refl
+      arrived_sent true None e = refl
+      arrived_sent false o e = refl
 
   hears_same : (s : Station) (e : End (List ℕ)) (g : Frame (List ℕ)) (nr : ℕ) → window_of c.window s ≡ e → nr ≡ g.ack % 8 → after e (Hear (g.ack % 8)) ≡ after (window_of c.window s) (Hear nr)
   hears_same s e g nr same is = ap (λ (n : ℕ). after e (Hear n)) (sym is) ∙ ap (λ (z : Window). after z (Hear nr)) (sym same)
@@ -315,11 +406,12 @@ module _ (MayAsk : Type 0) (c d : Settings) (joined : AreJoined c d) (reads : Re
       → nr ≡ front.frame.ack % 8 → Follows (if_valid nr (window_of c.window w.near.station)) c.window (receives f) w.near.station step
       → ((packet : Option (List ℕ)) → MayHandUp (receives f) packet (window_of c.window w.near.station)
       → Stage MayAsk c d w l (come l (is_some packet) front.frame front.others) os [] packet (after_input (receives f) packet (window_of c.window w.near.station)))
-      → Holds MayAsk c d (after_step c w os [] step)
+      → Leads MayAsk c d w l (remove l.back 0) (after_step c w os [] step)
   numbered_joint w l h u os f nr step front number follows stage =
       let valid = valid_at w l h u front.frame front.others front.is nr number in
       let stays : Stays c.window (receives f) w.near.station step = subst (λ (o : Option Reason). Follows o c.window (receives f) w.near.station step) valid follows in
-      J-stays w l (come l (is_some step.packet) front.frame front.others) os [] (receives f) step h u.up (stage step.packet stays.hands_up) stays
+      subst (λ (left : List (Frame (List ℕ))). Leads MayAsk c d w l left (after_step c w os [] step)) (sym (ap (λ (bs : List (Frame (List ℕ))). remove bs 0) front.is))
+      (J-stays w l (come l (is_some step.packet) front.frame front.others) os [] (receives f) step h u.up (stage step.packet stays.hands_up) stays)
 
   -- ---- steps that bring nothing, and steps that leave
 
@@ -337,6 +429,7 @@ module _ (MayAsk : Type 0) (c d : Settings) (joined : AreJoined c d) (reads : Re
         given = append-nil w.near.down ∙ h.near_down ∙ sym (ap (λ (z : Window). z.given) u.same);
         taken = rw none (append-nil w.near.up ∙ h.near_up ∙ sym (ap (λ (z : Window). z.taken) u.same));
         within = subst (AllWithin d.longest) (sym (ap (λ (z : Window). z.given) u.same)) h.near_within;
+        same_sent = ap (λ (z : Window). z.sent) u.same;
       }
 
   no_packet_of : (input : Input) (packet : Option (List ℕ)) (v : Window) → ((y : List ℕ) → MayHandUp input (Some y) v → ⊥) → MayHandUp input packet v → packet ≡ None
@@ -346,7 +439,7 @@ module _ (MayAsk : Type 0) (c d : Settings) (joined : AreJoined c d) (reads : Re
   pub quiet_joint : (w : Stations) (l : Line (List ℕ)) → Joint MayAsk c d w l → AsUp c w.near.station l.near → (os : List (List ℕ)) → AreOrderly MayAsk (other c.role) c.longest os → ShowAll (numbered_on (other c.role) c.longest os) l.back
       → (input : Input) (step : Step) → after_input input step.packet (window_of c.window w.near.station) ≡ window_of c.window w.near.station
       → ((y : List ℕ) → MayHandUp input (Some y) (window_of c.window w.near.station) → ⊥)
-      → Stays c.window input w.near.station step → Holds MayAsk c d (after_step c w os [] step)
+      → Stays c.window input w.near.station step → Leads MayAsk c d w l l.back (after_step c w os [] step)
   quiet_joint w l h u os orderly shows input step same never stays =
       J-stays w l l os [] input step h u.up
       (subst (λ (v : Window). Stage MayAsk c d w l l os [] step.packet v) (sym same)
@@ -357,7 +450,7 @@ module _ (MayAsk : Type 0) (c d : Settings) (joined : AreJoined c d) (reads : Re
       → Kept (record { near = l.near; far = l.far; out = l.out; back = gs }) → IsReached c.window d.window (record { near = l.near; far = l.far; out = l.out; back = gs })
       → ShowAll (numbered_on (other c.role) c.longest os) gs → AreOrderly MayAsk (other c.role) c.longest os
       → AreParting MayAsk step.side.out → IsAway MayAsk step.side.near → step.packet ≡ None → NotesOnce MayAsk (after_step c w os [] step).near
-      → Holds MayAsk c d (after_step c w os [] step)
+      → Leads MayAsk c d w l gs (after_step c w os [] step)
   parts_joint w l h gs os step kept reached shows orderly parting away none notes = (
     record { near = l.near; far = l.far; out = l.out; back = gs },
     record {
@@ -381,6 +474,12 @@ module _ (MayAsk : Type 0) (c d : Settings) (joined : AreJoined c d) (reads : Re
       whole = whole_append d.longest ((w.near.down ++ []) ++ w.far.down) w.sent step.side.out
           (whole_more d.longest (w.near.down ++ w.far.down) ((w.near.down ++ []) ++ w.far.down) (first_more w.near.down w.far.down []) w.sent h.whole)
           (parting_whole MayAsk d.longest ((w.near.down ++ []) ++ w.far.down) step.side.out parting);
+    },
+    record {
+      near = sym (counted_off c.window step.side.near l.near (away_is_not_up MayAsk step.side.near.phase away.away));
+      far = refl;
+      out = none_put l l.near.acked (length l.near.taken) (numbered_on c.role c.longest (not_taken w.out (w.out ++ map (spelling_of c.role) step.side.out))) (parting_put w.out step.side.out parting);
+      back = refl;
     },
   )
 
@@ -420,7 +519,7 @@ module _ (MayAsk : Type 0) (c d : Settings) (joined : AreJoined c d) (reads : Re
 
   pub ends_joint : (w : Stations) (l : Line (List ℕ)) → Joint MayAsk c d w l → is_up w.near.station.phase ≡ true → (os : List (List ℕ)) (step : Step) (reason : Reason) → Leaves reason
       → ShowAll (numbered_on (other c.role) c.longest os) l.back → AreOrderly MayAsk (other c.role) c.longest os
-      → Tells w.near.station step → Ends reason step → Holds MayAsk c d (after_step c w os [] step)
+      → Tells w.near.station step → Ends reason step → Leads MayAsk c d w l l.back (after_step c w os [] step)
   ends_joint w l h up os step reason leaves shows orderly tells ends =
       let away = last_away reason step.side.near.phase leaves ends.phase in
       let off = away_is_not_up MayAsk step.side.near.phase away in
@@ -435,7 +534,7 @@ module _ (MayAsk : Type 0) (c d : Settings) (joined : AreJoined c d) (reads : Re
       → Follows (if_valid nr (window_of c.window w.near.station)) c.window (receives f) w.near.station step
       → ((packet : Option (List ℕ)) → after_input (receives f) packet (window_of c.window w.near.station) ≡ after (window_of c.window w.near.station) (Hear nr))
       → ((y : List ℕ) → MayHandUp (receives f) (Some y) (window_of c.window w.near.station) → ⊥)
-      → Holds MayAsk c d (after_step c w os [] step)
+      → Leads MayAsk c d w l (remove l.back 0) (after_step c w os [] step)
   told_joint w l h u os f nr step orderly front number follows hears never =
       numbered_joint w l h u os f nr step front number follows
       (λ packet up. subst (λ (v : Window). Stage MayAsk c d w l (come l (is_some packet) front.frame front.others) os [] packet v) (sym (hears packet)) (stage packet (no_packet_of (receives f) packet (window_of c.window w.near.station) never up)))
@@ -446,7 +545,7 @@ module _ (MayAsk : Type 0) (c d : Settings) (joined : AreJoined c d) (reads : Re
   pub read_joint : (w : Stations) (l : Line (List ℕ)) → Joint MayAsk c d w l → AsUp c w.near.station l.near → (r : Result PlainFrame FrameError) (os : List (List ℕ)) (step : Step)
       → IsOrderly ⊥ r → AreOrderly MayAsk (other c.role) c.longest os → ShowAll (consed (number_in r) (numbered_on (other c.role) c.longest os)) l.back
       → Tells w.near.station step → Follows (ending_of r (window_of c.window w.near.station)) c.window (brought_by r) w.near.station step
-      → Holds MayAsk c d (after_step c w os [] step)
+      → Leads MayAsk c d w l (taken_out (first_of (number_in r)) l.back) (after_step c w os [] step)
   read_joint w l h u (Ok (info ns nr p x)) os step good orderly shows tells follows =
       let front = front_of (info ns nr p x) (numbered_on (other c.role) c.longest os) l.back shows in
       numbered_joint w l h u os (info ns nr p x) nr step front front.shows.1 follows (info_stage w l h u os orderly front.frame front.others front.is front.rest_shows ns nr p x front.shows)
@@ -475,18 +574,19 @@ module _ (MayAsk : Type 0) (c d : Settings) (joined : AreJoined c d) (reads : Re
 
   pub away_joint : (w : Stations) (l : Line (List ℕ)) → Joint MayAsk c d w l → (m : Option PlainFrame) (os : List (List ℕ)) (step : Step) → AreOrderly MayAsk (other c.role) c.longest os
       → ShowAll (consed m (numbered_on (other c.role) c.longest os)) l.back → AreParting MayAsk step.side.out → IsAway MayAsk step.side.near → step.packet ≡ None → IsQuiet step
-      → is_up w.near.station.phase ≡ false → Holds MayAsk c d (after_step c w os [] step)
+      → is_up w.near.station.phase ≡ false → Leads MayAsk c d w l (taken_out (first_of m) l.back) (after_step c w os [] step)
   away_joint w l h None os step orderly shows parting away none quiet was_away =
       parts_joint w l h l.back os step h.kept h.reached shows orderly parting away none
       (quiet_notes MayAsk c w os [] step h.near_notes quiet (away_is_not_up MayAsk step.side.near.phase away.away ∙ sym was_away))
   away_joint w l h (Some f) os step orderly shows parting away none quiet was_away =
       let front = front_of f (numbered_on (other c.role) c.longest os) l.back shows in
       let left : (List (Frame (List ℕ))) → Line (List ℕ) = λ bs. record { near = l.near; far = l.far; out = l.out; back = remove bs 0 } in
-      parts_joint w l h front.others os step
+      subst (λ (gone : List (Frame (List ℕ))). Leads MayAsk c d w l gone (after_step c w os [] step)) (sym (ap (λ (bs : List (Frame (List ℕ))). remove bs 0) front.is))
+      (parts_joint w l h front.others os step
       (subst (λ (bs : List (Frame (List ℕ))). Kept (left bs)) front.is (Kept-moved (Loses 0) l tt h.kept))
       (subst (λ (bs : List (Frame (List ℕ))). IsReached c.window d.window (left bs)) front.is (near_moves l (Loses 0) h.reached tt))
       front.rest_shows orderly parting away none
-      (quiet_notes MayAsk c w os [] step h.near_notes quiet (away_is_not_up MayAsk step.side.near.phase away.away ∙ sym was_away))
+      (quiet_notes MayAsk c w os [] step h.near_notes quiet (away_is_not_up MayAsk step.side.near.phase away.away ∙ sym was_away)))
 
   pub declining_parting : (fs : List PlainFrame) → AreDeclining fs → AreParting MayAsk fs
   declining_parting [] h = tt

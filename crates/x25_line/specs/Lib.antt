@@ -2,6 +2,7 @@ pub mod Line
 pub mod InWindow
 pub mod Stations
 pub mod StationClaims
+pub mod WholeNumbers
 pub mod StationRows
 pub mod Sessions
 pub mod SessionClaims

@@ -1,5 +1,6 @@
 //! Two link stations over a line, as laws about their definition. Each is the contract of a function that does nothing.
-ghost use Rattle.x25_line.specs.StationClaims.{Always, BothInOrder, BothHaveTheirLists, BothNoteTheirEnds, AreInWindow, NoFrmrSent, AllSentAreWhole, OneLinkUnlessConnected, EachEventHandsOne};
+ghost use Rattle.x25_line.specs.StationClaims.{Always, BothInOrder, BothHaveTheirLists, BothNoteTheirEnds, NoFrmrSent, AllSentAreWhole, OneLinkUnlessConnected, EachEventHandsOne};
+ghost use Rattle.x25_line.specs.WholeNumbers.{MachineGoesAlong, OnceStaysOnce};
 ghost use Rattle.x25_line.specs.SessionClaims.{Throughout, MeetInStep, MetAreInOrder, UnmetHandNothingUp, OnlyBegunHaveLists, EachUpStands, EachHearsLatest, EachMeetsLatest, IdleHasArrived, NoSessionSendsFrmr, AllSessionsSendWhole, SessionsAreStations, SetUpIsTheStart};
 ghost use Rattle.x25_line.specs.SessionEvents.{EachEventHandsInSession, EachEventMeetsLatest};
 ghost use Rattle.x25_line.specs.SessionRows.{SetsUpFromNothing, SetsUpAgain, UntimelyIsOutOfStep};
@@ -13,7 +14,8 @@ use x25_link::{follows_the_window, notes_what_changes, sets_up_by_rows};
 /// them, as long as the link isn't set up anew, by which an end notes LinkUp.
 ///
 /// What one end handed up is a beginning of what the other was handed down, and the same where the giver is idle. What an
-/// end counts as acknowledged was handed up. The window holds all along, and no FRMR is ever sent. Each frame ever sent may be
+/// end counts as acknowledged was handed up. The window machine that goes on from event to event is behind each moment, in which a frame on
+/// the line keeps the whole numbers that it was given as it was put, and its window holds all along. No FRMR is ever sent. Each frame ever sent may be
 /// spelled, and the packet of an I frame is one that was handed down. An end that left Up noted why, and then each time that it
 /// asked for set-up in vain. Where no Connect is accepted (`once`), the link is never set up anew, and an end notes one LinkDown
 /// at most.
@@ -21,10 +23,11 @@ pub fn stations_keep_order()
     ensures order { Always BothInOrder }
     ensures lists { Always BothHaveTheirLists }
     ensures notes { Always BothNoteTheirEnds }
-    ensures window { Always AreInWindow }
+    ensures window { MachineGoesAlong }
     ensures no_frmr { Always NoFrmrSent }
     ensures whole { Always AllSentAreWhole }
     ensures once { OneLinkUnlessConnected }
+    ensures before { OnceStaysOnce }
 {
     follows_the_window();
     sets_up_by_rows();

@@ -17,7 +17,7 @@ use Rattle.x25_io.specs.Lines.{lines_of}
 use Rattle.x25_world.specs.World.{World, OnTap, AtEnd, swapped, Act, Commands, Receives, Fires, Loses, Damages, Event, WorldOutcome, Happened, Declined, of_station, delivered, on_line, is_on_line, acts, swapped_back, acts_at, happens, refusal_of, after, run, AreAccepted, start, connected, established}
 use Rattle.x25_world.specs.declared.error.WorldError.{WorldError}
 use Rattle.x25_world.specs.Claims.{ActsInOctets, AreInOctets, IsUpOnce, IsUpAtMostOnce, IsBeginning, IsNoConnect, NoneConnects, UpOnceUnlessConnected, Always, UntilSecondUp}
-use Rattle.x25_world.specs.SessionClaims.{Throughout}
+use Rattle.x25_world.specs.SessionClaims.{Throughout, ThroughoutAlong}
 use Rattle.x25_sim.specs.Sayings.{Saying, enters, taps, reads_nothing, refuses}
 use Rattle.x25_console.specs.Commands.{command_asked}
 use Rattle.x25_io.specs.HeldLine.{most_line}
@@ -338,13 +338,19 @@ pub of_script : (Holds : Cfg → World → Type 0) → UntilSecondUp Holds → S
 of_script Holds until runs = λ cfg range down tap script once. let r = runs cfg down tap script in
     subst (Holds cfg) (sym r.next) (until cfg range (begins cfg down) (begins_there cfg down) r.events r.octets (subst (IsUpAtMostOnce cfg) r.next once))
 
-pub of_script_set_up : (Holds : Cfg → World → Type 0) → Always Holds → ScriptsAreRuns → OfScriptsSetUp Holds
+pub of_script_set_up : (Holds : Cfg → List Event → World → Type 0) → Always Holds → ScriptsAreRuns
+    → OfScriptsSetUp (λ (cfg : Cfg) (w : World). (events : List Event) × (run cfg events (established cfg) ≡ w) × Holds cfg events w)
 of_script_set_up Holds always runs = λ cfg range tap script once. let r = runs cfg false tap script in
-    subst (Holds cfg) (sym r.next) (always cfg range r.events r.octets (subst (IsUpOnce cfg) r.next once))
+    (r.events, sym r.next, subst (Holds cfg r.events) (sym r.next) (always cfg range r.events r.octets (subst (IsUpOnce cfg) r.next once)))
 
 pub of_all_scripts : (Holds : Cfg → World → Type 0) → Throughout Holds → ScriptsAreRuns → OfAllScripts Holds
 of_all_scripts Holds throughout runs = λ cfg range down tap script. let r = runs cfg down tap script in
     subst (Holds cfg) (sym r.next) (throughout cfg range (begins cfg down) (begins_there cfg down) r.events r.octets)
+
+pub of_all_runs : (Holds : Cfg → World → List Event → World → Type 0) → ThroughoutAlong Holds → ScriptsAreRuns
+    → OfAllScripts (λ (cfg : Cfg) (w : World). (begin : World) × IsBeginning cfg begin × (events : List Event) × (run cfg events begin ≡ w) × Holds cfg begin events w)
+of_all_runs Holds throughout runs = λ cfg range down tap script. let r = runs cfg down tap script in
+    (begins cfg down, begins_there cfg down, r.events, sym r.next, subst (Holds cfg (begins cfg down) r.events) (sym r.next) (throughout cfg range (begins cfg down) (begins_there cfg down) r.events r.octets))
 
 pub up_once : UpOnceUnlessConnected → ScriptsAreRuns → UpOnceUnlessAsked
 up_once once runs = λ cfg range tap script none. let r = runs cfg false tap script in

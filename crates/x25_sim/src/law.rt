@@ -1,6 +1,7 @@
 //! What the simulator writes is a run, and what holds of it, as laws about the definition: each is the contract of a function that
 //! does nothing.
-ghost use Rattle.x25_world.specs.Claims.{ArrivesAll, HasNoProcedureError, IsInWindow, IsLawful, IsNamed};
+ghost use Rattle.x25_world.specs.Claims.{ArrivesAll, HasNoProcedureError, IsLawful, IsNamed};
+ghost use Rattle.x25_world.specs.WindowGoes.{IsInWindow};
 ghost use Rattle.x25_world.specs.SessionClaims.{AllArrive, AreLawfulWhereMet, AreNamedInSessions, MeetInStep, OpenStretchesMeet, UnmetAreToldNothing};
 ghost use Rattle.x25_world.specs.SessionWindow.{UpIsInWindow};
 ghost use Rattle.x25_sim.specs.RunLaw.{OfAllScripts, OfScripts, OfScriptsSetUp, ScriptsAreRuns, ScriptsAreTapped, ScriptsAreTold, UpOnceUnlessAsked};

@@ -6,7 +6,8 @@ ghost use Rattle.x25_station.specs.Settings.{config_refusal};
 ghost use Rattle.x25_sim.specs.Simulated.{simulated, sim_status, sim_text};
 ghost use Rattle.x25_sim.specs.Stream.{WritesEnded};
 ghost use Rattle.x25_sim.specs.WritesRun.{Writes, WritesOnce, WritesSetUp};
-ghost use Rattle.x25_world.specs.Claims.{ArrivesAll, HasNoProcedureError, IsInWindow, IsLawful, IsNamed};
+ghost use Rattle.x25_world.specs.Claims.{ArrivesAll, HasNoProcedureError, IsLawful, IsNamed};
+ghost use Rattle.x25_world.specs.WindowGoes.{IsInWindow};
 ghost use Rattle.x25_world.specs.SessionClaims.{SessionsKeepOrder};
 
 use crate::law::{scripts_keep_order, scripts_meet_in_sessions};

@@ -23,15 +23,12 @@ use Rattle.x25_station.specs.Steps.{Step, follows, receives}
 use Rattle.x25_station.specs.KeepLaw.{IsKept}
 use Rattle.x25_world.specs.World.{World, swapped, entered, after_step, delivered, after, Event, Receives, happens, refusal_of, AreAccepted, connected, established}
 use Rattle.x25_world.specs.Claims.{link_of}
+use Rattle.x25_world.specs.WindowGoes.{restart_of, two_links}
 use Rattle.x25_world.proofs.SessionTrace.{layer_of}
 use Rattle.x25_world.proofs.Known.{Laws}
 use Rattle.x25_world.proofs.SessionLinks.{puts_up}
 
 -- ---- an end that comes up
-
--- the RESTART of an end
-abbrev restart_of : Role → List ℕ
-restart_of end = packet.spelling_of (restart (restart_cause end) 0)
 
 -- the link's step as RESTART is put
 abbrev restarted : Cfg → Role → LinkStep
@@ -102,12 +99,6 @@ abbrev at_dte : Cfg → List (List ℕ) → World
 at_dte cfg back = after_step (settings_from Dte cfg) (at_dce cfg) back (dte_step cfg)
 
 -- ---- two stations from a link just set up: each is handed RESTART
-
-abbrev pub both_put : List line.Event
-both_put = line.Far (line.Put (restart_of Dce)) ∷ line.Near (line.Put (restart_of Dte)) ∷ []
-
-abbrev pub two_links : Cfg → line.Stations
-two_links cfg = line.run (link_of cfg Dte) (link_of cfg Dce) both_put line.start
 
 -- a world with these stations and lines, whose ends have told of LinkUp alone
 pub record IsJustSetUp (cfg : Cfg) (w : World) : Type 0 where

@@ -1,13 +1,14 @@
 -- After each list of events by which the link isn't set up anew the claims hold, as they do on its sessions.
 use Rattle.std.proofs.Common.{◌≡◌, List, true, false, None}
 use Rattle.x25_bits.specs.declared.role.Role.TheVariants.{Dte}
-use Rattle.x25_line.specs.StationClaims as links
-use Rattle.x25_line.specs.StationClaims.{OneLinkUnlessConnected, AreInWindow}
+use Rattle.x25_line.specs.StationClaims.{OneLinkUnlessConnected}
+use Rattle.x25_line.specs.WholeNumbers.{MachineGoesAlong, OnceStaysOnce}
 use Rattle.x25_station.specs.declared.config.Cfg.{Cfg}
 use Rattle.x25_station.specs.Settings.{config_refusal}
 use Rattle.x25_station.specs.KeepLaw.{ConnectKeeps}
 use Rattle.x25_world.specs.World.{Event, run, established}
-use Rattle.x25_world.specs.Claims.{Always, UntilSecondUp, AreInOctets, UpOnceUnlessConnected, IsSetUp, IsLawful, IsNamed, ArrivesAll, HasNoProcedureError, IsInWindow}
+use Rattle.x25_world.specs.Claims.{Always, UntilSecondUp, AreInOctets, UpOnceUnlessConnected, IsSetUp, IsLawful, IsNamed, ArrivesAll, HasNoProcedureError}
+use Rattle.x25_world.specs.WindowGoes.{StaysInWindow}
 use Rattle.x25_world.proofs.Known.{is_configured}
 use Rattle.x25_world.proofs.Established.{set_up_accepted}
 use Rattle.x25_world.proofs.SessionReaches.{set_up}
@@ -15,15 +16,10 @@ use Rattle.x25_world.proofs.SessionJoined.{SessionsJoined}
 use Rattle.x25_world.proofs.SessionKnown.{SessionLaws}
 use Rattle.x25_world.proofs.SessionRuns.{set_up_throughout, throughout_joined}
 use Rattle.x25_world.proofs.SessionQuiet.{has_no_error}
-use Rattle.x25_world.proofs.SetUpOnce.{lawful_once, named_once, arrives_once, in_window, is_up_once}
+use Rattle.x25_world.proofs.SetUpOnce.{lawful_once, named_once, arrives_once, is_up_once}
+use Rattle.x25_world.proofs.WindowRuns.{stays_in_window}
 
 module _ (laws : SessionLaws) (keeps : ConnectKeeps) where
-  joined : (cfg : Cfg) → config_refusal cfg ≡ None → (events : List Event) → AreInOctets events → SessionsJoined (set_up true) cfg Dte (run cfg events (established cfg))
-  joined cfg fine events octets = set_up_throughout laws keeps true cfg fine events octets (λ off. absurd (never off))
-    where
-      never : set_up true ≡ set_up false → ⊥
-      never e = cc
-
   pub is_set_up : IsSetUp
   is_set_up cfg = set_up_accepted laws.stations cfg
 
@@ -39,8 +35,8 @@ module _ (laws : SessionLaws) (keeps : ConnectKeeps) where
   pub always_quiet : UntilSecondUp HasNoProcedureError
   always_quiet cfg fine begin which events octets once = has_no_error laws cfg (is_configured cfg fine) (run cfg events begin) (throughout_joined laws keeps cfg fine begin which events octets)
 
-  pub always_in_window : links.Always AreInWindow → Always IsInWindow
-  always_in_window law cfg fine events octets once = in_window laws cfg (is_configured cfg fine) (run cfg events (established cfg)) (joined cfg fine events octets) once law
+  pub always_in_window : MachineGoesAlong → OnceStaysOnce → Always StaysInWindow
+  always_in_window goes before cfg fine events octets once = stays_in_window laws keeps goes before cfg (is_configured cfg fine) events octets once
 
   pub up_once : OneLinkUnlessConnected → UpOnceUnlessConnected
   up_once law cfg fine events octets none =

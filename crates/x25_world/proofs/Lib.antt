@@ -23,6 +23,7 @@ pub mod SessionNamed
 pub mod SessionArrives
 pub mod SessionQuiet
 pub mod SetUpOnce
+pub mod WindowRuns
 pub mod SessionHeadline
 pub mod RowLemmas
 pub mod OnLineLemmas

@@ -97,7 +97,7 @@ module _ (c : LinkSettings) (v : Sessions) (s : line.Stations) (h : AreAlike v s
       subst (λ (x : LinkStation). AreAlike (links.delivered c (e ∷ es) v) (line.after_step c s (octets_of es) [] (take_step c e.octets x))) (sym h.near.station)
       (step_alike es (octets_of es) _ [] (take_step c e.octets v.near.station) refl)
 
-  acts_alike : (act : line.Act) → AreAlike (links.acts c act v) (line.acts c act s)
+  pub acts_alike : (act : line.Act) → AreAlike (links.acts c act v) (line.acts c act s)
   acts_alike (line.Put packet) = if_alike (nat_le (length packet) c.longest) _ v _ s (unless_alike put_refusal (packet ∷ []) (put_step c packet)) h
   acts_alike line.Deliver = subst (λ (os : List (List ℕ)). AreAlike (links.delivered c v.back v) (line.delivered c os s)) (sym h.back) (delivered_alike v.back)
   acts_alike line.T1 = unless_alike timer_refusal [] (timer_step c)

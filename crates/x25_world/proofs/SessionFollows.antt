@@ -9,6 +9,7 @@ use Rattle.x25_link.specs.declared.phase.Notes.{Notes}
 use Rattle.x25_link.specs.Station.{Station as LinkStation, is_up}
 use Rattle.x25_link.specs.MustSend.{Step as LinkStep}
 use Rattle.x25_link.specs.NoteLaw.{IsQuiet, Tells}
+use Rattle.x25_line.specs.Stations as line
 use Rattle.x25_line.specs.Sessions.{Sessions}
 use Rattle.x25_line.specs.SessionClaims.{octets_of, OnlyBegunHaveLists}
 use Rattle.x25_layer.specs.Layer.{rested, restart_cause, goes_up}
@@ -27,7 +28,7 @@ use Rattle.x25_world.specs.Claims.{link_of}
 use Rattle.x25_world.specs.Sessions.{Progress, is_in, entry_if}
 use Rattle.x25_world.proofs.Known.{IsConfigured, true_false}
 use Rattle.x25_world.proofs.SessionTrace.{layer_of, own, TakeNothing}
-use Rattle.x25_world.proofs.SessionReaches.{Beginning, SessionsReach, known_sessions}
+use Rattle.x25_world.proofs.SessionReaches.{Beginning, MayAsk, SessionsReach, known_sessions}
 use Rattle.x25_world.proofs.SessionJoined.{HasMet, PairsAreInOrder, SessionsJoined}
 use Rattle.x25_world.proofs.SessionKnown.{SessionLaws, nothing_in_order, own_readable}
 use Rattle.x25_world.proofs.SessionLinks.{SessionGoes, puts_go, puts_up}
@@ -171,14 +172,14 @@ module _ {since : Beginning} (laws : SessionLaws) (cfg : Cfg) (fine : IsConfigur
       (own_readable laws cfg fine end n m h.trace
       (nothing_in_order cfg end h.trace n m (subst TakeNothing (sym (h.near.later n (omega arith)).moves) tt) (subst TakeNothing (sym (h.far.later m (omega arith)).moves) tt)) h.octets)
 
-  pub follows_up : k.notes.up ≡ true → GoesTo (suc h.links.near.begun) → IsKept (follows (settings_from end cfg) w.near.layer k).near
+  pub follows_up : ((octets : List ℕ) → MayAsk since end (line.Put octets)) → k.notes.up ≡ true → GoesTo (suc h.links.near.begun) → IsKept (follows (settings_from end cfg) w.near.layer k).near
       → SessionsJoined since cfg end (after_step (settings_from end cfg) w back (follows (settings_from end cfg) w.near.layer k))
-  follows_up up g kept =
+  follows_up asks up g kept =
       let c = link_of cfg end in
       let step : Step = follows (settings_from end cfg) w.near.layer k in
       let u = laws.stations.up (settings_from end cfg) w.near.layer k up (tells.fresh_up up) in
       let packets : List PlainPacket = restart (restart_cause end) 0 ∷ [] in
-      let r = puts_go cfg end h.links v (suc h.links.near.begun) packets k.side [] [] back v.met reach g u.link.accepted restart_readable in
+      let r = puts_go cfg end h.links v (suc h.links.near.begun) packets k.side [] [] back v.met asks reach g u.link.accepted restart_readable in
       let still : is_up step.near.link.phase ≡ true = ap (λ (s : LinkStation). is_up s.phase) u.link.link ∙ puts_up laws.stations.put_tells c packets k.side (ap (λ (s : LinkStation). is_up s.phase) (tells.fresh_up up)) in
       let begins : Begins h.links.near.begun standing step.entries =
       subst (λ (es : List StationEntry). Begins h.links.near.begun standing es) (sym (u.entries ∙ ap (λ (b : Bool). entries_noted (record { down = k.notes.down; up = b })) up)) (up_begins standing k.notes.down) in

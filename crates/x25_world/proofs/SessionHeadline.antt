@@ -1,16 +1,9 @@
 -- After each list of events, over set-up and re-set-up, the claims on sessions hold.
-use Rattle.x25_bits.specs.declared.role.Role.TheVariants.{Dte}
-use Rattle.x25_line.specs.SessionClaims as line
-use Rattle.x25_line.specs.SessionClaims.{EachUpStands}
-use Rattle.x25_station.specs.declared.config.Cfg.{Cfg}
 use Rattle.x25_station.specs.KeepLaw.{ConnectKeeps}
-use Rattle.x25_world.specs.World.{World, run}
+use Rattle.x25_world.specs.World.{run}
 use Rattle.x25_world.specs.Claims.{HasNoProcedureError}
 use Rattle.x25_world.specs.SessionClaims.{Throughout, MeetInStep, AreLawfulWhereMet, AreNamedInSessions, UnmetAreToldNothing, OpenStretchesMeet, AllArrive}
-use Rattle.x25_world.specs.SessionWindow.{UpIsInWindow}
-use Rattle.x25_world.proofs.Known.{IsConfigured, is_configured}
-use Rattle.x25_world.proofs.SessionReaches.{Beginning, known_sessions}
-use Rattle.x25_world.proofs.SessionJoined.{SessionsJoined}
+use Rattle.x25_world.proofs.Known.{is_configured}
 use Rattle.x25_world.proofs.SessionKnown.{SessionLaws}
 use Rattle.x25_world.proofs.SessionMeets.{meet_in_step}
 use Rattle.x25_world.proofs.SessionLawful.{are_lawful, unmet_told_nothing}
@@ -18,14 +11,6 @@ use Rattle.x25_world.proofs.SessionNamed.{are_named}
 use Rattle.x25_world.proofs.SessionArrives.{open_stretches_meet, all_arrive}
 use Rattle.x25_world.proofs.SessionQuiet.{has_no_error}
 use Rattle.x25_world.proofs.SessionRuns.{throughout_joined}
-
--- the links of such a world, with what holds of them
-up_in_window : {since : Beginning} → line.Throughout EachUpStands → (cfg : Cfg) → IsConfigured cfg → (w : World) → SessionsJoined since cfg Dte w → UpIsInWindow cfg w
-up_in_window law cfg fine w h = (
-  h.links,
-  record { events = h.reach.events; timely = h.reach.timely; run = h.reach.run; near = h.near.link; far = h.far.link; out = h.out; back = h.back },
-  known_sessions EachUpStands law cfg fine Dte h.links h.reach,
-)
 
 module _ (laws : SessionLaws) (keeps : ConnectKeeps) where
   pub throughout_in_step : Throughout MeetInStep
@@ -48,6 +33,3 @@ module _ (laws : SessionLaws) (keeps : ConnectKeeps) where
 
   pub throughout_quiet : Throughout HasNoProcedureError
   throughout_quiet cfg fine begin which events octets = has_no_error laws cfg (is_configured cfg fine) (run cfg events begin) (throughout_joined laws keeps cfg fine begin which events octets)
-
-  pub throughout_in_window : line.Throughout EachUpStands → Throughout UpIsInWindow
-  throughout_in_window law cfg fine begin which events octets = up_in_window law cfg (is_configured cfg fine) (run cfg events begin) (throughout_joined laws keeps cfg fine begin which events octets)

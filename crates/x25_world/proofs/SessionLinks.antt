@@ -21,7 +21,7 @@ use Rattle.x25_station.specs.ReadLaw.{AreReadable}
 use Rattle.x25_world.specs.Claims.{link_of}
 use Rattle.x25_world.proofs.Growing.{spelled}
 use Rattle.x25_world.proofs.OneLink.{octets_append, octets_sent}
-use Rattle.x25_world.proofs.SessionReaches.{Beginning, SessionsReach, sessions_act}
+use Rattle.x25_world.proofs.SessionReaches.{Beginning, SessionsReach, MayAsk, sessions_act}
 use Rattle.x25_link.specs.NoteLaw.{PutTells}
 
 -- The near link goes to this one in this session, and puts these frames; it was handed down and hands up these packets in it, and
@@ -116,18 +116,18 @@ pub record PutsGo (since : Beginning) (cfg : Cfg) (end : Role) (v : Sessions) (s
   pub goes : SessionGoes (link_of cfg end) v links session (all_put (link_of cfg end) packets t).near (all_put (link_of cfg end) packets t).out handed lifted left met
 
 pub puts_go : {since : Beginning} (cfg : Cfg) (end : Role) (v v₁ : Sessions) (session : ℕ) (packets : List PlainPacket) (t : Side) (down up back : List (List ℕ)) (met : List Meeting)
-    → SessionsReach since cfg end v₁ → SessionGoes (link_of cfg end) v v₁ session t.near t.out down up back met → AreAccepted (link_of cfg end) packets t → AreReadable cfg.long_data packets
+    → ((octets : List ℕ) → MayAsk since end (line.Put octets)) → SessionsReach since cfg end v₁ → SessionGoes (link_of cfg end) v v₁ session t.near t.out down up back met → AreAccepted (link_of cfg end) packets t → AreReadable cfg.long_data packets
     → PutsGo since cfg end v session packets t (down ++ spelled packets) up back met
-puts_go cfg end v v₁ session [] t down up back met reach g ok readable = record {
+puts_go cfg end v v₁ session [] t down up back met asks reach g ok readable = record {
   links = v₁;
   reach = reach;
   goes = subst (λ (d : List (List ℕ)). SessionGoes (link_of cfg end) v v₁ session t.near t.out d up back met) (sym (append-nil down)) g;
 }
-puts_go {since} cfg end v v₁ session (p ∷ packets) t down up back met reach g ok readable =
+puts_go {since} cfg end v v₁ session (p ∷ packets) t down up back met asks reach g ok readable =
     let c : LinkSettings = link_of cfg end in
     let o : List ℕ = packet.spelling_of p in
     subst (λ (d : List (List ℕ)). PutsGo since cfg end v session (p ∷ packets) t d up back met) (append_assoc down (o ∷ []) (spelled packets))
-    (more (puts_go cfg end v (links.acts c (line.Put o) v₁) session packets (put_on c p t) (down ++ o ∷ []) up back met (sessions_act cfg end (line.Put o) v₁ tt (λ off s same. tt) reach)
+    (more (puts_go cfg end v (links.acts c (line.Put o) v₁) session packets (put_on c p t) (down ++ o ∷ []) up back met asks (sessions_act cfg end (line.Put o) v₁ tt (λ off s same. tt) (asks o) reach)
     (put_goes c v v₁ session t down up back met p readable.0.short ok.0 g) ok.1 readable.1))
   where
     more : PutsGo since cfg end v session packets (put_on (link_of cfg end) p t) ((down ++ packet.spelling_of p ∷ []) ++ spelled packets) up back met

@@ -10,7 +10,9 @@ use Rattle.x25_line.specs.Sessions as links
 use Rattle.x25_line.specs.Sessions.{Meeting, Sessions, turned, from_nothing, IsTimely, IsTimelyAt, AreTimely}
 use Rattle.x25_line.specs.SessionClaims.{Throughout}
 use Rattle.x25_station.specs.declared.config.Cfg.{Cfg}
+use Rattle.x25_world.specs.World.{Act, Event}
 use Rattle.x25_world.specs.Claims.{link_of}
+use Rattle.x25_world.specs.WindowGoes.{Asks, AsksAll, at_end, all_at}
 use Rattle.x25_world.proofs.Known.{IsConfigured}
 use Rattle.x25_world.proofs.OneLink.{OneLink, one_turned, one_acts}
 
@@ -52,10 +54,22 @@ timely_flipped c d (e ∷ es) w h = (
 
 -- ---- as an end sees them
 
--- How a run began: with both links down; or with a link just set up, where, if `asks` is false, none of the two has asked for set-up since.
+-- How a run began: with both links down; or with a link just set up, where, if `asks` is false, none of the two has asked for set-up since; or
+-- with these links, of which all that follows belongs to this event.
 pub data Beginning : Type 0 where
   both_down : Beginning
   set_up : (asks : Bool) → Beginning
+  at_event : (before : Sessions) (e : Event) → Beginning
+
+abbrev seen_from : Role → Sessions → Sessions
+seen_from Dte v = v
+seen_from Dce v = links.swapped v
+
+-- what the end of the event has asked so far
+pub record Grown (cfg : Cfg) (e : Event) (end : Role) (before v : Sessions) : Type 0 where
+  pub asked : List line.Act
+  pub may : AsksAll e.act asked
+  pub run : links.run (link_of cfg Dte) (link_of cfg Dce) (all_at e.at asked) before ≡ seen_from end v
 
 -- From a link just set up it is a run of two stations too.
 pub record SessionsReach (since : Beginning) (cfg : Cfg) (end : Role) (v : Sessions) : Type 0 where
@@ -63,6 +77,7 @@ pub record SessionsReach (since : Beginning) (cfg : Cfg) (end : Role) (v : Sessi
   pub timely : AreTimely (link_of cfg end) (link_of cfg (other end)) events from_nothing
   pub run : links.run (link_of cfg end) (link_of cfg (other end)) events from_nothing ≡ v
   pub one_link : (asks : Bool) → since ≡ set_up asks → OneLink asks cfg end v
+  pub grown : (before : Sessions) (e : Event) → since ≡ at_event before e → Grown cfg e end before v
 
 pub reach_swapped : {since : Beginning} (cfg : Cfg) (end : Role) (v : Sessions) → SessionsReach since cfg end v → SessionsReach since cfg (other end) (links.swapped v)
 reach_swapped cfg Dte v h = record {
@@ -70,12 +85,14 @@ reach_swapped cfg Dte v h = record {
   timely = timely_flipped (link_of cfg Dte) (link_of cfg Dce) h.events from_nothing h.timely;
   run = run_flipped (link_of cfg Dte) (link_of cfg Dce) h.events from_nothing ∙ ap links.swapped h.run;
   one_link = λ asks is. one_turned asks cfg Dte v (h.one_link asks is);
+  grown = λ before e is. (let g = h.grown before e is in record { asked = g.asked; may = g.may; run = g.run ∙ sym (twice v) });
 }
 reach_swapped cfg Dce v h = record {
   events = all_flipped h.events;
   timely = timely_flipped (link_of cfg Dce) (link_of cfg Dte) h.events from_nothing h.timely;
   run = run_flipped (link_of cfg Dce) (link_of cfg Dte) h.events from_nothing ∙ ap links.swapped h.run;
   one_link = λ asks is. one_turned asks cfg Dce v (h.one_link asks is);
+  grown = λ before e is. (let g = h.grown before e is in record { asked = g.asked; may = g.may; run = g.run });
 }
 
 run_more : (c d : LinkSettings) (es : List line.Event) (e : line.Event) (v : Sessions) → links.run c d (es ++ e ∷ []) v ≡ links.happens c d e (links.run c d es v)
@@ -90,10 +107,50 @@ timely_more c d (x ∷ es) e v h g = (h.0, timely_more c d es e (links.happens c
 abbrev pub MayAct : Beginning → line.Act → Sessions → Type 0
 MayAct since act v = since ≡ set_up false → (s : line.Stations) → s.near.station ≡ v.near.station → AcceptsNoConnect act s
 
+-- within an event the act is one that its end may ask for
+abbrev pub MayAsk : Beginning → Role → line.Act → Type 0
+MayAsk since end asked = (before : Sessions) (e : Event) → since ≡ at_event before e → (e.at ≡ end) × Asks e.act asked
+
+-- within an event, it is this one
+abbrev pub IsAt : Beginning → Role → Act → Type 0
+IsAt since end act = (before : Sessions) (e : Event) → since ≡ at_event before e → e ≡ record { at = end; act = act }
+
+pub may_ask : {since : Beginning} (end : Role) (act : Act) (asked : line.Act) → IsAt since end act → Asks act asked → MayAsk since end asked
+may_ask end act asked is asks = λ before e same.
+    let k = is before e same in
+    (ap (λ (x : Event). x.at) k, subst (λ (x : Event). Asks x.act asked) (sym k) asks)
+
+all_more : (end : Role) (acts : List line.Act) (act : line.Act) → all_at end (acts ++ act ∷ []) ≡ all_at end acts ++ at_end end act ∷ []
+all_more end [] act = refl
+all_more end (x ∷ acts) act = ap (λ (es : List line.Event). at_end end x ∷ es) (all_more end acts act)
+
+asks_more : (what : Act) (acts : List line.Act) (act : line.Act) → AsksAll what acts → Asks what act → AsksAll what (acts ++ act ∷ [])
+asks_more what [] act h g = (g, tt)
+asks_more what (x ∷ acts) act h g = (h.0, asks_more what acts act h.1 g)
+
+seen_acts : (cfg : Cfg) (end : Role) (act : line.Act) (v : Sessions)
+    → links.happens (link_of cfg Dte) (link_of cfg Dce) (at_end end act) (seen_from end v) ≡ seen_from end (links.acts (link_of cfg end) act v)
+seen_acts cfg Dte act v = refl
+seen_acts cfg Dce act v = ap (λ (x : Sessions). links.swapped (links.acts (link_of cfg Dce) act x)) (twice v)
+
+grow : (cfg : Cfg) (end : Role) (act : line.Act) (v before : Sessions) (e : Event) → (e.at ≡ end) × Asks e.act act → Grown cfg e end before v → Grown cfg e end before (links.acts (link_of cfg end) act v)
+grow cfg end act v before e asks g =
+    let c = link_of cfg Dte in
+    let d = link_of cfg Dce in
+    record {
+      asked = g.asked ++ act ∷ [];
+      may = asks_more e.act g.asked act g.may asks.1;
+      run = ap (λ (es : List line.Event). links.run c d es before) (all_more e.at g.asked act)
+          ∙ run_more c d (all_at e.at g.asked) (at_end e.at act) before
+          ∙ ap (links.happens c d (at_end e.at act)) g.run
+          ∙ ap (λ (at : Role). links.happens c d (at_end at act) (seen_from end v)) asks.0
+          ∙ seen_acts cfg end act v;
+    }
+
 -- one act more of the end
-pub sessions_act : {since : Beginning} (cfg : Cfg) (end : Role) (act : line.Act) (v : Sessions) → IsTimely (link_of cfg end) (link_of cfg (other end)) act v → MayAct since act v → SessionsReach since cfg end v
+pub sessions_act : {since : Beginning} (cfg : Cfg) (end : Role) (act : line.Act) (v : Sessions) → IsTimely (link_of cfg end) (link_of cfg (other end)) act v → MayAct since act v → MayAsk since end act → SessionsReach since cfg end v
     → SessionsReach since cfg end (links.acts (link_of cfg end) act v)
-sessions_act cfg end act v timely may h =
+sessions_act cfg end act v timely may asks h =
     let c = link_of cfg end in
     let d = link_of cfg (other end) in
     record {
@@ -101,6 +158,7 @@ sessions_act cfg end act v timely may h =
       timely = timely_more c d h.events (line.Near act) from_nothing h.timely (subst (λ (x : Sessions). IsTimely c d act x) (sym h.run) timely);
       run = run_more c d h.events (line.Near act) from_nothing ∙ ap (λ (x : Sessions). links.acts c act x) h.run;
       one_link = λ asks is. one_acts asks cfg end act v (λ free. may (is ∙ ap set_up free)) (h.one_link asks is);
+      grown = λ before e is. grow cfg end act v before e (asks before e is) (h.grown before e is);
     }
 
 pub joined_at : (cfg : Cfg) (end : Role) → IsConfigured cfg → AreJoined (link_of cfg end) (link_of cfg (other end))

@@ -34,12 +34,12 @@ use Rattle.x25_station.specs.Steps.{Step, follows, abandons, receives}
 use Rattle.x25_station.specs.JoinLaw.{station_with, IsJoined}
 use Rattle.x25_station.specs.KeepLaw.{IsKept}
 use Rattle.x25_station.specs.ReadLaw.{AreReadable, IsReadable}
-use Rattle.x25_world.specs.World.{World, delivered, after, after_step}
+use Rattle.x25_world.specs.World.{World, Receives, delivered, after, after_step}
 use Rattle.x25_world.specs.Claims.{link_of}
 use Rattle.x25_world.proofs.Known.{IsConfigured, both_true, true_false}
 use Rattle.x25_world.proofs.Growing.{spelled}
 use Rattle.x25_world.proofs.SessionTrace.{layer_of, Done, moved, own, own_goes, events_of, pair_turned, nothing_goes}
-use Rattle.x25_world.proofs.SessionReaches.{Beginning, SessionsReach, known_sessions, sessions_act}
+use Rattle.x25_world.proofs.SessionReaches.{Beginning, SessionsReach, IsAt, may_ask, known_sessions, sessions_act}
 use Rattle.x25_world.proofs.SessionJoined.{HasMet, PairIsInOrder, PairsAreInOrder, SessionsJoined}
 use Rattle.x25_world.proofs.SessionKnown.{SessionLaws, all_no_earlier, met_in_order, pair_ends, here_in, here_is, there_is, pair_world, own_order, own_first, own_readable, nothing_in_order}
 use Rattle.x25_world.proofs.SessionEntries.{heard_plain}
@@ -114,7 +114,7 @@ next_at : (cfg : Cfg) (end : Role) (ends : Ends) (packet : PlainPacket) (channel
 next_at cfg Dte ends packet channels begins = (λ out. begins, nothing_goes cfg.long_data cfg.channels Dte (own_pulls channels) _ (pulls_take_nothing channels))
 next_at cfg Dce ends packet channels begins = (λ out. begins, nothing_goes cfg.long_data cfg.channels Dce (own_pulls channels) _ (pulls_take_nothing channels))
 
-module _ {since : Beginning} (laws : SessionLaws) (cfg : Cfg) (fine : IsConfigured cfg) (end : Role) (w : World) (h : SessionsJoined since cfg end w) where
+module _ {since : Beginning} (laws : SessionLaws) (cfg : Cfg) (fine : IsConfigured cfg) (end : Role) (w : World) (h : SessionsJoined since cfg end w) (is_at : IsAt since end Receives) where
   abbrev here : ℕ
   here = h.links.near.begun
 
@@ -188,7 +188,8 @@ module _ {since : Beginning} (laws : SessionLaws) (cfg : Cfg) (fine : IsConfigur
         (subst (λ (os : List (List ℕ)). SessionGoes c h.links (record (left w.near.link) { back = remove h.links.back 0 }) (begun_by k.notes.up here) k.side.near k.side.out [] [] os h.links.met)
         (ap (λ (es : List links.Entry). octets_of (remove es 0)) f.is ∙ f.left) g) in
         follows_silent laws cfg fine end w h no_command back k gone
-        (sessions_act cfg end (line.Lose 0) (links.acts c line.Abandon h.links) tt (λ off s same. tt) (sessions_act cfg end line.Abandon h.links tt (λ off s same. tt) h.reach))
+        (sessions_act cfg end (line.Lose 0) (links.acts c line.Abandon h.links) tt (λ off s same. tt) (may_ask end Receives (line.Lose 0) is_at refl)
+        (sessions_act cfg end line.Abandon h.links tt (λ off s same. tt) (may_ask end Receives line.Abandon is_at tt) h.reach))
         (subst (λ (x : Sessions). PairsAreInOrder cfg end h.trace x.met) (sym same) h.pairs) (λ n m has. subst (λ (x : Sessions). HasMet n m x.met) (sym same) has) (laws.stations.abandon_tells c w.near.link) not_up
         (subst (λ (x : Sessions). SessionGoes c h.links x here k.side.near k.side.out [] [] back x.met) (sym same) goes) refl kept
 
@@ -201,7 +202,7 @@ module _ {since : Beginning} (laws : SessionLaws) (cfg : Cfg) (fine : IsConfigur
     after_taken = links.acts (link_of cfg end) line.Deliver h.links
 
     reach_taken : SessionsReach since cfg end after_taken
-    reach_taken = sessions_act cfg end line.Deliver h.links tt (λ off s same. tt) h.reach
+    reach_taken = sessions_act cfg end line.Deliver h.links tt (λ off s same. tt) (may_ask end Receives line.Deliver is_at tt) h.reach
 
     goes_taken : SessionGoes (link_of cfg end) h.links after_taken (begun_by taken.notes.up here) taken.side.near taken.side.out [] (option_to_list taken.packet) back after_taken.met
     goes_taken =
@@ -371,7 +372,7 @@ module _ {since : Beginning} (laws : SessionLaws) (cfg : Cfg) (fine : IsConfigur
           joins laws cfg fine end w h step after_taken taken.side u (moves j.0) (f.packet ∷ []) [] (f.packet ∷ []) back
           (subst (λ (o : List ℕ). SessionGoes (link_of cfg end) h.links after_taken here taken.side.near taken.side.out [] (o ∷ []) back after_taken.met) f.spells goes_up_one)
           up up_after joined near takes (heard_plain c w.near.layer taken packet_octets some quiet) kept (tt, pulls_bring_octets end here j.0) (there, pair_on j.0)
-          reach_taken (λ nothing. absurd (not_empty f.packet nothing)) (pairs_on j.0) met_taken.more
+          (λ o. may_ask end Receives (line.Put o) is_at tt) reach_taken (λ nothing. absurd (not_empty f.packet nothing)) (pairs_on j.0) met_taken.more
           (λ first. inr (record {
             has_met = subst (λ (ms : List Meeting). HasMet here there ms) (sym met_now) (inl (refl, refl));
             restarts = restarts j.0 (layer_notices step.entries) (ap (λ (e : layer.End). e.taken) all ∙ takes) (ap (λ (e : layer.End). e.told) all ∙ ap (λ (e : layer.End). e.told) (sym near) ∙ joined.layer.told) first;
@@ -389,7 +390,7 @@ module _ {since : Beginning} (laws : SessionLaws) (cfg : Cfg) (fine : IsConfigur
       where
         by : (up : Bool) (o : Option (List ℕ)) → taken.notes.up ≡ up → taken.packet ≡ o → SessionsJoined since cfg end (after_step (settings_from end cfg) w back (follows (settings_from end cfg) w.near.layer taken))
         by true None up is =
-            follows_up laws cfg fine end w h no_command back taken after_taken reach_taken met_taken.pairs met_taken.more (laws.stations.take_tells (link_of cfg end) octets w.near.link) up (goes_in true None up is) kept
+            follows_up laws cfg fine end w h no_command back taken after_taken reach_taken met_taken.pairs met_taken.more (laws.stations.take_tells (link_of cfg end) octets w.near.link) (λ o. may_ask end Receives (line.Put o) is_at tt) up (goes_in true None up is) kept
         by true (Some packet_octets) up is =
             true_false (sym up ∙ ap (λ (n : Notes). n.up) ((laws.stations.take_hands_up (link_of cfg end) octets w.near.link).quiet packet_octets is))
         by false None up is =

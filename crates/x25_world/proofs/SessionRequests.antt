@@ -8,6 +8,7 @@ use Rattle.x25_packet.specs.PlainPacket.{PlainPacket}
 use Rattle.x25_link.specs.Outgoing.{waits}
 use Rattle.x25_link.specs.Station.{Station as LinkStation, Side, is_up}
 use Rattle.x25_link.specs.Steps.{alone}
+use Rattle.x25_line.specs.Stations as line
 use Rattle.x25_line.specs.Sessions.{Meeting, Sessions}
 use Rattle.x25_line.specs.SessionClaims.{octets_of}
 use Rattle.x25_layer.specs.Layer.{Layer, LayerNotice}
@@ -26,12 +27,12 @@ use Rattle.x25_station.specs.Steps.{Step, Outcome, Did, Refused, requests, did, 
 use Rattle.x25_station.specs.JoinLaw.{station_with, IsJoined}
 use Rattle.x25_station.specs.KeepLaw.{IsKept, KeptBy}
 use Rattle.x25_station.specs.ReadLaw.{AreReadable, RequestsOctets}
-use Rattle.x25_world.specs.World.{World, of_station, after, after_step}
+use Rattle.x25_world.specs.World.{World, Commands, of_station, after, after_step}
 use Rattle.x25_world.specs.Claims.{link_of}
 use Rattle.x25_world.proofs.Known.{IsConfigured}
 use Rattle.x25_world.proofs.Growing.{spelled}
 use Rattle.x25_world.proofs.SessionTrace.{layer_of, Done, moved, own, own_goes, pair_at, events_of, pair_more, pair_same, TakeNothing, nothing_goes, BringOctets, octets_append}
-use Rattle.x25_world.proofs.SessionReaches.{Beginning, SessionsReach}
+use Rattle.x25_world.proofs.SessionReaches.{Beginning, MayAsk, IsAt, may_ask, SessionsReach}
 use Rattle.x25_world.proofs.SessionJoined.{HasMet, PairIsInOrder, PairsAreInOrder, SessionsJoined}
 use Rattle.x25_world.proofs.SessionKnown.{SessionLaws, met_in_order, all_map, pair_ends, own_quiet, own_readable, nothing_in_order}
 use Rattle.x25_world.proofs.SessionEntries.{ArePlain, outcome_plain}
@@ -140,11 +141,11 @@ module _ {since : Beginning} (laws : SessionLaws) (cfg : Cfg) (fine : IsConfigur
         (subst (AreReadable cfg.long_data) (ap (λ (e : layer.End). e.given) (own_goes cfg end session h.trace moves) ∙ given_then)
         (own_readable laws cfg fine end session paired.0 (h.trace ++ moved end session moves) paired.1 (octets_append h.trace (moved end session moves) h.octets octets)))
 
-    pub joins : SessionsReach since cfg end v → (lifted ≡ [] → TakeNothing moves) → PairsAreInOrder cfg end (h.trace ++ moved end session moves) v.met → ((n m : ℕ) → HasMet n m h.links.met → HasMet n m v.met)
+    pub joins : ((octets : List ℕ) → MayAsk since end (line.Put octets)) → SessionsReach since cfg end v → (lifted ≡ [] → TakeNothing moves) → PairsAreInOrder cfg end (h.trace ++ moved end session moves) v.met → ((n m : ℕ) → HasMet n m h.links.met → HasMet n m v.met)
         → (own_now.taken ≡ [] → ((lifted ≡ []) × (layer_notices step.entries ≡ [])) ⊎ IsNews session h.links.far.begun v.met (layer_notices step.entries))
         → SessionsJoined since cfg end (after_step (settings_from end cfg) w back step)
-    joins reach alone pairs more news =
-        let r = puts_go cfg end h.links v session j.packets t [] (spelled lifted) back v.met reach g j.link.accepted puts_readable in
+    joins asks reach alone pairs more news =
+        let r = puts_go cfg end h.links v session j.packets t [] (spelled lifted) back v.met asks reach g j.link.accepted puts_readable in
         let still : is_up step.near.link.phase ≡ true = ap (λ (s : LinkStation). is_up s.phase) j.link.link ∙ puts_up laws.stations.put_tells (link_of cfg end) j.packets t up_after in
         goes_on cfg end w h step back r.links v.met moves j.packets lifted
         (record {
@@ -173,9 +174,9 @@ module _ {since : Beginning} (laws : SessionLaws) (cfg : Cfg) (fine : IsConfigur
 
   -- ---- a command
 
-  accepted_joined : (request : LayerRequest) → RequestsOctets request → (step : Step) → requests (settings_from end cfg) w.near request ≡ Did step
+  accepted_joined : (request : LayerRequest) → IsAt since end (Commands (command.Requests request)) → RequestsOctets request → (step : Step) → requests (settings_from end cfg) w.near request ≡ Did step
       → SessionsJoined since cfg end (after_step (settings_from end cfg) w w.back step)
-  accepted_joined request octets step is =
+  accepted_joined request is_at octets step is =
       let c : Settings = settings_from end cfg in
       let up = did_up c w.near request step is in
       let now = h.near.now up in
@@ -206,11 +207,11 @@ module _ {since : Beginning} (laws : SessionLaws) (cfg : Cfg) (fine : IsConfigur
       up up j.2 near (leaves.taken ∙ sym (append-nil own_now.taken))
       (subst ArePlain (sym (did_entries c (alone w.near.link) _ _ step is)) (outcome_plain (layer_settings c) w.near.layer request _))
       (subst KeptBy is (laws.stations.command_keeps c w.near (command.Requests request) h.near.kept)) (octets, pulls_bring_octets end session j.0) (pair.0, pair_goes_quietly laws cfg end h.trace session moves nothing session pair.0 pair.1)
-      h.reach (λ none. nothing) (pairs_go_quietly laws cfg end h.trace session moves nothing h.links.met h.pairs) (λ n m has. has) (λ none. inl (refl, untold))
+      (λ o. may_ask end (Commands (command.Requests request)) (line.Put o) is_at tt) h.reach (λ none. nothing) (pairs_go_quietly laws cfg end h.trace session moves nothing h.links.met h.pairs) (λ n m has. has) (λ none. inl (refl, untold))
 
-  pub requests_joined : (request : LayerRequest) → RequestsOctets request → SessionsJoined since cfg end (after w (of_station (settings_from end cfg) w (requests (settings_from end cfg) w.near request)))
-  requests_joined request octets = by (requests (settings_from end cfg) w.near request) refl
+  pub requests_joined : (request : LayerRequest) → IsAt since end (Commands (command.Requests request)) → RequestsOctets request → SessionsJoined since cfg end (after w (of_station (settings_from end cfg) w (requests (settings_from end cfg) w.near request)))
+  requests_joined request is_at octets = by (requests (settings_from end cfg) w.near request) refl
     where
       by : (o : Outcome) → requests (settings_from end cfg) w.near request ≡ o → SessionsJoined since cfg end (after w (of_station (settings_from end cfg) w o))
-      by (Did step) is = accepted_joined request octets step is
+      by (Did step) is = accepted_joined request is_at octets step is
       by (Refused e) is = h

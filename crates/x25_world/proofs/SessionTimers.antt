@@ -28,10 +28,10 @@ use Rattle.x25_world.specs.SetUpFrames.{is_a, reads_as, carries}
 use Rattle.x25_world.specs.declared.set_up.SetUpFrame.{SetUpFrame}
 use Rattle.x25_world.specs.declared.set_up.SetUpFrame.TheVariants.{Sabm, Ua}
 use Rattle.x25_world.specs.declared.error.WorldError.TheVariants as error
-use Rattle.x25_world.specs.World.{World, Declined, Commands, of_station, refusal_of, is_on_line, fired, after, after_step}
+use Rattle.x25_world.specs.World.{World, Declined, Commands, Fires, of_station, refusal_of, is_on_line, fired, after, after_step}
 use Rattle.x25_world.specs.Claims.{link_of, IsNoConnect}
 use Rattle.x25_world.proofs.Known.{IsConfigured, true_false, second_false}
-use Rattle.x25_world.proofs.SessionReaches.{Beginning, set_up, MayAct, SessionsReach, sessions_act}
+use Rattle.x25_world.proofs.SessionReaches.{Beginning, set_up, MayAct, MayAsk, IsAt, may_ask, SessionsReach, sessions_act}
 use Rattle.x25_world.proofs.SessionJoined.{SessionsJoined}
 use Rattle.x25_world.proofs.SessionKnown.{SessionLaws}
 use Rattle.x25_world.proofs.SessionLinks.{SessionGoes, own_step}
@@ -108,10 +108,10 @@ module _ {since : Beginning} (laws : SessionLaws) (cfg : Cfg) (fine : IsConfigur
   act_follows : (lead : Lead) (act : line.Act) (refusal : LinkStation → Option LinkError) (step : LinkStation → LinkStep)
       → links.acts (link_of cfg end) act h.links
       ≡ links.unless (refusal h.links.near.station) h.links (links.after_step (link_of cfg end) h.links h.links.back h.links.met [] (step h.links.near.station))
-      → (links.acts (link_of cfg end) act h.links).near.begun ≡ h.links.near.begun → IsTimely (link_of cfg end) (link_of cfg (other end)) act h.links → MayAct since act h.links → refusal w.near.link ≡ None
+      → (links.acts (link_of cfg end) act h.links).near.begun ≡ h.links.near.begun → IsTimely (link_of cfg end) (link_of cfg (other end)) act h.links → MayAct since act h.links → MayAsk since end act → refusal w.near.link ≡ None
       → (step w.near.link).packet ≡ None → Tells w.near.link (step w.near.link) → IsKept (led_by (lead_of lead) (follows (settings_from end cfg) w.near.layer (step w.near.link))).near
       → SessionsJoined since cfg end (after_step (settings_from end cfg) w w.back (led_by (lead_of lead) (follows (settings_from end cfg) w.near.layer (step w.near.link))))
-  act_follows lead act refusal step is same timely may accepted none tells kept =
+  act_follows lead act refusal step is same timely may asks accepted none tells kept =
       let c = link_of cfg end in
       let k = step w.near.link in
       let v = links.after_step c h.links h.links.back h.links.met [] k in
@@ -119,7 +119,7 @@ module _ {since : Beginning} (laws : SessionLaws) (cfg : Cfg) (fine : IsConfigur
       is ∙ ap (λ (s : LinkStation). links.unless (refusal s) h.links (links.after_step c h.links h.links.back h.links.met [] (step s))) h.near.link
       ∙ ap (λ (o : Option LinkError). links.unless o h.links v) accepted in
       let not_up : k.notes.up ≡ false = not_begun_by k.notes.up h.links.near.begun (sym (ap (λ (x : Sessions). x.near.begun) done) ∙ same) in
-      follows_silent laws cfg fine end w h lead w.back k v (subst (λ (x : Sessions). SessionsReach since cfg end x) done (sessions_act cfg end act h.links timely may h.reach)) h.pairs (λ n m has. has) tells not_up
+      follows_silent laws cfg fine end w h lead w.back k v (subst (λ (x : Sessions). SessionsReach since cfg end x) done (sessions_act cfg end act h.links timely may asks h.reach)) h.pairs (λ n m has. has) tells not_up
       (subst (λ (b : Bool). SessionGoes c h.links v (begun_by b h.links.near.begun) k.side.near k.side.out [] [] w.back h.links.met) not_up
       (subst (λ (p : Option (List ℕ)). SessionGoes c h.links v (begun_by k.notes.up h.links.near.begun) k.side.near k.side.out [] (option_to_list p) w.back h.links.met) none
       (subst (λ (os : List (List ℕ)). SessionGoes c h.links v (begun_by k.notes.up h.links.near.begun) k.side.near k.side.out [] (option_to_list k.packet) os h.links.met) h.back
@@ -140,8 +140,8 @@ module _ {since : Beginning} (laws : SessionLaws) (cfg : Cfg) (fine : IsConfigur
       by Dte none = none
       by Dce none = none
 
-  fires_joined : (is_waiting w.near.link.phase && is_on_line (settings_from end cfg) w) ≡ false → SessionsJoined since cfg end (after w (of_station (settings_from end cfg) w (fires (settings_from end cfg) w.near)))
-  fires_joined off = by (timer_refusal w.near.link) refl
+  fires_joined : IsAt since end Fires → (is_waiting w.near.link.phase && is_on_line (settings_from end cfg) w) ≡ false → SessionsJoined since cfg end (after w (of_station (settings_from end cfg) w (fires (settings_from end cfg) w.near)))
+  fires_joined is_at off = by (timer_refusal w.near.link) refl
     where
       step : Step
       step = follows (settings_from end cfg) w.near.layer (timer_step (link_of cfg end) w.near.link)
@@ -149,23 +149,23 @@ module _ {since : Beginning} (laws : SessionLaws) (cfg : Cfg) (fine : IsConfigur
       by : (o : Option LinkError) → timer_refusal w.near.link ≡ o → SessionsJoined since cfg end (after w (of_station (settings_from end cfg) w (unless o step)))
       by (Some e) is = h
       by None is =
-          act_follows no_command line.T1 timer_refusal (timer_step (link_of cfg end)) refl (laws.hands (link_of cfg end) (link_of cfg end) (line.Near line.T1) h.links).0.begun (is_timely off) (λ off s same. tt) is
+          act_follows no_command line.T1 timer_refusal (timer_step (link_of cfg end)) refl (laws.hands (link_of cfg end) (link_of cfg end) (line.Near line.T1) h.links).0.begun (is_timely off) (λ off s same. tt) (may_ask end Fires line.T1 is_at tt) is
           (timer_packet (link_of cfg end) w.near.link) (laws.stations.timer_tells (link_of cfg end) w.near.link)
           (subst (λ (o : Option LinkError). KeptBy (unless o step)) is (laws.stations.timer_keeps (settings_from end cfg) w.near h.near.kept))
 
-  pub fired_joined : SessionsJoined since cfg end (after w (fired (settings_from end cfg) w))
-  fired_joined = by (is_waiting w.near.link.phase && is_on_line (settings_from end cfg) w) refl
+  pub fired_joined : IsAt since end Fires → SessionsJoined since cfg end (after w (fired (settings_from end cfg) w))
+  fired_joined is_at = by (is_waiting w.near.link.phase && is_on_line (settings_from end cfg) w) refl
     where
       by : (b : Bool) → (is_waiting w.near.link.phase && is_on_line (settings_from end cfg) w) ≡ b
           → SessionsJoined since cfg end (after w (if b then Declined error.OnLine else of_station (settings_from end cfg) w (fires (settings_from end cfg) w.near)))
       by true is = h
-      by false is = fires_joined is
+      by false is = fires_joined is_at is
 
   -- set-up is asked for, by a command or not
-  connecting : (lead : Lead) → (since ≡ set_up false → connect_refusal w.near.link.phase ≡ None → ⊥) → KeptBy (unless (connect_refusal w.near.link.phase) (led_by (lead_of lead) (follows (settings_from end cfg) w.near.layer (connect_step (link_of cfg end) w.near.link))))
+  connecting : (lead : Lead) → MayAsk since end line.Connect → (since ≡ set_up false → connect_refusal w.near.link.phase ≡ None → ⊥) → KeptBy (unless (connect_refusal w.near.link.phase) (led_by (lead_of lead) (follows (settings_from end cfg) w.near.layer (connect_step (link_of cfg end) w.near.link))))
       → SessionsJoined since cfg end
       (after w (of_station (settings_from end cfg) w (unless (connect_refusal w.near.link.phase) (led_by (lead_of lead) (follows (settings_from end cfg) w.near.layer (connect_step (link_of cfg end) w.near.link))))))
-  connecting lead may keeps = by (connect_refusal w.near.link.phase) refl keeps
+  connecting lead asks may keeps = by (connect_refusal w.near.link.phase) refl keeps
     where
       step : Step
       step = led_by (lead_of lead) (follows (settings_from end cfg) w.near.layer (connect_step (link_of cfg end) w.near.link))
@@ -174,19 +174,19 @@ module _ {since : Beginning} (laws : SessionLaws) (cfg : Cfg) (fine : IsConfigur
       by (Some e) is keeps = h
       by None is keeps =
           act_follows lead line.Connect (λ (s : LinkStation). connect_refusal s.phase) (connect_step (link_of cfg end)) refl (laws.hands (link_of cfg end) (link_of cfg end) (line.Near line.Connect) h.links).0.begun tt
-          (λ free s same accepted. may free (ap (λ (x : LinkStation). connect_refusal x.phase) (sym (same ∙ h.near.link)) ∙ accepted)) is refl
+          (λ free s same accepted. may free (ap (λ (x : LinkStation). connect_refusal x.phase) (sym (same ∙ h.near.link)) ∙ accepted)) asks is refl
           (laws.stations.connect_tells (link_of cfg end) w.near.link (was_down w.near.link.phase is)) keeps
 
-  pub connects_joined : (since ≡ set_up false → IsNoConnect (Commands Connects) (refusal_of (of_station (settings_from end cfg) w (connects_asked (settings_from end cfg) w.near))))
+  pub connects_joined : IsAt since end (Commands Connects) → (since ≡ set_up false → IsNoConnect (Commands Connects) (refusal_of (of_station (settings_from end cfg) w (connects_asked (settings_from end cfg) w.near))))
       → SessionsJoined since cfg end (after w (of_station (settings_from end cfg) w (connects_asked (settings_from end cfg) w.near)))
-  connects_joined none = connecting connect (λ free accepted. subst (λ (o : Option LinkError). IsNoConnect (Commands Connects) (refusal_of (of_station (settings_from end cfg) w (unless o
+  connects_joined is_at none = connecting connect (may_ask end (Commands Connects) line.Connect is_at tt) (λ free accepted. subst (λ (o : Option LinkError). IsNoConnect (Commands Connects) (refusal_of (of_station (settings_from end cfg) w (unless o
       (led_by (connect_asked ∷ []) (follows (settings_from end cfg) w.near.layer (connect_step (link_of cfg end) w.near.link))))))) accepted (none free)) (laws.stations.command_keeps (settings_from end cfg) w.near Connects h.near.kept)
 
-  pub connects_alone_joined : (since ≡ set_up false → ⊥) → ConnectKeeps → SessionsJoined since cfg end (after w (of_station (settings_from end cfg) w (connects (settings_from end cfg) w.near)))
-  connects_alone_joined unasked keeps = connecting no_command (λ free accepted. unasked free) (keeps (settings_from end cfg) w.near h.near.kept)
+  pub connects_alone_joined : MayAsk since end line.Connect → (since ≡ set_up false → ⊥) → ConnectKeeps → SessionsJoined since cfg end (after w (of_station (settings_from end cfg) w (connects (settings_from end cfg) w.near)))
+  connects_alone_joined asks unasked keeps = connecting no_command asks (λ free accepted. unasked free) (keeps (settings_from end cfg) w.near h.near.kept)
 
-  pub disconnects_joined : SessionsJoined since cfg end (after w (of_station (settings_from end cfg) w (disconnects (settings_from end cfg) w.near)))
-  disconnects_joined = by (disconnect_refusal w.near.link.phase) refl
+  pub disconnects_joined : IsAt since end (Commands Disconnects) → SessionsJoined since cfg end (after w (of_station (settings_from end cfg) w (disconnects (settings_from end cfg) w.near)))
+  disconnects_joined is_at = by (disconnect_refusal w.near.link.phase) refl
     where
       step : Step
       step = led_by (disconnect_asked ∷ []) (follows (settings_from end cfg) w.near.layer (disconnect_step (link_of cfg end) w.near.link))
@@ -195,5 +195,5 @@ module _ {since : Beginning} (laws : SessionLaws) (cfg : Cfg) (fine : IsConfigur
       by (Some e) is = h
       by None is =
           act_follows disconnect line.Disconnect (λ (s : LinkStation). disconnect_refusal s.phase) (disconnect_step (link_of cfg end)) refl
-          (laws.hands (link_of cfg end) (link_of cfg end) (line.Near line.Disconnect) h.links).0.begun tt (λ off s same. tt) is refl (laws.stations.disconnect_tells (link_of cfg end) w.near.link)
+          (laws.hands (link_of cfg end) (link_of cfg end) (line.Near line.Disconnect) h.links).0.begun tt (λ off s same. tt) (may_ask end (Commands Disconnects) line.Disconnect is_at tt) is refl (laws.stations.disconnect_tells (link_of cfg end) w.near.link)
           (subst (λ (o : Option LinkError). KeptBy (unless o step)) is (laws.stations.command_keeps (settings_from end cfg) w.near Disconnects h.near.kept))

@@ -3,9 +3,7 @@ use Rattle.std.proofs.Common.{◌≡◌, ℕ, zero, suc, ◌+◌, ◌≤◌, ◌
 use Rattle.x25_bits.specs.declared.role.Role.{Role}
 use Rattle.x25_bits.specs.declared.role.Role.TheVariants.{Dte, Dce}
 use Rattle.x25_link.specs.MustSend.{other}
-use Rattle.x25_line.specs.Stations as line
-use Rattle.x25_line.specs.StationClaims as links
-use Rattle.x25_line.specs.StationClaims.{IsSetUpOnce, OneLinkUnlessConnected, AreInWindow}
+use Rattle.x25_line.specs.StationClaims.{IsSetUpOnce, OneLinkUnlessConnected}
 use Rattle.x25_line.specs.Sessions.{SessionEnd}
 use Rattle.x25_line.specs.SessionClaims.{OnlyBegunHaveLists}
 use Rattle.x25_layer.specs.Layer.{LayerNotice}
@@ -20,7 +18,7 @@ use Rattle.x25_station.specs.declared.config.Cfg.{Cfg}
 use Rattle.x25_station.specs.Entries.{StationEntry, of_channel, restart_asked, connect_asked, disconnect_asked, link_up, link_down, layer_entries, was_restarted, restart_confirmed, at_fault}
 use Rattle.x25_station.specs.Station.{Station}
 use Rattle.x25_world.specs.World.{World}
-use Rattle.x25_world.specs.Claims.{station_at, entries_at, ups_in, IsUpOnce, IsUpAtMostOnce, handed_at, link_of, IsLawful, IsNamed, ArrivesAll, IsInWindow}
+use Rattle.x25_world.specs.Claims.{station_at, entries_at, ups_in, IsUpOnce, IsUpAtMostOnce, handed_at, link_of, IsLawful, IsNamed, ArrivesAll}
 use Rattle.x25_world.specs.Sessions.{Progress, none_begun, after_entry, after_entries, session_at, last_session, handed_in}
 use Rattle.x25_world.proofs.Known.{IsConfigured}
 use Rattle.x25_world.proofs.OneLink.{IsAnew, OneLink}
@@ -55,7 +53,7 @@ ups_are_begun {es = es} h =
 
 -- an end that began its first session alone didn't come up anew, and the other way round
 
-not_anew : (came_up : Bool) (begun : ℕ) → IsAnew came_up begun → begun ≡ 1 → came_up ≡ false
+pub not_anew : (came_up : Bool) (begun : ℕ) → IsAnew came_up begun → begun ≡ 1 → came_up ≡ false
 not_anew came_up begun h first = elim h [ inl once ↦ once.0 | inr again ↦ (let more = again.1 in absurd (omega (arith, more, first))) ]
 
 first_alone : (came_up : Bool) (begun : ℕ) → IsAnew came_up begun → came_up ≡ false → begun ≡ 1
@@ -78,28 +76,6 @@ is_up_once law cfg fine w h = by
     by : (end : Role) → ups_in (entries_at end w.transcript) ≡ 1
     by Dte = ups_are_begun h.near ∙ first_alone one.stations.near.came_up h.links.near.begun one.alike.near.anew still.near
     by Dce = ups_are_begun h.far ∙ first_alone one.stations.far.came_up h.links.far.begun one.alike.far.anew still.far
-
-module _ (laws : SessionLaws) (cfg : Cfg) (fine : IsConfigured cfg) (w : World) (h : SessionsJoined (set_up true) cfg Dte w) (once : IsUpOnce cfg w) where
-  near_first : h.links.near.begun ≡ 1
-  near_first = sym (ups_are_begun h.near) ∙ once Dte
-
-  far_first : h.links.far.begun ≡ 1
-  far_first = sym (ups_are_begun h.far) ∙ once Dce
-
-  -- ---- the window
-
-  pub in_window : links.Always AreInWindow → IsInWindow cfg w
-  in_window law =
-      let one = h.reach.one_link true refl in
-      let still : IsSetUpOnce one.stations = record {
-        near = not_anew one.stations.near.came_up h.links.near.begun one.alike.near.anew near_first;
-        far = not_anew one.stations.far.came_up h.links.far.begun one.alike.far.anew far_first;
-      } in (
-        one.stations,
-        record { events = one.reach.events; run = one.reach.run; near = one.alike.near.station ∙ h.near.link; far = one.alike.far.station ∙ h.far.link; out = one.alike.out ∙ h.out; back = one.alike.back ∙ h.back },
-        subst (λ (v : line.Stations). AreInWindow (link_of cfg Dte) (link_of cfg Dce) v) one.reach.run
-            (law (link_of cfg Dte) (link_of cfg Dce) (joined_at cfg Dte fine) one.reach.events (subst IsSetUpOnce (sym one.reach.run) still)),
-      )
 
 -- ---- where neither end goes up a second time
 

@@ -20,8 +20,8 @@ use Rattle.x25_world.specs.declared.error.WorldError.TheVariants as error
 use Rattle.x25_world.specs.World.{World, swapped, Event, Act, Commands, Receives, Fires, Loses, Damages, WorldOutcome, Happened, Declined, of_station, delivered, is_on_line, acts, swapped_back, event_of, AtEnd, happens, after, refusal_of, run, AreAccepted, connected, established, start}
 use Rattle.x25_world.specs.Claims.{ActsInOctets, AreInOctets, entries_at, ups_in, IsUpOnce, IsUpAtMostOnce, IsBeginning, NoneConnects, SetsUpOnce, UpOnceUnlessConnected, Always, UntilSecondUp, HasNoProcedureError}
 use Rattle.x25_world.proofs.Established.{connected_tells}
-use Rattle.x25_world.specs.SessionClaims.{Throughout, MeetInStep, AreLawfulWhereMet, AreNamedInSessions, AllArrive, UnmetAreToldNothing, OpenStretchesMeet, SessionsKeepOrder}
-use Rattle.x25_world.specs.SessionWindow.{UpIsInWindow}
+use Rattle.x25_world.specs.SessionClaims.{Throughout, ThroughoutAlong, MeetInStep, AreLawfulWhereMet, AreNamedInSessions, AllArrive, UnmetAreToldNothing, OpenStretchesMeet, SessionsKeepOrder}
+use Rattle.x25_world.specs.SessionWindow.{SessionsStayInWindow}
 use Rattle.x25_world.specs.ShownWorld.{ShownWorld, ShownSide}
 use Rattle.x25_world.specs.FitsWorld.{Gone, nothing_gone, FitsWorld, FitsRun, Leaves, with_gone, and_then, FitsSide, HasHappened, IsRefusal, StopsAt, RefusesConfig}
 
@@ -199,8 +199,9 @@ held_is cfg v w gone h = rw (h.to_dce, h.to_dte, sym h.tap, sym h.transcript) re
 pub leaves : (Holds : Cfg → World → Type 0) (v : ShownWorld) (cfg : Cfg) (from : World) (events : List Event) (gone : Gone) → FitsRun cfg from v events gone → Holds cfg (run cfg events from) → Leaves Holds cfg from v events gone
 leaves Holds v cfg from events gone h holds = record { fits = h; holds = holds; held = subst (λ (w : World). Holds cfg w) (held_is cfg v (run cfg events from) gone h.fits) holds }
 
-pub holds_after_set_up : (Holds : Cfg → World → Type 0) (v : ShownWorld) (cfg : Cfg) (events : List Event) (gone : Gone) → Always Holds → FitsRun cfg (established cfg) v events gone → SetsUpOnce cfg events → Leaves Holds cfg (established cfg) v events gone
-holds_after_set_up Holds v cfg events gone law h once = leaves Holds v cfg (established cfg) events gone h (law cfg h.settings events h.octets once)
+pub holds_after_set_up : (Holds : Cfg → List Event → World → Type 0) (v : ShownWorld) (cfg : Cfg) (events : List Event) (gone : Gone) → Always Holds → FitsRun cfg (established cfg) v events gone → SetsUpOnce cfg events
+    → Leaves (λ (c : Cfg) (w : World). Holds c events w) cfg (established cfg) v events gone
+holds_after_set_up Holds v cfg events gone law h once = leaves (λ (c : Cfg) (w : World). Holds c events w) v cfg (established cfg) events gone h (law cfg h.settings events h.octets once)
 
 pub holds_after : (Holds : Cfg → World → Type 0) (v : ShownWorld) (cfg : Cfg) (from : World) (events : List Event) (gone : Gone) → UntilSecondUp Holds → IsBeginning cfg from → FitsRun cfg from v events gone
     → IsUpAtMostOnce cfg (run cfg events from) → Leaves Holds cfg from v events gone
@@ -224,12 +225,16 @@ pub holds_throughout : (Holds : Cfg → World → Type 0) (v : ShownWorld) (cfg 
     → Leaves Holds cfg from v events gone
 holds_throughout Holds v cfg from events gone law begins h = leaves Holds v cfg from events gone h (law cfg h.settings from begins events h.octets)
 
+pub goes_on_throughout : (Holds : Cfg → World → List Event → World → Type 0) (v : ShownWorld) (cfg : Cfg) (from : World) (events : List Event) (gone : Gone) → ThroughoutAlong Holds → IsBeginning cfg from
+    → FitsRun cfg from v events gone → Leaves (λ (c : Cfg) (w : World). Holds c from events w) cfg from v events gone
+goes_on_throughout Holds v cfg from events gone law begins h = leaves (λ (c : Cfg) (w : World). Holds c from events w) v cfg from events gone h (law cfg h.settings from begins events h.octets)
+
 -- a world that was just made
 pub new_run : (cfg : Cfg) (from : World) (v : ShownWorld) → config_refusal cfg ≡ None → FitsWorld cfg v from nothing_gone → FitsRun cfg from v [] nothing_gone
 new_run cfg from v fine fits = record { settings = fine; octets = tt; accepted = tt; fits = fits }
 
 -- the claims on sessions together
-pub all_of_sessions : Throughout MeetInStep → Throughout AreLawfulWhereMet → Throughout AreNamedInSessions → Throughout AllArrive → Throughout UnmetAreToldNothing → Throughout OpenStretchesMeet → Throughout HasNoProcedureError → Throughout UpIsInWindow
+pub all_of_sessions : Throughout MeetInStep → Throughout AreLawfulWhereMet → Throughout AreNamedInSessions → Throughout AllArrive → Throughout UnmetAreToldNothing → Throughout OpenStretchesMeet → Throughout HasNoProcedureError → ThroughoutAlong SessionsStayInWindow
     → Throughout SessionsKeepOrder
 all_of_sessions step lawful named arrives unmet stand quiet window cfg fine from begins events octets = record {
   step = step cfg fine from begins events octets;
@@ -239,7 +244,7 @@ all_of_sessions step lawful named arrives unmet stand quiet window cfg fine from
   unmet = unmet cfg fine from begins events octets;
   stand = stand cfg fine from begins events octets;
   quiet = quiet cfg fine from begins events octets;
-  window = window cfg fine from begins events octets;
+  window = (from, begins, events, refl, window cfg fine from begins events octets);
 }
 
 pub up_once_after : (v : ShownWorld) (cfg : Cfg) (events : List Event) (gone : Gone) → UpOnceUnlessConnected → FitsRun cfg (established cfg) v events gone → NoneConnects cfg events (established cfg) → Leaves IsUpOnce cfg (established cfg) v events gone

@@ -10,8 +10,6 @@ use Rattle.x25_frame.specs.Reading.{frame_of}
 use Rattle.x25_frame.specs.declared.error.FrameError.{FrameError}
 use Rattle.x25_link.specs.Station.{Settings as LinkSettings, is_up}
 use Rattle.x25_link.specs.MustSend.{other}
-use Rattle.x25_line.specs.Stations as line
-use Rattle.x25_line.specs.StationClaims.{AreInWindow}
 use Rattle.x25_epochs.specs.Names.{Name}
 use Rattle.x25_packet.specs.Spelling.{longest_user}
 use Rattle.x25_layer.specs.Transcript.{Entry, name_of}
@@ -79,9 +77,10 @@ AreInOctets (e ∷ events) = ActsInOctets e.act × AreInOctets events
 abbrev pub SetsUpOnce : Cfg → List Event → Type 0
 SetsUpOnce cfg events = IsUpOnce cfg (run cfg events (established cfg))
 
--- what holds after each list of events, of commands, deliveries, losses, damage and timer T1, from a link just set up, which isn't set up anew
-abbrev pub Always : (Cfg → World → Type 0) → Type 0
-Always Holds = (cfg : Cfg) → config_refusal cfg ≡ None → (events : List Event) → AreInOctets events → SetsUpOnce cfg events → Holds cfg (run cfg events (established cfg))
+-- what holds of each list of events, of commands, deliveries, losses, damage and timer T1, from a link just set up, which isn't set up anew, and
+-- of the world that they lead to
+abbrev pub Always : (Cfg → List Event → World → Type 0) → Type 0
+Always Holds = (cfg : Cfg) → config_refusal cfg ≡ None → (events : List Event) → AreInOctets events → SetsUpOnce cfg events → Holds cfg events (run cfg events (established cfg))
 
 -- from where a run begins: both links are down, the DTE has asked that the link be set up, or it was just set up
 abbrev pub IsBeginning : Cfg → World → Type 0
@@ -163,16 +162,3 @@ pub record HasNoProcedureError (cfg : Cfg) (w : World) : Type 0 where
 
 abbrev pub link_of : Cfg → Role → LinkSettings
 link_of cfg end = link_settings (settings_from end cfg)
-
--- a run of two links that was just set up, with the links and the lines of this world
-pub record IsRunOfLinks (cfg : Cfg) (w : World) (links : line.Stations) : Type 0 where
-  pub events : List line.Event
-  pub run : line.run (link_of cfg Dte) (link_of cfg Dce) events line.start ≡ links
-  pub near : links.near.station ≡ w.near.link
-  pub far : links.far.station ≡ w.far.link
-  pub out : links.out ≡ w.out
-  pub back : links.back ≡ w.back
-
--- the unbounded numbers behind the N(S)s and N(R)s on the line, and the window
-abbrev pub IsInWindow : Cfg → World → Type 0
-IsInWindow cfg w = (links : line.Stations) × IsRunOfLinks cfg w links × AreInWindow (link_of cfg Dte) (link_of cfg Dce) links

@@ -88,14 +88,22 @@ abbrev pub HoldsAfter : (Cfg → World → Type 0) → ShownWorld → ShownWorld
 HoldsAfter Holds old new more =
     (cfg : Cfg) (from : World) (past : List Event) (gone : Gone) → IsBeginning cfg from → FitsRun cfg from old past gone → IsUpAtMostOnce cfg (run cfg (more past) from) → Leaves Holds cfg from new (more past) gone
 
--- .. from a link just set up, which isn't set up anew
-abbrev pub HoldsAfterSetUp : (Cfg → World → Type 0) → ShownWorld → ShownWorld → (List Event → List Event) → Type 0
-HoldsAfterSetUp Holds old new more = (cfg : Cfg) (past : List Event) (gone : Gone) → FitsRun cfg (established cfg) old past gone → SetsUpOnce cfg (more past) → Leaves Holds cfg (established cfg) new (more past) gone
+-- .. from a link just set up, which isn't set up anew: this holds of the whole run, and of what is here
+abbrev pub HoldsAfterSetUp : (Cfg → List Event → World → Type 0) → ShownWorld → ShownWorld → (List Event → List Event) → Type 0
+HoldsAfterSetUp Holds old new more =
+    (cfg : Cfg) (past : List Event) (gone : Gone) → FitsRun cfg (established cfg) old past gone → SetsUpOnce cfg (more past)
+    → Leaves (λ (c : Cfg) (w : World). Holds c (more past) w) cfg (established cfg) new (more past) gone
 
 -- .. of each of these runs, also where the link is set up anew
 abbrev pub HoldsThroughout : (Cfg → World → Type 0) → ShownWorld → ShownWorld → (List Event → List Event) → Type 0
 HoldsThroughout Holds old new more =
     (cfg : Cfg) (from : World) (past : List Event) (gone : Gone) → IsBeginning cfg from → FitsRun cfg from old past gone → Leaves Holds cfg from new (more past) gone
+
+-- .. of the whole of each of these runs, and of what is here
+abbrev pub GoesOnThroughout : (Cfg → World → List Event → World → Type 0) → ShownWorld → ShownWorld → (List Event → List Event) → Type 0
+GoesOnThroughout Holds old new more =
+    (cfg : Cfg) (from : World) (past : List Event) (gone : Gone) → IsBeginning cfg from → FitsRun cfg from old past gone
+    → Leaves (λ (c : Cfg) (w : World). Holds c from (more past) w) cfg from new (more past) gone
 
 -- where no `connect` was accepted in it, the link isn't set up anew
 abbrev pub UpOnceAfter : ShownWorld → ShownWorld → (List Event → List Event) → Type 0

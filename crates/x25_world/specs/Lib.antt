@@ -3,6 +3,7 @@ pub mod SetUpFrames
 pub mod World
 pub mod Claims
 pub mod Sessions
+pub mod WindowGoes
 pub mod SessionWindow
 pub mod SessionClaims
 pub mod WorldRows

@@ -22,6 +22,11 @@ abbrev pub Throughout : (Cfg → World → Type 0) → Type 0
 Throughout Holds =
     (cfg : Cfg) → config_refusal cfg ≡ None → (begin : World) → IsBeginning cfg begin → (events : List Event) → AreInOctets events → Holds cfg (run cfg events begin)
 
+-- .. and of the list itself, with where it begins
+abbrev pub ThroughoutAlong : (Cfg → World → List Event → World → Type 0) → Type 0
+ThroughoutAlong Holds =
+    (cfg : Cfg) → config_refusal cfg ≡ None → (begin : World) → IsBeginning cfg begin → (events : List Event) → AreInOctets events → Holds cfg begin events (run cfg events begin)
+
 -- Sessions that meet were begun. Of two sessions of an end that each meet one, the later meets the later one. Where a session meets one that
 -- meets any, that one meets it.
 pub record MeetInStep (cfg : Cfg) (w : World) : Type 0 where

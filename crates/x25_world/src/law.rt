@@ -2,9 +2,10 @@
 ghost use Rattle.x25_station.specs.ReadLaw.{AreOctets};
 ghost use Rattle.x25_world.specs.World.{event_of};
 ghost use Rattle.x25_world.specs.WorldRows.{SetsUp, MessageArrives, LostArrives, DamagedArrives, DisconnectEndsBoth, ConnectSetsUp, ConnectGoesAgain, SecondMeetsFirst, SecondMeet, TimerWaits, IsRefused};
-ghost use Rattle.x25_world.specs.SessionClaims.{Throughout, MeetInStep, AreLawfulWhereMet, AreNamedInSessions, AllArrive, UnmetAreToldNothing, OpenStretchesMeet};
-ghost use Rattle.x25_world.specs.Claims.{ActsInOctets, Always, UntilSecondUp, IsSetUp, IsLawful, IsNamed, ArrivesAll, HasNoProcedureError, IsInWindow, UpOnceUnlessConnected};
-ghost use Rattle.x25_world.specs.SessionWindow.{UpIsInWindow};
+ghost use Rattle.x25_world.specs.SessionClaims.{Throughout, ThroughoutAlong, MeetInStep, AreLawfulWhereMet, AreNamedInSessions, AllArrive, UnmetAreToldNothing, OpenStretchesMeet};
+ghost use Rattle.x25_world.specs.Claims.{ActsInOctets, Always, UntilSecondUp, IsSetUp, IsLawful, IsNamed, ArrivesAll, HasNoProcedureError, UpOnceUnlessConnected};
+ghost use Rattle.x25_world.specs.WindowGoes.{StaysInWindow};
+ghost use Rattle.x25_world.specs.SessionWindow.{SessionsStayInWindow};
 
 use crate::Event;
 use x25_frame::reads_what_is_spelled;
@@ -26,7 +27,9 @@ use x25_station::{Cmd, puts_are_readable, steps_are_joined, steps_keep_bounds};
 /// - `arrives`: what is handed up is all of the messages and interrupts of a stretch, where the end that gives is idle and both ends have that stretch
 ///   open.
 /// - `quiet`: no FRMR, no CLEAR, RESET or RESTART with a cause of an error was ever put on the line, and no user was told of a fault.
-/// - `window`: from a link just set up the two links are a run of the window machine, with the unbounded numbers behind those on the line in its window.
+/// - `window`: from a link just set up there are two links and one window machine behind them, which go on from event to event as the end of the event
+///   asks, and are behind each world of the run: an I frame and an N(R) on the line keep the unbounded numbers that they were given as they were put, and
+///   these are in the window.
 /// - `up_once`: from a link just set up, where no `connect` is accepted, each end tells of LinkUp once, in set-up.
 ///
 /// Premises: k is 1 to 7, N2 1 to 255, channels 1 to 16, and the users hand down octets.
@@ -36,7 +39,7 @@ pub fn two_stations_keep_order()
     ensures named { UntilSecondUp IsNamed }
     ensures arrives { UntilSecondUp ArrivesAll }
     ensures quiet { UntilSecondUp HasNoProcedureError }
-    ensures window { Always IsInWindow }
+    ensures window { Always StaysInWindow }
     ensures up_once { UpOnceUnlessConnected }
 {
     stations_keep_order();
@@ -70,8 +73,9 @@ pub fn two_stations_keep_order()
 /// - `unmet`: in a session that meets none the layer tells its user nothing: no message, no interrupt and no call.
 /// - `stand`: where a stretch is open at both ends, on whichever channels, the two sessions that stand meet each other.
 /// - `quiet`: no FRMR, no CLEAR, RESET or RESTART with a cause of an error was ever put on the line, and no user was told of a fault.
-/// - `window`: at an end whose link is up, the session that stands and the one of the other end that it meets or is to meet are in the window
-///   machine, with the unbounded numbers behind those on the line to that end, and behind those on both lines where both links are up.
+/// - `window`: two links go on from event to event as the end of the event asks, and have the links and lines of each world of the run. At an end whose
+///   link is up, the session that stands and the one of the other end that it meets or is to meet are in the window machine, with the unbounded
+///   numbers behind those on the line to that end, and behind those on both lines where both links are up.
 ///
 /// Premises: k is 1 to 7, N2 1 to 255, channels 1 to 16, and the users hand down octets.
 pub fn stations_meet_in_sessions()
@@ -82,7 +86,7 @@ pub fn stations_meet_in_sessions()
     ensures unmet { Throughout UnmetAreToldNothing }
     ensures stand { Throughout OpenStretchesMeet }
     ensures quiet { Throughout HasNoProcedureError }
-    ensures window { Throughout UpIsInWindow }
+    ensures window { ThroughoutAlong SessionsStayInWindow }
 {
     sessions_keep_order();
     each_session_event_hands_one();

@@ -7,9 +7,11 @@ ghost use Rattle.x25_bits.specs.Harmless.{IsHarmless};
 ghost use Rattle.x25_world.specs.BitDamage.{bit_damage, RefusesBits};
 ghost use Rattle.x25_world.specs.PlainTold.{plain_tapped, plain_entered};
 ghost use Rattle.x25_world.specs.ShownWorld.{line_of, station_of};
-ghost use Rattle.x25_world.specs.FitsWorld.{Gone, all_of, nothing_gone, FitsWorld, FitsRun, Leaves, and_then, and_all, HoldsAfter, HoldsAfterSetUp, HoldsThroughout, UpOnceAfter, IsRefusal, TakesMemory, StopsAt, RefusesConfig};
-ghost use Rattle.x25_world.specs.Claims.{IsLawful, IsNamed, ArrivesAll, HasNoProcedureError, IsInWindow, IsUpOnce};
+ghost use Rattle.x25_world.specs.FitsWorld.{Gone, all_of, nothing_gone, FitsWorld, FitsRun, Leaves, and_then, and_all, HoldsAfter, HoldsAfterSetUp, HoldsThroughout, GoesOnThroughout, UpOnceAfter, IsRefusal, TakesMemory, StopsAt, RefusesConfig};
+ghost use Rattle.x25_world.specs.Claims.{IsLawful, IsNamed, ArrivesAll, HasNoProcedureError, IsUpOnce};
+ghost use Rattle.x25_world.specs.WindowGoes.{StaysInWindow};
 ghost use Rattle.x25_world.specs.SessionClaims.{SessionsKeepOrder};
+ghost use Rattle.x25_world.specs.SessionWindow.{SessionsStayInWindow};
 ghost use Rattle.x25_world.specs.World as definition;
 ghost use Rattle.x25_world.specs.World.{event_of, happens, after, refusal_of, run, AreAccepted, start, connected, established};
 
@@ -61,6 +63,7 @@ impl World {
         ensures arrives { IfOk result (λ v. Leaves ArrivesAll cfg start v [] nothing_gone) }
         ensures quiet { IfOk result (λ v. Leaves HasNoProcedureError cfg start v [] nothing_gone) }
         ensures sessions { IfOk result (λ v. Leaves SessionsKeepOrder cfg start v [] nothing_gone) }
+        ensures links { IfOk result (λ v. Leaves (λ c w. SessionsStayInWindow c start [] w) cfg start v [] nothing_gone) }
     {
         two_stations_keep_order();
         stations_meet_in_sessions();
@@ -84,6 +87,7 @@ impl World {
         ensures arrives { IfOk result (λ v. Leaves ArrivesAll cfg (connected cfg) v [] nothing_gone) }
         ensures quiet { IfOk result (λ v. Leaves HasNoProcedureError cfg (connected cfg) v [] nothing_gone) }
         ensures sessions { IfOk result (λ v. Leaves SessionsKeepOrder cfg (connected cfg) v [] nothing_gone) }
+        ensures links { IfOk result (λ v. Leaves (λ c w. SessionsStayInWindow c (connected c) [] w) cfg (connected cfg) v [] nothing_gone) }
     {
         two_stations_keep_order();
         stations_meet_in_sessions();
@@ -116,9 +120,10 @@ impl World {
         ensures named { IfOk result (λ v. Leaves IsNamed cfg (established cfg) v [] nothing_gone) }
         ensures arrives { IfOk result (λ v. Leaves ArrivesAll cfg (established cfg) v [] nothing_gone) }
         ensures quiet { IfOk result (λ v. Leaves HasNoProcedureError cfg (established cfg) v [] nothing_gone) }
-        ensures window { IfOk result (λ v. Leaves IsInWindow cfg (established cfg) v [] nothing_gone) }
+        ensures window { IfOk result (λ v. Leaves (λ c w. StaysInWindow c [] w) cfg (established cfg) v [] nothing_gone) }
         ensures up_once { IfOk result (λ v. Leaves IsUpOnce cfg (established cfg) v [] nothing_gone) }
         ensures sessions { IfOk result (λ v. Leaves SessionsKeepOrder cfg (established cfg) v [] nothing_gone) }
+        ensures links { IfOk result (λ v. Leaves (λ c w. SessionsStayInWindow c (established c) [] w) cfg (established cfg) v [] nothing_gone) }
     {
         two_stations_keep_order();
         stations_meet_in_sessions();
@@ -154,11 +159,12 @@ impl World {
         ensures named { HoldsAfter IsNamed self.old self.new (λ past. and_then past (event_of event.entry) result) }
         ensures arrives { HoldsAfter ArrivesAll self.old self.new (λ past. and_then past (event_of event.entry) result) }
         ensures quiet { HoldsAfter HasNoProcedureError self.old self.new (λ past. and_then past (event_of event.entry) result) }
-        ensures window { HoldsAfterSetUp IsInWindow self.old self.new (λ past. and_then past (event_of event.entry) result) }
+        ensures window { HoldsAfterSetUp StaysInWindow self.old self.new (λ past. and_then past (event_of event.entry) result) }
         ensures up_once { UpOnceAfter self.old self.new (λ past. and_then past (event_of event.entry) result) }
 
         // .. and of each run this is, also where the link is set up anew.
         ensures sessions { HoldsThroughout SessionsKeepOrder self.old self.new (λ past. and_then past (event_of event.entry) result) }
+        ensures links { GoesOnThroughout SessionsStayInWindow self.old self.new (λ past. and_then past (event_of event.entry) result) }
     {
         two_stations_keep_order();
         stations_meet_in_sessions();
@@ -189,11 +195,12 @@ impl World {
         ensures named { HoldsAfter IsNamed self.old self.new (λ past. and_then past (bit_damage direction place bits.now) result) }
         ensures arrives { HoldsAfter ArrivesAll self.old self.new (λ past. and_then past (bit_damage direction place bits.now) result) }
         ensures quiet { HoldsAfter HasNoProcedureError self.old self.new (λ past. and_then past (bit_damage direction place bits.now) result) }
-        ensures window { HoldsAfterSetUp IsInWindow self.old self.new (λ past. and_then past (bit_damage direction place bits.now) result) }
+        ensures window { HoldsAfterSetUp StaysInWindow self.old self.new (λ past. and_then past (bit_damage direction place bits.now) result) }
         ensures up_once { UpOnceAfter self.old self.new (λ past. and_then past (bit_damage direction place bits.now) result) }
 
         // .. and of each run this is, also where the link is set up anew.
         ensures sessions { HoldsThroughout SessionsKeepOrder self.old self.new (λ past. and_then past (bit_damage direction place bits.now) result) }
+        ensures links { GoesOnThroughout SessionsStayInWindow self.old self.new (λ past. and_then past (bit_damage direction place bits.now) result) }
     {
         two_stations_keep_order();
         stations_meet_in_sessions();
@@ -244,11 +251,12 @@ impl World {
         ensures named { HoldsAfter IsNamed self.old self.new (λ past. and_all past (map event_of events.now) result) }
         ensures arrives { HoldsAfter ArrivesAll self.old self.new (λ past. and_all past (map event_of events.now) result) }
         ensures quiet { HoldsAfter HasNoProcedureError self.old self.new (λ past. and_all past (map event_of events.now) result) }
-        ensures window { HoldsAfterSetUp IsInWindow self.old self.new (λ past. and_all past (map event_of events.now) result) }
+        ensures window { HoldsAfterSetUp StaysInWindow self.old self.new (λ past. and_all past (map event_of events.now) result) }
         ensures up_once { UpOnceAfter self.old self.new (λ past. and_all past (map event_of events.now) result) }
 
         // .. and of each run this is, also where the link is set up anew.
         ensures sessions { HoldsThroughout SessionsKeepOrder self.old self.new (λ past. and_all past (map event_of events.now) result) }
+        ensures links { GoesOnThroughout SessionsStayInWindow self.old self.new (λ past. and_all past (map event_of events.now) result) }
     {
         two_stations_keep_order();
         stations_meet_in_sessions();

@@ -1,5 +1,5 @@
-use Rattle.x25_line.proofs.StationRuns.{Laws}
-use Rattle.x25_line.proofs.StationClaimLemmas.{keeps_order, keeps_lists, keeps_notes, keeps_window, sends_no_frmr, sends_whole, stays_one_link}
+use Rattle.x25_line.proofs.StationRuns.{Laws, once_before}
+use Rattle.x25_line.proofs.StationClaimLemmas.{keeps_order, keeps_lists, keeps_notes, goes_along, sends_no_frmr, sends_whole, stays_one_link}
 use Rattle.x25_line.proofs.law.stations_keep_order.Goals as goal
 
 pub returns : goal.returns
@@ -16,4 +16,4 @@ returns c =
       disconnect_tells = notes.disconnect;
       abandon_tells = notes.abandon;
     } in
-    record { order = keeps_order reads laws; lists = keeps_lists reads laws; notes = keeps_notes reads laws; window = keeps_window reads laws; no_frmr = sends_no_frmr reads laws; whole = sends_whole reads laws; once = stays_one_link reads laws }
+    record { order = keeps_order reads laws; lists = keeps_lists reads laws; notes = keeps_notes reads laws; window = goes_along reads laws; no_frmr = sends_no_frmr reads laws; whole = sends_whole reads laws; once = stays_one_link reads laws; before = once_before }

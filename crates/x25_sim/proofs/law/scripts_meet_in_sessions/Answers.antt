@@ -1,7 +1,7 @@
 use Rattle.x25_world.specs.Claims.{HasNoProcedureError}
 use Rattle.x25_world.specs.SessionClaims.{AllArrive, AreLawfulWhereMet, AreNamedInSessions, MeetInStep, OpenStretchesMeet, UnmetAreToldNothing}
-use Rattle.x25_world.specs.SessionWindow.{UpIsInWindow}
-use Rattle.x25_sim.proofs.RunLemmas.{of_all_scripts}
+use Rattle.x25_world.specs.SessionWindow.{SessionsStayInWindow}
+use Rattle.x25_sim.proofs.RunLemmas.{of_all_scripts, of_all_runs}
 use Rattle.x25_sim.proofs.law.scripts_meet_in_sessions.Goals as goal
 
 pub returns-clause-step : goal.returns-clause-step
@@ -26,4 +26,4 @@ pub returns-clause-quiet : goal.returns-clause-quiet
 returns-clause-quiet c = of_all_scripts HasNoProcedureError c.stations_meet_in_sessions.ensures.quiet c.scripts_are_runs.ensures
 
 pub returns-clause-window : goal.returns-clause-window
-returns-clause-window c = of_all_scripts UpIsInWindow c.stations_meet_in_sessions.ensures.window c.scripts_are_runs.ensures
+returns-clause-window c = of_all_runs SessionsStayInWindow c.stations_meet_in_sessions.ensures.window c.scripts_are_runs.ensures

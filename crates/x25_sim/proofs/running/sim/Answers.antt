@@ -4,7 +4,8 @@ use Rattle.x25_sim.specs.Simulated.{sim_text}
 use Rattle.x25_io.proofs.ToldLemmas.{none_told}
 use Rattle.x25_sim.proofs.SimLemmas.{if_some, nothing_written, opening_failed, script_begins}
 use Rattle.x25_sim.proofs.WritesLemmas.{all_of_scripts, written_in_sessions, written_once, written_set_up}
-use Rattle.x25_world.specs.Claims.{ArrivesAll, HasNoProcedureError, IsInWindow, IsLawful, IsNamed}
+use Rattle.x25_world.specs.Claims.{ArrivesAll, HasNoProcedureError, IsLawful, IsNamed}
+use Rattle.x25_world.specs.WindowGoes.{IsInWindow}
 use Rattle.x25_sim.proofs.running.sim.Goals as goal
 
 pub returns-in_default-new-clause-fault : goal.returns-in_default-new-clause-fault

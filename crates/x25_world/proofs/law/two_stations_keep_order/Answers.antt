@@ -64,6 +64,6 @@ returns c =
       named = always_named laws keeps.connect;
       arrives = always_arrives laws keeps.connect;
       quiet = always_quiet laws keeps.connect;
-      window = always_in_window laws keeps.connect links.window;
+      window = always_in_window laws keeps.connect links.window links.before;
       up_once = up_once laws keeps.connect links.once;
     }

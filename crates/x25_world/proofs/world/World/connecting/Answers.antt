@@ -1,10 +1,11 @@
 use Rattle.std.proofs.Common.{[], inl, inr, refl}
 use Rattle.std.proofs.lemmas.Result.{err_from_is_err_and}
-use Rattle.x25_world.proofs.WorldLemmas.{in_range, new_run, holds_after, connected_up, holds_throughout, all_of_sessions, refused_later}
+use Rattle.x25_world.proofs.WorldLemmas.{in_range, new_run, holds_after, connected_up, holds_throughout, goes_on_throughout, all_of_sessions, refused_later}
 use Rattle.x25_world.specs.World.{connected}
 use Rattle.x25_world.specs.FitsWorld.{nothing_gone}
 use Rattle.x25_world.specs.Claims.{IsLawful, IsNamed, ArrivesAll, HasNoProcedureError}
 use Rattle.x25_world.specs.SessionClaims.{SessionsKeepOrder}
+use Rattle.x25_world.specs.SessionWindow.{SessionsStayInWindow}
 use Rattle.x25_world.proofs.world.World.connecting.Goals as goal
 
 pub returns-in_err-connect-clause-refused : goal.returns-in_err-connect-clause-refused
@@ -31,3 +32,7 @@ pub returns-clause-sessions : goal.returns-clause-sessions
 returns-clause-sessions c =
     let law = c.stations_meet_in_sessions.ensures in
     holds_throughout SessionsKeepOrder _ c.args.cfg (connected c.args.cfg) [] nothing_gone (all_of_sessions law.step law.lawful law.named law.arrives law.unmet law.stand law.quiet law.window) (inr (inl refl)) (returns-clause-run c)
+
+pub returns-clause-links : goal.returns-clause-links
+returns-clause-links c =
+    goes_on_throughout SessionsStayInWindow _ c.args.cfg (connected c.args.cfg) [] nothing_gone c.stations_meet_in_sessions.ensures.window (inr (inl refl)) (returns-clause-run c)

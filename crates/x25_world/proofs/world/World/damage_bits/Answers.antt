@@ -4,10 +4,12 @@ use Rattle.x25_bits.specs.Sealed.{is_sealed}
 use Rattle.x25_world.specs.ShownWorld.{line_of}
 use Rattle.x25_world.specs.World.{Event}
 use Rattle.x25_world.specs.FitsWorld.{FitsRun, and_then}
-use Rattle.x25_world.specs.Claims.{IsLawful, IsNamed, ArrivesAll, HasNoProcedureError, IsInWindow}
+use Rattle.x25_world.specs.Claims.{IsLawful, IsNamed, ArrivesAll, HasNoProcedureError}
+use Rattle.x25_world.specs.WindowGoes.{StaysInWindow}
 use Rattle.x25_world.specs.SessionClaims.{SessionsKeepOrder}
+use Rattle.x25_world.specs.SessionWindow.{SessionsStayInWindow}
 use Rattle.x25_world.proofs.BitDamageLemmas.{damage_is, refuses_bits}
-use Rattle.x25_world.proofs.WorldLemmas.{holds_after, holds_after_set_up, up_once_after, holds_throughout, all_of_sessions}
+use Rattle.x25_world.proofs.WorldLemmas.{holds_after, holds_after_set_up, up_once_after, holds_throughout, goes_on_throughout, all_of_sessions}
 use Rattle.x25_world.proofs.world.World.damage_bits.Goals as goal
 
 pub returns-clause-refused : goal.returns-clause-refused
@@ -36,7 +38,7 @@ pub returns-clause-quiet : goal.returns-clause-quiet
 returns-clause-quiet c = λ cfg from past gone begins h once. holds_after HasNoProcedureError _ cfg from _ gone c.two_stations_keep_order.ensures.quiet begins ((returns-clause-run c) cfg from past gone h) once
 
 pub returns-clause-window : goal.returns-clause-window
-returns-clause-window c = λ cfg past gone h once. holds_after_set_up IsInWindow _ cfg _ gone c.two_stations_keep_order.ensures.window ((returns-clause-run c) cfg _ past gone h) once
+returns-clause-window c = λ cfg past gone h once. holds_after_set_up StaysInWindow _ cfg _ gone c.two_stations_keep_order.ensures.window ((returns-clause-run c) cfg _ past gone h) once
 
 pub returns-clause-up_once : goal.returns-clause-up_once
 returns-clause-up_once c = λ cfg past gone h none. up_once_after _ cfg _ gone c.two_stations_keep_order.ensures.up_once ((returns-clause-run c) cfg _ past gone h) none
@@ -45,6 +47,10 @@ pub returns-clause-sessions : goal.returns-clause-sessions
 returns-clause-sessions c = λ cfg from past gone begins h.
     let law = c.stations_meet_in_sessions.ensures in
     holds_throughout SessionsKeepOrder _ cfg from _ gone (all_of_sessions law.step law.lawful law.named law.arrives law.unmet law.stand law.quiet law.window) begins ((returns-clause-run c) cfg from past gone h)
+
+pub returns-clause-links : goal.returns-clause-links
+returns-clause-links c = λ cfg from past gone begins h.
+    goes_on_throughout SessionsStayInWindow _ cfg from _ gone c.stations_meet_in_sessions.ensures.window begins ((returns-clause-run c) cfg from past gone h)
 
 pub returns-in_err-octets-clause-lawful : goal.returns-in_err-octets-clause-lawful
 returns-in_err-octets-clause-lawful c =
@@ -69,13 +75,18 @@ returns-in_err-octets-clause-quiet c =
 pub returns-in_err-octets-clause-window : goal.returns-in_err-octets-clause-window
 returns-in_err-octets-clause-window c =
     let p = err_from_is_err_and c.from_residual.result c.from_residual.ensures.1 in
-    rw p.1 (λ cfg past gone h once. holds_after_set_up IsInWindow _ cfg past gone c.two_stations_keep_order.ensures.window h once)
+    rw p.1 (λ cfg past gone h once. holds_after_set_up StaysInWindow _ cfg past gone c.two_stations_keep_order.ensures.window h once)
 
 pub returns-in_err-octets-clause-sessions : goal.returns-in_err-octets-clause-sessions
 returns-in_err-octets-clause-sessions c = λ cfg from past gone begins h.
     let p = err_from_is_err_and c.from_residual.result c.from_residual.ensures.1 in
     let law = c.stations_meet_in_sessions.ensures in
     rw p.1 (holds_throughout SessionsKeepOrder _ cfg from past gone (all_of_sessions law.step law.lawful law.named law.arrives law.unmet law.stand law.quiet law.window) begins h)
+
+pub returns-in_err-octets-clause-links : goal.returns-in_err-octets-clause-links
+returns-in_err-octets-clause-links c = λ cfg from past gone begins h.
+    let p = err_from_is_err_and c.from_residual.result c.from_residual.ensures.1 in
+    rw p.1 (goes_on_throughout SessionsStayInWindow _ cfg from past gone c.stations_meet_in_sessions.ensures.window begins h)
 
 pub returns-then-place-on_line-clause-lawful : goal.returns-then-place-on_line-clause-lawful
 returns-then-place-on_line-clause-lawful c = λ cfg from past gone begins h once. holds_after IsLawful _ cfg from past gone c.two_stations_keep_order.ensures.lawful begins h once
@@ -89,7 +100,14 @@ returns-then-place-on_line-clause-arrives c = λ cfg from past gone begins h onc
 pub returns-then-place-on_line-clause-quiet : goal.returns-then-place-on_line-clause-quiet
 returns-then-place-on_line-clause-quiet c = λ cfg from past gone begins h once. holds_after HasNoProcedureError _ cfg from past gone c.two_stations_keep_order.ensures.quiet begins h once
 
+pub returns-then-place-on_line-clause-window : goal.returns-then-place-on_line-clause-window
+returns-then-place-on_line-clause-window c = λ cfg past gone h once. holds_after_set_up StaysInWindow _ cfg past gone c.two_stations_keep_order.ensures.window h once
+
 pub returns-then-place-on_line-clause-sessions : goal.returns-then-place-on_line-clause-sessions
 returns-then-place-on_line-clause-sessions c = λ cfg from past gone begins h.
     let law = c.stations_meet_in_sessions.ensures in
     holds_throughout SessionsKeepOrder _ cfg from past gone (all_of_sessions law.step law.lawful law.named law.arrives law.unmet law.stand law.quiet law.window) begins h
+
+pub returns-then-place-on_line-clause-links : goal.returns-then-place-on_line-clause-links
+returns-then-place-on_line-clause-links c = λ cfg from past gone begins h.
+    goes_on_throughout SessionsStayInWindow _ cfg from past gone c.stations_meet_in_sessions.ensures.window begins h

@@ -1,10 +1,12 @@
 use Rattle.std.proofs.Common.{[], inr, refl}
 use Rattle.std.proofs.lemmas.Result.{err_from_is_err_and}
-use Rattle.x25_world.proofs.WorldLemmas.{in_range, new_run, holds_after, holds_after_set_up, once_at_most, up_once_after, holds_throughout, all_of_sessions, refused_later}
+use Rattle.x25_world.proofs.WorldLemmas.{in_range, new_run, holds_after, holds_after_set_up, once_at_most, up_once_after, holds_throughout, goes_on_throughout, all_of_sessions, refused_later}
 use Rattle.x25_world.specs.World.{established}
 use Rattle.x25_world.specs.FitsWorld.{nothing_gone}
-use Rattle.x25_world.specs.Claims.{IsLawful, IsNamed, ArrivesAll, HasNoProcedureError, IsInWindow}
+use Rattle.x25_world.specs.Claims.{IsLawful, IsNamed, ArrivesAll, HasNoProcedureError}
+use Rattle.x25_world.specs.WindowGoes.{StaysInWindow}
 use Rattle.x25_world.specs.SessionClaims.{SessionsKeepOrder}
+use Rattle.x25_world.specs.SessionWindow.{SessionsStayInWindow}
 use Rattle.x25_world.proofs.world.World.establish.Goals as goal
 
 pub returns-in_err-set_up-clause-refused : goal.returns-in_err-set_up-clause-refused
@@ -38,7 +40,7 @@ returns-clause-quiet c =
 pub returns-clause-window : goal.returns-clause-window
 returns-clause-window c =
     let h = returns-clause-run c in
-    holds_after_set_up IsInWindow _ c.args.cfg [] nothing_gone c.two_stations_keep_order.ensures.window h (c.two_stations_keep_order.ensures.up_once c.args.cfg h.settings [] tt tt)
+    holds_after_set_up StaysInWindow _ c.args.cfg [] nothing_gone c.two_stations_keep_order.ensures.window h (c.two_stations_keep_order.ensures.up_once c.args.cfg h.settings [] tt tt)
 
 pub returns-clause-up_once : goal.returns-clause-up_once
 returns-clause-up_once c = up_once_after _ c.args.cfg [] nothing_gone c.two_stations_keep_order.ensures.up_once (returns-clause-run c) tt
@@ -47,3 +49,7 @@ pub returns-clause-sessions : goal.returns-clause-sessions
 returns-clause-sessions c =
     let law = c.stations_meet_in_sessions.ensures in
     holds_throughout SessionsKeepOrder _ c.args.cfg (established c.args.cfg) [] nothing_gone (all_of_sessions law.step law.lawful law.named law.arrives law.unmet law.stand law.quiet law.window) (inr (inr refl)) (returns-clause-run c)
+
+pub returns-clause-links : goal.returns-clause-links
+returns-clause-links c =
+    goes_on_throughout SessionsStayInWindow _ c.args.cfg (established c.args.cfg) [] nothing_gone c.stations_meet_in_sessions.ensures.window (inr (inr refl)) (returns-clause-run c)

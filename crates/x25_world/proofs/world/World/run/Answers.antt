@@ -1,6 +1,8 @@
-use Rattle.x25_world.specs.Claims.{IsLawful, IsNamed, ArrivesAll, HasNoProcedureError, IsInWindow}
-use Rattle.x25_world.proofs.WorldLemmas.{holds_after, holds_after_set_up, up_once_after, holds_throughout, all_of_sessions}
+use Rattle.x25_world.specs.Claims.{IsLawful, IsNamed, ArrivesAll, HasNoProcedureError}
+use Rattle.x25_world.specs.WindowGoes.{StaysInWindow}
+use Rattle.x25_world.proofs.WorldLemmas.{holds_after, holds_after_set_up, up_once_after, holds_throughout, goes_on_throughout, all_of_sessions}
 use Rattle.x25_world.specs.SessionClaims.{SessionsKeepOrder}
+use Rattle.x25_world.specs.SessionWindow.{SessionsStayInWindow}
 use Rattle.x25_world.proofs.world.World.run.Goals as goal
 
 pub returns-clause-lawful : goal.returns-clause-lawful
@@ -16,7 +18,7 @@ pub returns-clause-quiet : goal.returns-clause-quiet
 returns-clause-quiet c = λ cfg from past gone begins h once. holds_after HasNoProcedureError _ cfg from _ gone c.two_stations_keep_order.ensures.quiet begins (c.happen_all.ensures.run cfg from past gone h) once
 
 pub returns-clause-window : goal.returns-clause-window
-returns-clause-window c = λ cfg past gone h once. holds_after_set_up IsInWindow _ cfg _ gone c.two_stations_keep_order.ensures.window (c.happen_all.ensures.run cfg _ past gone h) once
+returns-clause-window c = λ cfg past gone h once. holds_after_set_up StaysInWindow _ cfg _ gone c.two_stations_keep_order.ensures.window (c.happen_all.ensures.run cfg _ past gone h) once
 
 pub returns-clause-up_once : goal.returns-clause-up_once
 returns-clause-up_once c = λ cfg past gone h none. up_once_after _ cfg _ gone c.two_stations_keep_order.ensures.up_once (c.happen_all.ensures.run cfg _ past gone h) none
@@ -25,3 +27,7 @@ pub returns-clause-sessions : goal.returns-clause-sessions
 returns-clause-sessions c = λ cfg from past gone begins h.
     let law = c.stations_meet_in_sessions.ensures in
     holds_throughout SessionsKeepOrder _ cfg from _ gone (all_of_sessions law.step law.lawful law.named law.arrives law.unmet law.stand law.quiet law.window) begins (c.happen_all.ensures.run cfg from past gone h)
+
+pub returns-clause-links : goal.returns-clause-links
+returns-clause-links c = λ cfg from past gone begins h.
+    goes_on_throughout SessionsStayInWindow _ cfg from _ gone c.stations_meet_in_sessions.ensures.window begins (c.happen_all.ensures.run cfg from past gone h)
