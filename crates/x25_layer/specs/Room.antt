@@ -31,3 +31,7 @@ pub record HasRoom (len : ℕ) (v : code.Layer) (n : ℕ) : Type 0 where
   pub memory : 16 ≤ v.memory
   pub spares : 16 ≤ n
   pub circuits : HaveRoom len v.circuits.items
+
+-- A promise of this kind stands across a call that takes nothing of what is set aside in the link: it puts nothing.
+abbrev pub KeepsRoom : code.Layer → ℕ → code.Layer → ℕ → Type 0
+KeepsRoom v n v₂ n₂ = (len : ℕ) → HasRoom len v n → n₂ ≡ n → HasRoom len v₂ n₂

@@ -1,5 +1,5 @@
 //! What the user asks of the circuit of a channel: the steps that all calls with a channel share.
-ghost use Rattle.std.specs.Prelude.{◌≡◌, ◌≢◌, ℕ, ◌<◌, ◌≤◌, ◌&&◌, ◌==◌, length, true, false, IfErr, IfOk, OnOk, OnErr, IsErrOf};
+ghost use Rattle.std.specs.Prelude.{◌≡◌, ◌≢◌, ℕ, ◌<◌, ◌≤◌, ◌&&◌, ◌==◌, length, max, true, false, IfErr, IfOk, OnOk, OnErr, IsErrOf};
 ghost use Rattle.x25_circuit.specs.Calls.{outcome};
 ghost use Rattle.x25_circuit.specs.Replies.{IsSendable, plain_owed};
 ghost use Rattle.x25_circuit.specs.Requests.{plain_request, MayPut};
@@ -10,6 +10,7 @@ ghost use Rattle.x25_layer.specs.Rounds.{calls, went};
 ghost use Rattle.x25_layer.specs.FitsLayer.{FitsLayer};
 ghost use Rattle.x25_layer.specs.OverLink.{view_of, LayerGives, LinkGives, LacksMemory};
 ghost use Rattle.x25_layer.specs.Asking.{AsksCircuit, error_without_memory};
+ghost use Rattle.x25_layer.specs.Room.{HaveRoom, HasRoom, KeepsRoom};
 
 use crate::error::LayerError;
 use crate::layer::Layer;
@@ -37,6 +38,7 @@ impl Layer {
         ensures range { IfOk result (λ packet. IsSendable (plain_owed packet)) }
         ensures at_once { IfOk result (λ packet. MayPut (plain_request request.entry) packet) }
         ensures memory { self.new.memory ≡ self.old.memory }
+        ensures room { (len : ℕ) → HaveRoom len self.old.circuits.items → HaveRoom len self.new.circuits.items }
         ensures fits { (c : LayerSettings) (l : State) → FitsLayer c self.old l → OnErr result (FitsLayer c self.new l) }
         ensures kinds { IfErr result (λ e. e ≢ LayerError.NoMemory) }
     {
@@ -81,6 +83,10 @@ impl Layer {
         ensures link_stays { (x : L.State) → L.fits link.old x → OnErr result (L.fits link.new x) }
         ensures longest { L.longest link.new ≡ L.longest link.old }
         ensures missing { IsErrOf result LayerError.NoMemory → LacksMemory 16 self.old (L.spares link.old) }
+        ensures most_memory { self.new.memory ≤ max self.old.memory 16 }
+        ensures most_spares { L.spares link.new ≤ max (L.spares link.old) 16 }
+        ensures room { KeepsRoom self.old (L.spares link.old) self.new (L.spares link.new) }
+        ensures room_stays { (len : ℕ) → HasRoom len self.old (L.spares link.old) → OnErr result (HasRoom len self.new (L.spares link.new)) }
     {
         if self.set_aside(link, MOST_PUT).is_err() {
             return Err(self.without_memory(channel, &request));
@@ -107,6 +113,10 @@ impl Layer {
         ensures link_stays { (x : L.State) → L.fits link.old x → OnErr result (L.fits link.new x) }
         ensures longest { L.longest link.new ≡ L.longest link.old }
         ensures missing { IsErrOf result LayerError.NoMemory → LacksMemory 16 self.old (L.spares link.old) }
+        ensures most_memory { self.new.memory ≤ max self.old.memory 16 }
+        ensures most_spares { L.spares link.new ≤ max (L.spares link.old) 16 }
+        ensures room { KeepsRoom self.old (L.spares link.old) self.new (L.spares link.new) }
+        ensures room_stays { (len : ℕ) → HasRoom len self.old (L.spares link.old) → OnErr result (HasRoom len self.new (L.spares link.new)) }
     {
         if !link.is_up() {
             return Err(LayerError::NotUp);

@@ -7,13 +7,14 @@
 //!
 //! An accepted call puts its packet, and then the data packets of all channels in rounds, while fewer than 8 packets wait. The
 //! link takes packets of 4,099 octets.
-ghost use Rattle.std.specs.Prelude.{◌≡◌, ℕ, ◌≤◌, None, Some, IfOk, OnErr, IsErrOf};
+ghost use Rattle.std.specs.Prelude.{◌≡◌, ℕ, ◌≤◌, max, None, Some, IfOk, OnErr, IsErrOf};
 ghost use Rattle.x25_circuit.specs.Params.{default_params};
 ghost use Rattle.x25_circuit.specs.Calls.{Accepts, Clears, Sends, Interrupts, Resets, SaysReady, SaysNotReady};
 ghost use Rattle.x25_layer.specs.Layer.{LayerSettings};
 ghost use Rattle.x25_layer.specs.Layer.{Layer as State};
 ghost use Rattle.x25_layer.specs.FitsLayer.{FitsLayer};
 ghost use Rattle.x25_layer.specs.OverLink.{view_of, LayerGives, LinkGives, LacksMemory};
+ghost use Rattle.x25_layer.specs.Room.{HasRoom, KeepsRoom};
 ghost use Rattle.x25_layer.specs.Calls.{Asks, Dials, free_channel};
 ghost use Rattle.x25_layer.specs.Rounds.{calls};
 
@@ -42,6 +43,10 @@ impl Layer {
         ensures link_stays { (x : L.State) → L.fits link.old x → OnErr result (L.fits link.new x) }
         ensures longest { L.longest link.new ≡ L.longest link.old }
         ensures missing { IsErrOf result LayerError.NoMemory → LacksMemory 16 self.old (L.spares link.old) }
+        ensures most_memory { self.new.memory ≤ max self.old.memory 16 }
+        ensures most_spares { L.spares link.new ≤ max (L.spares link.old) 16 }
+        ensures room { KeepsRoom self.old (L.spares link.old) self.new (L.spares link.new) }
+        ensures room_stays { (len : ℕ) → HasRoom len self.old (L.spares link.old) → OnErr result (HasRoom len self.new (L.spares link.new)) }
         ensures channel { (c : LayerSettings) (l : State) → FitsLayer c self.old l → IfOk result (λ channel. free_channel c.circuit.role l.circuits c.channels ≡ Some channel) }
     {
         self.call_with(link, called, calling, user, Params::default())
@@ -67,6 +72,10 @@ impl Layer {
         ensures link_stays { (x : L.State) → L.fits link.old x → OnErr result (L.fits link.new x) }
         ensures longest { L.longest link.new ≡ L.longest link.old }
         ensures missing { IsErrOf result LayerError.NoMemory → LacksMemory 16 self.old (L.spares link.old) }
+        ensures most_memory { self.new.memory ≤ max self.old.memory 16 }
+        ensures most_spares { L.spares link.new ≤ max (L.spares link.old) 16 }
+        ensures room { KeepsRoom self.old (L.spares link.old) self.new (L.spares link.new) }
+        ensures room_stays { (len : ℕ) → HasRoom len self.old (L.spares link.old) → OnErr result (HasRoom len self.new (L.spares link.new)) }
         ensures channel { (c : LayerSettings) (l : State) → FitsLayer c self.old l → IfOk result (λ channel. free_channel c.circuit.role l.circuits c.channels ≡ Some channel) }
     {
         if !link.is_up() {
@@ -104,6 +113,10 @@ impl Layer {
         ensures link_stays { (x : L.State) → L.fits link.old x → OnErr result (L.fits link.new x) }
         ensures longest { L.longest link.new ≡ L.longest link.old }
         ensures missing { IsErrOf result LayerError.NoMemory → LacksMemory 16 self.old (L.spares link.old) }
+        ensures most_memory { self.new.memory ≤ max self.old.memory 16 }
+        ensures most_spares { L.spares link.new ≤ max (L.spares link.old) 16 }
+        ensures room { KeepsRoom self.old (L.spares link.old) self.new (L.spares link.new) }
+        ensures room_stays { (len : ℕ) → HasRoom len self.old (L.spares link.old) → OnErr result (HasRoom len self.new (L.spares link.new)) }
     {
         self.ask(link, channel, Request::Accept { answer: None })
     }
@@ -126,6 +139,10 @@ impl Layer {
         ensures link_stays { (x : L.State) → L.fits link.old x → OnErr result (L.fits link.new x) }
         ensures longest { L.longest link.new ≡ L.longest link.old }
         ensures missing { IsErrOf result LayerError.NoMemory → LacksMemory 16 self.old (L.spares link.old) }
+        ensures most_memory { self.new.memory ≤ max self.old.memory 16 }
+        ensures most_spares { L.spares link.new ≤ max (L.spares link.old) 16 }
+        ensures room { KeepsRoom self.old (L.spares link.old) self.new (L.spares link.new) }
+        ensures room_stays { (len : ℕ) → HasRoom len self.old (L.spares link.old) → OnErr result (HasRoom len self.new (L.spares link.new)) }
     {
         let answer = Proposal::new(params);
         self.ask(
@@ -149,6 +166,10 @@ impl Layer {
         ensures link_stays { (x : L.State) → L.fits link.old x → OnErr result (L.fits link.new x) }
         ensures longest { L.longest link.new ≡ L.longest link.old }
         ensures missing { IsErrOf result LayerError.NoMemory → LacksMemory 16 self.old (L.spares link.old) }
+        ensures most_memory { self.new.memory ≤ max self.old.memory 16 }
+        ensures most_spares { L.spares link.new ≤ max (L.spares link.old) 16 }
+        ensures room { KeepsRoom self.old (L.spares link.old) self.new (L.spares link.new) }
+        ensures room_stays { (len : ℕ) → HasRoom len self.old (L.spares link.old) → OnErr result (HasRoom len self.new (L.spares link.new)) }
     {
         self.ask(link, channel, Request::Clear)
     }
@@ -172,6 +193,10 @@ impl Layer {
         ensures link_stays { (x : L.State) → L.fits link.old x → OnErr result (L.fits link.new x) }
         ensures longest { L.longest link.new ≡ L.longest link.old }
         ensures missing { IsErrOf result LayerError.NoMemory → LacksMemory 16 self.old (L.spares link.old) }
+        ensures most_memory { self.new.memory ≤ max self.old.memory 16 }
+        ensures most_spares { L.spares link.new ≤ max (L.spares link.old) 16 }
+        ensures room { KeepsRoom self.old (L.spares link.old) self.new (L.spares link.new) }
+        ensures room_stays { (len : ℕ) → HasRoom len self.old (L.spares link.old) → OnErr result (HasRoom len self.new (L.spares link.new)) }
     {
         self.ask(link, channel, Request::Send { q, user })
     }
@@ -193,6 +218,10 @@ impl Layer {
         ensures link_stays { (x : L.State) → L.fits link.old x → OnErr result (L.fits link.new x) }
         ensures longest { L.longest link.new ≡ L.longest link.old }
         ensures missing { IsErrOf result LayerError.NoMemory → LacksMemory 16 self.old (L.spares link.old) }
+        ensures most_memory { self.new.memory ≤ max self.old.memory 16 }
+        ensures most_spares { L.spares link.new ≤ max (L.spares link.old) 16 }
+        ensures room { KeepsRoom self.old (L.spares link.old) self.new (L.spares link.new) }
+        ensures room_stays { (len : ℕ) → HasRoom len self.old (L.spares link.old) → OnErr result (HasRoom len self.new (L.spares link.new)) }
     {
         self.ask(link, channel, Request::Interrupt { user })
     }
@@ -209,6 +238,10 @@ impl Layer {
         ensures link_stays { (x : L.State) → L.fits link.old x → OnErr result (L.fits link.new x) }
         ensures longest { L.longest link.new ≡ L.longest link.old }
         ensures missing { IsErrOf result LayerError.NoMemory → LacksMemory 16 self.old (L.spares link.old) }
+        ensures most_memory { self.new.memory ≤ max self.old.memory 16 }
+        ensures most_spares { L.spares link.new ≤ max (L.spares link.old) 16 }
+        ensures room { KeepsRoom self.old (L.spares link.old) self.new (L.spares link.new) }
+        ensures room_stays { (len : ℕ) → HasRoom len self.old (L.spares link.old) → OnErr result (HasRoom len self.new (L.spares link.new)) }
     {
         self.ask(link, channel, Request::Reset)
     }
@@ -225,6 +258,10 @@ impl Layer {
         ensures link_stays { (x : L.State) → L.fits link.old x → OnErr result (L.fits link.new x) }
         ensures longest { L.longest link.new ≡ L.longest link.old }
         ensures missing { IsErrOf result LayerError.NoMemory → LacksMemory 16 self.old (L.spares link.old) }
+        ensures most_memory { self.new.memory ≤ max self.old.memory 16 }
+        ensures most_spares { L.spares link.new ≤ max (L.spares link.old) 16 }
+        ensures room { KeepsRoom self.old (L.spares link.old) self.new (L.spares link.new) }
+        ensures room_stays { (len : ℕ) → HasRoom len self.old (L.spares link.old) → OnErr result (HasRoom len self.new (L.spares link.new)) }
     {
         self.ask(link, channel, Request::Ready)
     }
@@ -245,6 +282,10 @@ impl Layer {
         ensures link_stays { (x : L.State) → L.fits link.old x → OnErr result (L.fits link.new x) }
         ensures longest { L.longest link.new ≡ L.longest link.old }
         ensures missing { IsErrOf result LayerError.NoMemory → LacksMemory 16 self.old (L.spares link.old) }
+        ensures most_memory { self.new.memory ≤ max self.old.memory 16 }
+        ensures most_spares { L.spares link.new ≤ max (L.spares link.old) 16 }
+        ensures room { KeepsRoom self.old (L.spares link.old) self.new (L.spares link.new) }
+        ensures room_stays { (len : ℕ) → HasRoom len self.old (L.spares link.old) → OnErr result (HasRoom len self.new (L.spares link.new)) }
     {
         self.ask(link, channel, Request::NotReady)
     }

@@ -43,6 +43,7 @@ impl Layer {
     /// 14 BadConfig for another number of channels, and else 70 alone.
     pub fn new(alloc: Global, role: Role, channels: usize) -> Result<Layer, LayerError>
         ensures fits { IfOk result (λ v. FitsLayer (record { channels = channels; circuit = record { role = role; long_data = false } }) v at_rest) }
+        ensures none_aside { IfOk result (λ v. v.memory ≡ 0) }
         ensures config { IsErrOf result LayerError.BadConfig ↔ (is_channel 16 channels ≡ false) }
         ensures memory { is_channel 16 channels ≡ true → IfErr result (λ e. e ≡ LayerError.NoMemory) }
     {
@@ -59,6 +60,7 @@ impl Layer {
         long_data: bool,
     ) -> Result<Layer, LayerError>
         ensures fits { IfOk result (λ v. FitsLayer (record { channels = channels; circuit = record { role = role; long_data = long_data } }) v at_rest) }
+        ensures none_aside { IfOk result (λ v. v.memory ≡ 0) }
         ensures config { IsErrOf result LayerError.BadConfig ↔ (is_channel 16 channels ≡ false) }
         ensures memory { is_channel 16 channels ≡ true → IfErr result (λ e. e ≡ LayerError.NoMemory) }
     {
@@ -136,6 +138,7 @@ impl Layer {
     pub fn down(&mut self)
         ensures layer { (c : LayerSettings) (l : State) → FitsLayer c self.old l → FitsLayer c self.new (rested l) }
         ensures room { (len spares : ℕ) → HasRoom len self.old spares → HasRoom len self.new spares }
+        ensures memory { self.new.memory ≡ self.old.memory }
     {
         self.restarting = false;
         forget_all(&mut self.circuits);

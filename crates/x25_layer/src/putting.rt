@@ -28,6 +28,8 @@ impl Layer {
         ensures fits { (c : LayerSettings) (l : State) → FitsLayer c self.old l → FitsLayer c self.new l }
         ensures memory { OnOk result (count ≤ self.new.memory) }
         ensures spares { OnOk result (count ≤ L.spares link.new) }
+        ensures no_fewer { self.old.memory ≤ self.new.memory }
+        ensures no_fewer_spares { L.spares link.old ≤ L.spares link.new }
         ensures most_memory { self.new.memory ≤ max self.old.memory count }
         ensures most_spares { L.spares link.new ≤ max (L.spares link.old) count }
         ensures link { (x : L.State) → L.fits link.old x → L.fits link.new x }

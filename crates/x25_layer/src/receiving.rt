@@ -1,5 +1,5 @@
 //! Octets that the link handed up. ITU-T X.25 (10/96), sections 3.3 and 4, and Annex C.
-ghost use Rattle.std.specs.Prelude.{◌≡◌, ℕ, ◌+◌, ◌-◌, ◌^◌, ◌<◌, ◌≤◌, [], length, min, true, IfErr, IfOk, IsOk, OnOk, OnErr, option_to_list};
+ghost use Rattle.std.specs.Prelude.{◌≡◌, ℕ, ◌+◌, ◌-◌, ◌^◌, ◌<◌, ◌≤◌, [], length, max, min, true, IfErr, IfOk, IsOk, OnOk, OnErr, option_to_list};
 ghost use Rattle.x25_packet.specs.Reading.{packet_of};
 ghost use Rattle.x25_packet.specs.Spelling.{longest_user};
 ghost use Rattle.x25_circuit.specs.Circuit.{Settings};
@@ -109,6 +109,8 @@ impl Layer {
         ensures nothing { IfOk result (λ told. plain_told told ≡ [] → told ≡ Told.Nothing) }
         ensures memory { OnOk result (self.old.memory ≤ self.new.memory + 1) }
         ensures spares { OnOk result (L.spares link.old ≤ L.spares link.new + 1) }
+        ensures no_more { self.new.memory ≤ self.old.memory }
+        ensures no_more_spares { L.spares link.new ≤ L.spares link.old }
         ensures longest { L.longest link.new ≡ L.longest link.old }
         ensures up { OnOk result (L.up link.new ≡ L.up link.old) }
         ensures err { IfErr result (λ e. e ≡ LayerError.NoMemory) }
@@ -150,6 +152,8 @@ impl Layer {
         ensures nothing { IfOk result (λ told. plain_told told ≡ [] → told ≡ Told.Nothing) }
         ensures memory { OnOk result (self.old.memory ≤ self.new.memory + 1) }
         ensures spares { OnOk result (L.spares link.old ≤ L.spares link.new + 1) }
+        ensures no_more { self.new.memory ≤ self.old.memory }
+        ensures no_more_spares { L.spares link.new ≤ L.spares link.old }
         ensures longest { L.longest link.new ≡ L.longest link.old }
         ensures up { OnOk result (L.up link.new ≡ L.up link.old) }
         ensures err { IfErr result (λ e. e ≡ LayerError.NoMemory) }
@@ -195,6 +199,8 @@ impl Layer {
         ensures longest { L.longest link.new ≡ L.longest link.old }
         ensures err { IfErr result (λ e. e ≡ LayerError.NoMemory) }
         ensures enough { (len : ℕ) → length octets.now ≤ len → HasRoom len self.old (L.spares link.old) → IsOk result }
+        ensures most_memory { self.new.memory ≤ max self.old.memory 16 }
+        ensures most_spares { L.spares link.new ≤ max (L.spares link.old) 16 }
         ensures layer_stays { (c : LayerSettings) (l : State) → FitsLayer c self.old l → OnErr result (FitsLayer c self.new l) }
         ensures link_stays { (x : L.State) → L.fits link.old x → OnErr result (L.fits link.new x) }
     {

@@ -1,5 +1,5 @@
 //! Restart. ITU-T X.25 (10/96), section 3.3.
-ghost use Rattle.std.specs.Prelude.{◌≡◌, ℕ, suc, ◌+◌, ◌-◌, ◌^◌, ◌<◌, ◌≤◌, [], true, false, option_to_list, IfErr, OnOk, OnErr, IsOk, IsErrOf};
+ghost use Rattle.std.specs.Prelude.{◌≡◌, ℕ, suc, ◌+◌, ◌-◌, ◌^◌, ◌<◌, ◌≤◌, [], max, true, false, option_to_list, IfErr, OnOk, OnErr, IsOk, IsErrOf};
 ghost use Rattle.x25_packet.specs.PlainPacket.{restart, restart_conf};
 ghost use Rattle.x25_packet.specs.Spelling.{spelling_of};
 ghost use Rattle.x25_circuit.specs.Circuit.{begun};
@@ -10,7 +10,7 @@ ghost use Rattle.x25_layer.specs.FitsLayer.{FitsLayer};
 ghost use Rattle.x25_layer.specs.OverLink.{view_of, after_all, LayerGives, LinkGives, LacksMemory};
 ghost use Rattle.x25_layer.specs.Calls.{Restarts};
 ghost use Rattle.x25_layer.specs.Rounds.{calls, comes_up};
-ghost use Rattle.x25_layer.specs.Room.{HasRoom};
+ghost use Rattle.x25_layer.specs.Room.{HasRoom, KeepsRoom};
 ghost use Rattle.x25_layer.specs.Told.{plain_told};
 
 use crate::circuits::{begin_all, forget_all};
@@ -62,6 +62,8 @@ impl Layer {
         ensures err { IfErr result (λ e. e ≡ LayerError.NoMemory) }
         ensures longest { L.longest link.new ≡ L.longest link.old }
         ensures missing { OnErr result (LacksMemory 1 self.old (L.spares link.old)) }
+        ensures most_memory { self.new.memory ≤ max self.old.memory 16 }
+        ensures most_spares { L.spares link.new ≤ max (L.spares link.old) 16 }
         ensures enough { (len : ℕ) → HasRoom len self.old (L.spares link.old) → IsOk result }
         ensures layer_stays { (c : LayerSettings) (l : State) → FitsLayer c self.old l → OnErr result (FitsLayer c self.new l) }
         ensures link_stays { (x : L.State) → L.fits link.old x → OnErr result (L.fits link.new x) }
@@ -89,6 +91,10 @@ impl Layer {
         ensures link { (c : LayerSettings) (l : State) (x : L.State) → FitsLayer c self.old l → L.fits link.old x → LinkGives (L.fits link.new) L.after_put x result (calls (view_of L.up_in L.waits_in L.after_put x) c l Restarts) }
         ensures longest { L.longest link.new ≡ L.longest link.old }
         ensures missing { IsErrOf result LayerError.NoMemory → LacksMemory 1 self.old (L.spares link.old) }
+        ensures most_memory { self.new.memory ≤ max self.old.memory 16 }
+        ensures most_spares { L.spares link.new ≤ max (L.spares link.old) 16 }
+        ensures room { KeepsRoom self.old (L.spares link.old) self.new (L.spares link.new) }
+        ensures room_stays { (len : ℕ) → HasRoom len self.old (L.spares link.old) → OnErr result (HasRoom len self.new (L.spares link.new)) }
         ensures layer_stays { (c : LayerSettings) (l : State) → FitsLayer c self.old l → OnErr result (FitsLayer c self.new l) }
         ensures link_stays { (x : L.State) → L.fits link.old x → OnErr result (L.fits link.new x) }
     {
@@ -156,6 +162,8 @@ impl Layer {
         ensures nothing { plain_told result ≡ [] → result ≡ Told.Nothing }
         ensures memory { self.old.memory ≤ self.new.memory + 1 }
         ensures spares { L.spares link.old ≤ L.spares link.new + 1 }
+        ensures no_more { self.new.memory ≤ self.old.memory }
+        ensures no_more_spares { L.spares link.new ≤ L.spares link.old }
         ensures longest { L.longest link.new ≡ L.longest link.old }
         ensures up { L.up link.new ≡ L.up link.old }
     {
@@ -182,6 +190,8 @@ impl Layer {
         ensures nothing { plain_told result ≡ [] → result ≡ Told.Nothing }
         ensures memory { self.old.memory ≤ self.new.memory + 1 }
         ensures spares { L.spares link.old ≤ L.spares link.new + 1 }
+        ensures no_more { self.new.memory ≤ self.old.memory }
+        ensures no_more_spares { L.spares link.new ≤ L.spares link.old }
         ensures longest { L.longest link.new ≡ L.longest link.old }
         ensures up { L.up link.new ≡ L.up link.old }
     {

@@ -3,12 +3,13 @@ ghost use Rattle.std.specs.Prelude.{◌≡◌, ℕ, ◌+◌, ◌<◌, ◌≤◌,
 ghost use Rattle.x25_packet.specs.Spelling.{IsChannel};
 ghost use Rattle.x25_circuit.specs.Circuit.{Settings};
 ghost use Rattle.x25_circuit.specs.Circuit.{Circuit as Channel};
-ghost use Rattle.x25_circuit.specs.FitsCircuit.{FitsCircuit};
+ghost use Rattle.x25_circuit.specs.FitsCircuit.{FitsCircuit, room_of};
 ghost use Rattle.x25_layer.specs.Layer.{LayerSettings, packet_on};
 ghost use Rattle.x25_layer.specs.FitsLayer.{FitsLayer};
 ghost use Rattle.x25_layer.specs.OverLink.{view_of, after_all};
 ghost use Rattle.x25_layer.specs.Rounds.{Putting, round, rounds};
 ghost use Rattle.x25_layer.specs.Pulling.{IsEnough, pulled_where, Stands};
+ghost use Rattle.x25_layer.specs.Room.{HaveRoom};
 
 use crate::layer::Layer;
 use crate::putting::put;
@@ -47,6 +48,8 @@ fn pull_one<L: OrderedLink>(
     ensures memory { (c : Settings) (x : Channel) (y : L.State) → FitsCircuit c circuit.old x → L.fits link.old y → IsEnough (L.lists y) memory.old → IsEnough (L.lists y) (L.spares link.old) → memory.old ≤ memory.new + length (option_to_list (pulled_where (nat_lt (L.waits_in y) 8) c x).packet) }
     ensures spares { (c : Settings) (x : Channel) (y : L.State) → FitsCircuit c circuit.old x → L.fits link.old y → IsEnough (L.lists y) memory.old → IsEnough (L.lists y) (L.spares link.old) → L.spares link.old ≤ L.spares link.new + length (option_to_list (pulled_where (nat_lt (L.waits_in y) 8) c x).packet) }
     ensures no_more { memory.new ≤ memory.old }
+    ensures used { memory.old + L.spares link.new ≡ memory.new + L.spares link.old }
+    ensures room { room_of circuit.old ≤ room_of circuit.new }
     ensures fewer { result ≡ true → memory.new < memory.old }
     ensures longest { L.longest link.new ≡ L.longest link.old }
     ensures up { L.up link.new ≡ L.up link.old }
@@ -76,6 +79,9 @@ fn round<L: OrderedLink>(
     ensures none { (c : LayerSettings) (x : L.State) (s : Putting) → Stands (L.fits link.old) L.lists L.after_put c circuits.old.items memory.old (L.spares link.old) x s →
         result ≡ false → round (view_of L.up_in L.waits_in L.after_put x) c c.channels s ≡ s }
     ensures count { length circuits.new.items ≡ length circuits.old.items }
+    ensures room { (len : ℕ) → HaveRoom len circuits.old.items → HaveRoom len circuits.new.items }
+    ensures no_more { memory.new ≤ memory.old }
+    ensures used { memory.old + L.spares link.new ≡ memory.new + L.spares link.old }
     ensures fewer { result ≡ true → memory.new < memory.old }
     ensures longest { L.longest link.new ≡ L.longest link.old }
     ensures up { L.up link.new ≡ L.up link.old }
@@ -101,6 +107,9 @@ impl Layer {
         requires spares { 15 ≤ L.spares link.old }
         ensures layer { (c : LayerSettings) (s : Putting) (x : L.State) → FitsLayer c self.old s.layer → L.fits link.old (after_all L.after_put x s.put) → FitsLayer c self.new (rounds (view_of L.up_in L.waits_in L.after_put x) c s).layer }
         ensures link { (c : LayerSettings) (s : Putting) (x : L.State) → FitsLayer c self.old s.layer → L.fits link.old (after_all L.after_put x s.put) → L.fits link.new (after_all L.after_put x (rounds (view_of L.up_in L.waits_in L.after_put x) c s).put) }
+        ensures room { (len : ℕ) → HaveRoom len self.old.circuits.items → HaveRoom len self.new.circuits.items }
+        ensures no_more { self.new.memory ≤ self.old.memory }
+        ensures used { self.old.memory + L.spares link.new ≡ self.new.memory + L.spares link.old }
         ensures longest { L.longest link.new ≡ L.longest link.old }
     {
         while round(&mut self.circuits, link, &mut self.memory) {}

@@ -63,7 +63,10 @@ impl Layer {
         requires free { IfSome packet (λ _. L.waits link.old < 256) }
         requires longest { 4099 ≤ L.longest link.old }
         ensures fits { (c : LayerSettings) (l : State) → FitsLayer c self.old l → FitsLayer c self.new l }
+        ensures circuits { self.new.circuits ≡ self.old.circuits }
         ensures memory { self.old.memory ≤ self.new.memory + 1 }
+        ensures used { self.old.memory + L.spares link.new ≡ self.new.memory + L.spares link.old }
+        ensures no_more { self.new.memory ≤ self.old.memory }
         ensures link { (x : L.State) → L.fits link.old x → L.fits link.new (after_all L.after_put x (option_to_list (packet_on channel (plain_owed packet.entry)))) }
         ensures spares { L.spares link.old ≤ L.spares link.new + 1 }
         ensures longest { L.longest link.new ≡ L.longest link.old }

@@ -6,6 +6,7 @@ use Rattle.x25_circuit.specs.Circuit as circuit
 use Rattle.x25_layer.specs.Layer.{is_channel}
 use Rattle.x25_station.specs.declared.station.Station as code
 use Rattle.x25_layer.specs.InPart.{joined_at}
+use Rattle.x25_station.specs.Aside.{IsFewAside}
 use Rattle.x25_station.specs.Settings.{Settings, layer_settings}
 use Rattle.x25_station.specs.Station.{Station}
 use Rattle.x25_station.specs.FitsStation.{FitsStation}
@@ -25,6 +26,10 @@ FewMessages = (c : Settings) (v : code.Station) (s : Station) (h : ℕ) → Fits
 -- octets of the message of which some packets came, on each channel
 abbrev pub FewJoined : Type 0
 FewJoined = (c : Settings) (v : code.Station) (s : Station) (h : ℕ) → FitsStation c v s → joined_at (layer_settings c) s.layer h ≤ 65535
+
+-- memory that is set aside
+abbrev pub FewAside : Type 0
+FewAside = (v : code.Station) → IsFewAside v.link v.layer v.texts
 
 -- how many messages a circuit holds of those handed down: the one that is cut, or was cut last, and those behind it
 abbrev pub holds : circuit_code.Circuit → ℕ

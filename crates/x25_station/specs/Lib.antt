@@ -9,6 +9,7 @@ pub mod JoinLaw
 pub mod ReadLaw
 pub mod KeepLaw
 pub mod PlainEntry
+pub mod Aside
 pub mod FitsParts
 pub mod FitsStation
 pub mod Receiving

@@ -68,7 +68,8 @@ fn kept_digits(texts: &mut Blanks<LONGEST_TEXT>, digits: &Digits<'_>) -> Vec<u8>
 // What a notice tells the user of a channel, where its user data are at most 128 octets.
 fn told_of(texts: &mut Blanks<LONGEST_TEXT>, notice: Notice<'_>) -> Told
     requires { 3 ≤ texts.old }
-    ensures { IsShort (plain_notice notice.entry) → plain_told result ≡ plain_notice notice.entry }
+    ensures told { IsShort (plain_notice notice.entry) → plain_told result ≡ plain_notice notice.entry }
+    ensures no_more { texts.new ≤ texts.old }
 {
     match notice {
         Notice::Incoming {
@@ -114,6 +115,7 @@ fn enter_notices(
     requires texts { 3 ≤ texts.old }
     requires room { vec_len entries.old + 2 ≤ vec_capacity entries.old }
     ensures length { vec_len entries.new ≤ vec_len entries.old + 2 }
+    ensures no_more { texts.new ≤ texts.old }
     ensures entered { (c : LayerSettings) (l : LayerState) → FitsLayer c layer.now l → AreTellable c (notices_on channel (notices_of collided notice.entry)) →
         map plain_entry entries.new.items ≡ map plain_entry entries.old.items ++ station_told l (notices_on channel (notices_of collided notice.entry)) }
 {
@@ -136,6 +138,7 @@ pub(crate) fn enter_told(
     requires texts { 3 ≤ texts.old }
     requires room { vec_len entries.old + 2 ≤ vec_capacity entries.old }
     ensures length { vec_len entries.new ≤ vec_len entries.old + 2 }
+    ensures no_more { texts.new ≤ texts.old }
     ensures entered { (c : LayerSettings) (l : LayerState) → FitsLayer c layer.now l → AreTellable c (plain_heard told.entry) →
         map plain_entry entries.new.items ≡ map plain_entry entries.old.items ++ station_told l (plain_heard told.entry) }
 {

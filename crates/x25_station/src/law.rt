@@ -2,7 +2,7 @@
 ghost use Rattle.x25_station.specs.JoinLaw.{RequestIsJoined, ReceiveIsJoined, QuietIsJoined, DownIsJoined, UpIsJoined};
 ghost use Rattle.x25_station.specs.KeepLaw.{ConnectKeeps, TimerKeeps, CommandKeeps, ReceiveKeeps};
 ghost use Rattle.x25_station.specs.ReadLaw.{PutsAreReadable};
-ghost use Rattle.x25_station.specs.HoldLaw.{FewWait, FewStand, FewMessages, FewJoined, FewHeld};
+ghost use Rattle.x25_station.specs.HoldLaw.{FewWait, FewStand, FewMessages, FewJoined, FewHeld, FewAside};
 ghost use Rattle.x25_station.specs.TimerLaw.{DeadlineIsTrue, FiringIsTaken, OffIsRefused};
 
 use x25_circuit::values_are_agreed;
@@ -46,13 +46,15 @@ pub fn steps_keep_bounds()
 
 /// What a station holds at most: 256 packets that wait in its link, 7 that were sent and aren't acknowledged, and for each channel
 /// 8 messages that wait, and one more whose last packet was pulled, until the next is begun, and one of which some packets came. A
-/// message, also one in part, has at most 65,535 octets.
+/// message, also one in part, has at most 65,535 octets. Between calls memory is set aside for at most 16 packets in its layer and in its
+/// link each, and for 3 texts of entries.
 pub fn stations_hold_few()
     ensures wait { FewWait }
     ensures stand { FewStand }
     ensures messages { FewMessages }
     ensures joined { FewJoined }
     ensures held { FewHeld }
+    ensures aside { FewAside }
 {
     holds_few();
 }

@@ -127,6 +127,7 @@ pub(crate) fn note_down(layer: &mut Layer, down: Option<Reason>, entries: &mut V
     ensures length { vec_len entries.new ≤ vec_len entries.old + 1 }
     ensures capacity { vec_capacity entries.new ≡ vec_capacity entries.old }
     ensures room { (len spares : ℕ) → HasRoom len layer.old spares → HasRoom len layer.new spares }
+    ensures memory { layer.new.memory ≡ layer.old.memory }
     ensures same { down ≡ None → layer.new ≡ layer.old }
     ensures layer { (c : LayerSettings) (l : LayerState) → FitsLayer c layer.old l → FitsLayer c layer.new (layer_down l down) }
     ensures entries { map plain_entry entries.new.items ≡ map plain_entry entries.old.items ++ entries_down down }

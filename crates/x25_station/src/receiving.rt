@@ -49,6 +49,8 @@ fn come_up(layer: &mut Layer, link: &mut Link, entries: &mut Vec<Entry>)
         FitsWhole link.new (kept_of (link_settings c) (all_put (link_settings c) (comes_up (view_of (link_settings c) t.near) (layer_settings c)).step.put (alone t.near))) }
     ensures entries { map plain_entry entries.new.items ≡ map plain_entry entries.old.items ++ entries_up true }
     ensures length { vec_len entries.new ≡ vec_len entries.old + 1 }
+    ensures most_memory { layer.new.memory ≤ max layer.old.memory 16 }
+    ensures most_spares { link.new.outgoing.long ≤ max link.old.outgoing.long 16 }
 {
     entries.push_reserved(Entry::LinkUp);
     layer.up(link).unwrap();
@@ -74,6 +76,9 @@ fn hear(
     ensures entries { (c : Settings) (l : LayerState) (t : Side) → FitsLayer (layer_settings c) layer.old l → FitsWhole link.old (kept_of (link_settings c) (alone t.near)) →
         map plain_entry entries.new.items ≡ map plain_entry entries.old.items ++ entries_of_answer (layer_answer (layer_settings c) l packet.now) }
     ensures length { vec_len entries.new ≤ vec_len entries.old + 2 }
+    ensures most_memory { layer.new.memory ≤ max layer.old.memory 16 }
+    ensures most_spares { link.new.outgoing.long ≤ max link.old.outgoing.long 16 }
+    ensures texts { texts.new ≤ texts.old }
 {
     reading_is_the_grammar();
     let told = layer.packet(link, packet).unwrap();
@@ -103,6 +108,9 @@ fn follow(
     ensures entries { (c : Settings) (l : LayerState) (t : Side) → FitsLayer (layer_settings c) layer.old l → FitsWhole link.old (kept_of (link_settings c) (alone t.near)) →
         map plain_entry entries.new.items ≡ map plain_entry entries.old.items ++ (entries_noted notes ++ entries_heard (layer_settings c) l (option_copied packet.entry) notes.down notes.up) }
     ensures length { vec_len entries.new ≤ vec_len entries.old + 3 }
+    ensures most_memory { layer.new.memory ≤ max layer.old.memory 16 }
+    ensures most_spares { link.new.outgoing.long ≤ max link.old.outgoing.long 16 }
+    ensures texts { texts.new ≤ texts.old }
 {
     note_down(layer, notes.down, entries);
     if notes.up {

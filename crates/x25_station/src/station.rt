@@ -1,3 +1,4 @@
+ghost use Rattle.x25_station.specs.Aside.{IsFewAside};
 ghost use Rattle.x25_station.specs.FitsParts.{AreMeant};
 
 use crate::config::Cfg;
@@ -19,6 +20,7 @@ pub struct Station {
     pub(crate) texts: Blanks<LONGEST_TEXT>,
     pub(crate) alloc: Global,
     ghost meant: { AreMeant link layer },
+    ghost aside: { IsFewAside link layer texts },
 }
 
 impl Station {

@@ -1,11 +1,13 @@
-use Rattle.std.proofs.Common.{◌≡◌, ℕ, suc, ◌+◌, ◌<◌, ◌≤◌, ◌∙◌, ◌⊎◌, inl, inr, List, length, true, set, nat_lt, option_to_list, sym, ap, subst, arith}
+use Rattle.std.proofs.Common.{◌≡◌, ℕ, min, suc, ◌+◌, ◌<◌, ◌≤◌, ◌∙◌, ◌⊎◌, inl, inr, List, length, true, set, nat_lt, option_to_list, sym, ap, subst, arith}
 use Rattle.std.proofs.lemmas.Option.{slice_get-get_or}
 use Rattle.x25_circuit.specs.declared.circuit.Circuit as circuit_code
+use Rattle.x25_circuit.specs.FitsCircuit.{room_of}
 use Rattle.x25_layer.specs.Layer.{packet_on}
+use Rattle.x25_layer.specs.Room.{HaveRoom}
 use Rattle.x25_layer.specs.OverLink.{view_of, after_all}
 use Rattle.x25_layer.specs.Rounds.{LinkView, Putting, round}
 use Rattle.x25_layer.specs.Pulling.{pulled_where, Stands}
-use Rattle.x25_layer.proofs.FitLemmas.{written_back, neither, either}
+use Rattle.x25_layer.proofs.FitLemmas.{written_back, all_changed, neither, either}
 use Rattle.x25_layer.proofs.PullLemmas.{stands_more, one_none}
 use Rattle.x25_layer.proofs.rounds.round.Goals as goal
 
@@ -43,6 +45,12 @@ loop-circuit-preserved g c =
           let both = neither c.loop-circuit.is_put c.pull_one-is_put.result is in
           subst (λ (k : ℕ). round view s k t ≡ t) next
           (one_none view s (suc i) t₂ (p.none s.circuit (t₂.layer.circuits (suc i)) y found now.link now.memory now.spares both.1) ∙ c.loop-circuit.invariant.none both.0 s x t before);
+      room = λ len have.
+          let before = c.loop-circuit.invariant.room len have in
+          let here = before i _ read in
+          let more = p.room in
+          all_changed (λ (k : ℕ) (v : circuit_code.Circuit). min len 4096 ≤ room_of v) c.loop-circuit.circuit-items i c.pull_one-is_put.new.circuit before (omega (arith, here, more));
+      used = (let a = p.used in let b = c.loop-circuit.invariant.used in omega (arith, a, b));
       no_more = (let a = p.no_more in let b = c.loop-circuit.invariant.no_more in omega (arith, a, b));
       fewer = λ is. by (either c.loop-circuit.is_put c.pull_one-is_put.result is);
       longest = p.longest ∙ c.loop-circuit.invariant.longest;
@@ -52,6 +60,14 @@ loop-circuit-preserved g c =
     by : (c.loop-circuit.is_put ≡ true) ⊎ (c.pull_one-is_put.result ≡ true) → c.pull_one-is_put.new.memory < c.args.memory.now
     by (inl is) = let a = c.pull_one-is_put.ensures.no_more in let b = c.loop-circuit.invariant.fewer is in omega (arith, a, b)
     by (inr is) = let a = c.pull_one-is_put.ensures.fewer is in let b = c.loop-circuit.invariant.no_more in omega (arith, a, b)
+
+pub returns-clause-room : goal.returns-clause-room
+returns-clause-room g c = λ len have.
+    let high : length c.args.circuits.now.items ≤ c.args.circuits.now.len = omega arith in
+    let count : length c.loop-circuit.circuit-items ≡ length c.args.circuits.now.items = omega arith in
+    let all = written_back c.args.circuits.now.len c.args.circuits.now.items c.loop-circuit.circuit-items high count in
+    subst (λ (vs : List circuit_code.Circuit). HaveRoom len vs) (sym all)
+    (c.loop-circuit.invariant.room len (subst (λ (vs : List circuit_code.Circuit). HaveRoom len vs) (sym c.deref_mut-circuit-items.ensures.value) have))
 
 pub returns-clause-stands : goal.returns-clause-stands
 returns-clause-stands g c = λ s x t before.

@@ -26,4 +26,4 @@ returns-in-Some-clause-entered c = λ c' l fits all.
           ∙ ap (λ (b : Bool). before ++ (if b then entry_told l (on_channel h collided) ∷ [] else [])) (sym w.if-collided.false)
     ])
     (c.enter-in-Some.ensures.entered c' l fits tellable.0
-    ∙ ap (λ (p : PlainNotice). map plain_entry c.if-collided.entries.items ++ entry_told l (on_channel h p) ∷ []) (c.told_of-told.ensures tellable.1))
+    ∙ ap (λ (p : PlainNotice). map plain_entry c.if-collided.entries.items ++ entry_told l (on_channel h p) ∷ []) (c.told_of-told.ensures.told tellable.1))

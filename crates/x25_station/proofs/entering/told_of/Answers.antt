@@ -13,13 +13,13 @@ incoming_is a b k d u v params p q r =
     ∙ ap (λ (x : List ℕ). incoming (record { called = b; calling = x; user = u; params = params })) q
     ∙ ap (λ (x : List ℕ). incoming (record { called = b; calling = d; user = x; params = params })) r
 
-pub returns-in-Incoming : goal.returns-in-Incoming
-returns-in-Incoming c = λ short.
+pub returns-in-Incoming-clause-told : goal.returns-in-Incoming-clause-told
+returns-in-Incoming-clause-told c = λ short.
     let now = subst (λ (n : Notice). IsShort (plain_notice n)) c.in-Incoming.is short in
     incoming_is _ _ _ _ _ _ c.in-Incoming.params c.kept_digits-called.ensures.copy c.kept_digits-calling.ensures.copy (c.kept-user.ensures.copy ∙ take_all 128 c.in-Incoming.user.now now)
     ∙ sym (ap plain_notice c.in-Incoming.is)
 
-pub returns-in-Interrupted : goal.returns-in-Interrupted
-returns-in-Interrupted c = λ short.
+pub returns-in-Interrupted-clause-told : goal.returns-in-Interrupted-clause-told
+returns-in-Interrupted-clause-told c = λ short.
     let now = subst (λ (n : Notice). IsShort (plain_notice n)) c.in-Interrupted.is short in
     ap (λ (x : List ℕ). interrupted x) (c.kept-user-in-Interrupted.ensures.copy ∙ take_all 128 c.in-Interrupted.user.now now) ∙ sym (ap plain_notice c.in-Interrupted.is)

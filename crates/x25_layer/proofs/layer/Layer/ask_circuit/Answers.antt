@@ -1,9 +1,11 @@
-use Rattle.std.proofs.Common.{◌-◌, refl, sym, subst}
+use Rattle.std.proofs.Common.{ℕ, ◌-◌, ◌≤◌, min, refl, sym, subst, arith}
 use Rattle.x25_circuit.specs.declared.circuit.Circuit as circuit_code
 use Rattle.x25_circuit.specs.Calls.{outcome}
-use Rattle.x25_circuit.specs.FitsCircuit.{FitsCircuit}
+use Rattle.x25_circuit.specs.FitsCircuit.{FitsCircuit, room_of}
 use Rattle.x25_circuit.specs.Requests.{plain_request}
 use Rattle.x25_layer.proofs.CallLemmas.{found_at, asks_ok, asks_err, layer_kept}
+use Rattle.x25_layer.proofs.FitLemmas.{all_changed}
+use Rattle.x25_layer.proofs.HearLemmas.{read_there}
 use Rattle.x25_layer.proofs.layer.Layer.ask_circuit.Goals as goal
 
 pub returns-in-Ok-clause-outcome : goal.returns-in-Ok-clause-outcome
@@ -22,3 +24,15 @@ returns-in-Err-clause-fits c = λ s l fits.
     let at = found_at s c.args.self.now l c.args.channel c.from-place.result c.index_mut.result.now fits c.requires c.from-place.ensures c.index_mut.ensures.value in
     layer_kept s c.args.self.now _ l c.args.channel (c.from-place.result - 1) c.ask.new.self fits at.0 (record { role = refl; long_data = refl; restarting = refl; restarts = refl }) refl
     (subst (λ (v : circuit_code.Circuit). FitsCircuit s.circuit v (l.circuits c.args.channel)) (sym c.in-Err.ensures.unchanged) at.1)
+
+pub returns-in-Ok-clause-room : goal.returns-in-Ok-clause-room
+returns-in-Ok-clause-room c = λ len have.
+    let here = have (c.from-place.result - 1) c.index_mut.result.now (read_there c.args.self.now.circuits.items c.args.channel c.from-place.result c.index_mut.result.now c.requires c.from-place.ensures c.index_mut.ensures.value) in
+    let more = c.ask.ensures.room in
+    all_changed (λ (k : ℕ) (v : circuit_code.Circuit). min len 4096 ≤ room_of v) c.args.self.now.circuits.items (c.from-place.result - 1) c.ask.new.self have (omega (arith, here, more))
+
+pub returns-in-Err-clause-room : goal.returns-in-Err-clause-room
+returns-in-Err-clause-room c = λ len have.
+    let here = have (c.from-place.result - 1) c.index_mut.result.now (read_there c.args.self.now.circuits.items c.args.channel c.from-place.result c.index_mut.result.now c.requires c.from-place.ensures c.index_mut.ensures.value) in
+    let more = c.ask.ensures.room in
+    all_changed (λ (k : ℕ) (v : circuit_code.Circuit). min len 4096 ≤ room_of v) c.args.self.now.circuits.items (c.from-place.result - 1) c.ask.new.self have (omega (arith, here, more))

@@ -1,9 +1,11 @@
-use Rattle.std.proofs.Common.{◌∙◌, Ok, sym, subst, ap}
+use Rattle.std.proofs.Common.{ℕ, ◌∙◌, Ok, sym, subst, ap, arith}
 use Rattle.x25_circuit.specs.Calls.{Outcome, outcome}
 use Rattle.x25_circuit.specs.Requests.{plain_request}
 use Rattle.x25_layer.specs.OverLink.{view_of, LayerGives, LinkGives}
 use Rattle.x25_layer.specs.Rounds.{LinkView, Answered, begin, went}
+use Rattle.x25_layer.specs.declared.layer.Layer as code
 use Rattle.x25_layer.specs.Layer.{packet_on}
+use Rattle.x25_layer.specs.Room.{HaveRoom}
 use Rattle.x25_circuit.specs.Replies.{plain_owed}
 use Rattle.x25_layer.proofs.FitLemmas.{on_err}
 use Rattle.x25_layer.proofs.CallLemmas.{IsAccepted, is_accepted, declined_layer, declined_link, short_layer, short_link}
@@ -45,3 +47,35 @@ returns-clause-link g c = λ s l x fits link.
     let a : IsAccepted s c.ask_circuit.new.self l c.args.channel c.in_ok-packet.packet o = is_accepted s c.ask_circuit.new.self l c.args.channel c.in_ok-packet.packet o (sym fits.restarting ∙ c.requires.ready) (c.in_ok-packet.ensures.outcome s l (c.set_aside.ensures.fits s l fits)) in
     subst (λ (r : Answered). LinkGives (g.L.OrderedLink.fits c.pull_all.new.link) g.L.OrderedLink.after_put x (Ok tt) r) (sym (ap (went view s) a.accepted))
     (c.pull_all.ensures.link s (begin a.next (packet_on c.args.channel (plain_owed c.in_ok-packet.packet))) x (c.put_owed.ensures.fits s a.next a.fits) (c.put_owed.ensures.link x (c.set_aside.ensures.link x link)))
+
+-- memory that is set aside leaves the circuits as they are
+
+pub returns-in_err-packet-clause-room_stays : goal.returns-in_err-packet-clause-room_stays
+returns-in_err-packet-clause-room_stays g c = λ len has.
+    let same = c.ask_circuit.ensures.memory in
+    let more = c.set_aside.ensures.no_fewer in
+    let more_spares = c.set_aside.ensures.no_fewer_spares in
+    let memory = has.memory in
+    let spares = has.spares in
+    on_err c.from_residual.result (record {
+      memory = omega (arith, same, more, memory);
+      spares = omega (arith, more_spares, spares);
+      circuits = c.ask_circuit.ensures.room len (subst (λ (v : code.Layer). HaveRoom len v.circuits.items) (sym c.set_aside.ensures.layer) has.circuits);
+    })
+
+pub returns-clause-room : goal.returns-clause-room
+returns-clause-room g c = λ len has still.
+    let same = c.ask_circuit.ensures.memory in
+    let more = c.set_aside.ensures.no_fewer in
+    let more_spares = c.set_aside.ensures.no_fewer_spares in
+    let most_spares = c.set_aside.ensures.most_spares in
+    let owed = c.put_owed.ensures.used in
+    let pulled = c.pull_all.ensures.used in
+    let memory = has.memory in
+    let spares = has.spares in
+    record {
+      memory = omega (arith, same, more, more_spares, most_spares, owed, pulled, memory, spares, still);
+      spares = omega (arith, spares, still);
+      circuits = c.pull_all.ensures.room len (subst (λ v. HaveRoom len v.items) (sym c.put_owed.ensures.circuits)
+          (c.ask_circuit.ensures.room len (subst (λ (v : code.Layer). HaveRoom len v.circuits.items) (sym c.set_aside.ensures.layer) has.circuits)));
+    }

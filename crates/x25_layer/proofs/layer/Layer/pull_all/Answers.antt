@@ -17,6 +17,9 @@ loop-preserved g c =
       long_data = now.long_data;
       restarting = now.restarting;
       restarts = now.restarts;
+      room = λ len have. c.round.ensures.room len (now.room len have);
+      no_more = (let a = c.round.ensures.no_more in let b = now.no_more in omega (arith, a, b));
+      used = (let a = c.round.ensures.used in let b = now.used in omega (arith, a, b));
       longest = c.round.ensures.longest ∙ now.longest;
       up = c.round.ensures.up ∙ now.up;
       stands = λ s x p before.

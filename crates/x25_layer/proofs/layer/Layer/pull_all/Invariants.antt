@@ -1,8 +1,9 @@
-use Rattle.std.proofs.Common.{◌≡◌}
+use Rattle.std.proofs.Common.{◌≡◌, ℕ, ◌+◌, ◌≤◌}
 use Rattle.x25_layer.specs.Layer.{LayerSettings}
 use Rattle.x25_layer.specs.OverLink.{view_of}
 use Rattle.x25_layer.specs.Rounds.{Putting, rounds}
 use Rattle.x25_layer.specs.Pulling.{Stands}
+use Rattle.x25_layer.specs.Room.{HaveRoom}
 use Rattle.x25_layer.proofs.PullLemmas.{KeepsRestarts}
 use Rattle.x25_layer.proofs.layer.Layer.pull_all.Given as goal
 
@@ -13,6 +14,9 @@ invariant-loop g l = record {
   long_data : l.self.long_data ≡ l.initial.self.long_data;
   restarting : l.self.restarting ≡ l.initial.self.restarting;
   restarts : l.self.restarts ≡ l.initial.self.restarts;
+  room : (len : ℕ) → HaveRoom len l.initial.self.circuits.items → HaveRoom len l.self.circuits.items;
+  no_more : l.self.memory ≤ l.initial.self.memory;
+  used : l.initial.self.memory + g.L.OrderedLink.spares l.link ≡ l.self.memory + g.L.OrderedLink.spares l.initial.link;
   longest : g.L.OrderedLink.longest l.link ≡ g.L.OrderedLink.longest l.initial.link;
   up : g.L.OrderedLink.up l.link ≡ g.L.OrderedLink.up l.initial.link;
   stands : (c : LayerSettings) (x : g.L.OrderedLink.State) (s : Putting)

@@ -26,6 +26,13 @@ invariant_of-self c = record {
             (ap (λ o. o.made) c.abandon-step.ensures.outgoing ∙ fits.sent)
             (c.steps_keep_bounds.ensures.receive c' s c.args.octets.now fits.kept),
       ));
+  aside =
+      let before = c.args.self.now.aside in
+      let low = before.packets in
+      let few = before.spares in
+      let memory = c.note_down.ensures.memory in
+      let same = ap (λ o. o.long) c.abandon-step.ensures.outgoing in
+      record { packets = omega (arith, memory, low); spares = omega (arith, same, few); texts = before.texts };
 }
 
 pub returns-clause-state : goal.returns-clause-state

@@ -1,4 +1,4 @@
-use Rattle.std.proofs.Common.{arith, ◌≤◌, length, [], ◌∷◌, ◌++◌, ap, ◌∙◌, map}
+use Rattle.std.proofs.Common.{arith, ◌≤◌, length, [], ◌∷◌, ◌++◌, ap, ◌∙◌, map, ◌≡◌}
 use Rattle.x25_circuit.specs.Requests.{plain_request}
 use Rattle.x25_layer.specs.Calls.{Asks}
 use Rattle.x25_layer.specs.Transcript.{Asked, name_of}
@@ -24,12 +24,25 @@ invariant_of-self c = record {
       c.in-Ok-ask.ensures.layer c.in-Ok-ask.ensures.link c.sent-frames.ensures.station (ap (λ o. o.made) c.sent-frames.ensures.outgoing) c.sent-frames.ensures.frames
       (c.steps_keep_bounds.ensures.command c' s (Requests request) fits.kept) in
       leaves_some c' _ _ (record { frames = c.sent-frames.result; entries = c.enter.new.entries }) (requests c' s request) a.state a.refused);
+  aside =
+      let before = c.args.self.now.aside in
+      let packets = c.in-Ok-ask.ensures.most_memory in
+      let low = before.packets in
+      let spares : c.sent-frames.new.self.outgoing.long ≡ 0 = ap (λ o. o.long) c.sent-frames.ensures.outgoing in
+      record { packets = omega (arith, packets, low); spares = omega (arith, spares); texts = before.texts };
 }
 
 pub invariant_of-self-in-Err-ask : goal.invariant_of-self-in-Err-ask
 invariant_of-self-in-Err-ask c = record {
   meant = still_meant _ _ _ _ c.args.self.now.meant (λ c' s fits.
       (c', s, still_fits c' c.args.self.now.link c.ask.new.link _ c.ask.new.self s fits (c.in-Err.ensures.layer_stays (layer_settings c') s.layer fits.layer) c.in-Err.ensures.link_stays));
+  aside =
+      let before = c.args.self.now.aside in
+      let packets = c.in-Err.ensures.most_memory in
+      let spares = c.in-Err.ensures.most_spares in
+      let low = before.packets in
+      let few = before.spares in
+      record { packets = omega (arith, packets, low); spares = omega (arith, spares, few); texts = before.texts };
 }
 
 pub returns-in-Ok-ask-clause-state : goal.returns-in-Ok-ask-clause-state

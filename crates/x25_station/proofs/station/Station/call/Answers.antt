@@ -1,4 +1,4 @@
-use Rattle.std.proofs.Common.{arith, ◌≤◌, length, [], ◌∷◌, ◌++◌, ap, ◌∙◌, map}
+use Rattle.std.proofs.Common.{arith, ◌≤◌, length, [], ◌∷◌, ◌++◌, ap, ◌∙◌, map, ◌≡◌}
 use Rattle.x25_layer.specs.Calls.{Dials}
 use Rattle.x25_layer.specs.Transcript.{Asked, name_of}
 use Rattle.x25_station.specs.declared.entry.Said.TheVariants as said
@@ -23,12 +23,25 @@ invariant_of-self c = record {
       c.in-Ok-call_with.ensures.layer c.in-Ok-call_with.ensures.link c.sent-frames.ensures.station (ap (λ o. o.made) c.sent-frames.ensures.outgoing) c.sent-frames.ensures.frames
       (c.steps_keep_bounds.ensures.command c' s (Requests request) fits.kept) in
       leaves_some c' _ _ (record { frames = c.sent-frames.result; entries = c.enter.new.entries }) (requests c' s request) a.state a.refused);
+  aside =
+      let before = c.args.self.now.aside in
+      let packets = c.in-Ok-call_with.ensures.most_memory in
+      let low = before.packets in
+      let spares : c.sent-frames.new.self.outgoing.long ≡ 0 = ap (λ o. o.long) c.sent-frames.ensures.outgoing in
+      record { packets = omega (arith, packets, low); spares = omega (arith, spares); texts = before.texts };
 }
 
 pub invariant_of-self-in-Err-call_with : goal.invariant_of-self-in-Err-call_with
 invariant_of-self-in-Err-call_with c = record {
   meant = still_meant _ _ _ _ c.args.self.now.meant (λ c' s fits.
       (c', s, still_fits c' c.args.self.now.link c.call_with.new.link _ c.call_with.new.self s fits (c.in-Err.ensures.layer_stays (layer_settings c') s.layer fits.layer) c.in-Err.ensures.link_stays));
+  aside =
+      let before = c.args.self.now.aside in
+      let packets = c.in-Err.ensures.most_memory in
+      let spares = c.in-Err.ensures.most_spares in
+      let low = before.packets in
+      let few = before.spares in
+      record { packets = omega (arith, packets, low); spares = omega (arith, spares, few); texts = before.texts };
 }
 
 pub returns-in-Ok-call_with-clause-state : goal.returns-in-Ok-call_with-clause-state

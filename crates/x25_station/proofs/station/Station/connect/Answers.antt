@@ -1,4 +1,4 @@
-use Rattle.std.proofs.Common.{arith, ◌≤◌, length, ap, ◌∙◌}
+use Rattle.std.proofs.Common.{arith, ◌≤◌, length, ap, ◌∙◌, ◌≡◌}
 use Rattle.x25_link.specs.Steps.{connect_refusal, connect_step}
 use Rattle.x25_station.specs.Settings.{link_settings}
 use Rattle.x25_station.specs.Steps.{follows}
@@ -13,6 +13,11 @@ invariant_of-self c = record {
       fits_unless c.connect.result _ c' c.args.self.now.link _ _ s (connect_refusal s.link.phase) (follows c' s.layer (connect_step (link_settings c') s.link)) fits
       (c.connect.ensures.refused (link_settings c') s.link fits.link) c.connect.ensures.err (c.connect.ensures.state (link_settings c') s.link fits.link) (c.steps_keep_bounds.ensures.connect c' s fits.kept)
       (λ near kept. record { link = near; layer = fits.layer; kept = kept; sent = ap (λ o. o.made) c.connect.ensures.outgoing ∙ fits.sent }));
+  aside =
+      let before = c.args.self.now.aside in
+      let few = before.spares in
+      let same : c.connect.new.self.outgoing.long ≡ c.args.self.now.link.outgoing.long = ap (λ o. o.long) c.connect.ensures.outgoing in
+      record { packets = before.packets; spares = omega (arith, same, few); texts = before.texts };
 }
 
 pub returns-in-Ok-clause-state : goal.returns-in-Ok-clause-state

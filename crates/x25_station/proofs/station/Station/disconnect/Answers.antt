@@ -1,6 +1,7 @@
 use Rattle.std.proofs.Common.{arith, ◌≤◌, length, [], sym, subst, ◌∷◌, ap, ◌∙◌, ◌++◌, map}
 use Rattle.x25_link.specs.Steps.{disconnect_refusal, disconnect_step}
 use Rattle.x25_link.specs.declared.step.Step as link_step
+use Rattle.x25_station.specs.Aside.{IsFewAside}
 use Rattle.x25_station.specs.FitsParts.{AreMeant}
 use Rattle.x25_station.specs.Settings.{link_settings, layer_settings}
 use Rattle.x25_station.specs.Command.{Disconnects}
@@ -28,10 +29,17 @@ invariant_of-self c = record {
       (ap (λ o. o.made) c.in-Ok-disconnect.ensures.outgoing ∙ fits.sent)
       (c.steps_keep_bounds.ensures.command c' s Disconnects fits.kept))
       (goes _ (record { frames = c.in-Ok-disconnect.step.frames; entries = c.note_down.new.entries }) (disconnect_refusal s.link.phase) step (c.in-Ok-disconnect.ensures.refused (link_settings c') s.link fits.link)));
+  aside =
+      let before = c.args.self.now.aside in
+      let low = before.packets in
+      let few = before.spares in
+      let memory = c.note_down.ensures.memory in
+      let same = ap (λ o. o.long) c.in-Ok-disconnect.ensures.outgoing in
+      record { packets = omega (arith, memory, low); spares = omega (arith, same, few); texts = before.texts };
 }
 
 pub invariant_of-self-in-Err-disconnect : goal.invariant_of-self-in-Err-disconnect
-invariant_of-self-in-Err-disconnect c = record { meant = subst (λ l. AreMeant l c.args.self.now.layer) (sym c.in-Err.ensures.err) c.args.self.now.meant }
+invariant_of-self-in-Err-disconnect c = record { meant = subst (λ l. AreMeant l c.args.self.now.layer) (sym c.in-Err.ensures.err) c.args.self.now.meant; aside = subst (λ l. IsFewAside l c.args.self.now.layer c.args.self.now.texts) (sym c.in-Err.ensures.err) c.args.self.now.aside }
 
 pub returns-in-Ok-disconnect-clause-state : goal.returns-in-Ok-disconnect-clause-state
 returns-in-Ok-disconnect-clause-state c = λ c' s fits.

@@ -1,4 +1,4 @@
-use Rattle.std.proofs.Common.{arith, ◌≤◌, length, [], ◌∷◌, ◌++◌, ap, ◌∙◌, map}
+use Rattle.std.proofs.Common.{arith, ◌≤◌, length, [], ◌∷◌, ◌++◌, ap, ◌∙◌, map, ◌≡◌}
 use Rattle.x25_layer.specs.Calls.{Restarts}
 use Rattle.x25_station.specs.declared.entry.Entry.TheVariants.{RestartAsked}
 use Rattle.x25_station.specs.declared.step.Step as code_step
@@ -21,12 +21,25 @@ invariant_of-self c = record {
       c.in-Ok-restart.ensures.layer c.in-Ok-restart.ensures.link c.sent-frames.ensures.station (ap (λ o. o.made) c.sent-frames.ensures.outgoing) c.sent-frames.ensures.frames
       (c.steps_keep_bounds.ensures.command c' s (Requests request) fits.kept) in
       leaves_some c' _ _ (record { frames = c.sent-frames.result; entries = c.push_reserved.new.self }) (requests c' s request) a.state a.refused);
+  aside =
+      let before = c.args.self.now.aside in
+      let packets = c.in-Ok-restart.ensures.most_memory in
+      let low = before.packets in
+      let spares : c.sent-frames.new.self.outgoing.long ≡ 0 = ap (λ o. o.long) c.sent-frames.ensures.outgoing in
+      record { packets = omega (arith, packets, low); spares = omega (arith, spares); texts = before.texts };
 }
 
 pub invariant_of-self-in-Err-restart : goal.invariant_of-self-in-Err-restart
 invariant_of-self-in-Err-restart c = record {
   meant = still_meant _ _ _ _ c.args.self.now.meant (λ c' s fits.
       (c', s, still_fits c' c.args.self.now.link c.restart.new.link _ c.restart.new.self s fits (c.in-Err.ensures.layer_stays (layer_settings c') s.layer fits.layer) c.in-Err.ensures.link_stays));
+  aside =
+      let before = c.args.self.now.aside in
+      let packets = c.in-Err.ensures.most_memory in
+      let spares = c.in-Err.ensures.most_spares in
+      let low = before.packets in
+      let few = before.spares in
+      record { packets = omega (arith, packets, low); spares = omega (arith, spares, few); texts = before.texts };
 }
 
 pub returns-in-Ok-restart-clause-state : goal.returns-in-Ok-restart-clause-state

@@ -1,12 +1,28 @@
+use Rattle.std.proofs.Common.{◌≡◌, ◌∙◌, false, Result, Ok, Err, OnOk, sym, arith}
+use Rattle.std.specs.Result.{is_err}
 use Rattle.x25_station.specs.Settings.{layer_settings}
 use Rattle.x25_station.proofs.OutcomeLemmas.{still_meant}
 use Rattle.x25_station.proofs.AskLemmas.{still_fits}
 use Rattle.x25_station.proofs.station.Station.set_aside.Goals as goal
 
+-- what holds where a call isn't refused
+kept_ok : {T E P : Type 0} (r : Result T E) → is_err r ≡ false → OnOk r P → P
+kept_ok (Ok x) is ok = ok
+kept_ok (Err e) is ok = absurd (cc)
+
 pub invariant_of-self-2 : goal.invariant_of-self-2
 invariant_of-self-2 c = record {
   meant = still_meant _ _ _ _ c.args.self.now.meant (λ c' s fits.
       (c', s, still_fits c' c.args.self.now.link c.room.new.link _ c.room.new.self s fits (c.room.ensures.layer (layer_settings c') s.layer fits.layer) c.room.ensures.link));
+  aside =
+      let before = c.args.self.now.aside in
+      let low = before.packets in
+      let few = before.spares in
+      let short = before.texts in
+      let reserved = kept_ok c.reserve.result (sym c.is_err.ensures.value ∙ c.if-is_err.false) c.reserve.ensures.ok in
+      let packets = c.room.ensures.most_memory in
+      let spares = c.room.ensures.most_spares in
+      record { packets = omega (arith, packets, low); spares = omega (arith, spares, few); texts = omega (arith, reserved, short) };
 }
 
 pub returns-in-Ok-room-clause-fits : goal.returns-in-Ok-room-clause-fits

@@ -6,6 +6,7 @@ use Rattle.x25_link.specs.MustSend.{Step as LinkStep}
 use Rattle.x25_link.specs.Steps.{alone, take_step}
 use Rattle.x25_link.specs.Link.{FitsWhole, up_of}
 use Rattle.x25_layer.specs.Room.{HasRoom, IsNotFull}
+use Rattle.x25_station.specs.Aside.{IsFewAside}
 use Rattle.x25_station.specs.Entries.{entries_noted}
 use Rattle.x25_station.specs.FitsParts.{AreMeant}
 use Rattle.x25_station.specs.PlainEntry.{plain_entry}
@@ -90,10 +91,18 @@ invariant_of-self c = record {
             (c.follow.ensures.link c' s.layer k.side before.layer whole) (c.follow.ensures.layer c' s.layer k.side before.layer whole) c.sent.ensures.station (ap (λ o. o.made) c.sent.ensures.outgoing)
             (c.steps_keep_bounds.ensures.receive c' s c.args.octets.now fits.kept),
       ));
+  aside =
+      let before = c.set_aside.new.self.aside in
+      let low = before.packets in
+      let few = before.texts in
+      let packets = c.follow.ensures.most_memory in
+      let texts = c.follow.ensures.texts in
+      let spares : c.sent.new.self.outgoing.long ≡ 0 = ap (λ o. o.long) c.sent.ensures.outgoing in
+      record { packets = omega (arith, packets, low); spares = omega (arith, spares); texts = omega (arith, texts, few) };
 }
 
 pub invariant_of-self-in-Err-1 : goal.invariant_of-self-in-Err-1
-invariant_of-self-in-Err-1 c = record { meant = subst (λ l. AreMeant l c.set_aside.new.self.layer) (sym c.in-Err.ensures.err) c.set_aside.new.self.meant }
+invariant_of-self-in-Err-1 c = record { meant = subst (λ l. AreMeant l c.set_aside.new.self.layer) (sym c.in-Err.ensures.err) c.set_aside.new.self.meant; aside = subst (λ l. IsFewAside l c.set_aside.new.self.layer c.set_aside.new.self.texts) (sym c.in-Err.ensures.err) c.set_aside.new.self.aside }
 
 pub returns-in-Ok-clause-state : goal.returns-in-Ok-clause-state
 returns-in-Ok-clause-state c = λ c' s fits.
