@@ -5,6 +5,7 @@ pub mod Claims
 pub mod Sessions
 pub mod SessionWindow
 pub mod SessionClaims
+pub mod TapOctets
 pub mod WorldRows
 pub mod PlainTold
 pub mod OnLine
