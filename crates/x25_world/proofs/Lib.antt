@@ -21,7 +21,9 @@ pub mod SessionMeets
 pub mod SessionLawful
 pub mod SessionNamed
 pub mod SessionArrives
+pub mod FrameOctets
 pub mod SessionQuiet
+pub mod SessionOctets
 pub mod SetUpOnce
 pub mod WindowRuns
 pub mod SessionHeadline

@@ -3,6 +3,7 @@ use Rattle.x25_station.specs.KeepLaw.{ConnectKeeps}
 use Rattle.x25_world.specs.World.{run}
 use Rattle.x25_world.specs.Claims.{HasNoProcedureError}
 use Rattle.x25_world.specs.SessionClaims.{Throughout, MeetInStep, AreLawfulWhereMet, AreNamedInSessions, UnmetAreToldNothing, OpenStretchesMeet, AllArrive}
+use Rattle.x25_world.specs.TapOctets.{IsTapOfOctets}
 use Rattle.x25_world.proofs.Known.{is_configured}
 use Rattle.x25_world.proofs.SessionKnown.{SessionLaws}
 use Rattle.x25_world.proofs.SessionMeets.{meet_in_step}
@@ -10,6 +11,7 @@ use Rattle.x25_world.proofs.SessionLawful.{are_lawful, unmet_told_nothing}
 use Rattle.x25_world.proofs.SessionNamed.{are_named}
 use Rattle.x25_world.proofs.SessionArrives.{open_stretches_meet, all_arrive}
 use Rattle.x25_world.proofs.SessionQuiet.{has_no_error}
+use Rattle.x25_world.proofs.SessionOctets.{is_of_octets}
 use Rattle.x25_world.proofs.SessionRuns.{throughout_joined}
 
 module _ (laws : SessionLaws) (keeps : ConnectKeeps) where
@@ -33,3 +35,6 @@ module _ (laws : SessionLaws) (keeps : ConnectKeeps) where
 
   pub throughout_quiet : Throughout HasNoProcedureError
   throughout_quiet cfg fine begin which events octets = has_no_error laws cfg (is_configured cfg fine) (run cfg events begin) (throughout_joined laws keeps cfg fine begin which events octets)
+
+  pub throughout_octets : Throughout IsTapOfOctets
+  throughout_octets cfg fine begin which events octets = is_of_octets laws cfg (is_configured cfg fine) (run cfg events begin) (throughout_joined laws keeps cfg fine begin which events octets)

@@ -79,12 +79,16 @@ quiet_tap reads long_data channels given quiet (t ∷ tap) [] on whole none = ab
 module _ (laws : SessionLaws) (cfg : Cfg) (fine : IsConfigured cfg) where
   -- ---- what was handed down
 
-  nowhere : (octets : List ℕ) → Contains [] octets → IsQuietOctets cfg.long_data cfg.channels octets
-  nowhere octets (k, low, is) = absurd (omega (arith, low))
+  -- what holds of each packet that tells of no error and that the other end reads
+  abbrev pub HoldsOfQuiet : (List ℕ → Type 0) → Type 0
+  HoldsOfQuiet P = (ps : List PlainPacket) → AreQuiet cfg.channels ps → AreReadable cfg.long_data ps → (octets : List ℕ) → Contains (spelled ps) octets → P octets
 
-  quiet_from : {since : Beginning} (end : Role) (w : World) (h : SessionsJoined since cfg end w) (n : ℕ) (octets : List ℕ) → Contains (h.links.near.down n) octets → IsQuietOctets cfg.long_data cfg.channels octets
-  quiet_from end w h n octets there = elim (which_session h.links.near.begun n) [
-    | inl never ↦ nowhere octets (subst (λ (l : List (List ℕ)). Contains l octets) (nothing_down never) there)
+  nowhere : (P : List ℕ → Type 0) (octets : List ℕ) → Contains [] octets → P octets
+  nowhere P octets (k, low, is) = absurd (omega (arith, low))
+
+  held_from : (P : List ℕ → Type 0) → HoldsOfQuiet P → {since : Beginning} (end : Role) (w : World) (h : SessionsJoined since cfg end w) (n : ℕ) (octets : List ℕ) → Contains (h.links.near.down n) octets → P octets
+  held_from P holds end w h n octets there = elim (which_session h.links.near.begun n) [
+    | inl never ↦ nowhere P octets (subst (λ (l : List (List ℕ)). Contains l octets) (nothing_down never) there)
     | inr begun ↦ at_session begun.0 begun.1
   ]
     where
@@ -94,11 +98,19 @@ module _ (laws : SessionLaws) (cfg : Cfg) (fine : IsConfigured cfg) where
         | inr later ↦ ((known_sessions OnlyBegunHaveLists laws.begun cfg fine end h.links h.reach).near n later).0
       ]
 
-      at_session : 1 ≤ n → n ≤ h.links.near.begun → IsQuietOctets cfg.long_data cfg.channels octets
+      at_session : 1 ≤ n → n ≤ h.links.near.begun → P octets
       at_session low high =
           let pair = session_pair laws cfg fine end w h n in
-          quiet_octets cfg.long_data cfg.channels (own cfg end n h.trace).given (own_quiet laws cfg end n pair.0 h.trace pair.1).given (own_readable laws cfg fine end n pair.0 h.trace pair.1 h.octets) octets
+          holds (own cfg end n h.trace).given (own_quiet laws cfg end n pair.0 h.trace pair.1).given (own_readable laws cfg fine end n pair.0 h.trace pair.1 h.octets) octets
           (subst (λ (l : List (List ℕ)). Contains l octets) (h.near.sessions n low high).down there)
+
+  -- holds of each packet that an end was handed down
+  pub held_of_given : (P : List ℕ → Type 0) → HoldsOfQuiet P → {since : Beginning} (w : World) (h : SessionsJoined since cfg Dte w) (octets : List ℕ)
+      → ((n : ℕ) × Contains (h.links.near.down n) octets) ⊎ ((n : ℕ) × Contains (h.links.far.down n) octets) → P octets
+  held_of_given P holds w h octets down = elim down [
+    | inl near ↦ held_from P holds Dte w h near.0 octets near.1
+    | inr far ↦ held_from P holds Dce (swapped w) (sessions_swapped cfg Dte w h) far.0 octets (subst (λ (v : Sessions). Contains (v.near.down far.0) octets) (sym (links_swapped cfg Dte w h)) far.1)
+  ]
 
   -- ---- of a world
 
@@ -106,17 +118,12 @@ module _ (laws : SessionLaws) (cfg : Cfg) (fine : IsConfigured cfg) where
   has_no_error w h =
       let whole = known_sessions AllSessionsSendWhole laws.whole cfg fine Dte h.links h.reach in
       record {
-        tap = quiet_tap laws.stations.reads cfg.long_data cfg.channels whole.given (λ octets there. quiet octets (whole.handed_down octets there)) w.tap h.links.sent h.tap whole.whole
+        tap = quiet_tap laws.stations.reads cfg.long_data cfg.channels whole.given
+            (λ octets there. held_of_given (IsQuietOctets cfg.long_data cfg.channels) (quiet_octets cfg.long_data cfg.channels) w h octets (whole.handed_down octets there)) w.tap h.links.sent h.tap whole.whole
             (known_sessions NoSessionSendsFrmr laws.no_frmr cfg fine Dte h.links h.reach);
         told = told;
       }
     where
-      quiet : (octets : List ℕ) → ((n : ℕ) × Contains (h.links.near.down n) octets) ⊎ ((n : ℕ) × Contains (h.links.far.down n) octets) → IsQuietOctets cfg.long_data cfg.channels octets
-      quiet octets down = elim down [
-        | inl near ↦ quiet_from Dte w h near.0 octets near.1
-        | inr far ↦ quiet_from Dce (swapped w) (sessions_swapped cfg Dte w h) far.0 octets (subst (λ (v : Sessions). Contains (v.near.down far.0) octets) (sym (links_swapped cfg Dte w h)) far.1)
-      ]
-
       told : (end : Role) → AreNoFaults (layer_notices (entries_at end w.transcript))
       told Dte = h.near.no_fault
       told Dce = h.far.no_fault

@@ -6,6 +6,7 @@ pub mod Sessions
 pub mod WindowGoes
 pub mod SessionWindow
 pub mod SessionClaims
+pub mod TapOctets
 pub mod WorldRows
 pub mod PlainTold
 pub mod OnLine

@@ -6,6 +6,7 @@ ghost use Rattle.x25_world.specs.SessionClaims.{Throughout, ThroughoutAlong, Mee
 ghost use Rattle.x25_world.specs.Claims.{ActsInOctets, Always, UntilSecondUp, IsSetUp, IsLawful, IsNamed, ArrivesAll, HasNoProcedureError, UpOnceUnlessConnected};
 ghost use Rattle.x25_world.specs.WindowGoes.{StaysInWindow};
 ghost use Rattle.x25_world.specs.SessionWindow.{SessionsStayInWindow};
+ghost use Rattle.x25_world.specs.TapOctets.{IsTapOfOctets};
 
 use crate::Event;
 use x25_frame::reads_what_is_spelled;
@@ -73,6 +74,7 @@ pub fn two_stations_keep_order()
 /// - `unmet`: in a session that meets none the layer tells its user nothing: no message, no interrupt and no call.
 /// - `stand`: where a stretch is open at both ends, on whichever channels, the two sessions that stand meet each other.
 /// - `quiet`: no FRMR, no CLEAR, RESET or RESTART with a cause of an error was ever put on the line, and no user was told of a fault.
+/// - `octets`: all that was ever put on the line is octets, at most 4,103 at a time.
 /// - `window`: two links go on from event to event as the end of the event asks, and have the links and lines of each world of the run. At an end whose
 ///   link is up, the session that stands and the one of the other end that it meets or is to meet are in the window machine, with the unbounded
 ///   numbers behind those on the line to that end, and behind those on both lines where both links are up.
@@ -86,6 +88,7 @@ pub fn stations_meet_in_sessions()
     ensures unmet { Throughout UnmetAreToldNothing }
     ensures stand { Throughout OpenStretchesMeet }
     ensures quiet { Throughout HasNoProcedureError }
+    ensures octets { Throughout IsTapOfOctets }
     ensures window { ThroughoutAlong SessionsStayInWindow }
 {
     sessions_keep_order();

@@ -1,0 +1,64 @@
+-- What a line of a user hands down is octets.
+use Rattle.std.proofs.Common.{◌≡◌, ℕ, nat_le, Bool, true, false, cond, List, length, Option, Some, None, refl}
+use Rattle.x25_bits.specs.declared.role.Role.{Role}
+use Rattle.x25_bits.specs.declared.role.Role.TheVariants.{Dte, Dce}
+use Rattle.x25_station.specs.TimerLaw.{Event, Asks, Fires}
+use Rattle.x25_script.specs.PlainLine.{PlainCommand, call, accept, clear, send, interrupt, reset, ready, not_ready, restart, connect, disconnect, PlainLine, command, t1, deliver, lose, damage, drain}
+use Rattle.x25_script.specs.Reading.{line_in}
+use Rattle.x25_script.specs.ReadingLaw.{AsksInOctets, IsInOctets, ReadsOctets}
+use Rattle.x25_program.specs.Decoded.{sent_in}
+use Rattle.x25_console.specs.Commands.{command_asked}
+use Rattle.x25_console.specs.HeldLine.{most_line}
+use Rattle.x25_pipe.specs.Piped.{is_same, script_event, read_event, event_in}
+use Rattle.x25_world.specs.Claims.{CommandsOctets}
+use Rattle.std.specs.Prelude.{option_and_then}
+
+abbrev pub AsksOctets : Option Event → Type 0
+AsksOctets (Some (Asks asked)) = CommandsOctets asked
+AsksOctets event = Unit {0}
+
+handed : (asked : PlainCommand) → AsksInOctets asked → CommandsOctets (command_asked asked)
+handed (call called calling user None) h = h
+handed (call called calling user (Some four)) h = h
+handed (accept channel None) h = tt
+handed (accept channel (Some four)) h = tt
+handed (clear channel) h = tt
+handed (send channel q user) h = h
+handed (interrupt channel user) h = h
+handed (reset channel) h = tt
+handed (ready channel) h = tt
+handed (not_ready channel) h = tt
+handed restart h = tt
+handed connect h = tt
+handed disconnect h = tt
+
+only_octets : (b : Bool) (event : Event) → AsksOctets (Some event) → AsksOctets (cond b (Some event) None)
+only_octets true event h = h
+only_octets false event h = tt
+
+of_line : (end : Role) (line : PlainLine) → IsInOctets line → AsksOctets (script_event end line)
+of_line end (command at asked) h = only_octets (is_same end at) (Asks (command_asked asked)) (handed asked h)
+of_line end (t1 at) h = only_octets (is_same end at) Fires tt
+of_line end (deliver from) h = tt
+of_line end (lose from place) h = tt
+of_line end (damage from place octets) h = tt
+of_line end (drain count) h = tt
+
+of_read : ReadsOctets → (end : Role) (text : List ℕ) (read : Option PlainLine) → line_in text ≡ read → AsksOctets (option_and_then (script_event end) read)
+of_read reads end text None e = tt
+of_read reads end text (Some line) e = of_line end line (reads line text e)
+
+of_sent : ReadsOctets → (end : Role) (text : List ℕ) (sent : Option (Role × List ℕ)) → AsksOctets (read_event end text sent)
+of_sent reads end text None = of_read reads end text (line_in text) refl
+of_sent reads Dte text (Some (Dte, octets)) = tt
+of_sent reads Dte text (Some (Dce, octets)) = tt
+of_sent reads Dce text (Some (Dte, octets)) = tt
+of_sent reads Dce text (Some (Dce, octets)) = tt
+
+of_short : (b : Bool) (event : Option Event) → AsksOctets event → AsksOctets (cond b event None)
+of_short true event h = h
+of_short false event h = tt
+
+pub asks_octets : ReadsOctets → (end : Role) (line : List ℕ) → AsksOctets (event_in end line)
+unfolding event_in
+asks_octets reads end line = of_short (nat_le (length line) most_line) (read_event end line (sent_in line)) (of_sent reads end line (sent_in line))

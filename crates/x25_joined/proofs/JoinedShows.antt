@@ -1,0 +1,242 @@
+-- Two joined programs and a world of two stations, as one of the ends sees them: what one act of the programs is in the world.
+use Rattle.std.proofs.Common.{◌≡◌, ◌∙◌, ℕ, zero, suc, Bool, true, false, ◌&&◌, ◌||◌, nat_lt, cond, List, [], ◌∷◌, ◌++◌, length, take, drop, map, remove, All, Option, Some, None, append_assoc, append-nil, ap, ap₂, sym, subst, refl}
+use Rattle.std.proofs.lemmas.List.Elements.{All-nil, All-cons, All-head, All-tail, All-append, All-take, All-drop}
+use Rattle.x25_bits.specs.Role.{other}
+use Rattle.x25_bits.specs.declared.role.Role.{Role}
+use Rattle.x25_bits.specs.declared.role.Role.TheVariants.{Dte, Dce}
+use Rattle.x25_frame.specs.Spelling.{spelling_of}
+use Rattle.x25_link.specs.Station.{is_waiting}
+use Rattle.x25_line.specs.Stations.{is_visible, replaced}
+use Rattle.x25_script.specs.ReadingLaw.{ReadsOctets}
+use Rattle.x25_program.specs.Lines.{IsOpen}
+use Rattle.x25_station.specs.declared.config.Cfg.{Cfg}
+use Rattle.x25_station.specs.Command.{Command}
+use Rattle.x25_station.specs.Entries.{StationEntry}
+use Rattle.x25_station.specs.Settings.{Settings, settings_from}
+use Rattle.x25_station.specs.Station.{Station}
+use Rattle.x25_station.specs.Steps.{Step, Outcome, Did, Refused, commands, fires, receives}
+use Rattle.x25_station.specs.TimerLaw.{Event, Comes, Asks, Fires}
+use Rattle.x25_pipe.specs.Piped.{event_in, turn, piped}
+use Rattle.x25_world.specs.SetUpFrames.{carries}
+use Rattle.x25_world.specs.declared.set_up.SetUpFrame.TheVariants.{Sabm, Ua}
+use Rattle.x25_world.specs.declared.error.WorldError.TheVariants as error
+use Rattle.x25_world.specs.World as world
+use Rattle.x25_world.specs.World.{OnTap, AtEnd, World, tapped, entered, after_step, WorldOutcome, Happened, Declined, of_station, delivered}
+use Rattle.x25_world.specs.Claims.{ActsInOctets, entry_of_end, entries_at}
+use Rattle.x25_world.specs.TapOctets.{AreOfFrame, AreOfFrames}
+use Rattle.x25_joined.specs.Joined.{Joined, written, station_of, entries_in, frames_in, reads, takes, on_line, Act, Reads, Takes, Loses, Damages, acts, IsNoFrame, is_on_line, IsInTime, IsPossible}
+use Rattle.x25_joined.specs.JoinedClaims.{frame_of_end, put_by}
+use Rattle.x25_joined.proofs.LineText.{AreWhole, more_whole, one_more, said_more}
+use Rattle.x25_joined.proofs.FrameText.{frame_words, frame_text, frame_open, frame_comes}
+use Rattle.x25_joined.proofs.Turns.{entries-append, frames-append, TurnIs, line_did, line_refused, line_none}
+use Rattle.x25_joined.proofs.AskedOctets.{AsksOctets, asks_octets}
+
+-- ---- transcript and tap, of each end
+
+entries_at-append : (end : Role) (xs ys : List AtEnd) → entries_at end (xs ++ ys) ≡ entries_at end xs ++ entries_at end ys
+entries_at-append end [] ys = refl
+entries_at-append end (x ∷ xs) ys =
+    ap (λ (es : List StationEntry). entry_of_end end x.at x.entry ++ es) (entries_at-append end xs ys)
+    ∙ sym (append_assoc (entry_of_end end x.at x.entry) (entries_at end xs) (entries_at end ys))
+
+own_entries : (end : Role) (es : List StationEntry) → entries_at end (entered end es) ≡ es
+own_entries end [] = refl
+own_entries Dte (e ∷ es) = ap (λ (xs : List StationEntry). e ∷ xs) (own_entries Dte es)
+own_entries Dce (e ∷ es) = ap (λ (xs : List StationEntry). e ∷ xs) (own_entries Dce es)
+
+no_entries : (end : Role) (es : List StationEntry) → entries_at (other end) (entered end es) ≡ []
+no_entries end [] = refl
+no_entries Dte (e ∷ es) = no_entries Dte es
+no_entries Dce (e ∷ es) = no_entries Dce es
+
+put_by-append : (end : Role) (xs ys : List OnTap) → put_by end (xs ++ ys) ≡ put_by end xs ++ put_by end ys
+put_by-append end [] ys = refl
+put_by-append end (x ∷ xs) ys =
+    ap (λ (fs : List (List ℕ)). frame_of_end end x.from x.octets ++ fs) (put_by-append end xs ys)
+    ∙ sym (append_assoc (frame_of_end end x.from x.octets) (put_by end xs) (put_by end ys))
+
+own_frames : (end : Role) (fs : List (List ℕ)) → put_by end (tapped end fs) ≡ fs
+own_frames end [] = refl
+own_frames Dte (f ∷ fs) = ap (λ (xs : List (List ℕ)). f ∷ xs) (own_frames Dte fs)
+own_frames Dce (f ∷ fs) = ap (λ (xs : List (List ℕ)). f ∷ xs) (own_frames Dce fs)
+
+no_frames : (end : Role) (fs : List (List ℕ)) → put_by (other end) (tapped end fs) ≡ []
+no_frames end [] = refl
+no_frames Dte (f ∷ fs) = no_frames Dte fs
+no_frames Dce (f ∷ fs) = no_frames Dce fs
+
+-- ---- what is kept
+
+-- the program of an end, with all that it read; and its station, its entries and its frames in a world
+pub record IsEnd (cfg : Cfg) (end : Role) (input : List ℕ) (s : Station) (transcript : List AtEnd) (tap : List OnTap) : Type 0 where
+  pub whole : AreWhole input
+  pub station : station_of (settings_from end cfg) input ≡ s
+  pub entries : entries_at end transcript ≡ entries_in (written (settings_from end cfg) input)
+  pub frames : put_by end tap ≡ frames_in (written (settings_from end cfg) input)
+
+pub record Shows (cfg : Cfg) (end : Role) (j : Joined) (w : World) : Type 0 where
+  pub near : IsEnd cfg end j.near w.near w.transcript w.tap
+  pub far : IsEnd cfg (other end) j.far w.far w.transcript w.tap
+  pub out : w.out ≡ j.out
+  pub back : w.back ≡ j.back
+
+-- what is on the line is octets of frames
+pub record Fits (w : World) : Type 0 where
+  pub out : All AreOfFrame w.out
+  pub back : All AreOfFrame w.back
+
+-- what an act of the programs is in a world: nothing, or an act that is accepted
+pub data Mirrors (cfg : Cfg) (end : Role) (w : World) (j : Joined) : Type 0 where
+  stays : Shows cfg end j w → Mirrors cfg end w j
+  moves : (act : world.Act) (next : World) → world.acts (settings_from end cfg) w act ≡ Happened next → ActsInOctets act → Shows cfg end j next → (AreOfFrames next.tap → Fits next) → Mirrors cfg end w j
+
+-- ---- the line
+
+tap_new : (from : Role) (tap : List OnTap) (fs : List (List ℕ)) → AreOfFrames (tap ++ tapped from fs) → All AreOfFrame fs
+tap_new from (t ∷ tap) fs h = tap_new from tap fs h.1
+tap_new from [] [] h = All-nil AreOfFrame
+tap_new from [] (f ∷ fs) h = All-cons AreOfFrame f fs h.0 (tap_new from [] fs h.1)
+
+replaced_fit : (xs : List (List ℕ)) (place : ℕ) (octets : List ℕ) → All AreOfFrame xs → AreOfFrame octets → All AreOfFrame (replaced xs place octets)
+replaced_fit [] place octets h f = h
+replaced_fit (x ∷ xs) zero octets h f = All-cons AreOfFrame octets xs f (All-tail AreOfFrame x xs h)
+replaced_fit (x ∷ xs) (suc place) octets h f = All-cons AreOfFrame x (replaced xs place octets) (All-head AreOfFrame x xs h) (replaced_fit xs place octets (All-tail AreOfFrame x xs h) f)
+
+module _ (cfg : Cfg) (end : Role) (w : World) (fits : Fits w) where
+  abbrev c : Settings
+  c = settings_from end cfg
+
+  step_fits : (back : List (List ℕ)) (step : Step) → All AreOfFrame back → AreOfFrames (after_step c w back step).tap → Fits (after_step c w back step)
+  step_fits back step rest tap = record {
+    out = All-append AreOfFrame w.out (map (spelling_of end) step.out) fits.out (tap_new end w.tap (map (spelling_of end) step.out) tap);
+    back = rest;
+  }
+
+  -- ---- a line is read
+
+  module _ (j : Joined) (h : Shows cfg end j w) where
+    -- with where it leads, and what is said
+    reads_shows : (back : List (List ℕ)) (line : List ℕ) (step : Step) → IsOpen line → TurnIs (turn c line w.near) step.near step.entries (map (spelling_of end) step.out)
+        → Shows cfg end (reads c j back (line ++ 10 ∷ [])) (after_step c w back step)
+    reads_shows back line step none turns =
+        let es = step.entries in
+        let fs = map (spelling_of end) step.out in
+        let more = (turn c line (piped c j.near).next).sayings in
+        let is : TurnIs (turn c line (piped c j.near).next) step.near es fs = subst (λ (s : Station). TurnIs (turn c line s) step.near es fs) (sym h.near.station) turns in
+        let all : written c (j.near ++ (line ++ 10 ∷ [])) ≡ written c j.near ++ more = ap (λ t. t.sayings) (one_more c j.near line h.near.whole none) in
+        record {
+          near = record {
+            whole = more_whole j.near line h.near.whole none;
+            station = ap (λ t. t.next) (one_more c j.near line h.near.whole none) ∙ is.next;
+            entries = entries_at-append end w.transcript (entered end es) ∙ ap₂ (λ (xs ys : List StationEntry). xs ++ ys) h.near.entries (own_entries end es ∙ sym is.entries)
+                ∙ sym (entries-append (written c j.near) more) ∙ ap entries_in (sym all);
+            frames = put_by-append end w.tap (tapped end fs) ∙ ap₂ (λ (xs ys : List (List ℕ)). xs ++ ys) h.near.frames (own_frames end fs ∙ sym is.frames)
+                ∙ sym (frames-append (written c j.near) more) ∙ ap frames_in (sym all);
+          };
+          far = record {
+            whole = h.far.whole;
+            station = h.far.station;
+            entries = entries_at-append (other end) w.transcript (entered end es) ∙ ap (λ (xs : List StationEntry). entries_at (other end) w.transcript ++ xs) (no_entries end es)
+                ∙ append-nil (entries_at (other end) w.transcript) ∙ h.far.entries;
+            frames = put_by-append (other end) w.tap (tapped end fs) ∙ ap (λ (xs : List (List ℕ)). put_by (other end) w.tap ++ xs) (no_frames end fs)
+                ∙ append-nil (put_by (other end) w.tap) ∙ h.far.frames;
+          };
+          out = ap₂ (λ (xs ys : List (List ℕ)). xs ++ ys) h.out (sym is.frames ∙ ap frames_in (sym (said_more c j.near line h.near.whole none)));
+          back = refl;
+        }
+
+    -- a step that does nothing
+    abbrev still : Step
+    still = record { near = w.near; out = []; entries = [] }
+
+    stood : after_step c w w.back still ≡ w
+    stood =
+        ap (λ (out : List (List ℕ)). let v : World = record { near = w.near; far = w.far; out = out; back = w.back; tap = w.tap ++ []; transcript = w.transcript ++ [] } in v) (append-nil w.out)
+        ∙ ap (λ (tap : List OnTap). let v : World = record { near = w.near; far = w.far; out = w.out; back = w.back; tap = tap; transcript = w.transcript ++ [] } in v) (append-nil w.tap)
+        ∙ ap (λ (transcript : List AtEnd). let v : World = record { near = w.near; far = w.far; out = w.out; back = w.back; tap = w.tap; transcript = transcript } in v) (append-nil w.transcript)
+
+    nothing_happens : (line : List ℕ) → IsOpen line → TurnIs (turn c line w.near) w.near [] [] → Mirrors cfg end w (reads c j j.back (line ++ 10 ∷ []))
+    nothing_happens line none turns = stays (subst (λ (v : World). Shows cfg end (reads c j j.back (line ++ 10 ∷ [])) v) stood
+        (subst (λ (back : List (List ℕ)). Shows cfg end (reads c j back (line ++ 10 ∷ [])) (after_step c w w.back still)) h.back (reads_shows w.back line still none turns)))
+
+    something_happens : (act : world.Act) (line : List ℕ) (step : Step) → IsOpen line → TurnIs (turn c line w.near) step.near step.entries (map (spelling_of end) step.out)
+        → world.acts c w act ≡ Happened (after_step c w w.back step) → ActsInOctets act → Mirrors cfg end w (reads c j j.back (line ++ 10 ∷ []))
+    something_happens act line step none turns is octets =
+        moves act (after_step c w w.back step) is octets
+        (subst (λ (back : List (List ℕ)). Shows cfg end (reads c j back (line ++ 10 ∷ [])) (after_step c w w.back step)) h.back (reads_shows w.back line step none turns))
+        (step_fits w.back step fits.back)
+
+    commanded : (line : List ℕ) (command : Command) (o : Outcome) → IsOpen line → event_in end line ≡ Some (Asks command) → AsksOctets (Some (Asks command)) → commands c w.near command ≡ o
+        → Mirrors cfg end w (reads c j j.back (line ++ 10 ∷ []))
+    commanded line command (Did step) none asks octets is =
+        something_happens (world.Commands command) line step none (line_did c w.near line (Asks command) step asks is) (ap (of_station c w) is) octets
+    commanded line command (Refused e) none asks octets is = nothing_happens line none (line_refused c w.near line (Asks command) e asks is)
+
+    in_time : (is_waiting (station_of c j.near).link.phase && is_on_line c j) ≡ false → (is_waiting w.near.link.phase && world.is_on_line c w) ≡ false
+    in_time free =
+        ap (λ (s : Station). is_waiting s.link.phase && world.is_on_line c w) (sym h.near.station)
+        ∙ ap₂ (λ (out back : List (List ℕ)). is_waiting (station_of c j.near).link.phase && (carries Sabm end out || carries Ua (other end) back)) h.out h.back ∙ free
+
+    fired : (line : List ℕ) (o : Outcome) → IsOpen line → event_in end line ≡ Some Fires → IsInTime c j (Some Fires) → fires c w.near ≡ o → Mirrors cfg end w (reads c j j.back (line ++ 10 ∷ []))
+    fired line (Did step) none asks free is =
+        something_happens world.Fires line step none (line_did c w.near line Fires step asks is)
+        (ap (λ (b : Bool). cond b (Declined error.OnLine) (of_station c w (fires c w.near))) (in_time free) ∙ ap (of_station c w) is) tt
+    fired line (Refused e) none asks free is = nothing_happens line none (line_refused c w.near line Fires e asks is)
+
+    asked : (line : List ℕ) (event : Option Event) → IsOpen line → event_in end line ≡ event → IsNoFrame event → IsInTime c j event → AsksOctets event → Mirrors cfg end w (reads c j j.back (line ++ 10 ∷ []))
+    asked line None none asks no_frame free octets = nothing_happens line none (line_none c w.near line asks)
+    asked line (Some (Comes x)) none asks no_frame free octets = absurd no_frame
+    asked line (Some (Asks command)) none asks no_frame free octets = commanded line command (commands c w.near command) none asks octets refl
+    asked line (Some Fires) none asks no_frame free octets = fired line (fires c w.near) none asks free refl
+
+    -- ---- a frame comes
+
+    taken : (back : List (List ℕ)) → j.back ≡ back → Mirrors cfg end w (takes c j back)
+    taken [] empty = stays h
+    taken (octets ∷ back) there =
+        let line = frame_words (other end) octets in
+        let none = frame_open (other end) octets in
+        let on_it : w.back ≡ octets ∷ back = h.back ∙ there in
+        let all : All AreOfFrame (octets ∷ back) = subst (All AreOfFrame) on_it fits.back in
+        let step = receives c w.near octets in
+        let turns = line_did c w.near line (Comes octets) step (frame_comes end octets (All-head AreOfFrame octets back all)) refl in
+        moves world.Receives (after_step c w back step) (ap (delivered c w) on_it) tt
+        (subst (λ (text : List ℕ). Shows cfg end (reads c j back text) (after_step c w back step)) (sym (frame_text (other end) octets)) (reads_shows back line step none turns))
+        (step_fits back step (All-tail AreOfFrame octets back all))
+
+    -- ---- loss and damage
+
+    changed : (back there : List (List ℕ)) → back ≡ there → Shows cfg end (on_line j there) (world.on_line w back)
+    changed back there is = record { near = h.near; far = h.far; out = h.out; back = is }
+
+    same_place : (place : ℕ) → nat_lt place (length w.back) ≡ nat_lt place (length j.back)
+    same_place place = ap (λ (back : List (List ℕ)). nat_lt place (length back)) h.back
+
+    lost : (place : ℕ) (b : Bool) → nat_lt place (length j.back) ≡ b → Mirrors cfg end w (cond b (on_line j (remove j.back place)) j)
+    lost place false is = stays h
+    lost place true is =
+        moves (world.Loses place) (world.on_line w (remove w.back place))
+        (ap (λ (b : Bool). cond b (Happened (world.on_line w (remove w.back place))) (Declined error.NoSuchFrame)) (same_place place ∙ is)) tt
+        (changed (remove w.back place) (remove j.back place) (ap (λ (back : List (List ℕ)). remove back place) h.back))
+        (λ tap. record {
+          out = fits.out;
+          back = All-append AreOfFrame (take place w.back) (drop (suc place) w.back) (All-take AreOfFrame place w.back fits.back) (All-drop AreOfFrame (suc place) w.back fits.back);
+        })
+
+    damaged : (place : ℕ) (octets : List ℕ) (b : Bool) → is_visible octets ≡ true → AreOfFrame octets → nat_lt place (length j.back) ≡ b → Mirrors cfg end w (cond b (on_line j (replaced j.back place octets)) j)
+    damaged place octets false seen fit is = stays h
+    damaged place octets true seen fit is =
+        let there = world.on_line w (replaced w.back place octets) in
+        moves (world.Damages place octets) there
+        (ap (λ (b : Bool). cond b (cond (is_visible octets) (Happened there) (Declined error.Unseen)) (Declined error.NoSuchFrame)) (same_place place ∙ is)
+        ∙ ap (λ (b : Bool). cond b (Happened there) (Declined error.Unseen)) seen) tt
+        (changed (replaced w.back place octets) (replaced j.back place octets) (ap (λ (back : List (List ℕ)). replaced back place octets) h.back))
+        (λ tap. record { out = fits.out; back = replaced_fit w.back place octets fits.back fit })
+
+    -- ---- each act
+
+    pub act_shows : ReadsOctets → (act : Act) → IsPossible c j act → Mirrors cfg end w (acts c j act)
+    act_shows octets (Reads line) may = asked line (event_in end line) may.is_line refl may.is_no_frame may.in_time (asks_octets octets end line)
+    act_shows octets Takes may = taken j.back refl
+    act_shows octets (Loses place) may = lost place (nat_lt place (length j.back)) refl
+    act_shows octets (Damages place x) may = damaged place x (nat_lt place (length j.back)) may.is_seen may.fits refl

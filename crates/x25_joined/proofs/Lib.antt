@@ -1,0 +1,7 @@
+pub mod LineText
+pub mod FrameText
+pub mod Turns
+pub mod AskedOctets
+pub mod JoinedShows
+pub mod JoinedRuns
+pub mod JoinedRowLemmas

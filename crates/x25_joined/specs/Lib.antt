@@ -1,0 +1,3 @@
+pub mod Joined
+pub mod JoinedClaims
+pub mod JoinedRows

@@ -1,0 +1,11 @@
+//! Two programs `x25 station` joined by a line that keeps order and may lose or visibly damage any frame: what they write is a run of two
+//! stations, and what holds of it.
+//!
+//! It runs nothing: its public functions state laws as their contracts.
+#![tactic(auto)]
+
+mod law;
+
+pub use law::{
+    programs_meet_in_sessions, programs_move, two_programs_are_a_world, two_programs_keep_order,
+};

@@ -1,0 +1,120 @@
+-- The octets that spell a frame are octets, at most as many as the longest frame has.
+use Rattle.std.proofs.Common.{◌≡◌, ◌∙◌, ℕ, zero, suc, ◌+◌, ◌-◌, ◌*◌, ◌/◌, ◌%◌, ◌≤◌, ◌<◌, Bool, true, false, not, List, [], ◌∷◌, ◌++◌, length, map, take, drop, replicate, subst, arith, refl}
+use Rattle.std.proofs.lemmas.List.{length-append, length-map, length-replicate}
+use Rattle.std.proofs.lemmas.List.Elements.{All-nil, All-cons, All-append}
+use Rattle.x25_bits.specs.Bit.{bit}
+use Rattle.x25_bits.specs.Fcs.{number_of, bits_of, add, divisor, divided, remainder, inverted, fcs_of}
+use Rattle.x25_bits.specs.Sealed.{seal_of}
+use Rattle.x25_bits.specs.declared.role.Role.{Role}
+use Rattle.x25_bits.specs.declared.role.Role.TheVariants.{Dte, Dce}
+use Rattle.x25_frame.specs.PlainFrame.{PlainFrame, info, rr, rnr, rej, sabm, disc, ua, dm, frmr}
+use Rattle.x25_frame.specs.Spelling.{is_command, address_of, control_of, information_of, IsInRange, MayCarry, IsWithin, body_of, spelling_of}
+use Rattle.x25_station.specs.Settings.{longest_packet}
+use Rattle.x25_station.specs.ReadLaw.{AreOctets}
+use Rattle.x25_world.specs.TapOctets.{AreOfFrame}
+
+-- ---- the frame check sequence has sixteen bits
+
+abbrev bound : ℕ → ℕ
+bound zero = 1
+bound (suc n) = 2 * bound n
+
+number_below : (bits : List Bool) → number_of bits < bound (length bits)
+unfolding number_of
+number_below [] = omega arith
+number_below (true ∷ bits) = let h = number_below bits in omega (arith, h)
+number_below (false ∷ bits) = let h = number_below bits in omega (arith, h)
+
+length_add : (p q : List Bool) → length p ≤ length q → length (add p q) ≡ length q
+unfolding add
+length_add [] q few = refl
+length_add (a ∷ p) [] few = absurd (omega (arith, few))
+length_add (a ∷ p) (b ∷ q) few = let h = length_add p q (omega (arith, few)) in omega (arith, h)
+
+length_divisor : length divisor ≡ 16
+unfolding divisor
+length_divisor = refl
+
+length_divided : (n : ℕ) (p : List Bool) → length p ≡ n + 16 → length (divided n p) ≡ 16
+unfolding divided
+length_divided zero p e = omega (arith, e)
+length_divided (suc n) [] e = absurd (omega (arith, e))
+length_divided (suc n) (true ∷ p) e =
+    let d = length_divisor in
+    let h = length_add divisor p (omega (arith, d, e)) in
+    length_divided n (add divisor p) (omega (arith, h, e))
+length_divided (suc n) (false ∷ p) e = length_divided n p (omega (arith, e))
+
+length_parts : (n : ℕ) (q : List Bool) → length (take n q) + length (drop n q) ≡ length q
+length_parts zero q = omega arith
+length_parts (suc n) [] = omega arith
+length_parts (suc n) (b ∷ q) = let h = length_parts n q in omega (arith, h)
+
+length_inverted : (q : List Bool) → length (inverted q) ≡ length q
+length_inverted q =
+    let a = length-append (map not (take 16 q)) (drop 16 q) in
+    let b = length-map (take 16 q) not in
+    let c = length_parts 16 q in
+    omega (arith, a, b, c)
+
+fcs_below : (octets : List ℕ) → fcs_of octets < 65536
+unfolding fcs_of
+fcs_below octets =
+    let q = bits_of octets ++ replicate 16 false in
+    let p = inverted q in
+    let a = length-append (bits_of octets) (replicate 16 false) in
+    let b = length-replicate 16 false in
+    let c = length_inverted q in
+    let few = length_divided (length p - 16) p (omega (arith, a, b, c)) in
+    subst (λ (n : ℕ). number_of (map not (remainder p)) < bound n) (length-map (remainder p) not ∙ few) (number_below (map not (remainder p)))
+
+-- ---- frames
+
+bit_low : (b : Bool) → bit b ≤ 1
+bit_low true = omega arith
+bit_low false = omega arith
+
+control_below : (v : PlainFrame) → IsInRange v → control_of v < 256
+control_below (info ns nr p x) h = let b = bit_low p in omega (arith, b, h.0, h.1)
+control_below (rr command nr pf) h = let b = bit_low pf in omega (arith, b, h)
+control_below (rnr command nr pf) h = let b = bit_low pf in omega (arith, b, h)
+control_below (rej command nr pf) h = let b = bit_low pf in omega (arith, b, h)
+control_below (sabm p) h = let b = bit_low p in omega (arith, b)
+control_below (disc p) h = let b = bit_low p in omega (arith, b)
+control_below (ua f) h = let b = bit_low f in omega (arith, b)
+control_below (dm f) h = let b = bit_low f in omega (arith, b)
+control_below (frmr f why) h = let b = bit_low f in omega (arith, b)
+
+address_below : (from : Role) (command : Bool) → address_of from command < 256
+address_below Dte true = omega arith
+address_below Dte false = omega arith
+address_below Dce true = omega arith
+address_below Dce false = omega arith
+
+information_short : (v : PlainFrame) → MayCarry v (information_of v) → IsWithin longest_packet v (information_of v) → length (information_of v) ≤ 4099
+information_short (info ns nr p x) carries within = within
+information_short (rr command nr pf) carries within = omega arith
+information_short (rnr command nr pf) carries within = omega arith
+information_short (rej command nr pf) carries within = omega arith
+information_short (sabm p) carries within = omega arith
+information_short (disc p) carries within = omega arith
+information_short (ua f) carries within = omega arith
+information_short (dm f) carries within = omega arith
+information_short (frmr f why) carries within = omega (arith, carries)
+
+abbrev IsOctet : ℕ → Type 0
+IsOctet octet = octet < 256
+
+sealed_octets : (body : List ℕ) → AreOctets body → AreOctets (body ++ seal_of body)
+sealed_octets body h =
+    let few = fcs_below body in
+    All-append IsOctet body (seal_of body) h (All-cons IsOctet (fcs_of body % 256) (fcs_of body / 256 ∷ []) (omega arith) (All-cons IsOctet (fcs_of body / 256) [] (omega (arith, few)) (All-nil IsOctet)))
+
+pub spelled_of_frame : (from : Role) (v : PlainFrame) → IsInRange v → MayCarry v (information_of v) → IsWithin longest_packet v (information_of v) → AreOctets (information_of v) → AreOfFrame (spelling_of from v)
+spelled_of_frame from v in_range carries within h = record {
+  each = sealed_octets (body_of from v) (All-cons IsOctet (address_of from (is_command v)) (control_of v ∷ information_of v) (address_below from (is_command v)) (All-cons IsOctet (control_of v) (information_of v) (control_below v in_range) h));
+  short = by;
+}
+  where
+    by : length (spelling_of from v) ≤ 4103
+    by = let few = information_short v carries within in let all = length-append (body_of from v) (seal_of (body_of from v)) in omega (arith, few, all)
