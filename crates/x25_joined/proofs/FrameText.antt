@@ -8,11 +8,11 @@ use Rattle.x25_bits.specs.Role.{other}
 use Rattle.x25_bits.specs.declared.role.Role.{Role}
 use Rattle.x25_bits.specs.declared.role.Role.TheVariants.{Dte, Dce}
 use Rattle.x25_text.specs.OctetText.{octet_text}
-use Rattle.x25_program.specs.Lines.{IsOpen}
-use Rattle.x25_program.specs.Decoded.{mark_of, octets_in, sent_in}
+use Rattle.x25_io.specs.Lines.{IsOpen}
+use Rattle.x25_decode.specs.Decoded.{mark_of, octets_in, sent_in}
 use Rattle.x25_station.specs.ReadLaw.{AreOctets}
 use Rattle.x25_station.specs.TimerLaw.{Comes}
-use Rattle.x25_console.specs.HeldLine.{most_line}
+use Rattle.x25_io.specs.HeldLine.{most_line}
 use Rattle.x25_console.specs.Lines.{frame_line}
 use Rattle.x25_world.specs.TapOctets.{AreOfFrame}
 use Rattle.x25_pipe.specs.Piped.{saying_line, sends, read_event, event_in}

@@ -13,7 +13,7 @@ use Rattle.x25_packet.specs.Facilities.{facilities_of}
 use Rattle.x25_packet.specs.Reading.{packet_of}
 use Rattle.x25_link.specs.Station.{pumped}
 use Rattle.x25_script.specs.Reading.{parts_of, number_in, small_number_in, params_in, with_params_in, call_in, accept_in, send_in, interrupt_in, with_fields, command_in, lose_in, damage_in, drain_in, line_in}
-use Rattle.x25_program.specs.Lines.{IsOpen, lines_of}
+use Rattle.x25_io.specs.Lines.{IsOpen, lines_of}
 use Rattle.x25_entries.specs.EntryText.{entry_line}
 use Rattle.x25_console.specs.Lines.{frame_line, refusal_line}
 use Rattle.x25_pipe.specs.Piped.{saying_line, event_in, event_turn, turn, turns, piped}

@@ -8,7 +8,7 @@ use Rattle.x25_frame.specs.Spelling.{spelling_of}
 use Rattle.x25_link.specs.Station.{is_waiting}
 use Rattle.x25_line.specs.Stations.{is_visible, replaced}
 use Rattle.x25_script.specs.ReadingLaw.{ReadsOctets}
-use Rattle.x25_program.specs.Lines.{IsOpen}
+use Rattle.x25_io.specs.Lines.{IsOpen}
 use Rattle.x25_station.specs.declared.config.Cfg.{Cfg}
 use Rattle.x25_station.specs.Command.{Command}
 use Rattle.x25_station.specs.Entries.{StationEntry}

@@ -2,7 +2,7 @@
 use Rattle.std.proofs.Common.{◌≡◌, ◌∙◌, ℕ, false, List, [], ◌∷◌, ◌++◌, length, drop, append_assoc, append-nil, ap, sym, refl, nat_eq}
 use Rattle.std.proofs.lemmas.Bool.{ne_eqb}
 use Rattle.std.proofs.Math.Seq.{drop-append_seam}
-use Rattle.x25_program.specs.Lines.{IsOpen, lines_of}
+use Rattle.x25_io.specs.Lines.{IsOpen, lines_of}
 use Rattle.x25_station.specs.Settings.{Settings}
 use Rattle.x25_station.specs.Station.{Station, new_station}
 use Rattle.x25_pipe.specs.Piped.{Saying, Turn, and_then, standing_turn, turn, turns, piped}

@@ -12,7 +12,7 @@ use Rattle.x25_station.specs.Entries.{StationEntry}
 use Rattle.x25_station.specs.Settings.{Settings, settings_from}
 use Rattle.x25_station.specs.Station.{Station}
 use Rattle.x25_station.specs.TimerLaw.{Event, Comes, Fires}
-use Rattle.x25_program.specs.Lines.{IsOpen}
+use Rattle.x25_io.specs.Lines.{IsOpen}
 use Rattle.x25_pipe.specs.Piped.{Saying, enters, sends, reads_nothing, refuses, marks, saying_line, event_in, piped}
 use Rattle.x25_world.specs.SetUpFrames.{carries}
 use Rattle.x25_world.specs.declared.set_up.SetUpFrame.TheVariants.{Sabm, Ua}
