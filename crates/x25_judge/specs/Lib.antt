@@ -1,0 +1,5 @@
+pub mod RuleText
+pub mod Way
+pub mod Sides
+pub mod Judged
+pub mod Stream

@@ -1,0 +1,213 @@
+-- Both ends of a link as what they sent shows them, and what a frame changes and breaks.
+-- ITU-T X.25 (10/96), sections 2.4.3 to 2.4.5; what is said behind a fault is profile.
+use Rattle.std.specs.Prelude.{ℕ, ◌+◌, ◌-◌, ◌==◌, Bool, true, false, not, ◌&&◌, if◌then◌else◌, min, Option, Some, None}
+use Rattle.x25_frame.specs.PlainFrame.{PlainFrame, info, rr, rnr, rej, sabm, disc, ua, dm, frmr}
+use Rattle.x25_judge.specs.Way.{fresh, lost, missed, answered, heard, rejected, sent_back, sent}
+use Rattle.x25_judge.specs.declared.rule.Rule.{Rule}
+use Rattle.x25_judge.specs.declared.rule.Rule.TheVariants.{NotUp, NoPoll}
+use Rattle.x25_judge.specs.declared.sides.Phase.{Phase}
+use Rattle.x25_judge.specs.declared.sides.Phase.TheVariants.{Unseen, Out, Waiting, Answered, Up}
+use Rattle.x25_judge.specs.declared.sides.End.{End}
+use Rattle.x25_judge.specs.declared.sides.Sides.{Sides}
+use Rattle.x25_judge.specs.declared.way.Way.{Way}
+use Rattle.x25_judge.specs.declared.way.Told.{Told}
+
+abbrev pub first : Option Rule → Option Rule → Option Rule
+first (Some rule) next = Some rule
+first None next = next
+
+-- ---- phases (sections 2.4.4.1 to 2.4.4.5)
+
+-- UA is awaited, and none was sent
+abbrev pub is_waiting : Phase → Bool
+is_waiting Unseen = false
+is_waiting Out = false
+is_waiting Waiting = true
+is_waiting Answered = false
+is_waiting Up = false
+
+-- UA may be awaited
+abbrev pub is_asking : Phase → Bool
+is_asking Unseen = false
+is_asking Out = false
+is_asking Waiting = true
+is_asking Answered = true
+is_asking Up = false
+
+abbrev pub is_unseen : Phase → Bool
+is_unseen Unseen = true
+is_unseen Out = false
+is_unseen Waiting = false
+is_unseen Answered = false
+is_unseen Up = false
+
+-- I frames and supervisory frames may be sent (section 2.4.4.2)
+abbrev pub may_run : Phase → Bool
+may_run Unseen = true
+may_run Out = false
+may_run Waiting = false
+may_run Answered = true
+may_run Up = true
+
+-- behind one of them
+abbrev pub running : Phase → Phase
+running Unseen = Unseen
+running Out = Unseen
+running Waiting = Unseen
+running Answered = Up
+running Up = Up
+
+-- behind SABM
+abbrev pub asking : Phase → Phase
+asking Unseen = Waiting
+asking Out = Waiting
+asking Waiting = Waiting
+asking Answered = Answered
+asking Up = Waiting
+
+-- behind a UA that it sent: an end that awaits UA goes on to, or has given up and is up now
+abbrev pub accepting : Phase → Phase
+accepting Unseen = Up
+accepting Out = Up
+accepting Waiting = Answered
+accepting Answered = Answered
+accepting Up = Up
+
+-- behind a UA that was sent to it
+abbrev pub accepted : Phase → Phase
+accepted Unseen = Unseen
+accepted Out = Out
+accepted Waiting = Answered
+accepted Answered = Answered
+accepted Up = Up
+
+-- behind a DM that it sent: an end that awaits UA goes on to
+abbrev pub declining : Phase → Phase
+declining Unseen = Out
+declining Out = Out
+declining Waiting = Waiting
+declining Answered = Answered
+declining Up = Out
+
+-- behind a damaged frame of its own, which may have been SABM or UA
+abbrev pub unsure : Phase → Phase
+unsure Unseen = Unseen
+unsure Out = Unseen
+unsure Waiting = Unseen
+unsure Answered = Answered
+unsure Up = Up
+
+-- ---- parts
+
+abbrev pub no_end : End
+no_end = record { phase = Unseen; polls = 0; way = fresh false }
+
+abbrev pub with_way : Way → End → End
+with_way way e = record { phase = e.phase; polls = e.polls; way = way }
+
+abbrev pub with_phase : Phase → End → End
+with_phase phase e = record { phase = phase; polls = e.polls; way = e.way }
+
+abbrev pub with_polls : ℕ → End → End
+with_polls polls e = record { phase = e.phase; polls = polls; way = e.way }
+
+abbrev pub with_own : End → Sides → Sides
+with_own own t = record { own = own; other = t.other; rule = t.rule }
+
+abbrev pub with_other : End → Sides → Sides
+with_other other t = record { own = t.own; other = other; rule = t.rule }
+
+-- the first rule that is broken is told
+abbrev pub tells : Option Rule → Sides → Sides
+tells rule t = record { own = t.own; other = t.other; rule = first t.rule rule }
+
+abbrev pub of_other : Told → Sides → Sides
+of_other told t = tells told.rule (with_other (with_way told.way t.other) t)
+
+abbrev pub of_own : Told → Sides → Sides
+of_own told t = tells told.rule (with_own (with_way told.way t.own) t)
+
+-- ---- P and F (section 2.4.3)
+
+abbrev pub polls : Sides → Sides
+polls t = with_own (with_polls (min (t.own.polls + 1) 255) t.own) t
+
+abbrev pub poll_answered : Sides → Sides
+poll_answered t = with_other (with_polls (t.other.polls - 1) t.other) t
+
+-- F=1 answers one P=1
+abbrev pub answers_poll : Sides → Sides
+answers_poll t = if t.other.polls == 0 && not (is_unseen t.own.phase) then tells (Some NoPoll) (poll_answered t) else poll_answered t
+
+abbrev pub bits : Bool → Bool → Sides → Sides
+bits command pf t = if not pf then t else if command then polls t else answers_poll t
+
+-- ---- I frames and supervisory frames
+
+-- their sender is up; else nothing is known of it, or of what answers it
+abbrev pub runs : Sides → Sides
+runs t = if may_run t.own.phase
+    then with_own (with_phase (running t.own.phase) t.own) t
+    else tells (Some NotUp) (with_other (with_way (lost t.other.way) t.other) (with_own (with_way (lost t.own.way) (with_phase Unseen t.own)) t))
+
+-- an N(R) is about the other end's I frames
+abbrev pub hears : ℕ → Sides → Sides
+hears number t = of_other (heard number t.other.way) t
+
+abbrev pub rejects : Sides → Sides
+rejects t = of_other (rejected t.other.way) t
+
+abbrev pub sends_back : ℕ → Sides → Sides
+sends_back number t = with_other (with_way (sent_back number t.other.way) t.other) t
+
+abbrev pub numbers : ℕ → ℕ → Bool → Sides → Sides
+numbers window ns p t = of_own (sent window ns p t.own.way) t
+
+unfoldable pub sends_info : ℕ → ℕ → ℕ → Bool → Sides → Sides
+sends_info window ns nr p t = numbers window ns p (hears nr (bits true p (runs t)))
+
+abbrev pub if_answer : Bool → Bool → ℕ → Sides → Sides
+if_answer command pf nr t = if pf && not command then sends_back nr t else t
+
+unfoldable pub sends_ready : Bool → ℕ → Bool → Sides → Sides
+sends_ready command nr pf t = if_answer command pf nr (hears nr (bits command pf (runs t)))
+
+unfoldable pub sends_reject : Bool → ℕ → Bool → Sides → Sides
+sends_reject command nr pf t = sends_back nr (rejects (hears nr (bits command pf (runs t))))
+
+-- ---- unnumbered frames
+
+-- SABM: its numbers begin anew, and so do the N(R)s of an end that awaits UA itself
+abbrev pub asks : Sides → Sides
+asks t = with_own (with_phase (asking t.own.phase) (with_way (fresh (is_waiting t.other.phase)) t.own)) t
+
+-- UA: its numbers and its N(R)s begin anew
+abbrev pub accepts : Sides → Sides
+accepts t = with_other (with_phase (accepted t.other.phase) (with_way (answered t.other.way) t.other))
+    (with_own (with_phase (accepting t.own.phase) (with_way (fresh (is_asking t.other.phase)) t.own)) t)
+
+abbrev pub declines : Sides → Sides
+declines t = with_own (with_phase (declining t.own.phase) t.own) t
+
+-- DISC and FRMR
+abbrev pub leaves : Sides → Sides
+leaves t = with_own (with_phase Out t.own) t
+
+-- ---- any frame
+
+-- the first end sends it
+unfoldable pub sees : ℕ → PlainFrame → Sides → Sides
+sees window (info ns nr p octets) t = sends_info window ns nr p t
+sees window (rr command nr pf) t = sends_ready command nr pf t
+sees window (rnr command nr pf) t = sends_ready command nr pf t
+sees window (rej command nr pf) t = sends_reject command nr pf t
+sees window (sabm p) t = asks (bits true p t)
+sees window (disc p) t = leaves (bits true p t)
+sees window (ua f) t = accepts (bits false f t)
+sees window (dm f) t = declines (bits false f t)
+sees window (frmr f why) t = leaves (bits false f t)
+
+-- octets that spell none: a frame that was damaged, which may have been any
+unfoldable pub misses : Sides → Sides
+misses t = polls (with_other (with_phase (accepted t.other.phase) t.other)
+    (with_own (with_phase (unsure t.own.phase) (with_way (missed t.own.way) t.own)) t))

@@ -1,0 +1,165 @@
+-- What the I frames of one end, and the N(R)s that answer them, have shown so far, modulo 8, and the rules on them.
+-- ITU-T X.25 (10/96), sections 2.3.2, 2.4.5 and 2.4.8.6. How faults are told apart, and what is said behind one, is profile.
+use Rattle.std.specs.Prelude.{ℕ, ◌+◌, ◌-◌, ◌%◌, ◌==◌, nat_lt, nat_le, Bool, true, false, not, ◌&&◌, ◌||◌, if◌then◌else◌, min, Some, None}
+use Rattle.x25_judge.specs.declared.rule.Rule.{Rule}
+use Rattle.x25_judge.specs.declared.rule.Rule.TheVariants.{Unsent, Falls, RejectAgain, OverWindow, Skips, Repeats}
+use Rattle.x25_judge.specs.declared.way.Sight.{Sight}
+use Rattle.x25_judge.specs.declared.way.Sight.TheVariants.{Unseen, Astray, Sure}
+use Rattle.x25_judge.specs.declared.way.Way.{Way}
+use Rattle.x25_judge.specs.declared.way.Told.{Told}
+
+-- how far one number lies behind another
+abbrev pub apart : ℕ → ℕ → ℕ
+apart to from = ((8 + to % 8) - from % 8) % 8
+
+abbrev pub quiet : Way → Told
+quiet w = record { way = w; rule = None }
+
+-- the end's numbers begin from 0; they are known where the other end's N(R)s begin from there too
+abbrev pub fresh : Bool → Way
+fresh is_known = record {
+  sight = if is_known then Sure else Unseen;
+  next = 0;
+  behind = 0;
+  pending = 0;
+  causes = 0;
+  reach = 8;
+  is_rejected = false;
+  is_missed = false;
+}
+
+-- no I frame was sent since
+abbrev pub is_fresh : Way → Bool
+is_fresh w = w.next == 0 && (w.pending == 0 && w.behind == 0)
+
+abbrev pub is_sure_sight : Sight → Bool
+is_sure_sight Unseen = false
+is_sure_sight Astray = false
+is_sure_sight Sure = true
+
+abbrev pub is_unseen_sight : Sight → Bool
+is_unseen_sight Unseen = true
+is_unseen_sight Astray = false
+is_unseen_sight Sure = false
+
+abbrev pub is_sure : Way → Bool
+is_sure w = is_sure_sight w.sight
+
+abbrev pub is_unseen : Way → Bool
+is_unseen w = is_unseen_sight w.sight
+
+abbrev pub lost : Way → Way
+lost w = record w { sight = Unseen }
+
+abbrev pub missed : Way → Way
+missed w = record w { is_missed = true }
+
+-- the other end answers, so that its N(R)s begin from 0: known where no I frame was sent before
+abbrev pub answered : Way → Way
+answered w = if is_fresh w then fresh true else lost w
+
+-- the lowest N(R) that may come: the last one
+abbrev pub awaited : Way → ℕ
+awaited w = apart w.next w.pending
+
+-- the N(S) that comes next: that of the next new I frame, or where frames are sent again of the one behind the last
+abbrev pub place : Way → ℕ
+place w = apart w.next w.behind
+
+-- ---- N(R): from the last one to the number of the next new I frame (section 2.3.4.9)
+
+-- one that isn't has fallen, or acknowledges what was never sent, whichever is nearer
+abbrev pub invalid : ℕ → Way → Rule
+invalid ahead w = if nat_lt (8 - ahead) (ahead - w.pending) then Falls (awaited w) else Unsent w.next
+
+-- all below is acknowledged, and where that is more than before, what was asked for by REJ has come
+abbrev pub acknowledged : ℕ → Way → Way
+acknowledged ahead w = record w { sight = Sure; pending = w.pending - ahead; is_rejected = w.is_rejected && ahead == 0 }
+
+-- no further one is judged until one is valid
+abbrev pub strayed : ℕ → Way → Told
+strayed ahead w = if is_sure w && not w.is_missed
+    then record { way = record w { sight = Astray }; rule = Some (invalid ahead w) }
+    else quiet (record w { sight = Astray })
+
+abbrev pub heard_ahead : ℕ → Way → Told
+heard_ahead ahead w = if nat_le ahead w.pending then quiet (acknowledged ahead w) else strayed ahead w
+
+abbrev pub heard : ℕ → Way → Told
+heard number w = if is_unseen w then quiet w else heard_ahead (apart number (awaited w)) w
+
+-- ---- REJ, once for a gap (section 2.4.5.4)
+
+abbrev pub rejected : Way → Told
+rejected w = if is_sure w && w.is_rejected
+    then record { way = record w { is_rejected = true }; rule = Some RejectAgain }
+    else quiet (record w { is_rejected = true })
+
+-- ---- what sets V(S) back to an N(R): REJ, and the answer to a poll (sections 2.4.5.5 and 2.4.5.9)
+
+abbrev pub sent_back : ℕ → Way → Way
+sent_back number w = record w { causes = min (w.causes + 1) 255; reach = apart w.next number }
+
+-- ---- N(S)
+
+abbrev pub grown_to : ℕ → ℕ → ℕ → Way → Way
+grown_to count reach pending w = record {
+  sight = if nat_lt 7 pending then Astray else w.sight;
+  next = min (w.next + count) 255 % 8;
+  behind = 0;
+  pending = if nat_lt 7 pending then 7 else pending;
+  causes = if nat_lt 7 reach then 0 else w.causes;
+  reach = if nat_lt 7 reach then 8 else reach;
+  is_rejected = w.is_rejected;
+  is_missed = false;
+}
+
+-- so many numbers more; V(S) can't be set back to one that is eight behind
+abbrev pub grown : ℕ → Way → Way
+grown count w = grown_to count (min (w.reach + count) 255) (min (w.pending + count) 255) w
+
+-- the number so far before the next new one was sent again
+abbrev pub repeated : ℕ → Way → Way
+repeated back w = record w { behind = back - 1 }
+
+abbrev pub went_back : ℕ → Way → Way
+went_back back w = record w { behind = back - 1; causes = w.causes - 1 }
+
+abbrev pub known_pending : Way → ℕ
+known_pending w = if is_sure w then w.pending else 0
+
+-- a fault, but for a frame that was missed
+abbrev pub told : Way → Rule → Way → Told
+told way rule w = if w.is_missed then quiet way else record { way = way; rule = Some rule }
+
+-- the next new one: at most k are unacknowledged (section 2.4.8.6)
+abbrev pub sent_new : ℕ → Way → Told
+sent_new window w = if is_sure w && nat_le window w.pending
+    then record { way = record (grown 1 w) { sight = Astray }; rule = Some (OverWindow window) }
+    else quiet (grown 1 w)
+
+-- nothing explains it
+abbrev pub unexplained : ℕ → Way → Told
+unexplained back w =
+    if back == 0 then told (grown 1 w) (Skips (place w)) w
+    else if nat_lt back w.behind then told (repeated back w) (Skips (place w)) w
+    else if nat_le back w.pending || nat_le back 4 then told (repeated back w) (Repeats (place w)) w
+    else told (grown (9 - back) w) (Skips (place w)) w
+
+-- One that was sent before. Where V(S) was set back, it is the one behind the last, or one that is acknowledged up to there; else
+-- V(S) is set back now, to one that is acknowledged up to there, by a cause, or by timer T1 with P=1 (section 2.4.5.9).
+abbrev pub sent_again : Bool → ℕ → Way → Told
+sent_again is_poll back w =
+    if back == w.behind || (nat_le (known_pending w) back && nat_lt back w.behind) then quiet (repeated back w)
+    else if nat_lt w.behind back && (nat_le (known_pending w) back && (is_poll || nat_lt 0 w.causes)) then quiet (went_back back w)
+    else unexplained back w
+
+-- the number so far before the next new one; that one itself where none is to be sent again, or all are acknowledged
+abbrev pub sent_number : ℕ → Bool → ℕ → Way → Told
+sent_number window is_poll back w =
+    if nat_lt 0 back then sent_again is_poll back w
+    else if w.behind == 0 || known_pending w == 0 then sent_new window w
+    else unexplained back w
+
+abbrev pub sent : ℕ → ℕ → Bool → Way → Told
+sent window number is_poll w = if is_unseen w then quiet w else sent_number window is_poll (apart w.next number) w

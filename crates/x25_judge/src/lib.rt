@@ -1,0 +1,14 @@
+//! The judge of a trace, over any reader and writer: which end broke which rule of the link layer.
+//!
+//! docs/FORMATS.md has the lines and what is said of them. Profile.
+#![tactic(auto)]
+
+mod answerer;
+mod judge;
+mod judging;
+mod rule;
+mod rule_text;
+mod sides;
+mod way;
+
+pub use judging::judge_lines;

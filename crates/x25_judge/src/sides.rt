@@ -1,0 +1,390 @@
+//! Both ends of a link, as what they sent shows them.
+ghost use Rattle.std.specs.Prelude.{◌≡◌};
+ghost use Rattle.x25_frame.specs.PlainFrame.{plain};
+ghost use Rattle.x25_judge.specs.Sides as definition;
+
+use crate::rule::Rule;
+use crate::way::{Told, Way};
+use x25_frame::Frame;
+
+/// What an end may be in: not seen; without a link; awaiting UA; awaiting UA or up; up.
+#[derive(Clone, Copy)]
+pub(crate) enum Phase {
+    Unseen,
+    Out,
+    Waiting,
+    Answered,
+    Up,
+}
+
+/// One end.
+#[derive(Clone, Copy)]
+pub(crate) struct End {
+    pub(crate) phase: Phase,
+    /// How many commands with P=1 it sent that no F=1 has answered.
+    pub(crate) polls: u8,
+    /// Its I frames.
+    pub(crate) way: Way,
+}
+
+/// The end that sends a frame and the other end, and the first rule that the frame breaks.
+#[derive(Clone, Copy)]
+pub(crate) struct Sides {
+    pub(crate) own: End,
+    pub(crate) other: End,
+    pub(crate) rule: Option<Rule>,
+}
+
+/// The first of two rules.
+fn first(rule: Option<Rule>, next: Option<Rule>) -> Option<Rule>
+    ensures { result ≡ definition.first rule next }
+{
+    match rule {
+        Some(_) => rule,
+        None => next,
+    }
+}
+
+impl Phase {
+    /// Whether a UA may still come to it.
+    fn is_asking(self) -> bool
+        ensures { result ≡ definition.is_asking self }
+    {
+        matches!(self, Phase::Waiting | Phase::Answered)
+    }
+
+    fn is_waiting(self) -> bool
+        ensures { result ≡ definition.is_waiting self }
+    {
+        matches!(self, Phase::Waiting)
+    }
+
+    fn is_unseen(self) -> bool
+        ensures { result ≡ definition.is_unseen self }
+    {
+        matches!(self, Phase::Unseen)
+    }
+
+    /// Behind an I frame or a supervisory frame.
+    fn running(self) -> Phase
+        ensures { result ≡ definition.running self }
+    {
+        match self {
+            Phase::Unseen | Phase::Out | Phase::Waiting => Phase::Unseen,
+            Phase::Answered | Phase::Up => Phase::Up,
+        }
+    }
+
+    /// Whether it may send I frames and supervisory frames.
+    fn may_run(self) -> bool
+        ensures { result ≡ definition.may_run self }
+    {
+        match self {
+            Phase::Unseen | Phase::Answered | Phase::Up => true,
+            Phase::Out | Phase::Waiting => false,
+        }
+    }
+
+    /// Behind SABM.
+    fn asking(self) -> Phase
+        ensures { result ≡ definition.asking self }
+    {
+        match self {
+            Phase::Answered => Phase::Answered,
+            Phase::Unseen | Phase::Out | Phase::Waiting | Phase::Up => Phase::Waiting,
+        }
+    }
+
+    /// Behind a UA that it sent. One that awaited UA may have given up before, and is up then.
+    fn accepting(self) -> Phase
+        ensures { result ≡ definition.accepting self }
+    {
+        match self {
+            Phase::Waiting | Phase::Answered => Phase::Answered,
+            Phase::Unseen | Phase::Out | Phase::Up => Phase::Up,
+        }
+    }
+
+    /// Behind a UA that was sent to it.
+    fn accepted(self) -> Phase
+        ensures { result ≡ definition.accepted self }
+    {
+        match self {
+            Phase::Waiting => Phase::Answered,
+            Phase::Unseen | Phase::Out | Phase::Answered | Phase::Up => self,
+        }
+    }
+
+    /// Behind a DM that it sent.
+    fn declining(self) -> Phase
+        ensures { result ≡ definition.declining self }
+    {
+        match self {
+            Phase::Waiting => Phase::Waiting,
+            Phase::Answered => Phase::Answered,
+            Phase::Unseen | Phase::Out | Phase::Up => Phase::Out,
+        }
+    }
+
+    /// Behind a damaged frame of its own, which may have been any.
+    fn unsure(self) -> Phase
+        ensures { result ≡ definition.unsure self }
+    {
+        match self {
+            Phase::Unseen | Phase::Out | Phase::Waiting => Phase::Unseen,
+            Phase::Answered | Phase::Up => self,
+        }
+    }
+}
+
+impl End {
+    pub(crate) fn new() -> End
+        ensures { result ≡ definition.no_end }
+    {
+        End {
+            phase: Phase::Unseen,
+            polls: 0,
+            way: Way::fresh(false),
+        }
+    }
+
+    fn with_way(self, way: Way) -> End
+        ensures { result ≡ definition.with_way way self }
+    {
+        End {
+            phase: self.phase,
+            polls: self.polls,
+            way,
+        }
+    }
+
+    fn with_phase(self, phase: Phase) -> End
+        ensures { result ≡ definition.with_phase phase self }
+    {
+        End {
+            phase,
+            polls: self.polls,
+            way: self.way,
+        }
+    }
+
+    fn with_polls(self, polls: u8) -> End
+        ensures { result ≡ definition.with_polls polls self }
+    {
+        End {
+            phase: self.phase,
+            polls,
+            way: self.way,
+        }
+    }
+}
+
+impl Sides {
+    fn with_own(self, own: End) -> Sides
+        ensures { result ≡ definition.with_own own self }
+    {
+        Sides {
+            own,
+            other: self.other,
+            rule: self.rule,
+        }
+    }
+
+    fn with_other(self, other: End) -> Sides
+        ensures { result ≡ definition.with_other other self }
+    {
+        Sides {
+            own: self.own,
+            other,
+            rule: self.rule,
+        }
+    }
+
+    fn tells(self, rule: Option<Rule>) -> Sides
+        ensures { result ≡ definition.tells rule self }
+    {
+        Sides {
+            own: self.own,
+            other: self.other,
+            rule: first(self.rule, rule),
+        }
+    }
+
+    /// What is told of the other end's I frames.
+    fn of_other(self, told: Told) -> Sides
+        ensures { result ≡ definition.of_other told self }
+    {
+        self.with_other(self.other.with_way(told.way))
+            .tells(told.rule)
+    }
+
+    /// What is told of its own I frames.
+    fn of_own(self, told: Told) -> Sides
+        ensures { result ≡ definition.of_own told self }
+    {
+        self.with_own(self.own.with_way(told.way)).tells(told.rule)
+    }
+
+    // ---- P and F
+
+    fn polls(self) -> Sides
+        ensures { result ≡ definition.polls self }
+    {
+        self.with_own(self.own.with_polls(self.own.polls.saturating_add(1)))
+    }
+
+    fn answers_poll(self) -> Sides
+        ensures { result ≡ definition.answers_poll self }
+    {
+        let next = self.with_other(self.other.with_polls(self.other.polls.saturating_sub(1)));
+        if self.other.polls == 0 && !self.own.phase.is_unseen() {
+            next.tells(Some(Rule::NoPoll))
+        } else {
+            next
+        }
+    }
+
+    /// A command with P=1 asks, a response with F=1 answers.
+    fn bits(self, command: bool, pf: bool) -> Sides
+        ensures { result ≡ definition.bits command pf self }
+    {
+        if !pf {
+            self
+        } else if command {
+            self.polls()
+        } else {
+            self.answers_poll()
+        }
+    }
+
+    // ---- I frames and supervisory frames
+
+    /// The sender has to be up.
+    fn runs(self) -> Sides
+        ensures { result ≡ definition.runs self }
+    {
+        if self.own.phase.may_run() {
+            return self.with_own(self.own.with_phase(self.own.phase.running()));
+        }
+        let own = self
+            .own
+            .with_phase(Phase::Unseen)
+            .with_way(self.own.way.lost());
+        self.with_own(own)
+            .with_other(self.other.with_way(self.other.way.lost()))
+            .tells(Some(Rule::NotUp))
+    }
+
+    fn hears(self, number: u8) -> Sides
+        ensures { result ≡ definition.hears number self }
+    {
+        self.of_other(self.other.way.heard(number))
+    }
+
+    fn rejects(self) -> Sides
+        ensures { result ≡ definition.rejects self }
+    {
+        self.of_other(self.other.way.rejected())
+    }
+
+    fn sends_back(self, number: u8) -> Sides
+        ensures { result ≡ definition.sends_back number self }
+    {
+        self.with_other(self.other.with_way(self.other.way.sent_back(number)))
+    }
+
+    #[tactic(auto, unfolding(crate::specs::Sides::sends_info))]
+    fn info(self, window: u8, ns: u8, nr: u8, p: bool) -> Sides
+        ensures { result ≡ definition.sends_info window ns nr p self }
+    {
+        let next = self.runs().bits(true, p).hears(nr);
+        next.of_own(next.own.way.sent(window, ns, p))
+    }
+
+    #[tactic(auto, unfolding(crate::specs::Sides::sends_ready))]
+    fn ready(self, command: bool, nr: u8, pf: bool) -> Sides
+        ensures { result ≡ definition.sends_ready command nr pf self }
+    {
+        let next = self.runs().bits(command, pf).hears(nr);
+        if pf && !command {
+            next.sends_back(nr)
+        } else {
+            next
+        }
+    }
+
+    #[tactic(auto, unfolding(crate::specs::Sides::sends_reject))]
+    fn reject(self, command: bool, nr: u8, pf: bool) -> Sides
+        ensures { result ≡ definition.sends_reject command nr pf self }
+    {
+        self.runs()
+            .bits(command, pf)
+            .hears(nr)
+            .rejects()
+            .sends_back(nr)
+    }
+
+    // ---- unnumbered frames
+
+    fn asks(self) -> Sides
+        ensures { result ≡ definition.asks self }
+    {
+        let own = self.own.with_way(Way::fresh(self.other.phase.is_waiting()));
+        self.with_own(own.with_phase(self.own.phase.asking()))
+    }
+
+    fn accepts(self) -> Sides
+        ensures { result ≡ definition.accepts self }
+    {
+        let own = self.own.with_way(Way::fresh(self.other.phase.is_asking()));
+        let other = self.other.with_way(self.other.way.answered());
+        self.with_own(own.with_phase(self.own.phase.accepting()))
+            .with_other(other.with_phase(self.other.phase.accepted()))
+    }
+
+    fn declines(self) -> Sides
+        ensures { result ≡ definition.declines self }
+    {
+        self.with_own(self.own.with_phase(self.own.phase.declining()))
+    }
+
+    fn leaves(self) -> Sides
+        ensures { result ≡ definition.leaves self }
+    {
+        self.with_own(self.own.with_phase(Phase::Out))
+    }
+
+    // ---- any frame
+
+    /// The first end sends a frame; at most `window` I frames may be unacknowledged.
+    #[tactic(auto, unfolding(crate::specs::Sides::sees))]
+    pub(crate) fn sees(self, window: u8, frame: &Frame) -> Sides
+        ensures { result ≡ definition.sees window (plain frame.now) self }
+    {
+        match frame {
+            Frame::I { ns, nr, p, .. } => self.info(window, ns.get(), nr.get(), *p),
+            Frame::Rr { command, nr, pf } | Frame::Rnr { command, nr, pf } => self.ready(
+                *command,
+                nr.get(),
+                *pf,
+            ),
+            Frame::Rej { command, nr, pf } => self.reject(*command, nr.get(), *pf),
+            Frame::Sabm { p } => self.bits(true, *p).asks(),
+            Frame::Disc { p } => self.bits(true, *p).leaves(),
+            Frame::Ua { f } => self.bits(false, *f).accepts(),
+            Frame::Dm { f } => self.bits(false, *f).declines(),
+            Frame::Frmr { f, .. } => self.bits(false, *f).leaves(),
+        }
+    }
+
+    /// The first end sends octets that are no frame: they may have been any.
+    #[tactic(auto, unfolding(crate::specs::Sides::misses))]
+    pub(crate) fn misses(self) -> Sides
+        ensures { result ≡ definition.misses self }
+    {
+        let own = self.own.with_way(self.own.way.missed());
+        self.with_own(own.with_phase(self.own.phase.unsure()))
+            .with_other(self.other.with_phase(self.other.phase.accepted()))
+            .polls()
+    }
+}

@@ -1,0 +1,357 @@
+//! What the I frames of one end, and the N(R)s that answer them, have shown so far.
+ghost use Rattle.std.specs.Prelude.{◌≡◌};
+ghost use Rattle.x25_judge.specs.Way as definition;
+
+use crate::rule::Rule;
+
+/// What may be said of a way: nothing, since its numbers aren't known; not of its N(R)s, since one of them was at fault; or all.
+#[derive(Clone, Copy)]
+pub(crate) enum Sight {
+    Unseen,
+    Astray,
+    Sure,
+}
+
+/// I frames of one end and what answers them, modulo 8.
+#[derive(Clone, Copy)]
+pub(crate) struct Way {
+    pub(crate) sight: Sight,
+    /// N(S) of the next new I frame.
+    pub(crate) next: u8,
+    /// How far before `next` the place lies from which frames are sent again.
+    pub(crate) behind: u8,
+    /// How many I frames before `next` no N(R) has acknowledged.
+    pub(crate) pending: u8,
+    /// How many REJ and answers to polls may still send V(S) back.
+    pub(crate) causes: u8,
+    /// How far before `next` the N(R) of the last of these lies; 8 where none counts.
+    pub(crate) reach: u8,
+    /// The number that is awaited was asked for by REJ.
+    pub(crate) is_rejected: bool,
+    /// A damaged frame may have been an I frame.
+    pub(crate) is_missed: bool,
+}
+
+/// A way behind a frame, and the rule that the frame breaks.
+#[derive(Clone, Copy)]
+pub(crate) struct Told {
+    pub(crate) way: Way,
+    pub(crate) rule: Option<Rule>,
+}
+
+/// How far one number lies behind another, modulo 8.
+pub(crate) fn apart(to: u8, from: u8) -> u8
+    ensures { result ≡ definition.apart to from }
+{
+    (8 + to % 8 - from % 8) % 8
+}
+
+fn quiet(way: Way) -> Told
+    ensures { result ≡ definition.quiet way }
+{
+    Told { way, rule: None }
+}
+
+impl Way {
+    /// Numbers from 0 on, where they are known.
+    pub(crate) fn fresh(is_known: bool) -> Way
+        ensures { result ≡ definition.fresh is_known }
+    {
+        Way {
+            sight: if is_known { Sight::Sure } else { Sight::Unseen },
+            next: 0,
+            behind: 0,
+            pending: 0,
+            causes: 0,
+            reach: 8,
+            is_rejected: false,
+            is_missed: false,
+        }
+    }
+
+    /// Whether no I frame was sent since the numbers began.
+    fn is_fresh(self) -> bool
+        ensures { result ≡ definition.is_fresh self }
+    {
+        self.next == 0 && (self.pending == 0 && self.behind == 0)
+    }
+
+    fn is_sure(self) -> bool
+        ensures { result ≡ definition.is_sure self }
+    {
+        matches!(self.sight, Sight::Sure)
+    }
+
+    fn is_unseen(self) -> bool
+        ensures { result ≡ definition.is_unseen self }
+    {
+        matches!(self.sight, Sight::Unseen)
+    }
+
+    /// Nothing may be said of it.
+    pub(crate) fn lost(self) -> Way
+        ensures { result ≡ definition.lost self }
+    {
+        Way {
+            sight: Sight::Unseen,
+            ..self
+        }
+    }
+
+    /// A frame that may have been an I frame was damaged.
+    pub(crate) fn missed(self) -> Way
+        ensures { result ≡ definition.missed self }
+    {
+        Way {
+            is_missed: true,
+            ..self
+        }
+    }
+
+    /// The other end asks for I frames from 0 on.
+    pub(crate) fn answered(self) -> Way
+        ensures { result ≡ definition.answered self }
+    {
+        if self.is_fresh() {
+            Way::fresh(true)
+        } else {
+            self.lost()
+        }
+    }
+
+    /// The lowest N(R) that may come.
+    fn awaited(self) -> u8
+        ensures { result ≡ definition.awaited self }
+    {
+        apart(self.next, self.pending)
+    }
+
+    /// The number from which frames are sent, new or again.
+    fn place(self) -> u8
+        ensures { result ≡ definition.place self }
+    {
+        apart(self.next, self.behind)
+    }
+
+    // ---- N(R)
+
+    /// An N(R) that acknowledges nothing that may be acknowledged: whichever is nearer.
+    fn invalid(self, ahead: u8) -> Rule
+        ensures { result ≡ definition.invalid ahead self }
+    {
+        if 8u8.saturating_sub(ahead) < ahead.saturating_sub(self.pending) {
+            Rule::Falls {
+                least: self.awaited(),
+            }
+        } else {
+            Rule::Unsent { most: self.next }
+        }
+    }
+
+    /// All below an N(R) is acknowledged.
+    fn acknowledged(self, ahead: u8) -> Way
+        ensures { result ≡ definition.acknowledged ahead self }
+    {
+        Way {
+            sight: Sight::Sure,
+            pending: self.pending.saturating_sub(ahead),
+            is_rejected: self.is_rejected && ahead == 0,
+            ..self
+        }
+    }
+
+    /// Its N(R)s aren't judged until one is valid.
+    fn strayed(self, ahead: u8) -> Told
+        ensures { result ≡ definition.strayed ahead self }
+    {
+        let way = Way {
+            sight: Sight::Astray,
+            ..self
+        };
+        if self.is_sure() && !self.is_missed {
+            Told {
+                way,
+                rule: Some(self.invalid(ahead)),
+            }
+        } else {
+            quiet(way)
+        }
+    }
+
+    /// The other end sends an N(R).
+    pub(crate) fn heard(self, number: u8) -> Told
+        ensures { result ≡ definition.heard number self }
+    {
+        if self.is_unseen() {
+            return quiet(self);
+        }
+        let ahead = apart(number, self.awaited());
+        if ahead <= self.pending {
+            quiet(self.acknowledged(ahead))
+        } else {
+            self.strayed(ahead)
+        }
+    }
+
+    // ---- REJ, and answers to polls
+
+    /// The other end sends REJ.
+    pub(crate) fn rejected(self) -> Told
+        ensures { result ≡ definition.rejected self }
+    {
+        let way = Way {
+            is_rejected: true,
+            ..self
+        };
+        if self.is_sure() && self.is_rejected {
+            Told {
+                way,
+                rule: Some(Rule::RejectAgain),
+            }
+        } else {
+            quiet(way)
+        }
+    }
+
+    /// The other end sends what sets V(S) back to an N(R).
+    pub(crate) fn sent_back(self, number: u8) -> Way
+        ensures { result ≡ definition.sent_back number self }
+    {
+        Way {
+            causes: self.causes.saturating_add(1),
+            reach: apart(self.next, number),
+            ..self
+        }
+    }
+
+    // ---- N(S)
+
+    /// So many numbers more were sent. What sent V(S) back to a number that is eight or more behind counts no more.
+    fn grown(self, count: u8) -> Way
+        ensures { result ≡ definition.grown count self }
+    {
+        let reach = self.reach.saturating_add(count);
+        let pending = self.pending.saturating_add(count);
+        Way {
+            sight: if 7 < pending {
+                Sight::Astray
+            } else {
+                self.sight
+            },
+            next: self.next.saturating_add(count) % 8,
+            behind: 0,
+            pending: if 7 < pending { 7 } else { pending },
+            causes: if 7 < reach { 0 } else { self.causes },
+            reach: if 7 < reach { 8 } else { reach },
+            is_rejected: self.is_rejected,
+            is_missed: false,
+        }
+    }
+
+    /// A number that lies so far before the next new one was sent again.
+    fn repeated(self, back: u8) -> Way
+        ensures { result ≡ definition.repeated back self }
+    {
+        Way {
+            behind: back.saturating_sub(1),
+            ..self
+        }
+    }
+
+    /// V(S) was sent back to it.
+    fn went_back(self, back: u8) -> Way
+        ensures { result ≡ definition.went_back back self }
+    {
+        Way {
+            causes: self.causes.saturating_sub(1),
+            ..self.repeated(back)
+        }
+    }
+
+    /// How many numbers may be unacknowledged still at the end that sends.
+    fn known_pending(self) -> u8
+        ensures { result ≡ definition.known_pending self }
+    {
+        if self.is_sure() { self.pending } else { 0 }
+    }
+
+    /// A fault, where no frame was missed that would explain it.
+    fn told(self, way: Way, rule: Rule) -> Told
+        ensures { result ≡ definition.told way rule self }
+    {
+        if self.is_missed {
+            quiet(way)
+        } else {
+            Told {
+                way,
+                rule: Some(rule),
+            }
+        }
+    }
+
+    /// The next new number.
+    fn sent_new(self, window: u8) -> Told
+        ensures { result ≡ definition.sent_new window self }
+    {
+        let way = self.grown(1);
+        if self.is_sure() && window <= self.pending {
+            Told {
+                way: Way {
+                    sight: Sight::Astray,
+                    ..way
+                },
+                rule: Some(Rule::OverWindow { window }),
+            }
+        } else {
+            quiet(way)
+        }
+    }
+
+    /// A number that nothing explains.
+    fn unexplained(self, back: u8) -> Told
+        ensures { result ≡ definition.unexplained back self }
+    {
+        let skips = Rule::Skips { next: self.place() };
+        if back == 0 {
+            self.told(self.grown(1), skips)
+        } else if back < self.behind {
+            self.told(self.repeated(back), skips)
+        } else if back <= self.pending || back <= 4 {
+            self.told(self.repeated(back), Rule::Repeats { next: self.place() })
+        } else {
+            self.told(self.grown(9u8.saturating_sub(back)), skips)
+        }
+    }
+
+    /// A number before the next new one.
+    fn sent_again(self, is_poll: bool, back: u8) -> Told
+        ensures { result ≡ definition.sent_again is_poll back self }
+    {
+        if back == self.behind || (self.known_pending() <= back && back < self.behind) {
+            quiet(self.repeated(back))
+        } else if self.behind < back
+            && (self.known_pending() <= back && (is_poll || 0 < self.causes))
+        {
+            quiet(self.went_back(back))
+        } else {
+            self.unexplained(back)
+        }
+    }
+
+    /// The end sends an I frame.
+    pub(crate) fn sent(self, window: u8, number: u8, is_poll: bool) -> Told
+        ensures { result ≡ definition.sent window number is_poll self }
+    {
+        if self.is_unseen() {
+            return quiet(self);
+        }
+        let back = apart(self.next, number);
+        if 0 < back {
+            self.sent_again(is_poll, back)
+        } else if self.behind == 0 || self.known_pending() == 0 {
+            self.sent_new(window)
+        } else {
+            self.unexplained(back)
+        }
+    }
+}

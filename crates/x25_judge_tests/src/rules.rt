@@ -1,0 +1,180 @@
+//! Traces that break one rule each, and traces that break none.
+use std::test::Fail;
+use x25_io::Device;
+use x25_judge::judge_lines;
+
+/// What is judged: its name, k, the status, the trace and the answers.
+struct Row {
+    name: &'static str,
+    window: u8,
+    status: u8,
+    trace: &'static str,
+    answers: &'static str,
+}
+
+static ROWS: [Row; 21] = [
+    Row {
+        name: "not_up",
+        window: 7,
+        status: 1,
+        trace: "> 013febdf\n> 0100100101f749\n> 01021001018170\n",
+        answers: "> SABM cmd P=1\n> I cmd P=0 S=0 R=0 | RR ch=1 R=0 ! dte: no I frame, RR, RNR or REJ while the link isn't up (2.4.4.2)\n> I cmd P=0 S=1 R=0 | RR ch=1 R=0\n",
+    },
+    Row {
+        name: "not_up_after_disc",
+        window: 7,
+        status: 1,
+        trace: "> 013febdf\n< 01738357\n< 03533145\n< 01011607\n",
+        answers: "> SABM cmd P=1\n< UA rsp F=1\n< DISC cmd P=1\n< RR rsp F=0 R=0 ! dce: no I frame, RR, RNR or REJ while the link isn't up (2.4.4.2)\n",
+    },
+    Row {
+        name: "no_poll",
+        window: 7,
+        status: 1,
+        trace: "> 013febdf\n< 01738357\n< 03112724\n> 03112724\n> 03112724\n",
+        answers: "> SABM cmd P=1\n< UA rsp F=1\n< RR cmd P=1 R=0\n> RR rsp F=1 R=0\n> RR rsp F=1 R=0 ! dte: F=1 answers a command with P=1 alone (2.4.3)\n",
+    },
+    Row {
+        name: "unsent",
+        window: 7,
+        status: 1,
+        trace: "> 013febdf\n< 01738357\n< 03001001017f5f\n> 0341a276\n> 0341a276\n> 0321a415\n",
+        answers: "> SABM cmd P=1\n< UA rsp F=1\n< I cmd P=0 S=0 R=0 | RR ch=1 R=0\n> RR rsp F=0 R=2 ! dte: N(R) acknowledges what was never sent (2.3.4.9): at most 1\n> RR rsp F=0 R=2\n> RR rsp F=0 R=1\n",
+    },
+    Row {
+        name: "falls",
+        window: 7,
+        status: 1,
+        trace: "> 013febdf\n< 01738357\n< 03001001017f5f\n< 03021001010966\n> 0341a276\n> 0321a415\n> 0140100101405f\n",
+        answers: "> SABM cmd P=1\n< UA rsp F=1\n< I cmd P=0 S=0 R=0 | RR ch=1 R=0\n< I cmd P=0 S=1 R=0 | RR ch=1 R=0\n> RR rsp F=0 R=2\n> RR rsp F=0 R=1 ! dte: N(R) falls (2.3.4.9): at least 2\n> I cmd P=0 S=0 R=2 | RR ch=1 R=0\n",
+    },
+    Row {
+        name: "reject_again",
+        window: 7,
+        status: 1,
+        trace: "> 013febdf\n< 01738357\n< 03001001017f5f\n< 03021001010966\n> 0309eeb8\n> 0309eeb8\n< 03001001017f5f\n",
+        answers: "> SABM cmd P=1\n< UA rsp F=1\n< I cmd P=0 S=0 R=0 | RR ch=1 R=0\n< I cmd P=0 S=1 R=0 | RR ch=1 R=0\n> REJ rsp F=0 R=0\n> REJ rsp F=0 R=0 ! dte: REJ comes once for a gap (2.4.5.4)\n< I cmd P=0 S=0 R=0 | RR ch=1 R=0\n",
+    },
+    Row {
+        name: "over_window",
+        window: 2,
+        status: 1,
+        trace: "> 013febdf\n< 01738357\n< 03001001017f5f\n< 03021001010966\n< 0304100101932d\n> 0361a057\n< 0306100101e514\n",
+        answers: "> SABM cmd P=1\n< UA rsp F=1\n< I cmd P=0 S=0 R=0 | RR ch=1 R=0\n< I cmd P=0 S=1 R=0 | RR ch=1 R=0\n< I cmd P=0 S=2 R=0 | RR ch=1 R=0 ! dce: more I frames are unacknowledged than k (2.4.8.6): at most 2\n> RR rsp F=0 R=3\n< I cmd P=0 S=3 R=0 | RR ch=1 R=0\n",
+    },
+    Row {
+        name: "over_window_of_seven",
+        window: 7,
+        status: 1,
+        trace: "> 013febdf\n< 01738357\n< 03001001017f5f\n< 03021001010966\n< 0304100101932d\n< 0306100101e514\n< 0308100101a7ba\n< 030a100101d183\n< 030c1001014bc8\n< 030e1001013df1\n",
+        answers: "> SABM cmd P=1\n< UA rsp F=1\n< I cmd P=0 S=0 R=0 | RR ch=1 R=0\n< I cmd P=0 S=1 R=0 | RR ch=1 R=0\n< I cmd P=0 S=2 R=0 | RR ch=1 R=0\n< I cmd P=0 S=3 R=0 | RR ch=1 R=0\n< I cmd P=0 S=4 R=0 | RR ch=1 R=0\n< I cmd P=0 S=5 R=0 | RR ch=1 R=0\n< I cmd P=0 S=6 R=0 | RR ch=1 R=0\n< I cmd P=0 S=7 R=0 | RR ch=1 R=0 ! dce: more I frames are unacknowledged than k (2.4.8.6): at most 7\n",
+    },
+    Row {
+        name: "skips",
+        window: 7,
+        status: 1,
+        trace: "> 013febdf\n< 01738357\n> 0100100101f749\n> 01041001011b3b\n< 01295caa\n> 01021001018170\n> 01041001011b3b\n",
+        answers: "> SABM cmd P=1\n< UA rsp F=1\n> I cmd P=0 S=0 R=0 | RR ch=1 R=0\n> I cmd P=0 S=2 R=0 | RR ch=1 R=0 ! dte: N(S) skips (2.4.5.1): it should be 1\n< REJ rsp F=0 R=1\n> I cmd P=0 S=1 R=0 | RR ch=1 R=0\n> I cmd P=0 S=2 R=0 | RR ch=1 R=0\n",
+    },
+    Row {
+        name: "skips_what_is_sent_again",
+        window: 7,
+        status: 1,
+        trace: "> 013febdf\n< 01738357\n> 0100100101f749\n> 01021001018170\n> 01041001011b3b\n< 01095e8b\n> 0100100101f749\n> 01041001011b3b\n> 01061001016d02\n",
+        answers: "> SABM cmd P=1\n< UA rsp F=1\n> I cmd P=0 S=0 R=0 | RR ch=1 R=0\n> I cmd P=0 S=1 R=0 | RR ch=1 R=0\n> I cmd P=0 S=2 R=0 | RR ch=1 R=0\n< REJ rsp F=0 R=0\n> I cmd P=0 S=0 R=0 | RR ch=1 R=0\n> I cmd P=0 S=2 R=0 | RR ch=1 R=0 ! dte: N(S) skips (2.4.5.1): it should be 1\n> I cmd P=0 S=3 R=0 | RR ch=1 R=0\n",
+    },
+    Row {
+        name: "repeats",
+        window: 7,
+        status: 1,
+        trace: "> 013febdf\n< 01738357\n> 0100100101f749\n> 0100100101f749\n> 01021001018170\n",
+        answers: "> SABM cmd P=1\n< UA rsp F=1\n> I cmd P=0 S=0 R=0 | RR ch=1 R=0\n> I cmd P=0 S=0 R=0 | RR ch=1 R=0 ! dte: N(S) repeats without REJ or a poll (2.4.5.9): it should be 1\n> I cmd P=0 S=1 R=0 | RR ch=1 R=0\n",
+    },
+    Row {
+        name: "repeats_after_rej",
+        window: 7,
+        status: 0,
+        trace: "> 013febdf\n< 01738357\n> 0100100101f749\n> 01021001018170\n< 01095e8b\n> 0100100101f749\n> 01021001018170\n< 01411245\n> 01041001011b3b\n",
+        answers: "> SABM cmd P=1\n< UA rsp F=1\n> I cmd P=0 S=0 R=0 | RR ch=1 R=0\n> I cmd P=0 S=1 R=0 | RR ch=1 R=0\n< REJ rsp F=0 R=0\n> I cmd P=0 S=0 R=0 | RR ch=1 R=0\n> I cmd P=0 S=1 R=0 | RR ch=1 R=0\n< RR rsp F=0 R=2\n> I cmd P=0 S=2 R=0 | RR ch=1 R=0\n",
+    },
+    Row {
+        name: "repeats_after_poll",
+        window: 7,
+        status: 0,
+        trace: "> 013febdf\n< 01738357\n> 0100100101f749\n> 01119717\n< 01119717\n> 0100100101f749\n< 01211426\n",
+        answers: "> SABM cmd P=1\n< UA rsp F=1\n> I cmd P=0 S=0 R=0 | RR ch=1 R=0\n> RR cmd P=1 R=0\n< RR rsp F=1 R=0\n> I cmd P=0 S=0 R=0 | RR ch=1 R=0\n< RR rsp F=0 R=1\n",
+    },
+    Row {
+        name: "repeats_with_poll",
+        window: 7,
+        status: 0,
+        trace: "> 013febdf\n< 01738357\n> 0100100101f749\n> 0110100101568a\n< 01319536\n",
+        answers: "> SABM cmd P=1\n< UA rsp F=1\n> I cmd P=0 S=0 R=0 | RR ch=1 R=0\n> I cmd P=1 S=0 R=0 | RR ch=1 R=0\n< RR rsp F=1 R=1\n",
+    },
+    Row {
+        name: "lost_acknowledgement",
+        window: 7,
+        status: 0,
+        trace: "> 013febdf\n< 01738357\n> 0100100101f749\n< 01211426\n> 01119717\n< 01319536\n> 01021001018170\n",
+        answers: "> SABM cmd P=1\n< UA rsp F=1\n> I cmd P=0 S=0 R=0 | RR ch=1 R=0\n< RR rsp F=0 R=1\n> RR cmd P=1 R=0\n< RR rsp F=1 R=1\n> I cmd P=0 S=1 R=0 | RR ch=1 R=0\n",
+    },
+    Row {
+        name: "collision",
+        window: 7,
+        status: 1,
+        trace: "> 013febdf\n< 033f5bec\n> 03733364\n< 01738357\n> 0100100101f749\n< 03201001012cd0\n> 0341a276\n",
+        answers: "> SABM cmd P=1\n< SABM cmd P=1\n> UA rsp F=1\n< UA rsp F=1\n> I cmd P=0 S=0 R=0 | RR ch=1 R=0\n< I cmd P=0 S=0 R=1 | RR ch=1 R=0\n> RR rsp F=0 R=2 ! dte: N(R) acknowledges what was never sent (2.3.4.9): at most 1\n",
+    },
+    Row {
+        name: "set_up_again",
+        window: 7,
+        status: 0,
+        trace: "> 013febdf\n< 01738357\n> 0100100101f749\n< 03201001012cd0\n< 033f5bec\n> 03733364\n< 03001001017f5f\n> 0120100101a4c6\n< 01211426\n",
+        answers: "> SABM cmd P=1\n< UA rsp F=1\n> I cmd P=0 S=0 R=0 | RR ch=1 R=0\n< I cmd P=0 S=0 R=1 | RR ch=1 R=0\n< SABM cmd P=1\n> UA rsp F=1\n< I cmd P=0 S=0 R=0 | RR ch=1 R=0\n> I cmd P=0 S=0 R=1 | RR ch=1 R=0\n< RR rsp F=0 R=1\n",
+    },
+    Row {
+        name: "answers_after_giving_up",
+        window: 7,
+        status: 0,
+        trace: "> 013febdf\n< 033f5bec\n> 03733364\n> 0100100101f749\n< 03201001012cd0\n> 0321a415\n",
+        answers: "> SABM cmd P=1\n< SABM cmd P=1\n> UA rsp F=1\n> I cmd P=0 S=0 R=0 | RR ch=1 R=0\n< I cmd P=0 S=0 R=1 | RR ch=1 R=0\n> RR rsp F=0 R=1\n",
+    },
+    Row {
+        name: "begins_in_the_middle",
+        window: 7,
+        status: 0,
+        trace: "> 016a100101bd0c\n< 01c11ac1\n< 03c61001013c2f\n> 03f129c3\n",
+        answers: "> I cmd P=0 S=5 R=3 | RR ch=1 R=0\n< RR rsp F=0 R=6\n< I cmd P=0 S=3 R=6 | RR ch=1 R=0\n> RR rsp F=1 R=7\n",
+    },
+    Row {
+        name: "damaged_frame",
+        window: 7,
+        status: 0,
+        trace: "> 013febdf\n< 01738357\n> 0100100101f740\n> 01021001018170\n< 01411245\n",
+        answers: "> SABM cmd P=1\n< UA rsp F=1\n> fault 2 fcs\n> I cmd P=0 S=1 R=0 | RR ch=1 R=0\n< RR rsp F=0 R=2\n",
+    },
+    Row {
+        name: "no_line",
+        window: 7,
+        status: 1,
+        trace: "> 013febdf\n< 01738357\nx\n> 0100100101f749\n",
+        answers: "> SABM cmd P=1\n< UA rsp F=1\n? 60\n> I cmd P=0 S=0 R=0 | RR ch=1 R=0\n",
+    },
+];
+
+#[test]
+fn tells_the_rule_that_is_broken(rt: HostRuntime) -> Result<(), Fail> {
+    for row in &ROWS {
+        let mut reader = Device::new(row.trace.as_bytes());
+        let mut writer = Device::new(Vec::new(rt.alloc()));
+        let status = judge_lines(rt.alloc(), row.window, false, &mut reader, &mut writer)?;
+        assert_eq!(rt;
+            writer.into_inner().as_slice(),
+            row.answers.as_bytes(),
+            "{}",
+            row.name
+        );
+        assert_eq!(rt; status, row.status, "{}", row.name);
+    }
+    Ok(())
+}
