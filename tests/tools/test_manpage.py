@@ -47,7 +47,9 @@ class Page(ToolCase):
 
 class Completion(unittest.TestCase):
     def test_words(self):
-        self.assertEqual(complete("de"), ["decode"])
+        self.assertEqual(complete("dec"), ["decode"])
+        self.assertEqual(complete("deframe", ""), ["dte", "dce", "--help"])
+        self.assertEqual(complete("deframe", "dte", ""), ["--help"])
         self.assertEqual(complete("--"), ["--help", "--version"])
         self.assertEqual(complete("decode", "--l"), ["--long"])
         self.assertEqual(complete("sim", "--tap", "--k", ""), list("1234567"))
@@ -57,7 +59,7 @@ class Completion(unittest.TestCase):
 
     @support.needs_program
     def test_all_words_of_the_program_are_offered(self):
-        for words in ([], ["decode"], ["sim"], ["station", "dte"], ["vectors"]):
+        for words in ([], ["decode"], ["sim"], ["station", "dte"], ["vectors"], ["frame"]):
             done = subprocess.run([support.PROGRAM, *words, "--help"], capture_output=True, text=True, timeout=60)
             usage = done.stdout + done.stderr
             said = set(re.findall(r"^  (?:    |-[hV], )?(--\w+)", usage, re.MULTILINE)) | set(re.findall(r"^  (\w+)  ", usage, re.MULTILINE) if not words else [])

@@ -47,7 +47,7 @@ class Examples(ToolCase):
 
 
     def test_each_example_of_the_help_runs(self):
-        for words in ([], ["decode"], ["vectors"], ["sim"]):
+        for words in ([], ["decode"], ["vectors"], ["sim"], ["frame"]):
             done = subprocess.run([support.PROGRAM, *words, "--help"], capture_output=True, text=True, timeout=60)
             self.assertEqual((done.returncode, done.stderr), (0, ""))
             self.assertIn("Usage: x25", done.stdout)

@@ -25,7 +25,7 @@ def rows():
 
 def crates_of(row):
     """The crates that a row names."""
-    named = re.findall(r"\bx25(?:_[a-z]+)?\b", " ".join(row))
+    named = re.findall(r"\bx25(?:_(?!tests\b)[a-z]+)*\b", " ".join(row))
     return [crate for crate in sorted(set(named)) if os.path.isdir(os.path.join(CRATES, crate))]
 
 

@@ -3,6 +3,10 @@ use Rattle.std.specs.Prelude.{◌≡◌, ◌≤◌, ◌<◌, ◌-◌, ◌^◌, �
 use Rattle.std.specs.Io.KnownBytes.{Appends}
 use Rattle.x25_bits.specs.declared.role.Role.{Role}
 use Rattle.x25_bits.specs.declared.role.Role.TheVariants as role
+use Rattle.x25_bit_line.specs.Deframed.{deframed}
+use Rattle.x25_bit_line.specs.Framed.{frame_status, framed_octets}
+use Rattle.x25_bit_line.specs.Frames.{WritesFrames}
+use Rattle.x25_bit_line.specs.Reads.{WritesRead}
 use Rattle.x25_pipe.specs.Piped.{piped, station_text, station_status}
 use Rattle.x25_pipe.specs.Stream as pipe
 use Rattle.x25_decode.specs.Decoded as decode
@@ -14,7 +18,7 @@ use Rattle.x25_settings.specs.declared.options.End.TheVariants.{Dte, Dce}
 use Rattle.x25_settings.specs.declared.options.Place.{Place}
 use Rattle.x25_settings.specs.declared.options.Simulation.{Simulation}
 use Rattle.x25_settings.specs.declared.words.Task.{Task}
-use Rattle.x25_settings.specs.declared.words.Task.TheVariants.{Decode, Vectors, Sim, Station}
+use Rattle.x25_settings.specs.declared.words.Task.TheVariants.{Decode, Vectors, Sim, Station, Deframe, Frame}
 use Rattle.x25_station.specs.declared.config.Cfg.{Cfg}
 use Rattle.x25_station.specs.Settings.{settings_from}
 use Rattle.x25_sim.specs.Simulated.{simulated, sim_text, sim_status}
@@ -27,7 +31,7 @@ use Rattle.x25_world.specs.World.{World}
 abbrev pub settings_in : Simulation → Cfg
 settings_in s = record { k = s.k; n2 = s.n2; channels = s.channels; long_data = s.long }
 
--- the end of a station, and its settings
+-- an end, and the settings of a station there
 abbrev pub role_in : End → Role
 role_in Dte = role.Dte
 role_in Dce = role.Dce
@@ -53,12 +57,16 @@ task_text (Decode long) input = decode.output_of long input
 task_text Vectors input = verdicts
 task_text (Sim s) input = script_text s input
 task_text (Station p) input = lines_text p input
+task_text (Deframe end) input = deframed (role_in end) input
+task_text Frame input = framed_octets input
 
 abbrev pub task_status : Task → List ℕ → ℕ
 task_status (Decode long) input = decode.status_of input
 task_status Vectors input = if are_right then 0 else 1
 task_status (Sim s) input = script_status s input
 task_status (Station p) input = lines_status p input
+task_status (Deframe end) input = 0
+task_status Frame input = frame_status input
 
 -- Of a script, written is all but what is said of the line that has begun and of the rest.
 abbrev pub WritesEndedScript : Simulation → Option (List ℕ) → Option (List ℕ) → List ℕ → List ℕ → Type 0
@@ -70,12 +78,15 @@ WritesEndedLines p old now rest input =
     let c = settings_from (role_in p.end) (cfg_in p) in
     pipe.WritesEnded c old now rest (piped c input)
 
--- At a failed read all is written but what the line that has begun and the rest give. `vectors` reads nothing.
+-- At a failed read all is written but what the line that has begun and the rest give, of `deframe` all that was read gives, and of
+-- `frame` all but fewer than eight bits. `vectors` reads nothing.
 abbrev pub WritesEnded : Task → Option (List ℕ) → Option (List ℕ) → List ℕ → List ℕ → Type 0
 WritesEnded (Decode long) old now rest input = decoder.WritesEnded long old now rest (decode.output_of long input)
 WritesEnded Vectors old now rest input = ⊥
 WritesEnded (Sim s) old now rest input = WritesEndedScript s old now rest input
 WritesEnded (Station p) old now rest input = WritesEndedLines p old now rest input
+WritesEnded (Deframe end) old now rest input = WritesRead (role_in end) old now rest input
+WritesEnded Frame old now rest input = WritesFrames old now rest input
 
 -- What was written for a script, behind `old`, is the transcript of a run of two stations, and with `--tap` its frames; of these stations this
 -- holds: ..
@@ -97,6 +108,8 @@ OfScript Holds (Decode long) script old now = ⊤
 OfScript Holds Vectors script old now = ⊤
 OfScript Holds (Sim s) script old now = Holds s script old now
 OfScript Holds (Station p) script old now = ⊤
+OfScript Holds (Deframe end) script old now = ⊤
+OfScript Holds Frame script old now = ⊤
 
 -- a task that asks for memory before it reads and writes alone
 abbrev pub is_plain : Task → Bool
@@ -104,6 +117,8 @@ is_plain (Decode long) = true
 is_plain Vectors = true
 is_plain (Sim s) = false
 is_plain (Station p) = false
+is_plain (Deframe end) = true
+is_plain Frame = false
 
 -- How a run ends. Either the task is done: the status is its own, 0 or 1, and what is written its text of all that was read ..
 abbrev pub IsDone : Task → ℕ → Option (List ℕ) → Option (List ℕ) → Option (List ℕ) → Type 0

@@ -10,6 +10,7 @@ ghost use Rattle.x25_world.specs.WindowGoes.{IsInWindow};
 ghost use Rattle.x25_world.specs.SessionClaims.{SessionsKeepOrder};
 
 use std::alloc::Global;
+use x25_bit_line::{deframe, frame};
 use x25_decode::{decode_lines, vectors};
 use x25_io::{Fault, Sink, Source};
 use x25_pipe::{Role, station};
@@ -28,7 +29,7 @@ fn settings_of(simulation: Simulation) -> Cfg
     }
 }
 
-/// The end of a station, as the words of the command line say it.
+/// An end, as the words of the command line say it.
 fn role_of(end: End) -> Role
     ensures { result ≡ role_in end }
 {
@@ -165,7 +166,7 @@ pub(crate) fn perform<R: Source, W: Sink>(
     ensures write { IsErrOf result Fault.Write → W.is_marked writer.new ≡ true }
     // Nor did any where want of memory is answered.
     ensures memory { IsErrOf result Fault.NoMemory → (R.is_marked reader.new ≡ R.is_marked reader.old) × (W.is_marked writer.new ≡ W.is_marked writer.old) }
-    // Of `decode` and `vectors` it is answered with nothing read and nothing written.
+    // Of `decode`, `vectors` and `deframe` it is answered with nothing read and nothing written.
     ensures untouched { IsErrOf result Fault.NoMemory → is_plain task ≡ true → (reader.new ≡ reader.old) × (writer.new ≡ writer.old) }
     ensures unread { task ≡ Task.Vectors → reader.new ≡ reader.old }
 {
@@ -174,5 +175,7 @@ pub(crate) fn perform<R: Source, W: Sink>(
         Task::Sim(simulation) => simulate(alloc, simulation, reader, writer),
         Task::Station(place) => answer_lines(alloc, place, reader, writer),
         Task::Vectors => vectors(alloc, writer),
+        Task::Deframe(end) => deframe(alloc, role_of(end), reader, writer),
+        Task::Frame => frame(alloc, reader, writer),
     }
 }

@@ -10,8 +10,8 @@ use Rattle.x25_settings.specs.declared.options.End.{End}
 use Rattle.x25_settings.specs.declared.options.End.TheVariants.{Dte, Dce}
 use Rattle.x25_settings.specs.declared.options.Place.{Place}
 use Rattle.x25_settings.specs.declared.words.Task.{Task}
-use Rattle.x25_settings.specs.declared.words.Task.TheVariants.{Decode, Vectors, Sim, Station}
-use Rattle.x25_settings.specs.Choosing.{chosen_in, simulation_in, station_in, place_in, end_in, placed, decode_in, vectors_in, task_behind, task_in}
+use Rattle.x25_settings.specs.declared.words.Task.TheVariants.{Decode, Vectors, Sim, Station, Deframe, Frame}
+use Rattle.x25_settings.specs.Choosing.{chosen_in, simulation_in, station_in, place_in, end_in, placed, decode_in, deframe_in, frame_in, vectors_in, task_behind, task_in}
 use Rattle.x25_settings.specs.Simulation.{nothing, settled, settled_at, SaySimulation, SayPlace, Choose, end_word, PlaceIsInRange}
 use Rattle.x25_settings.specs.Simulation as simulation
 use Rattle.x25_settings.specs.Words.{AreInRange, Say}
@@ -47,6 +47,8 @@ again words (Decode false) e = ap task_in e
 again words Vectors e = ap task_in e
 again words (Sim s) say = ap task_in say.1 ∙ ap (option_map (λ s. Sim s)) (again_simulation say.0 s say.2)
 again words (Station p) say = ap task_in say.1 ∙ ap (option_map (λ p. Station p)) (again_place say.0 p say.2)
+again words (Deframe end) e = ap task_in e ∙ ap (option_map (λ end. Deframe end)) (again_end end)
+again words Frame e = ap task_in e
 
 -- ---- what is read is plain
 
@@ -113,17 +115,36 @@ found_station : (word : List ℕ) (words : List (List ℕ)) (task : Task) → wo
 found_station word words task is None reads e = absurd (cc)
 found_station word words task is (Some p) reads e = given (word ∷ words) (Station p) task e (words, ap (λ w. w ∷ words) is, found_place words p reads)
 
+found_deframe_at : (word next : List ℕ) (task : Task) → word ≡ codes "deframe" → (o : Option End) → end_in next ≡ o
+    → option_map (λ end. Deframe end) o ≡ Some task → Say (word ∷ next ∷ []) task
+found_deframe_at word next task is None reads e = absurd (cc)
+found_deframe_at word next task is (Some end) reads e =
+    given (word ∷ next ∷ []) (Deframe end) task e (ap (λ w. w ∷ next ∷ []) is ∙ ap (λ n. codes "deframe" ∷ n ∷ []) (end_found next end reads))
+
+found_deframe : (word : List ℕ) (words : List (List ℕ)) (task : Task) → word ≡ codes "deframe" → deframe_in words ≡ Some task → Say (word ∷ words) task
+found_deframe word [] task is e = absurd (cc)
+found_deframe word (next ∷ []) task is e = found_deframe_at word next task is (end_in next) refl e
+found_deframe word (next ∷ more ∷ words) task is e = absurd (cc)
+
+found_frame : (word : List ℕ) (words : List (List ℕ)) (task : Task) → word ≡ codes "frame" → frame_in words ≡ Some task → Say (word ∷ words) task
+found_frame word [] task is e = given (word ∷ []) Frame task e (ap (λ w. w ∷ []) is)
+found_frame word (next ∷ words) task is e = absurd (cc)
+
 found_behind : (word : List ℕ) (words : List (List ℕ)) (task : Task) → task_behind word words ≡ Some task → Say (word ∷ words) task
-found_behind word words task e = go (bytes_eq word (codes "decode")) (bytes_eq word (codes "vectors")) (bytes_eq word (codes "sim")) (bytes_eq word (codes "station")) refl refl refl refl e
+found_behind word words task e =
+    go (bytes_eq word (codes "decode")) (bytes_eq word (codes "vectors")) (bytes_eq word (codes "sim")) (bytes_eq word (codes "station")) (bytes_eq word (codes "deframe")) (bytes_eq word (codes "frame")) refl refl refl refl refl refl e
   where
-    go : (a b c d : Bool) → bytes_eq word (codes "decode") ≡ a → bytes_eq word (codes "vectors") ≡ b → bytes_eq word (codes "sim") ≡ c → bytes_eq word (codes "station") ≡ d
-        → cond a (decode_in words) (cond b (vectors_in words) (cond c (option_map (λ s. Sim s) (simulation_in words)) (cond d (option_map (λ p. Station p) (station_in words)) None))) ≡ Some task
+    go : (a b c d f g : Bool) → bytes_eq word (codes "decode") ≡ a → bytes_eq word (codes "vectors") ≡ b → bytes_eq word (codes "sim") ≡ c → bytes_eq word (codes "station") ≡ d
+        → bytes_eq word (codes "deframe") ≡ f → bytes_eq word (codes "frame") ≡ g
+        → cond a (decode_in words) (cond b (vectors_in words) (cond c (option_map (λ s. Sim s) (simulation_in words)) (cond d (option_map (λ p. Station p) (station_in words)) (cond f (deframe_in words) (cond g (frame_in words) None))))) ≡ Some task
         → Say (word ∷ words) task
-    go true b c d is _ _ _ e = found_decode word words task ((bytes_eq-Decides word (codes "decode")).0 is) e
-    go false true c d _ is _ _ e = found_vectors word words task ((bytes_eq-Decides word (codes "vectors")).0 is) e
-    go false false true d _ _ is _ e = found_sim word words task ((bytes_eq-Decides word (codes "sim")).0 is) (simulation_in words) refl e
-    go false false false true _ _ _ is e = found_station word words task ((bytes_eq-Decides word (codes "station")).0 is) (station_in words) refl e
-    go false false false false _ _ _ _ e = absurd (cc)
+    go true b c d f g is _ _ _ _ _ e = found_decode word words task ((bytes_eq-Decides word (codes "decode")).0 is) e
+    go false true c d f g _ is _ _ _ _ e = found_vectors word words task ((bytes_eq-Decides word (codes "vectors")).0 is) e
+    go false false true d f g _ _ is _ _ _ e = found_sim word words task ((bytes_eq-Decides word (codes "sim")).0 is) (simulation_in words) refl e
+    go false false false true f g _ _ _ is _ _ e = found_station word words task ((bytes_eq-Decides word (codes "station")).0 is) (station_in words) refl e
+    go false false false false true g _ _ _ _ is _ e = found_deframe word words task ((bytes_eq-Decides word (codes "deframe")).0 is) e
+    go false false false false false true _ _ _ _ _ is e = found_frame word words task ((bytes_eq-Decides word (codes "frame")).0 is) e
+    go false false false false false false _ _ _ _ _ _ e = absurd (cc)
 
 pub found_task : (words : List (List ℕ)) (task : Task) → task_in words ≡ Some task → Say words task
 unfolding task_in
@@ -135,3 +156,5 @@ within words (Decode long) say = tt
 within words Vectors say = tt
 within words (Sim s) say = subst simulation.AreInRange (sym say.2.2) (in_range say.0 say.2.0 say.2.1)
 within words (Station p) say = subst PlaceIsInRange (sym say.2.same) (in_range say.2.rest say.2.end say.2.choose)
+within words (Deframe end) say = tt
+within words Frame say = tt

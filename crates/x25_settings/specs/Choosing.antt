@@ -12,7 +12,7 @@ use Rattle.x25_settings.specs.declared.options.Numbered.TheVariants.{Window, Tri
 use Rattle.x25_settings.specs.declared.options.Place.{Place}
 use Rattle.x25_settings.specs.declared.options.Simulation.{Simulation}
 use Rattle.x25_settings.specs.declared.words.Task.{Task}
-use Rattle.x25_settings.specs.declared.words.Task.TheVariants.{Decode, Vectors, Sim, Station}
+use Rattle.x25_settings.specs.declared.words.Task.TheVariants.{Decode, Vectors, Sim, Station, Deframe, Frame}
 use Rattle.x25_settings.specs.Simulation.{most_of, nothing, chosen_flag, with_flag, chosen_number, with_number, settled, settled_at}
 
 abbrev pub flag_in : List ℕ → Option Flag
@@ -90,11 +90,24 @@ abbrev pub vectors_in : List (List ℕ) → Option Task
 vectors_in [] = Some Vectors
 vectors_in (word ∷ words) = None
 
+-- those behind `deframe`
+abbrev pub deframe_in : List (List ℕ) → Option Task
+deframe_in [] = None
+deframe_in (word ∷ []) = option_map (λ end. Deframe end) (end_in word)
+deframe_in (word ∷ next ∷ words) = None
+
+-- those behind `frame`
+abbrev pub frame_in : List (List ℕ) → Option Task
+frame_in [] = Some Frame
+frame_in (word ∷ words) = None
+
 abbrev pub task_behind : List ℕ → List (List ℕ) → Option Task
 task_behind word words = if bytes_eq word (codes "decode") then decode_in words
     else if bytes_eq word (codes "vectors") then vectors_in words
     else if bytes_eq word (codes "sim") then option_map (λ s. Sim s) (simulation_in words)
-    else if bytes_eq word (codes "station") then option_map (λ p. Station p) (station_in words) else None
+    else if bytes_eq word (codes "station") then option_map (λ p. Station p) (station_in words)
+    else if bytes_eq word (codes "deframe") then deframe_in words
+    else if bytes_eq word (codes "frame") then frame_in words else None
 
 unfoldable pub task_in : List (List ℕ) → Option Task
 task_in [] = None

@@ -1,4 +1,4 @@
--- The words behind `sim` and `station`, and what plain ones say (profile).
+-- The words behind `sim` and `station`, those for an end, and what plain ones say (profile).
 use Rattle.std.specs.Prelude.{◌≡◌, ◌≤◌, ℕ, Bool, true, false, List, [], ◌∷◌, Option, Some, None, unwrap_or, codes, decimal}
 use Rattle.std.specs.List.{flat_map}
 use Rattle.x25_settings.specs.declared.options.Simulation.{Simulation}

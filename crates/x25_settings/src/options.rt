@@ -1,4 +1,4 @@
-//! The words behind `sim` and `station`.
+//! The words behind `sim`, `station` and `deframe`.
 ghost use Rattle.std.specs.Prelude.{◌≡◌, ◌<◌, ◌↔◌, ◌∷◌, [], IfSome, MatchOption, IsTrue, decimal, map, length};
 ghost use Rattle.std.specs.Str.{bytes_eq};
 ghost use Rattle.x25_settings.specs.Choosing.{chosen_in, end_in, flag_in, number_in, numbered_in, placed, put_flag, put_number, simulation_in, station_in};
@@ -107,7 +107,7 @@ fn numbered_option(word: &str) -> Option<Numbered>
     }
 }
 
-fn end_word(word: &str) -> Option<End>
+pub(crate) fn end_word(word: &str) -> Option<End>
     ensures { result ≡ end_in word.now }
 {
     if is(word, "dte") {

@@ -14,6 +14,11 @@ const ENDS: &[&str] = &["dte", "dce"];
 const STATION_EXAMPLE: &str = "Examples:
   printf 'dte connect\\n< 01738357\\n' | x25 station dte";
 
+/// What is told behind the words of `deframe`.
+const DEFRAME_EXAMPLE: &str = "Examples:
+  x25 deframe dte < line.bin | grep -v '^#' | x25 decode
+  grep '^>' trace | x25 frame | x25 deframe dte";
+
 /// An option with a number.
 fn number_option<'a>(
     alloc: Global,
@@ -92,6 +97,18 @@ fn station_command<'a>(alloc: Global) -> Result<Command<'a>, AllocError> {
     with_numbers(alloc, command)
 }
 
+fn deframe_command<'a>(alloc: Global) -> Result<Command<'a>, AllocError> {
+    let end = Arg::new(alloc, "END")
+        .required(true)
+        .value_parser(ENDS)
+        .help("The end that sends on the line");
+    Command::new(alloc, "deframe")
+        .about("Answer octets of a synchronous line by the lines of a trace that it carries")
+        .override_usage("x25 deframe END < LINE")
+        .after_help(DEFRAME_EXAMPLE)
+        .arg(end)
+}
+
 /// The command line of the program.
 pub(crate) fn command<'a>(alloc: Global) -> Result<Command<'a>, AllocError> {
     let decode = Command::new(alloc, "decode")
@@ -103,6 +120,9 @@ pub(crate) fn command<'a>(alloc: Global) -> Result<Command<'a>, AllocError> {
     let vectors = Command::new(alloc, "vectors")
         .about("Run the stored test vectors")
         .override_usage("x25 vectors");
+    let frame = Command::new(alloc, "frame")
+        .about("Answer lines of a trace by octets of a synchronous line that carries their frames")
+        .override_usage("x25 frame < TRACE");
     Command::new(alloc, "x25")
         .about("X.25 packet layer over LAPB, on lines of text")
         .version("0.1.0")
@@ -111,5 +131,7 @@ pub(crate) fn command<'a>(alloc: Global) -> Result<Command<'a>, AllocError> {
         .subcommand(decode)?
         .subcommand(vectors)?
         .subcommand(sim_command(alloc)?)?
-        .subcommand(station_command(alloc)?)
+        .subcommand(station_command(alloc)?)?
+        .subcommand(deframe_command(alloc)?)?
+        .subcommand(frame)
 }

@@ -1,11 +1,13 @@
 //! What the words of the command line ask for.
 ghost use Rattle.std.specs.Prelude.{◌≡◌, Ok, IfOk, map};
-ghost use Rattle.x25_settings.specs.Choosing.{decode_in, task_behind, task_in, vectors_in};
+ghost use Rattle.x25_settings.specs.Choosing.{decode_in, deframe_in, frame_in, task_behind, task_in, vectors_in};
 ghost use Rattle.x25_settings.specs.Words.{AreInRange, Say};
 ghost use Rattle.x25_settings.specs.declared.words.SettingsError.TheVariants.{NoMemory};
 ghost use Rattle.x25_settings.specs.declared.words.Task.{Task as TaskValue};
 
-use crate::options::{Place, Simulation, is, read_place, read_simulation, split_word};
+use crate::options::{
+    End, Place, Simulation, end_word, is, read_place, read_simulation, split_word,
+};
 use crate::parser::command;
 use clap::error::ErrorKind;
 use std::alloc::{AllocError, Global};
@@ -21,6 +23,9 @@ pub enum Task {
     Vectors,
     Sim(Simulation),
     Station(Place),
+    /// Of a synchronous line, the end that sends on it.
+    Deframe(End),
+    Frame,
 }
 
 /// Why nothing runs.
@@ -85,6 +90,26 @@ fn read_vectors<S: AsStr>(words: &[S]) -> Option<Task>
     }
 }
 
+/// What the words behind `deframe` say, where they are plain.
+fn read_deframe<S: AsStr>(words: &[S]) -> Option<Task>
+    ensures { result ≡ deframe_in (map S.text words.now) }
+{
+    match words {
+        [word] => Some(Task::Deframe(end_word(word.as_str())?)),
+        _ => None,
+    }
+}
+
+/// What the words behind `frame` say, where they are plain.
+fn read_frame<S: AsStr>(words: &[S]) -> Option<Task>
+    ensures { result ≡ frame_in (map S.text words.now) }
+{
+    match words {
+        [] => Some(Task::Frame),
+        _ => None,
+    }
+}
+
 /// What a word and those behind it say, where they are plain.
 fn read_behind<S: AsStr>(word: &str, words: &[S]) -> Option<Task>
     ensures { result ≡ task_behind word.now (map S.text words.now) }
@@ -97,6 +122,10 @@ fn read_behind<S: AsStr>(word: &str, words: &[S]) -> Option<Task>
         Some(Task::Sim(read_simulation(words)?))
     } else if is(word, "station") {
         Some(Task::Station(read_place(words)?))
+    } else if is(word, "deframe") {
+        read_deframe(words)
+    } else if is(word, "frame") {
+        read_frame(words)
     } else {
         None
     }
@@ -134,7 +163,8 @@ fn usage_fault<'a, S: AsStr>(alloc: Global, words: &'a [S]) -> SettingsError {
 /// Plain words are `decode`, which `--long` may follow, `vectors`, or `sim` and then each at most once and in any order
 /// `--tap`, `--down`, `--long`, `--k N`, `--n2 N` and `--channels N`, with N in decimal without leading zeros, from 1 to 7, 255
 /// and 16; what isn't said is 7, 10 and 1. Or they are `station`, then `dte` or `dce`, and then these options but `--tap` and
-/// `--down`. All others are a usage fault, help words too. Plain words take no memory. Profile.
+/// `--down`. Or they are `deframe` and `dte` or `dce`, or `frame`. All others are a usage fault, help words too. Plain words
+/// take no memory. Profile.
 pub fn settings<'a, S: AsStr>(alloc: Global, words: &'a [S]) -> Result<Task, SettingsError>
     ensures plain { (task : TaskValue) → Say (map S.text words.now) task → result ≡ Ok task }
     ensures only { IfOk result (Say (map S.text words.now)) }

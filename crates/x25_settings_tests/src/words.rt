@@ -20,7 +20,7 @@ const PLACE: Place = Place {
 
 #[test]
 fn takes_plain_words_alone(rt: HostRuntime) {
-    let plain: [(&[&str], Task); 13] = [
+    let plain: [(&[&str], Task); 16] = [
         (&["decode"], Task::Decode { long: false }),
         (&["decode", "--long"], Task::Decode { long: true }),
         (&["vectors"], Task::Vectors),
@@ -79,6 +79,9 @@ fn takes_plain_words_alone(rt: HostRuntime) {
                 ..DEFAULTS
             }),
         ),
+        (&["deframe", "dte"], Task::Deframe(End::Dte)),
+        (&["deframe", "dce"], Task::Deframe(End::Dce)),
+        (&["frame"], Task::Frame),
         (&["station", "dte"], Task::Station(PLACE)),
         (
             &["station", "dce", "--long"],
@@ -118,7 +121,7 @@ fn takes_plain_words_alone(rt: HostRuntime) {
 
 #[test]
 fn takes_no_other_words(rt: HostRuntime) {
-    let others: [&[&str]; 36] = [
+    let others: [&[&str]; 42] = [
         &[],
         &["dec"],
         &["decode", "decode"],
@@ -155,6 +158,12 @@ fn takes_no_other_words(rt: HostRuntime) {
         &["station", "dte", "--tap"],
         &["station", "dte", "--down"],
         &["station", "--long", "dte"],
+        &["deframe"],
+        &["deframe", "DTE"],
+        &["deframe", "dte", "dce"],
+        &["deframe", "dte", "--long"],
+        &["frame", "dte"],
+        &["frame", "--long"],
     ];
     for words in others {
         let is_usage = matches!(settings(rt.alloc(), words), Err(SettingsError::Usage(_)));
@@ -167,7 +176,7 @@ const SAYS: &str =
 
 /// What asks for help is told.
 const HELP: &str =
-    "X.25 packet layer over LAPB, on lines of text\n\nUsage: x25 <COMMAND>\n\nCommands:\n  decode   Answer lines of octets, `> HEX` from the DTE and `< HEX` from the DCE, by lines of text\n  vectors  Run the stored test vectors\n  sim      Run a script of two stations joined by a line, and write what each end is told\n  station  Run one station: lines of the other end and of its user in, what it does out\n  help     Print this message or the help of the given subcommand(s)\n\nOptions:\n  -h, --help     Print help\n  -V, --version  Print version\n";
+    "X.25 packet layer over LAPB, on lines of text\n\nUsage: x25 <COMMAND>\n\nCommands:\n  decode   Answer lines of octets, `> HEX` from the DTE and `< HEX` from the DCE, by lines of text\n  vectors  Run the stored test vectors\n  sim      Run a script of two stations joined by a line, and write what each end is told\n  station  Run one station: lines of the other end and of its user in, what it does out\n  deframe  Answer octets of a synchronous line by the lines of a trace that it carries\n  frame    Answer lines of a trace by octets of a synchronous line that carries their frames\n  help     Print this message or the help of the given subcommand(s)\n\nOptions:\n  -h, --help     Print help\n  -V, --version  Print version\n";
 
 /// A number that is out of its range.
 const RANGE: &str =

@@ -1,0 +1,11 @@
+use Rattle.std.proofs.Common.{◌∙◌, sym, subst, refl}
+use Rattle.std.specs.Io.KnownBytes.{Appends}
+use Rattle.std.proofs.lemmas.List.{append-nil}
+use Rattle.x25_bit_line.specs.Deframed.{deframed}
+use Rattle.x25_bit_line.proofs.TellingLemmas.{told_all}
+use Rattle.x25_bit_line.proofs.finder.FinderTextTaker.end.Goals as goal
+
+pub returns-in-Ok-clause-all : goal.returns-in-Ok-clause-all
+returns-in-Ok-clause-all g c = λ from old input h.
+    let all = sym (append-nil h.done) ∙ h.split in
+    (subst (λ done. Appends old (g.W.Sink.contents c.flush.new.writer) (deframed from done)) all (told_all old _ _ _ (c.in-Ok.ensures.tells old _ h.reads.tells) c.in-Ok.ensures.empty), refl)

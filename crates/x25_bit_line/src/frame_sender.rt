@@ -1,0 +1,135 @@
+//! Lines of a trace, sent as frames.
+ghost use Rattle.std.specs.Prelude.{◌≡◌};
+ghost use Rattle.x25_bit_line.specs.Framed.{begins_by_mark};
+
+use crate::line_bits::LineBits;
+use std::alloc::{AllocError, Global};
+use x25_decode::read_sent;
+use x25_io::{Fault, Output, Sink};
+use x25_text::MOST_OCTETS;
+
+/// Whether a line begins with `#`.
+fn is_comment(line: &[u8]) -> bool
+    ensures { result ≡ begins_by_mark line.now }
+{
+    match line {
+        [character, ..] => *character == b'#',
+        [] => false,
+    }
+}
+
+/// The bits on their way to the line, and the octets that wait to be written.
+#[derive(Drop)]
+pub(crate) struct FrameSender {
+    bits: LineBits,
+    octets: [u8; MOST_OCTETS],
+    output: Output,
+    is_wrong: bool,
+}
+
+impl FrameSender {
+    ghost use Rattle.std.specs.Prelude.{◌≡◌, ◌≤◌, ◌||◌, not, [], true, false, ℕ, Bool, List, Option, IfOk, OnOk, IsErrOf, MatchResult, length};
+    ghost use Rattle.std.specs.Io.KnownBytes.{Appends};
+    ghost use Rattle.x25_bits.specs.SpanClass.{octets_of};
+    ghost use Rattle.x25_bits.specs.Stuffing.{filled};
+    ghost use Rattle.x25_io.specs.HeldLine.{most_line};
+    ghost use Rattle.x25_io.specs.Written.{AppendsBeginning, Tells};
+    ghost use Rattle.x25_bit_line.specs.Framed.{is_wrong, line_bits};
+    ghost use Rattle.x25_bit_line.specs.Sending.{Sends, SendsLine};
+
+    /// Nothing was sent.
+    pub(crate) fn new(alloc: Global) -> Result<FrameSender, AllocError>
+        ensures bits { IfOk result (λ sender. sender.bits.bits ≡ []) }
+        ensures empty { IfOk result (λ sender. sender.output ≡ []) }
+        ensures right { IfOk result (λ sender. sender.is_wrong ≡ false) }
+    {
+        let output = Output::new(alloc)?;
+        Ok(FrameSender {
+            bits: LineBits::new(alloc),
+            octets: [0; MOST_OCTETS],
+            output,
+            is_wrong: false,
+        })
+    }
+
+    /// Writes what waits.
+    pub(crate) fn flush<W: Sink>(&mut self, writer: &mut W) -> Result<(), Fault>
+        ensures kept { OnOk result (W.is_marked writer.new ≡ W.is_marked writer.old) }
+        ensures tells { (old : Option (List ℕ)) (told : List ℕ) → Tells old (W.contents writer.old) self.old.output told
+            → MatchResult result (λ _. Tells old (W.contents writer.new) self.new.output told) (λ _. AppendsBeginning old (W.contents writer.new) told) }
+        ensures empty { OnOk result (self.new.output ≡ []) }
+        ensures bits { self.new.bits ≡ self.old.bits }
+        ensures wrong { self.new.is_wrong ≡ self.old.is_wrong }
+        ensures write { IsErrOf result Fault.Write → W.is_marked writer.new ≡ true }
+        ensures memory { IsErrOf result Fault.NoMemory → ⊥ }
+        ensures read { IsErrOf result Fault.Read → ⊥ }
+    {
+        match self.output.flush(writer) {
+            Ok(()) => Ok(()),
+            Err(_) => Err(Fault::Write),
+        }
+    }
+
+    /// A line is neither of a trace nor a comment.
+    pub(crate) fn refuse(&mut self)
+        ensures bits { self.new.bits ≡ self.old.bits }
+        ensures output { self.new.output ≡ self.old.output }
+        ensures wrong { self.new.is_wrong ≡ true }
+    {
+        self.is_wrong = true;
+    }
+
+    /// Passes over a line that is none of a trace: where it is no comment, it is refused.
+    fn pass_over(&mut self, line: &[u8])
+        ensures bits { self.new.bits ≡ self.old.bits }
+        ensures output { self.new.output ≡ self.old.output }
+        ensures wrong { self.new.is_wrong ≡ (self.old.is_wrong || not (begins_by_mark line.now)) }
+    {
+        if is_comment(line) {
+            return;
+        }
+        self.is_wrong = true;
+    }
+
+    /// Sends the frame of a line of a trace, and nothing for another line.
+    pub(crate) fn take<W: Sink>(&mut self, line: &[u8], writer: &mut W) -> Result<(), Fault>
+        ensures kept { OnOk result (W.is_marked writer.new ≡ W.is_marked writer.old) }
+        ensures sends { SendsLine result (W.contents writer.old) (W.contents writer.new) self.old.bits.bits self.new.bits.bits self.old.output self.new.output (line_bits line.now) }
+        ensures wrong { length line.now ≤ most_line → OnOk result (self.new.is_wrong ≡ (self.old.is_wrong || is_wrong line.now)) }
+        ensures write { IsErrOf result Fault.Write → W.is_marked writer.new ≡ true }
+        ensures memory { IsErrOf result Fault.NoMemory → W.is_marked writer.new ≡ W.is_marked writer.old }
+        ensures read { IsErrOf result Fault.Read → ⊥ }
+    {
+        match read_sent(line, self.octets.as_mut_slice()) {
+            Some((_from, count)) => {
+                self.bits
+                    .send_frame(&self.octets[..count], &mut self.output, writer)
+            }
+            None => {
+                self.pass_over(line);
+                Ok(())
+            }
+        }
+    }
+
+    /// Sends the bits that are left, and writes what waits.
+    pub(crate) fn finish<W: Sink>(&mut self, writer: &mut W) -> Result<(), Fault>
+        ensures kept { OnOk result (W.is_marked writer.new ≡ W.is_marked writer.old) }
+        ensures text { (old : Option (List ℕ)) (before : List Bool) → Sends old (W.contents writer.old) self.old.bits.bits self.old.output before
+            → MatchResult result (λ _. Appends old (W.contents writer.new) (octets_of (filled before))) (λ _. AppendsBeginning old (W.contents writer.new) (octets_of (filled before))) }
+        ensures wrong { self.new.is_wrong ≡ self.old.is_wrong }
+        ensures write { IsErrOf result Fault.Write → W.is_marked writer.new ≡ true }
+        ensures memory { IsErrOf result Fault.NoMemory → W.is_marked writer.new ≡ W.is_marked writer.old }
+        ensures read { IsErrOf result Fault.Read → ⊥ }
+    {
+        self.bits.send_rest(&mut self.output, writer)?;
+        self.flush(writer)
+    }
+
+    /// Whether a line was refused.
+    pub(crate) fn is_wrong(&self) -> bool
+        ensures { result ≡ self.now.is_wrong }
+    {
+        self.is_wrong
+    }
+}
