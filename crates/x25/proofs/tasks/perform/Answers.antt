@@ -14,3 +14,6 @@ returns-in-Sim-clause-quiet g c = rw c.in-Sim.is c.simulate.ensures.quiet
 
 pub returns-in-Sim-clause-window : goal.returns-in-Sim-clause-window
 returns-in-Sim-clause-window g c = rw c.in-Sim.is c.simulate.ensures.window
+
+pub returns-in-Deframe-clause-text : goal.returns-in-Deframe-clause-text
+returns-in-Deframe-clause-text g c = rw c.in-Deframe.is (rw c.role_of.ensures at c.deframe.ensures.text)
