@@ -1,3 +1,4 @@
+use Rattle.std.proofs.Common.{refl}
 use Rattle.x25_world.specs.SessionClaims.{SessionsKeepOrder}
 use Rattle.x25_joined.proofs.JoinedRuns.{of_programs}
 use Rattle.x25_joined.proofs.law.programs_meet_in_sessions.Goals as goal
@@ -14,6 +15,6 @@ returns c =
       unmet = laws.unmet cfg fine begin is events octets;
       stand = laws.stand cfg fine begin is events octets;
       quiet = laws.quiet cfg fine begin is events octets;
-      window = laws.window cfg fine begin is events octets;
+      window = (begin, is, events, refl, laws.window cfg fine begin is events octets);
     })
     c.two_programs_are_a_world.ensures
