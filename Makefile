@@ -3,13 +3,14 @@
 # make test  the gate: every proof from nothing, the must-fail edits, the tests and the programs, the golden cases, the tools
 # make golden       runs the stored cases of tests/golden on the program
 # make check-tools  runs the tests of tools/, without the kit too; those that need the program are left out where it isn't built
+# make judge-runs   judges 10,000 random runs of two stations by the program: nothing may be told of them
 # make refused      runs stored cases on the program, and scripts at links, stations and worlds, with each allocation refused in turn; it
 #                   needs a C compiler
 # make wrong-bodies [CRATE=NAME]  tries the edits of crates/NAME/wrong-bodies/, which the gate leaves out
 # make interop      plays the program's station against Linux's X.25 in a guest; interop/README.md says what that needs
 # make clean removes what these made
 
-.PHONY: x25 demo test golden check-tools refused wrong-bodies interop clean kit
+.PHONY: x25 demo test golden judge-runs check-tools refused wrong-bodies interop clean kit
 
 x25: build/x25
 
@@ -44,6 +45,9 @@ test: kit
 
 golden: build/x25
 	python3 tests/golden.py --program build/x25
+
+judge-runs: build/x25
+	python3 tests/judge_runs.py --program build/x25
 
 check-tools:
 	python3 tests/check_tools.py

@@ -4,20 +4,21 @@ _x25() {
     local word=${COMP_WORDS[COMP_CWORD]} before=${COMP_WORDS[COMP_CWORD - 1]} words=
     COMPREPLY=()
     if ((COMP_CWORD == 1)); then
-        words="decode vectors sim station deframe frame help --help --version"
+        words="decode vectors sim station judge deframe frame help --help --version"
     else
         case ${COMP_WORDS[1]}:$before in
-            sim:--k | station:--k) words="1 2 3 4 5 6 7" ;;
+            sim:--k | station:--k | judge:--k) words="1 2 3 4 5 6 7" ;;
             sim:--n2 | station:--n2) words="1 10 255" ;;
             sim:--channels | station:--channels) words="1 2 3 4 5 6 7 8 9 10 11 12 13 14 15 16" ;;
             sim:*) words="--tap --down --long --k --n2 --channels --help" ;;
             station:station) words="dte dce --help" ;;
             station:*) words="--long --k --n2 --channels --help" ;;
+            judge:*) words="--k --long --help" ;;
             deframe:deframe) words="dte dce --help" ;;
             deframe:*) words="--help" ;;
             decode:*) words="--long --help" ;;
             vectors:* | frame:*) words="--help" ;;
-            help:*) ((COMP_CWORD == 2)) && words="decode vectors sim station deframe frame help" ;;
+            help:*) ((COMP_CWORD == 2)) && words="decode vectors sim station judge deframe frame help" ;;
         esac
     fi
     mapfile -t COMPREPLY < <(compgen -W "$words" -- "$word")

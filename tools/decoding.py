@@ -35,11 +35,12 @@ def let_end(child):
 
 
 class Decoder:
-    """Gives frames to the program's `decode`, one at a time, so that a line is answered before the next is there."""
+    """Gives frames to a task of the program, one at a time, so that a line is answered before the next is there."""
 
-    def __init__(self, program, words=()):
+    def __init__(self, program, words=(), task="decode"):
         self._program = program
         self._words = words
+        self._task = task
         self._child = None
 
     def __enter__(self):
@@ -49,8 +50,8 @@ class Decoder:
         if self._child is not None:
             let_end(self._child)
 
-    def text(self, frame):
-        """The text of a frame line, without its direction."""
+    def text(self, frame, connection=None):
+        """The text of a frame line, without its direction, whatever the connection."""
         if self._child is None:
             self._child = self._begun()
         try:
@@ -60,13 +61,39 @@ class Decoder:
         except BrokenPipeError:
             line = b""
         if not line.endswith(b"\n") or line[:2] != f"{frame.direction} ".encode():
-            raise BadInput(f"{self._program} decode didn't answer line by line")
+            raise BadInput(f"{self._program} {self._task} didn't answer line by line")
         return line[2:-1].decode("ascii", "replace")
 
     def _begun(self):
         if self._program is None:
             raise BadInput(MISSING)
         try:
-            return subprocess.Popen([self._program, "decode", *self._words], stdin=subprocess.PIPE, stdout=subprocess.PIPE)
+            return subprocess.Popen([self._program, self._task, *self._words], stdin=subprocess.PIPE, stdout=subprocess.PIPE)
         except OSError as error:
             raise BadInput(f"{self._program}: {error.strerror}") from error
+
+
+class Judge:
+    """Has the program judge the frames of each connection by themselves, but for those that were made up, which are decoded."""
+
+    def __init__(self, program, window, words=()):
+        self._program = program
+        self._words = ["--k", str(window), *words]
+        self._decoder = Decoder(program, words)
+        self._judges = {}
+
+    def __enter__(self):
+        return self
+
+    def __exit__(self, *_):
+        for decoder in (self._decoder, *self._judges.values()):
+            decoder.__exit__()
+
+    def text(self, frame, connection=None):
+        """The text of a frame line, and behind ` ! ` the end and the rule that it breaks."""
+        if connection is not None and connection.is_made_up:
+            return self._decoder.text(frame)
+        number = 1 if connection is None else connection.number
+        if number not in self._judges:
+            self._judges[number] = Decoder(self._program, self._words, "judge")
+        return self._judges[number].text(frame)

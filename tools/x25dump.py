@@ -15,13 +15,15 @@ aren't shown, their packets are.
   --messages  shows what the ends' users sent: data packets joined by M, and interrupts, as hexadecimal digits and text. Each comes
               once, though its frame be repeated
   --stats     writes at the end how many frames, packets and octets of data went each way, and how many I frames came out of order or again
+  --judge     says behind a frame which end broke which rule of the link layer with it (`x25 judge`), of each connection by itself; --k
+              is the window. Not of frames that were made up around packets, nor of lines of `x25 decode`
   --channel   shows the packets of a channel alone; 0 is that of RESTART. With --stats it counts them
 
 The program is the one that --x25 or the variable X25 names, or `x25` of the PATH, or else build/x25 of this repository. Colours
 are for a terminal alone, and not where the variable NO_COLOR is set.
 
-Exit status: 0; 1 where a line was none, or nothing was found in a capture, or something was left out; 2 for bad words or bad
-input, behind what stands before it.
+Exit status: 0; 1 where a line was none, a rule was broken, nothing was found in a capture, or something was left out; 2 for bad
+words or bad input, behind what stands before it.
 """
 
 import argparse
@@ -45,6 +47,8 @@ RED, BLUE, GREEN, GREY, PLAIN = "\x1b[31m", "\x1b[34m", "\x1b[32m", "\x1b[90m", 
 CHANNEL = re.compile(r" ch=(\d+)")
 RESTARTS = re.compile(r"\| RESTART|^restart")
 A_ROW = 16
+# What stands before the end and the rule that it breaks.
+RULE = " ! "
 # The kinds of frames and packets in the order of a statistic.
 FRAMES = ("I", "RR", "RNR", "REJ", "SABM", "DISC", "UA", "DM", "FRMR", "fault")
 
@@ -98,7 +102,9 @@ class Reader:
 
     def _frame(self, line, connection=None):
         time = "" if line.time is None else x25lines.seconds(line.time)
-        text = self._decoder.text(line)
+        text = self._decoder.text(line, connection)
+        if self._options.judge and RULE in text:
+            self.status = 1
         if connection is None:
             return Shown(time, 1, line.direction, text)
         return Shown(time, connection.number, line.direction, text, connection.is_made_up, connection.name)
@@ -135,10 +141,11 @@ class Lines:
     def _text(self, it):
         if it.direction == "":
             return self._paint(RED, f"{it.text} {x25names.refusal(it.text)}".rstrip())
-        said = x25names.words(it.text)
-        text = it.text.partition(" | ")[2] if it.is_made_up else it.text
+        whole, mark, rule = it.text.partition(RULE)
+        said = x25names.words(whole)
+        text = whole.partition(" | ")[2] if it.is_made_up else whole
         colour = RED if "fault" in text or text.startswith("FRMR") else {">": BLUE, "<": GREEN}.get(it.direction, PLAIN)
-        return self._paint(colour, f"{it.direction} {text}") + (self._paint(GREY, f"  ({said})") if said else "")
+        return self._paint(colour, f"{it.direction} {text}") + (self._paint(GREY, f"  ({said})") if said else "") + (self._paint(RED, mark + rule) if mark else "")
 
     def end(self):
         """Nothing is left at the end."""
@@ -252,10 +259,18 @@ def words():
     which = parser.add_mutually_exclusive_group()
     which.add_argument("--messages", action="store_true", help="show messages, not frames")
     which.add_argument("--stats", action="store_true", help="show numbers at the end, not frames")
+    which.add_argument("--judge", action="store_true", help="say which end broke which rule of the link layer")
+    parser.add_argument("--k", type=int, choices=range(1, 8), default=7, help="the window that --judge goes by (7)")
     parser.add_argument("--long", action="store_true", help="a CALL may have 128 octets of user data, as with `decode --long`")
     pcap2x25.add_capture_words(parser)
     decoding.add_program(parser)
     return parser.parse_args()
+
+
+def asked(options):
+    """What is asked for the text of a frame."""
+    long = ["--long"] if options.long else []
+    return decoding.Judge(options.x25, options.k, long) if options.judge else decoding.Decoder(options.x25, long)
 
 
 def show(view, items, out):
@@ -272,7 +287,7 @@ def show(view, items, out):
 def main():
     options = words()
     paint = painter()
-    with x25lines.opened(options.file) as file, decoding.Decoder(options.x25, ["--long"] if options.long else []) as decoder:
+    with x25lines.opened(options.file) as file, asked(options) as decoder:
         reader = Reader(decoder, options)
         items = reader.shown(file)
         view = Joined(paint, options.channel) if options.messages else Statistic() if options.stats else Lines(paint)

@@ -33,6 +33,8 @@ dte cleared ch=7 cause=0 diag=0  (DTE originated)
 ? 60 no such line
 """
 
+OVER = " ! dce: more I frames are unacknowledged than k (2.4.8.6): at most 2"
+
 
 def data(number, text, more=0, channel=1, acknowledged=0):
     """The text of an I frame with data."""
@@ -188,6 +190,20 @@ class Dump(ToolCase):
         self.assert_refused(support.run("x25dump.py", "--connection", "3", "--x25", support.PROGRAM, given=self.capture()), "and no number 3")
 
     @support.needs_program
+    def test_a_broken_rule_stands_behind_its_frame(self):
+        for name, words in (("judge_repeats", []), ("judge_over_window", ["--k", "2"])):
+            given, expected = (support.read(f"tests/golden/{name}.{kind}") for kind in ("in", "out"))
+            self.assertEqual(self.dump(given, "--judge", *words, "--x25", support.PROGRAM, status=1), expected.decode())
+        self.assertEqual(self.dump(given, "--judge", "--x25", support.PROGRAM), expected.decode().replace(OVER, ""))
+
+    @support.needs_program
+    def test_connections_are_judged_apart_and_frames_that_were_made_up_not(self):
+        frames = [b"\x01\x01\x3f", b"\x00\x01\x73", b"\x01\x01\x00\x10\x01\x01", b"\x01\x01\x00\x10\x01\x01"]
+        rows = self.dump(samples.pcap([(at, 0, frame) for at, frame in enumerate(frames)]), "--judge", "--x25", support.PROGRAM, status=1).splitlines()
+        self.assertEqual([" ! " in row for row in rows], [False] * 4 + [True])
+        self.assertEqual(self.dump(self.capture(), "--judge", "--x25", support.PROGRAM), self.dump(self.capture(), "--x25", support.PROGRAM))
+
+    @support.needs_program
     def test_a_capture_without_x25(self):
         done = support.run("x25dump.py", given=samples.pcap([]))
         self.assertEqual((done.returncode, done.stdout), (1, b""))
@@ -226,7 +242,7 @@ class Dump(ToolCase):
         self.assert_refused(support.run("x25dump.py", os.path.join(self.folder, "none")), "No such file")
         self.assert_refused(support.run("x25dump.py", given=samples.pcap([])[:9]), "the file ends within the file header")
         self.assert_refused(support.run("x25dump.py", self.sparse("trace", DECODED)), "is longer than")
-        for words in (["--judge"], ["--messages", "--stats"], ["--channel", "x"]):
+        for words in (["--verdict"], ["--messages", "--stats"], ["--stats", "--judge"], ["--judge", "--k", "8"], ["--channel", "x"]):
             self.assertEqual(support.run("x25dump.py", *words).returncode, 2)
 
 

@@ -55,11 +55,12 @@ class Completion(unittest.TestCase):
         self.assertEqual(complete("sim", "--tap", "--k", ""), list("1234567"))
         self.assertEqual(complete("station", "d"), ["dte", "dce"])
         self.assertEqual(complete("station", "dte", "--k", ""), list("1234567"))
+        self.assertEqual(complete("judge", "--k", ""), list("1234567"))
         self.assertEqual(complete("vectors", "x"), [])
 
     @support.needs_program
     def test_all_words_of_the_program_are_offered(self):
-        for words in ([], ["decode"], ["sim"], ["station", "dte"], ["vectors"], ["frame"]):
+        for words in ([], ["decode"], ["sim"], ["station", "dte"], ["judge"], ["vectors"], ["frame"]):
             done = subprocess.run([support.PROGRAM, *words, "--help"], capture_output=True, text=True, timeout=60)
             usage = done.stdout + done.stderr
             said = set(re.findall(r"^  (?:    |-[hV], )?(--\w+)", usage, re.MULTILINE)) | set(re.findall(r"^  (\w+)  ", usage, re.MULTILINE) if not words else [])

@@ -47,12 +47,12 @@ class Examples(ToolCase):
 
 
     def test_each_example_of_the_help_runs(self):
-        for words in ([], ["decode"], ["vectors"], ["sim"], ["frame"]):
+        for words in ([], ["decode"], ["vectors"], ["sim"], ["judge"], ["frame"]):
             done = subprocess.run([support.PROGRAM, *words, "--help"], capture_output=True, text=True, timeout=60)
             self.assertEqual((done.returncode, done.stderr), (0, ""))
             self.assertIn("Usage: x25", done.stdout)
             commands = re.findall(r"^  (x25 .*)$", done.stdout.partition("Examples:")[2], re.MULTILINE)
-            self.assertEqual(bool(commands), words == ["sim"])
+            self.assertEqual(bool(commands), words in (["sim"], ["judge"]))
             for command in commands:
                 with self.subTest(command):
                     done = subprocess.run(["bash", "-o", "pipefail", "-c", command], cwd=self.folder, env=self.environment, capture_output=True, text=True, timeout=60)

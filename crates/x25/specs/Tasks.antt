@@ -7,6 +7,8 @@ use Rattle.x25_bit_line.specs.Deframed.{deframed}
 use Rattle.x25_bit_line.specs.Framed.{frame_status, framed_octets}
 use Rattle.x25_bit_line.specs.Frames.{WritesFrames}
 use Rattle.x25_bit_line.specs.Reads.{WritesRead}
+use Rattle.x25_judge.specs.Judged as judge
+use Rattle.x25_judge.specs.Stream as judging
 use Rattle.x25_pipe.specs.Piped.{piped, station_text, station_status}
 use Rattle.x25_pipe.specs.Stream as pipe
 use Rattle.x25_decode.specs.Decoded as decode
@@ -18,7 +20,7 @@ use Rattle.x25_settings.specs.declared.options.End.TheVariants.{Dte, Dce}
 use Rattle.x25_settings.specs.declared.options.Place.{Place}
 use Rattle.x25_settings.specs.declared.options.Simulation.{Simulation}
 use Rattle.x25_settings.specs.declared.words.Task.{Task}
-use Rattle.x25_settings.specs.declared.words.Task.TheVariants.{Decode, Vectors, Sim, Station, Deframe, Frame}
+use Rattle.x25_settings.specs.declared.words.Task.TheVariants.{Decode, Vectors, Sim, Station, Judge, Deframe, Frame}
 use Rattle.x25_station.specs.declared.config.Cfg.{Cfg}
 use Rattle.x25_station.specs.Settings.{settings_from}
 use Rattle.x25_sim.specs.Simulated.{simulated, sim_text, sim_status}
@@ -57,6 +59,7 @@ task_text (Decode long) input = decode.output_of long input
 task_text Vectors input = verdicts
 task_text (Sim s) input = script_text s input
 task_text (Station p) input = lines_text p input
+task_text (Judge g) input = judge.output_of (judge.begins g.k g.long) input
 task_text (Deframe end) input = deframed (role_in end) input
 task_text Frame input = framed_octets input
 
@@ -65,6 +68,7 @@ task_status (Decode long) input = decode.status_of input
 task_status Vectors input = if are_right then 0 else 1
 task_status (Sim s) input = script_status s input
 task_status (Station p) input = lines_status p input
+task_status (Judge g) input = judge.status_of (judge.begins g.k g.long) input
 task_status (Deframe end) input = 0
 task_status Frame input = frame_status input
 
@@ -85,6 +89,7 @@ WritesEnded (Decode long) old now rest input = decoder.WritesEnded long old now 
 WritesEnded Vectors old now rest input = ⊥
 WritesEnded (Sim s) old now rest input = WritesEndedScript s old now rest input
 WritesEnded (Station p) old now rest input = WritesEndedLines p old now rest input
+WritesEnded (Judge g) old now rest input = judging.WritesEnded old now rest (judge.output_of (judge.begins g.k g.long) input)
 WritesEnded (Deframe end) old now rest input = WritesRead (role_in end) old now rest input
 WritesEnded Frame old now rest input = WritesFrames old now rest input
 
@@ -108,6 +113,7 @@ OfScript Holds (Decode long) script old now = ⊤
 OfScript Holds Vectors script old now = ⊤
 OfScript Holds (Sim s) script old now = Holds s script old now
 OfScript Holds (Station p) script old now = ⊤
+OfScript Holds (Judge g) script old now = ⊤
 OfScript Holds (Deframe end) script old now = ⊤
 OfScript Holds Frame script old now = ⊤
 
@@ -117,6 +123,7 @@ is_plain (Decode long) = true
 is_plain Vectors = true
 is_plain (Sim s) = false
 is_plain (Station p) = false
+is_plain (Judge g) = true
 is_plain (Deframe end) = true
 is_plain Frame = false
 

@@ -1,7 +1,7 @@
 //! `x25`: traces of X.25 on lines of text.
 //!
-//! Exit statuses: 0, also where help or the version is asked for; 1 where a line was refused; 2 for words that ask for
-//! nothing it does; 3 where a read, a write or memory failed.
+//! Exit statuses: 0, also where help or the version is asked for; 1 where a line was refused or a rule broken; 2 for words that
+//! ask for nothing it does; 3 where a read, a write or memory failed.
 #![tactic(auto)]
 
 ghost use Rattle.clap.specs.Values.{kind_of};

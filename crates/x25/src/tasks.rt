@@ -13,6 +13,7 @@ use std::alloc::Global;
 use x25_bit_line::{deframe, frame};
 use x25_decode::{decode_lines, vectors};
 use x25_io::{Fault, Sink, Source};
+use x25_judge::judge_lines;
 use x25_pipe::{Role, station};
 use x25_settings::{End, Place, Simulation, Task};
 use x25_sim::{Cfg, sim};
@@ -121,7 +122,7 @@ fn simulate<R: Source, W: Sink>(
     sim(alloc, down, settings_of(simulation), tap, reader, writer)
 }
 
-/// Does a task, and answers the exit status: 1 where a line was refused or a vector is bad, else 0.
+/// Does a task, and answers the exit status: 1 where a line was refused, a rule was broken or a vector is bad, else 0.
 pub(crate) fn perform<R: Source, W: Sink>(
     alloc: Global,
     task: Task,
@@ -166,7 +167,7 @@ pub(crate) fn perform<R: Source, W: Sink>(
     ensures write { IsErrOf result Fault.Write → W.is_marked writer.new ≡ true }
     // Nor did any where want of memory is answered.
     ensures memory { IsErrOf result Fault.NoMemory → (R.is_marked reader.new ≡ R.is_marked reader.old) × (W.is_marked writer.new ≡ W.is_marked writer.old) }
-    // Of `decode`, `vectors` and `deframe` it is answered with nothing read and nothing written.
+    // Of `decode`, `vectors`, `judge` and `deframe` it is answered with nothing read and nothing written.
     ensures untouched { IsErrOf result Fault.NoMemory → is_plain task ≡ true → (reader.new ≡ reader.old) × (writer.new ≡ writer.old) }
     ensures unread { task ≡ Task.Vectors → reader.new ≡ reader.old }
 {
@@ -175,6 +176,7 @@ pub(crate) fn perform<R: Source, W: Sink>(
         Task::Sim(simulation) => simulate(alloc, simulation, reader, writer),
         Task::Station(place) => answer_lines(alloc, place, reader, writer),
         Task::Vectors => vectors(alloc, writer),
+        Task::Judge(judging) => judge_lines(alloc, judging.k, judging.long, reader, writer),
         Task::Deframe(end) => deframe(alloc, role_of(end), reader, writer),
         Task::Frame => frame(alloc, reader, writer),
     }

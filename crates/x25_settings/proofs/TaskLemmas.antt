@@ -1,6 +1,6 @@
 -- What the words of the command line say.
 use Rattle.std.proofs.Common.{◌≡◌, ◌∙◌, ℕ, Bool, true, false, List, [], ◌∷◌, Option, Some, None, ap, refl, sym, subst, codes}
-use Rattle.std.specs.Prelude.{cond, option_map, option_and_then, ◌||◌}
+use Rattle.std.specs.Prelude.{is_some, cond, option_map, option_and_then, ◌||◌}
 use Rattle.std.specs.Str.{bytes_eq}
 use Rattle.std.proofs.lemmas.Slice.Eq.{bytes_eq-Decides}
 use Rattle.std.proofs.lemmas.Option.{same_Some}
@@ -8,11 +8,12 @@ use Rattle.x25_settings.specs.declared.options.Chosen.{Chosen}
 use Rattle.x25_settings.specs.declared.options.Simulation.{Simulation}
 use Rattle.x25_settings.specs.declared.options.End.{End}
 use Rattle.x25_settings.specs.declared.options.End.TheVariants.{Dte, Dce}
+use Rattle.x25_settings.specs.declared.options.Judging.{Judging}
 use Rattle.x25_settings.specs.declared.options.Place.{Place}
 use Rattle.x25_settings.specs.declared.words.Task.{Task}
-use Rattle.x25_settings.specs.declared.words.Task.TheVariants.{Decode, Vectors, Sim, Station, Deframe, Frame}
-use Rattle.x25_settings.specs.Choosing.{chosen_in, simulation_in, station_in, place_in, end_in, placed, decode_in, deframe_in, frame_in, vectors_in, task_behind, task_in}
-use Rattle.x25_settings.specs.Simulation.{nothing, settled, settled_at, SaySimulation, SayPlace, Choose, end_word, PlaceIsInRange}
+use Rattle.x25_settings.specs.declared.words.Task.TheVariants.{Decode, Vectors, Sim, Station, Judge, Deframe, Frame}
+use Rattle.x25_settings.specs.Choosing.{chosen_in, simulation_in, station_in, place_in, end_in, placed, judge_in, judging_of, decode_in, deframe_in, frame_in, vectors_in, task_behind, task_in}
+use Rattle.x25_settings.specs.Simulation.{nothing, settled, settled_at, SaySimulation, SayPlace, SayJudging, Choose, end_word, PlaceIsInRange, JudgingIsInRange, judging_in}
 use Rattle.x25_settings.specs.Simulation as simulation
 use Rattle.x25_settings.specs.Words.{AreInRange, Say}
 use Rattle.x25_settings.proofs.ChoiceLemmas.{found, read, in_range}
@@ -40,6 +41,15 @@ again_place words p say =
     ∙ ap (λ b. cond (b || say.end.tap) None (Some (settled_at p.end say.end))) say.no_down ∙ ap (λ b. cond b None (Some (settled_at p.end say.end))) say.no_tap
     ∙ ap (λ q. Some q) (sym say.same)
 
+again_judging : (words : List (List ℕ)) (g : Judging) → SayJudging words g → judge_in words ≡ Some g
+again_judging words g say =
+    ap (option_and_then judging_of) (read words say.end say.choose)
+    ∙ ap (λ b. cond (b || say.end.tap) None (cond (is_some say.end.n2 || is_some say.end.channels) None (Some (judging_in say.end)))) say.no_down
+    ∙ ap (λ b. cond b None (cond (is_some say.end.n2 || is_some say.end.channels) None (Some (judging_in say.end)))) say.no_tap
+    ∙ ap (λ n. cond (is_some n || is_some say.end.channels) None (Some (judging_in say.end))) say.no_tries
+    ∙ ap (λ n. cond (is_some n) None (Some (judging_in say.end))) say.no_channels
+    ∙ ap (λ q. Some q) (sym say.same)
+
 pub again : (words : List (List ℕ)) (task : Task) → Say words task → task_in words ≡ Some task
 unfolding task_in
 again words (Decode true) e = ap task_in e
@@ -47,6 +57,7 @@ again words (Decode false) e = ap task_in e
 again words Vectors e = ap task_in e
 again words (Sim s) say = ap task_in say.1 ∙ ap (option_map (λ s. Sim s)) (again_simulation say.0 s say.2)
 again words (Station p) say = ap task_in say.1 ∙ ap (option_map (λ p. Station p)) (again_place say.0 p say.2)
+again words (Judge g) say = ap task_in say.1 ∙ ap (option_map (λ g. Judge g)) (again_judging say.0 g say.2)
 again words (Deframe end) e = ap task_in e ∙ ap (option_map (λ end. Deframe end)) (again_end end)
 again words Frame e = ap task_in e
 
@@ -115,6 +126,26 @@ found_station : (word : List ℕ) (words : List (List ℕ)) (task : Task) → wo
 found_station word words task is None reads e = absurd (cc)
 found_station word words task is (Some p) reads e = given (word ∷ words) (Station p) task e (words, ap (λ w. w ∷ words) is, found_place words p reads)
 
+judging_found : (words : List (List ℕ)) (c : Chosen) (g : Judging) → Choose words c → (down tap : Bool) (n2 channels : Option ℕ) → c.down ≡ down → c.tap ≡ tap → c.n2 ≡ n2
+    → c.channels ≡ channels → cond (down || tap) None (cond (is_some n2 || is_some channels) None (Some (judging_in c))) ≡ Some g → SayJudging words g
+judging_found words c g chosen true tap n2 channels no_down no_tap no_tries no_channels e = absurd (cc)
+judging_found words c g chosen false true n2 channels no_down no_tap no_tries no_channels e = absurd (cc)
+judging_found words c g chosen false false (Some n) channels no_down no_tap no_tries no_channels e = absurd (cc)
+judging_found words c g chosen false false None (Some n) no_down no_tap no_tries no_channels e = absurd (cc)
+judging_found words c g chosen false false None None no_down no_tap no_tries no_channels e =
+    subst (SayJudging words) (same_Some (judging_in c) g e)
+    (record { end = c; choose = chosen; no_down = no_down; no_tap = no_tap; no_tries = no_tries; no_channels = no_channels; same = refl })
+
+judging_chosen : (words : List (List ℕ)) (g : Judging) → (o : Option Chosen) → chosen_in nothing words ≡ o → option_and_then judging_of o ≡ Some g → SayJudging words g
+judging_chosen words g None reads e = absurd (cc)
+judging_chosen words g (Some c) reads e = judging_found words c g (found words c reads) c.down c.tap c.n2 c.channels refl refl refl refl e
+
+found_judge : (word : List ℕ) (words : List (List ℕ)) (task : Task) → word ≡ codes "judge" → (o : Option Judging) → judge_in words ≡ o
+    → option_map (λ g. Judge g) o ≡ Some task → Say (word ∷ words) task
+found_judge word words task is None reads e = absurd (cc)
+found_judge word words task is (Some g) reads e =
+    given (word ∷ words) (Judge g) task e (words, ap (λ w. w ∷ words) is, judging_chosen words g (chosen_in nothing words) refl reads)
+
 found_deframe_at : (word next : List ℕ) (task : Task) → word ≡ codes "deframe" → (o : Option End) → end_in next ≡ o
     → option_map (λ end. Deframe end) o ≡ Some task → Say (word ∷ next ∷ []) task
 found_deframe_at word next task is None reads e = absurd (cc)
@@ -132,19 +163,22 @@ found_frame word (next ∷ words) task is e = absurd (cc)
 
 found_behind : (word : List ℕ) (words : List (List ℕ)) (task : Task) → task_behind word words ≡ Some task → Say (word ∷ words) task
 found_behind word words task e =
-    go (bytes_eq word (codes "decode")) (bytes_eq word (codes "vectors")) (bytes_eq word (codes "sim")) (bytes_eq word (codes "station")) (bytes_eq word (codes "deframe")) (bytes_eq word (codes "frame")) refl refl refl refl refl refl e
+    go (bytes_eq word (codes "decode")) (bytes_eq word (codes "vectors")) (bytes_eq word (codes "sim")) (bytes_eq word (codes "station")) (bytes_eq word (codes "judge")) (bytes_eq word (codes "deframe"))
+    (bytes_eq word (codes "frame")) refl refl refl refl refl refl refl e
   where
-    go : (a b c d f g : Bool) → bytes_eq word (codes "decode") ≡ a → bytes_eq word (codes "vectors") ≡ b → bytes_eq word (codes "sim") ≡ c → bytes_eq word (codes "station") ≡ d
-        → bytes_eq word (codes "deframe") ≡ f → bytes_eq word (codes "frame") ≡ g
-        → cond a (decode_in words) (cond b (vectors_in words) (cond c (option_map (λ s. Sim s) (simulation_in words)) (cond d (option_map (λ p. Station p) (station_in words)) (cond f (deframe_in words) (cond g (frame_in words) None))))) ≡ Some task
+    go : (a b c d h f g : Bool) → bytes_eq word (codes "decode") ≡ a → bytes_eq word (codes "vectors") ≡ b → bytes_eq word (codes "sim") ≡ c → bytes_eq word (codes "station") ≡ d
+        → bytes_eq word (codes "judge") ≡ h → bytes_eq word (codes "deframe") ≡ f → bytes_eq word (codes "frame") ≡ g
+        → cond a (decode_in words) (cond b (vectors_in words) (cond c (option_map (λ s. Sim s) (simulation_in words)) (cond d (option_map (λ p. Station p) (station_in words))
+        (cond h (option_map (λ g. Judge g) (judge_in words)) (cond f (deframe_in words) (cond g (frame_in words) None)))))) ≡ Some task
         → Say (word ∷ words) task
-    go true b c d f g is _ _ _ _ _ e = found_decode word words task ((bytes_eq-Decides word (codes "decode")).0 is) e
-    go false true c d f g _ is _ _ _ _ e = found_vectors word words task ((bytes_eq-Decides word (codes "vectors")).0 is) e
-    go false false true d f g _ _ is _ _ _ e = found_sim word words task ((bytes_eq-Decides word (codes "sim")).0 is) (simulation_in words) refl e
-    go false false false true f g _ _ _ is _ _ e = found_station word words task ((bytes_eq-Decides word (codes "station")).0 is) (station_in words) refl e
-    go false false false false true g _ _ _ _ is _ e = found_deframe word words task ((bytes_eq-Decides word (codes "deframe")).0 is) e
-    go false false false false false true _ _ _ _ _ is e = found_frame word words task ((bytes_eq-Decides word (codes "frame")).0 is) e
-    go false false false false false false _ _ _ _ _ _ e = absurd (cc)
+    go true b c d h f g is _ _ _ _ _ _ e = found_decode word words task ((bytes_eq-Decides word (codes "decode")).0 is) e
+    go false true c d h f g _ is _ _ _ _ _ e = found_vectors word words task ((bytes_eq-Decides word (codes "vectors")).0 is) e
+    go false false true d h f g _ _ is _ _ _ _ e = found_sim word words task ((bytes_eq-Decides word (codes "sim")).0 is) (simulation_in words) refl e
+    go false false false true h f g _ _ _ is _ _ _ e = found_station word words task ((bytes_eq-Decides word (codes "station")).0 is) (station_in words) refl e
+    go false false false false true f g _ _ _ _ is _ _ e = found_judge word words task ((bytes_eq-Decides word (codes "judge")).0 is) (judge_in words) refl e
+    go false false false false false true g _ _ _ _ _ is _ e = found_deframe word words task ((bytes_eq-Decides word (codes "deframe")).0 is) e
+    go false false false false false false true _ _ _ _ _ _ is e = found_frame word words task ((bytes_eq-Decides word (codes "frame")).0 is) e
+    go false false false false false false false _ _ _ _ _ _ _ e = absurd (cc)
 
 pub found_task : (words : List (List ℕ)) (task : Task) → task_in words ≡ Some task → Say words task
 unfolding task_in
@@ -156,5 +190,6 @@ within words (Decode long) say = tt
 within words Vectors say = tt
 within words (Sim s) say = subst simulation.AreInRange (sym say.2.2) (in_range say.0 say.2.0 say.2.1)
 within words (Station p) say = subst PlaceIsInRange (sym say.2.same) (in_range say.2.rest say.2.end say.2.choose)
+within words (Judge g) say = subst JudgingIsInRange (sym say.2.same) (in_range say.0 say.2.end say.2.choose).0
 within words (Deframe end) say = tt
 within words Frame say = tt

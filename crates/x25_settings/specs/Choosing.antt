@@ -9,11 +9,12 @@ use Rattle.x25_settings.specs.declared.options.Flag.{Flag}
 use Rattle.x25_settings.specs.declared.options.Flag.TheVariants.{Down, Long, Tap}
 use Rattle.x25_settings.specs.declared.options.Numbered.{Numbered}
 use Rattle.x25_settings.specs.declared.options.Numbered.TheVariants.{Window, Tries, Channels}
+use Rattle.x25_settings.specs.declared.options.Judging.{Judging}
 use Rattle.x25_settings.specs.declared.options.Place.{Place}
 use Rattle.x25_settings.specs.declared.options.Simulation.{Simulation}
 use Rattle.x25_settings.specs.declared.words.Task.{Task}
-use Rattle.x25_settings.specs.declared.words.Task.TheVariants.{Decode, Vectors, Sim, Station, Deframe, Frame}
-use Rattle.x25_settings.specs.Simulation.{most_of, nothing, chosen_flag, with_flag, chosen_number, with_number, settled, settled_at}
+use Rattle.x25_settings.specs.declared.words.Task.TheVariants.{Decode, Vectors, Sim, Station, Judge, Deframe, Frame}
+use Rattle.x25_settings.specs.Simulation.{most_of, nothing, chosen_flag, with_flag, chosen_number, with_number, settled, settled_at, judging_in}
 
 abbrev pub flag_in : List ℕ → Option Flag
 flag_in word = if bytes_eq word (codes "--down") then Some Down
@@ -79,6 +80,14 @@ abbrev pub station_in : List (List ℕ) → Option Place
 station_in [] = None
 station_in (word ∷ words) = place_in words (end_in word)
 
+-- `--k` and `--long` alone are of `judge`
+abbrev pub judging_of : Chosen → Option Judging
+judging_of c = if c.down || c.tap then None else if is_some c.n2 || is_some c.channels then None else Some (judging_in c)
+
+-- the words behind `judge`
+abbrev pub judge_in : List (List ℕ) → Option Judging
+judge_in words = option_and_then judging_of (chosen_in nothing words)
+
 -- the words behind `decode`
 abbrev pub decode_in : List (List ℕ) → Option Task
 decode_in [] = Some (Decode false)
@@ -106,6 +115,7 @@ task_behind word words = if bytes_eq word (codes "decode") then decode_in words
     else if bytes_eq word (codes "vectors") then vectors_in words
     else if bytes_eq word (codes "sim") then option_map (λ s. Sim s) (simulation_in words)
     else if bytes_eq word (codes "station") then option_map (λ p. Station p) (station_in words)
+    else if bytes_eq word (codes "judge") then option_map (λ g. Judge g) (judge_in words)
     else if bytes_eq word (codes "deframe") then deframe_in words
     else if bytes_eq word (codes "frame") then frame_in words else None
 

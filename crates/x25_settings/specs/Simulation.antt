@@ -1,9 +1,10 @@
--- The words behind `sim` and `station`, those for an end, and what plain ones say (profile).
+-- The words behind `sim`, `station` and `judge`, those for an end, and what plain ones say (profile).
 use Rattle.std.specs.Prelude.{◌≡◌, ◌≤◌, ℕ, Bool, true, false, List, [], ◌∷◌, Option, Some, None, unwrap_or, codes, decimal}
 use Rattle.std.specs.List.{flat_map}
 use Rattle.x25_settings.specs.declared.options.Simulation.{Simulation}
 use Rattle.x25_settings.specs.declared.options.End.{End}
 use Rattle.x25_settings.specs.declared.options.End.TheVariants.{Dte, Dce}
+use Rattle.x25_settings.specs.declared.options.Judging.{Judging}
 use Rattle.x25_settings.specs.declared.options.Place.{Place}
 use Rattle.x25_settings.specs.declared.options.Chosen.{Chosen}
 use Rattle.x25_settings.specs.declared.options.Flag.{Flag}
@@ -83,6 +84,9 @@ settled c = record { down = c.down; long = c.long; tap = c.tap; k = unwrap_or c.
 abbrev pub settled_at : End → Chosen → Place
 settled_at end c = record { end = end; long = c.long; k = unwrap_or c.k 7; n2 = unwrap_or c.n2 10; channels = unwrap_or c.channels 1 }
 
+abbrev pub judging_in : Chosen → Judging
+judging_in c = record { long = c.long; k = unwrap_or c.k 7 }
+
 -- these words choose this
 abbrev pub Choose : List (List ℕ) → Chosen → Type 0
 Choose words end = (choices : List Choice) × (words ≡ flat_map words_of choices) × Leads nothing choices end
@@ -104,6 +108,19 @@ pub record SayPlace (words : List (List ℕ)) (p : Place) : Type 0 where
   pub no_down : end.down ≡ false
   pub no_tap : end.tap ≡ false
   pub same : p ≡ settled_at p.end end
+
+-- of the options `--k` and `--long` are there alone
+pub record SayJudging (words : List (List ℕ)) (g : Judging) : Type 0 where
+  pub end : Chosen
+  pub choose : Choose words end
+  pub no_down : end.down ≡ false
+  pub no_tap : end.tap ≡ false
+  pub no_tries : end.n2 ≡ None
+  pub no_channels : end.channels ≡ None
+  pub same : g ≡ judging_in end
+
+abbrev pub JudgingIsInRange : Judging → Type 0
+JudgingIsInRange g = (1 ≤ g.k) × (g.k ≤ 7)
 
 abbrev pub PlaceIsInRange : Place → Type 0
 PlaceIsInRange p = ((1 ≤ p.k) × (p.k ≤ 7)) × ((1 ≤ p.n2) × (p.n2 ≤ 255)) × ((1 ≤ p.channels) × (p.channels ≤ 16))

@@ -1,7 +1,7 @@
 -- The plain words of the command line, and what they say (profile).
 use Rattle.std.specs.Prelude.{◌≡◌, ℕ, Bool, true, false, List, [], ◌∷◌, codes}
 use Rattle.x25_settings.specs.declared.words.Task.{Task}
-use Rattle.x25_settings.specs.declared.words.Task.TheVariants.{Decode, Vectors, Sim, Station, Deframe, Frame}
+use Rattle.x25_settings.specs.declared.words.Task.TheVariants.{Decode, Vectors, Sim, Station, Judge, Deframe, Frame}
 use Rattle.x25_settings.specs.Simulation as simulation
 
 abbrev pub long_words : Bool → List (List ℕ)
@@ -14,6 +14,7 @@ Say words (Decode long) = words ≡ codes "decode" ∷ long_words long
 Say words Vectors = words ≡ codes "vectors" ∷ []
 Say words (Sim s) = (rest : List (List ℕ)) × (words ≡ codes "sim" ∷ rest) × simulation.SaySimulation rest s
 Say words (Station p) = (rest : List (List ℕ)) × (words ≡ codes "station" ∷ rest) × simulation.SayPlace rest p
+Say words (Judge g) = (rest : List (List ℕ)) × (words ≡ codes "judge" ∷ rest) × simulation.SayJudging rest g
 Say words (Deframe end) = words ≡ codes "deframe" ∷ simulation.end_word end ∷ []
 Say words Frame = words ≡ codes "frame" ∷ []
 
@@ -23,5 +24,6 @@ AreInRange (Decode long) = Unit {0}
 AreInRange Vectors = Unit {0}
 AreInRange (Sim s) = simulation.AreInRange s
 AreInRange (Station p) = simulation.PlaceIsInRange p
+AreInRange (Judge g) = simulation.JudgingIsInRange g
 AreInRange (Deframe end) = Unit {0}
 AreInRange Frame = Unit {0}

@@ -1,7 +1,7 @@
-//! The words behind `sim`, `station` and `deframe`.
+//! The words behind `sim`, `station`, `judge` and `deframe`.
 ghost use Rattle.std.specs.Prelude.{◌≡◌, ◌<◌, ◌↔◌, ◌∷◌, [], IfSome, MatchOption, IsTrue, decimal, map, length};
 ghost use Rattle.std.specs.Str.{bytes_eq};
-ghost use Rattle.x25_settings.specs.Choosing.{chosen_in, end_in, flag_in, number_in, numbered_in, placed, put_flag, put_number, simulation_in, station_in};
+ghost use Rattle.x25_settings.specs.Choosing.{chosen_in, end_in, flag_in, judge_in, judging_of, number_in, numbered_in, placed, put_flag, put_number, simulation_in, station_in};
 ghost use Rattle.x25_settings.specs.Simulation.{nothing, settled};
 
 use itoa::Buffer;
@@ -44,6 +44,15 @@ pub struct Place {
     pub n2: u8,
     /// The number of channels, 1 to 16.
     pub channels: u8,
+}
+
+/// What `judge` is run with.
+#[derive(Clone, Copy, Debug, PartialEq, Eq)]
+pub struct Judging {
+    /// A CALL has up to 128 octets of user data, in place of up to 16.
+    pub long: bool,
+    /// The window of the link, 1 to 7.
+    pub k: u8,
 }
 
 /// The options that are one word.
@@ -202,6 +211,25 @@ impl Chosen {
         })
     }
 
+    /// Of a judge, with the defaults for the rest, where nothing was chosen that it hasn't.
+    fn judging(self) -> Option<Judging>
+        ensures { result ≡ judging_of self }
+    {
+        if self.down || self.tap {
+            return None;
+        }
+        match (self.n2, self.channels) {
+            (None, None) => {
+                let rest = self.with_defaults();
+                Some(Judging {
+                    long: rest.long,
+                    k: rest.k,
+                })
+            }
+            _ => None,
+        }
+    }
+
     /// The defaults for the rest.
     fn with_defaults(self) -> Simulation
         ensures { result ≡ settled self }
@@ -259,6 +287,13 @@ pub(crate) fn read_simulation<S: AsStr>(words: &[S]) -> Option<Simulation>
 {
     let chosen = choose(words)?;
     Some(chosen.with_defaults())
+}
+
+/// What the words behind `judge` say, where they are plain.
+pub(crate) fn read_judging<S: AsStr>(words: &[S]) -> Option<Judging>
+    ensures { result ≡ judge_in (map S.text words.now) }
+{
+    choose(words)?.judging()
 }
 
 /// What the words behind `station` say, where they are plain.

@@ -14,6 +14,11 @@ const ENDS: &[&str] = &["dte", "dce"];
 const STATION_EXAMPLE: &str = "Examples:
   printf 'dte connect\\n< 01738357\\n' | x25 station dte";
 
+/// What is told behind the options of `judge`.
+const JUDGE_EXAMPLE: &str = "Examples:
+  x25 judge < examples/exchange.trace
+  x25 sim --tap < examples/losses.script | grep '^[<>]' | x25 judge";
+
 /// What is told behind the words of `deframe`.
 const DEFRAME_EXAMPLE: &str = "Examples:
   x25 deframe dte < line.bin | grep -v '^#' | x25 decode
@@ -97,6 +102,18 @@ fn station_command<'a>(alloc: Global) -> Result<Command<'a>, AllocError> {
     with_numbers(alloc, command)
 }
 
+fn judge_command<'a>(alloc: Global) -> Result<Command<'a>, AllocError> {
+    let window = number_option(alloc, "k", 7, "7", "The window of the link: 1 to 7");
+    Command::new(alloc, "judge")
+        .about(
+            "Answer lines of a trace of both ends as `decode` does, and say which end broke which rule",
+        )
+        .override_usage("x25 judge [OPTIONS] < TRACE")
+        .after_help(JUDGE_EXAMPLE)
+        .arg(window)?
+        .arg(long_option(alloc))
+}
+
 fn deframe_command<'a>(alloc: Global) -> Result<Command<'a>, AllocError> {
     let end = Arg::new(alloc, "END")
         .required(true)
@@ -132,6 +149,7 @@ pub(crate) fn command<'a>(alloc: Global) -> Result<Command<'a>, AllocError> {
         .subcommand(vectors)?
         .subcommand(sim_command(alloc)?)?
         .subcommand(station_command(alloc)?)?
+        .subcommand(judge_command(alloc)?)?
         .subcommand(deframe_command(alloc)?)?
         .subcommand(frame)
 }

@@ -6,7 +6,8 @@ ghost use Rattle.x25_settings.specs.declared.words.SettingsError.TheVariants.{No
 ghost use Rattle.x25_settings.specs.declared.words.Task.{Task as TaskValue};
 
 use crate::options::{
-    End, Place, Simulation, end_word, is, read_place, read_simulation, split_word,
+    End, Judging, Place, Simulation, end_word, is, read_judging, read_place, read_simulation,
+    split_word,
 };
 use crate::parser::command;
 use clap::error::ErrorKind;
@@ -23,6 +24,7 @@ pub enum Task {
     Vectors,
     Sim(Simulation),
     Station(Place),
+    Judge(Judging),
     /// Of a synchronous line, the end that sends on it.
     Deframe(End),
     Frame,
@@ -122,6 +124,8 @@ fn read_behind<S: AsStr>(word: &str, words: &[S]) -> Option<Task>
         Some(Task::Sim(read_simulation(words)?))
     } else if is(word, "station") {
         Some(Task::Station(read_place(words)?))
+    } else if is(word, "judge") {
+        Some(Task::Judge(read_judging(words)?))
     } else if is(word, "deframe") {
         read_deframe(words)
     } else if is(word, "frame") {
@@ -163,8 +167,8 @@ fn usage_fault<'a, S: AsStr>(alloc: Global, words: &'a [S]) -> SettingsError {
 /// Plain words are `decode`, which `--long` may follow, `vectors`, or `sim` and then each at most once and in any order
 /// `--tap`, `--down`, `--long`, `--k N`, `--n2 N` and `--channels N`, with N in decimal without leading zeros, from 1 to 7, 255
 /// and 16; what isn't said is 7, 10 and 1. Or they are `station`, then `dte` or `dce`, and then these options but `--tap` and
-/// `--down`. Or they are `deframe` and `dte` or `dce`, or `frame`. All others are a usage fault, help words too. Plain words
-/// take no memory. Profile.
+/// `--down`. Or they are `judge`, and then `--k N` and `--long` alone of these. Or they are `deframe` and `dte` or `dce`, or `frame`.
+/// All others are a usage fault, help words too. Plain words take no memory. Profile.
 pub fn settings<'a, S: AsStr>(alloc: Global, words: &'a [S]) -> Result<Task, SettingsError>
     ensures plain { (task : TaskValue) → Say (map S.text words.now) task → result ≡ Ok task }
     ensures only { IfOk result (Say (map S.text words.now)) }

@@ -1,5 +1,5 @@
 use std::test::Fail;
-use x25_settings::{End, Place, SettingsError, Simulation, Task, settings};
+use x25_settings::{End, Judging, Place, SettingsError, Simulation, Task, settings};
 
 const DEFAULTS: Simulation = Simulation {
     down: false,
@@ -20,7 +20,7 @@ const PLACE: Place = Place {
 
 #[test]
 fn takes_plain_words_alone(rt: HostRuntime) {
-    let plain: [(&[&str], Task); 16] = [
+    let plain: [(&[&str], Task); 18] = [
         (&["decode"], Task::Decode { long: false }),
         (&["decode", "--long"], Task::Decode { long: true }),
         (&["vectors"], Task::Vectors),
@@ -82,6 +82,11 @@ fn takes_plain_words_alone(rt: HostRuntime) {
         (&["deframe", "dte"], Task::Deframe(End::Dte)),
         (&["deframe", "dce"], Task::Deframe(End::Dce)),
         (&["frame"], Task::Frame),
+        (&["judge"], Task::Judge(Judging { long: false, k: 7 })),
+        (
+            &["judge", "--long", "--k", "1"],
+            Task::Judge(Judging { long: true, k: 1 }),
+        ),
         (&["station", "dte"], Task::Station(PLACE)),
         (
             &["station", "dce", "--long"],
@@ -121,7 +126,7 @@ fn takes_plain_words_alone(rt: HostRuntime) {
 
 #[test]
 fn takes_no_other_words(rt: HostRuntime) {
-    let others: [&[&str]; 42] = [
+    let others: [&[&str]; 48] = [
         &[],
         &["dec"],
         &["decode", "decode"],
@@ -158,6 +163,12 @@ fn takes_no_other_words(rt: HostRuntime) {
         &["station", "dte", "--tap"],
         &["station", "dte", "--down"],
         &["station", "--long", "dte"],
+        &["judge", "dte"],
+        &["judge", "--k", "8"],
+        &["judge", "--tap"],
+        &["judge", "--down"],
+        &["judge", "--n2", "1"],
+        &["judge", "--channels", "1"],
         &["deframe"],
         &["deframe", "DTE"],
         &["deframe", "dte", "dce"],
@@ -176,7 +187,7 @@ const SAYS: &str =
 
 /// What asks for help is told.
 const HELP: &str =
-    "X.25 packet layer over LAPB, on lines of text\n\nUsage: x25 <COMMAND>\n\nCommands:\n  decode   Answer lines of octets, `> HEX` from the DTE and `< HEX` from the DCE, by lines of text\n  vectors  Run the stored test vectors\n  sim      Run a script of two stations joined by a line, and write what each end is told\n  station  Run one station: lines of the other end and of its user in, what it does out\n  deframe  Answer octets of a synchronous line by the lines of a trace that it carries\n  frame    Answer lines of a trace by octets of a synchronous line that carries their frames\n  help     Print this message or the help of the given subcommand(s)\n\nOptions:\n  -h, --help     Print help\n  -V, --version  Print version\n";
+    "X.25 packet layer over LAPB, on lines of text\n\nUsage: x25 <COMMAND>\n\nCommands:\n  decode   Answer lines of octets, `> HEX` from the DTE and `< HEX` from the DCE, by lines of text\n  vectors  Run the stored test vectors\n  sim      Run a script of two stations joined by a line, and write what each end is told\n  station  Run one station: lines of the other end and of its user in, what it does out\n  judge    Answer lines of a trace of both ends as `decode` does, and say which end broke which rule\n  deframe  Answer octets of a synchronous line by the lines of a trace that it carries\n  frame    Answer lines of a trace by octets of a synchronous line that carries their frames\n  help     Print this message or the help of the given subcommand(s)\n\nOptions:\n  -h, --help     Print help\n  -V, --version  Print version\n";
 
 /// A number that is out of its range.
 const RANGE: &str =
@@ -194,15 +205,20 @@ const DECODE: &str =
 const SIM: &str =
     "Run a script of two stations joined by a line, and write what each end is told\n\nUsage: x25 sim [OPTIONS] < SCRIPT\n\nOptions:\n      --tap           Tell the frames of each step behind its entries, as lines for `decode`\n      --down          Begin with both links down, in place of just set up\n      --long          Take up to 128 octets of user data in a CALL, in place of 16\n      --k <N>         The window of the link: 1 to 7 [default: 7]\n      --n2 <N>        How often an unanswered command of the link is sent again: 1 to 255 [default: 10]\n      --channels <N>  The number of logical channels: 1 to 16 [default: 1]\n  -h, --help          Print help\n\nExamples:\n  x25 sim < examples/call.script\n  x25 sim --tap < examples/call.script | grep '^[<>]' | x25 decode\n";
 
+/// The help of `judge`.
+const JUDGE: &str =
+    "Answer lines of a trace of both ends as `decode` does, and say which end broke which rule\n\nUsage: x25 judge [OPTIONS] < TRACE\n\nOptions:\n      --k <N>  The window of the link: 1 to 7 [default: 7]\n      --long   Take up to 128 octets of user data in a CALL, in place of 16\n  -h, --help   Print help\n\nExamples:\n  x25 judge < examples/exchange.trace\n  x25 sim --tap < examples/losses.script | grep '^[<>]' | x25 judge\n";
+
 #[test]
 fn says_what_is_wrong(rt: HostRuntime) -> Result<(), Fail> {
-    let rows: [(&[&str], &str); 6] = [
+    let rows: [(&[&str], &str); 7] = [
         (&["trace"], SAYS),
         (&["--help"], HELP),
         (&["decode", "--help"], DECODE),
         (&["sim", "--k", "8"], RANGE),
         (&["sim", "--k=3"], PLAIN),
         (&["sim", "--help"], SIM),
+        (&["judge", "--help"], JUDGE),
     ];
     for (words, text) in rows {
         let Err(error) = settings(rt.alloc(), words) else {

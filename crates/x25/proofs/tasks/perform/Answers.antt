@@ -17,3 +17,6 @@ returns-in-Sim-clause-window g c = rw c.in-Sim.is c.simulate.ensures.window
 
 pub returns-in-Deframe-clause-text : goal.returns-in-Deframe-clause-text
 returns-in-Deframe-clause-text g c = rw c.in-Deframe.is (rw c.role_of.ensures at c.deframe.ensures.text)
+
+pub returns-in-Judge-clause-text : goal.returns-in-Judge-clause-text
+returns-in-Judge-clause-text g c = rw c.in-Judge.is c.judge_lines.ensures.text

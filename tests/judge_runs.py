@@ -1,0 +1,86 @@
+"""Random runs of two stations, judged: nothing may be told of them.
+
+    judge_runs.py [--program PROGRAM] [--from SEED] [RUNS]
+
+Each run is a script of losses.py with its own losses, damage, early firings of T1, window and N2, some of them from both links down
+and with set-ups anew in their midst; what `sim --tap` puts on the line goes through `judge`. `make judge-runs` plays 10,000.
+
+Exit status: 0; 1 where a rule was told, with the seed of that run; 2 for bad words, or where there is no program.
+"""
+
+import argparse
+import os
+import subprocess
+import sys
+
+ROOT = os.path.dirname(os.path.dirname(os.path.abspath(__file__)))
+sys.path[:0] = [os.path.dirname(os.path.abspath(__file__)), os.path.join(ROOT, "tools")]
+
+import losses  # noqa: E402
+from program import find_program  # noqa: E402
+
+LINES = 150
+MOST_LOSS, MOST_DAMAGE, MOST_T1 = 0.2, 0.1, 0.4
+
+
+def with_set_ups(dice, lines):
+    """Some of the lines, and between them asks that the link be set up, large messages, and firings until N2 is reached."""
+    for line in lines:
+        if dice.chance(0.04):
+            yield f"{dice.one_of(losses.ENDS)} {'disconnect' if dice.chance(0.02) else 'connect'}"
+        if dice.chance(0.02):
+            yield f"{dice.one_of(losses.ENDS)} send 1 0 {'aa' * 1024}"
+        if dice.chance(0.005):
+            yield from [f"t1 {dice.one_of(losses.ENDS)}"] * 12
+        yield line
+
+
+def run(seed):
+    """The words of `sim`, the words of `judge` and the script of a run."""
+    dice = losses.Dice(seed)
+    channels = dice.one_of((1, 1, 2, 4))
+    most = dice.one_of((0.1, 0.25, 0.5, 1))
+    script = losses.Script(dice, channels, MOST_LOSS * most * dice.fraction(), MOST_DAMAGE * most * dice.fraction(), MOST_T1 * most * dice.fraction())
+    lines = list(with_set_ups(dice, script.lines(LINES)) if dice.chance(0.5) else script.lines(LINES))
+    window = str(dice.one_of((7, 7, 7, 1, 2, 3, 4, 5, 6)))
+    words = ["--tap", "--k", window, "--n2", str(dice.one_of((1, 2, 3, 10))), "--channels", str(channels)]
+    if dice.chance(0.3):
+        lines = [f"{dice.one_of(losses.ENDS)} connect", f"{dice.one_of(losses.ENDS)} connect", *lines]
+        words.append("--down")
+    return words, ["--k", window], "".join(line + "\n" for line in lines).encode()
+
+
+def told(program, seed):
+    """The lines of a run that tell of a rule, and how many frames it has."""
+    words, judge_words, script = run(seed)
+    tap = subprocess.run([program, "sim", *words], input=script, stdout=subprocess.PIPE).stdout
+    frames = b"".join(line for line in tap.splitlines(True) if line[:2] in (b"> ", b"< "))
+    done = subprocess.run([program, "judge", *judge_words], input=frames, stdout=subprocess.PIPE)
+    lines = done.stdout.splitlines()
+    at_fault = [line for line in lines if b" ! " in line or line == b"? 60"]
+    if done.returncode != 0 and not at_fault:
+        at_fault = [f"judge ended with status {done.returncode}".encode()]
+    return at_fault, len(lines)
+
+
+def main():
+    parser = argparse.ArgumentParser(description=__doc__, formatter_class=argparse.RawDescriptionHelpFormatter)
+    parser.add_argument("runs", metavar="RUNS", type=int, nargs="?", default=10_000, help="how many runs (10,000)")
+    parser.add_argument("--from", dest="first", metavar="SEED", type=int, default=0, help="the seed of the first run (0)")
+    parser.add_argument("--program", default=find_program(), help="the program")
+    options = parser.parse_args()
+    if options.program is None:
+        parser.error("there is no program: make x25")
+    frames = faults = 0
+    for seed in range(options.first, options.first + options.runs):
+        at_fault, count = told(options.program, seed)
+        frames += count
+        for line in at_fault[:1]:
+            faults += 1
+            print(f"seed {seed}: {line.decode()}")
+    print(f"{options.runs} runs, {frames} frames, {faults} told of")
+    return 1 if faults else 0
+
+
+if __name__ == "__main__":
+    sys.exit(main())
