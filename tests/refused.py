@@ -4,7 +4,7 @@
     refused.py [--program PROGRAM] [--player PLAYER] [--every K] [NAME ..]
 
 The program `x25`, where its Nth allocation is refused, has to write a beginning of what the case wants, say `no memory` on standard error
-and end with status 3, where `decode` writes nothing; or, where it can do without, as where a list that was filled is made smaller, to do
+and end with status 3, where `decode` and `deframe` write nothing; or, where it can do without, as where a list that was filled is made smaller, to do
 all that the case wants. The player `x25_refusals` plays scripts at links, stations and worlds, and makes a call that was refused again: it
 has to print all that it prints where none is refused, beside which call it was, and end with status 0. Which calls met how many refusals is
 said, and which met none.
@@ -29,6 +29,8 @@ from program import find_player, find_program
 
 SOURCE = os.path.join(os.path.dirname(os.path.abspath(__file__)), "refuse_allocation.c")
 CASES = [
+    "deframe_other_spans",
+    "frame_trace",
     "packets_of_each_kind",
     "sim_clears_cross",
     "sim_down_connect",
@@ -77,8 +79,8 @@ def case_answer(refusing, case, number):
     done = refusing.run(case.words, case.input, REFUSE=str(number))
     if (done.stdout, done.returncode, done.stderr) == (case.output, case.status, b""):
         return DONE_WITHOUT
-    if case.words[0] == "decode" and done.stdout:
-        return f"decode, which takes its memory first, wrote {done.stdout[:200]!r}"
+    if case.words[0] in ("decode", "deframe") and done.stdout:
+        return f"{case.words[0]}, which takes its memory first, wrote {done.stdout[:200]!r}"
     if not case.output.startswith(done.stdout):
         return golden.first_difference(case.output, done.stdout)
     if (done.returncode, done.stderr) != (3, b"no memory\n"):
@@ -155,7 +157,7 @@ def main():
     parser.add_argument("--program", default=find_program(), help="the program x25 to run; else the one that was built last")
     parser.add_argument("--player", default=find_player(), help="the player x25_refusals to run; else the one that was built last")
     parser.add_argument("--every", type=int, default=1, metavar="K", help="refuse each Kth allocation; else each")
-    parser.add_argument("name", nargs="*", help="a golden case to run; else ten of them, and the player")
+    parser.add_argument("name", nargs="*", help="a golden case to run; else twelve of them, and the player")
     options = parser.parse_args()
     every = max(options.every, 1)
     unknown = sorted(set(options.name) - set(golden.names()))

@@ -183,7 +183,7 @@ fn takes_no_other_words(rt: HostRuntime) {
 }
 /// What a usage fault says, in the words of `clap`.
 const SAYS: &str =
-    "error: unrecognized subcommand 'trace'\n\nUsage: x25 <COMMAND>\n\nFor more information, try '--help'.\n";
+    "error: unrecognized subcommand 'quux'\n\nUsage: x25 <COMMAND>\n\nFor more information, try '--help'.\n";
 
 /// What asks for help is told.
 const HELP: &str =
@@ -212,7 +212,7 @@ const JUDGE: &str =
 #[test]
 fn says_what_is_wrong(rt: HostRuntime) -> Result<(), Fail> {
     let rows: [(&[&str], &str); 7] = [
-        (&["trace"], SAYS),
+        (&["quux"], SAYS),
         (&["--help"], HELP),
         (&["decode", "--help"], DECODE),
         (&["sim", "--k", "8"], RANGE),
