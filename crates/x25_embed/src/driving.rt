@@ -5,13 +5,13 @@ use x25_bits::Seq;
 use x25_station::{Cmd, Entry, Station, StationError, Step};
 
 /// The line that leads away from a station.
-pub trait Line {
+pub(crate) trait Line {
     /// Sends the octets of a frame, frame check sequence included.
     fn send(&mut self, frame: &[u8]) -> Result<(), AllocError>;
 }
 
 /// Timer T1 of a station.
-pub trait Timer {
+pub(crate) trait Timer {
     /// Begins, anew where it runs.
     fn start(&mut self);
 
@@ -20,14 +20,14 @@ pub trait Timer {
 }
 
 /// Who is told what comes.
-pub trait User {
+pub(crate) trait User {
     /// Takes a notice.
     fn notice(&mut self, entry: &Entry) -> Result<(), AllocError>;
 }
 
 /// What happens to a station.
 #[derive(Clone, Copy)]
-pub enum Event<'a> {
+pub(crate) enum Event<'a> {
     /// The octets of a frame came.
     Frame(&'a [u8]),
     /// Timer T1 fired.
@@ -38,7 +38,7 @@ pub enum Event<'a> {
 
 /// Why an event ends the program.
 #[derive(Debug, Drop, Error)]
-pub enum Trouble {
+pub(crate) enum Trouble {
     /// The station refused the event.
     #[error("refused: {0}")]
     Refused(StationError),
@@ -96,7 +96,7 @@ fn set_timer<T: Timer>(
 }
 
 /// Gives an event to a station. What it answers goes on: frames to the line, notices to the user, and timer T1 is set.
-pub fn drive<L: Line, T: Timer, U: User>(
+pub(crate) fn drive<L: Line, T: Timer, U: User>(
     station: &mut Station,
     event: Event<'_>,
     line: &mut L,

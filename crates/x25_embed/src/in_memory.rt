@@ -6,13 +6,13 @@ use x25_station::{Entry, Role};
 
 /// Frames that were sent and haven't come yet, the first in front.
 #[derive(Drop)]
-pub struct Frames {
+pub(crate) struct Frames {
     alloc: Global,
     frames: Vec<Vec<u8>>,
 }
 
 impl Frames {
-    pub fn new(alloc: Global) -> Frames {
+    pub(crate) fn new(alloc: Global) -> Frames {
         Frames {
             alloc,
             frames: Vec::new(alloc),
@@ -20,7 +20,7 @@ impl Frames {
     }
 
     /// The frame that comes next.
-    pub fn next(&mut self) -> Option<Vec<u8>> {
+    pub(crate) fn next(&mut self) -> Option<Vec<u8>> {
         if self.frames.is_empty() {
             return None;
         }
@@ -39,7 +39,7 @@ impl Line for Frames {
 
 /// A timer without a clock: who holds it sees whether it runs.
 #[derive(Drop)]
-pub struct Flag {
+pub(crate) struct Flag {
     pub runs: bool,
 }
 
@@ -55,14 +55,14 @@ impl Timer for Flag {
 
 /// What the user of an end was told, as lines of a transcript.
 #[derive(Drop)]
-pub struct Told {
+pub(crate) struct Told {
     alloc: Global,
     end: Role,
     pub text: Vec<u8>,
 }
 
 impl Told {
-    pub fn new(alloc: Global, end: Role) -> Told {
+    pub(crate) fn new(alloc: Global, end: Role) -> Told {
         Told {
             alloc,
             end,

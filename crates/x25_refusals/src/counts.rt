@@ -9,7 +9,7 @@ const KINDS: usize = 19;
 
 /// A kind of call: two ends are made, or an event happens.
 #[derive(Clone, Copy)]
-pub enum Kind {
+pub(crate) enum Kind {
     New,
     Establish,
     Call,
@@ -33,7 +33,7 @@ pub enum Kind {
 
 impl Kind {
     /// The kind of the call that an event is.
-    pub fn of(event: Event<'_>) -> Kind {
+    pub(crate) fn of(event: Event<'_>) -> Kind {
         match event {
             Event::Command(_, command) => Kind::of_command(command),
             Event::Deliver(_) => Kind::Deliver,
@@ -85,12 +85,12 @@ impl Count {
 
 /// The calls of each kind.
 #[derive(Drop)]
-pub struct Counts {
+pub(crate) struct Counts {
     of: [Count; KINDS],
 }
 
 impl Counts {
-    pub fn new() -> Counts {
+    pub(crate) fn new() -> Counts {
         Counts {
             of: [Count {
                 calls: 0,
@@ -99,20 +99,20 @@ impl Counts {
         }
     }
 
-    pub fn called(&mut self, kind: Kind) {
+    pub(crate) fn called(&mut self, kind: Kind) {
         if let Some(count) = self.of.get_mut(kind as usize) {
             count.calls = count.calls.saturating_add(1);
         }
     }
 
-    pub fn refused(&mut self, kind: Kind) {
+    pub(crate) fn refused(&mut self, kind: Kind) {
         if let Some(count) = self.of.get_mut(kind as usize) {
             count.refused = count.refused.saturating_add(1);
         }
     }
 
     /// A line for each kind of call that was made, under these names, and one behind it where it was refused.
-    pub fn tell(&self, names: &[(Kind, &str)], shown: &mut Lines) -> Result<(), AllocError> {
+    pub(crate) fn tell(&self, names: &[(Kind, &str)], shown: &mut Lines) -> Result<(), AllocError> {
         for (kind, name) in names {
             if let Some(count) = self.of.get(*kind as usize) {
                 count.tell(name, shown)?;

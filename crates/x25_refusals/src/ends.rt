@@ -8,7 +8,7 @@ use x25_world::{Direction, Event};
 
 /// Why the player ends.
 #[derive(Debug, Drop, Error)]
-pub enum Trouble {
+pub(crate) enum Trouble {
     /// A call that was refused memory changed something.
     #[error("a call that was refused memory changed something")]
     Changed,
@@ -31,7 +31,7 @@ impl From<AllocError> for Trouble {
 
 /// What becomes of an event.
 #[derive(Clone, Copy)]
-pub enum Outcome {
+pub(crate) enum Outcome {
     Accepted,
     /// Refused with this number.
     Refused(u8),
@@ -41,7 +41,7 @@ pub enum Outcome {
 
 impl Outcome {
     /// Of an error with this number.
-    pub fn of_number(number: u8) -> Outcome {
+    pub(crate) fn of_number(number: u8) -> Outcome {
         match number {
             70 => Outcome::NoMemory,
             _ => Outcome::Refused(number),
@@ -51,7 +51,7 @@ impl Outcome {
 
 /// What a queue of packets answers, or which stretch is open on channel 1.
 #[derive(Clone, Copy, Debug, PartialEq, Eq)]
-pub enum Holds {
+pub(crate) enum Holds {
     Packets {
         is_up: bool,
         waiting: usize,
@@ -63,7 +63,7 @@ pub enum Holds {
 
 /// What an end answers.
 #[derive(Clone, Copy, Debug, PartialEq, Eq)]
-pub struct Answers {
+pub(crate) struct Answers {
     pub is_idle: bool,
     pub is_waiting: bool,
     pub timer_runs: bool,
@@ -72,7 +72,7 @@ pub struct Answers {
 }
 
 /// What a station answers.
-pub fn answers_of(station: &Station) -> Answers {
+pub(crate) fn answers_of(station: &Station) -> Answers {
     Answers {
         is_idle: station.idle(),
         is_waiting: station.is_waiting(),
@@ -84,7 +84,7 @@ pub fn answers_of(station: &Station) -> Answers {
 
 /// What both ends answer, and how many frames are on the lines.
 #[derive(Clone, Copy, Debug, PartialEq, Eq)]
-pub struct Seen {
+pub(crate) struct Seen {
     pub dte: Answers,
     pub dce: Answers,
     pub to_dce: usize,
@@ -92,7 +92,7 @@ pub struct Seen {
 }
 
 /// Two ends and the lines between them.
-pub trait Ends {
+pub(crate) trait Ends {
     /// Lets the event happen once. Where it is accepted, what it tells and the frames that it sends are shown.
     fn happens(&mut self, event: Event<'static>, shown: &mut Lines) -> Result<Outcome, Trouble>;
 

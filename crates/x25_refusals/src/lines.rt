@@ -8,13 +8,13 @@ const ROOM: usize = 8_192;
 
 /// Lines that are shown.
 #[derive(Drop)]
-pub struct Lines {
+pub(crate) struct Lines {
     alloc: Global,
     characters: Vec<u8>,
 }
 
 /// The name of an end, and a blank.
-pub fn end_name(end: Role) -> &'static [u8] {
+pub(crate) fn end_name(end: Role) -> &'static [u8] {
     match end {
         Role::Dte => b"dte ",
         Role::Dce => b"dce ",
@@ -42,7 +42,7 @@ fn number_line(alloc: Global, label: &[u8], number: u64) -> Result<Line, AllocEr
 }
 
 impl Lines {
-    pub fn new(alloc: Global) -> Result<Lines, AllocError> {
+    pub(crate) fn new(alloc: Global) -> Result<Lines, AllocError> {
         let characters = match Vec::with_capacity(alloc, ROOM) {
             Ok(characters) => characters,
             Err(_) => Vec::with_capacity(alloc, ROOM)?,
@@ -50,16 +50,16 @@ impl Lines {
         Ok(Lines { alloc, characters })
     }
 
-    pub fn as_slice(&self) -> &[u8] {
+    pub(crate) fn as_slice(&self) -> &[u8] {
         self.characters.as_slice()
     }
 
-    pub fn clear(&mut self) {
+    pub(crate) fn clear(&mut self) {
         self.characters.clear();
     }
 
     /// Appends characters.
-    pub fn push(&mut self, characters: &[u8]) -> Result<(), AllocError> {
+    pub(crate) fn push(&mut self, characters: &[u8]) -> Result<(), AllocError> {
         match self.characters.extend_from_slice(characters) {
             Ok(()) => Ok(()),
             Err(_) => self.characters.extend_from_slice(characters),
@@ -67,7 +67,7 @@ impl Lines {
     }
 
     /// Appends the line of an entry, as a transcript has it.
-    pub fn push_entry(&mut self, end: Role, entry: &Entry) -> Result<(), AllocError> {
+    pub(crate) fn push_entry(&mut self, end: Role, entry: &Entry) -> Result<(), AllocError> {
         let line = match entry_line(self.alloc, end, entry) {
             Ok(line) => line,
             Err(_) => entry_line(self.alloc, end, entry)?,
@@ -76,7 +76,7 @@ impl Lines {
     }
 
     /// Appends the line of a frame, as a trace has it.
-    pub fn push_frame(&mut self, from: Role, octets: &[u8]) -> Result<(), AllocError> {
+    pub(crate) fn push_frame(&mut self, from: Role, octets: &[u8]) -> Result<(), AllocError> {
         let line = match frame_line(self.alloc, from, octets) {
             Ok(line) => line,
             Err(_) => frame_line(self.alloc, from, octets)?,
@@ -85,7 +85,7 @@ impl Lines {
     }
 
     /// Appends a label, a number and a line feed.
-    pub fn push_number(&mut self, label: &[u8], number: u64) -> Result<(), AllocError> {
+    pub(crate) fn push_number(&mut self, label: &[u8], number: u64) -> Result<(), AllocError> {
         let line = match number_line(self.alloc, label, number) {
             Ok(line) => line,
             Err(_) => number_line(self.alloc, label, number)?,

@@ -24,7 +24,7 @@ struct End {
 
 /// Two links, and the lines between them.
 #[derive(Drop)]
-pub struct Links {
+pub(crate) struct Links {
     dte: End,
     dce: End,
 }
@@ -224,7 +224,7 @@ impl End {
 
 impl Links {
     /// Two links that are down. One that is refused memory is made again.
-    pub fn new(alloc: Global, cfg: Cfg, counts: &mut Counts) -> Result<Links, Trouble> {
+    pub(crate) fn new(alloc: Global, cfg: Cfg, counts: &mut Counts) -> Result<Links, Trouble> {
         let dte = End::new(alloc, Role::Dte, cfg, counts)?;
         let dce = End::new(alloc, Role::Dce, cfg, counts)?;
         Ok(Links { dte, dce })

@@ -11,7 +11,7 @@ const MOST_DELIVERIES: u8 = 100;
 
 /// What the player keeps beside the ends: how often calls were made and refused, and what is shown.
 #[derive(Drop)]
-pub struct Book {
+pub(crate) struct Book {
     pub counts: Counts,
     pub shown: Lines,
 }
@@ -92,7 +92,7 @@ fn message(end: Role, user: &'static [u8]) -> Event<'static> {
 }
 
 /// Plays what a script says.
-pub fn plays<E: Ends>(ends: &mut E, script: &Script, book: &mut Book) -> Result<(), Trouble> {
+pub(crate) fn plays<E: Ends>(ends: &mut E, script: &Script, book: &mut Book) -> Result<(), Trouble> {
     for act in script.acts {
         match *act {
             Act::Do(event) => plays_event(ends, event, book)?,

@@ -9,7 +9,7 @@ use x25_world::{Event, Role};
 
 /// What is played.
 #[derive(Clone, Copy)]
-pub enum Act {
+pub(crate) enum Act {
     Do(Event<'static>),
     /// The user of this end sends this message on channel 1.
     Send(Role, &'static [u8]),
@@ -19,7 +19,7 @@ pub enum Act {
 
 /// What is played at two ends.
 #[derive(Clone, Copy)]
-pub struct Script {
+pub(crate) struct Script {
     pub name: &'static str,
     pub cfg: Cfg,
     pub acts: &'static [Act],
@@ -137,7 +137,7 @@ const COMES: Act = Do(Deliver(ToDce));
 const COMES_BACK: Act = Do(Deliver(ToDte));
 
 /// Played at two stations, and at a world.
-pub static SCRIPTS: [Script; 9] = [
+pub(crate) static SCRIPTS: [Script; 9] = [
     Script {
         name: "a call, and two messages",
         cfg: USUAL,
@@ -256,7 +256,7 @@ pub static SCRIPTS: [Script; 9] = [
 ];
 
 /// Played at a world alone, whose line damages too, from link set-up on.
-pub static OF_WORLDS_UP: [Script; 1] = [Script {
+pub(crate) static OF_WORLDS_UP: [Script; 1] = [Script {
     name: "a frame is damaged, and comes again",
     cfg: USUAL,
     acts: &[
@@ -270,7 +270,7 @@ pub static OF_WORLDS_UP: [Script; 1] = [Script {
 }];
 
 /// Played at two links.
-pub static OF_LINKS: [Script; 4] = [
+pub(crate) static OF_LINKS: [Script; 4] = [
     Script {
         name: "the first I frame is lost, and comes again behind polls",
         cfg: USUAL,

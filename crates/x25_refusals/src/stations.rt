@@ -17,7 +17,7 @@ struct End {
 
 /// Two stations, and the lines between them.
 #[derive(Drop)]
-pub struct Stations {
+pub(crate) struct Stations {
     dte: End,
     dce: End,
 }
@@ -124,7 +124,7 @@ impl End {
 }
 
 /// The end at which an event happens.
-pub fn end_of(event: Event<'_>) -> Role {
+pub(crate) fn end_of(event: Event<'_>) -> Role {
     match event {
         Event::Command(end, _) | Event::T1(end) => end,
         Event::Deliver(direction) | Event::Lose(direction, _) | Event::Damage(direction, _, _) => {
@@ -135,7 +135,7 @@ pub fn end_of(event: Event<'_>) -> Role {
 
 impl Stations {
     /// Two stations whose links are down. One that is refused memory is made again.
-    pub fn new(alloc: Global, cfg: Cfg, counts: &mut Counts) -> Result<Stations, Trouble> {
+    pub(crate) fn new(alloc: Global, cfg: Cfg, counts: &mut Counts) -> Result<Stations, Trouble> {
         let dte = End::new(alloc, Role::Dte, cfg, counts)?;
         let dce = End::new(alloc, Role::Dce, cfg, counts)?;
         Ok(Stations { dte, dce })

@@ -7,12 +7,12 @@ const ROOM: usize = 64;
 
 /// Frames that were sent and haven't come yet, the first in front.
 #[derive(Drop)]
-pub struct Wire {
+pub(crate) struct Wire {
     frames: Vec<Vec<u8>>,
 }
 
 impl Wire {
-    pub fn new(alloc: Global) -> Result<Wire, AllocError> {
+    pub(crate) fn new(alloc: Global) -> Result<Wire, AllocError> {
         let frames = match Vec::with_capacity(alloc, ROOM) {
             Ok(frames) => frames,
             Err(_) => Vec::with_capacity(alloc, ROOM)?,
@@ -20,12 +20,12 @@ impl Wire {
         Ok(Wire { frames })
     }
 
-    pub fn len(&self) -> usize {
+    pub(crate) fn len(&self) -> usize {
         self.frames.len()
     }
 
     /// The frame that comes next.
-    pub fn front(&self) -> Option<&[u8]> {
+    pub(crate) fn front(&self) -> Option<&[u8]> {
         match self.frames.first() {
             Some(frame) => Some(frame.as_slice()),
             None => None,
@@ -33,7 +33,7 @@ impl Wire {
     }
 
     /// Puts frames on the line.
-    pub fn put(&mut self, frames: Vec<Vec<u8>>) -> Result<(), AllocError> {
+    pub(crate) fn put(&mut self, frames: Vec<Vec<u8>>) -> Result<(), AllocError> {
         for frame in frames {
             self.frames.push(frame)?;
         }
@@ -41,7 +41,7 @@ impl Wire {
     }
 
     /// Takes the frame at this place off the line, and answers whether there was one.
-    pub fn take_off(&mut self, place: usize) -> bool {
+    pub(crate) fn take_off(&mut self, place: usize) -> bool {
         if place >= self.frames.len() {
             return false;
         }
@@ -50,7 +50,7 @@ impl Wire {
     }
 
     /// The frame at this place is lost.
-    pub fn loses(&mut self, place: usize) -> Outcome {
+    pub(crate) fn loses(&mut self, place: usize) -> Outcome {
         if self.take_off(place) {
             Outcome::Accepted
         } else {

@@ -8,7 +8,7 @@ use x25_world::{Direction, Entered, Event, Tapped, World, WorldError};
 
 /// A world, and the lines of its transcript and of its tap as they were shown.
 #[derive(Drop)]
-pub struct Worlds {
+pub(crate) struct Worlds {
     alloc: Global,
     world: World,
     told: usize,
@@ -63,7 +63,7 @@ fn number_of(error: WorldError) -> u8 {
 
 impl Worlds {
     /// A world whose links are down. One that is refused memory is made again.
-    pub fn start(alloc: Global, cfg: Cfg, counts: &mut Counts) -> Result<Worlds, Trouble> {
+    pub(crate) fn start(alloc: Global, cfg: Cfg, counts: &mut Counts) -> Result<Worlds, Trouble> {
         match started(alloc, cfg, counts) {
             Ok(world) => Ok(Worlds::of(alloc, world)?),
             Err(_) => Err(Trouble::NoMemory),
@@ -71,7 +71,7 @@ impl Worlds {
     }
 
     /// A world whose link is up. One that is refused memory is made again.
-    pub fn establish(alloc: Global, cfg: Cfg, counts: &mut Counts) -> Result<Worlds, Trouble> {
+    pub(crate) fn establish(alloc: Global, cfg: Cfg, counts: &mut Counts) -> Result<Worlds, Trouble> {
         match established(alloc, cfg, counts) {
             Ok(world) => Ok(Worlds::of(alloc, world)?),
             Err(_) => Err(Trouble::NoMemory),
@@ -92,7 +92,7 @@ impl Worlds {
     }
 
     /// Shows what was told and sent since it was last called.
-    pub fn tells(&mut self, shown: &mut Lines) -> Result<(), AllocError> {
+    pub(crate) fn tells(&mut self, shown: &mut Lines) -> Result<(), AllocError> {
         for entered in self.world.transcript().iter().skip(self.told) {
             shown.push_entry(entered.at, &entered.entry)?;
             self.transcript.push_entry(entered.at, &entered.entry)?;
