@@ -6,6 +6,7 @@ mod deframer;
 mod found;
 mod frame_check;
 mod harmless_bits;
+mod idling;
 mod kept;
 mod laws;
 mod lending;
