@@ -1,5 +1,6 @@
 #!/usr/bin/env python3
-"""Times octets of a synchronous line (`bench/line.rt.txt`): through `put_octets`, `feed_octets` and `feed_next_octets`.
+"""Times octets of a synchronous line (`bench/line.rt.txt`): through `put_octets`, `feed_octets` and `feed_next_octets`,
+and as `Bits` through `feed`.
 
     line.py [REPOSITORY]
 
@@ -62,11 +63,11 @@ def speed(call, kind, number):
 
 
 build()
-for kind, numbers in (("random", (4, 130, 1030)), ("text", (4, 130, 1030)), ("flags", range(8))):
+for kind, numbers in (("random", (4, 130, 1030)), ("text", (4, 130, 1030)), ("flags", range(8)), ("ones", (0,))):
     for number in numbers:
-        what = f"flags {number} bits on" if kind == "flags" else f"frames of {number} {kind} octets"
+        what = {"flags": f"flags {number} bits on", "ones": "1 bits"}.get(kind, f"frames of {number} {kind} octets")
         shown = []
-        for call in ("feed", "next") if kind == "flags" else ("put", "feed", "next"):
+        for call in ("feed", "next") if kind in ("flags", "ones") else ("put", "feed", "next", "bits"):
             megaoctets, found = speed(call, kind, number)
             shown.append(f"{call} {megaoctets:.1f} MB/s" + (f" ({found} spans)" if call != "put" else ""))
         print(f"{what}: " + ", ".join(shown), flush=True)
