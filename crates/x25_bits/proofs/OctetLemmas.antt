@@ -43,7 +43,7 @@ take_low zero k n h = refl
 take_low (suc j) zero n h = absurd (omega arith)
 take_low (suc j) (suc k) n h = ap (λ (bits : List Bool). (n % 2 == 1) ∷ bits) (take_low j k (n / 2) (omega arith))
 
-take_first : (j o : ℕ) (rest : List Bool) → j ≤ 8 → take j (low_bits 8 o ++ rest) ≡ low_bits j o
+pub take_first : (j o : ℕ) (rest : List Bool) → j ≤ 8 → take j (low_bits 8 o ++ rest) ≡ low_bits j o
 take_first j o rest h =
     let size = length-low_bits 8 o in
     take-append-le j (low_bits 8 o) rest (omega arith) ∙ take_low j 8 o h
@@ -257,7 +257,7 @@ take_grown count octets grown more h e =
     let size = length-bits_of octets in
     ap (λ o. take count (bits_of o)) e ∙ ap (take count) (bits_of-append octets more) ∙ take-append-le count (bits_of octets) (bits_of more) (omega arith)
 
-octet_at : (i : ℕ) (octets : List ℕ) → i < length octets → take 8 (drop (8 * i) (bits_of octets)) ≡ low_bits 8 (get_or octets i 0)
+pub octet_at : (i : ℕ) (octets : List ℕ) → i < length octets → take 8 (drop (8 * i) (bits_of octets)) ≡ low_bits 8 (get_or octets i 0)
 octet_at i [] h = absurd (omega arith)
 octet_at zero (o ∷ octets) h = take_first 8 o (bits_of octets) (omega arith)
 octet_at (suc i) (o ∷ octets) h =

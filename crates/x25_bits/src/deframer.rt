@@ -141,8 +141,15 @@ impl Deframer {
         ensures alloc { self.new.alloc ≡ self.old.alloc }
         ensures last { self.new.last ≡ self.old.last }
     {
-        for octet in octets {
-            self.take_octet(*octet, aside, out)?;
+        let mut place = 0;
+        while place < octets.len() {
+            let next = self.idle_until(octets, place, octets.len());
+            if next > place {
+                place = next;
+                continue;
+            }
+            self.take_octet(octets[place], aside, out)?;
+            place += 1;
         }
         Ok(())
     }

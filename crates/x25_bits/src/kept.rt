@@ -140,6 +140,18 @@ impl Kept {
         read_bit(self.octets.as_slice(), place)
     }
 
+    /// Whether these bits, fewer than eight, are the lowest of an octet.
+    pub fn is_low_of(&self, octet: u8) -> bool
+        requires { length self.now.bits < 8 }
+        ensures { result ≡ true → self.now.bits ≡ low_bits (length self.now.bits) octet }
+    {
+        if self.count == 0 {
+            return true;
+        }
+        let weight = 1u8 << self.count;
+        self.octets[0] % weight == octet % weight
+    }
+
     /// Drops all bits but the first `count`.
     pub fn truncate(&mut self, count: usize)
         requires { count ≤ length self.old.bits }

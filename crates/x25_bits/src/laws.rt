@@ -1,8 +1,9 @@
 //! Laws of flags, spans and stuffing, and of the frame check sequence. Each is the contract of a function that does nothing.
-ghost use Rattle.std.specs.Prelude.{ℕ, ◌≡◌, ◌<◌, ◌≤◌, ◌↔◌, ◌++◌, ◌∷◌, [], All, Bool, true, false, List, length};
+ghost use Rattle.std.specs.Prelude.{ℕ, ◌≡◌, ◌<◌, ◌≤◌, ◌↔◌, ◌++◌, ◌∷◌, [], All, Bool, true, false, List, length, drop};
 ghost use Rattle.std.specs.List.{flat_map};
 ghost use Rattle.x25_bits.specs.Begins.{Begins};
-ghost use Rattle.x25_bits.specs.Cuts.{found_by_cuts};
+ghost use Rattle.x25_bits.specs.Calls.{Call, ReadToEnd, after_calls};
+ghost use Rattle.x25_bits.specs.Cuts.{found_by_cuts, found_more};
 ghost use Rattle.x25_bits.specs.Fcs.{bits_of};
 ghost use Rattle.x25_bits.specs.Harmless.{between_flags, IsHarmless, IsFrame, sealed_contents, first_content};
 ghost use Rattle.x25_bits.specs.Sealed.{IsSealed, is_sealed};
@@ -15,6 +16,13 @@ pub fn cuts_agree()
     ensures begins { (before more : List Bool) → Begins (found_of before) (found_of (before ++ more)) }
     ensures cuts { (cuts : List (List Bool)) → found_by_cuts [] cuts ≡ found_of (flat_map (λ cut. cut) cuts) }
     ensures later { (before : List Bool) (cuts : List (List Bool)) → found_of before ++ found_by_cuts before cuts ≡ found_of (before ++ flat_map (λ cut. cut) cuts) }
+{}
+
+/// Calls of `feed_next`, or of `feed_next_octets`, each from where the one before it stopped and until the bits end, find
+/// together, in order, what `feed` finds in these bits, and the deframer then holds what it does behind `feed`.
+pub fn calls_find_all()
+    ensures found { (before bits : List Bool) (at : ℕ) (calls : List Call) → ReadToEnd before bits at calls → flat_map (λ call. call.found) calls ≡ found_more before (drop at bits) }
+    ensures read { (before bits : List Bool) (at : ℕ) (calls : List Call) → ReadToEnd before bits at calls → after_calls before bits at calls ≡ before ++ drop at bits }
 {}
 
 /// A flag parts the bits: what is found before it and behind it is found in all.

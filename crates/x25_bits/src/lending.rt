@@ -99,6 +99,11 @@ impl Deframer {
                 place += 8;
                 continue;
             }
+            let next = self.idle_bits_until(octets, place, end);
+            if next > place {
+                place = next;
+                continue;
+            }
             let closed = self.step(read_bit(octets, place));
             place += 1;
             if closed.is_some() {

@@ -6,6 +6,7 @@ mod deframer;
 mod found;
 mod frame_check;
 mod harmless_bits;
+mod idling;
 mod kept;
 mod laws;
 mod lending;
@@ -24,7 +25,7 @@ pub use found::{Found, Span};
 pub use frame_check::{check, fcs, seal};
 pub use harmless_bits::{first_content, harmless};
 pub use laws::{
-    content_stuffs_again, cuts_agree, flag_parts, harmless_bits_lose_a_frame, put_is_found,
+    calls_find_all, content_stuffs_again, cuts_agree, flag_parts, harmless_bits_lose_a_frame, put_is_found,
     sealed_is_tested, stuffing_is_undone,
 };
 pub use line_octets::put_octets;

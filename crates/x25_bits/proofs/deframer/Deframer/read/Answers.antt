@@ -1,6 +1,7 @@
 use Rattle.std.proofs.Common.{◌+◌, ◌≡◌, ◌<◌, ◌≤◌, ◌∙◌, ◌++◌, sym, subst, arith}
 use Rattle.x25_bits.specs.Fcs.{bits_of}
 use Rattle.x25_bits.specs.Fits.{Fits}
+use Rattle.x25_bits.specs.FitsSeen.{FitsSeen}
 use Rattle.x25_bits.specs.Reading.{part}
 use Rattle.x25_bits.proofs.LendingLemmas.{reads_none, reads_more, reads_part, bit_fits, bit_lends, all_fit, all_lend, none_first}
 use Rattle.x25_bits.proofs.OctetLemmas.{length-bits_of}
@@ -23,6 +24,19 @@ loop-place-preserved-in-Some c =
           (passed_fits c.loop-place.self c.keep_passed_within.new.self c.in-Some.passed bits c.in-Some.ensures.opened c.in-Some.ensures.going c.in-Some.ensures.room c.in-Some.ensures.size
           c.in-Some.ensures.passes c.keep_passed_within.ensures.run c.keep_passed_within.ensures.opened c.keep_passed_within.ensures.aborted c.keep_passed_within.ensures.inserted c.keep_passed_within.ensures.kept)
           (passed_found c.loop-place.self c.in-Some.passed bits c.in-Some.ensures.passes);
+    }
+
+pub loop-place-preserved-then-next-place : goal.loop-place-preserved-then-next-place
+loop-place-preserved-then-next-place c =
+    let low : c.args.at ≤ c.loop-place.place = c.loop-place.invariant.low in
+    let next : c.loop-place.place ≤ c.idle_bits_until-next.result = c.idle_bits_until-next.ensures.low in
+    record {
+      low = omega arith;
+      high = c.idle_bits_until-next.ensures.high;
+      buffer = c.loop-place.invariant.buffer;
+      reads = reads_part c.args.self.now c.loop-place.self c.loop-place.self c.args.at c.loop-place.place c.idle_bits_until-next.result (bits_of c.args.octets.now) c.loop-place.invariant.reads low next
+          (λ v f. subst (FitsSeen c.loop-place.self) (sym (c.idle_bits_until-next.ensures.seen v f)) f)
+          c.idle_bits_until-next.ensures.found;
     }
 
 pub loop-place-preserved : goal.loop-place-preserved

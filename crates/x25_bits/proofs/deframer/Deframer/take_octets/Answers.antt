@@ -1,27 +1,50 @@
-use Rattle.std.proofs.Common.{◌∙◌, refl, ap}
-use Rattle.std.proofs.lemmas.List.{drop_all, at_drop_more}
+use Rattle.std.proofs.Common.{◌∙◌, ◌++◌, ◌*◌, refl, ap, sym, subst}
+use Rattle.std.proofs.lemmas.List.{append-nil, drop_all, at_drop_more}
 use Rattle.x25_bits.specs.Fcs.{bits_of}
+use Rattle.x25_bits.specs.FitsSeen.{FitsSeen}
+use Rattle.x25_bits.specs.Plain.{plains}
+use Rattle.x25_bits.specs.Reading.{part}
 use Rattle.x25_bits.proofs.BeginsLemmas.{begins_none, begins_more}
+use Rattle.x25_bits.proofs.IdleLemmas.{octets_left}
 use Rattle.x25_bits.proofs.LeadsLemmas.{leads_bits, led_fits, led_found}
 use Rattle.x25_bits.proofs.deframer.Deframer.take_octets.Goals as goal
 
-pub loop-octet-init : goal.loop-octet-init
-loop-octet-init c = record { leads = λ v h. (v, h, refl, refl); undo = begins_none _; begins = begins_none _; roomy = refl; alloc = refl; last = refl }
+pub loop-place-init : goal.loop-place-init
+loop-place-init c = record { leads = λ v h. (v, h, refl, refl); undo = begins_none _; begins = begins_none _; roomy = refl; alloc = refl; last = refl }
 
-pub loop-octet-preserved : goal.loop-octet-preserved
-loop-octet-preserved c = record {
-  leads = λ v h. leads_bits _ _ _ _ _ _ _ _ _ _ (c.loop-octet.invariant.leads v h) (at_drop_more bits_of c.args.octets.now c.loop-octet.octet-index 0 c.loop-octet-test.true) c.in_ok-take_octet.ensures.fits c.in_ok-take_octet.ensures.found;
-  undo = begins_more _ _ _ c.loop-octet.invariant.undo c.in_ok-take_octet.ensures.undo;
-  begins = begins_more _ _ _ c.loop-octet.invariant.begins c.in_ok-take_octet.ensures.begins;
-  alloc = c.in_ok-take_octet.ensures.alloc ∙ c.loop-octet.invariant.alloc;
-  roomy = c.in_ok-take_octet.ensures.roomy ∙ c.loop-octet.invariant.roomy;
-  last = c.in_ok-take_octet.ensures.last ∙ c.loop-octet.invariant.last;
-}
+pub loop-place-preserved-then-next-place : goal.loop-place-preserved-then-next-place
+loop-place-preserved-then-next-place c =
+    let before = c.loop-place.invariant in
+    let idle = c.idle_until-next.ensures in
+    record {
+      leads = λ v h. leads_bits _ _ _ _ _ (part (8 * c.loop-place.place) (8 * c.idle_until-next.result) (bits_of c.args.octets.now)) _ _ _ _
+          (before.leads v h) (octets_left c.loop-place.place c.idle_until-next.result c.args.octets.now idle.low)
+          (λ w f. subst (FitsSeen c.loop-place.self) (sym (idle.seen w f)) f)
+          (λ w f. sym (append-nil _) ∙ ap (λ l. plains c.loop-place.out.items ++ l) (sym (idle.found w f)));
+      undo = before.undo;
+      begins = before.begins;
+      alloc = before.alloc;
+      roomy = before.roomy;
+      last = before.last;
+    }
+
+pub loop-place-preserved : goal.loop-place-preserved
+loop-place-preserved c =
+    let before = c.loop-place.invariant in
+    let taken = c.in_ok-take_octet.ensures in
+    record {
+      leads = λ v h. leads_bits _ _ _ _ _ _ _ _ _ _ (before.leads v h) (at_drop_more bits_of c.args.octets.now c.loop-place.place 0 c.loop-place-test.true) taken.fits taken.found;
+      undo = begins_more _ _ _ before.undo taken.undo;
+      begins = begins_more _ _ _ before.begins taken.begins;
+      alloc = taken.alloc ∙ before.alloc;
+      roomy = taken.roomy ∙ before.roomy;
+      last = taken.last ∙ before.last;
+    }
 
 pub returns-clause-fits : goal.returns-clause-fits
 returns-clause-fits c = λ v h.
-    led_fits _ _ _ _ _ _ (c.loop-octet.invariant.leads v h) (ap bits_of (drop_all _ _ c.loop-octet-test.false))
+    led_fits _ _ _ _ _ _ (c.loop-place.invariant.leads v h) (ap bits_of (drop_all _ _ c.loop-place-test.false))
 
 pub returns-clause-found : goal.returns-clause-found
 returns-clause-found c = λ v h.
-    led_found _ _ _ _ _ _ (c.loop-octet.invariant.leads v h) (ap bits_of (drop_all _ _ c.loop-octet-test.false))
+    led_found _ _ _ _ _ _ (c.loop-place.invariant.leads v h) (ap bits_of (drop_all _ _ c.loop-place-test.false))
