@@ -1,4 +1,4 @@
-ghost use Rattle.std.specs.Prelude.{◌≡◌, ℕ, ◌<◌, ◌≤◌, false, length, min, max, IfOk, IfErr, OnOk, OnErr};
+ghost use Rattle.std.specs.Prelude.{◌≡◌, ℕ, ◌+◌, ◌<◌, ◌≤◌, false, length, min, max, IfOk, IfErr, OnOk, OnErr};
 ghost use Rattle.x25_circuit.specs.declared.state.State.{State};
 ghost use Rattle.x25_circuit.specs.Messages.{no_part, joining};
 ghost use Rattle.x25_circuit.specs.Params.{default_params};
@@ -152,6 +152,15 @@ impl Circuit {
         ensures short { result ≤ 65535 }
     {
         self.transfer.partial.len()
+    }
+
+    /// How many octets of memory are kept for the message of which some packets came: for these octets, and for those for which memory
+    /// is set aside. They are 69,631 at most, those of the longest message and of one packet more.
+    pub fn octets_kept(&self) -> usize
+        ensures least { (c : Settings) (x : Channel) → FitsCircuit c self.now x → length (joining no_part x.talk.taken).user + room_of self.now ≤ result }
+        ensures most { result ≤ 69631 }
+    {
+        self.transfer.partial.octets_kept()
     }
 
     /// Sets memory aside for one `packet` with at most `count` octets of user data, or one `undecoded`, but for no more than

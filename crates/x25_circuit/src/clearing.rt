@@ -132,6 +132,7 @@ impl Circuit {
         ensures next { (c : Settings) (x : Channel) → FitsCircuit c self.old x → FitsCircuit c self.new (resets_to x None (reset_done ∷ [])).next }
         ensures says { Says result None (reset_done ∷ []) }
         ensures range { IsSendable (plain_owed result.packet) }
+        ensures room { room_of self.old ≤ room_of self.new }
     {
         self.be_reset();
         Reply::tells(Notice::ResetDone)
@@ -142,6 +143,7 @@ impl Circuit {
         ensures next { (c : Settings) (x : Channel) → FitsCircuit c self.old x → FitsCircuit c self.new (row_clear x self.old.state cause diagnostic).next }
         ensures says { (c : Settings) (x : Channel) → FitsCircuit c self.old x → Says result (row_clear x self.old.state cause diagnostic).owed (row_clear x self.old.state cause diagnostic).notices }
         ensures range { IsSendable (plain_owed result.packet) }
+        ensures room { room_of self.old ≤ room_of self.new }
     {
         let state = self.state;
         self.be_cleared();
@@ -160,6 +162,7 @@ impl Circuit {
         ensures next { (c : Settings) (x : Channel) → FitsCircuit c self.old x → FitsCircuit c self.new (row_clear_conf c x self.old.state).next }
         ensures says { (c : Settings) (x : Channel) → FitsCircuit c self.old x → Says result (row_clear_conf c x self.old.state).owed (row_clear_conf c x self.old.state).notices }
         ensures range { IsSendable (plain_owed result.packet) }
+        ensures room { room_of self.old ≤ room_of self.new }
     {
         match self.state {
             State::Clearing => {
@@ -175,6 +178,7 @@ impl Circuit {
         ensures next { (c : Settings) (x : Channel) → FitsCircuit c self.old x → FitsCircuit c self.new (row_reset c x self.old.state cause diagnostic).next }
         ensures says { (c : Settings) (x : Channel) → FitsCircuit c self.old x → Says result (row_reset c x self.old.state cause diagnostic).owed (row_reset c x self.old.state cause diagnostic).notices }
         ensures range { IsSendable (plain_owed result.packet) }
+        ensures room { room_of self.old ≤ room_of self.new }
     {
         match self.state {
             State::Open => {
@@ -195,6 +199,7 @@ impl Circuit {
         ensures next { (c : Settings) (x : Channel) → FitsCircuit c self.old x → FitsCircuit c self.new (row_reset_conf c x self.old.state).next }
         ensures says { (c : Settings) (x : Channel) → FitsCircuit c self.old x → Says result (row_reset_conf c x self.old.state).owed (row_reset_conf c x self.old.state).notices }
         ensures range { IsSendable (plain_owed result.packet) }
+        ensures room { room_of self.old ≤ room_of self.new }
     {
         match self.state {
             State::Open => self.reset_for(27),
@@ -209,6 +214,7 @@ impl Circuit {
         ensures next { (c : Settings) (x : Channel) → FitsCircuit c self.old x → FitsCircuit c self.new (row_undecoded c x self.old.state error).next }
         ensures says { (c : Settings) (x : Channel) → FitsCircuit c self.old x → Says result (row_undecoded c x self.old.state error).owed (row_undecoded c x self.old.state error).notices }
         ensures range { IsSendable (plain_owed result.packet) }
+        ensures room { room_of self.old ≤ room_of self.new }
     {
         match self.state {
             State::Open => self.reset_for(error.diagnostic()),
@@ -224,6 +230,7 @@ impl Circuit {
         ensures next { (c : Settings) (x : Channel) → FitsCircuit c self.old x → FitsCircuit c self.new (undecoded c x error).next }
         ensures says { (c : Settings) (x : Channel) → FitsCircuit c self.old x → Says result (undecoded c x error).owed (undecoded c x error).notices }
         ensures range { IsSendable (plain_owed result.packet) }
+        ensures room { room_of self.old ≤ room_of self.new }
     {
         self.hear_undecoded(error)
     }

@@ -1,5 +1,5 @@
 //! Packets that come. ITU-T X.25 (10/96), sections 4.3.7 and 4.4.1, and Annex C.
-ghost use Rattle.std.specs.Prelude.{min, ◌≡◌, ℕ, ◌+◌, ◌-◌, ◌^◌, ◌<◌, ◌≤◌, length, [], ◌∷◌, Some, None, true, false, option_to_list, OnOk, OnErr, IfOk, IfErr, IsOk};
+ghost use Rattle.std.specs.Prelude.{min, ◌≡◌, ℕ, ◌+◌, ◌-◌, ◌^◌, ◌<◌, ◌≤◌, length, [], ◌∷◌, Some, None, true, false, option_to_list, OnOk, OnErr, IfOk, IfErr, IfNone, IsOk};
 ghost use Rattle.x25_packet.specs.PlainPacket.{plain, user_data};
 ghost use Rattle.x25_packet.specs.Spelling.{HasChannel, IsInRange};
 ghost use Rattle.x25_circuit.specs.Circuit.{Settings};
@@ -47,6 +47,7 @@ impl Circuit {
         ensures says { (c : Settings) (x : Channel) → FitsCircuit c self.old x →
             Says result (unless c x (number_ground x.talk pr.number) (hears_status x x.talk is_ready pr.number)).owed (unless c x (number_ground x.talk pr.number) (hears_status x x.talk is_ready pr.number)).notices }
         ensures range { IsSendable (plain_owed result.packet) }
+        ensures room { room_of self.old ≤ room_of self.new }
     {
         if !self.transfer.ack(pr) {
             return self.reset_for(2);
@@ -61,6 +62,7 @@ impl Circuit {
         ensures says { (c : Settings) (x : Channel) → FitsCircuit c self.old x →
             Says result (confirms c x x.talk self.old.transfer.interrupt_out).owed (confirms c x x.talk self.old.transfer.interrupt_out).notices }
         ensures range { IsSendable (plain_owed result.packet) }
+        ensures room { room_of self.old ≤ room_of self.new }
     {
         if !self.transfer.interrupt_out {
             return self.reset_for(43);
@@ -75,6 +77,7 @@ impl Circuit {
         ensures says { (c : Settings) (x : Channel) → FitsCircuit c self.old x →
             Says result (resets_for c x (first_ground x.talk pr.number diagnostic)).owed (resets_for c x (first_ground x.talk pr.number diagnostic)).notices }
         ensures range { IsSendable (plain_owed result.packet) }
+        ensures room { room_of self.old ≤ room_of self.new }
     {
         if !self.transfer.ack(pr) {
             return self.reset_for(2);
@@ -91,6 +94,7 @@ impl Circuit {
         ensures says { (c : Settings) (x : Channel) → FitsCircuit c self.old x →
             Says result (unless c x (number_ground x.talk pr.number) (takes x x.talk pr.number (piece_of q m user.now))).owed (unless c x (number_ground x.talk pr.number) (takes x x.talk pr.number (piece_of q m user.now))).notices }
         ensures range { IsSendable (plain_owed result.packet) }
+        ensures room { IfNone result.packet (room_of self.old ≤ room_of self.new) }
     {
         if !self.transfer.ack(pr) {
             return self.reset_for(2);
@@ -120,6 +124,7 @@ impl Circuit {
         ensures err { IfErr result (λ e. e ≡ CircuitError.NoMemory) }
         ensures missing { OnErr result (room_of self.old < min (length user.now) 4096) }
         ensures unchanged { OnErr result (self.new ≡ self.old) }
+        ensures room { IfOk result (λ reply. IfNone reply.packet (room_of self.old ≤ room_of self.new)) }
     {
         match self
             .transfer
@@ -142,6 +147,7 @@ impl Circuit {
         ensures err { IfErr result (λ e. e ≡ CircuitError.NoMemory) }
         ensures missing { OnErr result (room_of self.old < min (length (user_octets (plain packet.now))) 4096) }
         ensures unchanged { OnErr result (self.new ≡ self.old) }
+        ensures room { IfOk result (λ reply. IfNone reply.packet (room_of self.old ≤ room_of self.new)) }
     {
         match packet {
             Packet::Data {
@@ -172,6 +178,7 @@ impl Circuit {
         ensures err { IfErr result (λ e. e ≡ CircuitError.NoMemory) }
         ensures missing { OnErr result (room_of self.old < min (length (user_octets (plain packet.now))) 4096) }
         ensures unchanged { OnErr result (self.new ≡ self.old) }
+        ensures room { IfOk result (λ reply. IfNone reply.packet (room_of self.old ≤ room_of self.new)) }
     {
         match self.state {
             State::Open => self.hear_open(packet),
@@ -183,7 +190,8 @@ impl Circuit {
     /// Takes a packet that came for this channel, and answers the packet to send and what the user is told, by the table of
     /// the circuit. The channel that the packet names isn't looked at.
     ///
-    /// 70 alone, and only for a data packet for which `room` set no memory aside.
+    /// 70 alone, and only for a data packet for which `room` set no memory aside. What it set aside stays where no packet is to
+    /// be sent.
     pub fn packet<'a>(&mut self, packet: &Packet<'a>) -> Result<Reply<'a>, CircuitError>
         requires kind { HasChannel (plain packet.now) }
         requires clears { clears_of self.old < 2 ^ 64 - 1 }
@@ -195,6 +203,7 @@ impl Circuit {
         ensures err { IfErr result (λ e. e ≡ CircuitError.NoMemory) }
         ensures missing { OnErr result (room_of self.old < min (length (user_octets (plain packet.now))) 4096) }
         ensures unchanged { OnErr result (self.new ≡ self.old) }
+        ensures room { IfOk result (λ reply. IfNone reply.packet (room_of self.old ≤ room_of self.new)) }
     {
         match packet {
             Packet::Call {

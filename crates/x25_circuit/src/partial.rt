@@ -1,4 +1,4 @@
-ghost use Rattle.std.specs.Prelude.{◌≡◌, ℕ, ◌+◌, ◌<◌, ◌≤◌, length, min, max, IfNone, Option, IsOk, OnOk, OnErr, option_to_list};
+ghost use Rattle.std.specs.Prelude.{◌≡◌, ℕ, ◌+◌, ◌<◌, ◌≤◌, ◌++◌, length, min, max, replicate, vec_len, vec_capacity, IfOk, IfNone, Option, IsOk, OnOk, OnErr, option_to_list};
 
 use crate::message::Message;
 use crate::octets::{LONGEST_MESSAGE, Octets};
@@ -9,23 +9,47 @@ use std::mem;
 /// The most octets of user data in a data packet.
 const LONGEST_DATA: usize = 4096;
 
+/// The most octets of memory that are kept for a message in part: those of the longest message, and of one more packet.
+const MOST_KEPT: usize = LONGEST_MESSAGE + LONGEST_DATA;
+
 /// The message of which some packets were taken: its qualifier, where it has begun, and its octets so far.
 #[derive(Drop)]
 pub struct PartialMessage {
     begun: Option<bool>,
-    user: Vec<u8>,
+    /// The octets so far, and behind them places for further ones.
+    places: Vec<u8>,
+    /// How many octets have come.
+    filled: usize,
     alloc: Global,
 }
 
 impl Model for PartialMessage {
-    ghost use Rattle.std.specs.Prelude.{◌-◌, ◌≤◌, vec_len, vec_capacity};
+    ghost use Rattle.std.specs.Prelude.{◌-◌, ◌≤◌, take, vec_len, vec_capacity};
     ghost use Rattle.x25_circuit.specs.PartialMessage.{ShownPartial};
 
     ghost Value = { ShownPartial };
 
-    ghost view = { λ p. record { part = record { begun = p.begun; user = p.user.items }; room = vec_capacity p.user - vec_len p.user } };
+    ghost view = { λ p. record { part = record { begun = p.begun; user = take p.filled p.places.items }; room = vec_len p.places - p.filled } };
 
-    ghost invariant = { λ p. vec_len p.user ≤ 65535 };
+    ghost invariant = { λ p. (p.filled ≤ vec_len p.places) × (p.filled ≤ 65535) × (vec_capacity p.places ≤ 69631) };
+}
+
+// Octets, and behind them so many places, in memory of their length.
+fn with_places(alloc: Global, octets: &[u8], more: usize) -> Result<Vec<u8>, AllocError>
+    requires { length octets.now + more ≤ 69631 }
+    ensures items { IfOk result (λ v. v.items ≡ octets.now ++ replicate more 0) }
+    ensures len { IfOk result (λ v. vec_len v ≡ length octets.now + more) }
+    ensures kept { IfOk result (λ v. vec_capacity v ≤ 69631) }
+{
+    let len = octets.len() + more;
+    let mut places = Vec::with_capacity(alloc, len)?;
+    places.extend_from_slice(octets)?;
+    places.resize(len, 0)?;
+    // A vector that had room has grown no larger. Its contract doesn't say so.
+    if places.capacity() > MOST_KEPT {
+        return Err(AllocError);
+    }
+    Ok(places)
 }
 
 impl PartialMessage {
@@ -36,7 +60,8 @@ impl PartialMessage {
     {
         PartialMessage {
             begun: None,
-            user: Vec::new(alloc),
+            places: Vec::new(alloc),
+            filled: 0,
             alloc,
         }
     }
@@ -46,7 +71,15 @@ impl PartialMessage {
         ensures value { result ≡ length self.now.part.user }
         ensures short { result ≤ 65535 }
     {
-        self.user.len()
+        self.filled
+    }
+
+    /// How many octets of memory are kept: for those that have come, and for further ones.
+    pub fn octets_kept(&self) -> usize
+        ensures least { length self.now.part.user + self.now.room ≤ result }
+        ensures most { result ≤ 69631 }
+    {
+        self.places.capacity()
     }
 
     /// The diagnostic for which so many octets with this qualifier are refused behind what has begun, if any: 39 or 83.
@@ -72,14 +105,14 @@ impl PartialMessage {
         ensures missing { OnErr result (self.old.room < min count 4096) }
         ensures err { OnErr result (self.new ≡ self.old) }
     {
-        let len = self.user.len();
         let count = count.min(LONGEST_DATA);
-        // It doubles, up to steps of the longest packet, so that a message of short packets isn't copied for each of them.
-        let step = count.max(len.min(LONGEST_DATA));
-        if count <= self.user.capacity() - len {
+        if count <= self.places.len() - self.filled {
             return Ok(());
         }
-        self.user.reserve_exact(step)
+        // It doubles, up to steps of the longest packet, so that a message of short packets isn't copied for each of them.
+        let step = count.max(self.filled.min(LONGEST_DATA));
+        self.places = with_places(self.alloc, &self.places[..self.filled], step)?;
+        Ok(())
     }
 
     /// Joins a packet, and gives the message that ends with it, if one does.
@@ -90,17 +123,38 @@ impl PartialMessage {
         ensures message { option_to_list result ≡ completed self.old.part (piece_of q m user.now) }
         ensures short { length self.new.part.user ≤ 65535 }
     {
-        self.user.extend_from_slice(user).unwrap();
+        self.append(user);
         if m {
             self.begun = Some(q);
             return None;
         }
+        Some(self.finish(q))
+    }
+
+    // The octets that have come, and these behind them.
+    fn append(&mut self, user: &[u8])
+        requires room { length user.now ≤ self.old.room }
+        requires short { length self.old.part.user + length user.now ≤ 65535 }
+        ensures { self.new.part ≡ record { begun = self.old.part.begun; user = self.old.part.user ++ user.now } }
+    {
+        let end = self.filled + user.len();
+        self.places[self.filled..end].copy_from_slice(user);
+        self.filled = end;
+    }
+
+    // The message of all octets that have come. Its memory goes with it.
+    fn finish(&mut self, q: bool) -> Message
+        ensures message { result ≡ record { q = q; user = self.old.part.user } }
+        ensures part { self.new.part ≡ no_part }
+    {
+        let mut user = mem::replace(&mut self.places, Vec::new(self.alloc));
+        user.truncate(self.filled);
         self.begun = None;
-        let user = mem::replace(&mut self.user, Vec::new(self.alloc));
-        Some(Message {
+        self.filled = 0;
+        Message {
             q,
             user: Octets::of(user),
-        })
+        }
     }
 
     /// Drops it. Memory that was set aside is kept.
@@ -109,6 +163,6 @@ impl PartialMessage {
         ensures room { self.old.room ≤ self.new.room }
     {
         self.begun = None;
-        self.user.clear();
+        self.filled = 0;
     }
 }

@@ -1,5 +1,5 @@
 -- A layer's circuits, one by one.
-use Rattle.std.proofs.Common.{◌≡◌, ◌⊎◌, inl, inr, ℕ, zero, suc, ◌+◌, ◌-◌, ◌<◌, ◌≤◌, List, [], ◌∷◌, ◌++◌, length, Option, Some, None, Bool, true, false, slice_get, set, take, if◌then◌else◌, refl, sym, ap, subst, ◌∙◌, arith, IfSome, MatchOption, Bor, Result, Ok, Err, OnErr, drop, get_or, ◌||◌, ◌==◌, eq-eqb}
+use Rattle.std.proofs.Common.{◌≡◌, ◌⊎◌, inl, inr, ℕ, zero, suc, ◌+◌, ◌-◌, ◌<◌, ◌≤◌, List, [], ◌∷◌, ◌++◌, length, Option, Some, None, Bool, true, false, slice_get, set, take, if◌then◌else◌, refl, sym, ap, subst, ◌∙◌, arith, IfSome, IfNone, MatchOption, Bor, Result, Ok, Err, OnErr, drop, get_or, ◌||◌, ◌==◌, eq-eqb}
 use Rattle.std.specs.Result.{is_err}
 use Rattle.std.proofs.lemmas.Option.{none-some, same_Some, slice_get_within, slice_get-get_or}
 use Rattle.std.proofs.lemmas.List.{append-nil, take_all}
@@ -178,3 +178,8 @@ below_changed P xs i y below here k v low is = by (get_changed xs y v i k is)
     by : ((k ≡ i) × (y ≡ v)) ⊎ ((k ≡ i → ⊥) × (slice_get xs k ≡ Some v)) → P v
     by (inl p) = subst P p.1 here
     by (inr p) = below k v (let differs : k ≡ i → ⊥ = p.0 in let less : k < i = grind (arith, low, differs) in less) p.1
+
+-- what follows where there is none
+pub if_none : {X : Type 0} {P Q : Type 0} (o : Option X) → (P → Q) → IfNone o P → IfNone o Q
+if_none None by p = by p
+if_none (Some x) by p = tt

@@ -1,12 +1,13 @@
-ghost use Rattle.std.specs.Prelude.{◌≡◌, ℕ, ◌≤◌, ◌↔◌, length, true, false, IfOk, IfErr, IfSome, IfNone, IsErrOf};
+ghost use Rattle.std.specs.Prelude.{◌≡◌, ℕ, ◌≤◌, ◌↔◌, length, max, true, false, IfOk, IfErr, IfSome, IfNone, IsErrOf};
 
 use crate::circuits::{begun_circuits, forget_all};
 use crate::error::LayerError;
+use crate::putting::PacketMemory;
 use crate::stretch::Stretch;
 use std::alloc::Global;
 use x25_bits::Role;
 use x25_circuit::{Circuit, Params};
-use x25_link::{Blanks, LONGEST_PACKET};
+use x25_link::Blanks;
 
 /// The most channels of a layer (profile).
 pub const CHANNELS: usize = 16;
@@ -27,7 +28,7 @@ pub struct Layer {
     pub(crate) circuits: Vec<Circuit>,
     ghost few: { length circuits.items ≤ 16 },
     /// Memory for packets that are sent.
-    pub(crate) memory: Blanks<LONGEST_PACKET>,
+    pub(crate) memory: PacketMemory,
 }
 
 impl Layer {
@@ -131,6 +132,28 @@ impl Layer {
             Some(circuit) => circuit.octets_joined(),
             None => 0,
         }
+    }
+
+    /// How many octets of memory are kept for the message of which some packets came on a channel: for these octets, and for those for
+    /// which `room` set memory aside. They are 69,631 at most, those of the longest message and of one packet more; 0 where the
+    /// channel isn't configured.
+    pub fn octets_kept(&self, channel: u16) -> usize
+        ensures least { (c : LayerSettings) (l : State) → FitsLayer c self.now l → joined_at c l channel ≤ result }
+        ensures most { result ≤ 69631 }
+    {
+        match self.circuit(channel) {
+            Some(circuit) => circuit.octets_kept(),
+            None => 0,
+        }
+    }
+
+    /// How many buffers of the longest packet, of 4,099 octets each, are kept: 16 at most, or as many as memory is set aside for. They
+    /// are used where memory for a packet is refused.
+    pub fn blanks(&self) -> usize
+        ensures least { self.now.memory ≤ result }
+        ensures most { result ≤ max self.now.memory 16 }
+    {
+        self.memory.kept()
     }
 
     /// Drops everything, at LinkDown: no restart is under way, and all channels are in p1. The counts are as they were, until `up`

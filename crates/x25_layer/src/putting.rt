@@ -15,6 +15,9 @@ use x25_packet::{Packet, encode};
 /// The most packets that a call puts: its own, and the data packets pulled behind it.
 pub(crate) const MOST_PUT: usize = 16;
 
+/// Memory for packets that are put. No more blanks are kept than a call puts, or than are promised.
+pub(crate) type PacketMemory = Blanks<LONGEST_PACKET, MOST_PUT>;
+
 impl Layer {
     /// Sets memory aside, here and in the link, for so many packets.
     ///
@@ -73,7 +76,7 @@ impl Layer {
 
 /// Puts a packet of at most `most` octets into the link, in memory that was set aside.
 pub(crate) fn put<L: OrderedLink>(
-    memory: &mut Blanks<LONGEST_PACKET>,
+    memory: &mut PacketMemory,
     link: &mut L,
     packet: &Packet,
     most: usize,

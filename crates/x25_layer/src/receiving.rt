@@ -1,5 +1,5 @@
 //! Octets that the link handed up. ITU-T X.25 (10/96), sections 3.3 and 4, and Annex C.
-ghost use Rattle.std.specs.Prelude.{◌≡◌, ℕ, ◌+◌, ◌-◌, ◌^◌, ◌<◌, ◌≤◌, [], length, max, min, true, IfErr, IfOk, IsOk, OnOk, OnErr, option_to_list};
+ghost use Rattle.std.specs.Prelude.{◌≡◌, ℕ, ◌+◌, ◌-◌, ◌^◌, ◌<◌, ◌≤◌, [], length, max, min, true, IfErr, IfOk, IfNone, IsOk, OnOk, OnErr, option_to_list};
 ghost use Rattle.x25_packet.specs.Reading.{packet_of};
 ghost use Rattle.x25_packet.specs.Spelling.{longest_user};
 ghost use Rattle.x25_circuit.specs.Circuit.{Settings};
@@ -12,7 +12,7 @@ ghost use Rattle.x25_layer.specs.FitsLayer.{FitsLayer};
 ghost use Rattle.x25_layer.specs.OverLink.{view_of, after_all};
 ghost use Rattle.x25_layer.specs.Rounds.{LinkView, answer_to, hears};
 ghost use Rattle.x25_layer.specs.Asking.{with_circuit};
-ghost use Rattle.x25_layer.specs.Room.{HasCountsLeft, HaveCountsLeft, IsNotFull, HaveRoom, HasRoom};
+ghost use Rattle.x25_layer.specs.Room.{HasCountsLeft, HaveCountsLeft, IsNotFull, HaveRoom, HasRoom, KeepsRoom};
 ghost use Rattle.x25_layer.specs.Told.{plain_told};
 ghost use Rattle.x25_layer.specs.Receiving.{plain_read, IsOfChannel, brings, circuit_hears, hears_on};
 
@@ -36,6 +36,7 @@ fn hear_circuit<'a>(
     ensures range { IfOk result (λ reply. IsSendable (plain_owed reply.packet)) }
     ensures missing { OnErr result (room_of circuit.old < min (brings (plain_read read.entry)) 4096) }
     ensures unchanged { OnErr result (circuit.new ≡ circuit.old) }
+    ensures room { IfOk result (λ reply. IfNone reply.packet (room_of circuit.old ≤ room_of circuit.new)) }
 {
     match read {
         Ok(packet) => circuit.packet(&packet),
@@ -80,6 +81,8 @@ impl Layer {
         ensures err { IfErr result (λ e. e ≡ LayerError.NoMemory) }
         ensures layer_stays { (c : LayerSettings) (l : State) → FitsLayer c self.old l → OnErr result (FitsLayer c self.new l) }
         ensures enough { (len : ℕ) → brings (plain_read read.entry) ≤ len → HaveRoom len self.old.circuits.items → IsOk result }
+        ensures room { (len : ℕ) → HaveRoom len self.old.circuits.items → IfOk result (λ reply. IfNone reply.packet (HaveRoom len self.new.circuits.items)) }
+        ensures room_stays { (len : ℕ) → HaveRoom len self.old.circuits.items → OnErr result (HaveRoom len self.new.circuits.items) }
     {
         let place = usize::from(channel) - 1;
         match hear_circuit(&mut self.circuits[place], read) {
@@ -117,6 +120,11 @@ impl Layer {
         ensures layer_stays { (c : LayerSettings) (l : State) → FitsLayer c self.old l → OnErr result (FitsLayer c self.new l) }
         ensures link_stays { (x : L.State) → L.fits link.old x → OnErr result (L.fits link.new x) }
         ensures enough { (len : ℕ) → brings (plain_read read.entry) ≤ len → HaveRoom len self.old.circuits.items → IsOk result }
+        ensures used { OnOk result (self.old.memory + L.spares link.new ≡ self.new.memory + L.spares link.old) }
+        ensures room { (len : ℕ) → HaveRoom len self.old.circuits.items → L.spares link.new ≡ L.spares link.old → OnOk result (HaveRoom len self.new.circuits.items) }
+        ensures memory_stays { OnErr result (self.new.memory ≡ self.old.memory) }
+        ensures spares_stay { OnErr result (L.spares link.new ≡ L.spares link.old) }
+        ensures room_stays { (len : ℕ) → HaveRoom len self.old.circuits.items → OnErr result (HaveRoom len self.new.circuits.items) }
     {
         if self.restarting {
             return Ok(Told::Nothing);
@@ -160,6 +168,11 @@ impl Layer {
         ensures layer_stays { (c : LayerSettings) (l : State) → FitsLayer c self.old l → OnErr result (FitsLayer c self.new l) }
         ensures link_stays { (x : L.State) → L.fits link.old x → OnErr result (L.fits link.new x) }
         ensures enough { (len : ℕ) → length octets.now ≤ len → HaveRoom len self.old.circuits.items → IsOk result }
+        ensures used { OnOk result (self.old.memory + L.spares link.new ≡ self.new.memory + L.spares link.old) }
+        ensures room { (len : ℕ) → HaveRoom len self.old.circuits.items → L.spares link.new ≡ L.spares link.old → OnOk result (HaveRoom len self.new.circuits.items) }
+        ensures memory_stays { OnErr result (self.new.memory ≡ self.old.memory) }
+        ensures spares_stay { OnErr result (L.spares link.new ≡ L.spares link.old) }
+        ensures room_stays { (len : ℕ) → HaveRoom len self.old.circuits.items → OnErr result (HaveRoom len self.new.circuits.items) }
     {
         let Some(channel) = channel(octets) else {
             return Ok(Told::Nothing);
@@ -182,7 +195,8 @@ impl Layer {
     /// spell no packet go to the channel that the first two name. They are dropped where they name no configured channel, and,
     /// but for RESTART and its confirmation, while this end's restart isn't confirmed.
     ///
-    /// 70 alone, and not where `room` set memory aside. The layer and the link are as before then.
+    /// 70 alone, and not where `room` set memory aside. The layer and the link are as before then. Of what `room` set aside a call
+    /// takes as much here as in the link: for each packet that it puts. Where it puts none, the promise stands.
     pub fn packet<'a, L: OrderedLink>(
         &mut self,
         link: &mut L,
@@ -203,6 +217,9 @@ impl Layer {
         ensures most_spares { L.spares link.new ≤ max (L.spares link.old) 16 }
         ensures layer_stays { (c : LayerSettings) (l : State) → FitsLayer c self.old l → OnErr result (FitsLayer c self.new l) }
         ensures link_stays { (x : L.State) → L.fits link.old x → OnErr result (L.fits link.new x) }
+        ensures used { 16 ≤ self.old.memory → 16 ≤ L.spares link.old → OnOk result (self.old.memory + L.spares link.new ≡ self.new.memory + L.spares link.old) }
+        ensures room { OnOk result (KeepsRoom self.old (L.spares link.old) self.new (L.spares link.new)) }
+        ensures room_stays { (len : ℕ) → HasRoom len self.old (L.spares link.old) → OnErr result (HasRoom len self.new (L.spares link.new)) }
     {
         self.set_aside(link, MOST_PUT)?;
         let told = self.hear(link, octets)?;

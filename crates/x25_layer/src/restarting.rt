@@ -10,7 +10,7 @@ ghost use Rattle.x25_layer.specs.FitsLayer.{FitsLayer};
 ghost use Rattle.x25_layer.specs.OverLink.{view_of, after_all, LayerGives, LinkGives, LacksMemory};
 ghost use Rattle.x25_layer.specs.Calls.{Restarts};
 ghost use Rattle.x25_layer.specs.Rounds.{calls, comes_up};
-ghost use Rattle.x25_layer.specs.Room.{HasRoom, KeepsRoom};
+ghost use Rattle.x25_layer.specs.Room.{HaveRoom, HasRoom, KeepsRoom};
 ghost use Rattle.x25_layer.specs.Told.{plain_told};
 
 use crate::circuits::{begin_all, forget_all};
@@ -125,6 +125,7 @@ impl Layer {
         ensures spares { L.spares link.new ≡ L.spares link.old - 1 }
         ensures longest { L.longest link.new ≡ L.longest link.old }
         ensures up { L.up link.new ≡ L.up link.old }
+        ensures room { (len : ℕ) → HaveRoom len self.old.circuits.items → HaveRoom len self.new.circuits.items }
     {
         self.restarting = true;
         forget_all(&mut self.circuits);
@@ -137,6 +138,7 @@ impl Layer {
         requires { self.old.restarts < 2 ^ 64 - 1 }
         ensures layer { (c : LayerSettings) (l : State) → FitsLayer c self.old l → FitsLayer c self.new (is_ready (suc l.restarts) (λ k. begun)) }
         ensures memory { self.new.memory ≡ self.old.memory }
+        ensures room { (len : ℕ) → HaveRoom len self.old.circuits.items → HaveRoom len self.new.circuits.items }
     {
         self.restarting = false;
         self.restarts += 1;
@@ -166,6 +168,8 @@ impl Layer {
         ensures no_more_spares { L.spares link.new ≤ L.spares link.old }
         ensures longest { L.longest link.new ≡ L.longest link.old }
         ensures up { L.up link.new ≡ L.up link.old }
+        ensures used { self.old.memory + L.spares link.new ≡ self.new.memory + L.spares link.old }
+        ensures room { (len : ℕ) → HaveRoom len self.old.circuits.items → HaveRoom len self.new.circuits.items }
     {
         if self.restarting {
             self.restart_is_done();
@@ -194,6 +198,8 @@ impl Layer {
         ensures no_more_spares { L.spares link.new ≤ L.spares link.old }
         ensures longest { L.longest link.new ≡ L.longest link.old }
         ensures up { L.up link.new ≡ L.up link.old }
+        ensures used { self.old.memory + L.spares link.new ≡ self.new.memory + L.spares link.old }
+        ensures room { (len : ℕ) → HaveRoom len self.old.circuits.items → HaveRoom len self.new.circuits.items }
     {
         if self.restarting {
             self.restart_is_done();

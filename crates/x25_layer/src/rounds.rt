@@ -12,9 +12,9 @@ ghost use Rattle.x25_layer.specs.Pulling.{IsEnough, pulled_where, Stands};
 ghost use Rattle.x25_layer.specs.Room.{HaveRoom};
 
 use crate::layer::Layer;
-use crate::putting::put;
+use crate::putting::{PacketMemory, put};
 use x25_circuit::Circuit;
-use x25_link::{Blanks, LONGEST_PACKET, OrderedLink};
+use x25_link::OrderedLink;
 
 /// A data packet is pulled where fewer packets than these wait in the link.
 const FEW: usize = 8;
@@ -23,7 +23,7 @@ const FEW: usize = 8;
 const HEADER_OCTETS: usize = 3;
 
 // Whether fewer than 8 packets wait in the link. Memory that was set aside for 15 packets lasts as long as that.
-fn may_pull<L: OrderedLink>(link: &L, memory: &Blanks<LONGEST_PACKET>) -> bool
+fn may_pull<L: OrderedLink>(link: &L, memory: &PacketMemory) -> bool
     ensures few { result ≡ true → L.waits link.now < 8 }
     ensures memory { result ≡ true → 0 < memory.now }
     ensures spares { result ≡ true → 0 < L.spares link.now }
@@ -37,7 +37,7 @@ fn pull_one<L: OrderedLink>(
     circuit: &mut Circuit,
     channel: u16,
     link: &mut L,
-    memory: &mut Blanks<LONGEST_PACKET>,
+    memory: &mut PacketMemory,
 ) -> bool
     requires channel { IsChannel channel }
     requires up { L.up link.old ≡ true }
@@ -69,7 +69,7 @@ fn pull_one<L: OrderedLink>(
 fn round<L: OrderedLink>(
     circuits: &mut Vec<Circuit>,
     link: &mut L,
-    memory: &mut Blanks<LONGEST_PACKET>,
+    memory: &mut PacketMemory,
 ) -> bool
     requires few { length circuits.old.items ≤ 16 }
     requires up { L.up link.old ≡ true }

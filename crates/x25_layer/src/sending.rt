@@ -71,6 +71,7 @@ impl Layer {
         ensures spares { L.spares link.old ≤ L.spares link.new + 1 }
         ensures longest { L.longest link.new ≡ L.longest link.old }
         ensures up { L.up link.new ≡ L.up link.old }
+        ensures put { IfSome packet.entry (λ _. L.spares link.new + 1 ≡ L.spares link.old) }
     {
         let Some(packet) = packet else {
             return;

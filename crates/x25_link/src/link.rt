@@ -1,4 +1,4 @@
-ghost use Rattle.std.specs.Prelude.{◌≡◌, ℕ, ◌+◌, ◌-◌, ◌%◌, ◌<◌, ◌≤◌, ◌↔◌, ◌++◌, List, [], length, map, vec_len, Bool, true, false, Some, None, IfOk, IfErr, OnOk, OnErr, IsOk, IsErrOf};
+ghost use Rattle.std.specs.Prelude.{◌≡◌, ℕ, ◌+◌, ◌-◌, ◌%◌, ◌<◌, ◌≤◌, ◌↔◌, ◌++◌, List, [], length, map, max, vec_len, Bool, true, false, Some, None, IfOk, IfErr, OnOk, OnErr, IsOk, IsErrOf};
 ghost use Rattle.x25_frame.specs.Spelling.{spelling_of};
 ghost use Rattle.x25_link.specs.Station.{Settings, Station as StationState, is_waiting, with_nothing};
 ghost use Rattle.x25_link.specs.Steps.{Refuses, config_refusal, take_step, put_refusal, put_step, connect_refusal, connect_step, disconnect_refusal, disconnect_step, timer_refusal, timer_runs, timer_step, abandon_step, is_idle};
@@ -43,7 +43,7 @@ impl Model for Link {
 
     ghost view = { λ l. record { station = l.station; outgoing = l.outgoing } };
 
-    ghost invariant = { λ l. l.answers.made ≡ [] };
+    ghost invariant = { λ l. (l.answers.made ≡ []) × (l.answers.long ≡ 0) };
 }
 
 impl Link {
@@ -220,6 +220,17 @@ impl Link {
         ensures { (c : Settings) (s : StationState) → FitsLink c self.now s → result.number ≡ s.outgoing.acked % 8 }
     {
         self.station.backlog.first()
+    }
+
+    /// How many buffers of the longest frame, of 4,103 octets each, are kept: 32 at most, or as many more as memory is set aside
+    /// for more than 16 calls of `put`. They are used where memory for a frame is refused.
+    pub fn blanks(&self) -> usize
+        ensures least { self.now.outgoing.long ≤ result }
+        ensures most { result ≤ max self.now.outgoing.long 16 + 16 }
+    {
+        self.outgoing
+            .blanks()
+            .saturating_add(self.answers.blanks())
     }
 
     // Hands a packet down, and keeps the frames.

@@ -18,6 +18,12 @@ const LONGEST_FRAME: usize = 4103;
 /// The most octets of a frame that carries no packet: those of FRMR.
 const SHORT_FRAME: usize = 7;
 
+/// The most buffers for I frames that stay where no memory is promised: for so many packets a packet layer sets memory aside.
+const MOST_LONG: usize = 16;
+
+/// The most buffers for other frames that stay where no memory is promised: so many one call sends.
+const MOST_SHORT: usize = 2;
+
 /// The octets of a frame beside its information: address, control and frame check sequence.
 const FRAME_OVERHEAD: usize = 4;
 
@@ -28,8 +34,8 @@ const FRAME_OVERHEAD: usize = 4;
 #[derive(Drop)]
 pub struct Outbox {
     made: Vec<Vec<u8>>,
-    long: Blanks<LONGEST_FRAME>,
-    short: Blanks<SHORT_FRAME>,
+    long: Blanks<LONGEST_FRAME, MOST_LONG>,
+    short: Blanks<SHORT_FRAME, MOST_SHORT>,
     alloc: Global,
 }
 
@@ -61,6 +67,14 @@ impl Outbox {
         ensures { result ≡ self.now.long }
     {
         self.long.promised()
+    }
+
+    /// How many buffers of the longest frame are kept.
+    pub fn blanks(&self) -> usize
+        ensures least { self.now.long ≤ result }
+        ensures most { result ≤ max self.now.long 16 }
+    {
+        self.long.kept()
     }
 
     /// Sets memory aside for at least so many I frames and other frames.

@@ -6,3 +6,4 @@ pub mod ScriptRows
 pub mod Stands
 pub mod Leaves
 pub mod Stream
+pub mod Ready

@@ -5,11 +5,13 @@
 
 mod law;
 mod running;
+mod simulation;
 mod simulator;
 mod stage;
 mod telling;
 
 pub use law::{scripts_are_runs, scripts_keep_order, scripts_meet_in_sessions, scripts_move};
 pub use running::sim;
+pub use simulation::Simulation;
 pub use x25_io::{Device, Failed, Fault, Sink, Source};
 pub use x25_station::Cfg;

@@ -11,10 +11,9 @@ ghost use Rattle.x25_world.specs.WindowGoes.{IsInWindow};
 ghost use Rattle.x25_world.specs.SessionClaims.{SessionsKeepOrder};
 
 use crate::law::{scripts_keep_order, scripts_meet_in_sessions};
-use crate::simulator::Simulator;
-use crate::stage::Stage;
+use crate::simulation::Simulation;
 use std::alloc::Global;
-use x25_io::{Fault, HeldLine, PIECE, Sink, Source, take_text};
+use x25_io::{Fault, Sink, Source};
 use x25_station::Cfg;
 
 /// Sets two stations up over a line, does what the lines of the script that the reader gives ask for, and writes what
@@ -24,7 +23,8 @@ use x25_station::Cfg;
 ///
 /// A line outside of the grammar, or of more than 131,200 characters, becomes `? 60`; an event that is refused `! ` and its
 /// number, which is the station's own where the station refuses. `drain` is several deliveries, each a step. What was told
-/// is let go of. Buffers are made first; a growth that is refused later ends the run with `NoMemory`. A reader is called at
+/// is let go of. Buffers are made first, by `Simulation::new`, which reads and writes nothing; a growth that is refused later ends the
+/// run with `NoMemory`. A reader is called at
 /// most 2^64 - 1 times; the clauses on the text speak of scripts of fewer octets than that. Profile.
 pub fn sim<R: Source, W: Sink>(
     alloc: Global,
@@ -75,14 +75,6 @@ pub fn sim<R: Source, W: Sink>(
 {
     scripts_keep_order();
     scripts_meet_in_sessions();
-    let Ok(mut piece) = vec![in alloc; 0u8; PIECE] else {
-        return Err(Fault::NoMemory);
-    };
-    let Ok(held) = HeldLine::new(alloc) else {
-        return Err(Fault::NoMemory);
-    };
-    let mut stage = Stage::new(alloc, down, cfg, tap)?;
-    stage.open(down, writer)?;
-    let simulator = Simulator::new(held, stage);
-    take_text(simulator, piece.as_mut_slice(), reader, writer)
+    let simulation = Simulation::new(alloc, down, cfg, tap)?;
+    simulation.play(reader, writer)
 }

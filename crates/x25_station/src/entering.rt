@@ -22,6 +22,9 @@ pub(crate) const LONGEST_TEXT: usize = 128;
 /// The most texts in an entry: the two addresses of a call, and its user data.
 pub(crate) const MOST_TEXTS: usize = 3;
 
+/// Memory for the texts of an entry. No more blanks are kept than an entry has texts, or than are promised.
+pub(crate) type TextMemory = Blanks<LONGEST_TEXT, MOST_TEXTS>;
+
 /// Enters what was said on a configured channel, under the name of its stretch, behind the other entries.
 pub(crate) fn enter(layer: &Layer, entries: &mut Vec<Entry>, channel: u16, said: Said)
     requires { vec_len entries.old < vec_capacity entries.old }
@@ -40,7 +43,7 @@ pub(crate) fn enter(layer: &Layer, entries: &mut Vec<Entry>, channel: u16, said:
 }
 
 // A copy of the first 128 octets.
-fn kept(texts: &mut Blanks<LONGEST_TEXT>, octets: &[u8]) -> Vec<u8>
+fn kept(texts: &mut TextMemory, octets: &[u8]) -> Vec<u8>
     requires { 0 < texts.old }
     ensures copy { result.items ≡ take 128 octets.now }
     ensures fewer { texts.new + 1 ≡ texts.old }
@@ -52,7 +55,7 @@ fn kept(texts: &mut Blanks<LONGEST_TEXT>, octets: &[u8]) -> Vec<u8>
 }
 
 // The digits of an address.
-fn kept_digits(texts: &mut Blanks<LONGEST_TEXT>, digits: &Digits<'_>) -> Vec<u8>
+fn kept_digits(texts: &mut TextMemory, digits: &Digits<'_>) -> Vec<u8>
     requires { 0 < texts.old }
     ensures copy { result.items ≡ digits.now }
     ensures fewer { texts.new + 1 ≡ texts.old }
@@ -66,7 +69,7 @@ fn kept_digits(texts: &mut Blanks<LONGEST_TEXT>, digits: &Digits<'_>) -> Vec<u8>
 }
 
 // What a notice tells the user of a channel, where its user data are at most 128 octets.
-fn told_of(texts: &mut Blanks<LONGEST_TEXT>, notice: Notice<'_>) -> Told
+fn told_of(texts: &mut TextMemory, notice: Notice<'_>) -> Told
     requires { 3 ≤ texts.old }
     ensures told { IsShort (plain_notice notice.entry) → plain_told result ≡ plain_notice notice.entry }
     ensures no_more { texts.new ≤ texts.old }
@@ -106,7 +109,7 @@ fn told_of(texts: &mut Blanks<LONGEST_TEXT>, notice: Notice<'_>) -> Told
 // Enters what the user of a channel is told: first that this end's own call was dropped, where it was, and then the notice.
 fn enter_notices(
     layer: &Layer,
-    texts: &mut Blanks<LONGEST_TEXT>,
+    texts: &mut TextMemory,
     channel: u16,
     collided: bool,
     notice: Option<Notice<'_>>,
@@ -131,7 +134,7 @@ fn enter_notices(
 /// Enters what the layer told.
 pub(crate) fn enter_told(
     layer: &Layer,
-    texts: &mut Blanks<LONGEST_TEXT>,
+    texts: &mut TextMemory,
     told: Heard<'_>,
     entries: &mut Vec<Entry>,
 )

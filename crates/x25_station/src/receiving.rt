@@ -15,7 +15,7 @@ ghost use Rattle.x25_station.specs.Settings.{Settings, link_settings, layer_sett
 ghost use Rattle.x25_station.specs.Station.{Station as State, view_of, all_put};
 ghost use Rattle.x25_station.specs.Steps.{Did, abandons, receives, layer_at, layer_answer, entries_heard, entries_of_answer};
 
-use crate::entering::{LONGEST_TEXT, MOST_TEXTS, enter_told};
+use crate::entering::{MOST_TEXTS, TextMemory, enter_told};
 use crate::entry::Entry;
 use crate::error::StationError;
 use crate::law::steps_keep_bounds;
@@ -24,7 +24,7 @@ use crate::station::Station;
 use crate::step::{MOST_ENTRIES, MOST_FRAMES, Step};
 use x25_frame::reading_is_the_grammar as reads_frames;
 use x25_layer::Layer;
-use x25_link::{Blanks, Link, Notes, OrderedLink, holds_few, notes_what_changes};
+use x25_link::{Link, Notes, OrderedLink, holds_few, notes_what_changes};
 use x25_packet::reading_is_the_grammar;
 
 // Puts frames behind others, in memory that was set aside.
@@ -60,7 +60,7 @@ fn come_up(layer: &mut Layer, link: &mut Link, entries: &mut Vec<Entry>)
 fn hear(
     layer: &mut Layer,
     link: &mut Link,
-    texts: &mut Blanks<LONGEST_TEXT>,
+    texts: &mut TextMemory,
     packet: &[u8],
     entries: &mut Vec<Entry>,
 )
@@ -89,7 +89,7 @@ fn hear(
 fn follow(
     layer: &mut Layer,
     link: &mut Link,
-    texts: &mut Blanks<LONGEST_TEXT>,
+    texts: &mut TextMemory,
     notes: Notes,
     packet: Option<&[u8]>,
     entries: &mut Vec<Entry>,

@@ -2,7 +2,7 @@ ghost use Rattle.x25_station.specs.Aside.{IsFewAside};
 ghost use Rattle.x25_station.specs.FitsParts.{AreMeant};
 
 use crate::config::Cfg;
-use crate::entering::LONGEST_TEXT;
+use crate::entering::TextMemory;
 use crate::error::StationError;
 use std::alloc::Global;
 use x25_bits::{Role, Seq};
@@ -17,14 +17,14 @@ pub struct Station {
     pub(crate) link: Link,
     pub(crate) layer: Layer,
     /// Memory for texts of entries.
-    pub(crate) texts: Blanks<LONGEST_TEXT>,
+    pub(crate) texts: TextMemory,
     pub(crate) alloc: Global,
     ghost meant: { AreMeant link layer },
     ghost aside: { IsFewAside link layer texts },
 }
 
 impl Station {
-    ghost use Rattle.std.specs.Prelude.{◌≡◌, ◌≤◌, ◌%◌, IfOk};
+    ghost use Rattle.std.specs.Prelude.{◌≡◌, ◌+◌, ◌≤◌, ◌%◌, IfOk};
     ghost use Rattle.x25_station.specs.FitsStation.{FitsStation, RefusesWith};
     ghost use Rattle.x25_station.specs.Settings.{Settings, layer_settings, settings_from, config_refusal};
     ghost use Rattle.x25_station.specs.Station.{Station as State, new_station};
@@ -98,6 +98,24 @@ impl Station {
         ensures short { result ≤ 65535 }
     {
         self.layer.octets_joined(channel)
+    }
+
+    /// How many octets of memory are kept for the message of which some packets came on a channel: for these octets, and for those of one
+    /// packet more. They are 69,631 at most; 0 where the channel isn't configured.
+    pub fn octets_kept(&self, channel: u16) -> usize
+        ensures least { (c : Settings) (s : State) → FitsStation c self.now s → joined_at (layer_settings c) s.layer channel ≤ result }
+        ensures most { result ≤ 69631 }
+    {
+        self.layer.octets_kept(channel)
+    }
+
+    /// How many buffers are kept for what memory is refused for later, 51 at most: 32 for a frame each, 16 for a packet, and 3 for a text
+    /// of an entry.
+    pub fn blanks(&self) -> usize
+        ensures least { self.now.link.outgoing.long + (self.now.layer.memory + self.now.texts) ≤ result }
+        ensures most { result ≤ 51 }
+    {
+        self.link.blanks() + self.layer.blanks() + self.texts.kept()
     }
 
     /// The name of the stretch that is open on a channel, in p4 with d1, where one is.

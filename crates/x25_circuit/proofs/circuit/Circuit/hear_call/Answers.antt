@@ -18,4 +18,5 @@ returns-in_default c =
       next = λ d x fits. rw (call_strays d x _ _ c.in_default.not-Free c.in_default.not-Calling c.in_default.not-Clearing) (c.unexpected.ensures.next d x fits);
       says = λ d x fits. rw (call_strays d x _ _ c.in_default.not-Free c.in_default.not-Calling c.in_default.not-Clearing) (c.unexpected.ensures.says d x fits);
       range = c.unexpected.ensures.range;
+      room = c.unexpected.ensures.room;
     }

@@ -14,4 +14,5 @@ returns-in_default c =
       next = λ d x fits. rw (clear_told x _ _ _ c.in_default.not-Clearing c.in_default.not-Free) (c.be_cleared.ensures.fits d x fits);
       says = λ d x fits. rw (clear_told x _ _ _ c.in_default.not-Clearing c.in_default.not-Free) c.both.ensures.says;
       range = c.both.ensures.range ((lit≤ tt, lit≤ tt));
+      room = c.be_cleared.ensures.room;
     }

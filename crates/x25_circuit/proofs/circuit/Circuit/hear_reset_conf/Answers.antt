@@ -16,4 +16,5 @@ returns-in_default c =
       next = λ d x fits. rw (reset_conf_strays d x _ c.in_default.not-Open c.in_default.not-Resetting c.in_default.not-Clearing) (c.unexpected.ensures.next d x fits);
       says = λ d x fits. rw (reset_conf_strays d x _ c.in_default.not-Open c.in_default.not-Resetting c.in_default.not-Clearing) (c.unexpected.ensures.says d x fits);
       range = c.unexpected.ensures.range;
+      room = c.unexpected.ensures.room;
     }

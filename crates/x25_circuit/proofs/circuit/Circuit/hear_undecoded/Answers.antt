@@ -14,4 +14,5 @@ returns-in_default c =
       next = λ d x fits. rw (undecoded_clears d x _ _ c.in_default.not-Open c.in_default.not-Resetting c.in_default.not-Clearing) (c.clear_for.ensures.next d x fits);
       says = λ d x fits. rw (undecoded_clears d x _ _ c.in_default.not-Open c.in_default.not-Resetting c.in_default.not-Clearing, sym c.cause_of.ensures, sym c.diagnostic-in_default.ensures) (c.clear_for.ensures.says d x fits);
       range = c.clear_for.ensures.range;
+      room = c.clear_for.ensures.room;
     }

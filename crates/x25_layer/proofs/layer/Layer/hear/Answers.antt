@@ -74,4 +74,9 @@ returns-in_default-packet g c =
           let short = user_short (plain c.in-Ok.packet) in
           let spelled = ap length c.in-Ok.ensures.found.spelling in
           hears.enough len (omega (arith, short, spelled, long)) room;
+      used = hears.used;
+      room = hears.room;
+      memory_stays = hears.memory_stays;
+      spares_stay = hears.spares_stay;
+      room_stays = hears.room_stays;
     }

@@ -1,8 +1,9 @@
-use Rattle.std.proofs.Common.{◌-◌, refl, sym, subst, arith}
+use Rattle.std.proofs.Common.{ℕ, ◌-◌, ◌≤◌, min, refl, sym, ap, subst, arith}
 use Rattle.x25_circuit.specs.declared.circuit.Circuit as circuit_code
-use Rattle.x25_circuit.specs.FitsCircuit.{FitsCircuit}
+use Rattle.x25_circuit.specs.FitsCircuit.{FitsCircuit, room_of}
 use Rattle.x25_layer.specs.Receiving.{plain_read, circuit_hears}
 use Rattle.x25_layer.proofs.CallLemmas.{found_at, layer_put, layer_kept}
+use Rattle.x25_layer.proofs.FitLemmas.{all_changed, if_none}
 use Rattle.x25_layer.proofs.HearLemmas.{read_there}
 use Rattle.x25_layer.proofs.layer.Layer.hear_channel.Goals as goal
 
@@ -32,3 +33,16 @@ returns-in-Err-clause-enough c = λ len short room.
     let here = room (c.from-place.result - 1) c.index_mut.result.now (read_there c.args.self.now.circuits.items c.args.channel c.from-place.result c.index_mut.result.now c.requires.channel c.from-place.ensures c.index_mut.ensures.value) in
     let missing = c.in-Err.ensures.missing in
     absurd (omega (arith, here, short, missing))
+
+pub returns-in-Ok-clause-room : goal.returns-in-Ok-clause-room
+returns-in-Ok-clause-room c = λ len have.
+    let here = have (c.from-place.result - 1) c.index_mut.result.now (read_there c.args.self.now.circuits.items c.args.channel c.from-place.result c.index_mut.result.now c.requires.channel c.from-place.ensures c.index_mut.ensures.value) in
+    if_none c.in-Ok.reply.packet (λ (more : room_of c.index_mut.result.now ≤ room_of c.hear_circuit.new.circuit).
+        all_changed (λ (k : ℕ) (v : circuit_code.Circuit). min len 4096 ≤ room_of v) c.args.self.now.circuits.items (c.from-place.result - 1) c.hear_circuit.new.circuit have (omega (arith, here, more)))
+    c.in-Ok.ensures.room
+
+pub returns-in-Err-clause-room_stays : goal.returns-in-Err-clause-room_stays
+returns-in-Err-clause-room_stays c = λ len have.
+    let here = have (c.from-place.result - 1) c.index_mut.result.now (read_there c.args.self.now.circuits.items c.args.channel c.from-place.result c.index_mut.result.now c.requires.channel c.from-place.ensures c.index_mut.ensures.value) in
+    let same = ap room_of c.in-Err.ensures.unchanged in
+    all_changed (λ (k : ℕ) (v : circuit_code.Circuit). min len 4096 ≤ room_of v) c.args.self.now.circuits.items (c.from-place.result - 1) c.hear_circuit.new.circuit have (omega (arith, here, same))

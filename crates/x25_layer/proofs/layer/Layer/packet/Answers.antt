@@ -1,11 +1,13 @@
-use Rattle.std.proofs.Common.{◌≡◌, Bool, option_to_list, subst}
+use Rattle.std.proofs.Common.{◌≡◌, Bool, option_to_list, sym, subst, arith}
 use Rattle.x25_packet.specs.Reading.{packet_of}
 use Rattle.x25_packet.specs.Spelling.{longest_user}
 use Rattle.x25_layer.specs.Layer.{LayerAnswer}
 use Rattle.x25_layer.specs.FitsLayer.{FitsLayer}
 use Rattle.x25_layer.specs.OverLink.{after_all}
 use Rattle.x25_layer.specs.Rounds.{answer_to, begin}
+use Rattle.x25_layer.specs.Room.{HaveRoom}
 use Rattle.x25_layer.specs.Told.{plain_told}
+use Rattle.x25_layer.specs.declared.layer.Layer as code
 use Rattle.x25_layer.proofs.FitLemmas.{on_err}
 use Rattle.x25_layer.proofs.layer.Layer.packet.Goals as goal
 
@@ -38,3 +40,47 @@ returns-clause-told g c = λ s l view fits.
     let before = c.set_aside.ensures.fits s l fits in
     let octets = c.args.octets.now in
     subst (λ (b : Bool). plain_told c.in_ok-told.told ≡ (answer_to s l octets (packet_of (longest_user b) octets)).notices) before.long_data (c.in_ok-told.ensures.told s l before)
+
+-- of what is set aside as much is taken here as in the link
+
+pub returns-clause-used : goal.returns-clause-used
+returns-clause-used g c = λ memory spares.
+    let more = c.set_aside.ensures.no_fewer in
+    let most = c.set_aside.ensures.most_memory in
+    let more_spares = c.set_aside.ensures.no_fewer_spares in
+    let most_spares = c.set_aside.ensures.most_spares in
+    let heard = c.in_ok-told.ensures.used in
+    let pulled = c.pull_all.ensures.used in
+    omega (arith, memory, spares, more, most, more_spares, most_spares, heard, pulled)
+
+pub returns-clause-room : goal.returns-clause-room
+returns-clause-room g c = λ len has still.
+    let memory = has.memory in
+    let spares = has.spares in
+    let more = c.set_aside.ensures.no_fewer in
+    let more_spares = c.set_aside.ensures.no_fewer_spares in
+    let most_spares = c.set_aside.ensures.most_spares in
+    let heard = c.in_ok-told.ensures.used in
+    let fewer = c.hear.ensures.no_more_spares in
+    let pulled = c.pull_all.ensures.used in
+    let lower = c.pull_all.ensures.no_more in
+    let same : g.L.OrderedLink.spares c.hear.new.link ≡ g.L.OrderedLink.spares c.set_aside.new.link = omega (arith, spares, more_spares, most_spares, fewer, pulled, lower, still) in
+    record {
+      memory = omega (arith, memory, spares, more, more_spares, most_spares, heard, pulled, lower, fewer, still);
+      spares = omega (arith, spares, still);
+      circuits = c.pull_all.ensures.room len (c.in_ok-told.ensures.room len (subst (λ (v : code.Layer). HaveRoom len v.circuits.items) (sym c.set_aside.ensures.layer) has.circuits) same);
+    }
+
+pub returns-in_err-told-clause-room_stays : goal.returns-in_err-told-clause-room_stays
+returns-in_err-told-clause-room_stays g c = λ len has.
+    let memory = has.memory in
+    let spares = has.spares in
+    let more = c.set_aside.ensures.no_fewer in
+    let more_spares = c.set_aside.ensures.no_fewer_spares in
+    let same = c.in_err-told.ensures.memory_stays in
+    let same_spares = c.in_err-told.ensures.spares_stay in
+    on_err c.from_residual-in_err-told.result (record {
+      memory = omega (arith, memory, more, same);
+      spares = omega (arith, spares, more_spares, same_spares);
+      circuits = c.in_err-told.ensures.room_stays len (subst (λ (v : code.Layer). HaveRoom len v.circuits.items) (sym c.set_aside.ensures.layer) has.circuits);
+    })

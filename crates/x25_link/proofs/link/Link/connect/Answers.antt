@@ -9,13 +9,13 @@ use Rattle.x25_link.proofs.link.Link.connect.Goals as goal
 pub returns-clause-state : goal.returns-clause-state
 returns-clause-state c = λ d s fits.
     let inside = subst (λ (v : ShownLink). FitsLink d v s) (sym c.self.view_is) fits in
-    let side = c.connect.ensures d [] (alone s) (record { near = inside.near; out = c.reserve.ensures.made ∙ c.self.invariant }) in
+    let side = c.connect.ensures d [] (alone s) (record { near = inside.near; out = c.reserve.ensures.made ∙ c.self.invariant.0 }) in
     let step : Step = connects (alone s) in
     closed_state d _ step.side side.near refl refl
 
 pub returns-clause-answer : goal.returns-clause-answer
 returns-clause-answer c = λ d s fits.
     let inside = subst (λ (v : ShownLink). FitsLink d v s) (sym c.self.view_is) fits in
-    let side = c.connect.ensures d [] (alone s) (record { near = inside.near; out = c.reserve.ensures.made ∙ c.self.invariant }) in
+    let side = c.connect.ensures d [] (alone s) (record { near = inside.near; out = c.reserve.ensures.made ∙ c.self.invariant.0 }) in
     let step : Step = connects (alone s) in
     record { frames = closed_out d _ step.side refl refl (c.answered.ensures.frames ∙ side.out); packet = ap option_copied (c.answered.ensures.packet ∙ c.quiet.ensures.packet); notes = c.answered.ensures.notes ∙ c.quiet.ensures.notes }

@@ -9,13 +9,13 @@ use Rattle.x25_link.proofs.link.Link.disconnect.Goals as goal
 pub returns-clause-state : goal.returns-clause-state
 returns-clause-state c = λ d s fits.
     let inside = subst (λ (v : ShownLink). FitsLink d v s) (sym c.self.view_is) fits in
-    let heard = c.disconnect-heard.ensures d [] (alone s) (record { near = inside.near; out = c.reserve.ensures.made ∙ c.self.invariant }) in
+    let heard = c.disconnect-heard.ensures d [] (alone s) (record { near = inside.near; out = c.reserve.ensures.made ∙ c.self.invariant.0 }) in
     let step : Step = disconnects (alone s) in
     closed_state d _ step.side heard.side.near refl refl
 
 pub returns-clause-answer : goal.returns-clause-answer
 returns-clause-answer c = λ d s fits.
     let inside = subst (λ (v : ShownLink). FitsLink d v s) (sym c.self.view_is) fits in
-    let heard = c.disconnect-heard.ensures d [] (alone s) (record { near = inside.near; out = c.reserve.ensures.made ∙ c.self.invariant }) in
+    let heard = c.disconnect-heard.ensures d [] (alone s) (record { near = inside.near; out = c.reserve.ensures.made ∙ c.self.invariant.0 }) in
     let step : Step = disconnects (alone s) in
     record { frames = closed_out d _ step.side refl refl (c.answered.ensures.frames ∙ heard.side.out); packet = ap option_copied c.answered.ensures.packet ∙ heard.packet; notes = c.answered.ensures.notes ∙ heard.notes }

@@ -6,11 +6,11 @@ use Rattle.x25_link.proofs.link.Link.take.Goals as goal
 pub returns-clause-state : goal.returns-clause-state
 returns-clause-state c = λ d s fits.
     let inside = subst (λ (v : ShownLink). FitsLink d v s) (sym c.self.view_is) fits in
-    let heard = c.hear-heard.ensures.step d [] s (record { near = inside.near; out = c.reserve.ensures.made ∙ c.self.invariant }) in
+    let heard = c.hear-heard.ensures.step d [] s (record { near = inside.near; out = c.reserve.ensures.made ∙ c.self.invariant.0 }) in
     record { near = heard.side.near; settled = c.hear-heard.ensures.settled d s inside.near; calm = c.hear-heard.ensures.calm d s inside.near }
 
 pub returns-clause-answer : goal.returns-clause-answer
 returns-clause-answer c = λ d s fits.
     let inside = subst (λ (v : ShownLink). FitsLink d v s) (sym c.self.view_is) fits in
-    let heard = c.hear-heard.ensures.step d [] s (record { near = inside.near; out = c.reserve.ensures.made ∙ c.self.invariant }) in
+    let heard = c.hear-heard.ensures.step d [] s (record { near = inside.near; out = c.reserve.ensures.made ∙ c.self.invariant.0 }) in
     record { frames = c.answered.ensures.frames ∙ heard.side.out; packet = ap option_copied c.answered.ensures.packet ∙ heard.packet; notes = c.answered.ensures.notes ∙ heard.notes }

@@ -1,0 +1,77 @@
+//! A simulation, from its buffers to its status.
+ghost use Rattle.std.specs.Prelude.{◌≡◌, ◌<◌, ◌≤◌, ◌-◌, ◌^◌, ℕ, Bool, true, List, Some, None, IfOk, IfErr, OnOk, OnErr, IfSome, IsErrOf, length, vec_len};
+ghost use Rattle.std.specs.Io.KnownBytes.{Appends};
+ghost use Rattle.x25_io.specs.Written.{AppendsBeginning};
+ghost use Rattle.x25_station.specs.declared.config.Cfg.{Cfg as Settings};
+ghost use Rattle.x25_sim.specs.Ready.{IsReady};
+ghost use Rattle.x25_sim.specs.Simulated.{simulated, sim_status, sim_text};
+ghost use Rattle.x25_sim.specs.Stream.{WritesEnded};
+
+use crate::simulator::Simulator;
+use crate::stage::Stage;
+use std::alloc::Global;
+use x25_io::{Fault, HeldLine, PIECE, Sink, Source, take_text};
+use x25_station::Cfg;
+
+/// Two stations and a line between them, before the first line of a script, with all buffers that a script needs.
+#[derive(Drop)]
+pub struct Simulation {
+    down: bool,
+    piece: Vec<u8>,
+    ghost some: { 0 < vec_len piece },
+    held: HeldLine,
+    stage: Stage,
+}
+
+impl Simulation {
+    /// Makes the stations and the buffers. With `down` both links are down where the script begins, and with `tap` the frames of
+    /// each step are told too. It has no reader and no writer, so a refusal reads nothing and writes nothing.
+    ///
+    /// `NoMemory` alone.
+    pub fn new(alloc: Global, down: bool, cfg: Cfg, tap: bool) -> Result<Simulation, Fault>
+        ensures ready { IfOk result (IsReady cfg down tap) }
+        ensures memory { IfErr result (λ fault. fault ≡ Fault.NoMemory) }
+    {
+        let Ok(piece) = vec![in alloc; 0u8; PIECE] else {
+            return Err(Fault::NoMemory);
+        };
+        let Ok(held) = HeldLine::new(alloc) else {
+            return Err(Fault::NoMemory);
+        };
+        let stage = Stage::new(alloc, down, cfg, tap)?;
+        Ok(Simulation {
+            down,
+            piece,
+            held,
+            stage,
+        })
+    }
+
+    /// Sets the link up, unless it was asked for with both links down, does what the lines of the script ask for, and writes what
+    /// happens, as `sim` says.
+    pub fn play<R: Source, W: Sink>(
+        mut self,
+        reader: &mut R,
+        writer: &mut W,
+    ) -> Result<u8, Fault>
+        ensures clean { OnOk result ((R.is_marked reader.new ≡ R.is_marked reader.old) × (W.is_marked writer.new ≡ W.is_marked writer.old)) }
+        ensures zero_or_one { IfOk result (λ status. status ≤ 1) }
+        ensures text { (cfg : Settings) (down tap : Bool) → IsReady cfg down tap self.entry → OnOk result (IfSome (R.remaining reader.old) (λ script. length script < 2 ^ 64 - 1
+            → Appends (W.contents writer.old) (W.contents writer.new) (sim_text cfg down tap script))) }
+        ensures status { (cfg : Settings) (down tap : Bool) → IsReady cfg down tap self.entry → IfOk result (λ status. IfSome (R.remaining reader.old) (λ script. length script < 2 ^ 64 - 1
+            → status ≡ sim_status cfg down tap script)) }
+        ensures fault { (cfg : Settings) (down tap : Bool) → IsReady cfg down tap self.entry → OnErr result (IfSome (R.remaining reader.old) (λ script. length script < 2 ^ 64 - 1
+            → AppendsBeginning (W.contents writer.old) (W.contents writer.new) (sim_text cfg down tap script))) }
+        ensures ended { (cfg : Settings) (down tap : Bool) → IsReady cfg down tap self.entry → IsErrOf result Fault.Read → IfSome (R.remaining reader.old) (λ script.
+            (rest : List ℕ) × (R.remaining reader.new ≡ Some rest)
+            × WritesEnded cfg tap (W.contents writer.old) (W.contents writer.new) rest (simulated cfg down tap script)) }
+        ensures read { IsErrOf result Fault.Read → R.is_marked reader.new ≡ true }
+        ensures write { IsErrOf result Fault.Write → W.is_marked writer.new ≡ true }
+        ensures memory { IsErrOf result Fault.NoMemory → (R.is_marked reader.new ≡ R.is_marked reader.old) × (W.is_marked writer.new ≡ W.is_marked writer.old) }
+    {
+        let down = self.down;
+        self.stage.open(down, writer)?;
+        let simulator = Simulator::new(self.held, self.stage);
+        take_text(simulator, self.piece.as_mut_slice(), reader, writer)
+    }
+}
