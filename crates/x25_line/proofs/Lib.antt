@@ -1,5 +1,8 @@
 pub mod Frames
+pub mod HealingLines
 pub mod Kept
+pub mod HealingSteps
+pub mod HealingPhases
 pub mod RawKept
 pub mod FitLemmas
 pub mod RawActs

@@ -4,6 +4,7 @@ pub mod Stations
 pub mod StationClaims
 pub mod WholeNumbers
 pub mod StationRows
+pub mod Healing
 pub mod Sessions
 pub mod SessionClaims
 pub mod SessionEvents

@@ -9,3 +9,5 @@ pub mod SetUpRows
 pub mod StationRows
 pub mod WindowLemmas
 pub mod WindowRows
+pub mod RestRows
+pub mod AnswerRows

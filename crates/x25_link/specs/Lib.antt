@@ -10,6 +10,8 @@ pub mod WindowMachine
 pub mod Fits
 pub mod Steps
 pub mod WindowLaw
+pub mod RestLaw
+pub mod AnswerLaw
 pub mod SetUp
 pub mod NoteLaw
 pub mod Link

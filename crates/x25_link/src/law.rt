@@ -1,5 +1,7 @@
 ghost use Rattle.x25_link.specs.Bounds.{FewWait, FewStand, WindowIsSmall, TakeSendsFew, PutSendsOne};
 ghost use Rattle.x25_link.specs.NoteLaw.{TakeTells, TakeContinues, TakeHandsUp, TimerTells, TimerContinues, PutTells, ConnectTells, DisconnectTells, AbandonTells};
+ghost use Rattle.x25_link.specs.RestLaw.{TakeSaysAll, PutSaysAll, TimerSaysAll, ConnectSaysAll, DisconnectSaysAll, AbandonSaysAll, NoTimerIsIdle, AllHeardIsRest, RestIsAllHeard};
+ghost use Rattle.x25_link.specs.AnswerLaw.{TimerAsks, PollIsAnswered, FinalEndsRecovery, ReadyIsHeard, RejGoesBack, WantedIsTaken, OtherIsPassedOver, OutDeclines, DmLeavesUp};
 ghost use Rattle.x25_link.specs.SetUp.{TakeWaits, TakeSetsUp, ConnectWaits, TimerWaits, DisconnectWaits};
 ghost use Rattle.x25_link.specs.WindowLaw.{TakeFollows, PutFollows, TimerFollows, DisconnectFollows, AbandonFollows, TakeStaysOut, DisconnectStaysOut};
 
@@ -47,4 +49,34 @@ pub fn holds_few()
     ensures window { WindowIsSmall }
     ensures take { TakeSendsFew }
     ensures put { PutSendsOne }
+{}
+
+/// Each step leaves nothing that may be sent and no RR that is owed, where no more is acknowledged than V(S) and k is at most 7. So a
+/// station that is Up is idle where timer T1 doesn't run; and at rest, which is idle with T1 stopped, exactly where neither
+/// recovery nor a busy peer stands and all is acknowledged.
+pub fn comes_to_rest()
+    ensures take { TakeSaysAll }
+    ensures put { PutSaysAll }
+    ensures timer { TimerSaysAll }
+    ensures connect { ConnectSaysAll }
+    ensures disconnect { DisconnectSaysAll }
+    ensures abandon { AbandonSaysAll }
+    ensures no_timer { NoTimerIsIdle }
+    ensures all_heard { AllHeardIsRest }
+    ensures only_then { RestIsAllHeard }
+{}
+
+/// What timer T1 asks, and how a station that is Up answers each frame with a valid N(R): a poll by F=1 and V(R) first, busy or not;
+/// F=1 by what isn't acknowledged, from the first on; the I frame that is wanted by at least one frame with the new V(R). A station
+/// that is out answers a poll by DM, and DM takes Up away.
+pub fn asks_and_answers()
+    ensures timer { TimerAsks }
+    ensures poll { PollIsAnswered }
+    ensures recovery { FinalEndsRecovery }
+    ensures ready { ReadyIsHeard }
+    ensures rej { RejGoesBack }
+    ensures wanted { WantedIsTaken }
+    ensures other { OtherIsPassedOver }
+    ensures out { OutDeclines }
+    ensures dm { DmLeavesUp }
 {}

@@ -22,7 +22,10 @@ mod waiting_packets;
 
 pub use error::LinkError;
 pub use frame_memory::Blanks;
-pub use law::{follows_the_window, holds_few, notes_what_changes, sets_up_by_rows};
+pub use law::{
+    asks_and_answers, comes_to_rest, follows_the_window, holds_few, notes_what_changes,
+    sets_up_by_rows,
+};
 pub use link::Link;
 pub use octets::LONGEST_PACKET;
 pub use ordered_link::OrderedLink;

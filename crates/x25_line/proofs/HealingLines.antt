@@ -1,0 +1,207 @@
+-- The frames that stand on a line, and those among them that matter while an end heals.
+use Rattle.std.proofs.Common.{◌≡◌, ℕ, ◌+◌, ◌%◌, ◌≤◌, List, [], ◌∷◌, ◌++◌, map, Bool, true, false, Ok, refl, sym, ap, ◌∙◌, subst, arith}
+use Rattle.x25_bits.specs.declared.role.Role.{Role}
+use Rattle.x25_frame.specs.PlainFrame.{PlainFrame, info, rr, rnr, rej, sabm, disc, ua, dm, frmr}
+use Rattle.x25_frame.specs.Spelling.{spelling_of}
+use Rattle.x25_frame.specs.Reading.{frame_of}
+use Rattle.x25_frame.specs.ReadingLaw.{ReadsSpelled}
+use Rattle.x25_link.specs.AnswerLaw.{AreNext}
+use Rattle.x25_line.specs.StationClaims.{AreWhole}
+
+-- ---- what octets on a line read as
+
+abbrev pub Reads : Role → ℕ → List (List ℕ) → List PlainFrame → Type 0
+Reads from n1 [] [] = Unit {0}
+Reads from n1 (o ∷ os) (f ∷ fs) = (frame_of from n1 o ≡ Ok f) × Reads from n1 os fs
+Reads from n1 [] (f ∷ fs) = ⊥
+Reads from n1 (o ∷ os) [] = ⊥
+
+pub reads_more : ReadsSpelled → (from : Role) (n1 : ℕ) (given : List (List ℕ)) (os : List (List ℕ)) (fs es : List PlainFrame) → Reads from n1 os fs → AreWhole n1 given es
+    → Reads from n1 (os ++ map (spelling_of from) es) (fs ++ es)
+reads_more reads from n1 given [] [] es h whole = spelled es whole
+  where
+    spelled : (es : List PlainFrame) → AreWhole n1 given es → Reads from n1 (map (spelling_of from) es) es
+    spelled [] whole = tt
+    spelled (f ∷ es) whole =
+        let w = whole.0 in
+        (reads from n1 f (spelling_of from f) (record { in_range = w.in_range; carries = w.carries; within = w.within; spelling = refl }), spelled es whole.1)
+reads_more reads from n1 given [] (f ∷ fs) es h whole = absurd h
+reads_more reads from n1 given (o ∷ os) [] es h whole = absurd h
+reads_more reads from n1 given (o ∷ os) (f ∷ fs) es h whole = (h.0, reads_more reads from n1 given os fs es h.1 whole)
+
+pub whole_behind : (n1 : ℕ) (given : List (List ℕ)) (fs es : List PlainFrame) → AreWhole n1 given (fs ++ es) → AreWhole n1 given es
+whole_behind n1 given [] es h = h
+whole_behind n1 given (f ∷ fs) es h = whole_behind n1 given fs es h.1
+
+-- the octets at the front
+pub record FrontReads (from : Role) (n1 : ℕ) (os : List (List ℕ)) (f : PlainFrame) (fs : List PlainFrame) : Type 0 where
+  pub octets : List ℕ
+  pub others : List (List ℕ)
+  pub is : os ≡ octets ∷ others
+  pub reads : frame_of from n1 octets ≡ Ok f
+  pub rest : Reads from n1 others fs
+
+pub front_reads : (from : Role) (n1 : ℕ) (os : List (List ℕ)) (f : PlainFrame) (fs : List PlainFrame) → Reads from n1 os (f ∷ fs) → FrontReads from n1 os f fs
+front_reads from n1 [] f fs h = absurd h
+front_reads from n1 (o ∷ os) f fs h = record { octets = o; others = os; is = refl; reads = h.0; rest = h.1 }
+
+pub none_reads : (from : Role) (n1 : ℕ) (os : List (List ℕ)) → Reads from n1 os [] → os ≡ []
+none_reads from n1 [] h = refl
+none_reads from n1 (o ∷ os) h = absurd h
+
+pub reads_none : (from : Role) (n1 : ℕ) (os : List (List ℕ)) (fs : List PlainFrame) → Reads from n1 os fs → os ≡ [] → fs ≡ []
+reads_none from n1 [] [] h e = refl
+reads_none from n1 [] (f ∷ fs) h e = absurd h
+reads_none from n1 (o ∷ os) [] h e = absurd h
+reads_none from n1 (o ∷ os) (f ∷ fs) h e = absurd (not_nil e)
+  where
+    not_nil : o ∷ os ≡ [] → ⊥
+    not_nil e = cc
+
+-- ---- frames to the end that gave nothing up: the I frames that are awaited, one after another, and nothing that asks or answers
+
+abbrev pub Ahead : ℕ → List PlainFrame → ℕ → Type 0
+Ahead n [] m = n ≡ m
+Ahead n (info ns nr p x ∷ fs) m = (ns ≡ n % 8) × (p ≡ false) × Ahead (n + 1) fs m
+Ahead n (rr command nr pf ∷ fs) m = (pf ≡ false) × Ahead n fs m
+Ahead n (rej command nr pf ∷ fs) m = (pf ≡ false) × Ahead n fs m
+Ahead n (f ∷ fs) m = ⊥
+
+pub ahead_low : (n : ℕ) (fs : List PlainFrame) (m : ℕ) → Ahead n fs m → n ≤ m
+ahead_low n [] m h = omega (arith, h)
+ahead_low n (info ns nr p x ∷ fs) m h = omega (arith, ahead_low (n + 1) fs m h.2)
+ahead_low n (rr command nr pf ∷ fs) m h = ahead_low n fs m h.1
+ahead_low n (rej command nr pf ∷ fs) m h = ahead_low n fs m h.1
+ahead_low n (rnr command nr pf ∷ fs) m h = absurd h
+ahead_low n (sabm p ∷ fs) m h = absurd h
+ahead_low n (disc p ∷ fs) m h = absurd h
+ahead_low n (ua p ∷ fs) m h = absurd h
+ahead_low n (dm p ∷ fs) m h = absurd h
+ahead_low n (frmr p why ∷ fs) m h = absurd h
+
+pub ahead_more : (n m k : ℕ) (fs es : List PlainFrame) → Ahead n fs m → Ahead m es k → Ahead n (fs ++ es) k
+ahead_more n m k [] es h g = subst (λ (z : ℕ). Ahead z es k) (sym h) g
+ahead_more n m k (info ns nr p x ∷ fs) es h g = (h.0, h.1, ahead_more (n + 1) m k fs es h.2 g)
+ahead_more n m k (rr command nr pf ∷ fs) es h g = (h.0, ahead_more n m k fs es h.1 g)
+ahead_more n m k (rej command nr pf ∷ fs) es h g = (h.0, ahead_more n m k fs es h.1 g)
+ahead_more n m k (rnr command nr pf ∷ fs) es h g = absurd h
+ahead_more n m k (sabm p ∷ fs) es h g = absurd h
+ahead_more n m k (disc p ∷ fs) es h g = absurd h
+ahead_more n m k (ua p ∷ fs) es h g = absurd h
+ahead_more n m k (dm p ∷ fs) es h g = absurd h
+ahead_more n m k (frmr p why ∷ fs) es h g = absurd h
+
+-- what the sending rule sends is of this kind
+pub next_ahead : (r n : ℕ) (fs : List PlainFrame) (m : ℕ) → AreNext r n fs m → Ahead n fs m
+next_ahead r n [] m h = h
+next_ahead r n (info ns nr p x ∷ fs) m h = (h.0, h.2, next_ahead r (n + 1) fs m h.3)
+next_ahead r n (rr command nr pf ∷ fs) m h = (h.2, next_ahead r n fs m h.3)
+next_ahead r n (rej command nr pf ∷ fs) m h = absurd h
+next_ahead r n (rnr command nr pf ∷ fs) m h = absurd h
+next_ahead r n (sabm p ∷ fs) m h = absurd h
+next_ahead r n (disc p ∷ fs) m h = absurd h
+next_ahead r n (ua p ∷ fs) m h = absurd h
+next_ahead r n (dm p ∷ fs) m h = absurd h
+next_ahead r n (frmr p why ∷ fs) m h = absurd h
+
+-- ---- frames back: I frames and RR, the last of which has the number r, where `nr` came before them
+
+abbrev pub LastTells : ℕ → ℕ → List PlainFrame → Type 0
+LastTells r nr [] = nr ≡ r % 8
+LastTells r nr (info ns n p x ∷ gs) = (p ≡ false) × LastTells r n gs
+LastTells r nr (rr command n pf ∷ gs) = (pf ≡ false) × LastTells r n gs
+LastTells r nr (g ∷ gs) = ⊥
+
+-- or none is there, and all up to r is acknowledged
+abbrev pub Reports : ℕ → ℕ → List PlainFrame → Type 0
+Reports r a [] = a ≡ r
+Reports r a (info ns n p x ∷ gs) = (p ≡ false) × LastTells r n gs
+Reports r a (rr command n pf ∷ gs) = (pf ≡ false) × LastTells r n gs
+Reports r a (g ∷ gs) = ⊥
+
+-- such frames with the number r alone
+pub next_tells : (r nr n m : ℕ) (es : List PlainFrame) → nr ≡ r % 8 → AreNext r n es m → LastTells r nr es
+next_tells r nr n m [] e h = e
+next_tells r nr n m (info ns k p x ∷ es) e h = (h.2, next_tells r k (n + 1) m es h.1 h.3)
+next_tells r nr n m (rr command k pf ∷ es) e h = (h.2, next_tells r k n m es h.1 h.3)
+next_tells r nr n m (rej command k pf ∷ es) e h = absurd h
+next_tells r nr n m (rnr command k pf ∷ es) e h = absurd h
+next_tells r nr n m (sabm p ∷ es) e h = absurd h
+next_tells r nr n m (disc p ∷ es) e h = absurd h
+next_tells r nr n m (ua p ∷ es) e h = absurd h
+next_tells r nr n m (dm p ∷ es) e h = absurd h
+next_tells r nr n m (frmr p why ∷ es) e h = absurd h
+
+-- at least one frame with the number r goes behind them, whatever number they had
+some_tells : (r nr n m : ℕ) (es : List PlainFrame) → (es ≡ [] → ⊥) → AreNext r n es m → LastTells r nr es
+some_tells r nr n m [] some h = absurd (some refl)
+some_tells r nr n m (info ns k p x ∷ es) some h = (h.2, next_tells r k (n + 1) m es h.1 h.3)
+some_tells r nr n m (rr command k pf ∷ es) some h = (h.2, next_tells r k n m es h.1 h.3)
+some_tells r nr n m (rej command k pf ∷ es) some h = absurd h
+some_tells r nr n m (rnr command k pf ∷ es) some h = absurd h
+some_tells r nr n m (sabm p ∷ es) some h = absurd h
+some_tells r nr n m (disc p ∷ es) some h = absurd h
+some_tells r nr n m (ua p ∷ es) some h = absurd h
+some_tells r nr n m (dm p ∷ es) some h = absurd h
+some_tells r nr n m (frmr p why ∷ es) some h = absurd h
+
+-- more frames go behind: what they tell is told last
+pub tells_behind : (s r nr : ℕ) (gs es : List PlainFrame) → LastTells s nr gs → ((k : ℕ) → (k ≡ s % 8) → LastTells r k es) → LastTells r nr (gs ++ es)
+tells_behind s r nr [] es h more = more nr h
+tells_behind s r nr (info ns k p x ∷ gs) es h more = (h.0, tells_behind s r k gs es h.1 more)
+tells_behind s r nr (rr command k pf ∷ gs) es h more = (h.0, tells_behind s r k gs es h.1 more)
+tells_behind s r nr (rej command k pf ∷ gs) es h more = absurd h
+tells_behind s r nr (rnr command k pf ∷ gs) es h more = absurd h
+tells_behind s r nr (sabm p ∷ gs) es h more = absurd h
+tells_behind s r nr (disc p ∷ gs) es h more = absurd h
+tells_behind s r nr (ua p ∷ gs) es h more = absurd h
+tells_behind s r nr (dm p ∷ gs) es h more = absurd h
+tells_behind s r nr (frmr p why ∷ gs) es h more = absurd h
+
+-- the first of frames that tell a number in the end
+first_reports : (r a : ℕ) (es : List PlainFrame) → (es ≡ [] → a ≡ r) → LastTells r (r % 8) es → Reports r a es
+first_reports r a [] none h = none refl
+first_reports r a (info ns k p x ∷ es) none h = h
+first_reports r a (rr command k pf ∷ es) none h = h
+first_reports r a (rej command k pf ∷ es) none h = absurd h
+first_reports r a (rnr command k pf ∷ es) none h = absurd h
+first_reports r a (sabm p ∷ es) none h = absurd h
+first_reports r a (disc p ∷ es) none h = absurd h
+first_reports r a (ua p ∷ es) none h = absurd h
+first_reports r a (dm p ∷ es) none h = absurd h
+first_reports r a (frmr p why ∷ es) none h = absurd h
+
+reports_behind : (s r a : ℕ) (gs es : List PlainFrame) → Reports s a gs → ((k : ℕ) → (k ≡ s % 8) → LastTells r k es) → (a ≡ s → Reports r a es) → Reports r a (gs ++ es)
+reports_behind s r a [] es h more alone = alone h
+reports_behind s r a (info ns k p x ∷ gs) es h more alone = (h.0, tells_behind s r k gs es h.1 more)
+reports_behind s r a (rr command k pf ∷ gs) es h more alone = (h.0, tells_behind s r k gs es h.1 more)
+reports_behind s r a (rej command k pf ∷ gs) es h more alone = absurd h
+reports_behind s r a (rnr command k pf ∷ gs) es h more alone = absurd h
+reports_behind s r a (sabm p ∷ gs) es h more alone = absurd h
+reports_behind s r a (disc p ∷ gs) es h more alone = absurd h
+reports_behind s r a (ua p ∷ gs) es h more alone = absurd h
+reports_behind s r a (dm p ∷ gs) es h more alone = absurd h
+reports_behind s r a (frmr p why ∷ gs) es h more alone = absurd h
+
+-- the number stays: what goes has it
+pub reports_more : (r a n m : ℕ) (gs es : List PlainFrame) → Reports r a gs → AreNext r n es m → Reports r a (gs ++ es)
+reports_more r a n m gs es h next =
+    reports_behind r r a gs es h (λ k is. next_tells r k n m es is next) (λ same. first_reports r a es (λ _. same) (next_tells r (r % 8) n m es refl next))
+
+-- a new number: at least one frame goes with it
+pub reports_new : (s r a n m : ℕ) (gs es : List PlainFrame) → Reports s a gs → AreNext r n es m → (es ≡ [] → ⊥) → Reports r a (gs ++ es)
+reports_new s r a n m gs es h next some =
+    reports_behind s r a gs es h (λ k is. some_tells r k n m es some next) (λ same. first_reports r a es (λ none. absurd (some none)) (next_tells r (r % 8) n m es refl next))
+
+-- once the first was heard, by which all up to `a` is acknowledged
+pub reports_heard : (r a nr : ℕ) (gs : List PlainFrame) → LastTells r nr gs → (nr ≡ r % 8 → a ≡ r) → Reports r a gs
+reports_heard r a nr [] h all = all h
+reports_heard r a nr (info ns k p x ∷ gs) h all = h
+reports_heard r a nr (rr command k pf ∷ gs) h all = h
+reports_heard r a nr (rej command k pf ∷ gs) h all = absurd h
+reports_heard r a nr (rnr command k pf ∷ gs) h all = absurd h
+reports_heard r a nr (sabm p ∷ gs) h all = absurd h
+reports_heard r a nr (disc p ∷ gs) h all = absurd h
+reports_heard r a nr (ua p ∷ gs) h all = absurd h
+reports_heard r a nr (dm p ∷ gs) h all = absurd h
+reports_heard r a nr (frmr p why ∷ gs) h all = absurd h

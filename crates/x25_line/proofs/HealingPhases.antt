@@ -1,0 +1,369 @@
+-- How the near end heals after its firing: its poll is on the line, then the answer, then what isn't acknowledged, in order.
+use Rattle.std.proofs.Common.{◌≡◌, ℕ, ◌+◌, ◌%◌, ◌≤◌, ◌<◌, List, [], ◌∷◌, ◌++◌, ◌⊎◌, inl, inr, length, max, Bool, true, false, Ok, refl, sym, ap, ◌∙◌, subst, arith, length-append, append-nil}
+use Rattle.std.specs.Prelude.{◌==◌, ◌-◌, ◌&&◌, not, if◌then◌else◌, nat_lt}
+use Rattle.std.proofs.lemmas.Bool.{eq-eqb, eqb-true, and_parts, ltb-false}
+use Rattle.x25_frame.specs.PlainFrame.{PlainFrame, info, rr, rnr, rej, sabm, disc, ua, dm, frmr}
+use Rattle.x25_frame.specs.ReadingLaw.{ReadsSpelled}
+use Rattle.x25_window.specs.Modulo.{resolved}
+use Rattle.x25_link.specs.declared.phase.Phase.{Phase}
+use Rattle.x25_link.specs.declared.phase.Phase.TheVariants.{Down, Waiting, Up, Closed}
+use Rattle.x25_link.specs.Outgoing.{waits}
+use Rattle.x25_link.specs.Station.{Settings, Station, is_up, is_busy, wanted}
+use Rattle.x25_link.specs.MustSend.{Step, other, is_taken}
+use Rattle.x25_link.specs.Steps.{take_step}
+use Rattle.x25_link.specs.WindowLaw.{IsSound}
+use Rattle.x25_link.specs.RestLaw.{HasSaidAll, IsAtRest}
+use Rattle.x25_link.specs.AnswerLaw.{says, AreNext, Outcome, Answers, heard, heard_tries, goes_on_from, passed_over}
+use Rattle.x25_line.specs.Stations.{StationEnd, Stations, Act, Deliver, delivered, acts, swapped}
+use Rattle.x25_line.specs.StationClaims.{AreJoined}
+use Rattle.x25_line.proofs.Kept.{resolved_is}
+use Rattle.x25_line.proofs.StationSteps.{AsUp, not_both}
+use Rattle.x25_line.proofs.StationRuns.{joined_swapped}
+use Rattle.x25_line.proofs.HealingLines.{Reads, FrontReads, front_reads, none_reads, Ahead, ahead_low, ahead_more, next_ahead, LastTells, Reports, next_tells, reports_more, reports_new, reports_heard}
+use Rattle.x25_line.proofs.HealingSteps.{HealingLaws, Sound, sound_swapped, near_up, far_up, Counted, counted, HearsWell, hears_well, Delivered, delivers}
+
+-- both ends are Up and not busy; the far end has at most so many tries, and is at rest where it was
+pub record Both (c d : Settings) (most : ℕ) (Was : Type 0) (w : Stations) : Type 0 where
+  pub sound : Sound c d w
+  pub near_on : is_up w.near.station.phase ≡ true
+  pub far_on : is_up w.far.station.phase ≡ true
+  pub near_free : is_busy w.near.station ≡ false
+  pub far_free : is_busy w.far.station ≡ false
+  pub far_tries : w.far.station.tries ≤ most
+  pub far_rest : Was → IsAtRest w.far.station
+
+-- a poll is on the line, and nothing else
+pub record Asked (c d : Settings) (w : Stations) : Type 0 where
+  pub number : ℕ
+  pub out : Reads (other d.role) d.longest w.out (rr true number true ∷ [])
+  pub back : w.back ≡ []
+
+-- F=1 is on the line back, with the number that the far end wants, and other frames with this number behind it
+pub record Answered (c d : Settings) (w : Stations) : Type 0 where
+  pub number : ℕ
+  pub behind : List PlainFrame
+  pub is : number ≡ length w.far.station.taken % 8
+  pub out : w.out ≡ []
+  pub back : Reads (other c.role) c.longest w.back (rr false number true ∷ behind)
+  pub tells : LastTells (length w.far.station.taken) number behind
+
+-- what isn't acknowledged goes again, in order; the far end's last frame on the line, if any, tells what that has taken
+pub record Resent (c d : Settings) (w : Stations) : Type 0 where
+  pub there : List PlainFrame
+  pub behind : List PlainFrame
+  pub out : Reads (other d.role) d.longest w.out there
+  pub back : Reads (other c.role) c.longest w.back behind
+  pub recovery : w.near.station.recovery ≡ false
+  pub peer_busy : w.near.station.peer_busy ≡ false
+  pub ahead : Ahead (length w.far.station.taken) there w.near.station.outgoing.place
+  pub reports : Reports (length w.far.station.taken) w.near.station.outgoing.acked behind
+
+abbrev pub Heals : Settings → Settings → ℕ → Type 0 → Stations → Type 0
+Heals c d most Was w = Both c d most Was w × (Asked c d w ⊎ (Answered c d w ⊎ Resent c d w))
+
+-- ---- stations
+
+pub up_is : (p : Phase) → is_up p ≡ true → p ≡ Up
+up_is Up e = refl
+up_is Down e = not_both false e refl
+up_is Waiting e = not_both false e refl
+up_is Closed e = not_both false e refl
+
+tries_low : (nr : ℕ) (s : Station) → heard_tries nr s ≤ s.tries
+tries_low nr s = by (heard nr s == s.outgoing.acked)
+  where
+    by : (b : Bool) → (if b then s.tries else 0) ≤ s.tries
+    by true = omega arith
+    by false = omega arith
+
+passed_ahead : (n : ℕ) (s : Station) → is_busy s ≡ false → Ahead n (passed_over false s) n
+passed_ahead n s free = rw free (by s.rejecting)
+  where
+    by : (b : Bool) → Ahead n (if not b then rej false (wanted s) false ∷ [] else if false then rr false (wanted s) true ∷ [] else []) n
+    by true = refl
+    by false = (refl, refl)
+
+-- nothing waits where a station is at rest, and all is acknowledged
+pub rest_has_all : (s : Station) → IsAtRest s → s.outgoing.sent ≤ length s.outgoing.given → s.outgoing.acked ≡ s.outgoing.sent → length s.outgoing.given ≡ s.outgoing.acked
+rest_has_all s rest high same =
+    let outer = and_parts (is_up s.phase) (waits s.outgoing == 0 && s.outgoing.acked == s.outgoing.sent) rest.idle in
+    let inner = and_parts (waits s.outgoing == 0) (s.outgoing.acked == s.outgoing.sent) outer.1 in
+    counts (length s.outgoing.given) s.outgoing.sent s.outgoing.acked (eqb-true (waits s.outgoing) 0 inner.0) same high
+  where
+    counts : (n m a : ℕ) → n - m ≡ 0 → a ≡ m → m ≤ n → n ≡ a
+    counts n m a none same high = omega arith
+
+module _ (c d : Settings) (joined : AreJoined c d) (reads : ReadsSpelled) (laws : HealingLaws) (most : ℕ) (Was : Type 0) where
+  -- ---- the near end hears
+
+  near_both : (w : Stations) (fs gs : List PlainFrame) (o : Outcome) (octets : List ℕ) → Both c d most Was w → Delivered c d w (acts c Deliver w) fs gs o octets → Both c d most Was (acts c Deliver w)
+  near_both w fs gs o octets b h = record {
+    sound = h.sound;
+    near_on = h.up;
+    far_on = subst (λ (e : StationEnd). is_up e.station.phase ≡ true) (sym h.far) b.far_on;
+    near_free = h.free b.near_free;
+    far_free = subst (λ (e : StationEnd). is_busy e.station ≡ false) (sym h.far) b.far_free;
+    far_tries = subst (λ (e : StationEnd). e.station.tries ≤ most) (sym h.far) b.far_tries;
+    far_rest = λ was. subst (λ (e : StationEnd). IsAtRest e.station) (sym h.far) (b.far_rest was);
+  }
+
+  -- the number that stands for all that the far end has taken
+  all_heard : (w : Stations) → Both c d most Was w → (nr : ℕ) → nr ≡ length w.far.station.taken % 8 → heard nr w.near.station ≡ length w.far.station.taken
+  all_heard w b nr is =
+      let n = counted c d w b.sound b.near_on b.far_on in
+      let small = joined.near_high in
+      ap (resolved w.near.station.outgoing.acked) is ∙ resolved_is w.near.station.outgoing.acked (length w.far.station.taken) n.acked (omega (arith, small, n.taken, n.room))
+
+  near_resends : (w : Stations) (fs gs : List PlainFrame) (nr n : ℕ) (o : Outcome) (octets : List ℕ) → Both c d most Was w → Delivered c d w (acts c Deliver w) fs gs o octets
+      → o.recovery ≡ false → o.peer_busy ≡ false → o.acked ≡ heard nr w.near.station → Ahead (length w.far.station.taken) fs n → Ahead n o.first o.place → LastTells (length w.far.station.taken) nr gs
+      → Resent c d (acts c Deliver w)
+  near_resends w fs gs nr n o octets b h recovery peer_busy acked ahead first tells =
+      let r = length w.far.station.taken in
+      let v : Stations = acts c Deliver w in
+      let same : length v.far.station.taken ≡ r = ap (λ (e : StationEnd). length e.station.taken) h.far in
+      record {
+        there = fs ++ (o.first ++ h.next);
+        behind = gs;
+        out = h.out;
+        back = h.back;
+        recovery = h.recovery ∙ recovery;
+        peer_busy = h.peer_busy ∙ peer_busy;
+        ahead = subst (λ (k : ℕ). Ahead k (fs ++ (o.first ++ h.next)) v.near.station.outgoing.place) (sym same)
+            (ahead_more r n v.near.station.outgoing.place fs (o.first ++ h.next) ahead
+            (ahead_more n o.place v.near.station.outgoing.place o.first h.next first (next_ahead (length o.taken) o.place h.next v.near.station.outgoing.place h.sends)));
+        reports = subst (λ (k : ℕ). Reports k v.near.station.outgoing.acked gs) (sym same)
+            (reports_heard r v.near.station.outgoing.acked nr gs tells (λ is. h.acked ∙ acked ∙ all_heard w b nr is));
+      }
+
+  -- where it was in order before, V(S) stays
+  place_stays : (w : Stations) (fs : List PlainFrame) (nr : ℕ) → Ahead (length w.far.station.taken) fs w.near.station.outgoing.place → HearsWell w.near.station w.far.station nr
+      → max w.near.station.outgoing.place (heard nr w.near.station) ≡ w.near.station.outgoing.place
+  place_stays w fs nr ahead well =
+      let low = ahead_low (length w.far.station.taken) fs w.near.station.outgoing.place ahead in
+      omega (arith, low, well.high)
+
+  near_info : (w : Stations) (b : Both c d most Was w) (h : Resent c d w) (ns nr : ℕ) (x : List ℕ) (gs : List PlainFrame) → Reads (other c.role) c.longest w.back (info ns nr false x ∷ gs)
+      → LastTells (length w.far.station.taken) nr gs → (taken : Bool) → is_taken ns w.near.station ≡ taken → Heals c d most Was (acts c Deliver w)
+  near_info w b h ns nr x gs back tells true is =
+      let s = w.near.station in
+      let r = front_reads (other c.role) c.longest w.back (info ns nr false x) gs back in
+      let well = hears_well c d w b.sound b.near_on b.far_on (info ns nr false x) gs tt r in
+      let o : Outcome = record (goes_on_from nr s) { taken = s.taken ++ x ∷ []; first = [] } in
+      let a = laws.answers.wanted ns nr false x c r.octets s (up_is s.phase b.near_on) r.reads well.valid is in
+      let v = delivers c d joined reads laws w h.there gs (info ns nr false x) o b.sound h.out r a.answers in
+      (near_both w h.there gs o r.octets b v, inr (inr (near_resends w h.there gs nr s.outgoing.place o r.octets b v h.recovery h.peer_busy refl h.ahead (sym (place_stays w h.there nr h.ahead well)) tells)))
+  near_info w b h ns nr x gs back tells false is =
+      let s = w.near.station in
+      let r = front_reads (other c.role) c.longest w.back (info ns nr false x) gs back in
+      let well = hears_well c d w b.sound b.near_on b.far_on (info ns nr false x) gs tt r in
+      let o : Outcome = record (goes_on_from nr s) { first = passed_over false s } in
+      let a = laws.answers.other ns nr false x c r.octets s (up_is s.phase b.near_on) r.reads well.valid is in
+      let v = delivers c d joined reads laws w h.there gs (info ns nr false x) o b.sound h.out r a in
+      (near_both w h.there gs o r.octets b v,
+      inr (inr (near_resends w h.there gs nr s.outgoing.place o r.octets b v h.recovery h.peer_busy refl h.ahead
+      (subst (λ (n : ℕ). Ahead s.outgoing.place (passed_over false s) n) (sym (place_stays w h.there nr h.ahead well)) (passed_ahead s.outgoing.place s b.near_free)) tells)))
+
+  near_ready : (w : Stations) (b : Both c d most Was w) (h : Resent c d w) (command : Bool) (nr : ℕ) (gs : List PlainFrame) → Reads (other c.role) c.longest w.back (rr command nr false ∷ gs)
+      → LastTells (length w.far.station.taken) nr gs → Heals c d most Was (acts c Deliver w)
+  near_ready w b h command nr gs back tells =
+      let s = w.near.station in
+      let r = front_reads (other c.role) c.longest w.back (rr command nr false) gs back in
+      let well = hears_well c d w b.sound b.near_on b.far_on (rr command nr false) gs tt r in
+      let o : Outcome = record (goes_on_from nr s) { peer_busy = false } in
+      let a = laws.answers.ready false command nr c r.octets s (up_is s.phase b.near_on) r.reads well.valid in
+      let v = delivers c d joined reads laws w h.there gs (rr command nr false) o b.sound h.out r a in
+      (near_both w h.there gs o r.octets b v, inr (inr (near_resends w h.there gs nr s.outgoing.place o r.octets b v h.recovery refl refl h.ahead (sym (place_stays w h.there nr h.ahead well)) tells)))
+
+  near_resent : (w : Stations) (b : Both c d most Was w) (h : Resent c d w) (gs : List PlainFrame) → Reads (other c.role) c.longest w.back gs → Reports (length w.far.station.taken) w.near.station.outgoing.acked gs
+      → Heals c d most Was (acts c Deliver w)
+  near_resent w b h [] back reports = subst (λ (bs : List (List ℕ)). Heals c d most Was (delivered c bs w)) (sym (none_reads (other c.role) c.longest w.back back)) (b, inr (inr h))
+  near_resent w b h (info ns nr true x ∷ gs) back reports = not_both true refl reports.0
+  near_resent w b h (info ns nr false x ∷ gs) back reports = near_info w b h ns nr x gs back reports.1 (is_taken ns w.near.station) refl
+  near_resent w b h (rr command nr true ∷ gs) back reports = not_both true refl reports.0
+  near_resent w b h (rr command nr false ∷ gs) back reports = near_ready w b h command nr gs back reports.1
+  near_resent w b h (rnr command nr pf ∷ gs) back reports = absurd reports
+  near_resent w b h (rej command nr pf ∷ gs) back reports = absurd reports
+  near_resent w b h (sabm p ∷ gs) back reports = absurd reports
+  near_resent w b h (disc p ∷ gs) back reports = absurd reports
+  near_resent w b h (ua p ∷ gs) back reports = absurd reports
+  near_resent w b h (dm p ∷ gs) back reports = absurd reports
+  near_resent w b h (frmr p why ∷ gs) back reports = absurd reports
+
+  -- F=1 comes: what isn't acknowledged goes again
+  near_answered : (w : Stations) → Both c d most Was w → Answered c d w → Heals c d most Was (acts c Deliver w)
+  near_answered w b h =
+      let s = w.near.station in
+      let frame = rr false h.number true in
+      let r = front_reads (other c.role) c.longest w.back frame h.behind h.back in
+      let well = hears_well c d w b.sound b.near_on b.far_on frame h.behind tt r in
+      let o : Outcome = record (goes_on_from h.number s) { recovery = false; peer_busy = false; tries = 0; place = heard h.number s } in
+      let a = laws.answers.recovery false h.number c r.octets s (up_is s.phase b.near_on) r.reads well.valid in
+      let none : Reads (other d.role) d.longest w.out [] = subst (λ (os : List (List ℕ)). Reads (other d.role) d.longest os []) (sym h.out) tt in
+      let v = delivers c d joined reads laws w [] h.behind frame o b.sound none r a in
+      (near_both w [] h.behind o r.octets b v,
+      inr (inr (near_resends w [] h.behind h.number (length w.far.station.taken) o r.octets b v refl refl refl refl (sym (all_heard w b h.number h.is)) h.tells)))
+
+  pub near_heals : (w : Stations) → Heals c d most Was w → Heals c d most Was (acts c Deliver w)
+  near_heals w (b, inl h) = subst (λ (bs : List (List ℕ)). Heals c d most Was (delivered c bs w)) (sym h.back) (b, inl h)
+  near_heals w (b, inr (inl h)) = near_answered w b h
+  near_heals w (b, inr (inr h)) = near_resent w b h h.behind h.back h.reports
+
+  -- ---- the far end hears
+
+  far_joined : AreJoined d c
+  far_joined = joined_swapped c d joined
+
+  abbrev far_delivers : Stations → Stations
+  far_delivers w = swapped (acts d Deliver (swapped w))
+
+  -- a station at rest stays so, as it was handed nothing, and hears of no busy peer
+  stays_at_rest : (s u : Station) → IsAtRest s → IsSound d.window s.outgoing → IsSound d.window u.outgoing → HasSaidAll d.window u → is_up u.phase ≡ true → u.recovery ≡ s.recovery
+      → (s.peer_busy ≡ false → u.peer_busy ≡ false) → u.outgoing.given ≡ s.outgoing.given → s.outgoing.acked ≤ u.outgoing.acked → IsAtRest u
+  stays_at_rest s u rest before sound said up recovery peer_busy given acked =
+      let t = laws.rest.only_then s rest in
+      let all = rest_has_all s rest before.sent_high t.3 in
+      let same = ap length given in
+      laws.rest.all_heard d.window u joined.far_low sound said up (recovery ∙ t.1) (peer_busy t.2) (omega (arith, all, same, sound.place_high, sound.sent_high, acked))
+
+  far_both : (w : Stations) (fs gs : List PlainFrame) (nr : ℕ) (o : Outcome) (octets : List ℕ) → Both c d most Was w → Delivered d c (swapped w) (acts d Deliver (swapped w)) gs fs o octets
+      → HearsWell w.far.station w.near.station nr → o.acked ≡ heard nr w.far.station → o.recovery ≡ w.far.station.recovery → (w.far.station.peer_busy ≡ false → o.peer_busy ≡ false) → o.tries ≤ w.far.station.tries
+      → Both c d most Was (far_delivers w)
+  far_both w fs gs nr o octets b h well acked recovery peer_busy tries =
+      let v : Stations = acts d Deliver (swapped w) in
+      let s = w.far.station in
+      let before = far_up c d w b.sound b.far_on in
+      let after = near_up d c v h.sound h.up in
+      record {
+        sound = sound_swapped d c far_joined v h.sound;
+        near_on = subst (λ (e : StationEnd). is_up e.station.phase ≡ true) (sym h.far) b.near_on;
+        far_on = h.up;
+        near_free = subst (λ (e : StationEnd). is_busy e.station ≡ false) (sym h.far) b.near_free;
+        far_free = h.free b.far_free;
+        far_tries = omega (arith, h.tries, tries, b.far_tries);
+        far_rest = λ was. stays_at_rest s v.near.station (b.far_rest was) before.sound after.sound h.sound.near_said h.up (h.recovery ∙ recovery) (λ e. h.peer_busy ∙ peer_busy e) h.given
+            (omega (arith, h.acked, acked, well.low));
+      }
+
+  -- a frame comes that neither asks nor answers, and carries nothing
+  far_told : (w : Stations) (fs gs : List PlainFrame) (o : Outcome) (octets : List ℕ) → Resent c d w → Delivered d c (swapped w) (acts d Deliver (swapped w)) gs fs o octets → o.first ≡ [] → o.taken ≡ w.far.station.taken
+      → Ahead (length w.far.station.taken) fs w.near.station.outgoing.place → Reports (length w.far.station.taken) w.near.station.outgoing.acked gs → Resent c d (far_delivers w)
+  far_told w fs gs o octets h v first taken ahead reports =
+      let u : Stations = acts d Deliver (swapped w) in
+      let r = length w.far.station.taken in
+      let same : length u.near.station.taken ≡ r = ap length (v.taken ∙ taken) in
+      let near : u.far ≡ w.near = v.far in
+      let next : AreNext r o.place v.next u.near.station.outgoing.place = subst (λ (xs : List (List ℕ)). AreNext (length xs) o.place v.next u.near.station.outgoing.place) taken v.sends in
+      record {
+        there = fs;
+        behind = gs ++ v.next;
+        out = v.back;
+        back = subst (λ (xs : List PlainFrame). Reads (other c.role) c.longest u.out (gs ++ (xs ++ v.next))) first v.out;
+        recovery = subst (λ (e : StationEnd). e.station.recovery ≡ false) (sym near) h.recovery;
+        peer_busy = subst (λ (e : StationEnd). e.station.peer_busy ≡ false) (sym near) h.peer_busy;
+        ahead = subst (λ (e : StationEnd). Ahead (length u.near.station.taken) fs e.station.outgoing.place) (sym near)
+            (subst (λ (n : ℕ). Ahead n fs w.near.station.outgoing.place) (sym same) ahead);
+        reports = subst (λ (e : StationEnd). Reports (length u.near.station.taken) e.station.outgoing.acked (gs ++ v.next)) (sym near)
+            (subst (λ (n : ℕ). Reports n w.near.station.outgoing.acked (gs ++ v.next)) (sym same)
+            (reports_more r w.near.station.outgoing.acked o.place u.near.station.outgoing.place gs v.next reports next));
+      }
+
+  far_ready : (w : Stations) (b : Both c d most Was w) (h : Resent c d w) (command : Bool) (nr : ℕ) (fs : List PlainFrame) → Reads (other d.role) d.longest w.out (rr command nr false ∷ fs)
+      → Ahead (length w.far.station.taken) fs w.near.station.outgoing.place → Heals c d most Was (far_delivers w)
+  far_ready w b h command nr fs out ahead =
+      let s = w.far.station in
+      let sound = sound_swapped c d joined w b.sound in
+      let r = front_reads (other d.role) d.longest w.out (rr command nr false) fs out in
+      let well = hears_well d c (swapped w) sound b.far_on b.near_on (rr command nr false) fs tt r in
+      let o : Outcome = record (goes_on_from nr s) { peer_busy = false } in
+      let a = laws.answers.ready false command nr d r.octets s (up_is s.phase b.far_on) r.reads well.valid in
+      let v = delivers d c far_joined reads laws (swapped w) h.behind fs (rr command nr false) o sound h.back r a in
+      (far_both w fs h.behind nr o r.octets b v well refl refl (λ _. refl) (tries_low nr s), inr (inr (far_told w fs h.behind o r.octets h v refl refl ahead h.reports)))
+
+  far_rej : (w : Stations) (b : Both c d most Was w) (h : Resent c d w) (command : Bool) (nr : ℕ) (fs : List PlainFrame) → Reads (other d.role) d.longest w.out (rej command nr false ∷ fs)
+      → Ahead (length w.far.station.taken) fs w.near.station.outgoing.place → Heals c d most Was (far_delivers w)
+  far_rej w b h command nr fs out ahead =
+      let s = w.far.station in
+      let sound = sound_swapped c d joined w b.sound in
+      let r = front_reads (other d.role) d.longest w.out (rej command nr false) fs out in
+      let well = hears_well d c (swapped w) sound b.far_on b.near_on (rej command nr false) fs tt r in
+      let o : Outcome = record (goes_on_from nr s) { peer_busy = false; place = heard nr s } in
+      let a = laws.answers.rej command nr d r.octets s (up_is s.phase b.far_on) r.reads well.valid in
+      let v = delivers d c far_joined reads laws (swapped w) h.behind fs (rej command nr false) o sound h.back r a in
+      (far_both w fs h.behind nr o r.octets b v well refl refl (λ _. refl) (tries_low nr s), inr (inr (far_told w fs h.behind o r.octets h v refl refl ahead h.reports)))
+
+  -- the I frame that is wanted comes: it is taken, and its number is told
+  far_info : (w : Stations) (b : Both c d most Was w) (h : Resent c d w) (ns nr : ℕ) (x : List ℕ) (fs : List PlainFrame) → Reads (other d.role) d.longest w.out (info ns nr false x ∷ fs)
+      → ns ≡ length w.far.station.taken % 8 → Ahead (length w.far.station.taken + 1) fs w.near.station.outgoing.place → Heals c d most Was (far_delivers w)
+  far_info w b h ns nr x fs out wants ahead =
+      let s = w.far.station in
+      let sound = sound_swapped c d joined w b.sound in
+      let r = front_reads (other d.role) d.longest w.out (info ns nr false x) fs out in
+      let well = hears_well d c (swapped w) sound b.far_on b.near_on (info ns nr false x) fs tt r in
+      let o : Outcome = record (goes_on_from nr s) { taken = s.taken ++ x ∷ []; first = [] } in
+      let is : is_taken ns s ≡ true = rw (b.far_free, eq-eqb ns (length s.taken % 8) wants) refl in
+      let a = laws.answers.wanted ns nr false x d r.octets s (up_is s.phase b.far_on) r.reads well.valid is in
+      let v = delivers d c far_joined reads laws (swapped w) h.behind fs (info ns nr false x) o sound h.back r a.answers in
+      let u : Stations = acts d Deliver (swapped w) in
+      let more : length u.near.station.taken ≡ length s.taken + 1 = ap length v.taken ∙ length-append s.taken (x ∷ []) in
+      let near : u.far ≡ w.near = v.far in
+      let next : AreNext (length u.near.station.taken) o.place v.next u.near.station.outgoing.place = subst (λ (xs : List (List ℕ)). AreNext (length xs) o.place v.next u.near.station.outgoing.place) (sym v.taken) v.sends in
+      (far_both w fs h.behind nr o r.octets b v well refl refl (λ e. e) (tries_low nr s),
+      inr (inr (record {
+        there = fs;
+        behind = h.behind ++ v.next;
+        out = v.back;
+        back = v.out;
+        recovery = subst (λ (e : StationEnd). e.station.recovery ≡ false) (sym near) h.recovery;
+        peer_busy = subst (λ (e : StationEnd). e.station.peer_busy ≡ false) (sym near) h.peer_busy;
+        ahead = subst (λ (e : StationEnd). Ahead (length u.near.station.taken) fs e.station.outgoing.place) (sym near)
+            (subst (λ (n : ℕ). Ahead n fs w.near.station.outgoing.place) (sym more) ahead);
+        reports = subst (λ (e : StationEnd). Reports (length u.near.station.taken) e.station.outgoing.acked (h.behind ++ v.next)) (sym near)
+            (reports_new (length s.taken) (length u.near.station.taken) w.near.station.outgoing.acked o.place u.near.station.outgoing.place h.behind v.next h.reports next (λ none. a.speaks (v.said ∙ none)));
+      })))
+
+  far_resent : (w : Stations) (b : Both c d most Was w) (h : Resent c d w) (fs : List PlainFrame) → Reads (other d.role) d.longest w.out fs → Ahead (length w.far.station.taken) fs w.near.station.outgoing.place
+      → Heals c d most Was (far_delivers w)
+  far_resent w b h [] out ahead = subst (λ (os : List (List ℕ)). Heals c d most Was (swapped (delivered d os (swapped w)))) (sym (none_reads (other d.role) d.longest w.out out)) (b, inr (inr h))
+  far_resent w b h (info ns nr true x ∷ fs) out ahead = not_both true refl ahead.1
+  far_resent w b h (info ns nr false x ∷ fs) out ahead = far_info w b h ns nr x fs out ahead.0 ahead.2
+  far_resent w b h (rr command nr true ∷ fs) out ahead = not_both true refl ahead.0
+  far_resent w b h (rr command nr false ∷ fs) out ahead = far_ready w b h command nr fs out ahead.1
+  far_resent w b h (rej command nr true ∷ fs) out ahead = not_both true refl ahead.0
+  far_resent w b h (rej command nr false ∷ fs) out ahead = far_rej w b h command nr fs out ahead.1
+  far_resent w b h (rnr command nr pf ∷ fs) out ahead = absurd ahead
+  far_resent w b h (sabm p ∷ fs) out ahead = absurd ahead
+  far_resent w b h (disc p ∷ fs) out ahead = absurd ahead
+  far_resent w b h (ua p ∷ fs) out ahead = absurd ahead
+  far_resent w b h (dm p ∷ fs) out ahead = absurd ahead
+  far_resent w b h (frmr p why ∷ fs) out ahead = absurd ahead
+
+  -- the poll comes: F=1 goes first
+  far_asked : (w : Stations) → Both c d most Was w → Asked c d w → Heals c d most Was (far_delivers w)
+  far_asked w b h =
+      let s = w.far.station in
+      let frame = rr true h.number true in
+      let sound = sound_swapped c d joined w b.sound in
+      let r = front_reads (other d.role) d.longest w.out frame [] h.out in
+      let well = hears_well d c (swapped w) sound b.far_on b.near_on frame [] tt r in
+      let o : Outcome = record (goes_on_from h.number s) { peer_busy = false; first = says (is_busy s) false (wanted s) true ∷ [] } in
+      let a = laws.answers.poll false h.number d r.octets s (up_is s.phase b.far_on) r.reads well.valid in
+      let none : Reads (other c.role) c.longest w.back [] = subst (λ (os : List (List ℕ)). Reads (other c.role) c.longest os []) (sym h.back) tt in
+      let v = delivers d c far_joined reads laws (swapped w) [] [] frame o sound none r a in
+      let u : Stations = acts d Deliver (swapped w) in
+      let same : length u.near.station.taken ≡ length s.taken = ap length v.taken in
+      let number : wanted s ≡ length u.near.station.taken % 8 = ap (λ (n : ℕ). n % 8) (sym same) in
+      let next : AreNext (length u.near.station.taken) o.place v.next u.near.station.outgoing.place = subst (λ (n : ℕ). AreNext n o.place v.next u.near.station.outgoing.place) (sym same) v.sends in
+      (far_both w [] [] h.number o r.octets b v well refl refl (λ _. refl) (tries_low h.number s),
+      inr (inl (record {
+        number = wanted s;
+        behind = v.next;
+        is = number;
+        out = none_reads (other d.role) d.longest u.back v.back;
+        back = subst (λ (busy : Bool). Reads (other c.role) c.longest u.out (says busy false (wanted s) true ∷ v.next)) b.far_free v.out;
+        tells = next_tells (length u.near.station.taken) (wanted s) o.place u.near.station.outgoing.place v.next number next;
+      })))
+
+  pub far_heals : (w : Stations) → Heals c d most Was w → Heals c d most Was (far_delivers w)
+  far_heals w (b, inl h) = far_asked w b h
+  far_heals w (b, inr (inl h)) = subst (λ (os : List (List ℕ)). Heals c d most Was (swapped (delivered d os (swapped w)))) (sym h.out) (b, inr (inl h))
+  far_heals w (b, inr (inr h)) = far_resent w b h h.there h.out h.ahead

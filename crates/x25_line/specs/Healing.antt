@@ -1,0 +1,100 @@
+-- Healing: once the line is good for a moment, everything arrives. Nothing is on the line; timer T1 runs out once at an end where it runs;
+-- and then all that is on the line comes, in any order of the two directions, while nothing is lost.
+use Rattle.std.specs.Prelude.{◌≡◌, ◌<◌, ◌≤◌, false, true, List, [], ◌∷◌, length}
+use Rattle.x25_link.specs.Station.{Settings, is_up, is_busy}
+use Rattle.x25_link.specs.Steps.{timer_runs}
+use Rattle.x25_link.specs.RestLaw.{IsAtRest}
+use Rattle.x25_line.specs.Stations.{StationEnd, Stations, Act, Deliver, T1, Event, Near, Far, run, start}
+use Rattle.x25_line.specs.StationClaims.{AreJoined, IsSetUpOnce}
+
+-- nothing is on the line
+pub record IsDrained (w : Stations) : Type 0 where
+  pub out : w.out ≡ []
+  pub back : w.back ≡ []
+
+-- ---- deliveries
+
+abbrev pub IsDeliver : Act → Type 0
+IsDeliver Deliver = Unit {0}
+IsDeliver act = ⊥
+
+abbrev pub IsDelivery : Event → Type 0
+IsDelivery (Near act) = IsDeliver act
+IsDelivery (Far act) = IsDeliver act
+
+-- the front octets come at either end, in any order of the two
+abbrev pub AreDeliveries : List Event → Type 0
+AreDeliveries [] = Unit {0}
+AreDeliveries (e ∷ es) = IsDelivery e × AreDeliveries es
+
+-- ---- what rest shows
+
+-- from one end to the other: all that was handed down was handed up, and both count alike
+pub record HasArrived (giver taker : StationEnd) : Type 0 where
+  pub handed_up : taker.up ≡ giver.down
+  pub acked : giver.station.outgoing.acked ≡ length giver.down
+  pub sent : giver.station.outgoing.sent ≡ length giver.down
+
+-- an end that is Up and whose timer T1 doesn't run is at rest, and everything of it has arrived
+abbrev pub ShowsAtRest : StationEnd → StationEnd → Type 0
+ShowsAtRest giver taker = is_up giver.station.phase ≡ true → timer_runs giver.station.phase giver.station ≡ false → IsAtRest giver.station × HasArrived giver taker
+
+-- After each list of events, as long as the link isn't set up anew, whatever is on the line.
+abbrev pub RestShows : Type 0
+RestShows =
+    (c d : Settings) → AreJoined c d → (events : List Event) → IsSetUpOnce (run c d events start)
+    → (let w = run c d events start in ShowsAtRest w.near w.far × ShowsAtRest w.far w.near)
+
+-- ---- a world that may heal
+
+-- An end is Up, and isn't busy. Where its timer T1 runs, it has tries left.
+pub record MayHeal (c : Settings) (e : StationEnd) : Type 0 where
+  pub up : is_up e.station.phase ≡ true
+  pub free : is_busy e.station ≡ false
+  pub tries : timer_runs e.station.phase e.station ≡ true → e.station.tries < c.retries
+
+-- An end is at rest, and all that it was handed down has been handed up at the other end.
+pub record IsHealed (e other : StationEnd) : Type 0 where
+  pub rest : IsAtRest e.station
+  pub arrived : HasArrived e other
+
+-- events lead to it, the link isn't set up anew, and nothing is on the line
+pub record IsQuietMoment (c d : Settings) (events : List Event) : Type 0 where
+  pub once : IsSetUpOnce (run c d events start)
+  pub drained : IsDrained (run c d events start)
+
+-- ---- one firing at an end
+
+-- The near end fires once, and then all that is on the line has come: it is at rest and all of it has arrived. The other end is
+-- Up and isn't busy, has no more tries than before, and is at rest if it was.
+pub record OneHeals (w v : Stations) : Type 0 where
+  pub near : IsHealed v.near v.far
+  pub far_up : is_up v.far.station.phase ≡ true
+  pub far_free : is_busy v.far.station ≡ false
+  pub far_tries : v.far.station.tries ≤ w.far.station.tries
+  pub far_rest : IsAtRest w.far.station → IsAtRest v.far.station
+  pub once : IsSetUpOnce v
+
+-- where T1 doesn't run, its firing is refused, and changes nothing
+abbrev pub OneFiringHeals : Type 0
+OneFiringHeals =
+    (c d : Settings) → AreJoined c d → (events : List Event) → IsQuietMoment c d events
+    → (let w = run c d events start in MayHeal c w.near → is_up w.far.station.phase ≡ true → is_busy w.far.station ≡ false
+    → (deliveries : List Event) → AreDeliveries deliveries → (let v = run c d (Near T1 ∷ deliveries) w in IsDrained v → OneHeals w v))
+
+-- With no tries left the end leaves Up, and nothing comes.
+abbrev pub OneFiringEnds : Type 0
+OneFiringEnds =
+    (c d : Settings) → AreJoined c d → (events : List Event) → IsQuietMoment c d events
+    → (let w = run c d events start in is_up w.near.station.phase ≡ true → timer_runs w.near.station.phase w.near.station ≡ true → c.retries ≤ w.near.station.tries
+    → (deliveries : List Event) → AreDeliveries deliveries → is_up (run c d (Near T1 ∷ deliveries) w).near.station.phase ≡ false)
+
+-- ---- both ends, one after the other
+
+-- Both fire once, each time all that is on the line comes: everything sent has arrived, and both are at rest.
+abbrev pub TwoFiringsHeal : Type 0
+TwoFiringsHeal =
+    (c d : Settings) → AreJoined c d → (events : List Event) → IsQuietMoment c d events
+    → (let w = run c d events start in MayHeal c w.near → MayHeal d w.far
+    → (first : List Event) → AreDeliveries first → (let v = run c d (Near T1 ∷ first) w in IsDrained v
+    → (second : List Event) → AreDeliveries second → (let u = run c d (Far T1 ∷ second) v in IsDrained u → IsHealed u.near u.far × IsHealed u.far u.near)))
