@@ -16,7 +16,7 @@ use Rattle.x25_line.specs.SessionClaims.{octets_of}
 use Rattle.x25_line.proofs.StationLines.{AreOrderly, orderly_append, AreParting, no_frmr_append, parting_numbered, parting_orderly, parting_whole}
 use Rattle.x25_line.proofs.StationRuns.{start_machine}
 use Rattle.x25_line.proofs.SessionLines.{Read, octets_append, octets_sent, begun_append, begun_more, begun_sent, numbers, many_append, Behind, behind_quiet, lost}
-use Rattle.x25_line.proofs.SessionHeld.{View, Soon, Gone, IsView, IsHeard, AfterUa, Owes, owes_less, OnLine, line_changed, HasLists, SameLists, meetings_same, meetings_anew, Held, whole_apart, after_answer}
+use Rattle.x25_line.proofs.SessionHeld.{View, Soon, Gone, IsView, IsHeard, AfterUa, Owes, owes_less, OnLine, line_changed, HasLists, SameLists, meetings_same, meetings_anew, Held, standing, up_begun, whole_apart, after_answer}
 use Rattle.x25_line.proofs.SessionSteps.{end_after, stepped, nothing_handed, waiting_is_closed, asked_by, many_out}
 
 -- nothing with a number stands behind a SABM

@@ -1,5 +1,5 @@
 -- A frame on the line to the near end is lost or damaged, which keeps what holds of two stations.
-use Rattle.std.proofs.Common.{◌≡◌, ◌≤◌, ℕ, zero, suc, List, ◌∷◌, ◌⊎◌, inl, inr, refl, sym, ap, subst, arith}
+use Rattle.std.proofs.Common.{Option, None, length, ◌≡◌, ◌≤◌, ℕ, zero, suc, List, ◌∷◌, ◌⊎◌, inl, inr, refl, sym, ap, subst, arith}
 use Rattle.x25_frame.specs.PlainFrame.{PlainFrame}
 use Rattle.x25_frame.specs.Reading.{frame_of}
 use Rattle.x25_frame.specs.ReadingLaw.{ReadsSpelled}
@@ -16,14 +16,14 @@ use Rattle.x25_line.specs.WholeNumbers.{taken_out}
 use Rattle.x25_line.proofs.StationSteps.{Holds, Leads, not_taken, stands_still}
 use Rattle.x25_line.proofs.StationRuns.{Laws, taken_off}
 use Rattle.x25_line.proofs.SessionLines.{of_ua, numbers, carried, carried_numbers, carried_orderly, Change, nothing, lost, damaged, further, change_many, change_of, change_place, change_shows}
-use Rattle.x25_line.proofs.SessionHeld.{View, Live, Soon, Gone, IsView, IsHeard, Comes, AfterUa, choose, Owes, line_changed, Held}
+use Rattle.x25_line.proofs.SessionHeld.{View, Live, Soon, Gone, IsView, IsHeard, Comes, AfterUa, choose, Owes, line_changed, Held, standing}
 
 pub owes_waiting : (p : Phase) (n m : ℕ) → p ≡ Waiting → Owes p n m → (n ≤ 1) × (m ≡ 0)
 owes_waiting p n m is h = subst (λ (z : Phase). Owes z n m) is h
 
 module _ (c d : Settings) (joined : AreJoined c d) (reads : ReadsSpelled) (laws : Laws) where
   -- the session alone loses what is lost
-  comes_change : (v : Stations) (h : Holds ⊥ c d v) (q : ℕ) (xs ys : List Entry) → Change (other c.role) c.longest xs ys → Comes (other c.role) c.longest xs v.back q
+  comes_change : (v : Stations) (h : Holds ⊥ c d v) (q : ℕ) (xs ys : List Entry) (change : Change (other c.role) c.longest xs ys) → Comes (other c.role) c.longest xs v.back q
       → (let n = change_place (other c.role) c.longest xs ys change in Leads ⊥ c d v h.0 (taken_out n h.0.back) (record v { back = carried (other c.role) c.longest ys }))
       × Comes (other c.role) c.longest ys (carried (other c.role) c.longest ys) q
   comes_change v h q xs ys change comes =

@@ -21,7 +21,7 @@ use Rattle.x25_line.specs.SessionNumbers.{Standing, turned as other_way, GoesOn,
 use Rattle.x25_line.specs.SessionClaims.{Throughout, AllOf, AllMet, SomeMet, IsAbove, InStep, IsInOrder, MeetInStep, MetAreInOrder, UnmetHandNothingUp, OnlyBegunHaveLists, IsSession, Stands, EachUpStands, StandsWith, EachUpStandsWith, MachinesGoAlong, StandingGoesOn, NoSessionSendsFrmr, AllSessionsSendWhole}
 use Rattle.x25_line.proofs.StationSteps.{Holds}
 use Rattle.x25_line.proofs.StationAway.{connects_from}
-use Rattle.x25_line.proofs.StationRuns.{Laws, joined_swapped, holds_swapped, start_machine}
+use Rattle.x25_line.proofs.StationRuns.{Laws, joined_swapped, joint_swapped, start_machine}
 use Rattle.x25_line.proofs.StationClaimLemmas.{is_behind, holds_order, holds_lists, holds_window, holds_whole}
 use Rattle.x25_line.proofs.SessionLines.{removes, replaces}
 use Rattle.x25_line.proofs.SessionHeld.{Live, Gone, OnLine, IsPaired, IsBegun, Held, standing, up_begun}
@@ -132,7 +132,7 @@ pub held_swapped : {base : Standing} (c d : Settings) → AreJoined c d → (w :
 held_swapped {base} c d joined w h =
     record {
       alone = one.swapped h.alone;
-      holds = holds_swapped ⊥ c d joined.longest h.alone h.holds;
+      holds = (line_swapped h.holds.0, joint_swapped ⊥ c d joined.longest h.alone h.holds.0 h.holds.1);
       p = h.q;
       q = h.p;
       near_view = h.far_view;
