@@ -14,6 +14,7 @@ use Rattle.x25_line.specs.InWindow.{Begins}
 use Rattle.x25_line.specs.Stations.{StationEnd, Stations}
 use Rattle.x25_line.specs.StationClaims.{NoFrmr, AreWhole, numbered_on}
 use Rattle.x25_line.specs.Sessions.{Entry, SessionEnd, Meeting, Sessions, sabm_in, ua_in, disc_in, how_many, extended}
+use Rattle.x25_line.specs.SessionNumbers.{Standing, GoesOn}
 use Rattle.x25_line.specs.SessionClaims.{AllMet, SomeMet, IsAbove, InStep, IsInOrder, octets_of, AllOf, AreWholeIn}
 use Rattle.x25_line.proofs.StationLines.{AreOrderly, numbered_append, AreParting, whole_more, whole_append, parting_whole}
 use Rattle.x25_line.proofs.StationSteps.{Holds, not_both}
@@ -265,7 +266,7 @@ meetings_hear e f far p q met grows now near_le far_le h =
 
 -- ---- what holds
 
-pub record Held (c d : Settings) (w : Sessions) : Type 0 where
+pub record Held (base : Standing) (c d : Settings) (w : Sessions) : Type 0 where
   -- the sessions that stand, by themselves, and their numbers
   pub alone : Stations
   pub holds : Holds ⊥ c d alone
@@ -283,13 +284,27 @@ pub record Held (c d : Settings) (w : Sessions) : Type 0 where
   pub meetings : Meetings w.near w.far p q w.met
   pub no_frmr : NoFrmr w.sent
   pub whole : AreWholeIn d.longest w.near w.far w.sent
+  -- their machine goes on from there
+  pub goes : GoesOn c d base (record { near = p; far = q; machine = holds.0; near_up = is_up w.near.station.phase; far_up = is_up w.far.station.phase })
+  -- no later sessions stand than those that begin next
+  pub near_few : p ≤ suc w.near.begun
+  pub far_few : q ≤ suc w.far.begun
+
+abbrev pub standing : {base : Standing} (c d : Settings) (w : Sessions) → Held base c d w → Standing
+standing c d w h = record { near = h.p; far = h.q; machine = h.holds.0; near_up = is_up w.near.station.phase; far_up = is_up w.far.station.phase }
+
+-- an end that is Up began the session that stands
+pub up_begun : (v : View) (e : SessionEnd) (s : Station) (session : ℕ) → IsView v e s session → is_up e.station.phase ≡ true → e.begun ≡ session
+up_begun Live e s session h up = h.2
+up_begun Soon e s session h up = not_both (is_up e.station.phase) up (ap is_up h.0)
+up_begun Gone e s session h up = not_both (is_up e.station.phase) up h.0
 
 -- no end began a session later than the one that stands
-pub near_high : (c d : Settings) (w : Sessions) (h : Held c d w) → w.near.begun ≤ h.p
-near_high c d w h = view_begun h.near_view w.near h.alone.near.station h.p h.near
+pub near_high : {base : Standing} (c d : Settings) (w : Sessions) (h : Held base c d w) → w.near.begun ≤ h.p
+near_high {base} c d w h = view_begun h.near_view w.near h.alone.near.station h.p h.near
 
-pub far_high : (c d : Settings) (w : Sessions) (h : Held c d w) → w.far.begun ≤ h.q
-far_high c d w h = view_begun h.far_view w.far h.alone.far.station h.q h.far
+pub far_high : {base : Standing} (c d : Settings) (w : Sessions) (h : Held base c d w) → w.far.begun ≤ h.q
+far_high {base} c d w h = view_begun h.far_view w.far h.alone.far.station h.q h.far
 
 -- ---- lists by sessions
 

@@ -17,11 +17,13 @@ use Rattle.x25_line.specs.Stations.{Stations, start}
 use Rattle.x25_line.specs.Stations as one
 use Rattle.x25_line.specs.StationClaims.{AreJoined, NoFrmr, AreWhole, numbered_on}
 use Rattle.x25_line.specs.Sessions.{Entry, SessionEnd, Meeting, Sessions, sabm_in, ua_in, disc_in, how_many, sent_in, extended}
+use Rattle.x25_line.specs.WholeNumbers.{taken_out}
+use Rattle.x25_line.specs.SessionNumbers.{Standing, near_acts}
 use Rattle.x25_line.specs.SessionClaims.{octets_of, AllOf}
 use Rattle.x25_line.proofs.StationLines.{IsOrderly, orderly_where, AreOrderly, orderly_append, AreParting, no_frmr_append, parting_no_frmr, parting_numbered, parting_orderly, parting_whole}
-use Rattle.x25_line.proofs.StationSteps.{MayBeAway, away_is_not_up, Holds, FitsEnd, not_both}
+use Rattle.x25_line.proofs.StationSteps.{MayBeAway, away_is_not_up, Holds, Leads, not_taken, FitsEnd, not_both}
 use Rattle.x25_line.proofs.SessionLines.{Read, octets_append, octets_sent, begun_append, begun_more, begun_sent, count, orderly_count, numbers, quiet_of, of_sent, many_append, none_behind, behind_quiet, behind_none, many_sent}
-use Rattle.x25_line.proofs.SessionHeld.{OwesAfter, View, Live, Gone, IsView, IsHeard, Comes, Owes, owes_less, owes_none, OnLine, HasLists, SameLists, lists_same, Meetings, meetings_same, Grows, Held, extended_nil, extended_same, extended_other, extended_more, whole_on, whole_apart, heard_more}
+use Rattle.x25_line.proofs.SessionHeld.{OwesAfter, View, Live, Gone, IsView, IsHeard, Comes, Owes, owes_less, owes_none, OnLine, HasLists, SameLists, lists_same, Meetings, meetings_same, Grows, Held, standing, extended_nil, extended_same, extended_other, extended_more, whole_on, whole_apart, heard_more}
 
 -- ---- the end, and both, after a step, in which its session is n
 
@@ -132,11 +134,11 @@ module _ (c d : Settings) (joined : AreJoined c d) (reads : ReadsSpelled) where
 
   -- ---- an end that is in the session
 
-  pub live_held : (w : Sessions) (h : Held c d w) → IsView Live w.near h.alone.near.station h.p → (es : List Entry) (os : List (List ℕ)) (met : List Meeting) (down : List (List ℕ)) (step : Step)
-      → Holds ⊥ c d (one.after_step c h.alone os down step) → Comes (other c.role) c.longest es os h.q
+  pub live_held : {base : Standing} (w : Sessions) (h : Held base c d w) → IsView Live w.near h.alone.near.station h.p → (es : List Entry) (os : List (List ℕ)) (met : List Meeting) (down : List (List ℕ)) (step : Step) (gone : Option ℕ)
+      → Leads ⊥ c d h.alone h.holds.0 (taken_out gone h.holds.0.back) (one.after_step c h.alone os down step) → Comes (other c.role) c.longest es os h.q
       → OnLine c d w.near.station.phase w.far.station.phase w.near.begun w.far.begun w.out es → Answers w step
-      → Meetings (end_after w.near w.near.begun down step) w.far h.p h.q met → Held c d (stepped c w es met down w.near.begun step)
-  live_held w h near es os met down step holds comes line answers meetings = go holds.1.near
+      → Meetings (end_after w.near w.near.begun down step) w.far h.p h.q met → Held base c d (stepped c w es met down w.near.begun step)
+  live_held {base} w h near es os met down step gone holds comes line answers meetings = go holds.1.near
     where
       fs : List PlainFrame
       fs = step.side.out
@@ -210,11 +212,11 @@ module _ (c d : Settings) (joined : AreJoined c d) (reads : ReadsSpelled) where
           ]
 
       by : (v : View) → IsView v (end_after w.near w.near.begun down step) step.side.near h.p → IsHeard v (other c.role) c.longest step.side.near.phase es os h.q
-          → Held c d (stepped c w es met down w.near.begun step)
+          → Held base c d (stepped c w es met down w.near.begun step)
       by v view back =
           record {
             alone = now;
-            holds = holds;
+            holds = (holds.0, holds.1);
             p = h.p;
             q = h.q;
             near_view = v;
@@ -240,21 +242,25 @@ module _ (c d : Settings) (joined : AreJoined c d) (reads : ReadsSpelled) where
             no_frmr = no_frmr_append w.sent fs h.no_frmr (no_frmr_behind h.alone.sent fs holds.1.no_frmr);
             whole = whole_on d.longest w.near (end_after w.near w.near.begun down step) w.far (now.near.down ++ now.far.down) w.sent fs (λ n x old. extended_more w.near.down w.near.begun n down x old)
                 handed (whole_behind d.longest (now.near.down ++ now.far.down) h.alone.sent fs holds.1.whole) h.whole;
+            goes = near_acts (standing c d w h) (record { near = h.p; far = h.q; machine = holds.0; near_up = is_up step.side.near.phase; far_up = is_up w.far.station.phase }) h.goes
+                (record { near = refl; far = refl; far_up = refl; far_end = holds.2.far; put = numbered_on c.role c.longest (not_taken h.alone.out now.out); out = holds.2.out; gone = gone; back = holds.2.back });
+            near_few = h.near_few;
+            far_few = h.far_few;
           }
 
-      go : FitsEnd ⊥ c step.side.near holds.0.near → Held c d (stepped c w es met down w.near.begun step)
+      go : FitsEnd ⊥ c step.side.near holds.0.near → Held base c d (stepped c w es met down w.near.begun step)
       go (inl u) = by Live (u.up, refl, near.2) comes
       go (inr away) = by Gone (away_is_not_up ⊥ step.side.near.phase away.away, omega (arith, near.2)) (λ waiting. waiting_away step.side.near.phase waiting away.away)
 
   -- ---- an end that is out of the session, or goes into it
 
-  pub apart_held : (w : Sessions) (h : Held c d w) (es : List Entry) (n : ℕ) (step : Step) (v : View) → step.packet ≡ None → w.near.begun ≤ n
+  pub apart_held : {base : Standing} (w : Sessions) (h : Held base c d w) (es : List Entry) (n : ℕ) (step : Step) (v : View) → step.packet ≡ None → w.near.begun ≤ n
       → IsView v (end_after w.near n [] step) h.alone.near.station h.p → IsHeard v (other c.role) c.longest step.side.near.phase es h.alone.back h.q
       → AreParting (Unit {0}) step.side.out → count ua_in step.side.out ≡ 0
       → OnLine c d w.near.station.phase w.far.station.phase w.near.begun w.far.begun w.out es
       → OwesAfter c d step.side.near.phase w.out step.side.out es
-      → Held c d (stepped c w es w.met [] n step)
-  apart_held w h es n step v none le view heard parting no_ua line owes =
+      → Held base c d (stepped c w es w.met [] n step)
+  apart_held {base} w h es n step v none le view heard parting no_ua line owes =
       let same = nothing_handed w.near n step none le in
       record {
         alone = h.alone;
@@ -285,6 +291,10 @@ module _ (c d : Settings) (joined : AreJoined c d) (reads : ReadsSpelled) where
         meetings = meetings_same w.near (end_after w.near n [] step) w.far h.p h.q w.met same h.meetings;
         no_frmr = no_frmr_append w.sent fs h.no_frmr (parting_no_frmr (Unit {0}) fs parting);
         whole = whole_apart d.longest w.near (end_after w.near n [] step) w.far w.sent fs same parting h.whole;
+        goes = near_acts (standing c d w h) (record { near = h.p; far = h.q; machine = h.holds.0; near_up = is_up step.side.near.phase; far_up = is_up w.far.station.phase }) h.goes
+            (record { near = refl; far = refl; far_up = refl; far_end = refl; put = []; out = sym (append-nil h.holds.0.out); gone = None; back = refl });
+        near_few = (let few = h.near_few in omega (arith, few, le));
+        far_few = h.far_few;
       }
     where
       fs : List PlainFrame

@@ -15,9 +15,11 @@ use Rattle.x25_link.specs.WindowMachine.{ShowAll}
 use Rattle.x25_link.specs.WindowLaw.{window_of, brought_by, ending_of, Follows, IsOut, AreDeclining, StaysOut}
 use Rattle.x25_line.specs.Stations as one
 use Rattle.x25_line.specs.StationClaims.{AreJoined, number_in, numbered_on}
+use Rattle.x25_line.specs.WholeNumbers.{first_of, taken_out}
+use Rattle.x25_line.specs.SessionNumbers.{Standing}
 use Rattle.x25_line.specs.Sessions.{Entry, Meeting, Sessions, sabm_in, ua_in, disc_in, how_many, begun_by, after_step, heard}
 use Rattle.x25_line.proofs.StationLines.{IsOrderly, orderly_where, consed, AreParting}
-use Rattle.x25_line.proofs.StationSteps.{Holds, not_both, read_joint, declining_parting}
+use Rattle.x25_line.proofs.StationSteps.{Leads, not_both, read_joint, declining_parting}
 use Rattle.x25_line.proofs.StationAway.{closed_takes, waits_on, waiting_parting}
 use Rattle.x25_line.proofs.StationRuns.{Laws, orderly_sets_up}
 use Rattle.x25_line.proofs.SessionLines.{Read, IsKind, of_sabm, of_ua, of_disc, none_is_some, dm_kind, count, numbers, quiet_of, carried, carried_numbers, carried_orderly, lost}
@@ -150,7 +152,7 @@ part_owes Closed n m part h = absurd part
 module _ (c d : Settings) (joined : AreJoined c d) (reads : ReadsSpelled) (laws : Laws) (continues : TakeContinues) where
   -- ---- the front is taken off the line
 
-  module _ (w : Sessions) (h : Held c d w) (e : Entry) (es : List Entry) (is : w.back ≡ e ∷ es) where
+  module _ {base : Standing} (w : Sessions) (h : Held base c d w) (e : Entry) (es : List Entry) (is : w.back ≡ e ∷ es) where
     all_back : (kind : Read → ℕ) → how_many kind (other c.role) c.longest w.back ≡ kind (read_of c e) + how_many kind (other c.role) c.longest es
     all_back kind = ap (how_many kind (other c.role) c.longest) is
 
@@ -165,27 +167,27 @@ module _ (c d : Settings) (joined : AreJoined c d) (reads : ReadsSpelled) (laws 
 
     -- ---- a SABM
 
-    begins : (p : Bool) → read_of c e ≡ Ok (sabm p) → Held c d (taken c w e es) → Held c d (after_step c w es (heard_by c w e) [] (step_of c w e))
+    begins : (p : Bool) → read_of c e ≡ Ok (sabm p) → Held base c d (taken c w e es) → Held base c d (after_step c w es (heard_by c w e) [] (step_of c w e))
     begins p read k =
-        subst (λ (met : List Meeting). Held c d (after_step c w es met [] (step_of c w e)))
+        subst (λ (met : List Meeting). Held base c d (after_step c w es met [] (step_of c w e)))
         (sym (ap (λ (x : Read). heard (is_up w.near.station.phase) (number_in x) (record { near = w.near.begun; far = e.session }) w.met) read ∙ heard_none (is_up w.near.station.phase) (record { near = w.near.begun; far = e.session }) w.met)) k
 
     quiet_left : (p : Bool) → read_of c e ≡ Ok (sabm p) → numbers (other c.role) c.longest es ≡ []
     quiet_left p read = quiet_behind_sabm (other c.role) c.longest e es (ap sabm_in read) whole_line.back_behind
 
     -- in Down or Up
-    sabm_held : (p : Bool) → read_of c e ≡ Ok (sabm p) → TakesPart w.near.station.phase → Held c d (taken c w e es)
+    sabm_held : (p : Bool) → read_of c e ≡ Ok (sabm p) → TakesPart w.near.station.phase → Held base c d (taken c w e es)
     sabm_held p read part =
         let i = laws.set_up.sets_up c e.octets w.near.station part p read in
         let quiet = quiet_left p read in
         let up : is_up (step_of c w e).side.near.phase ≡ true = ap (λ (z : Station). is_up z.phase) i.near in
         let before = part_owes w.near.station.phase _ _ part left_line.near_owes in
-        subst (λ (n : ℕ). Held c d (stepped c w es w.met [] n (step_of c w e))) (sym (ap (λ (b : Bool). begun_by b w.near.begun) i.up))
+        subst (λ (n : ℕ). Held base c d (stepped c w es w.met [] n (step_of c w e))) (sym (ap (λ (b : Bool). begun_by b w.near.begun) i.up))
         (begins_held c d joined reads w h e es is (ap sabm_in read) (suc w.near.begun) p (step_of c w e) Live i.packet i.out (omega arith) (omega arith) (up, sym i.near, refl)
         (quiet, quiet_of (other c.role) c.longest (suc w.far.begun) es quiet) (owes_none (step_of c w e).side.near.phase _ _ before.0 before.1))
 
     -- while UA is awaited: an end that is about to be in a session is about to be in the one that begins
-    sabm_waiting : (p : Bool) → read_of c e ≡ Ok (sabm p) → w.near.station.phase ≡ Waiting → Held c d (taken c w e es)
+    sabm_waiting : (p : Bool) → read_of c e ≡ Ok (sabm p) → w.near.station.phase ≡ Waiting → Held base c d (taken c w e es)
     sabm_waiting p read waiting = quiet_held c d w es w.met [] (step_of c w e) i.up (go h.near_view h.near h.back)
       where
         i : Is w.near.station (ua p ∷ []) None false (step_of c w e)
@@ -202,12 +204,12 @@ module _ (c d : Settings) (joined : AreJoined c d) (reads : ReadsSpelled) (laws 
 
         by : (v : View) → IsView v (end_after w.near w.near.begun [] (step_of c w e)) fresh (suc w.near.begun)
             → IsHeard v (other c.role) c.longest (step_of c w e).side.near.phase es [] (suc w.far.begun)
-            → Held c d (stepped c w es w.met [] w.near.begun (step_of c w e))
+            → Held base c d (stepped c w es w.met [] w.near.begun (step_of c w e))
         by v view heard_now =
             begins_held c d joined reads w h e es is (ap sabm_in read) w.near.begun p (step_of c w e) v i.packet i.out (omega arith) (omega arith) view heard_now owes
 
         go : (v : View) → IsView v w.near h.alone.near.station h.p → IsHeard v (other c.role) c.longest w.near.station.phase w.back h.alone.back h.q
-            → Held c d (stepped c w es w.met [] w.near.begun (step_of c w e))
+            → Held base c d (stepped c w es w.met [] w.near.begun (step_of c w e))
         go Live view back = not_both (is_up w.near.station.phase) view.0 (ap is_up waiting)
         go Soon view back =
             by Soon (phase, refl, refl)
@@ -217,7 +219,7 @@ module _ (c d : Settings) (joined : AreJoined c d) (reads : ReadsSpelled) (laws 
 
     -- ---- an end that is out and stays so
 
-    stays_held : IsOut w.near.station.phase → StaysOut (step_of c w e) → Held c d (taken c w e es)
+    stays_held : IsOut w.near.station.phase → StaysOut (step_of c w e) → Held base c d (taken c w e es)
     stays_held out stays =
         let t = step_of c w e in
         let same : t.side.near.phase ≡ w.near.station.phase = (continues c e.octets w.near.station).phase stays.quiet in
@@ -233,7 +235,7 @@ module _ (c d : Settings) (joined : AreJoined c d) (reads : ReadsSpelled) (laws 
     -- ---- while UA is awaited
 
     -- the UA begins the session that the end was about to be in
-    answered_held : read_of c e ≡ Ok (ua true) → w.near.station.phase ≡ Waiting → Held c d (taken c w e es)
+    answered_held : read_of c e ≡ Ok (ua true) → w.near.station.phase ≡ Waiting → Held base c d (taken c w e es)
     answered_held read waiting = go h.near_view h.near h.back
       where
         i : Is fresh [] None true (step_of c w e)
@@ -256,10 +258,10 @@ module _ (c d : Settings) (joined : AreJoined c d) (reads : ReadsSpelled) (laws 
             owes_none (step_of c w e).side.near.phase _ _ (omega (arith, all, one_ua, owed.0, sabms)) (omega (arith, discs, owed.1))
 
         go : (v : View) → IsView v w.near h.alone.near.station h.p → IsHeard v (other c.role) c.longest w.near.station.phase w.back h.alone.back h.q
-            → Held c d (taken c w e es)
+            → Held base c d (taken c w e es)
         go Live view back = not_both (is_up w.near.station.phase) view.0 (ap is_up waiting)
         go Soon view back =
-            subst (λ (n : ℕ). Held c d (stepped c w es w.met [] n (step_of c w e))) (sym (ap (λ (b : Bool). begun_by b w.near.begun) i.up))
+            subst (λ (n : ℕ). Held base c d (stepped c w es w.met [] n (step_of c w e))) (sym (ap (λ (b : Bool). begun_by b w.near.begun) i.up))
             (apart_held c d joined reads w h es (suc w.near.begun) (step_of c w e) Live i.packet (omega arith) (up, view.1 ∙ sym i.near, view.2)
             (front_answers (other c.role) c.longest e es h.alone.back h.q one_ua (subst (λ (xs : List Entry). AfterUa (other c.role) c.longest xs h.alone.back h.q) is back))
             (subst (AreParting (Unit {0})) (sym i.out) tt) (ap (count ua_in) i.out) left_line owes)
@@ -267,7 +269,7 @@ module _ (c d : Settings) (joined : AreJoined c d) (reads : ReadsSpelled) (laws 
 
     -- what else comes
     waits_held : IsNoSabm (read_of c e) → waiting_up (read_of c e) ≡ false → w.near.station.phase ≡ Waiting
-        → Held c d (taken c w e es)
+        → Held base c d (taken c w e es)
     waits_held no_sabm no_answer waiting = quiet_held c d w es w.met [] (step_of c w e) (i.up ∙ no_answer) (go h.near_view h.near h.back)
       where
         i : Is (waiting_after (read_of c e) w.near.station) (waiting_sends (read_of c e)) None (waiting_up (read_of c e)) (step_of c w e)
@@ -288,7 +290,7 @@ module _ (c d : Settings) (joined : AreJoined c d) (reads : ReadsSpelled) (laws 
 
         by : (v : View) → IsView v (end_after w.near w.near.begun [] (step_of c w e)) h.alone.near.station h.p
             → IsHeard v (other c.role) c.longest (step_of c w e).side.near.phase es h.alone.back h.q
-            → Held c d (stepped c w es w.met [] w.near.begun (step_of c w e))
+            → Held base c d (stepped c w es w.met [] w.near.begun (step_of c w e))
         by v view back =
             apart_held c d joined reads w h es w.near.begun (step_of c w e) v i.packet (omega arith) view back
             (subst (AreParting (Unit {0})) (sym i.out) (waiting_parting (Unit {0}) (read_of c e))) (none ua_in of_ua) left_line owes
@@ -298,12 +300,12 @@ module _ (c d : Settings) (joined : AreJoined c d) (reads : ReadsSpelled) (laws 
 
         -- a UA that doesn't answer the SABM is passed over
         soon : (n : ℕ) → ua_in (read_of c e) ≡ n → IsView Soon w.near h.alone.near.station h.p → AfterUa (other c.role) c.longest (e ∷ es) h.alone.back h.q
-            → Held c d (stepped c w es w.met [] w.near.begun (step_of c w e))
+            → Held base c d (stepped c w es w.met [] w.near.begun (step_of c w e))
         soon zero front view back = by Soon (same ∙ waiting, view.1, view.2) (front_passes (other c.role) c.longest e es h.alone.back h.q front back)
         soon (suc n) front view back = by Gone (ap is_up (same ∙ waiting), omega (arith, view.2)) (λ _. (let all = all_back ua_in in omega (arith, all, front, owed.0)))
 
         go : (v : View) → IsView v w.near h.alone.near.station h.p → IsHeard v (other c.role) c.longest w.near.station.phase w.back h.alone.back h.q
-            → Held c d (stepped c w es w.met [] w.near.begun (step_of c w e))
+            → Held base c d (stepped c w es w.met [] w.near.begun (step_of c w e))
         go Live view back = not_both (is_up w.near.station.phase) view.0 (ap is_up waiting)
         go Soon view back = soon (ua_in (read_of c e)) refl view (subst (λ (xs : List Entry). AfterUa (other c.role) c.longest xs h.alone.back h.q) is back)
         go Gone view back = by Gone (ap is_up (same ∙ waiting), view.1) (λ _. (let none_left = back waiting in let all = all_back ua_in in omega (arith, none_left, all)))
@@ -311,12 +313,12 @@ module _ (c d : Settings) (joined : AreJoined c d) (reads : ReadsSpelled) (laws 
     -- ---- in Up
 
     up_held : IsNoSabm (read_of c e) → is_up w.near.station.phase ≡ true
-        → Held c d (after_step c w es (heard_by c w e) [] (step_of c w e))
+        → Held base c d (after_step c w es (heard_by c w e) [] (step_of c w e))
     up_held no_sabm up =
-        subst (λ (b : Bool). Held c d (after_step c w es (heard b (number_in (read_of c e)) (record { near = w.near.begun; far = e.session }) w.met) [] (step_of c w e))) (sym up)
+        subst (λ (b : Bool). Held base c d (after_step c w es (heard b (number_in (read_of c e)) (record { near = w.near.begun; far = e.session }) w.met) [] (step_of c w e))) (sym up)
         (go (number_in (read_of c e)) refl comes.1.0)
       where
-        i : InSession c d w h
+        i : InSession base c d w h
         i = in_session c d w h up
 
         comes : Comes (other c.role) c.longest (e ∷ es) h.alone.back h.q
@@ -328,12 +330,15 @@ module _ (c d : Settings) (joined : AreJoined c d) (reads : ReadsSpelled) (laws 
             (sym comes.0 ∙ ap (λ (fs : List PlainFrame). consed (number_in (read_of c e)) fs) (sym (carried_numbers (other c.role) c.longest es)))
             h.holds.1.back
 
-        holds : Holds ⊥ c d (one.after_step c h.alone (carried (other c.role) c.longest es) [] (step_of c w e))
-        holds =
-            subst (λ (z : Station). Holds ⊥ c d (one.after_step c h.alone (carried (other c.role) c.longest es) [] (take_step c e.octets z))) i.view.1
-            (let p = read_joint ⊥ c d joined reads h.alone h.holds.0 h.holds.1 i.machine (read_of c e) (carried (other c.role) c.longest es) (take_step c e.octets h.alone.near.station)
+        gone : Option ℕ
+        gone = first_of (number_in (read_of c e))
+
+        leads : Leads ⊥ c d h.alone h.holds.0 (taken_out gone h.holds.0.back) (one.after_step c h.alone (carried (other c.role) c.longest es) [] (step_of c w e))
+        leads =
+            subst (λ (z : Station). Leads ⊥ c d h.alone h.holds.0 (taken_out gone h.holds.0.back) (one.after_step c h.alone (carried (other c.role) c.longest es) [] (take_step c e.octets z))) i.view.1
+            (read_joint ⊥ c d joined reads h.alone h.holds.0 h.holds.1 i.machine (read_of c e) (carried (other c.role) c.longest es) (take_step c e.octets h.alone.near.station)
             (orderly no_sabm) (carried_orderly (other c.role) c.longest es) shows (laws.take_tells c e.octets h.alone.near.station)
-            (laws.window.take c e.octets h.alone.near.station (record { up = i.machine.up; sound = i.machine.sound }) (read_of c e) refl) in (p.0, p.1))
+            (laws.window.take c e.octets h.alone.near.station (record { up = i.machine.up; sound = i.machine.sound }) (read_of c e) refl))
 
         follows : Follows (ending_of (read_of c e) (window_of c.window w.near.station)) c.window (brought_by (read_of c e)) w.near.station (step_of c w e)
         follows = laws.window.take c e.octets w.near.station i.running (read_of c e) refl
@@ -351,32 +356,32 @@ module _ (c d : Settings) (joined : AreJoined c d) (reads : ReadsSpelled) (laws 
         left = (sym (carried_numbers (other c.role) c.longest es), comes.1.1)
 
         go : (m : Option PlainFrame) → number_in (read_of c e) ≡ m → (number_in (read_of c e) ≡ None) ⊎ (e.session ≡ h.q)
-            → Held c d (after_step c w es (heard true m (record { near = w.near.begun; far = e.session }) w.met) [] (step_of c w e))
+            → Held base c d (after_step c w es (heard true m (record { near = w.near.begun; far = e.session }) w.met) [] (step_of c w e))
         go None none of =
-            live_goes_on c d joined reads w h i.view es (carried (other c.role) c.longest es) [] (step_of c w e) holds left left_line answers
+            live_goes_on c d joined reads w h i.view es (carried (other c.role) c.longest es) [] (step_of c w e) gone leads left left_line answers
             (follows_no_packet (ending_of (read_of c e) (window_of c.window w.near.station)) c.window (read_of c e) w.near.station (step_of c w e) none follows)
         go (Some f) some (inl none) = none_is_some f (sym none ∙ some)
         go (Some f) some (inr session) =
-            live_hears c d joined reads w h i.view es (carried (other c.role) c.longest es) [] (step_of c w e) holds left left_line answers e.session session whole_line.back_begun.0
+            live_hears c d joined reads w h i.view es (carried (other c.role) c.longest es) [] (step_of c w e) gone leads left left_line answers e.session session whole_line.back_begun.0
 
     -- ---- in any phase
 
-    apart_met : is_up w.near.station.phase ≡ false → Held c d (taken c w e es)
-        → Held c d (after_step c w es (heard_by c w e) [] (step_of c w e))
+    apart_met : is_up w.near.station.phase ≡ false → Held base c d (taken c w e es)
+        → Held base c d (after_step c w es (heard_by c w e) [] (step_of c w e))
     apart_met off k =
-        subst (λ (met : List Meeting). Held c d (after_step c w es met [] (step_of c w e)))
+        subst (λ (met : List Meeting). Held base c d (after_step c w es met [] (step_of c w e)))
         (sym (heard_out (is_up w.near.station.phase) (number_in (read_of c e)) (record { near = w.near.begun; far = e.session }) w.met off)) k
 
-    pub take_held : Held c d (after_step c w es (heard_by c w e) [] (step_of c w e))
+    pub take_held : Held base c d (after_step c w es (heard_by c w e) [] (step_of c w e))
     take_held = by w.near.station.phase refl (is_sabm (read_of c e))
       where
         waiting : w.near.station.phase ≡ Waiting → IsNoSabm (read_of c e) → (read_of c e ≡ Ok (ua true)) ⊎ (waiting_up (read_of c e) ≡ false)
-            → Held c d (taken c w e es)
+            → Held base c d (taken c w e es)
         waiting phase no_sabm (inl read) = answered_held read phase
         waiting phase no_sabm (inr no_answer) = waits_held no_sabm no_answer phase
 
         by : (p : Phase) → w.near.station.phase ≡ p → ((f : Bool) × (read_of c e ≡ Ok (sabm f))) ⊎ IsNoSabm (read_of c e)
-            → Held c d (after_step c w es (heard_by c w e) [] (step_of c w e))
+            → Held base c d (after_step c w es (heard_by c w e) [] (step_of c w e))
         by Down phase (inl read) = begins read.0 read.1 (sabm_held read.0 read.1 (subst TakesPart (sym phase) tt))
         by Down phase (inr no_sabm) =
             apart_met (ap is_up phase)

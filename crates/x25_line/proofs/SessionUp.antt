@@ -18,8 +18,10 @@ use Rattle.x25_line.specs.Stations.{Stations}
 use Rattle.x25_line.specs.Stations as one
 use Rattle.x25_line.specs.StationClaims.{AreJoined, number_in}
 use Rattle.x25_line.specs.Sessions.{Entry, Meeting, Sessions, ua_in, disc_in, begun_by, after_step}
+use Rattle.x25_line.specs.SessionNumbers.{Standing}
 use Rattle.x25_line.specs.SessionClaims.{IsInOrder}
-use Rattle.x25_line.proofs.StationSteps.{Holds}
+use Rattle.x25_line.specs.WholeNumbers.{taken_out}
+use Rattle.x25_line.proofs.StationSteps.{Holds, Leads}
 use Rattle.x25_line.proofs.StationAway.{second_false}
 use Rattle.x25_line.proofs.StationClaimLemmas.{holds_order}
 use Rattle.x25_line.proofs.SessionLines.{Read, of_ua, of_disc, none_is_some, count, AllNumbered, numbered_count}
@@ -146,9 +148,9 @@ module _ (c d : Settings) (joined : AreJoined c d) (reads : ReadsSpelled) where
   quiet_up : (v : Stations) (os down : List (List ℕ)) (step : Step) → Holds ⊥ c d (one.after_step c v os down step) → step.notes.up ≡ false
   quiet_up v os down step holds = second_false v.near.came_up step.notes.up holds.1.near_notes.once
 
-  in_pair : (w : Sessions) (h : Held c d w) → IsView Live w.near h.alone.near.station h.p → (os down : List (List ℕ)) (step : Step) → Holds ⊥ c d (one.after_step c h.alone os down step)
+  in_pair : {base : Standing} (w : Sessions) (h : Held base c d w) → IsView Live w.near h.alone.near.station h.p → (os down : List (List ℕ)) (step : Step) → Holds ⊥ c d (one.after_step c h.alone os down step)
       → IsInOrder (end_after w.near w.near.begun down step) w.far (record { near = h.p; far = h.q })
-  in_pair w h near os down step holds =
+  in_pair {base} w h near os down step holds =
       let v : Stations = one.after_step c h.alone os down step in
       let order = holds_order ⊥ c d v holds in
       let lists = live_lists c w.near h.p h.alone os down step near.2 h.near_lists in
@@ -159,31 +161,31 @@ module _ (c d : Settings) (joined : AreJoined c d) (reads : ReadsSpelled) where
       }
 
   -- a step that hands nothing up
-  pub live_goes_on : (w : Sessions) (h : Held c d w) → IsView Live w.near h.alone.near.station h.p → (es : List Entry) (os down : List (List ℕ)) (step : Step)
-      → Holds ⊥ c d (one.after_step c h.alone os down step) → Comes (other c.role) c.longest es os h.q
-      → OnLine c d w.near.station.phase w.far.station.phase w.near.begun w.far.begun w.out es → Answers w step → step.packet ≡ None → Held c d (after_step c w es w.met down step)
-  live_goes_on w h near es os down step holds comes line answers none =
+  pub live_goes_on : {base : Standing} (w : Sessions) (h : Held base c d w) → IsView Live w.near h.alone.near.station h.p → (es : List Entry) (os down : List (List ℕ)) (step : Step) (gone : Option ℕ)
+      → Leads ⊥ c d h.alone h.holds.0 (taken_out gone h.holds.0.back) (one.after_step c h.alone os down step) → Comes (other c.role) c.longest es os h.q
+      → OnLine c d w.near.station.phase w.far.station.phase w.near.begun w.far.begun w.out es → Answers w step → step.packet ≡ None → Held base c d (after_step c w es w.met down step)
+  live_goes_on {base} w h near es os down step gone leads comes line answers none =
       let e = end_after w.near w.near.begun down step in
       let same : e.up h.p ≡ w.near.up h.p = ap (λ (o : Option (List ℕ)). (end_up w o) h.p) none ∙ extended_nil w.near.up w.near.begun h.p in
-      subst (λ (n : ℕ). Held c d (stepped c w es w.met down n step)) (sym (ap (λ (b : Bool). begun_by b w.near.begun) (quiet_up h.alone os down step holds)))
-      (live_held c d joined reads w h near es os w.met down step holds comes line answers
-      (meetings_go_on w.near e w.far h.p h.q w.met (grown w.near down step h.p near.2) (in_pair w h near os down step holds) same h.meetings))
+      subst (λ (n : ℕ). Held base c d (stepped c w es w.met down n step)) (sym (ap (λ (b : Bool). begun_by b w.near.begun) (quiet_up h.alone os down step (leads.0, leads.1))))
+      (live_held c d joined reads w h near es os w.met down step gone leads comes line answers
+      (meetings_go_on w.near e w.far h.p h.q w.met (grown w.near down step h.p near.2) (in_pair w h near os down step (leads.0, leads.1)) same h.meetings))
     where
       end_up : Sessions → Option (List ℕ) → ℕ → List (List ℕ)
       end_up z o = (end_after z.near z.near.begun [] (record step { packet = o })).up
 
   -- a step by a frame with a number
-  pub live_hears : (w : Sessions) (h : Held c d w) → IsView Live w.near h.alone.near.station h.p → (es : List Entry) (os down : List (List ℕ)) (step : Step)
-      → Holds ⊥ c d (one.after_step c h.alone os down step) → Comes (other c.role) c.longest es os h.q
+  pub live_hears : {base : Standing} (w : Sessions) (h : Held base c d w) → IsView Live w.near h.alone.near.station h.p → (es : List Entry) (os down : List (List ℕ)) (step : Step) (gone : Option ℕ)
+      → Leads ⊥ c d h.alone h.holds.0 (taken_out gone h.holds.0.back) (one.after_step c h.alone os down step) → Comes (other c.role) c.longest es os h.q
       → OnLine c d w.near.station.phase w.far.station.phase w.near.begun w.far.begun w.out es → Answers w step → (session : ℕ) → session ≡ h.q → session ≤ w.far.begun
-      → Held c d (after_step c w es (record { near = w.near.begun; far = session } ∷ w.met) down step)
-  live_hears w h near es os down step holds comes line answers session is begun =
+      → Held base c d (after_step c w es (record { near = w.near.begun; far = session } ∷ w.met) down step)
+  live_hears {base} w h near es os down step gone leads comes line answers session is begun =
       let e = end_after w.near w.near.begun down step in
       let pair : Meeting = record { near = h.p; far = h.q } in
       let meetings : Meetings e w.far h.p h.q (pair ∷ w.met) =
-      meetings_hear w.near e w.far h.p h.q w.met (grown w.near down step h.p near.2) (in_pair w h near os down step holds) (omega (arith, near.2)) (omega (arith, is, begun)) h.meetings in
-      subst (λ (n : ℕ). Held c d (stepped c w es (record { near = w.near.begun; far = session } ∷ w.met) down n step))
-      (sym (ap (λ (b : Bool). begun_by b w.near.begun) (quiet_up h.alone os down step holds)))
-      (subst (λ (n : ℕ). Held c d (stepped c w es (record { near = n; far = session } ∷ w.met) down w.near.begun step)) (sym near.2)
-      (subst (λ (n : ℕ). Held c d (stepped c w es (record { near = h.p; far = n } ∷ w.met) down w.near.begun step)) (sym is)
-      (live_held c d joined reads w h near es os (pair ∷ w.met) down step holds comes line answers meetings)))
+      meetings_hear w.near e w.far h.p h.q w.met (grown w.near down step h.p near.2) (in_pair w h near os down step (leads.0, leads.1)) (omega (arith, near.2)) (omega (arith, is, begun)) h.meetings in
+      subst (λ (n : ℕ). Held base c d (stepped c w es (record { near = w.near.begun; far = session } ∷ w.met) down n step))
+      (sym (ap (λ (b : Bool). begun_by b w.near.begun) (quiet_up h.alone os down step (leads.0, leads.1))))
+      (subst (λ (n : ℕ). Held base c d (stepped c w es (record { near = n; far = session } ∷ w.met) down w.near.begun step)) (sym near.2)
+      (subst (λ (n : ℕ). Held base c d (stepped c w es (record { near = h.p; far = n } ∷ w.met) down w.near.begun step)) (sym is)
+      (live_held c d joined reads w h near es os (pair ∷ w.met) down step gone leads comes line answers meetings)))

@@ -5,6 +5,7 @@ pub mod StationClaims
 pub mod WholeNumbers
 pub mod StationRows
 pub mod Sessions
+pub mod SessionNumbers
 pub mod SessionClaims
 pub mod SessionEvents
 pub mod SessionRows
