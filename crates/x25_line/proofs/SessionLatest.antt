@@ -24,8 +24,8 @@ of_latest : (from : Role) (n1 begun q : ℕ) (es : List Entry) → begun ≤ q �
 of_latest from n1 begun q [] high all of = tt
 of_latest from n1 begun q (e ∷ es) high all of = (elim of.0 [ inl none ↦ inl none | inr is ↦ inr (omega (arith, is, high, all.0)) ], of_latest from n1 begun q es high all.1 of.1)
 
-pub hears_latest : {base : Standing} (c d : Settings) (w : Sessions) → Held base c d w → is_up w.near.station.phase ≡ true → AllOf (other c.role) c.longest w.far.begun w.back
-hears_latest {base} c d w h up = of_latest (other c.role) c.longest w.far.begun h.q w.back (far_high c d w h) h.line.back_begun (in_session c d w h up).comes.1
+pub hears_latest : {stand : Standing} (c d : Settings) (w : Sessions) → Held stand c d w → is_up w.near.station.phase ≡ true → AllOf (other c.role) c.longest w.far.begun w.back
+hears_latest {stand} c d w h up = of_latest (other c.role) c.longest w.far.begun stand.far w.back (far_high c d w h) h.line.back_begun (in_session c d w h up).comes.1
 
 -- ---- whom an end meets
 
@@ -49,19 +49,19 @@ some_meets p q near far [] is high begun paired some = absurd some
 some_meets p q near far (m ∷ ms) is high begun paired some =
     elim some [ inl here ↦ (meets p q near far m is high begun.0 paired.0 here).1 | inr there ↦ some_meets p q near far ms is high begun.1 paired.1 there ]
 
-meets_latest : {base : Standing} (c d : Settings) (w : Sessions) → Held base c d w → is_up w.near.station.phase ≡ true → AllMet (λ (m : Meeting). m.near ≡ w.near.begun → m.far ≡ w.far.begun) w.met
-meets_latest {base} c d w h up = all_meet h.p h.q w.near.begun w.far.begun w.met (in_session c d w h up).view.2 (far_high c d w h) h.meetings.begun h.meetings.paired
+meets_latest : {stand : Standing} (c d : Settings) (w : Sessions) → Held stand c d w → is_up w.near.station.phase ≡ true → AllMet (λ (m : Meeting). m.near ≡ w.near.begun → m.far ≡ w.far.begun) w.met
+meets_latest {stand} c d w h up = all_meet stand.near stand.far w.near.begun w.far.begun w.met (in_session c d w h up).view.2 (far_high c d w h) h.meetings.begun h.meetings.paired
 
 -- ---- what has arrived
 
-idle_arrived : {base : Standing} (c d : Settings) (w : Sessions) → Held base c d w → is_idle w.near.station ≡ true → (is_up w.far.station.phase ≡ true) ⊎ SomeMet (λ (m : Meeting). m.near ≡ w.near.begun) w.met
+idle_arrived : {stand : Standing} (c d : Settings) (w : Sessions) → Held stand c d w → is_idle w.near.station ≡ true → (is_up w.far.station.phase ≡ true) ⊎ SomeMet (λ (m : Meeting). m.near ≡ w.near.begun) w.met
     → w.far.up w.far.begun ≡ w.near.down w.near.begun
-idle_arrived {base} c d w h idle which =
+idle_arrived {stand} c d w h idle which =
     let i = in_session c d w h (and_parts _ _ idle).0 in
-    let order = holds_order ⊥ c d h.alone h.holds in
-    let stands : w.far.begun ≡ h.q = elim which [
-      | inl up ↦ up_session h.far_view w.far h.alone.far.station h.q h.far up
-      | inr some ↦ sym (some_meets h.p h.q w.near.begun w.far.begun w.met i.view.2 (far_high c d w h) h.meetings.begun h.meetings.paired some)
+    let order = holds_order ⊥ c d h.alone (stand.machine, h.holds) in
+    let stands : w.far.begun ≡ stand.far = elim which [
+      | inl up ↦ up_session h.far_view w.far h.alone.far.station stand.far h.far up
+      | inr some ↦ sym (some_meets stand.near stand.far w.near.begun w.far.begun w.met i.view.2 (far_high c d w h) h.meetings.begun h.meetings.paired some)
     ] in
     ap w.far.up stands ∙ h.far_lists.up ∙ order.0.idle (ap is_idle i.view.1 ∙ idle) ∙ sym h.near_lists.down ∙ ap w.near.down (sym i.view.2)
 

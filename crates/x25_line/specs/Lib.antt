@@ -5,8 +5,8 @@ pub mod StationClaims
 pub mod WholeNumbers
 pub mod StationRows
 pub mod Sessions
-pub mod SessionNumbers
 pub mod SessionClaims
+pub mod SessionNumbers
 pub mod SessionEvents
 pub mod SessionRows
 pub mod RawMachine

@@ -9,9 +9,8 @@ use Rattle.x25_link.specs.MustSend.{other}
 use Rattle.x25_link.specs.Steps.{is_idle}
 use Rattle.x25_line.specs.InWindow.{Begins}
 use Rattle.x25_line.specs.Stations.{StationEnd, Stations, Event, start, run as run_alone}
-use Rattle.x25_line.specs.StationClaims.{AreJoined, BothInOrder, BothHaveTheirLists, AreInWindow, NoFrmr, NoFrmrSent, AreWhole, AllSentAreWhole, number_in, numbered_on, IsBehind}
-use Rattle.x25_line.specs.Sessions.{Entry, SessionEnd, Meeting, Sessions, happens, run, from_nothing, from_set_up, AreTimely, swapped}
-use Rattle.x25_line.specs.SessionNumbers.{Standing, turned as turned_standing, GoesOn}
+use Rattle.x25_line.specs.StationClaims.{AreJoined, BothInOrder, BothHaveTheirLists, AreInWindow, NoFrmr, NoFrmrSent, AreWhole, AllSentAreWhole, number_in, numbered_on}
+use Rattle.x25_line.specs.Sessions.{Entry, SessionEnd, Meeting, Sessions, run, from_nothing, from_set_up, AreTimely, swapped}
 
 -- what holds after each list of events, from nothing and from a link just set up, where timer T1 is timely
 abbrev pub Throughout : (Settings → Settings → Sessions → Type 0) → Type 0
@@ -110,31 +109,6 @@ pub record Stands (c d : Settings) (w : Sessions) : Type 0 where
 pub record EachUpStands (c d : Settings) (w : Sessions) : Type 0 where
   pub near : is_up w.near.station.phase ≡ true → Stands c d w
   pub far : is_up w.far.station.phase ≡ true → Stands d c (swapped w)
-
--- ---- .. and its window machine, which goes on
-
--- these two sessions stand, with this machine behind them
-pub record StandsWith (c d : Settings) (w : Sessions) (s : Standing) : Type 0 where
-  pub stands : Stands c d w
-  pub near : s.near ≡ w.near.begun
-  pub far : s.far ≡ stands.other_session
-  pub behind : IsBehind c d stands.alone s.machine
-
-pub record EachUpStandsWith (c d : Settings) (w : Sessions) (s : Standing) : Type 0 where
-  pub near_up : s.near_up ≡ is_up w.near.station.phase
-  pub far_up : s.far_up ≡ is_up w.far.station.phase
-  pub near : is_up w.near.station.phase ≡ true → StandsWith c d w s
-  pub far : is_up w.far.station.phase ≡ true → StandsWith d c (swapped w) (turned_standing s)
-
--- from event to event
-abbrev pub MachinesGoAlong : Settings → Settings → List Event → Sessions → Standing → Type 0
-MachinesGoAlong c d [] w s = EachUpStandsWith c d w s
-MachinesGoAlong c d (e ∷ es) w s = EachUpStandsWith c d w s × (n : Standing) × GoesOn c d s n × MachinesGoAlong c d es (happens c d e w) n
-
-abbrev pub StandingGoesOn : Type 0
-StandingGoesOn =
-    (c d : Settings) → AreJoined c d → (begin : Sessions) → (begin ≡ from_nothing) ⊎ (begin ≡ from_set_up) → (events : List Event) → AreTimely c d events begin
-    → (s : Standing) × MachinesGoAlong c d events begin s
 
 -- ---- the latest sessions
 
