@@ -10,9 +10,10 @@ use Rattle.x25_link.specs.MustSend.{Step, other}
 use Rattle.x25_line.specs.Stations.{start}
 use Rattle.x25_line.specs.StationClaims.{AreJoined, NoFrmr, numbered_on}
 use Rattle.x25_line.specs.Sessions.{Entry, SessionEnd, Sessions, sabm_in, ua_in, disc_in, how_many, sent_in}
+use Rattle.x25_line.specs.SessionNumbers.{Standing, anew}
 use Rattle.x25_line.specs.SessionClaims.{octets_of}
 use Rattle.x25_line.proofs.StationLines.{AreOrderly, orderly_append, AreParting, no_frmr_append, parting_numbered, parting_orderly, parting_whole}
-use Rattle.x25_line.proofs.StationRuns.{start_joint}
+use Rattle.x25_line.proofs.StationRuns.{start_machine}
 use Rattle.x25_line.proofs.SessionLines.{Read, octets_append, octets_sent, begun_append, begun_more, begun_sent, numbers, many_append, Behind, behind_quiet, lost}
 use Rattle.x25_line.proofs.SessionHeld.{View, Soon, Gone, IsView, IsHeard, AfterUa, Owes, owes_less, OnLine, line_changed, HasLists, SameLists, meetings_same, meetings_anew, Held, whole_apart, after_answer}
 use Rattle.x25_line.proofs.SessionSteps.{end_after, stepped, nothing_handed, waiting_is_closed, asked_by, many_out}
@@ -28,12 +29,12 @@ begins_lists e n later less =
 
 module _ (c d : Settings) (joined : AreJoined c d) (reads : ReadsSpelled) where
   -- the near end answers UA; the far end asked, so that it is about to be in its session, or it is Closed
-  pub begins_held : (w : Sessions) (h : Held c d w) (e : Entry) (es : List Entry) → w.back ≡ e ∷ es → sabm_in (frame_of (other c.role) c.longest e.octets) ≡ 1 → (n : ℕ) (f : Bool) (step : Step) (v : View)
-      → step.packet ≡ None → step.side.out ≡ ua f ∷ [] → w.near.begun ≤ n → n ≤ suc w.near.begun
+  pub begins_held : {stand : Standing} (w : Sessions) (h : Held stand c d w) (e : Entry) (es : List Entry) → w.back ≡ e ∷ es → sabm_in (frame_of (other c.role) c.longest e.octets) ≡ 1 → (n : ℕ) (f : Bool) (step : Step) (v : View)
+      → step.packet ≡ None → step.side.out ≡ ua f ∷ [] → w.near.begun ≤ n
       → IsView v (end_after w.near n [] step) fresh (suc w.near.begun) → IsHeard v (other c.role) c.longest step.side.near.phase es [] (suc w.far.begun)
       → Owes step.side.near.phase (how_many sabm_in (other d.role) d.longest w.out + how_many ua_in (other c.role) c.longest es) (how_many disc_in (other d.role) d.longest w.out)
-      → Held c d (stepped c w es w.met [] n step)
-  begins_held w h e es is one n f step v none answer le few view heard owes = elim (asked_by w.far.station.phase _ _ some h.line.far_owes) [
+      → Held (anew c d w) c d (stepped c w es w.met [] n step)
+  begins_held {stand} w h e es is one n f step v none answer le view heard owes = elim (asked_by w.far.station.phase _ _ some h.line.far_owes) [
     | inl waits ↦ by Soon (waits.0, refl, refl) (subst (λ (fs : List PlainFrame). AfterUa (other d.role) d.longest (w.out ++ sent_in n c.role fs) [] (suc w.near.begun)) (sym answer)
         (after_answer (other d.role) d.longest w.out [] (record { session = n; octets = spelling_of c.role (ua f) }) [] (suc w.near.begun) (omega (arith, waits.1, some_back)) ua_reads (refl, tt)))
     | inr closed ↦ by Gone (ap is_up closed, omega arith) (λ waiting. waiting_is_closed w.far.station.phase waiting closed)
@@ -95,13 +96,11 @@ module _ (c d : Settings) (joined : AreJoined c d) (reads : ReadsSpelled) where
           let old = h.near_lists.later (suc w.near.begun) (omega arith) in
           record { down = same.down (suc w.near.begun) ∙ old.0; up = same.up (suc w.near.begun) ∙ old.1; later = later }
 
-      by : (u : View) → IsView u w.far fresh (suc w.far.begun) → IsHeard u (other d.role) d.longest w.far.station.phase (w.out ++ more) [] (suc w.near.begun) → Held c d (stepped c w es w.met [] n step)
+      by : (u : View) → IsView u w.far fresh (suc w.far.begun) → IsHeard u (other d.role) d.longest w.far.station.phase (w.out ++ more) [] (suc w.near.begun) → Held (anew c d w) c d (stepped c w es w.met [] n step)
       by u far_view out =
           record {
             alone = start;
-            holds = start_joint ⊥ c d joined;
-            p = suc w.near.begun;
-            q = suc w.far.begun;
+            holds = start_machine ⊥ c d joined;
             near_view = v;
             far_view = u;
             near = view;
@@ -123,7 +122,7 @@ module _ (c d : Settings) (joined : AreJoined c d) (reads : ReadsSpelled) where
             near_lists = near_lists;
             far_lists = begins_lists w.far (suc w.far.begun) h.far_lists.later (omega arith);
             meetings = meetings_same w.near (end_after w.near n [] step) w.far (suc w.near.begun) (suc w.far.begun) w.met same
-                (meetings_anew w.near w.far h.p h.q (suc w.near.begun) (suc w.far.begun) w.met (omega arith) (omega arith) h.meetings);
+                (meetings_anew w.near w.far stand.near stand.far (suc w.near.begun) (suc w.far.begun) w.met (omega arith) (omega arith) h.meetings);
             no_frmr = subst (λ (xs : List PlainFrame). NoFrmr (w.sent ++ xs)) (sym answer) (no_frmr_append w.sent (ua f ∷ []) h.no_frmr tt);
             whole = whole_apart d.longest w.near (end_after w.near n [] step) w.far w.sent fs same (subst (AreParting (Unit {0})) (sym answer) tt) h.whole;
           }

@@ -16,6 +16,7 @@ use Rattle.x25_link.specs.WindowLaw.{window_of, brought_by, ending_of, Follows}
 use Rattle.x25_line.specs.Stations.{Act, Put, Deliver, T1, Connect, Disconnect, Abandon, Lose, Damage, Near, Far, is_visible}
 use Rattle.x25_line.specs.StationClaims.{AreJoined, number_in}
 use Rattle.x25_line.specs.Sessions.{Entry, SessionEnd, Meeting, Sessions, turned, swapped, begun_by, after_step, unless, heard, delivered, replaced, acts, run}
+use Rattle.x25_line.specs.SessionNumbers.{Standing}
 use Rattle.x25_line.specs.SessionClaims.{Throughout, AllOf}
 use Rattle.x25_line.specs.SessionEvents.{NextBegins, GoesOn, HandsInSession, EachEventHandsInSession, latest, BeginsAfresh, MeetsNone, MeetsOne, EachEventMeetsLatest}
 use Rattle.x25_line.proofs.StationSteps.{not_both}
@@ -177,18 +178,18 @@ afresh old new later next =
     record { begins = next; down = ap new.down next.begun ∙ next.down (suc old.begun) ∙ none.0; up = ap new.up next.begun ∙ next.up (suc old.begun) ∙ none.1 }
 
 -- nothing is handed up
-step_meets_none : (c d : Settings) (w : Sessions) → Held c d w → (step : Step) (now : List Meeting) → step.packet ≡ None → now ≡ w.met → MeetsNone w.near (end_by w.near [] step) w.met now
-step_meets_none c d w h step now none same = record { met = same; nothing_up = by step.notes.up refl }
+step_meets_none : {stand : Standing} (c d : Settings) (w : Sessions) → Held stand c d w → (step : Step) (now : List Meeting) → step.packet ≡ None → now ≡ w.met → MeetsNone w.near (end_by w.near [] step) w.met now
+step_meets_none {stand} c d w h step now none same = record { met = same; nothing_up = by step.notes.up refl }
   where
     by : (b : Bool) → step.notes.up ≡ b → BeginsAfresh w.near (end_by w.near [] step) ⊎ GoesOn [] [] w.near (end_by w.near [] step)
     by true high = inl (afresh w.near (end_by w.near [] step) h.near_lists.later (step_begins w.near step none high))
     by false low = inr (quiet_goes w.near step none low)
 
 module _ (rests : SessionLaws) (hands_up : TakeHandsUp) where
-  deliver_meets : (c d : Settings) (w : Sessions) → Held c d w → (es : List Entry) → w.back ≡ es
+  deliver_meets : {stand : Standing} (c d : Settings) (w : Sessions) → Held stand c d w → (es : List Entry) → w.back ≡ es
       → MeetsOne Deliver (latest w) w.near (delivered c es w).near w.met (delivered c es w).met
-  deliver_meets c d w h [] is = inr (record { met = refl; nothing_up = inr (stays w.near) })
-  deliver_meets c d w h (e ∷ es) is = by (is_up w.near.station.phase) refl
+  deliver_meets {stand} c d w h [] is = inr (record { met = refl; nothing_up = inr (stays w.near) })
+  deliver_meets {stand} c d w h (e ∷ es) is = by (is_up w.near.station.phase) refl
     where
       step : Step
       step = take_step c e.octets w.near.station
@@ -228,17 +229,17 @@ module _ (rests : SessionLaws) (hands_up : TakeHandsUp) where
       by false off =
           inr (step_meets_none c d w h step met (out_empty w.near.station step (hands_up c e.octets w.near.station) off) (heard_out (is_up w.near.station.phase) (number_in (read_of c e)) pair w.met off))
 
-  acts_meet : (c d : Settings) (a : Act) (w : Sessions) → Held c d w → MeetsOne a (latest w) w.near (acts c a w).near w.met (acts c a w).met
-  acts_meet c d (Put packet) w h =
+  acts_meet : {stand : Standing} (c d : Settings) (a : Act) (w : Sessions) → Held stand c d w → MeetsOne a (latest w) w.near (acts c a w).near w.met (acts c a w).met
+  acts_meet {stand} c d (Put packet) w h =
       let done = after_step c w w.back w.met (packet ∷ []) (put_step c packet w.near.station) in
       met_if (nat_le (length packet) c.longest) w (unless (put_refusal w.near.station) w done) (met_unless (put_refusal w.near.station) w done refl)
-  acts_meet c d Deliver w h = deliver_meets c d w h w.back refl
-  acts_meet c d T1 w h = met_unless (timer_refusal w.near.station) w (after_step c w w.back w.met [] (timer_step c w.near.station)) refl
-  acts_meet c d Connect w h = met_unless (connect_refusal w.near.station.phase) w (after_step c w w.back w.met [] (connect_step c w.near.station)) refl
-  acts_meet c d Disconnect w h = met_unless (disconnect_refusal w.near.station.phase) w (after_step c w w.back w.met [] (disconnect_step c w.near.station)) refl
-  acts_meet c d Abandon w h = met_if (is_up w.near.station.phase) w (after_step c w w.back w.met [] (abandon_step c w.near.station)) refl
-  acts_meet c d (Lose i) w h = refl
-  acts_meet c d (Damage i octets) w h = met_if (is_visible octets) w (record w { back = replaced w.back i octets }) refl
+  acts_meet {stand} c d Deliver w h = deliver_meets c d w h w.back refl
+  acts_meet {stand} c d T1 w h = met_unless (timer_refusal w.near.station) w (after_step c w w.back w.met [] (timer_step c w.near.station)) refl
+  acts_meet {stand} c d Connect w h = met_unless (connect_refusal w.near.station.phase) w (after_step c w w.back w.met [] (connect_step c w.near.station)) refl
+  acts_meet {stand} c d Disconnect w h = met_unless (disconnect_refusal w.near.station.phase) w (after_step c w w.back w.met [] (disconnect_step c w.near.station)) refl
+  acts_meet {stand} c d Abandon w h = met_if (is_up w.near.station.phase) w (after_step c w w.back w.met [] (abandon_step c w.near.station)) refl
+  acts_meet {stand} c d (Lose i) w h = refl
+  acts_meet {stand} c d (Damage i octets) w h = met_if (is_visible octets) w (record w { back = replaced w.back i octets }) refl
 
   -- ---- the other end
 
@@ -265,11 +266,11 @@ module _ (rests : SessionLaws) (hands_up : TakeHandsUp) where
 
   -- ---- the claim
 
-  event_meets : (c d : Settings) → AreJoined c d → (w : Sessions) → Held c d w → EachEventMeetsLatest c d w
-  event_meets c d joined w h (Near act) = acts_meet c d act w h
-  event_meets c d joined w h (Far act) =
+  event_meets : {stand : Standing} (c d : Settings) → AreJoined c d → (w : Sessions) → Held stand c d w → EachEventMeetsLatest c d w
+  event_meets {stand} c d joined w h (Near act) = acts_meet c d act w h
+  event_meets {stand} c d joined w h (Far act) =
       let v = acts d act (swapped w) in
       meets_turned act (latest (swapped w)) w.far v.near w.met v.met (acts_meet d c act (swapped w) (held_swapped c d joined w h))
 
   pub each_event_meets_latest : ReadsSpelled → Throughout EachEventMeetsLatest
-  each_event_meets_latest reads c d joined begin is events timely = event_meets c d joined (run c d events begin) (throughout reads rests c d joined begin is events timely)
+  each_event_meets_latest reads c d joined begin is events timely = event_meets c d joined (run c d events begin) (throughout reads rests c d joined begin is events timely).1

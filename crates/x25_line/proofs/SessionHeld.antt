@@ -1,11 +1,12 @@
 -- What holds of two stations over set-up and re-set-up at any moment.
-use Rattle.std.proofs.Common.{◌≡◌, ◌≤◌, ◌<◌, ◌==◌, ℕ, zero, suc, ◌+◌, List, [], ◌∷◌, ◌++◌, ◌⊎◌, inl, inr, Bool, true, false, if◌then◌else◌, refl, sym, ap, ◌∙◌, subst, arith, append-nil}
+use Rattle.std.proofs.Common.{◌≡◌, ◌≤◌, ◌<◌, ◌==◌, ℕ, zero, suc, ◌+◌, List, [], ◌∷◌, ◌++◌, ◌⊎◌, inl, inr, Bool, true, false, if◌then◌else◌, length, Option, None, refl, sym, ap, ◌∙◌, subst, arith, append-nil}
 use Rattle.std.specs.List.{Contains}
 use Rattle.std.proofs.lemmas.Bool.{eq-eqb, eqb-true}
 use Rattle.std.proofs.lemmas.List.Elements.{Contains-append_left, Contains-append_right, Contains-append_cases}
 use Rattle.x25_bits.specs.declared.role.Role.{Role}
 use Rattle.x25_frame.specs.PlainFrame.{PlainFrame}
 use Rattle.x25_frame.specs.Reading.{frame_of}
+use Rattle.x25_window.specs.Window.{End, Frame}
 use Rattle.x25_link.specs.declared.phase.Phase.{Phase}
 use Rattle.x25_link.specs.declared.phase.Phase.TheVariants.{Down, Waiting, Up, Closed}
 use Rattle.x25_link.specs.Station.{Settings, Station, is_up, fresh}
@@ -14,9 +15,12 @@ use Rattle.x25_line.specs.InWindow.{Begins}
 use Rattle.x25_line.specs.Stations.{StationEnd, Stations}
 use Rattle.x25_line.specs.StationClaims.{NoFrmr, AreWhole, numbered_on}
 use Rattle.x25_line.specs.Sessions.{Entry, SessionEnd, Meeting, Sessions, sabm_in, ua_in, disc_in, how_many, extended}
+use Rattle.x25_line.specs.Line.{Line}
+use Rattle.x25_line.specs.WholeNumbers.{given, taken_out, counted}
+use Rattle.x25_line.specs.SessionNumbers.{Standing, standing_after}
 use Rattle.x25_line.specs.SessionClaims.{AllMet, SomeMet, IsAbove, InStep, IsInOrder, octets_of, AllOf, AreWholeIn}
 use Rattle.x25_line.proofs.StationLines.{AreOrderly, numbered_append, AreParting, whole_more, whole_append, parting_whole}
-use Rattle.x25_line.proofs.StationSteps.{Holds, not_both}
+use Rattle.x25_line.proofs.StationSteps.{Joint, FitsEnd, counted_off, counted_fits, none_put, not_both}
 use Rattle.x25_line.proofs.SessionLines.{count, of_sabm, of_ua, of_disc, AllBegun, numbers, numbers_append, quiet_tail, quiet_of, of_append, many_append, Behind, Change, change_many, change_behind, change_begun, change_orderly}
 
 -- ---- the session that stands, and how an end is in it
@@ -265,31 +269,66 @@ meetings_hear e f far p q met grows now near_le far_le h =
 
 -- ---- what holds
 
-pub record Held (c d : Settings) (w : Sessions) : Type 0 where
-  -- the sessions that stand, by themselves, and their numbers
+-- of the sessions that stand, and their window machine
+pub record Held (stand : Standing) (c d : Settings) (w : Sessions) : Type 0 where
+  -- these sessions by themselves
   pub alone : Stations
-  pub holds : Holds ⊥ c d alone
-  pub p : ℕ
-  pub q : ℕ
+  pub holds : Joint ⊥ c d alone stand.machine
   pub near_view : View
   pub far_view : View
-  pub near : IsView near_view w.near alone.near.station p
-  pub far : IsView far_view w.far alone.far.station q
-  pub back : IsHeard near_view (other c.role) c.longest w.near.station.phase w.back alone.back q
-  pub out : IsHeard far_view (other d.role) d.longest w.far.station.phase w.out alone.out p
+  pub near : IsView near_view w.near alone.near.station stand.near
+  pub far : IsView far_view w.far alone.far.station stand.far
+  pub back : IsHeard near_view (other c.role) c.longest w.near.station.phase w.back alone.back stand.far
+  pub out : IsHeard far_view (other d.role) d.longest w.far.station.phase w.out alone.out stand.near
   pub line : OnLine c d w.near.station.phase w.far.station.phase w.near.begun w.far.begun w.out w.back
-  pub near_lists : HasLists w.near p alone.near
-  pub far_lists : HasLists w.far q alone.far
-  pub meetings : Meetings w.near w.far p q w.met
+  pub near_lists : HasLists w.near stand.near alone.near
+  pub far_lists : HasLists w.far stand.far alone.far
+  pub meetings : Meetings w.near w.far stand.near stand.far w.met
   pub no_frmr : NoFrmr w.sent
   pub whole : AreWholeIn d.longest w.near w.far w.sent
 
--- no end began a session later than the one that stands
-pub near_high : (c d : Settings) (w : Sessions) (h : Held c d w) → w.near.begun ≤ h.p
-near_high c d w h = view_begun h.near_view w.near h.alone.near.station h.p h.near
+-- the machine stands still where the end isn't in the session
+pub counted_view : (v : View) (c : Settings) (e : SessionEnd) (t : Station) (session : ℕ) (l : End (List ℕ)) → IsView v e t session → FitsEnd ⊥ c t l → counted c.window e.station l ≡ l
+counted_view Live c e t session l h fits = ap (λ (z : Station). counted c.window z l) (sym h.1) ∙ counted_fits ⊥ c t l fits
+counted_view Soon c e t session l h fits = counted_off c.window e.station l (ap is_up h.0)
+counted_view Gone c e t session l h fits = counted_off c.window e.station l h.0
 
-pub far_high : (c d : Settings) (w : Sessions) (h : Held c d w) → w.far.begun ≤ h.q
-far_high c d w h = view_begun h.far_view w.far h.alone.far.station h.q h.far
+-- the same two sessions, with this machine
+abbrev pub with_machine : Standing → Line (List ℕ) → Standing
+with_machine stand m = record { near = stand.near; far = stand.far; machine = m }
+
+-- .. which is the one that the definition says
+pub standing_after_is : (c : Settings) (station : Station) (put : List (List ℕ)) (place : Option ℕ) (stand : Standing) (m : Line (List ℕ)) → m.near ≡ counted c.window station stand.machine.near → m.far ≡ stand.machine.far
+    → m.out ≡ stand.machine.out ++ given m.near.acked (length m.near.taken) stand.machine.near.sent (numbered_on c.role c.longest put) → m.back ≡ taken_out place stand.machine.back
+    → with_machine stand m ≡ standing_after c station put place stand
+standing_after_is c station put place stand m near far out back =
+    let l = stand.machine in
+    let frames : List PlainFrame = numbered_on c.role c.longest put in
+    let made : End (List ℕ) → End (List ℕ) → List (Frame (List ℕ)) → List (Frame (List ℕ)) → Line (List ℕ) = λ near far out back. record { near = near; far = far; out = out; back = back } in
+    ap (with_machine stand)
+    (ap (λ (out : List (Frame (List ℕ))). made m.near m.far out m.back) out
+    ∙ ap (λ (e : End (List ℕ)). made e m.far (l.out ++ given e.acked (length e.taken) l.near.sent frames) m.back) near
+    ∙ ap (λ (far : End (List ℕ)). (let e = counted c.window station l.near in made e far (l.out ++ given e.acked (length e.taken) l.near.sent frames) m.back)) far
+    ∙ ap (λ (back : List (Frame (List ℕ))). (let e = counted c.window station l.near in made e l.far (l.out ++ given e.acked (length e.taken) l.near.sent frames) back)) back)
+
+-- an end that is no part of it goes on, and puts no frame with a number
+pub stays_on : (c : Settings) (station : Station) (put : List (List ℕ)) (stand : Standing) → counted c.window station stand.machine.near ≡ stand.machine.near → numbered_on c.role c.longest put ≡ []
+    → stand ≡ standing_after c station put None stand
+stays_on c station put stand still none =
+    standing_after_is c station put None stand stand.machine (sym still) refl (none_put stand.machine stand.machine.near.acked (length stand.machine.near.taken) (numbered_on c.role c.longest put) none) refl
+
+-- an end that is Up began the session that stands
+pub up_begun : (v : View) (e : SessionEnd) (s : Station) (session : ℕ) → IsView v e s session → is_up e.station.phase ≡ true → e.begun ≡ session
+up_begun Live e s session h up = h.2
+up_begun Soon e s session h up = not_both (is_up e.station.phase) up (ap is_up h.0)
+up_begun Gone e s session h up = not_both (is_up e.station.phase) up h.0
+
+-- no end began a session later than the one that stands
+pub near_high : {stand : Standing} (c d : Settings) (w : Sessions) (h : Held stand c d w) → w.near.begun ≤ stand.near
+near_high {stand} c d w h = view_begun h.near_view w.near h.alone.near.station stand.near h.near
+
+pub far_high : {stand : Standing} (c d : Settings) (w : Sessions) (h : Held stand c d w) → w.far.begun ≤ stand.far
+far_high {stand} c d w h = view_begun h.far_view w.far h.alone.far.station stand.far h.far
 
 -- ---- lists by sessions
 

@@ -15,7 +15,8 @@ use Rattle.x25_line.specs.Stations.{is_visible}
 use Rattle.x25_line.specs.StationClaims.{number_in, numbered_on, AreWhole}
 use Rattle.x25_line.specs.Sessions.{Entry, sabm_in, ua_in, disc_in, how_many, sent_in, replaced}
 use Rattle.x25_line.specs.SessionClaims.{octets_of, AllOf}
-use Rattle.x25_line.specs.WholeNumbers.{first_of, behind, taken_out}
+use Rattle.x25_line.specs.WholeNumbers.{first_of, behind, place_of, taken_out}
+use Rattle.x25_line.specs.SessionNumbers.{by_answers, place_behind_ua}
 use Rattle.x25_line.proofs.StationLines.{IsOrderly, AreOrderly, consed, numbered_append, shows_first, shows_behind, visible_reads}
 
 abbrev pub Read : Type 0
@@ -312,6 +313,44 @@ module _ (from : Role) (n1 : ℕ) where
       (shows_first (number_in (frame_of from n1 e.octets)) (numbers xs) gs h)
   change_shows es fs (further e xs ys c) gs h =
       shows_behind (number_in (frame_of from n1 e.octets)) (numbers xs) (numbers ys) (change_place xs ys c) gs (λ hs k. change_shows xs ys c hs k) h
+
+  -- .. which is the one that stands at that place of the line
+  pub place_removes : (es : List Entry) (i : ℕ) → change_place es (remove es i) (removes es i) ≡ place_of from n1 (octets_of es) i
+  unfolding change_place removes
+  place_removes [] zero = refl
+  place_removes [] (suc i) = refl
+  place_removes (e ∷ es) zero = refl
+  place_removes (e ∷ es) (suc i) = ap (behind (number_in (frame_of from n1 e.octets))) (place_removes es i)
+
+  pub place_replaces : (octets : List ℕ) (visible : is_visible octets ≡ true) (es : List Entry) (i : ℕ) → change_place es (replaced es i octets) (replaces octets visible es i) ≡ place_of from n1 (octets_of es) i
+  unfolding change_place replaces
+  place_replaces octets visible [] i = refl
+  place_replaces octets visible (e ∷ es) zero = refl
+  place_replaces octets visible (e ∷ es) (suc i) = ap (behind (number_in (frame_of from n1 e.octets))) (place_replaces octets visible es i)
+
+  -- which of those behind the first UA goes
+  unfoldable pub change_behind_ua : (es fs : List Entry) → Change es fs → Option ℕ
+  change_behind_ua es fs (nothing xs) = None
+  change_behind_ua es fs (lost e xs) = None
+  change_behind_ua es fs (damaged e xs octets bad) = None
+  change_behind_ua es fs (further e xs ys c) = by_answers (ua_in (frame_of from n1 e.octets)) (change_behind_ua xs ys c) (change_place xs ys c)
+
+  pub behind_removes : (es : List Entry) (i : ℕ) → change_behind_ua es (remove es i) (removes es i) ≡ place_behind_ua from n1 (octets_of es) i
+  unfolding change_behind_ua removes
+  behind_removes [] zero = refl
+  behind_removes [] (suc i) = refl
+  behind_removes (e ∷ es) zero = refl
+  behind_removes (e ∷ es) (suc i) =
+      ap (λ (o : Option ℕ). by_answers (ua_in (frame_of from n1 e.octets)) o (change_place es (remove es i) (removes es i))) (behind_removes es i)
+      ∙ ap (by_answers (ua_in (frame_of from n1 e.octets)) (place_behind_ua from n1 (octets_of es) i)) (place_removes es i)
+
+  pub behind_replaces : (octets : List ℕ) (visible : is_visible octets ≡ true) (es : List Entry) (i : ℕ) → change_behind_ua es (replaced es i octets) (replaces octets visible es i) ≡ place_behind_ua from n1 (octets_of es) i
+  unfolding change_behind_ua replaces
+  behind_replaces octets visible [] i = refl
+  behind_replaces octets visible (e ∷ es) zero = refl
+  behind_replaces octets visible (e ∷ es) (suc i) =
+      ap (λ (o : Option ℕ). by_answers (ua_in (frame_of from n1 e.octets)) o (change_place es (replaced es i octets) (replaces octets visible es i))) (behind_replaces octets visible es i)
+      ∙ ap (by_answers (ua_in (frame_of from n1 e.octets)) (place_behind_ua from n1 (octets_of es) i)) (place_replaces octets visible es i)
 
 -- ---- what is sent reads as it was spelled
 

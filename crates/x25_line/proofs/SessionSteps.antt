@@ -1,6 +1,6 @@
 -- Steps of the near end keep what holds of two stations over sessions: of an end that is in the session, of one that is out of it,
 -- and where sessions begin.
-use Rattle.std.proofs.Common.{◌≡◌, ◌≤◌, ℕ, ◌+◌, List, [], ◌∷◌, ◌++◌, ◌⊎◌, inl, inr, map, true, false, Option, None, refl, sym, ap, ◌∙◌, subst, arith, append-nil}
+use Rattle.std.proofs.Common.{◌≡◌, ◌≤◌, ℕ, ◌+◌, List, [], ◌∷◌, ◌++◌, ◌⊎◌, inl, inr, map, length, true, false, Option, None, refl, sym, ap, ◌∙◌, subst, arith, append-nil}
 use Rattle.std.specs.Prelude.{option_to_list}
 use Rattle.std.specs.List.{Contains}
 use Rattle.std.proofs.lemmas.List.Elements.{Contains-append_cases}
@@ -17,11 +17,13 @@ use Rattle.x25_line.specs.Stations.{Stations, start}
 use Rattle.x25_line.specs.Stations as one
 use Rattle.x25_line.specs.StationClaims.{AreJoined, NoFrmr, AreWhole, numbered_on}
 use Rattle.x25_line.specs.Sessions.{Entry, SessionEnd, Meeting, Sessions, sabm_in, ua_in, disc_in, how_many, sent_in, extended}
+use Rattle.x25_line.specs.WholeNumbers.{given, taken_out}
+use Rattle.x25_line.specs.SessionNumbers.{Standing, standing_after}
 use Rattle.x25_line.specs.SessionClaims.{octets_of, AllOf}
 use Rattle.x25_line.proofs.StationLines.{IsOrderly, orderly_where, AreOrderly, orderly_append, AreParting, no_frmr_append, parting_no_frmr, parting_numbered, parting_orderly, parting_whole}
-use Rattle.x25_line.proofs.StationSteps.{MayBeAway, away_is_not_up, Holds, FitsEnd, not_both}
+use Rattle.x25_line.proofs.StationSteps.{MayBeAway, away_is_not_up, Leads, put_behind, FitsEnd, not_both}
 use Rattle.x25_line.proofs.SessionLines.{Read, octets_append, octets_sent, begun_append, begun_more, begun_sent, count, orderly_count, numbers, quiet_of, of_sent, many_append, none_behind, behind_quiet, behind_none, many_sent}
-use Rattle.x25_line.proofs.SessionHeld.{OwesAfter, View, Live, Gone, IsView, IsHeard, Comes, Owes, owes_less, owes_none, OnLine, HasLists, SameLists, lists_same, Meetings, meetings_same, Grows, Held, extended_nil, extended_same, extended_other, extended_more, whole_on, whole_apart, heard_more}
+use Rattle.x25_line.proofs.SessionHeld.{OwesAfter, View, Live, Gone, IsView, IsHeard, Comes, Owes, owes_less, owes_none, OnLine, HasLists, SameLists, lists_same, Meetings, meetings_same, Grows, Held, counted_view, with_machine, standing_after_is, stays_on, extended_nil, extended_same, extended_other, extended_more, whole_on, whole_apart, heard_more}
 
 -- ---- the end, and both, after a step, in which its session is n
 
@@ -37,6 +39,10 @@ stepped c w es met down n step = record {
   met = met;
   sent = w.sent ++ step.side.out;
 }
+
+-- the sessions that stand go on by this step
+abbrev pub went_by : Settings → Step → Option ℕ → Standing → Standing
+went_by c step gone stand = standing_after c step.side.near (map (spelling_of c.role) step.side.out) gone stand
 
 pub nothing_handed : (e : SessionEnd) (n : ℕ) (step : Step) → step.packet ≡ None → e.begun ≤ n → SameLists e (end_after e n [] step)
 nothing_handed e n step none le =
@@ -132,11 +138,11 @@ module _ (c d : Settings) (joined : AreJoined c d) (reads : ReadsSpelled) where
 
   -- ---- an end that is in the session
 
-  pub live_held : (w : Sessions) (h : Held c d w) → IsView Live w.near h.alone.near.station h.p → (es : List Entry) (os : List (List ℕ)) (met : List Meeting) (down : List (List ℕ)) (step : Step)
-      → Holds ⊥ c d (one.after_step c h.alone os down step) → Comes (other c.role) c.longest es os h.q
+  pub live_held : {stand : Standing} (w : Sessions) (h : Held stand c d w) → IsView Live w.near h.alone.near.station stand.near → (es : List Entry) (os : List (List ℕ)) (met : List Meeting) (down : List (List ℕ)) (step : Step) (gone : Option ℕ)
+      → Leads ⊥ c d h.alone stand.machine (taken_out gone stand.machine.back) (one.after_step c h.alone os down step) → Comes (other c.role) c.longest es os stand.far
       → OnLine c d w.near.station.phase w.far.station.phase w.near.begun w.far.begun w.out es → Answers w step
-      → Meetings (end_after w.near w.near.begun down step) w.far h.p h.q met → Held c d (stepped c w es met down w.near.begun step)
-  live_held w h near es os met down step holds comes line answers meetings = go holds.1.near
+      → Meetings (end_after w.near w.near.begun down step) w.far stand.near stand.far met → Held (went_by c step gone stand) c d (stepped c w es met down w.near.begun step)
+  live_held {stand} w h near es os met down step gone holds comes line answers meetings = subst (λ (z : Standing). Held z c d (stepped c w es met down w.near.begun step)) is_on (go holds.1.near)
     where
       fs : List PlainFrame
       fs = step.side.out
@@ -196,33 +202,31 @@ module _ (c d : Settings) (joined : AreJoined c d) (reads : ReadsSpelled) where
       same : numbers (other d.role) d.longest more ≡ numbered_on (other d.role) d.longest (map (spelling_of c.role) fs)
       same = ap (numbered_on (other d.role) d.longest) (octets_sent w.near.begun c.role fs)
 
-      of : AllOf (other d.role) d.longest h.p more
+      of : AllOf (other d.role) d.longest stand.near more
       of = subst (λ (s : ℕ). AllOf (other d.role) d.longest s more) near.2 (of_sent (other d.role) d.longest c.role w.near.begun fs)
 
       -- what was handed down in the two sessions that stand
       handed : (x : List ℕ) → Contains (now.near.down ++ now.far.down) x
           → ((n : ℕ) × Contains ((end_after w.near w.near.begun down step).down n) x) ⊎ ((n : ℕ) × Contains (w.far.down n) x)
       handed x there =
-          let lists = live_lists c w.near h.p h.alone os down step near.2 h.near_lists in
+          let lists = live_lists c w.near stand.near h.alone os down step near.2 h.near_lists in
           elim (Contains-append_cases now.near.down now.far.down x there) [
-            | inl here ↦ inl (h.p, subst (λ (xs : List (List ℕ)). Contains xs x) (sym lists.down) here)
-            | inr there ↦ inr (h.q, subst (λ (xs : List (List ℕ)). Contains xs x) (sym h.far_lists.down) there)
+            | inl here ↦ inl (stand.near, subst (λ (xs : List (List ℕ)). Contains xs x) (sym lists.down) here)
+            | inr there ↦ inr (stand.far, subst (λ (xs : List (List ℕ)). Contains xs x) (sym h.far_lists.down) there)
           ]
 
-      by : (v : View) → IsView v (end_after w.near w.near.begun down step) step.side.near h.p → IsHeard v (other c.role) c.longest step.side.near.phase es os h.q
-          → Held c d (stepped c w es met down w.near.begun step)
+      by : (v : View) → IsView v (end_after w.near w.near.begun down step) step.side.near stand.near → IsHeard v (other c.role) c.longest step.side.near.phase es os stand.far
+          → Held (with_machine stand holds.0) c d (stepped c w es met down w.near.begun step)
       by v view back =
           record {
             alone = now;
-            holds = holds;
-            p = h.p;
-            q = h.q;
+            holds = holds.1;
             near_view = v;
             far_view = h.far_view;
             near = view;
             far = h.far;
             back = back;
-            out = heard_more (other d.role) d.longest h.far_view w.far.station.phase w.out more h.alone.out (map (spelling_of c.role) fs) h.p same of none_to h.out;
+            out = heard_more (other d.role) d.longest h.far_view w.far.station.phase w.out more h.alone.out (map (spelling_of c.role) fs) stand.near same of none_to h.out;
             line = record {
               near_owes = near_owes;
               far_owes = far_owes;
@@ -234,7 +238,7 @@ module _ (c d : Settings) (joined : AreJoined c d) (reads : ReadsSpelled) where
                   (orderly_append (Unit {0}) (other d.role) d.longest (octets_of w.out) (octets_of more) line.out_orderly (ask_or_not (other d.role) d.longest (octets_of more) orderly));
               back_orderly = line.back_orderly;
             };
-            near_lists = live_lists c w.near h.p h.alone os down step near.2 h.near_lists;
+            near_lists = live_lists c w.near stand.near h.alone os down step near.2 h.near_lists;
             far_lists = h.far_lists;
             meetings = meetings;
             no_frmr = no_frmr_append w.sent fs h.no_frmr (no_frmr_behind h.alone.sent fs holds.1.no_frmr);
@@ -242,32 +246,36 @@ module _ (c d : Settings) (joined : AreJoined c d) (reads : ReadsSpelled) where
                 handed (whole_behind d.longest (now.near.down ++ now.far.down) h.alone.sent fs holds.1.whole) h.whole;
           }
 
-      go : FitsEnd ⊥ c step.side.near holds.0.near → Held c d (stepped c w es met down w.near.begun step)
+      is_on : with_machine stand holds.0 ≡ went_by c step gone stand
+      is_on =
+          standing_after_is c step.side.near (map (spelling_of c.role) fs) gone stand holds.0 holds.2.near holds.2.far
+          (holds.2.out ∙ ap (λ (put : List (List ℕ)). stand.machine.out ++ given holds.0.near.acked (length holds.0.near.taken) stand.machine.near.sent (numbered_on c.role c.longest put)) (put_behind h.alone.out (map (spelling_of c.role) fs)))
+          holds.2.back
+
+      go : FitsEnd ⊥ c step.side.near holds.0.near → Held (with_machine stand holds.0) c d (stepped c w es met down w.near.begun step)
       go (inl u) = by Live (u.up, refl, near.2) comes
       go (inr away) = by Gone (away_is_not_up ⊥ step.side.near.phase away.away, omega (arith, near.2)) (λ waiting. waiting_away step.side.near.phase waiting away.away)
 
   -- ---- an end that is out of the session, or goes into it
 
-  pub apart_held : (w : Sessions) (h : Held c d w) (es : List Entry) (n : ℕ) (step : Step) (v : View) → step.packet ≡ None → w.near.begun ≤ n
-      → IsView v (end_after w.near n [] step) h.alone.near.station h.p → IsHeard v (other c.role) c.longest step.side.near.phase es h.alone.back h.q
+  pub apart_held : {stand : Standing} (w : Sessions) (h : Held stand c d w) (es : List Entry) (n : ℕ) (step : Step) (v : View) → step.packet ≡ None → w.near.begun ≤ n
+      → IsView v (end_after w.near n [] step) h.alone.near.station stand.near → IsHeard v (other c.role) c.longest step.side.near.phase es h.alone.back stand.far
       → AreParting (Unit {0}) step.side.out → count ua_in step.side.out ≡ 0
       → OnLine c d w.near.station.phase w.far.station.phase w.near.begun w.far.begun w.out es
       → OwesAfter c d step.side.near.phase w.out step.side.out es
-      → Held c d (stepped c w es w.met [] n step)
-  apart_held w h es n step v none le view heard parting no_ua line owes =
+      → Held (went_by c step None stand) c d (stepped c w es w.met [] n step)
+  apart_held {stand} w h es n step v none le view heard parting no_ua line owes =
       let same = nothing_handed w.near n step none le in
-      record {
+      subst (λ (z : Standing). Held z c d (stepped c w es w.met [] n step)) is_on (record {
         alone = h.alone;
         holds = h.holds;
-        p = h.p;
-        q = h.q;
         near_view = v;
         far_view = h.far_view;
         near = view;
         far = h.far;
         back = heard;
-        out = subst (λ (os : List (List ℕ)). IsHeard h.far_view (other d.role) d.longest w.far.station.phase (w.out ++ more) os h.p) (append-nil h.alone.out)
-            (heard_more (other d.role) d.longest h.far_view w.far.station.phase w.out more h.alone.out [] h.p quiet (quiet_of (other d.role) d.longest h.p more quiet) (λ waiting. many ua_in ∙ no_ua) h.out);
+        out = subst (λ (os : List (List ℕ)). IsHeard h.far_view (other d.role) d.longest w.far.station.phase (w.out ++ more) os stand.near) (append-nil h.alone.out)
+            (heard_more (other d.role) d.longest h.far_view w.far.station.phase w.out more h.alone.out [] stand.near quiet (quiet_of (other d.role) d.longest stand.near more quiet) (λ waiting. many ua_in ∙ no_ua) h.out);
         line = record {
           near_owes = subst (λ (a : ℕ). Owes step.side.near.phase a (how_many disc_in (other d.role) d.longest (w.out ++ more))) asked_is
               (subst (λ (b : ℕ). Owes step.side.near.phase (how_many sabm_in (other d.role) d.longest w.out + count sabm_in fs + how_many ua_in (other c.role) c.longest es) b) (sym (all disc_in)) owes);
@@ -280,12 +288,12 @@ module _ (c d : Settings) (joined : AreJoined c d) (reads : ReadsSpelled) where
               (orderly_append (Unit {0}) (other d.role) d.longest (octets_of w.out) (octets_of more) line.out_orderly orderly);
           back_orderly = line.back_orderly;
         };
-        near_lists = lists_same w.near (end_after w.near n [] step) h.p h.alone.near same h.near_lists;
+        near_lists = lists_same w.near (end_after w.near n [] step) stand.near h.alone.near same h.near_lists;
         far_lists = h.far_lists;
-        meetings = meetings_same w.near (end_after w.near n [] step) w.far h.p h.q w.met same h.meetings;
+        meetings = meetings_same w.near (end_after w.near n [] step) w.far stand.near stand.far w.met same h.meetings;
         no_frmr = no_frmr_append w.sent fs h.no_frmr (parting_no_frmr (Unit {0}) fs parting);
         whole = whole_apart d.longest w.near (end_after w.near n [] step) w.far w.sent fs same parting h.whole;
-      }
+      })
     where
       fs : List PlainFrame
       fs = step.side.out
@@ -312,3 +320,8 @@ module _ (c d : Settings) (joined : AreJoined c d) (reads : ReadsSpelled) where
       asked_is : how_many sabm_in (other d.role) d.longest w.out + count sabm_in step.side.out + how_many ua_in (other c.role) c.longest es
           ≡ how_many sabm_in (other d.role) d.longest (w.out ++ more) + how_many ua_in (other c.role) c.longest es
       asked_is = ap (λ (k : ℕ). k + how_many ua_in (other c.role) c.longest es) (sym (all sabm_in))
+
+      is_on : stand ≡ went_by c step None stand
+      is_on =
+          stays_on c step.side.near (map (spelling_of c.role) fs) stand (counted_view v c (end_after w.near n [] step) h.alone.near.station stand.near stand.machine.near view h.holds.near)
+          (subst (λ (n1 : ℕ). numbered_on c.role n1 (map (spelling_of c.role) fs) ≡ []) (sym joined.longest) (parting_numbered reads c.role d.longest (Unit {0}) fs parting))

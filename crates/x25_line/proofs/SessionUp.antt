@@ -18,13 +18,15 @@ use Rattle.x25_line.specs.Stations.{Stations}
 use Rattle.x25_line.specs.Stations as one
 use Rattle.x25_line.specs.StationClaims.{AreJoined, number_in}
 use Rattle.x25_line.specs.Sessions.{Entry, Meeting, Sessions, ua_in, disc_in, begun_by, after_step}
+use Rattle.x25_line.specs.SessionNumbers.{Standing}
 use Rattle.x25_line.specs.SessionClaims.{IsInOrder}
-use Rattle.x25_line.proofs.StationSteps.{Holds}
+use Rattle.x25_line.specs.WholeNumbers.{taken_out}
+use Rattle.x25_line.proofs.StationSteps.{Holds, Leads}
 use Rattle.x25_line.proofs.StationAway.{second_false}
 use Rattle.x25_line.proofs.StationClaimLemmas.{holds_order}
 use Rattle.x25_line.proofs.SessionLines.{Read, of_ua, of_disc, none_is_some, count, AllNumbered, numbered_count}
 use Rattle.x25_line.proofs.SessionHeld.{Live, IsView, Comes, OnLine, Meetings, meetings_go_on, meetings_hear, Held, extended_nil}
-use Rattle.x25_line.proofs.SessionSteps.{end_after, stepped, grown, live_lists, Answers, live_held}
+use Rattle.x25_line.proofs.SessionSteps.{end_after, stepped, grown, live_lists, went_by, Answers, live_held}
 
 -- ---- a run that only sends, sends frames that carry a number
 
@@ -146,44 +148,44 @@ module _ (c d : Settings) (joined : AreJoined c d) (reads : ReadsSpelled) where
   quiet_up : (v : Stations) (os down : List (List ℕ)) (step : Step) → Holds ⊥ c d (one.after_step c v os down step) → step.notes.up ≡ false
   quiet_up v os down step holds = second_false v.near.came_up step.notes.up holds.1.near_notes.once
 
-  in_pair : (w : Sessions) (h : Held c d w) → IsView Live w.near h.alone.near.station h.p → (os down : List (List ℕ)) (step : Step) → Holds ⊥ c d (one.after_step c h.alone os down step)
-      → IsInOrder (end_after w.near w.near.begun down step) w.far (record { near = h.p; far = h.q })
-  in_pair w h near os down step holds =
+  in_pair : {stand : Standing} (w : Sessions) (h : Held stand c d w) → IsView Live w.near h.alone.near.station stand.near → (os down : List (List ℕ)) (step : Step) → Holds ⊥ c d (one.after_step c h.alone os down step)
+      → IsInOrder (end_after w.near w.near.begun down step) w.far (record { near = stand.near; far = stand.far })
+  in_pair {stand} w h near os down step holds =
       let v : Stations = one.after_step c h.alone os down step in
       let order = holds_order ⊥ c d v holds in
-      let lists = live_lists c w.near h.p h.alone os down step near.2 h.near_lists in
+      let lists = live_lists c w.near stand.near h.alone os down step near.2 h.near_lists in
       let e = end_after w.near w.near.begun down step in
       record {
-        there = subst (λ (x : List (List ℕ)). Begins x (e.down h.p)) (sym h.far_lists.up) (subst (Begins h.alone.far.up) (sym lists.down) order.0.begins);
-        back = subst (λ (x : List (List ℕ)). Begins x (w.far.down h.q)) (sym lists.up) (subst (Begins v.near.up) (sym h.far_lists.down) order.1.begins);
+        there = subst (λ (x : List (List ℕ)). Begins x (e.down stand.near)) (sym h.far_lists.up) (subst (Begins h.alone.far.up) (sym lists.down) order.0.begins);
+        back = subst (λ (x : List (List ℕ)). Begins x (w.far.down stand.far)) (sym lists.up) (subst (Begins v.near.up) (sym h.far_lists.down) order.1.begins);
       }
 
   -- a step that hands nothing up
-  pub live_goes_on : (w : Sessions) (h : Held c d w) → IsView Live w.near h.alone.near.station h.p → (es : List Entry) (os down : List (List ℕ)) (step : Step)
-      → Holds ⊥ c d (one.after_step c h.alone os down step) → Comes (other c.role) c.longest es os h.q
-      → OnLine c d w.near.station.phase w.far.station.phase w.near.begun w.far.begun w.out es → Answers w step → step.packet ≡ None → Held c d (after_step c w es w.met down step)
-  live_goes_on w h near es os down step holds comes line answers none =
+  pub live_goes_on : {stand : Standing} (w : Sessions) (h : Held stand c d w) → IsView Live w.near h.alone.near.station stand.near → (es : List Entry) (os down : List (List ℕ)) (step : Step) (gone : Option ℕ)
+      → Leads ⊥ c d h.alone stand.machine (taken_out gone stand.machine.back) (one.after_step c h.alone os down step) → Comes (other c.role) c.longest es os stand.far
+      → OnLine c d w.near.station.phase w.far.station.phase w.near.begun w.far.begun w.out es → Answers w step → step.packet ≡ None → Held (went_by c step gone stand) c d (after_step c w es w.met down step)
+  live_goes_on {stand} w h near es os down step gone leads comes line answers none =
       let e = end_after w.near w.near.begun down step in
-      let same : e.up h.p ≡ w.near.up h.p = ap (λ (o : Option (List ℕ)). (end_up w o) h.p) none ∙ extended_nil w.near.up w.near.begun h.p in
-      subst (λ (n : ℕ). Held c d (stepped c w es w.met down n step)) (sym (ap (λ (b : Bool). begun_by b w.near.begun) (quiet_up h.alone os down step holds)))
-      (live_held c d joined reads w h near es os w.met down step holds comes line answers
-      (meetings_go_on w.near e w.far h.p h.q w.met (grown w.near down step h.p near.2) (in_pair w h near os down step holds) same h.meetings))
+      let same : e.up stand.near ≡ w.near.up stand.near = ap (λ (o : Option (List ℕ)). (end_up w o) stand.near) none ∙ extended_nil w.near.up w.near.begun stand.near in
+      subst (λ (n : ℕ). Held (went_by c step gone stand) c d (stepped c w es w.met down n step)) (sym (ap (λ (b : Bool). begun_by b w.near.begun) (quiet_up h.alone os down step (leads.0, leads.1))))
+      (live_held c d joined reads w h near es os w.met down step gone leads comes line answers
+      (meetings_go_on w.near e w.far stand.near stand.far w.met (grown w.near down step stand.near near.2) (in_pair w h near os down step (leads.0, leads.1)) same h.meetings))
     where
       end_up : Sessions → Option (List ℕ) → ℕ → List (List ℕ)
       end_up z o = (end_after z.near z.near.begun [] (record step { packet = o })).up
 
   -- a step by a frame with a number
-  pub live_hears : (w : Sessions) (h : Held c d w) → IsView Live w.near h.alone.near.station h.p → (es : List Entry) (os down : List (List ℕ)) (step : Step)
-      → Holds ⊥ c d (one.after_step c h.alone os down step) → Comes (other c.role) c.longest es os h.q
-      → OnLine c d w.near.station.phase w.far.station.phase w.near.begun w.far.begun w.out es → Answers w step → (session : ℕ) → session ≡ h.q → session ≤ w.far.begun
-      → Held c d (after_step c w es (record { near = w.near.begun; far = session } ∷ w.met) down step)
-  live_hears w h near es os down step holds comes line answers session is begun =
+  pub live_hears : {stand : Standing} (w : Sessions) (h : Held stand c d w) → IsView Live w.near h.alone.near.station stand.near → (es : List Entry) (os down : List (List ℕ)) (step : Step) (gone : Option ℕ)
+      → Leads ⊥ c d h.alone stand.machine (taken_out gone stand.machine.back) (one.after_step c h.alone os down step) → Comes (other c.role) c.longest es os stand.far
+      → OnLine c d w.near.station.phase w.far.station.phase w.near.begun w.far.begun w.out es → Answers w step → (session : ℕ) → session ≡ stand.far → session ≤ w.far.begun
+      → Held (went_by c step gone stand) c d (after_step c w es (record { near = w.near.begun; far = session } ∷ w.met) down step)
+  live_hears {stand} w h near es os down step gone leads comes line answers session is begun =
       let e = end_after w.near w.near.begun down step in
-      let pair : Meeting = record { near = h.p; far = h.q } in
-      let meetings : Meetings e w.far h.p h.q (pair ∷ w.met) =
-      meetings_hear w.near e w.far h.p h.q w.met (grown w.near down step h.p near.2) (in_pair w h near os down step holds) (omega (arith, near.2)) (omega (arith, is, begun)) h.meetings in
-      subst (λ (n : ℕ). Held c d (stepped c w es (record { near = w.near.begun; far = session } ∷ w.met) down n step))
-      (sym (ap (λ (b : Bool). begun_by b w.near.begun) (quiet_up h.alone os down step holds)))
-      (subst (λ (n : ℕ). Held c d (stepped c w es (record { near = n; far = session } ∷ w.met) down w.near.begun step)) (sym near.2)
-      (subst (λ (n : ℕ). Held c d (stepped c w es (record { near = h.p; far = n } ∷ w.met) down w.near.begun step)) (sym is)
-      (live_held c d joined reads w h near es os (pair ∷ w.met) down step holds comes line answers meetings)))
+      let pair : Meeting = record { near = stand.near; far = stand.far } in
+      let meetings : Meetings e w.far stand.near stand.far (pair ∷ w.met) =
+      meetings_hear w.near e w.far stand.near stand.far w.met (grown w.near down step stand.near near.2) (in_pair w h near os down step (leads.0, leads.1)) (omega (arith, near.2)) (omega (arith, is, begun)) h.meetings in
+      subst (λ (n : ℕ). Held (went_by c step gone stand) c d (stepped c w es (record { near = w.near.begun; far = session } ∷ w.met) down n step))
+      (sym (ap (λ (b : Bool). begun_by b w.near.begun) (quiet_up h.alone os down step (leads.0, leads.1))))
+      (subst (λ (n : ℕ). Held (went_by c step gone stand) c d (stepped c w es (record { near = n; far = session } ∷ w.met) down w.near.begun step)) (sym near.2)
+      (subst (λ (n : ℕ). Held (went_by c step gone stand) c d (stepped c w es (record { near = stand.near; far = n } ∷ w.met) down w.near.begun step)) (sym is)
+      (live_held c d joined reads w h near es os (pair ∷ w.met) down step gone leads comes line answers meetings)))

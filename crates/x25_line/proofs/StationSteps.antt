@@ -1,6 +1,6 @@
 -- What holds of two stations and the window machine behind the line, and that a step of the near end keeps it.
 use Rattle.std.proofs.Common.{◌≡◌, ℕ, ◌+◌, ◌%◌, arith, List, [], ◌∷◌, ◌++◌, ◌⊎◌, inl, inr, length, map, remove, Bool, true, false, Option, Some, None, Result, Ok, Err, refl, sym, ap, ◌∙◌, subst, append-nil}
-use Rattle.std.specs.Prelude.{◌≤◌, option_to_list, replicate, drop, if◌then◌else◌, ◌||◌}
+use Rattle.std.specs.Prelude.{◌≤◌, option_to_list, replicate, drop, ◌||◌}
 use Rattle.std.proofs.lemmas.Bool.{le-leb}
 use Rattle.std.proofs.lemmas.List.{replicate_more}
 use Rattle.x25_bits.specs.declared.role.Role.{Role}
@@ -27,7 +27,7 @@ use Rattle.x25_line.specs.Line.{Line, MayTake, FrontMayBeTaken, arrived, front_a
 use Rattle.x25_line.specs.Line.Move.{Arrives, Loses}
 use Rattle.x25_line.specs.Stations.{StationEnd, Stations, after_step}
 use Rattle.x25_line.specs.StationClaims.{AreJoined, IsReached, near_moves, number_in, numbered_on, NoFrmr, AreWhole}
-use Rattle.x25_line.specs.WholeNumbers.{given, first_of, taken_out, counted, went_on}
+use Rattle.x25_line.specs.WholeNumbers.{given, first_of, taken_out, counted}
 use Rattle.x25_line.proofs.Kept.{Kept, Way, Kept-moved, hears_valid}
 use Rattle.x25_line.proofs.StationLines.{shows_append, Front, front_of, carried_of, IsOrderly, AreOrderly, consed, numbered_append, orderly_append, AllGood, AreParting, no_frmr_append, good_no_frmr, parting_no_frmr, good_numbered, good_orderly, parting_numbered, parting_orderly, AllHandedDown, whole_more, whole_append, good_whole, parting_whole, first_more}
 use Rattle.x25_line.proofs.StationSends.{AllWithin, Sent, sent_given, runs_sent}

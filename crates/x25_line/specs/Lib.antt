@@ -7,6 +7,7 @@ pub mod StationRows
 pub mod Healing
 pub mod Sessions
 pub mod SessionClaims
+pub mod SessionNumbers
 pub mod SessionEvents
 pub mod SessionRows
 pub mod RawMachine

@@ -7,7 +7,7 @@ use Rattle.x25_window.specs.Receiving.{FitsTaken}
 use Rattle.x25_window.specs.Window.{End, Numbered, Frame}
 use Rattle.x25_line.specs.Line.{arrived}
 use Rattle.x25_line.specs.InWindow.{InWindow}
-use Rattle.x25_line.specs.RawMachine.{RawState, is_wanted, refusal_of, event_refusal, act_of_event, run, start, AllAccepted}
+use Rattle.x25_line.specs.RawMachine.{RawState, is_wanted, refusal_of, event_refusal, run, start, AllAccepted}
 use Rattle.x25_line.specs.RawShown.{ShownEnd, ShownWorld}
 use Rattle.x25_bits.specs.declared.role.Role.{Role}
 use Rattle.x25_bits.specs.declared.role.Role.TheVariants.{Dte, Dce}

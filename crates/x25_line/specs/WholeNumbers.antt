@@ -1,12 +1,12 @@
 -- The window machine behind two link stations and their line, as it goes on from event to event. An end that is Up counts in whole numbers.
 -- A frame is given its whole numbers as it is put on the line, and keeps them as long as it is there. ITU-T X.25 (10/96), sections 2.3.2
 -- and 2.4.5.
-use Rattle.std.specs.Prelude.{◌≡◌, ℕ, zero, suc, ◌+◌, max, Bool, if◌then◌else◌, List, [], ◌∷◌, ◌++◌, length, drop, remove, Option, Some, None}
+use Rattle.std.specs.Prelude.{ℕ, zero, suc, ◌+◌, max, if◌then◌else◌, List, [], ◌∷◌, ◌++◌, length, drop, remove, Option, Some, None}
 use Rattle.x25_bits.specs.declared.role.Role.{Role}
 use Rattle.x25_frame.specs.PlainFrame.{PlainFrame, info}
 use Rattle.x25_frame.specs.Reading.{frame_of}
 use Rattle.x25_window.specs.Modulo.{resolved}
-use Rattle.x25_window.specs.Window.{Numbered, Frame, fresh_end}
+use Rattle.x25_window.specs.Window.{Frame, fresh_end}
 use Rattle.x25_link.specs.Station.{Settings, Station, is_up}
 use Rattle.x25_link.specs.MustSend.{other}
 use Rattle.x25_link.specs.WindowMachine.{Window}

@@ -2,6 +2,7 @@
 ghost use Rattle.x25_line.specs.StationClaims.{Always, BothInOrder, BothHaveTheirLists, BothNoteTheirEnds, NoFrmrSent, AllSentAreWhole, OneLinkUnlessConnected, EachEventHandsOne};
 ghost use Rattle.x25_line.specs.WholeNumbers.{MachineGoesAlong, OnceStaysOnce};
 ghost use Rattle.x25_line.specs.SessionClaims.{Throughout, MeetInStep, MetAreInOrder, UnmetHandNothingUp, OnlyBegunHaveLists, EachUpStands, EachHearsLatest, EachMeetsLatest, IdleHasArrived, NoSessionSendsFrmr, AllSessionsSendWhole, SessionsAreStations, SetUpIsTheStart};
+ghost use Rattle.x25_line.specs.SessionNumbers.{StandingGoesAlong};
 ghost use Rattle.x25_line.specs.SessionEvents.{EachEventHandsInSession, EachEventMeetsLatest};
 ghost use Rattle.x25_line.specs.SessionRows.{SetsUpFromNothing, SetsUpAgain, UntimelyIsOutOfStep};
 ghost use Rattle.x25_line.specs.StationRows.{PacketGoes, PacketsCross, LostComesAgain, DamagedComesAgain, DisconnectEnds, AbandonEnds, ConnectSetsUp, ConnectIsDeclined};
@@ -45,6 +46,9 @@ pub fn stations_keep_order()
 /// meets or is to meet, are those of a link set up once, of which all holds that `stations_keep_order` says. No FRMR is ever sent.
 /// Each frame ever sent may be spelled, and the packet of an I frame was handed down in a session of one of the ends.
 ///
+/// Behind the two sessions that stand is one window machine, which goes on from event to event, and begins anew where two sessions do:
+/// a frame is given its whole numbers as it is put on the line, and keeps them as long as it is there.
+///
 /// An end that is Up hears the latest session of the other end alone, and meets no other. So one event brings one meeting at most,
 /// that of the latest sessions of both ends, and only then a packet may be handed up. Where an end is idle, and the other is Up
 /// too or met its session, all that was handed down in this session was handed up in the latest session of the other.
@@ -54,6 +58,7 @@ pub fn sessions_keep_order()
     ensures unmet { Throughout UnmetHandNothingUp }
     ensures begun { Throughout OnlyBegunHaveLists }
     ensures stands { Throughout EachUpStands }
+    ensures machine { StandingGoesAlong }
     ensures latest { Throughout EachHearsLatest }
     ensures agree { Throughout EachMeetsLatest }
     ensures meets { Throughout EachEventMeetsLatest }

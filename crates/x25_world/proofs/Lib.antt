@@ -26,6 +26,7 @@ pub mod SessionQuiet
 pub mod SessionOctets
 pub mod SetUpOnce
 pub mod WindowRuns
+pub mod SessionsAlong
 pub mod SessionHeadline
 pub mod RowLemmas
 pub mod OnLineLemmas

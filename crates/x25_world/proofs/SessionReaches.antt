@@ -69,6 +69,7 @@ seen_from Dce v = links.swapped v
 pub record Grown (cfg : Cfg) (e : Event) (end : Role) (before v : Sessions) : Type 0 where
   pub asked : List line.Act
   pub may : AsksAll e.act asked
+  pub timely : AreTimely (link_of cfg Dte) (link_of cfg Dce) (all_at e.at asked) before
   pub run : links.run (link_of cfg Dte) (link_of cfg Dce) (all_at e.at asked) before ≡ seen_from end v
 
 -- From a link just set up it is a run of two stations too.
@@ -85,14 +86,14 @@ reach_swapped cfg Dte v h = record {
   timely = timely_flipped (link_of cfg Dte) (link_of cfg Dce) h.events from_nothing h.timely;
   run = run_flipped (link_of cfg Dte) (link_of cfg Dce) h.events from_nothing ∙ ap links.swapped h.run;
   one_link = λ asks is. one_turned asks cfg Dte v (h.one_link asks is);
-  grown = λ before e is. (let g = h.grown before e is in record { asked = g.asked; may = g.may; run = g.run ∙ sym (twice v) });
+  grown = λ before e is. (let g = h.grown before e is in record { asked = g.asked; may = g.may; timely = g.timely; run = g.run ∙ sym (twice v) });
 }
 reach_swapped cfg Dce v h = record {
   events = all_flipped h.events;
   timely = timely_flipped (link_of cfg Dce) (link_of cfg Dte) h.events from_nothing h.timely;
   run = run_flipped (link_of cfg Dce) (link_of cfg Dte) h.events from_nothing ∙ ap links.swapped h.run;
   one_link = λ asks is. one_turned asks cfg Dce v (h.one_link asks is);
-  grown = λ before e is. (let g = h.grown before e is in record { asked = g.asked; may = g.may; run = g.run });
+  grown = λ before e is. (let g = h.grown before e is in record { asked = g.asked; may = g.may; timely = g.timely; run = g.run });
 }
 
 run_more : (c d : LinkSettings) (es : List line.Event) (e : line.Event) (v : Sessions) → links.run c d (es ++ e ∷ []) v ≡ links.happens c d e (links.run c d es v)
@@ -133,13 +134,22 @@ seen_acts : (cfg : Cfg) (end : Role) (act : line.Act) (v : Sessions)
 seen_acts cfg Dte act v = refl
 seen_acts cfg Dce act v = ap (λ (x : Sessions). links.swapped (links.acts (link_of cfg Dce) act x)) (twice v)
 
-grow : (cfg : Cfg) (end : Role) (act : line.Act) (v before : Sessions) (e : Event) → (e.at ≡ end) × Asks e.act act → Grown cfg e end before v → Grown cfg e end before (links.acts (link_of cfg end) act v)
-grow cfg end act v before e asks g =
+seen_timely : (cfg : Cfg) (end : Role) (act : line.Act) (v : Sessions) → IsTimely (link_of cfg end) (link_of cfg (other end)) act v → IsTimelyAt (link_of cfg Dte) (link_of cfg Dce) (at_end end act) (seen_from end v)
+seen_timely cfg Dte act v h = h
+seen_timely cfg Dce act v h = subst (λ (x : Sessions). IsTimely (link_of cfg Dce) (link_of cfg Dte) act x) (sym (twice v)) h
+
+grow : (cfg : Cfg) (end : Role) (act : line.Act) (v before : Sessions) (e : Event) → IsTimely (link_of cfg end) (link_of cfg (other end)) act v → (e.at ≡ end) × Asks e.act act → Grown cfg e end before v
+    → Grown cfg e end before (links.acts (link_of cfg end) act v)
+grow cfg end act v before e timely asks g =
     let c = link_of cfg Dte in
     let d = link_of cfg Dce in
     record {
       asked = g.asked ++ act ∷ [];
       may = asks_more e.act g.asked act g.may asks.1;
+      timely = subst (λ (es : List line.Event). AreTimely c d es before) (sym (all_more e.at g.asked act))
+          (timely_more c d (all_at e.at g.asked) (at_end e.at act) before g.timely
+          (subst (λ (x : Sessions). IsTimelyAt c d (at_end e.at act) x) (sym g.run)
+          (subst (λ (at : Role). IsTimelyAt c d (at_end at act) (seen_from end v)) (sym asks.0) (seen_timely cfg end act v timely))));
       run = ap (λ (es : List line.Event). links.run c d es before) (all_more e.at g.asked act)
           ∙ run_more c d (all_at e.at g.asked) (at_end e.at act) before
           ∙ ap (links.happens c d (at_end e.at act)) g.run
@@ -158,7 +168,7 @@ sessions_act cfg end act v timely may asks h =
       timely = timely_more c d h.events (line.Near act) from_nothing h.timely (subst (λ (x : Sessions). IsTimely c d act x) (sym h.run) timely);
       run = run_more c d h.events (line.Near act) from_nothing ∙ ap (λ (x : Sessions). links.acts c act x) h.run;
       one_link = λ asks is. one_acts asks cfg end act v (λ free. may (is ∙ ap set_up free)) (h.one_link asks is);
-      grown = λ before e is. grow cfg end act v before e (asks before e is) (h.grown before e is);
+      grown = λ before e is. grow cfg end act v before e timely (asks before e is) (h.grown before e is);
     }
 
 pub joined_at : (cfg : Cfg) (end : Role) → IsConfigured cfg → AreJoined (link_of cfg end) (link_of cfg (other end))

@@ -1,4 +1,4 @@
--- The window along a run: at each event two links go on as its end asks, with one machine behind them.
+-- The window along a run from a link just set up: at each event two links go on as its end asks, with one machine behind them.
 use Rattle.std.proofs.Common.{◌≡◌, ℕ, List, [], ◌∷◌, ◌++◌, false, refl, sym, ap, ◌∙◌, subst, append_assoc, append-nil}
 use Rattle.x25_bits.specs.declared.role.Role.TheVariants.{Dte, Dce}
 use Rattle.x25_link.specs.Station.{Settings as LinkSettings}
@@ -6,22 +6,19 @@ use Rattle.x25_line.specs.Line.{Line}
 use Rattle.x25_line.specs.Stations as line
 use Rattle.x25_line.specs.StationClaims.{IsSetUpOnce}
 use Rattle.x25_line.specs.Sessions as links
-use Rattle.x25_line.specs.Sessions.{Sessions}
-use Rattle.x25_line.specs.SessionClaims.{Throughout, EachUpStands}
+use Rattle.x25_line.specs.Sessions.{Sessions, AreTimely}
 use Rattle.x25_line.specs.WholeNumbers.{machine_run, machine_at_start, machine_happens, MachineGoesAlong, OnceStaysOnce}
 use Rattle.x25_station.specs.declared.config.Cfg.{Cfg}
 use Rattle.x25_station.specs.KeepLaw.{ConnectKeeps}
 use Rattle.x25_world.specs.World.{World, Event, happens, after, run, established}
 use Rattle.x25_world.specs.Claims.{ActsInOctets, AreInOctets, IsUpOnce, link_of}
 use Rattle.x25_world.specs.WindowGoes.{AsksAll, all_at, IsBehindWorld, GoesAlong, both_put, StaysInWindow}
-use Rattle.x25_world.specs.SessionWindow.{StandsInWindow, SessionsGoAlong, SessionsStayInWindow}
-use Rattle.x25_world.specs.SessionClaims.{ThroughoutAlong}
-use Rattle.x25_world.proofs.Known.{IsConfigured, is_configured}
+use Rattle.x25_world.proofs.Known.{IsConfigured}
 use Rattle.x25_world.proofs.OneLink.{AreAlike, acts_alike}
-use Rattle.x25_world.proofs.SessionReaches.{Beginning, both_down, set_up, at_event, SessionsReach, joined_at, known_sessions}
+use Rattle.x25_world.proofs.SessionReaches.{Beginning, both_down, set_up, at_event, SessionsReach, joined_at}
 use Rattle.x25_world.proofs.SessionJoined.{SessionsJoined}
 use Rattle.x25_world.proofs.SessionKnown.{SessionLaws}
-use Rattle.x25_world.proofs.SessionRuns.{event_joined, established_joined, set_up_alike, begin_joined, down_at_none, not_set_up}
+use Rattle.x25_world.proofs.SessionRuns.{event_joined, established_joined, set_up_alike, down_at_none, not_set_up}
 use Rattle.x25_world.proofs.SetUpOnce.{ups_are_begun, not_anew}
 
 -- ---- links with sessions and without go on alike
@@ -85,6 +82,7 @@ pub record Next (cfg : Cfg) (w : World) (v : Sessions) (e : Event) : Type 0 wher
   pub joined : SessionsJoined both_down cfg Dte (after w (happens cfg w e))
   pub asked : List line.Act
   pub may : AsksAll e.act asked
+  pub timely : AreTimely (link_of cfg Dte) (link_of cfg Dce) (all_at e.at asked) v
   pub run : links.run (link_of cfg Dte) (link_of cfg Dce) (all_at e.at asked) v ≡ joined.links
 
 module _ (laws : SessionLaws) (cfg : Cfg) (fine : IsConfigured cfg) where
@@ -95,7 +93,7 @@ module _ (laws : SessionLaws) (cfg : Cfg) (fine : IsConfigured cfg) where
         timely = h.reach.timely;
         run = h.reach.run;
         one_link = λ asks is. event_is_none asks h.links e is;
-        grown = λ before x is. record { asked = []; may = tt; run = sym (ap (λ (b : Beginning). links_in b h.links) is) };
+        grown = λ before x is. record { asked = []; may = tt; timely = tt; run = sym (ap (λ (b : Beginning). links_in b h.links) is) };
       }) in
       let j = event_joined laws cfg fine e.at e.act w (λ before x is. sym (ap (λ (b : Beginning). event_in b e) is)) octets (λ free. event_is_none false h.links e free) within in
       let g = j.reach.grown h.links e refl in
@@ -109,6 +107,7 @@ module _ (laws : SessionLaws) (cfg : Cfg) (fine : IsConfigured cfg) where
         });
         asked = g.asked;
         may = g.may;
+        timely = g.timely;
         run = g.run;
       }
 
@@ -183,27 +182,3 @@ stays_in_window laws keeps goes before cfg fine events octets once =
       near = not_anew s.near.came_up r.joined.links.near.begun r.alike.near.anew (sym (ups_are_begun r.joined.near) ∙ once Dte);
       far = not_anew s.far.came_up r.joined.links.far.begun r.alike.far.anew (sym (ups_are_begun r.joined.far) ∙ once Dce);
     })
-
--- ---- a run over set-up and re-set-up
-
-module _ (laws : SessionLaws) (law : Throughout EachUpStands) (cfg : Cfg) (fine : IsConfigured cfg) (here : World) where
-  stands : (w : World) (h : SessionsJoined both_down cfg Dte w) → StandsInWindow cfg w h.links
-  stands w h = (
-    record { events = h.reach.events; timely = h.reach.timely; run = h.reach.run; near = h.near.link; far = h.far.link; out = h.out; back = h.back },
-    known_sessions EachUpStands law cfg fine Dte h.links h.reach,
-  )
-
-  sessions_along : (events : List Event) (w : World) (h : SessionsJoined both_down cfg Dte w) → AreInOctets events → run cfg events w ≡ here → SessionsGoAlong cfg here events w h.links
-  sessions_along [] w h octets is = subst (λ (x : World). StandsInWindow cfg x h.links) is (stands w h)
-  sessions_along (e ∷ events) w h octets is =
-      let n = next laws cfg fine w h e octets.0 in (
-        stands w h,
-        n.asked,
-        n.may,
-        subst (λ (v : Sessions). SessionsGoAlong cfg here events (after w (happens cfg w e)) v) (sym n.run) (sessions_along events (after w (happens cfg w e)) n.joined octets.1 is),
-      )
-
-pub sessions_stay : (laws : SessionLaws) → ConnectKeeps → Throughout EachUpStands → ThroughoutAlong SessionsStayInWindow
-sessions_stay laws keeps law cfg fine begin is events octets =
-    let h = begin_joined laws keeps cfg (is_configured cfg fine) begin is in
-    (h.links, sessions_along laws law cfg (is_configured cfg fine) (run cfg events begin) events begin h octets refl)

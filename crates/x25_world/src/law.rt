@@ -75,9 +75,10 @@ pub fn two_stations_keep_order()
 /// - `stand`: where a stretch is open at both ends, on whichever channels, the two sessions that stand meet each other.
 /// - `quiet`: no FRMR, no CLEAR, RESET or RESTART with a cause of an error was ever put on the line, and no user was told of a fault.
 /// - `octets`: all that was ever put on the line is octets, at most 4,103 at a time.
-/// - `window`: two links go on from event to event as the end of the event asks, and have the links and lines of each world of the run. At an end whose
-///   link is up, the session that stands and the one of the other end that it meets or is to meet are in the window machine, with the unbounded
-///   numbers behind those on the line to that end, and behind those on both lines where both links are up.
+/// - `window`: two links are behind the world where the run begins, with the window machine behind the sessions that stand. Whichever two are behind
+///   a world of the run go on from there at each event as its end asks, with their machine, and are behind the world after it: an end whose link is
+///   up has its session, and the one that it meets or is to meet, in the machine, with the unbounded numbers behind those on the line to it, and
+///   behind those on both lines where both links are up. A frame keeps the numbers that it was given as it was put.
 ///
 /// Premises: k is 1 to 7, N2 1 to 255, channels 1 to 16, and the users hand down octets.
 pub fn stations_meet_in_sessions()

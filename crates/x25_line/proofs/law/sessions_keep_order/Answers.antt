@@ -1,5 +1,5 @@
 use Rattle.x25_line.proofs.StationRuns.{Laws}
-use Rattle.x25_line.proofs.SessionRuns.{SessionLaws, meet_in_step, met_in_order, unmet_nothing, only_begun, each_stands, never_frmr, send_whole}
+use Rattle.x25_line.proofs.SessionRuns.{SessionLaws, meet_in_step, met_in_order, unmet_nothing, only_begun, each_stands, standing_goes_along, never_frmr, send_whole}
 use Rattle.x25_line.proofs.SessionLatest.{each_hears_latest, each_meets_latest, idle_has_arrived}
 use Rattle.x25_line.proofs.SessionEvents.{each_event_meets_latest}
 use Rattle.x25_line.proofs.law.sessions_keep_order.Goals as goal
@@ -25,6 +25,7 @@ returns c =
       unmet = unmet_nothing reads rests;
       begun = only_begun reads rests;
       stands = each_stands reads rests;
+      machine = standing_goes_along reads rests;
       latest = each_hears_latest reads rests;
       agree = each_meets_latest reads rests;
       meets = each_event_meets_latest rests notes.take_hands_up reads;
