@@ -8,15 +8,19 @@ use Rattle.x25_frame.specs.Reading.{frame_of}
 use Rattle.x25_frame.specs.declared.error.FrameError.{FrameError}
 use Rattle.x25_io.specs.Lines.{lines_of}
 use Rattle.x25_text.specs.FrameText.{reading_text}
+use Rattle.x25_judge.specs.Book as book
 use Rattle.x25_judge.specs.RuleText.{rule_text}
 use Rattle.x25_judge.specs.Sides.{no_end, sees, misses}
+use Rattle.x25_judge.specs.declared.book.Book.{Book}
 use Rattle.x25_judge.specs.declared.judge.Judge.{Judge}
+use Rattle.x25_judge.specs.declared.packet_rule.PacketRule.{PacketRule}
 use Rattle.x25_judge.specs.declared.rule.Rule.{Rule}
+use Rattle.x25_judge.specs.declared.rule.Rule.TheVariants.{Packet}
 use Rattle.x25_judge.specs.declared.sides.Sides.{Sides}
 
 -- before anything was sent: k, and whether the user data of a CALL may be long
 abbrev pub begins : ℕ → Bool → Judge
-begins window long_data = record { window = window; long_data = long_data; dte = no_end; dce = no_end }
+begins window long_data = record { window = window; long_data = long_data; dte = no_end; dce = no_end; book = book.empty }
 
 -- ---- a frame
 
@@ -25,13 +29,15 @@ abbrev pub sides_of : Role → Judge → Sides
 sides_of Dte j = record { own = j.dte; other = j.dce; rule = None }
 sides_of Dce j = record { own = j.dce; other = j.dte; rule = None }
 
-abbrev pub behind : Role → Sides → Judge → Judge
-behind Dte t j = record { window = j.window; long_data = j.long_data; dte = t.own; dce = t.other }
-behind Dce t j = record { window = j.window; long_data = j.long_data; dte = t.other; dce = t.own }
+abbrev pub behind : Role → Sides → Book → Judge → Judge
+behind Dte t b j = record { window = j.window; long_data = j.long_data; dte = t.own; dce = t.other; book = b }
+behind Dce t b j = record { window = j.window; long_data = j.long_data; dte = t.other; dce = t.own; book = b }
 
-abbrev pub seen : ℕ → Result PlainFrame FrameError → Sides → Sides
-seen window (Ok frame) t = sees window frame t
-seen window (Err e) t = misses t
+-- a rule of the link layer is told before one of the packet layer
+abbrev pub all_told : Option Rule → Option PacketRule → Option Rule
+all_told (Some rule) packet = Some rule
+all_told None None = None
+all_told None (Some packet) = Some (Packet packet)
 
 -- ---- a line
 
@@ -48,15 +54,26 @@ abbrev pub verdict_text : Role → Option Rule → List ℕ
 verdict_text from None = []
 verdict_text from (Some rule) = end_of from ++ rule_text rule
 
-abbrev pub told_of : Judge → Role → Result PlainFrame FrameError → Sides → Answer
-told_of j from read t = record {
-  next = behind from t j;
-  text = mark_of from ++ reading_text j.long_data read ++ verdict_text from t.rule ++ codes "\n";
-  is_faulty = is_some t.rule;
+abbrev pub told_of : Judge → Role → Result PlainFrame FrameError → Sides → Option Rule → Book → Answer
+told_of j from read t rule b = record {
+  next = behind from t b j;
+  text = mark_of from ++ reading_text j.long_data read ++ verdict_text from rule ++ codes "\n";
+  is_faulty = is_some rule;
 }
 
+-- a frame, as it is seen by the link layer and by the packet layer
+abbrev pub told_seen : Judge → Role → PlainFrame → Sides → book.Seen → Answer
+told_seen j from frame t s = told_of j from (Ok frame) t (all_told t.rule s.rule) s.book
+
+abbrev pub told_frame : Judge → Role → PlainFrame → Sides → Answer
+told_frame j from frame t = told_seen j from frame t (book.sees from j.long_data frame (is_some t.rule) j.book)
+
+abbrev pub rule_of : Judge → Role → PlainFrame → Sides → Option Rule
+rule_of j from frame t = all_told t.rule (book.sees from j.long_data frame (is_some t.rule) j.book).rule
+
 abbrev pub read_of : Judge → Role → Result PlainFrame FrameError → Answer
-read_of j from read = told_of j from read (seen j.window read (sides_of from j))
+read_of j from (Ok frame) = told_frame j from frame (sees j.window frame (sides_of from j))
+read_of j from (Err e) = told_of j from (Err e) (misses (sides_of from j)) None (book.misses from j.book)
 
 -- a line that is none of a trace counts as faulty
 abbrev pub sent_of : Judge → Option (Role × List ℕ) → Answer

@@ -1,5 +1,16 @@
+pub mod PacketRuleText
 pub mod RuleText
+pub mod PacketRule
 pub mod Way
+pub mod Flow
+pub mod Message
+pub mod Terms
+pub mod Port
+pub mod Pair
+pub mod Talking
+pub mod Packets
+pub mod Layer
+pub mod Book
 pub mod Sides
 pub mod Judged
 pub mod Stream

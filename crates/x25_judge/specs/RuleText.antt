@@ -1,7 +1,8 @@
 -- What is said of a rule that a frame breaks (profile).
 use Rattle.std.specs.Prelude.{ℕ, List, ◌++◌, codes, decimal}
+use Rattle.x25_judge.specs.PacketRuleText.{packet_rule_text}
 use Rattle.x25_judge.specs.declared.rule.Rule.{Rule}
-use Rattle.x25_judge.specs.declared.rule.Rule.TheVariants.{NotUp, NoPoll, Unsent, Falls, RejectAgain, OverWindow, Skips, Repeats}
+use Rattle.x25_judge.specs.declared.rule.Rule.TheVariants.{NotUp, NoPoll, Unsent, Falls, RejectAgain, OverWindow, Skips, Repeats, Packet}
 
 abbrev pub rule_text : Rule → List ℕ
 rule_text NotUp = codes "no I frame, RR, RNR or REJ while the link isn't up (2.4.4.2)"
@@ -12,3 +13,4 @@ rule_text RejectAgain = codes "REJ comes once for a gap (2.4.5.4)"
 rule_text (OverWindow window) = codes "more I frames are unacknowledged than k (2.4.8.6): at most " ++ decimal window
 rule_text (Skips next) = codes "N(S) skips (2.4.5.1): it should be " ++ decimal next
 rule_text (Repeats next) = codes "N(S) repeats without REJ or a poll (2.4.5.9): it should be " ++ decimal next
+rule_text (Packet rule) = packet_rule_text rule

@@ -1,7 +1,7 @@
 //! Lines answered as they come, with at most one line held.
 ghost use Rattle.std.specs.Prelude.{length};
 
-use crate::judge::{Answered, Judge, MOST_ANSWER};
+use crate::judge::{Judge, MOST_ANSWER};
 use std::alloc::{AllocError, Global};
 use x25_io::{Failed, Fault, HeldLine, Output, Sink, TextTaker, split_line};
 use x25_text::{MOST_OCTETS, ROOM, Text};
@@ -35,7 +35,7 @@ impl Answerer {
         let held = HeldLine::new(alloc)?;
         let answer = Text::new(alloc)?;
         let output = Output::new(alloc)?;
-        let judge = Judge::new(window, long_data);
+        let judge = Judge::new(alloc, window, long_data)?;
         Ok(Answerer {
             held,
             octets: [0; MOST_OCTETS],
@@ -46,14 +46,13 @@ impl Answerer {
         })
     }
 
-    /// The answer to the line that is held.
-    fn answer_held(&mut self) -> Answered
+    /// The answer to the line that is held; whether that was at fault is answered.
+    fn answer_held(&mut self) -> bool
         ensures text { (begun : List ℕ) → HoldsLine begun self.old.held → self.new.answer ≡ (answer_to self.old.judge begun).text }
-        ensures next { (begun : List ℕ) → HoldsLine begun self.old.held → result.next ≡ (answer_to self.old.judge begun).next }
-        ensures is_faulty { (begun : List ℕ) → HoldsLine begun self.old.held → result.is_faulty ≡ (answer_to self.old.judge begun).is_faulty }
+        ensures next { (begun : List ℕ) → HoldsLine begun self.old.held → self.new.judge ≡ (answer_to self.old.judge begun).next }
+        ensures is_faulty { (begun : List ℕ) → HoldsLine begun self.old.held → result ≡ (answer_to self.old.judge begun).is_faulty }
         ensures held { self.new.held ≡ self.old.held }
         ensures output { self.new.output ≡ self.old.output }
-        ensures judge { self.new.judge ≡ self.old.judge }
         ensures before { self.new.is_faulty ≡ self.old.is_faulty }
     {
         self.answer.clear();
@@ -61,10 +60,7 @@ impl Answerer {
             Some(line) => self.judge.answer(line, &mut self.octets, &mut self.answer),
             None => {
                 self.answer.push(b"? 60\n");
-                Answered {
-                    next: self.judge,
-                    is_faulty: true,
-                }
+                true
             }
         }
     }
@@ -81,9 +77,8 @@ impl Answerer {
         ensures cleared { HoldsLine [] self.new.held }
         ensures marked { OnErr result (W.is_marked writer.new ≡ true) }
     {
-        let answered = self.answer_held();
-        self.judge = answered.next;
-        self.is_faulty |= answered.is_faulty;
+        let is_faulty = self.answer_held();
+        self.is_faulty |= is_faulty;
         self.held.clear();
         self.output.tell(self.answer.as_slice(), writer)
     }

@@ -1,14 +1,20 @@
 //! What answers a line.
-ghost use Rattle.std.specs.Prelude.{◌≡◌, ◌+◌, ◌≤◌, ◌++◌, length, codes, is_some};
+ghost use Rattle.std.specs.Prelude.{◌≡◌, ◌+◌, ◌≤◌, ◌++◌, length, codes, is_some, IfOk};
 ghost use Rattle.x25_decode.specs.Decoded.{mark_of, n1};
 ghost use Rattle.x25_frame.specs.Reading.{frame_of};
-ghost use Rattle.x25_judge.specs.Judged.{answer_to, begins, behind, end_of, read_of, sides_of, verdict_text};
+ghost use Rattle.x25_frame.specs.PlainFrame.{plain};
+ghost use Rattle.x25_judge.specs.Book.{misses as book_misses};
+ghost use Rattle.x25_judge.specs.Judged.{all_told, answer_to, begins, behind, read_of, rule_of, sides_of, told_frame, verdict_text};
+ghost use Rattle.x25_judge.specs.Sides.{sees, misses};
 
+use crate::book::Book;
+use crate::packet_rule::PacketRule;
 use crate::rule::Rule;
 use crate::rule_text::{MOST_RULE, push_rule};
 use crate::sides::{End, Sides};
+use std::alloc::{AllocError, Global};
 use x25_decode::read_sent;
-use x25_frame::{Role, decode};
+use x25_frame::{Frame, Role, decode};
 use x25_text::{MOST_OCTETS, MOST_TEXT, ROOM, Text, push_fault, push_frame};
 
 /// The most octets of information in an I frame.
@@ -21,19 +27,37 @@ const MOST_VERDICT: usize = MOST_RULE + 8;
 pub(crate) const MOST_ANSWER: usize = MOST_TEXT + MOST_VERDICT + 3;
 
 /// Both ends, as what they sent shows them; at most `window` I frames may be unacknowledged.
-#[derive(Clone, Copy)]
+#[derive(Drop)]
 pub(crate) struct Judge {
     pub(crate) window: u8,
     pub(crate) long_data: bool,
     pub(crate) dte: End,
     pub(crate) dce: End,
+    pub(crate) book: Book,
 }
 
-/// The judge behind a line, and whether that line was at fault.
-#[derive(Clone, Copy)]
-pub(crate) struct Answered {
-    pub(crate) next: Judge,
-    pub(crate) is_faulty: bool,
+/// A rule of the link layer is told before one of the packet layer.
+fn all_told(rule: Option<Rule>, packet: Option<PacketRule>) -> Option<Rule>
+    ensures { result ≡ all_told rule packet }
+{
+    match rule {
+        Some(_) => rule,
+        None => match packet {
+            Some(rule) => Some(Rule::Packet { rule }),
+            None => None,
+        },
+    }
+}
+
+/// Appends the rule that was broken, where one was, and a line feed; whether one was is answered.
+fn tell(from: Role, rule: Option<Rule>, text: &mut Text) -> bool
+    requires { length text.old + (MOST_VERDICT + 1) ≤ ROOM }
+    ensures text { text.new ≡ text.old ++ (verdict_text from rule ++ codes "\n") }
+    ensures is_faulty { result ≡ is_some rule }
+{
+    push_verdict(from, rule, text);
+    text.push(b"\n");
+    rule.is_some()
 }
 
 /// Appends the end and the rule that it broke.
@@ -54,20 +78,22 @@ fn push_verdict(from: Role, rule: Option<Rule>, text: &mut Text)
 
 impl Judge {
     /// Nothing was sent.
-    pub(crate) fn new(window: u8, long_data: bool) -> Judge
-        ensures { result ≡ begins window long_data }
+    pub(crate) fn new(alloc: Global, window: u8, long_data: bool) -> Result<Judge, AllocError>
+        ensures { IfOk result (λ judge. judge ≡ begins window long_data) }
     {
-        Judge {
+        let book = Book::new(alloc)?;
+        Ok(Judge {
             window,
             long_data,
             dte: End::new(),
             dce: End::new(),
-        }
+            book,
+        })
     }
 
     /// The end that sends, and the other one.
-    fn sides(self, from: Role) -> Sides
-        ensures { result ≡ sides_of from self }
+    fn sides(&self, from: Role) -> Sides
+        ensures { result ≡ sides_of from self.now }
     {
         match from {
             Role::Dte => Sides {
@@ -83,46 +109,48 @@ impl Judge {
         }
     }
 
-    fn behind(self, from: Role, sides: Sides) -> Judge
-        ensures { result ≡ behind from sides self }
+    fn keep(&mut self, from: Role, sides: Sides)
+        ensures { self.new ≡ behind from sides self.old.book self.old }
     {
         match from {
-            Role::Dte => Judge {
-                window: self.window,
-                long_data: self.long_data,
-                dte: sides.own,
-                dce: sides.other,
-            },
-            Role::Dce => Judge {
-                window: self.window,
-                long_data: self.long_data,
-                dte: sides.other,
-                dce: sides.own,
-            },
+            Role::Dte => {
+                self.dte = sides.own;
+                self.dce = sides.other;
+            }
+            Role::Dce => {
+                self.dce = sides.own;
+                self.dte = sides.other;
+            }
         }
     }
 
-    /// Appends the rule that was broken, where one was, and a line feed.
-    fn tell(self, from: Role, sides: Sides, text: &mut Text) -> Answered
-        requires { length text.old + (MOST_VERDICT + 1) ≤ ROOM }
-        ensures text { text.new ≡ text.old ++ (verdict_text from sides.rule ++ codes "\n") }
-        ensures next { result.next ≡ behind from sides self }
-        ensures is_faulty { result.is_faulty ≡ is_some sides.rule }
+    /// The rule that a frame breaks.
+    fn sees(&mut self, from: Role, frame: &Frame) -> Option<Rule>
+        ensures next { self.new ≡ (told_frame self.old from (plain frame.now) (sees self.old.window (plain frame.now) (sides_of from self.old))).next }
+        ensures rule { result ≡ rule_of self.old from (plain frame.now) (sees self.old.window (plain frame.now) (sides_of from self.old)) }
     {
-        push_verdict(from, sides.rule, text);
-        text.push(b"\n");
-        Answered {
-            next: self.behind(from, sides),
-            is_faulty: sides.rule.is_some(),
-        }
+        let sides = self.sides(from).sees(self.window, frame);
+        let packet = self
+            .book
+            .sees(from, self.long_data, frame, sides.rule.is_some());
+        self.keep(from, sides);
+        all_told(sides.rule, packet)
     }
 
-    /// Appends what the octets read as, and the rule that they break.
-    fn read(self, from: Role, octets: &[u8], text: &mut Text) -> Answered
+    fn misses(&mut self, from: Role)
+        ensures { self.new ≡ behind from (misses (sides_of from self.old)) (book_misses from self.old.book) self.old }
+    {
+        let sides = self.sides(from).misses();
+        self.book.misses(from);
+        self.keep(from, sides);
+    }
+
+    /// Appends what the octets read as, and the rule that they break; whether they break one is answered.
+    fn read(&mut self, from: Role, octets: &[u8], text: &mut Text) -> bool
         requires { length text.old + MOST_ANSWER ≤ ROOM }
-        ensures text { text.new ≡ text.old ++ (read_of self from (frame_of from n1 octets.now)).text }
-        ensures next { result.next ≡ (read_of self from (frame_of from n1 octets.now)).next }
-        ensures is_faulty { result.is_faulty ≡ (read_of self from (frame_of from n1 octets.now)).is_faulty }
+        ensures text { text.new ≡ text.old ++ (read_of self.old from (frame_of from n1 octets.now)).text }
+        ensures next { self.new ≡ (read_of self.old from (frame_of from n1 octets.now)).next }
+        ensures is_faulty { result ≡ (read_of self.old from (frame_of from n1 octets.now)).is_faulty }
     {
         match from {
             Role::Dte => text.push(b"> "),
@@ -131,32 +159,31 @@ impl Judge {
         match decode(from, N1, octets) {
             Ok(frame) => {
                 push_frame(self.long_data, &frame, text);
-                self.tell(from, self.sides(from).sees(self.window, &frame), text)
+                let rule = self.sees(from, &frame);
+                tell(from, rule, text)
             }
             Err(error) => {
                 push_fault(error, text);
-                self.tell(from, self.sides(from).misses(), text)
+                self.misses(from);
+                tell(from, None, text)
             }
         }
     }
 
-    /// Appends the line that answers a line. `octets` is overwritten.
+    /// Appends the line that answers a line; whether it was at fault is answered. `octets` is overwritten.
     #[tactic(auto, unfolding(crate::specs::Judged::answer_to))]
-    pub(crate) fn answer(self, line: &[u8], octets: &mut [u8], text: &mut Text) -> Answered
+    pub(crate) fn answer(&mut self, line: &[u8], octets: &mut [u8], text: &mut Text) -> bool
         requires octets { length octets.old ≡ MOST_OCTETS }
         requires room { length text.old + MOST_ANSWER ≤ ROOM }
-        ensures text { text.new ≡ text.old ++ (answer_to self line.now).text }
-        ensures next { result.next ≡ (answer_to self line.now).next }
-        ensures is_faulty { result.is_faulty ≡ (answer_to self line.now).is_faulty }
+        ensures text { text.new ≡ text.old ++ (answer_to self.old line.now).text }
+        ensures next { self.new ≡ (answer_to self.old line.now).next }
+        ensures is_faulty { result ≡ (answer_to self.old line.now).is_faulty }
     {
         match read_sent(line, octets) {
             Some((from, count)) => self.read(from, &octets[..count], text),
             None => {
                 text.push(b"? 60\n");
-                Answered {
-                    next: self,
-                    is_faulty: true,
-                }
+                true
             }
         }
     }

@@ -1,8 +1,10 @@
-//! The rules of the link layer that a frame may break.
+//! The rules that a frame may break.
+
+use crate::packet_rule::PacketRule;
 
 /// A rule that a frame breaks, with what would have been right. ITU-T X.25 (10/96); the section is in the text of each.
 ///
-/// Numbers are N(S) and N(R), and I frames that are unacknowledged.
+/// Numbers are N(S) and N(R), and I frames that are unacknowledged; `Packet` is a rule of the packet layer.
 #[derive(Clone, Copy)]
 pub(crate) enum Rule {
     NotUp,
@@ -13,4 +15,5 @@ pub(crate) enum Rule {
     OverWindow { window: u8 },
     Skips { next: u8 },
     Repeats { next: u8 },
+    Packet { rule: PacketRule },
 }

@@ -2,6 +2,7 @@
 ghost use Rattle.std.specs.Prelude.{◌≡◌, ◌+◌, ◌≤◌, ◌++◌, length};
 ghost use Rattle.x25_judge.specs.RuleText.{rule_text};
 
+use crate::packet_rule_text::push_packet_rule;
 use crate::rule::Rule;
 use x25_text::{ROOM, Text};
 
@@ -38,5 +39,6 @@ pub(crate) fn push_rule(rule: Rule, text: &mut Text)
             b"N(S) repeats without REJ or a poll (2.4.5.9): it should be ",
             u16::from(next),
         ),
+        Rule::Packet { rule } => push_packet_rule(rule, text),
     }
 }

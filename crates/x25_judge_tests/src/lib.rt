@@ -2,4 +2,6 @@
 #![tactic(auto)]
 
 #[cfg(test)]
+mod packet_rules;
+#[cfg(test)]
 mod rules;

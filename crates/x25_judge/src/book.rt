@@ -1,0 +1,243 @@
+//! The packet layers of both ends and all their channels.
+ghost use Rattle.std.specs.Prelude.{◌≡◌, IfOk};
+ghost use Rattle.x25_frame.specs.PlainFrame.{plain as plain_frame};
+ghost use Rattle.x25_packet.specs.PlainPacket.{plain};
+ghost use Rattle.x25_judge.specs.Book as definition;
+
+use crate::layer::{Layer, Layers};
+use crate::packet_rule::{PacketRule, first};
+use crate::pair::Pair;
+use crate::ports::Ports;
+use std::alloc::{AllocError, Global};
+use x25_frame::{Frame, Role};
+use x25_packet::{Packet, channel, decode_within, longest_user};
+
+/// Both packet layers, and the ends of the channels.
+#[derive(Drop)]
+pub(crate) struct Book {
+    pub(crate) dte: Layer,
+    pub(crate) dce: Layer,
+    pub(crate) dte_ports: Ports,
+    pub(crate) dce_ports: Ports,
+}
+
+impl Book {
+    /// Nothing was sent.
+    pub(crate) fn new(alloc: Global) -> Result<Book, AllocError>
+        ensures { IfOk result (λ book. book ≡ definition.empty) }
+    {
+        let dte_ports = Ports::new(alloc)?;
+        let dce_ports = Ports::new(alloc)?;
+        Ok(Book {
+            dte: Layer::unseen(),
+            dce: Layer::unseen(),
+            dte_ports,
+            dce_ports,
+        })
+    }
+
+    /// The end that sends, and the other one.
+    fn layers(&self, from: Role) -> Layers
+        ensures { result ≡ definition.layers_of from self.now }
+    {
+        match from {
+            Role::Dte => Layers {
+                own: self.dte,
+                other: self.dce,
+                rule: None,
+            },
+            Role::Dce => Layers {
+                own: self.dce,
+                other: self.dte,
+                rule: None,
+            },
+        }
+    }
+
+    fn keep(&mut self, from: Role, layers: Layers)
+        ensures { self.new ≡ definition.keeps from layers self.old }
+    {
+        match from {
+            Role::Dte => {
+                self.dte = layers.own;
+                self.dce = layers.other;
+            }
+            Role::Dce => {
+                self.dce = layers.own;
+                self.dte = layers.other;
+            }
+        }
+    }
+
+    /// The channels of the end that sends begin anew.
+    fn begin(&mut self, from: Role)
+        ensures { self.new ≡ definition.begins_ports from self.old }
+    {
+        match from {
+            Role::Dte => self.dte_ports.begin(),
+            Role::Dce => self.dce_ports.begin(),
+        }
+    }
+
+    /// Both ends of a channel.
+    fn pair(&self, from: Role, reaches: bool, channel: u16) -> Pair
+        ensures { result ≡ definition.pair_of from reaches channel self.now }
+    {
+        match from {
+            Role::Dte => Pair {
+                from,
+                reaches,
+                own: self.dte_ports.get(channel),
+                other: self.dce_ports.get(channel),
+                rule: None,
+            },
+            Role::Dce => Pair {
+                from,
+                reaches,
+                own: self.dce_ports.get(channel),
+                other: self.dte_ports.get(channel),
+                rule: None,
+            },
+        }
+    }
+
+    fn put(&mut self, from: Role, channel: u16, pair: Pair)
+        ensures { self.new ≡ definition.puts from channel pair self.old }
+    {
+        match from {
+            Role::Dte => {
+                self.dte_ports.set(channel, pair.own);
+                self.dce_ports.set(channel, pair.other);
+            }
+            Role::Dce => {
+                self.dce_ports.set(channel, pair.own);
+                self.dte_ports.set(channel, pair.other);
+            }
+        }
+    }
+
+    /// A packet of a channel, where restarts are sure.
+    fn takes_on(
+        &mut self,
+        from: Role,
+        layers: Layers,
+        channel: u16,
+        packet: &Packet,
+    ) -> Option<PacketRule>
+        ensures book { self.new ≡ (definition.takes_on from layers channel (plain packet.now) self.old).book }
+        ensures rule { result ≡ (definition.takes_on from layers channel (plain packet.now) self.old).rule }
+    {
+        self.keep(from, layers);
+        if !layers.are_sure() {
+            return layers.rule;
+        }
+        let pair = self.pair(from, layers.are_level(), channel).sends(packet);
+        self.put(from, channel, pair);
+        first(layers.rule, pair.rule)
+    }
+
+    /// A packet; the rule that it breaks is answered.
+    #[tactic(auto, unfolding(crate::specs::Book::takes))]
+    fn takes(&mut self, from: Role, channel: u16, packet: &Packet) -> Option<PacketRule>
+        ensures book { self.new ≡ (definition.takes from channel (plain packet.now) self.old).book }
+        ensures rule { result ≡ (definition.takes from channel (plain packet.now) self.old).rule }
+    {
+        let layers = self.layers(from);
+        match packet {
+            Packet::Restart { .. } => {
+                self.begin(from);
+                let next = layers.restarts();
+                self.keep(from, next);
+                next.rule
+            }
+            Packet::RestartConf => {
+                self.begin(from);
+                let next = layers.confirms_restart();
+                self.keep(from, next);
+                next.rule
+            }
+            Packet::Call { .. }
+            | Packet::Accept { .. }
+            | Packet::Clear { .. }
+            | Packet::ClearConf { .. }
+            | Packet::Data { .. }
+            | Packet::Rr { .. }
+            | Packet::Rnr { .. }
+            | Packet::Interrupt { .. }
+            | Packet::InterruptConf { .. }
+            | Packet::Reset { .. }
+            | Packet::ResetConf { .. } => self.takes_on(from, layers.runs(), channel, packet),
+        }
+    }
+
+    /// Octets that spell no packet: nothing may be said of their channel, or of restarts where they name none.
+    fn misses_on(&mut self, from: Role, channel: u16)
+        ensures { self.new ≡ definition.misses_on from channel self.old }
+    {
+        let layers = self.layers(from);
+        if channel == 0 {
+            self.keep(from, layers.unsure());
+        } else {
+            let pair = self.pair(from, layers.are_level(), channel).unknown();
+            self.put(from, channel, pair);
+        }
+    }
+
+    /// The information of an I frame; the rule that it breaks is answered.
+    fn reads(&mut self, from: Role, long_data: bool, octets: &[u8]) -> Option<PacketRule>
+        ensures book { self.new ≡ (definition.reads from long_data octets.now self.old).book }
+        ensures rule { result ≡ (definition.reads from long_data octets.now self.old).rule }
+    {
+        let Some(channel) = channel(octets) else {
+            return None;
+        };
+        match decode_within(longest_user(long_data), octets) {
+            Ok(packet) => self.takes(from, channel, &packet),
+            Err(_) => {
+                self.misses_on(from, channel);
+                None
+            }
+        }
+    }
+
+    /// The end sends a frame, which breaks a rule of the link layer where `is_broken`; the rule that its packet breaks is answered.
+    #[tactic(auto, unfolding(crate::specs::Book::sees))]
+    pub(crate) fn sees(
+        &mut self,
+        from: Role,
+        long_data: bool,
+        frame: &Frame,
+        is_broken: bool,
+    ) -> Option<PacketRule>
+        ensures book { self.new ≡ (definition.sees from long_data (plain_frame frame.now) is_broken self.old).book }
+        ensures rule { result ≡ (definition.sees from long_data (plain_frame frame.now) is_broken self.old).rule }
+    {
+        let layers = self.layers(from);
+        self.keep(from, layers.sees(frame, is_broken));
+        match frame {
+            Frame::I { ns, info, .. } => if layers.may_judge(ns.get(), is_broken) {
+                self.reads(from, long_data, info)
+            } else {
+                None
+            },
+            Frame::Sabm { .. } | Frame::Ua { .. } => {
+                self.begin(from);
+                None
+            }
+            Frame::Dm { .. }
+            | Frame::Disc { .. }
+            | Frame::Rr { .. }
+            | Frame::Rnr { .. }
+            | Frame::Rej { .. }
+            | Frame::Frmr { .. } => None,
+        }
+    }
+
+    /// The end sends octets that are no frame.
+    pub(crate) fn misses(&mut self, from: Role)
+        ensures { self.new ≡ definition.misses from self.old }
+    {
+        let next = self.layers(from).misses();
+        self.keep(from, next);
+    }
+}
