@@ -17,7 +17,7 @@ use Rattle.x25_circuit.specs.Calls.{Calls, Sends}
 use Rattle.x25_epochs.specs.Names.{Name}
 use Rattle.x25_layer.specs.declared.error.LayerError.TheVariants as layer_error
 use Rattle.x25_layer.specs.Layer as layer
-use Rattle.x25_layer.specs.Calls.{Asks, Dials, Restarts}
+use Rattle.x25_layer.specs.Calls.{Asks, Dials, Restarts, PullsAll}
 use Rattle.x25_layer.specs.Transcript.{Asked}
 use Rattle.x25_station.specs.declared.error.StationError.TheVariants as error
 use Rattle.x25_station.specs.Settings.{Settings, layer_settings}
