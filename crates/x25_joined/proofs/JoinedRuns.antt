@@ -84,9 +84,9 @@ module _ (reads : ReadsOctets) (tapped : Throughout IsTapOfOctets) (cfg : Cfg) (
   one w next e is = ((ap refusal_of is, tt), ap (after w) is)
 
   two : (w between next : World) (e f : Event) → happens cfg w e ≡ Happened between → happens cfg between f ≡ Happened next → Leads w (e ∷ f ∷ []) next
-  two w between next e f is then =
+  two w between next e f is later =
       let there : after w (happens cfg w e) ≡ between = ap (after w) is in
-      let behind : happens cfg (after w (happens cfg w e)) f ≡ Happened next = ap (λ (v : World). happens cfg v f) there ∙ then in
+      let behind : happens cfg (after w (happens cfg w e)) f ≡ Happened next = ap (λ (v : World). happens cfg v f) there ∙ later in
       ((ap refusal_of is, (ap refusal_of behind, tt)), ap (after (after w (happens cfg w e))) behind)
 
   on_tap : (events : List Event) (next : World) → AreInOctets events → world.run cfg events start ≡ next → IsTapOfOctets cfg next
@@ -98,10 +98,10 @@ module _ (reads : ReadsOctets) (tapped : Throughout IsTapOfOctets) (cfg : Cfg) (
       let e : Event = record { at = Dte; act = act } in
       let leads = one k.w next e is in
       moved j there k (e ∷ []) next leads.0 leads.1 (octets, tt) shows (λ handed reached. fits (on_tap (k.events ++ e ∷ []) next handed reached))
-  dte_kept j there k (pulls act between next is then octets shows fits) =
+  dte_kept j there k (pulls act between next is later octets shows fits) =
       let e : Event = record { at = Dte; act = act } in
       let f : Event = record { at = Dte; act = all_pulled } in
-      let leads = two k.w between next e f is then in
+      let leads = two k.w between next e f is later in
       moved j there k (e ∷ f ∷ []) next leads.0 leads.1 (octets, (tt, tt)) shows (λ handed reached. fits (on_tap (k.events ++ e ∷ f ∷ []) next handed reached))
 
   dce_kept : (j there : Joined) (k : Kept cfg j) → Mirrors cfg Dce (world.swapped k.w) there → Kept cfg (swapped there)
@@ -120,10 +120,10 @@ module _ (reads : ReadsOctets) (tapped : Throughout IsTapOfOctets) (cfg : Cfg) (
       moved j (swapped there) k (e ∷ []) (world.swapped next) leads.0 leads.1 (octets, tt) (shows_back cfg there next shows) (λ handed reached.
       let f = fits (on_tap (k.events ++ e ∷ []) (world.swapped next) handed reached) in
       record { out = f.back; back = f.out })
-  dce_kept j there k (pulls act between next is then octets shows fits) =
+  dce_kept j there k (pulls act between next is later octets shows fits) =
       let e : Event = record { at = Dce; act = act } in
       let f : Event = record { at = Dce; act = all_pulled } in
-      let leads = two k.w (world.swapped between) (world.swapped next) e f (ap swapped_back is) (ap swapped_back then) in
+      let leads = two k.w (world.swapped between) (world.swapped next) e f (ap swapped_back is) (ap swapped_back later) in
       moved j (swapped there) k (e ∷ f ∷ []) (world.swapped next) leads.0 leads.1 (octets, (tt, tt)) (shows_back cfg there next shows) (λ handed reached.
       let g = fits (on_tap (k.events ++ e ∷ f ∷ []) (world.swapped next) handed reached) in
       record { out = g.back; back = g.out })
