@@ -89,6 +89,10 @@ pub exactly_is : {T : Type 0} (result : Result T StationError) (o : Outcome) →
 exactly_is {T} result (Did step) h = h
 exactly_is {T} result (Refused e) h = subst (λ (r : Result T StationError). station.Refuses r (Refused e)) (sym h) (inl refl)
 
+pub accepted_is : (r : code_step.Step) (o : Outcome) → (let x : Result code_step.Step StationError = Ok r in station.RefusesExactly x o) → (let x : Result code_step.Step StationError = Ok r in station.Refuses x o)
+accepted_is r (Did step) h = tt
+accepted_is r (Refused e) h = absurd (ok_err r e h)
+
 pub goes_exactly : (r : code_step.Step) (o : Outcome) → (let x : Result code_step.Step StationError = Ok r in station.Refuses x o) → (let x : Result code_step.Step StationError = Ok r in station.RefusesExactly x o)
 goes_exactly r (Did step) h = tt
 goes_exactly r (Refused e) h = absurd h

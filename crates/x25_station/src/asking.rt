@@ -176,10 +176,10 @@ impl Station {
     {
         steps_keep_bounds();
         holds_few();
+        let entries = Vec::new(self.alloc);
         match self.layer.pull(&mut self.link) {
             Ok(()) => {
                 let frames = self.link.sent();
-                let entries = Vec::new(self.alloc);
                 Ok(Step { frames, entries })
             }
             Err(error) => Err(StationError::of_layer(error)),
