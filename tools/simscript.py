@@ -23,7 +23,7 @@ FORMS = [
     f"{END} (?:clear|reset|ready|notready) {NUMBER}",
     f"{END} send {NUMBER} [01] {HEX}",
     f"{END} int {NUMBER} {HEX}",
-    f"{END} (?:restart|connect|disconnect)",
+    f"{END} (?:restart|pull|connect|disconnect)",
     f"t1 {END}",
     f"deliver {DIRECTION}",
     f"lose {DIRECTION} {NUMBER}",

@@ -3,10 +3,10 @@ use Rattle.std.specs.Prelude.{ℕ, List, [], option_map, unwrap_or}
 use Rattle.x25_circuit.specs.declared.params.Params.{Params}
 use Rattle.x25_circuit.specs.Params.{default_params}
 use Rattle.x25_circuit.specs.Calls.{Accepts, Clears, Sends, Interrupts, Resets, SaysReady, SaysNotReady}
-use Rattle.x25_layer.specs.Calls.{Asks, Dials, Restarts}
+use Rattle.x25_layer.specs.Calls.{Asks, Dials, Restarts, PullsAll}
 use Rattle.x25_station.specs.Command.{Command, Requests, Connects, Disconnects}
 use Rattle.x25_script.specs.declared.params.Params.{Params as Numbers}
-use Rattle.x25_script.specs.PlainLine.{PlainCommand, call, accept, clear, send, interrupt, reset, ready, not_ready, restart, connect, disconnect}
+use Rattle.x25_script.specs.PlainLine.{PlainCommand, call, accept, clear, send, interrupt, reset, ready, not_ready, restart, pull, connect, disconnect}
 
 -- packet sizes and windows, from the four numbers of a line
 abbrev pub params_of : Numbers → Params
@@ -23,6 +23,7 @@ command_asked (reset channel) = Requests (Asks channel Resets)
 command_asked (ready channel) = Requests (Asks channel SaysReady)
 command_asked (not_ready channel) = Requests (Asks channel SaysNotReady)
 command_asked restart = Requests Restarts
+command_asked pull = Requests PullsAll
 command_asked connect = Connects
 command_asked disconnect = Disconnects
 

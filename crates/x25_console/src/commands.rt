@@ -93,6 +93,7 @@ pub fn station_command<'a>(command: &Command<'a>, user: &'a [u8]) -> Cmd<'a>
         Command::Ready { channel } => Cmd::Ready { channel: *channel },
         Command::NotReady { channel } => Cmd::NotReady { channel: *channel },
         Command::Restart => Cmd::Restart,
+        Command::Pull => Cmd::Pull,
         Command::Connect => Cmd::Connect,
         Command::Disconnect => Cmd::Disconnect,
     }

@@ -22,7 +22,7 @@ use Rattle.x25_world.specs.TapOctets.{AreOfFrame, IsTapOfOctets}
 use Rattle.x25_joined.specs.Joined.{Joined, swapped, nothing_read, Act, acts, Happening, acts_at, IsPossibleAt, run, ArePossible, entries_in, frames_in}
 use Rattle.x25_joined.specs.JoinedClaims.{station_by, entries_by, frames_by, put_by, Tells, OfPrograms, AreWorlds, OfProgramsUpOnce, UntilSecondUp, AreLawful, Arrive}
 use Rattle.x25_joined.proofs.LineText.{none_whole, first_said}
-use Rattle.x25_joined.proofs.JoinedShows.{IsEnd, Shows, Fits, Mirrors, stays, moves, act_shows}
+use Rattle.x25_joined.proofs.JoinedShows.{IsEnd, Shows, Fits, Mirrors, stays, moves, pulls, all_pulled, act_shows}
 use Rattle.x25_joined.proofs.Turns.{first_is}
 
 -- ---- as the other end sees it
@@ -59,21 +59,35 @@ record Kept (cfg : Cfg) (j : Joined) : Type 0 where
   fits : Fits w
 
 module _ (reads : ReadsOctets) (tapped : Throughout IsTapOfOctets) (cfg : Cfg) (fine : config_refusal cfg ≡ None) where
-  -- an event behind those so far
-  moved : (j there : Joined) (k : Kept cfg j) (e : Event) (next : World) → happens cfg k.w e ≡ Happened next → ActsInOctets e.act → Shows cfg Dte there next → (AreInOctets (k.events ++ e ∷ []) → world.run cfg (k.events ++ e ∷ []) start ≡ next → Fits next) → Kept cfg there
-  moved j there k e next is octets shows fits =
-      let handed = octets-append k.events (e ∷ []) k.octets (octets, tt) in
-      let at : happens cfg (world.run cfg k.events start) e ≡ Happened next = ap (λ (w : World). happens cfg w e) k.reached ∙ is in
-      let reached : world.run cfg (k.events ++ e ∷ []) start ≡ next = run-append cfg k.events (e ∷ []) start ∙ ap (after (world.run cfg k.events start)) at in
+  -- events behind those so far
+  moved : (j there : Joined) (k : Kept cfg j) (more : List Event) (next : World) → AreAccepted cfg more k.w → world.run cfg more k.w ≡ next → AreInOctets more → Shows cfg Dte there next
+      → (AreInOctets (k.events ++ more) → world.run cfg (k.events ++ more) start ≡ next → Fits next) → Kept cfg there
+  moved j there k more next accepted is octets shows fits =
+      let handed = octets-append k.events more k.octets octets in
+      let reached : world.run cfg (k.events ++ more) start ≡ next = run-append cfg k.events more start ∙ ap (world.run cfg more) k.reached ∙ is in
       record {
         w = next;
-        events = k.events ++ e ∷ [];
-        accepted = accepted-append cfg k.events (e ∷ []) start k.accepted (ap refusal_of at, tt);
+        events = k.events ++ more;
+        accepted = accepted-append cfg k.events more start k.accepted (subst (AreAccepted cfg more) (sym k.reached) accepted);
         octets = handed;
         reached = reached;
         shows = shows;
         fits = fits handed reached;
       }
+
+  -- one event, or two
+
+  abbrev Leads : World → List Event → World → Type 0
+  Leads w events next = AreAccepted cfg events w × (world.run cfg events w ≡ next)
+
+  one : (w next : World) (e : Event) → happens cfg w e ≡ Happened next → Leads w (e ∷ []) next
+  one w next e is = ((ap refusal_of is, tt), ap (after w) is)
+
+  two : (w between next : World) (e f : Event) → happens cfg w e ≡ Happened between → happens cfg between f ≡ Happened next → Leads w (e ∷ f ∷ []) next
+  two w between next e f is later =
+      let there : after w (happens cfg w e) ≡ between = ap (after w) is in
+      let behind : happens cfg (after w (happens cfg w e)) f ≡ Happened next = ap (λ (v : World). happens cfg v f) there ∙ later in
+      ((ap refusal_of is, (ap refusal_of behind, tt)), ap (after (after w (happens cfg w e))) behind)
 
   on_tap : (events : List Event) (next : World) → AreInOctets events → world.run cfg events start ≡ next → IsTapOfOctets cfg next
   on_tap events next octets reached = subst (IsTapOfOctets cfg) reached (tapped cfg fine start (inl refl) events octets)
@@ -82,7 +96,13 @@ module _ (reads : ReadsOctets) (tapped : Throughout IsTapOfOctets) (cfg : Cfg) (
   dte_kept j there k (stays shows) = record { w = k.w; events = k.events; accepted = k.accepted; octets = k.octets; reached = k.reached; shows = shows; fits = k.fits }
   dte_kept j there k (moves act next is octets shows fits) =
       let e : Event = record { at = Dte; act = act } in
-      moved j there k e next is octets shows (λ handed reached. fits (on_tap (k.events ++ e ∷ []) next handed reached))
+      let leads = one k.w next e is in
+      moved j there k (e ∷ []) next leads.0 leads.1 (octets, tt) shows (λ handed reached. fits (on_tap (k.events ++ e ∷ []) next handed reached))
+  dte_kept j there k (pulls act between next is later octets shows fits) =
+      let e : Event = record { at = Dte; act = act } in
+      let f : Event = record { at = Dte; act = all_pulled } in
+      let leads = two k.w between next e f is later in
+      moved j there k (e ∷ f ∷ []) next leads.0 leads.1 (octets, (tt, tt)) shows (λ handed reached. fits (on_tap (k.events ++ e ∷ f ∷ []) next handed reached))
 
   dce_kept : (j there : Joined) (k : Kept cfg j) → Mirrors cfg Dce (world.swapped k.w) there → Kept cfg (swapped there)
   dce_kept j there k (stays shows) = record {
@@ -96,9 +116,17 @@ module _ (reads : ReadsOctets) (tapped : Throughout IsTapOfOctets) (cfg : Cfg) (
   }
   dce_kept j there k (moves act next is octets shows fits) =
       let e : Event = record { at = Dce; act = act } in
-      moved j (swapped there) k e (world.swapped next) (ap swapped_back is) octets (shows_back cfg there next shows) (λ handed reached.
+      let leads = one k.w (world.swapped next) e (ap swapped_back is) in
+      moved j (swapped there) k (e ∷ []) (world.swapped next) leads.0 leads.1 (octets, tt) (shows_back cfg there next shows) (λ handed reached.
       let f = fits (on_tap (k.events ++ e ∷ []) (world.swapped next) handed reached) in
       record { out = f.back; back = f.out })
+  dce_kept j there k (pulls act between next is later octets shows fits) =
+      let e : Event = record { at = Dce; act = act } in
+      let f : Event = record { at = Dce; act = all_pulled } in
+      let leads = two k.w (world.swapped between) (world.swapped next) e f (ap swapped_back is) (ap swapped_back later) in
+      moved j (swapped there) k (e ∷ f ∷ []) (world.swapped next) leads.0 leads.1 (octets, (tt, tt)) (shows_back cfg there next shows) (λ handed reached.
+      let g = fits (on_tap (k.events ++ e ∷ f ∷ []) (world.swapped next) handed reached) in
+      record { out = g.back; back = g.out })
 
   act_kept : (at : Role) (act : Act) (j : Joined) → Kept cfg j → IsPossibleAt cfg j at act → Kept cfg (acts_at cfg j at act)
   act_kept Dte act j k may = dte_kept j (acts (settings_from Dte cfg) j act) k (act_shows cfg Dte k.w k.fits j k.shows reads act may)

@@ -1,5 +1,6 @@
 -- Two joined programs and a world of two stations, as one of the ends sees them: what one act of the programs is in the world.
 use Rattle.std.proofs.Common.{◌≡◌, ◌∙◌, ℕ, zero, suc, Bool, true, false, ◌&&◌, ◌||◌, nat_lt, cond, List, [], ◌∷◌, ◌++◌, length, take, drop, map, remove, All, Option, Some, None, append_assoc, append-nil, ap, ap₂, sym, subst, refl}
+use Rattle.std.proofs.lemmas.List.{map-append}
 use Rattle.std.proofs.lemmas.List.Elements.{All-nil, All-cons, All-head, All-tail, All-append, All-take, All-drop}
 use Rattle.x25_bits.specs.Role.{other}
 use Rattle.x25_bits.specs.declared.role.Role.{Role}
@@ -10,13 +11,14 @@ use Rattle.x25_line.specs.Stations.{is_visible, replaced}
 use Rattle.x25_script.specs.ReadingLaw.{ReadsOctets}
 use Rattle.x25_io.specs.Lines.{IsOpen}
 use Rattle.x25_station.specs.declared.config.Cfg.{Cfg}
-use Rattle.x25_station.specs.Command.{Command}
+use Rattle.x25_layer.specs.Calls.{PullsAll}
+use Rattle.x25_station.specs.Command.{Command, Requests}
 use Rattle.x25_station.specs.Entries.{StationEntry}
 use Rattle.x25_station.specs.Settings.{Settings, settings_from}
 use Rattle.x25_station.specs.Station.{Station}
 use Rattle.x25_station.specs.Steps.{Step, Outcome, Did, Refused, commands, fires, receives}
 use Rattle.x25_station.specs.TimerLaw.{Event, Comes, Asks, Fires}
-use Rattle.x25_pipe.specs.Piped.{event_in, turn, piped}
+use Rattle.x25_pipe.specs.Piped.{pulled_behind, and_pulls, with_pulls, event_in, turn, piped}
 use Rattle.x25_world.specs.SetUpFrames.{carries}
 use Rattle.x25_world.specs.declared.set_up.SetUpFrame.TheVariants.{Sabm, Ua}
 use Rattle.x25_world.specs.declared.error.WorldError.TheVariants as error
@@ -85,10 +87,15 @@ pub record Fits (w : World) : Type 0 where
   pub out : All AreOfFrame w.out
   pub back : All AreOfFrame w.back
 
--- what an act of the programs is in a world: nothing, or an act that is accepted
+abbrev pub all_pulled : world.Act
+all_pulled = world.Commands (Requests PullsAll)
+
+-- what an act of the programs is in a world: nothing; or an act that is accepted; or one behind which pulls are
 pub data Mirrors (cfg : Cfg) (end : Role) (w : World) (j : Joined) : Type 0 where
   stays : Shows cfg end j w → Mirrors cfg end w j
   moves : (act : world.Act) (next : World) → world.acts (settings_from end cfg) w act ≡ Happened next → ActsInOctets act → Shows cfg end j next → (AreOfFrames next.tap → Fits next) → Mirrors cfg end w j
+  pulls : (act : world.Act) (between next : World) → world.acts (settings_from end cfg) w act ≡ Happened between → world.acts (settings_from end cfg) between all_pulled ≡ Happened next → ActsInOctets act
+      → Shows cfg end j next → (AreOfFrames next.tap → Fits next) → Mirrors cfg end w j
 
 -- ---- the line
 
@@ -101,6 +108,27 @@ replaced_fit : (xs : List (List ℕ)) (place : ℕ) (octets : List ℕ) → All 
 replaced_fit [] place octets h f = h
 replaced_fit (x ∷ xs) zero octets h f = All-cons AreOfFrame octets xs f (All-tail AreOfFrame x xs h)
 replaced_fit (x ∷ xs) (suc place) octets h f = All-cons AreOfFrame x (replaced xs place octets) (All-head AreOfFrame x xs h) (replaced_fit xs place octets (All-tail AreOfFrame x xs h) f)
+
+-- a step and then another, with the same left on the line to the end, are one of both
+two_steps : (c : Settings) (w : World) (back : List (List ℕ)) (step more : Step) → after_step c (after_step c w back step) back more ≡ after_step c w back (pulled_behind step (Did more))
+two_steps c w back step more =
+    ap₂ (λ (out : List (List ℕ)) (tap : List OnTap).
+    let v : World = record { near = more.near; far = w.far; out = out; back = back; tap = tap; transcript = (w.transcript ++ entered c.role step.entries) ++ entered c.role more.entries } in v)
+    (append_assoc w.out fs gs ∙ ap (λ (xs : List (List ℕ)). w.out ++ xs) (sym both))
+    (append_assoc w.tap (tapped c.role fs) (tapped c.role gs) ∙ ap (λ (xs : List OnTap). w.tap ++ xs) (sym (map-append (λ octets. record { from = c.role; octets = octets }) fs gs) ∙ ap (tapped c.role) (sym both)))
+    ∙ ap (λ (transcript : List AtEnd).
+    let v : World = record { near = more.near; far = w.far; out = w.out ++ map (spelling_of c.role) (step.out ++ more.out); back = back; tap = w.tap ++ tapped c.role (map (spelling_of c.role) (step.out ++ more.out)); transcript = transcript } in v)
+    (append_assoc w.transcript (entered c.role step.entries) (entered c.role more.entries)
+    ∙ ap (λ (es : List AtEnd). w.transcript ++ es) (sym (map-append (λ entry. record { at = c.role; entry = entry }) step.entries more.entries)))
+  where
+    fs : List (List ℕ)
+    fs = map (spelling_of c.role) step.out
+
+    gs : List (List ℕ)
+    gs = map (spelling_of c.role) more.out
+
+    both : map (spelling_of c.role) (step.out ++ more.out) ≡ fs ++ gs
+    both = map-append (spelling_of c.role) step.out more.out
 
 module _ (cfg : Cfg) (end : Role) (w : World) (fits : Fits w) where
   abbrev c : Settings
@@ -159,17 +187,35 @@ module _ (cfg : Cfg) (end : Role) (w : World) (fits : Fits w) where
     nothing_happens line none turns = stays (subst (λ (v : World). Shows cfg end (reads c j j.back (line ++ 10 ∷ [])) v) stood
         (subst (λ (back : List (List ℕ)). Shows cfg end (reads c j back (line ++ 10 ∷ [])) (after_step c w w.back still)) h.back (reads_shows w.back line still none turns)))
 
-    something_happens : (act : world.Act) (line : List ℕ) (step : Step) → IsOpen line → TurnIs (turn c line w.near) step.near step.entries (map (spelling_of end) step.out)
+    -- an act and its pulls are a step of both
+    happens_pulling : (act : world.Act) (line : List ℕ) (back : List (List ℕ)) (step : Step) → IsOpen line → All AreOfFrame back
+        → TurnIs (turn c line w.near) (and_pulls c step).near (and_pulls c step).entries (map (spelling_of end) (and_pulls c step).out)
+        → world.acts c w act ≡ Happened (after_step c w back step) → ActsInOctets act → Mirrors cfg end w (reads c j back (line ++ 10 ∷ []))
+    happens_pulling act line back step none rest turns is octets = by (commands c step.near (Requests PullsAll)) refl
+      where
+        turned_by : (o : Outcome) → commands c step.near (Requests PullsAll) ≡ o
+            → TurnIs (turn c line w.near) (pulled_behind step o).near (pulled_behind step o).entries (map (spelling_of end) (pulled_behind step o).out)
+        turned_by o found =
+            subst (λ (o : Outcome). TurnIs (turn c line w.near) (pulled_behind step o).near (pulled_behind step o).entries (map (spelling_of end) (pulled_behind step o).out)) found turns
+
+        by : (o : Outcome) → commands c step.near (Requests PullsAll) ≡ o → Mirrors cfg end w (reads c j back (line ++ 10 ∷ []))
+        by (Refused e) found = moves act (after_step c w back step) is octets (reads_shows back line step none (turned_by (Refused e) found)) (step_fits back step rest)
+        by (Did more) found =
+            let both = pulled_behind step (Did more) in
+            pulls act (after_step c w back step) (after_step c w back both) is
+            (ap (of_station c (after_step c w back step)) found ∙ ap (λ (v : World). Happened v) (two_steps c w back step more)) octets
+            (reads_shows back line both none (turned_by (Did more) found)) (step_fits back both rest)
+
+    something_happens : (act : world.Act) (line : List ℕ) (step : Step) → IsOpen line
+        → TurnIs (turn c line w.near) (and_pulls c step).near (and_pulls c step).entries (map (spelling_of end) (and_pulls c step).out)
         → world.acts c w act ≡ Happened (after_step c w w.back step) → ActsInOctets act → Mirrors cfg end w (reads c j j.back (line ++ 10 ∷ []))
     something_happens act line step none turns is octets =
-        moves act (after_step c w w.back step) is octets
-        (subst (λ (back : List (List ℕ)). Shows cfg end (reads c j back (line ++ 10 ∷ [])) (after_step c w w.back step)) h.back (reads_shows w.back line step none turns))
-        (step_fits w.back step fits.back)
+        subst (λ (back : List (List ℕ)). Mirrors cfg end w (reads c j back (line ++ 10 ∷ []))) h.back (happens_pulling act line w.back step none fits.back turns is octets)
 
     commanded : (line : List ℕ) (command : Command) (o : Outcome) → IsOpen line → event_in end line ≡ Some (Asks command) → AsksOctets (Some (Asks command)) → commands c w.near command ≡ o
         → Mirrors cfg end w (reads c j j.back (line ++ 10 ∷ []))
     commanded line command (Did step) none asks octets is =
-        something_happens (world.Commands command) line step none (line_did c w.near line (Asks command) step asks is) (ap (of_station c w) is) octets
+        something_happens (world.Commands command) line step none (line_did c w.near line (Asks command) (and_pulls c step) asks (ap (with_pulls c) is)) (ap (of_station c w) is) octets
     commanded line command (Refused e) none asks octets is = nothing_happens line none (line_refused c w.near line (Asks command) e asks is)
 
     in_time : (is_waiting (station_of c j.near).link.phase && is_on_line c j) ≡ false → (is_waiting w.near.link.phase && world.is_on_line c w) ≡ false
@@ -179,7 +225,7 @@ module _ (cfg : Cfg) (end : Role) (w : World) (fits : Fits w) where
 
     fired : (line : List ℕ) (o : Outcome) → IsOpen line → event_in end line ≡ Some Fires → IsInTime c j (Some Fires) → fires c w.near ≡ o → Mirrors cfg end w (reads c j j.back (line ++ 10 ∷ []))
     fired line (Did step) none asks free is =
-        something_happens world.Fires line step none (line_did c w.near line Fires step asks is)
+        something_happens world.Fires line step none (line_did c w.near line Fires (and_pulls c step) asks (ap (with_pulls c) is))
         (ap (λ (b : Bool). cond b (Declined error.OnLine) (of_station c w (fires c w.near))) (in_time free) ∙ ap (of_station c w) is) tt
     fired line (Refused e) none asks free is = nothing_happens line none (line_refused c w.near line Fires e asks is)
 
@@ -199,10 +245,9 @@ module _ (cfg : Cfg) (end : Role) (w : World) (fits : Fits w) where
         let on_it : w.back ≡ octets ∷ back = h.back ∙ there in
         let all : All AreOfFrame (octets ∷ back) = subst (All AreOfFrame) on_it fits.back in
         let step = receives c w.near octets in
-        let turns = line_did c w.near line (Comes octets) step (frame_comes end octets (All-head AreOfFrame octets back all)) refl in
-        moves world.Receives (after_step c w back step) (ap (delivered c w) on_it) tt
-        (subst (λ (text : List ℕ). Shows cfg end (reads c j back text) (after_step c w back step)) (sym (frame_text (other end) octets)) (reads_shows back line step none turns))
-        (step_fits back step (All-tail AreOfFrame octets back all))
+        let turns = line_did c w.near line (Comes octets) (and_pulls c step) (frame_comes end octets (All-head AreOfFrame octets back all)) refl in
+        subst (λ (text : List ℕ). Mirrors cfg end w (reads c j back text)) (sym (frame_text (other end) octets))
+        (happens_pulling world.Receives line back step none (All-tail AreOfFrame octets back all) turns (ap (delivered c w) on_it) tt)
 
     -- ---- loss and damage
 

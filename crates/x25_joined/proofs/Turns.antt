@@ -8,7 +8,7 @@ use Rattle.x25_station.specs.Steps.{Step, Outcome, Did, Refused}
 use Rattle.x25_station.specs.TimerLaw as timer
 use Rattle.x25_station.specs.TimerLaw.{Event, Mark}
 use Rattle.x25_station.specs.declared.error.StationError.{StationError}
-use Rattle.x25_pipe.specs.Piped.{Saying, enters, sends, reads_nothing, refuses, marks, Turn, marked, standing, standing_turn, step_told, turn_of, event_in, event_turn, asked_turn, turn}
+use Rattle.x25_pipe.specs.Piped.{Saying, enters, sends, reads_nothing, refuses, marks, Turn, marked, standing, standing_turn, step_told, turn_of, with_pulls, event_in, event_turn, asked_turn, turn}
 use Rattle.x25_joined.specs.Joined.{entries_in, frames_in}
 
 pub entries-append : (xs ys : List Saying) → entries_in (xs ++ ys) ≡ entries_in xs ++ entries_in ys
@@ -78,19 +78,19 @@ module _ (c : Settings) (s : Station) where
   unfolding turn
   of_asked line asked next entries frames is h = subst (λ (o : Option Event). TurnIs (asked_turn c s o) next entries frames) (sym is) h
 
-  of_event : (event : Event) (next : Station) (entries : List StationEntry) (frames : List (List ℕ)) → TurnIs (turn_of c s event (timer.outcome c s event)) next entries frames
+  of_event : (event : Event) (next : Station) (entries : List StationEntry) (frames : List (List ℕ)) → TurnIs (turn_of c s event (with_pulls c (timer.outcome c s event))) next entries frames
       → TurnIs (asked_turn c s (Some event)) next entries frames
   unfolding event_turn
   of_event event next entries frames h = h
 
-  -- a line that asks for a step, for one that is refused, or for nothing
+  -- a line that asks for a step, which is then one with its pulls; for one that is refused; or for nothing
 
-  pub line_did : (line : List ℕ) (event : Event) (step : Step) → event_in c.role line ≡ Some event → timer.outcome c s event ≡ Did step
+  pub line_did : (line : List ℕ) (event : Event) (step : Step) → event_in c.role line ≡ Some event → with_pulls c (timer.outcome c s event) ≡ Did step
       → TurnIs (turn c line s) step.near step.entries (map (spelling_of c.role) step.out)
-  line_did line event step asks is = of_asked line (Some event) step.near step.entries (map (spelling_of c.role) step.out) asks (of_event event step.near step.entries (map (spelling_of c.role) step.out) (did event step (timer.outcome c s event) is))
+  line_did line event step asks is = of_asked line (Some event) step.near step.entries (map (spelling_of c.role) step.out) asks (of_event event step.near step.entries (map (spelling_of c.role) step.out) (did event step (with_pulls c (timer.outcome c s event)) is))
 
   pub line_refused : (line : List ℕ) (event : Event) (e : StationError) → event_in c.role line ≡ Some event → timer.outcome c s event ≡ Refused e → TurnIs (turn c line s) s [] []
-  line_refused line event e asks is = of_asked line (Some event) s [] [] asks (of_event event s [] [] (refused event e (timer.outcome c s event) is))
+  line_refused line event e asks is = of_asked line (Some event) s [] [] asks (of_event event s [] [] (refused event e (with_pulls c (timer.outcome c s event)) (ap (with_pulls c) is)))
 
   pub line_none : (line : List ℕ) → event_in c.role line ≡ None → TurnIs (turn c line s) s [] []
   line_none line asks = of_asked line None s [] [] asks (marked_is c (standing s) s (reads_nothing ∷ []) [] [] refl refl)

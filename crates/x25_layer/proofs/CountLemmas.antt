@@ -13,7 +13,7 @@ use Rattle.x25_epochs.specs.Names.{Name}
 use Rattle.x25_layer.specs.declared.error.LayerError.{LayerError}
 use Rattle.x25_layer.specs.declared.error.LayerError.TheVariants as error
 use Rattle.x25_layer.specs.Layer.{LayerSettings, Layer, LayerNotice, LayerAnswer, is_channel, notices_on, is_ready, answers_on, drops, answers_ready, answers_restarting, answers_in, layer_answers}
-use Rattle.x25_layer.specs.Calls.{LayerRequest, Asks, Dials, Restarts, LayerOutcome, Accepted, Declined, free_channel, puts_at_once, where_room, if_at_once, outcome_on, dialled, outcome_ready, outcome_in, layer_outcome, layer_pulled}
+use Rattle.x25_layer.specs.Calls.{LayerRequest, Asks, Dials, Restarts, PullsAll, LayerOutcome, Accepted, Declined, free_channel, puts_at_once, where_room, if_at_once, outcome_on, dialled, outcome_ready, outcome_in, layer_outcome, layer_pulled}
 use Rattle.x25_layer.specs.Transcript.{name_of}
 use Rattle.x25_layer.specs.World.{End, World, Move, Requests, Pulls, HandsUp, GoesDown, requested, pulled_in, handed_up, moves_in, turned, settings_of, Event, happens, run, start}
 use Rattle.x25_layer.specs.Law.{Always}
@@ -107,6 +107,7 @@ kept_ready c full l (Asks h request) =
     (kept_on l h (outcome c.circuit (l.circuits h) request) (outcome_keeps c.circuit (l.circuits h) request)))
 kept_ready c full l (Dials called calling user params) = kept_dial c full l (free_channel c.circuit.role l.circuits c.channels) called calling user params
 kept_ready c full l Restarts = kept_room l full _ (λ k. refl)
+kept_ready c full l PullsAll = λ k. refl
 
 names_kept : (c : LayerSettings) (full : Bool) (l : Layer) (request : LayerRequest) → KeepsNames l (layer_outcome c full l request)
 names_kept c full l request = by l.restarting

@@ -18,14 +18,14 @@ use Rattle.x25_epochs.specs.Layers.{LayerPacket, On, Restart, Channels, put, add
 use Rattle.x25_epochs.specs.Names.{both, same_name}
 use Rattle.x25_layer.specs.Layer.{LayerSettings, Layer, LayerAnswer, is_channel, put_at, packet_on, notices_on, is_ready, answers_on, drops, answers_ready, answers_restarting, answers_in, layer_answers}
 use Rattle.x25_layer.specs.Layer as flat
-use Rattle.x25_layer.specs.Calls.{LayerRequest, Asks, Dials, Restarts, LayerOutcome, Accepted, Declined, first_of, lowest_free, highest_free, free_channel, puts_at_once, where_room, if_at_once, outcome_on, dialled, outcome_ready, outcome_in, layer_outcome, LayerPulled, layer_pulled}
+use Rattle.x25_layer.specs.Calls.{LayerRequest, Asks, Dials, Restarts, PullsAll, LayerOutcome, Accepted, Declined, first_of, lowest_free, highest_free, free_channel, puts_at_once, where_room, if_at_once, outcome_on, dialled, outcome_ready, outcome_in, layer_outcome, LayerPulled, layer_pulled}
 use Rattle.x25_layer.specs.Quiet.{IsQuiet, IsQuietAt, AreQuiet, AreNoFaults}
 use Rattle.x25_layer.specs.Transcript.{Handed, nothing_handed, added, told_by_all, asked_by, Entry, Asked, name_of}
 use Rattle.x25_layer.specs.World.{shown, entries_asked, entry_of_request, entry_of_dial, entries_told}
 use Rattle.x25_layer.proofs.Sees.{unagreed, view, Shows, ParamsLaws, bare, bare_if, IsQuietIf, TellNoFault, Follows, Does, Heeds, act_of, pull_act, Notes, NotesOutcome}
 use Rattle.x25_layer.proofs.ViewLemmas.{some_none, follows, heeds, pulls_as}
 use Rattle.x25_layer.proofs.NoteLemmas.{still, notes_taken, notes_asked, notes_pulled}
-use Rattle.x25_layer.proofs.LayerSees.{bare_layer, bare_layers, ShowsAt, SeesLayer, StepOf, FollowsLayer, DoesLayer, dial_act, layer_act, HeedsLayer}
+use Rattle.x25_layer.proofs.LayerSees.{bare_layer, bare_layers, ShowsAt, SeesLayer, StepOf, FollowsLayer, DoesLayer, dial_act, layer_act, DoesItself, HeedsLayer}
 use Rattle.x25_layer.proofs.StepLemmas.{quiet_step, restart_step, step_on, under_one, told_under}
 
 pub true≢false : true ≡ false → ⊥
@@ -248,16 +248,17 @@ dial laws c full e f x called calling user params each l same = found (free_chan
         (circuit_asked laws c e f x h (Calls called calling user params) (free_in c.circuit.role f c.channels h is) each l (Dials called calling user params)
         (λ n. ap (λ o. entry_of_dial n o (Calls called calling user params)) (ap (λ (g : ℕ → Circuit). free_channel c.circuit.role g c.channels) same ∙ is)))
 
-asked_ready : ParamsLaws → (c : LayerSettings) (full : Bool) (e : ℕ) (l : Layer) (x : Channels) (r : LayerRequest) → ((k : ℕ) → Shows (l.circuits k) (x k))
+asked_ready : ParamsLaws → (c : LayerSettings) (full : Bool) (e : ℕ) (l : Layer) (x : Channels) (r : LayerRequest) → DoesItself r → ((k : ℕ) → Shows (l.circuits k) (x k))
     → HeedsLayer c l r (outcome_ready c full e l.circuits r) (ready e x) (layer_side_acts e (Live x) (layer_act c l.circuits r))
-asked_ready laws c full e l x (Asks h request) each =
+asked_ready laws c full e l x (Asks h request) does each =
     if_there c l (Asks h request) (is_channel c.channels h) (if_at_once (puts_at_once request) full (outcome_on e l.circuits h (outcome c.circuit (l.circuits h) request))) _ (ready e x)
     (on_channel e x h (channel_acts (x h) (act_of request)))
     (λ is. at_once c l (Asks h request) (puts_at_once request) full (outcome_on e l.circuits h (outcome c.circuit (l.circuits h) request)) (ready e x)
     (on_channel e x h (channel_acts (x h) (act_of request)))
     (circuit_asked laws c e l.circuits x h request is each l (Asks h request) (λ n. refl)))
-asked_ready laws c full e l x (Dials called calling user params) each = dial laws c full e l.circuits x called calling user params each l refl
-asked_ready laws c full e l x Restarts each =
+asked_ready laws c full e l x (Dials called calling user params) does each = dial laws c full e l.circuits x called calling user params each l refl
+asked_ready laws c full e l x PullsAll does each = absurd does
+asked_ready laws c full e l x Restarts does each =
     room c l Restarts full (Accepted (flat.restarting_from e l.circuits) (Some (restart 0 0))) (ready e x) (record { next = restarting e x; out = Restart ∷ []; error = None })
     (record {
       next = record { restarting = refl; restarts = refl; circuits = λ k. ap forgotten (each k).is };
@@ -267,9 +268,9 @@ asked_ready laws c full e l x Restarts each =
     })
 
 -- A call of the user.
-pub layer_heeds : ParamsLaws → (c : LayerSettings) (full : Bool) (l : Layer) (z : At Channels) (r : LayerRequest) → SeesLayer l z
+pub layer_heeds : ParamsLaws → (c : LayerSettings) (full : Bool) (l : Layer) (z : At Channels) (r : LayerRequest) → DoesItself r → SeesLayer l z
     → HeedsLayer c l r (layer_outcome c full l r) z (layer_acts z (layer_act c l.circuits r))
-layer_heeds laws c full l z r s = side l.restarting z.side s.restarting s.circuits
+layer_heeds laws c full l z r does s = side l.restarting z.side s.restarting s.circuits
   where
     side : (b : Bool) (w : Side Channels) → b ≡ has_left w → ((k : ℕ) → ShowsAt w k (l.circuits k))
         → HeedsLayer c l r (outcome_in c full b l.restarts l.circuits r) (record { epoch = z.epoch; side = w }) (layer_side_acts z.epoch w (layer_act c l.circuits r))
@@ -277,7 +278,7 @@ layer_heeds laws c full l z r s = side l.restarting z.side s.restarting s.circui
     side false (Left x) is each = absurd (true≢false (sym is))
     side false (Live x) is each =
         subst (λ (m : ℕ). HeedsLayer c l r (outcome_ready c full m l.circuits r) (ready z.epoch x) (layer_side_acts z.epoch (Live x) (layer_act c l.circuits r))) (sym s.restarts)
-        (asked_ready laws c full z.epoch l x r each)
+        (asked_ready laws c full z.epoch l x r does each)
 
 -- ---- pulls
 

@@ -14,8 +14,8 @@ use Rattle.x25_circuit.specs.Calls.{Request, Calls, Accepts, Clears, Sends, Rese
 use Rattle.x25_epochs.specs.Names.{Name}
 use Rattle.x25_layer.specs.declared.error.LayerError.TheVariants as error
 use Rattle.x25_layer.specs.Layer.{LayerSettings, Layer, on_channel, restarted, is_ready, layer_answers}
-use Rattle.x25_layer.specs.Calls.{Asks, Dials, Restarts}
-use Rattle.x25_layer.specs.Rounds.{LinkView, Refuses, calls, rounds, begin}
+use Rattle.x25_layer.specs.Calls.{Asks, Dials, Restarts, PullsAll}
+use Rattle.x25_layer.specs.Rounds.{LinkView, Went, Refuses, calls, rounds, begin}
 use Rattle.x25_layer.specs.Transcript.{Entry, Said, Asked, Told}
 use Rattle.x25_layer.specs.World.{World, Move, Requests, Pulls, HandsUp, Event, settings_of, run, start}
 
@@ -188,3 +188,18 @@ row_rounds = refl
 -- seven packets wait, and then eight
 row_rounds_full : (rounds (record { is_up = true; waits = λ put. 7 + length put }) two (begin (is_ready 1 (λ k. with_two)) None)).put ≡ user_data 1 false false 0 0 (1 ∷ []) ∷ []
 row_rounds_full = refl
+
+-- ---- that all be pulled: the rounds alone
+
+-- a full queue doesn't refuse it; nothing is pulled then
+row_pull_full : calls (link_with true 256) two (is_ready 1 (λ k. with_two)) PullsAll ≡ Went (begin (is_ready 1 (λ k. with_two)) None)
+row_pull_full = refl
+
+row_pull_not_up : calls (link_with false 0) two sent_restart PullsAll ≡ Refuses error.NotUp
+row_pull_not_up = refl
+
+row_pull_restarting : calls (link_with true 0) two sent_restart PullsAll ≡ Refuses error.Restarting
+row_pull_restarting = refl
+
+row_pull : calls (record { is_up = true; waits = λ put. 0 }) two (is_ready 1 (λ k. with_two)) PullsAll ≡ Went (rounds (record { is_up = true; waits = λ put. 0 }) two (begin (is_ready 1 (λ k. with_two)) None))
+row_pull = refl

@@ -10,7 +10,7 @@ use Rattle.x25_epochs.specs.Layers.{LayerPacket, On, Restart, RestartConf, Chann
 use Rattle.x25_epochs.specs.Names.{Name, same_name}
 use Rattle.x25_epochs.specs.Books.{circuit_at}
 use Rattle.x25_layer.specs.Layer.{LayerSettings, Layer, LayerAnswer}
-use Rattle.x25_layer.specs.Calls.{LayerRequest, Asks, Dials, Restarts, LayerOutcome, Accepted, Declined, free_channel}
+use Rattle.x25_layer.specs.Calls.{LayerRequest, Asks, Dials, Restarts, PullsAll, LayerOutcome, Accepted, Declined, free_channel}
 use Rattle.x25_layer.specs.Quiet.{AreQuiet, AreNoFaults}
 use Rattle.x25_layer.specs.Transcript.{Handed, nothing_handed, Entry, under}
 use Rattle.x25_layer.specs.World.{entries_told, entries_asked}
@@ -67,11 +67,17 @@ abbrev pub dial_act : Option ℕ → List ℕ → List ℕ → List ℕ → Para
 dial_act None called calling user params = SendsRestart
 dial_act (Some h) called calling user params = OnChannel h (act_of (Calls called calling user params))
 
--- (of a dial that finds no free channel nothing is said)
+-- (of a dial that finds no free channel nothing is said, and neither of pulls, which change nothing themselves)
 abbrev pub layer_act : LayerSettings → (ℕ → Circuit) → LayerRequest → LayerAct
 layer_act c circuits (Asks h request) = OnChannel h (act_of request)
 layer_act c circuits (Dials called calling user params) = dial_act (free_channel c.circuit.role circuits c.channels) called calling user params
 layer_act c circuits Restarts = SendsRestart
+layer_act c circuits PullsAll = SendsRestart
+
+-- a request that does something itself
+abbrev pub DoesItself : LayerRequest → Type 0
+DoesItself PullsAll = ⊥
+DoesItself request = Unit {0}
 
 abbrev pub HeedsLayer : LayerSettings → Layer → LayerRequest → LayerOutcome → At Channels → LayerStep → Type 0
 HeedsLayer c l request (Accepted next packet) z s = DoesLayer c.channels next packet (entries_asked c l next request) z s

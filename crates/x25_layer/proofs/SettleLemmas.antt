@@ -10,7 +10,7 @@ use Rattle.x25_circuit.specs.Circuit.{Settings, Talk, Circuit, begun, forgotten,
 use Rattle.x25_circuit.specs.Calls.{Pulled, pulls_nothing, data_packet, pull_open, pull_in, pulled}
 use Rattle.x25_layer.specs.declared.error.LayerError.TheVariants as error
 use Rattle.x25_layer.specs.Layer.{LayerSettings, Layer, put_at, packet_on, restarting_from, goes_up}
-use Rattle.x25_layer.specs.Calls.{Restarts, outcome_in, layer_outcome, layer_pulled}
+use Rattle.x25_layer.specs.Calls.{Restarts, PullsAll, outcome_in, layer_outcome, layer_pulled}
 use Rattle.x25_layer.specs.Rounds.{LinkView, Putting, begin, with_pulled, pull_one, round, rounds_of, rounds, backlog, Went, Refuses, went, calls}
 use Rattle.x25_layer.specs.RoundLaw.{RoundsSettle, ComesUpAlone}
 
@@ -210,3 +210,22 @@ restart_full link c l up at_l full = restart_in link c l false true up at_l (eq-
 pub restart_goes : (link : LinkView) (c : LayerSettings) (l : Layer) → link.is_up ≡ true → l.restarting ≡ false → (link.waits [] ≡ 256 → ⊥) → calls link c l Restarts ≡ Went (begin (restarting_from l.restarts l.circuits) (Some (restart 0 0)))
 restart_goes link c l up at_l free =
     restart_in link c l false false up at_l (not_same (link.waits []) 256 free) ∙ ap (λ (s : Putting). Went s) (restart_alone link c l.restarts l.circuits)
+
+-- ---- that all be pulled: the rounds, and nothing before them
+
+pulls_in : (link : LinkView) (c : LayerSettings) (l : Layer) (restarting : Bool) → link.is_up ≡ true → l.restarting ≡ restarting
+    → calls link c l PullsAll ≡ went link c (outcome_in c (link.waits [] == 256) restarting l.restarts l.circuits PullsAll)
+pulls_in link c l restarting up at_l =
+    ap (λ (b : Bool). if b then went link c (layer_outcome c (link.waits [] == 256) l PullsAll) else Refuses error.NotUp) up
+    ∙ ap (λ (b : Bool). went link c (outcome_in c (link.waits [] == 256) b l.restarts l.circuits PullsAll)) at_l
+
+pub pulls_not_up : (link : LinkView) (c : LayerSettings) (l : Layer) → link.is_up ≡ false → calls link c l PullsAll ≡ Refuses error.NotUp
+pulls_not_up link c l down = ap (λ (b : Bool). if b then went link c (layer_outcome c (link.waits [] == 256) l PullsAll) else Refuses error.NotUp) down
+
+pub pulls_restarting : (link : LinkView) (c : LayerSettings) (l : Layer) → link.is_up ≡ true → l.restarting ≡ true → calls link c l PullsAll ≡ Refuses error.Restarting
+pulls_restarting link c l up at_l = pulls_in link c l true up at_l
+
+pub pulls_go : (link : LinkView) (c : LayerSettings) (l : Layer) → link.is_up ≡ true → l.restarting ≡ false → calls link c l PullsAll ≡ Went (rounds link c (begin l None))
+pulls_go link c l up at_l =
+    pulls_in link c l false up at_l
+    ∙ ap (λ (b : Bool). Went (rounds link c (begin (record { restarting = b; restarts = l.restarts; circuits = l.circuits }) None))) (sym at_l)

@@ -7,7 +7,7 @@ use Rattle.x25_epochs.specs.Layers.{LayerPacket, Channels, LayerStep, OnChannel,
 use Rattle.x25_epochs.specs.Layers as nested
 use Rattle.x25_epochs.specs.Books.{circuit_at}
 use Rattle.x25_layer.specs.Layer.{LayerSettings, Layer, LayerNotice, LayerAnswer, is_channel, layer_answers, rested}
-use Rattle.x25_layer.specs.Calls.{LayerOutcome, Accepted, Declined, layer_outcome, LayerPulled, layer_pulled}
+use Rattle.x25_layer.specs.Calls.{LayerRequest, PullsAll, LayerOutcome, Accepted, Declined, outcome_in, layer_outcome, LayerPulled, layer_pulled}
 use Rattle.x25_layer.specs.Quiet.{AreQuiet, AreNoFaults}
 use Rattle.x25_layer.specs.Transcript.{Entry}
 use Rattle.x25_layer.specs.World.{End, World, entries_asked, entries_told, Move, Requests, Pulls, HandsUp, GoesDown, puts, requested, pulled_in, answered, handed_up, moves_in, turned, settings_of}
@@ -103,28 +103,63 @@ answered_sees channels w j p K a s error sees front z g = record {
 same_entries : (es : List Entry) → es ≡ es ++ []
 same_entries es = sym (append_nil es)
 
+-- a world by the parts that a move without a packet writes anew
+abbrev written_anew : World → Bool → Bool → List PlainPacket → List Entry → List PlainPacket → World
+written_anew w restarting gone given entries out = record {
+  near = record {
+    layer = record { restarting = restarting; restarts = w.near.layer.restarts; circuits = w.near.layer.circuits };
+    is_out = gone;
+    given = given;
+    taken = w.near.taken;
+    told = w.near.told;
+    entries = entries;
+  };
+  far = w.far;
+  out = out;
+  back = w.back;
+}
+
+-- That all be pulled changes nothing itself: the pulls are moves of their own.
+pulls_change_nothing : (c : LayerSettings) (full : Bool) (w : World) → w.near.is_out ≡ false → requested c w PullsAll (layer_outcome c full w.near.layer PullsAll) ≡ w
+pulls_change_nothing c full w up = by w.near.layer.restarting refl
+  where
+    by : (b : Bool) → w.near.layer.restarting ≡ b → requested c w PullsAll (outcome_in c full b w.near.layer.restarts w.near.layer.circuits PullsAll) ≡ w
+    by true is = refl
+    by false is =
+        ap (λ b. written_anew w b false (w.near.given ++ []) (w.near.entries ++ []) (w.out ++ [])) (sym is)
+        ∙ ap (λ b. written_anew w w.near.layer.restarting b (w.near.given ++ []) (w.near.entries ++ []) (w.out ++ [])) (sym up)
+        ∙ ap (λ l. written_anew w w.near.layer.restarting w.near.is_out l (w.near.entries ++ []) (w.out ++ [])) (append_nil w.near.given)
+        ∙ ap (λ l. written_anew w w.near.layer.restarting w.near.is_out w.near.given l (w.out ++ [])) (append_nil w.near.entries)
+        ∙ ap (λ l. written_anew w w.near.layer.restarting w.near.is_out w.near.given w.near.entries l) (append_nil w.out)
+
 -- An event at the near end, with the settings of its role.
 pub world_moves : ParamsLaws → (r : Role) (long_data : Bool) (channels : ℕ) (w : World) (near far : Side (At Channels)) (out back : List LayerPacket) (error : Option ℕ) (what : Move)
     → let j : Pair = record { near = near; far = far; out = out; back = back; error = error } in Sees channels w j → ((m : nested.Move) → (pair_moves r j near m).error ≡ None)
     → (gone : Bool) → gone ≡ w.near.is_out → (moves_in (settings_of r long_data channels) w gone what ≡ w) ⊎ Stepped r channels w j (moves_in (settings_of r long_data channels) w gone what)
 world_moves laws r long_data channels w near far out back error what sees quiet true is = inl refl
 world_moves laws r long_data channels w (Left z) far out back error what sees quiet false is = absurd (true≢false (sym (is ∙ sees.near.0)))
-world_moves laws r long_data channels w (Live z) far out back error (Requests full request) sees quiet false is =
-    did (layer_outcome (settings_of r long_data channels) full w.near.layer request) (layer_heeds laws (settings_of r long_data channels) full w.near.layer z request sees.near.1)
+world_moves laws r long_data channels w (Live z) far out back error (Requests full request) sees quiet false is = asked request
   where
-    did : (d : LayerOutcome) → HeedsLayer (settings_of r long_data channels) w.near.layer request d z (layer_acts z (layer_act (settings_of r long_data channels) w.near.layer.circuits request))
-        → (requested (settings_of r long_data channels) w request d ≡ w)
-        ⊎ Stepped r channels w (record { near = Live z; far = far; out = out; back = back; error = error }) (requested (settings_of r long_data channels) w request d)
-    did (Accepted next packet) g = inr (record {
-      move = Acts (layer_act (settings_of r long_data channels) w.near.layer.circuits request);
+    c : LayerSettings
+    c = settings_of r long_data channels
+
+    did : (request : LayerRequest) (d : LayerOutcome) → HeedsLayer c w.near.layer request d z (layer_acts z (layer_act c w.near.layer.circuits request))
+        → (requested c w request d ≡ w) ⊎ Stepped r channels w (record { near = Live z; far = far; out = out; back = back; error = error }) (requested c w request d)
+    did request (Accepted next packet) g = inr (record {
+      move = Acts (layer_act c w.near.layer.circuits request);
       sees = put_sees channels w (record { near = Live z; far = far; out = out; back = back; error = error }) next (option_to_list packet)
-          (entries_asked (settings_of r long_data channels) w.near.layer next request) (layer_acts z (layer_act (settings_of r long_data channels) w.near.layer.circuits request)) _ sees g.next g.put g.quiet;
-      entries = entries_asked (settings_of r long_data channels) w.near.layer next request;
+          (entries_asked c w.near.layer next request) (layer_acts z (layer_act c w.near.layer.circuits request)) _ sees g.next g.put g.quiet;
+      entries = entries_asked c w.near.layer next request;
       near_entries = refl;
       far_entries = refl;
       step = g.step;
     })
-    did (Declined e) g = inl refl
+    did request (Declined e) g = inl refl
+
+    asked : (request : LayerRequest) → (requested c w request (layer_outcome c full w.near.layer request) ≡ w)
+        ⊎ Stepped r channels w (record { near = Live z; far = far; out = out; back = back; error = error }) (requested c w request (layer_outcome c full w.near.layer request))
+    asked PullsAll = inl (pulls_change_nothing c full w (sym is))
+    asked other = did other (layer_outcome c full w.near.layer other) (layer_heeds laws c full w.near.layer z other tt sees.near.1)
 world_moves laws r long_data channels w (Live z) far out back error (Pulls h) sees quiet false is = test (is_channel channels h) refl
   where
     test : (c : Bool) → is_channel channels h ≡ c

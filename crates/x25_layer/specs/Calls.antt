@@ -10,11 +10,13 @@ use Rattle.x25_layer.specs.declared.error.LayerError.{LayerError}
 use Rattle.x25_layer.specs.declared.error.LayerError.TheVariants as error
 use Rattle.x25_layer.specs.Layer.{LayerSettings, Layer, is_channel, put_at, packet_on, is_ready, restarting_from}
 
--- a call of a circuit on a channel; a new call, which takes a free channel, with the packet sizes and windows that it proposes; a restart
+-- a call of a circuit on a channel; a new call, which takes a free channel, with the packet sizes and windows that it proposes; a restart;
+-- and that the data packets which wait be pulled, which puts no packet of its own
 pub data LayerRequest : Type 0 where
   Asks : (channel : ℕ) → (request : Request) → LayerRequest
   Dials : (called : List ℕ) → (calling : List ℕ) → (user : List ℕ) → (params : Params) → LayerRequest
   Restarts : LayerRequest
+  PullsAll : LayerRequest
 
 -- the layer after the call, and the packet to send, where there is one; or why it is refused
 pub data LayerOutcome : Type 0 where
@@ -71,6 +73,7 @@ outcome_ready c is_full restarts circuits (Asks h request) =
 outcome_ready c is_full restarts circuits (Dials called calling user params) =
     dialled c is_full restarts circuits (free_channel c.circuit.role circuits c.channels) called calling user params
 outcome_ready c is_full restarts circuits Restarts = where_room is_full (Accepted (restarting_from restarts circuits) (Some (restart 0 0)))
+outcome_ready c is_full restarts circuits PullsAll = Accepted (is_ready restarts circuits) None
 
 abbrev pub outcome_in : LayerSettings → Bool → Bool → ℕ → (ℕ → Circuit) → LayerRequest → LayerOutcome
 outcome_in c is_full true restarts circuits request = Declined error.Restarting

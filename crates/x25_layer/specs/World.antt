@@ -7,7 +7,7 @@ use Rattle.x25_packet.specs.PlainPacket.{PlainPacket}
 use Rattle.x25_circuit.specs.Circuit.{Circuit}
 use Rattle.x25_circuit.specs.Calls.{Request, Calls, Accepts}
 use Rattle.x25_layer.specs.Layer.{LayerSettings, Layer, LayerNotice, on_channel, LayerAnswer, is_channel, layer_answers, rested, goes_up}
-use Rattle.x25_layer.specs.Calls.{LayerRequest, Asks, Dials, Restarts, LayerOutcome, Accepted, Declined, free_channel, layer_outcome, LayerPulled, layer_pulled}
+use Rattle.x25_layer.specs.Calls.{LayerRequest, Asks, Dials, Restarts, PullsAll, LayerOutcome, Accepted, Declined, free_channel, layer_outcome, LayerPulled, layer_pulled}
 use Rattle.x25_layer.specs.Transcript.{Entry, Asked, Told, name_of}
 
 -- an end: its layer; whether its link went down, which is for good; the packets handed down to its link and those that it handed up;
@@ -46,6 +46,7 @@ abbrev pub entries_asked : LayerSettings → Layer → Layer → LayerRequest �
 entries_asked c l next (Asks h request) = entry_of_request next h request
 entries_asked c l next (Dials called calling user params) = entry_of_dial next (free_channel c.circuit.role l.circuits c.channels) (Calls called calling user params)
 entries_asked c l next Restarts = []
+entries_asked c l next PullsAll = []
 
 abbrev pub entries_told : Layer → List LayerNotice → List Entry
 entries_told l [] = []

@@ -1,18 +1,21 @@
 //! Rounds of pulls of data packets (profile): channels in rising order, one packet each, until a round gives none.
-ghost use Rattle.std.specs.Prelude.{◌≡◌, ℕ, ◌+◌, ◌<◌, ◌≤◌, length, Bool, true, false, nat_lt, None, option_to_list};
+ghost use Rattle.std.specs.Prelude.{◌≡◌, ℕ, ◌+◌, ◌<◌, ◌≤◌, length, max, Bool, true, false, nat_lt, None, option_to_list, OnErr, IsErrOf};
 ghost use Rattle.x25_packet.specs.Spelling.{IsChannel};
 ghost use Rattle.x25_circuit.specs.Circuit.{Settings};
 ghost use Rattle.x25_circuit.specs.Circuit.{Circuit as Channel};
 ghost use Rattle.x25_circuit.specs.FitsCircuit.{FitsCircuit, room_of};
 ghost use Rattle.x25_layer.specs.Layer.{LayerSettings, packet_on};
+ghost use Rattle.x25_layer.specs.Layer.{Layer as State};
 ghost use Rattle.x25_layer.specs.FitsLayer.{FitsLayer};
-ghost use Rattle.x25_layer.specs.OverLink.{view_of, after_all};
-ghost use Rattle.x25_layer.specs.Rounds.{Putting, round, rounds};
+ghost use Rattle.x25_layer.specs.OverLink.{view_of, after_all, LayerGives, LinkGives, LacksMemory};
+ghost use Rattle.x25_layer.specs.Calls.{PullsAll};
+ghost use Rattle.x25_layer.specs.Rounds.{Putting, round, rounds, calls};
 ghost use Rattle.x25_layer.specs.Pulling.{IsEnough, pulled_where, Stands};
-ghost use Rattle.x25_layer.specs.Room.{HaveRoom};
+ghost use Rattle.x25_layer.specs.Room.{HaveRoom, HasRoom, KeepsRoom};
 
+use crate::error::LayerError;
 use crate::layer::Layer;
-use crate::putting::{PacketMemory, put};
+use crate::putting::{MOST_PUT, PacketMemory, put};
 use x25_circuit::Circuit;
 use x25_link::OrderedLink;
 
@@ -96,6 +99,36 @@ fn round<L: OrderedLink>(
 }
 
 impl Layer {
+    /// Puts the data packets that wait in all channels, in rounds, while fewer than 8 packets wait in the link, and nothing else
+    /// (profile). Each accepted call does so behind its own packet; what the link does by itself doesn't, so that without a call a
+    /// message may wait though nothing is on its way.
+    ///
+    /// 9 NotUp, 40 Restarting, and else 70 alone, and that only where the layer or its link has set memory aside for fewer than 16
+    /// packets. The layer and the link are as before then.
+    pub fn pull<L: OrderedLink>(&mut self, link: &mut L) -> Result<(), LayerError>
+        requires { 4099 ≤ L.longest link.old }
+        ensures layer { (c : LayerSettings) (l : State) (x : L.State) → FitsLayer c self.old l → L.fits link.old x → LayerGives c self.new result (calls (view_of L.up_in L.waits_in L.after_put x) c l PullsAll) }
+        ensures link { (c : LayerSettings) (l : State) (x : L.State) → FitsLayer c self.old l → L.fits link.old x → LinkGives (L.fits link.new) L.after_put x result (calls (view_of L.up_in L.waits_in L.after_put x) c l PullsAll) }
+        ensures layer_stays { (c : LayerSettings) (l : State) → FitsLayer c self.old l → OnErr result (FitsLayer c self.new l) }
+        ensures link_stays { (x : L.State) → L.fits link.old x → OnErr result (L.fits link.new x) }
+        ensures longest { L.longest link.new ≡ L.longest link.old }
+        ensures missing { IsErrOf result LayerError.NoMemory → LacksMemory 16 self.old (L.spares link.old) }
+        ensures most_memory { self.new.memory ≤ max self.old.memory 16 }
+        ensures most_spares { L.spares link.new ≤ max (L.spares link.old) 16 }
+        ensures room { KeepsRoom self.old (L.spares link.old) self.new (L.spares link.new) }
+        ensures room_stays { (len : ℕ) → HasRoom len self.old (L.spares link.old) → OnErr result (HasRoom len self.new (L.spares link.new)) }
+    {
+        if !link.is_up() {
+            return Err(LayerError::NotUp);
+        }
+        if self.restarting {
+            return Err(LayerError::Restarting);
+        }
+        self.set_aside(link, MOST_PUT)?;
+        self.pull_all(link);
+        Ok(())
+    }
+
     /// Puts the data packets of all channels, in rounds, while fewer than 8 packets wait in the link.
     ///
     /// There are at most 15: each is pulled where fewer than 8 packets wait, and of those that don't wait at most 7 aren't

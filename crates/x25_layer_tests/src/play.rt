@@ -20,6 +20,8 @@ pub enum Event<'a> {
     /// The link went down.
     Down,
     Restart,
+    /// The user asks that what waits be pulled.
+    Pull,
     /// The user calls, with the addresses called and calling, and user data.
     Call(&'a str, &'a str, &'a [u8]),
     /// The user calls address 1 from address 2, and proposes these packet sizes and windows.
@@ -58,7 +60,7 @@ pub enum Event<'a> {
 
 use Event::{
     Accept, AcceptWith, Agreed, AskToAccept, Call, CallWith, Clear, Down, Fill, Full, Interrupt,
-    Joined, NotReady, Ready, Reset, Restart, Room, Send, State, Take, Up, Waiting, Waits,
+    Joined, NotReady, Pull, Ready, Reset, Restart, Room, Send, State, Take, Up, Waiting, Waits,
 };
 
 /// What happens, and what it shows.
@@ -140,6 +142,7 @@ fn asks<L: OrderedLink>(layer: &mut Layer, link: &mut L, event: Event) -> Result
     match event {
         Up => came_up(layer, link),
         Restart => layer.restart(link),
+        Pull => layer.pull(link),
         Accept(channel) => layer.accept(link, channel),
         AcceptWith(channel, values) => layer.accept_with(link, channel, params_of(values)),
         AskToAccept(channel) => layer.ask(link, channel, Request::Accept { answer: None }),

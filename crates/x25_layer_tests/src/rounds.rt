@@ -1,6 +1,6 @@
 //! Data packets that are pulled in rounds, one of each channel.
 
-use crate::play::Event::{Accept, Fill, Joined, Send, Take, Waits};
+use crate::play::Event::{Accept, Fill, Joined, Pull, Restart, Send, Take, Waits};
 use crate::play::{Row, STAY, play};
 use std::test::Fail;
 use x25_layer::Role;
@@ -59,5 +59,29 @@ fn pulls_end_where_eight_packets_wait(rt: HostRuntime) -> Result<(), Fail> {
         Role::Dte,
         2,
         &[TWO_OPEN.as_slice(), UP_TO_EIGHT.as_slice()],
+    )
+}
+
+// What waits beside eight packets of another goes at a pull, as the window of each channel has it. It puts nothing of its own.
+static PULLED: [Row; 9] = [
+    (Fill(8), "", STAY),
+    (Send(1, false, 300), "ok", STAY),
+    (Send(2, false, 0), "ok", STAY),
+    (Pull, "ok", "07 07 07 07 07 07 07 07"),
+    (Pull, "ok", "1001100000 100200 1001120000"),
+    (Pull, "ok", ""),
+    (Waits, "1", ""),
+    (Restart, "ok", "1000fb0000"),
+    (Pull, "refused 40", ""),
+];
+
+#[test]
+fn a_pull_puts_what_waits(rt: HostRuntime) -> Result<(), Fail> {
+    play(
+        &rt,
+        rt.alloc(),
+        Role::Dte,
+        2,
+        &[TWO_OPEN.as_slice(), PULLED.as_slice()],
     )
 }

@@ -1,24 +1,29 @@
 -- How it stands after a turn.
-use Rattle.std.proofs.Common.{◌≡◌, ◌∙◌, ℕ, Bool, true, false, List, [], ◌∷◌, ◌++◌, map, Option, ap, sym, subst, refl, inl, inr}
+use Rattle.std.proofs.Common.{◌≡◌, ◌∙◌, ℕ, Bool, true, false, List, [], ◌∷◌, ◌++◌, map, Option, Result, Ok, Err, IfOk, ap, ap₂, sym, subst, refl, inl, inr}
 use Rattle.std.specs.Prelude.{◌||◌}
-use Rattle.std.proofs.lemmas.List.{append-nil}
+use Rattle.std.proofs.lemmas.List.{append-nil, map-append}
 use Rattle.std.proofs.Math.Bool.{or-false, or-true}
 use Rattle.x25_bits.specs.declared.role.Role.{Role}
 use Rattle.x25_io.specs.Written.{AppendsBeginning, Tells}
+use Rattle.x25_io.specs.declared.fault.Fault.{Fault}
+use Rattle.x25_layer.specs.Calls.{PullsAll}
 use Rattle.x25_frame.specs.Spelling.{spelling_of}
 use Rattle.x25_station.specs.declared.error.StationError.{StationError}
 use Rattle.x25_station.specs.declared.error.StationError.TheVariants.{NoMemory}
 use Rattle.x25_station.specs.declared.station.Station as code
 use Rattle.x25_station.specs.declared.step.Step as code_step
 use Rattle.x25_station.specs.Entries.{StationEntry}
+use Rattle.x25_station.specs.Command.{Requests}
+use Rattle.x25_station.specs.FitsStation as fits
 use Rattle.x25_station.specs.FitsStation.{FitsStation}
+use Rattle.x25_station.specs.PlainEntry.{plain_entry}
 use Rattle.x25_station.specs.Settings.{Settings}
 use Rattle.x25_station.specs.StationError.{number_of}
 use Rattle.x25_station.specs.Station.{Station}
-use Rattle.x25_station.specs.Steps.{Step, Outcome, Did, Refused}
+use Rattle.x25_station.specs.Steps.{Step, Outcome, Did, Refused, commands}
 use Rattle.x25_console.specs.Lines.{nothing_line, refusal_line}
 use Rattle.x25_io.proofs.ToldLemmas.{beginning_more}
-use Rattle.x25_pipe.specs.Piped.{Saying, enters, sends, refuses, reads_nothing, saying_line, sayings_text, has_refusal, Turn, and_then, said, step_told}
+use Rattle.x25_pipe.specs.Piped.{Saying, enters, sends, refuses, reads_nothing, saying_line, sayings_text, has_refusal, Turn, and_then, said, step_told, pulled_behind, with_pulls}
 use Rattle.x25_pipe.specs.Stands.{Stands, IsStep, IsError, answer_told}
 use Rattle.x25_pipe.specs.declared.pipe.Pipe.{Pipe}
 use Rattle.x25_pipe.proofs.SayingLemmas.{parts_text, parts_refused}
@@ -123,3 +128,42 @@ pub is_step : (c : Settings) (v : code.Station) (step : code_step.Step) (P : Out
     → (o : Outcome) → IsStep c v step o → P o
 is_step c v step P f (Did plain) h = f plain h
 is_step c v step P f (Refused e) h = absurd h.accepted
+
+-- ---- what is pulled behind it
+
+ok_err : {T U : Type 0} (u : T) (e : U) → (let x : Result T U = Ok u in x ≡ Err e) → ⊥
+ok_err u e is = cc
+
+pub exactly_accepted : (r : code_step.Step) (o : Outcome) → (let x : Result code_step.Step StationError = Ok r in fits.RefusesExactly x o) → (let x : Result code_step.Step StationError = Ok r in fits.Refuses x o)
+exactly_accepted r (Did step) h = tt
+exactly_accepted r (Refused e) h = absurd (ok_err r e h)
+
+module _ (c : Settings) (v u : code.Station) (step : code_step.Step) where
+  -- frames of pulls behind those of a step
+  step_pulls : (pulled both : code_step.Step) (plain : Step) (o : Outcome) → IsStep c v step (Did plain) → IsStep c u pulled o → pulled.entries.items ≡ []
+      → both.frames.items ≡ step.frames.items ++ pulled.frames.items → both.entries ≡ step.entries → IsStep c u both (Did (pulled_behind plain o))
+  step_pulls pulled both plain (Did pulls) h k none frames entries = record {
+    leaves = k.leaves;
+    sends = ap (λ fs. map (λ frame. frame.items) fs) frames ∙ map-append (λ frame. frame.items) step.frames.items pulled.frames.items
+        ∙ ap₂ (λ (xs ys : List (List ℕ)). xs ++ ys) h.sends k.sends ∙ sym (map-append (spelling_of c.role) plain.out pulls.out);
+    enters = ap (λ es. map plain_entry es.items) entries ∙ h.enters ∙ sym (append-nil plain.entries) ∙ ap (λ es. plain.entries ++ es) (sym (ap (map plain_entry) none) ∙ k.enters);
+    accepted = tt;
+  }
+  step_pulls pulled both plain (Refused e) h k none frames entries = absurd k.accepted
+
+  pub pulled_step : (pulled : code_step.Step) (o : Outcome) (r : Result code_step.Step Fault) → IsStep c v step o → ((s : Station) → FitsStation c v s → IsStep c u pulled (commands c s (Requests PullsAll)))
+      → pulled.entries.items ≡ [] → IfOk r (λ both. both.frames.items ≡ step.frames.items ++ pulled.frames.items) → IfOk r (λ both. both.entries ≡ step.entries) → IfOk r (λ both. IsStep c u both (with_pulls c o))
+  pulled_step pulled (Did plain) (Ok both) h pulls none frames entries = step_pulls pulled both plain (commands c plain.near (Requests PullsAll)) h (pulls plain.near h.leaves) none frames entries
+  pulled_step pulled (Refused e) (Ok both) h pulls none frames entries = absurd h.accepted
+  pulled_step pulled o (Err fault) h pulls none frames entries = tt
+
+  -- .. or the step alone
+  pub step_alone : (error : StationError) (o : Outcome) → IsStep c v step o
+      → ((s : Station) → FitsStation c v s → (let x : Result code_step.Step StationError = Err error in fits.RefusesExactly x (commands c s (Requests PullsAll))))
+      → ((s : Station) → FitsStation c v s → FitsStation c u s) → (error ≡ NoMemory → ⊥) → IsStep c u step (with_pulls c o)
+  step_alone error (Refused e) h refused stays other = absurd h.accepted
+  step_alone error (Did plain) h refused stays other = by (commands c plain.near (Requests PullsAll)) (refused plain.near h.leaves)
+    where
+      by : (o : Outcome) → (let x : Result code_step.Step StationError = Err error in fits.RefusesExactly x o) → IsStep c u step (Did (pulled_behind plain o))
+      by (Did pulls) is = absurd (other is)
+      by (Refused e) is = record { leaves = stays plain.near h.leaves; sends = h.sends; enters = h.enters; accepted = tt }

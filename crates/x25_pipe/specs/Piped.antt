@@ -1,5 +1,5 @@
--- What one station behind a pipe does with what it reads (profile): each line is an event of this end, and it is answered by what the step
--- tells, entries and then frames, or by a refusal, and then by one mark.
+-- What one station behind a pipe does with what it reads (profile): each line is an event of this end, behind which it pulls what waits, and
+-- it is answered by what both tell, entries and then frames, or by a refusal, and then by one mark.
 use Rattle.std.specs.Prelude.{ℕ, nat_le, Bool, true, false, List, [], ◌∷◌, ◌++◌, length, map, if◌then◌else◌, Option, Some, None, option_and_then, codes}
 use Rattle.std.specs.List.{flat_map, list_any}
 use Rattle.x25_bits.specs.Role.{other}
@@ -18,9 +18,11 @@ use Rattle.x25_station.specs.declared.config.Cfg.{Cfg}
 use Rattle.x25_station.specs.declared.error.StationError.{StationError}
 use Rattle.x25_station.specs.StationError.{number_of}
 use Rattle.x25_station.specs.Settings.{Settings, settings_from}
+use Rattle.x25_station.specs.Command.{Requests}
+use Rattle.x25_layer.specs.Calls.{PullsAll}
 use Rattle.x25_station.specs.Entries.{StationEntry}
 use Rattle.x25_station.specs.Station.{Station, new_station}
-use Rattle.x25_station.specs.Steps.{Step, Outcome, Did, Refused}
+use Rattle.x25_station.specs.Steps.{Step, Outcome, Did, Refused, commands}
 use Rattle.x25_station.specs.Told.{is_idle}
 use Rattle.x25_station.specs.TimerLaw as timer
 use Rattle.x25_station.specs.TimerLaw.{Event, Comes, Asks, Fires, Mark, Off, On, Start}
@@ -56,6 +58,22 @@ read_event end line (Some sent) = trace_event end sent
 -- a longer line isn't in the grammar
 unfoldable pub event_in : Role → List ℕ → Option Event
 event_in end line = if nat_le (length line) most_line then read_event end line (sent_in line) else None
+
+-- ---- what waits in the circuits
+
+-- a step, and what is pulled behind it; where that is refused, as while the link isn't up, the step alone
+abbrev pub pulled_behind : Step → Outcome → Step
+pulled_behind step (Did pulls) = record { near = pulls.near; out = step.out ++ pulls.out; entries = step.entries ++ pulls.entries }
+pulled_behind step (Refused e) = step
+
+-- Behind each step the data packets that wait are pulled, so that none is left to wait where fewer than 8 packets wait in the link; where more
+-- do, and behind a command that pulled them itself, none is pulled.
+abbrev pub and_pulls : Settings → Step → Step
+and_pulls c step = pulled_behind step (commands c step.near (Requests PullsAll))
+
+abbrev pub with_pulls : Settings → Outcome → Outcome
+with_pulls c (Did step) = Did (and_pulls c step)
+with_pulls c (Refused e) = Refused e
 
 -- ---- what is said of it
 
@@ -138,7 +156,7 @@ abbrev pub turn_of : Settings → Station → Event → Outcome → Turn
 turn_of c s event o = marked c (timer.mark s event o) (timer.after s o) (outcome_told c o)
 
 unfoldable pub event_turn : Settings → Station → Event → Turn
-event_turn c s event = turn_of c s event (timer.outcome c s event)
+event_turn c s event = turn_of c s event (with_pulls c (timer.outcome c s event))
 
 abbrev pub asked_turn : Settings → Station → Option Event → Turn
 asked_turn c s None = marked c (standing s) s (reads_nothing ∷ [])

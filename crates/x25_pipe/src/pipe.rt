@@ -1,5 +1,5 @@
 //! A station, and what is told of it.
-ghost use Rattle.std.specs.Prelude.{◌≡◌, ◌↔◌, IsTrue};
+ghost use Rattle.std.specs.Prelude.{◌≡◌, ◌↔◌, ◌+◌, ◌++◌, ◌≤◌, IfErr, IfOk, IsTrue, vec_capacity, vec_len};
 ghost use Rattle.x25_pipe.specs.Piped.{is_same as are_same};
 
 use crate::mark::{Mark, Watch, tells_up};
@@ -32,6 +32,29 @@ fn is_same(end: Role, found: Role) -> bool
     )
 }
 
+/// Puts frames behind others, in memory that was set aside.
+fn append(frames: &mut Vec<Vec<u8>>, more: Vec<Vec<u8>>)
+    requires { vec_len frames.old + vec_len more ≤ vec_capacity frames.old }
+    ensures items { frames.new.items ≡ frames.old.items ++ more.items }
+{
+    for frame in more {
+        frames.push_reserved(frame);
+    }
+}
+
+/// A step with further frames behind its own.
+fn with_frames(mut step: Step, more: Vec<Vec<u8>>) -> Result<Step, Fault>
+    ensures frames { IfOk result (λ both. both.frames.items ≡ step.entry.frames.items ++ more.entry.items) }
+    ensures entries { IfOk result (λ both. both.entries ≡ step.entry.entries) }
+    ensures memory { IfErr result (λ fault. fault ≡ Fault.NoMemory) }
+{
+    if step.frames.reserve(more.len()).is_err() {
+        return Err(Fault::NoMemory);
+    }
+    append(&mut step.frames, more);
+    Ok(step)
+}
+
 /// Whether memory was refused.
 fn is_memory(error: StationError) -> bool
     ensures { IsTrue result ↔ (error ≡ StationError.NoMemory) }
@@ -40,7 +63,7 @@ fn is_memory(error: StationError) -> bool
 }
 
 impl Pipe {
-    ghost use Rattle.std.specs.Prelude.{◌++◌, ◌≤◌, [], ◌∷◌, ℕ, Bool, true, false, List, Option, Some, None, OnOk, OnErr, IfOk, IfErr, IsErrOf, MatchResult, length, take};
+    ghost use Rattle.std.specs.Prelude.{[], ◌∷◌, ℕ, Bool, true, false, List, Option, Some, None, OnOk, OnErr, IsErrOf, MatchResult, length, take};
     ghost use Rattle.x25_console.specs.Commands.{command_asked};
     ghost use Rattle.x25_io.specs.HeldLine.{most_line};
     ghost use Rattle.x25_io.specs.Written.{AppendsBeginning, Tells};
@@ -51,7 +74,7 @@ impl Pipe {
     ghost use Rattle.x25_station.specs.Station.{Station as State, new_station};
     ghost use Rattle.x25_station.specs.Steps.{Outcome};
     ghost use Rattle.x25_station.specs.TimerLaw.{Asks, Comes, Event, Fires, Mark as TimerMark, is_firing as is_firing_of};
-    ghost use Rattle.x25_pipe.specs.Piped.{asked_turn, event_turn, mark_turn, only_of, read_event, sayings_text, script_event, standing_turn, trace_event, turn, turn_of};
+    ghost use Rattle.x25_pipe.specs.Piped.{asked_turn, event_turn, mark_turn, only_of, read_event, sayings_text, script_event, standing_turn, trace_event, turn, turn_of, with_pulls};
     ghost use Rattle.x25_pipe.specs.Stands.{IsError, IsStep, Stands, Stood, Turns, answer_told};
     ghost use Rattle.x25_pipe.specs.Watched.{Watches, plain_mark};
 
@@ -168,12 +191,53 @@ impl Pipe {
         self.mark(before.behind(next, is_firing, is_up), writer)
     }
 
+    /// Pulls what waits in the circuits behind a step, of which the frames of both are. Where that is refused it is the step alone.
+    fn pull_behind(&mut self, step: Step) -> Result<Step, Fault>
+        ensures pulled { (c : Settings) (o : Outcome) → IsStep c self.old.station step.entry o → IfOk result (λ both. IsStep c self.new.station both (with_pulls c o)) }
+        ensures role { self.new.end ≡ self.old.end }
+        ensures output { self.new.output ≡ self.old.output }
+        ensures is_refused { self.new.is_refused ≡ self.old.is_refused }
+        ensures memory { IfErr result (λ fault. fault ≡ Fault.NoMemory) }
+    {
+        match self.station.pull() {
+            Ok(pulled) => with_frames(step, pulled.frames),
+            Err(error) => {
+                if is_memory(error) {
+                    return Err(Fault::NoMemory);
+                }
+                Ok(step)
+            }
+        }
+    }
+
+    /// Pulls what waits behind a step of the station, which stood as `before` says, and tells both.
+    fn follow_up<W: Sink>(
+        &mut self,
+        before: Watch,
+        is_firing: bool,
+        step: Step,
+        writer: &mut W,
+    ) -> Result<(), Fault>
+        ensures kept { OnOk result (W.is_marked writer.new ≡ W.is_marked writer.old) }
+        ensures stood { (c : Settings) (old : Option (List ℕ)) (s : State) (event : Event) (o : Outcome) (told : List ℕ) (refused : Bool)
+            → Watches before s → is_firing ≡ is_firing_of event → IsStep c self.old.station step.entry o → self.old.end ≡ c.role
+            → Tells old (W.contents writer.old) self.old.output told → self.old.is_refused ≡ refused
+            → Stood c old (W.contents writer.new) self.new told refused result (turn_of c s event (with_pulls c o)) }
+        ensures written { OnOk result (self.new.output ≡ []) }
+        ensures write { IsErrOf result Fault.Write → W.is_marked writer.new ≡ true }
+        ensures memory { IsErrOf result Fault.NoMemory → W.is_marked writer.new ≡ W.is_marked writer.old }
+        ensures read { IsErrOf result Fault.Read → ⊥ }
+    {
+        let both = self.pull_behind(step)?;
+        self.tell_step(before, is_firing, &both, writer)
+    }
+
     /// Tells that an event is refused; want of memory is a fault.
     fn refuse<W: Sink>(&mut self, error: StationError, writer: &mut W) -> Result<(), Fault>
         ensures kept { OnOk result (W.is_marked writer.new ≡ W.is_marked writer.old) }
         ensures stood { (c : Settings) (old : Option (List ℕ)) (s : State) (event : Event) (o : Outcome) (told : List ℕ) (refused : Bool)
             → Stands c old (W.contents writer.old) self.old s told refused → IsError error o
-            → Stood c old (W.contents writer.new) self.new told refused result (turn_of c s event o) }
+            → Stood c old (W.contents writer.new) self.new told refused result (turn_of c s event (with_pulls c o)) }
         ensures written { OnOk result (self.new.output ≡ []) }
         ensures write { IsErrOf result Fault.Write → W.is_marked writer.new ≡ true }
         ensures memory { IsErrOf result Fault.NoMemory → W.is_marked writer.new ≡ W.is_marked writer.old }
@@ -213,7 +277,7 @@ impl Pipe {
     {
         let before = Watch::of(&self.station);
         match self.station.receive(&self.octets[..count]) {
-            Ok(step) => self.tell_step(before, false, &step, writer),
+            Ok(step) => self.follow_up(before, false, step, writer),
             Err(error) => self.refuse(error, writer),
         }
     }
@@ -253,7 +317,7 @@ impl Pipe {
             .station
             .command(station_command(&command, user.as_slice()))
         {
-            Ok(step) => self.tell_step(before, false, &step, writer),
+            Ok(step) => self.follow_up(before, false, step, writer),
             Err(error) => self.refuse(error, writer),
         }
     }
@@ -269,7 +333,7 @@ impl Pipe {
     {
         let before = Watch::of(&self.station);
         match self.station.t1() {
-            Ok(step) => self.tell_step(before, true, &step, writer),
+            Ok(step) => self.follow_up(before, true, step, writer),
             Err(error) => self.refuse(error, writer),
         }
     }

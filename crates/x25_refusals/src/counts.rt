@@ -5,7 +5,7 @@ use x25_station::Cmd;
 use x25_world::Event;
 
 /// How many kinds of call there are.
-const KINDS: usize = 19;
+const KINDS: usize = 20;
 
 /// A kind of call: two ends are made, or an event happens.
 #[derive(Clone, Copy)]
@@ -23,6 +23,7 @@ pub(crate) enum Kind {
     Ready,
     NotReady,
     Restart,
+    Pull,
     Connect,
     Disconnect,
     Deliver,
@@ -56,6 +57,7 @@ impl Kind {
             Cmd::Ready { .. } => Kind::Ready,
             Cmd::NotReady { .. } => Kind::NotReady,
             Cmd::Restart => Kind::Restart,
+            Cmd::Pull => Kind::Pull,
             Cmd::Connect => Kind::Connect,
             Cmd::Disconnect => Kind::Disconnect,
         }

@@ -41,7 +41,7 @@ static CALLS_OF_LINKS: [(Kind, &str); 8] = [
 ];
 
 /// The calls of a station.
-static CALLS_OF_STATIONS: [(Kind, &str); 17] = [
+static CALLS_OF_STATIONS: [(Kind, &str); 18] = [
     (Kind::New, "Station::new"),
     (Kind::Call, "Station::command(Call)"),
     (Kind::CallWith, "Station::command(CallWith)"),
@@ -54,6 +54,7 @@ static CALLS_OF_STATIONS: [(Kind, &str); 17] = [
     (Kind::Ready, "Station::command(Ready)"),
     (Kind::NotReady, "Station::command(NotReady)"),
     (Kind::Restart, "Station::command(Restart)"),
+    (Kind::Pull, "Station::command(Pull)"),
     (Kind::Connect, "Station::connect"),
     (Kind::Disconnect, "Station::command(Disconnect)"),
     (Kind::Deliver, "Station::receive"),
@@ -62,7 +63,7 @@ static CALLS_OF_STATIONS: [(Kind, &str); 17] = [
 ];
 
 /// The calls of a world.
-static CALLS_OF_WORLDS: [(Kind, &str); 19] = [
+static CALLS_OF_WORLDS: [(Kind, &str); 20] = [
     (Kind::New, "World::start"),
     (Kind::Establish, "World::establish"),
     (Kind::Call, "World::apply(Call)"),
@@ -76,6 +77,7 @@ static CALLS_OF_WORLDS: [(Kind, &str); 19] = [
     (Kind::Ready, "World::apply(Ready)"),
     (Kind::NotReady, "World::apply(NotReady)"),
     (Kind::Restart, "World::apply(Restart)"),
+    (Kind::Pull, "World::apply(Pull)"),
     (Kind::Connect, "World::apply(Connect)"),
     (Kind::Disconnect, "World::apply(Disconnect)"),
     (Kind::Deliver, "World::apply(Deliver)"),

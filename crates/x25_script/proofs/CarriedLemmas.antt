@@ -3,7 +3,7 @@ use Rattle.std.proofs.Common.{ℕ, ◌<◌, List, [], ◌∷◌}
 use Rattle.std.proofs.lemmas.List.Elements.{All-nil, All-from_get_or}
 use Rattle.hex.proofs.HexLemmas.{decode_of-ok}
 use Rattle.x25_script.specs.Octets.{AreOctets}
-use Rattle.x25_script.specs.PlainLine.{PlainCommand, call, accept, clear, send, interrupt, reset, ready, not_ready, restart, connect, disconnect, PlainLine, command, t1, deliver, lose, damage, drain}
+use Rattle.x25_script.specs.PlainLine.{PlainCommand, call, accept, clear, send, interrupt, reset, ready, not_ready, restart, pull, connect, disconnect, PlainLine, command, t1, deliver, lose, damage, drain}
 use Rattle.x25_script.specs.ReadingLaw.{AsksInOctets, IsInOctets}
 use Rattle.x25_script.specs.Spelling.{Writes, SpellsCommand, Spells}
 
@@ -21,6 +21,7 @@ asked (reset channel) text h = tt
 asked (ready channel) text h = tt
 asked (not_ready channel) text h = tt
 asked restart text h = tt
+asked pull text h = tt
 asked connect text h = tt
 asked disconnect text h = tt
 

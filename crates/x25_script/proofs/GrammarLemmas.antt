@@ -10,7 +10,7 @@ use Rattle.x25_script.specs.declared.words.Keyword.TheVariants.{End, T1, Deliver
 use Rattle.x25_script.specs.declared.words.Verb.{Verb}
 use Rattle.x25_script.specs.declared.words.Verb.TheVariants.{Call, Accept, Clear, Send, Interrupt, Reset, Ready, NotReady}
 use Rattle.x25_script.specs.declared.params.Params.{Params}
-use Rattle.x25_script.specs.PlainLine.{PlainCommand, clear, reset, ready, not_ready, restart, connect, disconnect, PlainLine}
+use Rattle.x25_script.specs.PlainLine.{PlainCommand, clear, reset, ready, not_ready, restart, pull, connect, disconnect, PlainLine}
 use Rattle.x25_script.specs.Spelling.{end_text, direction_text, q_text, address_text, IsNumber, AreParams, params_text, SpellsCommand, Spells}
 use Rattle.x25_script.specs.Reading.{parts_of, end_in, from_in, q_in, number_in, address_in, octets_in, verb_in, keyword_in, small_number_in, params_in, with_params_of, with_params_in, call_in, accept_in, send_in, interrupt_in, on_channel, with_fields, bare_command_in, command_of, command_in, lose_in, damage_in, drain_in, after, line_in}
 use Rattle.x25_script.proofs.NumberLemmas.{number_found}
@@ -214,8 +214,9 @@ bare_step text word this v rest spells e others = elim (chosen (bytes_eq text wo
 bare_found : (text : List ℕ) (v : PlainCommand) → bare_command_in text ≡ Some v → SpellsCommand v text
 bare_found text v e =
     bare_step text (codes "restart") restart v _ refl e (λ e.
+    bare_step text (codes "pull") pull v _ refl e (λ e.
     bare_step text (codes "connect") connect v _ refl e (λ e.
-    bare_step text (codes "disconnect") disconnect v _ refl e (λ e. absurd (none-some _ e))))
+    bare_step text (codes "disconnect") disconnect v _ refl e (λ e. absurd (none-some _ e)))))
 
 command_parts : (text : List ℕ) (parts : Option (List ℕ × List ℕ)) (v : PlainCommand) → parts_of text ≡ parts → command_of text parts ≡ Some v → SpellsCommand v text
 command_parts text None v same e = bare_found text v e

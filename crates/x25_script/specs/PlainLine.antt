@@ -19,6 +19,7 @@ pub data PlainCommand : Type 0 where
   ready : ℕ → PlainCommand
   not_ready : ℕ → PlainCommand
   restart : PlainCommand
+  pull : PlainCommand
   connect : PlainCommand
   disconnect : PlainCommand
 
@@ -41,6 +42,7 @@ plain_command (command_code.Reset channel) = reset channel
 plain_command (command_code.Ready channel) = ready channel
 plain_command (command_code.NotReady channel) = not_ready channel
 plain_command command_code.Restart = restart
+plain_command command_code.Pull = pull
 plain_command command_code.Connect = connect
 plain_command command_code.Disconnect = disconnect
 

@@ -15,7 +15,7 @@ use Rattle.x25_script.specs.declared.words.Keyword.TheVariants.{End, T1, Deliver
 use Rattle.x25_script.specs.declared.words.Verb.{Verb}
 use Rattle.x25_script.specs.declared.words.Verb.TheVariants.{Call, Accept, Clear, Send, Interrupt, Reset, Ready, NotReady}
 use Rattle.x25_script.specs.Octets.{octets_of}
-use Rattle.x25_script.specs.PlainLine.{PlainCommand, call, accept, clear, send, interrupt, reset, ready, not_ready, restart, connect, disconnect, PlainLine, command, t1, deliver, lose, damage, drain, plain_command, plain}
+use Rattle.x25_script.specs.PlainLine.{PlainCommand, call, accept, clear, send, interrupt, reset, ready, not_ready, restart, pull, connect, disconnect, PlainLine, command, t1, deliver, lose, damage, drain, plain_command, plain}
 
 -- a step of reading, where the steps before it read something
 infixl 10 ◌>>=◌
@@ -157,6 +157,7 @@ with_fields NotReady text = on_channel not_ready text
 
 abbrev pub bare_command_in : List ℕ → Option PlainCommand
 bare_command_in text = if bytes_eq text (codes "restart") then Some restart
+    else if bytes_eq text (codes "pull") then Some pull
     else if bytes_eq text (codes "connect") then Some connect
     else if bytes_eq text (codes "disconnect") then Some disconnect else None
 

@@ -6,7 +6,7 @@ use Rattle.hex.specs.Hex.{decode_of}
 use Rattle.x25_bits.specs.declared.role.Role.{Role}
 use Rattle.x25_bits.specs.declared.role.Role.TheVariants.{Dte, Dce}
 use Rattle.x25_script.specs.declared.params.Params.{Params}
-use Rattle.x25_script.specs.PlainLine.{PlainCommand, call, accept, clear, send, interrupt, reset, ready, not_ready, restart, connect, disconnect, PlainLine, command, t1, deliver, lose, damage, drain}
+use Rattle.x25_script.specs.PlainLine.{PlainCommand, call, accept, clear, send, interrupt, reset, ready, not_ready, restart, pull, connect, disconnect, PlainLine, command, t1, deliver, lose, damage, drain}
 
 -- an end
 abbrev pub end_text : Role → List ℕ
@@ -70,6 +70,7 @@ SpellsCommand (reset channel) text = IsNumber channel × (text ≡ codes "reset 
 SpellsCommand (ready channel) text = IsNumber channel × (text ≡ codes "ready " ++ decimal channel)
 SpellsCommand (not_ready channel) text = IsNumber channel × (text ≡ codes "notready " ++ decimal channel)
 SpellsCommand restart text = text ≡ codes "restart"
+SpellsCommand pull text = text ≡ codes "pull"
 SpellsCommand connect text = text ≡ codes "connect"
 SpellsCommand disconnect text = text ≡ codes "disconnect"
 

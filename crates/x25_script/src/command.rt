@@ -91,6 +91,8 @@ fn bare_command(text: &[u8]) -> Option<Command<'_>>
 {
     if is(text, "restart") {
         Some(Command::Restart)
+    } else if is(text, "pull") {
+        Some(Command::Pull)
     } else if is(text, "connect") {
         Some(Command::Connect)
     } else if is(text, "disconnect") {

@@ -41,6 +41,7 @@ pub enum Command<'a> {
         channel: u16,
     },
     Restart,
+    Pull,
     Connect,
     Disconnect,
 }

@@ -3,7 +3,7 @@ use std::test::Fail;
 use x25_script::{lines_are_in_octets, read_line, reading_is_the_grammar};
 
 /// Lines of a script, and what they say.
-const LINES: [(&[u8], &str); 40] = [
+const LINES: [(&[u8], &str); 42] = [
     (b"dte call 1 2 41", "DTE: call of [1] from [2] with 41"),
     (
         b"dce call 123 4567 48656C6c6F",
@@ -71,6 +71,8 @@ const LINES: [(&[u8], &str); 40] = [
     (b"dte ready 3", "DTE: is ready on 3"),
     (b"dte notready 256", "DTE: is not ready on 256"),
     (b"dce restart", "DCE: restarts"),
+    (b"dte pull", "DTE: pulls"),
+    (b"dce pull", "DCE: pulls"),
     (b"dce connect", "DCE: connects"),
     (b"dte disconnect", "DTE: disconnects"),
     (b"t1 dte", "T1 of DTE"),
@@ -86,7 +88,7 @@ const LINES: [(&[u8], &str); 40] = [
 ];
 
 /// Characters that are no line of a script.
-const OTHERS: [&[u8]; 167] = [
+const OTHERS: [&[u8]; 170] = [
     b"",
     b" ",
     b"\r",
@@ -219,6 +221,9 @@ const OTHERS: [&[u8]; 167] = [
     b"dxe restart",
     b"dte restarts",
     b"dte restart 1",
+    b"dte pull 1",
+    b"dte pulls",
+    b"pull",
     b"dte disconnect 1",
     b"dtedisconnect",
     b"dce reads 1",

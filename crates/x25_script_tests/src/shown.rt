@@ -64,6 +64,7 @@ fn command_shown(alloc: Global, command: &Command<'_>) -> Result<String, AllocEr
         Command::Ready { channel } => format!(in alloc; "is ready on {channel}"),
         Command::NotReady { channel } => format!(in alloc; "is not ready on {channel}"),
         Command::Restart => String::from_str(alloc, "restarts"),
+        Command::Pull => String::from_str(alloc, "pulls"),
         Command::Connect => String::from_str(alloc, "connects"),
         Command::Disconnect => String::from_str(alloc, "disconnects"),
     }

@@ -10,7 +10,7 @@ use Rattle.x25_line.specs.Stations.{is_visible, replaced}
 use Rattle.x25_station.specs.declared.config.Cfg.{Cfg}
 use Rattle.x25_station.specs.Settings.{Settings, settings_from}
 use Rattle.x25_station.specs.Steps.{Outcome, Did, Refused, fires, commands}
-use Rattle.x25_script.specs.PlainLine.{PlainCommand, call, accept, clear, send, interrupt, reset, ready, not_ready, restart, connect, disconnect, PlainLine, command, t1, deliver, lose, damage, drain}
+use Rattle.x25_script.specs.PlainLine.{PlainCommand, call, accept, clear, send, interrupt, reset, ready, not_ready, restart, pull, connect, disconnect, PlainLine, command, t1, deliver, lose, damage, drain}
 use Rattle.x25_script.specs.Reading.{line_in}
 use Rattle.x25_script.specs.ReadingLaw.{AsksInOctets, IsInOctets, ReadsOctets}
 use Rattle.x25_io.specs.Lines.{lines_of}
@@ -121,6 +121,7 @@ handed (reset channel) h = tt
 handed (ready channel) h = tt
 handed (not_ready channel) h = tt
 handed restart h = tt
+handed pull h = tt
 handed connect h = tt
 handed disconnect h = tt
 
@@ -156,6 +157,7 @@ other_asked end (reset channel) refusal h = tt
 other_asked end (ready channel) refusal h = tt
 other_asked end (not_ready channel) refusal h = tt
 other_asked end restart refusal h = tt
+other_asked end pull refusal h = tt
 other_asked end connect refusal h = absurd h
 other_asked end disconnect refusal h = tt
 

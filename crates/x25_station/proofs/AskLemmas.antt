@@ -11,7 +11,7 @@ use Rattle.x25_layer.specs.declared.layer.Layer as layer_code
 use Rattle.x25_layer.specs.declared.error.LayerError.{LayerError}
 use Rattle.x25_layer.specs.declared.error.LayerError.TheVariants as layer_error
 use Rattle.x25_layer.specs.Layer.{LayerSettings, Layer, is_channel}
-use Rattle.x25_layer.specs.Calls.{LayerRequest, Asks, Dials, Restarts, LayerOutcome, Accepted, Declined, layer_outcome, outcome_in, outcome_ready, outcome_on, where_room, if_at_once, puts_at_once, dialled, free_channel}
+use Rattle.x25_layer.specs.Calls.{LayerRequest, Asks, Dials, Restarts, PullsAll, LayerOutcome, Accepted, Declined, layer_outcome, outcome_in, outcome_ready, outcome_on, where_room, if_at_once, puts_at_once, dialled, free_channel}
 use Rattle.x25_layer.specs.Rounds.{LinkView, Putting, Answered, Went, Refuses, went, calls}
 use Rattle.x25_layer.specs.OverLink as over
 use Rattle.x25_layer.specs.OverLink.{after_all, LayerGives, LinkGives}
@@ -23,7 +23,7 @@ use Rattle.x25_station.specs.StationError.{of_layer}
 use Rattle.x25_station.specs.Settings.{Settings, link_settings, layer_settings}
 use Rattle.x25_station.specs.Entries.{StationEntry}
 use Rattle.x25_station.specs.Station.{Station, all_put, view_of, waiting_after}
-use Rattle.x25_station.specs.Steps.{Outcome, did, requests, entries_of_outcome}
+use Rattle.x25_station.specs.Steps.{Outcome, Did, Refused, did, requests, entries_of_outcome}
 use Rattle.x25_station.specs.KeepLaw.{KeptBy}
 use Rattle.x25_station.specs.PlainEntry.{plain_entry}
 use Rattle.x25_station.specs.FitsParts.{FitsParts}
@@ -79,6 +79,24 @@ pub refused_did : (T U : Type 0) (e : LayerError) (found : StationError) (c : Se
 refused_did T U e found c s z entries (Went p) named is layer = is ∙ ap of_layer layer
 refused_did T U e found c s z entries (Refuses x) named is layer = inl (is ∙ ap of_layer (err_is T LayerError e x layer) ∙ named)
 
+-- .. with nothing else in its place
+pub refused_exactly_did : (T U : Type 0) (e : LayerError) (found : StationError) (c : Settings) (s : LinkStation) (z : layer_code.Layer) (entries : List StationEntry) (a : Answered) → IsNamed a → found ≡ of_layer e
+    → (let x : Result T LayerError = Err e in LayerGives (layer_settings c) z x a) → (let x : Result U StationError = Err found in station.RefusesExactly x (did c (alone s) entries a))
+refused_exactly_did T U e found c s z entries (Went p) named is layer = is ∙ ap of_layer layer
+refused_exactly_did T U e found c s z entries (Refuses x) named is layer = ap (λ y. Err y) (is ∙ ap of_layer (err_is T LayerError e x layer) ∙ named)
+
+pub exactly_is : {T : Type 0} (result : Result T StationError) (o : Outcome) → station.RefusesExactly result o → station.Refuses result o
+exactly_is {T} result (Did step) h = h
+exactly_is {T} result (Refused e) h = subst (λ (r : Result T StationError). station.Refuses r (Refused e)) (sym h) (inl refl)
+
+pub accepted_is : (r : code_step.Step) (o : Outcome) → (let x : Result code_step.Step StationError = Ok r in station.RefusesExactly x o) → (let x : Result code_step.Step StationError = Ok r in station.Refuses x o)
+accepted_is r (Did step) h = tt
+accepted_is r (Refused e) h = absurd (ok_err r e h)
+
+pub goes_exactly : (r : code_step.Step) (o : Outcome) → (let x : Result code_step.Step StationError = Ok r in station.Refuses x o) → (let x : Result code_step.Step StationError = Ok r in station.RefusesExactly x o)
+goes_exactly r (Did step) h = tt
+goes_exactly r (Refused e) h = absurd h
+
 abbrev IsNamedOutcome : LayerOutcome → Type 0
 IsNamedOutcome (Accepted next packet) = Unit {0}
 IsNamedOutcome (Declined e) = of_layer e ≡ error.Layer e
@@ -110,6 +128,7 @@ ready_named c full restarts circuits (Asks h request) = test (is_channel c.chann
     test false = refl
 ready_named c full restarts circuits (Dials called calling user params) = dialled_named c full restarts circuits (free_channel c.circuit.role circuits c.channels) called calling user params
 ready_named c full restarts circuits Restarts = room_named full _ tt
+ready_named c full restarts circuits PullsAll = tt
 
 outcome_named : (c : LayerSettings) (full busy : Bool) (restarts : ℕ) (circuits : ℕ → Circuit) (request : LayerRequest) → IsNamedOutcome (outcome_in c full busy restarts circuits request)
 outcome_named c full true restarts circuits request = refl
@@ -182,6 +201,14 @@ refuses T U e found c l y z s request fits is layers =
     let lc : LayerSettings = layer_settings c in
     let entries : List StationEntry = entries_of_outcome lc s.layer request (layer_outcome lc (waiting_after (link_settings c) s.link [] == 256) s.layer request) in
     refused_did T U e found c s.link z entries (answered_by c s request) (calls_named (view_of (link_settings c) s.link) lc s.layer request) is (layer_gives x c l y z s request fits layers)
+
+pub refuses_exactly : (T U : Type 0) (e : LayerError) (found : StationError) (c : Settings) (l : ShownLink) (y z : layer_code.Layer) (s : Station) (request : LayerRequest) → FitsParts c l y s → found ≡ of_layer e
+    → (let x : Result T LayerError = Err e in Layers l y z x request) → (let x : Result U StationError = Err found in station.RefusesExactly x (requests c s request))
+refuses_exactly T U e found c l y z s request fits is layers =
+    let x : Result T LayerError = Err e in
+    let lc : LayerSettings = layer_settings c in
+    let entries : List StationEntry = entries_of_outcome lc s.layer request (layer_outcome lc (waiting_after (link_settings c) s.link [] == 256) s.layer request) in
+    refused_exactly_did T U e found c s.link z entries (answered_by c s request) (calls_named (view_of (link_settings c) s.link) lc s.layer request) is (layer_gives x c l y z s request fits layers)
 
 -- then the station is as before
 pub still_fits : (c : Settings) (l m : ShownLink) (y z : layer_code.Layer) (s : Station) → FitsParts c l y s → FitsLayer (layer_settings c) z s.layer → ((x : LinkState) → FitsWhole l x → FitsWhole m x) → FitsParts c m z s

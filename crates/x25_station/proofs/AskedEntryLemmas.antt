@@ -11,7 +11,7 @@ use Rattle.x25_circuit.specs.Calls as circuit
 use Rattle.x25_layer.specs.declared.error.LayerError.{LayerError}
 use Rattle.x25_layer.specs.declared.error.LayerError.TheVariants as layer_error
 use Rattle.x25_layer.specs.Layer.{LayerSettings, Layer, is_channel}
-use Rattle.x25_layer.specs.Calls.{LayerRequest, Asks, Dials, Restarts, LayerOutcome, Accepted, Declined, layer_outcome, outcome_in, outcome_on, if_at_once, puts_at_once, first_of, lowest_free, highest_free, free_channel}
+use Rattle.x25_layer.specs.Calls.{LayerRequest, Asks, Dials, Restarts, PullsAll, LayerOutcome, Accepted, Declined, layer_outcome, outcome_in, outcome_on, if_at_once, puts_at_once, first_of, lowest_free, highest_free, free_channel}
 use Rattle.x25_layer.specs.Rounds.{LinkView, Putting, begin, rounds, Answered, Went, Refuses, went, calls}
 use Rattle.x25_layer.specs.Transcript.{Asked, name_of}
 use Rattle.x25_layer.specs.World.{shown, entry_of_dial}
@@ -84,6 +84,9 @@ dialled_entry view c l h called calling user params p is free =
 
 pub restart_entry : (view : LinkView) (c : LayerSettings) (l : Layer) (p : Putting) → calls view c l Restarts ≡ Went p → entries_of_outcome c l Restarts (layer_outcome c (view.waits [] == 256) l Restarts) ≡ restart_asked ∷ []
 restart_entry view c l p is = entries_are view c l Restarts p (accepted view c l Restarts p is)
+
+pub pull_entry : (view : LinkView) (c : LayerSettings) (l : Layer) (p : Putting) → calls view c l PullsAll ≡ Went p → entries_of_outcome c l PullsAll (layer_outcome c (view.waits [] == 256) l PullsAll) ≡ []
+pull_entry view c l p is = entries_are view c l PullsAll p (accepted view c l PullsAll p is)
 
 -- ---- the channel of an accepted command is configured
 

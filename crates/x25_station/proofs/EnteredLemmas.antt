@@ -5,7 +5,7 @@ use Rattle.x25_circuit.specs.declared.params.Params.{Params}
 use Rattle.x25_circuit.specs.Calls as circuit
 use Rattle.x25_layer.specs.declared.layer.Layer as layer_code
 use Rattle.x25_layer.specs.Layer.{LayerSettings, Layer, is_channel}
-use Rattle.x25_layer.specs.Calls.{LayerRequest, Asks, Dials, Restarts, layer_outcome, free_channel}
+use Rattle.x25_layer.specs.Calls.{LayerRequest, Asks, Dials, Restarts, PullsAll, layer_outcome, free_channel}
 use Rattle.x25_layer.specs.Rounds.{LinkView, Putting, Answered, Went}
 use Rattle.x25_layer.specs.OverLink.{LayerGives}
 use Rattle.x25_layer.specs.FitsLayer.{FitsLayer}
@@ -20,7 +20,7 @@ use Rattle.x25_station.specs.PlainEntry.{plain_entry}
 use Rattle.x25_station.specs.FitsParts.{FitsParts}
 use Rattle.x25_station.specs.FitsStation.{Enters}
 use Rattle.x25_station.proofs.AskLemmas.{Layers, answered_by, layer_gives, enters_did}
-use Rattle.x25_station.proofs.AskedEntryLemmas.{asked_entry, dialled_entry, restart_entry, asked_channel, free_is_channel}
+use Rattle.x25_station.proofs.AskedEntryLemmas.{asked_entry, dialled_entry, restart_entry, pull_entry, asked_channel, free_is_channel}
 
 abbrev entries_by : Settings → Station → LayerRequest → List StationEntry
 entries_by c s request = entries_of_outcome (layer_settings c) s.layer request (layer_outcome (layer_settings c) (waiting_after (link_settings c) s.link [] == 256) s.layer request)
@@ -54,3 +54,7 @@ dialled_enters c l y z s r h called calling user params fits layers free entered
 pub restart_enters : (c : Settings) (s : Station) (r : code_step.Step) → map plain_entry r.entries.items ≡ restart_asked ∷ [] → Enters (Ok r) (requests c s Restarts)
 restart_enters c s r entered =
     enters_did c s.link r (entries_by c s Restarts) (answered_by c s Restarts) (λ p is. entered ∙ sym (restart_entry (view_of (link_settings c) s.link) (layer_settings c) s.layer p is))
+
+pub pull_enters : (c : Settings) (s : Station) (r : code_step.Step) → map plain_entry r.entries.items ≡ [] → Enters (Ok r) (requests c s PullsAll)
+pull_enters c s r entered =
+    enters_did c s.link r (entries_by c s PullsAll) (answered_by c s PullsAll) (λ p is. entered ∙ sym (pull_entry (view_of (link_settings c) s.link) (layer_settings c) s.layer p is))

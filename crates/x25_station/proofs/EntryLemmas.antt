@@ -2,7 +2,7 @@
 use Rattle.std.proofs.Common.{◌≡◌, ℕ, List, [], ◌∷◌, Option, Some, None, refl, ap}
 use Rattle.x25_circuit.specs.Calls.{Calls}
 use Rattle.x25_layer.specs.Layer.{LayerSettings, Layer, LayerNotice, on_channel, restarted, restart_done, layer_fault}
-use Rattle.x25_layer.specs.Calls.{LayerRequest, Asks, Dials, Restarts, free_channel}
+use Rattle.x25_layer.specs.Calls.{LayerRequest, Asks, Dials, Restarts, PullsAll, free_channel}
 use Rattle.x25_layer.specs.Transcript.{Entry, Told, name_of}
 use Rattle.x25_layer.specs.World.{entries_told, entries_asked, entry_of_dial}
 use Rattle.x25_station.specs.Entries.{station_told, of_channels, station_asked, layer_entries, layer_notices}
@@ -29,6 +29,7 @@ asked_entries c l next (Dials called calling user params) = by (free_channel c.c
     by None = refl
     by (Some h) = refl
 asked_entries c l next Restarts = refl
+asked_entries c l next PullsAll = refl
 
 pub asked_notices : (c : LayerSettings) (l next : Layer) (request : LayerRequest) → layer_notices (station_asked c l next request) ≡ []
 asked_notices c l next (Asks h request) = refl
@@ -38,3 +39,4 @@ asked_notices c l next (Dials called calling user params) = by (free_channel c.c
     by None = refl
     by (Some h) = refl
 asked_notices c l next Restarts = refl
+asked_notices c l next PullsAll = refl

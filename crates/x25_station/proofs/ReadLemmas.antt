@@ -9,7 +9,7 @@ use Rattle.x25_circuit.specs.Circuit.{Circuit, begun}
 use Rattle.x25_circuit.specs.Table.{answers, cause_at}
 use Rattle.x25_circuit.specs.Calls.{Outcome, Done, Refused, Calls, outcome, pulled}
 use Rattle.x25_layer.specs.Layer.{LayerSettings, Layer, LayerAnswer, is_channel, put_at, packet_on, restarting_from, answers_on, drops, answers_ready, answers_restarting, answers_in, layer_answers, goes_up, restart_cause}
-use Rattle.x25_layer.specs.Calls.{LayerRequest, Asks, Dials, Restarts, LayerOutcome, Accepted, Declined, highest_free, lowest_free, first_of, free_channel, where_room, if_at_once, puts_at_once, outcome_on, dialled, outcome_ready, outcome_in, layer_outcome, layer_pulled}
+use Rattle.x25_layer.specs.Calls.{LayerRequest, Asks, Dials, Restarts, PullsAll, LayerOutcome, Accepted, Declined, highest_free, lowest_free, first_of, free_channel, where_room, if_at_once, puts_at_once, outcome_on, dialled, outcome_ready, outcome_in, layer_outcome, layer_pulled}
 use Rattle.x25_layer.specs.declared.error.LayerError.TheVariants as error
 use Rattle.x25_layer.specs.World.{End, World, Move, Requests, Pulls, HandsUp, GoesDown, Event, requested, pulled_in, handed_up, moves_in, moves, turned, settings_of, happens, run, started, start}
 use Rattle.x25_station.specs.ReadLaw.{AreReadable, RequestsOctets, MovesOctets, BringOctets, PutsAreReadable}
@@ -189,6 +189,7 @@ module _ (long_data : Bool) where
           (outcome_on_fits restarts circuits h (outcome c.circuit (circuits h) (Calls called calling user params)) (r.0, omega (arith, r.1, few)) all
           (outcome_fits long_data laws c.circuit same (circuits h) (Calls called calling user params) (all h) octets))
   outcome_ready_fits laws c same full restarts circuits Restarts few all octets = room_fits full (Accepted (restarting_from restarts circuits) (Some (restart 0 0))) (begun_fits, (((omega arith, omega arith), on_restart 0 0), tt))
+  outcome_ready_fits laws c same full restarts circuits PullsAll few all octets = (all, tt)
 
   layer_outcome_fits : Agreed → (c : LayerSettings) → c.circuit.long_data ≡ long_data → (full : Bool) (l : Layer) (request : LayerRequest) → c.channels ≤ 16 → ChannelsFit l.circuits → RequestsOctets request
       → LayerOutcomeFits (layer_outcome c full l request)

@@ -8,7 +8,7 @@ use Rattle.x25_circuit.specs.Messages.{cut}
 use Rattle.x25_circuit.specs.declared.error.CircuitError.TheVariants as circuit
 use Rattle.x25_circuit.specs.Calls.{Outcome, Done, Refused, Request, Calls, Accepts, Clears, Sends, Interrupts, Resets, SaysReady, SaysNotReady, keeps_on, send_open, send_in, outcome}
 use Rattle.x25_layer.specs.Layer.{LayerSettings, Layer, is_channel}
-use Rattle.x25_layer.specs.Calls.{LayerRequest, Asks, Dials, Restarts, LayerOutcome, Accepted, Declined, free_channel, puts_at_once, if_at_once, outcome_on, dialled, outcome_in, outcome_ready, layer_outcome}
+use Rattle.x25_layer.specs.Calls.{LayerRequest, Asks, Dials, Restarts, PullsAll, LayerOutcome, Accepted, Declined, free_channel, puts_at_once, if_at_once, outcome_on, dialled, outcome_in, outcome_ready, layer_outcome}
 use Rattle.x25_layer.specs.declared.error.LayerError.TheVariants as error
 
 -- nothing is put at once
@@ -75,6 +75,7 @@ ready_none c restarts circuits (Dials called calling user params) = by (free_cha
     by None = tt
     by (Some h) = tt
 ready_none c restarts circuits Restarts = tt
+ready_none c restarts circuits PullsAll = tt
 
 full_none : (c : LayerSettings) (l : Layer) (request : LayerRequest) → PutsNone (layer_outcome c true l request)
 full_none c l request = by l.restarting

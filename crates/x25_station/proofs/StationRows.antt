@@ -11,13 +11,14 @@ use Rattle.x25_link.specs.Station.{with_nothing, fresh, pumped}
 use Rattle.x25_link.specs.MustSend.{Step as LinkStep}
 use Rattle.x25_link.specs.Steps.{alone, goes_up}
 use Rattle.x25_circuit.specs.declared.state.State.TheVariants.{Open}
+use Rattle.x25_circuit.specs.Messages.{Last}
 use Rattle.x25_circuit.specs.Params.{default_params}
 use Rattle.x25_circuit.specs.Circuit.{silent, begun}
 use Rattle.x25_circuit.specs.Calls.{Calls, Sends}
 use Rattle.x25_epochs.specs.Names.{Name}
 use Rattle.x25_layer.specs.declared.error.LayerError.TheVariants as layer_error
 use Rattle.x25_layer.specs.Layer as layer
-use Rattle.x25_layer.specs.Calls.{Asks, Dials, Restarts}
+use Rattle.x25_layer.specs.Calls.{Asks, Dials, Restarts, PullsAll}
 use Rattle.x25_layer.specs.Transcript.{Asked}
 use Rattle.x25_station.specs.declared.error.StationError.TheVariants as error
 use Rattle.x25_station.specs.Settings.{Settings, layer_settings}
@@ -116,6 +117,26 @@ row_send : frames_in (commands dte with_call (Requests (Asks 1 (Sends false (104
 unfolding pumped
 row_send = refl
 
+-- a message that waits in its circuit goes, and nothing is entered
+abbrev with_message : Station
+with_message = record {
+  link = fresh;
+  layer = layer.is_ready 1 (λ k. record { state = Open; clears = 0; resets = 0; params = default_params; calls = true; talk = record silent { rest = Last false (104 ∷ []) ∷ [] } });
+}
+
+row_pull : frames_in (commands dte with_message (Requests PullsAll)) ≡ info 0 0 false (16 ∷ 1 ∷ 0 ∷ 104 ∷ []) ∷ []
+unfolding pumped
+row_pull = refl
+
+row_pull_entries : entries_in (commands dte with_message (Requests PullsAll)) ≡ []
+unfolding pumped
+row_pull_entries = refl
+
+-- where nothing waits, nothing goes
+row_pull_nothing : frames_in (commands dte with_call (Requests PullsAll)) ≡ []
+unfolding pumped
+row_pull_nothing = refl
+
 row_disconnect : entries_in (commands dte with_call Disconnects) ≡ disconnect_asked ∷ link_down Local ∷ []
 unfolding pumped
 row_disconnect = refl
@@ -128,6 +149,9 @@ row_disconnect_sends = refl
 
 row_not_up : commands dte new_station (Requests Restarts) ≡ Refused (error.Layer layer_error.NotUp)
 row_not_up = refl
+
+row_pull_not_up : commands dte new_station (Requests PullsAll) ≡ Refused (error.Layer layer_error.NotUp)
+row_pull_not_up = refl
 
 row_already_up : connects dte ready ≡ Refused (error.Link link_error.AlreadyUp)
 unfolding pumped

@@ -2,7 +2,7 @@
 use Rattle.std.specs.Prelude.{Some, None}
 use Rattle.x25_circuit.specs.Params.{default_params}
 use Rattle.x25_circuit.specs.Calls.{Accepts, Clears, Sends, Interrupts, Resets, SaysReady, SaysNotReady}
-use Rattle.x25_layer.specs.Calls.{LayerRequest, Asks, Dials, Restarts}
+use Rattle.x25_layer.specs.Calls.{LayerRequest, Asks, Dials, Restarts, PullsAll}
 use Rattle.x25_station.specs.declared.command.Cmd.{Cmd}
 use Rattle.x25_station.specs.declared.command.Cmd.TheVariants as code
 
@@ -26,5 +26,6 @@ command_of (code.Reset channel) = Requests (Asks channel Resets)
 command_of (code.Ready channel) = Requests (Asks channel SaysReady)
 command_of (code.NotReady channel) = Requests (Asks channel SaysNotReady)
 command_of code.Restart = Requests Restarts
+command_of code.Pull = Requests PullsAll
 command_of code.Connect = Connects
 command_of code.Disconnect = Disconnects

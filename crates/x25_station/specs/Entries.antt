@@ -3,7 +3,7 @@ use Rattle.std.specs.Prelude.{ℕ, Bool, true, false, List, [], ◌∷◌, ◌++
 use Rattle.x25_link.specs.declared.phase.Reason.{Reason}
 use Rattle.x25_link.specs.declared.phase.Notes.{Notes}
 use Rattle.x25_layer.specs.Layer.{LayerSettings, Layer, LayerNotice, on_channel, restarted, restart_done, layer_fault}
-use Rattle.x25_layer.specs.Calls.{LayerRequest, Asks, Dials, Restarts}
+use Rattle.x25_layer.specs.Calls.{LayerRequest, Asks, Dials, Restarts, PullsAll}
 use Rattle.x25_layer.specs.Transcript.{Entry, Said, Asked, Told, name_of}
 use Rattle.x25_layer.specs.World.{entries_asked}
 
@@ -45,7 +45,7 @@ abbrev pub station_told : Layer → List LayerNotice → List StationEntry
 station_told l [] = []
 station_told l (notice ∷ notices) = entry_told l notice ∷ station_told l notices
 
--- ---- what was asked of the layer, and accepted, by the layer before and after it
+-- ---- what was asked of the layer, and accepted, by the layer before and after it; pulls have no entry
 
 abbrev pub of_channels : List Entry → List StationEntry
 of_channels [] = []
@@ -55,6 +55,7 @@ abbrev pub station_asked : LayerSettings → Layer → Layer → LayerRequest �
 station_asked c l next (Asks h request) = of_channels (entries_asked c l next (Asks h request))
 station_asked c l next (Dials called calling user params) = of_channels (entries_asked c l next (Dials called calling user params))
 station_asked c l next Restarts = restart_asked ∷ []
+station_asked c l next PullsAll = []
 
 -- ---- the entries that the layer's own transcript has, and what its user was told
 

@@ -5,7 +5,7 @@ use Rattle.x25_packet.specs.PlainPacket.{PlainPacket}
 use Rattle.x25_packet.specs.Spelling.{spelling_of, longest_user}
 use Rattle.x25_packet.specs.Reading.{packet_of}
 use Rattle.x25_circuit.specs.Calls.{Request, Calls, Sends, Interrupts}
-use Rattle.x25_layer.specs.Calls.{LayerRequest, Asks, Dials, Restarts}
+use Rattle.x25_layer.specs.Calls.{LayerRequest, Asks, Dials, Restarts, PullsAll}
 use Rattle.x25_layer.specs.World.{World, Move, Requests, Event, run, start}
 use Rattle.x25_station.specs.Settings.{longest_packet}
 
@@ -33,6 +33,7 @@ abbrev pub RequestsOctets : LayerRequest → Type 0
 RequestsOctets (Asks h request) = AsksOctets request
 RequestsOctets (Dials called calling user params) = AreOctets user
 RequestsOctets Restarts = Unit {0}
+RequestsOctets PullsAll = Unit {0}
 
 abbrev pub MovesOctets : Move → Type 0
 MovesOctets (Requests is_full request) = RequestsOctets request

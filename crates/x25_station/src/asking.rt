@@ -4,13 +4,13 @@ ghost use Rattle.x25_circuit.specs.Circuit.{Circuit};
 ghost use Rattle.x25_circuit.specs.Calls.{Calls, Accepts, Sends as CircuitSends};
 ghost use Rattle.x25_circuit.specs.Requests.{plain_request};
 ghost use Rattle.x25_layer.specs.Layer.{Layer as LayerState, LayerSettings, is_channel};
-ghost use Rattle.x25_layer.specs.Calls.{Asks, Dials, Restarts};
+ghost use Rattle.x25_layer.specs.Calls.{Asks, Dials, Restarts, PullsAll};
 ghost use Rattle.x25_layer.specs.FitsLayer.{FitsLayer};
 ghost use Rattle.x25_layer.specs.Transcript.{name_of};
 ghost use Rattle.x25_layer.specs.World.{shown};
 ghost use Rattle.x25_station.specs.Command.{command_of};
 ghost use Rattle.x25_station.specs.Entries.{of_channel};
-ghost use Rattle.x25_station.specs.FitsStation.{FitsStation, Leaves, Sends, Enters, Refuses};
+ghost use Rattle.x25_station.specs.FitsStation.{FitsStation, Leaves, Sends, Enters, Refuses, RefusesExactly};
 ghost use Rattle.x25_station.specs.PlainEntry.{plain_entry, plain_asked, plain_said};
 ghost use Rattle.x25_station.specs.Settings.{Settings};
 ghost use Rattle.x25_station.specs.Station.{Station as State};
@@ -151,8 +151,38 @@ impl Station {
             Cmd::Ready { channel } => self.ask(channel, Request::Ready),
             Cmd::NotReady { channel } => self.ask(channel, Request::NotReady),
             Cmd::Restart => self.restart(),
+            Cmd::Pull => self.pull(),
             Cmd::Connect => self.connect_asked(),
             Cmd::Disconnect => self.disconnect(),
+        }
+    }
+
+    /// Hands the data packets that wait in the circuits of all channels down to the link, in rounds, while fewer than 8 packets wait
+    /// there, and does nothing else (profile). It has no entry.
+    ///
+    /// Each accepted command and each packet that comes does so too. A step in which the link acts by itself doesn't, so that a message may
+    /// wait in its circuit while nothing is on its way: one who calls this behind each step after which fewer than 8 packets wait leaves none
+    /// to wait so.
+    ///
+    /// 9 where the link isn't up, 40 while a restart is under way, and else 70 alone. The station is as before then.
+    pub fn pull(&mut self) -> Result<Step, StationError>
+        ensures state { (c : Settings) (s : State) → FitsStation c self.old s → Leaves c self.new result (requests c s PullsAll) }
+        ensures frames { (c : Settings) (s : State) → FitsStation c self.old s → Sends c result (requests c s PullsAll) }
+        ensures entries { (c : Settings) (s : State) → FitsStation c self.old s → Enters result (requests c s PullsAll) }
+        ensures refused { (c : Settings) (s : State) → FitsStation c self.old s → RefusesExactly result (requests c s PullsAll) }
+        ensures stays { (c : Settings) (s : State) → FitsStation c self.old s → OnErr result (FitsStation c self.new s) }
+        ensures few_frames { IfOk result (λ answer. vec_len answer.frames ≤ 17) }
+        ensures no_entries { IfOk result (λ answer. vec_len answer.entries ≡ 0) }
+    {
+        steps_keep_bounds();
+        holds_few();
+        let entries = Vec::new(self.alloc);
+        match self.layer.pull(&mut self.link) {
+            Ok(()) => {
+                let frames = self.link.sent();
+                Ok(Step { frames, entries })
+            }
+            Err(error) => Err(StationError::of_layer(error)),
         }
     }
 

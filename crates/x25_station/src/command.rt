@@ -56,6 +56,8 @@ pub enum Cmd<'a> {
     },
     /// Restarts the packet layer: all calls are cleared.
     Restart,
+    /// Hands the data packets that wait in the circuits down to the link, as far as that has room: `Station::pull`. It has no entry.
+    Pull,
     /// Begins to set the link up.
     Connect,
     /// Disconnects the link, for good.

@@ -7,7 +7,7 @@ use Rattle.x25_link.specs.MustSend.{other}
 use Rattle.x25_link.specs.NoteLaw.{IsQuiet}
 use Rattle.x25_link.specs.MustSend.{Step as LinkStep}
 use Rattle.x25_layer.specs.Layer.{LayerSettings, Layer, LayerNotice, on_channel, restarted, restart_done, layer_fault}
-use Rattle.x25_layer.specs.Calls.{LayerRequest, Asks, Dials, Restarts, LayerOutcome, Accepted, Declined}
+use Rattle.x25_layer.specs.Calls.{LayerRequest, Asks, Dials, Restarts, PullsAll, LayerOutcome, Accepted, Declined}
 use Rattle.x25_layer.specs.Transcript.{Entry, Said, Asked, Told}
 use Rattle.x25_layer.specs.World.{entries_asked}
 use Rattle.x25_layer.specs.ApartLaw.{BeginsRestarted}
@@ -184,6 +184,7 @@ pub outcome_plain : (c : LayerSettings) (l : Layer) (request : LayerRequest) (o 
 outcome_plain c l (Asks h request) (Accepted next packet) = channel_plain (entries_asked c l next (Asks h request))
 outcome_plain c l (Dials called calling user params) (Accepted next packet) = channel_plain (entries_asked c l next (Dials called calling user params))
 outcome_plain c l Restarts (Accepted next packet) = (tt, tt)
+outcome_plain c l PullsAll (Accepted next packet) = tt
 outcome_plain c l request (Declined e) = tt
 
 told_plain : (l : Layer) (notices : List LayerNotice) → ArePlain (station_told l notices)

@@ -14,8 +14,8 @@ unfolding event_turn
 returns-in-Ok-command-clause-turns g c = λ k old s told refused h.
     let came = c.in-Ok-command.ensures in
     let event = Asks (command_of c.station_command.result) in
-    subst (λ asked. Stood k old (g.W.Sink.contents c.tell_step.new.writer) c.tell_step.new.self told refused c.tell_step.result (event_turn k s (Asks asked))) c.station_command.ensures
-    (c.tell_step.ensures.stood k old s event (outcome k s event) told refused (c.of-before.ensures k s h.fits) refl
+    subst (λ asked. Stood k old (g.W.Sink.contents c.follow_up.new.writer) c.follow_up.new.self told refused c.follow_up.result (event_turn k s (Asks asked))) c.station_command.ensures
+    (c.follow_up.ensures.stood k old s event (outcome k s event) told refused (c.of-before.ensures k s h.fits) refl
     (record { leaves = came.state k s h.fits; sends = came.frames k s h.fits; enters = came.entries k s h.fits; accepted = came.refused k s h.fits }) h.role h.tells h.status)
 
 pub returns-clause-turns : goal.returns-clause-turns

@@ -7,7 +7,7 @@ pub returns-in-Ok-clause-turns : goal.returns-in-Ok-clause-turns
 unfolding event_turn
 returns-in-Ok-clause-turns g c = λ k old s told refused h.
     let came = c.in-Ok.ensures in
-    c.tell_step.ensures.stood k old s Fires (outcome k s Fires) told refused (c.of-before.ensures k s h.fits) refl
+    c.follow_up.ensures.stood k old s Fires (outcome k s Fires) told refused (c.of-before.ensures k s h.fits) refl
     (record { leaves = came.state k s h.fits; sends = came.frames k s h.fits; enters = came.entries k s h.fits; accepted = came.refused k s h.fits }) h.role h.tells h.status
 
 pub returns-in-Err-clause-turns : goal.returns-in-Err-clause-turns

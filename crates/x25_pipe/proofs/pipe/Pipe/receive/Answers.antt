@@ -8,7 +8,7 @@ unfolding event_turn
 returns-in-Ok-clause-turns g c = λ k old s told refused h.
     let came = c.in-Ok.ensures in
     let event = Comes (take c.args.count c.args.self.now.octets) in
-    c.tell_step.ensures.stood k old s event (outcome k s event) told refused (c.of-before.ensures k s h.fits) refl
+    c.follow_up.ensures.stood k old s event (outcome k s event) told refused (c.of-before.ensures k s h.fits) refl
     (record { leaves = came.state k s h.fits; sends = came.frames k s h.fits; enters = came.entries k s h.fits; accepted = tt }) h.role h.tells h.status
 
 pub returns-in-Err-clause-turns : goal.returns-in-Err-clause-turns

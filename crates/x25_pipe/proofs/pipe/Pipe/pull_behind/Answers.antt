@@ -1,0 +1,14 @@
+use Rattle.x25_pipe.proofs.StandLemmas.{exactly_accepted, pulled_step, step_alone}
+use Rattle.x25_pipe.proofs.pipe.Pipe.pull_behind.Goals as goal
+
+pub returns-in-Ok-clause-pulled : goal.returns-in-Ok-clause-pulled
+returns-in-Ok-clause-pulled c = λ k o is.
+    let came = c.in-Ok.ensures in
+    pulled_step k c.args.self.now.station _ c.args.step c.in-Ok.pulled o c.with_frames.result is
+    (λ s fits. record { leaves = came.state k s fits; sends = came.frames k s fits; enters = came.entries k s fits; accepted = exactly_accepted c.in-Ok.pulled _ (came.refused k s fits) })
+    _ c.with_frames.ensures.frames c.with_frames.ensures.entries
+
+pub returns-in-Err-clause-pulled : goal.returns-in-Err-clause-pulled
+returns-in-Err-clause-pulled c = λ k o is.
+    step_alone k c.args.self.now.station _ c.args.step c.in-Err.error o is (c.in-Err.ensures.refused k) (c.in-Err.ensures.stays k)
+    (λ is. let yes = c.is_memory.ensures.1 is in let no_memory = c.if-is_memory.false in cc)
