@@ -83,6 +83,6 @@ pub fn sim<R: Source, W: Sink>(
     };
     let mut stage = Stage::new(alloc, down, cfg, tap)?;
     stage.open(down, writer)?;
-    let simulator = Simulator::new(held, stage);
+    let simulator = Simulator::new(alloc, held, stage);
     take_text(simulator, piece.as_mut_slice(), reader, writer)
 }

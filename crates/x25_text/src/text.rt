@@ -46,7 +46,7 @@ fn write_from(octets: &[u8], buffer: &mut [u8], from: usize)
 
 /// A number of one digit as a character.
 #[inline]
-fn digit(number: u8) -> u8
+pub fn digit(number: u8) -> u8
     requires { number < 10 }
     ensures { decimal number ≡ result ∷ [] }
 {
