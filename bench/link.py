@@ -7,11 +7,12 @@ It builds the program first, proved, in a folder of its own under `build/`. The 
 that is there.
 """
 import os
-import re
 import shutil
 import subprocess
 import sys
 import time
+
+from timing import allocations
 
 top = os.path.dirname(os.path.dirname(os.path.abspath(__file__)))
 folder = os.path.join(top, "build", "two_stations")
@@ -41,12 +42,6 @@ def build():
     subprocess.run(["rt", "run", "--", "1", "3"], cwd=os.path.join(folder, "crates", "two_stations"), check=True)
 
 
-def allocations(count, length):
-    """How often a run takes memory."""
-    result = subprocess.run(["valgrind", program, str(count), str(length)], capture_output=True, text=True, check=True)
-    return int(re.search(r"total heap usage: ([\d,]+) allocs", result.stderr).group(1).replace(",", ""))
-
-
 count = int(sys.argv[1]) if len(sys.argv) > 1 else 200_000
 build()
 for length in (3, 128, 1024):
@@ -55,6 +50,7 @@ for length in (3, 128, 1024):
     seconds = time.perf_counter() - start
     line = f"packets of {length} octets: {count / seconds:,.0f} a second"
     if shutil.which("valgrind"):
-        each = (allocations(2000, length) - allocations(1000, length)) / 1000
+        few, many = (allocations([program, str(packets), str(length)]) for packets in (1000, 2000))
+        each = (many - few) / 1000
         line += f", {each:.1f} allocations a packet"
     print(line)

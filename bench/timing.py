@@ -1,5 +1,6 @@
-"""Runs a program and says what it used: processor time, time on the clock and peak memory."""
+"""Runs a program and says what it used: processor time, time on the clock and peak memory; or how often it takes memory."""
 import os
+import re
 import subprocess
 import sys
 import time
@@ -30,3 +31,11 @@ def timed(words, file, statuses=(0,)):
     if child.returncode not in statuses:
         sys.exit(f"{words[0]} ended with status {child.returncode}")
     return used.ru_utime + used.ru_stime, time.perf_counter() - start, peak
+
+
+def allocations(words, given=b"", statuses=(0,)):
+    """How often a run of the words on these octets takes memory, by valgrind."""
+    done = subprocess.run(["valgrind", *words], input=given, stdout=subprocess.DEVNULL, stderr=subprocess.PIPE)
+    if done.returncode not in statuses:
+        sys.exit(f"{words[0]} ended with status {done.returncode}")
+    return int(re.search(rb"total heap usage: ([\d,]+) allocs", done.stderr).group(1).replace(b",", b""))

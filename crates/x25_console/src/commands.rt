@@ -1,31 +1,39 @@
 //! Commands of a script, as a station takes them.
-ghost use Rattle.std.specs.Prelude.{◌≡◌, IfOk};
+ghost use Rattle.std.specs.Prelude.{◌≡◌, OnOk, OnErr};
 ghost use Rattle.x25_script.specs.PlainLine.{plain_command};
 ghost use Rattle.x25_station.specs.Command.{command_of};
 ghost use Rattle.x25_console.specs.Commands.{command_asked, params_of, user_in};
 
-use std::alloc::{AllocError, Global};
+use std::alloc::AllocError;
 use x25_circuit::Params;
 use x25_script::{Command, HexDigits};
 use x25_station::Cmd;
 
-/// The octets that the digits write.
-pub fn octets_of(alloc: Global, digits: &HexDigits) -> Result<Vec<u8>, AllocError>
-    ensures { IfOk result (λ octets. octets.items ≡ digits.now) }
+/// The octets that the digits write, in the place of what the list held. Err: no memory; the list is as it was then.
+///
+/// A list that was longer once takes none.
+pub fn read_octets(digits: &HexDigits, octets: &mut Vec<u8>) -> Result<(), AllocError>
+    ensures read { OnOk result (octets.new.items ≡ digits.now) }
+    ensures unchanged { OnErr result (octets.new.items ≡ octets.old.items) }
 {
-    let mut octets = vec![in alloc; 0u8; digits.len()]?;
+    octets.resize(digits.len(), 0u8)?;
     digits.write_to(octets.as_mut_slice());
-    Ok(octets)
+    Ok(())
 }
 
-/// The octets of user data that a command has, none where it has no such field.
-pub fn user_octets(alloc: Global, command: &Command) -> Result<Vec<u8>, AllocError>
-    ensures { IfOk result (λ octets. octets.items ≡ user_in (plain_command command.now)) }
+/// The octets of user data that a command has, none where it has no such field, in the place of what the list held. Err: no memory; the list
+/// is as it was then.
+pub fn read_user(command: &Command, octets: &mut Vec<u8>) -> Result<(), AllocError>
+    ensures read { OnOk result (octets.new.items ≡ user_in (plain_command command.now)) }
+    ensures unchanged { OnErr result (octets.new.items ≡ octets.old.items) }
 {
     match command {
         Command::Call { user, .. } | Command::Send { user, .. } | Command::Interrupt { user, .. } =>
-            octets_of(alloc, user),
-        _ => Ok(Vec::new(alloc)),
+            read_octets(user, octets),
+        _ => {
+            octets.clear();
+            Ok(())
+        }
     }
 }
 

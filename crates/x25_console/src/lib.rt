@@ -6,5 +6,5 @@
 mod commands;
 mod telling;
 
-pub use commands::{octets_of, station_command, user_octets};
-pub use telling::{frame_line, refusal_line, tell, tell_nothing};
+pub use commands::{read_octets, read_user, station_command};
+pub use telling::{tell, tell_nothing, write_frame, write_refusal};

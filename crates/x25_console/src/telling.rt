@@ -1,37 +1,58 @@
 //! Lines that tell of frames and of refusals.
-ghost use Rattle.std.specs.Prelude.{◌≡◌, ◌++◌, true, ℕ, List, Option, IfOk, OnOk, IsErrOf, MatchResult};
-ghost use Rattle.x25_console.specs.Lines.{frame_line as line_of_frame, nothing_line, refusal_line as line_of_refusal};
+ghost use Rattle.std.specs.Prelude.{◌≡◌, ◌++◌, [], true, ℕ, List, Option, OnOk, OnErr, IsErrOf, MatchResult};
+ghost use Rattle.x25_console.specs.Lines.{frame_line, nothing_line, refusal_line};
 ghost use Rattle.x25_io.specs.Written.{AppendsBeginning, Tells};
 
-use std::alloc::{AllocError, Global};
+use std::alloc::AllocError;
 use x25_entries::Line;
 use x25_io::{Fault, Output, Sink};
 use x25_station::Role;
 
-/// A frame that an end sent, as a line for `decode`.
 #[tactic(auto, unfolding(crate::specs::Lines::frame_line))]
-pub fn frame_line(alloc: Global, from: Role, octets: &[u8]) -> Result<Line, AllocError>
-    ensures { IfOk result (λ line. line ≡ line_of_frame from octets.now) }
+fn push_frame(from: Role, octets: &[u8], line: &mut Line) -> Result<(), AllocError>
+    ensures { OnOk result (line.new ≡ line.old ++ frame_line from octets.now) }
 {
-    let mut line = Line::new(alloc)?;
     line.push(match from {
         Role::Dte => b"> ",
         Role::Dce => b"< ",
     })?;
     line.push_hexadecimal(octets)?;
-    line.push(b"\n")?;
-    Ok(line)
+    line.push(b"\n")
 }
 
-/// That what a line asks for is refused, by the number of the error.
-#[tactic(auto, unfolding(crate::specs::Lines::refusal_line))]
-pub fn refusal_line(alloc: Global, number: u8) -> Result<Line, AllocError>
-    ensures { IfOk result (λ line. line ≡ line_of_refusal number) }
+/// Writes a frame that an end sent, as a line for `decode`, in the place of what the line held. Err: no memory; the line is empty then.
+pub fn write_frame(from: Role, octets: &[u8], line: &mut Line) -> Result<(), AllocError>
+    ensures text { OnOk result (line.new ≡ frame_line from octets.now) }
+    ensures cleared { OnErr result (line.new ≡ []) }
 {
-    let mut line = Line::new(alloc)?;
+    line.clear();
+    if let Err(error) = push_frame(from, octets, line) {
+        line.clear();
+        return Err(error);
+    }
+    Ok(())
+}
+
+#[tactic(auto, unfolding(crate::specs::Lines::refusal_line))]
+fn push_refusal(number: u8, line: &mut Line) -> Result<(), AllocError>
+    ensures { OnOk result (line.new ≡ line.old ++ refusal_line number) }
+{
     line.push_number(b"! ", u64::from(number))?;
-    line.push(b"\n")?;
-    Ok(line)
+    line.push(b"\n")
+}
+
+/// Writes that what a line asks for is refused, by the number of the error, in the place of what the line held. Err: no memory; the line is
+/// empty then.
+pub fn write_refusal(number: u8, line: &mut Line) -> Result<(), AllocError>
+    ensures text { OnOk result (line.new ≡ refusal_line number) }
+    ensures cleared { OnErr result (line.new ≡ []) }
+{
+    line.clear();
+    if let Err(error) = push_refusal(number, line) {
+        line.clear();
+        return Err(error);
+    }
+    Ok(())
 }
 
 /// Tells a line.

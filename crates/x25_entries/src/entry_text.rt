@@ -1,5 +1,5 @@
 //! Entries of a transcript as text.
-ghost use Rattle.std.specs.Prelude.{◌≡◌, ◌++◌, IfOk, OnOk, codes, decimal, string_bytes};
+ghost use Rattle.std.specs.Prelude.{◌≡◌, ◌++◌, [], IfOk, OnOk, OnErr, codes, decimal, string_bytes};
 ghost use Rattle.x25_entries.specs.EntryText.{address_text, channel_text, digits_text, down_text, end_text, entry_line as line_of, entry_text, message_text, name_text, notice_text, params_text, request_text, said_text, stretch_text, user_text};
 ghost use Rattle.x25_station.specs.PlainEntry.{plain_asked, plain_entry, plain_name, plain_said, plain_told};
 ghost use Rattle.x25_text.specs.PacketText.{reason_text};
@@ -255,14 +255,33 @@ fn push_end(at: Role, line: &mut Line) -> Result<(), AllocError>
     }
 }
 
-/// The line of an entry at an end, with its line feed. Err: no memory.
 #[tactic(auto, unfolding(crate::specs::EntryText::entry_line))]
+fn push_line(at: Role, entry: &Entry, line: &mut Line) -> Result<(), AllocError>
+    ensures { OnOk result (line.new ≡ line.old ++ line_of at (plain_entry entry.now)) }
+{
+    push_end(at, line)?;
+    push_entry(entry, line)?;
+    line.push(b"\n")
+}
+
+/// Writes the line of an entry at an end, with its line feed, in the place of what the line held. Err: no memory; the line is empty then.
+pub fn write_entry(at: Role, entry: &Entry, line: &mut Line) -> Result<(), AllocError>
+    ensures text { OnOk result (line.new ≡ line_of at (plain_entry entry.now)) }
+    ensures cleared { OnErr result (line.new ≡ []) }
+{
+    line.clear();
+    if let Err(error) = push_line(at, entry, line) {
+        line.clear();
+        return Err(error);
+    }
+    Ok(())
+}
+
+/// The line of an entry at an end, with its line feed, in memory of its own. Err: no memory.
 pub fn entry_line(alloc: Global, at: Role, entry: &Entry) -> Result<Line, AllocError>
     ensures { IfOk result (λ line. line ≡ line_of at (plain_entry entry.now)) }
 {
     let mut line = Line::new(alloc)?;
-    push_end(at, &mut line)?;
-    push_entry(entry, &mut line)?;
-    line.push(b"\n")?;
+    write_entry(at, entry, &mut line)?;
     Ok(line)
 }

@@ -6,5 +6,5 @@
 mod entry_text;
 mod line;
 
-pub use entry_text::entry_line;
+pub use entry_text::{entry_line, write_entry};
 pub use line::Line;

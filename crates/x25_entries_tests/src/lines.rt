@@ -1,5 +1,6 @@
 use std::test::Fail;
-use x25_entries::Line;
+use x25_entries::{Line, write_entry};
+use x25_station::{Entry, Role};
 
 #[test]
 fn grows(rt: HostRuntime) -> Result<(), Fail> {
@@ -26,5 +27,19 @@ fn holds_long_texts(rt: HostRuntime) -> Result<(), Fail> {
     line.push_octets(b"data=", octets.as_slice())?;
     assert_eq!(rt; line.as_slice().len(), 131_075);
     assert_eq!(rt; line.as_slice().last(), Some(&b'f'));
+    Ok(())
+}
+
+#[test]
+fn holds_what_is_written_anew(rt: HostRuntime) -> Result<(), Fail> {
+    let mut line = Line::new(rt.alloc())?;
+    line.push(b"a line before")?;
+    for (entry, shown) in [
+        (Entry::LinkUp, "dce linkup\n"),
+        (Entry::RestartAsked, "dce restart\n"),
+    ] {
+        write_entry(Role::Dce, &entry, &mut line)?;
+        assert_eq!(rt; line.as_slice(), shown.as_bytes());
+    }
     Ok(())
 }

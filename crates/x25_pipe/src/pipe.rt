@@ -5,20 +5,22 @@ ghost use Rattle.x25_pipe.specs.Piped.{is_same as are_same};
 use crate::mark::{Mark, Watch, tells_up};
 use crate::telling::{tell_entries, tell_frames, tell_mark, tell_refusal};
 use std::alloc::Global;
-use x25_console::{station_command, tell_nothing, user_octets};
+use x25_console::{read_user, station_command, tell_nothing};
 use x25_decode::read_sent;
+use x25_entries::Line;
 use x25_io::{Fault, Output, Sink};
 use x25_script::{Command, ScriptLine, read_line};
 use x25_station::{Cfg, Role, Station, StationError, Step};
 use x25_text::MOST_OCTETS;
 
-/// The station at an end, and what waits to be written.
+/// The station at an end, the octets of a frame and of a command, the line that tells, and what waits to be written.
 #[derive(Drop)]
 pub(crate) struct Pipe {
-    alloc: Global,
     end: Role,
     station: Station,
     octets: [u8; MOST_OCTETS],
+    user: Vec<u8>,
+    line: Line,
     output: Output,
     is_refused: bool,
 }
@@ -90,14 +92,18 @@ impl Pipe {
         let Ok(output) = Output::new(alloc) else {
             return Err(Fault::NoMemory);
         };
+        let Ok(line) = Line::new(alloc) else {
+            return Err(Fault::NoMemory);
+        };
         let Ok(station) = Station::new(alloc, end, cfg) else {
             return Err(Fault::NoMemory);
         };
         Ok(Pipe {
-            alloc,
             end,
             station,
             octets: [0; MOST_OCTETS],
+            user: Vec::new(alloc),
+            line,
             output,
             is_refused: false,
         })
@@ -162,9 +168,9 @@ impl Pipe {
         ensures read { IsErrOf result Fault.Read → ⊥ }
     {
         let entries = step.entries.as_slice();
-        tell_entries(self.alloc, self.end, entries, &mut self.output, writer)?;
+        tell_entries(&mut self.line, self.end, entries, &mut self.output, writer)?;
         let frames = step.frames.as_slice();
-        tell_frames(self.alloc, self.end, frames, &mut self.output, writer)
+        tell_frames(&mut self.line, self.end, frames, &mut self.output, writer)
     }
 
     /// Tells a step of the station, which stood as `before` says: its entries, its frames and its mark.
@@ -247,7 +253,7 @@ impl Pipe {
             return Err(Fault::NoMemory);
         }
         self.is_refused = true;
-        tell_refusal(self.alloc, error, &mut self.output, writer)?;
+        tell_refusal(&mut self.line, error, &mut self.output, writer)?;
         self.mark_standing(writer)
     }
 
@@ -309,13 +315,13 @@ impl Pipe {
         ensures memory { IsErrOf result Fault.NoMemory → W.is_marked writer.new ≡ W.is_marked writer.old }
         ensures read { IsErrOf result Fault.Read → ⊥ }
     {
-        let Ok(user) = user_octets(self.alloc, &command) else {
+        let Ok(()) = read_user(&command, &mut self.user) else {
             return Err(Fault::NoMemory);
         };
         let before = Watch::of(&self.station);
         match self
             .station
-            .command(station_command(&command, user.as_slice()))
+            .command(station_command(&command, self.user.as_slice()))
         {
             Ok(step) => self.follow_up(before, false, step, writer),
             Err(error) => self.refuse(error, writer),

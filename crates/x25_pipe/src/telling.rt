@@ -8,15 +8,14 @@ ghost use Rattle.x25_pipe.specs.Piped.{enters, marks, saying_line, sayings_text,
 ghost use Rattle.x25_pipe.specs.Watched.{plain_mark};
 
 use crate::mark::Mark;
-use std::alloc::Global;
-use x25_console::{frame_line, refusal_line, tell};
-use x25_entries::entry_line;
+use x25_console::{tell, write_frame, write_refusal};
+use x25_entries::{Line, write_entry};
 use x25_io::{Fault, Output, Sink};
 use x25_station::{Entry, Role, StationError};
 
 #[tactic(auto, unfolding(crate::specs::Piped::saying_line))]
 fn tell_entry<W: Sink>(
-    alloc: Global,
+    line: &mut Line,
     end: Role,
     entry: &Entry,
     output: &mut Output,
@@ -30,7 +29,7 @@ fn tell_entry<W: Sink>(
     ensures memory { IsErrOf result Fault.NoMemory → W.is_marked writer.new ≡ W.is_marked writer.old }
     ensures read { IsErrOf result Fault.Read → ⊥ }
 {
-    let Ok(line) = entry_line(alloc, end, entry) else {
+    let Ok(()) = write_entry(end, entry, line) else {
         return Err(Fault::NoMemory);
     };
     tell(line.as_slice(), output, writer)
@@ -38,7 +37,7 @@ fn tell_entry<W: Sink>(
 
 #[tactic(auto, unfolding(crate::specs::Piped::saying_line))]
 fn tell_frame<W: Sink>(
-    alloc: Global,
+    line: &mut Line,
     end: Role,
     frame: &Vec<u8>,
     output: &mut Output,
@@ -52,14 +51,14 @@ fn tell_frame<W: Sink>(
     ensures memory { IsErrOf result Fault.NoMemory → W.is_marked writer.new ≡ W.is_marked writer.old }
     ensures read { IsErrOf result Fault.Read → ⊥ }
 {
-    let Ok(line) = frame_line(alloc, end, frame.as_slice()) else {
+    let Ok(()) = write_frame(end, frame.as_slice(), line) else {
         return Err(Fault::NoMemory);
     };
     tell(line.as_slice(), output, writer)
 }
 
 pub(crate) fn tell_entries<W: Sink>(
-    alloc: Global,
+    line: &mut Line,
     end: Role,
     entries: &[Entry],
     output: &mut Output,
@@ -74,13 +73,13 @@ pub(crate) fn tell_entries<W: Sink>(
     ensures read { IsErrOf result Fault.Read → ⊥ }
 {
     for entry in entries {
-        tell_entry(alloc, end, entry, output, writer)?;
+        tell_entry(line, end, entry, output, writer)?;
     }
     Ok(())
 }
 
 pub(crate) fn tell_frames<W: Sink>(
-    alloc: Global,
+    line: &mut Line,
     end: Role,
     frames: &[Vec<u8>],
     output: &mut Output,
@@ -95,14 +94,14 @@ pub(crate) fn tell_frames<W: Sink>(
     ensures read { IsErrOf result Fault.Read → ⊥ }
 {
     for frame in frames {
-        tell_frame(alloc, end, frame, output, writer)?;
+        tell_frame(line, end, frame, output, writer)?;
     }
     Ok(())
 }
 
 /// Tells that what a line asks for is refused.
 pub(crate) fn tell_refusal<W: Sink>(
-    alloc: Global,
+    line: &mut Line,
     error: StationError,
     output: &mut Output,
     writer: &mut W,
@@ -115,7 +114,7 @@ pub(crate) fn tell_refusal<W: Sink>(
     ensures memory { IsErrOf result Fault.NoMemory → W.is_marked writer.new ≡ W.is_marked writer.old }
     ensures read { IsErrOf result Fault.Read → ⊥ }
 {
-    let Ok(line) = refusal_line(alloc, error.number()) else {
+    let Ok(()) = write_refusal(error.number(), line) else {
         return Err(Fault::NoMemory);
     };
     tell(line.as_slice(), output, writer)

@@ -1,17 +1,9 @@
 //! Octets as hexadecimal digits.
 ghost use Rattle.std.specs.Prelude.{◌≡◌, ◌==◌, List, ℕ, length};
-ghost use Rattle.std.specs.Char.{is_ascii_hexdigit};
-ghost use Rattle.std.specs.List.{list_all};
 ghost use Rattle.x25_script.specs.Octets.{octets_of, octets_written, AreWritten};
 
 use std::marker::Model;
-use x25_text::read_hexadecimal;
-
-fn are_hex_digits(text: &[u8]) -> bool
-    ensures { result ≡ list_all is_ascii_hexdigit text.now }
-{
-    text.iter().all(|character| character.is_ascii_hexdigit())
-}
+use x25_text::{is_hexadecimal, read_hexadecimal};
 
 /// Octets as the hexadecimal digits of a line, two for each, of either case. Contracts see the list of octets.
 #[derive(Debug, Drop)]
@@ -32,7 +24,7 @@ impl<'a> HexDigits<'a> {
     pub(crate) fn of(digits: &'a [u8]) -> Option<HexDigits<'a>>
         ensures { result ≡ octets_of digits.now }
     {
-        if digits.len() % 2 == 1 || !are_hex_digits(digits) {
+        if digits.len() % 2 == 1 || !is_hexadecimal(digits) {
             return None;
         }
         Some(HexDigits { digits })

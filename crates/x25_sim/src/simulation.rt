@@ -20,6 +20,7 @@ pub struct Simulation {
     piece: Vec<u8>,
     ghost some: { 0 < vec_len piece },
     held: HeldLine,
+    octets: Vec<u8>,
     stage: Stage,
 }
 
@@ -43,6 +44,7 @@ impl Simulation {
             down,
             piece,
             held,
+            octets: Vec::new(alloc),
             stage,
         })
     }
@@ -71,7 +73,7 @@ impl Simulation {
     {
         let down = self.down;
         self.stage.open(down, writer)?;
-        let simulator = Simulator::new(self.held, self.stage);
+        let simulator = Simulator::new(self.held, self.octets, self.stage);
         take_text(simulator, self.piece.as_mut_slice(), reader, writer)
     }
 }

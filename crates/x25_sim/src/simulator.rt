@@ -8,10 +8,11 @@ use crate::stage::Stage;
 use x25_io::{Fault, HeldLine, Sink, TextTaker, split_line};
 use x25_script::{ScriptLine, read_line};
 
-/// The line that has begun, and the stations.
+/// The line that has begun, the octets of one, and the stations.
 #[derive(Drop)]
 pub(crate) struct Simulator {
     held: HeldLine,
+    octets: Vec<u8>,
     stage: Stage,
 }
 
@@ -37,11 +38,15 @@ impl Simulator {
     ghost use Rattle.x25_sim.specs.Stream.{Leads};
 
     /// No line has begun.
-    pub(crate) fn new(held: HeldLine, stage: Stage) -> Simulator
+    pub(crate) fn new(held: HeldLine, octets: Vec<u8>, stage: Stage) -> Simulator
         ensures held { result.held ≡ held }
         ensures stage { result.stage ≡ stage }
     {
-        Simulator { held, stage }
+        Simulator {
+            held,
+            octets,
+            stage,
+        }
     }
 
     /// What the held line asks for happens.
@@ -56,7 +61,7 @@ impl Simulator {
         ensures read { IsErrOf result Fault.Read → ⊥ }
     {
         match script_line(&self.held) {
-            Some(line) => self.stage.obey(line, writer),
+            Some(line) => self.stage.obey(line, &mut self.octets, writer),
             None => self.stage.read_nothing(writer),
         }
     }

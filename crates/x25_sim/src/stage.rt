@@ -7,18 +7,19 @@ ghost use Rattle.x25_sim.specs.Stands.{opening};
 
 use crate::telling::{tell_entries, tell_frames, tell_refusal};
 use std::alloc::Global;
-use x25_console::{octets_of, station_command, tell_nothing, user_octets};
+use x25_console::{read_octets, read_user, station_command, tell_nothing};
+use x25_entries::Line;
 use x25_io::{Fault, Output, Sink};
 use x25_script::{Command, ScriptLine};
 use x25_station::Cfg;
 use x25_world::{Direction, Event, Role, World, WorldError};
 
-/// A world whose transcript and frames were told and let go of, and what waits to be written.
+/// A world whose transcript and frames were told and let go of, the line that tells, and what waits to be written.
 #[derive(Drop)]
 pub(crate) struct Stage {
-    alloc: Global,
     world: World,
     tap: bool,
+    line: Line,
     output: Output,
     is_refused: bool,
 }
@@ -75,13 +76,16 @@ impl Stage {
         let Ok(output) = Output::new(alloc) else {
             return Err(Fault::NoMemory);
         };
+        let Ok(line) = Line::new(alloc) else {
+            return Err(Fault::NoMemory);
+        };
         let Ok(world) = first_world(alloc, down, cfg) else {
             return Err(Fault::NoMemory);
         };
         Ok(Stage {
-            alloc,
             world,
             tap,
+            line,
             output,
             is_refused: false,
         })
@@ -101,7 +105,7 @@ impl Stage {
         ensures read { IsErrOf result Fault.Read → ⊥ }
     {
         tell_entries(
-            self.alloc,
+            &mut self.line,
             self.world.transcript(),
             &mut self.output,
             writer,
@@ -109,7 +113,7 @@ impl Stage {
         if !self.tap {
             return Ok(());
         }
-        tell_frames(self.alloc, self.world.tap(), &mut self.output, writer)
+        tell_frames(&mut self.line, self.world.tap(), &mut self.output, writer)
     }
 
     /// Tells a step, and lets go of its entries and frames.
@@ -144,7 +148,7 @@ impl Stage {
             return Err(Fault::NoMemory);
         }
         self.is_refused = true;
-        tell_refusal(self.alloc, error, &mut self.output, writer)
+        tell_refusal(&mut self.line, error, &mut self.output, writer)
     }
 
     /// An event happens, and is told, or it is told that it is refused.
@@ -206,8 +210,14 @@ impl Stage {
         tell_nothing(&mut self.output, writer)
     }
 
-    /// What the user of an end asks for happens.
-    fn command<W: Sink>(&mut self, end: Role, command: Command, writer: &mut W) -> Result<(), Fault>
+    /// What the user of an end asks for happens. The user data is read into the list.
+    fn command<W: Sink>(
+        &mut self,
+        end: Role,
+        command: Command,
+        octets: &mut Vec<u8>,
+        writer: &mut W,
+    ) -> Result<(), Fault>
         ensures kept { OnOk result (W.is_marked writer.new ≡ W.is_marked writer.old) }
         ensures turns { (cfg : Settings) (tap : Bool) (old : Option (List ℕ))
             → Turns cfg tap old (W.contents writer.old) (W.contents writer.new) self.old self.new result
@@ -216,16 +226,21 @@ impl Stage {
         ensures memory { IsErrOf result Fault.NoMemory → W.is_marked writer.new ≡ W.is_marked writer.old }
         ensures read { IsErrOf result Fault.Read → ⊥ }
     {
-        let Ok(user) = user_octets(self.alloc, &command) else {
+        let Ok(()) = read_user(&command, octets) else {
             return Err(Fault::NoMemory);
         };
-        let command = station_command(&command, user.as_slice());
+        let command = station_command(&command, octets.as_slice());
         self.happen(Event::Command(end, command), writer)
     }
 
-    /// What a line of the script asks for happens.
+    /// What a line of the script asks for happens. The octets that it has are read into the list.
     #[tactic(auto, unfolding(crate::specs::Simulated::line_turn))]
-    pub(crate) fn obey<W: Sink>(&mut self, line: ScriptLine, writer: &mut W) -> Result<(), Fault>
+    pub(crate) fn obey<W: Sink>(
+        &mut self,
+        line: ScriptLine,
+        octets: &mut Vec<u8>,
+        writer: &mut W,
+    ) -> Result<(), Fault>
         ensures kept { OnOk result (W.is_marked writer.new ≡ W.is_marked writer.old) }
         ensures turns { (cfg : Settings) (tap : Bool) (old : Option (List ℕ))
             → Turns cfg tap old (W.contents writer.old) (W.contents writer.new) self.old self.new result (line_turn cfg tap (plain line.entry)) }
@@ -234,7 +249,7 @@ impl Stage {
         ensures read { IsErrOf result Fault.Read → ⊥ }
     {
         match line {
-            ScriptLine::Command { end, command } => self.command(end, command, writer),
+            ScriptLine::Command { end, command } => self.command(end, command, octets, writer),
             ScriptLine::T1 { end } => self.happen(Event::T1(end), writer),
             ScriptLine::Deliver { from } => self.happen(Event::Deliver(away_from(from)), writer),
             ScriptLine::Lose { from, place } => {
@@ -243,9 +258,9 @@ impl Stage {
             ScriptLine::Damage {
                 from,
                 place,
-                octets,
+                octets: digits,
             } => {
-                let Ok(octets) = octets_of(self.alloc, &octets) else {
+                let Ok(()) = read_octets(&digits, octets) else {
                     return Err(Fault::NoMemory);
                 };
                 let damage = Event::Damage(away_from(from), usize::from(place), octets.as_slice());

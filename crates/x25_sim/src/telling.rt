@@ -5,9 +5,8 @@ ghost use Rattle.x25_world.specs.PlainTold.{plain_entered, plain_tapped};
 ghost use Rattle.x25_console.specs.Lines.{refusal_line as line_of_refusal};
 ghost use Rattle.x25_sim.specs.Sayings.{enters, taps, refusal_number as number_of_refusal, saying_line, sayings_text};
 
-use std::alloc::Global;
-use x25_console::{frame_line, refusal_line, tell};
-use x25_entries::entry_line;
+use x25_console::{tell, write_frame, write_refusal};
+use x25_entries::{Line, write_entry};
 use x25_io::{Fault, Output, Sink};
 use x25_world::{Entered, Role, Tapped, WorldError};
 
@@ -23,7 +22,7 @@ fn refusal_number(error: WorldError) -> u8
 
 #[tactic(auto, unfolding(crate::specs::Sayings::saying_line))]
 fn tell_entry<W: Sink>(
-    alloc: Global,
+    line: &mut Line,
     entered: &Entered,
     output: &mut Output,
     writer: &mut W,
@@ -36,7 +35,7 @@ fn tell_entry<W: Sink>(
     ensures memory { IsErrOf result Fault.NoMemory → W.is_marked writer.new ≡ W.is_marked writer.old }
     ensures read { IsErrOf result Fault.Read → ⊥ }
 {
-    let Ok(line) = entry_line(alloc, entered.at, &entered.entry) else {
+    let Ok(()) = write_entry(entered.at, &entered.entry, line) else {
         return Err(Fault::NoMemory);
     };
     tell(line.as_slice(), output, writer)
@@ -44,7 +43,7 @@ fn tell_entry<W: Sink>(
 
 #[tactic(auto, unfolding(crate::specs::Sayings::saying_line))]
 fn tell_frame<W: Sink>(
-    alloc: Global,
+    line: &mut Line,
     frame: &Tapped,
     output: &mut Output,
     writer: &mut W,
@@ -57,14 +56,14 @@ fn tell_frame<W: Sink>(
     ensures memory { IsErrOf result Fault.NoMemory → W.is_marked writer.new ≡ W.is_marked writer.old }
     ensures read { IsErrOf result Fault.Read → ⊥ }
 {
-    let Ok(line) = frame_line(alloc, frame.from, frame.octets.as_slice()) else {
+    let Ok(()) = write_frame(frame.from, frame.octets.as_slice(), line) else {
         return Err(Fault::NoMemory);
     };
     tell(line.as_slice(), output, writer)
 }
 
 pub(crate) fn tell_entries<W: Sink>(
-    alloc: Global,
+    line: &mut Line,
     entries: &[Entered],
     output: &mut Output,
     writer: &mut W,
@@ -78,13 +77,13 @@ pub(crate) fn tell_entries<W: Sink>(
     ensures read { IsErrOf result Fault.Read → ⊥ }
 {
     for entered in entries {
-        tell_entry(alloc, entered, output, writer)?;
+        tell_entry(line, entered, output, writer)?;
     }
     Ok(())
 }
 
 pub(crate) fn tell_frames<W: Sink>(
-    alloc: Global,
+    line: &mut Line,
     frames: &[Tapped],
     output: &mut Output,
     writer: &mut W,
@@ -98,14 +97,14 @@ pub(crate) fn tell_frames<W: Sink>(
     ensures read { IsErrOf result Fault.Read → ⊥ }
 {
     for frame in frames {
-        tell_frame(alloc, frame, output, writer)?;
+        tell_frame(line, frame, output, writer)?;
     }
     Ok(())
 }
 
 /// Tells that an event is refused.
 pub(crate) fn tell_refusal<W: Sink>(
-    alloc: Global,
+    line: &mut Line,
     error: WorldError,
     output: &mut Output,
     writer: &mut W,
@@ -118,7 +117,7 @@ pub(crate) fn tell_refusal<W: Sink>(
     ensures memory { IsErrOf result Fault.NoMemory → W.is_marked writer.new ≡ W.is_marked writer.old }
     ensures read { IsErrOf result Fault.Read → ⊥ }
 {
-    let Ok(line) = refusal_line(alloc, refusal_number(error)) else {
+    let Ok(()) = write_refusal(refusal_number(error), line) else {
         return Err(Fault::NoMemory);
     };
     tell(line.as_slice(), output, writer)

@@ -5,3 +5,4 @@ pub mod PairLemmas
 pub mod LaneLemmas
 pub mod BlockLemmas
 pub mod ShownLemmas
+pub mod TestedLemmas

@@ -1,12 +1,12 @@
 //! Octets from hexadecimal digits, and as such.
-ghost use Rattle.std.specs.Prelude.{◌≡◌, ◌+◌, ◌*◌, ◌≤◌, ◌++◌, nat_lt, if◌then◌else◌, length, take, drop, map, Some, None, IfOk, IsTrue, string_bytes};
+ghost use Rattle.std.specs.Prelude.{◌≡◌, ◌+◌, ◌*◌, ◌≤◌, ◌++◌, nat_lt, if◌then◌else◌, length, take, drop, map, Some, None, IsTrue};
+ghost use Rattle.std.specs.Char.{is_ascii_hexdigit};
 ghost use Rattle.std.specs.List.{flat_map, list_all};
 ghost use Rattle.std.specs.Result.{result_ok};
 ghost use Rattle.hex.specs.Hex.{decode_of};
 ghost use Rattle.x25_text.specs.Hexadecimal.{octets_of, paired, value_of};
 ghost use Rattle.x25_text.specs.OctetText.{octet_text};
 
-use std::alloc::{AllocError, Global};
 use std::simd::prelude::*;
 
 /// The value of each character that is a hexadecimal digit, 255 for the others.
@@ -146,7 +146,7 @@ fn write_eight(octets: &[u8], digits: &mut [u8], place: usize)
 ///
 /// Eight octets at a time; the digits of the last eight may be written over some that are there.
 #[inline]
-pub(crate) fn write_digits(octets: &[u8], digits: &mut [u8])
+pub fn write_hexadecimal(octets: &[u8], digits: &mut [u8])
     requires { length digits.old ≡ 2 * length octets.now }
     ensures { digits.new ≡ flat_map octet_text octets.now }
 {
@@ -161,9 +161,29 @@ pub(crate) fn write_digits(octets: &[u8], digits: &mut [u8])
     write_eight(octets, digits, count - 8);
 }
 
-/// The octets as hexadecimal digits in lower case, two for each, in memory of their own.
-pub fn hexadecimal_digits(alloc: Global, octets: &[u8]) -> Result<String, AllocError>
-    ensures { IfOk result (λ digits. string_bytes digits ≡ flat_map octet_text octets.now) }
+/// Whether the sixteen characters from a place on are digits.
+#[inline]
+fn sixteen_are_digits(text: &[u8], place: usize) -> bool
+    requires { place + 16 ≤ length text.now }
+    ensures { result ≡ list_all is_ascii_hexdigit (take 16 (drop place text.now)) }
 {
-    hex::encode(alloc, octets)
+    are_digits(values(u8x16::from_slice(&text[place..])))
+}
+
+/// Whether all characters are hexadecimal digits, of either case.
+///
+/// Sixteen at a time; the last sixteen may be tested over some that were tested before.
+pub fn is_hexadecimal(text: &[u8]) -> bool
+    ensures { result ≡ list_all is_ascii_hexdigit text.now }
+{
+    let count = text.len();
+    if count < 16 {
+        return text.iter().all(|character| character.is_ascii_hexdigit());
+    }
+    for sixteen in 0..count / 16 {
+        if !sixteen_are_digits(text, 16 * sixteen) {
+            return false;
+        }
+    }
+    sixteen_are_digits(text, count - 16)
 }

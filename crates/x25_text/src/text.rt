@@ -5,7 +5,7 @@ ghost use Rattle.x25_frame.specs.Spelling.{bit};
 ghost use Rattle.x25_text.specs.OctetText.{octet_text, octets_text};
 ghost use Rattle.x25_text.specs.declared.text.TheConstants.{ROOM};
 
-use crate::hexadecimal::write_digits;
+use crate::hexadecimal::write_hexadecimal;
 use itoa::Buffer;
 use std::alloc::{AllocError, Global};
 use std::marker::Model;
@@ -34,19 +34,19 @@ impl Model for Text {
 
 /// Writes the octets as hexadecimal digits from a place on.
 #[inline]
-fn write_hexadecimal(octets: &[u8], buffer: &mut [u8], from: usize)
+fn write_from(octets: &[u8], buffer: &mut [u8], from: usize)
     requires few { length octets.now ≤ MOST_OCTETS }
     requires room { from + 2 * length octets.now ≤ length buffer.old }
     ensures text { take (from + 2 * length octets.now) buffer.new ≡ take from buffer.old ++ flat_map octet_text octets.now }
     ensures size { length buffer.new ≡ length buffer.old }
 {
     let digits = &mut buffer[from..from + 2 * octets.len()];
-    write_digits(octets, digits);
+    write_hexadecimal(octets, digits);
 }
 
 /// A number of one digit as a character.
 #[inline]
-fn digit(number: u8) -> u8
+pub fn digit(number: u8) -> u8
     requires { number < 10 }
     ensures { decimal number ≡ result ∷ [] }
 {
@@ -168,7 +168,7 @@ impl Text {
         ensures text { self.new ≡ self.old ++ flat_map octet_text octets.now }
         ensures size { length self.new ≡ length self.old + 2 * length octets.now }
     {
-        write_hexadecimal(octets, self.buffer.as_mut_slice(), self.count);
+        write_from(octets, self.buffer.as_mut_slice(), self.count);
         self.count += 2 * octets.len();
     }
 

@@ -1,5 +1,5 @@
 use std::test::Fail;
-use x25_text::{hexadecimal_digits, read_hexadecimal};
+use x25_text::{is_hexadecimal, read_hexadecimal, write_hexadecimal};
 
 static DIGITS: [u8; 58] = *b"0123456789abcdefABCDEF0011223344556677889900aaBBccDDeeFF12";
 
@@ -21,8 +21,9 @@ fn writes_digits_as_hex_does(rt: HostRuntime) -> Result<(), Fail> {
     for count in 0..30usize {
         let octets = hex::decode(rt.alloc(), &DIGITS[..2 * count])?;
         let wanted = hex::encode(rt.alloc(), octets.as_slice())?;
-        let digits = hexadecimal_digits(rt.alloc(), octets.as_slice())?;
-        assert_eq!(rt; digits.as_str(), wanted.as_str());
+        let mut digits = [0u8; 58];
+        write_hexadecimal(octets.as_slice(), &mut digits[..2 * count]);
+        assert_eq!(rt; &digits[..2 * count], wanted.as_bytes());
     }
     Ok(())
 }
@@ -35,6 +36,8 @@ fn finds_what_is_no_digit_at_each_place(rt: HostRuntime) {
             digits[place] = character;
             let mut octets = [0u8; 29];
             assert!(rt; !read_hexadecimal(&digits, &mut octets));
+            assert!(rt; !is_hexadecimal(&digits));
+            assert!(rt; is_hexadecimal(&digits[..place]));
         }
     }
 }

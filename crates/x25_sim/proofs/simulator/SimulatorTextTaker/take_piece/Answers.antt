@@ -25,8 +25,8 @@ loop-tail-preserved g c = (
 pub returns-clause-on : goal.returns-clause-on
 returns-clause-on g c = λ a old rest script l.
     let whole = simulated a.cfg a.down a.tap script in
-    let more = held_more a.cfg a.tap old _ old whole c.loop-tail.self (record { held = c.hold.new.self; stage = c.loop-tail.self.stage }) c.loop-tail.left.now rest
+    let more = held_more a.cfg a.tap old _ old whole c.loop-tail.self (record { held = c.hold.new.self; octets = c.loop-tail.self.octets; stage = c.loop-tail.self.stage }) c.loop-tail.left.now rest
     (c.loop-tail.invariant.1 a.cfg a.tap old rest whole l) c.in_default.ensures.parts refl (λ begun. c.hold.ensures begun) in
     MatchResult-weaker c.flush.result (c.flush.ensures.stands a.cfg a.tap old more.leaves.at more.leaves.text more.leaves.status more.leaves.stands)
-    (λ _ stands. leads_written a.cfg a.tap old _ _ whole (record { held = c.hold.new.self; stage = c.loop-tail.self.stage }) (record { held = c.hold.new.self; stage = c.flush.new.self }) rest more refl stands)
+    (λ _ stands. leads_written a.cfg a.tap old _ _ whole (record { held = c.hold.new.self; octets = c.loop-tail.self.octets; stage = c.loop-tail.self.stage }) (record { held = c.hold.new.self; octets = c.loop-tail.self.octets; stage = c.flush.new.self }) rest more refl stands)
     (λ _ begins. left_begun a.cfg a.tap old _ _ whole c.loop-tail.self.stage _ more.leaves begins)

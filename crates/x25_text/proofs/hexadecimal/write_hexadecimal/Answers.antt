@@ -2,7 +2,7 @@ use Rattle.std.proofs.Common.{◌≡◌, ◌∙◌, ◌+◌, ◌-◌, ◌*◌, R
 use Rattle.std.specs.Prelude.{IsOk, OnOk}
 use Rattle.x25_text.proofs.DigitLemmas.{encode_lower_is}
 use Rattle.x25_text.proofs.ShownLemmas.{Shows, shows_last, shows_more, shows_none}
-use Rattle.x25_text.proofs.hexadecimal.write_digits.Goals as goal
+use Rattle.x25_text.proofs.hexadecimal.write_hexadecimal.Goals as goal
 
 from_ok : {X E : Type 0} (r : Result X E) (P : Type 0) → OnOk r P → IsOk r → P
 from_ok (Ok x) P h ok = h

@@ -1,0 +1,8 @@
+use Rattle.std.proofs.Common.{◌≡◌, ◌*◌, true, take}
+use Rattle.std.specs.Char.{is_ascii_hexdigit}
+use Rattle.std.specs.List.{list_all}
+use Rattle.x25_text.proofs.hexadecimal.is_hexadecimal.Given as goal
+
+-- the first characters are digits
+abbrev pub invariant-loop-sixteen : goal.invariant-loop-sixteen
+invariant-loop-sixteen l = list_all is_ascii_hexdigit (take (16 * l.sixteen) l.text) ≡ true
