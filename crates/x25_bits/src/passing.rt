@@ -157,6 +157,31 @@ impl Deframer {
         pass_octet(self.scan.run, self.scan.is_inserted, octet)
     }
 
+    /// The same of four bits, the first the lowest.
+    #[inline]
+    pub(crate) fn passed_four(&self, four: u8) -> Option<Passed>
+        requires { four < 16 }
+        ensures passes { IfSome result (λ passed. Passes passed self.now.scan.run self.now.scan.is_inserted (low_bits 4 four)) }
+        ensures size { IfSome result (λ passed. passed.count ≤ 8) }
+        ensures opened { OnSome result (self.now.scan.is_open ≡ true) }
+        ensures going { OnSome result (self.now.scan.is_aborted ≡ false) }
+        ensures room { OnSome result (length self.now.kept.bits ≤ 32823) }
+    {
+        if !self.scan.is_open {
+            return None;
+        }
+        if self.scan.is_aborted {
+            return None;
+        }
+        if self.kept.len() > HELD - 8 {
+            return None;
+        }
+        if self.scan.run > MOST_ONES {
+            return None;
+        }
+        pass_four(self.scan.run, self.scan.is_inserted, four)
+    }
+
     /// Keeps what an octet leaves.
     pub(crate) fn keep_passed(&mut self, passed: Passed) -> Result<(), NoMemory>
         requires size { passed.count ≤ 8 }
