@@ -222,6 +222,27 @@ impl Deframer {
         self.passed(octets[place / 8])
     }
 
+    /// What the four bits from this place on leave, where they are an octet's first or last, and where they pass.
+    #[inline]
+    pub(crate) fn passed_four_at(&self, octets: &[u8], place: usize, end: usize) -> Option<Passed>
+        requires place { place < end }
+        requires end { end ≤ 8 * length octets.now }
+        ensures passes { IfSome result (λ passed. Passes passed self.now.scan.run self.now.scan.is_inserted (part place (place + 4) (bits_of octets.now))) }
+        ensures size { IfSome result (λ passed. passed.count ≤ 8) }
+        ensures opened { OnSome result (self.now.scan.is_open ≡ true) }
+        ensures going { OnSome result (self.now.scan.is_aborted ≡ false) }
+        ensures room { OnSome result (length self.now.kept.bits ≤ 32823) }
+        ensures inside { OnSome result (place + 4 ≤ end) }
+    {
+        if place % 4 != 0 {
+            return None;
+        }
+        if end - place < 4 {
+            return None;
+        }
+        self.passed_four((octets[place / 8] >> (place % 8)) % 16)
+    }
+
     /// Keeps what an octet leaves.
     #[inline]
     pub(crate) fn keep_passed_within(&mut self, passed: Passed)
