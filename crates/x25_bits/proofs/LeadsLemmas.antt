@@ -50,3 +50,21 @@ pub led_found : (v : Seen) (all : List Bool) (start : List Class) (d : Deframer)
     → Leads v all start d left out → left ≡ [] → out ≡ start ++ found_from v all
 unfolding found_from
 led_found v all start d left out h none = sym (append-nil out) ∙ ap (λ l. out ++ found_from h.0 l) (sym none) ∙ h.3
+
+-- of bits in two parts
+pub both_fit : (d e f : Deframer) (all a b : List Bool) → all ≡ a ++ b
+    → ((v : Seen) → FitsSeen d v → FitsSeen e (seen_from v a))
+    → ((v : Seen) → FitsSeen e v → FitsSeen f (seen_from v b))
+    → (v : Seen) → FitsSeen d v → FitsSeen f (seen_from v all)
+both_fit d e f all a b at first last v h =
+    subst (FitsSeen f) (sym (ap (seen_from v) at ∙ seen-append v a b)) (last (seen_from v a) (first v h))
+
+pub both_found : (d e : Deframer) (all a b : List Bool) (start mid end : List Class) → all ≡ a ++ b
+    → ((v : Seen) → FitsSeen d v → FitsSeen e (seen_from v a))
+    → ((v : Seen) → FitsSeen d v → mid ≡ start ++ found_from v a)
+    → ((v : Seen) → FitsSeen e v → end ≡ mid ++ found_from v b)
+    → (v : Seen) → FitsSeen d v → end ≡ start ++ found_from v all
+both_found d e all a b start mid end at fits first last v h =
+    last (seen_from v a) (fits v h) ∙ ap (λ l. l ++ found_from (seen_from v a) b) (first v h)
+    ∙ append_assoc start (found_from v a) (found_from (seen_from v a) b)
+    ∙ ap (λ l. start ++ l) (sym (ap (found_from v) at ∙ found-append v a b))

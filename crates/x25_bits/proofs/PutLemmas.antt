@@ -75,6 +75,11 @@ put_found octets small low high =
 
 -- ---- steps of the code
 
+pub next_fours : (k left : ℕ) → k < 4 → low_bits (4 - k) left ≡ nat_eq (bit_and left 1) 1 ∷ low_bits (4 - (k + 1)) (left / 2)
+next_fours k left h =
+    let at : 4 - k ≡ suc (4 - (k + 1)) = omega arith in
+    rw (at, low_bits-suc (4 - (k + 1)) left, and_one left) refl
+
 pub next_bits : (k left : ℕ) → k < 8 → low_bits (8 - k) left ≡ nat_eq (bit_and left 1) 1 ∷ low_bits (8 - (k + 1)) (left / 2)
 next_bits k left h =
     let at : 8 - k ≡ suc (8 - (k + 1)) = omega arith in

@@ -143,6 +143,11 @@ impl Deframer {
     {
         let mut place = 0;
         while place < octets.len() {
+            if let Some(passed) = self.passed(octets[place]) {
+                self.keep_passed(passed)?;
+                place += 1;
+                continue;
+            }
             let next = self.idle_until(octets, place, octets.len());
             if next > place {
                 place = next;
@@ -154,7 +159,7 @@ impl Deframer {
         Ok(())
     }
 
-    /// Takes the bits of an octet, the lowest first.
+    /// Takes the bits of an octet, the lowest first, by four.
     fn take_octet(
         &mut self,
         octet: u8,
@@ -169,37 +174,58 @@ impl Deframer {
         ensures alloc { self.new.alloc ≡ self.old.alloc }
         ensures last { self.new.last ≡ self.old.last }
     {
-        let Some(passed) = self.passed(octet) else {
-            return self.take_bits(octet, aside, out);
-        };
-        self.keep_passed(passed)?;
+        self.take_four(octet % 16, aside, out)?;
+        self.take_four(octet / 16, aside, out)?;
         Ok(())
     }
 
-    /// Takes the bits of an octet one by one, the lowest first.
-    fn take_bits(
+    /// Takes four bits, the first the lowest.
+    fn take_four(
         &mut self,
-        octet: u8,
+        four: u8,
         aside: &mut Option<Kept>,
         out: &mut Vec<Found>,
     ) -> Result<(), NoMemory>
-        ensures fits { OnOk result ((v : Seen) → FitsSeen self.old v → FitsSeen self.new (seen_from v (low_bits 8 octet))) }
-        ensures found { OnOk result ((v : Seen) → FitsSeen self.old v → plains out.new.items ≡ plains out.old.items ++ found_from v (low_bits 8 octet)) }
+        requires { four < 16 }
+        ensures fits { OnOk result ((v : Seen) → FitsSeen self.old v → FitsSeen self.new (seen_from v (low_bits 4 four))) }
+        ensures found { OnOk result ((v : Seen) → FitsSeen self.old v → plains out.new.items ≡ plains out.old.items ++ found_from v (low_bits 4 four)) }
         ensures undo { Begins (unwrap_or aside.old self.old.kept).bits (unwrap_or aside.new self.new.kept).bits }
         ensures roomy { (unwrap_or aside.new self.new.kept).is_roomy ≡ (unwrap_or aside.old self.old.kept).is_roomy }
         ensures begins { Begins out.old.items out.new.items }
         ensures alloc { self.new.alloc ≡ self.old.alloc }
         ensures last { self.new.last ≡ self.old.last }
     {
-        let mut left = octet;
-        for _ in 0..8u8 {
+        let Some(passed) = self.passed_four(four) else {
+            return self.take_bits(four, aside, out);
+        };
+        self.keep_passed(passed)?;
+        Ok(())
+    }
+
+    /// Takes four bits one by one, the first the lowest.
+    fn take_bits(
+        &mut self,
+        four: u8,
+        aside: &mut Option<Kept>,
+        out: &mut Vec<Found>,
+    ) -> Result<(), NoMemory>
+        ensures fits { OnOk result ((v : Seen) → FitsSeen self.old v → FitsSeen self.new (seen_from v (low_bits 4 four))) }
+        ensures found { OnOk result ((v : Seen) → FitsSeen self.old v → plains out.new.items ≡ plains out.old.items ++ found_from v (low_bits 4 four)) }
+        ensures undo { Begins (unwrap_or aside.old self.old.kept).bits (unwrap_or aside.new self.new.kept).bits }
+        ensures roomy { (unwrap_or aside.new self.new.kept).is_roomy ≡ (unwrap_or aside.old self.old.kept).is_roomy }
+        ensures begins { Begins out.old.items out.new.items }
+        ensures alloc { self.new.alloc ≡ self.old.alloc }
+        ensures last { self.new.last ≡ self.old.last }
+    {
+        let mut left = four;
+        for _ in 0..4u8 {
             self.take(left & 1 == 1, aside, out)?;
             left >>= 1;
         }
         Ok(())
     }
 
-    /// Takes these bits one by one.
+    /// Takes these bits: whole octets of them, and then what is left, one by one.
     fn take_all(
         &mut self,
         bits: &Bits,
@@ -214,7 +240,29 @@ impl Deframer {
         ensures alloc { self.new.alloc ≡ self.old.alloc }
         ensures last { self.new.last ≡ self.old.last }
     {
-        for place in 0..bits.len() {
+        self.take_octets(bits.whole_octets(), aside, out)?;
+        self.take_from(8 * (bits.len() / 8), bits, aside, out)?;
+        Ok(())
+    }
+
+    /// Takes the bits from this place on, one by one.
+    fn take_from(
+        &mut self,
+        from: usize,
+        bits: &Bits,
+        aside: &mut Option<Kept>,
+        out: &mut Vec<Found>,
+    ) -> Result<(), NoMemory>
+        requires { from ≤ length bits.now }
+        ensures fits { OnOk result ((v : Seen) → FitsSeen self.old v → FitsSeen self.new (seen_from v (drop from bits.now))) }
+        ensures found { OnOk result ((v : Seen) → FitsSeen self.old v → plains out.new.items ≡ plains out.old.items ++ found_from v (drop from bits.now)) }
+        ensures undo { Begins (unwrap_or aside.old self.old.kept).bits (unwrap_or aside.new self.new.kept).bits }
+        ensures roomy { (unwrap_or aside.new self.new.kept).is_roomy ≡ (unwrap_or aside.old self.old.kept).is_roomy }
+        ensures begins { Begins out.old.items out.new.items }
+        ensures alloc { self.new.alloc ≡ self.old.alloc }
+        ensures last { self.new.last ≡ self.old.last }
+    {
+        for place in from..bits.len() {
             self.take(bits.bit(place), aside, out)?;
         }
         Ok(())

@@ -104,6 +104,11 @@ impl Deframer {
                 place = next;
                 continue;
             }
+            if let Some(passed) = self.passed_four_at(octets, place, end) {
+                self.keep_passed_within(passed);
+                place += 4;
+                continue;
+            }
             let closed = self.step(read_bit(octets, place));
             place += 1;
             if closed.is_some() {

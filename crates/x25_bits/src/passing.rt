@@ -157,6 +157,31 @@ impl Deframer {
         pass_octet(self.scan.run, self.scan.is_inserted, octet)
     }
 
+    /// The same of four bits, the first the lowest.
+    #[inline]
+    pub(crate) fn passed_four(&self, four: u8) -> Option<Passed>
+        requires { four < 16 }
+        ensures passes { IfSome result (λ passed. Passes passed self.now.scan.run self.now.scan.is_inserted (low_bits 4 four)) }
+        ensures size { IfSome result (λ passed. passed.count ≤ 8) }
+        ensures opened { OnSome result (self.now.scan.is_open ≡ true) }
+        ensures going { OnSome result (self.now.scan.is_aborted ≡ false) }
+        ensures room { OnSome result (length self.now.kept.bits ≤ 32823) }
+    {
+        if !self.scan.is_open {
+            return None;
+        }
+        if self.scan.is_aborted {
+            return None;
+        }
+        if self.kept.len() > HELD - 8 {
+            return None;
+        }
+        if self.scan.run > MOST_ONES {
+            return None;
+        }
+        pass_four(self.scan.run, self.scan.is_inserted, four)
+    }
+
     /// Keeps what an octet leaves.
     pub(crate) fn keep_passed(&mut self, passed: Passed) -> Result<(), NoMemory>
         requires size { passed.count ≤ 8 }
@@ -195,6 +220,27 @@ impl Deframer {
             return None;
         }
         self.passed(octets[place / 8])
+    }
+
+    /// What the four bits from this place on leave, where they are an octet's first or last, and where they pass.
+    #[inline]
+    pub(crate) fn passed_four_at(&self, octets: &[u8], place: usize, end: usize) -> Option<Passed>
+        requires place { place < end }
+        requires end { end ≤ 8 * length octets.now }
+        ensures passes { IfSome result (λ passed. Passes passed self.now.scan.run self.now.scan.is_inserted (part place (place + 4) (bits_of octets.now))) }
+        ensures size { IfSome result (λ passed. passed.count ≤ 8) }
+        ensures opened { OnSome result (self.now.scan.is_open ≡ true) }
+        ensures going { OnSome result (self.now.scan.is_aborted ≡ false) }
+        ensures room { OnSome result (length self.now.kept.bits ≤ 32823) }
+        ensures inside { OnSome result (place + 4 ≤ end) }
+    {
+        if place % 4 != 0 {
+            return None;
+        }
+        if end - place < 4 {
+            return None;
+        }
+        self.passed_four((octets[place / 8] >> (place % 8)) % 16)
     }
 
     /// Keeps what an octet leaves.

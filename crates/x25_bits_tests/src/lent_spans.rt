@@ -38,7 +38,7 @@ fn lends_a_content_of_octets(rt: HostRuntime) -> Result<(), Fail> {
 }
 
 /// Appends copies of what calls lend of these bits until they end.
-fn take_lent(
+pub fn take_lent(
     alloc: Global,
     deframer: &mut Deframer,
     bits: &Bits,

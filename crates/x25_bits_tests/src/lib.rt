@@ -6,6 +6,8 @@ mod deframing;
 #[cfg(test)]
 mod harmless_bits;
 #[cfg(test)]
+mod idle_lines;
+#[cfg(test)]
 mod lent_spans;
 #[cfg(test)]
 mod numbers;

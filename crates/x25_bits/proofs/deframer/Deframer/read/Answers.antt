@@ -26,6 +26,21 @@ loop-place-preserved-in-Some c =
           (passed_found c.loop-place.self c.in-Some.passed bits c.in-Some.ensures.passes);
     }
 
+pub loop-place-preserved-in-Some-passed_four_at : goal.loop-place-preserved-in-Some-passed_four_at
+loop-place-preserved-in-Some-passed_four_at c =
+    let low : c.args.at ≤ c.loop-place.place = c.loop-place.invariant.low in
+    let next : c.loop-place.place + 4 ≤ c.args.end = c.in-Some-passed_four_at.ensures.inside in
+    let bits = part c.loop-place.place (c.loop-place.place + 4) (bits_of c.args.octets.now) in
+    record {
+      low = omega arith;
+      high = next;
+      buffer = c.keep_passed_within-in-Some-passed_four_at.ensures.buffer;
+      reads = reads_part c.args.self.now c.loop-place.self c.keep_passed_within-in-Some-passed_four_at.new.self c.args.at c.loop-place.place (c.loop-place.place + 4) (bits_of c.args.octets.now) c.loop-place.invariant.reads low (omega arith)
+          (passed_fits c.loop-place.self c.keep_passed_within-in-Some-passed_four_at.new.self c.in-Some-passed_four_at.passed bits c.in-Some-passed_four_at.ensures.opened c.in-Some-passed_four_at.ensures.going c.in-Some-passed_four_at.ensures.room c.in-Some-passed_four_at.ensures.size
+          c.in-Some-passed_four_at.ensures.passes c.keep_passed_within-in-Some-passed_four_at.ensures.run c.keep_passed_within-in-Some-passed_four_at.ensures.opened c.keep_passed_within-in-Some-passed_four_at.ensures.aborted c.keep_passed_within-in-Some-passed_four_at.ensures.inserted c.keep_passed_within-in-Some-passed_four_at.ensures.kept)
+          (passed_found c.loop-place.self c.in-Some-passed_four_at.passed bits c.in-Some-passed_four_at.ensures.passes);
+    }
+
 pub loop-place-preserved-then-next-place : goal.loop-place-preserved-then-next-place
 loop-place-preserved-then-next-place c =
     let low : c.args.at ≤ c.loop-place.place = c.loop-place.invariant.low in

@@ -2,7 +2,7 @@ use Rattle.std.proofs.Common.{◌≡◌, ◌∙◌, ◌-◌, arith, refl, ap}
 use Rattle.x25_bits.specs.Fcs.{low_bits}
 use Rattle.x25_bits.proofs.BeginsLemmas.{begins_none, begins_more}
 use Rattle.x25_bits.proofs.LeadsLemmas.{leads_bit, led_fits, led_found}
-use Rattle.x25_bits.proofs.PutLemmas.{next_bits}
+use Rattle.x25_bits.proofs.PutLemmas.{next_fours}
 use Rattle.x25_bits.proofs.deframer.Deframer.take_bits.Goals as goal
 
 pub loop-init : goal.loop-init
@@ -10,7 +10,7 @@ loop-init c = record { leads = λ v h. (v, h, refl, refl); undo = begins_none _;
 
 pub loop-preserved : goal.loop-preserved
 loop-preserved c = record {
-  leads = λ v h. leads_bit _ _ _ _ _ _ _ _ _ _ (c.loop.invariant.leads v h) (next_bits c.loop.counter c.loop.left c.loop-test.true) c.in_ok-take.ensures.fits c.in_ok-take.ensures.found;
+  leads = λ v h. leads_bit _ _ _ _ _ _ _ _ _ _ (c.loop.invariant.leads v h) (next_fours c.loop.counter c.loop.left c.loop-test.true) c.in_ok-take.ensures.fits c.in_ok-take.ensures.found;
   undo = begins_more _ _ _ c.loop.invariant.undo c.in_ok-take.ensures.undo;
   begins = begins_more _ _ _ c.loop.invariant.begins c.in_ok-take.ensures.begins;
   alloc = c.in_ok-take.ensures.alloc ∙ c.loop.invariant.alloc;
@@ -20,10 +20,10 @@ loop-preserved c = record {
 
 pub returns-clause-fits : goal.returns-clause-fits
 unfolding low_bits
-returns-clause-fits c = λ v h. let none : 8 - c.loop.counter ≡ 0 = omega arith in
+returns-clause-fits c = λ v h. let none : 4 - c.loop.counter ≡ 0 = omega arith in
     led_fits _ _ _ _ _ _ (c.loop.invariant.leads v h) (ap (λ n. low_bits n c.loop.left) none)
 
 pub returns-clause-found : goal.returns-clause-found
 unfolding low_bits
-returns-clause-found c = λ v h. let none : 8 - c.loop.counter ≡ 0 = omega arith in
+returns-clause-found c = λ v h. let none : 4 - c.loop.counter ≡ 0 = omega arith in
     led_found _ _ _ _ _ _ (c.loop.invariant.leads v h) (ap (λ n. low_bits n c.loop.left) none)

@@ -1,22 +1,15 @@
-use Rattle.std.proofs.Common.{◌∙◌, ◌++◌, ap, sym}
-use Rattle.std.proofs.lemmas.List.{append-nil}
+use Rattle.std.proofs.Common.{◌≡◌, ◌%◌, ◌/◌, subst, sym}
 use Rattle.x25_bits.specs.Fcs.{low_bits}
+use Rattle.x25_bits.specs.FitsSeen.{FitsSeen}
 use Rattle.x25_bits.specs.Plain.{plains}
-use Rattle.x25_bits.proofs.KeepingLemmas.{aside_begins}
-use Rattle.x25_bits.proofs.PassingLemmas.{passed_fits, passed_found}
+use Rattle.x25_bits.proofs.LeadsLemmas.{both_fit, both_found}
+use Rattle.x25_bits.proofs.PassingLemmas.{octet_halves}
 use Rattle.x25_bits.proofs.deframer.Deframer.take_octet.Goals as goal
 
-pub returns-in_err-keep_passed-clause-undo : goal.returns-in_err-keep_passed-clause-undo
-returns-in_err-keep_passed-clause-undo c = aside_begins c.args.aside.now _ _ c.keep_passed.ensures.begins
-
-pub returns-clause-undo : goal.returns-clause-undo
-returns-clause-undo c = aside_begins c.args.aside.now _ _ c.keep_passed.ensures.begins
-
 pub returns-clause-fits : goal.returns-clause-fits
-returns-clause-fits c = λ v h.
-    passed_fits c.args.self.now c.keep_passed.new.self c.in-Some.passed (low_bits 8 c.args.octet) c.in-Some.ensures.opened c.in-Some.ensures.going c.in-Some.ensures.room c.in-Some.ensures.size
-    c.in-Some.ensures.passes c.in_ok-keep_passed.ensures.run c.in_ok-keep_passed.ensures.opened c.in_ok-keep_passed.ensures.aborted c.in_ok-keep_passed.ensures.inserted c.in_ok-keep_passed.ensures.kept v h
+returns-clause-fits c =
+    both_fit c.args.self.now c.take_four.new.self c.take_four-2.new.self _ _ _ (octet_halves c.args.octet) c.in_ok-take_four.ensures.fits c.in_ok-take_four-2.ensures.fits
 
 pub returns-clause-found : goal.returns-clause-found
-returns-clause-found c = λ v h.
-    sym (append-nil _) ∙ ap (λ l. plains c.args.out.now.items ++ l) (sym (passed_found c.args.self.now c.in-Some.passed (low_bits 8 c.args.octet) c.in-Some.ensures.passes v h))
+returns-clause-found c =
+    both_found c.args.self.now c.take_four.new.self _ _ _ _ _ _ (octet_halves c.args.octet) c.in_ok-take_four.ensures.fits c.in_ok-take_four.ensures.found c.in_ok-take_four-2.ensures.found

@@ -1,14 +1,16 @@
-use Rattle.std.proofs.Common.{◌≡◌, ◌++◌, take, unwrap_or}
+use Rattle.std.proofs.Common.{◌≡◌, ◌≤◌, ◌++◌, unwrap_or}
 use Rattle.x25_bits.specs.Begins.{Begins}
 use Rattle.x25_bits.specs.Held.{Seen, seen_from, found_from}
+use Rattle.x25_bits.specs.Reading.{part}
 use Rattle.x25_bits.specs.Plain.{plains}
 use Rattle.x25_bits.specs.FitsSeen.{FitsSeen}
-use Rattle.x25_bits.proofs.deframer.Deframer.take_all.Given as goal
+use Rattle.x25_bits.proofs.deframer.Deframer.take_from.Given as goal
 
 abbrev pub invariant-loop-place : goal.invariant-loop-place
 invariant-loop-place l = record {
-  fits : (v : Seen) → FitsSeen l.initial.self v → FitsSeen l.self (seen_from v (take l.place l.bits));
-  found : (v : Seen) → FitsSeen l.initial.self v → plains l.out.items ≡ plains l.initial.out.items ++ found_from v (take l.place l.bits);
+  low : l.from ≤ l.place;
+  fits : (v : Seen) → FitsSeen l.initial.self v → FitsSeen l.self (seen_from v (part l.from l.place l.bits));
+  found : (v : Seen) → FitsSeen l.initial.self v → plains l.out.items ≡ plains l.initial.out.items ++ found_from v (part l.from l.place l.bits);
   undo : Begins (unwrap_or l.initial.aside l.initial.self.kept).bits (unwrap_or l.aside l.self.kept).bits;
   roomy : (unwrap_or l.aside l.self.kept).is_roomy ≡ (unwrap_or l.initial.aside l.initial.self.kept).is_roomy;
   begins : Begins l.initial.out.items l.out.items;
