@@ -36,7 +36,7 @@ pub enum Event<'a> {
     Fill(usize),
     Forget,
     Zero,
-    /// Nothing happens. The text says how many octets of a message in part have come.
+    /// Nothing happens. The text says how many octets of a message in part have come, and memory is kept for.
     Joined,
     /// Nothing happens. The text says how many messages wait, clears and resets, whether the circuit is free or open, and sizes
     /// and windows.
@@ -344,7 +344,8 @@ impl Player {
             }
             Joined => {
                 let count = self.circuit.octets_joined();
-                Ok(format!(in self.alloc; "{count} joined")?)
+                let kept = self.circuit.octets_kept();
+                Ok(format!(in self.alloc; "{count} joined, {kept} kept")?)
             }
             Ask => self.ask(),
         }

@@ -162,7 +162,7 @@ fn a_message_is_cut(rt: HostRuntime) -> Result<(), Fail> {
 static ARE_JOINED: [Row; 7] = [
     (Data(0, 0, true, false, 128), "RR R=1"),
     (Data(1, 0, true, false, 0), "RR R=2"),
-    (Joined, "128 joined"),
+    (Joined, "128 joined, 128 kept"),
     (Data(2, 0, false, false, 1), "message q=0 129, RR R=3"),
     (NotReady, "RNR R=3"),
     (Data(3, 0, false, true, 0), "message q=1 0, RNR R=4"),

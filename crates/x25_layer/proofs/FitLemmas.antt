@@ -183,3 +183,8 @@ below_changed P xs i y below here k v low is = by (get_changed xs y v i k is)
 pub if_none : {X : Type 0} {P Q : Type 0} (o : Option X) → (P → Q) → IfNone o P → IfNone o Q
 if_none None by p = by p
 if_none (Some x) by p = tt
+
+-- what stands where there is none, and there is one only where a number falls
+pub kept_unless : {X : Type 0} {P : Type 0} (o : Option X) (n m : ℕ) → IfNone o P → IfSome o (λ _. n + 1 ≡ m) → n ≡ m → P
+kept_unless None n m p falls still = p
+kept_unless (Some x) n m p falls still = absurd (omega (arith, falls, still))

@@ -3,7 +3,6 @@ ghost use Rattle.std.specs.Prelude.{◌≡◌, ◌<◌, ◌≤◌, ◌-◌, ◌^
 ghost use Rattle.std.specs.Io.KnownBytes.{Appends};
 ghost use Rattle.x25_io.specs.Written.{AppendsBeginning};
 ghost use Rattle.x25_station.specs.declared.config.Cfg.{Cfg as Settings};
-ghost use Rattle.x25_sim.specs.Ready.{IsReady};
 ghost use Rattle.x25_sim.specs.Simulated.{simulated, sim_status, sim_text};
 ghost use Rattle.x25_sim.specs.Stream.{WritesEnded};
 
@@ -25,6 +24,8 @@ pub struct Simulation {
 }
 
 impl Simulation {
+    ghost use Rattle.x25_sim.specs.Ready.{IsReady};
+
     /// Makes the stations and the buffers. With `down` both links are down where the script begins, and with `tap` the frames of
     /// each step are told too. It has no reader and no writer, so a refusal reads nothing and writes nothing.
     ///

@@ -1,4 +1,4 @@
-use Rattle.std.proofs.Common.{◌∙◌, ◌≡◌, ◌×◌, ◌<◌, ◌-◌, ◌^◌, ℕ, Bool, List, Some, length, OnOk, OnErr, IfOk, IfSome, IsErrOf, sym, subst}
+use Rattle.std.proofs.Common.{◌∙◌, ◌≡◌, ◌<◌, ◌-◌, ◌^◌, ℕ, Bool, List, Some, length, OnOk, OnErr, IfOk, IfSome, IsErrOf, sym, subst}
 use Rattle.std.specs.Io.KnownBytes.{Appends}
 use Rattle.std.proofs.lemmas.Result.{err_from_is_err_and, on_ok_weaker}
 use Rattle.x25_io.specs.Written.{AppendsBeginning}
