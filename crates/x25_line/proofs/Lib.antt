@@ -1,8 +1,5 @@
 pub mod Frames
-pub mod HealingLines
 pub mod Kept
-pub mod HealingSteps
-pub mod HealingPhases
 pub mod RawKept
 pub mod FitLemmas
 pub mod RawActs
@@ -15,6 +12,10 @@ pub mod StationRuns
 pub mod StationClaimLemmas
 pub mod StationEvents
 pub mod StationRowLemmas
+pub mod HealingLines
+pub mod HealingSteps
+pub mod HealingPhases
+pub mod HealingRuns
 pub mod SessionLines
 pub mod SessionHeld
 pub mod SessionSteps

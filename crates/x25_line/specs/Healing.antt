@@ -4,7 +4,7 @@ use Rattle.std.specs.Prelude.{◌≡◌, ◌<◌, ◌≤◌, false, true, List, 
 use Rattle.x25_link.specs.Station.{Settings, is_up, is_busy}
 use Rattle.x25_link.specs.Steps.{timer_runs}
 use Rattle.x25_link.specs.RestLaw.{IsAtRest}
-use Rattle.x25_line.specs.Stations.{StationEnd, Stations, Act, Deliver, T1, Event, Near, Far, run, start}
+use Rattle.x25_line.specs.Stations.{StationEnd, Stations, Act, Deliver, T1, Event, Near, Far, swapped, run, start}
 use Rattle.x25_line.specs.StationClaims.{AreJoined, IsSetUpOnce}
 
 -- nothing is on the line
@@ -81,6 +81,13 @@ OneFiringHeals =
     (c d : Settings) → AreJoined c d → (events : List Event) → IsQuietMoment c d events
     → (let w = run c d events start in MayHeal c w.near → is_up w.far.station.phase ≡ true → is_busy w.far.station ≡ false
     → (deliveries : List Event) → AreDeliveries deliveries → (let v = run c d (Near T1 ∷ deliveries) w in IsDrained v → OneHeals w v))
+
+-- the same where it is the far end that fires
+abbrev pub FarFiringHeals : Type 0
+FarFiringHeals =
+    (c d : Settings) → AreJoined c d → (events : List Event) → IsQuietMoment c d events
+    → (let w = run c d events start in MayHeal d w.far → is_up w.near.station.phase ≡ true → is_busy w.near.station ≡ false
+    → (deliveries : List Event) → AreDeliveries deliveries → (let v = run c d (Far T1 ∷ deliveries) w in IsDrained v → OneHeals (swapped w) (swapped v)))
 
 -- With no tries left the end leaves Up, and nothing comes.
 abbrev pub OneFiringEnds : Type 0

@@ -2,6 +2,7 @@
 #![tactic(auto)]
 
 mod direction;
+mod healing;
 mod law;
 mod raw_end;
 mod raw_error;
@@ -10,6 +11,7 @@ mod raw_frame;
 mod raw_world;
 
 pub use direction::Direction;
+pub use healing::{one_firing_heals, rest_shows, two_firings_heal};
 pub use law::{
     each_event_hands_one, each_session_event_hands_one, sessions_are_stations, sessions_keep_order,
     sessions_move, stations_keep_order, stations_move,

@@ -1,0 +1,389 @@
+-- From a quiet moment, a firing and deliveries heal an end; and what rest shows.
+use Rattle.std.proofs.Common.{◌≡◌, ℕ, ◌+◌, ◌≤◌, ◌<◌, List, [], ◌∷◌, ◌++◌, inl, inr, length, map, Bool, true, false, if◌then◌else◌, Option, Some, None, refl, sym, ap, ◌∙◌, subst, arith}
+use Rattle.std.specs.Prelude.{◌||◌, nat_lt, nat_le}
+use Rattle.std.proofs.lemmas.Bool.{le-ltb, and_right}
+use Rattle.x25_bits.specs.declared.role.Role.{Role}
+use Rattle.x25_frame.specs.PlainFrame.{PlainFrame, rr}
+use Rattle.x25_frame.specs.Spelling.{spelling_of}
+use Rattle.x25_frame.specs.ReadingLaw.{ReadsSpelled}
+use Rattle.x25_link.specs.declared.error.LinkError.{LinkError}
+use Rattle.x25_link.specs.declared.error.LinkError.TheVariants.{NotRunning}
+use Rattle.x25_link.specs.declared.phase.Phase.{Phase}
+use Rattle.x25_link.specs.declared.phase.Notes.{Notes}
+use Rattle.x25_link.specs.declared.phase.Reason.{Reason}
+use Rattle.x25_link.specs.declared.phase.Reason.TheVariants.{Retries}
+use Rattle.x25_link.specs.Outgoing.{no_packet, is_open}
+use Rattle.x25_link.specs.Station.{Settings, Station, is_up, is_busy, wanted, fresh}
+use Rattle.x25_link.specs.MustSend.{Step, other}
+use Rattle.x25_link.specs.Steps.{timer_step, timer_runs, timer_refusal, put_refusal, connect_refusal, disconnect_refusal, put_step, connect_step, disconnect_step, abandon_step}
+use Rattle.x25_link.specs.WindowMachine.{nothing}
+use Rattle.x25_link.specs.WindowLaw.{IsRunning, Follows}
+use Rattle.x25_link.specs.RestLaw.{HasSaidAll, IsAtRest}
+use Rattle.x25_link.specs.AnswerLaw.{says, Asks}
+use Rattle.x25_line.specs.Stations.{StationEnd, Stations, Act, Put, Deliver, T1, Connect, Disconnect, Abandon, Lose, Damage, Event, Near, Far, after_step, unless, delivered, is_visible, acts, swapped, happens, run, start}
+use Rattle.x25_line.specs.StationClaims.{AreJoined, IsSetUpOnce, HandsOne, AreWhole}
+use Rattle.x25_line.specs.WholeNumbers.{machine_acts, machine_run, machine_at_start}
+use Rattle.x25_line.specs.Healing.{IsDrained, IsDeliver, IsDelivery, AreDeliveries, HasArrived, ShowsAtRest, RestShows, MayHeal, IsHealed, IsQuietMoment, OneHeals, OneFiringHeals, FarFiringHeals, OneFiringEnds, TwoFiringsHeal}
+use Rattle.x25_line.proofs.StationSteps.{not_both}
+use Rattle.x25_line.proofs.StationRuns.{machine_joint, run_once, joined_swapped, start_machine}
+use Rattle.x25_line.proofs.StationClaimLemmas.{holds_order, holds_lists}
+use Rattle.x25_line.proofs.StationEvents.{each_hands_one}
+use Rattle.x25_line.proofs.HealingLines.{Reads, reads_more, whole_behind, reads_none, Ahead, Reports}
+use Rattle.x25_line.proofs.HealingSteps.{HealingLaws, Sound, sound_swapped, near_up, counted}
+use Rattle.x25_line.proofs.HealingPhases.{Both, Asked, Answered, Resent, Heals, up_is, rest_has_all, near_heals, far_heals}
+
+-- ---- each end has said all that it may, after each event
+
+module _ (laws : HealingLaws) where
+  abbrev Said : ℕ → Stations → Type 0
+  Said k w = HasSaidAll k w.near.station
+
+  said_unless : (k : ℕ) (o : Option LinkError) (w v : Stations) → Said k w → Said k v → Said k (unless o w v)
+  said_unless k (Some e) w v f g = f
+  said_unless k None w v f g = g
+
+  said_if : (k : ℕ) (b : Bool) (w v : Stations) → Said k w → Said k v → Said k (if b then v else w)
+  said_if k true w v f g = g
+  said_if k false w v f g = f
+
+  said_delivered : (c : Settings) → c.window ≤ 7 → (os : List (List ℕ)) (w : Stations) → Said c.window w → Said c.window (delivered c os w)
+  said_delivered c small [] w h = h
+  said_delivered c small (o ∷ os) w h = laws.rest.take c o w.near.station small h.low
+
+  said_act : (c : Settings) → c.window ≤ 7 → (a : Act) (w : Stations) → Said c.window w → Said c.window (acts c a w)
+  said_act c small (Put packet) w h =
+      let v : Stations = after_step c w w.back (packet ∷ []) (put_step c packet w.near.station) in
+      said_if c.window (nat_le (length packet) c.longest) w (unless (put_refusal w.near.station) w v) h
+      (said_unless c.window (put_refusal w.near.station) w v h (laws.rest.put c packet w.near.station small h.low))
+  said_act c small Deliver w h = said_delivered c small w.back w h
+  said_act c small T1 w h =
+      said_unless c.window (timer_refusal w.near.station) w (after_step c w w.back [] (timer_step c w.near.station)) h (laws.rest.timer c w.near.station small h.low)
+  said_act c small Connect w h =
+      said_unless c.window (connect_refusal w.near.station.phase) w (after_step c w w.back [] (connect_step c w.near.station)) h (laws.rest.connect c w.near.station h.low)
+  said_act c small Disconnect w h =
+      said_unless c.window (disconnect_refusal w.near.station.phase) w (after_step c w w.back [] (disconnect_step c w.near.station)) h (laws.rest.disconnect c w.near.station)
+  said_act c small Abandon w h = said_if c.window (is_up w.near.station.phase) w (after_step c w w.back [] (abandon_step c w.near.station)) h (laws.rest.abandon c w.near.station)
+  said_act c small (Lose i) w h = h
+  said_act c small (Damage i octets) w h = said_damaged (is_visible octets) w _ h h
+    where
+      said_damaged : (b : Bool) (w v : Stations) → Said c.window w → Said c.window v → Said c.window (if b then v else w)
+      said_damaged = said_if c.window
+
+  abbrev BothSaid : Settings → Settings → Stations → Type 0
+  BothSaid c d w = HasSaidAll c.window w.near.station × HasSaidAll d.window w.far.station
+
+  said_event : (c d : Settings) → AreJoined c d → (e : Event) (w : Stations) → BothSaid c d w → BothSaid c d (happens c d e w)
+  said_event c d joined (Near a) w h =
+      (said_act c joined.near_high a w h.0, subst (λ (e : StationEnd). HasSaidAll d.window e.station) (sym (each_hands_one c d (Near a) w).far) h.1)
+  said_event c d joined (Far a) w h =
+      (subst (λ (e : StationEnd). HasSaidAll c.window e.station) (sym (each_hands_one c d (Far a) w).far) h.0, said_act d joined.far_high a (swapped w) h.1)
+
+  said_run : (c d : Settings) → AreJoined c d → (es : List Event) (w : Stations) → BothSaid c d w → BothSaid c d (run c d es w)
+  said_run c d joined [] w h = h
+  said_run c d joined (e ∷ es) w h = said_run c d joined es (happens c d e w) (said_event c d joined e w h)
+
+  fresh_said : (k : ℕ) → HasSaidAll k fresh
+  fresh_said k = record { low = omega arith; settled = and_right (nat_lt 0 (0 + k)) _ refl; calm = refl }
+
+  -- where events lead
+  pub reached_sound : ReadsSpelled → (c d : Settings) → AreJoined c d → (events : List Event) → IsSetUpOnce (run c d events start) → Sound c d (run c d events start)
+  reached_sound reads c d joined events once =
+      let said = said_run c d joined events start (fresh_said c.window, fresh_said d.window) in
+      record {
+        line = machine_run c d events start (machine_at_start c d);
+        joint = run_once c d joined reads laws.laws events start (machine_at_start c d) (start_machine (Unit {0}) c d joined) once;
+        near_said = said.0;
+        far_said = said.1;
+      }
+
+-- ---- what rest shows
+
+module _ (c d : Settings) (joined : AreJoined c d) (reads : ReadsSpelled) (laws : HealingLaws) where
+  pub arrives : (w : Stations) → Sound c d w → is_up w.near.station.phase ≡ true → IsAtRest w.near.station → HasArrived w.near w.far
+  arrives w h up rest =
+      let order = holds_order (Unit {0}) c d w (h.line, h.joint) in
+      let lists = holds_lists (Unit {0}) c d w (h.line, h.joint) in
+      let t = laws.rest.only_then w.near.station rest in
+      let all = rest_has_all w.near.station rest (near_up c d w h up).sound.sent_high t.3 in
+      let same = ap length (lists.0.given up) in
+      record { handed_up = order.0.idle rest.idle; acked = omega (arith, all, same); sent = omega (arith, all, same, t.3) }
+
+  pub shows_at_rest : (w : Stations) → Sound c d w → ShowsAtRest w.near w.far
+  shows_at_rest w h up stopped =
+      let rest : IsAtRest w.near.station =
+          record { idle = laws.rest.no_timer c.window w.near.station joined.near_low (near_up c d w h up).sound h.near_said up stopped; no_timer = stopped } in
+      (rest, arrives w h up rest)
+
+  -- ---- nothing comes where nothing is on the line
+
+  pub idle_near : (w : Stations) → w.back ≡ [] → acts c Deliver w ≡ w
+  idle_near w none = ap (λ (os : List (List ℕ)). delivered c os w) none
+
+  -- ---- a firing
+
+  -- T1 doesn't run: nothing changes
+  pub refused : (w : Stations) → timer_runs w.near.station.phase w.near.station ≡ false → acts c T1 w ≡ w
+  refused w stopped = rw stopped refl
+
+  fires_is : (w : Stations) → timer_runs w.near.station.phase w.near.station ≡ true → acts c T1 w ≡ after_step c w w.back [] (timer_step c w.near.station)
+  fires_is w running = rw running refl
+
+  not_noted : (w : Stations) (v : Stations) → acts c T1 w ≡ v → v.near.came_up ≡ false → (acts c T1 w).near.came_up ≡ false
+  not_noted w v is h = ap (λ (z : Stations). z.near.came_up) is ∙ h
+
+  pub fired : (w : Stations) → Sound c d w → IsDrained w → is_up w.near.station.phase ≡ true → is_busy w.near.station ≡ false → is_up w.far.station.phase ≡ true → is_busy w.far.station ≡ false
+      → timer_runs w.near.station.phase w.near.station ≡ true → w.near.station.tries < c.retries → Heals c d w.far.station.tries (IsAtRest w.far.station) (acts c T1 w)
+  fired w h drained up free far_on far_free running few =
+      subst (λ (z : Stations). Heals c d w.far.station.tries (IsAtRest w.far.station) z) (sym is) (
+        record {
+          sound = sound;
+          near_on = ap (λ (z : Station). is_up z.phase) asks.near ∙ up;
+          far_on = far_on;
+          near_free = ap is_busy asks.near ∙ free;
+          far_free = far_free;
+          far_tries = omega arith;
+          far_rest = λ was. was;
+        },
+        inl (record { number = wanted s; out = read_out; back = drained.back }),
+      )
+    where
+      s : Station
+      s = w.near.station
+
+      step : Step
+      step = timer_step c s
+
+      asks : Asks s step
+      asks = laws.answers.timer c s (up_is s.phase up) few
+
+      is : acts c T1 w ≡ after_step c w w.back [] step
+      is = fires_is w running
+
+      once : (acts c T1 w).near.came_up ≡ false
+      once = not_noted w (after_step c w w.back [] step) is (ap (λ (n : Notes). w.near.came_up || n.up) asks.quiet ∙ ap (λ (b : Bool). b || false) h.joint.near_notes.once)
+
+      sound : Sound c d (after_step c w w.back [] step)
+      sound = subst (Sound c d) is (record {
+        line = machine_acts c T1 w h.line;
+        joint = machine_joint (Unit {0}) c d joined reads laws.laws T1 w h.line (λ _. once) (λ _. tt) h.joint;
+        near_said = subst (λ (z : Stations). HasSaidAll c.window z.near.station) (sym is) (laws.rest.timer c s joined.near_high h.near_said.low);
+        far_said = subst (λ (z : Stations). HasSaidAll d.window z.far.station) (sym is) h.far_said;
+      })
+
+      poll : step.side.out ≡ rr true (wanted s) true ∷ []
+      poll = asks.out ∙ ap (λ (busy : Bool). says busy true (wanted s) true ∷ []) free
+
+      read_out : Reads (other d.role) d.longest (w.out ++ map (spelling_of c.role) step.side.out) (rr true (wanted s) true ∷ [])
+      read_out =
+          let given = (w.near.down ++ []) ++ w.far.down in
+          let whole : AreWhole d.longest given step.side.out = whole_behind d.longest given w.sent step.side.out sound.joint.whole in
+          subst (λ (es : List PlainFrame). Reads (other d.role) d.longest (w.out ++ map (spelling_of c.role) step.side.out) es) poll
+          (subst (λ (from : Role). Reads (other d.role) d.longest (w.out ++ map (spelling_of from) step.side.out) step.side.out) joined.near_role
+          (reads_more reads (other d.role) d.longest given w.out [] step.side.out (subst (λ (os : List (List ℕ)). Reads (other d.role) d.longest os []) (sym drained.out) tt) whole))
+
+  -- ---- deliveries
+
+  near_event : (most : ℕ) (Was : Type 0) (a : Act) (w : Stations) → IsDeliver a → Heals c d most Was w → Heals c d most Was (acts c a w)
+  near_event most Was (Put packet) w is h = absurd is
+  near_event most Was Deliver w is h = near_heals c d joined reads laws most Was w h
+  near_event most Was T1 w is h = absurd is
+  near_event most Was Connect w is h = absurd is
+  near_event most Was Disconnect w is h = absurd is
+  near_event most Was Abandon w is h = absurd is
+  near_event most Was (Lose i) w is h = absurd is
+  near_event most Was (Damage i octets) w is h = absurd is
+
+  far_event : (most : ℕ) (Was : Type 0) (a : Act) (w : Stations) → IsDeliver a → Heals c d most Was w → Heals c d most Was (swapped (acts d a (swapped w)))
+  far_event most Was (Put packet) w is h = absurd is
+  far_event most Was Deliver w is h = far_heals c d joined reads laws most Was w h
+  far_event most Was T1 w is h = absurd is
+  far_event most Was Connect w is h = absurd is
+  far_event most Was Disconnect w is h = absurd is
+  far_event most Was Abandon w is h = absurd is
+  far_event most Was (Lose i) w is h = absurd is
+  far_event most Was (Damage i octets) w is h = absurd is
+
+  heals_run : (most : ℕ) (Was : Type 0) (es : List Event) (w : Stations) → AreDeliveries es → Heals c d most Was w → Heals c d most Was (run c d es w)
+  heals_run most Was [] w are h = h
+  heals_run most Was (Near a ∷ es) w are h = heals_run most Was es (acts c a w) are.1 (near_event most Was a w are.0 h)
+  heals_run most Was (Far a ∷ es) w are h = heals_run most Was es (swapped (acts d a (swapped w))) are.1 (far_event most Was a w are.0 h)
+
+  idle_act : (a : Act) (w : Stations) → IsDeliver a → w.back ≡ [] → acts c a w ≡ w
+  idle_act (Put packet) w is none = absurd is
+  idle_act Deliver w is none = ap (λ (os : List (List ℕ)). delivered c os w) none
+  idle_act T1 w is none = absurd is
+  idle_act Connect w is none = absurd is
+  idle_act Disconnect w is none = absurd is
+  idle_act Abandon w is none = absurd is
+  idle_act (Lose i) w is none = absurd is
+  idle_act (Damage i octets) w is none = absurd is
+
+  far_idle_act : (a : Act) (w : Stations) → IsDeliver a → w.out ≡ [] → swapped (acts d a (swapped w)) ≡ w
+  far_idle_act (Put packet) w is none = absurd is
+  far_idle_act Deliver w is none = ap (λ (os : List (List ℕ)). swapped (delivered d os (swapped w))) none
+  far_idle_act T1 w is none = absurd is
+  far_idle_act Connect w is none = absurd is
+  far_idle_act Disconnect w is none = absurd is
+  far_idle_act Abandon w is none = absurd is
+  far_idle_act (Lose i) w is none = absurd is
+  far_idle_act (Damage i octets) w is none = absurd is
+
+  pub idle_run : (es : List Event) (w : Stations) → AreDeliveries es → IsDrained w → run c d es w ≡ w
+  idle_run [] w are drained = refl
+  idle_run (Near a ∷ es) w are drained = ap (run c d es) (idle_act a w are.0 drained.back) ∙ idle_run es w are.1 drained
+  idle_run (Far a ∷ es) w are drained = ap (run c d es) (far_idle_act a w are.0 drained.out) ∙ idle_run es w are.1 drained
+
+  -- ---- the end
+
+  one_frame : (f : PlainFrame) (fs : List PlainFrame) {A : Type 0} → f ∷ fs ≡ [] → A
+  one_frame f fs e = absurd (omega (arith, ap length e))
+
+  -- once nothing is on the line any more, the near end is at rest
+  settles : (most : ℕ) (Was : Type 0) (v : Stations) → Heals c d most Was v → IsDrained v → IsAtRest v.near.station
+  settles most Was v (b, inl h) drained = one_frame _ _ (reads_none (other d.role) d.longest v.out (rr true h.number true ∷ []) h.out drained.out)
+  settles most Was v (b, inr (inl h)) drained = one_frame _ _ (reads_none (other c.role) c.longest v.back (rr false h.number true ∷ h.behind) h.back drained.back)
+  settles most Was v (b, inr (inr h)) drained =
+      let r = length v.far.station.taken in
+      let o = v.near.station.outgoing in
+      let none = reads_none (other d.role) d.longest v.out h.there h.out drained.out in
+      let nothing_back = reads_none (other c.role) c.longest v.back h.behind h.back drained.back in
+      let ahead : r ≡ o.place = subst (λ (fs : List PlainFrame). Ahead r fs o.place) none h.ahead in
+      let reports : o.acked ≡ r = subst (λ (gs : List PlainFrame). Reports r o.acked gs) nothing_back h.reports in
+      laws.rest.all_heard c.window v.near.station joined.near_low (near_up c d v b.sound b.near_on).sound b.sound.near_said b.near_on h.recovery h.peer_busy (omega (arith, ahead, reports))
+
+  healed : (w v : Stations) → Heals c d w.far.station.tries (IsAtRest w.far.station) v → IsDrained v → OneHeals w v
+  healed w v h drained =
+      let b = h.0 in
+      let rest = settles w.far.station.tries (IsAtRest w.far.station) v h drained in
+      record {
+        near = record { rest = rest; arrived = arrives v b.sound b.near_on rest };
+        far_up = b.far_on;
+        far_free = b.far_free;
+        far_tries = b.far_tries;
+        far_rest = b.far_rest;
+        once = record { near = b.sound.joint.near_notes.once; far = b.sound.joint.far_notes.once };
+      }
+
+  -- the world after it is sound too, for what comes next
+  pub record Round (w v : Stations) : Type 0 where
+    pub heals : OneHeals w v
+    pub sound : Sound c d v
+    pub near_on : is_up v.near.station.phase ≡ true
+    pub near_free : is_busy v.near.station ≡ false
+
+  pub one_round : (w : Stations) → Sound c d w → IsDrained w → MayHeal c w.near → is_up w.far.station.phase ≡ true → is_busy w.far.station ≡ false
+      → (es : List Event) → AreDeliveries es → IsDrained (run c d es (acts c T1 w)) → Round w (run c d es (acts c T1 w))
+  one_round w h drained may far_on far_free es are after = by (timer_runs w.near.station.phase w.near.station) refl
+    where
+      by : (b : Bool) → timer_runs w.near.station.phase w.near.station ≡ b → Round w (run c d es (acts c T1 w))
+      by true running =
+          let k = heals_run w.far.station.tries (IsAtRest w.far.station) es (acts c T1 w) are (fired w h drained may.up may.free far_on far_free running (may.tries running)) in
+          record { heals = healed w (run c d es (acts c T1 w)) k after; sound = k.0.sound; near_on = k.0.near_on; near_free = k.0.near_free }
+      by false stopped =
+          let same : run c d es (acts c T1 w) ≡ w = ap (run c d es) (refused w stopped) ∙ idle_run es w are drained in
+          let shown = shows_at_rest w h may.up stopped in
+          subst (λ (v : Stations). Round w v) (sym same) (record {
+            heals = record {
+              near = record { rest = shown.0; arrived = shown.1 };
+              far_up = far_on;
+              far_free = far_free;
+              far_tries = omega arith;
+              far_rest = λ was. was;
+              once = record { near = h.joint.near_notes.once; far = h.joint.far_notes.once };
+            };
+            sound = h;
+            near_on = may.up;
+            near_free = may.free;
+          })
+
+  -- ---- no tries are left
+
+  pub ends : (w : Stations) → Sound c d w → IsDrained w → is_up w.near.station.phase ≡ true → timer_runs w.near.station.phase w.near.station ≡ true → c.retries ≤ w.near.station.tries
+      → (es : List Event) → AreDeliveries es → is_up (run c d es (acts c T1 w)).near.station.phase ≡ false
+  ends w h drained up running none es are =
+      let s = w.near.station in
+      let step : Step = timer_step c s in
+      let u = near_up c d w h up in
+      let over : nat_lt s.tries c.retries ≡ false = le-ltb _ _ none in
+      let follows = subst (λ (b : Bool). Follows (if b then None else Some Retries) c.window nothing s step) over (laws.laws.window.timer c s (record { up = up; sound = u.sound })) in
+      let v : Stations = after_step c w w.back [] step in
+      let is : acts c T1 w ≡ v = fires_is w running in
+      let out : v.out ≡ [] = ap (λ (fs : List PlainFrame). w.out ++ map (spelling_of c.role) fs) follows.frames ∙ ap (λ (os : List (List ℕ)). os ++ []) drained.out in
+      let same : run c d es (acts c T1 w) ≡ v = ap (run c d es) is ∙ idle_run es v are (record { out = out; back = drained.back }) in
+      ap (λ (z : Stations). is_up z.near.station.phase) same ∙ ap is_up follows.phase
+
+-- ---- the same with the ends swapped
+
+abbrev flip : Event → Event
+flip (Near a) = Far a
+flip (Far a) = Near a
+
+flip_delivery : (e : Event) → IsDelivery e → IsDelivery (flip e)
+flip_delivery (Near a) h = h
+flip_delivery (Far a) h = h
+
+flip_all : (es : List Event) → AreDeliveries es → AreDeliveries (map flip es)
+flip_all [] h = tt
+flip_all (e ∷ es) h = (flip_delivery e h.0, flip_all es h.1)
+
+flip_run : (c d : Settings) (es : List Event) (w : Stations) → swapped (run c d es w) ≡ run d c (map flip es) (swapped w)
+flip_run c d [] w = refl
+flip_run c d (Near a ∷ es) w = flip_run c d es (acts c a w)
+flip_run c d (Far a ∷ es) w = flip_run c d es (swapped (acts d a (swapped w)))
+
+-- ---- the laws
+
+module _ (reads : ReadsSpelled) (laws : HealingLaws) where
+  pub rest_shows : RestShows
+  rest_shows c d joined events once =
+      let w : Stations = run c d events start in
+      let sound = reached_sound laws reads c d joined events once in
+      (shows_at_rest c d joined reads laws w sound, shows_at_rest d c (joined_swapped c d joined) reads laws (swapped w) (sound_swapped c d joined w sound))
+
+  pub one_firing_heals : OneFiringHeals
+  one_firing_heals c d joined events quiet may far_on far_free es are after =
+      let w : Stations = run c d events start in
+      (one_round c d joined reads laws w (reached_sound laws reads c d joined events quiet.once) quiet.drained may far_on far_free es are after).heals
+
+  pub one_firing_ends : OneFiringEnds
+  one_firing_ends c d joined events quiet up running none es are =
+      let w : Stations = run c d events start in
+      ends c d joined reads laws w (reached_sound laws reads c d joined events quiet.once) quiet.drained up running none es are
+
+  -- a round of the far end
+  far_round : (c d : Settings) (joined : AreJoined c d) (w : Stations) → Sound c d w → IsDrained w → MayHeal d w.far → is_up w.near.station.phase ≡ true → is_busy w.near.station ≡ false
+      → (es : List Event) → AreDeliveries es → IsDrained (run c d es (swapped (acts d T1 (swapped w))))
+      → Round d c (joined_swapped c d joined) reads laws (swapped w) (swapped (run c d es (swapped (acts d T1 (swapped w)))))
+  far_round c d joined w h drained may near_on near_free es are after =
+      let v : Stations = swapped (acts d T1 (swapped w)) in
+      let same : swapped (run c d es v) ≡ run d c (map flip es) (acts d T1 (swapped w)) = flip_run c d es v in
+      let now : IsDrained (swapped (run c d es v)) = record { out = after.back; back = after.out } in
+      subst (λ (z : Stations). Round d c (joined_swapped c d joined) reads laws (swapped w) z) (sym same)
+      (one_round d c (joined_swapped c d joined) reads laws (swapped w) (sound_swapped c d joined w h) (record { out = drained.back; back = drained.out }) may near_on near_free (map flip es) (flip_all es are)
+      (subst IsDrained same now))
+
+  pub far_firing_heals : FarFiringHeals
+  far_firing_heals c d joined events quiet may near_on near_free es are after =
+      let w : Stations = run c d events start in
+      (far_round c d joined w (reached_sound laws reads c d joined events quiet.once) quiet.drained may near_on near_free es are after).heals
+
+  -- where T1 runs at the far end after the round of the near end, it ran before
+  still_may : (c d : Settings) → AreJoined c d → (w v : Stations) → Sound c d w → MayHeal d w.far → OneHeals w v → timer_runs v.far.station.phase v.far.station ≡ true → v.far.station.tries < d.retries
+  still_may c d joined w v h may heals running = by (timer_runs w.far.station.phase w.far.station) refl
+    where
+      by : (b : Bool) → timer_runs w.far.station.phase w.far.station ≡ b → v.far.station.tries < d.retries
+      by true ran = omega (arith, heals.far_tries, may.tries ran)
+      by false stopped =
+          let shown = shows_at_rest d c (joined_swapped c d joined) reads laws (swapped w) (sound_swapped c d joined w h) may.up stopped in
+          not_both (timer_runs v.far.station.phase v.far.station) running (heals.far_rest shown.0).no_timer
+
+  pub two_firings_heal : TwoFiringsHeal
+  two_firings_heal c d joined events quiet near_may far_may first first_are drained second second_are after =
+      let w : Stations = run c d events start in
+      let one = one_round c d joined reads laws w (reached_sound laws reads c d joined events quiet.once) quiet.drained near_may far_may.up far_may.free first first_are drained in
+      let v : Stations = run c d first (acts c T1 w) in
+      let u : Stations = run c d second (swapped (acts d T1 (swapped v))) in
+      let may : MayHeal d v.far = record { up = one.heals.far_up; free = one.heals.far_free; tries = still_may c d joined w v (reached_sound laws reads c d joined events quiet.once) far_may one.heals } in
+      let two = far_round c d joined v one.sound drained may one.near_on one.near_free second second_are after in
+      let rest = two.heals.far_rest one.heals.near.rest in
+      (record { rest = rest; arrived = arrives c d joined reads laws u (sound_swapped d c (joined_swapped c d joined) (swapped u) two.sound) two.heals.far_up rest }, two.heals.near)

@@ -1,0 +1,51 @@
+//! Healing: once the line is good for a moment, everything arrives. Laws of two link stations over a line, each the contract of a
+//! function that does nothing.
+ghost use Rattle.x25_line.specs.Healing.{RestShows, OneFiringHeals, FarFiringHeals, OneFiringEnds, TwoFiringsHeal};
+
+use x25_frame::reads_what_is_spelled;
+use x25_link::{
+    asks_and_answers, comes_to_rest, follows_the_window, notes_what_changes, sets_up_by_rows,
+};
+
+/// After each list of events, as long as the link isn't set up anew: an end that is Up and whose timer T1 doesn't run is at rest, and
+/// everything that it was handed down has been handed up at the other end. Whatever is on the line then changes nothing of this.
+pub fn rest_shows()
+    ensures { RestShows }
+{
+    follows_the_window();
+    sets_up_by_rows();
+    notes_what_changes();
+    comes_to_rest();
+    asks_and_answers();
+    reads_what_is_spelled();
+}
+
+/// From a moment in which nothing is on the line, both ends are Up and neither is busy: timer T1 runs out once at one end, and then
+/// all that is on the line comes, in any order of the two directions. That end is at rest, everything that it was handed down has been
+/// handed up at the other end, and that end is Up, and at rest if it was. So it is at either end, where T1 doesn't run or tries
+/// are left; with no tries left the end leaves Up.
+pub fn one_firing_heals()
+    ensures near { OneFiringHeals }
+    ensures far { FarFiringHeals }
+    ensures ends { OneFiringEnds }
+{
+    follows_the_window();
+    sets_up_by_rows();
+    notes_what_changes();
+    comes_to_rest();
+    asks_and_answers();
+    reads_what_is_spelled();
+}
+
+/// Deliver, fire once at each end, one after the other, and deliver each time: everything sent has arrived, in order, once, and both
+/// ends are at rest.
+pub fn two_firings_heal()
+    ensures { TwoFiringsHeal }
+{
+    follows_the_window();
+    sets_up_by_rows();
+    notes_what_changes();
+    comes_to_rest();
+    asks_and_answers();
+    reads_what_is_spelled();
+}
