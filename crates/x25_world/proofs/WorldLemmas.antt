@@ -229,6 +229,12 @@ pub goes_on_throughout : (Holds : Cfg → World → List Event → World → Typ
     → FitsRun cfg from v events gone → Leaves (λ (c : Cfg) (w : World). Holds c from events w) cfg from v events gone
 goes_on_throughout Holds v cfg from events gone law begins h = leaves (λ (c : Cfg) (w : World). Holds c from events w) v cfg from events gone h (law cfg h.settings from begins events h.octets)
 
+-- .. of one that was just made
+pub goes_on_from : (Holds : Cfg → World → List Event → World → Type 0) (begin : Cfg → World) (v : ShownWorld) (cfg : Cfg) (gone : Gone) → ThroughoutAlong Holds → IsBeginning cfg (begin cfg)
+    → FitsRun cfg (begin cfg) v [] gone → Leaves (λ (c : Cfg) (w : World). Holds c (begin c) [] w) cfg (begin cfg) v [] gone
+goes_on_from Holds begin v cfg gone law begins h =
+    leaves (λ (c : Cfg) (w : World). Holds c (begin c) [] w) v cfg (begin cfg) [] gone h (law cfg h.settings (begin cfg) begins [] h.octets)
+
 -- a world that was just made
 pub new_run : (cfg : Cfg) (from : World) (v : ShownWorld) → config_refusal cfg ≡ None → FitsWorld cfg v from nothing_gone → FitsRun cfg from v [] nothing_gone
 new_run cfg from v fine fits = record { settings = fine; octets = tt; accepted = tt; fits = fits }

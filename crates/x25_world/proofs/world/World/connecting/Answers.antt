@@ -1,6 +1,6 @@
 use Rattle.std.proofs.Common.{[], inl, inr, refl}
 use Rattle.std.proofs.lemmas.Result.{err_from_is_err_and}
-use Rattle.x25_world.proofs.WorldLemmas.{in_range, new_run, holds_after, connected_up, holds_throughout, goes_on_throughout, all_of_sessions, refused_later}
+use Rattle.x25_world.proofs.WorldLemmas.{in_range, new_run, holds_after, connected_up, holds_throughout, goes_on_from, all_of_sessions, refused_later}
 use Rattle.x25_world.specs.World.{connected}
 use Rattle.x25_world.specs.FitsWorld.{nothing_gone}
 use Rattle.x25_world.specs.Claims.{IsLawful, IsNamed, ArrivesAll, HasNoProcedureError}
@@ -35,4 +35,4 @@ returns-clause-sessions c =
 
 pub returns-clause-links : goal.returns-clause-links
 returns-clause-links c =
-    goes_on_throughout SessionsStayInWindow _ c.args.cfg (connected c.args.cfg) [] nothing_gone c.stations_meet_in_sessions.ensures.window (inr (inl refl)) (returns-clause-run c)
+    goes_on_from SessionsStayInWindow connected _ c.args.cfg nothing_gone c.stations_meet_in_sessions.ensures.window (inr (inl refl)) (returns-clause-run c)
