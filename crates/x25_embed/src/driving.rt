@@ -95,6 +95,23 @@ fn set_timer<T: Timer>(
     }
 }
 
+fn send_all<L: Line>(frames: &[Vec<u8>], line: &mut L) -> Result<(), AllocError> {
+    for frame in frames {
+        line.send(frame.as_slice())?;
+    }
+    Ok(())
+}
+
+// What waits in the circuits goes, so that no message is left there while nothing is on the line. Where the link isn't up, or a restart is
+// under way, that is refused, and nothing waits.
+fn send_what_waits<L: Line>(station: &mut Station, line: &mut L) -> Result<(), Trouble> {
+    match station.pull() {
+        Ok(step) => Ok(send_all(step.frames.as_slice(), line)?),
+        Err(StationError::NoMemory) => Err(Trouble::NoMemory),
+        Err(_) => Ok(()),
+    }
+}
+
 /// Gives an event to a station. What it answers goes on: frames to the line, notices to the user, and timer T1 is set.
 pub(crate) fn drive<L: Line, T: Timer, U: User>(
     station: &mut Station,
@@ -114,9 +131,8 @@ pub(crate) fn drive<L: Line, T: Timer, U: User>(
     for entry in step.entries.as_slice() {
         user.notice(entry)?;
     }
-    for frame in step.frames.as_slice() {
-        line.send(frame.as_slice())?;
-    }
+    send_all(step.frames.as_slice(), line)?;
+    send_what_waits(station, line)?;
     set_timer(
         before,
         station,

@@ -85,10 +85,6 @@ pub refused_exactly_did : (T U : Type 0) (e : LayerError) (found : StationError)
 refused_exactly_did T U e found c s z entries (Went p) named is layer = is ∙ ap of_layer layer
 refused_exactly_did T U e found c s z entries (Refuses x) named is layer = ap (λ y. Err y) (is ∙ ap of_layer (err_is T LayerError e x layer) ∙ named)
 
-pub exactly_is : {T : Type 0} (result : Result T StationError) (o : Outcome) → station.RefusesExactly result o → station.Refuses result o
-exactly_is {T} result (Did step) h = h
-exactly_is {T} result (Refused e) h = subst (λ (r : Result T StationError). station.Refuses r (Refused e)) (sym h) (inl refl)
-
 pub accepted_is : (r : code_step.Step) (o : Outcome) → (let x : Result code_step.Step StationError = Ok r in station.RefusesExactly x o) → (let x : Result code_step.Step StationError = Ok r in station.Refuses x o)
 accepted_is r (Did step) h = tt
 accepted_is r (Refused e) h = absurd (ok_err r e h)

@@ -1,4 +1,4 @@
-use Rattle.std.proofs.Common.{arith, ◌≤◌, length, [], ap, map, ◌≡◌}
+use Rattle.std.proofs.Common.{arith, ◌≤◌, length, ap, map, ◌≡◌}
 use Rattle.x25_layer.specs.Calls.{PullsAll}
 use Rattle.x25_station.specs.declared.step.Step as code_step
 use Rattle.x25_station.specs.Command.{Requests}
