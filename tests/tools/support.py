@@ -73,6 +73,12 @@ def read(*path):
         return file.read()
 
 
+def names_of_edit(file):
+    """What a document may call a wrong body FILE.FUNCTION.WHAT.edit: WHAT, with FUNCTION or FILE or both before it, joined by lines below."""
+    source, function, what = os.path.basename(file).removesuffix(".edit").split(".")
+    return {what, f"{function}_{what}", f"{source}_{what}", f"{source}_{function}_{what}"}
+
+
 class ToolCase(unittest.TestCase):
     """A test that runs scripts, with a folder for its files."""
 

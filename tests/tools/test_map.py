@@ -4,6 +4,7 @@ The map names nothing that isn't there, and leaves out no source, no definition 
 of a walk is a function of the file that it names.
 """
 
+import fnmatch
 import os
 import re
 import unittest
@@ -40,7 +41,7 @@ def stands_for(crate, place, word):
     if word.endswith("/"):
         return glob(os.path.join(CRATES, crate, word))
     if place == WRONG_BODIES:
-        return glob(os.path.join(CRATES, crate, "*", f"{word}.edit"))
+        return [edit for edit in glob(os.path.join(CRATES, crate, "*", "*.edit")) if fnmatch.filter(support.names_of_edit(edit), word)]
     if word.endswith(".rt"):
         return glob(os.path.join(CRATES, crate, "src", "**", word.rpartition("src/")[2]), recursive=True)
     if "/" in word:
