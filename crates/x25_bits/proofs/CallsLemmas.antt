@@ -1,5 +1,5 @@
 -- Calls that read bits one after another find together what all of these bits do.
-use Rattle.std.proofs.Common.{ℕ, ◌+◌, ◌-◌, ◌≤◌, ◌≡◌, ◌∙◌, Bool, List, [], ◌∷◌, ◌++◌, length, take, drop, refl, ap, sym, arith, append_assoc}
+use Rattle.std.proofs.Common.{ℕ, ◌+◌, ◌-◌, ◌≤◌, ◌≡◌, ◌∙◌, Bool, List, [], ◌∷◌, ◌++◌, length, drop, ap, sym, arith, append_assoc}
 use Rattle.std.specs.List.{flat_map}
 use Rattle.std.proofs.lemmas.List.{append-nil, drop_all, drop-drop, take-append-drop}
 use Rattle.x25_bits.specs.Calls.{Call, ReadToEnd, after_calls}

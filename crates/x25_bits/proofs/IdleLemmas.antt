@@ -1,5 +1,5 @@
 -- An idle line: an octet of it leaves all as it is.
-use Rattle.std.proofs.Common.{ℕ, zero, suc, ◌+◌, ◌-◌, ◌*◌, ◌/◌, ◌^◌, ◌%◌, ◌<◌, ◌≤◌, ◌≡◌, ◌∙◌, Bool, true, false, ◌==◌, min, List, [], ◌∷◌, ◌++◌, length, take, drop, get_or, refl, ap, sym, arith}
+use Rattle.std.proofs.Common.{ℕ, zero, suc, ◌+◌, ◌-◌, ◌*◌, ◌^◌, ◌%◌, ◌<◌, ◌≤◌, ◌≡◌, ◌∙◌, Bool, true, false, ◌==◌, min, List, [], ◌∷◌, ◌++◌, length, take, drop, get_or, refl, ap, sym, arith}
 use Rattle.std.specs.Prelude.{slice_index_or, Option, Some, None, IfSome}
 use Rattle.std.proofs.lemmas.Nat.{one_shl, pow_pos}
 use Rattle.std.proofs.lemmas.Bool.{eqb-true}
@@ -9,7 +9,6 @@ use Rattle.x25_bits.specs.Fcs.{bits_of, low_bits}
 use Rattle.x25_bits.specs.FitsSeen.{FitsSeen}
 use Rattle.x25_bits.specs.Held.{Seen, seen_from, found_from, closing, kept_found}
 use Rattle.x25_bits.specs.Reading.{part}
-use Rattle.x25_bits.specs.SpanClass.{Class}
 use Rattle.x25_bits.specs.declared.deframer.Deframer.{Deframer}
 use Rattle.x25_bits.proofs.FcsLemmas.{length-low_bits, low_bits-mod}
 use Rattle.x25_bits.proofs.FeedLemmas.{found-append}

@@ -25,8 +25,8 @@ pub use found::{Found, Span};
 pub use frame_check::{check, fcs, seal};
 pub use harmless_bits::{first_content, harmless};
 pub use laws::{
-    calls_find_all, content_stuffs_again, cuts_agree, flag_parts, harmless_bits_lose_a_frame, put_is_found,
-    sealed_is_tested, stuffing_is_undone,
+    calls_find_all, content_stuffs_again, cuts_agree, flag_parts, harmless_bits_lose_a_frame,
+    put_is_found, sealed_is_tested, stuffing_is_undone,
 };
 pub use line_octets::put_octets;
 pub use no_memory::NoMemory;

@@ -1,4 +1,4 @@
-use Rattle.std.proofs.Common.{◌≡◌, ◌∙◌, ◌++◌, ◌<◌, ◌≤◌, length, ap, sym, subst, refl, arith, append_assoc}
+use Rattle.std.proofs.Common.{◌∙◌, ◌++◌, ◌<◌, ◌≤◌, length, ap, sym, subst, refl, arith, append_assoc}
 use Rattle.std.proofs.lemmas.List.{append-nil}
 use Rattle.x25_bits.specs.FitsSeen.{FitsSeen}
 use Rattle.x25_bits.specs.Held.{seen_from, found_from, seen_found}

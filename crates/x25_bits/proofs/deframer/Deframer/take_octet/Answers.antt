@@ -1,7 +1,3 @@
-use Rattle.std.proofs.Common.{◌≡◌, ◌%◌, ◌/◌, subst, sym}
-use Rattle.x25_bits.specs.Fcs.{low_bits}
-use Rattle.x25_bits.specs.FitsSeen.{FitsSeen}
-use Rattle.x25_bits.specs.Plain.{plains}
 use Rattle.x25_bits.proofs.LeadsLemmas.{both_fit, both_found}
 use Rattle.x25_bits.proofs.PassingLemmas.{octet_halves}
 use Rattle.x25_bits.proofs.deframer.Deframer.take_octet.Goals as goal

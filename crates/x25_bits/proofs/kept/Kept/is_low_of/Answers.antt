@@ -1,4 +1,4 @@
-use Rattle.std.proofs.Common.{ℕ, ◌*◌, ◌^◌, ◌%◌, refl, sym, ◌≤◌, ◌<◌, ◌≡◌, ◌∙◌, List, [], length, ap, arith}
+use Rattle.std.proofs.Common.{◌*◌, ◌^◌, ◌%◌, refl, sym, ◌<◌, ◌≡◌, length, ap, arith}
 use Rattle.x25_bits.specs.Keeping.{Keeping}
 use Rattle.x25_bits.proofs.IdleLemmas.{low_none, low_kept, weight_some}
 use Rattle.x25_bits.proofs.KeepingLemmas.{count_of}
