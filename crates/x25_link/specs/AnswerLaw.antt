@@ -1,7 +1,7 @@
 -- What a station asks when timer T1 runs out, and how each numbered frame is answered: a poll by F=1 first, F=1 by what isn't
 -- acknowledged from the first on, and the I frame that is wanted by a frame with the new N(R). ITU-T X.25 (10/96), sections 2.4.5
 -- and 2.4.6.
-use Rattle.std.specs.Prelude.{◌≡◌, ℕ, ◌+◌, ◌%◌, ◌<◌, max, ◌==◌, Bool, true, false, not, if◌then◌else◌, List, [], ◌∷◌, ◌++◌, length, Some, None, Ok}
+use Rattle.std.specs.Prelude.{◌≡◌, ℕ, ◌+◌, ◌-◌, ◌*◌, ◌%◌, ◌<◌, ◌≤◌, max, ◌==◌, Bool, true, false, not, if◌then◌else◌, List, [], ◌∷◌, ◌++◌, length, Some, None, Ok}
 use Rattle.x25_frame.specs.PlainFrame.{PlainFrame, info, rr, rnr, rej, dm}
 use Rattle.x25_frame.specs.Reading.{frame_of}
 use Rattle.x25_window.specs.Modulo.{resolved}
@@ -23,11 +23,23 @@ AreNext r n (info ns nr p packet ∷ frames) m = (ns ≡ n % 8) × (nr ≡ r % 8
 AreNext r n (rr command nr pf ∷ frames) m = (command ≡ false) × (nr ≡ r % 8) × (pf ≡ false) × AreNext r n frames m
 AreNext r n (frame ∷ frames) m = ⊥
 
+-- What such frames weigh, an I frame 3 and any other 1, so that a packet that is still to be sent, at 4, outweighs its frame; and an RNR that is still to be
+-- ended.
+abbrev pub weight_of : List PlainFrame → ℕ
+weight_of [] = 0
+weight_of (info ns nr p packet ∷ frames) = 3 + weight_of frames
+weight_of (frame ∷ frames) = 1 + weight_of frames
+
+abbrev pub weight_if : Bool → ℕ
+weight_if true = 1
+weight_if false = 0
+
 -- What a step makes of a station: `recovery`, `peer_busy` and the tries; the packets handed up; all below `acked` are acknowledged; `first`
--- is sent, and then the I frames from `place` on.
+-- is sent, by which RNR was said last or not (`said_busy`), and then the I frames from `place` on, none in recovery, and RR only to end an RNR.
 pub record Outcome : Type 0 where
   pub recovery : Bool
   pub peer_busy : Bool
+  pub said_busy : Bool
   pub tries : ℕ
   pub taken : List (List ℕ)
   pub acked : ℕ
@@ -45,6 +57,8 @@ pub record Answers (s : Station) (o : Outcome) (step : Step) : Type 0 where
   pub next : List PlainFrame
   pub out : step.side.out ≡ o.first ++ next
   pub sends : AreNext (length o.taken) o.place next step.side.near.outgoing.place
+  pub held : o.recovery ≡ true → step.side.near.outgoing.place ≡ o.place
+  pub light : weight_of next + 4 * (length s.outgoing.given - step.side.near.outgoing.place) + weight_if step.side.near.said_busy ≤ 4 * (length s.outgoing.given - o.place) + weight_if o.said_busy
   pub quiet : step.notes ≡ record { down = None; up = false }
 
 -- ---- timer T1 (section 2.4.5.9)
@@ -73,6 +87,7 @@ abbrev pub goes_on_from : ℕ → Station → Outcome
 goes_on_from nr s = record {
   recovery = s.recovery;
   peer_busy = s.peer_busy;
+  said_busy = s.said_busy;
   tries = heard_tries nr s;
   taken = s.taken;
   acked = heard nr s;
@@ -87,7 +102,7 @@ Hears nr frame Then = (c : Settings) (octets : List ℕ) (s : Station) → s.pha
 -- A poll: the first answer is RR or RNR with F=1 and V(R) (section 2.4.5.9).
 abbrev pub PollIsAnswered : Type 0
 PollIsAnswered = (busy : Bool) (nr : ℕ) → Hears nr (says busy true nr true)
-    (λ s step. Answers s (record (goes_on_from nr s) { peer_busy = busy; first = says (is_busy s) false (wanted s) true ∷ [] }) step)
+    (λ s step. Answers s (record (goes_on_from nr s) { peer_busy = busy; said_busy = is_busy s; first = says (is_busy s) false (wanted s) true ∷ [] }) step)
 
 -- F=1 ends recovery, and what isn't acknowledged goes again, from the first on (section 2.4.5.9).
 abbrev pub FinalEndsRecovery : Type 0
@@ -111,11 +126,23 @@ pub record IsTakenUp (s : Station) (x : List ℕ) (o : Outcome) (step : Step) : 
   pub rejecting : step.side.near.rejecting ≡ false
   pub speaks : step.side.out ≡ [] → ⊥
 
+-- with P=1 it is answered by RR with F=1, with P=0 by an I frame that goes, or by RR where none may
+abbrev pub confirms : Bool → Bool → ℕ → List PlainFrame
+confirms goes true r = rr false (r % 8) true ∷ []
+confirms true false r = []
+confirms false false r = rr false (r % 8) false ∷ []
+
+abbrev pub once_taken : Bool → ℕ → Bool → List ℕ → Station → Outcome
+once_taken goes nr p packet s = record (goes_on_from nr s) {
+  said_busy = if p then false else if goes then s.said_busy else false;
+  taken = s.taken ++ packet ∷ [];
+  first = confirms goes p (length (s.taken ++ packet ∷ []));
+}
+
 -- the I frame that is wanted, while the station isn't busy (section 2.4.5.2)
 abbrev pub WantedIsTaken : Type 0
 WantedIsTaken = (ns nr : ℕ) (p : Bool) (packet : List ℕ) → Hears nr (info ns nr p packet)
-    (λ s step. is_taken ns s ≡ true → IsTakenUp s packet
-    (record (goes_on_from nr s) { taken = s.taken ++ packet ∷ []; first = if p then rr false (length (s.taken ++ packet ∷ []) % 8) true ∷ [] else [] }) step)
+    (λ s step. is_taken ns s ≡ true → (goes : Bool) × IsTakenUp s packet (once_taken goes nr p packet s) step)
 
 -- how any other is answered (sections 2.4.5.4 and 2.4.5.8)
 abbrev pub passed_over : Bool → Station → List PlainFrame
@@ -125,9 +152,12 @@ passed_over p s =
     else if p then rr false (wanted s) true ∷ []
     else []
 
+abbrev pub busy_after : Bool → Station → Bool
+busy_after p s = if is_busy s then true else if not s.rejecting then s.said_busy else if p then false else s.said_busy
+
 abbrev pub OtherIsPassedOver : Type 0
 OtherIsPassedOver = (ns nr : ℕ) (p : Bool) (packet : List ℕ) → Hears nr (info ns nr p packet)
-    (λ s step. is_taken ns s ≡ false → Answers s (record (goes_on_from nr s) { first = passed_over p s }) step)
+    (λ s step. is_taken ns s ≡ false → Answers s (record (goes_on_from nr s) { said_busy = busy_after p s; first = passed_over p s }) step)
 
 -- ---- stations that are out
 
