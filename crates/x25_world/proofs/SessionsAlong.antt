@@ -23,7 +23,7 @@ use Rattle.x25_station.specs.KeepLaw.{ConnectKeeps}
 use Rattle.x25_world.specs.World.{World, Event, happens, after, run}
 use Rattle.x25_world.specs.Claims.{AreInOctets, link_of}
 use Rattle.x25_world.specs.WindowGoes.{all_at}
-use Rattle.x25_world.specs.SessionWindow.{IsRunOfSessions, StandsInWindow, SessionsGoAlong, SessionsStayInWindow}
+use Rattle.x25_world.specs.SessionWindow.{StandsInWindow, SessionsGoAlong, SessionsStayInWindow}
 use Rattle.x25_world.specs.SessionClaims.{ThroughoutAlong}
 use Rattle.x25_world.proofs.Known.{IsConfigured, is_configured}
 use Rattle.x25_world.proofs.OneLink.{octets_append, octets_sent, octets_removed, octets_replaced}
