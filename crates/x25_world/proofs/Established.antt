@@ -6,14 +6,12 @@ use Rattle.x25_frame.specs.PlainFrame.{PlainFrame, sabm, ua}
 use Rattle.x25_frame.specs.Spelling.{spelling_of}
 use Rattle.x25_frame.specs.Reading.{frame_of}
 use Rattle.x25_packet.specs.PlainPacket.{restart}
-use Rattle.x25_packet.specs.Spelling as packet
 use Rattle.x25_link.specs.declared.phase.Phase.TheVariants.{Down, Waiting}
 use Rattle.x25_link.specs.declared.phase.Reason.{Reason}
 use Rattle.x25_link.specs.SetUp.{Is}
 use Rattle.x25_link.specs.Station.{Station as LinkStation, with_nothing, fresh, is_up, pumped}
 use Rattle.x25_link.specs.MustSend.{Step as LinkStep}
 use Rattle.x25_link.specs.Steps.{take_step, put_step}
-use Rattle.x25_line.specs.Stations as line
 use Rattle.x25_layer.specs.Layer.{at_rest, goes_up, restart_cause}
 use Rattle.x25_station.specs.declared.config.Cfg.{Cfg}
 use Rattle.x25_station.specs.Settings.{settings_from, longest_packet}

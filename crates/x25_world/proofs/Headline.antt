@@ -1,18 +1,13 @@
 -- After each list of events by which the link isn't set up anew the claims hold, as they do on its sessions.
-use Rattle.std.proofs.Common.{◌≡◌, List, true, false, None}
-use Rattle.x25_bits.specs.declared.role.Role.TheVariants.{Dte}
+use Rattle.std.proofs.Common.{false}
 use Rattle.x25_line.specs.StationClaims.{OneLinkUnlessConnected}
 use Rattle.x25_line.specs.WholeNumbers.{MachineGoesAlong, OnceStaysOnce}
-use Rattle.x25_station.specs.declared.config.Cfg.{Cfg}
-use Rattle.x25_station.specs.Settings.{config_refusal}
 use Rattle.x25_station.specs.KeepLaw.{ConnectKeeps}
-use Rattle.x25_world.specs.World.{Event, run, established}
-use Rattle.x25_world.specs.Claims.{Always, UntilSecondUp, AreInOctets, UpOnceUnlessConnected, IsSetUp, IsLawful, IsNamed, ArrivesAll, HasNoProcedureError}
+use Rattle.x25_world.specs.World.{run, established}
+use Rattle.x25_world.specs.Claims.{Always, UntilSecondUp, UpOnceUnlessConnected, IsSetUp, IsLawful, IsNamed, ArrivesAll, HasNoProcedureError}
 use Rattle.x25_world.specs.WindowGoes.{StaysInWindow}
 use Rattle.x25_world.proofs.Known.{is_configured}
 use Rattle.x25_world.proofs.Established.{set_up_accepted}
-use Rattle.x25_world.proofs.SessionReaches.{set_up}
-use Rattle.x25_world.proofs.SessionJoined.{SessionsJoined}
 use Rattle.x25_world.proofs.SessionKnown.{SessionLaws}
 use Rattle.x25_world.proofs.SessionRuns.{set_up_throughout, throughout_joined}
 use Rattle.x25_world.proofs.SessionQuiet.{has_no_error}

@@ -19,11 +19,12 @@ use Rattle.x25_line.specs.Sessions.{Meeting, Sessions, from_nothing, sabm_in, ua
 use Rattle.x25_line.specs.SessionClaims.{octets_of}
 use Rattle.x25_line.specs.SessionNumbers.{Standing, standing_happens, standing_run, standing_at, EachUpStandsWith, StandingGoesAlong}
 use Rattle.x25_station.specs.declared.config.Cfg.{Cfg}
+use Rattle.x25_station.specs.Settings.{config_refusal}
 use Rattle.x25_station.specs.KeepLaw.{ConnectKeeps}
 use Rattle.x25_world.specs.World.{World, Event, happens, after, run}
-use Rattle.x25_world.specs.Claims.{AreInOctets, link_of}
+use Rattle.x25_world.specs.Claims.{AreInOctets, IsBeginning, link_of}
 use Rattle.x25_world.specs.WindowGoes.{all_at}
-use Rattle.x25_world.specs.SessionWindow.{IsRunOfSessions, StandsInWindow, SessionsGoAlong, SessionsStayInWindow}
+use Rattle.x25_world.specs.SessionWindow.{StandsInWindow, SessionsGoAlong, SessionsStayInWindow}
 use Rattle.x25_world.specs.SessionClaims.{ThroughoutAlong}
 use Rattle.x25_world.proofs.Known.{IsConfigured, is_configured}
 use Rattle.x25_world.proofs.OneLink.{octets_append, octets_sent, octets_removed, octets_replaced}
@@ -245,15 +246,19 @@ module _ (laws : SessionLaws) (law : StandingGoesAlong) (cfg : Cfg) (fine : IsCo
         along here events (after w (happens cfg w e)) n.joined octets.1 is (links.run c d (all_at e.at n.asked) v) (standing_run c d (all_at e.at n.asked) v s) (stand_next w h e n v s st),
       )
 
+any_goes_on : (laws : SessionLaws) → ConnectKeeps → StandingGoesAlong → (cfg : Cfg) → config_refusal cfg ≡ None → (begin : World) → IsBeginning cfg begin → (past more : List Event) → AreInOctets (past ++ more)
+    → (v : Sessions) (s : Standing) → StandsInWindow cfg (run cfg past begin) v s → SessionsGoAlong cfg (run cfg (past ++ more) begin) more (run cfg past begin) v s
+any_goes_on laws keeps law cfg fine begin is past more octets v s st =
+    along laws law cfg (is_configured cfg fine) (run cfg (past ++ more) begin) more (run cfg past begin) (throughout_joined laws keeps cfg fine begin is past (octets_before past more octets))
+    (octets_behind past more octets) (sym (world_append cfg past more begin)) v s st
+
 pub sessions_stay : (laws : SessionLaws) → ConnectKeeps → StandingGoesAlong → ThroughoutAlong SessionsStayInWindow
 sessions_stay laws keeps law cfg fine begin is events octets =
-    let configured = is_configured cfg fine in
-    let h = begin_joined laws keeps cfg configured begin is in
+    let h = begin_joined laws keeps cfg (is_configured cfg fine) begin is in
+    let first : Standing = standing_at (link_of cfg Dte) (link_of cfg Dce) from_nothing in
     record {
-      begins = (h.links, standing_run (link_of cfg Dte) (link_of cfg Dce) h.reach.events from_nothing (standing_at (link_of cfg Dte) (link_of cfg Dce) from_nothing), some_stand laws law cfg configured begin h);
-      goes_on = λ past more all v s st. (
-        let both = subst AreInOctets (sym all) octets in
-        along laws law cfg configured (run cfg events begin) more (run cfg past begin) (throughout_joined laws keeps cfg fine begin is past (octets_before past more both)) (octets_behind past more both)
-        (sym (world_append cfg past more begin) ∙ ap (λ (es : List Event). run cfg es begin) all) v s st
-      );
+      begins = (h.links, standing_run (link_of cfg Dte) (link_of cfg Dce) h.reach.events from_nothing first, some_stand laws law cfg (is_configured cfg fine) begin h);
+      goes_on = λ past more all v s st.
+          subst (λ (es : List Event). SessionsGoAlong cfg (run cfg es begin) more (run cfg past begin) v s) all
+          (any_goes_on laws keeps law cfg fine begin is past more (subst AreInOctets (sym all) octets) v s st);
     }
