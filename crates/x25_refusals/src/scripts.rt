@@ -39,6 +39,13 @@ const ONE_TRY: Cfg = Cfg {
     long_data: false,
 };
 
+const WINDOW_OF_ONE: Cfg = Cfg {
+    k: 1,
+    n2: 10,
+    channels: 1,
+    long_data: false,
+};
+
 const CONNECTS: Act = Do(Command(Dte, Cmd::Connect));
 
 const DISCONNECTS: Act = Do(Command(Dte, Cmd::Disconnect));
@@ -124,6 +131,10 @@ const DCE_INTERRUPTS: Act = Do(Command(
     },
 ));
 
+const PULLS: Act = Do(Command(Dte, Cmd::Pull));
+
+const IS_READY: Act = Do(Command(Dte, Cmd::Ready { channel: 1 }));
+
 const DCE_IS_READY: Act = Do(Command(Dce, Cmd::Ready { channel: 1 }));
 
 const DCE_IS_NOT_READY: Act = Do(Command(Dce, Cmd::NotReady { channel: 1 }));
@@ -137,7 +148,7 @@ const COMES: Act = Do(Deliver(ToDce));
 const COMES_BACK: Act = Do(Deliver(ToDte));
 
 /// Played at two stations, and at a world.
-pub(crate) static SCRIPTS: [Script; 9] = [
+pub(crate) static SCRIPTS: [Script; 10] = [
     Script {
         name: "a call, and two messages",
         cfg: USUAL,
@@ -236,6 +247,14 @@ pub(crate) static SCRIPTS: [Script; 9] = [
             Drain,
             DCE_IS_READY,
             Drain,
+        ],
+    },
+    Script {
+        name: "a message that waits behind nine packets, and is pulled",
+        cfg: WINDOW_OF_ONE,
+        acts: &[
+            CONNECTS, Drain, CALLS, Drain, ACCEPTS, Drain, IS_READY, IS_READY, IS_READY, IS_READY,
+            IS_READY, IS_READY, IS_READY, IS_READY, IS_READY, Send(Dte, b"a"), Drain, PULLS, Drain,
         ],
     },
     Script {

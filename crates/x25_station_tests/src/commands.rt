@@ -63,7 +63,7 @@ const DATA: [Row; 10] = [
     (Ask(CALL), &["! 41"]),
 ];
 
-const RESET_CLEAR_AND_RESTART: [Row; 15] = [
+const RESET_CLEAR_AND_RESTART: [Row; 16] = [
     (Ask(ON_CHANNEL_2), &["! 42"]),
     (Ask(Cmd::Clear { channel: 0 }), &["! 42"]),
     (Ask(Cmd::Accept { channel: 1 }), &["! 30"]),
@@ -99,6 +99,7 @@ const RESET_CLEAR_AND_RESTART: [Row; 15] = [
         &["dte restart", "I cmd P=0 S=4 R=4 | RESTART cause=0 diag=0"],
     ),
     (Ask(ON_CHANNEL_2), &["! 40"]),
+    (Ask(Cmd::Pull), &["! 40"]),
     (Hear(4, 5, "1000ff"), &["dte restartdone", "RR rsp F=0 R=5"]),
 ];
 
@@ -118,10 +119,11 @@ const MESSAGES_THAT_WAIT: [Row; 5] = [
 ];
 
 // Seven packets are sent and 256 wait.
-const FULL_QUEUE: [Row; 7] = [
+const FULL_QUEUE: [Row; 8] = [
     (AskMany(263, Cmd::Ready { channel: 1 }), &["dte ready ch=1"]),
     (Ask(Cmd::Ready { channel: 1 }), &["! 10"]),
     (Ask(Cmd::Restart), &["! 10"]),
+    (Ask(Cmd::Pull), &[]),
     (Ask(ON_CHANNEL_2), &["! 42"]),
     (Ask(CALL), &["! 41"]),
     (Ask(SEND), &["dte send ch=1 at 1.0.0 q=0 data=6869"]),

@@ -29,11 +29,12 @@ fn a_setting_out_of_its_range(rt: HostRuntime) {
     }
 }
 
-const NO_ANSWER: [Row; 13] = [
+const NO_ANSWER: [Row; 14] = [
     (Idle, &["not idle"]),
     (Timer, &["T1 is off", "0"]),
     (Stretch(1), &["-"]),
     (Ask(Cmd::Restart), &["! 9"]),
+    (Ask(Cmd::Pull), &["! 9"]),
     (T1, &["! 11"]),
     (Connect, &["SABM cmd P=1"]),
     (Timer, &["T1 runs", "0"]),
