@@ -18,9 +18,9 @@ returns-in-Ok-command-clause-turns g c = λ k old s told refused h.
     (c.follow_up.ensures.stood k old s event (outcome k s event) told refused (c.of-before.ensures k s h.fits) refl
     (record { leaves = came.state k s h.fits; sends = came.frames k s h.fits; enters = came.entries k s h.fits; accepted = came.refused k s h.fits }) h.role h.tells h.status)
 
-pub returns-clause-turns : goal.returns-clause-turns
+pub returns-in-Err-clause-turns : goal.returns-in-Err-clause-turns
 unfolding event_turn
-returns-clause-turns g c = λ k old s told refused h.
+returns-in-Err-clause-turns g c = λ k old s told refused h.
     let event = Asks (command_of c.station_command.result) in
     subst (λ asked. Stood k old (g.W.Sink.contents c.refuse.new.writer) c.refuse.new.self told refused c.refuse.result (event_turn k s (Asks asked))) c.station_command.ensures
     (c.refuse.ensures.stood k old s event (outcome k s event) told refused
