@@ -3,7 +3,7 @@
     judge_runs.py [--program PROGRAM] [--from SEED] [RUNS]
 
 Each run is a script of losses.py with its own losses, damage, early firings of T1, window and N2, some of them from both links down
-and with set-ups anew in their midst; what `sim --tap` puts on the line goes through `judge`. `make judge-runs` plays 10,000.
+and with set-ups anew in their midst, and most with more calls, resets and restarts and with packet sizes and windows; what `sim --tap` puts on the line goes through `judge`. `make judge-runs` plays 10,000.
 
 Exit status: 0; 1 where a rule was told, with the seed of that run; 2 for bad words, or where there is no program.
 """
@@ -35,6 +35,33 @@ def with_set_ups(dice, lines):
         yield line
 
 
+def with_calls(dice, lines, channels):
+    """Some of the lines, and between them calls with packet sizes and windows of their own, and what collides with them."""
+    for line in lines:
+        if dice.chance(0.08):
+            end, channel = dice.one_of(losses.ENDS), 1 + dice.below(channels)
+            yield dice.one_of(
+                (
+                    f"{end} call 1 2 - {sizes(dice)}",
+                    f"{end} accept {channel} {sizes(dice)}",
+                    f"{end} accept {channel}",
+                    f"{end} clear {channel}",
+                    f"{end} reset {channel}",
+                    f"{end} int {channel} 01",
+                    f"{end} restart",
+                    f"{end} send {channel} 0 {'bb' * 300}",
+                )
+            )
+            if dice.chance(0.3):
+                yield from [f"deliver {dice.one_of(losses.DIRECTIONS)}"] * dice.below(3)
+        yield line
+
+
+def sizes(dice):
+    """Packet sizes and windows of a call or of its acceptance."""
+    return f"{4 + dice.below(5)} {4 + dice.below(5)} {1 + dice.below(7)} {1 + dice.below(7)}"
+
+
 def run(seed):
     """The words of `sim`, the words of `judge` and the script of a run."""
     dice = losses.Dice(seed)
@@ -42,6 +69,8 @@ def run(seed):
     most = dice.one_of((0.1, 0.25, 0.5, 1))
     script = losses.Script(dice, channels, MOST_LOSS * most * dice.fraction(), MOST_DAMAGE * most * dice.fraction(), MOST_T1 * most * dice.fraction())
     lines = list(with_set_ups(dice, script.lines(LINES)) if dice.chance(0.5) else script.lines(LINES))
+    if dice.chance(0.7):
+        lines = list(with_calls(dice, lines, channels))
     window = str(dice.one_of((7, 7, 7, 1, 2, 3, 4, 5, 6)))
     words = ["--tap", "--k", window, "--n2", str(dice.one_of((1, 2, 3, 10))), "--channels", str(channels)]
     if dice.chance(0.3):

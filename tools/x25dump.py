@@ -15,7 +15,7 @@ aren't shown, their packets are.
   --messages  shows what the ends' users sent: data packets joined by M, and interrupts, as hexadecimal digits and text. Each comes
               once, though its frame be repeated
   --stats     writes at the end how many frames, packets and octets of data went each way, and how many I frames came out of order or again
-  --judge     says behind a frame which end broke which rule of the link layer with it (`x25 judge`), of each connection by itself; --k
+  --judge     says behind a frame which end broke which rule of the link or the packet layer with it (`x25 judge`), of each connection by itself; --k
               is the window. Not of frames that were made up around packets, nor of lines of `x25 decode`
   --channel   shows the packets of a channel alone; 0 is that of RESTART. With --stats it counts them
 
@@ -259,7 +259,7 @@ def words():
     which = parser.add_mutually_exclusive_group()
     which.add_argument("--messages", action="store_true", help="show messages, not frames")
     which.add_argument("--stats", action="store_true", help="show numbers at the end, not frames")
-    which.add_argument("--judge", action="store_true", help="say which end broke which rule of the link layer")
+    which.add_argument("--judge", action="store_true", help="say which end broke which rule of the link or the packet layer")
     parser.add_argument("--k", type=int, choices=range(1, 8), default=7, help="the window that --judge goes by (7)")
     parser.add_argument("--long", action="store_true", help="a CALL may have 128 octets of user data, as with `decode --long`")
     pcap2x25.add_capture_words(parser)

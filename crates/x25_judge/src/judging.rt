@@ -10,9 +10,11 @@ use std::alloc::Global;
 use x25_io::{Fault, PIECE, Sink, Source, take_text};
 
 /// Answers each line of a trace that the reader gives by the line of `decode`, and behind it, where the frame breaks a rule of the link
-/// layer, by the end that sent it and the rule. It answers the status: 1 where a rule was broken or a line was refused, else 0.
+/// layer, or its packet one of the packet layer, by the end that sent it and the rule. It answers the status: 1 where a rule was broken
+/// or a line was refused, else 0.
 ///
-/// The trace has what both ends sent, in the order in which it passed. At most `window` I frames may be unacknowledged. With `long` the
+/// The trace has what both ends sent, in the order in which it passed. At most `window` I frames may be unacknowledged; of data packets
+/// on a channel as many as its call and the acceptance say. With `long` the
 /// user data of a CALL has at most 128 octets, else at most 16. At most one line is held, and after each read the answers to the lines
 /// that have ended are written. The buffers are made first: `NoMemory` comes with nothing read and nothing written. A reader is called
 /// at most 2^64 - 1 times; the clauses on the text speak of inputs of fewer octets than that. Profile.

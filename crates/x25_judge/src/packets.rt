@@ -17,7 +17,12 @@ impl Pair {
     {
         match packet {
             Packet::Data {
-                q, m, ps, pr, user, ..
+                q,
+                m,
+                ps,
+                pr,
+                user,
+                ..
             } => self.data(*m, *q, ps.get(), pr.get(), user),
             Packet::Rr { pr, .. } | Packet::Rnr { pr, .. } => self.goes_on().hears(pr.get()),
             Packet::Interrupt { .. } => self.goes_on().interrupts(),

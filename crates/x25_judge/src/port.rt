@@ -215,12 +215,7 @@ impl Port {
         ensures { result ≡ definition.set_up call is_called terms self }
     {
         let talk = if is_called {
-            Talk::begun(
-                false,
-                0,
-                terms.called_window,
-                octets_of(terms.called_size),
-            )
+            Talk::begun(false, 0, terms.called_window, octets_of(terms.called_size))
         } else {
             Talk::begun(
                 false,
