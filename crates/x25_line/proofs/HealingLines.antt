@@ -1,5 +1,7 @@
 -- The frames that stand on a line, and those among them that matter while an end heals.
 use Rattle.std.proofs.Common.{◌≡◌, ℕ, ◌+◌, ◌%◌, ◌≤◌, List, [], ◌∷◌, ◌++◌, map, Bool, true, false, Ok, refl, sym, ap, ◌∙◌, subst, arith}
+use Rattle.std.specs.Prelude.{◌&&◌}
+use Rattle.std.proofs.lemmas.Bool.{and_left}
 use Rattle.x25_bits.specs.declared.role.Role.{Role}
 use Rattle.x25_frame.specs.PlainFrame.{PlainFrame, info, rr, rnr, rej, sabm, disc, ua, dm, frmr}
 use Rattle.x25_frame.specs.Spelling.{spelling_of}
@@ -58,12 +60,12 @@ reads_none from n1 (o ∷ os) (f ∷ fs) h e = absurd (not_nil e)
     not_nil : o ∷ os ≡ [] → ⊥
     not_nil e = cc
 
--- ---- frames to the end that gave nothing up: the I frames that are awaited, one after another, and nothing that asks or answers
+-- ---- frames to the other end: the I frames that are awaited, one after another, and nothing that asks
 
 abbrev pub Ahead : ℕ → List PlainFrame → ℕ → Type 0
 Ahead n [] m = n ≡ m
 Ahead n (info ns nr p x ∷ fs) m = (ns ≡ n % 8) × (p ≡ false) × Ahead (n + 1) fs m
-Ahead n (rr command nr pf ∷ fs) m = (pf ≡ false) × Ahead n fs m
+Ahead n (rr command nr pf ∷ fs) m = ((command && pf) ≡ false) × Ahead n fs m
 Ahead n (rej command nr pf ∷ fs) m = (pf ≡ false) × Ahead n fs m
 Ahead n (f ∷ fs) m = ⊥
 
@@ -95,7 +97,7 @@ ahead_more n m k (frmr p why ∷ fs) es h g = absurd h
 pub next_ahead : (r n : ℕ) (fs : List PlainFrame) (m : ℕ) → AreNext r n fs m → Ahead n fs m
 next_ahead r n [] m h = h
 next_ahead r n (info ns nr p x ∷ fs) m h = (h.0, h.2, next_ahead r (n + 1) fs m h.3)
-next_ahead r n (rr command nr pf ∷ fs) m h = (h.2, next_ahead r n fs m h.3)
+next_ahead r n (rr command nr pf ∷ fs) m h = (and_left command pf h.0, next_ahead r n fs m h.3)
 next_ahead r n (rej command nr pf ∷ fs) m h = absurd h
 next_ahead r n (rnr command nr pf ∷ fs) m h = absurd h
 next_ahead r n (sabm p ∷ fs) m h = absurd h
@@ -103,6 +105,57 @@ next_ahead r n (disc p ∷ fs) m h = absurd h
 next_ahead r n (ua p ∷ fs) m h = absurd h
 next_ahead r n (dm p ∷ fs) m h = absurd h
 next_ahead r n (frmr p why ∷ fs) m h = absurd h
+
+-- ---- the same without I frames, as in recovery
+
+abbrev pub Mild : List PlainFrame → Type 0
+Mild [] = Unit {0}
+Mild (rr command nr pf ∷ fs) = ((command && pf) ≡ false) × Mild fs
+Mild (rej command nr pf ∷ fs) = (pf ≡ false) × Mild fs
+Mild (f ∷ fs) = ⊥
+
+pub mild_ahead : (n : ℕ) (fs : List PlainFrame) → Mild fs → Ahead n fs n
+mild_ahead n [] h = refl
+mild_ahead n (rr command nr pf ∷ fs) h = (h.0, mild_ahead n fs h.1)
+mild_ahead n (rej command nr pf ∷ fs) h = (h.0, mild_ahead n fs h.1)
+mild_ahead n (info ns nr p x ∷ fs) h = absurd h
+mild_ahead n (rnr command nr pf ∷ fs) h = absurd h
+mild_ahead n (sabm p ∷ fs) h = absurd h
+mild_ahead n (disc p ∷ fs) h = absurd h
+mild_ahead n (ua p ∷ fs) h = absurd h
+mild_ahead n (dm p ∷ fs) h = absurd h
+mild_ahead n (frmr p why ∷ fs) h = absurd h
+
+pub mild_more : (fs es : List PlainFrame) → Mild fs → Mild es → Mild (fs ++ es)
+mild_more [] es h g = g
+mild_more (rr command nr pf ∷ fs) es h g = (h.0, mild_more fs es h.1 g)
+mild_more (rej command nr pf ∷ fs) es h g = (h.0, mild_more fs es h.1 g)
+mild_more (info ns nr p x ∷ fs) es h g = absurd h
+mild_more (rnr command nr pf ∷ fs) es h g = absurd h
+mild_more (sabm p ∷ fs) es h g = absurd h
+mild_more (disc p ∷ fs) es h g = absurd h
+mild_more (ua p ∷ fs) es h g = absurd h
+mild_more (dm p ∷ fs) es h g = absurd h
+mild_more (frmr p why ∷ fs) es h g = absurd h
+
+-- where V(S) stays, no I frame went
+pub held_mild : (r n : ℕ) (fs : List PlainFrame) (m : ℕ) → AreNext r n fs m → m ≤ n → Mild fs
+held_mild r n [] m h le = tt
+held_mild r n (rr command nr pf ∷ fs) m h le = (and_left command pf h.0, held_mild r n fs m h.3 le)
+held_mild r n (info ns nr p x ∷ fs) m h le = absurd (omega (arith, le, ahead_low (n + 1) fs m (next_ahead r (n + 1) fs m h.3)))
+held_mild r n (rej command nr pf ∷ fs) m h le = absurd h
+held_mild r n (rnr command nr pf ∷ fs) m h le = absurd h
+held_mild r n (sabm p ∷ fs) m h le = absurd h
+held_mild r n (disc p ∷ fs) m h le = absurd h
+held_mild r n (ua p ∷ fs) m h le = absurd h
+held_mild r n (dm p ∷ fs) m h le = absurd h
+held_mild r n (frmr p why ∷ fs) m h le = absurd h
+
+-- nothing, or one poll
+abbrev pub AtMostPoll : List PlainFrame → Type 0
+AtMostPoll [] = Unit {0}
+AtMostPoll (rr true nr true ∷ []) = Unit {0}
+AtMostPoll fs = ⊥
 
 -- ---- frames back: I frames and RR, the last of which has the number r, where `nr` came before them
 

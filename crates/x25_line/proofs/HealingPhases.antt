@@ -1,5 +1,5 @@
 -- How the near end heals after its firing: its poll is on the line, then the answer, then what isn't acknowledged, in order.
-use Rattle.std.proofs.Common.{◌≡◌, ℕ, ◌+◌, ◌%◌, ◌≤◌, ◌<◌, List, [], ◌∷◌, ◌++◌, ◌⊎◌, inl, inr, length, max, Bool, true, false, Ok, refl, sym, ap, ◌∙◌, subst, arith, length-append, append-nil}
+use Rattle.std.proofs.Common.{◌≡◌, ℕ, ◌+◌, ◌%◌, ◌≤◌, ◌<◌, List, [], ◌∷◌, ◌++◌, ◌⊎◌, inl, inr, length, max, Bool, true, false, Ok, refl, sym, ap, ◌∙◌, subst, arith, length-append, append_assoc}
 use Rattle.std.specs.Prelude.{◌==◌, ◌-◌, ◌&&◌, not, if◌then◌else◌, nat_lt}
 use Rattle.std.proofs.lemmas.Bool.{eq-eqb, eqb-true, and_parts, ltb-false}
 use Rattle.x25_frame.specs.PlainFrame.{PlainFrame, info, rr, rnr, rej, sabm, disc, ua, dm, frmr}
@@ -13,13 +13,13 @@ use Rattle.x25_link.specs.MustSend.{Step, other, is_taken}
 use Rattle.x25_link.specs.Steps.{take_step}
 use Rattle.x25_link.specs.WindowLaw.{IsSound}
 use Rattle.x25_link.specs.RestLaw.{HasSaidAll, IsAtRest}
-use Rattle.x25_link.specs.AnswerLaw.{says, AreNext, Outcome, Answers, heard, heard_tries, goes_on_from, passed_over}
+use Rattle.x25_link.specs.AnswerLaw.{says, AreNext, Outcome, Answers, heard, heard_tries, goes_on_from, confirms, once_taken, busy_after, passed_over}
 use Rattle.x25_line.specs.Stations.{StationEnd, Stations, Act, Deliver, delivered, acts, swapped}
 use Rattle.x25_line.specs.StationClaims.{AreJoined}
 use Rattle.x25_line.proofs.Kept.{resolved_is}
 use Rattle.x25_line.proofs.StationSteps.{AsUp, not_both}
 use Rattle.x25_line.proofs.StationRuns.{joined_swapped}
-use Rattle.x25_line.proofs.HealingLines.{Reads, FrontReads, front_reads, none_reads, Ahead, ahead_low, ahead_more, next_ahead, LastTells, Reports, next_tells, reports_more, reports_new, reports_heard}
+use Rattle.x25_line.proofs.HealingLines.{Reads, FrontReads, front_reads, none_reads, Ahead, ahead_low, ahead_more, next_ahead, Mild, mild_ahead, mild_more, held_mild, AtMostPoll, LastTells, Reports, next_tells, tells_behind, reports_more, reports_new, reports_heard}
 use Rattle.x25_line.proofs.HealingSteps.{HealingLaws, Sound, sound_swapped, near_up, far_up, Counted, counted, HearsWell, hears_well, Delivered, delivers}
 
 -- both ends are Up and not busy; the far end has at most so many tries, and is at rest where it was
@@ -32,19 +32,29 @@ pub record Both (c d : Settings) (most : ℕ) (Was : Type 0) (w : Stations) : Ty
   pub far_tries : w.far.station.tries ≤ most
   pub far_rest : Was → IsAtRest w.far.station
 
--- a poll is on the line, and nothing else
+-- A poll is at the front, and behind it no I frame; the other end has asked too, or nothing comes back.
 pub record Asked (c d : Settings) (w : Stations) : Type 0 where
   pub number : ℕ
-  pub out : Reads (other d.role) d.longest w.out (rr true number true ∷ [])
-  pub back : w.back ≡ []
+  pub rest : List PlainFrame
+  pub before : List PlainFrame
+  pub recovery : w.near.station.recovery ≡ true
+  pub out : Reads (other d.role) d.longest w.out (rr true number true ∷ rest)
+  pub mild : Mild rest
+  pub back : Reads (other c.role) c.longest w.back before
+  pub polls : AtMostPoll before
 
 -- F=1 is on the line back, with the number that the far end wants, and other frames with this number behind it
 pub record Answered (c d : Settings) (w : Stations) : Type 0 where
   pub number : ℕ
+  pub there : List PlainFrame
+  pub before : List PlainFrame
   pub behind : List PlainFrame
   pub is : number ≡ length w.far.station.taken % 8
-  pub out : w.out ≡ []
-  pub back : Reads (other c.role) c.longest w.back (rr false number true ∷ behind)
+  pub recovery : w.near.station.recovery ≡ true
+  pub out : Reads (other d.role) d.longest w.out there
+  pub mild : Mild there
+  pub back : Reads (other c.role) c.longest w.back (before ++ rr false number true ∷ behind)
+  pub polls : AtMostPoll before
   pub tells : LastTells (length w.far.station.taken) number behind
 
 -- what isn't acknowledged goes again, in order; the far end's last frame on the line, if any, tells what that has taken
@@ -82,6 +92,15 @@ passed_ahead n s free = rw free (by s.rejecting)
     by : (b : Bool) → Ahead n (if not b then rej false (wanted s) false ∷ [] else if false then rr false (wanted s) true ∷ [] else []) n
     by true = refl
     by false = (refl, refl)
+
+confirms_ahead : (n r : ℕ) (goes : Bool) → Ahead n (confirms goes false r) n
+confirms_ahead n r true = refl
+confirms_ahead n r false = (refl, refl)
+
+-- what is put once the I frame is taken has the new number
+confirms_next : (r n m : ℕ) (goes : Bool) (next : List PlainFrame) → AreNext r n next m → AreNext r n (confirms goes false r ++ next) m
+confirms_next r n m true next h = h
+confirms_next r n m false next h = (refl, refl, refl, h)
 
 -- nothing waits where a station is at rest, and all is acknowledged
 pub rest_has_all : (s : Station) → IsAtRest s → s.outgoing.sent ≤ length s.outgoing.given → s.outgoing.acked ≡ s.outgoing.sent → length s.outgoing.given ≡ s.outgoing.acked
@@ -148,15 +167,17 @@ module _ (c d : Settings) (joined : AreJoined c d) (reads : ReadsSpelled) (laws 
       let s = w.near.station in
       let r = front_reads (other c.role) c.longest w.back (info ns nr false x) gs back in
       let well = hears_well c d w b.sound b.near_on b.far_on (info ns nr false x) gs tt r in
-      let o : Outcome = record (goes_on_from nr s) { taken = s.taken ++ x ∷ []; first = [] } in
       let a = laws.answers.wanted ns nr false x c r.octets s (up_is s.phase b.near_on) r.reads well.valid is in
-      let v = delivers c d joined reads laws w h.there gs (info ns nr false x) o b.sound h.out r a.answers in
-      (near_both w h.there gs o r.octets b v, inr (inr (near_resends w h.there gs nr s.outgoing.place o r.octets b v h.recovery h.peer_busy refl h.ahead (sym (place_stays w h.there nr h.ahead well)) tells)))
+      let o = once_taken a.0 nr false x s in
+      let v = delivers c d joined reads laws w h.there gs (info ns nr false x) o b.sound h.out r a.1.answers in
+      (near_both w h.there gs o r.octets b v,
+      inr (inr (near_resends w h.there gs nr s.outgoing.place o r.octets b v h.recovery h.peer_busy refl h.ahead
+      (subst (λ (n : ℕ). Ahead s.outgoing.place o.first n) (sym (place_stays w h.there nr h.ahead well)) (confirms_ahead s.outgoing.place (length o.taken) a.0)) tells)))
   near_info w b h ns nr x gs back tells false is =
       let s = w.near.station in
       let r = front_reads (other c.role) c.longest w.back (info ns nr false x) gs back in
       let well = hears_well c d w b.sound b.near_on b.far_on (info ns nr false x) gs tt r in
-      let o : Outcome = record (goes_on_from nr s) { first = passed_over false s } in
+      let o : Outcome = record (goes_on_from nr s) { said_busy = busy_after false s; first = passed_over false s } in
       let a = laws.answers.other ns nr false x c r.octets s (up_is s.phase b.near_on) r.reads well.valid is in
       let v = delivers c d joined reads laws w h.there gs (info ns nr false x) o b.sound h.out r a in
       (near_both w h.there gs o r.octets b v,
@@ -190,22 +211,103 @@ module _ (c d : Settings) (joined : AreJoined c d) (reads : ReadsSpelled) (laws 
   near_resent w b h (frmr p why ∷ gs) back reports = absurd reports
 
   -- F=1 comes: what isn't acknowledged goes again
-  near_answered : (w : Stations) → Both c d most Was w → Answered c d w → Heals c d most Was (acts c Deliver w)
-  near_answered w b h =
+  near_answered : (w : Stations) → Both c d most Was w → (number : ℕ) (there behind : List PlainFrame) → number ≡ length w.far.station.taken % 8 → Reads (other d.role) d.longest w.out there → Mild there
+      → Reads (other c.role) c.longest w.back (rr false number true ∷ behind) → LastTells (length w.far.station.taken) number behind → Heals c d most Was (acts c Deliver w)
+  near_answered w b number there behind is out mild back tells =
       let s = w.near.station in
-      let frame = rr false h.number true in
-      let r = front_reads (other c.role) c.longest w.back frame h.behind h.back in
-      let well = hears_well c d w b.sound b.near_on b.far_on frame h.behind tt r in
-      let o : Outcome = record (goes_on_from h.number s) { recovery = false; peer_busy = false; tries = 0; place = heard h.number s } in
-      let a = laws.answers.recovery false h.number c r.octets s (up_is s.phase b.near_on) r.reads well.valid in
-      let none : Reads (other d.role) d.longest w.out [] = subst (λ (os : List (List ℕ)). Reads (other d.role) d.longest os []) (sym h.out) tt in
-      let v = delivers c d joined reads laws w [] h.behind frame o b.sound none r a in
-      (near_both w [] h.behind o r.octets b v,
-      inr (inr (near_resends w [] h.behind h.number (length w.far.station.taken) o r.octets b v refl refl refl refl (sym (all_heard w b h.number h.is)) h.tells)))
+      let n = length w.far.station.taken in
+      let frame = rr false number true in
+      let r = front_reads (other c.role) c.longest w.back frame behind back in
+      let well = hears_well c d w b.sound b.near_on b.far_on frame behind tt r in
+      let o : Outcome = record (goes_on_from number s) { recovery = false; peer_busy = false; tries = 0; place = heard number s } in
+      let a = laws.answers.recovery false number c r.octets s (up_is s.phase b.near_on) r.reads well.valid in
+      let v = delivers c d joined reads laws w there behind frame o b.sound out r a in
+      (near_both w there behind o r.octets b v,
+      inr (inr (near_resends w there behind number n o r.octets b v refl refl refl (mild_ahead n there mild) (sym (all_heard w b number is)) tells)))
+
+  -- the other end's poll comes in recovery: F=1 goes, and no I frame
+  pub record Replied (w v : Stations) (there behind : List PlainFrame) : Type 0 where
+    pub both : Both c d most Was v
+    pub more : List PlainFrame
+    pub recovery : v.near.station.recovery ≡ true
+    pub out : Reads (other d.role) d.longest v.out (there ++ more)
+    pub mild : Mild more
+    pub back : Reads (other c.role) c.longest v.back behind
+    pub far : v.far ≡ w.far
+
+  near_polled : (w : Stations) → Both c d most Was w → w.near.station.recovery ≡ true → (number : ℕ) (there behind : List PlainFrame) → Reads (other d.role) d.longest w.out there
+      → Reads (other c.role) c.longest w.back (rr true number true ∷ behind) → Replied w (acts c Deliver w) there behind
+  near_polled w b recovery number there behind out back =
+      let s = w.near.station in
+      let frame = rr true number true in
+      let r = front_reads (other c.role) c.longest w.back frame behind back in
+      let well = hears_well c d w b.sound b.near_on b.far_on frame behind tt r in
+      let o : Outcome = record (goes_on_from number s) { peer_busy = false; said_busy = is_busy s; first = says (is_busy s) false (wanted s) true ∷ [] } in
+      let a = laws.answers.poll false number c r.octets s (up_is s.phase b.near_on) r.reads well.valid in
+      let v = delivers c d joined reads laws w there behind frame o b.sound out r a in
+      let u : Stations = acts c Deliver w in
+      record {
+        both = near_both w there behind o r.octets b v;
+        more = rr false (wanted s) true ∷ v.next;
+        recovery = v.recovery ∙ recovery;
+        out = subst (λ (busy : Bool). Reads (other d.role) d.longest u.out (there ++ (says busy false (wanted s) true ∷ v.next))) b.near_free v.out;
+        mild = (refl, held_mild (length s.taken) o.place v.next u.near.station.outgoing.place v.sends (omega (arith, v.held recovery)));
+        back = v.back;
+        far = v.far;
+      }
+
+  near_asked : (w : Stations) → Both c d most Was w → (h : Asked c d w) (before : List PlainFrame) → Reads (other c.role) c.longest w.back before → AtMostPoll before → Heals c d most Was (acts c Deliver w)
+  near_asked w b h [] back polls = subst (λ (bs : List (List ℕ)). Heals c d most Was (delivered c bs w)) (sym (none_reads (other c.role) c.longest w.back back)) (b, inl h)
+  near_asked w b h (rr true nr true ∷ []) back polls =
+      let p = near_polled w b h.recovery nr (rr true h.number true ∷ h.rest) [] h.out back in
+      (p.both, inl (record { number = h.number; rest = h.rest ++ p.more; before = []; recovery = p.recovery; out = p.out; mild = mild_more h.rest p.more h.mild p.mild; back = p.back; polls = tt }))
+  near_asked w b h (rr true nr true ∷ f ∷ fs) back polls = absurd polls
+  near_asked w b h (rr true nr false ∷ fs) back polls = absurd polls
+  near_asked w b h (rr false nr pf ∷ fs) back polls = absurd polls
+  near_asked w b h (info ns nr p x ∷ fs) back polls = absurd polls
+  near_asked w b h (rnr command nr pf ∷ fs) back polls = absurd polls
+  near_asked w b h (rej command nr pf ∷ fs) back polls = absurd polls
+  near_asked w b h (sabm p ∷ fs) back polls = absurd polls
+  near_asked w b h (disc p ∷ fs) back polls = absurd polls
+  near_asked w b h (ua p ∷ fs) back polls = absurd polls
+  near_asked w b h (dm p ∷ fs) back polls = absurd polls
+  near_asked w b h (frmr p why ∷ fs) back polls = absurd polls
+
+  near_told : (w : Stations) → Both c d most Was w → (h : Answered c d w) (before : List PlainFrame) → Reads (other c.role) c.longest w.back (before ++ rr false h.number true ∷ h.behind) → AtMostPoll before
+      → Heals c d most Was (acts c Deliver w)
+  near_told w b h [] back polls = near_answered w b h.number h.there h.behind h.is h.out h.mild back h.tells
+  near_told w b h (rr true nr true ∷ []) back polls =
+      let p = near_polled w b h.recovery nr h.there (rr false h.number true ∷ h.behind) h.out back in
+      let same = ap (λ (e : StationEnd). length e.station.taken) (sym p.far) in
+      (p.both,
+      inr (inl (record {
+        number = h.number;
+        there = h.there ++ p.more;
+        before = [];
+        behind = h.behind;
+        is = h.is ∙ ap (λ (n : ℕ). n % 8) same;
+        recovery = p.recovery;
+        out = p.out;
+        mild = mild_more h.there p.more h.mild p.mild;
+        back = p.back;
+        polls = tt;
+        tells = subst (λ (n : ℕ). LastTells n h.number h.behind) same h.tells;
+      })))
+  near_told w b h (rr true nr true ∷ f ∷ fs) back polls = absurd polls
+  near_told w b h (rr true nr false ∷ fs) back polls = absurd polls
+  near_told w b h (rr false nr pf ∷ fs) back polls = absurd polls
+  near_told w b h (info ns nr p x ∷ fs) back polls = absurd polls
+  near_told w b h (rnr command nr pf ∷ fs) back polls = absurd polls
+  near_told w b h (rej command nr pf ∷ fs) back polls = absurd polls
+  near_told w b h (sabm p ∷ fs) back polls = absurd polls
+  near_told w b h (disc p ∷ fs) back polls = absurd polls
+  near_told w b h (ua p ∷ fs) back polls = absurd polls
+  near_told w b h (dm p ∷ fs) back polls = absurd polls
+  near_told w b h (frmr p why ∷ fs) back polls = absurd polls
 
   pub near_heals : (w : Stations) → Heals c d most Was w → Heals c d most Was (acts c Deliver w)
-  near_heals w (b, inl h) = subst (λ (bs : List (List ℕ)). Heals c d most Was (delivered c bs w)) (sym h.back) (b, inl h)
-  near_heals w (b, inr (inl h)) = near_answered w b h
+  near_heals w (b, inl h) = near_asked w b h h.before h.back h.polls
+  near_heals w (b, inr (inl h)) = near_told w b h h.before h.back h.polls
   near_heals w (b, inr (inr h)) = near_resent w b h h.behind h.back h.reports
 
   -- ---- the far end hears
@@ -217,16 +319,16 @@ module _ (c d : Settings) (joined : AreJoined c d) (reads : ReadsSpelled) (laws 
   far_delivers w = swapped (acts d Deliver (swapped w))
 
   -- a station at rest stays so, as it was handed nothing, and hears of no busy peer
-  stays_at_rest : (s u : Station) → IsAtRest s → IsSound d.window s.outgoing → IsSound d.window u.outgoing → HasSaidAll d.window u → is_up u.phase ≡ true → u.recovery ≡ s.recovery
+  stays_at_rest : (s u : Station) → IsAtRest s → IsSound d.window s.outgoing → IsSound d.window u.outgoing → HasSaidAll d.window u → is_up u.phase ≡ true → (s.recovery ≡ false → u.recovery ≡ false)
       → (s.peer_busy ≡ false → u.peer_busy ≡ false) → u.outgoing.given ≡ s.outgoing.given → s.outgoing.acked ≤ u.outgoing.acked → IsAtRest u
   stays_at_rest s u rest before sound said up recovery peer_busy given acked =
       let t = laws.rest.only_then s rest in
       let all = rest_has_all s rest before.sent_high t.3 in
       let same = ap length given in
-      laws.rest.all_heard d.window u joined.far_low sound said up (recovery ∙ t.1) (peer_busy t.2) (omega (arith, all, same, sound.place_high, sound.sent_high, acked))
+      laws.rest.all_heard d.window u joined.far_low sound said up (recovery t.1) (peer_busy t.2) (omega (arith, all, same, sound.place_high, sound.sent_high, acked))
 
   far_both : (w : Stations) (fs gs : List PlainFrame) (nr : ℕ) (o : Outcome) (octets : List ℕ) → Both c d most Was w → Delivered d c (swapped w) (acts d Deliver (swapped w)) gs fs o octets
-      → HearsWell w.far.station w.near.station nr → o.acked ≡ heard nr w.far.station → o.recovery ≡ w.far.station.recovery → (w.far.station.peer_busy ≡ false → o.peer_busy ≡ false) → o.tries ≤ w.far.station.tries
+      → HearsWell w.far.station w.near.station nr → o.acked ≡ heard nr w.far.station → (w.far.station.recovery ≡ false → o.recovery ≡ false) → (w.far.station.peer_busy ≡ false → o.peer_busy ≡ false) → o.tries ≤ w.far.station.tries
       → Both c d most Was (far_delivers w)
   far_both w fs gs nr o octets b h well acked recovery peer_busy tries =
       let v : Stations = acts d Deliver (swapped w) in
@@ -240,7 +342,7 @@ module _ (c d : Settings) (joined : AreJoined c d) (reads : ReadsSpelled) (laws 
         near_free = subst (λ (e : StationEnd). is_busy e.station ≡ false) (sym h.far) b.near_free;
         far_free = h.free b.far_free;
         far_tries = omega (arith, h.tries, tries, b.far_tries);
-        far_rest = λ was. stays_at_rest s v.near.station (b.far_rest was) before.sound after.sound h.sound.near_said h.up (h.recovery ∙ recovery) (λ e. h.peer_busy ∙ peer_busy e) h.given
+        far_rest = λ was. stays_at_rest s v.near.station (b.far_rest was) before.sound after.sound h.sound.near_said h.up (λ e. h.recovery ∙ recovery e) (λ e. h.peer_busy ∙ peer_busy e) h.given
             (omega (arith, h.acked, acked, well.low));
       }
 
@@ -277,7 +379,20 @@ module _ (c d : Settings) (joined : AreJoined c d) (reads : ReadsSpelled) (laws 
       let o : Outcome = record (goes_on_from nr s) { peer_busy = false } in
       let a = laws.answers.ready false command nr d r.octets s (up_is s.phase b.far_on) r.reads well.valid in
       let v = delivers d c far_joined reads laws (swapped w) h.behind fs (rr command nr false) o sound h.back r a in
-      (far_both w fs h.behind nr o r.octets b v well refl refl (λ _. refl) (tries_low nr s), inr (inr (far_told w fs h.behind o r.octets h v refl refl ahead h.reports)))
+      (far_both w fs h.behind nr o r.octets b v well refl (λ e. e) (λ _. refl) (tries_low nr s), inr (inr (far_told w fs h.behind o r.octets h v refl refl ahead h.reports)))
+
+  -- F=1 of the other end's own poll
+  far_final : (w : Stations) (b : Both c d most Was w) (h : Resent c d w) (nr : ℕ) (fs : List PlainFrame) → Reads (other d.role) d.longest w.out (rr false nr true ∷ fs)
+      → Ahead (length w.far.station.taken) fs w.near.station.outgoing.place → Heals c d most Was (far_delivers w)
+  far_final w b h nr fs out ahead =
+      let s = w.far.station in
+      let sound = sound_swapped c d joined w b.sound in
+      let r = front_reads (other d.role) d.longest w.out (rr false nr true) fs out in
+      let well = hears_well d c (swapped w) sound b.far_on b.near_on (rr false nr true) fs tt r in
+      let o : Outcome = record (goes_on_from nr s) { recovery = false; peer_busy = false; tries = 0; place = heard nr s } in
+      let a = laws.answers.recovery false nr d r.octets s (up_is s.phase b.far_on) r.reads well.valid in
+      let v = delivers d c far_joined reads laws (swapped w) h.behind fs (rr false nr true) o sound h.back r a in
+      (far_both w fs h.behind nr o r.octets b v well refl (λ _. refl) (λ _. refl) (omega arith), inr (inr (far_told w fs h.behind o r.octets h v refl refl ahead h.reports)))
 
   far_rej : (w : Stations) (b : Both c d most Was w) (h : Resent c d w) (command : Bool) (nr : ℕ) (fs : List PlainFrame) → Reads (other d.role) d.longest w.out (rej command nr false ∷ fs)
       → Ahead (length w.far.station.taken) fs w.near.station.outgoing.place → Heals c d most Was (far_delivers w)
@@ -289,7 +404,7 @@ module _ (c d : Settings) (joined : AreJoined c d) (reads : ReadsSpelled) (laws 
       let o : Outcome = record (goes_on_from nr s) { peer_busy = false; place = heard nr s } in
       let a = laws.answers.rej command nr d r.octets s (up_is s.phase b.far_on) r.reads well.valid in
       let v = delivers d c far_joined reads laws (swapped w) h.behind fs (rej command nr false) o sound h.back r a in
-      (far_both w fs h.behind nr o r.octets b v well refl refl (λ _. refl) (tries_low nr s), inr (inr (far_told w fs h.behind o r.octets h v refl refl ahead h.reports)))
+      (far_both w fs h.behind nr o r.octets b v well refl (λ e. e) (λ _. refl) (tries_low nr s), inr (inr (far_told w fs h.behind o r.octets h v refl refl ahead h.reports)))
 
   -- the I frame that is wanted comes: it is taken, and its number is told
   far_info : (w : Stations) (b : Both c d most Was w) (h : Resent c d w) (ns nr : ℕ) (x : List ℕ) (fs : List PlainFrame) → Reads (other d.role) d.longest w.out (info ns nr false x ∷ fs)
@@ -299,26 +414,28 @@ module _ (c d : Settings) (joined : AreJoined c d) (reads : ReadsSpelled) (laws 
       let sound = sound_swapped c d joined w b.sound in
       let r = front_reads (other d.role) d.longest w.out (info ns nr false x) fs out in
       let well = hears_well d c (swapped w) sound b.far_on b.near_on (info ns nr false x) fs tt r in
-      let o : Outcome = record (goes_on_from nr s) { taken = s.taken ++ x ∷ []; first = [] } in
       let is : is_taken ns s ≡ true = rw (b.far_free, eq-eqb ns (length s.taken % 8) wants) refl in
       let a = laws.answers.wanted ns nr false x d r.octets s (up_is s.phase b.far_on) r.reads well.valid is in
-      let v = delivers d c far_joined reads laws (swapped w) h.behind fs (info ns nr false x) o sound h.back r a.answers in
+      let o = once_taken a.0 nr false x s in
+      let v = delivers d c far_joined reads laws (swapped w) h.behind fs (info ns nr false x) o sound h.back r a.1.answers in
       let u : Stations = acts d Deliver (swapped w) in
       let more : length u.near.station.taken ≡ length s.taken + 1 = ap length v.taken ∙ length-append s.taken (x ∷ []) in
       let near : u.far ≡ w.near = v.far in
-      let next : AreNext (length u.near.station.taken) o.place v.next u.near.station.outgoing.place = subst (λ (xs : List (List ℕ)). AreNext (length xs) o.place v.next u.near.station.outgoing.place) (sym v.taken) v.sends in
-      (far_both w fs h.behind nr o r.octets b v well refl refl (λ e. e) (tries_low nr s),
+      let all = o.first ++ v.next in
+      let next : AreNext (length u.near.station.taken) o.place all u.near.station.outgoing.place =
+          subst (λ (xs : List (List ℕ)). AreNext (length xs) o.place all u.near.station.outgoing.place) (sym v.taken) (confirms_next (length o.taken) o.place u.near.station.outgoing.place a.0 v.next v.sends) in
+      (far_both w fs h.behind nr o r.octets b v well refl (λ e. e) (λ e. e) (tries_low nr s),
       inr (inr (record {
         there = fs;
-        behind = h.behind ++ v.next;
+        behind = h.behind ++ all;
         out = v.back;
         back = v.out;
         recovery = subst (λ (e : StationEnd). e.station.recovery ≡ false) (sym near) h.recovery;
         peer_busy = subst (λ (e : StationEnd). e.station.peer_busy ≡ false) (sym near) h.peer_busy;
         ahead = subst (λ (e : StationEnd). Ahead (length u.near.station.taken) fs e.station.outgoing.place) (sym near)
             (subst (λ (n : ℕ). Ahead n fs w.near.station.outgoing.place) (sym more) ahead);
-        reports = subst (λ (e : StationEnd). Reports (length u.near.station.taken) e.station.outgoing.acked (h.behind ++ v.next)) (sym near)
-            (reports_new (length s.taken) (length u.near.station.taken) w.near.station.outgoing.acked o.place u.near.station.outgoing.place h.behind v.next h.reports next (λ none. a.speaks (v.said ∙ none)));
+        reports = subst (λ (e : StationEnd). Reports (length u.near.station.taken) e.station.outgoing.acked (h.behind ++ all)) (sym near)
+            (reports_new (length s.taken) (length u.near.station.taken) w.near.station.outgoing.acked o.place u.near.station.outgoing.place h.behind all h.reports next (λ none. a.1.speaks (v.said ∙ none)));
       })))
 
   far_resent : (w : Stations) (b : Both c d most Was w) (h : Resent c d w) (fs : List PlainFrame) → Reads (other d.role) d.longest w.out fs → Ahead (length w.far.station.taken) fs w.near.station.outgoing.place
@@ -326,7 +443,8 @@ module _ (c d : Settings) (joined : AreJoined c d) (reads : ReadsSpelled) (laws 
   far_resent w b h [] out ahead = subst (λ (os : List (List ℕ)). Heals c d most Was (swapped (delivered d os (swapped w)))) (sym (none_reads (other d.role) d.longest w.out out)) (b, inr (inr h))
   far_resent w b h (info ns nr true x ∷ fs) out ahead = not_both true refl ahead.1
   far_resent w b h (info ns nr false x ∷ fs) out ahead = far_info w b h ns nr x fs out ahead.0 ahead.2
-  far_resent w b h (rr command nr true ∷ fs) out ahead = not_both true refl ahead.0
+  far_resent w b h (rr true nr true ∷ fs) out ahead = not_both true refl ahead.0
+  far_resent w b h (rr false nr true ∷ fs) out ahead = far_final w b h nr fs out ahead.1
   far_resent w b h (rr command nr false ∷ fs) out ahead = far_ready w b h command nr fs out ahead.1
   far_resent w b h (rej command nr true ∷ fs) out ahead = not_both true refl ahead.0
   far_resent w b h (rej command nr false ∷ fs) out ahead = far_rej w b h command nr fs out ahead.1
@@ -343,27 +461,98 @@ module _ (c d : Settings) (joined : AreJoined c d) (reads : ReadsSpelled) (laws 
       let s = w.far.station in
       let frame = rr true h.number true in
       let sound = sound_swapped c d joined w b.sound in
-      let r = front_reads (other d.role) d.longest w.out frame [] h.out in
-      let well = hears_well d c (swapped w) sound b.far_on b.near_on frame [] tt r in
-      let o : Outcome = record (goes_on_from h.number s) { peer_busy = false; first = says (is_busy s) false (wanted s) true ∷ [] } in
+      let r = front_reads (other d.role) d.longest w.out frame h.rest h.out in
+      let well = hears_well d c (swapped w) sound b.far_on b.near_on frame h.rest tt r in
+      let o : Outcome = record (goes_on_from h.number s) { peer_busy = false; said_busy = is_busy s; first = says (is_busy s) false (wanted s) true ∷ [] } in
       let a = laws.answers.poll false h.number d r.octets s (up_is s.phase b.far_on) r.reads well.valid in
-      let none : Reads (other c.role) c.longest w.back [] = subst (λ (os : List (List ℕ)). Reads (other c.role) c.longest os []) (sym h.back) tt in
-      let v = delivers d c far_joined reads laws (swapped w) [] [] frame o sound none r a in
+      let v = delivers d c far_joined reads laws (swapped w) h.before h.rest frame o sound h.back r a in
       let u : Stations = acts d Deliver (swapped w) in
       let same : length u.near.station.taken ≡ length s.taken = ap length v.taken in
       let number : wanted s ≡ length u.near.station.taken % 8 = ap (λ (n : ℕ). n % 8) (sym same) in
       let next : AreNext (length u.near.station.taken) o.place v.next u.near.station.outgoing.place = subst (λ (n : ℕ). AreNext n o.place v.next u.near.station.outgoing.place) (sym same) v.sends in
-      (far_both w [] [] h.number o r.octets b v well refl refl (λ _. refl) (tries_low h.number s),
+      (far_both w h.rest h.before h.number o r.octets b v well refl (λ e. e) (λ _. refl) (tries_low h.number s),
       inr (inl (record {
         number = wanted s;
+        there = h.rest;
+        before = h.before;
         behind = v.next;
         is = number;
-        out = none_reads (other d.role) d.longest u.back v.back;
-        back = subst (λ (busy : Bool). Reads (other c.role) c.longest u.out (says busy false (wanted s) true ∷ v.next)) b.far_free v.out;
+        recovery = ap (λ (e : StationEnd). e.station.recovery) v.far ∙ h.recovery;
+        out = v.back;
+        mild = h.mild;
+        back = subst (λ (busy : Bool). Reads (other c.role) c.longest u.out (h.before ++ (says busy false (wanted s) true ∷ v.next))) b.far_free v.out;
+        polls = h.polls;
         tells = next_tells (length u.near.station.taken) (wanted s) o.place u.near.station.outgoing.place v.next number next;
       })))
 
+  -- more goes behind F=1, with the same number
+  far_goes_behind : (w : Stations) (fs : List PlainFrame) (o : Outcome) (octets : List ℕ) (h : Answered c d w)
+      → Delivered d c (swapped w) (acts d Deliver (swapped w)) (h.before ++ rr false h.number true ∷ h.behind) fs o octets → o.first ≡ [] → o.taken ≡ w.far.station.taken → Mild fs → Answered c d (far_delivers w)
+  far_goes_behind w fs o octets h v first taken mild =
+      let u : Stations = acts d Deliver (swapped w) in
+      let r = length w.far.station.taken in
+      let same : length u.near.station.taken ≡ r = ap length (v.taken ∙ taken) in
+      let frame = rr false h.number true in
+      let next : AreNext r o.place v.next u.near.station.outgoing.place = subst (λ (xs : List (List ℕ)). AreNext (length xs) o.place v.next u.near.station.outgoing.place) taken v.sends in
+      record {
+        number = h.number;
+        there = fs;
+        before = h.before;
+        behind = h.behind ++ v.next;
+        is = h.is ∙ ap (λ (n : ℕ). n % 8) (sym same);
+        recovery = ap (λ (e : StationEnd). e.station.recovery) v.far ∙ h.recovery;
+        out = v.back;
+        mild = mild;
+        back = subst (Reads (other c.role) c.longest u.out) (append_assoc h.before (frame ∷ h.behind) v.next)
+            (subst (λ (xs : List PlainFrame). Reads (other c.role) c.longest u.out ((h.before ++ frame ∷ h.behind) ++ (xs ++ v.next))) first v.out);
+        polls = h.polls;
+        tells = subst (λ (n : ℕ). LastTells n h.number (h.behind ++ v.next)) (sym same)
+            (tells_behind r r h.number h.behind v.next h.tells (λ k is. next_tells r k o.place u.near.station.outgoing.place v.next is next));
+      }
+
+  far_mild : (w : Stations) (b : Both c d most Was w) (h : Answered c d w) (fs : List PlainFrame) → Reads (other d.role) d.longest w.out fs → Mild fs → Heals c d most Was (far_delivers w)
+  far_mild w b h [] out mild = subst (λ (os : List (List ℕ)). Heals c d most Was (swapped (delivered d os (swapped w)))) (sym (none_reads (other d.role) d.longest w.out out)) (b, inr (inl h))
+  far_mild w b h (rr true nr true ∷ fs) out mild = not_both true refl mild.0
+  far_mild w b h (rr false nr true ∷ fs) out mild =
+      let s = w.far.station in
+      let sound = sound_swapped c d joined w b.sound in
+      let all = h.before ++ rr false h.number true ∷ h.behind in
+      let r = front_reads (other d.role) d.longest w.out (rr false nr true) fs out in
+      let well = hears_well d c (swapped w) sound b.far_on b.near_on (rr false nr true) fs tt r in
+      let o : Outcome = record (goes_on_from nr s) { recovery = false; peer_busy = false; tries = 0; place = heard nr s } in
+      let a = laws.answers.recovery false nr d r.octets s (up_is s.phase b.far_on) r.reads well.valid in
+      let v = delivers d c far_joined reads laws (swapped w) all fs (rr false nr true) o sound h.back r a in
+      (far_both w fs all nr o r.octets b v well refl (λ _. refl) (λ _. refl) (omega arith), inr (inl (far_goes_behind w fs o r.octets h v refl refl mild.1)))
+  far_mild w b h (rr command nr false ∷ fs) out mild =
+      let s = w.far.station in
+      let sound = sound_swapped c d joined w b.sound in
+      let all = h.before ++ rr false h.number true ∷ h.behind in
+      let r = front_reads (other d.role) d.longest w.out (rr command nr false) fs out in
+      let well = hears_well d c (swapped w) sound b.far_on b.near_on (rr command nr false) fs tt r in
+      let o : Outcome = record (goes_on_from nr s) { peer_busy = false } in
+      let a = laws.answers.ready false command nr d r.octets s (up_is s.phase b.far_on) r.reads well.valid in
+      let v = delivers d c far_joined reads laws (swapped w) all fs (rr command nr false) o sound h.back r a in
+      (far_both w fs all nr o r.octets b v well refl (λ e. e) (λ _. refl) (tries_low nr s), inr (inl (far_goes_behind w fs o r.octets h v refl refl mild.1)))
+  far_mild w b h (rej command nr true ∷ fs) out mild = not_both true refl mild.0
+  far_mild w b h (rej command nr false ∷ fs) out mild =
+      let s = w.far.station in
+      let sound = sound_swapped c d joined w b.sound in
+      let all = h.before ++ rr false h.number true ∷ h.behind in
+      let r = front_reads (other d.role) d.longest w.out (rej command nr false) fs out in
+      let well = hears_well d c (swapped w) sound b.far_on b.near_on (rej command nr false) fs tt r in
+      let o : Outcome = record (goes_on_from nr s) { peer_busy = false; place = heard nr s } in
+      let a = laws.answers.rej command nr d r.octets s (up_is s.phase b.far_on) r.reads well.valid in
+      let v = delivers d c far_joined reads laws (swapped w) all fs (rej command nr false) o sound h.back r a in
+      (far_both w fs all nr o r.octets b v well refl (λ e. e) (λ _. refl) (tries_low nr s), inr (inl (far_goes_behind w fs o r.octets h v refl refl mild.1)))
+  far_mild w b h (info ns nr p x ∷ fs) out mild = absurd mild
+  far_mild w b h (rnr command nr pf ∷ fs) out mild = absurd mild
+  far_mild w b h (sabm p ∷ fs) out mild = absurd mild
+  far_mild w b h (disc p ∷ fs) out mild = absurd mild
+  far_mild w b h (ua p ∷ fs) out mild = absurd mild
+  far_mild w b h (dm p ∷ fs) out mild = absurd mild
+  far_mild w b h (frmr p why ∷ fs) out mild = absurd mild
+
   pub far_heals : (w : Stations) → Heals c d most Was w → Heals c d most Was (far_delivers w)
   far_heals w (b, inl h) = far_asked w b h
-  far_heals w (b, inr (inl h)) = subst (λ (os : List (List ℕ)). Heals c d most Was (swapped (delivered d os (swapped w)))) (sym h.out) (b, inr (inl h))
+  far_heals w (b, inr (inl h)) = far_mild w b h h.there h.out h.mild
   far_heals w (b, inr (inr h)) = far_resent w b h h.there h.out h.ahead

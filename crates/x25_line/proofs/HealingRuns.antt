@@ -1,5 +1,5 @@
 -- From a quiet moment, a firing and deliveries heal an end; and what rest shows.
-use Rattle.std.proofs.Common.{◌≡◌, ℕ, ◌+◌, ◌≤◌, ◌<◌, List, [], ◌∷◌, ◌++◌, inl, inr, length, map, Bool, true, false, if◌then◌else◌, Option, Some, None, refl, sym, ap, ◌∙◌, subst, arith}
+use Rattle.std.proofs.Common.{◌≡◌, ℕ, ◌+◌, ◌≤◌, ◌<◌, List, [], ◌∷◌, ◌++◌, ◌⊎◌, inl, inr, length, map, Bool, true, false, if◌then◌else◌, Option, Some, None, refl, sym, ap, ◌∙◌, subst, arith}
 use Rattle.std.specs.Prelude.{◌||◌, nat_lt, nat_le}
 use Rattle.std.proofs.lemmas.Bool.{le-ltb, and_right}
 use Rattle.x25_bits.specs.declared.role.Role.{Role}
@@ -23,7 +23,7 @@ use Rattle.x25_link.specs.AnswerLaw.{says, Asks}
 use Rattle.x25_line.specs.Stations.{StationEnd, Stations, Act, Put, Deliver, T1, Connect, Disconnect, Abandon, Lose, Damage, Event, Near, Far, after_step, unless, delivered, is_visible, acts, swapped, happens, run, start}
 use Rattle.x25_line.specs.StationClaims.{AreJoined, IsSetUpOnce, HandsOne, AreWhole}
 use Rattle.x25_line.specs.WholeNumbers.{machine_acts, machine_run, machine_at_start}
-use Rattle.x25_line.specs.Healing.{IsDrained, IsDeliver, IsDelivery, AreDeliveries, HasArrived, ShowsAtRest, RestShows, MayHeal, IsHealed, IsQuietMoment, OneHeals, OneFiringHeals, FarFiringHeals, OneFiringEnds, TwoFiringsHeal}
+use Rattle.x25_line.specs.Healing.{IsDrained, IsDeliver, IsDelivery, AreDeliveries, HasArrived, ShowsAtRest, RestShows, MayHeal, IsHealed, IsQuietMoment, OneHeals, OneFiringHeals, FarFiringHeals, OneFiringEnds, TwoFiringsHeal, BothFiringsHeal}
 use Rattle.x25_line.proofs.StationSteps.{not_both}
 use Rattle.x25_line.proofs.StationRuns.{machine_joint, run_once, joined_swapped, start_machine}
 use Rattle.x25_line.proofs.StationClaimLemmas.{holds_order, holds_lists}
@@ -131,21 +131,30 @@ module _ (c d : Settings) (joined : AreJoined c d) (reads : ReadsSpelled) (laws 
   not_noted : (w : Stations) (v : Stations) → acts c T1 w ≡ v → v.near.came_up ≡ false → (acts c T1 w).near.came_up ≡ false
   not_noted w v is h = ap (λ (z : Stations). z.near.came_up) is ∙ h
 
-  pub fired : (w : Stations) → Sound c d w → IsDrained w → is_up w.near.station.phase ≡ true → is_busy w.near.station ≡ false → is_up w.far.station.phase ≡ true → is_busy w.far.station ≡ false
-      → timer_runs w.near.station.phase w.near.station ≡ true → w.near.station.tries < c.retries → Heals c d w.far.station.tries (IsAtRest w.far.station) (acts c T1 w)
-  fired w h drained up free far_on far_free running few =
-      subst (λ (z : Stations). Heals c d w.far.station.tries (IsAtRest w.far.station) z) (sym is) (
-        record {
-          sound = sound;
-          near_on = ap (λ (z : Station). is_up z.phase) asks.near ∙ up;
-          far_on = far_on;
-          near_free = ap is_busy asks.near ∙ free;
-          far_free = far_free;
-          far_tries = omega arith;
-          far_rest = λ was. was;
-        },
-        inl (record { number = wanted s; out = read_out; back = drained.back }),
-      )
+  -- a poll goes on the empty line to the other end, and recovery begins
+  pub record Fired (w v : Stations) : Type 0 where
+    pub sound : Sound c d v
+    pub up : is_up v.near.station.phase ≡ true
+    pub free : is_busy v.near.station ≡ false
+    pub recovery : v.near.station.recovery ≡ true
+    pub number : ℕ
+    pub out : Reads (other d.role) d.longest v.out (rr true number true ∷ [])
+    pub back : v.back ≡ w.back
+    pub far : v.far ≡ w.far
+
+  pub fires : (w : Stations) → Sound c d w → w.out ≡ [] → is_up w.near.station.phase ≡ true → is_busy w.near.station ≡ false
+      → timer_runs w.near.station.phase w.near.station ≡ true → w.near.station.tries < c.retries → Fired w (acts c T1 w)
+  fires w h empty up free running few =
+      subst (λ (z : Stations). Fired w z) (sym is) (record {
+        sound = sound;
+        up = ap (λ (z : Station). is_up z.phase) asks.near ∙ up;
+        free = ap is_busy asks.near ∙ free;
+        recovery = ap (λ (z : Station). z.recovery) asks.near;
+        number = wanted s;
+        out = read_out;
+        back = refl;
+        far = refl;
+      })
     where
       s : Station
       s = w.near.station
@@ -179,7 +188,34 @@ module _ (c d : Settings) (joined : AreJoined c d) (reads : ReadsSpelled) (laws 
           let whole : AreWhole d.longest given step.side.out = whole_behind d.longest given w.sent step.side.out sound.joint.whole in
           subst (λ (es : List PlainFrame). Reads (other d.role) d.longest (w.out ++ map (spelling_of c.role) step.side.out) es) poll
           (subst (λ (from : Role). Reads (other d.role) d.longest (w.out ++ map (spelling_of from) step.side.out) step.side.out) joined.near_role
-          (reads_more reads (other d.role) d.longest given w.out [] step.side.out (subst (λ (os : List (List ℕ)). Reads (other d.role) d.longest os []) (sym drained.out) tt) whole))
+          (reads_more reads (other d.role) d.longest given w.out [] step.side.out (subst (λ (os : List (List ℕ)). Reads (other d.role) d.longest os []) (sym empty) tt) whole))
+
+  pub fired : (w : Stations) → Sound c d w → IsDrained w → is_up w.near.station.phase ≡ true → is_busy w.near.station ≡ false → is_up w.far.station.phase ≡ true → is_busy w.far.station ≡ false
+      → timer_runs w.near.station.phase w.near.station ≡ true → w.near.station.tries < c.retries → Heals c d w.far.station.tries (IsAtRest w.far.station) (acts c T1 w)
+  fired w h drained up free far_on far_free running few =
+      let f = fires w h drained.out up free running few in
+      let v : Stations = acts c T1 w in
+      (
+        record {
+          sound = f.sound;
+          near_on = f.up;
+          far_on = subst (λ (e : StationEnd). is_up e.station.phase ≡ true) (sym f.far) far_on;
+          near_free = f.free;
+          far_free = subst (λ (e : StationEnd). is_busy e.station ≡ false) (sym f.far) far_free;
+          far_tries = subst (λ (e : StationEnd). e.station.tries ≤ w.far.station.tries) (sym f.far) (omega arith);
+          far_rest = λ was. subst (λ (e : StationEnd). IsAtRest e.station) (sym f.far) was;
+        },
+        inl (record {
+          number = f.number;
+          rest = [];
+          before = [];
+          recovery = f.recovery;
+          out = f.out;
+          mild = tt;
+          back = subst (λ (os : List (List ℕ)). Reads (other c.role) c.longest os []) (sym (f.back ∙ drained.back)) tt;
+          polls = tt;
+        }),
+      )
 
   -- ---- deliveries
 
@@ -238,10 +274,14 @@ module _ (c d : Settings) (joined : AreJoined c d) (reads : ReadsSpelled) (laws 
   one_frame : (f : PlainFrame) (fs : List PlainFrame) {A : Type 0} → f ∷ fs ≡ [] → A
   one_frame f fs e = absurd (omega (arith, ap length e))
 
+  not_behind : (before : List PlainFrame) (f : PlainFrame) (fs : List PlainFrame) {A : Type 0} → before ++ f ∷ fs ≡ [] → A
+  not_behind [] f fs e = one_frame f fs e
+  not_behind (g ∷ gs) f fs e = one_frame g (gs ++ f ∷ fs) e
+
   -- once nothing is on the line any more, the near end is at rest
   settles : (most : ℕ) (Was : Type 0) (v : Stations) → Heals c d most Was v → IsDrained v → IsAtRest v.near.station
-  settles most Was v (b, inl h) drained = one_frame _ _ (reads_none (other d.role) d.longest v.out (rr true h.number true ∷ []) h.out drained.out)
-  settles most Was v (b, inr (inl h)) drained = one_frame _ _ (reads_none (other c.role) c.longest v.back (rr false h.number true ∷ h.behind) h.back drained.back)
+  settles most Was v (b, inl h) drained = one_frame _ _ (reads_none (other d.role) d.longest v.out (rr true h.number true ∷ h.rest) h.out drained.out)
+  settles most Was v (b, inr (inl h)) drained = not_behind h.before (rr false h.number true) h.behind (reads_none (other c.role) c.longest v.back (h.before ++ rr false h.number true ∷ h.behind) h.back drained.back)
   settles most Was v (b, inr (inr h)) drained =
       let r = length v.far.station.taken in
       let o = v.near.station.outgoing in
@@ -331,6 +371,65 @@ flip_run c d [] w = refl
 flip_run c d (Near a ∷ es) w = flip_run c d es (acts c a w)
 flip_run c d (Far a ∷ es) w = flip_run c d es (swapped (acts d a (swapped w)))
 
+-- ---- both ends fire before anything comes
+
+module _ (c d : Settings) (joined : AreJoined c d) (reads : ReadsSpelled) (laws : HealingLaws) where
+  abbrev HealsBoth : ℕ → ℕ → Stations → Type 0
+  HealsBoth m n w = Heals c d m ⊥ w × Heals d c n ⊥ (swapped w)
+
+  both_near : (m n : ℕ) (a : Act) (w : Stations) → IsDeliver a → HealsBoth m n w → HealsBoth m n (acts c a w)
+  both_near m n a w is h = (near_event c d joined reads laws m ⊥ a w is h.0, far_event d c (joined_swapped c d joined) reads laws n ⊥ a (swapped w) is h.1)
+
+  both_far : (m n : ℕ) (a : Act) (w : Stations) → IsDeliver a → HealsBoth m n w → HealsBoth m n (swapped (acts d a (swapped w)))
+  both_far m n a w is h = (far_event c d joined reads laws m ⊥ a w is h.0, near_event d c (joined_swapped c d joined) reads laws n ⊥ a (swapped w) is h.1)
+
+  both_run : (m n : ℕ) (es : List Event) (w : Stations) → AreDeliveries es → HealsBoth m n w → HealsBoth m n (run c d es w)
+  both_run m n [] w are h = h
+  both_run m n (Near a ∷ es) w are h = both_run m n es (acts c a w) are.1 (both_near m n a w are.0 h)
+  both_run m n (Far a ∷ es) w are h = both_run m n es (swapped (acts d a (swapped w))) are.1 (both_far m n a w are.0 h)
+
+  -- what the two polls leave, seen from the near end
+  asked_at : (v : Stations) → Sound c d v → is_up v.near.station.phase ≡ true → is_busy v.near.station ≡ false → is_up v.far.station.phase ≡ true → is_busy v.far.station ≡ false → v.near.station.recovery ≡ true
+      → (n m : ℕ) → Reads (other d.role) d.longest v.out (rr true n true ∷ []) → Reads (other c.role) c.longest v.back (rr true m true ∷ []) → Heals c d v.far.station.tries ⊥ v
+  asked_at v sound up free far_on far_free recovery n m out back = (
+    record { sound = sound; near_on = up; far_on = far_on; near_free = free; far_free = far_free; far_tries = omega arith; far_rest = λ never. absurd never },
+    inl (record { number = n; rest = []; before = rr true m true ∷ []; recovery = recovery; out = out; mild = tt; back = back; polls = tt }),
+  )
+
+  pub both_fire : (w : Stations) → Sound c d w → IsDrained w → MayHeal c w.near → MayHeal d w.far → timer_runs w.near.station.phase w.near.station ≡ true → timer_runs w.far.station.phase w.far.station ≡ true
+      → (let v : Stations = swapped (acts d T1 (swapped (acts c T1 w))) in HealsBoth v.far.station.tries v.near.station.tries v)
+  both_fire w h drained near_may far_may near_runs far_runs =
+      let v : Stations = acts c T1 w in
+      let f = fires c d joined reads laws w h drained.out near_may.up near_may.free near_runs (near_may.tries near_runs) in
+      let far_same : w.far ≡ v.far = sym f.far in
+      let g = fires d c (joined_swapped c d joined) reads laws (swapped v) (sound_swapped c d joined v f.sound) (f.back ∙ drained.back)
+          (subst (λ (e : StationEnd). is_up e.station.phase ≡ true) far_same far_may.up) (subst (λ (e : StationEnd). is_busy e.station ≡ false) far_same far_may.free)
+          (subst (λ (e : StationEnd). timer_runs e.station.phase e.station ≡ true) far_same far_runs) (subst (λ (e : StationEnd). e.station.tries < d.retries) far_same (far_may.tries far_runs)) in
+      let u : Stations = acts d T1 (swapped v) in
+      let near_same : v.near ≡ u.far = sym g.far in
+      let near_up_there : is_up u.far.station.phase ≡ true = subst (λ (e : StationEnd). is_up e.station.phase ≡ true) near_same f.up in
+      let near_free_there : is_busy u.far.station ≡ false = subst (λ (e : StationEnd). is_busy e.station ≡ false) near_same f.free in
+      let recovers : u.far.station.recovery ≡ true = subst (λ (e : StationEnd). e.station.recovery ≡ true) near_same f.recovery in
+      let out : Reads (other d.role) d.longest u.back (rr true f.number true ∷ []) = subst (λ (os : List (List ℕ)). Reads (other d.role) d.longest os (rr true f.number true ∷ [])) (sym g.back) f.out in (
+        asked_at (swapped u) (sound_swapped d c (joined_swapped c d joined) u g.sound) near_up_there near_free_there g.up g.free recovers f.number g.number out g.out,
+        asked_swapped u g.sound g.up g.free near_up_there near_free_there g.recovery g.number f.number g.out out,
+      )
+    where
+      asked_swapped : (u : Stations) → Sound d c u → is_up u.near.station.phase ≡ true → is_busy u.near.station ≡ false → is_up u.far.station.phase ≡ true → is_busy u.far.station ≡ false → u.near.station.recovery ≡ true
+          → (n m : ℕ) → Reads (other c.role) c.longest u.out (rr true n true ∷ []) → Reads (other d.role) d.longest u.back (rr true m true ∷ []) → Heals d c u.far.station.tries ⊥ u
+      asked_swapped u sound up free far_on far_free recovery n m out back = (
+        record { sound = sound; near_on = up; far_on = far_on; near_free = free; far_free = far_free; far_tries = omega arith; far_rest = λ never. absurd never },
+        inl (record { number = n; rest = []; before = rr true m true ∷ []; recovery = recovery; out = out; mild = tt; back = back; polls = tt }),
+      )
+
+  pub both_settle : (m n : ℕ) (v : Stations) → HealsBoth m n v → IsDrained v → IsHealed v.near v.far × IsHealed v.far v.near
+  both_settle m n v h drained =
+      let near = settles c d joined reads laws m ⊥ v h.0 drained in
+      let far = settles d c (joined_swapped c d joined) reads laws n ⊥ (swapped v) h.1 (record { out = drained.back; back = drained.out }) in (
+        record { rest = near; arrived = arrives c d joined reads laws v h.0.0.sound h.0.0.near_on near },
+        record { rest = far; arrived = arrives d c (joined_swapped c d joined) reads laws (swapped v) h.1.0.sound h.1.0.near_on far },
+      )
+
 -- ---- the laws
 
 module _ (reads : ReadsSpelled) (laws : HealingLaws) where
@@ -387,3 +486,41 @@ module _ (reads : ReadsSpelled) (laws : HealingLaws) where
       let two = far_round c d joined v one.sound drained may one.near_on one.near_free second second_are after in
       let rest = two.heals.far_rest one.heals.near.rest in
       (record { rest = rest; arrived = arrives c d joined reads laws u (sound_swapped d c (joined_swapped c d joined) (swapped u) two.sound) two.heals.far_up rest }, two.heals.near)
+
+  -- both ends, where the near end's timer doesn't run, where the far end's doesn't, and where both do
+  pub both_firings_heal : BothFiringsHeal
+  both_firings_heal c d joined events quiet near_may far_may es are after = by (timer_runs w.near.station.phase w.near.station) (timer_runs w.far.station.phase w.far.station) refl refl
+    where
+      w : Stations
+      w = run c d events start
+
+      sound : Sound c d w
+      sound = reached_sound laws reads c d joined events quiet.once
+
+      v : Stations
+      v = run c d es (swapped (acts d T1 (swapped (acts c T1 w))))
+
+      by : (near far : Bool) → timer_runs w.near.station.phase w.near.station ≡ near → timer_runs w.far.station.phase w.far.station ≡ far → IsHealed v.near v.far × IsHealed v.far v.near
+      by false far near_stops is =
+          let same : v ≡ run c d es (swapped (acts d T1 (swapped w))) = ap (λ (z : Stations). run c d es (swapped (acts d T1 (swapped z)))) (refused c d joined reads laws w near_stops) in
+          let u : Stations = run c d es (swapped (acts d T1 (swapped w))) in
+          let shown = shows_at_rest c d joined reads laws w sound near_may.up near_stops in
+          let round = far_round c d joined w sound quiet.drained far_may near_may.up near_may.free es are (subst IsDrained same after) in
+          let rest = round.heals.far_rest shown.0 in
+          let arrived = arrives c d joined reads laws u (sound_swapped d c (joined_swapped c d joined) (swapped u) round.sound) round.heals.far_up rest in
+          subst (λ (z : Stations). IsHealed z.near z.far × IsHealed z.far z.near) (sym same) (record { rest = rest; arrived = arrived }, round.heals.near)
+      by true false near_runs far_stops =
+          let x : Stations = acts c T1 w in
+          let untouched : x.far ≡ w.far = (each_hands_one c d (Near T1) w).far in
+          let stops : timer_runs x.far.station.phase x.far.station ≡ false = ap (λ (e : StationEnd). timer_runs e.station.phase e.station) untouched ∙ far_stops in
+          let same : v ≡ run c d es x = ap (λ (z : Stations). run c d es (swapped z)) (refused d c (joined_swapped c d joined) reads laws (swapped x) stops) in
+          let u : Stations = run c d es x in
+          let shown = shows_at_rest d c (joined_swapped c d joined) reads laws (swapped w) (sound_swapped c d joined w sound) far_may.up far_stops in
+          let round = one_round c d joined reads laws w sound quiet.drained near_may far_may.up far_may.free es are (subst IsDrained same after) in
+          let rest = round.heals.far_rest shown.0 in
+          let arrived = arrives d c (joined_swapped c d joined) reads laws (swapped u) (sound_swapped c d joined u round.sound) round.heals.far_up rest in
+          subst (λ (z : Stations). IsHealed z.near z.far × IsHealed z.far z.near) (sym same) (round.heals.near, record { rest = rest; arrived = arrived })
+      by true true near_runs far_runs =
+          let u : Stations = swapped (acts d T1 (swapped (acts c T1 w))) in
+          both_settle c d joined reads laws u.far.station.tries u.near.station.tries v
+          (both_run c d joined reads laws u.far.station.tries u.near.station.tries es u are (both_fire c d joined reads laws w sound quiet.drained near_may far_may near_runs far_runs)) after

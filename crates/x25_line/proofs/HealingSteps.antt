@@ -159,6 +159,7 @@ pub record Delivered (c d : Settings) (w v : Stations) (fs gs : List PlainFrame)
   pub said : (take_step c octets w.near.station).side.out ≡ o.first ++ next
   pub out : Reads (other d.role) d.longest v.out (fs ++ (o.first ++ next))
   pub sends : AreNext (length o.taken) o.place next v.near.station.outgoing.place
+  pub held : o.recovery ≡ true → v.near.station.outgoing.place ≡ o.place
   pub back : Reads (other c.role) c.longest v.back gs
   pub far : v.far ≡ w.far
   pub free : is_busy w.near.station ≡ false → is_busy v.near.station ≡ false
@@ -195,6 +196,7 @@ module _ (c d : Settings) (joined : AreJoined c d) (reads : ReadsSpelled) (laws 
         said = a.out;
         out = read_out sound;
         sends = a.sends;
+        held = a.held;
         back = r.rest;
         far = refl;
         free = λ free. (let few = ltb-false _ _ free in le-ltb _ _ (omega (arith, few, (laws.continues c r.octets w.near.station).waits a.quiet)));

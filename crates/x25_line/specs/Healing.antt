@@ -105,3 +105,12 @@ TwoFiringsHeal =
     → (let w = run c d events start in MayHeal c w.near → MayHeal d w.far
     → (first : List Event) → AreDeliveries first → (let v = run c d (Near T1 ∷ first) w in IsDrained v
     → (second : List Event) → AreDeliveries second → (let u = run c d (Far T1 ∷ second) v in IsDrained u → IsHealed u.near u.far × IsHealed u.far u.near)))
+
+-- ---- both ends at once
+
+-- Both fire, and then all that is on the line comes, in any order of the two directions: everything sent has arrived, and both are at rest.
+abbrev pub BothFiringsHeal : Type 0
+BothFiringsHeal =
+    (c d : Settings) → AreJoined c d → (events : List Event) → IsQuietMoment c d events
+    → (let w = run c d events start in MayHeal c w.near → MayHeal d w.far
+    → (deliveries : List Event) → AreDeliveries deliveries → (let v = run c d (Near T1 ∷ Far T1 ∷ deliveries) w in IsDrained v → IsHealed v.near v.far × IsHealed v.far v.near))

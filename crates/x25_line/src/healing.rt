@@ -1,6 +1,6 @@
 //! Healing: once the line is good for a moment, everything arrives. Laws of two link stations over a line, each the contract of a
 //! function that does nothing.
-ghost use Rattle.x25_line.specs.Healing.{RestShows, OneFiringHeals, FarFiringHeals, OneFiringEnds, TwoFiringsHeal};
+ghost use Rattle.x25_line.specs.Healing.{RestShows, OneFiringHeals, FarFiringHeals, OneFiringEnds, TwoFiringsHeal, BothFiringsHeal};
 
 use x25_frame::reads_what_is_spelled;
 use x25_link::{
@@ -37,10 +37,11 @@ pub fn one_firing_heals()
     reads_what_is_spelled();
 }
 
-/// Deliver, fire once at each end, one after the other, and deliver each time: everything sent has arrived, in order, once, and both
-/// ends are at rest.
+/// Deliver, fire once at each end, deliver: everything sent has arrived, in order, once, and both ends are at rest. Both may fire before
+/// anything comes (`at_once`), or one after the other, with all deliveries of the first between them (`in_turn`).
 pub fn two_firings_heal()
-    ensures { TwoFiringsHeal }
+    ensures at_once { BothFiringsHeal }
+    ensures in_turn { TwoFiringsHeal }
 {
     follows_the_window();
     sets_up_by_rows();
