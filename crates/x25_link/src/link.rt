@@ -228,9 +228,7 @@ impl Link {
         ensures least { self.now.outgoing.long ≤ result }
         ensures most { result ≤ max self.now.outgoing.long 16 + 16 }
     {
-        self.outgoing
-            .blanks()
-            .saturating_add(self.answers.blanks())
+        self.outgoing.blanks().saturating_add(self.answers.blanks())
     }
 
     // Hands a packet down, and keeps the frames.

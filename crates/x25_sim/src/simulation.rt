@@ -52,20 +52,16 @@ impl Simulation {
 
     /// Sets the link up, unless it was asked for with both links down, does what the lines of the script ask for, and writes what
     /// happens, as `sim` says.
-    pub fn play<R: Source, W: Sink>(
-        mut self,
-        reader: &mut R,
-        writer: &mut W,
-    ) -> Result<u8, Fault>
+    pub fn play<R: Source, W: Sink>(mut self, reader: &mut R, writer: &mut W) -> Result<u8, Fault>
         ensures clean { OnOk result ((R.is_marked reader.new ≡ R.is_marked reader.old) × (W.is_marked writer.new ≡ W.is_marked writer.old)) }
         ensures zero_or_one { IfOk result (λ status. status ≤ 1) }
-        ensures text { (cfg : Settings) (down tap : Bool) → IsReady cfg down tap self.entry → OnOk result (IfSome (R.remaining reader.old) (λ script. length script < 2 ^ 64 - 1
+        ensures text { (cfg : Settings) (down tap : Bool) → IsReady cfg down tap self → OnOk result (IfSome (R.remaining reader.old) (λ script. length script < 2 ^ 64 - 1
             → Appends (W.contents writer.old) (W.contents writer.new) (sim_text cfg down tap script))) }
-        ensures status { (cfg : Settings) (down tap : Bool) → IsReady cfg down tap self.entry → IfOk result (λ status. IfSome (R.remaining reader.old) (λ script. length script < 2 ^ 64 - 1
+        ensures status { (cfg : Settings) (down tap : Bool) → IsReady cfg down tap self → IfOk result (λ status. IfSome (R.remaining reader.old) (λ script. length script < 2 ^ 64 - 1
             → status ≡ sim_status cfg down tap script)) }
-        ensures fault { (cfg : Settings) (down tap : Bool) → IsReady cfg down tap self.entry → OnErr result (IfSome (R.remaining reader.old) (λ script. length script < 2 ^ 64 - 1
+        ensures fault { (cfg : Settings) (down tap : Bool) → IsReady cfg down tap self → OnErr result (IfSome (R.remaining reader.old) (λ script. length script < 2 ^ 64 - 1
             → AppendsBeginning (W.contents writer.old) (W.contents writer.new) (sim_text cfg down tap script))) }
-        ensures ended { (cfg : Settings) (down tap : Bool) → IsReady cfg down tap self.entry → IsErrOf result Fault.Read → IfSome (R.remaining reader.old) (λ script.
+        ensures ended { (cfg : Settings) (down tap : Bool) → IsReady cfg down tap self → IsErrOf result Fault.Read → IfSome (R.remaining reader.old) (λ script.
             (rest : List ℕ) × (R.remaining reader.new ≡ Some rest)
             × WritesEnded cfg tap (W.contents writer.old) (W.contents writer.new) rest (simulated cfg down tap script)) }
         ensures read { IsErrOf result Fault.Read → R.is_marked reader.new ≡ true }

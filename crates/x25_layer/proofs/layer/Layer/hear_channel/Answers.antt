@@ -38,7 +38,7 @@ pub returns-in-Ok-clause-room : goal.returns-in-Ok-clause-room
 returns-in-Ok-clause-room c = λ len have.
     let here = have (c.from-place.result - 1) c.index_mut.result.now (read_there c.args.self.now.circuits.items c.args.channel c.from-place.result c.index_mut.result.now c.requires.channel c.from-place.ensures c.index_mut.ensures.value) in
     if_none c.in-Ok.reply.packet (λ (more : room_of c.index_mut.result.now ≤ room_of c.hear_circuit.new.circuit).
-        all_changed (λ (k : ℕ) (v : circuit_code.Circuit). min len 4096 ≤ room_of v) c.args.self.now.circuits.items (c.from-place.result - 1) c.hear_circuit.new.circuit have (omega (arith, here, more)))
+    all_changed (λ (k : ℕ) (v : circuit_code.Circuit). min len 4096 ≤ room_of v) c.args.self.now.circuits.items (c.from-place.result - 1) c.hear_circuit.new.circuit have (omega (arith, here, more)))
     c.in-Ok.ensures.room
 
 pub returns-in-Err-clause-room_stays : goal.returns-in-Err-clause-room_stays

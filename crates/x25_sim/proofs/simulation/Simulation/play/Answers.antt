@@ -28,7 +28,7 @@ pub returns-clause-clean : goal.returns-clause-clean
 returns-clause-clean g c = on_ok_weaker c.take_text.result (λ clean. (clean.0, clean.1 ∙ c.in_ok-open.ensures.kept)) c.take_text.ensures.clean
 
 -- the script is still to come
-begins : (g : given.Over) (c : goal.After-take_text g) (cfg : Cfg) (down tap : Bool) → IsReady cfg down tap c.args.self → (script : List ℕ)
+begins : (g : given.Over) (c : goal.After-drop-self-2 g) (cfg : Cfg) (down tap : Bool) → IsReady cfg down tap c.args.self → (script : List ℕ)
     → Leads cfg tap (g.W.Sink.contents c.args.writer.now) (g.W.Sink.contents c.open.new.writer) c.new-simulator.result script (simulated cfg c.args.self.down tap script)
 begins g c cfg down tap ready script =
     let s = c.args.self in
@@ -42,27 +42,27 @@ pub returns-clause-text : goal.returns-clause-text
 returns-clause-text g c = λ cfg down tap ready.
     let written = g.W.Sink.contents c.args.writer.now in
     subst (λ d. OnOk c.take_text.result (IfSome (g.R.Source.remaining c.args.reader.now) (λ script. length script < 2 ^ 64 - 1
-        → Appends written (g.W.Sink.contents c.take_text.new.writer) (sim_text cfg d tap script)))) ready.asked
+    → Appends written (g.W.Sink.contents c.take_text.new.writer) (sim_text cfg d tap script)))) ready.asked
     (c.take_text.ensures.text (record { cfg = cfg; down = c.args.self.down; tap = tap }) written (begins g c cfg down tap ready))
 
 pub returns-clause-status : goal.returns-clause-status
 returns-clause-status g c = λ cfg down tap ready.
     let written = g.W.Sink.contents c.args.writer.now in
     subst (λ d. IfOk c.take_text.result (λ status. IfSome (g.R.Source.remaining c.args.reader.now) (λ script. length script < 2 ^ 64 - 1
-        → status ≡ sim_status cfg d tap script))) ready.asked
+    → status ≡ sim_status cfg d tap script))) ready.asked
     (c.take_text.ensures.status (record { cfg = cfg; down = c.args.self.down; tap = tap }) written (begins g c cfg down tap ready))
 
 pub returns-clause-fault : goal.returns-clause-fault
 returns-clause-fault g c = λ cfg down tap ready.
     let written = g.W.Sink.contents c.args.writer.now in
     subst (λ d. OnErr c.take_text.result (IfSome (g.R.Source.remaining c.args.reader.now) (λ script. length script < 2 ^ 64 - 1
-        → AppendsBeginning written (g.W.Sink.contents c.take_text.new.writer) (sim_text cfg d tap script)))) ready.asked
+    → AppendsBeginning written (g.W.Sink.contents c.take_text.new.writer) (sim_text cfg d tap script)))) ready.asked
     (c.take_text.ensures.fault (record { cfg = cfg; down = c.args.self.down; tap = tap }) written (begins g c cfg down tap ready))
 
 pub returns-clause-ended : goal.returns-clause-ended
 returns-clause-ended g c = λ cfg down tap ready.
     let written = g.W.Sink.contents c.args.writer.now in
     subst (λ d. IsErrOf c.take_text.result fault.Read → IfSome (g.R.Source.remaining c.args.reader.now) (λ script.
-        (rest : List ℕ) × (g.R.Source.remaining c.take_text.new.reader ≡ Some rest)
-        × WritesEnded cfg tap written (g.W.Sink.contents c.take_text.new.writer) rest (simulated cfg d tap script))) ready.asked
+    (rest : List ℕ) × (g.R.Source.remaining c.take_text.new.reader ≡ Some rest)
+    × WritesEnded cfg tap written (g.W.Sink.contents c.take_text.new.writer) rest (simulated cfg d tap script))) ready.asked
     (c.take_text.ensures.ended (record { cfg = cfg; down = c.args.self.down; tap = tap }) written (begins g c cfg down tap ready))
