@@ -46,8 +46,8 @@ fn append(frames: &mut Vec<Vec<u8>>, more: Vec<Vec<u8>>)
 
 /// A step with further frames behind its own.
 fn with_frames(mut step: Step, more: Vec<Vec<u8>>) -> Result<Step, Fault>
-    ensures frames { IfOk result (λ both. both.frames.items ≡ step.entry.frames.items ++ more.entry.items) }
-    ensures entries { IfOk result (λ both. both.entries ≡ step.entry.entries) }
+    ensures frames { IfOk result (λ both. both.frames.items ≡ step.frames.items ++ more.items) }
+    ensures entries { IfOk result (λ both. both.entries ≡ step.entries) }
     ensures memory { IfErr result (λ fault. fault ≡ Fault.NoMemory) }
 {
     if step.frames.reserve(more.len()).is_err() {
@@ -199,7 +199,7 @@ impl Pipe {
 
     /// Pulls what waits in the circuits behind a step, of which the frames of both are. Where that is refused it is the step alone.
     fn pull_behind(&mut self, step: Step) -> Result<Step, Fault>
-        ensures pulled { (c : Settings) (o : Outcome) → IsStep c self.old.station step.entry o → IfOk result (λ both. IsStep c self.new.station both (with_pulls c o)) }
+        ensures pulled { (c : Settings) (o : Outcome) → IsStep c self.old.station step o → IfOk result (λ both. IsStep c self.new.station both (with_pulls c o)) }
         ensures role { self.new.end ≡ self.old.end }
         ensures output { self.new.output ≡ self.old.output }
         ensures is_refused { self.new.is_refused ≡ self.old.is_refused }
@@ -226,7 +226,7 @@ impl Pipe {
     ) -> Result<(), Fault>
         ensures kept { OnOk result (W.is_marked writer.new ≡ W.is_marked writer.old) }
         ensures stood { (c : Settings) (old : Option (List ℕ)) (s : State) (event : Event) (o : Outcome) (told : List ℕ) (refused : Bool)
-            → Watches before s → is_firing ≡ is_firing_of event → IsStep c self.old.station step.entry o → self.old.end ≡ c.role
+            → Watches before s → is_firing ≡ is_firing_of event → IsStep c self.old.station step o → self.old.end ≡ c.role
             → Tells old (W.contents writer.old) self.old.output told → self.old.is_refused ≡ refused
             → Stood c old (W.contents writer.new) self.new told refused result (turn_of c s event (with_pulls c o)) }
         ensures written { OnOk result (self.new.output ≡ []) }

@@ -103,7 +103,7 @@ fn direction(numbers: &mut Numbers) -> Direction {
 }
 
 /// The kinds of commands, and then those of the other events.
-const COMMANDS: usize = 14;
+const COMMANDS: usize = 13;
 
 const KINDS: usize = COMMANDS + 4;
 
@@ -142,13 +142,12 @@ fn command(numbers: &mut Numbers, kind: usize, channels: u8) -> Cmd<'static> {
         },
         10 => Cmd::Restart,
         11 => Cmd::Connect,
-        12 => Cmd::Pull,
         _ => Cmd::Disconnect,
     }
 }
 
 // How often each kind of command comes, of 64.
-static OFTEN: [usize; COMMANDS] = [8, 9, 2, 18, 6, 1, 2, 1, 6, 7, 1, 1, 1, 1];
+static OFTEN: [usize; COMMANDS] = [8, 9, 2, 19, 6, 1, 2, 1, 6, 7, 1, 1, 1];
 
 fn kind_of_command(numbers: &mut Numbers) -> usize {
     let mut left = numbers.below(64);
