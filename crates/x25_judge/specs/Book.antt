@@ -1,5 +1,5 @@
 -- The packet layers of both ends and all their channels, and what a frame changes and breaks. ITU-T X.25 (10/96), sections 3 and 4.
-use Rattle.std.specs.Prelude.{ℕ, ◌%◌, ◌==◌, Bool, true, false, not, if◌then◌else◌, List, replicate, slice_index_or, slice_set, Option, Some, None, Result, Ok, Err}
+use Rattle.std.specs.Prelude.{ℕ, ◌%◌, ◌==◌, Bool, true, false, not, if◌then◌else◌, List, slice_index_or, slice_set, Option, Some, None, Result, Ok, Err}
 use Rattle.x25_bits.specs.declared.role.Role.{Role}
 use Rattle.x25_bits.specs.declared.role.Role.TheVariants.{Dte, Dce}
 use Rattle.x25_frame.specs.PlainFrame.{PlainFrame, info, rr, rnr, rej, sabm, disc, ua, dm, frmr}
@@ -11,20 +11,20 @@ use Rattle.x25_judge.specs.Layer as layer
 use Rattle.x25_judge.specs.PacketRule.{first}
 use Rattle.x25_judge.specs.Packets.{sends}
 use Rattle.x25_judge.specs.Pair.{unknown}
-use Rattle.x25_judge.specs.Port.{fresh}
+use Rattle.x25_judge.specs.Port.{all_alike, blank, fresh}
 use Rattle.x25_judge.specs.declared.book.Book.{Book}
 use Rattle.x25_judge.specs.declared.layer.Layers.{Layers}
 use Rattle.x25_judge.specs.declared.packet_rule.PacketRule.{PacketRule}
 use Rattle.x25_judge.specs.declared.pair.Pair.{Pair}
 use Rattle.x25_judge.specs.declared.port.Port.{Port}
 
--- all channels behind a restart
-abbrev pub all_fresh : List Port
-all_fresh = replicate 4096 fresh
+abbrev pub other : Role → Role
+other Dte = Dce
+other Dce = Dte
 
 -- nothing was sent
 abbrev pub empty : Book
-empty = record { dte = layer.unseen; dce = layer.unseen; dte_ports = all_fresh; dce_ports = all_fresh }
+empty = record { dte = layer.unseen; dce = layer.unseen; dte_ports = all_alike blank; dce_ports = all_alike blank }
 
 -- ---- parts: the end that sends comes first
 
@@ -36,13 +36,16 @@ abbrev pub keeps : Role → Layers → Book → Book
 keeps Dte t b = record { dte = t.own; dce = t.other; dte_ports = b.dte_ports; dce_ports = b.dce_ports }
 keeps Dce t b = record { dte = t.other; dce = t.own; dte_ports = b.dte_ports; dce_ports = b.dce_ports }
 
--- the channels of the end that sends begin anew
-abbrev pub begins_ports : Role → Book → Book
-begins_ports Dte b = record { dte = b.dte; dce = b.dce; dte_ports = all_fresh; dce_ports = b.dce_ports }
-begins_ports Dce b = record { dte = b.dte; dce = b.dce; dte_ports = b.dte_ports; dce_ports = all_fresh }
+-- the channels of an end, or of both, are all as this one
+abbrev pub fills : Role → Port → Book → Book
+fills Dte p b = record { dte = b.dte; dce = b.dce; dte_ports = all_alike p; dce_ports = b.dce_ports }
+fills Dce p b = record { dte = b.dte; dce = b.dce; dte_ports = b.dte_ports; dce_ports = all_alike p }
+
+abbrev pub fills_both : Port → Book → Book
+fills_both p b = record { dte = b.dte; dce = b.dce; dte_ports = all_alike p; dce_ports = all_alike p }
 
 abbrev pub port_of : ℕ → List Port → Port
-port_of channel ports = slice_index_or ports (channel % 4096) fresh
+port_of channel ports = slice_index_or ports (channel % 4096) blank
 
 abbrev pub pair_of : Role → Bool → ℕ → Book → Pair
 pair_of Dte reaches channel b = record { from = Dte; reaches = reaches; own = port_of channel b.dte_ports; other = port_of channel b.dce_ports; rule = None }
@@ -75,18 +78,26 @@ quiet b = record { book = b; rule = None }
 abbrev pub took : Role → Layers → ℕ → Pair → Book → Seen
 took from t channel p b = record { book = puts from channel p (keeps from t b); rule = first t.rule p.rule }
 
-abbrev pub takes_on : Role → Layers → ℕ → PlainPacket → Book → Seen
+unfoldable pub takes_on : Role → Layers → ℕ → PlainPacket → Book → Seen
 takes_on from t channel packet b =
     if not (layer.are_sure t) then record { book = keeps from t b; rule = t.rule }
     else took from t channel (sends packet (pair_of from (layer.are_level t) channel b)) b
 
-abbrev pub kept : Role → Layers → Book → Seen
-kept from t b = record { book = keeps from t (begins_ports from b); rule = t.rule }
+-- where no restart went before, nothing is known of the end's channels
+unfoldable pub runs : Role → ℕ → PlainPacket → Book → Seen
+runs from channel packet b =
+    if layer.is_begun (layers_of from b).own.restart
+    then takes_on from (layer.runs (layers_of from b)) channel packet (fills from blank b)
+    else takes_on from (layer.runs (layers_of from b)) channel packet b
+
+-- RESTART and its confirmation: all channels of the end that sends begin anew
+unfoldable pub restarts : Role → Layers → Book → Seen
+restarts from t b = record { book = keeps from t (fills from fresh b); rule = t.rule }
 
 unfoldable pub takes : Role → ℕ → PlainPacket → Book → Seen
-takes from channel (restart cause diagnostic) b = kept from (layer.restarts (layers_of from b)) b
-takes from channel restart_conf b = kept from (layer.confirms_restart (layers_of from b)) b
-takes from channel packet b = takes_on from (layer.runs (layers_of from b)) channel packet b
+takes from channel (restart cause diagnostic) b = restarts from (layer.restarts (layers_of from b)) b
+takes from channel restart_conf b = restarts from (layer.confirms_restart (layers_of from b)) b
+takes from channel packet b = runs from channel packet b
 
 -- octets that spell none: nothing may be said of their channel, or of restarts where they name none
 abbrev pub misses_on : Role → ℕ → Book → Book
@@ -103,24 +114,46 @@ reads_on from long_data octets None b = quiet b
 reads_on from long_data octets (Some channel) b = takes_read from channel (packet_of (longest_user long_data) octets) b
 
 -- the information of an I frame
-abbrev pub reads : Role → Bool → List ℕ → Book → Seen
+unfoldable pub reads : Role → Bool → List ℕ → Book → Seen
 reads from long_data octets b = reads_on from long_data octets (channel_in octets) b
 
 -- ---- a frame
 
+-- an N(R): where it shows that packets of the other end weren't seen, nothing is known of its channels
+unfoldable pub hears : Role → ℕ → Book → Book
+hears from number b =
+    if layer.finds_other number (layers_of from b)
+    then keeps from (layer.hears number (layers_of from b)) (fills (other from) blank b)
+    else keeps from (layer.hears number (layers_of from b)) b
+
 abbrev pub reads_if : Bool → Role → Bool → List ℕ → Book → Seen
 reads_if may from long_data octets b = if may then reads from long_data octets b else quiet b
 
-abbrev pub moved : Role → PlainFrame → Bool → Book → Book
-moved from frame is_broken b = keeps from (layer.sees frame is_broken (layers_of from b)) b
+-- an I frame, by N(S)
+unfoldable pub moves : Role → Bool → ℕ → List ℕ → Book → Seen
+moves from long_data number octets b =
+    reads_if (layer.may_judge number (layers_of from b)) from long_data octets (keeps from (layer.moves number (layers_of from b)) b)
+
+-- one that breaks a rule of the link layer may hide packets
+unfoldable pub sends_info : Role → Bool → ℕ → ℕ → List ℕ → Bool → Book → Seen
+sends_info from long_data ns nr octets is_broken b =
+    if is_broken then quiet (keeps from (layer.loses (layers_of from b)) b) else moves from long_data ns octets (hears from nr b)
+
+-- the channels of both ends begin anew: of an end that is followed on, nothing was seen of them yet
+unfoldable pub begins : Role → Layers → Book → Book
+begins from t b = keeps from t (fills_both fresh b)
 
 -- by whether it breaks a rule of the link layer
 unfoldable pub sees : Role → Bool → PlainFrame → Bool → Book → Seen
-sees from long_data (info ns nr p octets) is_broken b =
-    reads_if (layer.may_judge ns is_broken (layers_of from b)) from long_data octets (moved from (info ns nr p octets) is_broken b)
-sees from long_data (sabm p) is_broken b = quiet (begins_ports from (moved from (sabm p) is_broken b))
-sees from long_data (ua f) is_broken b = quiet (begins_ports from (moved from (ua f) is_broken b))
-sees from long_data frame is_broken b = quiet (moved from frame is_broken b)
+sees from long_data (info ns nr p octets) is_broken b = sends_info from long_data ns nr octets is_broken b
+sees from long_data (rr command nr pf) is_broken b = quiet (hears from nr b)
+sees from long_data (rnr command nr pf) is_broken b = quiet (hears from nr b)
+sees from long_data (rej command nr pf) is_broken b = quiet (hears from nr b)
+sees from long_data (sabm p) is_broken b = quiet (begins from (layer.asks (layers_of from b)) b)
+sees from long_data (ua f) is_broken b = quiet (begins from (layer.accepts (layers_of from b)) b)
+sees from long_data (dm f) is_broken b = quiet (keeps from (layer.declines (layers_of from b)) b)
+sees from long_data (disc p) is_broken b = quiet (keeps from (layer.leaves (layers_of from b)) b)
+sees from long_data (frmr f why) is_broken b = quiet b
 
 -- octets that are no frame
 abbrev pub misses : Role → Book → Book

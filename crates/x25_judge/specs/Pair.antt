@@ -64,12 +64,25 @@ starts t = if t.own.is_clearing && nat_lt 0 t.other.owed
 
 -- ---- where nothing is known
 
--- CLEAR CONFIRMATION behind a CLEAR
-abbrev pub finds : Pair → Pair
-finds t = if t.other.is_clearing then with_other (port.found t.other) (with_own port.fresh t) else t
-
 abbrev pub clears_unknown : Pair → Pair
-clears_unknown t = with_own (port.clearing true t.own) t
+clears_unknown t = with_own (port.clears_unknown t.own) t
+
+abbrev pub calls_unknown : Terms → Pair → Pair
+calls_unknown terms t = with_own (port.calls_unknown terms t.own) t
+
+abbrev pub settles : Pair → Pair
+settles t = with_own (port.settled t.own) t
+
+-- CLEAR CONFIRMATION behind a CLEAR makes the channel known
+abbrev pub finds : Pair → Pair
+finds t = if t.other.is_clearing then with_other (port.found t.other) (with_own port.fresh t) else settles t
+
+abbrev pub is_up : Terms → Pair → Pair
+is_up terms t = with_other (port.set_up Answered false terms port.fresh) (with_own (port.set_up Open true terms port.fresh) t)
+
+-- .. and so does CALL ACCEPTED behind a CALL, where not both ends called
+abbrev pub finds_call : List ℕ → Pair → Pair
+finds_call field t = if port.is_calling t.other.call && not (port.is_calling t.own.call) then is_up (said field t.other.terms) t else settles t
 
 -- ---- setting up (sections 4.1.2 to 4.1.6)
 

@@ -1,5 +1,5 @@
 -- One end of a logical channel, as what it sent shows it. ITU-T X.25 (10/96), sections 4.1, 4.3 and 4.4; what is kept is profile.
-use Rattle.std.specs.Prelude.{ℕ, ◌+◌, ◌-◌, Bool, true, false, if◌then◌else◌, min}
+use Rattle.std.specs.Prelude.{ℕ, ◌+◌, ◌-◌, Bool, true, false, if◌then◌else◌, min, List, replicate}
 use Rattle.x25_judge.specs.Flow as flow
 use Rattle.x25_judge.specs.Message.{octets_of}
 use Rattle.x25_judge.specs.Terms.{usual}
@@ -7,7 +7,7 @@ use Rattle.x25_judge.specs.declared.flow.Flow.{Flow}
 use Rattle.x25_judge.specs.declared.message.Message.{Message}
 use Rattle.x25_judge.specs.declared.message.Message.TheVariants.{Ended}
 use Rattle.x25_judge.specs.declared.port.Call.{Call}
-use Rattle.x25_judge.specs.declared.port.Call.TheVariants.{Idle}
+use Rattle.x25_judge.specs.declared.port.Call.TheVariants.{Idle, Called, Calling, Collided, Answered, Open}
 use Rattle.x25_judge.specs.declared.port.Talk.{Talk}
 use Rattle.x25_judge.specs.declared.port.Port.{Port}
 use Rattle.x25_judge.specs.declared.terms.Terms.{Terms}
@@ -64,8 +64,30 @@ idle is_known is_clearing owed = record {
 abbrev pub fresh : Port
 fresh = idle true false 0
 
+abbrev pub blank : Port
+blank = idle false false 0
+
+-- nothing of it waits for a confirmation or an acceptance, as far as is known
+abbrev pub settled : Port → Port
+settled p = record p { is_clearing = false; call = Idle }
+
 abbrev pub unknown : Port → Port
-unknown p = record p { is_known = false }
+unknown p = record p { is_known = false; is_clearing = false; call = Idle }
+
+-- CLEAR and CALL, where nothing is known
+abbrev pub clears_unknown : Port → Port
+clears_unknown p = idle p.is_known true 0
+
+abbrev pub calls_unknown : Terms → Port → Port
+calls_unknown terms p = record p { is_clearing = false; call = Calling; terms = terms }
+
+abbrev pub is_calling : Call → Bool
+is_calling Idle = false
+is_calling Called = false
+is_calling Calling = true
+is_calling Collided = false
+is_calling Answered = false
+is_calling Open = false
 
 -- behind a CLEAR of this end, or its confirmation of the other's
 abbrev pub cleared : Bool → Port → Port
@@ -96,3 +118,7 @@ talk_of is_called terms =
 
 abbrev pub set_up : Call → Bool → Terms → Port → Port
 set_up call is_called terms p = with_talk (talk_of is_called terms) (proposing terms (in_call call p))
+
+-- each of the channels 0 to 4,095 is as this one
+unfoldable pub all_alike : Port → List Port
+all_alike p = replicate 4096 p

@@ -7,6 +7,7 @@ ghost use Rattle.x25_judge.specs.Book as definition;
 use crate::layer::{Layer, Layers};
 use crate::packet_rule::{PacketRule, first};
 use crate::pair::Pair;
+use crate::port::Port;
 use crate::ports::Ports;
 use std::alloc::{AllocError, Global};
 use x25_frame::{Frame, Role};
@@ -19,6 +20,15 @@ pub(crate) struct Book {
     pub(crate) dce: Layer,
     pub(crate) dte_ports: Ports,
     pub(crate) dce_ports: Ports,
+}
+
+fn other(role: Role) -> Role
+    ensures { result ≡ definition.other role }
+{
+    match role {
+        Role::Dte => Role::Dce,
+        Role::Dce => Role::Dte,
+    }
 }
 
 impl Book {
@@ -69,14 +79,22 @@ impl Book {
         }
     }
 
-    /// The channels of the end that sends begin anew.
-    fn begin(&mut self, from: Role)
-        ensures { self.new ≡ definition.begins_ports from self.old }
+    /// The channels of an end are all as this one.
+    fn fill(&mut self, role: Role, port: Port)
+        ensures { self.new ≡ definition.fills role port self.old }
     {
-        match from {
-            Role::Dte => self.dte_ports.begin(),
-            Role::Dce => self.dce_ports.begin(),
+        match role {
+            Role::Dte => self.dte_ports.fill(port),
+            Role::Dce => self.dce_ports.fill(port),
         }
+    }
+
+    /// The channels of both ends are.
+    fn fill_both(&mut self, port: Port)
+        ensures { self.new ≡ definition.fills_both port self.old }
+    {
+        self.dte_ports.fill(port);
+        self.dce_ports.fill(port);
     }
 
     /// Both ends of a channel.
@@ -116,7 +134,8 @@ impl Book {
         }
     }
 
-    /// A packet of a channel, where restarts are sure.
+    /// A packet of a channel.
+    #[tactic(auto, unfolding(crate::specs::Book::takes_on))]
     fn takes_on(
         &mut self,
         from: Role,
@@ -136,26 +155,41 @@ impl Book {
         first(layers.rule, pair.rule)
     }
 
+    /// .. and where no restart went before, nothing is known of the end's channels.
+    #[tactic(auto, unfolding(crate::specs::Book::runs))]
+    fn runs(&mut self, from: Role, channel: u16, packet: &Packet) -> Option<PacketRule>
+        ensures book { self.new ≡ (definition.runs from channel (plain packet.now) self.old).book }
+        ensures rule { result ≡ (definition.runs from channel (plain packet.now) self.old).rule }
+    {
+        let layers = self.layers(from);
+        if layers.is_begun() {
+            self.fill(from, Port::blank());
+            self.takes_on(from, layers.runs(), channel, packet)
+        } else {
+            self.takes_on(from, layers.runs(), channel, packet)
+        }
+    }
+
+    /// A RESTART or its confirmation.
+    #[tactic(auto, unfolding(crate::specs::Book::restarts))]
+    fn restarts(&mut self, from: Role, layers: Layers) -> Option<PacketRule>
+        ensures book { self.new ≡ (definition.restarts from layers self.old).book }
+        ensures rule { result ≡ (definition.restarts from layers self.old).rule }
+    {
+        self.fill(from, Port::fresh());
+        self.keep(from, layers);
+        layers.rule
+    }
+
     /// A packet; the rule that it breaks is answered.
     #[tactic(auto, unfolding(crate::specs::Book::takes))]
     fn takes(&mut self, from: Role, channel: u16, packet: &Packet) -> Option<PacketRule>
         ensures book { self.new ≡ (definition.takes from channel (plain packet.now) self.old).book }
         ensures rule { result ≡ (definition.takes from channel (plain packet.now) self.old).rule }
     {
-        let layers = self.layers(from);
         match packet {
-            Packet::Restart { .. } => {
-                self.begin(from);
-                let next = layers.restarts();
-                self.keep(from, next);
-                next.rule
-            }
-            Packet::RestartConf => {
-                self.begin(from);
-                let next = layers.confirms_restart();
-                self.keep(from, next);
-                next.rule
-            }
+            Packet::Restart { .. } => self.restarts(from, self.layers(from).restarts()),
+            Packet::RestartConf => self.restarts(from, self.layers(from).confirms_restart()),
             Packet::Call { .. }
             | Packet::Accept { .. }
             | Packet::Clear { .. }
@@ -166,7 +200,7 @@ impl Book {
             | Packet::Interrupt { .. }
             | Packet::InterruptConf { .. }
             | Packet::Reset { .. }
-            | Packet::ResetConf { .. } => self.takes_on(from, layers.runs(), channel, packet),
+            | Packet::ResetConf { .. } => self.runs(from, channel, packet),
         }
     }
 
@@ -184,6 +218,7 @@ impl Book {
     }
 
     /// The information of an I frame; the rule that it breaks is answered.
+    #[tactic(auto, unfolding(crate::specs::Book::reads))]
     fn reads(&mut self, from: Role, long_data: bool, octets: &[u8]) -> Option<PacketRule>
         ensures book { self.new ≡ (definition.reads from long_data octets.now self.old).book }
         ensures rule { result ≡ (definition.reads from long_data octets.now self.old).rule }
@@ -200,6 +235,72 @@ impl Book {
         }
     }
 
+    /// An N(R): where it shows that packets of the other end weren't seen, nothing is known of its channels.
+    #[tactic(auto, unfolding(crate::specs::Book::hears))]
+    fn hears(&mut self, from: Role, number: u8)
+        ensures { self.new ≡ definition.hears from number self.old }
+    {
+        let layers = self.layers(from);
+        if layers.finds_other(number) {
+            self.fill(other(from), Port::blank());
+            self.keep(from, layers.hears(number));
+        } else {
+            self.keep(from, layers.hears(number));
+        }
+    }
+
+    /// An I frame that breaks no rule of the link layer; the rule that its packet breaks is answered.
+    #[tactic(auto, unfolding(crate::specs::Book::moves))]
+    fn moves(
+        &mut self,
+        from: Role,
+        long_data: bool,
+        number: u8,
+        octets: &[u8],
+    ) -> Option<PacketRule>
+        ensures book { self.new ≡ (definition.moves from long_data number octets.now self.old).book }
+        ensures rule { result ≡ (definition.moves from long_data number octets.now self.old).rule }
+    {
+        let layers = self.layers(from);
+        self.keep(from, layers.moves(number));
+        if layers.may_judge(number) {
+            self.reads(from, long_data, octets)
+        } else {
+            None
+        }
+    }
+
+    /// The link is set up for an end.
+    #[tactic(auto, unfolding(crate::specs::Book::begins))]
+    fn begins(&mut self, from: Role, layers: Layers)
+        ensures { self.new ≡ definition.begins from layers self.old }
+    {
+        self.fill_both(Port::fresh());
+        self.keep(from, layers);
+    }
+
+    /// An I frame, which breaks a rule of the link layer where `is_broken`.
+    #[tactic(auto, unfolding(crate::specs::Book::sends_info))]
+    fn info(
+        &mut self,
+        from: Role,
+        long_data: bool,
+        numbers: (u8, u8),
+        octets: &[u8],
+        is_broken: bool,
+    ) -> Option<PacketRule>
+        ensures book { self.new ≡ (definition.sends_info from long_data numbers.0 numbers.1 octets.now is_broken self.old).book }
+        ensures rule { result ≡ (definition.sends_info from long_data numbers.0 numbers.1 octets.now is_broken self.old).rule }
+    {
+        if is_broken {
+            self.keep(from, self.layers(from).lost());
+            None
+        } else {
+            self.hears(from, numbers.1);
+            self.moves(from, long_data, numbers.0, octets)
+        }
+    }
+
     /// The end sends a frame, which breaks a rule of the link layer where `is_broken`; the rule that its packet breaks is answered.
     #[tactic(auto, unfolding(crate::specs::Book::sees))]
     pub(crate) fn sees(
@@ -212,24 +313,35 @@ impl Book {
         ensures book { self.new ≡ (definition.sees from long_data (plain_frame frame.now) is_broken self.old).book }
         ensures rule { result ≡ (definition.sees from long_data (plain_frame frame.now) is_broken self.old).rule }
     {
-        let layers = self.layers(from);
-        self.keep(from, layers.sees(frame, is_broken));
         match frame {
-            Frame::I { ns, info, .. } => if layers.may_judge(ns.get(), is_broken) {
-                self.reads(from, long_data, info)
-            } else {
-                None
-            },
-            Frame::Sabm { .. } | Frame::Ua { .. } => {
-                self.begin(from);
+            Frame::I { ns, nr, info, .. } => self.info(
+                from,
+                long_data,
+                (ns.get(), nr.get()),
+                info,
+                is_broken,
+            ),
+            Frame::Rr { nr, .. } | Frame::Rnr { nr, .. } | Frame::Rej { nr, .. } => {
+                self.hears(from, nr.get());
                 None
             }
-            Frame::Dm { .. }
-            | Frame::Disc { .. }
-            | Frame::Rr { .. }
-            | Frame::Rnr { .. }
-            | Frame::Rej { .. }
-            | Frame::Frmr { .. } => None,
+            Frame::Sabm { .. } => {
+                self.begins(from, self.layers(from).asks());
+                None
+            }
+            Frame::Ua { .. } => {
+                self.begins(from, self.layers(from).accepts());
+                None
+            }
+            Frame::Dm { .. } => {
+                self.keep(from, self.layers(from).declines());
+                None
+            }
+            Frame::Disc { .. } => {
+                self.keep(from, self.layers(from).leaves());
+                None
+            }
+            Frame::Frmr { .. } => None,
         }
     }
 

@@ -1,10 +1,9 @@
 //! The packet layers of both ends, as the frames of the link and their RESTARTs show them.
 ghost use Rattle.std.specs.Prelude.{◌≡◌};
-ghost use Rattle.x25_frame.specs.PlainFrame.{plain};
 ghost use Rattle.x25_judge.specs.Layer as definition;
 
 use crate::packet_rule::{PacketRule, first};
-use x25_frame::Frame;
+use crate::way::apart;
 
 /// Where an end is with a restart: nothing was sent since set-up; RESTART was, and nothing behind it yet; ready.
 #[derive(Clone, Copy)]
@@ -14,22 +13,33 @@ pub(crate) enum Restart {
     Ready,
 }
 
+/// Whether an end's packets are followed: not yet; not until its next set-up of the link; or each, in the order of N(S).
+#[derive(Clone, Copy)]
+pub(crate) enum Track {
+    Unseen,
+    Dropped,
+    Followed,
+}
+
 /// The packet layer of one end.
 #[derive(Clone, Copy)]
 pub(crate) struct Layer {
-    /// Whether all its packets were seen, from a set-up of the link on.
-    pub(crate) is_followed: bool,
-    /// No I frame was sent since the set-up.
+    pub(crate) track: Track,
+    /// No I frame and no supervisory frame was sent since the set-up.
     pub(crate) is_fresh: bool,
     /// N(S) of the next packet that wasn't seen yet.
     pub(crate) next: u8,
+    /// The other end's last N(R).
+    pub(crate) acked: u8,
     /// How many SABMs and DISCs of the other end may still be answered.
     pub(crate) asked: u8,
     pub(crate) restart: Restart,
     /// How many RESTARTs and confirmations the other end has sent more than this one.
     pub(crate) owed: u8,
-    /// Whether anything may be said of its restarts.
+    /// Whether anything may be said of its channels.
     pub(crate) is_sure: bool,
+    /// Whether anything may be said of its restarts.
+    pub(crate) is_counted: bool,
 }
 
 /// The end that sends and the other end, and the rule that a packet breaks.
@@ -46,13 +56,15 @@ impl Layer {
         ensures { result ≡ definition.unseen }
     {
         Layer {
-            is_followed: false,
+            track: Track::Unseen,
             is_fresh: false,
             next: 0,
+            acked: 0,
             asked: 0,
-            restart: Restart::Begun,
+            restart: Restart::Ready,
             owed: 0,
             is_sure: true,
+            is_counted: false,
         }
     }
 
@@ -61,23 +73,51 @@ impl Layer {
         ensures { result ≡ definition.begun asked }
     {
         Layer {
-            is_followed: true,
+            track: Track::Followed,
             is_fresh: true,
             next: 0,
+            acked: 0,
             asked,
             restart: Restart::Begun,
             owed: 0,
             is_sure: true,
+            is_counted: true,
         }
     }
 
-    fn followed(self, is_followed: bool) -> Layer
-        ensures { result ≡ definition.followed is_followed self }
+    /// Its packets are followed from an N(R) of the other end on.
+    fn found_at(self, number: u8) -> Layer
+        ensures { result ≡ definition.found_at number self }
     {
         Layer {
-            is_followed,
-            ..self
+            track: Track::Followed,
+            is_fresh: false,
+            next: number,
+            acked: number,
+            asked: self.asked,
+            restart: Restart::Ready,
+            owed: 0,
+            is_sure: true,
+            is_counted: false,
         }
+    }
+
+    fn is_unseen(self) -> bool
+        ensures { result ≡ definition.is_unseen self.track }
+    {
+        matches!(self.track, Track::Unseen)
+    }
+
+    fn is_dropped(self) -> bool
+        ensures { result ≡ definition.is_dropped self.track }
+    {
+        matches!(self.track, Track::Dropped)
+    }
+
+    fn is_followed(self) -> bool
+        ensures { result ≡ definition.is_followed self.track }
+    {
+        matches!(self.track, Track::Followed)
     }
 
     /// Not all of its packets were seen.
@@ -85,7 +125,31 @@ impl Layer {
         ensures { result ≡ definition.lost self }
     {
         Layer {
-            is_followed: false,
+            track: Track::Unseen,
+            is_fresh: false,
+            ..self
+        }
+    }
+
+    /// Behind a set-up of the other end, where it goes on from before.
+    fn set_up_again(self) -> Layer
+        ensures { result ≡ definition.set_up_again self }
+    {
+        if self.is_fresh {
+            Layer::begun(self.asked)
+        } else {
+            Layer {
+                track: Track::Dropped,
+                ..self
+            }
+        }
+    }
+
+    /// It sent a frame that may belong to no set-up.
+    fn worn(self) -> Layer
+        ensures { result ≡ definition.worn self }
+    {
+        Layer {
             is_fresh: false,
             ..self
         }
@@ -97,17 +161,18 @@ impl Layer {
         Layer { asked, ..self }
     }
 
-    /// An I frame was sent: the next one that wasn't seen yet where `is_next`.
-    fn moved(self, is_next: bool) -> Layer
-        ensures { result ≡ definition.moved is_next self }
+    fn with_acked(self, acked: u8) -> Layer
+        ensures { result ≡ definition.with_acked acked self }
+    {
+        Layer { acked, ..self }
+    }
+
+    /// The next packet that wasn't seen yet was.
+    fn moved(self) -> Layer
+        ensures { result ≡ definition.moved self }
     {
         Layer {
-            is_fresh: false,
-            next: if is_next {
-                self.next.saturating_add(1) % 8
-            } else {
-                self.next
-            },
+            next: self.next.saturating_add(1) % 8,
             ..self
         }
     }
@@ -154,6 +219,16 @@ impl Layer {
     {
         Layer {
             is_sure: false,
+            is_counted: false,
+            ..self
+        }
+    }
+
+    fn uncounted(self) -> Layer
+        ensures { result ≡ definition.uncounted self }
+    {
+        Layer {
+            is_counted: false,
             ..self
         }
     }
@@ -166,6 +241,7 @@ impl Layer {
             restart,
             owed: 0,
             is_sure: true,
+            is_counted: true,
             ..self
         }
     }
@@ -195,19 +271,23 @@ impl Layers {
 
     // ---- the link
 
-    /// Packets were missed.
-    fn lost(self) -> Layers
+    /// Packets of the end that sends were missed.
+    pub(crate) fn lost(self) -> Layers
         ensures { result ≡ definition.loses self }
     {
-        self.with_own(self.own.lost()).with_other(self.other.lost())
+        let next = self.with_own(self.own.lost());
+        if self.other.is_fresh {
+            next
+        } else {
+            next.with_other(self.other.lost())
+        }
     }
 
-    /// The link is set up for the end that sends. The other end's packets go on being seen where none is dropped.
+    /// The link is set up for the end that sends.
     fn begins(self, asked: u8) -> Layers
         ensures { result ≡ definition.begins asked self }
     {
-        let is_followed = self.other.is_followed && (self.other.is_fresh || self.own.is_fresh);
-        self.with_other(self.other.followed(is_followed))
+        self.with_other(self.other.set_up_again())
             .with_own(Layer::begun(asked))
     }
 
@@ -223,53 +303,98 @@ impl Layers {
         self.with_own(self.own.with_asked(self.own.asked.saturating_sub(1)))
     }
 
+    /// Whether an N(R) is about the packets of the other end.
+    fn may_hear(self) -> bool
+        ensures { result ≡ definition.may_hear self }
+    {
+        !self.own.is_dropped() && (!self.other.is_dropped() && !self.other.is_fresh)
+    }
+
+    /// Whether an N(R) shows that packets of the other end weren't seen.
+    pub(crate) fn finds_other(self, number: u8) -> bool
+        ensures { result ≡ definition.finds_other number self }
+    {
+        let seen = apart(self.other.next, self.other.acked);
+        let is_ahead = seen < apart(number, self.other.acked);
+        self.may_hear() && (self.other.is_unseen() || is_ahead)
+    }
+
+    /// The end sends an N(R).
+    pub(crate) fn hears(self, number: u8) -> Layers
+        ensures { result ≡ definition.hears number self }
+    {
+        let next = self.with_own(self.own.worn());
+        if self.finds_other(number) {
+            next.with_other(self.other.found_at(number))
+        } else if self.may_hear() {
+            next.with_other(self.other.with_acked(number))
+        } else {
+            next
+        }
+    }
+
     /// Whether an I frame is the next one that wasn't seen yet.
     fn is_next(self, number: u8) -> bool
         ensures { result ≡ definition.is_next number self }
     {
-        self.own.is_followed && number == self.own.next
+        self.own.is_followed() && number == self.own.next
     }
 
     /// Whether the packet of an I frame is judged.
-    pub(crate) fn may_judge(self, number: u8, is_broken: bool) -> bool
-        ensures { result ≡ definition.may_judge number is_broken self }
+    pub(crate) fn may_judge(self, number: u8) -> bool
+        ensures { result ≡ definition.may_judge number self }
     {
-        !is_broken && (self.other.is_followed && self.is_next(number))
+        self.other.is_followed() && self.is_next(number)
     }
 
-    fn moves(self, number: u8, is_broken: bool) -> Layers
-        ensures { result ≡ definition.moves number is_broken self }
+    /// The end sends an I frame.
+    pub(crate) fn moves(self, number: u8) -> Layers
+        ensures { result ≡ definition.moves number self }
     {
-        if is_broken {
-            self.lost()
+        if self.is_next(number) {
+            self.with_own(self.own.moved())
         } else {
-            self.with_own(self.own.moved(self.is_next(number)))
+            self
         }
     }
 
-    /// The first end sends a frame, which breaks a rule of the link layer where `is_broken`.
-    #[tactic(auto, unfolding(crate::specs::Layer::sees))]
-    pub(crate) fn sees(self, frame: &Frame, is_broken: bool) -> Layers
-        ensures { result ≡ definition.sees (plain frame.now) is_broken self }
+    /// The end sends SABM.
+    pub(crate) fn asks(self) -> Layers
+        ensures { result ≡ definition.asks self }
     {
-        match frame {
-            Frame::I { ns, .. } => self.moves(ns.get(), is_broken),
-            Frame::Sabm { .. } => self.asks_more().begins(self.own.asked),
-            Frame::Ua { .. } => self.begins(self.own.asked.saturating_sub(1)),
-            Frame::Dm { .. } => self.answers(),
-            Frame::Disc { .. } => self.asks_more(),
-            Frame::Rr { .. } | Frame::Rnr { .. } | Frame::Rej { .. } | Frame::Frmr { .. } => self,
-        }
+        self.asks_more().begins(self.own.asked)
+    }
+
+    /// .. UA.
+    pub(crate) fn accepts(self) -> Layers
+        ensures { result ≡ definition.accepts self }
+    {
+        self.begins(self.own.asked.saturating_sub(1))
+    }
+
+    /// .. DM.
+    pub(crate) fn declines(self) -> Layers
+        ensures { result ≡ definition.declines self }
+    {
+        self.answers()
+    }
+
+    /// .. DISC.
+    pub(crate) fn leaves(self) -> Layers
+        ensures { result ≡ definition.leaves self }
+    {
+        self.asks_more()
     }
 
     /// The first end sends octets that are no frame: they may have been UA, where one was asked for.
     pub(crate) fn misses(self) -> Layers
         ensures { result ≡ definition.misses self }
     {
+        let next = self.with_own(self.own.worn());
         if 0 < self.own.asked {
-            self.lost()
+            next.lost()
         } else {
-            self
+            next
         }
     }
 
@@ -279,6 +404,12 @@ impl Layers {
         ensures { result ≡ definition.are_sure self }
     {
         self.own.is_sure && self.other.is_sure
+    }
+
+    fn are_counted(self) -> bool
+        ensures { result ≡ definition.are_counted self }
+    {
+        self.own.is_counted && self.other.is_counted
     }
 
     /// Whether neither end is behind the other by a restart.
@@ -295,6 +426,19 @@ impl Layers {
             .with_other(self.other.unsure())
     }
 
+    fn uncounted(self) -> Layers
+        ensures { result ≡ definition.are_uncounted self }
+    {
+        self.with_own(self.own.uncounted())
+            .with_other(self.other.uncounted())
+    }
+
+    fn goes_to(self, restart: Restart) -> Layers
+        ensures { result ≡ definition.goes_to restart self }
+    {
+        self.with_own(self.own.with_restart(restart))
+    }
+
     /// A RESTART or its confirmation.
     fn marks(self, restart: Restart) -> Layers
         ensures { result ≡ definition.marks restart self }
@@ -306,10 +450,11 @@ impl Layers {
     pub(crate) fn restarts(self) -> Layers
         ensures { result ≡ definition.restarts self }
     {
-        if self.own.is_asking() && 0 < self.other.owed {
-            self.unsure()
-        } else {
+        let is_again = self.own.is_asking() && 0 < self.other.owed;
+        if self.are_counted() && !is_again {
             self.marks(Restart::Asking)
+        } else {
+            self.unsure().goes_to(Restart::Asking)
         }
     }
 
@@ -321,14 +466,14 @@ impl Layers {
             self.with_own(self.own.found(Restart::Ready))
                 .with_other(self.other.found(Restart::Asking))
         } else {
-            self
+            self.unsure().goes_to(Restart::Ready)
         }
     }
 
     pub(crate) fn confirms_restart(self) -> Layers
         ensures { result ≡ definition.confirms_restart self }
     {
-        if !self.are_sure() {
+        if !self.are_counted() {
             self.finds()
         } else if 0 < self.own.owed {
             self.marks(Restart::Ready)
@@ -340,16 +485,23 @@ impl Layers {
     fn is_awaiting(self) -> bool
         ensures { result ≡ definition.is_awaiting self }
     {
-        self.are_sure() && 0 < self.other.owed
+        self.are_counted() && 0 < self.other.owed
+    }
+
+    /// Whether the end sent nothing since the set-up of the link.
+    pub(crate) fn is_begun(self) -> bool
+        ensures { result ≡ definition.is_begun self.own.restart }
+    {
+        matches!(self.own.restart, Restart::Begun)
     }
 
     /// A packet of a channel.
     pub(crate) fn runs(self) -> Layers
         ensures { result ≡ definition.runs self }
     {
-        let next = self.with_own(self.own.with_restart(Restart::Ready));
+        let next = self.goes_to(Restart::Ready);
         match self.own.restart {
-            Restart::Begun => next.unsure(),
+            Restart::Begun => next.uncounted(),
             Restart::Asking => if self.is_awaiting() {
                 next.tells(PacketRule::RestartAwaited)
             } else {

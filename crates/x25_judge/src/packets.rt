@@ -78,17 +78,16 @@ impl Pair {
         match packet {
             Packet::Clear { .. } => self.clears_unknown(),
             Packet::ClearConf { .. } => self.finds(),
-            Packet::Call { .. }
-            | Packet::Accept { .. }
-            | Packet::Restart { .. }
-            | Packet::RestartConf
-            | Packet::Data { .. }
+            Packet::Call { facilities, .. } => self.calls_unknown(Terms::usual().said(facilities)),
+            Packet::Accept { facilities, .. } => self.finds_call(facilities),
+            Packet::Restart { .. } | Packet::RestartConf => self,
+            Packet::Data { .. }
             | Packet::Rr { .. }
             | Packet::Rnr { .. }
             | Packet::Interrupt { .. }
             | Packet::InterruptConf { .. }
             | Packet::Reset { .. }
-            | Packet::ResetConf { .. } => self,
+            | Packet::ResetConf { .. } => self.settles(),
         }
     }
 

@@ -121,21 +121,51 @@ impl Pair {
 
     // ---- where nothing is known
 
-    /// A confirmation makes the channel known.
+    pub(crate) fn clears_unknown(self) -> Pair
+        ensures { result ≡ definition.clears_unknown self }
+    {
+        self.with_own(self.own.clears_unknown())
+    }
+
+    pub(crate) fn calls_unknown(self, terms: Terms) -> Pair
+        ensures { result ≡ definition.calls_unknown terms self }
+    {
+        self.with_own(self.own.calls_unknown(terms))
+    }
+
+    pub(crate) fn settles(self) -> Pair
+        ensures { result ≡ definition.settles self }
+    {
+        self.with_own(self.own.settled())
+    }
+
+    /// A confirmation of a CLEAR makes the channel known.
     pub(crate) fn finds(self) -> Pair
         ensures { result ≡ definition.finds self }
     {
         if self.other.is_clearing {
             self.with_own(Port::fresh()).with_other(self.other.found())
         } else {
-            self
+            self.settles()
         }
     }
 
-    pub(crate) fn clears_unknown(self) -> Pair
-        ensures { result ≡ definition.clears_unknown self }
+    fn is_up(self, terms: Terms) -> Pair
+        ensures { result ≡ definition.is_up terms self }
     {
-        self.with_own(self.own.clearing(true))
+        self.with_own(Port::fresh().set_up(Call::Open, true, terms))
+            .with_other(Port::fresh().set_up(Call::Answered, false, terms))
+    }
+
+    /// An acceptance of a CALL makes the channel known, where not both ends called.
+    pub(crate) fn finds_call(self, field: &[u8]) -> Pair
+        ensures { result ≡ definition.finds_call field.now self }
+    {
+        if self.other.is_calling() && !self.own.is_calling() {
+            self.is_up(self.other.terms.said(field))
+        } else {
+            self.settles()
+        }
     }
 
     // ---- setting up

@@ -145,14 +145,57 @@ impl Port {
         Port::idle(true, false, 0)
     }
 
+    /// Nothing is known of it.
+    pub(crate) fn blank() -> Port
+        ensures { result ≡ definition.blank }
+    {
+        Port::idle(false, false, 0)
+    }
+
+    /// No CLEAR of it awaits a confirmation, and no CALL an acceptance, as far as is known.
+    pub(crate) fn settled(self) -> Port
+        ensures { result ≡ definition.settled self }
+    {
+        Port {
+            is_clearing: false,
+            call: Call::Idle,
+            ..self
+        }
+    }
+
     /// Nothing may be said of it.
     pub(crate) fn unknown(self) -> Port
         ensures { result ≡ definition.unknown self }
     {
         Port {
             is_known: false,
+            ..self.settled()
+        }
+    }
+
+    /// CLEAR, where nothing is known.
+    pub(crate) fn clears_unknown(self) -> Port
+        ensures { result ≡ definition.clears_unknown self }
+    {
+        Port::idle(self.is_known, true, 0)
+    }
+
+    /// CALL, where nothing is known.
+    pub(crate) fn calls_unknown(self, terms: Terms) -> Port
+        ensures { result ≡ definition.calls_unknown terms self }
+    {
+        Port {
+            is_clearing: false,
+            call: Call::Calling,
+            terms,
             ..self
         }
+    }
+
+    pub(crate) fn is_calling(self) -> bool
+        ensures { result ≡ definition.is_calling self.call }
+    {
+        matches!(self.call, Call::Calling)
     }
 
     /// Behind a CLEAR or its confirmation of this end.

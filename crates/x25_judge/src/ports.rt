@@ -1,6 +1,6 @@
 //! One end of each logical channel.
-ghost use Rattle.std.specs.Prelude.{◌≡◌, ◌≤◌, ◌%◌, [], IfOk, List, length, replicate, slice_index_or, slice_set, vec_capacity};
-ghost use Rattle.x25_judge.specs.Port.{fresh};
+ghost use Rattle.std.specs.Prelude.{◌≡◌, ◌≤◌, ◌%◌, [], IfOk, List, length, slice_index_or, slice_set, vec_capacity};
+ghost use Rattle.x25_judge.specs.Port.{all_alike, blank};
 ghost use Rattle.x25_judge.specs.declared.port.Port as declared;
 
 use crate::port::Port;
@@ -24,31 +24,33 @@ impl Model for Ports {
     ghost invariant = { λ p. (length p.ports.items ≡ 4096) × (4096 ≤ vec_capacity p.ports) };
 }
 
-/// Puts an end of each channel, of which nothing was sent.
-fn fill_up(ports: &mut Vec<Port>)
+/// Puts an end of each channel.
+#[tactic(auto, unfolding(crate::specs::Port::all_alike))]
+fn fill_up(port: Port, ports: &mut Vec<Port>)
     requires empty { ports.old.items ≡ [] }
     requires room { 4096 ≤ vec_capacity ports.old }
-    ensures items { ports.new.items ≡ replicate 4096 fresh }
+    ensures items { ports.new.items ≡ all_alike port }
+    ensures size { length ports.new.items ≡ 4096 }
     ensures room { vec_capacity ports.new ≡ vec_capacity ports.old }
 {
     for _ in 0..CHANNELS {
-        ports.push_reserved(Port::fresh());
+        ports.push_reserved(port);
     }
 }
 
 impl Ports {
-    /// Nothing was sent.
+    /// Nothing is known.
     pub(crate) fn new(alloc: Global) -> Result<Ports, AllocError>
-        ensures { IfOk result (λ ports. ports ≡ replicate 4096 fresh) }
+        ensures { IfOk result (λ ports. ports ≡ all_alike blank) }
     {
         let mut ports = Vec::with_capacity(alloc, CHANNELS)?;
-        fill_up(&mut ports);
+        fill_up(Port::blank(), &mut ports);
         Ok(Ports { ports })
     }
 
     /// That of a channel.
     pub(crate) fn get(&self, channel: u16) -> Port
-        ensures { result ≡ slice_index_or self.now (channel % 4096) fresh }
+        ensures { result ≡ slice_index_or self.now (channel % 4096) blank }
     {
         self.ports[usize::from(channel) % CHANNELS]
     }
@@ -59,11 +61,11 @@ impl Ports {
         self.ports[usize::from(channel) % CHANNELS] = port;
     }
 
-    /// Nothing was sent since a restart.
-    pub(crate) fn begin(&mut self)
-        ensures { self.new ≡ replicate 4096 fresh }
+    /// Each is as this one.
+    pub(crate) fn fill(&mut self, port: Port)
+        ensures { self.new ≡ all_alike port }
     {
         self.ports.clear();
-        fill_up(&mut self.ports);
+        fill_up(port, &mut self.ports);
     }
 }

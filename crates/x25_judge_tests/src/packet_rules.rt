@@ -11,7 +11,7 @@ struct Row {
     answers: &'static str,
 }
 
-static ROWS: [Row; 26] = [
+static ROWS: [Row; 31] = [
     Row {
         name: "restart_awaited",
         status: 1,
@@ -167,6 +167,36 @@ static ROWS: [Row; 26] = [
         status: 0,
         trace: "> 013febdf\n< 01738357\n> 01001000fb00007702\n< 03201000fb0700a4fd\n> 012210010b11120201012e32\n< 034210010fc099\n> 01441001004166d5\n< 036410011300000971\n> 01661001173eee\n",
         answers: "> SABM cmd P=1\n< UA rsp F=1\n> I cmd P=0 S=0 R=0 | RESTART cause=0 diag=0\n< I cmd P=0 S=0 R=1 | RESTART cause=7 diag=0\n> I cmd P=0 S=1 R=1 | fault 25 diag=65\n< I cmd P=0 S=1 R=2 | ACCEPT ch=1 fac=-\n> I cmd P=0 S=2 R=2 | DATA ch=1 S=0 R=0 M=0 Q=0 data=41\n< I cmd P=0 S=2 R=3 | CLEAR ch=1 cause=0 diag=0\n> I cmd P=0 S=3 R=3 | CLEARCONF ch=1\n",
+    },
+    Row {
+        name: "found_by_a_restart",
+        status: 1,
+        trace: "> 0361a057\n< 03461000fb0700ef62\n> 01841000ff5c11\n> 0186100100419988\n",
+        answers: "> RR rsp F=0 R=3\n< I cmd P=0 S=3 R=2 | RESTART cause=7 diag=0\n> I cmd P=0 S=2 R=4 | RESTARTCONF\n> I cmd P=0 S=3 R=4 | DATA ch=1 S=0 R=0 M=0 Q=0 data=41 ! dte: no call is up on the channel (4.3)\n",
+    },
+    Row {
+        name: "found_by_a_clear",
+        status: 1,
+        trace: "> 0361a057\n< 034610011300003ffc\n> 0184100117c263\n> 0186100100419988\n",
+        answers: "> RR rsp F=0 R=3\n< I cmd P=0 S=3 R=2 | CLEAR ch=1 cause=0 diag=0\n> I cmd P=0 S=2 R=4 | CLEARCONF ch=1\n> I cmd P=0 S=3 R=4 | DATA ch=1 S=0 R=0 M=0 Q=0 data=41 ! dte: no call is up on the channel (4.3)\n",
+    },
+    Row {
+        name: "found_by_a_call",
+        status: 1,
+        trace: "> 0361a057\n< 01411245\n> 016410010b111200b639\n< 036610010f7f64\n> 01861001024129bb\n",
+        answers: "> RR rsp F=0 R=3\n< RR rsp F=0 R=2\n> I cmd P=0 S=2 R=3 | CALL ch=1 called=1 calling=2 fac=- data=-\n< I cmd P=0 S=3 R=3 | ACCEPT ch=1 fac=-\n> I cmd P=0 S=3 R=4 | DATA ch=1 S=1 R=0 M=0 Q=0 data=41 ! dte: P(S) isn't the next one (4.4.1.1): it should be 0\n",
+    },
+    Row {
+        name: "call_without_a_restart",
+        status: 1,
+        trace: "> 013febdf\n< 01738357\n> 010010010b11120045f2\n< 032010010f5239\n> 0122100100414d4f\n< 034210014041cea0\n",
+        answers: "> SABM cmd P=1\n< UA rsp F=1\n> I cmd P=0 S=0 R=0 | CALL ch=1 called=1 calling=2 fac=- data=-\n< I cmd P=0 S=0 R=1 | ACCEPT ch=1 fac=-\n> I cmd P=0 S=1 R=1 | DATA ch=1 S=0 R=0 M=0 Q=0 data=41\n< I cmd P=0 S=1 R=2 | DATA ch=1 S=0 R=2 M=0 Q=0 data=41 ! dce: P(R) acknowledges what was never sent (4.4.1.3): at most 1\n",
+    },
+    Row {
+        name: "call_of_before",
+        status: 0,
+        trace: "> 0361a057\n< 01411245\n> 016410014a41e10e\n< 03661001e441d025\n> 0186100127376b\n> 018810011fbe78\n",
+        answers: "> RR rsp F=0 R=3\n< RR rsp F=0 R=2\n> I cmd P=0 S=2 R=3 | DATA ch=1 S=5 R=2 M=0 Q=0 data=41\n< I cmd P=0 S=3 R=3 | DATA ch=1 S=2 R=7 M=0 Q=0 data=41\n> I cmd P=0 S=3 R=4 | INTCONF ch=1\n> I cmd P=0 S=4 R=4 | RESETCONF ch=1\n",
     },
 ];
 
