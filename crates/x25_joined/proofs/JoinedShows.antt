@@ -115,11 +115,11 @@ two_steps c w back step more =
     ap₂ (λ (out : List (List ℕ)) (tap : List OnTap).
     let v : World = record { near = more.near; far = w.far; out = out; back = back; tap = tap; transcript = (w.transcript ++ entered c.role step.entries) ++ entered c.role more.entries } in v)
     (append_assoc w.out fs gs ∙ ap (λ (xs : List (List ℕ)). w.out ++ xs) (sym both))
-    (append_assoc w.tap (tapped c.role fs) (tapped c.role gs) ∙ ap (λ (xs : List OnTap). w.tap ++ xs) (sym (map-append (λ octets. record { from = c.role; octets = octets }) fs gs) ∙ ap (tapped c.role) (sym both)))
+    (append_assoc w.tap (tapped c.role fs) (tapped c.role gs) ∙ ap (λ (xs : List OnTap). w.tap ++ xs) ((let f : List ℕ → OnTap = λ octets. record { from = c.role; octets = octets } in sym (map-append f fs gs)) ∙ ap (tapped c.role) (sym both)))
     ∙ ap (λ (transcript : List AtEnd).
     let v : World = record { near = more.near; far = w.far; out = w.out ++ map (spelling_of c.role) (step.out ++ more.out); back = back; tap = w.tap ++ tapped c.role (map (spelling_of c.role) (step.out ++ more.out)); transcript = transcript } in v)
     (append_assoc w.transcript (entered c.role step.entries) (entered c.role more.entries)
-    ∙ ap (λ (es : List AtEnd). w.transcript ++ es) (sym (map-append (λ entry. record { at = c.role; entry = entry }) step.entries more.entries)))
+    ∙ ap (λ (es : List AtEnd). w.transcript ++ es) (let f : StationEntry → AtEnd = λ entry. record { at = c.role; entry = entry } in sym (map-append f step.entries more.entries)))
   where
     fs : List (List ℕ)
     fs = map (spelling_of c.role) step.out

@@ -1,5 +1,5 @@
 -- How it stands after a turn.
-use Rattle.std.proofs.Common.{◌≡◌, ◌∙◌, ℕ, Bool, true, false, List, [], ◌∷◌, ◌++◌, map, Option, Result, Ok, Err, IfOk, ap, ap₂, sym, subst, refl, inl, inr}
+use Rattle.std.proofs.Common.{◌≡◌, ◌≢◌, ◌∙◌, ℕ, Bool, true, false, List, [], ◌∷◌, ◌++◌, map, Option, Result, Ok, Err, IfOk, ap, ap₂, sym, subst, refl, inl, inr}
 use Rattle.std.specs.Prelude.{◌||◌}
 use Rattle.std.proofs.lemmas.List.{append-nil, map-append}
 use Rattle.std.proofs.Math.Bool.{or-false, or-true}
@@ -158,7 +158,7 @@ module _ (c : Settings) (v u : code.Station) (step : code_step.Step) where
   pulled_step pulled o (Err fault) h pulls none frames entries = tt
 
   -- .. or the step alone
-  pub step_alone : (error : StationError) (o : Outcome) → IsStep c v step o
+  step_alone : (error : StationError) (o : Outcome) → IsStep c v step o
       → ((s : Station) → FitsStation c v s → (let x : Result code_step.Step StationError = Err error in fits.RefusesExactly x (commands c s (Requests PullsAll))))
       → ((s : Station) → FitsStation c v s → FitsStation c u s) → (error ≡ NoMemory → ⊥) → IsStep c u step (with_pulls c o)
   step_alone error (Refused e) h refused stays other = absurd h.accepted
@@ -167,3 +167,9 @@ module _ (c : Settings) (v u : code.Station) (step : code_step.Step) where
       by : (o : Outcome) → (let x : Result code_step.Step StationError = Err error in fits.RefusesExactly x o) → IsStep c u step (Did (pulled_behind plain o))
       by (Did pulls) is = absurd (other is)
       by (Refused e) is = record { leaves = stays plain.near h.leaves; sends = h.sends; enters = h.enters; accepted = tt }
+
+  pub alone_step : (error : StationError) (o : Outcome) (r : Result code_step.Step Fault) → IsStep c v step o
+      → ((s : Station) → FitsStation c v s → (let x : Result code_step.Step StationError = Err error in fits.RefusesExactly x (commands c s (Requests PullsAll))))
+      → ((s : Station) → FitsStation c v s → FitsStation c u s) → IfOk r (λ found. found ≡ step) → IfOk r (λ found. error ≢ NoMemory) → IfOk r (λ found. IsStep c u found (with_pulls c o))
+  alone_step error o (Ok found) h refused stays same other = subst (λ (x : code_step.Step). IsStep c u x (with_pulls c o)) (sym same) (step_alone error o h refused stays other)
+  alone_step error o (Err fault) h refused stays same other = tt

@@ -1,5 +1,5 @@
 //! A station, and what is told of it.
-ghost use Rattle.std.specs.Prelude.{◌≡◌, ◌↔◌, ◌+◌, ◌++◌, ◌≤◌, IfErr, IfOk, IsTrue, vec_capacity, vec_len};
+ghost use Rattle.std.specs.Prelude.{◌≡◌, ◌≢◌, ◌↔◌, ◌+◌, ◌++◌, ◌≤◌, IfErr, IfOk, IsTrue, vec_capacity, vec_len};
 ghost use Rattle.x25_pipe.specs.Piped.{is_same as are_same};
 
 use crate::mark::{Mark, Watch, tells_up};
@@ -62,6 +62,18 @@ fn is_memory(error: StationError) -> bool
     ensures { IsTrue result ↔ (error ≡ StationError.NoMemory) }
 {
     matches!(error, StationError::NoMemory)
+}
+
+/// The step alone, where a pull behind it was refused; want of memory is a fault.
+fn unless_memory(step: Step, error: StationError) -> Result<Step, Fault>
+    ensures alone { IfOk result (λ found. found ≡ step) }
+    ensures other { IfOk result (λ found. error ≢ StationError.NoMemory) }
+    ensures memory { IfErr result (λ fault. fault ≡ Fault.NoMemory) }
+{
+    if is_memory(error) {
+        return Err(Fault::NoMemory);
+    }
+    Ok(step)
 }
 
 impl Pipe {
@@ -207,12 +219,7 @@ impl Pipe {
     {
         match self.station.pull() {
             Ok(pulled) => with_frames(step, pulled.frames),
-            Err(error) => {
-                if is_memory(error) {
-                    return Err(Fault::NoMemory);
-                }
-                Ok(step)
-            }
+            Err(error) => unless_memory(step, error),
         }
     }
 

@@ -1,4 +1,4 @@
-use Rattle.x25_pipe.proofs.StandLemmas.{exactly_accepted, pulled_step, step_alone}
+use Rattle.x25_pipe.proofs.StandLemmas.{exactly_accepted, pulled_step, alone_step}
 use Rattle.x25_pipe.proofs.pipe.Pipe.pull_behind.Goals as goal
 
 pub returns-in-Ok-clause-pulled : goal.returns-in-Ok-clause-pulled
@@ -10,5 +10,4 @@ returns-in-Ok-clause-pulled c = λ k o is.
 
 pub returns-in-Err-clause-pulled : goal.returns-in-Err-clause-pulled
 returns-in-Err-clause-pulled c = λ k o is.
-    step_alone k c.args.self.now.station _ c.args.step c.in-Err.error o is (c.in-Err.ensures.refused k) (c.in-Err.ensures.stays k)
-    (λ is. let yes = c.is_memory.ensures.1 is in let no_memory = c.if-is_memory.false in cc)
+    alone_step k c.args.self.now.station _ c.args.step c.in-Err.error o c.unless_memory.result is (c.in-Err.ensures.refused k) (c.in-Err.ensures.stays k) c.unless_memory.ensures.alone c.unless_memory.ensures.other
