@@ -1,5 +1,5 @@
 -- What was written, by the text of a script and the laws of all scripts.
-use Rattle.std.proofs.Common.{◌≡◌, ◌<◌, ◌-◌, ◌^◌, ℕ, Bool, true, false, List, Option, Some, None, length, refl, subst, sym}
+use Rattle.std.proofs.Common.{◌≡◌, ◌<◌, ◌-◌, ◌^◌, ℕ, Bool, true, false, List, Option, Some, None, length}
 use Rattle.std.specs.Prelude.{IfSome}
 use Rattle.std.specs.Io.KnownBytes.{Appends}
 use Rattle.x25_station.specs.declared.config.Cfg.{Cfg}
@@ -8,7 +8,6 @@ use Rattle.x25_world.specs.World.{World}
 use Rattle.x25_world.specs.Claims.{HasNoProcedureError}
 use Rattle.x25_world.specs.SessionClaims.{MeetInStep, AreLawfulWhereMet, AreNamedInSessions, AllArrive, UnmetAreToldNothing, OpenStretchesMeet, SessionsKeepOrder}
 use Rattle.x25_world.specs.SessionWindow.{UpIsInWindow}
-use Rattle.x25_sim.specs.Sayings.{sayings_text}
 use Rattle.x25_sim.specs.Simulated.{simulated, sim_text}
 use Rattle.x25_sim.specs.RunLaw.{frames_in, OfScripts, OfScriptsSetUp, OfAllScripts, ScriptsAreTold, ScriptsAreTapped}
 use Rattle.x25_sim.specs.WritesRun.{Writes, WritesOnce, WritesSetUp}

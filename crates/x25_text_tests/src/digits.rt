@@ -21,9 +21,9 @@ fn writes_digits_as_hex_does(rt: HostRuntime) -> Result<(), Fail> {
     for count in 0..30usize {
         let octets = hex::decode(rt.alloc(), &DIGITS[..2 * count])?;
         let wanted = hex::encode(rt.alloc(), octets.as_slice())?;
-        let mut digits = [0u8; 58];
-        write_hexadecimal(octets.as_slice(), &mut digits[..2 * count]);
-        assert_eq!(rt; &digits[..2 * count], wanted.as_bytes());
+        let mut digits = vec![in rt.alloc(); 0u8; 2 * octets.len()]?;
+        write_hexadecimal(octets.as_slice(), digits.as_mut_slice());
+        assert_eq!(rt; digits.as_slice(), wanted.as_bytes());
     }
     Ok(())
 }
