@@ -1,5 +1,5 @@
 -- What holds of two stations that both are Up while all that is on the line comes, and what one delivery makes of it.
-use Rattle.std.proofs.Common.{◌≡◌, ℕ, ◌+◌, ◌%◌, ◌≤◌, ◌<◌, List, [], ◌∷◌, ◌++◌, length, map, max, Bool, true, false, Option, Some, None, Result, Ok, refl, sym, ap, ◌∙◌, subst, arith}
+use Rattle.std.proofs.Common.{◌≡◌, ℕ, ◌+◌, ◌-◌, ◌*◌, ◌%◌, ◌≤◌, ◌<◌, List, [], ◌∷◌, ◌++◌, length, map, max, Bool, true, false, Option, Some, None, Result, Ok, refl, sym, ap, ◌∙◌, subst, arith}
 use Rattle.std.specs.Prelude.{◌||◌, nat_lt}
 use Rattle.std.proofs.lemmas.Bool.{ltb-false, le-ltb, le-leb}
 use Rattle.x25_bits.specs.declared.role.Role.{Role}
@@ -19,7 +19,7 @@ use Rattle.x25_link.specs.Steps.{take_step}
 use Rattle.x25_link.specs.WindowMachine.{Window, Shows, ShowAll}
 use Rattle.x25_link.specs.WindowLaw.{IsSound}
 use Rattle.x25_link.specs.RestLaw.{HasSaidAll, IsAtRest, RestLaws}
-use Rattle.x25_link.specs.AnswerLaw.{AreNext, Outcome, Answers, AnswerLaws, heard}
+use Rattle.x25_link.specs.AnswerLaw.{AreNext, weight_of, weight_if, Outcome, Answers, AnswerLaws, heard}
 use Rattle.x25_line.specs.Line.{Line, swapped as line_swapped}
 use Rattle.x25_line.specs.Stations.{StationEnd, Stations, Act, Deliver, after_step, delivered, acts, swapped}
 use Rattle.x25_line.specs.StationClaims.{AreJoined, number_in, numbered_on, AreWhole}
@@ -123,9 +123,9 @@ hears_well c d w h up other_up f gs is_numbered r =
     let v = far_up c d w h other_up in
     let rest = numbered_on (other c.role) c.longest r.others in
     let shows : ShowAll (f ∷ rest) h.line.back =
-        subst (λ (fs : List PlainFrame). ShowAll fs h.line.back)
-        (ap (numbered_on (other c.role) c.longest) r.is ∙ ap (λ (z : Result PlainFrame FrameError). consed (number_in z) rest) r.reads
-        ∙ ap (λ (o : Option PlainFrame). consed o rest) (has_number f is_numbered)) h.joint.back in
+    subst (λ (fs : List PlainFrame). ShowAll fs h.line.back)
+    (ap (numbered_on (other c.role) c.longest) r.is ∙ ap (λ (z : Result PlainFrame FrameError). consed (number_in z) rest) r.reads
+    ∙ ap (λ (o : Option PlainFrame). consed o rest) (has_number f is_numbered)) h.joint.back in
     let front = front_of f rest h.line.back shows in
     let e = h.line.near in
     let g = front.frame in
@@ -159,6 +159,8 @@ pub record Delivered (c d : Settings) (w v : Stations) (fs gs : List PlainFrame)
   pub said : (take_step c octets w.near.station).side.out ≡ o.first ++ next
   pub out : Reads (other d.role) d.longest v.out (fs ++ (o.first ++ next))
   pub sends : AreNext (length o.taken) o.place next v.near.station.outgoing.place
+  pub light : weight_of next + 4 * (length w.near.station.outgoing.given - v.near.station.outgoing.place) + weight_if v.near.station.said_busy
+      ≤ 4 * (length w.near.station.outgoing.given - o.place) + weight_if o.said_busy
   pub held : o.recovery ≡ true → v.near.station.outgoing.place ≡ o.place
   pub back : Reads (other c.role) c.longest v.back gs
   pub far : v.far ≡ w.far
@@ -196,6 +198,7 @@ module _ (c d : Settings) (joined : AreJoined c d) (reads : ReadsSpelled) (laws 
         said = a.out;
         out = read_out sound;
         sends = a.sends;
+        light = a.light;
         held = a.held;
         back = r.rest;
         far = refl;

@@ -16,6 +16,9 @@ pub mod HealingLines
 pub mod HealingSteps
 pub mod HealingPhases
 pub mod HealingRuns
+pub mod HealingBoth
+pub mod HealingLoad
+pub mod HealingGone
 pub mod SessionLines
 pub mod SessionHeld
 pub mod SessionSteps

@@ -1,10 +1,16 @@
 -- Healing: once the line is good for a moment, everything arrives. Nothing is on the line; timer T1 runs out once at an end where it runs;
 -- and then all that is on the line comes, in any order of the two directions, while nothing is lost.
-use Rattle.std.specs.Prelude.{◌≡◌, ◌<◌, ◌≤◌, false, true, List, [], ◌∷◌, length}
+use Rattle.std.specs.Prelude.{◌≡◌, ℕ, ◌+◌, ◌-◌, ◌*◌, ◌<◌, ◌≤◌, Bool, false, true, List, [], ◌∷◌, length, Result, Ok, Err}
+use Rattle.x25_bits.specs.declared.role.Role.{Role}
+use Rattle.x25_frame.specs.PlainFrame.{PlainFrame, info, rr, rnr, rej}
+use Rattle.x25_frame.specs.Reading.{frame_of}
+use Rattle.x25_frame.specs.declared.error.FrameError.{FrameError}
+use Rattle.x25_link.specs.MustSend.{other}
 use Rattle.x25_link.specs.Station.{Settings, is_up, is_busy}
 use Rattle.x25_link.specs.Steps.{timer_runs}
+use Rattle.x25_link.specs.WindowLaw.{IsOut}
 use Rattle.x25_link.specs.RestLaw.{IsAtRest}
-use Rattle.x25_line.specs.Stations.{StationEnd, Stations, Act, Deliver, T1, Event, Near, Far, swapped, run, start}
+use Rattle.x25_line.specs.Stations.{StationEnd, Stations, Act, Deliver, T1, Event, Near, Far, swapped, happens, run, start}
 use Rattle.x25_line.specs.StationClaims.{AreJoined, IsSetUpOnce}
 
 -- nothing is on the line
@@ -114,3 +120,65 @@ BothFiringsHeal =
     (c d : Settings) → AreJoined c d → (events : List Event) → IsQuietMoment c d events
     → (let w = run c d events start in MayHeal c w.near → MayHeal d w.far
     → (deliveries : List Event) → AreDeliveries deliveries → (let v = run c d (Near T1 ∷ Far T1 ∷ deliveries) w in IsDrained v → IsHealed v.near v.far × IsHealed v.far v.near))
+
+-- ---- how many deliveries it takes
+
+-- What octets on the line may bring: a poll is answered by F=1; at F=1 or REJ what isn't acknowledged goes again, which is seven frames at
+-- most; and an I frame is answered by RR.
+abbrev pub ready_load : Bool → Bool → ℕ
+ready_load true true = 31
+ready_load false true = 29
+ready_load true false = 1
+ready_load false false = 1
+
+abbrev pub frame_load : Result PlainFrame FrameError → ℕ
+frame_load (Ok (info ns nr p packet)) = 3
+frame_load (Ok (rr command nr pf)) = ready_load command pf
+frame_load (Ok (rnr command nr pf)) = ready_load command pf
+frame_load (Ok (rej command nr pf)) = 29
+frame_load (Ok frame) = 1
+frame_load (Err e) = 1
+
+abbrev pub line_load : Role → ℕ → List (List ℕ) → ℕ
+line_load from n1 [] = 0
+line_load from n1 (octets ∷ line) = frame_load (frame_of from n1 octets) + line_load from n1 line
+
+-- the packets from V(S) on, each at one more than its frame
+abbrev pub to_send : StationEnd → ℕ
+to_send e = 4 * (length e.station.outgoing.given - e.station.outgoing.place)
+
+abbrev pub load : Settings → Settings → Stations → ℕ
+load c d w = to_send w.near + to_send w.far + line_load (other d.role) d.longest w.out + line_load (other c.role) c.longest w.back
+
+-- octets are there for each delivery
+abbrev pub Finds : Event → Stations → Type 0
+Finds (Near act) w = w.back ≡ [] → ⊥
+Finds (Far act) w = w.out ≡ [] → ⊥
+
+abbrev pub EachFinds : Settings → Settings → List Event → Stations → Type 0
+EachFinds c d [] w = Unit {0}
+EachFinds c d (e ∷ es) w = Finds e w × EachFinds c d es (happens c d e w)
+
+-- After both have fired, the world bounds how many deliveries find octets, in whichever order.
+abbrev pub DeliveriesEnd : Type 0
+DeliveriesEnd =
+    (c d : Settings) → AreJoined c d → (events : List Event) → IsQuietMoment c d events
+    → (let w = run c d events start in MayHeal c w.near → MayHeal d w.far
+    → (deliveries : List Event) → AreDeliveries deliveries
+    → (let v = run c d (Near T1 ∷ Far T1 ∷ []) w in EachFinds c d deliveries v → length deliveries ≤ load c d v))
+
+-- So there are deliveries after which everything has arrived.
+abbrev pub SomeHeal : Type 0
+SomeHeal =
+    (c d : Settings) → AreJoined c d → (events : List Event) → IsQuietMoment c d events
+    → (let w = run c d events start in MayHeal c w.near → MayHeal d w.far
+    → (deliveries : List Event) × AreDeliveries deliveries × (let v = run c d (Near T1 ∷ Far T1 ∷ deliveries) w in IsDrained v × IsHealed v.near v.far × IsHealed v.far v.near))
+
+-- ---- an end whose peer is gone
+
+-- The far end is Down or Closed: it answers the poll by DM, and the near end leaves Up too.
+abbrev pub GoneEnds : Type 0
+GoneEnds =
+    (c d : Settings) → AreJoined c d → (events : List Event) → IsQuietMoment c d events
+    → (let w = run c d events start in MayHeal c w.near → timer_runs w.near.station.phase w.near.station ≡ true → IsOut w.far.station.phase
+    → (deliveries : List Event) → AreDeliveries deliveries → (let v = run c d (Near T1 ∷ deliveries) w in IsDrained v → is_up v.near.station.phase ≡ false))

@@ -1,6 +1,6 @@
 //! Healing: once the line is good for a moment, everything arrives. Laws of two link stations over a line, each the contract of a
 //! function that does nothing.
-ghost use Rattle.x25_line.specs.Healing.{RestShows, OneFiringHeals, FarFiringHeals, OneFiringEnds, TwoFiringsHeal, BothFiringsHeal};
+ghost use Rattle.x25_line.specs.Healing.{RestShows, OneFiringHeals, FarFiringHeals, OneFiringEnds, TwoFiringsHeal, BothFiringsHeal, DeliveriesEnd, SomeHeal, GoneEnds};
 
 use x25_frame::reads_what_is_spelled;
 use x25_link::{
@@ -23,11 +23,13 @@ pub fn rest_shows()
 /// From a moment in which nothing is on the line, both ends are Up and neither is busy: timer T1 runs out once at one end, and then
 /// all that is on the line comes, in any order of the two directions. That end is at rest, everything that it was handed down has been
 /// handed up at the other end, and that end is Up, and at rest if it was. So it is at either end, where T1 doesn't run or tries
-/// are left; with no tries left the end leaves Up.
+/// are left; with no tries left the end leaves Up. Where the other end is Down or Closed, it answers the poll by DM, and the end that
+/// fired leaves Up too (`gone`).
 pub fn one_firing_heals()
     ensures near { OneFiringHeals }
     ensures far { FarFiringHeals }
     ensures ends { OneFiringEnds }
+    ensures gone { GoneEnds }
 {
     follows_the_window();
     sets_up_by_rows();
@@ -42,6 +44,20 @@ pub fn one_firing_heals()
 pub fn two_firings_heal()
     ensures at_once { BothFiringsHeal }
     ensures in_turn { TwoFiringsHeal }
+{
+    follows_the_window();
+    sets_up_by_rows();
+    notes_what_changes();
+    comes_to_rest();
+    asks_and_answers();
+    reads_what_is_spelled();
+}
+
+/// After both ends have fired, deliveries come to an end: the world bounds how many find octets on the line, in whichever order
+/// (`end`). So there are deliveries after which everything has arrived (`some`).
+pub fn deliveries_end()
+    ensures end { DeliveriesEnd }
+    ensures some { SomeHeal }
 {
     follows_the_window();
     sets_up_by_rows();

@@ -1,5 +1,5 @@
 use Rattle.x25_line.proofs.HealingSteps.{HealingLaws}
-use Rattle.x25_line.proofs.HealingRuns.{rest_shows}
+use Rattle.x25_line.proofs.HealingBoth.{rest_shows}
 use Rattle.x25_line.proofs.healing.rest_shows.Goals as goal
 
 pub returns : goal.returns

@@ -1,5 +1,5 @@
 use Rattle.x25_line.proofs.HealingSteps.{HealingLaws}
-use Rattle.x25_line.proofs.HealingRuns.{two_firings_heal, both_firings_heal}
+use Rattle.x25_line.proofs.HealingBoth.{two_firings_heal, both_firings_heal}
 use Rattle.x25_line.proofs.healing.two_firings_heal.Goals as goal
 
 pub returns : goal.returns
