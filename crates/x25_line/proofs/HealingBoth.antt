@@ -247,7 +247,7 @@ module _ (reads : ReadsSpelled) (laws : HealingLaws) where
           let far = (shows_at_rest d c twisted reads laws (swapped w) (sound_swapped c d joined w sound) far_may.up far_stops).0 in
           let heals = at_rest_heals c d joined reads laws w sound near_may.up near_may.free far_may.up far_may.free near drained.out [] (subst (λ (os : List (List ℕ)). Reads (other c.role) c.longest os []) (sym drained.back) tt) tt in
           let far_heals_too = at_rest_heals d c twisted reads laws (swapped w) (sound_swapped c d joined w sound) far_may.up far_may.free near_may.up near_may.free far drained.back []
-              (subst (λ (os : List (List ℕ)). Reads (other d.role) d.longest os []) (sym drained.out) tt) tt in
+          (subst (λ (os : List (List ℕ)). Reads (other d.role) d.longest os []) (sym drained.out) tt) tt in
           subst (λ (z : Stations). Begun c d joined reads laws z) (sym same) (record { most = _; least = _; heals = (heals, far_heals_too) })
 
   pub both_firings_heal : BothFiringsHeal

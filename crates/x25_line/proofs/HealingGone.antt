@@ -49,11 +49,11 @@ module _ (c d : Settings) (joined : AreJoined c d) (reads : ReadsSpelled) (laws 
       let v : Stations = swapped (after_step d (swapped w) r.others [] step) in
       let same : swapped (acts d Deliver (swapped w)) ≡ v = ap (λ (os : List (List ℕ)). swapped (delivered d os (swapped w))) r.is in
       let dm_reads : Reads (other c.role) c.longest (w.back ++ map (spelling_of (other c.role)) (dm true ∷ [])) (dm true ∷ []) =
-          reads_more reads (other c.role) c.longest [] w.back [] (dm true ∷ []) (subst (λ (os : List (List ℕ)). Reads (other c.role) c.longest os []) (sym h.back) tt)
-          (record { in_range = tt; carries = refl; within = tt; packet = tt }, tt) in
+      reads_more reads (other c.role) c.longest [] w.back [] (dm true ∷ []) (subst (λ (os : List (List ℕ)). Reads (other c.role) c.longest os []) (sym h.back) tt)
+      (record { in_range = tt; carries = refl; within = tt; packet = tt }, tt) in
       let back : Reads (other c.role) c.longest (w.back ++ map (spelling_of d.role) step.side.out) (dm true ∷ []) =
-          subst (λ (fs : List PlainFrame). Reads (other c.role) c.longest (w.back ++ map (spelling_of d.role) fs) (dm true ∷ [])) (sym a.out)
-          (subst (λ (from : Role). Reads (other c.role) c.longest (w.back ++ map (spelling_of from) (dm true ∷ [])) (dm true ∷ [])) joined.far_role dm_reads) in
+      subst (λ (fs : List PlainFrame). Reads (other c.role) c.longest (w.back ++ map (spelling_of d.role) fs) (dm true ∷ [])) (sym a.out)
+      (subst (λ (from : Role). Reads (other c.role) c.longest (w.back ++ map (spelling_of from) (dm true ∷ [])) (dm true ∷ [])) joined.far_role dm_reads) in
       subst (Leaves c d) (sym same) (inr (inl (record { up = h.up; out = none_reads (other d.role) d.longest r.others r.rest; back = back })))
 
   -- DM comes

@@ -321,4 +321,4 @@ module _ (reads : ReadsSpelled) (laws : HealingLaws) where
       let some = drains c d joined reads laws (load c d v) begun.most begun.least v begun.heals (omega arith) in
       let u : Stations = run c d some.deliveries v in
       let healed = both_settle c d joined reads laws begun.most begun.least u (both_run c d joined reads laws begun.most begun.least some.deliveries v some.are begun.heals) some.drained in
-      (some.deliveries, some.are, some.drained, healed.0, healed.1)
+      (some.deliveries, some.are, (some.drained, healed.0, healed.1))

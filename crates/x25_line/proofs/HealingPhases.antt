@@ -209,10 +209,11 @@ module _ (c d : Settings) (joined : AreJoined c d) (reads : ReadsSpelled) (laws 
       let a = laws.answers.poll false nr c r.octets s (up_is s.phase b.near_on) r.reads well.valid in
       let v = delivers c d joined reads laws w h.there gs frame o b.sound h.out r a in
       let first : Ahead s.outgoing.place (says (is_busy s) false (wanted s) true ∷ []) s.outgoing.place =
-          subst (λ (busy : Bool). Ahead s.outgoing.place (says busy false (wanted s) true ∷ []) s.outgoing.place) (sym b.near_free) (refl, refl) in
-      (near_both w h.there gs o r.octets b v,
-      inr (inr (near_resends w h.there gs nr s.outgoing.place o r.octets b v h.recovery refl refl h.ahead
-      (subst (λ (n : ℕ). Ahead s.outgoing.place o.first n) (sym (place_stays w h.there nr h.ahead well)) first) tells)))
+      subst (λ (busy : Bool). Ahead s.outgoing.place (says busy false (wanted s) true ∷ []) s.outgoing.place) (sym b.near_free) (refl, refl) in (
+        near_both w h.there gs o r.octets b v,
+        inr (inr (near_resends w h.there gs nr s.outgoing.place o r.octets b v h.recovery refl refl h.ahead
+            (subst (λ (n : ℕ). Ahead s.outgoing.place o.first n) (sym (place_stays w h.there nr h.ahead well)) first) tells)),
+      )
 
   near_resent : (w : Stations) (b : Both c d most Was w) (h : Resent c d w) (gs : List PlainFrame) → Reads (other c.role) c.longest w.back gs → Reports (length w.far.station.taken) w.near.station.outgoing.acked gs
       → Heals c d most Was (acts c Deliver w)
