@@ -17,24 +17,26 @@ use Rattle.x25_line.proofs.HealingPhases.{up_is}
 use Rattle.x25_line.proofs.HealingRuns.{reached_sound, Fired, fires}
 
 -- the poll is on the line to an end that is out; or DM is on the line back; or the near end has left
-record Polls (c d : Settings) (w : Stations) : Type 0 where
+pub record Polls (c d : Settings) (w : Stations) : Type 0 where
   pub number : ℕ
   pub up : is_up w.near.station.phase ≡ true
   pub gone : IsOut w.far.station.phase
   pub out : Reads (other d.role) d.longest w.out (rr true number true ∷ [])
   pub back : w.back ≡ []
 
-record Declined (c d : Settings) (w : Stations) : Type 0 where
+pub record Declined (c d : Settings) (w : Stations) : Type 0 where
   pub up : is_up w.near.station.phase ≡ true
+  pub gone : IsOut w.far.station.phase
   pub out : w.out ≡ []
   pub back : Reads (other c.role) c.longest w.back (dm true ∷ [])
 
-record Left (w : Stations) : Type 0 where
+pub record Left (w : Stations) : Type 0 where
   pub off : is_up w.near.station.phase ≡ false
+  pub gone : IsOut w.far.station.phase
   pub out : w.out ≡ []
   pub back : w.back ≡ []
 
-abbrev Leaves : Settings → Settings → Stations → Type 0
+abbrev pub Leaves : Settings → Settings → Stations → Type 0
 Leaves c d w = Polls c d w ⊎ (Declined c d w ⊎ Left w)
 
 module _ (c d : Settings) (joined : AreJoined c d) (reads : ReadsSpelled) (laws : HealingLaws) where
@@ -54,7 +56,7 @@ module _ (c d : Settings) (joined : AreJoined c d) (reads : ReadsSpelled) (laws 
       let back : Reads (other c.role) c.longest (w.back ++ map (spelling_of d.role) step.side.out) (dm true ∷ []) =
       subst (λ (fs : List PlainFrame). Reads (other c.role) c.longest (w.back ++ map (spelling_of d.role) fs) (dm true ∷ [])) (sym a.out)
       (subst (λ (from : Role). Reads (other c.role) c.longest (w.back ++ map (spelling_of from) (dm true ∷ [])) (dm true ∷ [])) joined.far_role dm_reads) in
-      subst (Leaves c d) (sym same) (inr (inl (record { up = h.up; out = none_reads (other d.role) d.longest r.others r.rest; back = back })))
+      subst (Leaves c d) (sym same) (inr (inl (record { up = h.up; gone = subst (λ (z : Station). IsOut z.phase) (sym a.near) h.gone; out = none_reads (other d.role) d.longest r.others r.rest; back = back })))
 
   -- DM comes
   leaves : (w : Stations) → Declined c d w → Leaves c d (acts c Deliver w)
@@ -67,6 +69,7 @@ module _ (c d : Settings) (joined : AreJoined c d) (reads : ReadsSpelled) (laws 
       let same : acts c Deliver w ≡ v = ap (λ (os : List (List ℕ)). delivered c os w) r.is in
       subst (Leaves c d) (sym same) (inr (inr (record {
         off = ap (λ (z : Station). is_up z.phase) a.0;
+        gone = h.gone;
         out = ap (λ (fs : List PlainFrame). w.out ++ map (spelling_of c.role) fs) a.1 ∙ ap (λ (os : List (List ℕ)). os ++ []) h.out;
         back = none_reads (other c.role) c.longest r.others r.rest;
       })))
@@ -107,7 +110,7 @@ module _ (c d : Settings) (joined : AreJoined c d) (reads : ReadsSpelled) (laws 
   far_act (Lose i) w is h = absurd is
   far_act (Damage i octets) w is h = absurd is
 
-  all_go : (es : List Event) (w : Stations) → AreDeliveries es → Leaves c d w → Leaves c d (run c d es w)
+  pub all_go : (es : List Event) (w : Stations) → AreDeliveries es → Leaves c d w → Leaves c d (run c d es w)
   all_go [] w are h = h
   all_go (Near a ∷ es) w are h = all_go es (acts c a w) are.1 (near_act a w are.0 h)
   all_go (Far a ∷ es) w are h = all_go es (swapped (acts d a (swapped w))) are.1 (far_act a w are.0 h)
@@ -115,7 +118,12 @@ module _ (c d : Settings) (joined : AreJoined c d) (reads : ReadsSpelled) (laws 
   one_frame : (f : PlainFrame) {A : Type 0} → f ∷ [] ≡ [] → A
   one_frame f e = absurd (omega (arith, ap length e))
 
-  has_left : (v : Stations) → IsDrained v → Leaves c d v → is_up v.near.station.phase ≡ false
+  pub is_gone : (v : Stations) → Leaves c d v → IsOut v.far.station.phase
+  is_gone v (inl h) = h.gone
+  is_gone v (inr (inl h)) = h.gone
+  is_gone v (inr (inr h)) = h.gone
+
+  pub has_left : (v : Stations) → IsDrained v → Leaves c d v → is_up v.near.station.phase ≡ false
   has_left v drained (inl h) = one_frame _ (reads_none (other d.role) d.longest v.out (rr true h.number true ∷ []) h.out drained.out)
   has_left v drained (inr (inl h)) = one_frame _ (reads_none (other c.role) c.longest v.back (dm true ∷ []) h.back drained.back)
   has_left v drained (inr (inr h)) = h.off

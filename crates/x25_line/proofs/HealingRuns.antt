@@ -50,7 +50,7 @@ module _ (laws : HealingLaws) where
   said_delivered c small [] w h = h
   said_delivered c small (o ∷ os) w h = laws.rest.take c o w.near.station small h.low
 
-  said_act : (c : Settings) → c.window ≤ 7 → (a : Act) (w : Stations) → Said c.window w → Said c.window (acts c a w)
+  pub said_act : (c : Settings) → c.window ≤ 7 → (a : Act) (w : Stations) → Said c.window w → Said c.window (acts c a w)
   said_act c small (Put packet) w h =
       let v : Stations = after_step c w w.back (packet ∷ []) (put_step c packet w.near.station) in
       said_if c.window (nat_le (length packet) c.longest) w (unless (put_refusal w.near.station) w v) h
@@ -125,11 +125,22 @@ module _ (c d : Settings) (joined : AreJoined c d) (reads : ReadsSpelled) (laws 
   pub refused : (w : Stations) → timer_runs w.near.station.phase w.near.station ≡ false → acts c T1 w ≡ w
   refused w stopped = rw stopped refl
 
-  fires_is : (w : Stations) → timer_runs w.near.station.phase w.near.station ≡ true → acts c T1 w ≡ after_step c w w.back [] (timer_step c w.near.station)
+  pub fires_is : (w : Stations) → timer_runs w.near.station.phase w.near.station ≡ true → acts c T1 w ≡ after_step c w w.back [] (timer_step c w.near.station)
   fires_is w running = rw running refl
 
   pub not_noted : (w : Stations) (v : Stations) → acts c T1 w ≡ v → v.near.came_up ≡ false → (acts c T1 w).near.came_up ≡ false
   not_noted w v is h = ap (λ (z : Stations). z.near.came_up) is ∙ h
+
+  -- a firing notes no LinkUp
+  pub fire_sound : (w : Stations) → Sound c d w → Sound c d (acts c T1 w)
+  fire_sound w h =
+      let one = each_hands_one c d (Near T1) w in
+      record {
+        line = machine_acts c T1 w h.line;
+        joint = machine_joint (Unit {0}) c d joined reads laws.laws T1 w h.line (λ _. one.came_up ∙ h.joint.near_notes.once) (λ _. tt) h.joint;
+        near_said = said_act laws c joined.near_high T1 w h.near_said;
+        far_said = subst (λ (e : StationEnd). HasSaidAll d.window e.station) (sym one.far) h.far_said;
+      }
 
   -- a poll goes on the empty line to the other end, and recovery begins
   pub record Fired (w v : Stations) : Type 0 where

@@ -19,6 +19,7 @@ pub mod HealingRuns
 pub mod HealingBoth
 pub mod HealingLoad
 pub mod HealingGone
+pub mod HealingEnds
 pub mod SessionLines
 pub mod SessionHeld
 pub mod SessionSteps

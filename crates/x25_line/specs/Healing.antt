@@ -1,12 +1,12 @@
 -- Healing: once the line is good for a moment, everything arrives. Nothing is on the line; timer T1 runs out once at an end where it runs;
 -- and then all that is on the line comes, in any order of the two directions, while nothing is lost.
-use Rattle.std.specs.Prelude.{◌≡◌, ℕ, ◌+◌, ◌-◌, ◌*◌, ◌<◌, ◌≤◌, Bool, false, true, List, [], ◌∷◌, length, Result, Ok, Err}
+use Rattle.std.specs.Prelude.{◌≡◌, ℕ, ◌+◌, ◌-◌, ◌*◌, ◌<◌, ◌≤◌, ◌⊎◌, Bool, false, true, List, [], ◌∷◌, length, Result, Ok, Err}
 use Rattle.x25_bits.specs.declared.role.Role.{Role}
 use Rattle.x25_frame.specs.PlainFrame.{PlainFrame, info, rr, rnr, rej}
 use Rattle.x25_frame.specs.Reading.{frame_of}
 use Rattle.x25_frame.specs.declared.error.FrameError.{FrameError}
 use Rattle.x25_link.specs.MustSend.{other}
-use Rattle.x25_link.specs.Station.{Settings, is_up, is_busy}
+use Rattle.x25_link.specs.Station.{Settings, is_up, is_waiting, is_busy}
 use Rattle.x25_link.specs.Steps.{timer_runs}
 use Rattle.x25_link.specs.WindowLaw.{IsOut}
 use Rattle.x25_link.specs.RestLaw.{IsAtRest}
@@ -182,3 +182,20 @@ GoneEnds =
     (c d : Settings) → AreJoined c d → (events : List Event) → IsQuietMoment c d events
     → (let w = run c d events start in MayHeal c w.near → timer_runs w.near.station.phase w.near.station ≡ true → IsOut w.far.station.phase
     → (deliveries : List Event) → AreDeliveries deliveries → (let v = run c d (Near T1 ∷ deliveries) w in IsDrained v → is_up v.near.station.phase ≡ false))
+
+-- ---- whatever the ends are
+
+-- an end doesn't await UA, and isn't busy where it is Up
+pub record MayFire (e : StationEnd) : Type 0 where
+  pub settled : is_waiting e.station.phase ≡ false
+  pub free : is_up e.station.phase ≡ true → is_busy e.station ≡ false
+
+abbrev pub IsAtRestOrOut : StationEnd → Type 0
+IsAtRestOrOut e = IsAtRest e.station ⊎ (is_up e.station.phase ≡ false)
+
+-- Both fire where their T1 runs, whatever tries are left, and all that is on the line comes: each end is then at rest or not Up.
+abbrev pub EachRestsOrIsOut : Type 0
+EachRestsOrIsOut =
+    (c d : Settings) → AreJoined c d → (events : List Event) → IsQuietMoment c d events
+    → (let w = run c d events start in MayFire w.near → MayFire w.far
+    → (deliveries : List Event) → AreDeliveries deliveries → (let v = run c d (Near T1 ∷ Far T1 ∷ deliveries) w in IsDrained v → IsAtRestOrOut v.near × IsAtRestOrOut v.far))

@@ -1,6 +1,6 @@
 //! Healing: once the line is good for a moment, everything arrives. Laws of two link stations over a line, each the contract of a
 //! function that does nothing.
-ghost use Rattle.x25_line.specs.Healing.{RestShows, OneFiringHeals, FarFiringHeals, OneFiringEnds, TwoFiringsHeal, BothFiringsHeal, DeliveriesEnd, SomeHeal, GoneEnds};
+ghost use Rattle.x25_line.specs.Healing.{RestShows, OneFiringHeals, FarFiringHeals, OneFiringEnds, TwoFiringsHeal, BothFiringsHeal, DeliveriesEnd, SomeHeal, GoneEnds, EachRestsOrIsOut};
 
 use x25_frame::reads_what_is_spelled;
 use x25_link::{
@@ -40,10 +40,11 @@ pub fn one_firing_heals()
 }
 
 /// Deliver, fire once at each end, deliver: everything sent has arrived, in order, once, and both ends are at rest. Both may fire before
-/// anything comes (`at_once`), or one after the other, with all deliveries of the first between them (`in_turn`).
+/// anything comes (`at_once`), or one after the other, with all deliveries of the first between them (`in_turn`). Where an end may be out, or have no tries left, each is at rest or not Up then (`whatever`).
 pub fn two_firings_heal()
     ensures at_once { BothFiringsHeal }
     ensures in_turn { TwoFiringsHeal }
+    ensures whatever { EachRestsOrIsOut }
 {
     follows_the_window();
     sets_up_by_rows();
