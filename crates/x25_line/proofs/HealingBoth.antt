@@ -1,37 +1,20 @@
 -- Both ends fire, at once or in turn, and everything arrives; and the laws of healing.
-use Rattle.std.proofs.Common.{◌≡◌, ℕ, ◌+◌, ◌%◌, ◌≤◌, ◌<◌, List, [], ◌∷◌, ◌++◌, ◌⊎◌, inl, inr, length, map, Bool, true, false, if◌then◌else◌, Option, Some, None, refl, sym, ap, ◌∙◌, subst, arith}
-use Rattle.std.specs.Prelude.{◌||◌, nat_lt, nat_le}
-use Rattle.std.proofs.lemmas.Bool.{le-ltb, and_right}
-use Rattle.x25_bits.specs.declared.role.Role.{Role}
+use Rattle.std.proofs.Common.{◌≡◌, ℕ, ◌%◌, ◌<◌, List, [], ◌∷◌, inl, inr, length, map, Bool, true, false, refl, sym, ap, ◌∙◌, subst, arith}
 use Rattle.x25_frame.specs.PlainFrame.{PlainFrame, info, rr, rnr, rej, sabm, disc, ua, dm, frmr}
-use Rattle.x25_frame.specs.Spelling.{spelling_of}
 use Rattle.x25_frame.specs.ReadingLaw.{ReadsSpelled}
-use Rattle.x25_link.specs.declared.error.LinkError.{LinkError}
-use Rattle.x25_link.specs.declared.error.LinkError.TheVariants.{NotRunning}
-use Rattle.x25_link.specs.declared.phase.Phase.{Phase}
-use Rattle.x25_link.specs.declared.phase.Notes.{Notes}
-use Rattle.x25_link.specs.declared.phase.Reason.{Reason}
-use Rattle.x25_link.specs.declared.phase.Reason.TheVariants.{Retries}
-use Rattle.x25_link.specs.Outgoing.{no_packet, is_open}
-use Rattle.x25_link.specs.Station.{Settings, Station, is_up, is_busy, wanted, fresh}
-use Rattle.x25_link.specs.MustSend.{Step, other}
-use Rattle.x25_link.specs.Steps.{timer_step, timer_runs, timer_refusal, put_refusal, connect_refusal, disconnect_refusal, put_step, connect_step, disconnect_step, abandon_step}
-use Rattle.x25_link.specs.WindowMachine.{nothing}
-use Rattle.x25_link.specs.WindowLaw.{IsRunning, Follows}
-use Rattle.x25_link.specs.RestLaw.{HasSaidAll, IsAtRest}
-use Rattle.x25_link.specs.AnswerLaw.{says, Asks}
-use Rattle.x25_line.specs.Stations.{StationEnd, Stations, Act, Put, Deliver, T1, Connect, Disconnect, Abandon, Lose, Damage, Event, Near, Far, after_step, unless, delivered, is_visible, acts, swapped, happens, run, start}
-use Rattle.x25_line.specs.StationClaims.{AreJoined, IsSetUpOnce, HandsOne, AreWhole}
-use Rattle.x25_line.specs.WholeNumbers.{machine_acts, machine_run, machine_at_start}
-use Rattle.x25_line.specs.Healing.{IsDrained, IsDeliver, IsDelivery, AreDeliveries, HasArrived, ShowsAtRest, RestShows, MayHeal, IsHealed, IsQuietMoment, OneHeals, OneFiringHeals, FarFiringHeals, OneFiringEnds, TwoFiringsHeal, BothFiringsHeal}
+use Rattle.x25_link.specs.Station.{Settings, is_up, is_busy}
+use Rattle.x25_link.specs.MustSend.{other}
+use Rattle.x25_link.specs.Steps.{timer_runs}
+use Rattle.x25_link.specs.RestLaw.{IsAtRest}
+use Rattle.x25_line.specs.Stations.{StationEnd, Stations, Act, T1, Event, Near, Far, acts, swapped, run, start}
+use Rattle.x25_line.specs.StationClaims.{AreJoined}
+use Rattle.x25_line.specs.Healing.{IsDrained, IsDeliver, AreDeliveries, RestShows, MayHeal, IsHealed, OneHeals, OneFiringHeals, FarFiringHeals, OneFiringEnds, TwoFiringsHeal, BothFiringsHeal}
 use Rattle.x25_line.proofs.StationSteps.{not_both}
-use Rattle.x25_line.proofs.StationRuns.{machine_joint, run_once, joined_swapped, start_machine}
-use Rattle.x25_line.proofs.StationClaimLemmas.{holds_order, holds_lists}
-use Rattle.x25_line.proofs.StationEvents.{each_hands_one}
-use Rattle.x25_line.proofs.HealingLines.{Reads, reads_more, whole_behind, reads_none, Ahead, Reports}
+use Rattle.x25_line.proofs.StationRuns.{joined_swapped}
+use Rattle.x25_line.proofs.HealingLines.{Reads, Reports}
 use Rattle.x25_line.proofs.HealingSteps.{HealingLaws, Sound, sound_swapped, near_up, counted}
 use Rattle.x25_line.proofs.HealingRuns.{reached_sound, arrives, shows_at_rest, refused, Fired, fires, near_event, far_event, settles, Round, one_round, ends, flip, flip_all, flip_run}
-use Rattle.x25_line.proofs.HealingPhases.{Both, Asked, Answered, Resent, Heals, up_is, rest_has_all, near_heals, far_heals}
+use Rattle.x25_line.proofs.HealingPhases.{Heals}
 
 -- ---- both ends fire before anything comes
 

@@ -1,5 +1,5 @@
 -- Whatever the two ends are at a quiet moment, once both have fired and all has come each is at rest or not Up.
-use Rattle.std.proofs.Common.{◌≡◌, ℕ, ◌+◌, ◌≤◌, ◌<◌, List, [], ◌∷◌, ◌++◌, ◌⊎◌, inl, inr, length, map, Bool, true, false, if◌then◌else◌, Option, Some, None, refl, sym, ap, ◌∙◌, subst, arith}
+use Rattle.std.proofs.Common.{◌≡◌, ℕ, List, [], ◌∷◌, ◌++◌, ◌⊎◌, inl, inr, map, Bool, true, false, if◌then◌else◌, Some, None, refl, sym, ap, ◌∙◌, subst}
 use Rattle.std.specs.Prelude.{nat_lt}
 use Rattle.std.proofs.lemmas.Bool.{ltb-true}
 use Rattle.x25_frame.specs.PlainFrame.{PlainFrame, rr}
@@ -7,22 +7,20 @@ use Rattle.x25_frame.specs.Spelling.{spelling_of}
 use Rattle.x25_frame.specs.ReadingLaw.{ReadsSpelled}
 use Rattle.x25_link.specs.declared.phase.Phase.{Phase}
 use Rattle.x25_link.specs.declared.phase.Phase.TheVariants.{Down, Waiting, Up, Closed}
-use Rattle.x25_link.specs.declared.phase.Reason.{Reason}
 use Rattle.x25_link.specs.declared.phase.Reason.TheVariants.{Retries}
-use Rattle.x25_link.specs.Station.{Settings, Station, is_up, is_waiting, is_busy}
+use Rattle.x25_link.specs.Station.{Settings, Station, is_up, is_waiting}
 use Rattle.x25_link.specs.MustSend.{Step, other}
 use Rattle.x25_link.specs.Steps.{timer_step, timer_runs}
 use Rattle.x25_link.specs.WindowMachine.{nothing}
 use Rattle.x25_link.specs.WindowLaw.{Follows, IsOut}
 use Rattle.x25_link.specs.RestLaw.{IsAtRest}
-use Rattle.x25_line.specs.Stations.{StationEnd, Stations, Act, T1, Event, Near, Far, after_step, acts, swapped, run, start}
+use Rattle.x25_line.specs.Stations.{StationEnd, Stations, T1, Event, after_step, acts, swapped, run, start}
 use Rattle.x25_line.specs.StationClaims.{AreJoined}
-use Rattle.x25_line.specs.Healing.{IsDrained, AreDeliveries, MayHeal, IsHealed, IsQuietMoment, MayFire, IsAtRestOrOut, EachRestsOrIsOut}
+use Rattle.x25_line.specs.Healing.{IsDrained, AreDeliveries, MayHeal, MayFire, IsAtRestOrOut, EachRestsOrIsOut}
 use Rattle.x25_line.proofs.StationSteps.{not_both}
 use Rattle.x25_line.proofs.StationRuns.{joined_swapped}
 use Rattle.x25_line.proofs.HealingLines.{Reads}
 use Rattle.x25_line.proofs.HealingSteps.{HealingLaws, Sound, sound_swapped, near_up}
-use Rattle.x25_line.proofs.HealingPhases.{up_is}
 use Rattle.x25_line.proofs.HealingRuns.{reached_sound, shows_at_rest, refused, fires_is, fire_sound, Fired, fires, idle_run, flip, flip_all, flip_run}
 use Rattle.x25_line.proofs.HealingBoth.{both_firings_heal}
 use Rattle.x25_line.proofs.HealingGone.{Polls, Leaves, all_go, is_gone, has_left}
@@ -163,7 +161,7 @@ module _ (reads : ReadsSpelled) (laws : HealingLaws) where
       fired may f (inr (inr g)) =
           let near : y.far ≡ x.near = g.1.far in
           let polls : Polls c d (swapped y) =
-              record { number = f.number; up = subst (λ (e : StationEnd). is_up e.station.phase ≡ true) (sym near) f.up; gone = g.0; out = subst (λ (os : List (List ℕ)). Reads (other d.role) d.longest os (rr true f.number true ∷ [])) (sym g.1.back) f.out; back = g.1.out } in
+          record { number = f.number; up = subst (λ (e : StationEnd). is_up e.station.phase ≡ true) (sym near) f.up; gone = g.0; out = subst (λ (os : List (List ℕ)). Reads (other d.role) d.longest os (rr true f.number true ∷ [])) (sym g.1.back) f.out; back = g.1.out } in
           polls_left c d joined reads laws (swapped y) (inl polls) es are after
 
       rested : MayHeal c w.near → IsAtRest x.near.station → Silent w x → Kind d c twisted reads laws (swapped x) y → Ends
@@ -176,7 +174,7 @@ module _ (reads : ReadsSpelled) (laws : HealingLaws) where
       gone out k (inl g) =
           let f = g.1 in
           let polls : Polls d c y =
-              record { number = f.number; up = f.up; gone = subst (λ (e : StationEnd). IsOut e.station.phase) (sym f.far) out; out = f.out; back = f.back ∙ k.out } in
+          record { number = f.number; up = f.up; gone = subst (λ (e : StationEnd). IsOut e.station.phase) (sym f.far) out; out = f.out; back = f.back ∙ k.out } in
           far_left c d joined (swapped y) (inl polls) es are after
       gone out k (inr (inl g)) =
           both_quiet c d joined reads laws (swapped y) (g.2.back ∙ k.out) g.2.out (inr (ap (λ (e : StationEnd). is_up e.station.phase) g.2.far ∙ out_not_up x.near.station.phase out)) (inl g.1) es are

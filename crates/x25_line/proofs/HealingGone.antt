@@ -1,5 +1,5 @@
 -- An end whose peer has left Up: its poll is answered by DM, and it leaves too.
-use Rattle.std.proofs.Common.{◌≡◌, ℕ, List, [], ◌∷◌, ◌++◌, ◌⊎◌, inl, inr, length, map, Bool, true, false, refl, sym, ap, ◌∙◌, subst, arith}
+use Rattle.std.proofs.Common.{◌≡◌, ℕ, List, [], ◌∷◌, ◌++◌, ◌⊎◌, inl, inr, length, map, true, false, refl, sym, ap, ◌∙◌, subst, arith}
 use Rattle.x25_bits.specs.declared.role.Role.{Role}
 use Rattle.x25_frame.specs.PlainFrame.{PlainFrame, rr, dm}
 use Rattle.x25_frame.specs.Spelling.{spelling_of}
@@ -10,11 +10,11 @@ use Rattle.x25_link.specs.Steps.{take_step}
 use Rattle.x25_link.specs.WindowLaw.{IsOut}
 use Rattle.x25_line.specs.Stations.{StationEnd, Stations, Act, Put, Deliver, T1, Connect, Disconnect, Abandon, Lose, Damage, Event, Near, Far, after_step, delivered, acts, swapped, run, start}
 use Rattle.x25_line.specs.StationClaims.{AreJoined}
-use Rattle.x25_line.specs.Healing.{IsDrained, IsDeliver, AreDeliveries, MayHeal, IsQuietMoment, GoneEnds}
-use Rattle.x25_line.proofs.HealingLines.{Reads, FrontReads, front_reads, none_reads, reads_none, reads_more}
-use Rattle.x25_line.proofs.HealingSteps.{HealingLaws, Sound}
+use Rattle.x25_line.specs.Healing.{IsDrained, IsDeliver, AreDeliveries, GoneEnds}
+use Rattle.x25_line.proofs.HealingLines.{Reads, front_reads, none_reads, reads_none, reads_more}
+use Rattle.x25_line.proofs.HealingSteps.{HealingLaws}
 use Rattle.x25_line.proofs.HealingPhases.{up_is}
-use Rattle.x25_line.proofs.HealingRuns.{reached_sound, Fired, fires}
+use Rattle.x25_line.proofs.HealingRuns.{reached_sound, fires}
 
 -- the poll is on the line to an end that is out; or DM is on the line back; or the near end has left
 pub record Polls (c d : Settings) (w : Stations) : Type 0 where

@@ -1,24 +1,23 @@
 -- While both ends heal, each delivery makes the load of the world less, so that deliveries come to an end.
-use Rattle.std.proofs.Common.{◌≡◌, ℕ, suc, zero, ◌+◌, ◌-◌, ◌*◌, ◌%◌, ◌≤◌, ◌<◌, List, [], ◌∷◌, ◌++◌, ◌⊎◌, inl, inr, length, map, max, Bool, true, false, not, if◌then◌else◌, Ok, refl, sym, ap, ◌∙◌, subst, arith}
-use Rattle.std.specs.Prelude.{◌&&◌, ◌==◌}
+use Rattle.std.proofs.Common.{◌≡◌, ℕ, suc, zero, ◌+◌, ◌-◌, ◌*◌, ◌%◌, ◌≤◌, List, [], ◌∷◌, ◌++◌, inl, inr, length, max, Bool, true, false, not, if◌then◌else◌, Ok, refl, sym, ap, ◌∙◌, arith}
+use Rattle.std.specs.Prelude.{◌&&◌}
 use Rattle.std.proofs.lemmas.Bool.{eq-eqb}
 use Rattle.x25_bits.specs.declared.role.Role.{Role}
 use Rattle.x25_frame.specs.PlainFrame.{PlainFrame, info, rr, rnr, rej, sabm, disc, ua, dm, frmr}
 use Rattle.x25_frame.specs.ReadingLaw.{ReadsSpelled}
-use Rattle.x25_link.specs.Station.{Settings, Station, is_up, is_busy, wanted, owes_ready}
+use Rattle.x25_link.specs.Station.{Settings, Station, is_up, is_busy, wanted}
 use Rattle.x25_link.specs.MustSend.{other, is_taken}
-use Rattle.x25_link.specs.Steps.{take_step}
 use Rattle.x25_link.specs.AnswerLaw.{says, AreNext, weight_of, weight_if, Outcome, heard, goes_on_from, confirms, once_taken}
-use Rattle.x25_line.specs.Stations.{StationEnd, Stations, Act, Put, Deliver, T1, Connect, Disconnect, Abandon, Lose, Damage, Event, Near, Far, acts, swapped, happens, run, start}
+use Rattle.x25_line.specs.Stations.{Stations, Act, Put, Deliver, T1, Connect, Disconnect, Abandon, Lose, Damage, Event, Near, Far, acts, swapped, run, start}
 use Rattle.x25_line.specs.StationClaims.{AreJoined}
-use Rattle.x25_line.specs.Healing.{IsDrained, IsDeliver, AreDeliveries, MayHeal, IsHealed, IsQuietMoment, frame_load, line_load, to_send, load, Finds, EachFinds, DeliveriesEnd, SomeHeal}
+use Rattle.x25_line.specs.Healing.{IsDrained, IsDeliver, AreDeliveries, frame_load, line_load, to_send, load, EachFinds, DeliveriesEnd, SomeHeal}
 use Rattle.x25_line.proofs.StationSteps.{not_both}
 use Rattle.x25_line.proofs.StationRuns.{joined_swapped}
-use Rattle.x25_line.proofs.HealingLines.{Reads, FrontReads, front_reads, none_reads, Ahead, Mild}
-use Rattle.x25_line.proofs.HealingSteps.{HealingLaws, Sound, sound_swapped, near_up, hears_well, Delivered, delivers}
-use Rattle.x25_line.proofs.HealingPhases.{Both, Asked, Answered, Resent, Heals, up_is}
+use Rattle.x25_line.proofs.HealingLines.{Reads, front_reads, none_reads, Ahead, Mild}
+use Rattle.x25_line.proofs.HealingSteps.{HealingLaws, near_up, hears_well, Delivered, delivers}
+use Rattle.x25_line.proofs.HealingPhases.{Both, Heals, up_is}
 use Rattle.x25_line.proofs.HealingRuns.{reached_sound}
-use Rattle.x25_line.proofs.HealingBoth.{HealsBoth, Begun, both_near, both_far, both_run, both_settle, fired_both}
+use Rattle.x25_line.proofs.HealingBoth.{HealsBoth, both_near, both_far, both_run, both_settle, fired_both}
 
 -- ---- the load of frames
 

@@ -1,7 +1,7 @@
 -- How the near end heals after its firing: its poll is on the line, then the answer, then what isn't acknowledged, in order.
-use Rattle.std.proofs.Common.{◌≡◌, ℕ, ◌+◌, ◌%◌, ◌≤◌, ◌<◌, List, [], ◌∷◌, ◌++◌, ◌⊎◌, inl, inr, length, max, Bool, true, false, Ok, refl, sym, ap, ◌∙◌, subst, arith, length-append, append_assoc}
-use Rattle.std.specs.Prelude.{◌==◌, ◌-◌, ◌&&◌, not, if◌then◌else◌, nat_lt}
-use Rattle.std.proofs.lemmas.Bool.{eq-eqb, eqb-true, and_parts, ltb-false}
+use Rattle.std.proofs.Common.{◌≡◌, ℕ, ◌+◌, ◌%◌, ◌≤◌, List, [], ◌∷◌, ◌++◌, ◌⊎◌, inl, inr, length, max, Bool, true, false, refl, sym, ap, ◌∙◌, subst, arith, length-append, append_assoc}
+use Rattle.std.specs.Prelude.{◌==◌, ◌-◌, ◌&&◌, not, if◌then◌else◌}
+use Rattle.std.proofs.lemmas.Bool.{eq-eqb, eqb-true, and_parts}
 use Rattle.x25_frame.specs.PlainFrame.{PlainFrame, info, rr, rnr, rej, sabm, disc, ua, dm, frmr}
 use Rattle.x25_frame.specs.ReadingLaw.{ReadsSpelled}
 use Rattle.x25_window.specs.Modulo.{resolved}
@@ -9,18 +9,17 @@ use Rattle.x25_link.specs.declared.phase.Phase.{Phase}
 use Rattle.x25_link.specs.declared.phase.Phase.TheVariants.{Down, Waiting, Up, Closed}
 use Rattle.x25_link.specs.Outgoing.{waits}
 use Rattle.x25_link.specs.Station.{Settings, Station, is_up, is_busy, wanted}
-use Rattle.x25_link.specs.MustSend.{Step, other, is_taken}
-use Rattle.x25_link.specs.Steps.{take_step}
+use Rattle.x25_link.specs.MustSend.{other, is_taken}
 use Rattle.x25_link.specs.WindowLaw.{IsSound}
 use Rattle.x25_link.specs.RestLaw.{HasSaidAll, IsAtRest}
-use Rattle.x25_link.specs.AnswerLaw.{says, AreNext, Outcome, Answers, heard, heard_tries, goes_on_from, confirms, once_taken, busy_after, passed_over}
-use Rattle.x25_line.specs.Stations.{StationEnd, Stations, Act, Deliver, delivered, acts, swapped}
+use Rattle.x25_link.specs.AnswerLaw.{says, AreNext, Outcome, heard, heard_tries, goes_on_from, confirms, once_taken, busy_after, passed_over}
+use Rattle.x25_line.specs.Stations.{StationEnd, Stations, Deliver, delivered, acts, swapped}
 use Rattle.x25_line.specs.StationClaims.{AreJoined}
 use Rattle.x25_line.proofs.Kept.{resolved_is}
-use Rattle.x25_line.proofs.StationSteps.{AsUp, not_both}
+use Rattle.x25_line.proofs.StationSteps.{not_both}
 use Rattle.x25_line.proofs.StationRuns.{joined_swapped}
-use Rattle.x25_line.proofs.HealingLines.{Reads, FrontReads, front_reads, none_reads, Ahead, ahead_low, ahead_more, next_ahead, Mild, mild_ahead, mild_more, held_mild, AtMostPoll, LastTells, Reports, next_tells, tells_behind, reports_more, reports_new, reports_heard}
-use Rattle.x25_line.proofs.HealingSteps.{HealingLaws, Sound, sound_swapped, near_up, far_up, Counted, counted, HearsWell, hears_well, Delivered, delivers}
+use Rattle.x25_line.proofs.HealingLines.{Reads, front_reads, none_reads, Ahead, ahead_low, ahead_more, next_ahead, Mild, mild_ahead, mild_more, held_mild, AtMostPoll, LastTells, Reports, next_tells, tells_behind, reports_more, reports_new, reports_heard}
+use Rattle.x25_line.proofs.HealingSteps.{HealingLaws, Sound, sound_swapped, near_up, far_up, counted, HearsWell, hears_well, Delivered, delivers}
 
 -- both ends are Up and not busy; the far end has at most so many tries, and is at rest where it was
 pub record Both (c d : Settings) (most : ℕ) (Was : Type 0) (w : Stations) : Type 0 where

@@ -1,36 +1,31 @@
 -- From a quiet moment, a firing and deliveries heal an end; and what rest shows.
-use Rattle.std.proofs.Common.{◌≡◌, ℕ, ◌+◌, ◌%◌, ◌≤◌, ◌<◌, List, [], ◌∷◌, ◌++◌, ◌⊎◌, inl, inr, length, map, Bool, true, false, if◌then◌else◌, Option, Some, None, refl, sym, ap, ◌∙◌, subst, arith}
+use Rattle.std.proofs.Common.{◌≡◌, ℕ, ◌+◌, ◌%◌, ◌≤◌, ◌<◌, List, [], ◌∷◌, ◌++◌, inl, inr, length, map, Bool, true, false, if◌then◌else◌, Option, Some, None, refl, sym, ap, ◌∙◌, subst, arith}
 use Rattle.std.specs.Prelude.{◌||◌, nat_lt, nat_le}
 use Rattle.std.proofs.lemmas.Bool.{le-ltb, and_right}
 use Rattle.x25_bits.specs.declared.role.Role.{Role}
-use Rattle.x25_frame.specs.PlainFrame.{PlainFrame, info, rr, rnr, rej, sabm, disc, ua, dm, frmr}
+use Rattle.x25_frame.specs.PlainFrame.{PlainFrame, rr}
 use Rattle.x25_frame.specs.Spelling.{spelling_of}
 use Rattle.x25_frame.specs.ReadingLaw.{ReadsSpelled}
 use Rattle.x25_link.specs.declared.error.LinkError.{LinkError}
-use Rattle.x25_link.specs.declared.error.LinkError.TheVariants.{NotRunning}
-use Rattle.x25_link.specs.declared.phase.Phase.{Phase}
 use Rattle.x25_link.specs.declared.phase.Notes.{Notes}
-use Rattle.x25_link.specs.declared.phase.Reason.{Reason}
 use Rattle.x25_link.specs.declared.phase.Reason.TheVariants.{Retries}
-use Rattle.x25_link.specs.Outgoing.{no_packet, is_open}
 use Rattle.x25_link.specs.Station.{Settings, Station, is_up, is_busy, wanted, fresh}
 use Rattle.x25_link.specs.MustSend.{Step, other}
 use Rattle.x25_link.specs.Steps.{timer_step, timer_runs, timer_refusal, put_refusal, connect_refusal, disconnect_refusal, put_step, connect_step, disconnect_step, abandon_step}
 use Rattle.x25_link.specs.WindowMachine.{nothing}
-use Rattle.x25_link.specs.WindowLaw.{IsRunning, Follows}
+use Rattle.x25_link.specs.WindowLaw.{Follows}
 use Rattle.x25_link.specs.RestLaw.{HasSaidAll, IsAtRest}
 use Rattle.x25_link.specs.AnswerLaw.{says, Asks}
 use Rattle.x25_line.specs.Stations.{StationEnd, Stations, Act, Put, Deliver, T1, Connect, Disconnect, Abandon, Lose, Damage, Event, Near, Far, after_step, unless, delivered, is_visible, acts, swapped, happens, run, start}
-use Rattle.x25_line.specs.StationClaims.{AreJoined, IsSetUpOnce, HandsOne, AreWhole}
+use Rattle.x25_line.specs.StationClaims.{AreJoined, IsSetUpOnce, AreWhole}
 use Rattle.x25_line.specs.WholeNumbers.{machine_acts, machine_run, machine_at_start}
-use Rattle.x25_line.specs.Healing.{IsDrained, IsDeliver, IsDelivery, AreDeliveries, HasArrived, ShowsAtRest, RestShows, MayHeal, IsHealed, IsQuietMoment, OneHeals, OneFiringHeals, FarFiringHeals, OneFiringEnds, TwoFiringsHeal, BothFiringsHeal}
-use Rattle.x25_line.proofs.StationSteps.{not_both}
-use Rattle.x25_line.proofs.StationRuns.{machine_joint, run_once, joined_swapped, start_machine}
+use Rattle.x25_line.specs.Healing.{IsDrained, IsDeliver, IsDelivery, AreDeliveries, HasArrived, ShowsAtRest, MayHeal, OneHeals}
+use Rattle.x25_line.proofs.StationRuns.{machine_joint, run_once, start_machine}
 use Rattle.x25_line.proofs.StationClaimLemmas.{holds_order, holds_lists}
 use Rattle.x25_line.proofs.StationEvents.{each_hands_one}
 use Rattle.x25_line.proofs.HealingLines.{Reads, reads_more, whole_behind, reads_none, Ahead, Reports}
-use Rattle.x25_line.proofs.HealingSteps.{HealingLaws, Sound, sound_swapped, near_up, counted}
-use Rattle.x25_line.proofs.HealingPhases.{Both, Asked, Answered, Resent, Heals, up_is, rest_has_all, near_heals, far_heals}
+use Rattle.x25_line.proofs.HealingSteps.{HealingLaws, Sound, near_up}
+use Rattle.x25_line.proofs.HealingPhases.{Heals, up_is, rest_has_all, near_heals, far_heals}
 
 -- ---- each end has said all that it may, after each event
 
@@ -69,7 +64,7 @@ module _ (laws : HealingLaws) where
       said_damaged : (b : Bool) (w v : Stations) → Said c.window w → Said c.window v → Said c.window (if b then v else w)
       said_damaged = said_if c.window
 
-  abbrev BothSaid : Settings → Settings → Stations → Type 0
+  abbrev pub BothSaid : Settings → Settings → Stations → Type 0
   BothSaid c d w = HasSaidAll c.window w.near.station × HasSaidAll d.window w.far.station
 
   said_event : (c d : Settings) → AreJoined c d → (e : Event) (w : Stations) → BothSaid c d w → BothSaid c d (happens c d e w)
@@ -78,11 +73,11 @@ module _ (laws : HealingLaws) where
   said_event c d joined (Far a) w h =
       (subst (λ (e : StationEnd). HasSaidAll c.window e.station) (sym (each_hands_one c d (Far a) w).far) h.0, said_act d joined.far_high a (swapped w) h.1)
 
-  said_run : (c d : Settings) → AreJoined c d → (es : List Event) (w : Stations) → BothSaid c d w → BothSaid c d (run c d es w)
+  pub said_run : (c d : Settings) → AreJoined c d → (es : List Event) (w : Stations) → BothSaid c d w → BothSaid c d (run c d es w)
   said_run c d joined [] w h = h
   said_run c d joined (e ∷ es) w h = said_run c d joined es (happens c d e w) (said_event c d joined e w h)
 
-  fresh_said : (k : ℕ) → HasSaidAll k fresh
+  pub fresh_said : (k : ℕ) → HasSaidAll k fresh
   fresh_said k = record { low = omega arith; settled = and_right (nat_lt 0 (0 + k)) _ refl; calm = refl }
 
   -- where events lead

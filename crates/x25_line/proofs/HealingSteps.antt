@@ -1,27 +1,24 @@
 -- What holds of two stations that both are Up while all that is on the line comes, and what one delivery makes of it.
-use Rattle.std.proofs.Common.{◌≡◌, ℕ, ◌+◌, ◌-◌, ◌*◌, ◌%◌, ◌≤◌, ◌<◌, List, [], ◌∷◌, ◌++◌, length, map, max, Bool, true, false, Option, Some, None, Result, Ok, refl, sym, ap, ◌∙◌, subst, arith}
-use Rattle.std.specs.Prelude.{◌||◌, nat_lt}
+use Rattle.std.proofs.Common.{◌≡◌, ℕ, ◌+◌, ◌-◌, ◌*◌, ◌%◌, ◌≤◌, List, [], ◌∷◌, ◌++◌, length, map, Bool, true, false, Option, Some, Result, Ok, refl, sym, ap, ◌∙◌, subst, arith}
+use Rattle.std.specs.Prelude.{◌||◌}
 use Rattle.std.proofs.lemmas.Bool.{ltb-false, le-ltb, le-leb}
 use Rattle.x25_bits.specs.declared.role.Role.{Role}
 use Rattle.x25_frame.specs.PlainFrame.{PlainFrame, info, rr, rnr, rej, sabm, disc, ua, dm, frmr}
 use Rattle.x25_frame.specs.Spelling.{spelling_of}
-use Rattle.x25_frame.specs.Reading.{frame_of}
 use Rattle.x25_frame.specs.ReadingLaw.{ReadsSpelled}
 use Rattle.x25_frame.specs.declared.error.FrameError.{FrameError}
 use Rattle.x25_window.specs.Modulo.{resolved}
-use Rattle.x25_window.specs.Window.{End, Frame}
+use Rattle.x25_window.specs.Window.{Frame}
 use Rattle.x25_link.specs.declared.phase.Notes.{Notes}
 use Rattle.x25_link.specs.NoteLaw.{TakeContinues}
-use Rattle.x25_link.specs.Outgoing.{waits}
 use Rattle.x25_link.specs.Station.{Settings, Station, is_up, is_busy}
 use Rattle.x25_link.specs.MustSend.{Step, other, is_valid}
 use Rattle.x25_link.specs.Steps.{take_step}
 use Rattle.x25_link.specs.WindowMachine.{Window, Shows, ShowAll}
-use Rattle.x25_link.specs.WindowLaw.{IsSound}
-use Rattle.x25_link.specs.RestLaw.{HasSaidAll, IsAtRest, RestLaws}
+use Rattle.x25_link.specs.RestLaw.{HasSaidAll, RestLaws}
 use Rattle.x25_link.specs.AnswerLaw.{AreNext, weight_of, weight_if, Outcome, Answers, AnswerLaws, heard}
 use Rattle.x25_line.specs.Line.{Line, swapped as line_swapped}
-use Rattle.x25_line.specs.Stations.{StationEnd, Stations, Act, Deliver, after_step, delivered, acts, swapped}
+use Rattle.x25_line.specs.Stations.{Stations, Deliver, after_step, delivered, acts, swapped}
 use Rattle.x25_line.specs.StationClaims.{AreJoined, number_in, numbered_on, AreWhole}
 use Rattle.x25_line.specs.WholeNumbers.{machine_acts}
 use Rattle.x25_line.proofs.Kept.{Way, hears_valid, Way-acked}
@@ -30,7 +27,7 @@ use Rattle.x25_line.proofs.StationLines.{front_of, consed}
 use Rattle.x25_line.proofs.StationSteps.{AsUp, Joint}
 use Rattle.x25_line.proofs.StationRuns.{Laws, machine_joint, joint_swapped}
 use Rattle.x25_line.proofs.StationClaimLemmas.{up_of}
-use Rattle.x25_line.proofs.HealingLines.{Reads, reads_more, whole_behind, FrontReads, none_reads}
+use Rattle.x25_line.proofs.HealingLines.{Reads, reads_more, whole_behind, FrontReads}
 
 -- the laws of a station that healing rests on
 pub record HealingLaws : Type 0 where

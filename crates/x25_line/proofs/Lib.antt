@@ -20,6 +20,8 @@ pub mod HealingBoth
 pub mod HealingLoad
 pub mod HealingGone
 pub mod HealingEnds
+pub mod HealingSessions
+pub mod HealingRowLemmas
 pub mod SessionLines
 pub mod SessionHeld
 pub mod SessionSteps

@@ -10,8 +10,11 @@ use Rattle.x25_link.specs.Station.{Settings, is_up, is_waiting, is_busy}
 use Rattle.x25_link.specs.Steps.{timer_runs}
 use Rattle.x25_link.specs.WindowLaw.{IsOut}
 use Rattle.x25_link.specs.RestLaw.{IsAtRest}
-use Rattle.x25_line.specs.Stations.{StationEnd, Stations, Act, Deliver, T1, Event, Near, Far, swapped, happens, run, start}
+use Rattle.x25_line.specs.Stations.{StationEnd, Stations, Act, Put, Deliver, T1, Lose, Event, Near, Far, swapped, happens, run, start}
 use Rattle.x25_line.specs.StationClaims.{AreJoined, IsSetUpOnce}
+use Rattle.x25_line.specs.Sessions.{Sessions, Meeting}
+use Rattle.x25_line.specs.SessionClaims.{SomeMet}
+use Rattle.x25_line.specs.StationRows.{dte, dce}
 
 -- nothing is on the line
 pub record IsDrained (w : Stations) : Type 0 where
@@ -199,3 +202,26 @@ EachRestsOrIsOut =
     (c d : Settings) → AreJoined c d → (events : List Event) → IsQuietMoment c d events
     → (let w = run c d events start in MayFire w.near → MayFire w.far
     → (deliveries : List Event) → AreDeliveries deliveries → (let v = run c d (Near T1 ∷ Far T1 ∷ deliveries) w in IsDrained v → IsAtRestOrOut v.near × IsAtRestOrOut v.far))
+
+-- ---- over set-up and re-set-up
+
+-- An end that is Up and whose timer T1 doesn't run is at rest. Where the other end is Up too or met its session, all that was handed down in this
+-- session was handed up in the latest session of the other.
+pub record EachRestShows (c d : Settings) (w : Sessions) : Type 0 where
+  pub near : is_up w.near.station.phase ≡ true → timer_runs w.near.station.phase w.near.station ≡ false
+      → IsAtRest w.near.station × ((is_up w.far.station.phase ≡ true) ⊎ SomeMet (λ (m : Meeting). m.near ≡ w.near.begun) w.met → w.far.up w.far.begun ≡ w.near.down w.near.begun)
+  pub far : is_up w.far.station.phase ≡ true → timer_runs w.far.station.phase w.far.station ≡ false
+      → IsAtRest w.far.station × ((is_up w.near.station.phase ≡ true) ⊎ SomeMet (λ (m : Meeting). m.far ≡ w.far.begun) w.met → w.near.up w.near.begun ≡ w.far.down w.far.begun)
+
+-- ---- a worked moment
+
+-- the packet of each end was lost
+abbrev pub both_lost : List Event
+both_lost = Near (Put (5 ∷ [])) ∷ Far (Put (7 ∷ [])) ∷ Far (Lose 0) ∷ Near (Lose 0) ∷ []
+
+-- it is a quiet moment, in which T1 runs at both ends, both may heal, and nothing has arrived
+abbrev pub BothLostMayHeal : Type 0
+BothLostMayHeal =
+    IsQuietMoment dte dce both_lost
+    × (let w = run dte dce both_lost start in MayHeal dte w.near × MayHeal dce w.far × (timer_runs w.near.station.phase w.near.station ≡ true) × (timer_runs w.far.station.phase w.far.station ≡ true)
+    × (w.near.down ≡ (5 ∷ []) ∷ []) × (w.far.up ≡ []) × (w.near.up ≡ []))
