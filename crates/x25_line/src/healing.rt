@@ -1,6 +1,7 @@
 //! Healing: once the line is good for a moment, everything arrives. Laws of two link stations over a line, each the contract of a
 //! function that does nothing.
-ghost use Rattle.x25_line.specs.Healing.{RestShows, OneFiringHeals, FarFiringHeals, OneFiringEnds, TwoFiringsHeal, BothFiringsHeal, DeliveriesEnd, SomeHeal, GoneEnds, EachRestsOrIsOut, EachRestShows, BothLostMayHeal};
+ghost use Rattle.x25_line.specs.Healing.{RestShows, EachRestShows, OneFiringHeals, FarFiringHeals, OneFiringEnds, GoneEnds};
+ghost use Rattle.x25_line.specs.Healing.{BothFiringsHeal, TwoFiringsHeal, EachRestsOrIsOut, DeliveriesEnd, SomeHeal, BothLostMayHeal};
 ghost use Rattle.x25_line.specs.SessionClaims.{Throughout};
 
 use x25_frame::reads_what_is_spelled;
@@ -43,7 +44,8 @@ pub fn one_firing_heals()
 }
 
 /// Deliver, fire once at each end, deliver: everything sent has arrived, in order, once, and both ends are at rest. Both may fire before
-/// anything comes (`at_once`), or one after the other, with all deliveries of the first between them (`in_turn`). Where an end may be out, or have no tries left, each is at rest or not Up then (`whatever`).
+/// anything comes (`at_once`), or one after the other, with all deliveries of the first between them (`in_turn`). Where an end may be
+/// out, or have no tries left, each is at rest or not Up then (`whatever`).
 pub fn two_firings_heal()
     ensures at_once { BothFiringsHeal }
     ensures in_turn { TwoFiringsHeal }
