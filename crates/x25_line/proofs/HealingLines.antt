@@ -1,7 +1,7 @@
 -- The frames that stand on a line, and those among them that matter while an end heals.
-use Rattle.std.proofs.Common.{◌≡◌, ℕ, ◌+◌, ◌%◌, ◌≤◌, List, [], ◌∷◌, ◌++◌, map, Bool, true, false, Ok, refl, sym, ap, ◌∙◌, subst, arith}
-use Rattle.std.specs.Prelude.{◌&&◌}
-use Rattle.std.proofs.lemmas.Bool.{and_left}
+use Rattle.std.proofs.Common.{◌≡◌, ℕ, ◌+◌, ◌%◌, ◌≤◌, List, [], ◌∷◌, ◌++◌, map, true, false, Ok, refl, sym, subst, arith}
+use Rattle.std.specs.Prelude.{◌&&◌, not}
+use Rattle.std.proofs.lemmas.Bool.{and_left, and_right}
 use Rattle.x25_bits.specs.declared.role.Role.{Role}
 use Rattle.x25_frame.specs.PlainFrame.{PlainFrame, info, rr, rnr, rej, sabm, disc, ua, dm, frmr}
 use Rattle.x25_frame.specs.Spelling.{spelling_of}
@@ -157,26 +157,26 @@ AtMostPoll [] = Unit {0}
 AtMostPoll (rr true nr true ∷ []) = Unit {0}
 AtMostPoll fs = ⊥
 
--- ---- frames back: I frames and RR, the last of which has the number r, where `nr` came before them
+-- ---- frames back: I frames and RR, none with F=1, the last of which has the number r, where `nr` came before them
 
 abbrev pub LastTells : ℕ → ℕ → List PlainFrame → Type 0
 LastTells r nr [] = nr ≡ r % 8
 LastTells r nr (info ns n p x ∷ gs) = (p ≡ false) × LastTells r n gs
-LastTells r nr (rr command n pf ∷ gs) = (pf ≡ false) × LastTells r n gs
+LastTells r nr (rr command n pf ∷ gs) = ((not command && pf) ≡ false) × LastTells r n gs
 LastTells r nr (g ∷ gs) = ⊥
 
 -- or none is there, and all up to r is acknowledged
 abbrev pub Reports : ℕ → ℕ → List PlainFrame → Type 0
 Reports r a [] = a ≡ r
 Reports r a (info ns n p x ∷ gs) = (p ≡ false) × LastTells r n gs
-Reports r a (rr command n pf ∷ gs) = (pf ≡ false) × LastTells r n gs
+Reports r a (rr command n pf ∷ gs) = ((not command && pf) ≡ false) × LastTells r n gs
 Reports r a (g ∷ gs) = ⊥
 
 -- such frames with the number r alone
 pub next_tells : (r nr n m : ℕ) (es : List PlainFrame) → nr ≡ r % 8 → AreNext r n es m → LastTells r nr es
 next_tells r nr n m [] e h = e
 next_tells r nr n m (info ns k p x ∷ es) e h = (h.2, next_tells r k (n + 1) m es h.1 h.3)
-next_tells r nr n m (rr command k pf ∷ es) e h = (h.2, next_tells r k n m es h.1 h.3)
+next_tells r nr n m (rr command k pf ∷ es) e h = (and_right (not command) pf h.2, next_tells r k n m es h.1 h.3)
 next_tells r nr n m (rej command k pf ∷ es) e h = absurd h
 next_tells r nr n m (rnr command k pf ∷ es) e h = absurd h
 next_tells r nr n m (sabm p ∷ es) e h = absurd h
@@ -189,7 +189,7 @@ next_tells r nr n m (frmr p why ∷ es) e h = absurd h
 some_tells : (r nr n m : ℕ) (es : List PlainFrame) → (es ≡ [] → ⊥) → AreNext r n es m → LastTells r nr es
 some_tells r nr n m [] some h = absurd (some refl)
 some_tells r nr n m (info ns k p x ∷ es) some h = (h.2, next_tells r k (n + 1) m es h.1 h.3)
-some_tells r nr n m (rr command k pf ∷ es) some h = (h.2, next_tells r k n m es h.1 h.3)
+some_tells r nr n m (rr command k pf ∷ es) some h = (and_right (not command) pf h.2, next_tells r k n m es h.1 h.3)
 some_tells r nr n m (rej command k pf ∷ es) some h = absurd h
 some_tells r nr n m (rnr command k pf ∷ es) some h = absurd h
 some_tells r nr n m (sabm p ∷ es) some h = absurd h

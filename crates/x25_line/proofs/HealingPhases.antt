@@ -1,7 +1,7 @@
 -- How the near end heals after its firing: its poll is on the line, then the answer, then what isn't acknowledged, in order.
-use Rattle.std.proofs.Common.{◌≡◌, ℕ, ◌+◌, ◌%◌, ◌≤◌, ◌<◌, List, [], ◌∷◌, ◌++◌, ◌⊎◌, inl, inr, length, max, Bool, true, false, Ok, refl, sym, ap, ◌∙◌, subst, arith, length-append, append_assoc}
-use Rattle.std.specs.Prelude.{◌==◌, ◌-◌, ◌&&◌, not, if◌then◌else◌, nat_lt}
-use Rattle.std.proofs.lemmas.Bool.{eq-eqb, eqb-true, and_parts, ltb-false}
+use Rattle.std.proofs.Common.{◌≡◌, ℕ, ◌+◌, ◌%◌, ◌≤◌, List, [], ◌∷◌, ◌++◌, ◌⊎◌, inl, inr, length, max, Bool, true, false, refl, sym, ap, ◌∙◌, subst, arith, length-append, append_assoc}
+use Rattle.std.specs.Prelude.{◌==◌, ◌-◌, ◌&&◌, not, if◌then◌else◌}
+use Rattle.std.proofs.lemmas.Bool.{eq-eqb, eqb-true, and_parts}
 use Rattle.x25_frame.specs.PlainFrame.{PlainFrame, info, rr, rnr, rej, sabm, disc, ua, dm, frmr}
 use Rattle.x25_frame.specs.ReadingLaw.{ReadsSpelled}
 use Rattle.x25_window.specs.Modulo.{resolved}
@@ -9,18 +9,17 @@ use Rattle.x25_link.specs.declared.phase.Phase.{Phase}
 use Rattle.x25_link.specs.declared.phase.Phase.TheVariants.{Down, Waiting, Up, Closed}
 use Rattle.x25_link.specs.Outgoing.{waits}
 use Rattle.x25_link.specs.Station.{Settings, Station, is_up, is_busy, wanted}
-use Rattle.x25_link.specs.MustSend.{Step, other, is_taken}
-use Rattle.x25_link.specs.Steps.{take_step}
+use Rattle.x25_link.specs.MustSend.{other, is_taken}
 use Rattle.x25_link.specs.WindowLaw.{IsSound}
 use Rattle.x25_link.specs.RestLaw.{HasSaidAll, IsAtRest}
-use Rattle.x25_link.specs.AnswerLaw.{says, AreNext, Outcome, Answers, heard, heard_tries, goes_on_from, confirms, once_taken, busy_after, passed_over}
-use Rattle.x25_line.specs.Stations.{StationEnd, Stations, Act, Deliver, delivered, acts, swapped}
+use Rattle.x25_link.specs.AnswerLaw.{says, AreNext, Outcome, heard, heard_tries, goes_on_from, confirms, once_taken, busy_after, passed_over}
+use Rattle.x25_line.specs.Stations.{StationEnd, Stations, Deliver, delivered, acts, swapped}
 use Rattle.x25_line.specs.StationClaims.{AreJoined}
 use Rattle.x25_line.proofs.Kept.{resolved_is}
-use Rattle.x25_line.proofs.StationSteps.{AsUp, not_both}
+use Rattle.x25_line.proofs.StationSteps.{not_both}
 use Rattle.x25_line.proofs.StationRuns.{joined_swapped}
-use Rattle.x25_line.proofs.HealingLines.{Reads, FrontReads, front_reads, none_reads, Ahead, ahead_low, ahead_more, next_ahead, Mild, mild_ahead, mild_more, held_mild, AtMostPoll, LastTells, Reports, next_tells, tells_behind, reports_more, reports_new, reports_heard}
-use Rattle.x25_line.proofs.HealingSteps.{HealingLaws, Sound, sound_swapped, near_up, far_up, Counted, counted, HearsWell, hears_well, Delivered, delivers}
+use Rattle.x25_line.proofs.HealingLines.{Reads, front_reads, none_reads, Ahead, ahead_low, ahead_more, next_ahead, Mild, mild_ahead, mild_more, held_mild, AtMostPoll, LastTells, Reports, next_tells, tells_behind, reports_more, reports_new, reports_heard}
+use Rattle.x25_line.proofs.HealingSteps.{HealingLaws, Sound, sound_swapped, near_up, far_up, counted, HearsWell, hears_well, Delivered, delivers}
 
 -- both ends are Up and not busy; the far end has at most so many tries, and is at rest where it was
 pub record Both (c d : Settings) (most : ℕ) (Was : Type 0) (w : Stations) : Type 0 where
@@ -169,20 +168,22 @@ module _ (c d : Settings) (joined : AreJoined c d) (reads : ReadsSpelled) (laws 
       let well = hears_well c d w b.sound b.near_on b.far_on (info ns nr false x) gs tt r in
       let a = laws.answers.wanted ns nr false x c r.octets s (up_is s.phase b.near_on) r.reads well.valid is in
       let o = once_taken a.0 nr false x s in
-      let v = delivers c d joined reads laws w h.there gs (info ns nr false x) o b.sound h.out r a.1.answers in
-      (near_both w h.there gs o r.octets b v,
-      inr (inr (near_resends w h.there gs nr s.outgoing.place o r.octets b v h.recovery h.peer_busy refl h.ahead
-      (subst (λ (n : ℕ). Ahead s.outgoing.place o.first n) (sym (place_stays w h.there nr h.ahead well)) (confirms_ahead s.outgoing.place (length o.taken) a.0)) tells)))
+      let v = delivers c d joined reads laws w h.there gs (info ns nr false x) o b.sound h.out r a.1.answers in (
+        near_both w h.there gs o r.octets b v,
+        inr (inr (near_resends w h.there gs nr s.outgoing.place o r.octets b v h.recovery h.peer_busy refl h.ahead
+            (subst (λ (n : ℕ). Ahead s.outgoing.place o.first n) (sym (place_stays w h.there nr h.ahead well)) (confirms_ahead s.outgoing.place (length o.taken) a.0)) tells)),
+      )
   near_info w b h ns nr x gs back tells false is =
       let s = w.near.station in
       let r = front_reads (other c.role) c.longest w.back (info ns nr false x) gs back in
       let well = hears_well c d w b.sound b.near_on b.far_on (info ns nr false x) gs tt r in
       let o : Outcome = record (goes_on_from nr s) { said_busy = busy_after false s; first = passed_over false s } in
       let a = laws.answers.other ns nr false x c r.octets s (up_is s.phase b.near_on) r.reads well.valid is in
-      let v = delivers c d joined reads laws w h.there gs (info ns nr false x) o b.sound h.out r a in
-      (near_both w h.there gs o r.octets b v,
-      inr (inr (near_resends w h.there gs nr s.outgoing.place o r.octets b v h.recovery h.peer_busy refl h.ahead
-      (subst (λ (n : ℕ). Ahead s.outgoing.place (passed_over false s) n) (sym (place_stays w h.there nr h.ahead well)) (passed_ahead s.outgoing.place s b.near_free)) tells)))
+      let v = delivers c d joined reads laws w h.there gs (info ns nr false x) o b.sound h.out r a in (
+        near_both w h.there gs o r.octets b v,
+        inr (inr (near_resends w h.there gs nr s.outgoing.place o r.octets b v h.recovery h.peer_busy refl h.ahead
+            (subst (λ (n : ℕ). Ahead s.outgoing.place (passed_over false s) n) (sym (place_stays w h.there nr h.ahead well)) (passed_ahead s.outgoing.place s b.near_free)) tells)),
+      )
 
   near_ready : (w : Stations) (b : Both c d most Was w) (h : Resent c d w) (command : Bool) (nr : ℕ) (gs : List PlainFrame) → Reads (other c.role) c.longest w.back (rr command nr false ∷ gs)
       → LastTells (length w.far.station.taken) nr gs → Heals c d most Was (acts c Deliver w)
@@ -195,12 +196,31 @@ module _ (c d : Settings) (joined : AreJoined c d) (reads : ReadsSpelled) (laws 
       let v = delivers c d joined reads laws w h.there gs (rr command nr false) o b.sound h.out r a in
       (near_both w h.there gs o r.octets b v, inr (inr (near_resends w h.there gs nr s.outgoing.place o r.octets b v h.recovery refl refl h.ahead (sym (place_stays w h.there nr h.ahead well)) tells)))
 
+  -- the other end's poll
+  near_poll : (w : Stations) (b : Both c d most Was w) (h : Resent c d w) (nr : ℕ) (gs : List PlainFrame) → Reads (other c.role) c.longest w.back (rr true nr true ∷ gs)
+      → LastTells (length w.far.station.taken) nr gs → Heals c d most Was (acts c Deliver w)
+  near_poll w b h nr gs back tells =
+      let s = w.near.station in
+      let frame = rr true nr true in
+      let r = front_reads (other c.role) c.longest w.back frame gs back in
+      let well = hears_well c d w b.sound b.near_on b.far_on frame gs tt r in
+      let o : Outcome = record (goes_on_from nr s) { peer_busy = false; said_busy = is_busy s; first = says (is_busy s) false (wanted s) true ∷ [] } in
+      let a = laws.answers.poll false nr c r.octets s (up_is s.phase b.near_on) r.reads well.valid in
+      let v = delivers c d joined reads laws w h.there gs frame o b.sound h.out r a in
+      let first : Ahead s.outgoing.place (says (is_busy s) false (wanted s) true ∷ []) s.outgoing.place =
+      subst (λ (busy : Bool). Ahead s.outgoing.place (says busy false (wanted s) true ∷ []) s.outgoing.place) (sym b.near_free) (refl, refl) in (
+        near_both w h.there gs o r.octets b v,
+        inr (inr (near_resends w h.there gs nr s.outgoing.place o r.octets b v h.recovery refl refl h.ahead
+            (subst (λ (n : ℕ). Ahead s.outgoing.place o.first n) (sym (place_stays w h.there nr h.ahead well)) first) tells)),
+      )
+
   near_resent : (w : Stations) (b : Both c d most Was w) (h : Resent c d w) (gs : List PlainFrame) → Reads (other c.role) c.longest w.back gs → Reports (length w.far.station.taken) w.near.station.outgoing.acked gs
       → Heals c d most Was (acts c Deliver w)
   near_resent w b h [] back reports = subst (λ (bs : List (List ℕ)). Heals c d most Was (delivered c bs w)) (sym (none_reads (other c.role) c.longest w.back back)) (b, inr (inr h))
   near_resent w b h (info ns nr true x ∷ gs) back reports = not_both true refl reports.0
   near_resent w b h (info ns nr false x ∷ gs) back reports = near_info w b h ns nr x gs back reports.1 (is_taken ns w.near.station) refl
-  near_resent w b h (rr command nr true ∷ gs) back reports = not_both true refl reports.0
+  near_resent w b h (rr true nr true ∷ gs) back reports = near_poll w b h nr gs back reports.1
+  near_resent w b h (rr false nr true ∷ gs) back reports = not_both true refl reports.0
   near_resent w b h (rr command nr false ∷ gs) back reports = near_ready w b h command nr gs back reports.1
   near_resent w b h (rnr command nr pf ∷ gs) back reports = absurd reports
   near_resent w b h (rej command nr pf ∷ gs) back reports = absurd reports
@@ -221,9 +241,10 @@ module _ (c d : Settings) (joined : AreJoined c d) (reads : ReadsSpelled) (laws 
       let well = hears_well c d w b.sound b.near_on b.far_on frame behind tt r in
       let o : Outcome = record (goes_on_from number s) { recovery = false; peer_busy = false; tries = 0; place = heard number s } in
       let a = laws.answers.recovery false number c r.octets s (up_is s.phase b.near_on) r.reads well.valid in
-      let v = delivers c d joined reads laws w there behind frame o b.sound out r a in
-      (near_both w there behind o r.octets b v,
-      inr (inr (near_resends w there behind number n o r.octets b v refl refl refl (mild_ahead n there mild) (sym (all_heard w b number is)) tells)))
+      let v = delivers c d joined reads laws w there behind frame o b.sound out r a in (
+        near_both w there behind o r.octets b v,
+        inr (inr (near_resends w there behind number n o r.octets b v refl refl refl (mild_ahead n there mild) (sym (all_heard w b number is)) tells)),
+      )
 
   -- the other end's poll comes in recovery: F=1 goes, and no I frame
   pub record Replied (w v : Stations) (there behind : List PlainFrame) : Type 0 where
@@ -278,21 +299,22 @@ module _ (c d : Settings) (joined : AreJoined c d) (reads : ReadsSpelled) (laws 
   near_told w b h [] back polls = near_answered w b h.number h.there h.behind h.is h.out h.mild back h.tells
   near_told w b h (rr true nr true ∷ []) back polls =
       let p = near_polled w b h.recovery nr h.there (rr false h.number true ∷ h.behind) h.out back in
-      let same = ap (λ (e : StationEnd). length e.station.taken) (sym p.far) in
-      (p.both,
-      inr (inl (record {
-        number = h.number;
-        there = h.there ++ p.more;
-        before = [];
-        behind = h.behind;
-        is = h.is ∙ ap (λ (n : ℕ). n % 8) same;
-        recovery = p.recovery;
-        out = p.out;
-        mild = mild_more h.there p.more h.mild p.mild;
-        back = p.back;
-        polls = tt;
-        tells = subst (λ (n : ℕ). LastTells n h.number h.behind) same h.tells;
-      })))
+      let same = ap (λ (e : StationEnd). length e.station.taken) (sym p.far) in (
+        p.both,
+        inr (inl (record {
+          number = h.number;
+          there = h.there ++ p.more;
+          before = [];
+          behind = h.behind;
+          is = h.is ∙ ap (λ (n : ℕ). n % 8) same;
+          recovery = p.recovery;
+          out = p.out;
+          mild = mild_more h.there p.more h.mild p.mild;
+          back = p.back;
+          polls = tt;
+          tells = subst (λ (n : ℕ). LastTells n h.number h.behind) same h.tells;
+        })),
+      )
   near_told w b h (rr true nr true ∷ f ∷ fs) back polls = absurd polls
   near_told w b h (rr true nr false ∷ fs) back polls = absurd polls
   near_told w b h (rr false nr pf ∷ fs) back polls = absurd polls
@@ -423,20 +445,21 @@ module _ (c d : Settings) (joined : AreJoined c d) (reads : ReadsSpelled) (laws 
       let near : u.far ≡ w.near = v.far in
       let all = o.first ++ v.next in
       let next : AreNext (length u.near.station.taken) o.place all u.near.station.outgoing.place =
-          subst (λ (xs : List (List ℕ)). AreNext (length xs) o.place all u.near.station.outgoing.place) (sym v.taken) (confirms_next (length o.taken) o.place u.near.station.outgoing.place a.0 v.next v.sends) in
-      (far_both w fs h.behind nr o r.octets b v well refl (λ e. e) (λ e. e) (tries_low nr s),
-      inr (inr (record {
-        there = fs;
-        behind = h.behind ++ all;
-        out = v.back;
-        back = v.out;
-        recovery = subst (λ (e : StationEnd). e.station.recovery ≡ false) (sym near) h.recovery;
-        peer_busy = subst (λ (e : StationEnd). e.station.peer_busy ≡ false) (sym near) h.peer_busy;
-        ahead = subst (λ (e : StationEnd). Ahead (length u.near.station.taken) fs e.station.outgoing.place) (sym near)
-            (subst (λ (n : ℕ). Ahead n fs w.near.station.outgoing.place) (sym more) ahead);
-        reports = subst (λ (e : StationEnd). Reports (length u.near.station.taken) e.station.outgoing.acked (h.behind ++ all)) (sym near)
-            (reports_new (length s.taken) (length u.near.station.taken) w.near.station.outgoing.acked o.place u.near.station.outgoing.place h.behind all h.reports next (λ none. a.1.speaks (v.said ∙ none)));
-      })))
+      subst (λ (xs : List (List ℕ)). AreNext (length xs) o.place all u.near.station.outgoing.place) (sym v.taken) (confirms_next (length o.taken) o.place u.near.station.outgoing.place a.0 v.next v.sends) in (
+        far_both w fs h.behind nr o r.octets b v well refl (λ e. e) (λ e. e) (tries_low nr s),
+        inr (inr (record {
+          there = fs;
+          behind = h.behind ++ all;
+          out = v.back;
+          back = v.out;
+          recovery = subst (λ (e : StationEnd). e.station.recovery ≡ false) (sym near) h.recovery;
+          peer_busy = subst (λ (e : StationEnd). e.station.peer_busy ≡ false) (sym near) h.peer_busy;
+          ahead = subst (λ (e : StationEnd). Ahead (length u.near.station.taken) fs e.station.outgoing.place) (sym near)
+              (subst (λ (n : ℕ). Ahead n fs w.near.station.outgoing.place) (sym more) ahead);
+          reports = subst (λ (e : StationEnd). Reports (length u.near.station.taken) e.station.outgoing.acked (h.behind ++ all)) (sym near)
+              (reports_new (length s.taken) (length u.near.station.taken) w.near.station.outgoing.acked o.place u.near.station.outgoing.place h.behind all h.reports next (λ none. a.1.speaks (v.said ∙ none)));
+        })),
+      )
 
   far_resent : (w : Stations) (b : Both c d most Was w) (h : Resent c d w) (fs : List PlainFrame) → Reads (other d.role) d.longest w.out fs → Ahead (length w.far.station.taken) fs w.near.station.outgoing.place
       → Heals c d most Was (far_delivers w)
@@ -469,21 +492,22 @@ module _ (c d : Settings) (joined : AreJoined c d) (reads : ReadsSpelled) (laws 
       let u : Stations = acts d Deliver (swapped w) in
       let same : length u.near.station.taken ≡ length s.taken = ap length v.taken in
       let number : wanted s ≡ length u.near.station.taken % 8 = ap (λ (n : ℕ). n % 8) (sym same) in
-      let next : AreNext (length u.near.station.taken) o.place v.next u.near.station.outgoing.place = subst (λ (n : ℕ). AreNext n o.place v.next u.near.station.outgoing.place) (sym same) v.sends in
-      (far_both w h.rest h.before h.number o r.octets b v well refl (λ e. e) (λ _. refl) (tries_low h.number s),
-      inr (inl (record {
-        number = wanted s;
-        there = h.rest;
-        before = h.before;
-        behind = v.next;
-        is = number;
-        recovery = ap (λ (e : StationEnd). e.station.recovery) v.far ∙ h.recovery;
-        out = v.back;
-        mild = h.mild;
-        back = subst (λ (busy : Bool). Reads (other c.role) c.longest u.out (h.before ++ (says busy false (wanted s) true ∷ v.next))) b.far_free v.out;
-        polls = h.polls;
-        tells = next_tells (length u.near.station.taken) (wanted s) o.place u.near.station.outgoing.place v.next number next;
-      })))
+      let next : AreNext (length u.near.station.taken) o.place v.next u.near.station.outgoing.place = subst (λ (n : ℕ). AreNext n o.place v.next u.near.station.outgoing.place) (sym same) v.sends in (
+        far_both w h.rest h.before h.number o r.octets b v well refl (λ e. e) (λ _. refl) (tries_low h.number s),
+        inr (inl (record {
+          number = wanted s;
+          there = h.rest;
+          before = h.before;
+          behind = v.next;
+          is = number;
+          recovery = ap (λ (e : StationEnd). e.station.recovery) v.far ∙ h.recovery;
+          out = v.back;
+          mild = h.mild;
+          back = subst (λ (busy : Bool). Reads (other c.role) c.longest u.out (h.before ++ (says busy false (wanted s) true ∷ v.next))) b.far_free v.out;
+          polls = h.polls;
+          tells = next_tells (length u.near.station.taken) (wanted s) o.place u.near.station.outgoing.place v.next number next;
+        })),
+      )
 
   -- more goes behind F=1, with the same number
   far_goes_behind : (w : Stations) (fs : List PlainFrame) (o : Outcome) (octets : List ℕ) (h : Answered c d w)

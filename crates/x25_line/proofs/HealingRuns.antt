@@ -1,5 +1,5 @@
 -- From a quiet moment, a firing and deliveries heal an end; and what rest shows.
-use Rattle.std.proofs.Common.{◌≡◌, ℕ, ◌+◌, ◌≤◌, ◌<◌, List, [], ◌∷◌, ◌++◌, ◌⊎◌, inl, inr, length, map, Bool, true, false, if◌then◌else◌, Option, Some, None, refl, sym, ap, ◌∙◌, subst, arith}
+use Rattle.std.proofs.Common.{◌≡◌, ℕ, ◌+◌, ◌%◌, ◌≤◌, ◌<◌, List, [], ◌∷◌, ◌++◌, inl, inr, length, map, Bool, true, false, if◌then◌else◌, Option, Some, None, refl, sym, ap, ◌∙◌, subst, arith}
 use Rattle.std.specs.Prelude.{◌||◌, nat_lt, nat_le}
 use Rattle.std.proofs.lemmas.Bool.{le-ltb, and_right}
 use Rattle.x25_bits.specs.declared.role.Role.{Role}
@@ -7,30 +7,25 @@ use Rattle.x25_frame.specs.PlainFrame.{PlainFrame, rr}
 use Rattle.x25_frame.specs.Spelling.{spelling_of}
 use Rattle.x25_frame.specs.ReadingLaw.{ReadsSpelled}
 use Rattle.x25_link.specs.declared.error.LinkError.{LinkError}
-use Rattle.x25_link.specs.declared.error.LinkError.TheVariants.{NotRunning}
-use Rattle.x25_link.specs.declared.phase.Phase.{Phase}
 use Rattle.x25_link.specs.declared.phase.Notes.{Notes}
-use Rattle.x25_link.specs.declared.phase.Reason.{Reason}
 use Rattle.x25_link.specs.declared.phase.Reason.TheVariants.{Retries}
-use Rattle.x25_link.specs.Outgoing.{no_packet, is_open}
 use Rattle.x25_link.specs.Station.{Settings, Station, is_up, is_busy, wanted, fresh}
 use Rattle.x25_link.specs.MustSend.{Step, other}
 use Rattle.x25_link.specs.Steps.{timer_step, timer_runs, timer_refusal, put_refusal, connect_refusal, disconnect_refusal, put_step, connect_step, disconnect_step, abandon_step}
 use Rattle.x25_link.specs.WindowMachine.{nothing}
-use Rattle.x25_link.specs.WindowLaw.{IsRunning, Follows}
+use Rattle.x25_link.specs.WindowLaw.{Follows}
 use Rattle.x25_link.specs.RestLaw.{HasSaidAll, IsAtRest}
 use Rattle.x25_link.specs.AnswerLaw.{says, Asks}
 use Rattle.x25_line.specs.Stations.{StationEnd, Stations, Act, Put, Deliver, T1, Connect, Disconnect, Abandon, Lose, Damage, Event, Near, Far, after_step, unless, delivered, is_visible, acts, swapped, happens, run, start}
-use Rattle.x25_line.specs.StationClaims.{AreJoined, IsSetUpOnce, HandsOne, AreWhole}
+use Rattle.x25_line.specs.StationClaims.{AreJoined, IsSetUpOnce, AreWhole}
 use Rattle.x25_line.specs.WholeNumbers.{machine_acts, machine_run, machine_at_start}
-use Rattle.x25_line.specs.Healing.{IsDrained, IsDeliver, IsDelivery, AreDeliveries, HasArrived, ShowsAtRest, RestShows, MayHeal, IsHealed, IsQuietMoment, OneHeals, OneFiringHeals, FarFiringHeals, OneFiringEnds, TwoFiringsHeal, BothFiringsHeal}
-use Rattle.x25_line.proofs.StationSteps.{not_both}
-use Rattle.x25_line.proofs.StationRuns.{machine_joint, run_once, joined_swapped, start_machine}
+use Rattle.x25_line.specs.Healing.{IsDrained, IsDeliver, IsDelivery, AreDeliveries, HasArrived, ShowsAtRest, MayHeal, OneHeals}
+use Rattle.x25_line.proofs.StationRuns.{machine_joint, run_once, start_machine}
 use Rattle.x25_line.proofs.StationClaimLemmas.{holds_order, holds_lists}
 use Rattle.x25_line.proofs.StationEvents.{each_hands_one}
 use Rattle.x25_line.proofs.HealingLines.{Reads, reads_more, whole_behind, reads_none, Ahead, Reports}
-use Rattle.x25_line.proofs.HealingSteps.{HealingLaws, Sound, sound_swapped, near_up, counted}
-use Rattle.x25_line.proofs.HealingPhases.{Both, Asked, Answered, Resent, Heals, up_is, rest_has_all, near_heals, far_heals}
+use Rattle.x25_line.proofs.HealingSteps.{HealingLaws, Sound, near_up}
+use Rattle.x25_line.proofs.HealingPhases.{Heals, up_is, rest_has_all, near_heals, far_heals}
 
 -- ---- each end has said all that it may, after each event
 
@@ -50,7 +45,7 @@ module _ (laws : HealingLaws) where
   said_delivered c small [] w h = h
   said_delivered c small (o ∷ os) w h = laws.rest.take c o w.near.station small h.low
 
-  said_act : (c : Settings) → c.window ≤ 7 → (a : Act) (w : Stations) → Said c.window w → Said c.window (acts c a w)
+  pub said_act : (c : Settings) → c.window ≤ 7 → (a : Act) (w : Stations) → Said c.window w → Said c.window (acts c a w)
   said_act c small (Put packet) w h =
       let v : Stations = after_step c w w.back (packet ∷ []) (put_step c packet w.near.station) in
       said_if c.window (nat_le (length packet) c.longest) w (unless (put_refusal w.near.station) w v) h
@@ -69,7 +64,7 @@ module _ (laws : HealingLaws) where
       said_damaged : (b : Bool) (w v : Stations) → Said c.window w → Said c.window v → Said c.window (if b then v else w)
       said_damaged = said_if c.window
 
-  abbrev BothSaid : Settings → Settings → Stations → Type 0
+  abbrev pub BothSaid : Settings → Settings → Stations → Type 0
   BothSaid c d w = HasSaidAll c.window w.near.station × HasSaidAll d.window w.far.station
 
   said_event : (c d : Settings) → AreJoined c d → (e : Event) (w : Stations) → BothSaid c d w → BothSaid c d (happens c d e w)
@@ -78,11 +73,11 @@ module _ (laws : HealingLaws) where
   said_event c d joined (Far a) w h =
       (subst (λ (e : StationEnd). HasSaidAll c.window e.station) (sym (each_hands_one c d (Far a) w).far) h.0, said_act d joined.far_high a (swapped w) h.1)
 
-  said_run : (c d : Settings) → AreJoined c d → (es : List Event) (w : Stations) → BothSaid c d w → BothSaid c d (run c d es w)
+  pub said_run : (c d : Settings) → AreJoined c d → (es : List Event) (w : Stations) → BothSaid c d w → BothSaid c d (run c d es w)
   said_run c d joined [] w h = h
   said_run c d joined (e ∷ es) w h = said_run c d joined es (happens c d e w) (said_event c d joined e w h)
 
-  fresh_said : (k : ℕ) → HasSaidAll k fresh
+  pub fresh_said : (k : ℕ) → HasSaidAll k fresh
   fresh_said k = record { low = omega arith; settled = and_right (nat_lt 0 (0 + k)) _ refl; calm = refl }
 
   -- where events lead
@@ -111,7 +106,7 @@ module _ (c d : Settings) (joined : AreJoined c d) (reads : ReadsSpelled) (laws 
   pub shows_at_rest : (w : Stations) → Sound c d w → ShowsAtRest w.near w.far
   shows_at_rest w h up stopped =
       let rest : IsAtRest w.near.station =
-          record { idle = laws.rest.no_timer c.window w.near.station joined.near_low (near_up c d w h up).sound h.near_said up stopped; no_timer = stopped } in
+      record { idle = laws.rest.no_timer c.window w.near.station joined.near_low (near_up c d w h up).sound h.near_said up stopped; no_timer = stopped } in
       (rest, arrives w h up rest)
 
   -- ---- nothing comes where nothing is on the line
@@ -125,11 +120,22 @@ module _ (c d : Settings) (joined : AreJoined c d) (reads : ReadsSpelled) (laws 
   pub refused : (w : Stations) → timer_runs w.near.station.phase w.near.station ≡ false → acts c T1 w ≡ w
   refused w stopped = rw stopped refl
 
-  fires_is : (w : Stations) → timer_runs w.near.station.phase w.near.station ≡ true → acts c T1 w ≡ after_step c w w.back [] (timer_step c w.near.station)
+  pub fires_is : (w : Stations) → timer_runs w.near.station.phase w.near.station ≡ true → acts c T1 w ≡ after_step c w w.back [] (timer_step c w.near.station)
   fires_is w running = rw running refl
 
-  not_noted : (w : Stations) (v : Stations) → acts c T1 w ≡ v → v.near.came_up ≡ false → (acts c T1 w).near.came_up ≡ false
+  pub not_noted : (w : Stations) (v : Stations) → acts c T1 w ≡ v → v.near.came_up ≡ false → (acts c T1 w).near.came_up ≡ false
   not_noted w v is h = ap (λ (z : Stations). z.near.came_up) is ∙ h
+
+  -- a firing notes no LinkUp
+  pub fire_sound : (w : Stations) → Sound c d w → Sound c d (acts c T1 w)
+  fire_sound w h =
+      let one = each_hands_one c d (Near T1) w in
+      record {
+        line = machine_acts c T1 w h.line;
+        joint = machine_joint (Unit {0}) c d joined reads laws.laws T1 w h.line (λ _. one.came_up ∙ h.joint.near_notes.once) (λ _. tt) h.joint;
+        near_said = said_act laws c joined.near_high T1 w h.near_said;
+        far_said = subst (λ (e : StationEnd). HasSaidAll d.window e.station) (sym one.far) h.far_said;
+      }
 
   -- a poll goes on the empty line to the other end, and recovery begins
   pub record Fired (w v : Stations) : Type 0 where
@@ -138,6 +144,7 @@ module _ (c d : Settings) (joined : AreJoined c d) (reads : ReadsSpelled) (laws 
     pub free : is_busy v.near.station ≡ false
     pub recovery : v.near.station.recovery ≡ true
     pub number : ℕ
+    pub is : number ≡ length v.near.station.taken % 8
     pub out : Reads (other d.role) d.longest v.out (rr true number true ∷ [])
     pub back : v.back ≡ w.back
     pub far : v.far ≡ w.far
@@ -151,6 +158,7 @@ module _ (c d : Settings) (joined : AreJoined c d) (reads : ReadsSpelled) (laws 
         free = ap is_busy asks.near ∙ free;
         recovery = ap (λ (z : Station). z.recovery) asks.near;
         number = wanted s;
+        is = ap (λ (z : Station). length z.taken % 8) (sym asks.near);
         out = read_out;
         back = refl;
         far = refl;
@@ -194,8 +202,7 @@ module _ (c d : Settings) (joined : AreJoined c d) (reads : ReadsSpelled) (laws 
       → timer_runs w.near.station.phase w.near.station ≡ true → w.near.station.tries < c.retries → Heals c d w.far.station.tries (IsAtRest w.far.station) (acts c T1 w)
   fired w h drained up free far_on far_free running few =
       let f = fires w h drained.out up free running few in
-      let v : Stations = acts c T1 w in
-      (
+      let v : Stations = acts c T1 w in (
         record {
           sound = f.sound;
           near_on = f.up;
@@ -219,7 +226,7 @@ module _ (c d : Settings) (joined : AreJoined c d) (reads : ReadsSpelled) (laws 
 
   -- ---- deliveries
 
-  near_event : (most : ℕ) (Was : Type 0) (a : Act) (w : Stations) → IsDeliver a → Heals c d most Was w → Heals c d most Was (acts c a w)
+  pub near_event : (most : ℕ) (Was : Type 0) (a : Act) (w : Stations) → IsDeliver a → Heals c d most Was w → Heals c d most Was (acts c a w)
   near_event most Was (Put packet) w is h = absurd is
   near_event most Was Deliver w is h = near_heals c d joined reads laws most Was w h
   near_event most Was T1 w is h = absurd is
@@ -229,7 +236,7 @@ module _ (c d : Settings) (joined : AreJoined c d) (reads : ReadsSpelled) (laws 
   near_event most Was (Lose i) w is h = absurd is
   near_event most Was (Damage i octets) w is h = absurd is
 
-  far_event : (most : ℕ) (Was : Type 0) (a : Act) (w : Stations) → IsDeliver a → Heals c d most Was w → Heals c d most Was (swapped (acts d a (swapped w)))
+  pub far_event : (most : ℕ) (Was : Type 0) (a : Act) (w : Stations) → IsDeliver a → Heals c d most Was w → Heals c d most Was (swapped (acts d a (swapped w)))
   far_event most Was (Put packet) w is h = absurd is
   far_event most Was Deliver w is h = far_heals c d joined reads laws most Was w h
   far_event most Was T1 w is h = absurd is
@@ -279,7 +286,7 @@ module _ (c d : Settings) (joined : AreJoined c d) (reads : ReadsSpelled) (laws 
   not_behind (g ∷ gs) f fs e = one_frame g (gs ++ f ∷ fs) e
 
   -- once nothing is on the line any more, the near end is at rest
-  settles : (most : ℕ) (Was : Type 0) (v : Stations) → Heals c d most Was v → IsDrained v → IsAtRest v.near.station
+  pub settles : (most : ℕ) (Was : Type 0) (v : Stations) → Heals c d most Was v → IsDrained v → IsAtRest v.near.station
   settles most Was v (b, inl h) drained = one_frame _ _ (reads_none (other d.role) d.longest v.out (rr true h.number true ∷ h.rest) h.out drained.out)
   settles most Was v (b, inr (inl h)) drained = not_behind h.before (rr false h.number true) h.behind (reads_none (other c.role) c.longest v.back (h.before ++ rr false h.number true ∷ h.behind) h.back drained.back)
   settles most Was v (b, inr (inr h)) drained =
@@ -354,7 +361,7 @@ module _ (c d : Settings) (joined : AreJoined c d) (reads : ReadsSpelled) (laws 
 
 -- ---- the same with the ends swapped
 
-abbrev flip : Event → Event
+abbrev pub flip : Event → Event
 flip (Near a) = Far a
 flip (Far a) = Near a
 
@@ -362,165 +369,11 @@ flip_delivery : (e : Event) → IsDelivery e → IsDelivery (flip e)
 flip_delivery (Near a) h = h
 flip_delivery (Far a) h = h
 
-flip_all : (es : List Event) → AreDeliveries es → AreDeliveries (map flip es)
+pub flip_all : (es : List Event) → AreDeliveries es → AreDeliveries (map flip es)
 flip_all [] h = tt
 flip_all (e ∷ es) h = (flip_delivery e h.0, flip_all es h.1)
 
-flip_run : (c d : Settings) (es : List Event) (w : Stations) → swapped (run c d es w) ≡ run d c (map flip es) (swapped w)
+pub flip_run : (c d : Settings) (es : List Event) (w : Stations) → swapped (run c d es w) ≡ run d c (map flip es) (swapped w)
 flip_run c d [] w = refl
 flip_run c d (Near a ∷ es) w = flip_run c d es (acts c a w)
 flip_run c d (Far a ∷ es) w = flip_run c d es (swapped (acts d a (swapped w)))
-
--- ---- both ends fire before anything comes
-
-module _ (c d : Settings) (joined : AreJoined c d) (reads : ReadsSpelled) (laws : HealingLaws) where
-  abbrev HealsBoth : ℕ → ℕ → Stations → Type 0
-  HealsBoth m n w = Heals c d m ⊥ w × Heals d c n ⊥ (swapped w)
-
-  both_near : (m n : ℕ) (a : Act) (w : Stations) → IsDeliver a → HealsBoth m n w → HealsBoth m n (acts c a w)
-  both_near m n a w is h = (near_event c d joined reads laws m ⊥ a w is h.0, far_event d c (joined_swapped c d joined) reads laws n ⊥ a (swapped w) is h.1)
-
-  both_far : (m n : ℕ) (a : Act) (w : Stations) → IsDeliver a → HealsBoth m n w → HealsBoth m n (swapped (acts d a (swapped w)))
-  both_far m n a w is h = (far_event c d joined reads laws m ⊥ a w is h.0, near_event d c (joined_swapped c d joined) reads laws n ⊥ a (swapped w) is h.1)
-
-  both_run : (m n : ℕ) (es : List Event) (w : Stations) → AreDeliveries es → HealsBoth m n w → HealsBoth m n (run c d es w)
-  both_run m n [] w are h = h
-  both_run m n (Near a ∷ es) w are h = both_run m n es (acts c a w) are.1 (both_near m n a w are.0 h)
-  both_run m n (Far a ∷ es) w are h = both_run m n es (swapped (acts d a (swapped w))) are.1 (both_far m n a w are.0 h)
-
-  -- what the two polls leave, seen from the near end
-  asked_at : (v : Stations) → Sound c d v → is_up v.near.station.phase ≡ true → is_busy v.near.station ≡ false → is_up v.far.station.phase ≡ true → is_busy v.far.station ≡ false → v.near.station.recovery ≡ true
-      → (n m : ℕ) → Reads (other d.role) d.longest v.out (rr true n true ∷ []) → Reads (other c.role) c.longest v.back (rr true m true ∷ []) → Heals c d v.far.station.tries ⊥ v
-  asked_at v sound up free far_on far_free recovery n m out back = (
-    record { sound = sound; near_on = up; far_on = far_on; near_free = free; far_free = far_free; far_tries = omega arith; far_rest = λ never. absurd never },
-    inl (record { number = n; rest = []; before = rr true m true ∷ []; recovery = recovery; out = out; mild = tt; back = back; polls = tt }),
-  )
-
-  pub both_fire : (w : Stations) → Sound c d w → IsDrained w → MayHeal c w.near → MayHeal d w.far → timer_runs w.near.station.phase w.near.station ≡ true → timer_runs w.far.station.phase w.far.station ≡ true
-      → (let v : Stations = swapped (acts d T1 (swapped (acts c T1 w))) in HealsBoth v.far.station.tries v.near.station.tries v)
-  both_fire w h drained near_may far_may near_runs far_runs =
-      let v : Stations = acts c T1 w in
-      let f = fires c d joined reads laws w h drained.out near_may.up near_may.free near_runs (near_may.tries near_runs) in
-      let far_same : w.far ≡ v.far = sym f.far in
-      let g = fires d c (joined_swapped c d joined) reads laws (swapped v) (sound_swapped c d joined v f.sound) (f.back ∙ drained.back)
-          (subst (λ (e : StationEnd). is_up e.station.phase ≡ true) far_same far_may.up) (subst (λ (e : StationEnd). is_busy e.station ≡ false) far_same far_may.free)
-          (subst (λ (e : StationEnd). timer_runs e.station.phase e.station ≡ true) far_same far_runs) (subst (λ (e : StationEnd). e.station.tries < d.retries) far_same (far_may.tries far_runs)) in
-      let u : Stations = acts d T1 (swapped v) in
-      let near_same : v.near ≡ u.far = sym g.far in
-      let near_up_there : is_up u.far.station.phase ≡ true = subst (λ (e : StationEnd). is_up e.station.phase ≡ true) near_same f.up in
-      let near_free_there : is_busy u.far.station ≡ false = subst (λ (e : StationEnd). is_busy e.station ≡ false) near_same f.free in
-      let recovers : u.far.station.recovery ≡ true = subst (λ (e : StationEnd). e.station.recovery ≡ true) near_same f.recovery in
-      let out : Reads (other d.role) d.longest u.back (rr true f.number true ∷ []) = subst (λ (os : List (List ℕ)). Reads (other d.role) d.longest os (rr true f.number true ∷ [])) (sym g.back) f.out in (
-        asked_at (swapped u) (sound_swapped d c (joined_swapped c d joined) u g.sound) near_up_there near_free_there g.up g.free recovers f.number g.number out g.out,
-        asked_swapped u g.sound g.up g.free near_up_there near_free_there g.recovery g.number f.number g.out out,
-      )
-    where
-      asked_swapped : (u : Stations) → Sound d c u → is_up u.near.station.phase ≡ true → is_busy u.near.station ≡ false → is_up u.far.station.phase ≡ true → is_busy u.far.station ≡ false → u.near.station.recovery ≡ true
-          → (n m : ℕ) → Reads (other c.role) c.longest u.out (rr true n true ∷ []) → Reads (other d.role) d.longest u.back (rr true m true ∷ []) → Heals d c u.far.station.tries ⊥ u
-      asked_swapped u sound up free far_on far_free recovery n m out back = (
-        record { sound = sound; near_on = up; far_on = far_on; near_free = free; far_free = far_free; far_tries = omega arith; far_rest = λ never. absurd never },
-        inl (record { number = n; rest = []; before = rr true m true ∷ []; recovery = recovery; out = out; mild = tt; back = back; polls = tt }),
-      )
-
-  pub both_settle : (m n : ℕ) (v : Stations) → HealsBoth m n v → IsDrained v → IsHealed v.near v.far × IsHealed v.far v.near
-  both_settle m n v h drained =
-      let near = settles c d joined reads laws m ⊥ v h.0 drained in
-      let far = settles d c (joined_swapped c d joined) reads laws n ⊥ (swapped v) h.1 (record { out = drained.back; back = drained.out }) in (
-        record { rest = near; arrived = arrives c d joined reads laws v h.0.0.sound h.0.0.near_on near },
-        record { rest = far; arrived = arrives d c (joined_swapped c d joined) reads laws (swapped v) h.1.0.sound h.1.0.near_on far },
-      )
-
--- ---- the laws
-
-module _ (reads : ReadsSpelled) (laws : HealingLaws) where
-  pub rest_shows : RestShows
-  rest_shows c d joined events once =
-      let w : Stations = run c d events start in
-      let sound = reached_sound laws reads c d joined events once in
-      (shows_at_rest c d joined reads laws w sound, shows_at_rest d c (joined_swapped c d joined) reads laws (swapped w) (sound_swapped c d joined w sound))
-
-  pub one_firing_heals : OneFiringHeals
-  one_firing_heals c d joined events quiet may far_on far_free es are after =
-      let w : Stations = run c d events start in
-      (one_round c d joined reads laws w (reached_sound laws reads c d joined events quiet.once) quiet.drained may far_on far_free es are after).heals
-
-  pub one_firing_ends : OneFiringEnds
-  one_firing_ends c d joined events quiet up running none es are =
-      let w : Stations = run c d events start in
-      ends c d joined reads laws w (reached_sound laws reads c d joined events quiet.once) quiet.drained up running none es are
-
-  -- a round of the far end
-  far_round : (c d : Settings) (joined : AreJoined c d) (w : Stations) → Sound c d w → IsDrained w → MayHeal d w.far → is_up w.near.station.phase ≡ true → is_busy w.near.station ≡ false
-      → (es : List Event) → AreDeliveries es → IsDrained (run c d es (swapped (acts d T1 (swapped w))))
-      → Round d c (joined_swapped c d joined) reads laws (swapped w) (swapped (run c d es (swapped (acts d T1 (swapped w)))))
-  far_round c d joined w h drained may near_on near_free es are after =
-      let v : Stations = swapped (acts d T1 (swapped w)) in
-      let same : swapped (run c d es v) ≡ run d c (map flip es) (acts d T1 (swapped w)) = flip_run c d es v in
-      let now : IsDrained (swapped (run c d es v)) = record { out = after.back; back = after.out } in
-      subst (λ (z : Stations). Round d c (joined_swapped c d joined) reads laws (swapped w) z) (sym same)
-      (one_round d c (joined_swapped c d joined) reads laws (swapped w) (sound_swapped c d joined w h) (record { out = drained.back; back = drained.out }) may near_on near_free (map flip es) (flip_all es are)
-      (subst IsDrained same now))
-
-  pub far_firing_heals : FarFiringHeals
-  far_firing_heals c d joined events quiet may near_on near_free es are after =
-      let w : Stations = run c d events start in
-      (far_round c d joined w (reached_sound laws reads c d joined events quiet.once) quiet.drained may near_on near_free es are after).heals
-
-  -- where T1 runs at the far end after the round of the near end, it ran before
-  still_may : (c d : Settings) → AreJoined c d → (w v : Stations) → Sound c d w → MayHeal d w.far → OneHeals w v → timer_runs v.far.station.phase v.far.station ≡ true → v.far.station.tries < d.retries
-  still_may c d joined w v h may heals running = by (timer_runs w.far.station.phase w.far.station) refl
-    where
-      by : (b : Bool) → timer_runs w.far.station.phase w.far.station ≡ b → v.far.station.tries < d.retries
-      by true ran = omega (arith, heals.far_tries, may.tries ran)
-      by false stopped =
-          let shown = shows_at_rest d c (joined_swapped c d joined) reads laws (swapped w) (sound_swapped c d joined w h) may.up stopped in
-          not_both (timer_runs v.far.station.phase v.far.station) running (heals.far_rest shown.0).no_timer
-
-  pub two_firings_heal : TwoFiringsHeal
-  two_firings_heal c d joined events quiet near_may far_may first first_are drained second second_are after =
-      let w : Stations = run c d events start in
-      let one = one_round c d joined reads laws w (reached_sound laws reads c d joined events quiet.once) quiet.drained near_may far_may.up far_may.free first first_are drained in
-      let v : Stations = run c d first (acts c T1 w) in
-      let u : Stations = run c d second (swapped (acts d T1 (swapped v))) in
-      let may : MayHeal d v.far = record { up = one.heals.far_up; free = one.heals.far_free; tries = still_may c d joined w v (reached_sound laws reads c d joined events quiet.once) far_may one.heals } in
-      let two = far_round c d joined v one.sound drained may one.near_on one.near_free second second_are after in
-      let rest = two.heals.far_rest one.heals.near.rest in
-      (record { rest = rest; arrived = arrives c d joined reads laws u (sound_swapped d c (joined_swapped c d joined) (swapped u) two.sound) two.heals.far_up rest }, two.heals.near)
-
-  -- both ends, where the near end's timer doesn't run, where the far end's doesn't, and where both do
-  pub both_firings_heal : BothFiringsHeal
-  both_firings_heal c d joined events quiet near_may far_may es are after = by (timer_runs w.near.station.phase w.near.station) (timer_runs w.far.station.phase w.far.station) refl refl
-    where
-      w : Stations
-      w = run c d events start
-
-      sound : Sound c d w
-      sound = reached_sound laws reads c d joined events quiet.once
-
-      v : Stations
-      v = run c d es (swapped (acts d T1 (swapped (acts c T1 w))))
-
-      by : (near far : Bool) → timer_runs w.near.station.phase w.near.station ≡ near → timer_runs w.far.station.phase w.far.station ≡ far → IsHealed v.near v.far × IsHealed v.far v.near
-      by false far near_stops is =
-          let same : v ≡ run c d es (swapped (acts d T1 (swapped w))) = ap (λ (z : Stations). run c d es (swapped (acts d T1 (swapped z)))) (refused c d joined reads laws w near_stops) in
-          let u : Stations = run c d es (swapped (acts d T1 (swapped w))) in
-          let shown = shows_at_rest c d joined reads laws w sound near_may.up near_stops in
-          let round = far_round c d joined w sound quiet.drained far_may near_may.up near_may.free es are (subst IsDrained same after) in
-          let rest = round.heals.far_rest shown.0 in
-          let arrived = arrives c d joined reads laws u (sound_swapped d c (joined_swapped c d joined) (swapped u) round.sound) round.heals.far_up rest in
-          subst (λ (z : Stations). IsHealed z.near z.far × IsHealed z.far z.near) (sym same) (record { rest = rest; arrived = arrived }, round.heals.near)
-      by true false near_runs far_stops =
-          let x : Stations = acts c T1 w in
-          let untouched : x.far ≡ w.far = (each_hands_one c d (Near T1) w).far in
-          let stops : timer_runs x.far.station.phase x.far.station ≡ false = ap (λ (e : StationEnd). timer_runs e.station.phase e.station) untouched ∙ far_stops in
-          let same : v ≡ run c d es x = ap (λ (z : Stations). run c d es (swapped z)) (refused d c (joined_swapped c d joined) reads laws (swapped x) stops) in
-          let u : Stations = run c d es x in
-          let shown = shows_at_rest d c (joined_swapped c d joined) reads laws (swapped w) (sound_swapped c d joined w sound) far_may.up far_stops in
-          let round = one_round c d joined reads laws w sound quiet.drained near_may far_may.up far_may.free es are (subst IsDrained same after) in
-          let rest = round.heals.far_rest shown.0 in
-          let arrived = arrives d c (joined_swapped c d joined) reads laws (swapped u) (sound_swapped c d joined u round.sound) round.heals.far_up rest in
-          subst (λ (z : Stations). IsHealed z.near z.far × IsHealed z.far z.near) (sym same) (round.heals.near, record { rest = rest; arrived = arrived })
-      by true true near_runs far_runs =
-          let u : Stations = swapped (acts d T1 (swapped (acts c T1 w))) in
-          both_settle c d joined reads laws u.far.station.tries u.near.station.tries v
-          (both_run c d joined reads laws u.far.station.tries u.near.station.tries es u are (both_fire c d joined reads laws w sound quiet.drained near_may far_may near_runs far_runs)) after

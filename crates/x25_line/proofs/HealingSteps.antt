@@ -1,27 +1,24 @@
 -- What holds of two stations that both are Up while all that is on the line comes, and what one delivery makes of it.
-use Rattle.std.proofs.Common.{◌≡◌, ℕ, ◌+◌, ◌%◌, ◌≤◌, ◌<◌, List, [], ◌∷◌, ◌++◌, length, map, max, Bool, true, false, Option, Some, None, Result, Ok, refl, sym, ap, ◌∙◌, subst, arith}
-use Rattle.std.specs.Prelude.{◌||◌, nat_lt}
+use Rattle.std.proofs.Common.{◌≡◌, ℕ, ◌+◌, ◌-◌, ◌*◌, ◌%◌, ◌≤◌, List, [], ◌∷◌, ◌++◌, length, map, Bool, true, false, Option, Some, Result, Ok, refl, sym, ap, ◌∙◌, subst, arith}
+use Rattle.std.specs.Prelude.{◌||◌}
 use Rattle.std.proofs.lemmas.Bool.{ltb-false, le-ltb, le-leb}
 use Rattle.x25_bits.specs.declared.role.Role.{Role}
 use Rattle.x25_frame.specs.PlainFrame.{PlainFrame, info, rr, rnr, rej, sabm, disc, ua, dm, frmr}
 use Rattle.x25_frame.specs.Spelling.{spelling_of}
-use Rattle.x25_frame.specs.Reading.{frame_of}
 use Rattle.x25_frame.specs.ReadingLaw.{ReadsSpelled}
 use Rattle.x25_frame.specs.declared.error.FrameError.{FrameError}
 use Rattle.x25_window.specs.Modulo.{resolved}
-use Rattle.x25_window.specs.Window.{End, Frame}
+use Rattle.x25_window.specs.Window.{Frame}
 use Rattle.x25_link.specs.declared.phase.Notes.{Notes}
 use Rattle.x25_link.specs.NoteLaw.{TakeContinues}
-use Rattle.x25_link.specs.Outgoing.{waits}
 use Rattle.x25_link.specs.Station.{Settings, Station, is_up, is_busy}
 use Rattle.x25_link.specs.MustSend.{Step, other, is_valid}
 use Rattle.x25_link.specs.Steps.{take_step}
 use Rattle.x25_link.specs.WindowMachine.{Window, Shows, ShowAll}
-use Rattle.x25_link.specs.WindowLaw.{IsSound}
-use Rattle.x25_link.specs.RestLaw.{HasSaidAll, IsAtRest, RestLaws}
-use Rattle.x25_link.specs.AnswerLaw.{AreNext, Outcome, Answers, AnswerLaws, heard}
+use Rattle.x25_link.specs.RestLaw.{HasSaidAll, RestLaws}
+use Rattle.x25_link.specs.AnswerLaw.{AreNext, weight_of, weight_if, Outcome, Answers, AnswerLaws, heard}
 use Rattle.x25_line.specs.Line.{Line, swapped as line_swapped}
-use Rattle.x25_line.specs.Stations.{StationEnd, Stations, Act, Deliver, after_step, delivered, acts, swapped}
+use Rattle.x25_line.specs.Stations.{Stations, Deliver, after_step, delivered, acts, swapped}
 use Rattle.x25_line.specs.StationClaims.{AreJoined, number_in, numbered_on, AreWhole}
 use Rattle.x25_line.specs.WholeNumbers.{machine_acts}
 use Rattle.x25_line.proofs.Kept.{Way, hears_valid, Way-acked}
@@ -30,7 +27,7 @@ use Rattle.x25_line.proofs.StationLines.{front_of, consed}
 use Rattle.x25_line.proofs.StationSteps.{AsUp, Joint}
 use Rattle.x25_line.proofs.StationRuns.{Laws, machine_joint, joint_swapped}
 use Rattle.x25_line.proofs.StationClaimLemmas.{up_of}
-use Rattle.x25_line.proofs.HealingLines.{Reads, reads_more, whole_behind, FrontReads, none_reads}
+use Rattle.x25_line.proofs.HealingLines.{Reads, reads_more, whole_behind, FrontReads}
 
 -- the laws of a station that healing rests on
 pub record HealingLaws : Type 0 where
@@ -123,9 +120,9 @@ hears_well c d w h up other_up f gs is_numbered r =
     let v = far_up c d w h other_up in
     let rest = numbered_on (other c.role) c.longest r.others in
     let shows : ShowAll (f ∷ rest) h.line.back =
-        subst (λ (fs : List PlainFrame). ShowAll fs h.line.back)
-        (ap (numbered_on (other c.role) c.longest) r.is ∙ ap (λ (z : Result PlainFrame FrameError). consed (number_in z) rest) r.reads
-        ∙ ap (λ (o : Option PlainFrame). consed o rest) (has_number f is_numbered)) h.joint.back in
+    subst (λ (fs : List PlainFrame). ShowAll fs h.line.back)
+    (ap (numbered_on (other c.role) c.longest) r.is ∙ ap (λ (z : Result PlainFrame FrameError). consed (number_in z) rest) r.reads
+    ∙ ap (λ (o : Option PlainFrame). consed o rest) (has_number f is_numbered)) h.joint.back in
     let front = front_of f rest h.line.back shows in
     let e = h.line.near in
     let g = front.frame in
@@ -159,6 +156,8 @@ pub record Delivered (c d : Settings) (w v : Stations) (fs gs : List PlainFrame)
   pub said : (take_step c octets w.near.station).side.out ≡ o.first ++ next
   pub out : Reads (other d.role) d.longest v.out (fs ++ (o.first ++ next))
   pub sends : AreNext (length o.taken) o.place next v.near.station.outgoing.place
+  pub light : weight_of next + 4 * (length w.near.station.outgoing.given - v.near.station.outgoing.place) + weight_if v.near.station.said_busy
+      ≤ 4 * (length w.near.station.outgoing.given - o.place) + weight_if o.said_busy
   pub held : o.recovery ≡ true → v.near.station.outgoing.place ≡ o.place
   pub back : Reads (other c.role) c.longest v.back gs
   pub far : v.far ≡ w.far
@@ -196,6 +195,7 @@ module _ (c d : Settings) (joined : AreJoined c d) (reads : ReadsSpelled) (laws 
         said = a.out;
         out = read_out sound;
         sends = a.sends;
+        light = a.light;
         held = a.held;
         back = r.rest;
         far = refl;

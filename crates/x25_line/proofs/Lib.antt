@@ -16,6 +16,12 @@ pub mod HealingLines
 pub mod HealingSteps
 pub mod HealingPhases
 pub mod HealingRuns
+pub mod HealingBoth
+pub mod HealingLoad
+pub mod HealingGone
+pub mod HealingEnds
+pub mod HealingSessions
+pub mod HealingRowLemmas
 pub mod SessionLines
 pub mod SessionHeld
 pub mod SessionSteps

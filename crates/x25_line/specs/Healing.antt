@@ -1,11 +1,20 @@
 -- Healing: once the line is good for a moment, everything arrives. Nothing is on the line; timer T1 runs out once at an end where it runs;
 -- and then all that is on the line comes, in any order of the two directions, while nothing is lost.
-use Rattle.std.specs.Prelude.{◌≡◌, ◌<◌, ◌≤◌, false, true, List, [], ◌∷◌, length}
-use Rattle.x25_link.specs.Station.{Settings, is_up, is_busy}
+use Rattle.std.specs.Prelude.{◌≡◌, ℕ, ◌+◌, ◌-◌, ◌*◌, ◌<◌, ◌≤◌, ◌⊎◌, Bool, false, true, List, [], ◌∷◌, length, Result, Ok, Err}
+use Rattle.x25_bits.specs.declared.role.Role.{Role}
+use Rattle.x25_frame.specs.PlainFrame.{PlainFrame, info, rr, rnr, rej}
+use Rattle.x25_frame.specs.Reading.{frame_of}
+use Rattle.x25_frame.specs.declared.error.FrameError.{FrameError}
+use Rattle.x25_link.specs.MustSend.{other}
+use Rattle.x25_link.specs.Station.{Settings, is_up, is_waiting, is_busy}
 use Rattle.x25_link.specs.Steps.{timer_runs}
+use Rattle.x25_link.specs.WindowLaw.{IsOut}
 use Rattle.x25_link.specs.RestLaw.{IsAtRest}
-use Rattle.x25_line.specs.Stations.{StationEnd, Stations, Act, Deliver, T1, Event, Near, Far, swapped, run, start}
+use Rattle.x25_line.specs.Stations.{StationEnd, Stations, Act, Put, Deliver, T1, Lose, Event, Near, Far, swapped, happens, run, start}
 use Rattle.x25_line.specs.StationClaims.{AreJoined, IsSetUpOnce}
+use Rattle.x25_line.specs.Sessions.{Sessions, Meeting}
+use Rattle.x25_line.specs.SessionClaims.{SomeMet}
+use Rattle.x25_line.specs.StationRows.{dte, dce}
 
 -- nothing is on the line
 pub record IsDrained (w : Stations) : Type 0 where
@@ -114,3 +123,105 @@ BothFiringsHeal =
     (c d : Settings) → AreJoined c d → (events : List Event) → IsQuietMoment c d events
     → (let w = run c d events start in MayHeal c w.near → MayHeal d w.far
     → (deliveries : List Event) → AreDeliveries deliveries → (let v = run c d (Near T1 ∷ Far T1 ∷ deliveries) w in IsDrained v → IsHealed v.near v.far × IsHealed v.far v.near))
+
+-- ---- how many deliveries it takes
+
+-- What octets on the line may bring: a poll is answered by F=1; at F=1 or REJ what isn't acknowledged goes again, which is seven frames at
+-- most; and an I frame is answered by RR.
+abbrev pub ready_load : Bool → Bool → ℕ
+ready_load true true = 31
+ready_load false true = 29
+ready_load true false = 1
+ready_load false false = 1
+
+abbrev pub frame_load : Result PlainFrame FrameError → ℕ
+frame_load (Ok (info ns nr p packet)) = 3
+frame_load (Ok (rr command nr pf)) = ready_load command pf
+frame_load (Ok (rnr command nr pf)) = ready_load command pf
+frame_load (Ok (rej command nr pf)) = 29
+frame_load (Ok frame) = 1
+frame_load (Err e) = 1
+
+abbrev pub line_load : Role → ℕ → List (List ℕ) → ℕ
+line_load from n1 [] = 0
+line_load from n1 (octets ∷ line) = frame_load (frame_of from n1 octets) + line_load from n1 line
+
+-- the packets from V(S) on, each at one more than its frame
+abbrev pub to_send : StationEnd → ℕ
+to_send e = 4 * (length e.station.outgoing.given - e.station.outgoing.place)
+
+abbrev pub load : Settings → Settings → Stations → ℕ
+load c d w = to_send w.near + to_send w.far + line_load (other d.role) d.longest w.out + line_load (other c.role) c.longest w.back
+
+-- octets are there for each delivery
+abbrev pub Finds : Event → Stations → Type 0
+Finds (Near act) w = w.back ≡ [] → ⊥
+Finds (Far act) w = w.out ≡ [] → ⊥
+
+abbrev pub EachFinds : Settings → Settings → List Event → Stations → Type 0
+EachFinds c d [] w = Unit {0}
+EachFinds c d (e ∷ es) w = Finds e w × EachFinds c d es (happens c d e w)
+
+-- After both have fired, the world bounds how many deliveries find octets, in whichever order.
+abbrev pub DeliveriesEnd : Type 0
+DeliveriesEnd =
+    (c d : Settings) → AreJoined c d → (events : List Event) → IsQuietMoment c d events
+    → (let w = run c d events start in MayHeal c w.near → MayHeal d w.far
+    → (deliveries : List Event) → AreDeliveries deliveries
+    → (let v = run c d (Near T1 ∷ Far T1 ∷ []) w in EachFinds c d deliveries v → length deliveries ≤ load c d v))
+
+-- So there are deliveries after which everything has arrived.
+abbrev pub SomeHeal : Type 0
+SomeHeal =
+    (c d : Settings) → AreJoined c d → (events : List Event) → IsQuietMoment c d events
+    → (let w = run c d events start in MayHeal c w.near → MayHeal d w.far
+    → (deliveries : List Event) × AreDeliveries deliveries × (let v = run c d (Near T1 ∷ Far T1 ∷ deliveries) w in IsDrained v × IsHealed v.near v.far × IsHealed v.far v.near))
+
+-- ---- an end whose peer is gone
+
+-- The far end is Down or Closed: it answers the poll by DM, and the near end leaves Up too.
+abbrev pub GoneEnds : Type 0
+GoneEnds =
+    (c d : Settings) → AreJoined c d → (events : List Event) → IsQuietMoment c d events
+    → (let w = run c d events start in MayHeal c w.near → timer_runs w.near.station.phase w.near.station ≡ true → IsOut w.far.station.phase
+    → (deliveries : List Event) → AreDeliveries deliveries → (let v = run c d (Near T1 ∷ deliveries) w in IsDrained v → is_up v.near.station.phase ≡ false))
+
+-- ---- whatever the ends are
+
+-- an end doesn't await UA, and isn't busy where it is Up
+pub record MayFire (e : StationEnd) : Type 0 where
+  pub settled : is_waiting e.station.phase ≡ false
+  pub free : is_up e.station.phase ≡ true → is_busy e.station ≡ false
+
+abbrev pub IsAtRestOrOut : StationEnd → Type 0
+IsAtRestOrOut e = IsAtRest e.station ⊎ (is_up e.station.phase ≡ false)
+
+-- Both fire where their T1 runs, whatever tries are left, and all that is on the line comes: each end is then at rest or not Up.
+abbrev pub EachRestsOrIsOut : Type 0
+EachRestsOrIsOut =
+    (c d : Settings) → AreJoined c d → (events : List Event) → IsQuietMoment c d events
+    → (let w = run c d events start in MayFire w.near → MayFire w.far
+    → (deliveries : List Event) → AreDeliveries deliveries → (let v = run c d (Near T1 ∷ Far T1 ∷ deliveries) w in IsDrained v → IsAtRestOrOut v.near × IsAtRestOrOut v.far))
+
+-- ---- over set-up and re-set-up
+
+-- An end that is Up and whose timer T1 doesn't run is at rest. Where the other end is Up too or met its session, all that was handed down in this
+-- session was handed up in the latest session of the other.
+pub record EachRestShows (c d : Settings) (w : Sessions) : Type 0 where
+  pub near : is_up w.near.station.phase ≡ true → timer_runs w.near.station.phase w.near.station ≡ false
+      → IsAtRest w.near.station × ((is_up w.far.station.phase ≡ true) ⊎ SomeMet (λ (m : Meeting). m.near ≡ w.near.begun) w.met → w.far.up w.far.begun ≡ w.near.down w.near.begun)
+  pub far : is_up w.far.station.phase ≡ true → timer_runs w.far.station.phase w.far.station ≡ false
+      → IsAtRest w.far.station × ((is_up w.near.station.phase ≡ true) ⊎ SomeMet (λ (m : Meeting). m.far ≡ w.far.begun) w.met → w.near.up w.near.begun ≡ w.far.down w.far.begun)
+
+-- ---- a worked moment
+
+-- the packet of each end was lost
+abbrev pub both_lost : List Event
+both_lost = Near (Put (5 ∷ [])) ∷ Far (Put (7 ∷ [])) ∷ Far (Lose 0) ∷ Near (Lose 0) ∷ []
+
+-- it is a quiet moment, in which T1 runs at both ends, both may heal, and nothing has arrived
+abbrev pub BothLostMayHeal : Type 0
+BothLostMayHeal =
+    IsQuietMoment dte dce both_lost
+    × (let w = run dte dce both_lost start in MayHeal dte w.near × MayHeal dce w.far × (timer_runs w.near.station.phase w.near.station ≡ true) × (timer_runs w.far.station.phase w.far.station ≡ true)
+    × (w.near.down ≡ (5 ∷ []) ∷ []) × (w.far.up ≡ []) × (w.near.up ≡ []))

@@ -1,6 +1,8 @@
 //! Healing: once the line is good for a moment, everything arrives. Laws of two link stations over a line, each the contract of a
 //! function that does nothing.
-ghost use Rattle.x25_line.specs.Healing.{RestShows, OneFiringHeals, FarFiringHeals, OneFiringEnds, TwoFiringsHeal, BothFiringsHeal};
+ghost use Rattle.x25_line.specs.Healing.{RestShows, EachRestShows, OneFiringHeals, FarFiringHeals, OneFiringEnds, GoneEnds};
+ghost use Rattle.x25_line.specs.Healing.{BothFiringsHeal, TwoFiringsHeal, EachRestsOrIsOut, DeliveriesEnd, SomeHeal, BothLostMayHeal};
+ghost use Rattle.x25_line.specs.SessionClaims.{Throughout};
 
 use x25_frame::reads_what_is_spelled;
 use x25_link::{
@@ -8,9 +10,11 @@ use x25_link::{
 };
 
 /// After each list of events, as long as the link isn't set up anew: an end that is Up and whose timer T1 doesn't run is at rest, and
-/// everything that it was handed down has been handed up at the other end. Whatever is on the line then changes nothing of this.
+/// everything that it was handed down has been handed up at the other end. Whatever is on the line then changes nothing of this. Over
+/// set-up and re-set-up the same holds of the sessions that stand (`sessions`).
 pub fn rest_shows()
-    ensures { RestShows }
+    ensures once { RestShows }
+    ensures sessions { Throughout EachRestShows }
 {
     follows_the_window();
     sets_up_by_rows();
@@ -22,12 +26,14 @@ pub fn rest_shows()
 
 /// From a moment in which nothing is on the line, both ends are Up and neither is busy: timer T1 runs out once at one end, and then
 /// all that is on the line comes, in any order of the two directions. That end is at rest, everything that it was handed down has been
-/// handed up at the other end, and that end is Up, and at rest if it was. So it is at either end, where T1 doesn't run or tries
-/// are left; with no tries left the end leaves Up.
+/// handed up at the other end; that other end is Up, and at rest if it was. So it is at either end, where T1 doesn't run or tries
+/// are left; with no tries left the end leaves Up. Where the other end is Down or Closed, it answers the poll by DM, and the end that
+/// fired leaves Up too (`gone`).
 pub fn one_firing_heals()
     ensures near { OneFiringHeals }
     ensures far { FarFiringHeals }
     ensures ends { OneFiringEnds }
+    ensures gone { GoneEnds }
 {
     follows_the_window();
     sets_up_by_rows();
@@ -38,10 +44,28 @@ pub fn one_firing_heals()
 }
 
 /// Deliver, fire once at each end, deliver: everything sent has arrived, in order, once, and both ends are at rest. Both may fire before
-/// anything comes (`at_once`), or one after the other, with all deliveries of the first between them (`in_turn`).
+/// anything comes (`at_once`), or one after the other, with all deliveries of the first between them (`in_turn`). Where an end may be
+/// out, or have no tries left, each is at rest or not Up then (`whatever`).
 pub fn two_firings_heal()
     ensures at_once { BothFiringsHeal }
     ensures in_turn { TwoFiringsHeal }
+    ensures whatever { EachRestsOrIsOut }
+{
+    follows_the_window();
+    sets_up_by_rows();
+    notes_what_changes();
+    comes_to_rest();
+    asks_and_answers();
+    reads_what_is_spelled();
+}
+
+/// After both ends have fired, deliveries come to an end: the world bounds how many find octets on the line, in whichever order
+/// (`end`). So there are deliveries after which everything has arrived (`some`). A worked moment from which it is so: the packet of
+/// each end was lost, and timer T1 runs at both (`worked`).
+pub fn deliveries_end()
+    ensures end { DeliveriesEnd }
+    ensures some { SomeHeal }
+    ensures worked { BothLostMayHeal }
 {
     follows_the_window();
     sets_up_by_rows();

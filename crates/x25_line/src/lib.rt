@@ -11,7 +11,7 @@ mod raw_frame;
 mod raw_world;
 
 pub use direction::Direction;
-pub use healing::{one_firing_heals, rest_shows, two_firings_heal};
+pub use healing::{deliveries_end, one_firing_heals, rest_shows, two_firings_heal};
 pub use law::{
     each_event_hands_one, each_session_event_hands_one, sessions_are_stations, sessions_keep_order,
     sessions_move, stations_keep_order, stations_move,

@@ -1,5 +1,6 @@
 use Rattle.x25_line.proofs.HealingSteps.{HealingLaws}
-use Rattle.x25_line.proofs.HealingRuns.{one_firing_heals, far_firing_heals, one_firing_ends}
+use Rattle.x25_line.proofs.HealingBoth.{one_firing_heals, far_firing_heals, one_firing_ends}
+use Rattle.x25_line.proofs.HealingGone.{gone_ends}
 use Rattle.x25_line.proofs.healing.one_firing_heals.Goals as goal
 
 pub returns : goal.returns
@@ -23,4 +24,4 @@ returns c =
       rest = record { take = rest.take; put = rest.put; timer = rest.timer; connect = rest.connect; disconnect = rest.disconnect; abandon = rest.abandon; no_timer = rest.no_timer; all_heard = rest.all_heard; only_then = rest.only_then };
       answers = record { timer = answer.timer; poll = answer.poll; recovery = answer.recovery; ready = answer.ready; rej = answer.rej; wanted = answer.wanted; other = answer.other; out = answer.out; dm = answer.dm };
     } in
-    record { near = one_firing_heals reads laws; far = far_firing_heals reads laws; ends = one_firing_ends reads laws }
+    record { near = one_firing_heals reads laws; far = far_firing_heals reads laws; ends = one_firing_ends reads laws; gone = gone_ends reads laws }

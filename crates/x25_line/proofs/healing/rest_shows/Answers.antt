@@ -1,5 +1,6 @@
 use Rattle.x25_line.proofs.HealingSteps.{HealingLaws}
-use Rattle.x25_line.proofs.HealingRuns.{rest_shows}
+use Rattle.x25_line.proofs.HealingBoth.{rest_shows}
+use Rattle.x25_line.proofs.HealingSessions.{each_rest_shows}
 use Rattle.x25_line.proofs.healing.rest_shows.Goals as goal
 
 pub returns : goal.returns
@@ -23,4 +24,4 @@ returns c =
       rest = record { take = rest.take; put = rest.put; timer = rest.timer; connect = rest.connect; disconnect = rest.disconnect; abandon = rest.abandon; no_timer = rest.no_timer; all_heard = rest.all_heard; only_then = rest.only_then };
       answers = record { timer = answer.timer; poll = answer.poll; recovery = answer.recovery; ready = answer.ready; rej = answer.rej; wanted = answer.wanted; other = answer.other; out = answer.out; dm = answer.dm };
     } in
-    rest_shows reads laws
+    record { once = rest_shows reads laws; sessions = each_rest_shows reads laws }

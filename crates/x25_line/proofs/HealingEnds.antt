@@ -1,0 +1,190 @@
+-- Whatever the two ends are at a quiet moment, once both have fired and all has come each is at rest or not Up.
+use Rattle.std.proofs.Common.{◌≡◌, ℕ, List, [], ◌∷◌, ◌++◌, ◌⊎◌, inl, inr, map, Bool, true, false, if◌then◌else◌, Some, None, refl, sym, ap, ◌∙◌, subst}
+use Rattle.std.specs.Prelude.{nat_lt}
+use Rattle.std.proofs.lemmas.Bool.{ltb-true}
+use Rattle.x25_frame.specs.PlainFrame.{PlainFrame, rr}
+use Rattle.x25_frame.specs.Spelling.{spelling_of}
+use Rattle.x25_frame.specs.ReadingLaw.{ReadsSpelled}
+use Rattle.x25_link.specs.declared.phase.Phase.{Phase}
+use Rattle.x25_link.specs.declared.phase.Phase.TheVariants.{Down, Waiting, Up, Closed}
+use Rattle.x25_link.specs.declared.phase.Reason.TheVariants.{Retries}
+use Rattle.x25_link.specs.Station.{Settings, Station, is_up, is_waiting}
+use Rattle.x25_link.specs.MustSend.{Step, other}
+use Rattle.x25_link.specs.Steps.{timer_step, timer_runs}
+use Rattle.x25_link.specs.WindowMachine.{nothing}
+use Rattle.x25_link.specs.WindowLaw.{Follows, IsOut}
+use Rattle.x25_link.specs.RestLaw.{IsAtRest}
+use Rattle.x25_line.specs.Stations.{StationEnd, Stations, T1, Event, after_step, acts, swapped, run, start}
+use Rattle.x25_line.specs.StationClaims.{AreJoined}
+use Rattle.x25_line.specs.Healing.{IsDrained, AreDeliveries, MayHeal, MayFire, IsAtRestOrOut, EachRestsOrIsOut}
+use Rattle.x25_line.proofs.StationSteps.{not_both}
+use Rattle.x25_line.proofs.StationRuns.{joined_swapped}
+use Rattle.x25_line.proofs.HealingLines.{Reads}
+use Rattle.x25_line.proofs.HealingSteps.{HealingLaws, Sound, sound_swapped, near_up}
+use Rattle.x25_line.proofs.HealingRuns.{reached_sound, shows_at_rest, refused, fires_is, fire_sound, Fired, fires, idle_run, flip, flip_all, flip_run}
+use Rattle.x25_line.proofs.HealingBoth.{both_firings_heal}
+use Rattle.x25_line.proofs.HealingGone.{Polls, Leaves, all_go, is_gone, has_left}
+
+-- what a firing on an empty line makes of its end: a poll goes; or nothing goes, and the end is at rest or out
+pub record Silent (w x : Stations) : Type 0 where
+  pub out : x.out ≡ []
+  pub back : x.back ≡ w.back
+  pub far : x.far ≡ w.far
+
+out_is : (p : Phase) → is_waiting p ≡ false → is_up p ≡ false → IsOut p
+out_is Down e f = tt
+out_is Waiting e f = not_both true refl e
+out_is Up e f = not_both true refl f
+out_is Closed e f = tt
+
+no_timer : (p : Phase) (s : Station) → IsOut p → timer_runs p s ≡ false
+no_timer Down s h = refl
+no_timer Waiting s h = absurd h
+no_timer Up s h = absurd h
+no_timer Closed s h = refl
+
+out_not_up : (p : Phase) → IsOut p → is_up p ≡ false
+out_not_up Down h = refl
+out_not_up Waiting h = absurd h
+out_not_up Up h = absurd h
+out_not_up Closed h = refl
+
+module _ (c d : Settings) (joined : AreJoined c d) (reads : ReadsSpelled) (laws : HealingLaws) where
+  abbrev Kind : Stations → Stations → Type 0
+  Kind w x = (MayHeal c w.near × Fired c d joined reads laws w x) ⊎ ((MayHeal c w.near × IsAtRest x.near.station × Silent w x) ⊎ (IsOut x.near.station.phase × Silent w x))
+
+  silent : (w x : Stations) → w.out ≡ [] → x ≡ w → Silent w x
+  silent w x empty same = subst (λ (z : Stations). Silent w z) (sym same) (record { out = empty; back = refl; far = refl })
+
+  kind_of : (w : Stations) → Sound c d w → w.out ≡ [] → MayFire w.near → Kind w (acts c T1 w)
+  kind_of w h empty may = by (is_up w.near.station.phase) refl
+    where
+      s : Station
+      s = w.near.station
+
+      x : Stations
+      x = acts c T1 w
+
+      -- no tries are left
+      over : is_up s.phase ≡ true → timer_runs s.phase s ≡ true → nat_lt s.tries c.retries ≡ false → Kind w (acts c T1 w)
+      over up running none =
+          let step : Step = timer_step c s in
+          let u = near_up c d w h up in
+          let v : Stations = after_step c w w.back [] step in
+          let follows = subst (λ (b : Bool). Follows (if b then None else Some Retries) c.window nothing s step) none (laws.laws.window.timer c s (record { up = up; sound = u.sound })) in
+          let out : v.out ≡ [] = ap (λ (fs : List PlainFrame). w.out ++ map (spelling_of c.role) fs) follows.frames ∙ ap (λ (os : List (List ℕ)). os ++ []) empty in
+          subst (λ (z : Stations). Kind w z) (sym (fires_is c d joined reads laws w running)) (inr (inr (subst IsOut (sym follows.phase) tt, record { out = out; back = refl; far = refl })))
+
+      tried : is_up s.phase ≡ true → timer_runs s.phase s ≡ true → (b : Bool) → nat_lt s.tries c.retries ≡ b → Kind w (acts c T1 w)
+      tried up running true few =
+          let left = ltb-true _ _ few in
+          inl (record { up = up; free = may.free up; tries = λ _. left }, fires c d joined reads laws w h empty up (may.free up) running left)
+      tried up running false none = over up running none
+
+      runs : is_up s.phase ≡ true → (b : Bool) → timer_runs s.phase s ≡ b → Kind w (acts c T1 w)
+      runs up true running = tried up running (nat_lt s.tries c.retries) refl
+      runs up false stopped =
+          let same = refused c d joined reads laws w stopped in
+          let rest = (shows_at_rest c d joined reads laws w h up stopped).0 in
+          let heals : MayHeal c w.near = record { up = up; free = may.free up; tries = λ running. not_both (timer_runs s.phase s) running stopped } in
+          inr (inl (heals, subst (λ (z : Stations). IsAtRest z.near.station) (sym same) rest, silent w (acts c T1 w) empty same))
+
+      by : (b : Bool) → is_up s.phase ≡ b → Kind w (acts c T1 w)
+      by true up = runs up (timer_runs s.phase s) refl
+      by false off =
+          let gone = out_is s.phase may.settled off in
+          let same = refused c d joined reads laws w (no_timer s.phase s gone) in
+          inr (inr (subst (λ (z : Stations). IsOut z.near.station.phase) (sym same) gone, silent w (acts c T1 w) empty same))
+
+  -- nothing is on the line, and each end is at rest or out
+  both_quiet : (v : Stations) → v.out ≡ [] → v.back ≡ [] → IsAtRestOrOut v.near → IsAtRestOrOut v.far → (es : List Event) → AreDeliveries es
+      → (let u = run c d es v in IsAtRestOrOut u.near × IsAtRestOrOut u.far)
+  both_quiet v out back near far es are =
+      subst (λ (z : Stations). IsAtRestOrOut z.near × IsAtRestOrOut z.far) (sym (idle_run c d joined reads laws es v are (record { out = out; back = back }))) (near, far)
+
+  -- the near end has a poll on the line, and the far end is out
+  polls_left : (v : Stations) → Leaves c d v → (es : List Event) → AreDeliveries es → IsDrained (run c d es v) → (let u = run c d es v in IsAtRestOrOut u.near × IsAtRestOrOut u.far)
+  polls_left v h es are drained =
+      let u : Stations = run c d es v in
+      let k = all_go c d joined reads laws es v are h in
+      (inr (has_left c d joined reads laws u drained k), inr (out_not_up u.far.station.phase (is_gone c d joined reads laws u k)))
+
+module _ (reads : ReadsSpelled) (laws : HealingLaws) where
+  -- the same where the far end has a poll on the line
+  far_left : (c d : Settings) (joined : AreJoined c d) (v : Stations) → Leaves d c (swapped v) → (es : List Event) → AreDeliveries es → IsDrained (run c d es v)
+      → (let u = run c d es v in IsAtRestOrOut u.near × IsAtRestOrOut u.far)
+  far_left c d joined v h es are drained =
+      let same : swapped (run c d es v) ≡ run d c (map flip es) (swapped v) = flip_run c d es v in
+      let now : IsDrained (swapped (run c d es v)) = record { out = drained.back; back = drained.out } in
+      let ended = polls_left d c (joined_swapped c d joined) reads laws (swapped v) h (map flip es) (flip_all es are) (subst IsDrained same now) in
+      let there = subst (λ (z : Stations). IsAtRestOrOut z.near × IsAtRestOrOut z.far) (sym same) ended in
+      (there.1, there.0)
+
+  pub each_rests_or_is_out : EachRestsOrIsOut
+  each_rests_or_is_out c d joined events quiet near_may far_may es are after = by (kind_of c d joined reads laws w sound quiet.drained.out near_may)
+    where
+      w : Stations
+      w = run c d events start
+
+      sound : Sound c d w
+      sound = reached_sound laws reads c d joined events quiet.once
+
+      twisted : AreJoined d c
+      twisted = joined_swapped c d joined
+
+      x : Stations
+      x = acts c T1 w
+
+      y : Stations
+      y = acts d T1 (swapped x)
+
+      Ends : Type 0
+      Ends = (let u = run c d es (swapped y) in IsAtRestOrOut u.near × IsAtRestOrOut u.far)
+
+      heals : MayHeal c w.near → MayHeal d w.far → Ends
+      heals near far =
+          let both = both_firings_heal reads laws c d joined events quiet near far es are after in
+          (inl both.0.rest, inl both.1.rest)
+
+      back_is : x.back ≡ w.back → x.back ≡ []
+      back_is same = same ∙ quiet.drained.back
+
+      far_may_at : x.far ≡ w.far → MayFire x.far
+      far_may_at same = subst MayFire (sym same) far_may
+
+      far_was : x.far ≡ w.far → MayHeal d x.far → MayHeal d w.far
+      far_was same may = subst (MayHeal d) same may
+
+      fired : MayHeal c w.near → Fired c d joined reads laws w x → Kind d c twisted reads laws (swapped x) y → Ends
+      fired may f (inl g) = heals may (far_was f.far g.0)
+      fired may f (inr (inl g)) = heals may (far_was f.far g.0)
+      fired may f (inr (inr g)) =
+          let near : y.far ≡ x.near = g.1.far in
+          let polls : Polls c d (swapped y) =
+          record { number = f.number; up = subst (λ (e : StationEnd). is_up e.station.phase ≡ true) (sym near) f.up; gone = g.0; out = subst (λ (os : List (List ℕ)). Reads (other d.role) d.longest os (rr true f.number true ∷ [])) (sym g.1.back) f.out; back = g.1.out } in
+          polls_left c d joined reads laws (swapped y) (inl polls) es are after
+
+      rested : MayHeal c w.near → IsAtRest x.near.station → Silent w x → Kind d c twisted reads laws (swapped x) y → Ends
+      rested may rest k (inl g) = heals may (far_was k.far g.0)
+      rested may rest k (inr (inl g)) = heals may (far_was k.far g.0)
+      rested may rest k (inr (inr g)) =
+          both_quiet c d joined reads laws (swapped y) (g.1.back ∙ k.out) g.1.out (inl (subst (λ (e : StationEnd). IsAtRest e.station) (sym g.1.far) rest)) (inr (out_not_up y.near.station.phase g.0)) es are
+
+      gone : IsOut x.near.station.phase → Silent w x → Kind d c twisted reads laws (swapped x) y → Ends
+      gone out k (inl g) =
+          let f = g.1 in
+          let polls : Polls d c y =
+          record { number = f.number; up = f.up; gone = subst (λ (e : StationEnd). IsOut e.station.phase) (sym f.far) out; out = f.out; back = f.back ∙ k.out } in
+          far_left c d joined (swapped y) (inl polls) es are after
+      gone out k (inr (inl g)) =
+          both_quiet c d joined reads laws (swapped y) (g.2.back ∙ k.out) g.2.out (inr (ap (λ (e : StationEnd). is_up e.station.phase) g.2.far ∙ out_not_up x.near.station.phase out)) (inl g.1) es are
+      gone out k (inr (inr g)) =
+          both_quiet c d joined reads laws (swapped y) (g.1.back ∙ k.out) g.1.out (inr (ap (λ (e : StationEnd). is_up e.station.phase) g.1.far ∙ out_not_up x.near.station.phase out)) (inr (out_not_up y.near.station.phase g.0)) es are
+
+      far_kind : x.back ≡ w.back → x.far ≡ w.far → Kind d c twisted reads laws (swapped x) y
+      far_kind back far = kind_of d c twisted reads laws (swapped x) (sound_swapped c d joined x (fire_sound c d joined reads laws w sound)) (back_is back) (far_may_at far)
+
+      by : Kind c d joined reads laws w x → Ends
+      by (inl k) = fired k.0 k.1 (far_kind k.1.back k.1.far)
+      by (inr (inl k)) = rested k.0 k.1 k.2 (far_kind k.2.back k.2.far)
+      by (inr (inr k)) = gone k.0 k.1 (far_kind k.1.back k.1.far)

@@ -1,0 +1,138 @@
+-- An end whose peer has left Up: its poll is answered by DM, and it leaves too.
+use Rattle.std.proofs.Common.{◌≡◌, ℕ, List, [], ◌∷◌, ◌++◌, ◌⊎◌, inl, inr, length, map, true, false, refl, sym, ap, ◌∙◌, subst, arith}
+use Rattle.x25_bits.specs.declared.role.Role.{Role}
+use Rattle.x25_frame.specs.PlainFrame.{PlainFrame, rr, dm}
+use Rattle.x25_frame.specs.Spelling.{spelling_of}
+use Rattle.x25_frame.specs.ReadingLaw.{ReadsSpelled}
+use Rattle.x25_link.specs.Station.{Settings, Station, is_up}
+use Rattle.x25_link.specs.MustSend.{Step, other}
+use Rattle.x25_link.specs.Steps.{take_step}
+use Rattle.x25_link.specs.WindowLaw.{IsOut}
+use Rattle.x25_line.specs.Stations.{StationEnd, Stations, Act, Put, Deliver, T1, Connect, Disconnect, Abandon, Lose, Damage, Event, Near, Far, after_step, delivered, acts, swapped, run, start}
+use Rattle.x25_line.specs.StationClaims.{AreJoined}
+use Rattle.x25_line.specs.Healing.{IsDrained, IsDeliver, AreDeliveries, GoneEnds}
+use Rattle.x25_line.proofs.HealingLines.{Reads, front_reads, none_reads, reads_none, reads_more}
+use Rattle.x25_line.proofs.HealingSteps.{HealingLaws}
+use Rattle.x25_line.proofs.HealingPhases.{up_is}
+use Rattle.x25_line.proofs.HealingRuns.{reached_sound, fires}
+
+-- the poll is on the line to an end that is out; or DM is on the line back; or the near end has left
+pub record Polls (c d : Settings) (w : Stations) : Type 0 where
+  pub number : ℕ
+  pub up : is_up w.near.station.phase ≡ true
+  pub gone : IsOut w.far.station.phase
+  pub out : Reads (other d.role) d.longest w.out (rr true number true ∷ [])
+  pub back : w.back ≡ []
+
+pub record Declined (c d : Settings) (w : Stations) : Type 0 where
+  pub up : is_up w.near.station.phase ≡ true
+  pub gone : IsOut w.far.station.phase
+  pub out : w.out ≡ []
+  pub back : Reads (other c.role) c.longest w.back (dm true ∷ [])
+
+pub record Left (w : Stations) : Type 0 where
+  pub off : is_up w.near.station.phase ≡ false
+  pub gone : IsOut w.far.station.phase
+  pub out : w.out ≡ []
+  pub back : w.back ≡ []
+
+abbrev pub Leaves : Settings → Settings → Stations → Type 0
+Leaves c d w = Polls c d w ⊎ (Declined c d w ⊎ Left w)
+
+module _ (c d : Settings) (joined : AreJoined c d) (reads : ReadsSpelled) (laws : HealingLaws) where
+  -- the poll comes
+  declines : (w : Stations) → Polls c d w → Leaves c d (swapped (acts d Deliver (swapped w)))
+  declines w h =
+      let s = w.far.station in
+      let frame = rr true h.number true in
+      let r = front_reads (other d.role) d.longest w.out frame [] h.out in
+      let step : Step = take_step d r.octets s in
+      let a = laws.answers.out d r.octets s h.gone frame r.reads refl in
+      let v : Stations = swapped (after_step d (swapped w) r.others [] step) in
+      let same : swapped (acts d Deliver (swapped w)) ≡ v = ap (λ (os : List (List ℕ)). swapped (delivered d os (swapped w))) r.is in
+      let dm_reads : Reads (other c.role) c.longest (w.back ++ map (spelling_of (other c.role)) (dm true ∷ [])) (dm true ∷ []) =
+      reads_more reads (other c.role) c.longest [] w.back [] (dm true ∷ []) (subst (λ (os : List (List ℕ)). Reads (other c.role) c.longest os []) (sym h.back) tt)
+      (record { in_range = tt; carries = refl; within = tt; packet = tt }, tt) in
+      let back : Reads (other c.role) c.longest (w.back ++ map (spelling_of d.role) step.side.out) (dm true ∷ []) =
+      subst (λ (fs : List PlainFrame). Reads (other c.role) c.longest (w.back ++ map (spelling_of d.role) fs) (dm true ∷ [])) (sym a.out)
+      (subst (λ (from : Role). Reads (other c.role) c.longest (w.back ++ map (spelling_of from) (dm true ∷ [])) (dm true ∷ [])) joined.far_role dm_reads) in
+      subst (Leaves c d) (sym same) (inr (inl (record { up = h.up; gone = subst (λ (z : Station). IsOut z.phase) (sym a.near) h.gone; out = none_reads (other d.role) d.longest r.others r.rest; back = back })))
+
+  -- DM comes
+  leaves : (w : Stations) → Declined c d w → Leaves c d (acts c Deliver w)
+  leaves w h =
+      let s = w.near.station in
+      let r = front_reads (other c.role) c.longest w.back (dm true) [] h.back in
+      let step : Step = take_step c r.octets s in
+      let a = laws.answers.dm c r.octets s (up_is s.phase h.up) true r.reads in
+      let v : Stations = after_step c w r.others [] step in
+      let same : acts c Deliver w ≡ v = ap (λ (os : List (List ℕ)). delivered c os w) r.is in
+      subst (Leaves c d) (sym same) (inr (inr (record {
+        off = ap (λ (z : Station). is_up z.phase) a.0;
+        gone = h.gone;
+        out = ap (λ (fs : List PlainFrame). w.out ++ map (spelling_of c.role) fs) a.1 ∙ ap (λ (os : List (List ℕ)). os ++ []) h.out;
+        back = none_reads (other c.role) c.longest r.others r.rest;
+      })))
+
+  near_none : (w : Stations) → w.back ≡ [] → Leaves c d w → Leaves c d (acts c Deliver w)
+  near_none w none h = subst (λ (os : List (List ℕ)). Leaves c d (delivered c os w)) (sym none) h
+
+  far_none : (w : Stations) → w.out ≡ [] → Leaves c d w → Leaves c d (swapped (acts d Deliver (swapped w)))
+  far_none w none h = subst (λ (os : List (List ℕ)). Leaves c d (swapped (delivered d os (swapped w)))) (sym none) h
+
+  near_goes : (w : Stations) → Leaves c d w → Leaves c d (acts c Deliver w)
+  near_goes w (inl h) = near_none w h.back (inl h)
+  near_goes w (inr (inl h)) = leaves w h
+  near_goes w (inr (inr h)) = near_none w h.back (inr (inr h))
+
+  far_goes : (w : Stations) → Leaves c d w → Leaves c d (swapped (acts d Deliver (swapped w)))
+  far_goes w (inl h) = declines w h
+  far_goes w (inr (inl h)) = far_none w h.out (inr (inl h))
+  far_goes w (inr (inr h)) = far_none w h.out (inr (inr h))
+
+  near_act : (a : Act) (w : Stations) → IsDeliver a → Leaves c d w → Leaves c d (acts c a w)
+  near_act (Put packet) w is h = absurd is
+  near_act Deliver w is h = near_goes w h
+  near_act T1 w is h = absurd is
+  near_act Connect w is h = absurd is
+  near_act Disconnect w is h = absurd is
+  near_act Abandon w is h = absurd is
+  near_act (Lose i) w is h = absurd is
+  near_act (Damage i octets) w is h = absurd is
+
+  far_act : (a : Act) (w : Stations) → IsDeliver a → Leaves c d w → Leaves c d (swapped (acts d a (swapped w)))
+  far_act (Put packet) w is h = absurd is
+  far_act Deliver w is h = far_goes w h
+  far_act T1 w is h = absurd is
+  far_act Connect w is h = absurd is
+  far_act Disconnect w is h = absurd is
+  far_act Abandon w is h = absurd is
+  far_act (Lose i) w is h = absurd is
+  far_act (Damage i octets) w is h = absurd is
+
+  pub all_go : (es : List Event) (w : Stations) → AreDeliveries es → Leaves c d w → Leaves c d (run c d es w)
+  all_go [] w are h = h
+  all_go (Near a ∷ es) w are h = all_go es (acts c a w) are.1 (near_act a w are.0 h)
+  all_go (Far a ∷ es) w are h = all_go es (swapped (acts d a (swapped w))) are.1 (far_act a w are.0 h)
+
+  one_frame : (f : PlainFrame) {A : Type 0} → f ∷ [] ≡ [] → A
+  one_frame f e = absurd (omega (arith, ap length e))
+
+  pub is_gone : (v : Stations) → Leaves c d v → IsOut v.far.station.phase
+  is_gone v (inl h) = h.gone
+  is_gone v (inr (inl h)) = h.gone
+  is_gone v (inr (inr h)) = h.gone
+
+  pub has_left : (v : Stations) → IsDrained v → Leaves c d v → is_up v.near.station.phase ≡ false
+  has_left v drained (inl h) = one_frame _ (reads_none (other d.role) d.longest v.out (rr true h.number true ∷ []) h.out drained.out)
+  has_left v drained (inr (inl h)) = one_frame _ (reads_none (other c.role) c.longest v.back (dm true ∷ []) h.back drained.back)
+  has_left v drained (inr (inr h)) = h.off
+
+pub gone_ends : ReadsSpelled → HealingLaws → GoneEnds
+gone_ends reads laws c d joined events quiet may running gone es are after =
+    let w : Stations = run c d events start in
+    let v : Stations = acts c T1 w in
+    let drained = quiet.drained in
+    let f = fires c d joined reads laws w (reached_sound laws reads c d joined events quiet.once) drained.out may.up may.free running (may.tries running) in
+    let begun : Leaves c d v = inl (record { number = f.number; up = f.up; gone = subst (λ (e : StationEnd). IsOut e.station.phase) (sym f.far) gone; out = f.out; back = f.back ∙ drained.back }) in
+    has_left c d joined reads laws (run c d es v) after (all_go c d joined reads laws es v are begun)
