@@ -1,6 +1,6 @@
 -- The packet layers of both ends, as the frames of the link and their RESTARTs show them, and the rules on these.
 -- ITU-T X.25 (10/96), section 3.3. When packets are judged, and what is said behind a fault, is profile.
-use Rattle.std.specs.Prelude.{ℕ, ◌+◌, ◌-◌, ◌%◌, ◌==◌, nat_lt, Bool, true, false, not, ◌&&◌, ◌||◌, if◌then◌else◌, min, Option, Some, None}
+use Rattle.std.specs.Prelude.{ℕ, ◌+◌, ◌-◌, ◌%◌, ◌==◌, nat_lt, Bool, true, false, not, ◌&&◌, ◌||◌, if◌then◌else◌, min, Some}
 use Rattle.x25_judge.specs.PacketRule.{first}
 use Rattle.x25_judge.specs.Way.{apart}
 use Rattle.x25_judge.specs.declared.layer.Restart.{Restart}

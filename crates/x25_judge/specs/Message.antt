@@ -1,6 +1,6 @@
 -- M, Q and the length of the data packets of one end on a channel, and the rules on them.
 -- ITU-T X.25 (10/96), sections 4.3.2 and 4.3.4 to 4.3.6.
-use Rattle.std.specs.Prelude.{ℕ, ◌==◌, nat_lt, Bool, true, false, not, ◌&&◌, if◌then◌else◌, Option, Some, None}
+use Rattle.std.specs.Prelude.{ℕ, ◌==◌, nat_lt, Bool, false, not, ◌&&◌, if◌then◌else◌, Option, Some, None}
 use Rattle.x25_judge.specs.declared.message.Message.{Message}
 use Rattle.x25_judge.specs.declared.message.Message.TheVariants.{Ended, Plain, Qualified}
 use Rattle.x25_judge.specs.declared.packet_rule.PacketRule.{PacketRule}

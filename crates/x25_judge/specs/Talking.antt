@@ -1,12 +1,11 @@
 -- Both ends of a logical channel: data, interrupts and resets, and the rules on them. ITU-T X.25 (10/96), sections 4.3 and 4.4; what
 -- is said behind a fault is profile.
-use Rattle.std.specs.Prelude.{ℕ, ◌==◌, nat_lt, Bool, true, false, not, ◌&&◌, if◌then◌else◌, Option, Some, None}
+use Rattle.std.specs.Prelude.{ℕ, ◌==◌, nat_lt, Bool, true, false, not, ◌&&◌, if◌then◌else◌, Some}
 use Rattle.x25_judge.specs.Flow.{heard, sent}
 use Rattle.x25_judge.specs.Message.{after, broken}
 use Rattle.x25_judge.specs.Pair.{with_own, with_other, tells, unknown, is_matched}
 use Rattle.x25_judge.specs.Port as port
 use Rattle.x25_judge.specs.declared.flow.FlowTold.{FlowTold}
-use Rattle.x25_judge.specs.declared.packet_rule.PacketRule.{PacketRule}
 use Rattle.x25_judge.specs.declared.packet_rule.PacketRule.TheVariants.{ResetAwaited, ResetUnasked, InterruptAgain, InterruptUnasked}
 use Rattle.x25_judge.specs.declared.pair.Pair.{Pair}
 use Rattle.x25_judge.specs.declared.port.Talk.{Talk}
