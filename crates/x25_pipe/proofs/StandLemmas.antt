@@ -1,5 +1,5 @@
 -- How it stands after a turn.
-use Rattle.std.proofs.Common.{◌≡◌, ◌≢◌, ◌∙◌, ℕ, Bool, true, false, List, [], ◌∷◌, ◌++◌, map, Option, Result, Ok, Err, IfOk, ap, ap₂, sym, subst, refl, inl, inr}
+use Rattle.std.proofs.Common.{◌≡◌, ◌≢◌, ◌∙◌, ℕ, Bool, true, false, List, [], ◌∷◌, ◌++◌, length, map, arith, Option, Result, Ok, Err, IfOk, ap, ap₂, sym, subst, refl, inl, inr}
 use Rattle.std.specs.Prelude.{◌||◌}
 use Rattle.std.proofs.lemmas.List.{append-nil, map-append}
 use Rattle.std.proofs.Math.Bool.{or-false, or-true}
@@ -130,6 +130,10 @@ is_step c v step P f (Did plain) h = f plain h
 is_step c v step P f (Refused e) h = absurd h.accepted
 
 -- ---- what is pulled behind it
+
+pub empty : {T : Type 0} (xs : List T) → length xs ≡ 0 → xs ≡ []
+empty [] none = refl
+empty (x ∷ xs) none = absurd (omega (arith, none))
 
 ok_err : {T U : Type 0} (u : T) (e : U) → (let x : Result T U = Ok u in x ≡ Err e) → ⊥
 ok_err u e is = cc
