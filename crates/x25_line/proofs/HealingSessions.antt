@@ -8,6 +8,7 @@ use Rattle.x25_link.specs.RestLaw.{HasSaidAll, IsAtRest}
 use Rattle.x25_line.specs.Stations.{StationEnd, Stations, Event, start}
 use Rattle.x25_line.specs.StationClaims.{AreJoined}
 use Rattle.x25_line.specs.Sessions.{Sessions, run, from_nothing, from_set_up, swapped}
+use Rattle.x25_line.specs.SessionNumbers.{Standing}
 use Rattle.x25_line.specs.SessionClaims.{Throughout, IsEndOf, AreStationsOf}
 use Rattle.x25_line.specs.Healing.{EachRestShows}
 use Rattle.x25_line.proofs.StationRuns.{joined_swapped}
@@ -52,7 +53,7 @@ module _ (laws : HealingLaws) where
       subst (λ (b : Sessions). let w = run c d events b in HasSaidAll c.window w.near.station × HasSaidAll d.window w.far.station) (sym is)
       (said_in c d joined from_set_up start set_up_is_the_start (fresh_said laws c.window, fresh_said laws d.window) events)
 
-  rests_near : (c d : Settings) → AreJoined c d → (w : Sessions) → Held c d w → HasSaidAll c.window w.near.station → is_up w.near.station.phase ≡ true
+  rests_near : {stand : Standing} (c d : Settings) → AreJoined c d → (w : Sessions) → Held stand c d w → HasSaidAll c.window w.near.station → is_up w.near.station.phase ≡ true
       → timer_runs w.near.station.phase w.near.station ≡ false → IsAtRest w.near.station
   rests_near c d joined w h said up stopped =
       let i = in_session c d w h up in
@@ -63,7 +64,7 @@ module _ (reads : ReadsSpelled) (laws : HealingLaws) where
   each_rest_shows c d joined begin is events timely =
       let w = run c d events begin in
       let rests : SessionLaws = record { laws = laws.laws; continues = laws.continues } in
-      let h = throughout reads rests c d joined begin is events timely in
+      let h = (throughout reads rests c d joined begin is events timely).1 in
       let said = said_from laws c d joined begin is events in
       let arrived = idle_has_arrived reads rests c d joined begin is events timely in
       record {
