@@ -2,6 +2,4 @@
 #![tactic(auto)]
 
 #[cfg(test)]
-mod packet_rules;
-#[cfg(test)]
 mod rules;
