@@ -92,7 +92,11 @@ fn message(end: Role, user: &'static [u8]) -> Event<'static> {
 }
 
 /// Plays what a script says.
-pub(crate) fn plays<E: Ends>(ends: &mut E, script: &Script, book: &mut Book) -> Result<(), Trouble> {
+pub(crate) fn plays<E: Ends>(
+    ends: &mut E,
+    script: &Script,
+    book: &mut Book,
+) -> Result<(), Trouble> {
     for act in script.acts {
         match *act {
             Act::Do(event) => plays_event(ends, event, book)?,

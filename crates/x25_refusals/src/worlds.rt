@@ -71,7 +71,11 @@ impl Worlds {
     }
 
     /// A world whose link is up. One that is refused memory is made again.
-    pub(crate) fn establish(alloc: Global, cfg: Cfg, counts: &mut Counts) -> Result<Worlds, Trouble> {
+    pub(crate) fn establish(
+        alloc: Global,
+        cfg: Cfg,
+        counts: &mut Counts,
+    ) -> Result<Worlds, Trouble> {
         match established(alloc, cfg, counts) {
             Ok(world) => Ok(Worlds::of(alloc, world)?),
             Err(_) => Err(Trouble::NoMemory),
