@@ -3,7 +3,8 @@
     judge_runs.py [--program PROGRAM] [--from SEED] [RUNS]
 
 Each run is a script of losses.py with its own losses, damage, early firings of T1, window and N2, some of them from both links down
-and with set-ups anew in their midst, and most with more calls, resets and restarts and with packet sizes and windows; what `sim --tap` puts on the line goes through `judge`. `make judge-runs` plays 10,000.
+and with set-ups anew in their midst, and most with more calls, resets and restarts and with packet sizes and windows; what `sim --tap`
+puts on the line goes through `judge`, whole, and again from a frame in its midst on. `make judge-runs` plays 10,000. Notes tell of no rule.
 
 Exit status: 0; 1 where a rule was told, with the seed of that run; 2 for bad words, or where there is no program.
 """
@@ -79,17 +80,24 @@ def run(seed):
     return words, ["--k", window], "".join(line + "\n" for line in lines).encode()
 
 
-def told(program, seed):
-    """The lines of a run that tell of a rule, and how many frames it has."""
-    words, judge_words, script = run(seed)
-    tap = subprocess.run([program, "sim", *words], input=script, stdout=subprocess.PIPE).stdout
-    frames = b"".join(line for line in tap.splitlines(True) if line[:2] in (b"> ", b"< "))
-    done = subprocess.run([program, "judge", *judge_words], input=frames, stdout=subprocess.PIPE)
+def judged(program, words, frames):
+    """The lines of a trace that tell of a rule, and how many frames it has."""
+    done = subprocess.run([program, "judge", *words], input=b"".join(frames), stdout=subprocess.PIPE)
     lines = done.stdout.splitlines()
     at_fault = [line for line in lines if b" ! " in line or line == b"? 60"]
     if done.returncode != 0 and not at_fault:
         at_fault = [f"judge ended with status {done.returncode}".encode()]
     return at_fault, len(lines)
+
+
+def told(program, seed):
+    """The lines of a run that tell of a rule, whole or from a frame in its midst on, and how many frames the whole run has."""
+    words, judge_words, script = run(seed)
+    tap = subprocess.run([program, "sim", *words], input=script, stdout=subprocess.PIPE).stdout
+    frames = [line for line in tap.splitlines(True) if line[:2] in (b"> ", b"< ")]
+    at_fault, count = judged(program, judge_words, frames)
+    midst = losses.Dice(seed).below(len(frames) + 1)
+    return at_fault + judged(program, judge_words, frames[midst:])[0], count
 
 
 def main():

@@ -90,7 +90,7 @@ class Judge:
             decoder.__exit__()
 
     def text(self, frame, connection=None):
-        """The text of a frame line, and behind ` ! ` the end and the rule that it breaks."""
+        """The text of a frame line, and behind ` ! ` the end and the rule that it breaks, or behind ` ~ ` what is noted."""
         if connection is not None and connection.is_made_up:
             return self._decoder.text(frame)
         number = 1 if connection is None else connection.number

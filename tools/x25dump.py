@@ -15,7 +15,7 @@ aren't shown, their packets are.
   --messages  shows what the ends' users sent: data packets joined by M, and interrupts, as hexadecimal digits and text. Each comes
               once, though its frame be repeated
   --stats     writes at the end how many frames, packets and octets of data went each way, and how many I frames came out of order or again
-  --judge     says behind a frame which end broke which rule of the link or the packet layer with it (`x25 judge`), of each connection by itself; --k
+  --judge     says behind a frame which end broke which rule of the link or the packet layer with it, and what may be noted (`x25 judge`), of each connection by itself; --k
               is the window. Not of frames that were made up around packets, nor of lines of `x25 decode`
   --channel   shows the packets of a channel alone; 0 is that of RESTART. With --stats it counts them
 
@@ -47,8 +47,8 @@ RED, BLUE, GREEN, GREY, PLAIN = "\x1b[31m", "\x1b[34m", "\x1b[32m", "\x1b[90m", 
 CHANNEL = re.compile(r" ch=(\d+)")
 RESTARTS = re.compile(r"\| RESTART|^restart")
 A_ROW = 16
-# What stands before the end and the rule that it breaks.
-RULE = " ! "
+# What stands before the end and the rule that it breaks, and before what is noted.
+RULE, NOTE = " ! ", " ~ "
 # The kinds of frames and packets in the order of a statistic.
 FRAMES = ("I", "RR", "RNR", "REJ", "SABM", "DISC", "UA", "DM", "FRMR", "fault")
 
@@ -141,11 +141,11 @@ class Lines:
     def _text(self, it):
         if it.direction == "":
             return self._paint(RED, f"{it.text} {x25names.refusal(it.text)}".rstrip())
-        whole, mark, rule = it.text.partition(RULE)
+        whole, mark, remark = it.text.partition(RULE if RULE in it.text else NOTE)
         said = x25names.words(whole)
         text = whole.partition(" | ")[2] if it.is_made_up else whole
         colour = RED if "fault" in text or text.startswith("FRMR") else {">": BLUE, "<": GREEN}.get(it.direction, PLAIN)
-        return self._paint(colour, f"{it.direction} {text}") + (self._paint(GREY, f"  ({said})") if said else "") + (self._paint(RED, mark + rule) if mark else "")
+        return self._paint(colour, f"{it.direction} {text}") + (self._paint(GREY, f"  ({said})") if said else "") + (self._paint(RED if mark == RULE else GREY, mark + remark) if mark else "")
 
     def end(self):
         """Nothing is left at the end."""

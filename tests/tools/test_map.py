@@ -15,6 +15,7 @@ import support
 CRATES = os.path.join(support.ROOT, "crates")
 HEAD = "| Rule | Code | Definition | Proof | Wrong bodies |"
 WRONG_BODIES = 4
+FOLDERS_OF_PROOFS = ("rows", "sessions", "sessions/acts", "sessions/claims")
 
 
 def rows():
@@ -46,13 +47,21 @@ def stands_for(crate, place, word):
         return glob(os.path.join(CRATES, crate, "src", "**", word.rpartition("src/")[2]), recursive=True)
     if "/" in word:
         return glob(os.path.join(CRATES, crate, word)) + glob(os.path.join(CRATES, crate, f"{word}.antt"))
-    return glob(os.path.join(CRATES, crate, "specs", f"{word}.antt")) + glob(os.path.join(CRATES, crate, "proofs", f"{word}.antt"))
+    return antt_files(crate, word)
+
+
+def antt_files(crate, name):
+    """The definitions of a crate, and those of its proofs that aren't those of one function, by their names."""
+    folders = ("specs", "specs/*", "proofs", *(f"proofs/{folder}" for folder in FOLDERS_OF_PROOFS))
+    return [file for folder in folders for file in glob(os.path.join(CRATES, crate, folder, f"{name}.antt"))]
 
 
 def files(crate):
-    """The files of a crate that a reader looks for: sources, definitions, and proofs that aren't those of one function."""
-    found = glob(os.path.join(CRATES, crate, "src", "**", "*.rt"), recursive=True)
-    found += glob(os.path.join(CRATES, crate, "specs", "*.antt")) + glob(os.path.join(CRATES, crate, "proofs", "*.antt"))
+    """The files of a crate that a reader looks for: sources, definitions, and proofs that aren't those of one function.
+
+    The files that only name what a folder holds are left out.
+    """
+    found = set(glob(os.path.join(CRATES, crate, "src", "**", "*.rt"), recursive=True)) | set(antt_files(crate, "[A-Z]*"))
     return {path for path in found if os.path.basename(path) not in ("lib.rt", "main.rt", "Lib.antt")}
 
 

@@ -5,16 +5,16 @@ use Rattle.x25_bits.specs.declared.role.Role.{Role}
 use Rattle.x25_bits.specs.declared.role.Role.TheVariants as role
 use Rattle.x25_bit_line.specs.Deframed.{deframed}
 use Rattle.x25_bit_line.specs.Framed.{frame_status, framed_octets}
-use Rattle.x25_bit_line.specs.Frames.{WritesFrames}
-use Rattle.x25_bit_line.specs.Reads.{WritesRead}
+use Rattle.x25_bit_line.specs.code.Frames.{WritesFrames}
+use Rattle.x25_bit_line.specs.code.Reads.{WritesRead}
 use Rattle.x25_judge.specs.Judged as judge
-use Rattle.x25_judge.specs.Stream as judging
+use Rattle.x25_judge.specs.code.Stream as judging
 use Rattle.x25_pipe.specs.Piped.{piped, station_text, station_status}
-use Rattle.x25_pipe.specs.Stream as pipe
+use Rattle.x25_pipe.specs.code.Stream as pipe
 use Rattle.x25_decode.specs.Decoded as decode
-use Rattle.x25_decode.specs.Stream as decoder
+use Rattle.x25_decode.specs.code.Stream as decoder
 use Rattle.x25_decode.specs.Vectors.{verdicts, are_right}
-use Rattle.x25_io.specs.Written.{AppendsBeginning}
+use Rattle.x25_io.specs.code.Written.{AppendsPrefix}
 use Rattle.x25_settings.specs.declared.options.End.{End}
 use Rattle.x25_settings.specs.declared.options.End.TheVariants.{Dte, Dce}
 use Rattle.x25_settings.specs.declared.options.Place.{Place}
@@ -24,9 +24,9 @@ use Rattle.x25_settings.specs.declared.words.Task.TheVariants.{Decode, Vectors, 
 use Rattle.x25_station.specs.declared.config.Cfg.{Cfg}
 use Rattle.x25_station.specs.Settings.{settings_from}
 use Rattle.x25_sim.specs.Simulated.{simulated, sim_text, sim_status}
-use Rattle.x25_sim.specs.Stream as simulator
-use Rattle.x25_sim.specs.WritesRun as written
-use Rattle.x25_world.specs.Claims.{IsUpOnce}
+use Rattle.x25_sim.specs.code.Stream as simulator
+use Rattle.x25_sim.specs.laws.WritesRun as written
+use Rattle.x25_world.specs.laws.Claims.{IsUpOnce}
 use Rattle.x25_world.specs.World.{World}
 
 -- the settings of both stations
@@ -135,7 +135,7 @@ IsDone task status input old now = (status ≤ 1) × IfSome input (λ input. len
 -- .. or a fault ended it: the status is 3, and what is written a beginning of that text.
 abbrev pub IsCutShort : Task → ℕ → Option (List ℕ) → Option (List ℕ) → Option (List ℕ) → Type 0
 IsCutShort task status input old now = (status ≡ 3) × IfSome input (λ input. length input < 2 ^ 64 - 1
-    → AppendsBeginning old now (task_text task input))
+    → AppendsPrefix old now (task_text task input))
 
 abbrev pub Ends : Task → ℕ → Option (List ℕ) → Option (List ℕ) → Option (List ℕ) → Type 0
 Ends task status input old now = IsDone task status input old now ⊎ IsCutShort task status input old now

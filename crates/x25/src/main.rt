@@ -27,7 +27,7 @@ use x25_settings::{SettingsError, Task, settings};
 /// The exit status of a usage fault.
 const USAGE: u8 = 2;
 
-/// Tells a fault on standard error, and answers its exit status. Where standard error fails too, nothing is told.
+/// Reports a fault on standard error, and answers its exit status. Where standard error fails too, nothing is reported.
 fn report<E: Eprint>(rt: &E, fault: Fault) -> u8
     ensures { result ≡ 3 }
 {
@@ -35,7 +35,7 @@ fn report<E: Eprint>(rt: &E, fault: Fault) -> u8
     exit_status(&Err(fault))
 }
 
-/// The exit status of a run. A fault is told on standard error, but where nobody reads any more what is written.
+/// The exit status of a run. A fault is reported on standard error, but where nobody reads any more what is written.
 fn conclude<E: Eprint>(rt: &E, run: Result<u8, Fault>, is_closed: bool) -> u8
     ensures answered { IfOk run (λ status. result ≡ status) }
     ensures fault { OnErr run (result ≡ 3) }

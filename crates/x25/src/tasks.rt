@@ -2,12 +2,12 @@
 ghost use Rattle.std.specs.Prelude.{◌≡◌, ◌≤◌, ◌<◌, ◌-◌, ◌^◌, ℕ, true, List, Some, IfOk, OnOk, OnErr, IfSome, IsErrOf, length};
 ghost use Rattle.std.specs.Io.KnownBytes.{Appends};
 ghost use Rattle.x25.specs.Tasks.{OfScript, WritesEnded, WritesEndedLines, WritesEndedScript, WritesScript, WritesScriptOnce, WritesScriptSetUp, cfg_in, is_plain, lines_status, lines_text, role_in, script_status, script_text, settings_in, task_status, task_text};
-ghost use Rattle.x25_io.specs.Written.{AppendsBeginning};
+ghost use Rattle.x25_io.specs.code.Written.{AppendsPrefix};
 ghost use Rattle.x25_settings.specs.Simulation as options;
 ghost use Rattle.x25_settings.specs.Words.{AreInRange};
-ghost use Rattle.x25_world.specs.Claims.{ArrivesAll, HasNoProcedureError, IsLawful, IsNamed};
+ghost use Rattle.x25_world.specs.laws.Claims.{ArrivesAll, HasNoProcedureError, IsLawful, IsNamed};
 ghost use Rattle.x25_world.specs.WindowGoes.{IsInWindow};
-ghost use Rattle.x25_world.specs.SessionClaims.{SessionsKeepOrder};
+ghost use Rattle.x25_world.specs.laws.SessionClaims.{SessionsKeepOrder};
 
 use std::alloc::Global;
 use x25_bit_line::{deframe, frame};
@@ -67,7 +67,7 @@ fn answer_lines<R: Source, W: Sink>(
     ensures status { IfOk result (λ status. IfSome (R.remaining reader.old) (λ input. length input < 2 ^ 64 - 1
         → status ≡ lines_status place input)) }
     ensures fault { OnErr result (IfSome (R.remaining reader.old) (λ input. length input < 2 ^ 64 - 1
-        → AppendsBeginning (W.contents writer.old) (W.contents writer.new) (lines_text place input))) }
+        → AppendsPrefix (W.contents writer.old) (W.contents writer.new) (lines_text place input))) }
     ensures ended { IsErrOf result Fault.Read → IfSome (R.remaining reader.old) (λ input.
         (rest : List ℕ) × (R.remaining reader.new ≡ Some rest)
         × WritesEndedLines place (W.contents writer.old) (W.contents writer.new) rest input) }
@@ -110,7 +110,7 @@ fn simulate<R: Source, W: Sink>(
         → WritesScript SessionsKeepOrder simulation script (W.contents writer.old) (W.contents writer.new))) }
 
     ensures fault { OnErr result (IfSome (R.remaining reader.old) (λ script. length script < 2 ^ 64 - 1
-        → AppendsBeginning (W.contents writer.old) (W.contents writer.new) (script_text simulation script))) }
+        → AppendsPrefix (W.contents writer.old) (W.contents writer.new) (script_text simulation script))) }
     ensures ended { IsErrOf result Fault.Read → IfSome (R.remaining reader.old) (λ script.
         (rest : List ℕ) × (R.remaining reader.new ≡ Some rest)
         × WritesEndedScript simulation (W.contents writer.old) (W.contents writer.new) rest script) }
@@ -157,7 +157,7 @@ pub(crate) fn perform<R: Source, W: Sink>(
 
     // What was written before a fault is a beginning of it.
     ensures fault { OnErr result (IfSome (R.remaining reader.old) (λ input. length input < 2 ^ 64 - 1
-        → AppendsBeginning (W.contents writer.old) (W.contents writer.new) (task_text task input))) }
+        → AppendsPrefix (W.contents writer.old) (W.contents writer.new) (task_text task input))) }
     // At a failed read all that the lines that had ended gave is written.
     ensures ended { IsErrOf result Fault.Read → IfSome (R.remaining reader.old) (λ input.
         (rest : List ℕ) × (R.remaining reader.new ≡ Some rest)

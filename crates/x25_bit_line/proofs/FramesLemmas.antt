@@ -7,12 +7,12 @@ use Rattle.std.proofs.Math.Bool.{or_assoc, or-false}
 use Rattle.x25_bits.specs.SpanClass.{octets_by, octets_of}
 use Rattle.x25_bits.specs.Stuffing.{filled}
 use Rattle.x25_io.specs.HeldLine.{HoldsLine}
-use Rattle.x25_io.specs.Written.{AppendsBeginning, Tells}
-use Rattle.x25_io.proofs.ToldLemmas.{beginning_more, none_told}
+use Rattle.x25_io.specs.code.Written.{AppendsPrefix, Tells}
+use Rattle.x25_io.proofs.ToldLemmas.{prefix_more, none_told}
 use Rattle.x25_io.specs.Lines.{IsOpen}
 use Rattle.x25_bit_line.specs.Framed.{framed_bits, has_wrong, is_wrong, line_bits}
 use Rattle.x25_bit_line.specs.Sending.{Sends}
-use Rattle.x25_bit_line.specs.Frames.{FramesOn, Leads, WritesFrames}
+use Rattle.x25_bit_line.specs.code.Frames.{FramesOn, Leads, WritesFrames}
 use Rattle.x25_bit_line.specs.declared.frame_sender.FrameSender.{FrameSender}
 use Rattle.x25_bit_line.specs.declared.framer.Framer.{Framer}
 use Rattle.x25_bit_line.specs.declared.line_bits.LineBits.{LineBits}
@@ -61,9 +61,9 @@ module _ (old now next : Option (List ℕ)) (all : List Bool) (any : Bool) where
   }
 
   line_lost : (s : Framer) (text rest : List ℕ) (l : Leads old now s text all any) → GoesOn (l.begun ++ text) l.begun rest
-      → ((behind : List Bool) → AppendsBeginning old next (octets_of (filled ((l.bits ++ line_bits l.begun) ++ behind)))) → AppendsBeginning old next (octets_of (filled all))
+      → ((behind : List Bool) → AppendsPrefix old next (octets_of (filled ((l.bits ++ line_bits l.begun) ++ behind)))) → AppendsPrefix old next (octets_of (filled all))
   line_lost s text rest l on b =
-      subst (λ bits. AppendsBeginning old next (octets_of (filled bits)))
+      subst (λ bits. AppendsPrefix old next (octets_of (filled bits)))
       (append_assoc l.bits (line_bits l.begun) (framed_bits rest) ∙ ap (λ b. l.bits ++ b) (sym (bits_on (l.begun ++ text) l.begun rest on)) ∙ l.same) (b (framed_bits rest))
 
   pub line_done : (s u : Framer) (rest : List ℕ) (l : Leads old now s (10 ∷ rest) all any) → HoldsLine [] u.held
@@ -71,7 +71,7 @@ module _ (old now next : Option (List ℕ)) (all : List Bool) (any : Bool) where
   line_done s u rest l = line_gone s u (10 ∷ rest) rest l (line_ended l.begun rest l.is_open)
 
   pub line_failed : (s : Framer) (rest : List ℕ) (l : Leads old now s (10 ∷ rest) all any)
-      → ((behind : List Bool) → AppendsBeginning old next (octets_of (filled ((l.bits ++ line_bits l.begun) ++ behind)))) → AppendsBeginning old next (octets_of (filled all))
+      → ((behind : List Bool) → AppendsPrefix old next (octets_of (filled ((l.bits ++ line_bits l.begun) ++ behind)))) → AppendsPrefix old next (octets_of (filled all))
   line_failed s rest l = line_lost s (10 ∷ rest) rest l (line_ended l.begun rest l.is_open)
 
   -- the last line, without a line feed
@@ -80,7 +80,7 @@ module _ (old now next : Option (List ℕ)) (all : List Bool) (any : Bool) where
   last_done s u l some = line_gone s u [] [] l (text_ended l.begun l.is_open some)
 
   pub last_failed : (s : Framer) (l : Leads old now s [] all any) → (l.begun ≡ [] → ⊥)
-      → ((behind : List Bool) → AppendsBeginning old next (octets_of (filled ((l.bits ++ line_bits l.begun) ++ behind)))) → AppendsBeginning old next (octets_of (filled all))
+      → ((behind : List Bool) → AppendsPrefix old next (octets_of (filled ((l.bits ++ line_bits l.begun) ++ behind)))) → AppendsPrefix old next (octets_of (filled all))
   last_failed s l some = line_lost s [] [] l (text_ended l.begun l.is_open some)
 
   -- what waited is written
@@ -102,10 +102,10 @@ module _ (old now next : Option (List ℕ)) (all : List Bool) (any : Bool) where
   }
 
   -- a beginning of what was told is written
-  pub leads_begun : (s : Framer) (rest : List ℕ) (l : Leads old now s rest all any) → AppendsBeginning old next l.sends.told → AppendsBeginning old next (octets_of (filled all))
+  pub leads_begun : (s : Framer) (rest : List ℕ) (l : Leads old now s rest all any) → AppendsPrefix old next l.sends.told → AppendsPrefix old next (octets_of (filled all))
   leads_begun s rest l b =
-      subst (AppendsBeginning old next) (l.sends.same (framed_bits (l.begun ++ rest)) ∙ ap (λ bits. octets_of (filled bits)) l.same)
-      (beginning_more old next l.sends.told (octets_of (filled (s.sender.bits.bits ++ framed_bits (l.begun ++ rest)))) b)
+      subst (AppendsPrefix old next) (l.sends.same (framed_bits (l.begun ++ rest)) ∙ ap (λ bits. octets_of (filled bits)) l.same)
+      (prefix_more old next l.sends.told (octets_of (filled (s.sender.bits.bits ++ framed_bits (l.begun ++ rest)))) b)
 
   -- nothing is left
   pub none_left : (s : Framer) (l : Leads old now s [] all any) → l.begun ≡ [] → (l.bits ≡ all) × (s.sender.is_wrong ≡ any)
@@ -135,7 +135,7 @@ last_gone old now next all any s u l some empty sends wrong = none_left old next
 
 -- all is written
 pub finished : {T E : Type 0} (r : Result T E) (old now : Option (List ℕ)) (bits all : List Bool) (any before after : Bool)
-    → MatchResult r (λ _. Appends old now (octets_of (filled bits))) (λ _. AppendsBeginning old now (octets_of (filled bits))) → bits ≡ all → after ≡ before → before ≡ any
-    → MatchResult r (λ _. Appends old now (octets_of (filled all)) × (after ≡ any)) (λ _. AppendsBeginning old now (octets_of (filled all)))
+    → MatchResult r (λ _. Appends old now (octets_of (filled bits))) (λ _. AppendsPrefix old now (octets_of (filled bits))) → bits ≡ all → after ≡ before → before ≡ any
+    → MatchResult r (λ _. Appends old now (octets_of (filled all)) × (after ≡ any)) (λ _. AppendsPrefix old now (octets_of (filled all)))
 finished (Ok x) old now bits all any before after m e wrong same = (subst (λ l. Appends old now (octets_of (filled l))) e m, wrong ∙ same)
-finished (Err x) old now bits all any before after m e wrong same = subst (λ l. AppendsBeginning old now (octets_of (filled l))) e m
+finished (Err x) old now bits all any before after m e wrong same = subst (λ l. AppendsPrefix old now (octets_of (filled l))) e m

@@ -3,19 +3,19 @@ use Rattle.std.proofs.Common.{◌≡◌, ◌∙◌, ◌+◌, ◌-◌, ◌*◌, �
 use Rattle.std.proofs.lemmas.List.{append-nil, take_all, drop_at, take-append-drop}
 use Rattle.std.proofs.lemmas.Grind.{flat_map-append}
 use Rattle.std.proofs.Math.Seq.{take-add}
-use Rattle.x25_bits.specs.Begins.{Begins}
-use Rattle.x25_bits.specs.Cuts.{found_more}
+use Rattle.x25_bits.specs.Prefix.{IsPrefix}
+use Rattle.x25_bits.specs.laws.Cuts.{found_more}
 use Rattle.x25_bits.specs.Fcs.{bits_of, low_bits}
-use Rattle.x25_bits.specs.Fits.{Fits}
-use Rattle.x25_bits.specs.Reading.{part}
+use Rattle.x25_bits.specs.code.Fits.{Fits}
+use Rattle.x25_bits.specs.code.Reading.{part}
 use Rattle.x25_bits.specs.SpanClass.{Class, found_of}
 use Rattle.x25_bits.specs.Spans.{between, places_below}
 use Rattle.x25_bits.specs.declared.deframer.Deframer.{Deframer}
 use Rattle.x25_bits.specs.declared.role.Role.{Role}
-use Rattle.x25_io.specs.Written.{AppendsBeginning, Tells}
-use Rattle.x25_io.proofs.ToldLemmas.{beginning_more, none_told}
+use Rattle.x25_io.specs.code.Written.{AppendsPrefix, Tells}
+use Rattle.x25_io.proofs.ToldLemmas.{prefix_more, none_told}
 use Rattle.x25_bit_line.specs.Deframed.{class_line, class_lines}
-use Rattle.x25_bit_line.specs.Reads.{Reads, ReadsOn}
+use Rattle.x25_bit_line.specs.code.Reads.{Reads, ReadsOn}
 use Rattle.x25_bit_line.specs.declared.finder.Finder.{Finder}
 
 length-low_bits : (k n : ℕ) → length (low_bits k n) ≡ k
@@ -32,7 +32,7 @@ bits_of-append a b = flat_map-append (low_bits 8) a b
 
 -- what is found stays found
 abbrev pub Stays : Type 0
-Stays = (before more : List Bool) → Begins (found_of before) (found_of (before ++ more))
+Stays = (before more : List Bool) → IsPrefix (found_of before) (found_of (before ++ more))
 
 found_grows : Stays → (before cut : List Bool) → found_of (before ++ cut) ≡ found_of before ++ found_more before cut
 found_grows stays before cut =
@@ -49,10 +49,10 @@ lines_grow stays from before cut classes e =
 
 -- a beginning of the lines so far is one of all
 pub begins_all : Stays → (from : Role) (old now : Option (List ℕ)) (before more : List Bool)
-    → AppendsBeginning old now (class_lines from (found_of before)) → AppendsBeginning old now (class_lines from (found_of (before ++ more)))
+    → AppendsPrefix old now (class_lines from (found_of before)) → AppendsPrefix old now (class_lines from (found_of (before ++ more)))
 begins_all stays from old now before more b =
-    subst (AppendsBeginning old now) (lines_grow stays from before more (found_more before more) refl)
-    (beginning_more old now (class_lines from (found_of before)) (class_lines from (found_more before more)) b)
+    subst (AppendsPrefix old now) (lines_grow stays from before more (found_more before more) refl)
+    (prefix_more old now (class_lines from (found_of before)) (class_lines from (found_more before more)) b)
 
 module _ (stays : Stays) (from : Role) (old now : Option (List ℕ)) (before : List Bool) where
   -- a span is told
@@ -62,15 +62,15 @@ module _ (stays : Stays) (from : Role) (old now : Option (List ℕ)) (before : L
 
   -- a span wasn't told whole
   pub told_part : (at place : ℕ) (bits : List Bool) (classes : List Class) → classes ≡ found_more before (part at place bits)
-      → AppendsBeginning old now (class_lines from (found_of before) ++ class_lines from classes)
-      → AppendsBeginning old now (class_lines from (found_of (before ++ drop at bits)))
+      → AppendsPrefix old now (class_lines from (found_of before) ++ class_lines from classes)
+      → AppendsPrefix old now (class_lines from (found_of (before ++ drop at bits)))
   told_part at place bits classes e b =
       let cut = part at place bits in
       let whole : (before ++ cut) ++ drop (place - at) (drop at bits) ≡ before ++ drop at bits =
       append_assoc before cut (drop (place - at) (drop at bits)) ∙ ap (λ l. before ++ l) (take-append-drop (place - at) (drop at bits)) in
-      subst (λ l. AppendsBeginning old now (class_lines from (found_of l))) whole
+      subst (λ l. AppendsPrefix old now (class_lines from (found_of l))) whole
       (begins_all stays from old now (before ++ cut) (drop (place - at) (drop at bits))
-      (subst (AppendsBeginning old now) (lines_grow stays from before cut classes e) b))
+      (subst (AppendsPrefix old now) (lines_grow stays from before cut classes e) b))
 
 -- one cut behind another
 next_place : (before bits : List Bool) (at place : ℕ) → at ≤ place → (before ++ take at bits) ++ part at place bits ≡ before ++ take place bits
@@ -92,9 +92,9 @@ all_bits before octets at h = let size = length-bits_of octets in ap (λ l. befo
 -- ---- octets that were read
 
 pub read_begun : Stays → (from : Role) (old now : Option (List ℕ)) (done rest input : List ℕ) → done ++ rest ≡ input
-    → AppendsBeginning old now (class_lines from (found_of (bits_of done))) → AppendsBeginning old now (class_lines from (found_of (bits_of input)))
+    → AppendsPrefix old now (class_lines from (found_of (bits_of done))) → AppendsPrefix old now (class_lines from (found_of (bits_of input)))
 read_begun stays from old now done rest input e b =
-    subst (λ bits. AppendsBeginning old now (class_lines from (found_of bits))) (sym (bits_of-append done rest) ∙ ap bits_of e)
+    subst (λ bits. AppendsPrefix old now (class_lines from (found_of bits))) (sym (bits_of-append done rest) ∙ ap bits_of e)
     (begins_all stays from old now (bits_of done) (bits_of rest) b)
 
 -- more octets of a piece

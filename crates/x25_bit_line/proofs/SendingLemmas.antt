@@ -5,10 +5,10 @@ use Rattle.std.proofs.lemmas.List.{append-nil, drop_at, drop-drop, take_at, take
 use Rattle.x25_bits.specs.Fcs.{number_of}
 use Rattle.x25_bits.specs.SpanClass.{octets_by, octets_of}
 use Rattle.x25_bits.specs.Stuffing.{filled}
-use Rattle.x25_io.specs.Written.{AppendsBeginning, Tells}
-use Rattle.x25_io.proofs.ToldLemmas.{beginning_more}
+use Rattle.x25_io.specs.code.Written.{AppendsPrefix, Tells}
+use Rattle.x25_io.proofs.ToldLemmas.{prefix_more}
 use Rattle.x25_bit_line.specs.Sending.{behind_octets, Sends, SendsLine}
-use Rattle.x25_bit_line.specs.Telling.{TellsMore}
+use Rattle.x25_bit_line.specs.code.Telling.{TellsMore}
 
 -- the first octet of bits that are filled
 octet_first : (eight rest : List Bool) → length eight ≡ 8 → octets_of (filled (eight ++ rest)) ≡ number_of eight ∷ octets_of (filled rest)
@@ -67,12 +67,12 @@ octets_rest (suc n) (suc m) bits h = let rest = octets_rest n m (drop 8 bits) (o
 
 -- the octet at an index wasn't written whole
 pub octets_lost : (old now : Option (List ℕ)) (told : List ℕ) (n m octet : ℕ) (bits : List Bool) → n < m → octet ≡ number_of (take 8 (drop (8 * n) bits))
-    → AppendsBeginning old now ((told ++ octets_by n bits) ++ octet ∷ []) → AppendsBeginning old now (told ++ octets_by m bits)
+    → AppendsPrefix old now ((told ++ octets_by n bits) ++ octet ∷ []) → AppendsPrefix old now (told ++ octets_by m bits)
 octets_lost old now told n m octet bits h e b =
     let rest = octets_rest (n + 1) m bits (omega arith) in
-    subst (AppendsBeginning old now)
+    subst (AppendsPrefix old now)
     (ap (λ o. ((told ++ octets_by n bits) ++ o ∷ []) ++ rest.0) e ∙ ap (λ l. l ++ rest.0) (octets_told told n bits) ∙ append_assoc told (octets_by (n + 1) bits) rest.0 ∙ ap (λ l. told ++ l) (sym rest.1))
-    (beginning_more old now ((told ++ octets_by n bits) ++ octet ∷ []) rest.0 b)
+    (prefix_more old now ((told ++ octets_by n bits) ++ octet ∷ []) rest.0 b)
 
 few_behind : (bits : List Bool) → length (behind_octets bits) < 8
 few_behind bits = let size = length-drop (8 * (length bits / 8)) bits in omega (arith, size)
@@ -94,8 +94,8 @@ module _ (old now next : Option (List ℕ)) (left : List Bool) (text : List ℕ)
     same = λ m. ap (λ l. (h.told ++ octets_of (left ++ more)) ++ octets_of (filled (l ++ m))) e ∙ sent_so_far m;
   }
 
-  pub sends_failed : AppendsBeginning old next (h.told ++ octets_of (left ++ more)) → (m : List Bool) → AppendsBeginning old next (octets_of (filled ((bits ++ more) ++ m)))
-  sends_failed b m = subst (AppendsBeginning old next) (sent_so_far m) (beginning_more old next (h.told ++ octets_of (left ++ more)) (octets_of (filled (behind_octets (left ++ more) ++ m))) b)
+  pub sends_failed : AppendsPrefix old next (h.told ++ octets_of (left ++ more)) → (m : List Bool) → AppendsPrefix old next (octets_of (filled ((bits ++ more) ++ m)))
+  sends_failed b m = subst (AppendsPrefix old next) (sent_so_far m) (prefix_more old next (h.told ++ octets_of (left ++ more)) (octets_of (filled (behind_octets (left ++ more) ++ m))) b)
 
 -- nothing more is sent
 pub sends_nothing : (old now : Option (List ℕ)) (left : List Bool) (text : List ℕ) (bits more : List Bool) → more ≡ [] → Sends old now left text bits → Sends old now left text (bits ++ more)

@@ -7,8 +7,8 @@ use Rattle.std.proofs.KnownBytes.{Appends-nil}
 use Rattle.std.proofs.lemmas.Grind.{flat_map-append}
 use Rattle.std.proofs.lemmas.List.{append-nil}
 use Rattle.x25_text.specs.OctetText.{octet_text}
-use Rattle.x25_io.specs.Written.{AppendsBeginning, Tells}
-use Rattle.x25_io.proofs.ToldLemmas.{beginning_more}
+use Rattle.x25_io.specs.code.Written.{AppendsPrefix, Tells}
+use Rattle.x25_io.proofs.ToldLemmas.{prefix_more}
 
 -- all that was told is written
 pub told_all : (old now : Option (List ℕ)) (text told : List ℕ) → Tells old now text told → text ≡ [] → Appends old now told
@@ -29,7 +29,7 @@ module _ (old now : Option (List ℕ)) (told : List ℕ) where
       (append_assoc told (flat_map octet_text part) digits ∙ ap (λ t. told ++ (flat_map octet_text part ++ t)) e ∙ ap (λ t. told ++ t) (sym (flat_map-append octet_text part more))) h
 
   pub lost_digits : (octets part left more rest digits : List ℕ) → octets ≡ part ++ left → left ≡ more ++ rest → digits ≡ flat_map octet_text more
-      → AppendsBeginning old now ((told ++ flat_map octet_text part) ++ digits) → AppendsBeginning old now (told ++ flat_map octet_text octets)
+      → AppendsPrefix old now ((told ++ flat_map octet_text part) ++ digits) → AppendsPrefix old now (told ++ flat_map octet_text octets)
   lost_digits octets part left more rest digits e f d b =
       let all : ((told ++ flat_map octet_text part) ++ digits) ++ flat_map octet_text rest ≡ told ++ flat_map octet_text octets =
       append_assoc (told ++ flat_map octet_text part) digits (flat_map octet_text rest)
@@ -39,13 +39,13 @@ module _ (old now : Option (List ℕ)) (told : List ℕ) where
       ∙ ap (λ t. told ++ t) (sym (flat_map-append octet_text part (more ++ rest)))
       ∙ ap (λ l. told ++ flat_map octet_text (part ++ l)) (sym f)
       ∙ ap (λ l. told ++ flat_map octet_text l) (sym e) in
-      subst (AppendsBeginning old now) all (beginning_more old now ((told ++ flat_map octet_text part) ++ digits) (flat_map octet_text rest) b)
+      subst (AppendsPrefix old now) all (prefix_more old now ((told ++ flat_map octet_text part) ++ digits) (flat_map octet_text rest) b)
 
   pub all_digits : (text octets part left : List ℕ) → octets ≡ part ++ left → left ≡ [] → Tells old now text (told ++ flat_map octet_text part) → Tells old now text (told ++ flat_map octet_text octets)
   all_digits text octets part left e none h =
       subst (λ l. Tells old now text (told ++ flat_map octet_text l)) (sym (e ∙ ap (λ l. part ++ l) none ∙ append-nil part)) h
 
 -- nothing is written
-pub nothing_written : (o w : Option (List ℕ)) (K : List ℕ → Type 0) (text : List ℕ → List ℕ) → IfSome o (λ input. K input → AppendsBeginning w w (text input))
+pub nothing_written : (o w : Option (List ℕ)) (K : List ℕ → Type 0) (text : List ℕ → List ℕ) → IfSome o (λ input. K input → AppendsPrefix w w (text input))
 nothing_written None w K text = tt
 nothing_written (Some input) w K text = λ few. ([], text input, refl, Appends-nil w)

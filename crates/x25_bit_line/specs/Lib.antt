@@ -1,7 +1,5 @@
-pub mod Telling
 pub mod Deframed
 pub mod Framed
 pub mod Sending
-pub mod Reads
-pub mod Frames
 pub mod Trace
+pub mod code

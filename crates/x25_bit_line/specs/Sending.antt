@@ -2,7 +2,7 @@
 use Rattle.std.specs.Prelude.{◌≡◌, ◌<◌, ℕ, ◌/◌, ◌*◌, Bool, List, ◌++◌, length, drop, Option, Result, MatchResult}
 use Rattle.x25_bits.specs.SpanClass.{octets_of}
 use Rattle.x25_bits.specs.Stuffing.{filled}
-use Rattle.x25_io.specs.Written.{AppendsBeginning, Tells}
+use Rattle.x25_io.specs.code.Written.{AppendsPrefix, Tells}
 
 -- those that fill no octet
 abbrev pub behind_octets : List Bool → List Bool
@@ -19,4 +19,4 @@ pub record Sends (old now : Option (List ℕ)) (left : List Bool) (text : List �
 abbrev pub SendsLine : {T E : Type 0} → Result T E → Option (List ℕ) → Option (List ℕ) → List Bool → List Bool → List ℕ → List ℕ → List Bool → Type 0
 SendsLine r was now left stays waited waits more = (old : Option (List ℕ)) (bits : List Bool) → Sends old was left waited bits
     → MatchResult r (λ _. Sends old now stays waits (bits ++ more))
-    (λ _. (behind : List Bool) → AppendsBeginning old now (octets_of (filled ((bits ++ more) ++ behind))))
+    (λ _. (behind : List Bool) → AppendsPrefix old now (octets_of (filled ((bits ++ more) ++ behind))))

@@ -1,9 +1,9 @@
 //! A synchronous line answered by lines of a trace.
 ghost use Rattle.std.specs.Prelude.{◌≡◌, ◌<◌, ◌≤◌, ◌-◌, ◌^◌, ℕ, true, List, Some, IfOk, OnOk, OnErr, IfSome, IsErrOf, length};
 ghost use Rattle.std.specs.Io.KnownBytes.{Appends};
-ghost use Rattle.x25_io.specs.Written.{AppendsBeginning};
+ghost use Rattle.x25_io.specs.code.Written.{AppendsPrefix};
 ghost use Rattle.x25_bit_line.specs.Deframed.{deframed};
-ghost use Rattle.x25_bit_line.specs.Reads.{WritesRead};
+ghost use Rattle.x25_bit_line.specs.code.Reads.{WritesRead};
 
 use crate::finder::Finder;
 use crate::span_lines::SpanLines;
@@ -34,7 +34,7 @@ pub fn deframe<R: Source, W: Sink>(
 
     // What was written before a fault is a beginning of it.
     ensures fault { OnErr result (IfSome (R.remaining reader.old) (λ input. length input < 2 ^ 64 - 1
-        → AppendsBeginning (W.contents writer.old) (W.contents writer.new) (deframed from input))) }
+        → AppendsPrefix (W.contents writer.old) (W.contents writer.new) (deframed from input))) }
     // At a failed read the text of all that was read is written.
     ensures ended { IsErrOf result Fault.Read → IfSome (R.remaining reader.old) (λ input.
         (rest : List ℕ) × (R.remaining reader.new ≡ Some rest) × WritesRead from (W.contents writer.old) (W.contents writer.new) rest input) }

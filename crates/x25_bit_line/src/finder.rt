@@ -1,6 +1,6 @@
 //! Octets of a synchronous line, taken in any pieces.
 ghost use Rattle.std.specs.Prelude.{◌≡◌, true};
-ghost use Rattle.x25_bits.specs.Fits.{has_buffer};
+ghost use Rattle.x25_bits.specs.code.Fits.{has_buffer};
 
 use crate::span_lines::SpanLines;
 use crate::spans::take_octets;
@@ -30,7 +30,7 @@ impl TextTaker for Finder {
     ghost use Rattle.std.specs.Prelude.{[]};
     ghost use Rattle.x25_bits.specs.declared.role.Role.{Role as RoleValue};
     ghost use Rattle.x25_bit_line.specs.Deframed.{deframed};
-    ghost use Rattle.x25_bit_line.specs.Reads.{ReadsOn, WritesRead};
+    ghost use Rattle.x25_bit_line.specs.code.Reads.{ReadsOn, WritesRead};
 
     // The end that sends on the line.
     ghost Setting = { RoleValue };

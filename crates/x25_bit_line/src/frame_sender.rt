@@ -33,7 +33,7 @@ impl FrameSender {
     ghost use Rattle.x25_bits.specs.SpanClass.{octets_of};
     ghost use Rattle.x25_bits.specs.Stuffing.{filled};
     ghost use Rattle.x25_io.specs.HeldLine.{most_line};
-    ghost use Rattle.x25_io.specs.Written.{AppendsBeginning, Tells};
+    ghost use Rattle.x25_io.specs.code.Written.{AppendsPrefix, Tells};
     ghost use Rattle.x25_bit_line.specs.Framed.{is_wrong, line_bits};
     ghost use Rattle.x25_bit_line.specs.Sending.{Sends, SendsLine};
 
@@ -56,7 +56,7 @@ impl FrameSender {
     pub(crate) fn flush<W: Sink>(&mut self, writer: &mut W) -> Result<(), Fault>
         ensures kept { OnOk result (W.is_marked writer.new ≡ W.is_marked writer.old) }
         ensures tells { (old : Option (List ℕ)) (told : List ℕ) → Tells old (W.contents writer.old) self.old.output told
-            → MatchResult result (λ _. Tells old (W.contents writer.new) self.new.output told) (λ _. AppendsBeginning old (W.contents writer.new) told) }
+            → MatchResult result (λ _. Tells old (W.contents writer.new) self.new.output told) (λ _. AppendsPrefix old (W.contents writer.new) told) }
         ensures empty { OnOk result (self.new.output ≡ []) }
         ensures bits { self.new.bits ≡ self.old.bits }
         ensures wrong { self.new.is_wrong ≡ self.old.is_wrong }
@@ -116,7 +116,7 @@ impl FrameSender {
     pub(crate) fn finish<W: Sink>(&mut self, writer: &mut W) -> Result<(), Fault>
         ensures kept { OnOk result (W.is_marked writer.new ≡ W.is_marked writer.old) }
         ensures text { (old : Option (List ℕ)) (before : List Bool) → Sends old (W.contents writer.old) self.old.bits.bits self.old.output before
-            → MatchResult result (λ _. Appends old (W.contents writer.new) (octets_of (filled before))) (λ _. AppendsBeginning old (W.contents writer.new) (octets_of (filled before))) }
+            → MatchResult result (λ _. Appends old (W.contents writer.new) (octets_of (filled before))) (λ _. AppendsPrefix old (W.contents writer.new) (octets_of (filled before))) }
         ensures wrong { self.new.is_wrong ≡ self.old.is_wrong }
         ensures write { IsErrOf result Fault.Write → W.is_marked writer.new ≡ true }
         ensures memory { IsErrOf result Fault.NoMemory → W.is_marked writer.new ≡ W.is_marked writer.old }

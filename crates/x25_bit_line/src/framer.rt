@@ -16,9 +16,9 @@ impl Framer {
     ghost use Rattle.x25_bits.specs.Stuffing.{filled};
     ghost use Rattle.x25_io.specs.HeldLine.{HoldsLine};
     ghost use Rattle.x25_io.specs.Lines.{IsOpen};
-    ghost use Rattle.x25_io.specs.Written.{AppendsBeginning};
+    ghost use Rattle.x25_io.specs.code.Written.{AppendsPrefix};
     ghost use Rattle.x25_bit_line.specs.Framed.{is_wrong as is_wrong_line, line_bits};
-    ghost use Rattle.x25_bit_line.specs.Frames.{Leads};
+    ghost use Rattle.x25_bit_line.specs.code.Frames.{Leads};
     ghost use Rattle.x25_bit_line.specs.Sending.{SendsLine};
 
     /// No line has begun.
@@ -70,7 +70,7 @@ impl Framer {
         ensures kept { OnOk result (W.is_marked writer.new ≡ W.is_marked writer.old) }
         ensures leads { (old : Option (List ℕ)) (rest : List ℕ) (all : List Bool) (any : Bool)
             → Leads old (W.contents writer.old) self.old (tail.now ++ 10 ∷ rest) all any
-            → MatchResult result (λ _. Leads old (W.contents writer.new) self.new rest all any) (λ _. AppendsBeginning old (W.contents writer.new) (octets_of (filled all))) }
+            → MatchResult result (λ _. Leads old (W.contents writer.new) self.new rest all any) (λ _. AppendsPrefix old (W.contents writer.new) (octets_of (filled all))) }
         ensures write { IsErrOf result Fault.Write → W.is_marked writer.new ≡ true }
         ensures memory { IsErrOf result Fault.NoMemory → W.is_marked writer.new ≡ W.is_marked writer.old }
         ensures read { IsErrOf result Fault.Read → ⊥ }
@@ -84,7 +84,7 @@ impl Framer {
         ensures kept { OnOk result (W.is_marked writer.new ≡ W.is_marked writer.old) }
         ensures text { (old : Option (List ℕ)) (all : List Bool) (any : Bool) → Leads old (W.contents writer.old) self.old [] all any
             → MatchResult result (λ _. Appends old (W.contents writer.new) (octets_of (filled all)) × (self.new.sender.is_wrong ≡ any))
-            (λ _. AppendsBeginning old (W.contents writer.new) (octets_of (filled all))) }
+            (λ _. AppendsPrefix old (W.contents writer.new) (octets_of (filled all))) }
         ensures write { IsErrOf result Fault.Write → W.is_marked writer.new ≡ true }
         ensures memory { IsErrOf result Fault.NoMemory → W.is_marked writer.new ≡ W.is_marked writer.old }
         ensures read { IsErrOf result Fault.Read → ⊥ }
@@ -99,7 +99,7 @@ impl Framer {
 
 impl TextTaker for Framer {
     ghost use Rattle.x25_bit_line.specs.Framed.{frame_status, framed_octets};
-    ghost use Rattle.x25_bit_line.specs.Frames.{FramesOn, WritesFrames};
+    ghost use Rattle.x25_bit_line.specs.code.Frames.{FramesOn, WritesFrames};
 
     ghost Setting = { Unit {0} };
 

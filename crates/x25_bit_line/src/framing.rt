@@ -1,9 +1,9 @@
 //! Lines of a trace answered by octets of a synchronous line.
 ghost use Rattle.std.specs.Prelude.{◌≡◌, ◌<◌, ◌≤◌, ◌-◌, ◌^◌, ℕ, true, List, Some, IfOk, OnOk, OnErr, IfSome, IsErrOf, length};
 ghost use Rattle.std.specs.Io.KnownBytes.{Appends};
-ghost use Rattle.x25_io.specs.Written.{AppendsBeginning};
+ghost use Rattle.x25_io.specs.code.Written.{AppendsPrefix};
 ghost use Rattle.x25_bit_line.specs.Framed.{frame_status, framed_octets};
-ghost use Rattle.x25_bit_line.specs.Frames.{WritesFrames};
+ghost use Rattle.x25_bit_line.specs.code.Frames.{WritesFrames};
 
 use crate::frame_sender::FrameSender;
 use crate::framer::Framer;
@@ -30,7 +30,7 @@ pub fn frame<R: Source, W: Sink>(alloc: Global, reader: &mut R, writer: &mut W) 
 
     // What was written before a fault is a beginning of them.
     ensures fault { OnErr result (IfSome (R.remaining reader.old) (λ input. length input < 2 ^ 64 - 1
-        → AppendsBeginning (W.contents writer.old) (W.contents writer.new) (framed_octets input))) }
+        → AppendsPrefix (W.contents writer.old) (W.contents writer.new) (framed_octets input))) }
     // At a failed read the octets that the lines which had ended fill are written.
     ensures ended { IsErrOf result Fault.Read → IfSome (R.remaining reader.old) (λ input.
         (rest : List ℕ) × (R.remaining reader.new ≡ Some rest) × WritesFrames (W.contents writer.old) (W.contents writer.new) rest input) }

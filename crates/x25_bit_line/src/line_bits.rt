@@ -50,7 +50,7 @@ impl LineBits {
     ghost use Rattle.std.specs.Prelude.{◌≡◌, ◌++◌, [], true, OnOk, IsErrOf};
     ghost use Rattle.x25_bits.specs.SpanClass.{octets_of};
     ghost use Rattle.x25_bits.specs.Stuffing.{filled, framed};
-    ghost use Rattle.x25_bit_line.specs.Telling.{TellsMore};
+    ghost use Rattle.x25_bit_line.specs.code.Telling.{TellsMore};
     ghost use Rattle.x25_bit_line.specs.Sending.{behind_octets};
 
     /// No bits.

@@ -30,11 +30,11 @@ pub(crate) struct SpanLines {
 impl SpanLines {
     ghost use Rattle.std.specs.Prelude.{◌≡◌, ◌≤◌, ◌++◌, [], true, ℕ, List, Option, IfOk, OnOk, OnErr, MatchResult, length};
     ghost use Rattle.std.specs.List.{flat_map};
-    ghost use Rattle.x25_bits.specs.Plain.{plain_span};
-    ghost use Rattle.x25_io.specs.Written.{AppendsBeginning, Tells};
+    ghost use Rattle.x25_bits.specs.code.Plain.{plain_span};
+    ghost use Rattle.x25_io.specs.code.Written.{AppendsPrefix, Tells};
     ghost use Rattle.x25_text.specs.OctetText.{octet_text};
     ghost use Rattle.x25_bit_line.specs.Deframed.{class_line, trace_line};
-    ghost use Rattle.x25_bit_line.specs.Telling.{TellsMore};
+    ghost use Rattle.x25_bit_line.specs.code.Telling.{TellsMore};
 
     /// Nothing waits.
     pub(crate) fn new(alloc: Global, from: Role) -> Result<SpanLines, AllocError>
@@ -54,7 +54,7 @@ impl SpanLines {
     pub(crate) fn flush<W: Sink>(&mut self, writer: &mut W) -> Result<(), Failed>
         ensures kept { OnOk result (W.is_marked writer.new ≡ W.is_marked writer.old) }
         ensures tells { (old : Option (List ℕ)) (told : List ℕ) → Tells old (W.contents writer.old) self.old.output told
-            → MatchResult result (λ _. Tells old (W.contents writer.new) self.new.output told) (λ _. AppendsBeginning old (W.contents writer.new) told) }
+            → MatchResult result (λ _. Tells old (W.contents writer.new) self.new.output told) (λ _. AppendsPrefix old (W.contents writer.new) told) }
         ensures empty { OnOk result (self.new.output ≡ []) }
         ensures marked { OnErr result (W.is_marked writer.new ≡ true) }
         ensures from { self.new.from ≡ self.old.from }

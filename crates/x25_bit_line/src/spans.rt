@@ -1,12 +1,12 @@
 //! Octets of a synchronous line, span by span.
 ghost use Rattle.std.specs.Prelude.{◌≡◌, ◌*◌, ◌^◌, ◌<◌, ◌≤◌, ◌++◌, true, ℕ, Bool, List, Option, IfOk, OnOk, OnErr, MatchResult, length, take, drop};
 ghost use Rattle.x25_bits.specs.Fcs.{bits_of};
-ghost use Rattle.x25_bits.specs.Fits.{Fits, has_buffer};
-ghost use Rattle.x25_bits.specs.Reading.{part};
+ghost use Rattle.x25_bits.specs.code.Fits.{Fits, has_buffer};
+ghost use Rattle.x25_bits.specs.code.Reading.{part};
 ghost use Rattle.x25_bits.specs.SpanClass.{found_of};
-ghost use Rattle.x25_io.specs.Written.{AppendsBeginning};
+ghost use Rattle.x25_io.specs.code.Written.{AppendsPrefix};
 ghost use Rattle.x25_bit_line.specs.Deframed.{class_lines};
-ghost use Rattle.x25_bit_line.specs.Reads.{Reads};
+ghost use Rattle.x25_bit_line.specs.code.Reads.{Reads};
 
 use crate::span_lines::SpanLines;
 use x25_bits::{Deframer, cuts_agree};
@@ -30,7 +30,7 @@ fn take_span<W: Sink>(
     ensures high { IfOk result (λ place. place ≤ 8 * length octets.now) }
     ensures reads { (old : Option (List ℕ)) (before : List Bool) → Reads lines.old.from old (W.contents writer.old) deframer.old lines.old.output before
         → MatchResult result (λ place. Reads lines.old.from old (W.contents writer.new) deframer.new lines.new.output (before ++ part at place (bits_of octets.now)))
-        (λ _. AppendsBeginning old (W.contents writer.new) (class_lines lines.old.from (found_of (before ++ drop at (bits_of octets.now))))) }
+        (λ _. AppendsPrefix old (W.contents writer.new) (class_lines lines.old.from (found_of (before ++ drop at (bits_of octets.now))))) }
     ensures marked { OnErr result (W.is_marked writer.new ≡ true) }
     ensures from { lines.new.from ≡ lines.old.from }
 {
@@ -56,7 +56,7 @@ pub(crate) fn take_octets<W: Sink>(
     ensures kept { OnOk result (W.is_marked writer.new ≡ W.is_marked writer.old) }
     ensures reads { (old : Option (List ℕ)) (before : List Bool) → Reads lines.old.from old (W.contents writer.old) deframer.old lines.old.output before
         → MatchResult result (λ _. Reads lines.old.from old (W.contents writer.new) deframer.new lines.new.output (before ++ bits_of octets.now))
-        (λ _. AppendsBeginning old (W.contents writer.new) (class_lines lines.old.from (found_of (before ++ bits_of octets.now)))) }
+        (λ _. AppendsPrefix old (W.contents writer.new) (class_lines lines.old.from (found_of (before ++ bits_of octets.now)))) }
     ensures marked { OnErr result (W.is_marked writer.new ≡ true) }
     ensures from { lines.new.from ≡ lines.old.from }
 {

@@ -2,10 +2,10 @@
 use Rattle.std.proofs.Common.{ℕ, ◌+◌, ◌-◌, ◌≤◌, ◌≡◌, ◌∙◌, Bool, List, [], ◌∷◌, ◌++◌, length, drop, ap, sym, arith, append_assoc}
 use Rattle.std.specs.List.{flat_map}
 use Rattle.std.proofs.lemmas.List.{append-nil, drop_all, drop-drop, take-append-drop}
-use Rattle.x25_bits.specs.Calls.{Call, ReadToEnd, after_calls}
-use Rattle.x25_bits.specs.Cuts.{found_more}
-use Rattle.x25_bits.specs.Held.{found_from, seen_of}
-use Rattle.x25_bits.specs.Reading.{part}
+use Rattle.x25_bits.specs.code.Calls.{Call, ReadToEnd, after_calls}
+use Rattle.x25_bits.specs.laws.Cuts.{found_more}
+use Rattle.x25_bits.specs.code.Held.{found_from, seen_of}
+use Rattle.x25_bits.specs.code.Reading.{part}
 use Rattle.x25_bits.proofs.FeedLemmas.{seen_all, found_all, found-append}
 
 nothing_more : (before : List Bool) → found_more before [] ≡ []

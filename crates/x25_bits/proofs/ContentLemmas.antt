@@ -8,7 +8,7 @@ use Rattle.x25_bits.specs.Fcs.{bits_of, low_bits, number_of}
 use Rattle.x25_bits.specs.Spans.{flag_places, spans_of, places_below, between}
 use Rattle.x25_bits.specs.SpanClass.{Content, Abort, Short, Long, Ragged, seven_from, run_from, octets_by, octets_of, class_by, class_of}
 use Rattle.x25_bits.specs.Stuffing.{stuffed_from, stuff, unstuffed_from, unstuff}
-use Rattle.x25_bits.specs.Held.{up}
+use Rattle.x25_bits.specs.code.Held.{up}
 use Rattle.x25_bits.proofs.SpanSteps.{State, start, FitsAt, stepped, found, closed, ends_flag}
 use Rattle.x25_bits.proofs.SpanLemmas.{law_fits, law_spans}
 use Rattle.x25_bits.proofs.RunLemmas.{ups, flags_by}

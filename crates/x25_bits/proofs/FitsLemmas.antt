@@ -3,9 +3,9 @@ use Rattle.std.proofs.Common.{ℕ, zero, suc, ◌+◌, ◌≤◌, ◌≡◌, ◌
 use Rattle.x25_bits.specs.Spans.{flag_places}
 use Rattle.x25_bits.specs.Stuffing.{unstuff}
 use Rattle.x25_bits.specs.SpanClass.{seven_from, run_from}
-use Rattle.x25_bits.specs.Held.{fresh, up, held_from, held_of, Seen, ends, seen_next, seen_from, seen_of, none_seen}
-use Rattle.x25_bits.specs.Fits.{Fits, HoldsOpen, ones_from, inserted_from, behind_last, open_span}
-use Rattle.x25_bits.specs.FitsSeen.{FitsSeen}
+use Rattle.x25_bits.specs.code.Held.{fresh, up, held_from, held_of, Seen, ends, seen_next, seen_from, seen_of, none_seen}
+use Rattle.x25_bits.specs.code.Fits.{Fits, HoldsOpen, ones_from, inserted_from, behind_last, open_span}
+use Rattle.x25_bits.specs.code.FitsSeen.{FitsSeen}
 use Rattle.x25_bits.specs.declared.deframer.Deframer.{Deframer}
 use Rattle.x25_bits.proofs.SpanSteps.{State, FitsAt, last_or}
 use Rattle.x25_bits.proofs.SpanLemmas.{drop_one}

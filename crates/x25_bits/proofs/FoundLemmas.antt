@@ -6,7 +6,7 @@ use Rattle.x25_bits.specs.Spans.{flag_places, spans_of, places_below}
 use Rattle.x25_bits.proofs.SpanSteps.{State, start, FitsAt, stepped, found, closed, ends_flag}
 use Rattle.x25_bits.proofs.SpanLemmas.{law_fits, law_spans}
 use Rattle.x25_bits.specs.SpanClass.{reported, found_of}
-use Rattle.x25_bits.specs.Held.{none_held, fresh, held_next, held_from, held_of, closing, Seen, none_seen, ends, seen_next, seen_found, seen_from, found_from, seen_of}
+use Rattle.x25_bits.specs.code.Held.{none_held, fresh, held_next, held_from, held_of, closing, Seen, none_seen, ends, seen_next, seen_found, seen_from, found_from, seen_of}
 use Rattle.x25_bits.proofs.RunLemmas.{flags_held, held-append}
 use Rattle.x25_bits.proofs.ClosingLemmas.{closes_held}
 

@@ -11,7 +11,7 @@ use Rattle.x25_bits.specs.Spans.{flag, places_below, between, is_flag_at, begins
 use Rattle.x25_bits.specs.Stuffing.{stuff, unstuffed_from, framed}
 use Rattle.x25_bits.specs.SpanClass.{Class, Content, Abort, Short, Long, Ragged, seven_from, run_from, class_by, class_of, reported, found_of}
 use Rattle.x25_bits.specs.Sealed.{is_sealed}
-use Rattle.x25_bits.specs.Plain.{plain, plains}
+use Rattle.x25_bits.specs.code.Plain.{plain, plains}
 use Rattle.x25_bits.specs.Harmless.{between_flags, IsHarmless, IsFrame, is_sealed_content, sealed_octets, sealed_contents, first_content}
 use Rattle.x25_bits.specs.declared.found.Found.{Found}
 use Rattle.x25_bits.proofs.FoundLemmas.{found_more}

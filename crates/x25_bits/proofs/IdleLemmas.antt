@@ -6,9 +6,9 @@ use Rattle.std.proofs.lemmas.Bool.{eqb-true}
 use Rattle.std.proofs.lemmas.List.{take-append-drop, drop-drop}
 use Rattle.std.proofs.Math.Seq.{drop-append-add, drop-nil}
 use Rattle.x25_bits.specs.Fcs.{bits_of, low_bits}
-use Rattle.x25_bits.specs.FitsSeen.{FitsSeen}
-use Rattle.x25_bits.specs.Held.{Seen, seen_from, found_from, closing, kept_found}
-use Rattle.x25_bits.specs.Reading.{part}
+use Rattle.x25_bits.specs.code.FitsSeen.{FitsSeen}
+use Rattle.x25_bits.specs.code.Held.{Seen, seen_from, found_from, closing, kept_found}
+use Rattle.x25_bits.specs.code.Reading.{part}
 use Rattle.x25_bits.specs.declared.deframer.Deframer.{Deframer}
 use Rattle.x25_bits.proofs.FcsLemmas.{length-low_bits, low_bits-mod}
 use Rattle.x25_bits.proofs.FeedLemmas.{found-append}

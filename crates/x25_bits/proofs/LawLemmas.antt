@@ -5,18 +5,18 @@ use Rattle.std.proofs.lemmas.Bool.{cases_lt}
 use Rattle.std.proofs.Math.ListN.{get_or-eq_default}
 use Rattle.std.proofs.lemmas.List.{append-nil}
 use Rattle.std.specs.List.{flat_map}
-use Rattle.x25_bits.specs.Begins.{Begins}
-use Rattle.x25_bits.specs.Cuts.{found_by_cuts}
+use Rattle.x25_bits.specs.Prefix.{IsPrefix}
+use Rattle.x25_bits.specs.laws.Cuts.{found_by_cuts}
 use Rattle.x25_bits.specs.SpanClass.{Content, found_of}
 use Rattle.x25_bits.specs.Spans.{flag, places_below, between}
 use Rattle.x25_bits.specs.Stuffing.{framed, stuff}
 use Rattle.x25_bits.specs.Fcs.{bits_of}
-use Rattle.x25_bits.specs.Held.{Seen, fresh, none_seen, ends, seen_from, found_from, seen_of}
+use Rattle.x25_bits.specs.code.Held.{Seen, fresh, none_seen, ends, seen_from, found_from, seen_of}
 use Rattle.x25_bits.proofs.FoundLemmas.{found_more}
 use Rattle.x25_bits.proofs.FeedLemmas.{seen_all, found_all}
 use Rattle.x25_bits.proofs.PutLemmas.{found_at_start, put_found}
 
-pub found_begins : (before more : List Bool) → Begins (found_of before) (found_of (before ++ more))
+pub found_begins : (before more : List Bool) → IsPrefix (found_of before) (found_of (before ++ more))
 found_begins before more = (found_from (seen_of before) more, found_more before more)
 
 pub cuts_all : (before : List Bool) (cuts : List (List Bool)) → found_of before ++ found_by_cuts before cuts ≡ found_of (before ++ flat_map (λ cut. cut) cuts)

@@ -2,8 +2,8 @@
 use Rattle.std.proofs.Common.{◌≡◌, ◌∙◌, Bool, List, [], ◌∷◌, ◌++◌, ap, sym, subst, append_assoc}
 use Rattle.std.proofs.lemmas.List.{append-nil}
 use Rattle.x25_bits.specs.SpanClass.{Class}
-use Rattle.x25_bits.specs.Held.{Seen, seen_next, seen_found, seen_from, found_from}
-use Rattle.x25_bits.specs.FitsSeen.{FitsSeen}
+use Rattle.x25_bits.specs.code.Held.{Seen, seen_next, seen_found, seen_from, found_from}
+use Rattle.x25_bits.specs.code.FitsSeen.{FitsSeen}
 use Rattle.x25_bits.specs.declared.deframer.Deframer.{Deframer}
 use Rattle.x25_bits.proofs.FoundLemmas.{seen-append}
 use Rattle.x25_bits.proofs.FeedLemmas.{found-append}

@@ -1,14 +1,14 @@
 -- What is lent at a flag, and of bits that are read.
 use Rattle.std.proofs.Common.{ℕ, ◌+◌, ◌<◌, ◌≤◌, ◌≡◌, ◌∙◌, Bool, true, false, Option, Some, None, List, [], ◌++◌, length, refl, ap, sym, subst, arith, get_or, ◌==◌, ◌&&◌, not}
 use Rattle.std.specs.Prelude.{if◌then◌else◌, is_some}
-use Rattle.x25_bits.specs.Cuts.{found_more as found_more_of}
-use Rattle.x25_bits.specs.Fits.{Fits}
-use Rattle.x25_bits.specs.FitsSeen.{FitsSeen}
-use Rattle.x25_bits.specs.Held.{Held, Seen, seen_of, ends, seen_next, seen_found, seen_from, found_from, closing}
-use Rattle.x25_bits.specs.Keeping.{Keeping}
-use Rattle.x25_bits.specs.Plain.{listed_span}
-use Rattle.x25_bits.specs.Reading.{part, Closes, Lends}
-use Rattle.x25_bits.specs.Shows.{Shows}
+use Rattle.x25_bits.specs.laws.Cuts.{found_more as found_more_of}
+use Rattle.x25_bits.specs.code.Fits.{Fits}
+use Rattle.x25_bits.specs.code.FitsSeen.{FitsSeen}
+use Rattle.x25_bits.specs.code.Held.{Held, Seen, seen_of, ends, seen_next, seen_found, seen_from, found_from, closing}
+use Rattle.x25_bits.specs.code.Keeping.{Keeping}
+use Rattle.x25_bits.specs.code.Plain.{listed_span}
+use Rattle.x25_bits.specs.code.Reading.{part, Closes, Lends}
+use Rattle.x25_bits.specs.code.Shows.{Shows}
 use Rattle.x25_bits.specs.SpanClass.{Class}
 use Rattle.x25_bits.specs.declared.deframer.Deframer.{Deframer}
 use Rattle.x25_bits.specs.declared.found.Span.{Span}

@@ -6,7 +6,7 @@ use Rattle.x25_bits.specs.Fcs.{bits_of}
 use Rattle.x25_bits.specs.SpanClass.{Content, found_of, octets_of}
 use Rattle.x25_bits.specs.Spans.{flag}
 use Rattle.x25_bits.specs.Stuffing.{framed, filled}
-use Rattle.x25_bits.specs.Held.{Seen, seen_next, seen_of, found_from}
+use Rattle.x25_bits.specs.code.Held.{Seen, seen_next, seen_of, found_from}
 use Rattle.x25_bits.proofs.ContentLemmas.{bits_of-octets_by}
 use Rattle.x25_bits.proofs.FoundLemmas.{found_more}
 use Rattle.x25_bits.proofs.LawLemmas.{put_found_behind}

@@ -274,15 +274,7 @@ part_octet place octets h k =
     let at : place ≡ 8 * (place / 8) = omega arith in
     ap (λ n. take n (drop place (bits_of octets))) eight ∙ ap (λ n. take 8 (drop n (bits_of octets))) at ∙ octet_at (place / 8) octets k
 
-four_at : (i j : ℕ) (octets : List ℕ) → i < length octets → j ≤ 4 → take 4 (drop (8 * i + j) (bits_of octets)) ≡ take 4 (drop j (low_bits 8 (get_or octets i 0)))
-four_at i j octets h s =
-    let bits = bits_of octets in
-    sym (ap (take 4) (drop-drop j (8 * i) bits))
-    ∙ sym (drop_taken j 4 (drop (8 * i) bits))
-    ∙ ap (drop j) (sym (take_both (j + 4) 8 (drop (8 * i) bits) (omega arith)) ∙ ap (take (j + 4)) (octet_at i octets h))
-    ∙ drop_taken j 4 (low_bits 8 (get_or octets i 0))
-
-drop_low : (j k n : ℕ) → drop j (low_bits (j + k) n) ≡ low_bits k (n / 2 ^ j)
+pub drop_low : (j k n : ℕ) → drop j (low_bits (j + k) n) ≡ low_bits k (n / 2 ^ j)
 unfolding low_bits
 drop_low zero k n = let none : 0 + k ≡ k = omega arith in let same : n / 1 ≡ n = div-one n in ap (λ m. low_bits m n) none ∙ ap (low_bits k) (sym same)
 drop_low (suc j) k n =
@@ -290,16 +282,23 @@ drop_low (suc j) k n =
     let next : n / 2 / 2 ^ j ≡ n / 2 ^ suc j = shr-shr n 1 j ∙ ap (λ m. n / 2 ^ m) (one_more j) in
     ap (λ m. drop (suc j) (low_bits m n)) more ∙ drop_low j k (n / 2) ∙ ap (low_bits k) next
 
--- the four bits that begin at an octet's first or fifth
-pub part_four : (place : ℕ) (octets : List ℕ) → place % 4 ≡ 0 → place / 8 < length octets
-    → take (place + 4 - place) (drop place (bits_of octets)) ≡ low_bits 4 (get_or octets (place / 8) 0 / 2 ^ (place % 8) % 16)
-part_four place octets h k =
-    let four : place + 4 - place ≡ 4 = omega arith in
+low_at : (i j k : ℕ) (octets : List ℕ) → i < length octets → j + k ≤ 8 → take k (drop (8 * i + j) (bits_of octets)) ≡ take k (drop j (low_bits 8 (get_or octets i 0)))
+low_at i j k octets h s =
+    let bits = bits_of octets in
+    sym (ap (take k) (drop-drop j (8 * i) bits))
+    ∙ sym (drop_taken j k (drop (8 * i) bits))
+    ∙ ap (drop j) (sym (take_both (j + k) 8 (drop (8 * i) bits) s) ∙ ap (take (j + k)) (octet_at i octets h))
+    ∙ drop_taken j k (low_bits 8 (get_or octets i 0))
+
+-- bits from a place on, all of one octet
+pub part_low : (place k : ℕ) (octets : List ℕ) → place % 8 + k ≤ 8 → place / 8 < length octets
+    → take (place + k - place) (drop place (bits_of octets)) ≡ low_bits k (get_or octets (place / 8) 0 / 2 ^ (place % 8))
+part_low place k octets h s =
+    let many : place + k - place ≡ k = omega arith in
     let at : place ≡ 8 * (place / 8) + place % 8 = omega arith in
-    let small : place % 8 ≤ 4 = omega arith in
     let o = get_or octets (place / 8) 0 in
     let j = place % 8 in
     let whole : 8 ≡ j + (8 - j) = omega arith in
-    ap (λ n. take n (drop place (bits_of octets))) four ∙ ap (λ n. take 4 (drop n (bits_of octets))) at ∙ four_at (place / 8) j octets k small
-    ∙ ap (λ n. take 4 (drop j (low_bits n o))) whole ∙ ap (take 4) (drop_low j (8 - j) o)
-    ∙ take_low 4 (8 - j) (o / 2 ^ j) (omega arith) ∙ sym (low_bits-mod 4 (o / 2 ^ j))
+    ap (λ n. take n (drop place (bits_of octets))) many ∙ ap (λ n. take k (drop n (bits_of octets))) at ∙ low_at (place / 8) j k octets s h
+    ∙ ap (λ n. take k (drop j (low_bits n o))) whole ∙ ap (take k) (drop_low j (8 - j) o)
+    ∙ take_low k (8 - j) (o / 2 ^ j) (omega (h, arith))

@@ -4,9 +4,9 @@ use Rattle.std.specs.Prelude.{if◌then◌else◌, ◌||◌}
 use Rattle.std.proofs.lemmas.Nat.{pow-add}
 use Rattle.std.proofs.lemmas.List.{append-nil, take_all}
 use Rattle.x25_bits.specs.Fcs.{low_bits}
-use Rattle.x25_bits.specs.Fits.{ones_from}
-use Rattle.x25_bits.specs.FitsSeen.{FitsSeen}
-use Rattle.x25_bits.specs.Held.{Seen, up, keeps, ends, seen_next, seen_found, seen_from, found_from, closing}
+use Rattle.x25_bits.specs.code.Fits.{ones_from}
+use Rattle.x25_bits.specs.code.FitsSeen.{FitsSeen}
+use Rattle.x25_bits.specs.code.Held.{Seen, up, keeps, ends, seen_next, seen_found, seen_from, found_from, closing}
 use Rattle.x25_bits.specs.Passing.{passes, kept_from, inserted_after, Passes}
 use Rattle.x25_bits.specs.SpanClass.{Class}
 use Rattle.x25_bits.specs.declared.deframer.Deframer.{Deframer}
@@ -55,48 +55,6 @@ pub octet_halves : (o : ℕ) → low_bits 8 o ≡ low_bits 4 (o % 16) ++ low_bit
 octet_halves o =
     let whole : o ≡ o % 16 + o / 16 * 2 ^ 4 = omega arith in
     ap (low_bits 8) whole ∙ low_bits-join 4 4 (o % 16) (o / 16) (omega arith)
-
--- of both halves
-pub octet_passes : (first last p : Passed) (run : ℕ) (was : Bool) (o : ℕ) → Passes first run was (low_bits 4 (o % 16)) → Passes last first.run first.is_inserted (low_bits 4 (o / 16))
-    → low_bits p.count p.kept ≡ low_bits first.count first.kept ++ low_bits last.count last.kept → p.kept < 2 ^ p.count → p.run ≡ last.run → p.is_inserted ≡ last.is_inserted
-    → Passes p run was (low_bits 8 o)
-octet_passes first last p run was o f l kept small ones inserted =
-    let a = low_bits 4 (o % 16) in
-    let b = low_bits 4 (o / 16) in
-    let same : first.run ≡ ones_from run a = f.ones in
-    subst (Passes p run was) (sym (octet_halves o)) (record {
-      quiet = passes-append run a b f.quiet (ap (λ r. passes r b) (sym same) ∙ l.quiet);
-      kept = kept ∙ ap (λ k. k ++ low_bits last.count last.kept) f.kept ∙ ap (λ k. kept_from run a ++ k) (l.kept ∙ ap (λ r. kept_from r b) same) ∙ sym (kept_from-append run a b);
-      small = small;
-      ones = ones ∙ l.ones ∙ ap (λ r. ones_from r b) same ∙ sym (ones_from-append run a b);
-      inserted = inserted ∙ l.inserted ∙ ap (λ r. inserted_after r first.is_inserted b) same ∙ ap (λ i. inserted_after (ones_from run a) i b) f.inserted ∙ sym (inserted_after-append run was a b);
-    })
-
-small_pow : (k : ℕ) → k ≤ 4 → 2 ^ k ≤ 16
-small_pow zero h = omega arith
-small_pow (suc zero) h = omega arith
-small_pow (suc (suc zero)) h = omega arith
-small_pow (suc (suc (suc zero))) h = omega arith
-small_pow (suc (suc (suc (suc zero)))) h = omega arith
-small_pow (suc (suc (suc (suc (suc k))))) h = absurd (omega arith)
-
--- the sum of what is kept of both halves
-abbrev pub Sums : ℕ → ℕ → ℕ → ℕ → Type 0
-Sums a b x y = (y * 2 ^ a < 256) × (x + y * 2 ^ a < 256) × (x + y * 2 ^ a < 2 ^ (a + b))
-
-pub sums : (a b x y : ℕ) → a ≤ 4 → b ≤ 4 → x < 2 ^ a → y < 2 ^ b → Sums a b x y
-sums zero b x y h k low high = let p = small_pow b k in let q = pow-add 2 0 b in (omega arith, omega arith, omega arith)
-sums (suc zero) b x y h k low high = let p = small_pow b k in let q = pow-add 2 1 b in (omega arith, omega arith, omega arith)
-sums (suc (suc zero)) b x y h k low high = let p = small_pow b k in let q = pow-add 2 2 b in (omega arith, omega arith, omega arith)
-sums (suc (suc (suc zero))) b x y h k low high = let p = small_pow b k in let q = pow-add 2 3 b in (omega arith, omega arith, omega arith)
-sums (suc (suc (suc (suc zero)))) b x y h k low high = let p = small_pow b k in let q = pow-add 2 4 b in (omega arith, omega arith, omega arith)
-sums (suc (suc (suc (suc (suc a))))) b x y h k low high = absurd (omega arith)
-
-pub joined_bits : (a b x y : ℕ) → a ≤ 4 → b ≤ 4 → x < 2 ^ a → y < 2 ^ b → low_bits (a + b) (x + y * 2 ^ a % 256) ≡ low_bits a x ++ low_bits b y
-joined_bits a b x y h k low high =
-    let s = (sums a b x y h k low high).0 in
-    let fits : y * 2 ^ a % 256 ≡ y * 2 ^ a = omega arith in
-    ap (λ z. low_bits (a + b) (x + z)) fits ∙ low_bits-join a b x y low
 
 -- ---- what is seen
 

@@ -8,7 +8,7 @@ use Rattle.x25_bits.specs.Fcs.{bits_of, low_bits}
 use Rattle.x25_bits.proofs.FcsLemmas.{and_one, low_bits-suc}
 use Rattle.x25_bits.specs.SpanClass.{Content, class_by, found_of, octets_by}
 use Rattle.x25_bits.specs.Stuffing.{stuffed_from, framed}
-use Rattle.x25_bits.specs.Held.{kept_found, Seen, none_seen, closing, seen_from, found_from}
+use Rattle.x25_bits.specs.code.Held.{kept_found, Seen, none_seen, closing, seen_from, found_from}
 use Rattle.x25_bits.proofs.FoundLemmas.{found_more}
 use Rattle.x25_bits.proofs.ClosingLemmas.{by_kept, kept_six}
 use Rattle.x25_bits.proofs.OctetLemmas.{length-bits_of, octets_by-bits_of}

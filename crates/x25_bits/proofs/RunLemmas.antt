@@ -6,7 +6,7 @@ use Rattle.std.proofs.lemmas.List.{take-append-drop}
 use Rattle.x25_bits.specs.Spans.{is_flag_at}
 use Rattle.x25_bits.proofs.SpanSteps.{ends_flag}
 use Rattle.x25_bits.proofs.SpanLemmas.{begins_by, flag_behind, flag_short}
-use Rattle.x25_bits.specs.Held.{Held, none_held, up, held_next, held_from, held_of}
+use Rattle.x25_bits.specs.code.Held.{Held, none_held, up, held_next, held_from, held_of}
 
 abbrev pub ups : ℕ → List Bool → ℕ
 ups r [] = r

@@ -1,8 +1,8 @@
 -- Bits in which no flag ends and no seventh 1 bit comes. Profile.
-use Rattle.std.specs.Prelude.{ℕ, ◌≡◌, ◌==◌, ◌<◌, ◌^◌, Bool, true, false, if◌then◌else◌, List, [], ◌∷◌}
+use Rattle.std.specs.Prelude.{ℕ, ◌≡◌, ◌==◌, Bool, true, false, if◌then◌else◌, List, [], ◌∷◌}
 use Rattle.x25_bits.specs.Fcs.{low_bits}
-use Rattle.x25_bits.specs.Fits.{ones_from}
-use Rattle.x25_bits.specs.Held.{up, keeps}
+use Rattle.x25_bits.specs.code.Fits.{ones_from}
+use Rattle.x25_bits.specs.code.Held.{up, keeps}
 use Rattle.x25_bits.specs.declared.passing.Passed.{Passed}
 
 -- Whether these bits are such, where `run` 1 bits came before: behind six of them the next bit ends a flag or is the
@@ -25,6 +25,5 @@ inserted_after run last (b ∷ bits) = inserted_after (up run b) (if b then last
 pub record Passes (p : Passed) (run : ℕ) (last : Bool) (bits : List Bool) : Type 0 where
   pub quiet : passes run bits ≡ true
   pub kept : low_bits p.count p.kept ≡ kept_from run bits
-  pub small : p.kept < 2 ^ p.count
   pub ones : p.run ≡ ones_from run bits
   pub inserted : p.is_inserted ≡ inserted_after run last bits

@@ -1,5 +1,5 @@
-ghost use Rattle.std.specs.Prelude.{ℕ, ◌≡◌, ◌+◌, ◌*◌, ◌/◌, ◌%◌, ◌^◌, ◌<◌, ◌≤◌, ◌++◌, ◌∷◌, [], ◌==◌, ◌↔◌, Bool, List, false, length, take, IsTrue, OnOk, OnErr, slice_get, slice_index, slice_index_or};
-ghost use Rattle.x25_bits.specs.Begins.{Begins};
+ghost use Rattle.std.specs.Prelude.{ℕ, ◌≡◌, ◌+◌, ◌*◌, ◌/◌, ◌%◌, ◌^◌, ◌<◌, ◌≤◌, ◌++◌, ◌∷◌, [], ◌==◌, ◌↔◌, Bool, List, false, length, take, IsTrue, IfOk, OnOk, OnErr, slice_get, slice_index, slice_index_or};
+ghost use Rattle.x25_bits.specs.Prefix.{IsPrefix};
 ghost use Rattle.x25_bits.specs.Fcs.{bits_of, low_bits};
 ghost use Rattle.x25_bits.specs.SpanClass.{octets_by, octets_of};
 
@@ -34,6 +34,14 @@ impl Bits {
             octets: Vec::new(alloc),
             count: 0,
         }
+    }
+
+    /// No bits, in memory for so many octets. Error 70 where there is none.
+    pub(crate) fn with_room(alloc: Global, octets: usize) -> Result<Bits, NoMemory>
+        ensures { IfOk result (λ bits. bits ≡ []) }
+    {
+        let octets = vec![in alloc; 0u8; octets]?;
+        Ok(Bits { octets, count: 0 })
     }
 
     /// Appends a bit. Error 70 where there is no memory for it, or as many as `usize::MAX` bits are there.
@@ -187,7 +195,7 @@ pub(crate) fn set_octet(octets: &mut Vec<u8>, place: usize, octet: u8)
 /// Puts octets of 0 behind these, up to so many in all.
 pub(crate) fn grow(octets: &mut Vec<u8>, count: usize) -> Result<(), NoMemory>
     ensures room { OnOk result (count ≤ length octets.new.items) }
-    ensures begins { Begins octets.old.items octets.new.items }
+    ensures begins { IsPrefix octets.old.items octets.new.items }
 {
     for _ in octets.len()..count {
         octets.push(0)?;

@@ -1,15 +1,15 @@
 //! The spans between flags, found in bits that come in any cut, ITU-T X.25 (10/96), section 2.2.
 ghost use Rattle.std.specs.Prelude.{ℕ, ◌≡◌, ◌<◌, ◌≤◌, ◌++◌, ◌∷◌, [], Bool, List, length, take, drop, unwrap_or, IfOk, OnOk, OnErr, true, false, if◌then◌else◌};
-ghost use Rattle.x25_bits.specs.Begins.{Begins};
+ghost use Rattle.x25_bits.specs.Prefix.{IsPrefix};
 ghost use Rattle.x25_bits.specs.Fcs.{bits_of, low_bits};
-ghost use Rattle.x25_bits.specs.Cuts.{found_more};
+ghost use Rattle.x25_bits.specs.laws.Cuts.{found_more};
 ghost use Rattle.x25_bits.specs.SpanClass.{found_of};
-ghost use Rattle.x25_bits.specs.Held.{Held, Seen, seen_next, seen_found, seen_from, found_from, ends, closing, keeps, kept_next, kept_found};
-ghost use Rattle.x25_bits.specs.Keeping.{with_bits};
-ghost use Rattle.x25_bits.specs.Plain.{plains, listed_span};
-ghost use Rattle.x25_bits.specs.Shows.{Shows};
+ghost use Rattle.x25_bits.specs.code.Held.{Held, Seen, seen_next, seen_found, seen_from, found_from, ends, closing, keeps, kept_next, kept_found};
+ghost use Rattle.x25_bits.specs.code.Keeping.{with_bits};
+ghost use Rattle.x25_bits.specs.code.Plain.{plains, listed_span};
+ghost use Rattle.x25_bits.specs.code.Shows.{Shows};
 
-use crate::bits::Bits;
+use crate::bits::{Bits, read_bit};
 use crate::found::{Found, Span};
 use crate::kept::Kept;
 use crate::no_memory::NoMemory;
@@ -39,8 +39,8 @@ pub struct Deframer {
 }
 
 impl Deframer {
-    ghost use Rattle.x25_bits.specs.Fits.{Fits, count_held, has_buffer};
-    ghost use Rattle.x25_bits.specs.FitsSeen.{FitsSeen};
+    ghost use Rattle.x25_bits.specs.code.Fits.{Fits, count_held, has_buffer};
+    ghost use Rattle.x25_bits.specs.code.FitsSeen.{FitsSeen};
 
     /// A deframer that no bits have come to.
     pub fn new(alloc: Global) -> Deframer
@@ -135,9 +135,9 @@ impl Deframer {
     ) -> Result<(), NoMemory>
         ensures fits { OnOk result ((v : Seen) → FitsSeen self.old v → FitsSeen self.new (seen_from v (bits_of octets.now))) }
         ensures found { OnOk result ((v : Seen) → FitsSeen self.old v → plains out.new.items ≡ plains out.old.items ++ found_from v (bits_of octets.now)) }
-        ensures undo { Begins (unwrap_or aside.old self.old.kept).bits (unwrap_or aside.new self.new.kept).bits }
+        ensures undo { IsPrefix (unwrap_or aside.old self.old.kept).bits (unwrap_or aside.new self.new.kept).bits }
         ensures roomy { (unwrap_or aside.new self.new.kept).is_roomy ≡ (unwrap_or aside.old self.old.kept).is_roomy }
-        ensures begins { Begins out.old.items out.new.items }
+        ensures begins { IsPrefix out.old.items out.new.items }
         ensures alloc { self.new.alloc ≡ self.old.alloc }
         ensures last { self.new.last ≡ self.old.last }
     {
@@ -159,7 +159,7 @@ impl Deframer {
         Ok(())
     }
 
-    /// Takes the bits of an octet, the lowest first, by four.
+    /// Takes the bits of an octet, the lowest first: as many at once as can be.
     fn take_octet(
         &mut self,
         octet: u8,
@@ -168,59 +168,27 @@ impl Deframer {
     ) -> Result<(), NoMemory>
         ensures fits { OnOk result ((v : Seen) → FitsSeen self.old v → FitsSeen self.new (seen_from v (low_bits 8 octet))) }
         ensures found { OnOk result ((v : Seen) → FitsSeen self.old v → plains out.new.items ≡ plains out.old.items ++ found_from v (low_bits 8 octet)) }
-        ensures undo { Begins (unwrap_or aside.old self.old.kept).bits (unwrap_or aside.new self.new.kept).bits }
+        ensures undo { IsPrefix (unwrap_or aside.old self.old.kept).bits (unwrap_or aside.new self.new.kept).bits }
         ensures roomy { (unwrap_or aside.new self.new.kept).is_roomy ≡ (unwrap_or aside.old self.old.kept).is_roomy }
-        ensures begins { Begins out.old.items out.new.items }
+        ensures begins { IsPrefix out.old.items out.new.items }
         ensures alloc { self.new.alloc ≡ self.old.alloc }
         ensures last { self.new.last ≡ self.old.last }
     {
-        self.take_four(octet % 16, aside, out)?;
-        self.take_four(octet / 16, aside, out)?;
-        Ok(())
-    }
-
-    /// Takes four bits, the first the lowest.
-    fn take_four(
-        &mut self,
-        four: u8,
-        aside: &mut Option<Kept>,
-        out: &mut Vec<Found>,
-    ) -> Result<(), NoMemory>
-        requires { four < 16 }
-        ensures fits { OnOk result ((v : Seen) → FitsSeen self.old v → FitsSeen self.new (seen_from v (low_bits 4 four))) }
-        ensures found { OnOk result ((v : Seen) → FitsSeen self.old v → plains out.new.items ≡ plains out.old.items ++ found_from v (low_bits 4 four)) }
-        ensures undo { Begins (unwrap_or aside.old self.old.kept).bits (unwrap_or aside.new self.new.kept).bits }
-        ensures roomy { (unwrap_or aside.new self.new.kept).is_roomy ≡ (unwrap_or aside.old self.old.kept).is_roomy }
-        ensures begins { Begins out.old.items out.new.items }
-        ensures alloc { self.new.alloc ≡ self.old.alloc }
-        ensures last { self.new.last ≡ self.old.last }
-    {
-        let Some(passed) = self.passed_four(four) else {
-            return self.take_bits(four, aside, out);
-        };
-        self.keep_passed(passed)?;
-        Ok(())
-    }
-
-    /// Takes four bits one by one, the first the lowest.
-    fn take_bits(
-        &mut self,
-        four: u8,
-        aside: &mut Option<Kept>,
-        out: &mut Vec<Found>,
-    ) -> Result<(), NoMemory>
-        ensures fits { OnOk result ((v : Seen) → FitsSeen self.old v → FitsSeen self.new (seen_from v (low_bits 4 four))) }
-        ensures found { OnOk result ((v : Seen) → FitsSeen self.old v → plains out.new.items ≡ plains out.old.items ++ found_from v (low_bits 4 four)) }
-        ensures undo { Begins (unwrap_or aside.old self.old.kept).bits (unwrap_or aside.new self.new.kept).bits }
-        ensures roomy { (unwrap_or aside.new self.new.kept).is_roomy ≡ (unwrap_or aside.old self.old.kept).is_roomy }
-        ensures begins { Begins out.old.items out.new.items }
-        ensures alloc { self.new.alloc ≡ self.old.alloc }
-        ensures last { self.new.last ≡ self.old.last }
-    {
-        let mut left = four;
-        for _ in 0..4u8 {
-            self.take(left & 1 == 1, aside, out)?;
-            left >>= 1;
+        let octets = [octet];
+        let mut place = 0;
+        while place < 8 {
+            if let Some(stretch) = self.stretch_at(&octets, place, 8) {
+                self.keep_passed(stretch.passed)?;
+                place = stretch.end;
+                continue;
+            }
+            if let Some(skipped) = self.skip_at(&octets, place, 8) {
+                self.skip(skipped.scan);
+                place = skipped.end;
+                continue;
+            }
+            self.take(read_bit(&octets, place), aside, out)?;
+            place += 1;
         }
         Ok(())
     }
@@ -234,9 +202,9 @@ impl Deframer {
     ) -> Result<(), NoMemory>
         ensures fits { OnOk result ((v : Seen) → FitsSeen self.old v → FitsSeen self.new (seen_from v bits.now)) }
         ensures found { OnOk result ((v : Seen) → FitsSeen self.old v → plains out.new.items ≡ plains out.old.items ++ found_from v bits.now) }
-        ensures undo { Begins (unwrap_or aside.old self.old.kept).bits (unwrap_or aside.new self.new.kept).bits }
+        ensures undo { IsPrefix (unwrap_or aside.old self.old.kept).bits (unwrap_or aside.new self.new.kept).bits }
         ensures roomy { (unwrap_or aside.new self.new.kept).is_roomy ≡ (unwrap_or aside.old self.old.kept).is_roomy }
-        ensures begins { Begins out.old.items out.new.items }
+        ensures begins { IsPrefix out.old.items out.new.items }
         ensures alloc { self.new.alloc ≡ self.old.alloc }
         ensures last { self.new.last ≡ self.old.last }
     {
@@ -256,9 +224,9 @@ impl Deframer {
         requires { from ≤ length bits.now }
         ensures fits { OnOk result ((v : Seen) → FitsSeen self.old v → FitsSeen self.new (seen_from v (drop from bits.now))) }
         ensures found { OnOk result ((v : Seen) → FitsSeen self.old v → plains out.new.items ≡ plains out.old.items ++ found_from v (drop from bits.now)) }
-        ensures undo { Begins (unwrap_or aside.old self.old.kept).bits (unwrap_or aside.new self.new.kept).bits }
+        ensures undo { IsPrefix (unwrap_or aside.old self.old.kept).bits (unwrap_or aside.new self.new.kept).bits }
         ensures roomy { (unwrap_or aside.new self.new.kept).is_roomy ≡ (unwrap_or aside.old self.old.kept).is_roomy }
-        ensures begins { Begins out.old.items out.new.items }
+        ensures begins { IsPrefix out.old.items out.new.items }
         ensures alloc { self.new.alloc ≡ self.old.alloc }
         ensures last { self.new.last ≡ self.old.last }
     {
@@ -277,9 +245,9 @@ impl Deframer {
     ) -> Result<(), NoMemory>
         ensures fits { OnOk result ((v : Seen) → FitsSeen self.old v → FitsSeen self.new (seen_next v bit)) }
         ensures found { OnOk result ((v : Seen) → FitsSeen self.old v → plains out.new.items ≡ plains out.old.items ++ seen_found v bit) }
-        ensures undo { Begins (unwrap_or aside.old self.old.kept).bits (unwrap_or aside.new self.new.kept).bits }
+        ensures undo { IsPrefix (unwrap_or aside.old self.old.kept).bits (unwrap_or aside.new self.new.kept).bits }
         ensures roomy { (unwrap_or aside.new self.new.kept).is_roomy ≡ (unwrap_or aside.old self.old.kept).is_roomy }
-        ensures begins { Begins out.old.items out.new.items }
+        ensures begins { IsPrefix out.old.items out.new.items }
         ensures alloc { self.new.alloc ≡ self.old.alloc }
         ensures last { self.new.last ≡ self.old.last }
     {
@@ -294,7 +262,7 @@ impl Deframer {
     /// Takes a bit that ends no flag.
     fn next(&mut self, bit: bool) -> Result<(), NoMemory>
         ensures fits { OnOk result ((v : Seen) → FitsSeen self.old v → ends v bit ≡ false → FitsSeen self.new (seen_next v bit)) }
-        ensures begins { Begins self.old.kept.bits self.new.kept.bits }
+        ensures begins { IsPrefix self.old.kept.bits self.new.kept.bits }
         ensures roomy { self.new.kept.is_roomy ≡ self.old.kept.is_roomy }
         ensures alloc { self.new.alloc ≡ self.old.alloc }
         ensures last { self.new.last ≡ self.old.last }
@@ -307,7 +275,7 @@ impl Deframer {
     /// Keeps the bit, where it can be content.
     fn keep(&mut self, bit: bool) -> Result<(), NoMemory>
         ensures fits { OnOk result ((v : Seen) → FitsSeen self.old v → FitsSeen self.new (kept_next v bit)) }
-        ensures begins { Begins self.old.kept.bits self.new.kept.bits }
+        ensures begins { IsPrefix self.old.kept.bits self.new.kept.bits }
         ensures roomy { self.new.kept.is_roomy ≡ self.old.kept.is_roomy }
         ensures scan { self.new.scan ≡ self.old.scan }
         ensures alloc { self.new.alloc ≡ self.old.alloc }
@@ -326,7 +294,7 @@ impl Deframer {
     fn report(&self, out: &mut Vec<Found>) -> Result<(), NoMemory>
         ensures found { OnOk result ((v : Seen) → FitsSeen self.now v
             → plains out.new.items ≡ plains out.old.items ++ (if v.is_open then closing v.held else [])) }
-        ensures begins { Begins out.old.items out.new.items }
+        ensures begins { IsPrefix out.old.items out.new.items }
     {
         if !self.scan.is_open {
             return Ok(());
@@ -402,7 +370,7 @@ impl Deframer {
 /// Keeps the bit, where it can be content and there are not too many.
 fn push_if(is_kept: bool, bit: bool, kept: &mut Kept) -> Result<(), NoMemory>
     ensures fits { OnOk result ((all : List Bool) → kept.old.bits ≡ take 32831 all → kept.new.bits ≡ take 32831 (if is_kept then all ++ bit ∷ [] else all)) }
-    ensures begins { Begins kept.old.bits kept.new.bits }
+    ensures begins { IsPrefix kept.old.bits kept.new.bits }
     ensures roomy { kept.new.is_roomy ≡ kept.old.is_roomy }
     ensures few { length kept.old.bits ≤ 32831 → length kept.new.bits ≤ 32831 }
 {

@@ -1,5 +1,5 @@
 ghost use Rattle.std.specs.Prelude.{◌≡◌, IfOk};
-ghost use Rattle.x25_bits.specs.Plain.{plain, plain_span};
+ghost use Rattle.x25_bits.specs.code.Plain.{plain, plain_span};
 
 use crate::no_memory::NoMemory;
 use std::alloc::Global;

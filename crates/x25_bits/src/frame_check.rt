@@ -1,6 +1,7 @@
 //! The frame check sequence (FCS) of a frame, ITU-T X.25 (10/96), section 2.2.7.
 ghost use Rattle.std.specs.Prelude.{◌≡◌, ◌+◌, ◌/◌, ◌^◌, ◌<◌, ◌≤◌, ◌++◌, ◌↔◌, false, length, replicate, take, IsTrue, IsOk, OnOk, OnErr, vec_len, vec_capacity};
 ghost use Rattle.std.specs.Vec.{VecUnchanged};
+ghost use Rattle.byteorder.specs.Endian.{little_number};
 ghost use Rattle.x25_bits.specs.Fcs.{bits_of, fcs_of, low_bits};
 ghost use Rattle.x25_bits.specs.Register.{fed};
 ghost use Rattle.x25_bits.specs.Sealed.{seal_of, is_sealed, IsSealed};
@@ -55,6 +56,28 @@ static STARTS: [u64; 8] = [
     0x3088_0000_0000_0000,
 ];
 
+/// One to seven octets as a number, the low octet first.
+#[inline]
+fn short_word(octets: &[u8]) -> u64
+    requires some { 0 < length octets.now }
+    requires few { length octets.now < 8 }
+    ensures { result ≡ little_number (length octets.now) octets.now }
+{
+    let count = octets.len();
+    // Of the last octets those are shifted out that the first ones have already.
+    if count >= 4 {
+        let last = u64::from(LittleEndian::read_u32(&octets[count - 4..]));
+        let behind = last >> (8 * (8 - count as u32));
+        u64::from(LittleEndian::read_u32(octets)) + (behind << 32)
+    } else if count >= 2 {
+        let last = u64::from(LittleEndian::read_u16(&octets[count - 2..]));
+        let behind = last >> (8 * (4 - count as u32));
+        u64::from(LittleEndian::read_u16(octets)) + (behind << 16)
+    } else {
+        u64::from(octets[0])
+    }
+}
+
 /// Eight octets that leave what the first `count` octets leave in a register of ones. They are fewer than eight.
 #[inline]
 fn begun(octets: &[u8], count: usize) -> u64
@@ -67,7 +90,7 @@ fn begun(octets: &[u8], count: usize) -> u64
     }
     // What a word holds behind these octets is shifted out.
     let word = if octets.len() < 8 {
-        LittleEndian::read_uint(octets, count)
+        short_word(octets)
     } else {
         LittleEndian::read_u64(octets)
     };

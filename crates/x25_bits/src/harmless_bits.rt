@@ -2,7 +2,7 @@
 ghost use Rattle.std.specs.Prelude.{◌≡◌, ◌↔◌, IsTrue, IfOk, not};
 ghost use Rattle.std.specs.List.{list_all};
 ghost use Rattle.x25_bits.specs.Harmless.{between_flags, IsHarmless, is_sealed_content, first_content};
-ghost use Rattle.x25_bits.specs.Plain.{plain, plains};
+ghost use Rattle.x25_bits.specs.code.Plain.{plain, plains};
 ghost use Rattle.x25_bits.specs.SpanClass.{found_of};
 
 use crate::bits::Bits;

@@ -2,7 +2,7 @@
 ghost use Rattle.std.specs.Prelude.{ℕ, ◌≡◌, ◌+◌, ◌*◌, ◌<◌, ◌≤◌, ◌++◌, ◌∷◌, [], Bool, true, false, length, take, IfOk, OnOk, OnErr, slice_index_or};
 ghost use Rattle.x25_bits.specs.Fcs.{low_bits};
 ghost use Rattle.x25_bits.specs.SpanClass.{octets_of};
-ghost use Rattle.x25_bits.specs.Keeping.{Keeping, with_bits};
+ghost use Rattle.x25_bits.specs.code.Keeping.{Keeping, with_bits};
 
 use crate::bits::{grow, read_bit, set_bit, set_octet, whole_octets, write_bit};
 use crate::no_memory::NoMemory;
@@ -24,7 +24,7 @@ pub struct Kept {
 impl Model for Kept {
     ghost use Rattle.std.specs.Prelude.{◌≡◌, ◌≤◌, ◌*◌, true, length, take};
     ghost use Rattle.x25_bits.specs.Fcs.{bits_of};
-    ghost use Rattle.x25_bits.specs.Keeping.{Keeping};
+    ghost use Rattle.x25_bits.specs.code.Keeping.{Keeping};
 
     ghost Value = { Keeping };
 

@@ -1,9 +1,9 @@
 //! Laws of flags, spans and stuffing, and of the frame check sequence. Each is the contract of a function that does nothing.
 ghost use Rattle.std.specs.Prelude.{ℕ, ◌≡◌, ◌<◌, ◌≤◌, ◌↔◌, ◌++◌, ◌∷◌, [], All, Bool, true, false, List, length, drop};
 ghost use Rattle.std.specs.List.{flat_map};
-ghost use Rattle.x25_bits.specs.Begins.{Begins};
-ghost use Rattle.x25_bits.specs.Calls.{Call, ReadToEnd, after_calls};
-ghost use Rattle.x25_bits.specs.Cuts.{found_by_cuts, found_more};
+ghost use Rattle.x25_bits.specs.Prefix.{IsPrefix};
+ghost use Rattle.x25_bits.specs.code.Calls.{Call, ReadToEnd, after_calls};
+ghost use Rattle.x25_bits.specs.laws.Cuts.{found_by_cuts, found_more};
 ghost use Rattle.x25_bits.specs.Fcs.{bits_of};
 ghost use Rattle.x25_bits.specs.Harmless.{between_flags, IsHarmless, IsFrame, sealed_contents, first_content};
 ghost use Rattle.x25_bits.specs.Sealed.{IsSealed, is_sealed};
@@ -13,7 +13,7 @@ ghost use Rattle.x25_bits.specs.Stuffing.{framed, stuff, unstuff};
 
 /// What is found in the bits so far stays found, and any cuts together find what their bits do as a whole.
 pub fn cuts_agree()
-    ensures begins { (before more : List Bool) → Begins (found_of before) (found_of (before ++ more)) }
+    ensures begins { (before more : List Bool) → IsPrefix (found_of before) (found_of (before ++ more)) }
     ensures cuts { (cuts : List (List Bool)) → found_by_cuts [] cuts ≡ found_of (flat_map (λ cut. cut) cuts) }
     ensures later { (before : List Bool) (cuts : List (List Bool)) → found_of before ++ found_by_cuts before cuts ≡ found_of (before ++ flat_map (λ cut. cut) cuts) }
 {}

@@ -1,13 +1,13 @@
 //! What `feed` finds, one span a call, lent where it lies.
 ghost use Rattle.std.specs.Prelude.{ℕ, ◌≡◌, ◌*◌, ◌^◌, ◌<◌, ◌≤◌, ◌++◌, ◌∷◌, [], Bool, List, length, take, true, false, IfNone, if◌then◌else◌};
 ghost use Rattle.std.specs.Borrow.{sem};
-ghost use Rattle.x25_bits.specs.Cuts.{found_more};
+ghost use Rattle.x25_bits.specs.laws.Cuts.{found_more};
 ghost use Rattle.x25_bits.specs.Fcs.{bits_of};
-ghost use Rattle.x25_bits.specs.Fits.{Fits, has_buffer};
-ghost use Rattle.x25_bits.specs.FitsSeen.{FitsSeen};
-ghost use Rattle.x25_bits.specs.Held.{Seen, seen_next, seen_found, ends, closing, kept_next};
-ghost use Rattle.x25_bits.specs.Plain.{listed_span};
-ghost use Rattle.x25_bits.specs.Reading.{part, Lends, EndsRead};
+ghost use Rattle.x25_bits.specs.code.Fits.{Fits, has_buffer};
+ghost use Rattle.x25_bits.specs.code.FitsSeen.{FitsSeen};
+ghost use Rattle.x25_bits.specs.code.Held.{Seen, seen_next, seen_found, ends, closing, kept_next};
+ghost use Rattle.x25_bits.specs.code.Plain.{listed_span};
+ghost use Rattle.x25_bits.specs.code.Reading.{part, Lends, EndsRead};
 ghost use Rattle.x25_bits.specs.SpanClass.{Class};
 
 use crate::bits::{Bits, read_bit};
@@ -104,9 +104,14 @@ impl Deframer {
                 place = next;
                 continue;
             }
-            if let Some(passed) = self.passed_four_at(octets, place, end) {
-                self.keep_passed_within(passed);
-                place += 4;
+            if let Some(stretch) = self.stretch_at(octets, place, end) {
+                self.keep_passed_within(stretch.passed);
+                place = stretch.end;
+                continue;
+            }
+            if let Some(skipped) = self.skip_at(octets, place, end) {
+                self.skip(skipped.scan);
+                place = skipped.end;
                 continue;
             }
             let closed = self.step(read_bit(octets, place));

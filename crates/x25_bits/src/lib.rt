@@ -3,8 +3,10 @@
 
 mod bits;
 mod deframer;
+mod direction;
 mod found;
 mod frame_check;
+mod frame_memory;
 mod harmless_bits;
 mod idling;
 mod kept;
@@ -12,17 +14,23 @@ mod laws;
 mod lending;
 mod line_octets;
 mod no_memory;
+mod octet_table;
 mod octets;
 mod passing;
 mod role;
 mod scan;
 mod seq;
+mod skipping;
+mod stretches;
 mod stuffing;
+mod stuffing_table;
 
 pub use bits::Bits;
 pub use deframer::Deframer;
+pub use direction::Direction;
 pub use found::{Found, Span};
 pub use frame_check::{check, fcs, seal};
+pub use frame_memory::Blanks;
 pub use harmless_bits::{first_content, harmless};
 pub use laws::{
     calls_find_all, content_stuffs_again, cuts_agree, flag_parts, harmless_bits_lose_a_frame,

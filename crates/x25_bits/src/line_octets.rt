@@ -1,6 +1,6 @@
 //! Frames put as octets of a synchronous line, each octet lowest bit first. Profile.
 ghost use Rattle.std.specs.Prelude.{ℕ, ◌≡◌, ◌≤◌, ◌++◌, ◌∷◌, [], Bool, true, List, length, IfOk, OnOk, OnErr};
-ghost use Rattle.x25_bits.specs.Begins.{Begins};
+ghost use Rattle.x25_bits.specs.Prefix.{IsPrefix};
 ghost use Rattle.x25_bits.specs.Fcs.{bits_of};
 ghost use Rattle.x25_bits.specs.SpanClass.{Content, found_of, octets_of};
 ghost use Rattle.x25_bits.specs.Spans.{flag};
@@ -11,22 +11,28 @@ use crate::no_memory::NoMemory;
 use crate::stuffing::put;
 use std::alloc::Global;
 
+/// Eight 1 bits.
+const ONES: u8 = 0xFF;
+
 /// Appends 1 bits up to a whole octet.
 fn fill(bits: &mut Bits) -> Result<(), NoMemory>
     ensures ok { OnOk result (bits.new ≡ filled bits.old) }
 {
-    let missing = (8 - bits.len() % 8) % 8;
-    for _ in 0..missing {
-        bits.push(true)?;
-    }
+    let missing = ((8 - bits.len() % 8) % 8) as u8;
+    bits.append(ONES, missing)?;
     Ok(())
+}
+
+/// As many octets as the frame of so many mostly takes: a quarter more, two flags and what is written behind the last bit.
+fn most_octets(count: usize) -> usize {
+    count.saturating_add(count / 4).saturating_add(4)
 }
 
 /// A flag, the octets' stuffed bits, a flag, and 1 bits up to a whole octet.
 fn whole_frame(octets: &[u8], alloc: Global) -> Result<Bits, NoMemory>
     ensures ok { IfOk result (λ bits. bits ≡ filled (framed octets.now)) }
 {
-    let mut bits = Bits::new(alloc);
+    let mut bits = Bits::with_room(alloc, most_octets(octets.len()))?;
     put(octets, &mut bits)?;
     fill(&mut bits)?;
     Ok(bits)
@@ -37,7 +43,7 @@ fn whole_frame(octets: &[u8], alloc: Global) -> Result<Bits, NoMemory>
 /// Error 70 where there is no memory for it.
 pub fn put_octets(octets: &[u8], line: &mut Vec<u8>) -> Result<(), NoMemory>
     ensures ok { OnOk result (bits_of line.new.items ≡ bits_of line.old.items ++ filled (framed octets.now)) }
-    ensures begins { Begins line.old.items line.new.items }
+    ensures begins { IsPrefix line.old.items line.new.items }
     ensures found { OnOk result (4 ≤ length octets.now → length octets.now ≤ 4103
         → found_of (bits_of line.new.items) ≡ found_of (bits_of line.old.items ++ flag) ++ Content octets.now ∷ []) }
     ensures err { OnErr result (line.new.items ≡ line.old.items) }

@@ -1,5 +1,5 @@
 ghost use Rattle.std.specs.Prelude.{◌≡◌, ◌==◌, ◌&&◌, ◌||◌, not, if◌then◌else◌};
-ghost use Rattle.x25_bits.specs.Held.{up, keeps};
+ghost use Rattle.x25_bits.specs.code.Held.{up, keeps};
 
 use crate::passing::Passed;
 

@@ -1,7 +1,8 @@
-use crate::spans::{SABM, is_content, some_octets};
+use crate::lent_spans::take_lent;
+use crate::spans::{SABM, found_in, is_content, some_octets};
 use std::alloc::Global;
 use std::test::Fail;
-use x25_bits::{Deframer, Found, NoMemory, put_octets};
+use x25_bits::{Bits, Deframer, Found, NoMemory, put_octets};
 
 /// A flag, the 34 stuffed bits of a SABM, a flag, and six 0 bits; each octet lowest bit first.
 static SABM_LINE: [u8; 7] = [0x7E, 0x01, 0x5F, 0xD6, 0x77, 0xFB, 0x01];
@@ -61,6 +62,56 @@ fn finds_octets_of_each_value(rt: HostRuntime) -> Result<(), Fail> {
         put_octets(octets.as_slice(), &mut line)?;
         let found = found_by(rt.alloc(), line.as_slice(), 4)?;
         assert!(rt; is_content(found.as_slice(), octets.as_slice()), "{value}");
+    }
+    Ok(())
+}
+
+/// Octets among which flags, parts of flags and runs of 1 bits are many.
+fn octets_about_flags(alloc: Global, seed: u32) -> Result<Vec<u8>, NoMemory> {
+    let mut octets = Vec::new(alloc);
+    let mut state = seed;
+    for _ in 0..60u8 {
+        state ^= state << 13;
+        state ^= state >> 17;
+        state ^= state << 5;
+        octets.push(match state >> 8 & 7 {
+            0 => 0x7E,
+            1 => 0xFF,
+            2 => 0x3F,
+            3 => 0xFC,
+            _ => (state & 0xFF) as u8,
+        })?;
+    }
+    Ok(octets)
+}
+
+fn bits_in(alloc: Global, octets: &[u8]) -> Result<Bits, NoMemory> {
+    let mut bits = Bits::new(alloc);
+    for octet in octets {
+        let mut left = *octet;
+        for _ in 0..8u8 {
+            bits.push(left & 1 == 1)?;
+            left >>= 1;
+        }
+    }
+    Ok(bits)
+}
+
+/// What is found bit by bit is found in octets too, in pieces of any size, and by calls that lend.
+#[test]
+fn finds_the_same_in_octets(rt: HostRuntime) -> Result<(), Fail> {
+    for seed in 1..30u32 {
+        let octets = octets_about_flags(rt.alloc(), seed)?;
+        let bits = bits_in(rt.alloc(), octets.as_slice())?;
+        let wanted = found_in(rt.alloc(), &bits, 1, 1)?;
+        for size in [1, 2, 7, 60usize] {
+            let found = found_by(rt.alloc(), octets.as_slice(), size)?;
+            assert!(rt; found == wanted, "{seed} by {size}");
+        }
+        let mut deframer = Deframer::with_buffer(rt.alloc())?;
+        let mut found = Vec::new(rt.alloc());
+        take_lent(rt.alloc(), &mut deframer, &bits, &mut found)?;
+        assert!(rt; found == wanted, "{seed}");
     }
     Ok(())
 }

@@ -5,7 +5,7 @@ use Rattle.x25_circuit.specs.declared.circuit.Circuit as code
 use Rattle.x25_circuit.specs.declared.error.CircuitError.{CircuitError}
 use Rattle.x25_circuit.specs.Circuit.{Settings}
 use Rattle.x25_circuit.specs.Calls.{Outcome, Done, Refused}
-use Rattle.x25_circuit.specs.FitsCircuit.{Sends}
+use Rattle.x25_circuit.specs.code.FitsCircuit.{Sends}
 use Rattle.x25_circuit.specs.Requests.{AnswersRequest, with_packet}
 
 -- a call with a packet to send is one that may have a packet

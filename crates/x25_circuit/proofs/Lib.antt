@@ -1,12 +1,8 @@
 mod RowStates
-mod DteRows
-mod DceRows
-mod CallRows
-mod ParamsRows
+pub mod rows
 pub mod ParamsLemmas
 pub mod MessageLemmas
 pub mod AskLemmas
-pub mod RowLemmas
 pub mod TalkLemmas
 pub mod PullLemmas
 pub mod CarryLemmas

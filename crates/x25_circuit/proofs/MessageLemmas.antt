@@ -2,7 +2,7 @@
 use Rattle.std.proofs.Common.{◌≡◌, ℕ, zero, suc, ◌+◌, ◌≤◌, ◌<◌, List, [], ◌∷◌, ◌++◌, length, take, drop, Bool, true, false, nat_le, if◌then◌else◌, refl, sym, ap, ◌∙◌, arith, add_assoc, append_assoc, append-nil}
 use Rattle.std.proofs.lemmas.Bool.{le-leb, leb-false}
 use Rattle.std.proofs.lemmas.List.{length-drop}
-use Rattle.x25_circuit.specs.Cutter.{first_cut, first_left}
+use Rattle.x25_circuit.specs.code.Cutter.{first_cut, first_left}
 use Rattle.x25_circuit.specs.declared.message.Message.{Message}
 use Rattle.x25_circuit.specs.Messages.{Piece, More, Last, Partial, joined, joining, cut, cut_from, cut_all, ends_of, wholes}
 

@@ -9,10 +9,10 @@ use Rattle.x25_circuit.specs.declared.transfer.Transfer.{Transfer}
 use Rattle.x25_circuit.specs.declared.transfer.Header.{Header}
 use Rattle.x25_circuit.specs.Messages.{Piece, piece_of}
 use Rattle.x25_circuit.specs.Circuit.{Settings, Circuit, outgoing}
-use Rattle.x25_circuit.specs.Changes.{with_sent}
+use Rattle.x25_circuit.specs.code.Changes.{with_sent}
 use Rattle.x25_circuit.specs.Calls.{Pulled, pulled, pull_in, pull_open, pulls_nothing, data_packet}
-use Rattle.x25_circuit.specs.Fits.{FitsTalk, IsHeld, IsSent}
-use Rattle.x25_circuit.specs.FitsCircuit.{FitsCircuit}
+use Rattle.x25_circuit.specs.code.Fits.{FitsTalk, IsHeld, IsSent}
+use Rattle.x25_circuit.specs.code.FitsCircuit.{FitsCircuit}
 use Rattle.x25_circuit.specs.Pulling.{packet_with}
 use Rattle.x25_circuit.proofs.TalkLemmas.{with_transfer}
 

@@ -7,14 +7,14 @@ use Rattle.x25_packet.specs.Facilities.{IsFacilityField}
 use Rattle.x25_circuit.specs.declared.circuit.Circuit as code
 use Rattle.x25_circuit.specs.declared.transfer.Transfer.{Transfer}
 use Rattle.x25_circuit.specs.Messages.{Piece, piece_of, piece_ground, ground_of, Partial, no_part, joining, wholes}
-use Rattle.x25_circuit.specs.PartialMessage.{ShownPartial}
+use Rattle.x25_circuit.specs.code.PartialMessage.{ShownPartial}
 use Rattle.x25_circuit.specs.Queue.{waiting}
 use Rattle.x25_circuit.specs.Table.{data_ground, number_ground}
 use Rattle.x25_circuit.proofs.MessageLemmas.{wholes_all}
 use Rattle.x25_circuit.specs.Circuit.{Settings, Talk, Circuit, outgoing}
-use Rattle.x25_circuit.specs.Changes.{with_interrupt, with_peer, with_own}
-use Rattle.x25_circuit.specs.Fits.{FitsTalk, first_ground}
-use Rattle.x25_circuit.specs.FitsCircuit.{FitsCircuit}
+use Rattle.x25_circuit.specs.code.Changes.{with_interrupt, with_peer, with_own}
+use Rattle.x25_circuit.specs.code.Fits.{FitsTalk, first_ground}
+use Rattle.x25_circuit.specs.code.FitsCircuit.{FitsCircuit}
 
 pub with_transfer : (c : Settings) (v : code.Circuit) (x : Circuit) (u : Transfer) (t : Talk) → FitsCircuit c v x → FitsTalk (outgoing x).size u t
     → FitsCircuit c (record v { transfer = u }) (record x { talk = t })

@@ -8,7 +8,7 @@ use Rattle.x25_circuit.specs.declared.transfer.Header.{Header}
 use Rattle.x25_circuit.specs.contracts.circuit.Circuit.{the_row}
 use Rattle.x25_circuit.specs.Circuit.{Settings, Circuit}
 use Rattle.x25_circuit.specs.Calls.{pulled}
-use Rattle.x25_circuit.specs.FitsCircuit.{FitsCircuit, room_of}
+use Rattle.x25_circuit.specs.code.FitsCircuit.{FitsCircuit, room_of}
 
 -- what the header says, with this user data
 abbrev pub packet_with : Option Header → List ℕ → Option PlainPacket

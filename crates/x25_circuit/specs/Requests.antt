@@ -9,8 +9,8 @@ use Rattle.x25_circuit.specs.declared.request.Request as declared
 use Rattle.x25_circuit.specs.declared.request.Request.TheVariants as code
 use Rattle.x25_circuit.specs.Circuit.{Settings}
 use Rattle.x25_circuit.specs.Calls.{Outcome, Done, Refused, Request, Calls, Accepts, Clears, Sends, Interrupts, Resets, SaysReady, SaysNotReady}
-use Rattle.x25_circuit.specs.FitsCircuit.{FitsCircuit}
-use Rattle.x25_circuit.specs.Replies.{plain_owed}
+use Rattle.x25_circuit.specs.code.FitsCircuit.{FitsCircuit}
+use Rattle.x25_circuit.specs.code.Replies.{plain_owed}
 
 -- where there is one
 abbrev pub plain_answer : Option (Bor Params) → Option Params

@@ -8,9 +8,10 @@ ghost use Rattle.x25_circuit.specs.Circuit.{Settings};
 ghost use Rattle.x25_circuit.specs.Circuit.{Circuit as Channel};
 ghost use Rattle.x25_circuit.specs.Params.{default_params, field_for};
 ghost use Rattle.x25_circuit.specs.Calls.{outcome, Calls, Accepts, Clears, call_in, accept_with, is_address_text};
-ghost use Rattle.x25_circuit.specs.FitsCircuit.{FitsCircuit, Sends, room_of};
+ghost use Rattle.x25_circuit.specs.code.FitsCircuit.{FitsCircuit, Sends, room_of};
 
 use crate::circuit::Circuit;
+use crate::codes::{ASKED_FOR, NO_DIAGNOSTIC};
 use crate::error::CircuitError;
 use crate::params::{FlowControl, Params};
 use crate::proposal::Proposal;
@@ -184,8 +185,8 @@ impl Circuit {
                 self.end_call(State::Clearing);
                 Ok(Packet::Clear {
                     channel: 1,
-                    cause: 0,
-                    diagnostic: 0,
+                    cause: ASKED_FOR,
+                    diagnostic: NO_DIAGNOSTIC,
                 })
             }
         }

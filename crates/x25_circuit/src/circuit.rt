@@ -32,7 +32,7 @@ pub struct Circuit {
 }
 
 impl Circuit {
-    ghost use Rattle.x25_circuit.specs.FitsCircuit.{FitsCircuit, room_of, clears_of, resets_of};
+    ghost use Rattle.x25_circuit.specs.code.FitsCircuit.{FitsCircuit, room_of, clears_of, resets_of};
 
     /// A channel that was never used: p1. A call has at most 16 octets of user data.
     ///

@@ -5,10 +5,14 @@ ghost use Rattle.x25_circuit.specs.Circuit.{Settings};
 ghost use Rattle.x25_circuit.specs.Circuit.{Circuit as Channel};
 ghost use Rattle.x25_circuit.specs.Notices.{reset_done};
 ghost use Rattle.x25_circuit.specs.Table.{cause_at, diagnostic_in, clears_for, resets_for, unexpected, clears_to, resets_to, row_clear, row_clear_conf, row_reset, row_reset_conf, row_undecoded, undecoded, cause_of};
-ghost use Rattle.x25_circuit.specs.FitsCircuit.{FitsCircuit, room_of, clears_of, resets_of};
-ghost use Rattle.x25_circuit.specs.Replies.{Says, IsSendable, plain_owed};
+ghost use Rattle.x25_circuit.specs.code.FitsCircuit.{FitsCircuit, room_of, clears_of, resets_of};
+ghost use Rattle.x25_circuit.specs.code.Replies.{Says, IsSendable, plain_owed};
 
 use crate::circuit::Circuit;
+use crate::codes::{
+    DTE_FAULT, INVALID_FACILITY, LOCAL_PROCEDURE_ERROR, LOCAL_PROCEDURE_ERROR_OF_A_CALL,
+    NO_DIAGNOSTIC, NOT_IN_D1, NOT_IN_P1, NOT_IN_P2, NOT_IN_P3, NOT_IN_P4, NOT_IN_P5,
+};
 use crate::notice::{Notice, Reply};
 use crate::state::State;
 use x25_bits::Role;
@@ -19,7 +23,7 @@ fn cause_at(role: Role, cause: u8) -> u8
     ensures { result ≡ cause_at role cause }
 {
     match role {
-        Role::Dte => 128,
+        Role::Dte => DTE_FAULT,
         Role::Dce => cause,
     }
 }
@@ -39,12 +43,12 @@ fn diagnostic_in(role: Role, state: State) -> u8
     ensures { result ≡ diagnostic_in role state }
 {
     match state {
-        State::Free => 20,
-        State::Calling => by_role(role, 21, 22),
-        State::Arriving => by_role(role, 22, 21),
-        State::Open | State::Resetting => 23,
-        State::Collision => 24,
-        State::Clearing => 0,
+        State::Free => NOT_IN_P1,
+        State::Calling => by_role(role, NOT_IN_P2, NOT_IN_P3),
+        State::Arriving => by_role(role, NOT_IN_P3, NOT_IN_P2),
+        State::Open | State::Resetting => NOT_IN_P4,
+        State::Collision => NOT_IN_P5,
+        State::Clearing => NO_DIAGNOSTIC,
     }
 }
 
@@ -53,8 +57,8 @@ fn cause_of(error: PacketError) -> u8
     ensures { result ≡ cause_of error }
 {
     match error {
-        PacketError::BadFacility | PacketError::BadParameter => 3,
-        _ => 19,
+        PacketError::BadFacility | PacketError::BadParameter => INVALID_FACILITY,
+        _ => LOCAL_PROCEDURE_ERROR_OF_A_CALL,
     }
 }
 
@@ -88,7 +92,7 @@ impl Circuit {
         Reply::both(
             Packet::Reset {
                 channel: 1,
-                cause: cause_at(self.role, 5),
+                cause: cause_at(self.role, LOCAL_PROCEDURE_ERROR),
                 diagnostic,
             },
             Notice::Fault { diagnostic },
@@ -102,7 +106,10 @@ impl Circuit {
         ensures range { IsSendable (plain_owed result.packet) }
         ensures room { room_of self.old ≤ room_of self.new }
     {
-        self.clear_for(19, diagnostic_in(self.role, self.state))
+        self.clear_for(
+            LOCAL_PROCEDURE_ERROR_OF_A_CALL,
+            diagnostic_in(self.role, self.state),
+        )
     }
 
     // A clear is done.
@@ -202,7 +209,7 @@ impl Circuit {
         ensures room { room_of self.old ≤ room_of self.new }
     {
         match self.state {
-            State::Open => self.reset_for(27),
+            State::Open => self.reset_for(NOT_IN_D1),
             State::Resetting => self.end_reset(),
             State::Clearing => Reply::nothing(),
             _ => self.unexpected(),

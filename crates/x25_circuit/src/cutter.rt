@@ -25,11 +25,11 @@ pub struct Cutter {
 }
 
 impl Model for Cutter {
-    ghost use Rattle.x25_circuit.specs.Cutter.{ShownCutter};
+    ghost use Rattle.x25_circuit.specs.code.Cutter.{ShownCutter};
 
     ghost Value = { ShownCutter };
 
-    ghost use Rattle.x25_circuit.specs.CutterFields.{shown, IsSound};
+    ghost use Rattle.x25_circuit.specs.code.CutterFields.{shown, IsSound};
 
     ghost view = { shown };
 
@@ -37,7 +37,7 @@ impl Model for Cutter {
 }
 
 impl Cutter {
-    ghost use Rattle.x25_circuit.specs.Cutter.{ShownCutter, first_left, first_cut, marked};
+    ghost use Rattle.x25_circuit.specs.code.Cutter.{ShownCutter, first_left, first_cut, marked};
 
     /// Nothing is left of no message.
     pub fn new(alloc: Global) -> Cutter

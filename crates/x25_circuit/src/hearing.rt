@@ -6,12 +6,13 @@ ghost use Rattle.x25_circuit.specs.Circuit.{Settings};
 ghost use Rattle.x25_circuit.specs.Circuit.{Circuit as Channel};
 ghost use Rattle.x25_circuit.specs.Messages.{piece_of};
 ghost use Rattle.x25_circuit.specs.Notices.{deliveries};
-ghost use Rattle.x25_circuit.specs.Fits.{first_ground};
+ghost use Rattle.x25_circuit.specs.code.Fits.{first_ground};
 ghost use Rattle.x25_circuit.specs.Table.{resets_for, unless, number_ground, hears_status, confirms, takes, status, row_open, row_data, answers};
-ghost use Rattle.x25_circuit.specs.FitsCircuit.{FitsCircuit, room_of, user_octets, clears_of, resets_of};
-ghost use Rattle.x25_circuit.specs.Replies.{Says, IsSendable, plain_owed, plain_notices};
+ghost use Rattle.x25_circuit.specs.code.FitsCircuit.{FitsCircuit, room_of, user_octets, clears_of, resets_of};
+ghost use Rattle.x25_circuit.specs.code.Replies.{Says, IsSendable, plain_owed, plain_notices};
 
 use crate::circuit::Circuit;
+use crate::codes::{INVALID_PR, NO_INTERRUPT};
 use crate::error::CircuitError;
 use crate::message::Message;
 use crate::notice::{Notice, Reply};
@@ -50,7 +51,7 @@ impl Circuit {
         ensures room { room_of self.old ≤ room_of self.new }
     {
         if !self.transfer.ack(pr) {
-            return self.reset_for(2);
+            return self.reset_for(INVALID_PR);
         }
         self.transfer.peer_ready = is_ready;
         Reply::nothing()
@@ -65,7 +66,7 @@ impl Circuit {
         ensures room { room_of self.old ≤ room_of self.new }
     {
         if !self.transfer.interrupt_out {
-            return self.reset_for(43);
+            return self.reset_for(NO_INTERRUPT);
         }
         self.transfer.interrupt_out = false;
         Reply::tells(Notice::InterruptDone)
@@ -80,7 +81,7 @@ impl Circuit {
         ensures room { room_of self.old ≤ room_of self.new }
     {
         if !self.transfer.ack(pr) {
-            return self.reset_for(2);
+            return self.reset_for(INVALID_PR);
         }
         self.reset_for(diagnostic)
     }
@@ -97,7 +98,7 @@ impl Circuit {
         ensures room { IfNone result.packet (room_of self.old ≤ room_of self.new) }
     {
         if !self.transfer.ack(pr) {
-            return self.reset_for(2);
+            return self.reset_for(INVALID_PR);
         }
         let message = self.transfer.take(ps, q, m, user);
         let owed = self.status();
@@ -187,8 +188,8 @@ impl Circuit {
         }
     }
 
-    /// Takes a packet that came for this channel, and answers the packet to send and what the user is told, by the table of
-    /// the circuit. The channel that the packet names isn't looked at.
+    /// Takes a packet that came for this channel, and answers the packet to send and what is reported to the user, by the
+    /// table of the circuit. The channel that the packet names isn't looked at.
     ///
     /// 70 alone, and only for a data packet for which `room` set no memory aside. What it set aside stays where no packet is to
     /// be sent.

@@ -1,5 +1,5 @@
-ghost use Rattle.x25_circuit.specs.MessageLaws.{CutCarries, CutIsSound, SendAdds, SendStaysWhole, TakeAdds};
-ghost use Rattle.x25_circuit.specs.ParamsLaws.{FieldIsSaid, NoFieldIsKnown, KnownIsNoField, FieldIsAllowed, SaidIsAllowed, ProposalIsAnswer, DefaultIsAnswer, AnswerIsAllowed, TermsAreAllowed};
+ghost use Rattle.x25_circuit.specs.laws.MessageLaws.{CutCarries, CutIsSound, SendAdds, SendStaysWhole, TakeAdds};
+ghost use Rattle.x25_circuit.specs.laws.ParamsLaws.{FieldIsSaid, NoFieldIsKnown, KnownIsNoField, FieldIsAllowed, SaidIsAllowed, ProposalIsAnswer, DefaultIsAnswer, AnswerIsAllowed, TermsAreAllowed};
 
 /// What the packets sent, and behind them those that wait, carry are the messages of `send`, and what the packets taken
 /// carry are the messages told. ITU-T X.25 (10/96), sections 4.3.4 to 4.3.6.

@@ -4,6 +4,7 @@
 mod calling;
 mod circuit;
 mod clearing;
+mod codes;
 mod cutter;
 mod error;
 mod hearing;

@@ -49,7 +49,7 @@ pub enum Notice<'a> {
     },
 }
 
-/// What a circuit answers to a packet: the packet to send, and what the user is told.
+/// What a circuit answers to a packet: the packet to send, and what is reported to the user.
 #[derive(Debug, Drop)]
 pub struct Reply<'a> {
     pub packet: Option<Packet<'a>>,
@@ -59,9 +59,9 @@ pub struct Reply<'a> {
 }
 
 impl<'a> Reply<'a> {
-    ghost use Rattle.x25_circuit.specs.Replies.{Says, IsSendable, plain_notice, plain_owed};
+    ghost use Rattle.x25_circuit.specs.code.Replies.{Says, IsSendable, plain_notice, plain_owed};
 
-    /// Nothing is sent or told.
+    /// Nothing is sent or reported.
     pub(crate) fn nothing() -> Reply<'a>
         ensures says { Says result None [] }
         ensures range { IsSendable (plain_owed result.packet) }
@@ -85,7 +85,7 @@ impl<'a> Reply<'a> {
         }
     }
 
-    /// Nothing is told.
+    /// Nothing is reported.
     pub(crate) fn owes(packet: Packet<'a>) -> Reply<'a>
         ensures says { Says result (Some (plain packet.entry)) [] }
         ensures range { IsInRange 128 (plain packet.entry) → IsSendable (plain_owed result.packet) }
@@ -97,7 +97,7 @@ impl<'a> Reply<'a> {
         }
     }
 
-    /// A packet is sent, and the user is told.
+    /// A packet is sent, and something is reported to the user.
     pub(crate) fn both(packet: Packet<'a>, notice: Notice<'a>) -> Reply<'a>
         ensures says { Says result (Some (plain packet.entry)) (plain_notice notice.entry ∷ []) }
         ensures range { IsInRange 128 (plain packet.entry) → IsSendable (plain_owed result.packet) }

@@ -1,5 +1,6 @@
 ghost use Rattle.std.specs.Prelude.{◌≡◌, ℕ, ◌+◌, ◌<◌, ◌≤◌, ◌++◌, length, min, max, replicate, vec_len, vec_capacity, IfOk, IfNone, Option, IsOk, OnOk, OnErr, option_to_list};
 
+use crate::codes::{MIXED_QUALIFIERS, PACKET_TOO_LONG};
 use crate::message::Message;
 use crate::octets::{LONGEST_MESSAGE, Octets};
 use std::alloc::{AllocError, Global};
@@ -25,7 +26,7 @@ pub struct PartialMessage {
 
 impl Model for PartialMessage {
     ghost use Rattle.std.specs.Prelude.{◌-◌, ◌≤◌, take, vec_len, vec_capacity};
-    ghost use Rattle.x25_circuit.specs.PartialMessage.{ShownPartial};
+    ghost use Rattle.x25_circuit.specs.code.PartialMessage.{ShownPartial};
 
     ghost Value = { ShownPartial };
 
@@ -55,6 +56,7 @@ fn with_places(alloc: Global, octets: &[u8], more: usize) -> Result<Vec<u8>, All
 impl PartialMessage {
     ghost use Rattle.x25_circuit.specs.Messages.{no_part, ground_of, joined, completed, piece_of};
 
+    /// No message has begun. No memory is taken.
     pub fn new(alloc: Global) -> PartialMessage
         ensures { result.part ≡ no_part }
     {
@@ -88,15 +90,16 @@ impl PartialMessage {
         ensures fits { IfNone result (count ≤ size) }
     {
         if count > size || count > LONGEST_MESSAGE - self.len() {
-            return Some(39);
+            return Some(PACKET_TOO_LONG);
         }
         match self.begun {
-            Some(begun) if begun != q => Some(83),
+            Some(begun) if begun != q => Some(MIXED_QUALIFIERS),
             _ => None,
         }
     }
 
-    /// Sets memory aside for at least so many octets, but for no more than those of the longest data packet.
+    /// Sets memory aside for at least so many octets, but for no more than those of the longest data packet. Err: no memory; all is as it was
+    /// then.
     pub fn reserve(&mut self, count: usize) -> Result<(), AllocError>
         ensures part { self.new.part ≡ self.old.part }
         ensures ok { OnOk result (min count 4096 ≤ self.new.room) }

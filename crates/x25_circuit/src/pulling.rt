@@ -6,8 +6,8 @@ ghost use Rattle.x25_circuit.specs.Circuit.{Settings};
 ghost use Rattle.x25_circuit.specs.Circuit.{Circuit as Channel};
 ghost use Rattle.x25_circuit.specs.Calls.{pulled};
 ghost use Rattle.x25_circuit.specs.DataPacket.{plain_data, plain_pulled};
-ghost use Rattle.x25_circuit.specs.Replies.{IsSendable};
-ghost use Rattle.x25_circuit.specs.FitsCircuit.{FitsCircuit, room_of};
+ghost use Rattle.x25_circuit.specs.code.Replies.{IsSendable};
+ghost use Rattle.x25_circuit.specs.code.FitsCircuit.{FitsCircuit, room_of};
 ghost use Rattle.x25_circuit.specs.Pulling.{packet_with, EndsPulled};
 
 use crate::circuit::Circuit;

@@ -19,8 +19,9 @@ pub struct Queue {
 
 impl Queue {
     ghost use Rattle.x25_circuit.specs.Queue.{waiting};
-    ghost use Rattle.x25_circuit.specs.Cutter.{first_cut, first_left, marked};
+    ghost use Rattle.x25_circuit.specs.code.Cutter.{first_cut, first_left, marked};
 
+    /// No message waits. Err: no memory.
     pub fn new(alloc: Global) -> Result<Queue, AllocError>
         ensures { IfOk result (λ q. waiting q ≡ []) }
     {
@@ -42,6 +43,7 @@ impl Queue {
         self.ring.len() + 1
     }
 
+    /// Lets a message wait behind the others, of which there are fewer than 8.
     pub fn push(&mut self, message: Message)
         requires { length (waiting self.old) < 8 }
         ensures { waiting self.new ≡ waiting self.old ++ message ∷ [] }
@@ -49,6 +51,7 @@ impl Queue {
         let _ = self.ring.push_back(message);
     }
 
+    /// Drops all that wait.
     pub fn clear(&mut self)
         ensures { waiting self.new ≡ [] }
     {

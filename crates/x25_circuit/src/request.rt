@@ -1,13 +1,14 @@
 //! What the user of a circuit asks for, as one type.
-ghost use Rattle.std.specs.Prelude.{◌≡◌, ◌≤◌, Bool, OnErr, IfOk, Some, None};
+ghost use Rattle.std.specs.Prelude.{◌≡◌, ◌≤◌, ◌<◌, Bool, false, OnErr, IfOk, IfSome, IfNone, Some, None, length};
 ghost use Rattle.x25_packet.specs.PlainPacket.{plain};
 ghost use Rattle.x25_packet.specs.Spelling.{IsInRange};
 ghost use Rattle.x25_circuit.specs.Circuit.{Settings};
 ghost use Rattle.x25_circuit.specs.Circuit.{Circuit as Channel};
-ghost use Rattle.x25_circuit.specs.Calls.{outcome, Accepts, is_address_text, may_call, call_in, accept_in, accept_with, clear_in, send_in, interrupt_in, reset_in, ready_in};
-ghost use Rattle.x25_circuit.specs.FitsCircuit.{FitsCircuit, Sends, room_of};
+ghost use Rattle.x25_circuit.specs.Calls.{outcome, Refused, Accepts, is_address_text, may_call, call_in, accept_in, accept_with, clear_in, send_in, interrupt_in, reset_in, ready_in};
+ghost use Rattle.x25_circuit.specs.code.FitsCircuit.{FitsCircuit, Sends, room_of};
+ghost use Rattle.x25_circuit.specs.Queue.{waiting};
 ghost use Rattle.x25_circuit.specs.Requests.{plain_answer, plain_request, refusal_of, with_packet, AnswersRequest, MayPut};
-ghost use Rattle.x25_circuit.specs.Replies.{IsSendable, plain_owed};
+ghost use Rattle.x25_circuit.specs.code.Replies.{IsSendable, plain_owed};
 
 use crate::circuit::Circuit;
 use crate::error::CircuitError;
@@ -73,7 +74,7 @@ fn may_call(long_data: bool, called: &str, calling: &str, user: &[u8], params: P
 impl Circuit {
     /// Does what is asked, as the call of that name. It answers the packet to send, where there is one.
     ///
-    /// Refused as that call, and then the circuit is as before.
+    /// Refused as that call, by 30, 31, 32, 33 or 34, and then the circuit is as before.
     pub fn ask<'a>(&mut self, request: Request<'a>) -> Result<Option<Packet<'a>>, CircuitError>
         ensures outcome { (c : Settings) (x : Channel) → FitsCircuit c self.old x → AnswersRequest c self.new result (outcome c x (plain_request request.entry)) }
         ensures range { IfOk result (λ packet. IsSendable (plain_owed packet)) }
@@ -182,19 +183,28 @@ impl Circuit {
         }
     }
 
-    fn send_refusal(&self, q: bool, user: &Vec<u8>) -> Option<CircuitError>
-        ensures { (c : Settings) (x : Channel) → FitsCircuit c self.now x → result ≡ refusal_of (send_in c x x.state q user.now.items) }
+    pub(crate) fn send_refusal(&self, q: bool, user: &Vec<u8>) -> Option<CircuitError>
+        ensures refusal { (c : Settings) (x : Channel) → FitsCircuit c self.now x → result ≡ refusal_of (send_in c x x.state q user.now.items) }
+        ensures refused { (c : Settings) (x : Channel) → FitsCircuit c self.now x → IfSome result (λ e. send_in c x x.state q user.now.items ≡ Refused e) }
+        ensures open { IfNone result (self.now.state ≡ State.Open) }
+        ensures short { IfNone result (length user.now.items ≤ 65535) }
+        ensures few { IfNone result (length (waiting self.now.transfer.queue) < 8) }
     {
         match self.state {
             State::Open if user.len() > LONGEST_MESSAGE => Some(CircuitError::TooLong),
-            State::Open if self.waits() == PLACES => Some(CircuitError::Full),
+            State::Open if self.transfer.queue.len() == PLACES => Some(CircuitError::Full),
             State::Open => None,
             _ => Some(CircuitError::WrongState),
         }
     }
 
-    fn interrupt_refusal(&self, user: &[u8]) -> Option<CircuitError>
-        ensures { (c : Settings) (x : Channel) → FitsCircuit c self.now x → result ≡ refusal_of (interrupt_in x x.state user.now) }
+    pub(crate) fn interrupt_refusal(&self, user: &[u8]) -> Option<CircuitError>
+        ensures refusal { (c : Settings) (x : Channel) → FitsCircuit c self.now x → result ≡ refusal_of (interrupt_in x x.state user.now) }
+        ensures refused { (c : Settings) (x : Channel) → FitsCircuit c self.now x → IfSome result (λ e. interrupt_in x x.state user.now ≡ Refused e) }
+        ensures open { IfNone result (self.now.state ≡ State.Open) }
+        ensures none_out { IfNone result (self.now.transfer.interrupt_out ≡ false) }
+        ensures some { IfNone result (1 ≤ length user.now) }
+        ensures short { IfNone result (length user.now ≤ 32) }
     {
         if self.state != State::Open {
             return Some(CircuitError::WrongState);
@@ -209,7 +219,10 @@ impl Circuit {
     }
 
     // Where it isn't in p4 with d1.
-    fn closed(&self) -> Option<CircuitError>
+    pub(crate) fn closed(&self) -> Option<CircuitError>
+        ensures open { IfNone result (self.now.state ≡ State.Open) }
+        ensures no_reset { (c : Settings) (x : Channel) → FitsCircuit c self.now x → IfSome result (λ e. reset_in x x.state ≡ Refused e) }
+        ensures no_ready { (c : Settings) (x : Channel) (is_ready : Bool) → FitsCircuit c self.now x → IfSome result (λ e. ready_in x x.state is_ready ≡ Refused e) }
         ensures reset { (c : Settings) (x : Channel) → FitsCircuit c self.now x → result ≡ refusal_of (reset_in x x.state) }
         ensures ready { (c : Settings) (x : Channel) (is_ready : Bool) → FitsCircuit c self.now x → result ≡ refusal_of (ready_in x x.state is_ready) }
     {

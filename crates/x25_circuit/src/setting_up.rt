@@ -4,19 +4,17 @@ ghost use Rattle.x25_circuit.specs.Circuit.{Settings};
 ghost use Rattle.x25_circuit.specs.Circuit.{Circuit as Channel};
 ghost use Rattle.x25_circuit.specs.Notices.{incoming};
 ghost use Rattle.x25_circuit.specs.Params.{said_in};
-ghost use Rattle.x25_circuit.specs.Replies.{Says, IsSendable, plain_owed, plain_notice};
+ghost use Rattle.x25_circuit.specs.code.Replies.{Says, IsSendable, plain_owed, plain_notice};
 ghost use Rattle.x25_circuit.specs.Table.{collides, connects, request_in, row_call, row_accept};
-ghost use Rattle.x25_circuit.specs.FitsCircuit.{FitsCircuit, room_of};
+ghost use Rattle.x25_circuit.specs.code.FitsCircuit.{FitsCircuit, room_of};
 
 use crate::circuit::Circuit;
+use crate::codes::{INVALID_FACILITY, INVALID_PARAMETER};
 use crate::notice::{Notice, Reply};
 use crate::params::{FlowControl, Params};
 use crate::state::State;
 use x25_bits::Role;
 use x25_packet::Digits;
-
-/// The cause invalid facility request, and the diagnostic for an answer that isn't allowed (profile).
-const NOT_ALLOWED: (u8, u8) = (3, 66);
 
 impl Circuit {
     pub(crate) fn hear_call<'a>(
@@ -100,7 +98,7 @@ impl Circuit {
     {
         let answer = self.flow.said(facilities).params;
         let Some(flow) = self.flow.answered(answer) else {
-            return self.clear_for(NOT_ALLOWED.0, NOT_ALLOWED.1);
+            return self.clear_for(INVALID_FACILITY, INVALID_PARAMETER);
         };
         self.enter(State::Open, flow, true);
         Reply::tells(Notice::Connected {

@@ -4,14 +4,14 @@ ghost use Rattle.x25_packet.specs.PlainPacket.{plain};
 ghost use Rattle.x25_packet.specs.Spelling.{IsInRange};
 ghost use Rattle.x25_circuit.specs.Circuit.{Settings};
 ghost use Rattle.x25_circuit.specs.Circuit.{Circuit as Channel};
-ghost use Rattle.x25_circuit.specs.Calls.{outcome, Sends as CallSends, Interrupts, Resets, SaysReady, SaysNotReady, send_open, interrupt_open, ready_in};
-ghost use Rattle.x25_circuit.specs.FitsCircuit.{FitsCircuit, Sends, Keeps, room_of};
+ghost use Rattle.x25_circuit.specs.Calls.{outcome, Sends as CallSends, Interrupts, Resets, SaysReady, SaysNotReady, ready_in};
+ghost use Rattle.x25_circuit.specs.code.FitsCircuit.{FitsCircuit, Sends, Keeps, room_of};
 
 use crate::circuit::Circuit;
+use crate::codes::{ASKED_FOR, NO_DIAGNOSTIC};
 use crate::error::CircuitError;
 use crate::message::Message;
-use crate::octets::{LONGEST_MESSAGE, Octets};
-use crate::queue::PLACES;
+use crate::octets::Octets;
 use crate::state::State;
 use x25_packet::Packet;
 
@@ -27,22 +27,8 @@ impl Circuit {
         ensures room { room_of self.old ≤ room_of self.new }
         ensures unchanged { OnErr result (self.new ≡ self.old) }
     {
-        match self.state {
-            State::Open => self.send_open(q, user),
-            _ => Err(CircuitError::WrongState),
-        }
-    }
-
-    fn send_open(&mut self, q: bool, user: Vec<u8>) -> Result<(), CircuitError>
-        ensures outcome { (c : Settings) (x : Channel) → FitsCircuit c self.old x → Keeps c self.new result (send_open c x x.talk q user.items) }
-        ensures room { room_of self.old ≤ room_of self.new }
-        ensures unchanged { OnErr result (self.new ≡ self.old) }
-    {
-        if user.len() > LONGEST_MESSAGE {
-            return Err(CircuitError::TooLong);
-        }
-        if self.transfer.queue.len() == PLACES {
-            return Err(CircuitError::Full);
+        if let Some(error) = self.send_refusal(q, &user) {
+            return Err(error);
         }
         let user = Octets::of(user);
         self.transfer.push(Message { q, user });
@@ -58,23 +44,8 @@ impl Circuit {
         ensures room { room_of self.old ≤ room_of self.new }
         ensures unchanged { OnErr result (self.new ≡ self.old) }
     {
-        match self.state {
-            State::Open => self.interrupt_open(user),
-            _ => Err(CircuitError::WrongState),
-        }
-    }
-
-    fn interrupt_open<'a>(&mut self, user: &'a [u8]) -> Result<Packet<'a>, CircuitError>
-        ensures outcome { (c : Settings) (x : Channel) → FitsCircuit c self.old x → Sends c self.new result (interrupt_open x x.talk user.now) }
-        ensures range { IfOk result (λ packet. IsInRange 128 (plain packet)) }
-        ensures room { room_of self.old ≤ room_of self.new }
-        ensures unchanged { OnErr result (self.new ≡ self.old) }
-    {
-        if user.is_empty() || user.len() > INTERRUPT_OCTETS {
-            return Err(CircuitError::BadParameter);
-        }
-        if self.transfer.interrupt_out {
-            return Err(CircuitError::InterruptOutstanding);
+        if let Some(error) = self.interrupt_refusal(user) {
+            return Err(error);
         }
         self.transfer.interrupt_out = true;
         Ok(Packet::Interrupt { channel: 1, user })
@@ -89,17 +60,15 @@ impl Circuit {
         ensures room { room_of self.old ≤ room_of self.new }
         ensures unchanged { OnErr result (self.new ≡ self.old) }
     {
-        match self.state {
-            State::Open => {
-                self.begin_stretch(State::Resetting);
-                Ok(Packet::Reset {
-                    channel: 1,
-                    cause: 0,
-                    diagnostic: 0,
-                })
-            }
-            _ => Err(CircuitError::WrongState),
+        if let Some(error) = self.closed() {
+            return Err(error);
         }
+        self.begin_stretch(State::Resetting);
+        Ok(Packet::Reset {
+            channel: 1,
+            cause: ASKED_FOR,
+            diagnostic: NO_DIAGNOSTIC,
+        })
     }
 
     /// Says that this end is ready to receive data packets, also where it was. It answers RR.
@@ -133,12 +102,10 @@ impl Circuit {
         ensures room { room_of self.old ≤ room_of self.new }
         ensures unchanged { OnErr result (self.new ≡ self.old) }
     {
-        match self.state {
-            State::Open => {
-                self.transfer.own_ready = is_ready;
-                Ok(self.status())
-            }
-            _ => Err(CircuitError::WrongState),
+        if let Some(error) = self.closed() {
+            return Err(error);
         }
+        self.transfer.own_ready = is_ready;
+        Ok(self.status())
     }
 }

@@ -1,11 +1,12 @@
 ghost use Rattle.std.specs.Prelude.{◌≡◌, ℕ, ◌+◌, ◌%◌, ◌<◌, ◌≤◌, ◌==◌, nat_le, nat_lt, length, ◌∷◌, [], ◌++◌, true, false, IfOk, IfErr, OnOk, OnErr, OnSome, IfSome, IfNone, Bool, option_to_list, Some, None, if◌then◌else◌};
 ghost use Rattle.x25_window.specs.Modulo.{resolved};
-ghost use Rattle.x25_circuit.specs.FitsNumbers.{FitsNumbers};
+ghost use Rattle.x25_circuit.specs.code.FitsNumbers.{FitsNumbers};
 ghost use Rattle.x25_circuit.specs.Messages.{piece_of, no_part, joining, completed, piece_ground, ground_of, cut};
 ghost use Rattle.x25_circuit.specs.Circuit.{Talk, silent};
 ghost use Rattle.x25_circuit.specs.Queue.{waiting};
-ghost use Rattle.x25_circuit.specs.Changes.{with_acked, with_taken, with_rest, with_interrupt, with_peer, with_own, with_sent};
+ghost use Rattle.x25_circuit.specs.code.Changes.{with_acked, with_taken, with_rest, with_interrupt, with_peer, with_own, with_sent};
 
+use crate::codes::INVALID_PS;
 use crate::error::CircuitError;
 use crate::message::Message;
 use crate::partial::PartialMessage;
@@ -54,8 +55,9 @@ fn count_sent(sender: &mut Sender<()>) -> Seq
 }
 
 impl Transfer {
-    ghost use Rattle.x25_circuit.specs.Fits.{FitsTalk, IsSent, IsHeld};
+    ghost use Rattle.x25_circuit.specs.code.Fits.{FitsTalk, IsSent, IsHeld};
 
+    /// Nothing was sent or taken, nothing waits, and both ends are ready. 70 alone.
     pub fn new(alloc: Global) -> Result<Transfer, CircuitError>
         ensures fits { (size : ℕ) → IfOk result (λ t. FitsTalk size t silent) }
         ensures err { IfErr result (λ e. e ≡ CircuitError.NoMemory) }
@@ -108,7 +110,7 @@ impl Transfer {
         ensures fits { IfNone result (count ≤ size) }
     {
         if ps != self.receiver.wanted() {
-            return Some(1);
+            return Some(INVALID_PS);
         }
         self.partial.ground(size, count, q)
     }

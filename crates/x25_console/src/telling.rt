@@ -1,12 +1,12 @@
 //! Lines that tell of frames and of refusals.
 ghost use Rattle.std.specs.Prelude.{◌≡◌, ◌++◌, [], true, ℕ, List, Option, OnOk, OnErr, IsErrOf, MatchResult};
 ghost use Rattle.x25_console.specs.Lines.{frame_line, nothing_line, refusal_line};
-ghost use Rattle.x25_io.specs.Written.{AppendsBeginning, Tells};
+ghost use Rattle.x25_io.specs.code.Written.{AppendsPrefix, Tells};
 
 use std::alloc::AllocError;
-use x25_entries::Line;
 use x25_io::{Fault, Output, Sink};
 use x25_station::Role;
+use x25_transcript::Line;
 
 #[tactic(auto, unfolding(crate::specs::Lines::frame_line))]
 fn push_frame(from: Role, octets: &[u8], line: &mut Line) -> Result<(), AllocError>
@@ -59,7 +59,7 @@ pub fn write_refusal(number: u8, line: &mut Line) -> Result<(), AllocError>
 pub fn tell<W: Sink>(line: &[u8], output: &mut Output, writer: &mut W) -> Result<(), Fault>
     ensures kept { OnOk result (W.is_marked writer.new ≡ W.is_marked writer.old) }
     ensures tells { (old : Option (List ℕ)) (told : List ℕ) → Tells old (W.contents writer.old) output.old told
-        → MatchResult result (λ _. Tells old (W.contents writer.new) output.new (told ++ line.now)) (λ _. AppendsBeginning old (W.contents writer.new) (told ++ line.now)) }
+        → MatchResult result (λ _. Tells old (W.contents writer.new) output.new (told ++ line.now)) (λ _. AppendsPrefix old (W.contents writer.new) (told ++ line.now)) }
     ensures write { IsErrOf result Fault.Write → W.is_marked writer.new ≡ true }
     ensures memory { IsErrOf result Fault.NoMemory → W.is_marked writer.new ≡ W.is_marked writer.old }
     ensures read { IsErrOf result Fault.Read → ⊥ }
@@ -74,7 +74,7 @@ pub fn tell<W: Sink>(line: &[u8], output: &mut Output, writer: &mut W) -> Result
 pub fn tell_nothing<W: Sink>(output: &mut Output, writer: &mut W) -> Result<(), Fault>
     ensures kept { OnOk result (W.is_marked writer.new ≡ W.is_marked writer.old) }
     ensures tells { (old : Option (List ℕ)) (told : List ℕ) → Tells old (W.contents writer.old) output.old told
-        → MatchResult result (λ _. Tells old (W.contents writer.new) output.new (told ++ nothing_line)) (λ _. AppendsBeginning old (W.contents writer.new) (told ++ nothing_line)) }
+        → MatchResult result (λ _. Tells old (W.contents writer.new) output.new (told ++ nothing_line)) (λ _. AppendsPrefix old (W.contents writer.new) (told ++ nothing_line)) }
     ensures write { IsErrOf result Fault.Write → W.is_marked writer.new ≡ true }
     ensures memory { IsErrOf result Fault.NoMemory → W.is_marked writer.new ≡ W.is_marked writer.old }
     ensures read { IsErrOf result Fault.Read → ⊥ }

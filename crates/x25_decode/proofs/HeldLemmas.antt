@@ -7,7 +7,7 @@ use Rattle.std.proofs.lemmas.Bool.Decides.{nat_tests}
 use Rattle.std.proofs.Math.Seq.{take-append-add}
 use Rattle.x25_bits.specs.declared.role.Role.{Role}
 use Rattle.x25_decode.specs.Decoded.{answer_to, is_refused, sent_in, sent_text, octets_in, sender_of}
-use Rattle.x25_decode.specs.Stream.{most_line, HoldsLine}
+use Rattle.x25_decode.specs.code.Stream.{most_line, HoldsLine}
 
 -- a list is its beginning, or longer
 short_of : (n : ℕ) (begun line : List ℕ) (long : Bool) → line ≡ take n begun → long ≡ nat_lt n (length begun) → long ≡ false → line ≡ begun

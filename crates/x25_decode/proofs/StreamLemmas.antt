@@ -9,8 +9,8 @@ use Rattle.std.proofs.Math.Bool.{or_assoc, or-false}
 use Rattle.std.proofs.KnownBytes.{Appends-nil, Appends-trans}
 use Rattle.x25_io.specs.Lines.{IsOpen, lines_of}
 use Rattle.x25_decode.specs.Decoded.{answer_to, is_refused, output_of, has_refused}
-use Rattle.x25_decode.specs.Stream.{HoldsLine, Leads, WritesEnded}
-use Rattle.x25_io.specs.Written.{AppendsBeginning}
+use Rattle.x25_decode.specs.code.Stream.{HoldsLine, Leads, WritesEnded}
+use Rattle.x25_io.specs.code.Written.{AppendsPrefix}
 
 -- a line that ends
 pub ends_line : (begun rest : List ℕ) → IsOpen begun → lines_of (begun ++ 10 ∷ rest) ≡ begun ∷ lines_of rest
@@ -74,7 +74,7 @@ start long_data old line long text refused input no_line not_long no_text none =
 
 -- nothing was read or written
 pub nothing_written : (long_data : Bool) (o w : Option (List ℕ)) (K : List ℕ → Type 0)
-    → IfSome o (λ input. K input → AppendsBeginning w w (output_of long_data input))
+    → IfSome o (λ input. K input → AppendsPrefix w w (output_of long_data input))
 nothing_written long_data None w K = tt
 nothing_written long_data (Some input) w K = λ few. ([], output_of long_data input, refl, Appends-nil w)
 
@@ -92,7 +92,7 @@ module _ (long_data : Bool) (old : Option (List ℕ)) where
   }
 
   pub flush_err : (w v : Option (List ℕ)) (line : List ℕ) (long : Bool) (text : List ℕ) (refused : Bool) (rest all : List ℕ) (any : Bool)
-      → Leads long_data old w line long text refused rest all any → AppendsBeginning w v text → AppendsBeginning old v all
+      → Leads long_data old w line long text refused rest all any → AppendsPrefix w v text → AppendsPrefix old v all
   flush_err w v line long text refused rest all any h a = (
     h.written ++ a.0,
     a.1 ++ output_of long_data (h.begun ++ rest),
@@ -101,8 +101,8 @@ module _ (long_data : Bool) (old : Option (List ℕ)) where
   )
 
   pub flush_either : {T E : Type 0} (r : Result T E) (w v : Option (List ℕ)) (line : List ℕ) (long : Bool) (text text2 : List ℕ) (refused : Bool) (rest all : List ℕ) (any : Bool)
-      → Leads long_data old w line long text refused rest all any → OnOk r (Appends w v text) → OnOk r (text2 ≡ []) → OnErr r (AppendsBeginning w v text)
-      → MatchResult r (λ _. Leads long_data old v line long text2 refused rest all any) (λ _. AppendsBeginning old v all)
+      → Leads long_data old w line long text refused rest all any → OnOk r (Appends w v text) → OnOk r (text2 ≡ []) → OnErr r (AppendsPrefix w v text)
+      → MatchResult r (λ _. Leads long_data old v line long text2 refused rest all any) (λ _. AppendsPrefix old v all)
   flush_either (Ok x) w v line long text text2 refused rest all any h ok empty err = rw empty (flush_ok w v line long text refused rest all any h ok)
   flush_either (Err e) w v line long text text2 refused rest all any h ok empty err = flush_err w v line long text refused rest all any h err
 
@@ -194,9 +194,9 @@ module _ (long_data : Bool) (old : Option (List ℕ)) where
       nil_refuses = nil_ref
 
   pub ended_by : {E : Type 0} (r : Result Unit E) (w v : Option (List ℕ)) (line : List ℕ) (long : Bool) (text : List ℕ) (refused refused2 : Bool) (all : List ℕ) (any : Bool)
-      → OnOk r (Appends w v text) → OnErr r (AppendsBeginning w v text)
+      → OnOk r (Appends w v text) → OnErr r (AppendsPrefix w v text)
       → Leads long_data old w line long text refused [] all any → length line ≡ 0 → refused2 ≡ refused
-      → MatchResult r (λ _. Appends old v all × (refused2 ≡ any)) (λ _. AppendsBeginning old v all)
+      → MatchResult r (λ _. Appends old v all × (refused2 ≡ any)) (λ _. AppendsPrefix old v all)
   ended_by (Ok x) w v line long text refused refused2 all any ok err h size same =
       let end = ended w v line long text refused all any h size ok in (end.0, same ∙ end.1)
   ended_by (Err e) w v line long text refused refused2 all any ok err h size same = flush_err w v line long text refused [] all any h err

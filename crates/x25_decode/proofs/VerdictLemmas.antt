@@ -7,12 +7,12 @@ use Rattle.std.proofs.Math.Seq.{drop-cons}
 use Rattle.std.proofs.Math.Bool.{and_assoc}
 use Rattle.std.proofs.KnownBytes.{Appends-nil, Appends-trans}
 use Rattle.x25_decode.specs.Vectors.{is_right, shown, verdict, verdict_of}
-use Rattle.x25_io.specs.Written.{AppendsBeginning}
+use Rattle.x25_io.specs.code.Written.{AppendsPrefix}
 use Rattle.x25_decode.specs.declared.test_vectors.Vector.{Vector}
 
 -- text that is written in two parts, where the second wasn't written whole
-pub beginning_after : (old mid new : Option (List ℕ)) (first second : List ℕ) → Appends old mid first → AppendsBeginning mid new second → AppendsBeginning old new (first ++ second)
-beginning_after old mid new first second a b = (
+pub prefix_after : (old mid new : Option (List ℕ)) (first second : List ℕ) → Appends old mid first → AppendsPrefix mid new second → AppendsPrefix old new (first ++ second)
+prefix_after old mid new first second a b = (
   first ++ b.0,
   b.1,
   ap (λ t. first ++ t) b.2 ∙ sym (append_assoc first b.0 b.1),
@@ -20,8 +20,8 @@ beginning_after old mid new first second a b = (
 )
 
 -- a beginning of the first part is one of the whole
-pub beginning_before : (old new : Option (List ℕ)) (first second : List ℕ) → AppendsBeginning old new first → AppendsBeginning old new (first ++ second)
-beginning_before old new first second b = (b.0, b.1 ++ second, ap (λ t. t ++ second) b.2 ∙ append_assoc b.0 b.1 second, b.3)
+pub prefix_before : (old new : Option (List ℕ)) (first second : List ℕ) → AppendsPrefix old new first → AppendsPrefix old new (first ++ second)
+prefix_before old new first second b = (b.0, b.1 ++ second, ap (λ t. t ++ second) b.2 ∙ append_assoc b.0 b.1 second, b.3)
 
 -- what was written, and what is left
 pub record WritesVerdicts (old now : Option (List ℕ)) (vectors rest : List Vector) (all_right before mark : Bool) : Type 0 where
@@ -35,9 +35,9 @@ pub none_written : (old : Option (List ℕ)) (vectors : List Vector) (mark : Boo
 none_written old vectors mark = record { part = []; appends = Appends-nil old; same = refl; right = refl; kept = refl }
 
 pub second_err : {X E : Type 0} (r : Result X E) (old mid new : Option (List ℕ)) (first second text : List ℕ) → text ≡ first ++ second → Appends old mid first
-    → OnErr r (AppendsBeginning mid new second) → OnErr r (AppendsBeginning old new text)
+    → OnErr r (AppendsPrefix mid new second) → OnErr r (AppendsPrefix old new text)
 second_err (Ok x) old mid new first second text e a b = tt
-second_err (Err x) old mid new first second text e a b = subst (AppendsBeginning old new) (sym e) (beginning_after old mid new first second a b)
+second_err (Err x) old mid new first second text e a b = subst (AppendsPrefix old new) (sym e) (prefix_after old mid new first second a b)
 
 module _ (old now next : Option (List ℕ)) (vectors : List Vector) (i : ℕ) (d : Vector) (all_right result before mark : Bool) (within : i < length vectors)
     (writes : WritesVerdicts old now vectors (drop i vectors) all_right before mark) (held : result ≡ is_right (shown (get_or vectors i d))) where
@@ -65,6 +65,6 @@ module _ (old now next : Option (List ℕ)) (vectors : List Vector) (i : ℕ) (d
     kept = same_mark ∙ writes.kept;
   }
 
-  pub fault_vector : AppendsBeginning now next (verdict here.name.now result) → AppendsBeginning old next (flat_map verdict_of (map shown vectors))
-  fault_vector b = subst (AppendsBeginning old next) all_lines (beginning_after old now next writes.part _ writes.appends
-      (beginning_before now next (verdict here.name.now result) (flat_map verdict_of (map shown (drop (i + 1) vectors))) b))
+  pub fault_vector : AppendsPrefix now next (verdict here.name.now result) → AppendsPrefix old next (flat_map verdict_of (map shown vectors))
+  fault_vector b = subst (AppendsPrefix old next) all_lines (prefix_after old now next writes.part _ writes.appends
+      (prefix_before now next (verdict here.name.now result) (flat_map verdict_of (map shown (drop (i + 1) vectors))) b))

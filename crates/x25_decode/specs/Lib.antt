@@ -1,3 +1,3 @@
 pub mod Decoded
-pub mod Stream
 pub mod Vectors
+pub mod code

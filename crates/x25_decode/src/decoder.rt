@@ -27,9 +27,9 @@ impl Decoder {
     ghost use Rattle.std.specs.Prelude.{◌≡◌, ◌≤◌, ◌+◌, ◌++◌, ◌∷◌, [], ℕ, Bool, true, false, List, Option, ◌||◌, IfOk, OnOk, OnErr, MatchResult, length};
     ghost use Rattle.std.specs.Io.KnownBytes.{Appends};
     ghost use Rattle.x25_decode.specs.Decoded.{answer_to, is_refused};
-    ghost use Rattle.x25_decode.specs.Stream.{DecodesOn, HoldsLine, LeadsFrom};
+    ghost use Rattle.x25_decode.specs.code.Stream.{DecodesOn, HoldsLine, LeadsFrom};
     ghost use Rattle.x25_io.specs.Lines.{IsOpen};
-    ghost use Rattle.x25_io.specs.Written.{AppendsBeginning};
+    ghost use Rattle.x25_io.specs.code.Written.{AppendsPrefix};
 
     /// Nothing is held and nothing waits.
     ///
@@ -54,7 +54,7 @@ impl Decoder {
         ensures kept { OnOk result (W.is_marked writer.new ≡ W.is_marked writer.old) }
         ensures ok { OnOk result (Appends (W.contents writer.old) (W.contents writer.new) self.old.text) }
         ensures empty { OnOk result (self.new.text ≡ []) }
-        ensures err { OnErr result (AppendsBeginning (W.contents writer.old) (W.contents writer.new) self.old.text) }
+        ensures err { OnErr result (AppendsPrefix (W.contents writer.old) (W.contents writer.new) self.old.text) }
         ensures marked { OnErr result (W.is_marked writer.new ≡ true) }
         ensures line { self.new.line ≡ self.old.line }
         ensures is_long { self.new.is_long ≡ self.old.is_long }
@@ -118,7 +118,7 @@ impl Decoder {
         ensures leads { (old : Option (List ℕ)) (rest all : List ℕ) (any : Bool)
             → LeadsFrom old (W.contents writer.old) self.old rest all any
             → MatchResult result (λ _. LeadsFrom old (W.contents writer.new) self.new rest all any)
-            (λ _. AppendsBeginning old (W.contents writer.new) all) }
+            (λ _. AppendsPrefix old (W.contents writer.new) all) }
         ensures marked { OnErr result (W.is_marked writer.new ≡ true) }
         ensures line { self.new.line ≡ self.old.line }
         ensures long_data { self.new.long_data ≡ self.old.long_data }
@@ -136,7 +136,7 @@ impl Decoder {
         ensures leads { (old : Option (List ℕ)) (rest all : List ℕ) (any : Bool)
             → LeadsFrom old (W.contents writer.old) self.old (tail.now ++ 10 ∷ rest) all any
             → MatchResult result (λ _. LeadsFrom old (W.contents writer.new) self.new rest all any)
-            (λ _. AppendsBeginning old (W.contents writer.new) all) }
+            (λ _. AppendsPrefix old (W.contents writer.new) all) }
         ensures marked { OnErr result (W.is_marked writer.new ≡ true) }
         ensures long_data { self.new.long_data ≡ self.old.long_data }
     {
@@ -157,7 +157,7 @@ impl Decoder {
         ensures text { (old : Option (List ℕ)) (all : List ℕ) (any : Bool)
             → LeadsFrom old (W.contents writer.old) self.old [] all any
             → MatchResult result (λ _. Appends old (W.contents writer.new) all × (self.new.is_refused ≡ any))
-            (λ _. AppendsBeginning old (W.contents writer.new) all) }
+            (λ _. AppendsPrefix old (W.contents writer.new) all) }
         ensures marked { OnErr result (W.is_marked writer.new ≡ true) }
     {
         if self.line.is_empty() {
@@ -172,7 +172,7 @@ impl Decoder {
 impl TextTaker for Decoder {
     ghost use Rattle.std.specs.Prelude.{Bool};
     ghost use Rattle.x25_decode.specs.Decoded.{output_of, status_of as status_of_input};
-    ghost use Rattle.x25_decode.specs.Stream.{DecodesOn, WritesEnded};
+    ghost use Rattle.x25_decode.specs.code.Stream.{DecodesOn, WritesEnded};
 
     // Whether user data may be long.
     ghost Setting = { Bool };

@@ -2,8 +2,8 @@
 ghost use Rattle.std.specs.Prelude.{◌≡◌, ◌<◌, ◌≤◌, ◌-◌, ◌^◌, ℕ, true, List, Some, IfOk, OnOk, OnErr, IfSome, IsErrOf, length};
 ghost use Rattle.std.specs.Io.KnownBytes.{Appends};
 ghost use Rattle.x25_decode.specs.Decoded.{output_of, status_of};
-ghost use Rattle.x25_decode.specs.Stream.{WritesEnded};
-ghost use Rattle.x25_io.specs.Written.{AppendsBeginning};
+ghost use Rattle.x25_decode.specs.code.Stream.{WritesEnded};
+ghost use Rattle.x25_io.specs.code.Written.{AppendsPrefix};
 
 use crate::decoder::Decoder;
 use std::alloc::Global;
@@ -33,7 +33,7 @@ pub fn decode_lines<R: Source, W: Sink>(
 
     // What was written before a fault is a beginning of it.
     ensures fault { OnErr result (IfSome (R.remaining reader.old) (λ input. length input < 2 ^ 64 - 1
-        → AppendsBeginning (W.contents writer.old) (W.contents writer.new) (output_of long input))) }
+        → AppendsPrefix (W.contents writer.old) (W.contents writer.new) (output_of long input))) }
     // At a failed read the answers to all lines that had ended are written.
     ensures ended { IsErrOf result Fault.Read → IfSome (R.remaining reader.old) (λ input.
         (rest : List ℕ) × (R.remaining reader.new ≡ Some rest)

@@ -3,7 +3,7 @@ ghost use Rattle.std.specs.Prelude.{◌≡◌, true, if◌then◌else◌, length
 ghost use Rattle.std.specs.Io.KnownBytes.{Appends};
 ghost use Rattle.std.specs.List.{flat_map, list_all};
 ghost use Rattle.x25_decode.specs.Vectors.{are_right, is_check_right, is_right, shown, verdict, verdict_of, verdicts};
-ghost use Rattle.x25_io.specs.Written.{AppendsBeginning};
+ghost use Rattle.x25_io.specs.code.Written.{AppendsPrefix};
 
 use crate::answer::answer;
 use std::alloc::Global;
@@ -107,7 +107,7 @@ static VECTORS: [Vector; 16] = [
 /// Writes a name, and `ok` or `bad`.
 fn write_verdict<W: Sink>(writer: &mut W, name: &str, is_right: bool) -> Result<(), Failed>
     ensures ok { OnOk result (Appends (W.contents writer.old) (W.contents writer.new) (verdict name.now is_right)) }
-    ensures err { OnErr result (AppendsBeginning (W.contents writer.old) (W.contents writer.new) (verdict name.now is_right)) }
+    ensures err { OnErr result (AppendsPrefix (W.contents writer.old) (W.contents writer.new) (verdict name.now is_right)) }
     ensures kept { OnOk result (W.is_marked writer.new ≡ W.is_marked writer.old) }
     ensures marked { OnErr result (W.is_marked writer.new ≡ true) }
 {
@@ -133,7 +133,7 @@ fn holds(vector: &Vector, octets: &mut [u8], text: &mut Text) -> bool
 fn write_each<W: Sink>(vectors: &[Vector], text: &mut Text, writer: &mut W) -> Result<bool, Failed>
     ensures right { IfOk result (λ all. all ≡ list_all is_right (map shown vectors.now)) }
     ensures ok { OnOk result (Appends (W.contents writer.old) (W.contents writer.new) (flat_map verdict_of (map shown vectors.now))) }
-    ensures err { OnErr result (AppendsBeginning (W.contents writer.old) (W.contents writer.new) (flat_map verdict_of (map shown vectors.now))) }
+    ensures err { OnErr result (AppendsPrefix (W.contents writer.old) (W.contents writer.new) (flat_map verdict_of (map shown vectors.now))) }
     ensures kept { OnOk result (W.is_marked writer.new ≡ W.is_marked writer.old) }
     ensures marked { OnErr result (W.is_marked writer.new ≡ true) }
 {
@@ -150,7 +150,7 @@ fn write_each<W: Sink>(vectors: &[Vector], text: &mut Text, writer: &mut W) -> R
 fn write_verdicts<W: Sink>(text: &mut Text, writer: &mut W) -> Result<bool, Failed>
     ensures right { IfOk result (λ all. all ≡ are_right) }
     ensures ok { OnOk result (Appends (W.contents writer.old) (W.contents writer.new) verdicts) }
-    ensures err { OnErr result (AppendsBeginning (W.contents writer.old) (W.contents writer.new) verdicts) }
+    ensures err { OnErr result (AppendsPrefix (W.contents writer.old) (W.contents writer.new) verdicts) }
     ensures kept { OnOk result (W.is_marked writer.new ≡ W.is_marked writer.old) }
     ensures marked { OnErr result (W.is_marked writer.new ≡ true) }
 {
@@ -171,7 +171,7 @@ pub fn vectors<W: Sink>(alloc: Global, writer: &mut W) -> Result<u8, Fault>
     ensures clean { OnOk result (W.is_marked writer.new ≡ W.is_marked writer.old) }
 
     // What was written before a fault is a beginning of them.
-    ensures fault { OnErr result (AppendsBeginning (W.contents writer.old) (W.contents writer.new) verdicts) }
+    ensures fault { OnErr result (AppendsPrefix (W.contents writer.old) (W.contents writer.new) verdicts) }
     ensures memory { IsErrOf result Fault.NoMemory → writer.new ≡ writer.old }
     ensures read { IsErrOf result Fault.Read → ⊥ }
     ensures write { IsErrOf result Fault.Write → W.is_marked writer.new ≡ true }

@@ -1,8 +1,8 @@
 //! One end of a line in memory: a line that is a list, a timer that is a flag, and a user whose notices are text.
 use crate::driving::{Line, Timer, User};
 use std::alloc::{AllocError, Global};
-use x25_entries::entry_line;
 use x25_station::{Entry, Role};
+use x25_transcript::entry_line;
 
 /// Frames that were sent and haven't come yet, the first in front.
 #[derive(Drop)]

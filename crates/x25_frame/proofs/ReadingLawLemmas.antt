@@ -12,7 +12,7 @@ use Rattle.x25_frame.specs.declared.error.FrameError.TheVariants.{Short, BadFcs}
 use Rattle.x25_frame.specs.PlainFrame.{PlainFrame}
 use Rattle.x25_frame.specs.Spelling.{information_of, body_of, spelling_of, IsInRange, MayCarry, IsWithin, Spells}
 use Rattle.x25_frame.specs.Reading.{addressed_frame, frame_of}
-use Rattle.x25_frame.specs.ReadingLaw.{ReadsSpelled}
+use Rattle.x25_frame.specs.laws.ReadingLaw.{ReadsSpelled}
 use Rattle.x25_frame.specs.FrameError.{IsFirstError}
 use Rattle.x25_frame.proofs.KindLemmas.{ok_err, err_same}
 use Rattle.x25_frame.proofs.FrameLemmas.{only_found, found_spells, error_is_first}

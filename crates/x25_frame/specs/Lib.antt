@@ -2,4 +2,4 @@ pub mod PlainFrame
 pub mod Spelling
 pub mod FrameError
 pub mod Reading
-pub mod ReadingLaw
+pub mod laws

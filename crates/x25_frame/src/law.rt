@@ -1,5 +1,5 @@
 //! Laws of the grammar of frames. Each is the contract of a function that does nothing.
-ghost use Rattle.x25_frame.specs.ReadingLaw.{ReadsSpelled, ReadsWhatIsSpelled, ReadsTheFirstError};
+ghost use Rattle.x25_frame.specs.laws.ReadingLaw.{ReadsSpelled, ReadsWhatIsSpelled, ReadsTheFirstError};
 
 use x25_bits::sealed_is_tested;
 

@@ -4,7 +4,7 @@ use Rattle.std.specs.Prelude.{OnOk, MatchResult}
 use Rattle.std.specs.Io.KnownBytes.{Appends}
 use Rattle.std.proofs.lemmas.List.{append-nil}
 use Rattle.std.proofs.KnownBytes.{Appends-nil, Appends-trans}
-use Rattle.x25_io.specs.Written.{AppendsBeginning, Tells}
+use Rattle.x25_io.specs.code.Written.{AppendsPrefix, Tells}
 
 -- nothing was told
 pub none_told : (old : Option (List ℕ)) (text : List ℕ) → text ≡ [] → Tells old old text []
@@ -27,7 +27,7 @@ all_written old now next text rest told h a none = record {
 }
 
 -- a beginning of it is written
-pub part_written : (old now next : Option (List ℕ)) (text told : List ℕ) → Tells old now text told → AppendsBeginning now next text → AppendsBeginning old next told
+pub part_written : (old now next : Option (List ℕ)) (text told : List ℕ) → Tells old now text told → AppendsPrefix now next text → AppendsPrefix old next told
 part_written old now next text told h b = (
   h.written ++ b.0,
   b.1,
@@ -36,12 +36,12 @@ part_written old now next text told h b = (
 )
 
 -- a beginning of what was told is one of what will have been told
-pub beginning_more : (old now : Option (List ℕ)) (told more : List ℕ) → AppendsBeginning old now told → AppendsBeginning old now (told ++ more)
-beginning_more old now told more b = (b.0, b.1 ++ more, ap (λ t. t ++ more) b.2 ∙ append_assoc b.0 b.1 more, b.3)
+pub prefix_more : (old now : Option (List ℕ)) (told more : List ℕ) → AppendsPrefix old now told → AppendsPrefix old now (told ++ more)
+prefix_more old now told more b = (b.0, b.1 ++ more, ap (λ t. t ++ more) b.2 ∙ append_assoc b.0 b.1 more, b.3)
 
 -- what was told is a beginning of itself
-pub begins : (old now : Option (List ℕ)) (text told : List ℕ) → Tells old now text told → AppendsBeginning old now told
-begins old now text told h = (h.written, text, sym h.same, h.appends)
+pub told_prefix : (old now : Option (List ℕ)) (text told : List ℕ) → Tells old now text told → AppendsPrefix old now told
+told_prefix old now text told h = (h.written, text, sym h.same, h.appends)
 
 -- a line that is written behind all that waited
 pub line_written : (old now next : Option (List ℕ)) (text told line : List ℕ) → Tells old now text told → text ≡ [] → Appends now next line → Tells old next text (told ++ line)
@@ -52,7 +52,7 @@ line_written old now next text told line h none a = record {
       ∙ ap (λ t. t ++ line) (sym (append-nil h.written) ∙ ap (λ t. h.written ++ t) (sym none) ∙ h.same);
 }
 
-pub line_begun : (old now next : Option (List ℕ)) (text told line : List ℕ) → Tells old now text told → text ≡ [] → AppendsBeginning now next line → AppendsBeginning old next (told ++ line)
+pub line_begun : (old now next : Option (List ℕ)) (text told line : List ℕ) → Tells old now text told → text ≡ [] → AppendsPrefix now next line → AppendsPrefix old next (told ++ line)
 line_begun old now next text told line h none b =
     let all : h.written ≡ told = sym (append-nil h.written) ∙ ap (λ t. h.written ++ t) (sym none) ∙ h.same in (
       h.written ++ b.0,
@@ -61,13 +61,13 @@ line_begun old now next text told line h none b =
       Appends-trans old now next h.written b.0 h.appends b.3,
     )
 
-pub begins_more : (old now : Option (List ℕ)) (text told more : List ℕ) → Tells old now text told → AppendsBeginning old now (told ++ more)
-begins_more old now text told more h = beginning_more old now told more (begins old now text told h)
+pub told_more : (old now : Option (List ℕ)) (text told more : List ℕ) → Tells old now text told → AppendsPrefix old now (told ++ more)
+told_more old now text told more h = prefix_more old now told more (told_prefix old now text told h)
 
 -- told up to here, and not further than that
-pub part_of_all : (old now : Option (List ℕ)) (told first second all : List ℕ) → all ≡ first ++ second → AppendsBeginning old now (told ++ first) → AppendsBeginning old now (told ++ all)
+pub part_of_all : (old now : Option (List ℕ)) (told first second all : List ℕ) → all ≡ first ++ second → AppendsPrefix old now (told ++ first) → AppendsPrefix old now (told ++ all)
 part_of_all old now told first second all e b =
-    subst (AppendsBeginning old now) (append_assoc told first second ∙ ap (λ t. told ++ t) (sym e)) (beginning_more old now (told ++ first) second b)
+    subst (AppendsPrefix old now) (append_assoc told first second ∙ ap (λ t. told ++ t) (sym e)) (prefix_more old now (told ++ first) second b)
 
 -- with what holds besides where it is Ok
 pub with_ok : {T E : Type 0} (r : Result T E) (A : T → Type 0) (B : E → Type 0) (Q : Type 0) → MatchResult r A B → OnOk r Q → MatchResult r (λ x. A x × Q) B

@@ -1,4 +1,4 @@
 pub mod Lines
-pub mod Written
 pub mod HeldLine
 pub mod Fault
+pub mod code

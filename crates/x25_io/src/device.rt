@@ -1,7 +1,7 @@
 //! Readers and writers that remember whether a call failed.
 ghost use Rattle.std.specs.Prelude.{◌≡◌, ◌≤◌, ◌<◌, ℕ, Bool, true, false, List, Option, length, IfOk, OnOk, OnErr};
 ghost use Rattle.std.specs.Io.KnownBytes.{Appends, ReadConsumes, WriteAppends};
-ghost use Rattle.x25_io.specs.Written.{AppendsBeginning};
+ghost use Rattle.x25_io.specs.code.Written.{AppendsPrefix};
 
 use std::io::{Read, Write};
 
@@ -104,11 +104,12 @@ impl<W: Write> Sink for Device<W> {
     }
 }
 
-/// Writes all the octets, in as many calls as that takes.
+/// Writes all the octets, in as many calls as that takes. Err: one of them failed; the writer is marked then, and octets from their front
+/// are written.
 pub fn write_all<W: Sink>(writer: &mut W, octets: &[u8]) -> Result<(), Failed>
     ensures kept { OnOk result (W.is_marked writer.new ≡ W.is_marked writer.old) }
     ensures ok { OnOk result (Appends (W.contents writer.old) (W.contents writer.new) octets.now) }
-    ensures err { OnErr result (AppendsBeginning (W.contents writer.old) (W.contents writer.new) octets.now) }
+    ensures err { OnErr result (AppendsPrefix (W.contents writer.old) (W.contents writer.new) octets.now) }
     ensures marked { OnErr result (W.is_marked writer.new ≡ true) }
 {
     let mut rest = octets;

@@ -19,7 +19,7 @@ impl HeldLine {
     ghost use Rattle.std.specs.Prelude.{◌≡◌, ◌≤◌, ◌<◌, ◌++◌, ◌↔◌, [], ℕ, List, IfOk, IsTrue, MatchOption, length};
     ghost use Rattle.x25_io.specs.HeldLine.{HoldsLine, most_line};
 
-    /// No line has begun.
+    /// No line has begun. Err: no memory.
     pub fn new(alloc: Global) -> Result<HeldLine, AllocError>
         ensures { IfOk result (HoldsLine []) }
     {

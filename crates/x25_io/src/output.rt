@@ -1,7 +1,7 @@
 //! Text on its way to a writer.
 ghost use Rattle.std.specs.Prelude.{◌≡◌, ◌≤◌, ◌+◌, ◌++◌, [], true, ℕ, List, Option, IfOk, OnOk, OnErr, MatchResult, length};
 ghost use Rattle.x25_text.specs.declared.text.TheConstants.{ROOM};
-ghost use Rattle.x25_io.specs.Written.{AppendsBeginning, Tells};
+ghost use Rattle.x25_io.specs.code.Written.{AppendsPrefix, Tells};
 
 use crate::device::{Failed, Sink, write_all};
 use std::alloc::{AllocError, Global};
@@ -21,7 +21,7 @@ impl Model for Output {
 }
 
 impl Output {
-    /// Nothing waits.
+    /// Nothing waits. Err: no memory.
     pub fn new(alloc: Global) -> Result<Output, AllocError>
         ensures { IfOk result (λ output. output ≡ []) }
     {
@@ -29,11 +29,11 @@ impl Output {
         Ok(Output { text })
     }
 
-    /// Writes what waits.
+    /// Writes what waits. Err: a call of the writer failed, and the writer is marked.
     pub fn flush<W: Sink>(&mut self, writer: &mut W) -> Result<(), Failed>
         ensures kept { OnOk result (W.is_marked writer.new ≡ W.is_marked writer.old) }
         ensures tells { (old : Option (List ℕ)) (told : List ℕ) → Tells old (W.contents writer.old) self.old told
-            → MatchResult result (λ _. Tells old (W.contents writer.new) self.new told) (λ _. AppendsBeginning old (W.contents writer.new) told) }
+            → MatchResult result (λ _. Tells old (W.contents writer.new) self.new told) (λ _. AppendsPrefix old (W.contents writer.new) told) }
         ensures empty { OnOk result (self.new ≡ []) }
         ensures marked { OnErr result (W.is_marked writer.new ≡ true) }
     {
@@ -47,7 +47,7 @@ impl Output {
         requires few { count ≤ ROOM }
         ensures kept { OnOk result (W.is_marked writer.new ≡ W.is_marked writer.old) }
         ensures tells { (old : Option (List ℕ)) (told : List ℕ) → Tells old (W.contents writer.old) self.old told
-            → MatchResult result (λ _. Tells old (W.contents writer.new) self.new told) (λ _. AppendsBeginning old (W.contents writer.new) told) }
+            → MatchResult result (λ _. Tells old (W.contents writer.new) self.new told) (λ _. AppendsPrefix old (W.contents writer.new) told) }
         ensures room { OnOk result (length self.new + count ≤ ROOM) }
         ensures marked { OnErr result (W.is_marked writer.new ≡ true) }
     {
@@ -61,18 +61,19 @@ impl Output {
     fn write_line<W: Sink>(&mut self, line: &[u8], writer: &mut W) -> Result<(), Failed>
         ensures kept { OnOk result (W.is_marked writer.new ≡ W.is_marked writer.old) }
         ensures tells { (old : Option (List ℕ)) (told : List ℕ) → Tells old (W.contents writer.old) self.old told
-            → MatchResult result (λ _. Tells old (W.contents writer.new) self.new (told ++ line.now)) (λ _. AppendsBeginning old (W.contents writer.new) (told ++ line.now)) }
+            → MatchResult result (λ _. Tells old (W.contents writer.new) self.new (told ++ line.now)) (λ _. AppendsPrefix old (W.contents writer.new) (told ++ line.now)) }
         ensures marked { OnErr result (W.is_marked writer.new ≡ true) }
     {
         self.flush(writer)?;
         write_all(writer, line)
     }
 
-    /// Tells a line: it waits behind what was told before. One that is longer than the buffer is written.
+    /// Tells a line: it waits behind what was told before. One that is longer than the buffer is written. Err: a call of the writer failed,
+    /// and the writer is marked.
     pub fn tell<W: Sink>(&mut self, line: &[u8], writer: &mut W) -> Result<(), Failed>
         ensures kept { OnOk result (W.is_marked writer.new ≡ W.is_marked writer.old) }
         ensures tells { (old : Option (List ℕ)) (told : List ℕ) → Tells old (W.contents writer.old) self.old told
-            → MatchResult result (λ _. Tells old (W.contents writer.new) self.new (told ++ line.now)) (λ _. AppendsBeginning old (W.contents writer.new) (told ++ line.now)) }
+            → MatchResult result (λ _. Tells old (W.contents writer.new) self.new (told ++ line.now)) (λ _. AppendsPrefix old (W.contents writer.new) (told ++ line.now)) }
         ensures marked { OnErr result (W.is_marked writer.new ≡ true) }
     {
         if line.len() > ROOM {

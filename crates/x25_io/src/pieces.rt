@@ -1,7 +1,7 @@
 //! A text that is read, taken and answered a piece at a time.
 ghost use Rattle.std.specs.Prelude.{◌≡◌, ◌≢◌, ◌<◌, ◌≤◌, ◌-◌, ◌^◌, ◌++◌, [], ℕ, true, List, Option, Some, IfOk, OnOk, OnErr, IfSome, IsErrOf, MatchResult, length};
 ghost use Rattle.std.specs.Io.KnownBytes.{Appends};
-ghost use Rattle.x25_io.specs.Written.{AppendsBeginning};
+ghost use Rattle.x25_io.specs.code.Written.{AppendsPrefix};
 
 use crate::device::{Sink, Source};
 use crate::fault::Fault;
@@ -33,7 +33,7 @@ pub trait TextTaker: Drop {
         ensures on { (setting : Setting) (old : Option (List ℕ)) (rest text : List ℕ)
             → leads setting self.old old (W.contents writer.old) (piece.now ++ rest) text
             → MatchResult result (λ _. leads setting self.new old (W.contents writer.new) rest text)
-            (λ _. AppendsBeginning old (W.contents writer.new) (text_of setting text)) }
+            (λ _. AppendsPrefix old (W.contents writer.new) (text_of setting text)) }
         ensures write { IsErrOf result Fault.Write → W.is_marked writer.new ≡ true }
         ensures memory { IsErrOf result Fault.NoMemory → may_want × (W.is_marked writer.new ≡ W.is_marked writer.old) }
         ensures read { IsErrOf result Fault.Read → ⊥ };
@@ -44,7 +44,7 @@ pub trait TextTaker: Drop {
         ensures kept { OnOk result (W.is_marked writer.new ≡ W.is_marked writer.old) }
         ensures all { (setting : Setting) (old : Option (List ℕ)) (text : List ℕ) → leads setting self old (W.contents writer.old) [] text
             → MatchResult result (λ status. Appends old (W.contents writer.new) (text_of setting text) × (status ≡ status_of setting text))
-            (λ _. AppendsBeginning old (W.contents writer.new) (text_of setting text)) }
+            (λ _. AppendsPrefix old (W.contents writer.new) (text_of setting text)) }
         ensures write { IsErrOf result Fault.Write → W.is_marked writer.new ≡ true }
         ensures memory { IsErrOf result Fault.NoMemory → may_want × (W.is_marked writer.new ≡ W.is_marked writer.old) }
         ensures read { IsErrOf result Fault.Read → ⊥ };
@@ -52,7 +52,7 @@ pub trait TextTaker: Drop {
     /// Writes what waits after a failed read, and answers the fault: `Write` where that fails too.
     fn give_up<W: Sink>(self, writer: &mut W) -> Fault
         ensures part { (setting : Setting) (old : Option (List ℕ)) (rest text : List ℕ) → leads setting self old (W.contents writer.old) rest text
-            → AppendsBeginning old (W.contents writer.new) (text_of setting text) }
+            → AppendsPrefix old (W.contents writer.new) (text_of setting text) }
         ensures lines { (setting : Setting) (old : Option (List ℕ)) (rest text : List ℕ) → leads setting self old (W.contents writer.old) rest text
             → result ≡ Fault.Read → ended setting old (W.contents writer.new) rest text }
         ensures memory { result ≢ Fault.NoMemory }
@@ -77,7 +77,7 @@ pub fn take_text<T: TextTaker, R: Source, W: Sink>(
     ensures status { (setting : T.Setting) (old : Option (List ℕ)) → ((text : List ℕ) → T.leads setting taker old (W.contents writer.old) text text)
         → IfOk result (λ status. IfSome (R.remaining reader.old) (λ text. length text < 2 ^ 64 - 1 → status ≡ T.status_of setting text)) }
     ensures fault { (setting : T.Setting) (old : Option (List ℕ)) → ((text : List ℕ) → T.leads setting taker old (W.contents writer.old) text text)
-        → OnErr result (IfSome (R.remaining reader.old) (λ text. length text < 2 ^ 64 - 1 → AppendsBeginning old (W.contents writer.new) (T.text_of setting text))) }
+        → OnErr result (IfSome (R.remaining reader.old) (λ text. length text < 2 ^ 64 - 1 → AppendsPrefix old (W.contents writer.new) (T.text_of setting text))) }
     ensures ended { (setting : T.Setting) (old : Option (List ℕ)) → ((text : List ℕ) → T.leads setting taker old (W.contents writer.old) text text)
         → IsErrOf result Fault.Read → IfSome (R.remaining reader.old) (λ text.
         (rest : List ℕ) × (R.remaining reader.new ≡ Some rest) × T.ended setting old (W.contents writer.new) rest text) }

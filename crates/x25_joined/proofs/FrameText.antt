@@ -10,8 +10,8 @@ use Rattle.x25_bits.specs.declared.role.Role.TheVariants.{Dte, Dce}
 use Rattle.x25_text.specs.OctetText.{octet_text}
 use Rattle.x25_io.specs.Lines.{IsOpen}
 use Rattle.x25_decode.specs.Decoded.{mark_of, octets_in, sent_in}
-use Rattle.x25_station.specs.ReadLaw.{AreOctets}
-use Rattle.x25_station.specs.TimerLaw.{Comes}
+use Rattle.x25_station.specs.laws.ReadLaw.{AreOctets}
+use Rattle.x25_station.specs.laws.TimerLaw.{Comes}
 use Rattle.x25_io.specs.HeldLine.{most_line}
 use Rattle.x25_console.specs.Lines.{frame_line}
 use Rattle.x25_world.specs.TapOctets.{AreOfFrame}

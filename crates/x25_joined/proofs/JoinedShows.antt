@@ -6,9 +6,9 @@ use Rattle.x25_bits.specs.Role.{other}
 use Rattle.x25_bits.specs.declared.role.Role.{Role}
 use Rattle.x25_bits.specs.declared.role.Role.TheVariants.{Dte, Dce}
 use Rattle.x25_frame.specs.Spelling.{spelling_of}
-use Rattle.x25_link.specs.Station.{is_waiting}
+use Rattle.x25_link.specs.LinkStation.{awaits_ua}
 use Rattle.x25_line.specs.Stations.{is_visible, replaced}
-use Rattle.x25_script.specs.ReadingLaw.{ReadsOctets}
+use Rattle.x25_script.specs.laws.ReadingLaw.{ReadsOctets}
 use Rattle.x25_io.specs.Lines.{IsOpen}
 use Rattle.x25_station.specs.declared.config.Cfg.{Cfg}
 use Rattle.x25_layer.specs.Calls.{PullsAll}
@@ -17,17 +17,17 @@ use Rattle.x25_station.specs.Entries.{StationEntry}
 use Rattle.x25_station.specs.Settings.{Settings, settings_from}
 use Rattle.x25_station.specs.Station.{Station}
 use Rattle.x25_station.specs.Steps.{Step, Outcome, Did, Refused, commands, fires, receives}
-use Rattle.x25_station.specs.TimerLaw.{Event, Comes, Asks, Fires}
+use Rattle.x25_station.specs.laws.TimerLaw.{Event, Comes, Asks, Fires}
 use Rattle.x25_pipe.specs.Piped.{pulled_behind, and_pulls, with_pulls, event_in, turn, piped}
 use Rattle.x25_world.specs.SetUpFrames.{carries}
 use Rattle.x25_world.specs.declared.set_up.SetUpFrame.TheVariants.{Sabm, Ua}
 use Rattle.x25_world.specs.declared.error.WorldError.TheVariants as error
 use Rattle.x25_world.specs.World as world
 use Rattle.x25_world.specs.World.{OnTap, AtEnd, World, tapped, entered, after_step, WorldOutcome, Happened, Declined, of_station, delivered}
-use Rattle.x25_world.specs.Claims.{ActsInOctets, entry_of_end, entries_at}
+use Rattle.x25_world.specs.laws.Claims.{ActsInOctets, entry_of_end, entries_at}
 use Rattle.x25_world.specs.TapOctets.{AreOfFrame, AreOfFrames}
 use Rattle.x25_joined.specs.Joined.{Joined, written, station_of, entries_in, frames_in, reads, takes, on_line, Act, Reads, Takes, Loses, Damages, acts, IsNoFrame, is_on_line, IsInTime, IsPossible}
-use Rattle.x25_joined.specs.JoinedClaims.{frame_of_end, put_by}
+use Rattle.x25_joined.specs.laws.JoinedClaims.{frame_of_end, put_by}
 use Rattle.x25_joined.proofs.LineText.{AreWhole, more_whole, one_more, said_more}
 use Rattle.x25_joined.proofs.FrameText.{frame_words, frame_text, frame_open, frame_comes}
 use Rattle.x25_joined.proofs.Turns.{entries-append, frames-append, TurnIs, line_did, line_refused, line_none}
@@ -218,10 +218,10 @@ module _ (cfg : Cfg) (end : Role) (w : World) (fits : Fits w) where
         something_happens (world.Commands command) line step none (line_did c w.near line (Asks command) (and_pulls c step) asks (ap (with_pulls c) is)) (ap (of_station c w) is) octets
     commanded line command (Refused e) none asks octets is = nothing_happens line none (line_refused c w.near line (Asks command) e asks is)
 
-    in_time : (is_waiting (station_of c j.near).link.phase && is_on_line c j) ≡ false → (is_waiting w.near.link.phase && world.is_on_line c w) ≡ false
+    in_time : (awaits_ua (station_of c j.near).link.phase && is_on_line c j) ≡ false → (awaits_ua w.near.link.phase && world.is_on_line c w) ≡ false
     in_time free =
-        ap (λ (s : Station). is_waiting s.link.phase && world.is_on_line c w) (sym h.near.station)
-        ∙ ap₂ (λ (out back : List (List ℕ)). is_waiting (station_of c j.near).link.phase && (carries Sabm end out || carries Ua (other end) back)) h.out h.back ∙ free
+        ap (λ (s : Station). awaits_ua s.link.phase && world.is_on_line c w) (sym h.near.station)
+        ∙ ap₂ (λ (out back : List (List ℕ)). awaits_ua (station_of c j.near).link.phase && (carries Sabm end out || carries Ua (other end) back)) h.out h.back ∙ free
 
     fired : (line : List ℕ) (o : Outcome) → IsOpen line → event_in end line ≡ Some Fires → IsInTime c j (Some Fires) → fires c w.near ≡ o → Mirrors cfg end w (reads c j j.back (line ++ 10 ∷ []))
     fired line (Did step) none asks free is =

@@ -4,4 +4,4 @@ pub mod Turns
 pub mod AskedOctets
 pub mod JoinedShows
 pub mod JoinedRuns
-pub mod JoinedRowLemmas
+pub mod rows

@@ -5,8 +5,8 @@ use Rattle.x25_station.specs.Entries.{StationEntry}
 use Rattle.x25_station.specs.Settings.{Settings}
 use Rattle.x25_station.specs.Station.{Station}
 use Rattle.x25_station.specs.Steps.{Step, Outcome, Did, Refused}
-use Rattle.x25_station.specs.TimerLaw as timer
-use Rattle.x25_station.specs.TimerLaw.{Event, Mark}
+use Rattle.x25_station.specs.laws.TimerLaw as timer
+use Rattle.x25_station.specs.laws.TimerLaw.{Event, Mark}
 use Rattle.x25_station.specs.declared.error.StationError.{StationError}
 use Rattle.x25_pipe.specs.Piped.{Saying, enters, sends, reads_nothing, refuses, marks, Turn, marked, standing, standing_turn, step_told, turn_of, with_pulls, event_in, event_turn, asked_turn, turn}
 use Rattle.x25_joined.specs.Joined.{entries_in, frames_in}

@@ -5,13 +5,13 @@ use Rattle.std.specs.Prelude.{◌≡◌, ℕ, Bool, true, false, ◌&&◌, ◌||
 use Rattle.x25_bits.specs.Role.{other}
 use Rattle.x25_bits.specs.declared.role.Role.{Role}
 use Rattle.x25_bits.specs.declared.role.Role.TheVariants.{Dte, Dce}
-use Rattle.x25_link.specs.Station.{is_waiting}
+use Rattle.x25_link.specs.LinkStation.{awaits_ua}
 use Rattle.x25_line.specs.Stations.{is_visible, replaced}
 use Rattle.x25_station.specs.declared.config.Cfg.{Cfg}
 use Rattle.x25_station.specs.Entries.{StationEntry}
 use Rattle.x25_station.specs.Settings.{Settings, settings_from}
 use Rattle.x25_station.specs.Station.{Station}
-use Rattle.x25_station.specs.TimerLaw.{Event, Comes, Fires}
+use Rattle.x25_station.specs.laws.TimerLaw.{Event, Comes, Fires}
 use Rattle.x25_io.specs.Lines.{IsOpen}
 use Rattle.x25_pipe.specs.Piped.{Saying, enters, sends, reads_nothing, refuses, marks, saying_line, event_in, piped}
 use Rattle.x25_world.specs.SetUpFrames.{carries}
@@ -109,7 +109,7 @@ is_on_line c j = carries Sabm c.role j.out || carries Ua (other c.role) j.back
 
 -- timer T1 of an end that awaits UA doesn't run out while SABM or UA can still arrive
 abbrev pub IsInTime : Settings → Joined → Option Event → Type 0
-IsInTime c j (Some Fires) = (is_waiting (station_of c j.near).link.phase && is_on_line c j) ≡ false
+IsInTime c j (Some Fires) = (awaits_ua (station_of c j.near).link.phase && is_on_line c j) ≡ false
 IsInTime c j event = Unit {0}
 
 pub record IsOfUser (c : Settings) (j : Joined) (line : List ℕ) : Type 0 where

@@ -1,3 +1,3 @@
 pub mod Joined
-pub mod JoinedClaims
-pub mod JoinedRows
+pub mod laws
+pub mod rows

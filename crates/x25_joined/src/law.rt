@@ -1,8 +1,8 @@
 //! Two programs `x25 station` joined by a line, as laws about what they read and write. Each is the contract of a function that does nothing.
-ghost use Rattle.x25_world.specs.Claims.{HasNoProcedureError, IsNamed};
-ghost use Rattle.x25_world.specs.SessionClaims.{SessionsKeepOrder};
-ghost use Rattle.x25_joined.specs.JoinedClaims.{AreLawful, AreWorlds, Arrive, OfPrograms, OfProgramsUpOnce, UntilSecondUp};
-ghost use Rattle.x25_joined.specs.JoinedRows.{FiringHasToWait, LinkIsSetUp, LostSabmGoesAgain, MessageArrives, OtherLinesDoNothing};
+ghost use Rattle.x25_world.specs.laws.Claims.{HasNoProcedureError, IsNamed};
+ghost use Rattle.x25_world.specs.laws.SessionClaims.{SessionsKeepOrder};
+ghost use Rattle.x25_joined.specs.laws.JoinedClaims.{AreLawful, AreWorlds, Arrive, OfPrograms, OfProgramsUpOnce, UntilSecondUp};
+ghost use Rattle.x25_joined.specs.rows.JoinedRows.{FiringHasToWait, LinkIsSetUp, LostSabmGoesAgain, MessageArrives, OtherLinesDoNothing};
 
 use x25_script::lines_are_in_octets;
 use x25_world::{stations_meet_in_sessions, two_stations_keep_order};

@@ -7,11 +7,11 @@ use Rattle.std.proofs.Math.Bool.{or_assoc, or-false}
 use Rattle.std.proofs.lemmas.List.{append-nil}
 use Rattle.x25_io.specs.HeldLine.{HoldsLine}
 use Rattle.x25_io.specs.Lines.{IsOpen, lines_of}
-use Rattle.x25_io.specs.Written.{AppendsBeginning, Tells}
+use Rattle.x25_io.specs.code.Written.{AppendsPrefix, Tells}
 use Rattle.x25_io.specs.declared.held_line.HeldLine.{HeldLine}
-use Rattle.x25_io.proofs.ToldLemmas.{beginning_more, none_told, part_of_all}
+use Rattle.x25_io.proofs.ToldLemmas.{prefix_more, none_told, part_of_all}
 use Rattle.x25_judge.specs.Judged.{answer_to, output_of, text_of, has_fault}
-use Rattle.x25_judge.specs.Stream.{Leads, WritesEnded}
+use Rattle.x25_judge.specs.code.Stream.{Leads, WritesEnded}
 use Rattle.x25_judge.specs.declared.judge.Judge.{Judge}
 use Rattle.x25_judge.proofs.LineLemmas.{open-append, text_ended, fault_ended, text_last, fault_last, no_text, no_fault, none_held}
 
@@ -35,7 +35,7 @@ start_from old held output j first input same empty none =
     subst (λ k. Leads old old held output j false input (output_of k input) (has_fault k (lines_of input))) same (start old held output j input empty none)
 
 -- nothing was read or written
-pub nothing_written : (j : Judge) (o w : Option (List ℕ)) (K : List ℕ → Type 0) → IfSome o (λ input. K input → AppendsBeginning w w (output_of j input))
+pub nothing_written : (j : Judge) (o w : Option (List ℕ)) (K : List ℕ → Type 0) → IfSome o (λ input. K input → AppendsPrefix w w (output_of j input))
 nothing_written j None w K = tt
 nothing_written j (Some input) w K = λ few. ([], output_of j input, refl, Appends-nil w)
 
@@ -79,16 +79,16 @@ module _ (old now next : Option (List ℕ)) (held : HeldLine) (output : List ℕ
   line_done held2 output2 j2 f2 h =
       line_told (h.begun ++ 10 ∷ rest) h.told h.begun held2 output2 j2 f2 h.same h.status (text_ended j h.begun rest h.is_open) (fault_ended j h.begun rest h.is_open)
 
-  pub line_failed : (h : Leads old now held output j f (10 ∷ rest) all any) → AppendsBeginning old next (h.told ++ (answer_to j h.begun).text) → AppendsBeginning old next all
-  line_failed h b = subst (AppendsBeginning old next) h.same
+  pub line_failed : (h : Leads old now held output j f (10 ∷ rest) all any) → AppendsPrefix old next (h.told ++ (answer_to j h.begun).text) → AppendsPrefix old next all
+  line_failed h b = subst (AppendsPrefix old next) h.same
       (part_of_all old next h.told (answer_to j h.begun).text (text_of (answer_to j h.begun).next (lines_of rest)) _ (text_ended j h.begun rest h.is_open) b)
 
   -- what waited is written
   pub flushed : (output2 : List ℕ) (h : Leads old now held output j f rest all any) → Tells old next output2 h.told → Leads old next held output2 j f rest all any
   flushed output2 h tells = record { begun = h.begun; is_open = h.is_open; holds = h.holds; told = h.told; tells = tells; same = h.same; status = h.status }
 
-  pub flush_failed : (h : Leads old now held output j f rest all any) → AppendsBeginning old next h.told → AppendsBeginning old next all
-  flush_failed h b = subst (AppendsBeginning old next) h.same (beginning_more old next h.told (text_of j (lines_of (h.begun ++ rest))) b)
+  pub flush_failed : (h : Leads old now held output j f rest all any) → AppendsPrefix old next h.told → AppendsPrefix old next all
+  flush_failed h b = subst (AppendsPrefix old next) h.same (prefix_more old next h.told (text_of j (lines_of (h.begun ++ rest))) b)
 
   pub ended_written : (h : Leads old now held output j f rest all any) → output ≡ [] → WritesEnded old now rest all
   ended_written h empty = record {
@@ -109,8 +109,8 @@ module _ (old now next : Option (List ℕ)) (held : HeldLine) (output : List ℕ
   last_done held2 output2 j2 f2 h some =
       line_told old now next held output j f [] all any (h.begun ++ []) h.told h.begun held2 output2 j2 f2 h.same h.status (text_last j h.begun h.is_open some) (fault_last j h.begun h.is_open some)
 
-  pub last_failed : (h : Leads old now held output j f [] all any) → (h.begun ≡ [] → ⊥) → AppendsBeginning old next (h.told ++ (answer_to j h.begun).text) → AppendsBeginning old next all
-  last_failed h some b = subst (AppendsBeginning old next) h.same
+  pub last_failed : (h : Leads old now held output j f [] all any) → (h.begun ≡ [] → ⊥) → AppendsPrefix old next (h.told ++ (answer_to j h.begun).text) → AppendsPrefix old next all
+  last_failed h some b = subst (AppendsPrefix old next) h.same
       (part_of_all old next h.told (answer_to j h.begun).text (text_of (answer_to j h.begun).next (lines_of [])) _ (text_last j h.begun h.is_open some) b)
 
   pub ended : (h : Leads old now held output j f [] all any) → HoldsLine [] held → output ≡ [] → Appends old now all × (f ≡ any)

@@ -8,12 +8,15 @@ use Rattle.x25_frame.specs.Reading.{frame_of}
 use Rattle.x25_frame.specs.declared.error.FrameError.{FrameError}
 use Rattle.x25_io.specs.Lines.{lines_of}
 use Rattle.x25_text.specs.FrameText.{reading_text}
-use Rattle.x25_judge.specs.Book as book
+use Rattle.x25_packet_judge.specs.Book as book
+use Rattle.x25_judge.specs.Note.{note_text}
 use Rattle.x25_judge.specs.RuleText.{rule_text}
 use Rattle.x25_judge.specs.Sides.{no_end, sees, misses}
-use Rattle.x25_judge.specs.declared.book.Book.{Book}
+use Rattle.x25_packet_judge.specs.declared.book.Book.{Book}
 use Rattle.x25_judge.specs.declared.judge.Judge.{Judge}
-use Rattle.x25_judge.specs.declared.packet_rule.PacketRule.{PacketRule}
+use Rattle.x25_judge.specs.declared.judge.Remark.{Remark}
+use Rattle.x25_packet_judge.specs.declared.packet_rule.PacketRule.{PacketRule}
+use Rattle.x25_judge.specs.declared.note.Note.{Note}
 use Rattle.x25_judge.specs.declared.rule.Rule.{Rule}
 use Rattle.x25_judge.specs.declared.rule.Rule.TheVariants.{Packet}
 use Rattle.x25_judge.specs.declared.sides.Sides.{Sides}
@@ -26,8 +29,8 @@ begins window long_data = record { window = window; long_data = long_data; dte =
 
 -- the end that sends comes first
 abbrev pub sides_of : Role → Judge → Sides
-sides_of Dte j = record { own = j.dte; other = j.dce; rule = None }
-sides_of Dce j = record { own = j.dce; other = j.dte; rule = None }
+sides_of Dte j = record { own = j.dte; other = j.dce; rule = None; note = None }
+sides_of Dce j = record { own = j.dce; other = j.dte; rule = None; note = None }
 
 abbrev pub behind : Role → Sides → Book → Judge → Judge
 behind Dte t b j = record { window = j.window; long_data = j.long_data; dte = t.own; dce = t.other; book = b }
@@ -50,30 +53,35 @@ abbrev pub end_of : Role → List ℕ
 end_of Dte = codes " ! dte: "
 end_of Dce = codes " ! dce: "
 
-abbrev pub verdict_text : Role → Option Rule → List ℕ
-verdict_text from None = []
-verdict_text from (Some rule) = end_of from ++ rule_text rule
+abbrev pub noted_text : Option Note → List ℕ
+noted_text None = []
+noted_text (Some note) = codes " ~ note: " ++ note_text note
 
-abbrev pub told_of : Judge → Role → Result PlainFrame FrameError → Sides → Option Rule → Book → Answer
-told_of j from read t rule b = record {
+-- what is noted is told where no rule is broken
+abbrev pub remark_text : Role → Option Rule → Option Note → List ℕ
+remark_text from None note = noted_text note
+remark_text from (Some rule) _ = end_of from ++ rule_text rule
+
+abbrev pub told_of : Judge → Role → Result PlainFrame FrameError → Sides → Option Rule → Option Note → Book → Answer
+told_of j from read t rule note b = record {
   next = behind from t b j;
-  text = mark_of from ++ reading_text j.long_data read ++ verdict_text from rule ++ codes "\n";
+  text = mark_of from ++ reading_text j.long_data read ++ remark_text from rule note ++ codes "\n";
   is_faulty = is_some rule;
 }
 
 -- a frame, as it is seen by the link layer and by the packet layer
 abbrev pub told_seen : Judge → Role → PlainFrame → Sides → book.Seen → Answer
-told_seen j from frame t s = told_of j from (Ok frame) t (all_told t.rule s.rule) s.book
+told_seen j from frame t s = told_of j from (Ok frame) t (all_told t.rule s.rule) t.note s.book
 
 abbrev pub told_frame : Judge → Role → PlainFrame → Sides → Answer
 told_frame j from frame t = told_seen j from frame t (book.sees from j.long_data frame (is_some t.rule) j.book)
 
-abbrev pub rule_of : Judge → Role → PlainFrame → Sides → Option Rule
-rule_of j from frame t = all_told t.rule (book.sees from j.long_data frame (is_some t.rule) j.book).rule
+abbrev pub remark_of : Judge → Role → PlainFrame → Sides → Remark
+remark_of j from frame t = record { rule = all_told t.rule (book.sees from j.long_data frame (is_some t.rule) j.book).rule; note = t.note }
 
 abbrev pub read_of : Judge → Role → Result PlainFrame FrameError → Answer
 read_of j from (Ok frame) = told_frame j from frame (sees j.window frame (sides_of from j))
-read_of j from (Err e) = told_of j from (Err e) (misses (sides_of from j)) None (book.misses from j.book)
+read_of j from (Err e) = told_of j from (Err e) (misses (sides_of from j)) None None (book.misses from j.book)
 
 -- a line that is none of a trace counts as faulty
 abbrev pub sent_of : Judge → Option (Role × List ℕ) → Answer

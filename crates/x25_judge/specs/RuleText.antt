@@ -1,6 +1,6 @@
 -- What is said of a rule that a frame breaks (profile).
 use Rattle.std.specs.Prelude.{ℕ, List, ◌++◌, codes, decimal}
-use Rattle.x25_judge.specs.PacketRuleText.{packet_rule_text}
+use Rattle.x25_packet_judge.specs.PacketRuleText.{packet_rule_text}
 use Rattle.x25_judge.specs.declared.rule.Rule.{Rule}
 use Rattle.x25_judge.specs.declared.rule.Rule.TheVariants.{NotUp, NoPoll, Unsent, Falls, RejectAgain, OverWindow, Skips, Repeats, Packet}
 

@@ -1,8 +1,11 @@
 -- Both ends of a link as what they sent shows them, and what a frame changes and breaks.
 -- ITU-T X.25 (10/96), sections 2.4.3 to 2.4.5; what is said behind a fault is profile.
-use Rattle.std.specs.Prelude.{ℕ, ◌+◌, ◌-◌, ◌==◌, Bool, true, false, not, ◌&&◌, if◌then◌else◌, min, Option, Some, None}
+use Rattle.std.specs.Prelude.{ℕ, ◌+◌, ◌-◌, ◌==◌, nat_lt, Bool, true, false, not, ◌&&◌, ◌||◌, if◌then◌else◌, min, Option, Some, None}
 use Rattle.x25_frame.specs.PlainFrame.{PlainFrame, info, rr, rnr, rej, sabm, disc, ua, dm, frmr}
-use Rattle.x25_judge.specs.Way.{fresh, lost, missed, answered, heard, rejected, sent_back, sent}
+use Rattle.x25_judge.specs.Note.{first_note}
+use Rattle.x25_judge.specs.Way.{fresh, lost, missed, unheard, answered, heard, rejected, sent_back, sent}
+use Rattle.x25_judge.specs.declared.note.Note.{Note}
+use Rattle.x25_judge.specs.declared.note.Note.TheVariants.{PollAgain, PollUnseen}
 use Rattle.x25_judge.specs.declared.rule.Rule.{Rule}
 use Rattle.x25_judge.specs.declared.rule.Rule.TheVariants.{NotUp, NoPoll}
 use Rattle.x25_judge.specs.declared.sides.Phase.{Phase}
@@ -19,12 +22,12 @@ first None next = next
 -- ---- phases (sections 2.4.4.1 to 2.4.4.5)
 
 -- UA is awaited, and none was sent
-abbrev pub is_waiting : Phase → Bool
-is_waiting Unseen = false
-is_waiting Out = false
-is_waiting Waiting = true
-is_waiting Answered = false
-is_waiting Up = false
+abbrev pub awaits_ua : Phase → Bool
+awaits_ua Unseen = false
+awaits_ua Out = false
+awaits_ua Waiting = true
+awaits_ua Answered = false
+awaits_ua Up = false
 
 -- UA may be awaited
 abbrev pub is_asking : Phase → Bool
@@ -100,47 +103,75 @@ unsure Up = Up
 -- ---- parts
 
 abbrev pub no_end : End
-no_end = record { phase = Unseen; polls = 0; way = fresh false }
+no_end = record { phase = Unseen; polls = 0; is_polling = false; is_followed = false; way = fresh false }
 
 abbrev pub with_way : Way → End → End
-with_way way e = record { phase = e.phase; polls = e.polls; way = way }
+with_way way e = record e { way = way }
 
 abbrev pub with_phase : Phase → End → End
-with_phase phase e = record { phase = phase; polls = e.polls; way = e.way }
+with_phase phase e = record e { phase = phase }
 
-abbrev pub with_polls : ℕ → End → End
-with_polls polls e = record { phase = e.phase; polls = polls; way = e.way }
+abbrev pub with_polls : ℕ → Bool → End → End
+with_polls polls is_polling e = record e { polls = polls; is_polling = is_polling }
+
+-- an I frame of it is acknowledged where fewer are unacknowledged than before
+abbrev pub followed_to : Way → End → End
+followed_to way e = record e { is_followed = e.is_followed || nat_lt way.pending e.way.pending; way = way }
 
 abbrev pub with_own : End → Sides → Sides
-with_own own t = record { own = own; other = t.other; rule = t.rule }
+with_own own t = record t { own = own }
 
 abbrev pub with_other : End → Sides → Sides
-with_other other t = record { own = t.own; other = other; rule = t.rule }
+with_other other t = record t { other = other }
 
 -- the first rule that is broken is told
 abbrev pub tells : Option Rule → Sides → Sides
-tells rule t = record { own = t.own; other = t.other; rule = first t.rule rule }
+tells rule t = record t { rule = first t.rule rule }
+
+-- .. and the first note
+abbrev pub notes : Option Note → Sides → Sides
+notes note t = record t { note = first_note t.note note }
+
+abbrev pub remarks : Told → Sides → Sides
+remarks told t = notes told.note (tells told.rule t)
 
 abbrev pub of_other : Told → Sides → Sides
-of_other told t = tells told.rule (with_other (with_way told.way t.other) t)
+of_other told t = remarks told (with_other (with_way told.way t.other) t)
 
 abbrev pub of_own : Told → Sides → Sides
-of_own told t = tells told.rule (with_own (with_way told.way t.own) t)
+of_own told t = remarks told (with_own (with_way told.way t.own) t)
 
 -- ---- P and F (section 2.4.3)
 
+-- one more P=1 that may be answered
+abbrev pub asks_on : Bool → Sides → Sides
+asks_on is_polling t = with_own (with_polls (min (t.own.polls + 1) 255) is_polling t.own) t
+
+-- P=1, again where no F=1 answered the last one
 abbrev pub polls : Sides → Sides
-polls t = with_own (with_polls (min (t.own.polls + 1) 255) t.own) t
+polls t = if t.own.is_polling then notes (Some PollAgain) (asks_on true t) else asks_on true t
 
 abbrev pub poll_answered : Sides → Sides
-poll_answered t = with_other (with_polls (t.other.polls - 1) t.other) t
+poll_answered t = with_other (with_polls (t.other.polls - 1) false t.other) t
 
--- F=1 answers one P=1
-abbrev pub answers_poll : Sides → Sides
-answers_poll t = if t.other.polls == 0 && not (is_unseen t.own.phase) then tells (Some NoPoll) (poll_answered t) else poll_answered t
+-- F=1 answers one P=1: where `is_sure` one that was seen, since the sender is known to be up or out behind it
+abbrev pub answers_poll : Bool → Sides → Sides
+answers_poll is_sure t =
+    if not (t.other.polls == 0) then poll_answered t
+    else if is_sure && not (is_unseen t.own.phase) then tells (Some NoPoll) (poll_answered t)
+    else notes (Some PollUnseen) (poll_answered t)
 
+-- of an I frame or a supervisory frame: its sender went up behind all that was sent to it before
 abbrev pub bits : Bool → Bool → Sides → Sides
-bits command pf t = if not pf then t else if command then polls t else answers_poll t
+bits command pf t = if not pf then t else if command then polls t else answers_poll true t
+
+-- of an unnumbered command
+abbrev pub asks_if : Bool → Sides → Sides
+asks_if p t = if p then polls t else t
+
+-- of an unnumbered response: it may answer what was sent before the trace begins, until an I frame in the trace is acknowledged
+abbrev pub answers_if : Bool → Sides → Sides
+answers_if f t = if f then answers_poll t.other.is_followed t else t
 
 -- ---- I frames and supervisory frames
 
@@ -151,8 +182,11 @@ runs t = if may_run t.own.phase
     else tells (Some NotUp) (with_other (with_way (lost t.other.way) t.other) (with_own (with_way (lost t.own.way) (with_phase Unseen t.own)) t))
 
 -- an N(R) is about the other end's I frames
+abbrev pub hears_told : Told → Sides → Sides
+hears_told told t = remarks told (with_other (followed_to told.way t.other) t)
+
 abbrev pub hears : ℕ → Sides → Sides
-hears number t = of_other (heard number t.other.way) t
+hears number t = hears_told (heard number t.other.way) t
 
 abbrev pub rejects : Sides → Sides
 rejects t = of_other (rejected t.other.way) t
@@ -179,7 +213,7 @@ sends_reject command nr pf t = sends_back nr (rejects (hears nr (bits command pf
 
 -- SABM: its numbers begin anew, and so do the N(R)s of an end that awaits UA itself
 abbrev pub asks : Sides → Sides
-asks t = with_own (with_phase (asking t.own.phase) (with_way (fresh (is_waiting t.other.phase)) t.own)) t
+asks t = with_own (with_phase (asking t.own.phase) (with_way (fresh (awaits_ua t.other.phase)) t.own)) t
 
 -- UA: its numbers and its N(R)s begin anew
 abbrev pub accepts : Sides → Sides
@@ -201,13 +235,13 @@ sees window (info ns nr p octets) t = sends_info window ns nr p t
 sees window (rr command nr pf) t = sends_ready command nr pf t
 sees window (rnr command nr pf) t = sends_ready command nr pf t
 sees window (rej command nr pf) t = sends_reject command nr pf t
-sees window (sabm p) t = asks (bits true p t)
-sees window (disc p) t = leaves (bits true p t)
-sees window (ua f) t = accepts (bits false f t)
-sees window (dm f) t = declines (bits false f t)
-sees window (frmr f why) t = leaves (bits false f t)
+sees window (sabm p) t = asks (asks_if p t)
+sees window (disc p) t = leaves (asks_if p t)
+sees window (ua f) t = accepts (answers_if f t)
+sees window (dm f) t = declines (answers_if f t)
+sees window (frmr f why) t = leaves (answers_if f t)
 
 -- octets that spell none: a frame that was damaged, which may have been any
 unfoldable pub misses : Sides → Sides
-misses t = polls (with_other (with_phase (accepted t.other.phase) t.other)
+misses t = asks_on t.own.is_polling (with_other (with_phase (accepted t.other.phase) (with_way (unheard t.other.way) t.other))
     (with_own (with_phase (unsure t.own.phase) (with_way (missed t.own.way) t.own)) t))

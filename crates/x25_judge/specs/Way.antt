@@ -1,6 +1,9 @@
 -- What the I frames of one end, and the N(R)s that answer them, have shown so far, modulo 8, and the rules on them.
 -- ITU-T X.25 (10/96), sections 2.3.2, 2.4.5 and 2.4.8.6. How faults are told apart, and what is said behind one, is profile.
 use Rattle.std.specs.Prelude.{ℕ, ◌+◌, ◌-◌, ◌%◌, ◌==◌, nat_lt, nat_le, Bool, true, false, not, ◌&&◌, ◌||◌, if◌then◌else◌, min, Some, None}
+use Rattle.x25_packet_judge.specs.Numbers.{apart}
+use Rattle.x25_judge.specs.declared.note.Note.{Note}
+use Rattle.x25_judge.specs.declared.note.Note.TheVariants.{SentAgain, SentBehindDamage, HeardBehindDamage}
 use Rattle.x25_judge.specs.declared.rule.Rule.{Rule}
 use Rattle.x25_judge.specs.declared.rule.Rule.TheVariants.{Unsent, Falls, RejectAgain, OverWindow, Skips, Repeats}
 use Rattle.x25_judge.specs.declared.way.Sight.{Sight}
@@ -8,12 +11,15 @@ use Rattle.x25_judge.specs.declared.way.Sight.TheVariants.{Unseen, Astray, Sure}
 use Rattle.x25_judge.specs.declared.way.Way.{Way}
 use Rattle.x25_judge.specs.declared.way.Told.{Told}
 
--- how far one number lies behind another
-abbrev pub apart : ℕ → ℕ → ℕ
-apart to from = ((8 + to % 8) - from % 8) % 8
-
 abbrev pub quiet : Way → Told
-quiet w = record { way = w; rule = None }
+quiet w = record { way = w; rule = None; note = None }
+
+abbrev pub breaks : Rule → Way → Told
+breaks rule w = record { way = w; rule = Some rule; note = None }
+
+-- what a loss explains
+abbrev pub notes : Note → Way → Told
+notes note w = record { way = w; rule = None; note = Some note }
 
 -- the end's numbers begin from 0; they are known where the other end's N(R)s begin from there too
 abbrev pub fresh : Bool → Way
@@ -51,8 +57,16 @@ is_unseen w = is_unseen_sight w.sight
 abbrev pub lost : Way → Way
 lost w = record w { sight = Unseen }
 
+-- a damaged frame of the end may have been an I frame, also the one that REJ asked for
 abbrev pub missed : Way → Way
-missed w = record w { is_missed = true }
+missed w = record w { is_missed = true; is_rejected = false }
+
+abbrev pub astray : Way → Way
+astray w = record w { sight = Astray }
+
+-- a damaged frame of the other end may have had an N(R): the window isn't judged until one comes
+abbrev pub unheard : Way → Way
+unheard w = if is_sure w then astray w else w
 
 -- the other end answers, so that its N(R)s begin from 0: known where no I frame was sent before
 abbrev pub answered : Way → Way
@@ -76,11 +90,12 @@ invalid ahead w = if nat_lt (8 - ahead) (ahead - w.pending) then Falls (awaited 
 abbrev pub acknowledged : ℕ → Way → Way
 acknowledged ahead w = record w { sight = Sure; pending = w.pending - ahead; is_rejected = w.is_rejected && ahead == 0 }
 
--- no further one is judged until one is valid
+-- no further one is judged until one is valid; a frame that was missed may explain it
 abbrev pub strayed : ℕ → Way → Told
-strayed ahead w = if is_sure w && not w.is_missed
-    then record { way = record w { sight = Astray }; rule = Some (invalid ahead w) }
-    else quiet (record w { sight = Astray })
+strayed ahead w =
+    if not (is_sure w) then quiet (astray w)
+    else if w.is_missed then notes HeardBehindDamage (astray w)
+    else breaks (invalid ahead w) (astray w)
 
 abbrev pub heard_ahead : ℕ → Way → Told
 heard_ahead ahead w = if nat_le ahead w.pending then quiet (acknowledged ahead w) else strayed ahead w
@@ -92,7 +107,7 @@ heard number w = if is_unseen w then quiet w else heard_ahead (apart number (awa
 
 abbrev pub rejected : Way → Told
 rejected w = if is_sure w && w.is_rejected
-    then record { way = record w { is_rejected = true }; rule = Some RejectAgain }
+    then breaks RejectAgain (record w { is_rejected = true })
     else quiet (record w { is_rejected = true })
 
 -- ---- what sets V(S) back to an N(R): REJ, and the answer to a poll (sections 2.4.5.5 and 2.4.5.9)
@@ -130,12 +145,12 @@ known_pending w = if is_sure w then w.pending else 0
 
 -- a fault, but for a frame that was missed
 abbrev pub told : Way → Rule → Way → Told
-told way rule w = if w.is_missed then quiet way else record { way = way; rule = Some rule }
+told way rule w = if w.is_missed then notes SentBehindDamage way else breaks rule way
 
 -- the next new one: at most k are unacknowledged (section 2.4.8.6)
 abbrev pub sent_new : ℕ → Way → Told
 sent_new window w = if is_sure w && nat_le window w.pending
-    then record { way = record (grown 1 w) { sight = Astray }; rule = Some (OverWindow window) }
+    then breaks (OverWindow window) (astray (grown 1 w))
     else quiet (grown 1 w)
 
 -- nothing explains it
@@ -150,8 +165,8 @@ unexplained back w =
 -- V(S) is set back now, to one that is acknowledged up to there, by a cause, or by timer T1 with P=1 (section 2.4.5.9).
 abbrev pub sent_again : Bool → ℕ → Way → Told
 sent_again is_poll back w =
-    if back == w.behind || (nat_le (known_pending w) back && nat_lt back w.behind) then quiet (repeated back w)
-    else if nat_lt w.behind back && (nat_le (known_pending w) back && (is_poll || nat_lt 0 w.causes)) then quiet (went_back back w)
+    if back == w.behind || (nat_le (known_pending w) back && nat_lt back w.behind) then notes SentAgain (repeated back w)
+    else if nat_lt w.behind back && (nat_le (known_pending w) back && (is_poll || nat_lt 0 w.causes)) then notes SentAgain (went_back back w)
     else unexplained back w
 
 -- the number so far before the next new one; that one itself where none is to be sent again, or all are acknowledged

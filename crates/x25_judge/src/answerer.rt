@@ -24,9 +24,9 @@ impl Answerer {
     ghost use Rattle.std.specs.Io.KnownBytes.{Appends};
     ghost use Rattle.x25_io.specs.HeldLine.{HoldsLine};
     ghost use Rattle.x25_io.specs.Lines.{IsOpen};
-    ghost use Rattle.x25_io.specs.Written.{AppendsBeginning, Tells};
+    ghost use Rattle.x25_io.specs.code.Written.{AppendsPrefix, Tells};
     ghost use Rattle.x25_judge.specs.Judged.{answer_to, begins};
-    ghost use Rattle.x25_judge.specs.Stream.{JudgesOn, LeadsFrom};
+    ghost use Rattle.x25_judge.specs.code.Stream.{JudgesOn, LeadsFrom};
 
     /// Nothing is held and nothing waits.
     pub(crate) fn new(alloc: Global, window: u8, long_data: bool) -> Result<Answerer, AllocError>
@@ -70,7 +70,7 @@ impl Answerer {
         ensures kept { OnOk result (W.is_marked writer.new ≡ W.is_marked writer.old) }
         ensures tells { (old : Option (List ℕ)) (told begun : List ℕ) → HoldsLine begun self.old.held → Tells old (W.contents writer.old) self.old.output told
             → MatchResult result (λ _. Tells old (W.contents writer.new) self.new.output (told ++ (answer_to self.old.judge begun).text))
-            (λ _. AppendsBeginning old (W.contents writer.new) (told ++ (answer_to self.old.judge begun).text)) }
+            (λ _. AppendsPrefix old (W.contents writer.new) (told ++ (answer_to self.old.judge begun).text)) }
         ensures next { (begun : List ℕ) → HoldsLine begun self.old.held → self.new.judge ≡ (answer_to self.old.judge begun).next }
         ensures is_faulty { (begun : List ℕ) → HoldsLine begun self.old.held
             → self.new.is_faulty ≡ (self.old.is_faulty || (answer_to self.old.judge begun).is_faulty) }
@@ -89,7 +89,7 @@ impl Answerer {
         ensures kept { OnOk result (W.is_marked writer.new ≡ W.is_marked writer.old) }
         ensures leads { (old : Option (List ℕ)) (rest all : List ℕ) (any : Bool)
             → LeadsFrom old (W.contents writer.old) self.old (tail.now ++ 10 ∷ rest) all any
-            → MatchResult result (λ _. LeadsFrom old (W.contents writer.new) self.new rest all any) (λ _. AppendsBeginning old (W.contents writer.new) all) }
+            → MatchResult result (λ _. LeadsFrom old (W.contents writer.new) self.new rest all any) (λ _. AppendsPrefix old (W.contents writer.new) all) }
         ensures marked { OnErr result (W.is_marked writer.new ≡ true) }
     {
         self.held.hold(tail);
@@ -100,7 +100,7 @@ impl Answerer {
     fn flush<W: Sink>(&mut self, writer: &mut W) -> Result<(), Failed>
         ensures kept { OnOk result (W.is_marked writer.new ≡ W.is_marked writer.old) }
         ensures leads { (old : Option (List ℕ)) (rest all : List ℕ) (any : Bool) → LeadsFrom old (W.contents writer.old) self.old rest all any
-            → MatchResult result (λ _. LeadsFrom old (W.contents writer.new) self.new rest all any) (λ _. AppendsBeginning old (W.contents writer.new) all) }
+            → MatchResult result (λ _. LeadsFrom old (W.contents writer.new) self.new rest all any) (λ _. AppendsPrefix old (W.contents writer.new) all) }
         ensures written { OnOk result (self.new.output ≡ []) }
         ensures held { self.new.held ≡ self.old.held }
         ensures marked { OnErr result (W.is_marked writer.new ≡ true) }
@@ -112,7 +112,7 @@ impl Answerer {
     fn end_line<W: Sink>(&mut self, writer: &mut W) -> Result<(), Failed>
         ensures kept { OnOk result (W.is_marked writer.new ≡ W.is_marked writer.old) }
         ensures leads { (old : Option (List ℕ)) (all : List ℕ) (any : Bool) → LeadsFrom old (W.contents writer.old) self.old [] all any
-            → MatchResult result (λ _. LeadsFrom old (W.contents writer.new) self.new [] all any × HoldsLine [] self.new.held) (λ _. AppendsBeginning old (W.contents writer.new) all) }
+            → MatchResult result (λ _. LeadsFrom old (W.contents writer.new) self.new [] all any × HoldsLine [] self.new.held) (λ _. AppendsPrefix old (W.contents writer.new) all) }
         ensures marked { OnErr result (W.is_marked writer.new ≡ true) }
     {
         if self.held.is_empty() {
@@ -125,7 +125,7 @@ impl Answerer {
     fn finish<W: Sink>(&mut self, writer: &mut W) -> Result<(), Failed>
         ensures kept { OnOk result (W.is_marked writer.new ≡ W.is_marked writer.old) }
         ensures text { (old : Option (List ℕ)) (all : List ℕ) (any : Bool) → LeadsFrom old (W.contents writer.old) self.old [] all any
-            → MatchResult result (λ _. Appends old (W.contents writer.new) all × (self.new.is_faulty ≡ any)) (λ _. AppendsBeginning old (W.contents writer.new) all) }
+            → MatchResult result (λ _. Appends old (W.contents writer.new) all × (self.new.is_faulty ≡ any)) (λ _. AppendsPrefix old (W.contents writer.new) all) }
         ensures marked { OnErr result (W.is_marked writer.new ≡ true) }
     {
         self.end_line(writer)?;
@@ -135,7 +135,7 @@ impl Answerer {
 
 impl TextTaker for Answerer {
     ghost use Rattle.x25_judge.specs.Judged.{output_of, status_of as status};
-    ghost use Rattle.x25_judge.specs.Stream.{JudgesOn, WritesEnded};
+    ghost use Rattle.x25_judge.specs.code.Stream.{JudgesOn, WritesEnded};
     ghost use Rattle.x25_judge.specs.declared.judge.Judge as judge;
 
     // The judge before the first line.

@@ -3,28 +3,28 @@ ghost use Rattle.std.specs.Prelude.{◌≡◌, ◌+◌, ◌≤◌, ◌++◌, len
 ghost use Rattle.x25_decode.specs.Decoded.{mark_of, n1};
 ghost use Rattle.x25_frame.specs.Reading.{frame_of};
 ghost use Rattle.x25_frame.specs.PlainFrame.{plain};
-ghost use Rattle.x25_judge.specs.Book.{misses as book_misses};
-ghost use Rattle.x25_judge.specs.Judged.{all_told, answer_to, begins, behind, read_of, rule_of, sides_of, told_frame, verdict_text};
+ghost use Rattle.x25_packet_judge.specs.Book.{misses as book_misses};
+ghost use Rattle.x25_judge.specs.Judged.{all_told, answer_to, begins, behind, read_of, noted_text, remark_of, remark_text, sides_of, told_frame};
 ghost use Rattle.x25_judge.specs.Sides.{sees, misses};
 
-use crate::book::Book;
-use crate::packet_rule::PacketRule;
+use crate::note::{MOST_NOTE, Note};
 use crate::rule::Rule;
 use crate::rule_text::{MOST_RULE, push_rule};
 use crate::sides::{End, Sides};
 use std::alloc::{AllocError, Global};
 use x25_decode::read_sent;
 use x25_frame::{Frame, Role, decode};
+use x25_packet_judge::{Book, PacketRule};
 use x25_text::{MOST_OCTETS, MOST_TEXT, ROOM, Text, push_fault, push_frame};
 
 /// The most octets of information in an I frame.
 const N1: usize = 4_099;
 
-/// The most characters of the rule that a frame breaks, and of the end in front of it.
-const MOST_VERDICT: usize = MOST_RULE + 8;
+/// The most characters of the rule that a frame breaks, and of the end in front of it; no note has as many.
+const MOST_REMARK: usize = MOST_RULE + 8;
 
 /// The most characters of an answer, with its mark, a space and its line feed.
-pub(crate) const MOST_ANSWER: usize = MOST_TEXT + MOST_VERDICT + 3;
+pub(crate) const MOST_ANSWER: usize = MOST_TEXT + MOST_REMARK + 3;
 
 /// Both ends, as what they sent shows them; at most `window` I frames may be unacknowledged.
 #[derive(Drop)]
@@ -34,6 +34,13 @@ pub(crate) struct Judge {
     pub(crate) dte: End,
     pub(crate) dce: End,
     pub(crate) book: Book,
+}
+
+/// The rule that a frame breaks, and what is noted of it.
+#[derive(Clone, Copy)]
+pub(crate) struct Remark {
+    pub(crate) rule: Option<Rule>,
+    pub(crate) note: Option<Note>,
 }
 
 /// A rule of the link layer is told before one of the packet layer.
@@ -49,24 +56,25 @@ fn all_told(rule: Option<Rule>, packet: Option<PacketRule>) -> Option<Rule>
     }
 }
 
-/// Appends the rule that was broken, where one was, and a line feed; whether one was is answered.
-fn tell(from: Role, rule: Option<Rule>, text: &mut Text) -> bool
-    requires { length text.old + (MOST_VERDICT + 1) ≤ ROOM }
-    ensures text { text.new ≡ text.old ++ (verdict_text from rule ++ codes "\n") }
-    ensures is_faulty { result ≡ is_some rule }
+/// Appends the rule that was broken, where one was, or what is noted, and a line feed; whether one was is answered.
+fn tell(from: Role, remark: Remark, text: &mut Text) -> bool
+    requires { length text.old + (MOST_REMARK + 1) ≤ ROOM }
+    ensures text { text.new ≡ text.old ++ (remark_text from remark.rule remark.note ++ codes "\n") }
+    ensures is_faulty { result ≡ is_some remark.rule }
 {
-    push_verdict(from, rule, text);
+    push_remark(from, remark, text);
     text.push(b"\n");
-    rule.is_some()
+    remark.rule.is_some()
 }
 
-/// Appends the end and the rule that it broke.
-fn push_verdict(from: Role, rule: Option<Rule>, text: &mut Text)
-    requires { length text.old + MOST_VERDICT ≤ ROOM }
-    ensures text { text.new ≡ text.old ++ verdict_text from rule }
-    ensures size { length text.new ≤ length text.old + MOST_VERDICT }
+/// Appends the end and the rule that it broke, or else what is noted.
+fn push_remark(from: Role, remark: Remark, text: &mut Text)
+    requires { length text.old + MOST_REMARK ≤ ROOM }
+    ensures text { text.new ≡ text.old ++ remark_text from remark.rule remark.note }
+    ensures size { length text.new ≤ length text.old + MOST_REMARK }
 {
-    let Some(rule) = rule else {
+    let Some(rule) = remark.rule else {
+        push_noted(remark.note, text);
         return;
     };
     match from {
@@ -74,6 +82,19 @@ fn push_verdict(from: Role, rule: Option<Rule>, text: &mut Text)
         Role::Dce => text.push(b" ! dce: "),
     }
     push_rule(rule, text);
+}
+
+/// Appends what is noted.
+fn push_noted(note: Option<Note>, text: &mut Text)
+    requires { length text.old + (MOST_NOTE + 9) ≤ ROOM }
+    ensures text { text.new ≡ text.old ++ noted_text note }
+    ensures size { length text.new ≤ length text.old + (MOST_NOTE + 9) }
+{
+    let Some(note) = note else {
+        return;
+    };
+    text.push(b" ~ note: ");
+    text.push(note.words());
 }
 
 impl Judge {
@@ -100,11 +121,13 @@ impl Judge {
                 own: self.dte,
                 other: self.dce,
                 rule: None,
+                note: None,
             },
             Role::Dce => Sides {
                 own: self.dce,
                 other: self.dte,
                 rule: None,
+                note: None,
             },
         }
     }
@@ -124,17 +147,20 @@ impl Judge {
         }
     }
 
-    /// The rule that a frame breaks.
-    fn sees(&mut self, from: Role, frame: &Frame) -> Option<Rule>
+    /// The rule that a frame breaks, and what is noted of it.
+    fn sees(&mut self, from: Role, frame: &Frame) -> Remark
         ensures next { self.new ≡ (told_frame self.old from (plain frame.now) (sees self.old.window (plain frame.now) (sides_of from self.old))).next }
-        ensures rule { result ≡ rule_of self.old from (plain frame.now) (sees self.old.window (plain frame.now) (sides_of from self.old)) }
+        ensures remark { result ≡ remark_of self.old from (plain frame.now) (sees self.old.window (plain frame.now) (sides_of from self.old)) }
     {
         let sides = self.sides(from).sees(self.window, frame);
         let packet = self
             .book
             .sees(from, self.long_data, frame, sides.rule.is_some());
         self.keep(from, sides);
-        all_told(sides.rule, packet)
+        Remark {
+            rule: all_told(sides.rule, packet),
+            note: sides.note,
+        }
     }
 
     fn misses(&mut self, from: Role)
@@ -159,13 +185,17 @@ impl Judge {
         match decode(from, N1, octets) {
             Ok(frame) => {
                 push_frame(self.long_data, &frame, text);
-                let rule = self.sees(from, &frame);
-                tell(from, rule, text)
+                let remark = self.sees(from, &frame);
+                tell(from, remark, text)
             }
             Err(error) => {
                 push_fault(error, text);
                 self.misses(from);
-                tell(from, None, text)
+                let quiet = Remark {
+                    rule: None,
+                    note: None,
+                };
+                tell(from, quiet, text)
             }
         }
     }

@@ -1,9 +1,9 @@
 //! A trace judged line by line.
 ghost use Rattle.std.specs.Prelude.{◌≡◌, ◌<◌, ◌≤◌, ◌-◌, ◌^◌, ℕ, true, List, Some, IfOk, OnOk, OnErr, IfSome, IsErrOf, length};
 ghost use Rattle.std.specs.Io.KnownBytes.{Appends};
-ghost use Rattle.x25_io.specs.Written.{AppendsBeginning};
+ghost use Rattle.x25_io.specs.code.Written.{AppendsPrefix};
 ghost use Rattle.x25_judge.specs.Judged.{begins, output_of, status_of};
-ghost use Rattle.x25_judge.specs.Stream.{WritesEnded};
+ghost use Rattle.x25_judge.specs.code.Stream.{WritesEnded};
 
 use crate::answerer::Answerer;
 use std::alloc::Global;
@@ -36,7 +36,7 @@ pub fn judge_lines<R: Source, W: Sink>(
 
     // What was written before a fault is a beginning of it.
     ensures fault { OnErr result (IfSome (R.remaining reader.old) (λ input. length input < 2 ^ 64 - 1
-        → AppendsBeginning (W.contents writer.old) (W.contents writer.new) (output_of (begins window long) input))) }
+        → AppendsPrefix (W.contents writer.old) (W.contents writer.new) (output_of (begins window long) input))) }
     // At a failed read the answers to all lines that had ended are written.
     ensures ended { IsErrOf result Fault.Read → IfSome (R.remaining reader.old) (λ input.
         (rest : List ℕ) × (R.remaining reader.new ≡ Some rest)

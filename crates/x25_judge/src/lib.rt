@@ -4,23 +4,12 @@
 #![tactic(auto)]
 
 mod answerer;
-mod book;
-mod flow;
 mod judge;
 mod judging;
-mod layer;
-mod message;
-mod packet_rule;
-mod packet_rule_text;
-mod packets;
-mod pair;
-mod port;
-mod ports;
+mod note;
 mod rule;
 mod rule_text;
 mod sides;
-mod talking;
-mod terms;
 mod way;
 
 pub use judging::judge_lines;

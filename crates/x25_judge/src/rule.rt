@@ -1,6 +1,6 @@
 //! The rules that a frame may break.
 
-use crate::packet_rule::PacketRule;
+use x25_packet_judge::PacketRule;
 
 /// A rule that a frame breaks, with what would have been right. ITU-T X.25 (10/96); the section is in the text of each.
 ///

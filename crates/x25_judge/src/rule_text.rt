@@ -2,8 +2,8 @@
 ghost use Rattle.std.specs.Prelude.{◌≡◌, ◌+◌, ◌≤◌, ◌++◌, length};
 ghost use Rattle.x25_judge.specs.RuleText.{rule_text};
 
-use crate::packet_rule_text::push_packet_rule;
 use crate::rule::Rule;
+use x25_packet_judge::push_packet_rule;
 use x25_text::{ROOM, Text};
 
 /// The most characters of the text of a rule.

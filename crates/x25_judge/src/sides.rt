@@ -3,6 +3,7 @@ ghost use Rattle.std.specs.Prelude.{◌≡◌};
 ghost use Rattle.x25_frame.specs.PlainFrame.{plain};
 ghost use Rattle.x25_judge.specs.Sides as definition;
 
+use crate::note::{Note, first_note};
 use crate::rule::Rule;
 use crate::way::{Told, Way};
 use x25_frame::Frame;
@@ -23,16 +24,21 @@ pub(crate) struct End {
     pub(crate) phase: Phase,
     /// How many commands with P=1 it sent that no F=1 has answered.
     pub(crate) polls: u8,
+    /// No F=1 came behind the last of them.
+    pub(crate) is_polling: bool,
+    /// The trace shows all that it sent with P=1 and that may still be answered: an I frame in it was acknowledged.
+    pub(crate) is_followed: bool,
     /// Its I frames.
     pub(crate) way: Way,
 }
 
-/// The end that sends a frame and the other end, and the first rule that the frame breaks.
+/// The end that sends a frame and the other end, the first rule that the frame breaks, and what is noted of it first.
 #[derive(Clone, Copy)]
 pub(crate) struct Sides {
     pub(crate) own: End,
     pub(crate) other: End,
     pub(crate) rule: Option<Rule>,
+    pub(crate) note: Option<Note>,
 }
 
 /// The first of two rules.
@@ -53,8 +59,8 @@ impl Phase {
         matches!(self, Phase::Waiting | Phase::Answered)
     }
 
-    fn is_waiting(self) -> bool
-        ensures { result ≡ definition.is_waiting self }
+    fn awaits_ua(self) -> bool
+        ensures { result ≡ definition.awaits_ua self }
     {
         matches!(self, Phase::Waiting)
     }
@@ -144,6 +150,8 @@ impl End {
         End {
             phase: Phase::Unseen,
             polls: 0,
+            is_polling: false,
+            is_followed: false,
             way: Way::fresh(false),
         }
     }
@@ -151,30 +159,33 @@ impl End {
     fn with_way(self, way: Way) -> End
         ensures { result ≡ definition.with_way way self }
     {
-        End {
-            phase: self.phase,
-            polls: self.polls,
-            way,
-        }
+        End { way, ..self }
     }
 
     fn with_phase(self, phase: Phase) -> End
         ensures { result ≡ definition.with_phase phase self }
     {
+        End { phase, ..self }
+    }
+
+    fn with_polls(self, polls: u8, is_polling: bool) -> End
+        ensures { result ≡ definition.with_polls polls is_polling self }
+    {
         End {
-            phase,
-            polls: self.polls,
-            way: self.way,
+            polls,
+            is_polling,
+            ..self
         }
     }
 
-    fn with_polls(self, polls: u8) -> End
-        ensures { result ≡ definition.with_polls polls self }
+    /// Behind an N(R): fewer I frames are unacknowledged where one of them was acknowledged.
+    fn followed_to(self, way: Way) -> End
+        ensures { result ≡ definition.followed_to way self }
     {
         End {
-            phase: self.phase,
-            polls,
-            way: self.way,
+            is_followed: self.is_followed || way.pending < self.way.pending,
+            way,
+            ..self
         }
     }
 }
@@ -183,64 +194,96 @@ impl Sides {
     fn with_own(self, own: End) -> Sides
         ensures { result ≡ definition.with_own own self }
     {
-        Sides {
-            own,
-            other: self.other,
-            rule: self.rule,
-        }
+        Sides { own, ..self }
     }
 
     fn with_other(self, other: End) -> Sides
         ensures { result ≡ definition.with_other other self }
     {
-        Sides {
-            own: self.own,
-            other,
-            rule: self.rule,
-        }
+        Sides { other, ..self }
     }
 
     fn tells(self, rule: Option<Rule>) -> Sides
         ensures { result ≡ definition.tells rule self }
     {
         Sides {
-            own: self.own,
-            other: self.other,
             rule: first(self.rule, rule),
+            ..self
         }
+    }
+
+    fn notes(self, note: Option<Note>) -> Sides
+        ensures { result ≡ definition.notes note self }
+    {
+        Sides {
+            note: first_note(self.note, note),
+            ..self
+        }
+    }
+
+    /// The rule and the note that were told.
+    fn remarks(self, told: Told) -> Sides
+        ensures { result ≡ definition.remarks told self }
+    {
+        self.tells(told.rule).notes(told.note)
     }
 
     /// What is told of the other end's I frames.
     fn of_other(self, told: Told) -> Sides
         ensures { result ≡ definition.of_other told self }
     {
-        self.with_other(self.other.with_way(told.way))
-            .tells(told.rule)
+        self.with_other(self.other.with_way(told.way)).remarks(told)
     }
 
     /// What is told of its own I frames.
     fn of_own(self, told: Told) -> Sides
         ensures { result ≡ definition.of_own told self }
     {
-        self.with_own(self.own.with_way(told.way)).tells(told.rule)
+        self.with_own(self.own.with_way(told.way)).remarks(told)
     }
 
     // ---- P and F
 
+    /// One more P=1 may be answered.
+    fn asks_on(self, is_polling: bool) -> Sides
+        ensures { result ≡ definition.asks_on is_polling self }
+    {
+        self.with_own(
+            self.own
+                .with_polls(self.own.polls.saturating_add(1), is_polling),
+        )
+    }
+
     fn polls(self) -> Sides
         ensures { result ≡ definition.polls self }
     {
-        self.with_own(self.own.with_polls(self.own.polls.saturating_add(1)))
+        if self.own.is_polling {
+            self.asks_on(true).notes(Some(Note::PollAgain))
+        } else {
+            self.asks_on(true)
+        }
     }
 
-    fn answers_poll(self) -> Sides
-        ensures { result ≡ definition.answers_poll self }
+    fn poll_answered(self) -> Sides
+        ensures { result ≡ definition.poll_answered self }
     {
-        let next = self.with_other(self.other.with_polls(self.other.polls.saturating_sub(1)));
-        if self.other.polls == 0 && !self.own.phase.is_unseen() {
+        self.with_other(
+            self.other
+                .with_polls(self.other.polls.saturating_sub(1), false),
+        )
+    }
+
+    /// An F=1: one that answers nothing is at fault where `is_sure`.
+    fn answers_poll(self, is_sure: bool) -> Sides
+        ensures { result ≡ definition.answers_poll is_sure self }
+    {
+        let next = self.poll_answered();
+        if self.other.polls != 0 {
+            next
+        } else if is_sure && !self.own.phase.is_unseen() {
             next.tells(Some(Rule::NoPoll))
         } else {
-            next
+            next.notes(Some(Note::PollUnseen))
         }
     }
 
@@ -253,7 +296,24 @@ impl Sides {
         } else if command {
             self.polls()
         } else {
-            self.answers_poll()
+            self.answers_poll(true)
+        }
+    }
+
+    fn asks_if(self, p: bool) -> Sides
+        ensures { result ≡ definition.asks_if p self }
+    {
+        if p { self.polls() } else { self }
+    }
+
+    /// An unnumbered response may answer what was sent before the trace begins.
+    fn answers_if(self, f: bool) -> Sides
+        ensures { result ≡ definition.answers_if f self }
+    {
+        if f {
+            self.answers_poll(self.other.is_followed)
+        } else {
+            self
         }
     }
 
@@ -278,7 +338,9 @@ impl Sides {
     fn hears(self, number: u8) -> Sides
         ensures { result ≡ definition.hears number self }
     {
-        self.of_other(self.other.way.heard(number))
+        let told = self.other.way.heard(number);
+        self.with_other(self.other.followed_to(told.way))
+            .remarks(told)
     }
 
     fn rejects(self) -> Sides
@@ -329,7 +391,7 @@ impl Sides {
     fn asks(self) -> Sides
         ensures { result ≡ definition.asks self }
     {
-        let own = self.own.with_way(Way::fresh(self.other.phase.is_waiting()));
+        let own = self.own.with_way(Way::fresh(self.other.phase.awaits_ua()));
         self.with_own(own.with_phase(self.own.phase.asking()))
     }
 
@@ -369,11 +431,11 @@ impl Sides {
                 *pf,
             ),
             Frame::Rej { command, nr, pf } => self.reject(*command, nr.get(), *pf),
-            Frame::Sabm { p } => self.bits(true, *p).asks(),
-            Frame::Disc { p } => self.bits(true, *p).leaves(),
-            Frame::Ua { f } => self.bits(false, *f).accepts(),
-            Frame::Dm { f } => self.bits(false, *f).declines(),
-            Frame::Frmr { f, .. } => self.bits(false, *f).leaves(),
+            Frame::Sabm { p } => self.asks_if(*p).asks(),
+            Frame::Disc { p } => self.asks_if(*p).leaves(),
+            Frame::Ua { f } => self.answers_if(*f).accepts(),
+            Frame::Dm { f } => self.answers_if(*f).declines(),
+            Frame::Frmr { f, .. } => self.answers_if(*f).leaves(),
         }
     }
 
@@ -383,8 +445,9 @@ impl Sides {
         ensures { result ≡ definition.misses self }
     {
         let own = self.own.with_way(self.own.way.missed());
+        let other = self.other.with_way(self.other.way.unheard());
         self.with_own(own.with_phase(self.own.phase.unsure()))
-            .with_other(self.other.with_phase(self.other.phase.accepted()))
-            .polls()
+            .with_other(other.with_phase(self.other.phase.accepted()))
+            .asks_on(self.own.is_polling)
     }
 }

@@ -2,7 +2,9 @@
 ghost use Rattle.std.specs.Prelude.{◌≡◌};
 ghost use Rattle.x25_judge.specs.Way as definition;
 
+use crate::note::Note;
 use crate::rule::Rule;
+use x25_packet_judge::apart;
 
 /// What may be said of a way: nothing, since its numbers aren't known; not of its N(R)s, since one of them was at fault; or all.
 #[derive(Clone, Copy)]
@@ -32,24 +34,42 @@ pub(crate) struct Way {
     pub(crate) is_missed: bool,
 }
 
-/// A way behind a frame, and the rule that the frame breaks.
+/// A way behind a frame, the rule that the frame breaks, and what is noted of it.
 #[derive(Clone, Copy)]
 pub(crate) struct Told {
     pub(crate) way: Way,
     pub(crate) rule: Option<Rule>,
-}
-
-/// How far one number lies behind another, modulo 8.
-pub(crate) fn apart(to: u8, from: u8) -> u8
-    ensures { result ≡ definition.apart to from }
-{
-    (8 + to % 8 - from % 8) % 8
+    pub(crate) note: Option<Note>,
 }
 
 fn quiet(way: Way) -> Told
     ensures { result ≡ definition.quiet way }
 {
-    Told { way, rule: None }
+    Told {
+        way,
+        rule: None,
+        note: None,
+    }
+}
+
+fn breaks(rule: Rule, way: Way) -> Told
+    ensures { result ≡ definition.breaks rule way }
+{
+    Told {
+        way,
+        rule: Some(rule),
+        note: None,
+    }
+}
+
+fn notes(note: Note, way: Way) -> Told
+    ensures { result ≡ definition.notes note way }
+{
+    Told {
+        way,
+        rule: None,
+        note: Some(note),
+    }
 }
 
 impl Way {
@@ -104,8 +124,26 @@ impl Way {
     {
         Way {
             is_missed: true,
+            is_rejected: false,
             ..self
         }
+    }
+
+    /// Its N(R)s aren't judged until one is valid.
+    fn astray(self) -> Way
+        ensures { result ≡ definition.astray self }
+    {
+        Way {
+            sight: Sight::Astray,
+            ..self
+        }
+    }
+
+    /// A frame of the other end that may have had an N(R) was damaged.
+    pub(crate) fn unheard(self) -> Way
+        ensures { result ≡ definition.unheard self }
+    {
+        if self.is_sure() { self.astray() } else { self }
     }
 
     /// The other end asks for I frames from 0 on.
@@ -160,21 +198,16 @@ impl Way {
         }
     }
 
-    /// Its N(R)s aren't judged until one is valid.
+    /// An N(R) that isn't valid, which a frame that was missed may explain.
     fn strayed(self, ahead: u8) -> Told
         ensures { result ≡ definition.strayed ahead self }
     {
-        let way = Way {
-            sight: Sight::Astray,
-            ..self
-        };
-        if self.is_sure() && !self.is_missed {
-            Told {
-                way,
-                rule: Some(self.invalid(ahead)),
-            }
+        if !self.is_sure() {
+            quiet(self.astray())
+        } else if self.is_missed {
+            notes(Note::HeardBehindDamage, self.astray())
         } else {
-            quiet(way)
+            breaks(self.invalid(ahead), self.astray())
         }
     }
 
@@ -204,10 +237,7 @@ impl Way {
             ..self
         };
         if self.is_sure() && self.is_rejected {
-            Told {
-                way,
-                rule: Some(Rule::RejectAgain),
-            }
+            breaks(Rule::RejectAgain, way)
         } else {
             quiet(way)
         }
@@ -280,12 +310,9 @@ impl Way {
         ensures { result ≡ definition.told way rule self }
     {
         if self.is_missed {
-            quiet(way)
+            notes(Note::SentBehindDamage, way)
         } else {
-            Told {
-                way,
-                rule: Some(rule),
-            }
+            breaks(rule, way)
         }
     }
 
@@ -295,13 +322,7 @@ impl Way {
     {
         let way = self.grown(1);
         if self.is_sure() && window <= self.pending {
-            Told {
-                way: Way {
-                    sight: Sight::Astray,
-                    ..way
-                },
-                rule: Some(Rule::OverWindow { window }),
-            }
+            breaks(Rule::OverWindow { window }, way.astray())
         } else {
             quiet(way)
         }
@@ -328,11 +349,11 @@ impl Way {
         ensures { result ≡ definition.sent_again is_poll back self }
     {
         if back == self.behind || (self.known_pending() <= back && back < self.behind) {
-            quiet(self.repeated(back))
+            notes(Note::SentAgain, self.repeated(back))
         } else if self.behind < back
             && (self.known_pending() <= back && (is_poll || 0 < self.causes))
         {
-            quiet(self.went_back(back))
+            notes(Note::SentAgain, self.went_back(back))
         } else {
             self.unexplained(back)
         }

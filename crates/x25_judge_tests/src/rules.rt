@@ -1,4 +1,4 @@
-//! Traces that break one rule each, and traces that break none.
+//! Traces that break one rule each, and traces that break none, with what is noted of them.
 use std::test::Fail;
 use x25_io::Device;
 use x25_judge::judge_lines;
@@ -12,7 +12,7 @@ struct Row {
     answers: &'static str,
 }
 
-static ROWS: [Row; 21] = [
+static ROWS: [Row; 23] = [
     Row {
         name: "not_up",
         window: 7,
@@ -53,7 +53,7 @@ static ROWS: [Row; 21] = [
         window: 7,
         status: 1,
         trace: "> 013febdf\n< 01738357\n< 03001001017f5f\n< 03021001010966\n> 0309eeb8\n> 0309eeb8\n< 03001001017f5f\n",
-        answers: "> SABM cmd P=1\n< UA rsp F=1\n< I cmd P=0 S=0 R=0 | RR ch=1 R=0\n< I cmd P=0 S=1 R=0 | RR ch=1 R=0\n> REJ rsp F=0 R=0\n> REJ rsp F=0 R=0 ! dte: REJ comes once for a gap (2.4.5.4)\n< I cmd P=0 S=0 R=0 | RR ch=1 R=0\n",
+        answers: "> SABM cmd P=1\n< UA rsp F=1\n< I cmd P=0 S=0 R=0 | RR ch=1 R=0\n< I cmd P=0 S=1 R=0 | RR ch=1 R=0\n> REJ rsp F=0 R=0\n> REJ rsp F=0 R=0 ! dte: REJ comes once for a gap (2.4.5.4)\n< I cmd P=0 S=0 R=0 | RR ch=1 R=0 ~ note: an I frame is sent again (2.4.5.9)\n",
     },
     Row {
         name: "over_window",
@@ -74,14 +74,14 @@ static ROWS: [Row; 21] = [
         window: 7,
         status: 1,
         trace: "> 013febdf\n< 01738357\n> 0100100101f749\n> 01041001011b3b\n< 01295caa\n> 01021001018170\n> 01041001011b3b\n",
-        answers: "> SABM cmd P=1\n< UA rsp F=1\n> I cmd P=0 S=0 R=0 | RR ch=1 R=0\n> I cmd P=0 S=2 R=0 | RR ch=1 R=0 ! dte: N(S) skips (2.4.5.1): it should be 1\n< REJ rsp F=0 R=1\n> I cmd P=0 S=1 R=0 | RR ch=1 R=0\n> I cmd P=0 S=2 R=0 | RR ch=1 R=0\n",
+        answers: "> SABM cmd P=1\n< UA rsp F=1\n> I cmd P=0 S=0 R=0 | RR ch=1 R=0\n> I cmd P=0 S=2 R=0 | RR ch=1 R=0 ! dte: N(S) skips (2.4.5.1): it should be 1\n< REJ rsp F=0 R=1\n> I cmd P=0 S=1 R=0 | RR ch=1 R=0 ~ note: an I frame is sent again (2.4.5.9)\n> I cmd P=0 S=2 R=0 | RR ch=1 R=0 ~ note: an I frame is sent again (2.4.5.9)\n",
     },
     Row {
         name: "skips_what_is_sent_again",
         window: 7,
         status: 1,
         trace: "> 013febdf\n< 01738357\n> 0100100101f749\n> 01021001018170\n> 01041001011b3b\n< 01095e8b\n> 0100100101f749\n> 01041001011b3b\n> 01061001016d02\n",
-        answers: "> SABM cmd P=1\n< UA rsp F=1\n> I cmd P=0 S=0 R=0 | RR ch=1 R=0\n> I cmd P=0 S=1 R=0 | RR ch=1 R=0\n> I cmd P=0 S=2 R=0 | RR ch=1 R=0\n< REJ rsp F=0 R=0\n> I cmd P=0 S=0 R=0 | RR ch=1 R=0\n> I cmd P=0 S=2 R=0 | RR ch=1 R=0 ! dte: N(S) skips (2.4.5.1): it should be 1\n> I cmd P=0 S=3 R=0 | RR ch=1 R=0\n",
+        answers: "> SABM cmd P=1\n< UA rsp F=1\n> I cmd P=0 S=0 R=0 | RR ch=1 R=0\n> I cmd P=0 S=1 R=0 | RR ch=1 R=0\n> I cmd P=0 S=2 R=0 | RR ch=1 R=0\n< REJ rsp F=0 R=0\n> I cmd P=0 S=0 R=0 | RR ch=1 R=0 ~ note: an I frame is sent again (2.4.5.9)\n> I cmd P=0 S=2 R=0 | RR ch=1 R=0 ! dte: N(S) skips (2.4.5.1): it should be 1\n> I cmd P=0 S=3 R=0 | RR ch=1 R=0\n",
     },
     Row {
         name: "repeats",
@@ -95,21 +95,21 @@ static ROWS: [Row; 21] = [
         window: 7,
         status: 0,
         trace: "> 013febdf\n< 01738357\n> 0100100101f749\n> 01021001018170\n< 01095e8b\n> 0100100101f749\n> 01021001018170\n< 01411245\n> 01041001011b3b\n",
-        answers: "> SABM cmd P=1\n< UA rsp F=1\n> I cmd P=0 S=0 R=0 | RR ch=1 R=0\n> I cmd P=0 S=1 R=0 | RR ch=1 R=0\n< REJ rsp F=0 R=0\n> I cmd P=0 S=0 R=0 | RR ch=1 R=0\n> I cmd P=0 S=1 R=0 | RR ch=1 R=0\n< RR rsp F=0 R=2\n> I cmd P=0 S=2 R=0 | RR ch=1 R=0\n",
+        answers: "> SABM cmd P=1\n< UA rsp F=1\n> I cmd P=0 S=0 R=0 | RR ch=1 R=0\n> I cmd P=0 S=1 R=0 | RR ch=1 R=0\n< REJ rsp F=0 R=0\n> I cmd P=0 S=0 R=0 | RR ch=1 R=0 ~ note: an I frame is sent again (2.4.5.9)\n> I cmd P=0 S=1 R=0 | RR ch=1 R=0 ~ note: an I frame is sent again (2.4.5.9)\n< RR rsp F=0 R=2\n> I cmd P=0 S=2 R=0 | RR ch=1 R=0\n",
     },
     Row {
         name: "repeats_after_poll",
         window: 7,
         status: 0,
         trace: "> 013febdf\n< 01738357\n> 0100100101f749\n> 01119717\n< 01119717\n> 0100100101f749\n< 01211426\n",
-        answers: "> SABM cmd P=1\n< UA rsp F=1\n> I cmd P=0 S=0 R=0 | RR ch=1 R=0\n> RR cmd P=1 R=0\n< RR rsp F=1 R=0\n> I cmd P=0 S=0 R=0 | RR ch=1 R=0\n< RR rsp F=0 R=1\n",
+        answers: "> SABM cmd P=1\n< UA rsp F=1\n> I cmd P=0 S=0 R=0 | RR ch=1 R=0\n> RR cmd P=1 R=0\n< RR rsp F=1 R=0\n> I cmd P=0 S=0 R=0 | RR ch=1 R=0 ~ note: an I frame is sent again (2.4.5.9)\n< RR rsp F=0 R=1\n",
     },
     Row {
         name: "repeats_with_poll",
         window: 7,
         status: 0,
         trace: "> 013febdf\n< 01738357\n> 0100100101f749\n> 0110100101568a\n< 01319536\n",
-        answers: "> SABM cmd P=1\n< UA rsp F=1\n> I cmd P=0 S=0 R=0 | RR ch=1 R=0\n> I cmd P=1 S=0 R=0 | RR ch=1 R=0\n< RR rsp F=1 R=1\n",
+        answers: "> SABM cmd P=1\n< UA rsp F=1\n> I cmd P=0 S=0 R=0 | RR ch=1 R=0\n> I cmd P=1 S=0 R=0 | RR ch=1 R=0 ~ note: an I frame is sent again (2.4.5.9)\n< RR rsp F=1 R=1\n",
     },
     Row {
         name: "lost_acknowledgement",
@@ -144,14 +144,28 @@ static ROWS: [Row; 21] = [
         window: 7,
         status: 0,
         trace: "> 016a100101bd0c\n< 01c11ac1\n< 03c61001013c2f\n> 03f129c3\n",
-        answers: "> I cmd P=0 S=5 R=3 | RR ch=1 R=0\n< RR rsp F=0 R=6\n< I cmd P=0 S=3 R=6 | RR ch=1 R=0\n> RR rsp F=1 R=7\n",
+        answers: "> I cmd P=0 S=5 R=3 | RR ch=1 R=0\n< RR rsp F=0 R=6\n< I cmd P=0 S=3 R=6 | RR ch=1 R=0\n> RR rsp F=1 R=7 ~ note: F=1 answers no P=1 that the trace shows (2.4.3)\n",
     },
     Row {
         name: "damaged_frame",
         window: 7,
         status: 0,
         trace: "> 013febdf\n< 01738357\n> 0100100101f740\n> 01021001018170\n< 01411245\n",
-        answers: "> SABM cmd P=1\n< UA rsp F=1\n> fault 2 fcs\n> I cmd P=0 S=1 R=0 | RR ch=1 R=0\n< RR rsp F=0 R=2\n",
+        answers: "> SABM cmd P=1\n< UA rsp F=1\n> fault 2 fcs\n> I cmd P=0 S=1 R=0 | RR ch=1 R=0 ~ note: N(S) is out of order behind a damaged frame (2.4.5.1)\n< RR rsp F=0 R=2\n",
+    },
+    Row {
+        name: "answers_of_before",
+        window: 7,
+        status: 1,
+        trace: "< 033f5bec\n< 01738357\n> 03733364\n> 0100100101f749\n< 01211426\n< 011fe9fe\n",
+        answers: "< SABM cmd P=1\n< UA rsp F=1 ~ note: F=1 answers no P=1 that the trace shows (2.4.3)\n> UA rsp F=1\n> I cmd P=0 S=0 R=0 | RR ch=1 R=0\n< RR rsp F=0 R=1\n< DM rsp F=1 ! dce: F=1 answers a command with P=1 alone (2.4.3)\n",
+    },
+    Row {
+        name: "polls_again",
+        window: 7,
+        status: 0,
+        trace: "> 013febdf\n> 013febdf\n< 01738357\n> 01119717\n> 01119717\n< 01119717\n> 01119717\n< 01119717\n",
+        answers: "> SABM cmd P=1\n> SABM cmd P=1 ~ note: P=1 again, and no F=1 answered the last one (2.4.3)\n< UA rsp F=1\n> RR cmd P=1 R=0\n> RR cmd P=1 R=0 ~ note: P=1 again, and no F=1 answered the last one (2.4.3)\n< RR rsp F=1 R=0\n> RR cmd P=1 R=0\n< RR rsp F=1 R=0\n",
     },
     Row {
         name: "no_line",

@@ -3,14 +3,14 @@ use Rattle.std.proofs.Common.{◌≡◌, ℕ, List, [], ◌∷◌, ◌++◌, len
 use Rattle.std.proofs.lemmas.List.{append_cancel_left, drop_at}
 use Rattle.x25_bits.specs.declared.role.Role.TheVariants.{Dte, Dce}
 use Rattle.x25_packet.specs.PlainPacket.{PlainPacket}
-use Rattle.x25_epochs.specs.Books.{Begins}
+use Rattle.x25_handshakes.specs.Books.{IsPrefix}
 use Rattle.x25_layer.specs.Layer.{LayerSettings, is_channel}
 use Rattle.x25_layer.specs.Calls.{LayerOutcome, Accepted, Declined, layer_outcome, layer_pulled}
-use Rattle.x25_layer.specs.World as world
-use Rattle.x25_layer.specs.World.{End, World, requested, pulled_in, handed_up, moves_in, moves, turned, settings_of, Event, happens, run, start}
-use Rattle.x25_layer.specs.Law.{Always, KeepsOrder}
+use Rattle.x25_layer.specs.TwoLayers as world
+use Rattle.x25_layer.specs.TwoLayers.{End, TwoLayers, requested, pulled_in, handed_up, moves_in, moves, turned, settings_of, Event, happens, run, start}
+use Rattle.x25_layer.specs.laws.Law.{Always, KeepsOrder}
 use Rattle.x25_layer.specs.Apart.{OwnMove, Requests, Pulls, Takes, GoesDown, as_move, coming, alone, own_moves, own_run, Ends, ApartEvent, apart_happens, apart_run, ends_of, IsNext, IsInOrder, AreInOrder, over_links, all_over_links, as_world, AlwaysApart}
-use Rattle.x25_layer.specs.ApartLaw.{IsOverLinks, AreByThemselves, OwnMovesDecide, StaysDown, EventsRunOn}
+use Rattle.x25_layer.specs.laws.ApartLaw.{IsOverLinks, AreByThemselves, OwnMovesDecide, StaysDown, EventsRunOn}
 
 -- ---- own moves alone decide
 
@@ -48,13 +48,13 @@ stays_down c e own = stays_out c (own_moves c e GoesDown) own (down_is_out c e e
 -- ---- a move of an end by itself is that of two layers
 
 -- the packet that comes next is in front of those in flight
-front : (taken back given : List PlainPacket) (p : PlainPacket) → given ≡ taken ++ back → (next : Begins (taken ++ p ∷ []) given) → back ≡ p ∷ next.0
+front : (taken back given : List PlainPacket) (p : PlainPacket) → given ≡ taken ++ back → (next : IsPrefix (taken ++ p ∷ []) given) → back ≡ p ∷ next.0
 front taken back given p order next = append_cancel_left taken back (p ∷ next.0) (sym order ∙ sym next.1 ∙ append_assoc taken (p ∷ []) next.0)
 
-abbrev Agrees : LayerSettings → World → Bool → OwnMove → Type 0
+abbrev Agrees : LayerSettings → TwoLayers → Bool → OwnMove → Type 0
 Agrees c w gone what = ((moves_in c (alone w.near (coming what)) gone (as_move what)).near ≡ (moves_in c w gone (as_move what)).near) × ((moves_in c w gone (as_move what)).far ≡ w.far)
 
-agrees : (c : LayerSettings) (w : World) (what : OwnMove) (gone : Bool) → w.near.is_out ≡ gone → KeepsOrder w → IsNext w.near w.far what → Agrees c w gone what
+agrees : (c : LayerSettings) (w : TwoLayers) (what : OwnMove) (gone : Bool) → w.near.is_out ≡ gone → KeepsOrder w → IsNext w.near w.far what → Agrees c w gone what
 agrees c w what true is order next = (refl, refl)
 agrees c w (Requests full request) false is order next = by (layer_outcome c full w.near.layer request)
   where
@@ -78,7 +78,7 @@ agrees c w GoesDown false is order next = (refl, refl)
 abbrev both : End → End → Ends
 both near far = record { near = near; far = far }
 
-event_agrees : (long_data : Bool) (channels : ℕ) (w : World) (first : Bool) (what : OwnMove) → KeepsOrder w → IsInOrder (ends_of w) (event first what)
+event_agrees : (long_data : Bool) (channels : ℕ) (w : TwoLayers) (first : Bool) (what : OwnMove) → KeepsOrder w → IsInOrder (ends_of w) (event first what)
     → apart_happens long_data channels (ends_of w) (event first what) ≡ ends_of (happens long_data channels w (over_links (event first what)))
 event_agrees long_data channels w true what order next =
     let same = agrees (settings_of Dte long_data channels) w what w.near.is_out refl order next in
@@ -87,7 +87,7 @@ event_agrees long_data channels w false what order next =
     let same = agrees (settings_of Dce long_data channels) (turned w) what w.far.is_out refl (record { near = order.far; far = order.near }) next in
     ap₂ both (sym same.1) same.0
 
-run_agrees : (long_data : Bool) (channels : ℕ) (es : List ApartEvent) (w : World) → ((behind : List Event) → KeepsOrder (run long_data channels behind w)) → AreInOrder long_data channels es (ends_of w)
+run_agrees : (long_data : Bool) (channels : ℕ) (es : List ApartEvent) (w : TwoLayers) → ((behind : List Event) → KeepsOrder (run long_data channels behind w)) → AreInOrder long_data channels es (ends_of w)
     → apart_run long_data channels es (ends_of w) ≡ ends_of (run long_data channels (all_over_links es) w)
 run_agrees long_data channels [] w order next = refl
 run_agrees long_data channels (e ∷ es) w order next =
@@ -100,10 +100,10 @@ run_agrees long_data channels (e ∷ es) w order next =
 in_flight : (given taken out : List PlainPacket) → given ≡ taken ++ out → drop (length taken) given ≡ out
 in_flight given taken out order = ap (λ (l : List PlainPacket). drop (length taken) l) order ∙ drop_at taken out (length taken) refl
 
-abbrev with_flight : World → List PlainPacket → List PlainPacket → World
+abbrev with_flight : TwoLayers → List PlainPacket → List PlainPacket → TwoLayers
 with_flight w out back = record { near = w.near; far = w.far; out = out; back = back }
 
-ends_are_the_world : (w : World) → KeepsOrder w → as_world (ends_of w) ≡ w
+ends_are_the_world : (w : TwoLayers) → KeepsOrder w → as_world (ends_of w) ≡ w
 ends_are_the_world w order = ap₂ (with_flight w) (in_flight w.near.given w.far.taken w.out order.near) (in_flight w.far.given w.near.taken w.back order.far)
 
 pub apart_is_over_links : (long_data : Bool) (channels : ℕ) → Always KeepsOrder long_data channels → IsOverLinks long_data channels
@@ -111,5 +111,5 @@ apart_is_over_links long_data channels order es next =
     ap as_world (run_agrees long_data channels es (start long_data channels) order next)
     ∙ ends_are_the_world (run long_data channels (all_over_links es) (start long_data channels)) (order (all_over_links es))
 
-pub always_apart : (P : World → Type 0) (long_data : Bool) (channels : ℕ) → IsOverLinks long_data channels → Always P long_data channels → AlwaysApart P long_data channels
+pub always_apart : (P : TwoLayers → Type 0) (long_data : Bool) (channels : ℕ) → IsOverLinks long_data channels → Always P long_data channels → AlwaysApart P long_data channels
 always_apart P long_data channels same holds es next = subst P (sym (same es next)) (holds (all_over_links es))

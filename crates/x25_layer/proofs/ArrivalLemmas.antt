@@ -5,21 +5,21 @@ use Rattle.x25_circuit.specs.declared.message.Message.{Message}
 use Rattle.x25_circuit.specs.Messages.{wholes}
 use Rattle.x25_circuit.specs.Params.{Terms}
 use Rattle.x25_circuit.specs.Circuit.{Circuit, is_open, waits}
-use Rattle.x25_epochs.specs.Handshake.{Side, Live, Left, At, state_of}
-use Rattle.x25_epochs.specs.Stretch.{Stretch}
-use Rattle.x25_epochs.specs.Calls.{Phase, Unused, Waiting, Offered, Crossed, Talking, Connection}
-use Rattle.x25_epochs.specs.Layers.{Channels}
-use Rattle.x25_epochs.specs.Names.{Name}
-use Rattle.x25_epochs.specs.Books.{Lists, messages, interrupts, held_in, name_at, held_at}
-use Rattle.x25_epochs.specs.Arrivals.{open_call, open_at, HasArrived}
+use Rattle.x25_handshakes.specs.Handshake.{Side, Live, Left, At, state_of}
+use Rattle.x25_handshakes.specs.Stretch.{Stretch}
+use Rattle.x25_handshakes.specs.Calls.{Phase, Unused, Waiting, Offered, Crossed, Talking, Connection}
+use Rattle.x25_handshakes.specs.Layers.{Channels}
+use Rattle.x25_handshakes.specs.Names.{Name}
+use Rattle.x25_handshakes.specs.Books.{Lists, messages, interrupts, held_in, name_at, held_at}
+use Rattle.x25_handshakes.specs.Arrivals.{open_call, open_at, HasArrived}
 use Rattle.x25_layer.specs.Layer.{Layer}
 use Rattle.x25_layer.specs.Transcript.{under, messages_in, interrupts_in, name_of}
-use Rattle.x25_layer.specs.World.{End}
-use Rattle.x25_layer.specs.Law.{HasAllOf, IsIdleTo}
+use Rattle.x25_layer.specs.TwoLayers.{End}
+use Rattle.x25_layer.specs.laws.Law.{HasAllOf, IsIdleTo}
 use Rattle.x25_layer.proofs.Sees.{Agreed, view}
 use Rattle.x25_layer.proofs.LayerSees.{ShowsAt}
 use Rattle.x25_layer.proofs.StepLemmas.{name_eq}
-use Rattle.x25_layer.proofs.WorldLemmas.{SeesEnd}
+use Rattle.x25_layer.proofs.TwoLayerLemmas.{SeesEnd}
 
 -- nothing is in flight where all is acknowledged, and what is acknowledged was handed up
 no_length : (l : List PlainPacket) → length l ≡ 0 → l ≡ []

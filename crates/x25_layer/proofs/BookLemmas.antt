@@ -2,12 +2,12 @@
 use Rattle.std.proofs.Common.{◌≡◌, ◌⊎◌, inl, inr, ℕ, List, [], ◌∷◌, ◌++◌, Bool, true, false, ◌==◌, if◌then◌else◌, refl, sym, ap, ◌∙◌, append_assoc}
 use Rattle.std.proofs.lemmas.Bool.{eqb-true}
 use Rattle.x25_circuit.specs.Notices.{CallRequest}
-use Rattle.x25_epochs.specs.Handshake.{Live, At, state_of}
-use Rattle.x25_epochs.specs.Stretch.{Stretch}
-use Rattle.x25_epochs.specs.Calls.{Phase, Unused, Talking, Connection}
-use Rattle.x25_epochs.specs.Layers.{Channels}
-use Rattle.x25_epochs.specs.Names.{Name, both, same_name, IsEarlier}
-use Rattle.x25_epochs.specs.Books.{Lists, none, Kind, held_in, of_stretch, messages, interrupts, calls, circuit_at, name_at, held_at, written}
+use Rattle.x25_handshakes.specs.Handshake.{Live, At, state_of}
+use Rattle.x25_handshakes.specs.Stretch.{Stretch}
+use Rattle.x25_handshakes.specs.Calls.{Phase, Unused, Talking, Connection}
+use Rattle.x25_handshakes.specs.Layers.{Channels}
+use Rattle.x25_handshakes.specs.Names.{Name, both, same_name, IsEarlier}
+use Rattle.x25_handshakes.specs.Books.{Lists, none, Kind, held_in, of_stretch, messages, interrupts, calls, circuit_at, name_at, held_at, written}
 use Rattle.x25_layer.specs.Transcript.{Handed, nothing_handed, added, Entry, says, under, calls_in, messages_in, interrupts_in}
 use Rattle.x25_layer.proofs.Sees.{held_phase, held_of, Adds, AfterReset, AfterClear}
 use Rattle.x25_layer.proofs.NoteLemmas.{append_nil}

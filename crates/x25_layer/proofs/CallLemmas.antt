@@ -9,16 +9,16 @@ use Rattle.x25_circuit.specs.declared.error.CircuitError.{CircuitError}
 use Rattle.x25_circuit.specs.Circuit.{Circuit}
 use Rattle.x25_circuit.specs.declared.params.Params.{Params}
 use Rattle.x25_circuit.specs.Calls.{Outcome, Done, Refused, Calls, outcome}
-use Rattle.x25_circuit.specs.Replies.{plain_owed}
+use Rattle.x25_circuit.specs.code.Replies.{plain_owed}
 use Rattle.x25_circuit.specs.Requests.{refusal_of, AnswersRequest}
-use Rattle.x25_circuit.specs.FitsCircuit.{FitsCircuit}
+use Rattle.x25_circuit.specs.code.FitsCircuit.{FitsCircuit}
 use Rattle.x25_layer.specs.declared.layer.Layer as code
 use Rattle.x25_layer.specs.declared.error.LayerError.{LayerError}
 use Rattle.x25_layer.specs.declared.error.LayerError.TheVariants as error
 use Rattle.x25_layer.specs.Layer.{LayerSettings, Layer, is_channel, put_at, packet_on, is_ready}
 use Rattle.x25_layer.specs.Calls.{Dials, Accepted, free_channel, where_room, dialled, outcome_in, layer_outcome, outcome_on}
 use Rattle.x25_layer.specs.Rounds.{LinkView, Answered, Went, Refuses, went, calls}
-use Rattle.x25_layer.specs.FitsLayer.{FitsCircuits, FitsLayer}
+use Rattle.x25_layer.specs.code.FitsLayer.{FitsCircuits, FitsLayer}
 use Rattle.x25_layer.specs.OverLink.{LayerGives, LinkGives}
 use Rattle.x25_layer.specs.Asking.{with_circuit, AsksCircuit, error_without_memory}
 use Rattle.x25_layer.proofs.FitLemmas.{read_at}

@@ -4,19 +4,19 @@ use Rattle.x25_bits.specs.declared.role.Role.{Role}
 use Rattle.x25_bits.specs.declared.role.Role.TheVariants.{Dte, Dce}
 use Rattle.x25_packet.specs.PlainPacket.{PlainPacket, clear}
 use Rattle.x25_circuit.specs.Circuit.{Circuit, is_free, is_free_in}
-use Rattle.x25_epochs.specs.Handshake.{Side, Live, Left, has_left, At}
-use Rattle.x25_epochs.specs.Stretch.{Stretch, Clear}
-use Rattle.x25_epochs.specs.Calls.{Phase, Unused, Waiting, Offered, Crossed, Talking, Connection}
-use Rattle.x25_epochs.specs.Channel.{in_p1, channel_takes, channel_side_takes}
-use Rattle.x25_epochs.specs.Layers.{LayerPacket, On, Channels, LayerStep, Pair, Takes, pair_moves, pair_run, pair_start, layer_takes, layer_side_takes}
-use Rattle.x25_layer.specs.World.{End, World, turned, run, start}
-use Rattle.x25_layer.specs.Law.{Always}
-use Rattle.x25_layer.specs.NameLaw.{IsNoClearInP1, FrontIsNoClearInP1, NoClearComesInP1}
+use Rattle.x25_handshakes.specs.Handshake.{Side, Live, Left, has_left, At}
+use Rattle.x25_handshakes.specs.Stretch.{Stretch, Clear}
+use Rattle.x25_handshakes.specs.Calls.{Phase, Unused, Waiting, Offered, Crossed, Talking, Connection}
+use Rattle.x25_handshakes.specs.Channel.{in_p1, channel_takes, channel_side_takes}
+use Rattle.x25_handshakes.specs.Layers.{LayerPacket, On, Channels, LayerStep, Pair, Takes, pair_moves, pair_run, pair_start, layer_takes, layer_side_takes}
+use Rattle.x25_layer.specs.TwoLayers.{End, TwoLayers, turned, run, start}
+use Rattle.x25_layer.specs.laws.Law.{Always}
+use Rattle.x25_layer.specs.laws.NameLaw.{IsNoClearInP1, FrontIsNoClearInP1, NoClearComesInP1}
 use Rattle.x25_layer.proofs.Sees.{Agreed, state_in_transfer, state_in, state_at, view}
 use Rattle.x25_layer.proofs.ViewLemmas.{some_none}
 use Rattle.x25_layer.proofs.LayerSees.{bare_layer, bare_layers, SeesLayer, ShowsAt}
 use Rattle.x25_layer.proofs.LayerLemmas.{true≢false}
-use Rattle.x25_layer.proofs.WorldLemmas.{Sees, second, sees_turned}
+use Rattle.x25_layer.proofs.TwoLayerLemmas.{Sees, second, sees_turned}
 use Rattle.x25_layer.proofs.RunLemmas.{Premises, run_more, in_run}
 
 not_free_in_transfer : (y : Side Stretch) → is_free_in (state_in_transfer y) ≡ false
@@ -51,7 +51,7 @@ out_takes_none : (e : End) (p : PlainPacket) → e.is_out ≡ true → IsNoClear
 out_takes_none e (clear h cause diagnostic) out = λ up ready. absurd (true≢false (sym out ∙ up))
 out_takes_none e other out = tt
 
-front_is : (r : Role) (channels : ℕ) (w : World) (near far : Side (At Channels)) (out back : List LayerPacket) (error : Option ℕ)
+front_is : (r : Role) (channels : ℕ) (w : TwoLayers) (near far : Side (At Channels)) (out back : List LayerPacket) (error : Option ℕ)
     → let j : Pair = record { near = near; far = far; out = out; back = back; error = error } in Sees channels w j → (pair_moves r j near Takes).error ≡ None
     → (K : List PlainPacket) → w.back ≡ K → FrontIsNoClearInP1 w.near K
 front_is r channels w near far out back error sees quiet [] front = tt
@@ -64,7 +64,7 @@ front_is r channels w (Live z) far out back error sees quiet (p ∷ K) front =
 
 pub never_in_p1 : Premises → (long_data : Bool) (channels : ℕ) → Always NoClearComesInP1 long_data channels
 never_in_p1 p long_data channels es =
-    let w : World = run long_data channels es (start long_data channels) in
+    let w : TwoLayers = run long_data channels es (start long_data channels) in
     let h = in_run p long_data channels es in
     let j : Pair = pair_run h.events pair_start in
     let quiet : (first : Bool) → (pair_run (h.events ++ record { first = first; what = Takes } ∷ []) pair_start).error ≡ None = λ first. p.quiet (h.events ++ record { first = first; what = Takes } ∷ []) in

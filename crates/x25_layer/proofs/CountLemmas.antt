@@ -9,15 +9,15 @@ use Rattle.x25_circuit.specs.Circuit.{Circuit}
 use Rattle.x25_circuit.specs.Notices.{PlainNotice}
 use Rattle.x25_circuit.specs.Table.{Answer, answers}
 use Rattle.x25_circuit.specs.Calls.{Outcome, Done, Refused, Calls, outcome, pulled}
-use Rattle.x25_epochs.specs.Names.{Name}
+use Rattle.x25_handshakes.specs.Names.{Name}
 use Rattle.x25_layer.specs.declared.error.LayerError.{LayerError}
 use Rattle.x25_layer.specs.declared.error.LayerError.TheVariants as error
 use Rattle.x25_layer.specs.Layer.{LayerSettings, Layer, LayerNotice, LayerAnswer, is_channel, notices_on, is_ready, answers_on, drops, answers_ready, answers_restarting, answers_in, layer_answers}
 use Rattle.x25_layer.specs.Calls.{LayerRequest, Asks, Dials, Restarts, PullsAll, LayerOutcome, Accepted, Declined, free_channel, puts_at_once, where_room, if_at_once, outcome_on, dialled, outcome_ready, outcome_in, layer_outcome, layer_pulled}
 use Rattle.x25_layer.specs.Transcript.{name_of}
-use Rattle.x25_layer.specs.World.{End, World, Move, Requests, Pulls, HandsUp, GoesDown, requested, pulled_in, handed_up, moves_in, turned, settings_of, Event, happens, run, start}
-use Rattle.x25_layer.specs.Law.{Always}
-use Rattle.x25_layer.specs.NameLaw.{first_name, named_by, named_after, counted, NamesAreCounted, IsNoClearInP1, FrontIsNoClearInP1, NoClearComesInP1}
+use Rattle.x25_layer.specs.TwoLayers.{End, TwoLayers, Move, Requests, Pulls, HandsUp, GoesDown, requested, pulled_in, handed_up, moves_in, turned, settings_of, Event, happens, run, start}
+use Rattle.x25_layer.specs.laws.Law.{Always}
+use Rattle.x25_layer.specs.laws.NameLaw.{first_name, named_by, named_after, counted, NamesAreCounted, IsNoClearInP1, FrontIsNoClearInP1, NoClearComesInP1}
 use Rattle.x25_layer.proofs.LayerLemmas.{true≢false}
 use Rattle.x25_layer.proofs.NameLemmas.{name_in, named_by_all, ClearsNotFree, circuit_counts, KeepsName, outcome_keeps, pulled_keeps}
 
@@ -131,7 +131,7 @@ counted_more : (k : ℕ) (n : Name) (xs ys : List LayerNotice) → counted k n (
 counted_more k n [] ys = refl
 counted_more k n (x ∷ xs) ys = counted_more k (named_after k n x) xs ys
 
-module _ (c : LayerSettings) (w : World) (h : NamesAreCounted w) (up : w.near.is_out ≡ false) where
+module _ (c : LayerSettings) (w : TwoLayers) (h : NamesAreCounted w) (up : w.near.is_out ≡ false) where
   requested_counted : (request : LayerRequest) (o : LayerOutcome) → KeepsNames w.near.layer o → NamesAreCounted (requested c w request o)
   requested_counted request (Accepted next packet) keeps = record { near = λ k on. keeps k ∙ h.near k up; far = h.far }
   requested_counted request (Declined e) keeps = h
@@ -150,20 +150,20 @@ module _ (c : LayerSettings) (w : World) (h : NamesAreCounted w) (up : w.near.is
     far = h.far;
   }
 
-move_counted : (c : LayerSettings) (w : World) (move : Move) (gone : Bool) → w.near.is_out ≡ gone → NamesAreCounted w → FrontIsNoClearInP1 w.near w.back → NamesAreCounted (moves_in c w gone move)
+move_counted : (c : LayerSettings) (w : TwoLayers) (move : Move) (gone : Bool) → w.near.is_out ≡ gone → NamesAreCounted w → FrontIsNoClearInP1 w.near w.back → NamesAreCounted (moves_in c w gone move)
 move_counted c w move true is h front = h
 move_counted c w (Requests full request) false is h front = requested_counted c w h is request (layer_outcome c full w.near.layer request) (names_kept c full w.near.layer request)
 move_counted c w (Pulls k) false is h front = pulled_counted c w h is k (is_channel c.channels k)
 move_counted c w HandsUp false is h front = handed_counted c w h is w.back front
 move_counted c w GoesDown false is h front = record { near = λ k on. absurd (true≢false on); far = h.far }
 
-event_counted : (long_data : Bool) (channels : ℕ) (w : World) (first : Bool) (what : Move) → NamesAreCounted w → NoClearComesInP1 w → NamesAreCounted (happens long_data channels w (record { first = first; what = what }))
+event_counted : (long_data : Bool) (channels : ℕ) (w : TwoLayers) (first : Bool) (what : Move) → NamesAreCounted w → NoClearComesInP1 w → NamesAreCounted (happens long_data channels w (record { first = first; what = what }))
 event_counted long_data channels w true what h front = move_counted (settings_of Dte long_data channels) w what w.near.is_out refl h front.near
 event_counted long_data channels w false what h front =
     let r = move_counted (settings_of Dce long_data channels) (turned w) what w.far.is_out refl (record { near = h.far; far = h.near }) front.far in
     record { near = r.far; far = r.near }
 
-run_more : (long_data : Bool) (channels : ℕ) (es : List Event) (e : Event) (w : World) → run long_data channels (es ++ e ∷ []) w ≡ happens long_data channels (run long_data channels es w) e
+run_more : (long_data : Bool) (channels : ℕ) (es : List Event) (e : Event) (w : TwoLayers) → run long_data channels (es ++ e ∷ []) w ≡ happens long_data channels (run long_data channels es w) e
 run_more long_data channels [] e w = refl
 run_more long_data channels (x ∷ es) e w = run_more long_data channels es e (happens long_data channels w x)
 
@@ -174,7 +174,7 @@ run_counted long_data channels front done [] h = subst (λ (l : List Event). Nam
 run_counted long_data channels front done (e ∷ es) h =
     subst (λ (l : List Event). NamesAreCounted (run long_data channels l (start long_data channels))) (append_assoc done (e ∷ []) es)
     (run_counted long_data channels front (done ++ e ∷ []) es
-    (subst (λ (w : World). NamesAreCounted w) (sym (run_more long_data channels done e (start long_data channels)))
+    (subst (λ (w : TwoLayers). NamesAreCounted w) (sym (run_more long_data channels done e (start long_data channels)))
     (event_counted long_data channels (run long_data channels done (start long_data channels)) e.first e.what h (front done))))
 
 pub always_counted : (long_data : Bool) (channels : ℕ) → Always NoClearComesInP1 long_data channels → Always NamesAreCounted long_data channels

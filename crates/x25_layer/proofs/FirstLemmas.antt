@@ -7,13 +7,13 @@ use Rattle.x25_circuit.specs.declared.state.State.{State}
 use Rattle.x25_circuit.specs.declared.state.State.TheVariants.{Free}
 use Rattle.x25_circuit.specs.Circuit.{Circuit, is_free_in}
 use Rattle.x25_circuit.specs.Calls.{Pulled, pull_in, pulled, pulls_nothing}
-use Rattle.x25_epochs.specs.Books.{Begins}
+use Rattle.x25_handshakes.specs.Books.{IsPrefix}
 use Rattle.x25_layer.specs.Layer.{LayerSettings, Layer, LayerNotice, restarted, is_channel, packet_on, answers_in, layer_answers, restart_cause, goes_up}
 use Rattle.x25_layer.specs.Calls.{LayerRequest, LayerOutcome, Accepted, Declined, outcome_in, layer_outcome, layer_pulled}
 use Rattle.x25_layer.specs.Quiet.{AreQuiet, AreNoFaults}
-use Rattle.x25_layer.specs.World.{End, requested, pulled_in, moves_in, settings_of, started}
+use Rattle.x25_layer.specs.TwoLayers.{End, requested, pulled_in, moves_in, settings_of, started}
 use Rattle.x25_layer.specs.Apart.{OwnMove, Requests, Pulls, Takes, GoesDown, as_move, coming, alone, own_moves, own_run, Ends, ApartEvent, apart_happens, apart_run, apart_start, IsNext, IsInOrder, AreInOrder, as_world, AlwaysApart}
-use Rattle.x25_layer.specs.ApartLaw.{BeginsRestarted, IsToldFirst, RestartsFirst, BeginsAlone}
+use Rattle.x25_layer.specs.laws.ApartLaw.{BeginsRestarted, IsToldFirst, RestartsFirst, BeginsAlone}
 use Rattle.x25_layer.proofs.LayerLemmas.{true≢false}
 use Rattle.x25_layer.proofs.ApartLemmas.{event}
 
@@ -122,7 +122,7 @@ restart_is_told c false restarts circuits (restart cause diagnostic) packets beg
 restart_is_told c b restarts circuits other packets begins = absurd begins
 
 taken_is_told : (c : LayerSettings) (l : Layer) (taken : List PlainPacket) (told : List LayerNotice) (p : PlainPacket) (given : List PlainPacket) → IsToldFirst taken told → BeginsRestart given
-    → Begins (taken ++ p ∷ []) given → IsToldFirst (taken ++ p ∷ []) (told ++ (layer_answers c l p).notices)
+    → IsPrefix (taken ++ p ∷ []) given → IsToldFirst (taken ++ p ∷ []) (told ++ (layer_answers c l p).notices)
 taken_is_told c l [] told p given first begins next =
     subst (λ (before : List LayerNotice). BeginsRestarted (before ++ (layer_answers c l p).notices)) (sym first)
     (restart_is_told c l.restarting l.restarts l.circuits p next.0 (subst BeginsRestart (sym next.1) begins))

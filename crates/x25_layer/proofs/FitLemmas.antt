@@ -6,12 +6,12 @@ use Rattle.std.proofs.lemmas.List.{append-nil, take_all}
 use Rattle.std.proofs.lemmas.Bool.{eqb-true}
 use Rattle.x25_circuit.specs.declared.circuit.Circuit as circuit_code
 use Rattle.x25_circuit.specs.Circuit.{Circuit, is_open, waits}
-use Rattle.x25_circuit.specs.FitsCircuit.{FitsCircuit}
+use Rattle.x25_circuit.specs.code.FitsCircuit.{FitsCircuit}
 use Rattle.x25_layer.specs.declared.layer.Layer as code
 use Rattle.x25_layer.specs.Layer.{LayerSettings, Layer, is_channel}
-use Rattle.x25_epochs.specs.Names.{Name}
+use Rattle.x25_handshakes.specs.Names.{Name}
 use Rattle.x25_layer.specs.Transcript.{name_of}
-use Rattle.x25_layer.specs.FitsLayer.{FitsCircuits, FitsLayer, name_at, params_at, is_open_at, waits_up_to}
+use Rattle.x25_layer.specs.code.FitsLayer.{FitsCircuits, FitsLayer, name_at, params_at, is_open_at, waits_up_to}
 
 not_false : true ≡ false → ⊥
 not_false e = cc

@@ -7,7 +7,7 @@ use Rattle.x25_packet.specs.FirstError.{FieldError, wrong_code, cut_off, out_of_
 use Rattle.x25_packet.specs.PlainPacket.{PlainPacket, call, accept, clear, clear_conf, user_data, rr, rnr, interrupt, interrupt_conf, reset, reset_conf, restart, restart_conf}
 use Rattle.x25_packet.specs.Reading.{packet_of, channel_in}
 use Rattle.x25_packet.specs.Spelling.{HasChannel, channel_of, format_of, spelling_of, IsInRange, Spells}
-use Rattle.x25_circuit.specs.FitsCircuit.{user_octets}
+use Rattle.x25_circuit.specs.code.FitsCircuit.{user_octets}
 use Rattle.x25_layer.specs.Layer.{LayerSettings, Layer, LayerAnswer, answers_in, undecoded_in, is_channel, put_at, drops}
 use Rattle.x25_layer.specs.Rounds.{answer_to, undecoded_at}
 use Rattle.x25_layer.specs.Asking.{with_circuit}

@@ -1,12 +1,12 @@
 -- What holds of two layers after every event, from what is known of the nested handshakes.
 use Rattle.std.proofs.Common.{◌≡◌, Bool, ℕ, sym, ap, subst, ◌∙◌}
-use Rattle.x25_epochs.specs.Handshake.{state_of}
-use Rattle.x25_epochs.specs.Layers.{Pair, pair_run, pair_start}
-use Rattle.x25_epochs.specs.Names.{Name}
-use Rattle.x25_epochs.specs.Books.{Lists, Kind, messages, interrupts, calls, name_at, held_at, Begins, IsLawful, desk, Ledger, ledger_run, ledger_start}
+use Rattle.x25_handshakes.specs.Handshake.{state_of}
+use Rattle.x25_handshakes.specs.Layers.{Pair, pair_run, pair_start}
+use Rattle.x25_handshakes.specs.Names.{Name}
+use Rattle.x25_handshakes.specs.Books.{Lists, Kind, messages, interrupts, calls, name_at, held_at, IsPrefix, IsLawful, desk, Ledger, ledger_run, ledger_start}
 use Rattle.x25_layer.specs.Transcript.{Handed, under, calls_in, messages_in, interrupts_in}
-use Rattle.x25_layer.specs.World.{World, run, start}
-use Rattle.x25_layer.specs.Law.{Always, IsQuietWorld, IsLawfulWorld, ArrivesAll, KeepsOrder}
+use Rattle.x25_layer.specs.TwoLayers.{TwoLayers, run, start}
+use Rattle.x25_layer.specs.laws.Law.{Always, IsQuietWorld, IsLawfulWorld, ArrivesAll, KeepsOrder}
 use Rattle.x25_layer.proofs.LayerSees.{bare_layers}
 use Rattle.x25_layer.proofs.RunLemmas.{Premises, ledger_pair, AreBooks, InRun, in_run}
 use Rattle.x25_layer.proofs.ArrivalLemmas.{none_in_flight, AtPresent, has_all}
@@ -19,23 +19,23 @@ always_quiet p long_data channels es =
     let h = in_run p long_data channels es in
     record { near = h.sees.near_quiet; far = h.sees.far_quiet }
 
-near_begins : {M : Type 0} (kind : Kind M) (lists : Handed → Lists M) (w : World) (g : Ledger M) → AreBooks kind lists w g
+near_begins : {M : Type 0} (kind : Kind M) (lists : Handed → Lists M) (w : TwoLayers) (g : Ledger M) → AreBooks kind lists w g
     → ((k : ℕ) → IsLawful (desk kind (state_of g.pair.near) k (g.near k)) (desk kind (state_of g.pair.far) k (g.far k)))
-    → (k : ℕ) (m : Name) → Begins (lists (under k m w.near.entries)).up (lists (under k m w.far.entries)).down
+    → (k : ℕ) (m : Name) → IsPrefix (lists (under k m w.near.entries)).up (lists (under k m w.far.entries)).down
 near_begins {M} kind lists w g books law k m =
-    subst (λ (l : Lists M). Begins l.up (lists (under k m w.far.entries)).down) (sym (books.near k m))
-    (subst (λ (l : Lists M). Begins (g.near k m).up l.down) (sym (books.far k m)) ((law k).begins m))
+    subst (λ (l : Lists M). IsPrefix l.up (lists (under k m w.far.entries)).down) (sym (books.near k m))
+    (subst (λ (l : Lists M). IsPrefix (g.near k m).up l.down) (sym (books.far k m)) ((law k).begins m))
 
-far_begins : {M : Type 0} (kind : Kind M) (lists : Handed → Lists M) (w : World) (g : Ledger M) → AreBooks kind lists w g
+far_begins : {M : Type 0} (kind : Kind M) (lists : Handed → Lists M) (w : TwoLayers) (g : Ledger M) → AreBooks kind lists w g
     → ((k : ℕ) → IsLawful (desk kind (state_of g.pair.near) k (g.near k)) (desk kind (state_of g.pair.far) k (g.far k)))
-    → (k : ℕ) (m : Name) → Begins (lists (under k m w.far.entries)).up (lists (under k m w.near.entries)).down
+    → (k : ℕ) (m : Name) → IsPrefix (lists (under k m w.far.entries)).up (lists (under k m w.near.entries)).down
 far_begins {M} kind lists w g books law k m =
-    subst (λ (l : Lists M). Begins l.up (lists (under k m w.near.entries)).down) (sym (books.far k m))
-    (subst (λ (l : Lists M). Begins (g.far k m).up l.down) (sym (books.near k m)) ((law k).begins_there m))
+    subst (λ (l : Lists M). IsPrefix l.up (lists (under k m w.near.entries)).down) (sym (books.far k m))
+    (subst (λ (l : Lists M). IsPrefix (g.far k m).up l.down) (sym (books.near k m)) ((law k).begins_there m))
 
 pub always_lawful : Premises → (long_data : Bool) (channels : ℕ) → Always IsLawfulWorld long_data channels
 always_lawful p long_data channels es =
-    let w : World = run long_data channels es (start long_data channels) in
+    let w : TwoLayers = run long_data channels es (start long_data channels) in
     let h : InRun channels w = in_run p long_data channels es in
     let order_m = p.messages h.events in
     let order_i = p.interrupts h.events in
@@ -57,13 +57,13 @@ always_lawful p long_data channels es =
     }
 
 -- what stands under the present name of an end
-near_present : {M : Type 0} (kind : Kind M) (lists : Handed → Lists M) (w : World) (j : Pair) (g : Ledger M) → AreBooks kind lists w g → g.pair ≡ j → (k : ℕ)
+near_present : {M : Type 0} (kind : Kind M) (lists : Handed → Lists M) (w : TwoLayers) (j : Pair) (g : Ledger M) → AreBooks kind lists w g → g.pair ≡ j → (k : ℕ)
     → g.near k (name_at kind (state_of g.pair.near) k) ≡ held_at kind (state_of g.pair.near) k
     → lists (under k (name_at kind (state_of j.near) k) w.near.entries) ≡ held_at kind (state_of j.near) k
 near_present kind lists w j g books same k held =
     subst (λ (q : Pair). lists (under k (name_at kind (state_of q.near) k) w.near.entries) ≡ held_at kind (state_of q.near) k) same (books.near k (name_at kind (state_of g.pair.near) k) ∙ held)
 
-far_present : {M : Type 0} (kind : Kind M) (lists : Handed → Lists M) (w : World) (j : Pair) (g : Ledger M) → AreBooks kind lists w g → g.pair ≡ j → (k : ℕ)
+far_present : {M : Type 0} (kind : Kind M) (lists : Handed → Lists M) (w : TwoLayers) (j : Pair) (g : Ledger M) → AreBooks kind lists w g → g.pair ≡ j → (k : ℕ)
     → g.far k (name_at kind (state_of g.pair.far) k) ≡ held_at kind (state_of g.pair.far) k
     → lists (under k (name_at kind (state_of j.far) k) w.far.entries) ≡ held_at kind (state_of j.far) k
 far_present kind lists w j g books same k held =
@@ -71,7 +71,7 @@ far_present kind lists w j g books same k held =
 
 pub always_arrives : Premises → (long_data : Bool) (channels : ℕ) → Always ArrivesAll long_data channels
 always_arrives p long_data channels es =
-    let w : World = run long_data channels es (start long_data channels) in
+    let w : TwoLayers = run long_data channels es (start long_data channels) in
     let h : InRun channels w = in_run p long_data channels es in
     let j : Pair = pair_run h.events pair_start in
     let near : (k : ℕ) → AtPresent w.near j.near k = λ k. record {

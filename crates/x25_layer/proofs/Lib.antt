@@ -6,7 +6,7 @@ pub mod LayerSees
 pub mod StepLemmas
 pub mod LayerLemmas
 pub mod BookLemmas
-pub mod WorldLemmas
+pub mod TwoLayerLemmas
 pub mod RunLemmas
 pub mod ArrivalLemmas
 pub mod LengthLemmas
@@ -18,10 +18,9 @@ pub mod RoundLemmas
 pub mod SettleLemmas
 pub mod PullLemmas
 pub mod FreeLemmas
-pub mod LayerRows
+pub mod rows
 pub mod ClearLemmas
 pub mod NameLemmas
 pub mod CountLemmas
 pub mod ApartLemmas
 pub mod FirstLemmas
-pub mod ApartRows

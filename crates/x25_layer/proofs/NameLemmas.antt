@@ -14,8 +14,8 @@ use Rattle.x25_circuit.specs.Circuit.{Settings, Talk, Circuit, outgoing, incomin
 use Rattle.x25_circuit.specs.Notices.{CallRequest, PlainNotice, connected, deliveries}
 use Rattle.x25_circuit.specs.Table.{Answer, answers, goes, clears_for, request_in, collides, connects, row_call, row_accept, row_clear, row_clear_conf, row_reset, row_reset_conf, unless, takes, hears_status, confirms, row_open, row_data, data_ground, number_ground}
 use Rattle.x25_circuit.specs.Calls.{Outcome, Done, Refused, Request, Calls, Accepts, Clears, Sends, Interrupts, Resets, SaysReady, SaysNotReady, does, keeps_on, request_of, call_sent, may_call, call_in, accept_with, accept_in, clear_in, send_in, interrupt_in, reset_in, ready_in, outcome, Pulled, pull_open, pull_in, pulled}
-use Rattle.x25_epochs.specs.Names.{Name}
-use Rattle.x25_layer.specs.NameLaw.{named_by}
+use Rattle.x25_handshakes.specs.Names.{Name}
+use Rattle.x25_layer.specs.laws.NameLaw.{named_by}
 
 -- the name of the stretch of a circuit
 abbrev pub name_in : ℕ → Circuit → Name

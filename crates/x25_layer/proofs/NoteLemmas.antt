@@ -15,12 +15,12 @@ use Rattle.x25_circuit.specs.Circuit.{Settings, Circuit}
 use Rattle.x25_circuit.specs.Notices.{CallRequest, connected, deliveries}
 use Rattle.x25_circuit.specs.Table.{answers, unless, takes, hears_status, confirms, request_in, goes, clears_for, collides}
 use Rattle.x25_circuit.specs.Calls.{Outcome, Refused, Request, Calls, Accepts, Clears, Sends, Interrupts, does, call_sent, may_call, request_of, outcome}
-use Rattle.x25_epochs.specs.Handshake.{Side, Live, Left, At}
-use Rattle.x25_epochs.specs.Stretch.{Data, Call, Accept, Stretch, StretchStep, stretch_does, stretch_fails, by_ground, takes_data, takes_status, data_ground, ack_ground, pulls}
-use Rattle.x25_epochs.specs.Transfer.{d1, lifted}
-use Rattle.x25_epochs.specs.Calls.{Phase, Unused, Waiting, Offered, Crossed, Talking, Connection, CallStep, in_transfer, call_crosses, calling_talk, called_talk}
-use Rattle.x25_epochs.specs.Calls as nested_calls
-use Rattle.x25_epochs.specs.Channel.{clr, lifted_call, channel_takes, channel_acts}
+use Rattle.x25_handshakes.specs.Handshake.{Side, Live, Left, At}
+use Rattle.x25_handshakes.specs.Stretch.{Data, Call, Accept, Stretch, StretchStep, stretch_does, stretch_fails, by_ground, takes_data, takes_status, data_ground, ack_ground, pulls}
+use Rattle.x25_handshakes.specs.Transfer.{d1, lifted}
+use Rattle.x25_handshakes.specs.Calls.{Phase, Unused, Waiting, Offered, Crossed, Talking, Connection, CallStep, in_transfer, call_crosses, calling_talk, called_talk}
+use Rattle.x25_handshakes.specs.Calls as nested_calls
+use Rattle.x25_handshakes.specs.Channel.{clr, lifted_call, channel_takes, channel_acts}
 use Rattle.x25_layer.specs.Transcript.{Handed, nothing_handed, added, told_by_all, asked_by}
 use Rattle.x25_layer.proofs.Sees.{talk_of, Agreed, taken_on, AreAgreedIn, AreAgreed, view, bare, act_of, pull_act, held_stretch, held_of, resets_of, Notes, Adds, AfterReset, AfterClear, NotesOutcome}
 use Rattle.x25_layer.proofs.ParamsLemmas.{call_proposes}

@@ -10,10 +10,10 @@ use Rattle.x25_circuit.specs.declared.state.State.TheVariants.{Free, Calling, Ar
 use Rattle.x25_circuit.specs.Messages.{Piece}
 use Rattle.x25_circuit.specs.Circuit.{Settings, Talk, Circuit, outgoing}
 use Rattle.x25_circuit.specs.Calls.{Pulled, pulls_nothing, pull_open, pull_in, pulled}
-use Rattle.x25_circuit.specs.FitsCircuit.{FitsCircuit}
+use Rattle.x25_circuit.specs.code.FitsCircuit.{FitsCircuit}
 use Rattle.x25_layer.specs.Layer.{LayerSettings, put_at, packet_on}
 use Rattle.x25_layer.specs.Calls.{layer_pulled}
-use Rattle.x25_layer.specs.FitsLayer.{FitsCircuits}
+use Rattle.x25_layer.specs.code.FitsLayer.{FitsCircuits}
 use Rattle.x25_layer.specs.OverLink.{after_all, view_of}
 use Rattle.x25_layer.specs.Rounds.{LinkView, Putting, with_pulled, pull_one, round}
 use Rattle.x25_layer.specs.Pulling.{IsEnough, pulled_where, Stands}

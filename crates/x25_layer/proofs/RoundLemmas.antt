@@ -6,13 +6,13 @@ use Rattle.x25_layer.specs.Calls.{LayerOutcome, Accepted, Declined, layer_outcom
 use Rattle.x25_layer.specs.Rounds.{LinkView, Putting, begin, with_pulled, pull_one, round, rounds_of, rounds, backlog, Answered, Went, Refuses, went, heard, answer_to}
 use Rattle.x25_layer.specs.declared.error.LayerError.{LayerError}
 use Rattle.x25_layer.specs.declared.error.LayerError.TheVariants as error
-use Rattle.x25_layer.specs.World.{World, Move, Requests, Pulls, HandsUp, requested, pulled_in, answered, handed_up, moves_in, moves}
-use Rattle.x25_layer.specs.RoundLaw.{moves_all, pulls_of, AreChannels, IsRun, CallsRun, HearsRun}
+use Rattle.x25_layer.specs.TwoLayers.{TwoLayers, Move, Requests, Pulls, HandsUp, requested, pulled_in, answered, handed_up, moves_in, moves}
+use Rattle.x25_layer.specs.laws.RoundLaw.{moves_all, pulls_of, AreChannels, IsRun, CallsRun, HearsRun}
 use Rattle.x25_layer.proofs.NoteLemmas.{append_nil}
 use Rattle.x25_layer.proofs.LayerLemmas.{is_between}
 
 -- the pulls that lead from s to s₂, at an end that stands as s
-record Pulled (c : LayerSettings) (w : World) (s s₂ : Putting) : Type 0 where
+record Pulled (c : LayerSettings) (w : TwoLayers) (s s₂ : Putting) : Type 0 where
   channels : List ℕ
   are : AreChannels c.channels channels
   more : List PlainPacket
@@ -27,7 +27,7 @@ record Pulled (c : LayerSettings) (w : World) (s s₂ : Putting) : Type 0 where
   entries : (moves_all c w (pulls_of channels)).near.entries ≡ w.near.entries
   far : (moves_all c w (pulls_of channels)).far ≡ w.far
 
-pulled_nothing : (c : LayerSettings) (w : World) (s : Putting) → w.near.layer ≡ s.layer → w.near.is_out ≡ false → Pulled c w s s
+pulled_nothing : (c : LayerSettings) (w : TwoLayers) (s : Putting) → w.near.layer ≡ s.layer → w.near.is_out ≡ false → Pulled c w s s
 pulled_nothing c w s same up = record {
   channels = [];
   are = tt;
@@ -44,7 +44,7 @@ pulled_nothing c w s same up = record {
   far = refl;
 }
 
-all_append : (c : LayerSettings) (w : World) (a b : List ℕ) → moves_all c w (pulls_of (a ++ b)) ≡ moves_all c (moves_all c w (pulls_of a)) (pulls_of b)
+all_append : (c : LayerSettings) (w : TwoLayers) (a b : List ℕ) → moves_all c w (pulls_of (a ++ b)) ≡ moves_all c (moves_all c w (pulls_of a)) (pulls_of b)
 all_append c w [] b = refl
 all_append c w (h ∷ a) b = all_append c (moves c w (Pulls h)) a b
 
@@ -52,9 +52,9 @@ channels_append : (n : ℕ) (a b : List ℕ) → AreChannels n a → AreChannels
 channels_append n [] b p q = q
 channels_append n (h ∷ a) b p q = (p.0, channels_append n a b p.1 q)
 
-pulled_then : (c : LayerSettings) (w : World) (s s₂ s₃ : Putting) → Pulled c w s s₂ → ((v : World) → v.near.layer ≡ s₂.layer → v.near.is_out ≡ false → Pulled c v s₂ s₃) → Pulled c w s s₃
+pulled_then : (c : LayerSettings) (w : TwoLayers) (s s₂ s₃ : Putting) → Pulled c w s s₂ → ((v : TwoLayers) → v.near.layer ≡ s₂.layer → v.near.is_out ≡ false → Pulled c v s₂ s₃) → Pulled c w s s₃
 pulled_then c w s s₂ s₃ p next =
-    let v : World = moves_all c w (pulls_of p.channels) in
+    let v : TwoLayers = moves_all c w (pulls_of p.channels) in
     let q : Pulled c v s₂ s₃ = next v p.layer p.up in
     let all : moves_all c w (pulls_of (p.channels ++ q.channels)) ≡ moves_all c v (pulls_of q.channels) = all_append c w p.channels q.channels in
     record {
@@ -62,23 +62,23 @@ pulled_then c w s s₂ s₃ p next =
       are = channels_append c.channels p.channels q.channels p.are q.are;
       more = p.more ++ q.more;
       put = q.put ∙ ap (λ l. l ++ q.more) p.put ∙ append_assoc s.put p.more q.more;
-      layer = ap (λ (x : World). x.near.layer) all ∙ q.layer;
-      given = ap (λ (x : World). x.near.given) all ∙ q.given ∙ ap (λ l. l ++ q.more) p.given ∙ append_assoc w.near.given p.more q.more;
-      out = ap (λ (x : World). x.out) all ∙ q.out ∙ ap (λ l. l ++ q.more) p.out ∙ append_assoc w.out p.more q.more;
-      back = ap (λ (x : World). x.back) all ∙ q.back ∙ p.back;
-      up = ap (λ (x : World). x.near.is_out) all ∙ q.up;
-      taken = ap (λ (x : World). x.near.taken) all ∙ q.taken ∙ p.taken;
-      told = ap (λ (x : World). x.near.told) all ∙ q.told ∙ p.told;
-      entries = ap (λ (x : World). x.near.entries) all ∙ q.entries ∙ p.entries;
-      far = ap (λ (x : World). x.far) all ∙ q.far ∙ p.far;
+      layer = ap (λ (x : TwoLayers). x.near.layer) all ∙ q.layer;
+      given = ap (λ (x : TwoLayers). x.near.given) all ∙ q.given ∙ ap (λ l. l ++ q.more) p.given ∙ append_assoc w.near.given p.more q.more;
+      out = ap (λ (x : TwoLayers). x.out) all ∙ q.out ∙ ap (λ l. l ++ q.more) p.out ∙ append_assoc w.out p.more q.more;
+      back = ap (λ (x : TwoLayers). x.back) all ∙ q.back ∙ p.back;
+      up = ap (λ (x : TwoLayers). x.near.is_out) all ∙ q.up;
+      taken = ap (λ (x : TwoLayers). x.near.taken) all ∙ q.taken ∙ p.taken;
+      told = ap (λ (x : TwoLayers). x.near.told) all ∙ q.told ∙ p.told;
+      entries = ap (λ (x : TwoLayers). x.near.entries) all ∙ q.entries ∙ p.entries;
+      far = ap (λ (x : TwoLayers). x.far) all ∙ q.far ∙ p.far;
     }
 
 -- an end that is up and pulls a configured channel
-moves_pull : (c : LayerSettings) (w : World) (h : ℕ) → w.near.is_out ≡ false → is_channel c.channels h ≡ true → moves c w (Pulls h) ≡ pulled_in w (layer_pulled c w.near.layer h)
+moves_pull : (c : LayerSettings) (w : TwoLayers) (h : ℕ) → w.near.is_out ≡ false → is_channel c.channels h ≡ true → moves c w (Pulls h) ≡ pulled_in w (layer_pulled c w.near.layer h)
 moves_pull c w h up is =
     ap (λ (o : Bool). moves_in c w o (Pulls h)) up ∙ ap (λ (b : Bool). if b then pulled_in w (layer_pulled c w.near.layer h) else w) is
 
-one_there : (c : LayerSettings) (w : World) (h : ℕ) (put : List PlainPacket) → w.near.is_out ≡ false → is_channel c.channels h ≡ true → (packet : PlainPacket) → (layer_pulled c w.near.layer h).packet ≡ Some packet
+one_there : (c : LayerSettings) (w : TwoLayers) (h : ℕ) (put : List PlainPacket) → w.near.is_out ≡ false → is_channel c.channels h ≡ true → (packet : PlainPacket) → (layer_pulled c w.near.layer h).packet ≡ Some packet
     → Pulled c w (record { layer = w.near.layer; put = put }) (record { layer = (layer_pulled c w.near.layer h).next; put = put ++ packet ∷ [] })
 one_there c w h put up is packet found =
     let all : moves c w (Pulls h) ≡ pulled_in w (layer_pulled c w.near.layer h) = moves_pull c w h up is in
@@ -88,18 +88,18 @@ one_there c w h put up is packet found =
       are = (is, tt);
       more = packet ∷ [];
       put = refl;
-      layer = ap (λ (x : World). x.near.layer) all;
-      given = ap (λ (x : World). x.near.given) all ∙ ap (λ l. w.near.given ++ l) listed;
-      out = ap (λ (x : World). x.out) all ∙ ap (λ l. w.out ++ l) listed;
-      back = ap (λ (x : World). x.back) all;
-      up = ap (λ (x : World). x.near.is_out) all;
-      taken = ap (λ (x : World). x.near.taken) all;
-      told = ap (λ (x : World). x.near.told) all;
-      entries = ap (λ (x : World). x.near.entries) all ∙ append_nil w.near.entries;
-      far = ap (λ (x : World). x.far) all;
+      layer = ap (λ (x : TwoLayers). x.near.layer) all;
+      given = ap (λ (x : TwoLayers). x.near.given) all ∙ ap (λ l. w.near.given ++ l) listed;
+      out = ap (λ (x : TwoLayers). x.out) all ∙ ap (λ l. w.out ++ l) listed;
+      back = ap (λ (x : TwoLayers). x.back) all;
+      up = ap (λ (x : TwoLayers). x.near.is_out) all;
+      taken = ap (λ (x : TwoLayers). x.near.taken) all;
+      told = ap (λ (x : TwoLayers). x.near.told) all;
+      entries = ap (λ (x : TwoLayers). x.near.entries) all ∙ append_nil w.near.entries;
+      far = ap (λ (x : TwoLayers). x.far) all;
     }
 
-one_here : (link : LinkView) (c : LayerSettings) (w : World) (h : ℕ) (put : List PlainPacket) → w.near.is_out ≡ false → is_channel c.channels h ≡ true
+one_here : (link : LinkView) (c : LayerSettings) (w : TwoLayers) (h : ℕ) (put : List PlainPacket) → w.near.is_out ≡ false → is_channel c.channels h ≡ true
     → Pulled c w (record { layer = w.near.layer; put = put }) (pull_one link c h (record { layer = w.near.layer; put = put }))
 one_here link c w h put up is = room (nat_lt (link.waits put) 8)
   where
@@ -114,17 +114,17 @@ one_here link c w h put up is = room (nat_lt (link.waits put) 8)
     room true = given (layer_pulled c w.near.layer h).packet refl
     room false = pulled_nothing c w (record { layer = w.near.layer; put = put }) refl up
 
-pulled_one : (link : LinkView) (c : LayerSettings) (w : World) (h : ℕ) (s : Putting) → w.near.layer ≡ s.layer → w.near.is_out ≡ false → is_channel c.channels h ≡ true → Pulled c w s (pull_one link c h s)
+pulled_one : (link : LinkView) (c : LayerSettings) (w : TwoLayers) (h : ℕ) (s : Putting) → w.near.layer ≡ s.layer → w.near.is_out ≡ false → is_channel c.channels h ≡ true → Pulled c w s (pull_one link c h s)
 pulled_one link c w h s same up is =
     subst (λ (l : Layer). Pulled c w (record { layer = l; put = s.put }) (pull_one link c h (record { layer = l; put = s.put }))) same (one_here link c w h s.put up is)
 
-pulled_round : (link : LinkView) (c : LayerSettings) (n : ℕ) → n ≤ c.channels → (w : World) (s : Putting) → w.near.layer ≡ s.layer → w.near.is_out ≡ false → Pulled c w s (round link c n s)
+pulled_round : (link : LinkView) (c : LayerSettings) (n : ℕ) → n ≤ c.channels → (w : TwoLayers) (s : Putting) → w.near.layer ≡ s.layer → w.near.is_out ≡ false → Pulled c w s (round link c n s)
 pulled_round link c zero low w s same up = pulled_nothing c w s same up
 pulled_round link c (suc n) low w s same up =
     pulled_then c w s (round link c n s) (round link c (suc n) s) (pulled_round link c n (let e : n ≤ c.channels = omega (arith, low) in e) w s same up)
     (λ v here there. pulled_one link c v (suc n) (round link c n s) here there (is_between c.channels (suc n) (let e : 1 ≤ suc n = omega arith in e) low))
 
-pulled_rounds : (k : ℕ) (link : LinkView) (c : LayerSettings) (w : World) (s : Putting) → w.near.layer ≡ s.layer → w.near.is_out ≡ false → Pulled c w s (rounds_of k link c s)
+pulled_rounds : (k : ℕ) (link : LinkView) (c : LayerSettings) (w : TwoLayers) (s : Putting) → w.near.layer ≡ s.layer → w.near.is_out ≡ false → Pulled c w s (rounds_of k link c s)
 pulled_rounds zero link c w s same up = pulled_nothing c w s same up
 pulled_rounds (suc k) link c w s same up =
     pulled_then c w s (round link c c.channels s) (rounds_of k link c (round link c c.channels s))
@@ -132,7 +132,7 @@ pulled_rounds (suc k) link c w s same up =
     (λ v here there. pulled_rounds k link c v (round link c c.channels s) here there)
 
 -- a first move, and then the rounds
-run_then : (link : LinkView) (c : LayerSettings) (w : World) (move : Move) (first : Putting) (behind : List PlainPacket) → (moves c w move).near.layer ≡ first.layer → (moves c w move).near.is_out ≡ false
+run_then : (link : LinkView) (c : LayerSettings) (w : TwoLayers) (move : Move) (first : Putting) (behind : List PlainPacket) → (moves c w move).near.layer ≡ first.layer → (moves c w move).near.is_out ≡ false
     → (moves c w move).near.given ≡ w.near.given ++ first.put → (moves c w move).out ≡ w.out ++ first.put → (moves c w move).back ≡ behind → (moves c w move).far ≡ w.far
     → (pulled : List ℕ) × AreChannels c.channels pulled × IsRun c w (move ∷ pulls_of pulled) (moves c w move) (rounds link c first) behind
 run_then link c w move first behind layer up given out back far =
@@ -175,8 +175,8 @@ calls_run link c w request s up is = up_link link.is_up is
         let all : moves c w move ≡ requested c w request (Accepted next packet) = ap (λ (o : Bool). moves_in c w o move) up ∙ ap (λ (o : LayerOutcome). requested c w request o) found in
         subst (λ (t : Putting). (pulled : List ℕ) × AreChannels c.channels pulled × IsRun c w (move ∷ pulls_of pulled) (moves c w move) t w.back) (went_is (rounds link c (begin next packet)) s answer)
         (run_then link c w move (begin next packet) w.back
-        (ap (λ (x : World). x.near.layer) all) (ap (λ (x : World). x.near.is_out) all) (ap (λ (x : World). x.near.given) all) (ap (λ (x : World). x.out) all) (ap (λ (x : World). x.back) all)
-        (ap (λ (x : World). x.far) all))
+        (ap (λ (x : TwoLayers). x.near.layer) all) (ap (λ (x : TwoLayers). x.near.is_out) all) (ap (λ (x : TwoLayers). x.near.given) all) (ap (λ (x : TwoLayers). x.out) all) (ap (λ (x : TwoLayers). x.back) all)
+        (ap (λ (x : TwoLayers). x.far) all))
 
     up_link : (b : Bool) → (if b then went link c (layer_outcome c (link.waits [] == 256) w.near.layer request) else Refuses error.NotUp) ≡ Went s
         → (pulled : List ℕ) × AreChannels c.channels pulled × IsRun c w (move ∷ pulls_of pulled) (moves c w move) s w.back
@@ -189,5 +189,5 @@ hears_run link c w packet back octets up front reads =
     let all : moves c w HandsUp ≡ answered w packet back a = ap (λ (o : Bool). moves_in c w o HandsUp) up ∙ ap (λ (l : List PlainPacket). handed_up c w l) front in
     subst (λ (r : _). (pulled : List ℕ) × AreChannels c.channels pulled × IsRun c w (HandsUp ∷ pulls_of pulled) (moves c w HandsUp) (heard link c (answer_to c w.near.layer octets r)).step back) (sym reads)
     (run_then link c w HandsUp (begin a.next a.owed) back
-    (ap (λ (x : World). x.near.layer) all) (ap (λ (x : World). x.near.is_out) all) (ap (λ (x : World). x.near.given) all) (ap (λ (x : World). x.out) all) (ap (λ (x : World). x.back) all)
-    (ap (λ (x : World). x.far) all))
+    (ap (λ (x : TwoLayers). x.near.layer) all) (ap (λ (x : TwoLayers). x.near.is_out) all) (ap (λ (x : TwoLayers). x.near.given) all) (ap (λ (x : TwoLayers). x.out) all) (ap (λ (x : TwoLayers). x.back) all)
+    (ap (λ (x : TwoLayers). x.far) all))

@@ -2,18 +2,18 @@
 use Rattle.std.proofs.Common.{◌≡◌, ◌⊎◌, inl, inr, ℕ, List, [], ◌∷◌, ◌++◌, None, Bool, true, false, if◌then◌else◌, refl, sym, ap, subst, ◌∙◌}
 use Rattle.x25_bits.specs.declared.role.Role.{Role}
 use Rattle.x25_bits.specs.declared.role.Role.TheVariants.{Dte, Dce}
-use Rattle.x25_epochs.specs.Handshake.{state_of}
-use Rattle.x25_epochs.specs.Layers.{Channels, Pair, pair_moves, pair_happens, pair_run, pair_start}
-use Rattle.x25_epochs.specs.Layers as nested
-use Rattle.x25_epochs.specs.Names.{Name, IsEarlier}
-use Rattle.x25_epochs.specs.Books.{Lists, none, Kind, messages, interrupts, calls, name_at, held_at, Ledger, turned_ledger, ledger_moves, ledger_happens, ledger_run, ledger_start, AreInOrder}
-use Rattle.x25_epochs.specs.Arrivals.{AllArrives}
+use Rattle.x25_handshakes.specs.Handshake.{state_of}
+use Rattle.x25_handshakes.specs.Layers.{Channels, Pair, pair_moves, pair_happens, pair_run, pair_start}
+use Rattle.x25_handshakes.specs.Layers as nested
+use Rattle.x25_handshakes.specs.Names.{Name, IsEarlier}
+use Rattle.x25_handshakes.specs.Books.{Lists, none, Kind, messages, interrupts, calls, name_at, held_at, Ledger, turned_ledger, ledger_moves, ledger_happens, ledger_run, ledger_start, AreInOrder}
+use Rattle.x25_handshakes.specs.Arrivals.{AllArrives}
 use Rattle.x25_layer.specs.Transcript.{Handed, Entry, under, calls_in, messages_in, interrupts_in}
-use Rattle.x25_layer.specs.World.{World, Move, Event, moves, turned, happens, run, start, settings_of}
+use Rattle.x25_layer.specs.TwoLayers.{TwoLayers, Move, Event, moves, turned, happens, run, start, settings_of}
 use Rattle.x25_layer.proofs.Sees.{ParamsLaws}
 use Rattle.x25_layer.proofs.LayerSees.{StepOf}
 use Rattle.x25_layer.proofs.BookLemmas.{IsListed, booked, messages_listed, interrupts_listed, calls_listed}
-use Rattle.x25_layer.proofs.WorldLemmas.{Sees, Stepped, world_moves, sees_turned}
+use Rattle.x25_layer.proofs.TwoLayerLemmas.{Sees, Stepped, world_moves, sees_turned}
 
 -- what is known of the nested handshakes, and of packet sizes and windows
 pub record Premises : Type 0 where
@@ -45,12 +45,12 @@ ledger_pair {M} kind (e ∷ es) g = ledger_pair kind es (ledger_happens kind g e
     one false = refl
 
 -- the transcripts are the books
-pub record AreBooks {M : Type 0} (kind : Kind M) (lists : Handed → Lists M) (w : World) (g : Ledger M) : Type 0 where
+pub record AreBooks {M : Type 0} (kind : Kind M) (lists : Handed → Lists M) (w : TwoLayers) (g : Ledger M) : Type 0 where
   pub near : (k : ℕ) (m : Name) → lists (under k m w.near.entries) ≡ g.near k m
   pub far : (k : ℕ) (m : Name) → lists (under k m w.far.entries) ≡ g.far k m
 
 -- a step of the near end
-near_books : {M : Type 0} (kind : Kind M) (lists : Handed → Lists M) → IsListed kind lists → (r : Role) (channels : ℕ) (w : World) (w₂ : World) (j : Pair) (g : Ledger M) → g.pair ≡ j
+near_books : {M : Type 0} (kind : Kind M) (lists : Handed → Lists M) → IsListed kind lists → (r : Role) (channels : ℕ) (w : TwoLayers) (w₂ : TwoLayers) (j : Pair) (g : Ledger M) → g.pair ≡ j
     → ((k : ℕ) → g.near k (name_at kind (state_of g.pair.near) k) ≡ held_at kind (state_of g.pair.near) k)
     → ((k : ℕ) (m : Name) → IsEarlier (name_at kind (state_of g.pair.near) k) m → g.near k m ≡ none)
     → AreBooks kind lists w g → (s : Stepped r channels w j w₂) → AreBooks kind lists w₂ (ledger_moves kind r g s.move)
@@ -62,11 +62,11 @@ near_books {M} kind lists listed r channels w w₂ j g same held later books s =
   far = λ k m. ap (λ (es : List Entry). lists (under k m es)) s.far_entries ∙ books.far k m;
 }
 
-books_turned : {M : Type 0} (kind : Kind M) (lists : Handed → Lists M) (w : World) (g : Ledger M) → AreBooks kind lists w g → AreBooks kind lists (turned w) (turned_ledger g)
+books_turned : {M : Type 0} (kind : Kind M) (lists : Handed → Lists M) (w : TwoLayers) (g : Ledger M) → AreBooks kind lists w g → AreBooks kind lists (turned w) (turned_ledger g)
 books_turned kind lists w g b = record { near = b.far; far = b.near }
 
 -- a run of two layers, as a run of the nested handshakes
-pub record InRun (channels : ℕ) (w : World) : Type 0 where
+pub record InRun (channels : ℕ) (w : TwoLayers) : Type 0 where
   pub events : List nested.Event
   pub sees : Sees channels w (pair_run events pair_start)
   pub messages : AreBooks messages messages_in w (ledger_run messages events ledger_start)
@@ -76,7 +76,7 @@ pub record InRun (channels : ℕ) (w : World) : Type 0 where
 abbrev event : Bool → nested.Move → nested.Event
 event first what = record { first = first; what = what }
 
-near_kept : {M : Type 0} (kind : Kind M) (lists : Handed → Lists M) → IsListed kind lists → AreInOrder kind → (channels : ℕ) (w w₂ : World) (es : List nested.Event)
+near_kept : {M : Type 0} (kind : Kind M) (lists : Handed → Lists M) → IsListed kind lists → AreInOrder kind → (channels : ℕ) (w w₂ : TwoLayers) (es : List nested.Event)
     → AreBooks kind lists w (ledger_run kind es ledger_start) → (s : Stepped Dte channels w (pair_run es pair_start) w₂)
     → AreBooks kind lists w₂ (ledger_run kind (es ++ event true s.move ∷ []) ledger_start)
 near_kept {M} kind lists listed order channels w w₂ es books s =
@@ -85,7 +85,7 @@ near_kept {M} kind lists listed order channels w w₂ es books s =
     (near_books kind lists listed Dte channels w w₂ (pair_run es pair_start) g (ledger_pair kind es ledger_start)
     (λ k. (order es k).held) (λ k m. (order es k).later m) books s)
 
-far_kept : {M : Type 0} (kind : Kind M) (lists : Handed → Lists M) → IsListed kind lists → AreInOrder kind → (channels : ℕ) (w w₂ : World) (es : List nested.Event)
+far_kept : {M : Type 0} (kind : Kind M) (lists : Handed → Lists M) → IsListed kind lists → AreInOrder kind → (channels : ℕ) (w w₂ : TwoLayers) (es : List nested.Event)
     → AreBooks kind lists w (ledger_run kind es ledger_start) → (s : Stepped Dce channels (turned w) (nested.turned (pair_run es pair_start)) w₂)
     → AreBooks kind lists (turned w₂) (ledger_run kind (es ++ event false s.move ∷ []) ledger_start)
 far_kept {M} kind lists listed order channels w w₂ es books s =
@@ -95,16 +95,16 @@ far_kept {M} kind lists listed order channels w w₂ es books s =
     (near_books kind lists listed Dce channels (turned w) w₂ (nested.turned (pair_run es pair_start)) (turned_ledger g) (ap nested.turned (ledger_pair kind es ledger_start))
     (λ k. (order es k).held_there) (λ k m. (order es k).later_there m) (books_turned kind lists w g books) s))
 
-near_happens : Premises → (long_data : Bool) (channels : ℕ) (w : World) (what : Move) → InRun channels w → InRun channels (moves (settings_of Dte long_data channels) w what)
+near_happens : Premises → (long_data : Bool) (channels : ℕ) (w : TwoLayers) (what : Move) → InRun channels w → InRun channels (moves (settings_of Dte long_data channels) w what)
 near_happens p long_data channels w what h =
     let j : Pair = pair_run h.events pair_start in
     either (world_moves p.params Dte long_data channels w j.near j.far j.out j.back j.error what h.sees
     (λ m. ap (λ (q : Pair). q.error) (sym (run_more h.events (event true m) pair_start)) ∙ p.quiet (h.events ++ event true m ∷ [])) w.near.is_out refl)
   where
     either : (moves (settings_of Dte long_data channels) w what ≡ w) ⊎ Stepped Dte channels w (pair_run h.events pair_start) (moves (settings_of Dte long_data channels) w what) → InRun channels (moves (settings_of Dte long_data channels) w what)
-    either (inl same) = subst (λ (v : World). InRun channels v) (sym same) h
+    either (inl same) = subst (λ (v : TwoLayers). InRun channels v) (sym same) h
     either (inr s) =
-        let v : World = moves (settings_of Dte long_data channels) w what in
+        let v : TwoLayers = moves (settings_of Dte long_data channels) w what in
         record {
           events = h.events ++ event true s.move ∷ [];
           sees = subst (λ (q : Pair). Sees channels v q) (sym (run_more h.events (event true s.move) pair_start)) s.sees;
@@ -113,7 +113,7 @@ near_happens p long_data channels w what h =
           calls = near_kept calls calls_in calls_listed p.calls channels w v h.events h.calls s;
         }
 
-far_happens : Premises → (long_data : Bool) (channels : ℕ) (w : World) (what : Move) → InRun channels w → InRun channels (turned (moves (settings_of Dce long_data channels) (turned w) what))
+far_happens : Premises → (long_data : Bool) (channels : ℕ) (w : TwoLayers) (what : Move) → InRun channels w → InRun channels (turned (moves (settings_of Dce long_data channels) (turned w) what))
 far_happens p long_data channels w what h =
     let j : Pair = pair_run h.events pair_start in
     either (world_moves p.params Dce long_data channels (turned w) j.far j.near j.back j.out j.error what (sees_turned channels w j h.sees)
@@ -121,9 +121,9 @@ far_happens p long_data channels w what h =
   where
     either : (moves (settings_of Dce long_data channels) (turned w) what ≡ turned w) ⊎ Stepped Dce channels (turned w) (nested.turned (pair_run h.events pair_start)) (moves (settings_of Dce long_data channels) (turned w) what)
         → InRun channels (turned (moves (settings_of Dce long_data channels) (turned w) what))
-    either (inl same) = subst (λ (v : World). InRun channels (turned v)) (sym same) h
+    either (inl same) = subst (λ (v : TwoLayers). InRun channels (turned v)) (sym same) h
     either (inr s) =
-        let v : World = moves (settings_of Dce long_data channels) (turned w) what in
+        let v : TwoLayers = moves (settings_of Dce long_data channels) (turned w) what in
         record {
           events = h.events ++ event false s.move ∷ [];
           sees = subst (λ (q : Pair). Sees channels (turned v) q) (sym (run_more h.events (event false s.move) pair_start))
@@ -133,11 +133,11 @@ far_happens p long_data channels w what h =
           calls = far_kept calls calls_in calls_listed p.calls channels w v h.events h.calls s;
         }
 
-if_run : (channels : ℕ) (first : Bool) (u v : World) → InRun channels u → InRun channels v → InRun channels (if first then u else v)
+if_run : (channels : ℕ) (first : Bool) (u v : TwoLayers) → InRun channels u → InRun channels v → InRun channels (if first then u else v)
 if_run channels true u v f g = f
 if_run channels false u v f g = g
 
-in_run_on : Premises → (long_data : Bool) (channels : ℕ) (es : List Event) (w : World) → InRun channels w → InRun channels (run long_data channels es w)
+in_run_on : Premises → (long_data : Bool) (channels : ℕ) (es : List Event) (w : TwoLayers) → InRun channels w → InRun channels (run long_data channels es w)
 in_run_on p long_data channels [] w h = h
 in_run_on p long_data channels (e ∷ es) w h =
     in_run_on p long_data channels es (happens long_data channels w e)

@@ -8,17 +8,17 @@ use Rattle.x25_circuit.specs.declared.state.State.TheVariants.{Free, Calling, Ar
 use Rattle.x25_circuit.specs.Messages.{piece_of}
 use Rattle.x25_circuit.specs.declared.params.Params.{Params}
 use Rattle.x25_circuit.specs.Params.{Terms, default_params, may_propose, called_terms, calling_terms}
-use Rattle.x25_circuit.specs.ParamsLaws.{FieldIsSaid, FieldIsAllowed, SaidIsAllowed, AnswerIsAllowed}
+use Rattle.x25_circuit.specs.laws.ParamsLaws.{FieldIsSaid, FieldIsAllowed, SaidIsAllowed, AnswerIsAllowed}
 use Rattle.x25_circuit.specs.Circuit.{Talk, silent, Circuit}
 use Rattle.x25_circuit.specs.Notices.{CallRequest, PlainNotice}
 use Rattle.x25_circuit.specs.Table.{Answer, request_in}
 use Rattle.x25_circuit.specs.Calls.{Outcome, Done, Refused, Request, Calls, Accepts, Clears, Sends, Interrupts, Resets, SaysReady, SaysNotReady, request_of}
-use Rattle.x25_epochs.specs.Handshake.{Side, Live, Left, At, state_of}
-use Rattle.x25_epochs.specs.Stretch.{Packet, Data, Rr, Rnr, Int, IntConf, Reset, ResetConf, Call, Accept, Clear, ClearConf, Stretch, Send, Pull, Ready, NotReady, Interrupt}
-use Rattle.x25_epochs.specs.Transfer.{Inside, SendsReset}
-use Rattle.x25_epochs.specs.Calls.{Phase, Unused, Waiting, Offered, Crossed, Talking, Connection, PlacesCall, AcceptsCall, Talks}
-use Rattle.x25_epochs.specs.Channel.{ChannelStep, ChannelAct, Within, SendsClear}
-use Rattle.x25_epochs.specs.Books.{resets_in}
+use Rattle.x25_handshakes.specs.Handshake.{Side, Live, Left, At, state_of}
+use Rattle.x25_handshakes.specs.Stretch.{Packet, Data, Rr, Rnr, Int, IntConf, Reset, ResetConf, Call, Accept, Clear, ClearConf, Stretch, Send, Pull, Ready, NotReady, Interrupt}
+use Rattle.x25_handshakes.specs.Transfer.{Inside, SendsReset}
+use Rattle.x25_handshakes.specs.Calls.{Phase, Unused, Waiting, Offered, Crossed, Talking, Connection, PlacesCall, AcceptsCall, Talks}
+use Rattle.x25_handshakes.specs.Channel.{ChannelStep, ChannelAct, Within, SendsClear}
+use Rattle.x25_handshakes.specs.Books.{resets_in}
 use Rattle.x25_layer.specs.Quiet.{IsQuiet, IsNoFault}
 use Rattle.x25_layer.specs.Transcript.{Handed, nothing_handed, added}
 

@@ -12,7 +12,7 @@ use Rattle.x25_layer.specs.declared.error.LayerError.TheVariants as error
 use Rattle.x25_layer.specs.Layer.{LayerSettings, Layer, put_at, packet_on, restarting_from, goes_up}
 use Rattle.x25_layer.specs.Calls.{Restarts, PullsAll, outcome_in, layer_outcome, layer_pulled}
 use Rattle.x25_layer.specs.Rounds.{LinkView, Putting, begin, with_pulled, pull_one, round, rounds_of, rounds, backlog, Went, Refuses, went, calls}
-use Rattle.x25_layer.specs.RoundLaw.{RoundsSettle, ComesUpAlone}
+use Rattle.x25_layer.specs.laws.RoundLaw.{RoundsSettle, ComesUpAlone}
 
 -- a pull that gives a packet leaves one fewer
 

@@ -3,14 +3,14 @@ use Rattle.std.proofs.Common.{◌≡◌, ℕ, suc, List, [], ◌∷◌, ◌++◌
 use Rattle.std.proofs.lemmas.Bool.{eqb-true}
 use Rattle.x25_circuit.specs.Circuit.{Circuit}
 use Rattle.x25_circuit.specs.Notices.{PlainNotice}
-use Rattle.x25_epochs.specs.Handshake.{Side, At}
-use Rattle.x25_epochs.specs.Calls.{Connection}
-use Rattle.x25_epochs.specs.Layers.{Channels, put, ready, all_fresh}
-use Rattle.x25_epochs.specs.Names.{Name, both, same_name}
-use Rattle.x25_epochs.specs.Books.{circuit_at}
+use Rattle.x25_handshakes.specs.Handshake.{Side, At}
+use Rattle.x25_handshakes.specs.Calls.{Connection}
+use Rattle.x25_handshakes.specs.Layers.{Channels, put, ready, all_fresh}
+use Rattle.x25_handshakes.specs.Names.{Name, both, same_name}
+use Rattle.x25_handshakes.specs.Books.{circuit_at}
 use Rattle.x25_layer.specs.Layer.{Layer, notices_on}
 use Rattle.x25_layer.specs.Transcript.{Handed, nothing_handed, added, told_by, told_by_all, Entry, under, name_of}
-use Rattle.x25_layer.specs.World.{entries_told}
+use Rattle.x25_layer.specs.TwoLayers.{entries_told}
 use Rattle.x25_layer.proofs.Sees.{Notes}
 use Rattle.x25_layer.proofs.NoteLemmas.{still, append_nil}
 use Rattle.x25_layer.proofs.LayerSees.{SeesLayer, present, Here, Afresh, StepOf}

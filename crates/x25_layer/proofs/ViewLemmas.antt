@@ -15,13 +15,13 @@ use Rattle.x25_circuit.specs.Circuit.{Settings, silent, Circuit, entered}
 use Rattle.x25_circuit.specs.Notices.{CallRequest, connected, deliveries}
 use Rattle.x25_circuit.specs.Table.{answers, unless, takes, hears_status, confirms, status, request_in, goes, clears_for, collides}
 use Rattle.x25_circuit.specs.Calls.{Outcome, Refused, Request, Calls, Accepts, Clears, Sends, Interrupts, Resets, SaysReady, SaysNotReady, does, request_of, call_sent, may_call, outcome, Pulled, pulled, pull_open, data_packet}
-use Rattle.x25_epochs.specs.Handshake.{Side, Live, Left, At}
-use Rattle.x25_epochs.specs.Stretch.{Data, Call, Accept, Stretch, StretchStep, stretch_does, stretch_fails, Send, Interrupt, pulls, stretch_acts, by_ground, takes_data, takes_status, data_ground, ack_ground}
-use Rattle.x25_epochs.specs.Stretch as nested
-use Rattle.x25_epochs.specs.Transfer.{d1, rst, lifted}
-use Rattle.x25_epochs.specs.Calls.{Phase, Unused, Waiting, Offered, Crossed, Talking, Connection, CallStep, in_transfer, call_crosses, calling_talk, called_talk}
-use Rattle.x25_epochs.specs.Calls as nested_calls
-use Rattle.x25_epochs.specs.Channel.{ChannelStep, live, clr, lifted_call, channel_takes, channel_acts}
+use Rattle.x25_handshakes.specs.Handshake.{Side, Live, Left, At}
+use Rattle.x25_handshakes.specs.Stretch.{Data, Call, Accept, Stretch, StretchStep, stretch_does, stretch_fails, Send, Interrupt, pulls, stretch_acts, by_ground, takes_data, takes_status, data_ground, ack_ground}
+use Rattle.x25_handshakes.specs.Stretch as nested
+use Rattle.x25_handshakes.specs.Transfer.{d1, rst, lifted}
+use Rattle.x25_handshakes.specs.Calls.{Phase, Unused, Waiting, Offered, Crossed, Talking, Connection, CallStep, in_transfer, call_crosses, calling_talk, called_talk}
+use Rattle.x25_handshakes.specs.Calls as nested_calls
+use Rattle.x25_handshakes.specs.Channel.{ChannelStep, live, clr, lifted_call, channel_takes, channel_acts}
 use Rattle.x25_layer.proofs.Sees.{talk_of, Agreed, sent_on, taken_on, AreAgreedIn, AreAgreed, view, ParamsLaws, bare, bare_if, IsQuietIf, TellNoFault, Follows, Does, Heeds, act_of, pull_act}
 use Rattle.x25_layer.proofs.ParamsLemmas.{no_field, call_proposes}
 

@@ -3,11 +3,11 @@
 use Rattle.std.specs.Prelude.{◌≡◌, ℕ, List, [], ◌∷◌, ◌++◌, length, drop, Bool, false, if◌then◌else◌}
 use Rattle.x25_bits.specs.declared.role.Role.TheVariants.{Dte, Dce}
 use Rattle.x25_packet.specs.PlainPacket.{PlainPacket}
-use Rattle.x25_epochs.specs.Books.{Begins}
+use Rattle.x25_handshakes.specs.Books.{IsPrefix}
 use Rattle.x25_layer.specs.Layer.{LayerSettings}
 use Rattle.x25_layer.specs.Calls.{LayerRequest}
-use Rattle.x25_layer.specs.World as world
-use Rattle.x25_layer.specs.World.{End, World, Move, moves, settings_of, Event, start}
+use Rattle.x25_layer.specs.TwoLayers as world
+use Rattle.x25_layer.specs.TwoLayers.{End, TwoLayers, Move, moves, settings_of, Event, start}
 
 -- ---- one end
 
@@ -33,7 +33,7 @@ coming (Takes packet) = packet ∷ []
 coming what = []
 
 -- no move looks at the far end
-abbrev pub alone : End → List PlainPacket → World
+abbrev pub alone : End → List PlainPacket → TwoLayers
 alone e back = record { near = e; far = e; out = []; back = back }
 
 -- what two layers' move does to the end that moves; an end that is out does nothing more
@@ -66,7 +66,7 @@ abbrev pub apart_run : Bool → ℕ → List ApartEvent → Ends → Ends
 apart_run long_data channels [] ends = ends
 apart_run long_data channels (e ∷ events) ends = apart_run long_data channels events (apart_happens long_data channels ends e)
 
-abbrev pub ends_of : World → Ends
+abbrev pub ends_of : TwoLayers → Ends
 ends_of w = record { near = w.near; far = w.far }
 
 -- both links have come up, and each end has sent its RESTART
@@ -86,7 +86,7 @@ far_moves (e ∷ events) = if e.first then far_moves events else e.what ∷ far_
 
 -- the packet that an end takes is the next of those that the other gave; an end that is out takes none
 abbrev pub IsNext : End → End → OwnMove → Type 0
-IsNext taker giver (Takes packet) = taker.is_out ≡ false → Begins (taker.taken ++ packet ∷ []) giver.given
+IsNext taker giver (Takes packet) = taker.is_out ≡ false → IsPrefix (taker.taken ++ packet ∷ []) giver.given
 IsNext taker giver what = Unit {0}
 
 abbrev pub IsInOrder : Ends → ApartEvent → Type 0
@@ -107,7 +107,7 @@ all_over_links [] = []
 all_over_links (e ∷ events) = over_links e ∷ all_over_links events
 
 -- two layers over links: in flight is what the one gave and the other didn't take
-abbrev pub as_world : Ends → World
+abbrev pub as_world : Ends → TwoLayers
 as_world ends = record {
   near = ends.near;
   far = ends.far;
@@ -116,6 +116,6 @@ as_world ends = record {
 }
 
 -- whatever happened to two ends in order
-abbrev pub AlwaysApart : (World → Type 0) → Bool → ℕ → Type 0
+abbrev pub AlwaysApart : (TwoLayers → Type 0) → Bool → ℕ → Type 0
 AlwaysApart P long_data channels =
     (events : List ApartEvent) → AreInOrder long_data channels events (apart_start long_data channels) → P (as_world (apart_run long_data channels events (apart_start long_data channels)))

@@ -4,7 +4,6 @@ pub mod Calls
 pub mod Quiet
 pub mod Rounds
 pub mod Transcript
-pub mod FitsLayer
 pub mod InPart
 pub mod OverLink
 pub mod Pulling
@@ -12,9 +11,7 @@ pub mod Room
 pub mod Told
 pub mod Receiving
 pub mod Asking
-pub mod World
-pub mod Law
-pub mod RoundLaw
-pub mod NameLaw
+pub mod TwoLayers
 pub mod Apart
-pub mod ApartLaw
+pub mod code
+pub mod laws

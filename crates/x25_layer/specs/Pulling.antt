@@ -5,7 +5,7 @@ use Rattle.x25_circuit.specs.declared.circuit.Circuit as circuit_code
 use Rattle.x25_circuit.specs.Circuit.{Settings, Circuit}
 use Rattle.x25_circuit.specs.Calls.{Pulled, pulls_nothing, pulled}
 use Rattle.x25_layer.specs.Layer.{LayerSettings}
-use Rattle.x25_layer.specs.FitsLayer.{FitsCircuits}
+use Rattle.x25_layer.specs.code.FitsLayer.{FitsCircuits}
 use Rattle.x25_layer.specs.Rounds.{Putting}
 use Rattle.x25_layer.specs.OverLink.{after_all}
 

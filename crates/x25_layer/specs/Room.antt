@@ -1,7 +1,7 @@
 -- What a layer is asked before a packet: whether its counts have room, and whether memory is set aside (profile).
 use Rattle.std.specs.Prelude.{◌≡◌, ℕ, ◌<◌, ◌≤◌, ◌^◌, ◌-◌, List, Some, slice_get, min}
 use Rattle.x25_circuit.specs.declared.circuit.Circuit as circuit_code
-use Rattle.x25_circuit.specs.FitsCircuit.{room_of, clears_of, resets_of}
+use Rattle.x25_circuit.specs.code.FitsCircuit.{room_of, clears_of, resets_of}
 use Rattle.x25_layer.specs.declared.layer.Layer as code
 
 -- neither count of a circuit is at its most

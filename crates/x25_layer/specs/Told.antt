@@ -1,6 +1,6 @@
 -- What the users of a layer are told, as values alone.
 use Rattle.std.specs.Prelude.{List, [], ◌∷◌}
-use Rattle.x25_circuit.specs.Replies.{notices_of}
+use Rattle.x25_circuit.specs.code.Replies.{notices_of}
 use Rattle.x25_layer.specs.declared.told.Told.{Told}
 use Rattle.x25_layer.specs.declared.told.Told.TheVariants as code
 use Rattle.x25_layer.specs.Layer.{LayerNotice, restarted, restart_done, layer_fault, notices_on}

@@ -1,13 +1,13 @@
 //! What the user asks of the circuit of a channel: the steps that all calls with a channel share.
 ghost use Rattle.std.specs.Prelude.{◌≡◌, ◌≢◌, ℕ, ◌<◌, ◌≤◌, ◌&&◌, ◌==◌, length, max, true, false, IfErr, IfOk, OnOk, OnErr, IsErrOf};
 ghost use Rattle.x25_circuit.specs.Calls.{outcome};
-ghost use Rattle.x25_circuit.specs.Replies.{IsSendable, plain_owed};
+ghost use Rattle.x25_circuit.specs.code.Replies.{IsSendable, plain_owed};
 ghost use Rattle.x25_circuit.specs.Requests.{plain_request, MayPut};
 ghost use Rattle.x25_layer.specs.Layer.{LayerSettings, is_channel};
 ghost use Rattle.x25_layer.specs.Layer.{Layer as State};
 ghost use Rattle.x25_layer.specs.Calls.{Asks, puts_at_once, outcome_on};
 ghost use Rattle.x25_layer.specs.Rounds.{calls, went};
-ghost use Rattle.x25_layer.specs.FitsLayer.{FitsLayer};
+ghost use Rattle.x25_layer.specs.code.FitsLayer.{FitsLayer};
 ghost use Rattle.x25_layer.specs.OverLink.{view_of, LayerGives, LinkGives, LacksMemory};
 ghost use Rattle.x25_layer.specs.Asking.{AsksCircuit, error_without_memory};
 ghost use Rattle.x25_layer.specs.Room.{HaveRoom, HasRoom, KeepsRoom};

@@ -12,7 +12,7 @@ ghost use Rattle.x25_circuit.specs.Params.{default_params};
 ghost use Rattle.x25_circuit.specs.Calls.{Accepts, Clears, Sends, Interrupts, Resets, SaysReady, SaysNotReady};
 ghost use Rattle.x25_layer.specs.Layer.{LayerSettings};
 ghost use Rattle.x25_layer.specs.Layer.{Layer as State};
-ghost use Rattle.x25_layer.specs.FitsLayer.{FitsLayer};
+ghost use Rattle.x25_layer.specs.code.FitsLayer.{FitsLayer};
 ghost use Rattle.x25_layer.specs.OverLink.{view_of, LayerGives, LinkGives, LacksMemory};
 ghost use Rattle.x25_layer.specs.Room.{HasRoom, KeepsRoom};
 ghost use Rattle.x25_layer.specs.Calls.{Asks, Dials, free_channel};

@@ -3,7 +3,7 @@ ghost use Rattle.std.specs.Prelude.{◌≡◌, ℕ, List, length, IfOk, IfErr};
 ghost use Rattle.x25_circuit.specs.Circuit.{forgotten};
 ghost use Rattle.x25_circuit.specs.Circuit.{Circuit as Channel};
 ghost use Rattle.x25_layer.specs.Layer.{LayerSettings, at_rest};
-ghost use Rattle.x25_layer.specs.FitsLayer.{FitsCircuits};
+ghost use Rattle.x25_layer.specs.code.FitsLayer.{FitsCircuits};
 ghost use Rattle.x25_layer.specs.Room.{HaveRoom};
 
 use crate::error::LayerError;

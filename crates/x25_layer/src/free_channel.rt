@@ -4,7 +4,7 @@ ghost use Rattle.x25_circuit.specs.Circuit.{Circuit as Channel};
 ghost use Rattle.x25_layer.specs.Layer.{LayerSettings, is_channel};
 ghost use Rattle.x25_layer.specs.Layer.{Layer as State};
 ghost use Rattle.x25_layer.specs.Calls.{lowest_free, highest_free, free_channel};
-ghost use Rattle.x25_layer.specs.FitsLayer.{FitsLayer, FitsCircuits};
+ghost use Rattle.x25_layer.specs.code.FitsLayer.{FitsLayer, FitsCircuits};
 
 use crate::layer::Layer;
 use x25_bits::Role;

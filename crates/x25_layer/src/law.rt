@@ -1,9 +1,9 @@
 ghost use Rattle.std.specs.Prelude.{Bool, ℕ};
-ghost use Rattle.x25_layer.specs.Law.{Always, IsQuietWorld, IsLawfulWorld, ArrivesAll, KeepsOrder};
-ghost use Rattle.x25_layer.specs.NameLaw.{NamesAreCounted, NoClearComesInP1};
+ghost use Rattle.x25_layer.specs.laws.Law.{Always, IsQuietWorld, IsLawfulWorld, ArrivesAll, KeepsOrder};
+ghost use Rattle.x25_layer.specs.laws.NameLaw.{NamesAreCounted, NoClearComesInP1};
 ghost use Rattle.x25_layer.specs.Apart.{AlwaysApart};
-ghost use Rattle.x25_layer.specs.ApartLaw.{IsOverLinks, RestartsFirst, BeginsAlone, OwnMovesDecide, StaysDown, EventsRunOn};
-ghost use Rattle.x25_layer.specs.RoundLaw.{CallsRun, HearsRun, RoundsSettle, ComesUpAlone};
+ghost use Rattle.x25_layer.specs.laws.ApartLaw.{IsOverLinks, RestartsFirst, BeginsAlone, OwnMovesDecide, StaysDown, EventsRunOn};
+ghost use Rattle.x25_layer.specs.laws.RoundLaw.{CallsRun, HearsRun, RoundsSettle, ComesUpAlone};
 
 /// Two layers over links that keep order, whatever their users ask and whenever a link goes down: after every event,
 ///
@@ -20,7 +20,7 @@ pub fn two_layers_keep_order()
     ensures arrives { (long_data : Bool) (channels : ℕ) → Always ArrivesAll long_data channels }
 {
     x25_circuit::values_are_agreed();
-    x25_epochs::keeps_order();
+    x25_handshakes::keeps_order();
 }
 
 /// The same two layers: where an end's link is up, the name of the stretch on each channel is the restarts, clears and resets that
@@ -30,7 +30,7 @@ pub fn names_are_told()
     ensures clear { (long_data : Bool) (channels : ℕ) → Always NoClearComesInP1 long_data channels }
 {
     x25_circuit::values_are_agreed();
-    x25_epochs::keeps_order();
+    x25_handshakes::keeps_order();
 }
 
 /// Two layers, each end by itself, where each packet that an end's link hands up is the next of those that the other end gave:

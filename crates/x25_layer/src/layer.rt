@@ -5,9 +5,8 @@ use crate::error::LayerError;
 use crate::putting::PacketMemory;
 use crate::stretch::Stretch;
 use std::alloc::Global;
-use x25_bits::Role;
+use x25_bits::{Blanks, Role};
 use x25_circuit::{Circuit, Params};
-use x25_link::Blanks;
 
 /// The most channels of a layer (profile).
 pub const CHANNELS: usize = 16;
@@ -32,11 +31,11 @@ pub struct Layer {
 }
 
 impl Layer {
-    ghost use Rattle.x25_circuit.specs.FitsCircuit.{FitsCircuit};
+    ghost use Rattle.x25_circuit.specs.code.FitsCircuit.{FitsCircuit};
     ghost use Rattle.x25_layer.specs.Layer.{LayerSettings, at_rest, is_channel, rested};
     ghost use Rattle.x25_layer.specs.Layer.{Layer as State};
     ghost use Rattle.x25_layer.specs.Room.{HasRoom};
-    ghost use Rattle.x25_layer.specs.FitsLayer.{FitsLayer, plain_stretch, name_at, params_at, is_open_at, waits_up_to, is_full};
+    ghost use Rattle.x25_layer.specs.code.FitsLayer.{FitsLayer, plain_stretch, name_at, params_at, is_open_at, waits_up_to, is_full};
     ghost use Rattle.x25_layer.specs.InPart.{joined_at};
 
     /// The layer of an end whose link isn't up, with so many channels, 1 to 16. A call has at most 16 octets of user data.

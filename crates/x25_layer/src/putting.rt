@@ -2,14 +2,15 @@
 ghost use Rattle.std.specs.Prelude.{◌≡◌, ℕ, ◌+◌, ◌-◌, ◌<◌, ◌≤◌, length, max, true, IfErr, OnOk, OnErr};
 ghost use Rattle.x25_layer.specs.Layer.{LayerSettings};
 ghost use Rattle.x25_layer.specs.Layer.{Layer as State};
-ghost use Rattle.x25_layer.specs.FitsLayer.{FitsLayer};
+ghost use Rattle.x25_layer.specs.code.FitsLayer.{FitsLayer};
 ghost use Rattle.x25_layer.specs.OverLink.{LacksMemory};
 ghost use Rattle.x25_packet.specs.PlainPacket.{plain};
 ghost use Rattle.x25_packet.specs.Spelling.{IsInRange, spelling_of};
 
 use crate::error::LayerError;
 use crate::layer::Layer;
-use x25_link::{Blanks, LONGEST_PACKET, OrderedLink};
+use x25_bits::Blanks;
+use x25_link::{LONGEST_PACKET, OrderedLink};
 use x25_packet::{Packet, encode};
 
 /// The most packets that a call puts: its own, and the data packets pulled behind it.

@@ -6,7 +6,7 @@ ghost use Rattle.x25_circuit.specs.Circuit.{begun};
 ghost use Rattle.x25_circuit.specs.Table.{cause_at};
 ghost use Rattle.x25_layer.specs.Layer.{LayerSettings, restart_cause, is_ready, restarting_from, layer_answers};
 ghost use Rattle.x25_layer.specs.Layer.{Layer as State};
-ghost use Rattle.x25_layer.specs.FitsLayer.{FitsLayer};
+ghost use Rattle.x25_layer.specs.code.FitsLayer.{FitsLayer};
 ghost use Rattle.x25_layer.specs.OverLink.{view_of, after_all, LayerGives, LinkGives, LacksMemory};
 ghost use Rattle.x25_layer.specs.Calls.{Restarts};
 ghost use Rattle.x25_layer.specs.Rounds.{calls, comes_up};

@@ -2,10 +2,10 @@
 ghost use Rattle.std.specs.Prelude.{◌≡◌, ℕ, ◌≤◌, ◌||◌, length, max, false, IfErr, IsOk, OnOk, OnErr};
 ghost use Rattle.x25_circuit.specs.Circuit.{Settings};
 ghost use Rattle.x25_circuit.specs.Circuit.{Circuit as Channel};
-ghost use Rattle.x25_circuit.specs.FitsCircuit.{FitsCircuit};
+ghost use Rattle.x25_circuit.specs.code.FitsCircuit.{FitsCircuit};
 ghost use Rattle.x25_layer.specs.Layer.{LayerSettings};
 ghost use Rattle.x25_layer.specs.Layer.{Layer as State};
-ghost use Rattle.x25_layer.specs.FitsLayer.{FitsLayer, FitsCircuits, is_most, full_up_to, is_full};
+ghost use Rattle.x25_layer.specs.code.FitsLayer.{FitsLayer, FitsCircuits, is_most, full_up_to, is_full};
 ghost use Rattle.x25_layer.specs.Room.{HasCountsLeft, HaveCountsLeft, IsNotFull, HaveRoom, HasRoom, HaveAtMost};
 
 use crate::error::LayerError;

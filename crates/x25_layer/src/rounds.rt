@@ -3,10 +3,10 @@ ghost use Rattle.std.specs.Prelude.{◌≡◌, ℕ, ◌+◌, ◌<◌, ◌≤◌,
 ghost use Rattle.x25_packet.specs.Spelling.{IsChannel};
 ghost use Rattle.x25_circuit.specs.Circuit.{Settings};
 ghost use Rattle.x25_circuit.specs.Circuit.{Circuit as Channel};
-ghost use Rattle.x25_circuit.specs.FitsCircuit.{FitsCircuit, room_of};
+ghost use Rattle.x25_circuit.specs.code.FitsCircuit.{FitsCircuit, room_of};
 ghost use Rattle.x25_layer.specs.Layer.{LayerSettings, packet_on};
 ghost use Rattle.x25_layer.specs.Layer.{Layer as State};
-ghost use Rattle.x25_layer.specs.FitsLayer.{FitsLayer};
+ghost use Rattle.x25_layer.specs.code.FitsLayer.{FitsLayer};
 ghost use Rattle.x25_layer.specs.OverLink.{view_of, after_all, LayerGives, LinkGives, LacksMemory};
 ghost use Rattle.x25_layer.specs.Calls.{PullsAll};
 ghost use Rattle.x25_layer.specs.Rounds.{Putting, round, rounds, calls};

@@ -1,6 +1,6 @@
 -- A line that fits, after a push or a removal.
 use Rattle.std.proofs.Common.{◌≡◌, ℕ, suc, zero, List, [], ◌∷◌, ◌++◌, length, remove, arith}
-use Rattle.x25_line.specs.RawFitting.{FitsLine, FitsFrame}
+use Rattle.x25_line.specs.code.RawFitting.{FitsLine, FitsFrame}
 use Rattle.x25_window.specs.Window.{Frame}
 use Rattle.x25_line.specs.declared.raw_frame.RawFrame.{RawFrame}
 

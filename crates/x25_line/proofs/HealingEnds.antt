@@ -1,22 +1,24 @@
 -- Whatever the two ends are at a quiet moment, once both have fired and all has come each is at rest or not Up.
-use Rattle.std.proofs.Common.{◌≡◌, ℕ, List, [], ◌∷◌, ◌++◌, ◌⊎◌, inl, inr, map, Bool, true, false, if◌then◌else◌, Some, None, refl, sym, ap, ◌∙◌, subst}
+use Rattle.std.proofs.Common.{◌≡◌, List, [], ◌∷◌, ◌++◌, ◌⊎◌, inl, inr, length, map, Bool, true, false, if◌then◌else◌, ℕ, suc, ◌%◌, ◌<◌, Option, Some, None, refl, sym, ap, ◌∙◌, subst, arith}
 use Rattle.std.specs.Prelude.{nat_lt}
 use Rattle.std.proofs.lemmas.Bool.{ltb-true}
-use Rattle.x25_frame.specs.PlainFrame.{PlainFrame, rr}
+use Rattle.x25_bits.specs.declared.role.Role.{Role}
+use Rattle.x25_frame.specs.PlainFrame.{PlainFrame, rr, sabm}
 use Rattle.x25_frame.specs.Spelling.{spelling_of}
-use Rattle.x25_frame.specs.ReadingLaw.{ReadsSpelled}
+use Rattle.x25_frame.specs.laws.ReadingLaw.{ReadsSpelled}
 use Rattle.x25_link.specs.declared.phase.Phase.{Phase}
 use Rattle.x25_link.specs.declared.phase.Phase.TheVariants.{Down, Waiting, Up, Closed}
 use Rattle.x25_link.specs.declared.phase.Reason.TheVariants.{Retries}
-use Rattle.x25_link.specs.Station.{Settings, Station, is_up, is_waiting}
+use Rattle.x25_link.specs.LinkStation.{Settings, LinkStation, is_up, awaits_ua, with_nothing}
 use Rattle.x25_link.specs.MustSend.{Step, other}
 use Rattle.x25_link.specs.Steps.{timer_step, timer_runs}
+use Rattle.x25_link.specs.SetUp.{Is}
 use Rattle.x25_link.specs.WindowMachine.{nothing}
-use Rattle.x25_link.specs.WindowLaw.{Follows, IsOut}
-use Rattle.x25_link.specs.RestLaw.{IsAtRest}
+use Rattle.x25_link.specs.laws.WindowLaw.{Follows, IsOut}
+use Rattle.x25_link.specs.laws.RestLaw.{IsAtRest}
 use Rattle.x25_line.specs.Stations.{StationEnd, Stations, T1, Event, after_step, acts, swapped, run, start}
-use Rattle.x25_line.specs.StationClaims.{AreJoined}
-use Rattle.x25_line.specs.Healing.{IsDrained, AreDeliveries, MayHeal, MayFire, IsAtRestOrOut, EachRestsOrIsOut}
+use Rattle.x25_line.specs.laws.StationClaims.{AreJoined}
+use Rattle.x25_line.specs.Healing.{IsDrained, AreDeliveries, MayHeal, IsFreeIfUp, IsAtRestOrOut, EachRestsOrIsOut, Heals}
 use Rattle.x25_line.proofs.StationSteps.{not_both}
 use Rattle.x25_line.proofs.StationRuns.{joined_swapped}
 use Rattle.x25_line.proofs.HealingLines.{Reads}
@@ -24,20 +26,30 @@ use Rattle.x25_line.proofs.HealingSteps.{HealingLaws, Sound, sound_swapped, near
 use Rattle.x25_line.proofs.HealingRuns.{reached_sound, shows_at_rest, refused, fires_is, fire_sound, Fired, fires, idle_run, flip, flip_all, flip_run}
 use Rattle.x25_line.proofs.HealingBoth.{both_firings_heal}
 use Rattle.x25_line.proofs.HealingGone.{Polls, Leaves, all_go, is_gone, has_left}
+use Rattle.x25_line.proofs.HealingSetUp.{reads_more_set_up, Calm, Asking, SetsUp, set_up_settles, set_up_run}
 
--- what a firing on an empty line makes of its end: a poll goes; or nothing goes, and the end is at rest or out
+-- what a firing on an empty line makes of its end: a poll or SABM goes; or nothing goes, and the end is at rest or out
 pub record Silent (w x : Stations) : Type 0 where
   pub out : x.out ≡ []
   pub back : x.back ≡ w.back
   pub far : x.far ≡ w.far
 
-out_is : (p : Phase) → is_waiting p ≡ false → is_up p ≡ false → IsOut p
+waiting_is : (p : Phase) → awaits_ua p ≡ true → p ≡ Waiting
+waiting_is Down e = not_both false e refl
+waiting_is Waiting e = refl
+waiting_is Up e = not_both false e refl
+waiting_is Closed e = not_both false e refl
+
+below_eight : (a n : ℕ) → a ≡ n % 8 → a < 8
+below_eight a n e = omega arith
+
+out_is : (p : Phase) → awaits_ua p ≡ false → is_up p ≡ false → IsOut p
 out_is Down e f = tt
 out_is Waiting e f = not_both true refl e
 out_is Up e f = not_both true refl f
 out_is Closed e f = tt
 
-no_timer : (p : Phase) (s : Station) → IsOut p → timer_runs p s ≡ false
+no_timer : (p : Phase) (s : LinkStation) → IsOut p → timer_runs p s ≡ false
 no_timer Down s h = refl
 no_timer Waiting s h = absurd h
 no_timer Up s h = absurd h
@@ -50,16 +62,58 @@ out_not_up Up h = absurd h
 out_not_up Closed h = refl
 
 module _ (c d : Settings) (joined : AreJoined c d) (reads : ReadsSpelled) (laws : HealingLaws) where
+  -- SABM goes on the empty line
+  record AsksSetUp (w x : Stations) : Type 0 where
+    pub near : x.near.station.phase ≡ Waiting
+    pub out : Reads (other d.role) d.longest x.out (sabm true ∷ [])
+    pub back : x.back ≡ w.back
+    pub far : x.far ≡ w.far
+
   abbrev Kind : Stations → Stations → Type 0
-  Kind w x = (MayHeal c w.near × Fired c d joined reads laws w x) ⊎ ((MayHeal c w.near × IsAtRest x.near.station × Silent w x) ⊎ (IsOut x.near.station.phase × Silent w x))
+  Kind w x = (MayHeal c w.near × Fired c d joined reads laws w x) ⊎ ((MayHeal c w.near × IsAtRest x.near.station × Silent w x) ⊎ ((IsOut x.near.station.phase × Silent w x) ⊎ AsksSetUp w x))
+
+  -- an end that awaits UA fires
+  waits : (w : Stations) → w.out ≡ [] → w.near.station.phase ≡ Waiting → Kind w (acts c T1 w)
+  waits w empty is = by (nat_lt s.tries c.retries) refl
+    where
+      s : LinkStation
+      s = w.near.station
+
+      step : Step
+      step = timer_step c s
+
+      v : Stations
+      v = after_step c w w.back [] step
+
+      running : timer_runs s.phase s ≡ true
+      running = ap (λ (p : Phase). timer_runs p s) is
+
+      asks : (b : Bool) → nat_lt s.tries c.retries ≡ b
+          → Is (if b then record s { tries = suc s.tries } else with_nothing Down s.tries) (if b then sabm true ∷ [] else []) (if b then None else Some Retries) false step
+      asks b few =
+          subst (λ (b : Bool). Is (if b then record s { tries = suc s.tries } else with_nothing Down s.tries) (if b then sabm true ∷ [] else []) (if b then None else Some Retries) false step) few (laws.laws.set_up.timer c s is)
+
+      by : (b : Bool) → nat_lt s.tries c.retries ≡ b → Kind w (acts c T1 w)
+      by true few =
+          let a = asks true few in
+          let none : Reads (other d.role) d.longest w.out [] = subst (λ (os : List (List ℕ)). Reads (other d.role) d.longest os []) (sym empty) tt in
+          let out : Reads (other d.role) d.longest v.out (sabm true ∷ []) =
+          subst (λ (fs : List PlainFrame). Reads (other d.role) d.longest (w.out ++ map (spelling_of c.role) fs) (sabm true ∷ [])) (sym a.out)
+          (subst (λ (from : Role). Reads (other d.role) d.longest (w.out ++ map (spelling_of from) (sabm true ∷ [])) (sabm true ∷ [])) joined.near_role
+          (reads_more_set_up reads (other d.role) d.longest w.out [] (sabm true ∷ []) none (tt, tt))) in
+          subst (Kind w) (sym (fires_is c d joined reads laws w running)) (inr (inr (inr (record { near = ap (λ (z : LinkStation). z.phase) a.near ∙ is; out = out; back = refl; far = refl }))))
+      by false few =
+          let a = asks false few in
+          let out : v.out ≡ [] = ap (λ (fs : List PlainFrame). w.out ++ map (spelling_of c.role) fs) a.out ∙ ap (λ (os : List (List ℕ)). os ++ []) empty in
+          subst (Kind w) (sym (fires_is c d joined reads laws w running)) (inr (inr (inl (subst (λ (z : LinkStation). IsOut z.phase) (sym a.near) tt, record { out = out; back = refl; far = refl }))))
 
   silent : (w x : Stations) → w.out ≡ [] → x ≡ w → Silent w x
   silent w x empty same = subst (λ (z : Stations). Silent w z) (sym same) (record { out = empty; back = refl; far = refl })
 
-  kind_of : (w : Stations) → Sound c d w → w.out ≡ [] → MayFire w.near → Kind w (acts c T1 w)
+  kind_of : (w : Stations) → Sound c d w → w.out ≡ [] → IsFreeIfUp w.near → Kind w (acts c T1 w)
   kind_of w h empty may = by (is_up w.near.station.phase) refl
     where
-      s : Station
+      s : LinkStation
       s = w.near.station
 
       x : Stations
@@ -73,12 +127,12 @@ module _ (c d : Settings) (joined : AreJoined c d) (reads : ReadsSpelled) (laws 
           let v : Stations = after_step c w w.back [] step in
           let follows = subst (λ (b : Bool). Follows (if b then None else Some Retries) c.window nothing s step) none (laws.laws.window.timer c s (record { up = up; sound = u.sound })) in
           let out : v.out ≡ [] = ap (λ (fs : List PlainFrame). w.out ++ map (spelling_of c.role) fs) follows.frames ∙ ap (λ (os : List (List ℕ)). os ++ []) empty in
-          subst (λ (z : Stations). Kind w z) (sym (fires_is c d joined reads laws w running)) (inr (inr (subst IsOut (sym follows.phase) tt, record { out = out; back = refl; far = refl })))
+          subst (λ (z : Stations). Kind w z) (sym (fires_is c d joined reads laws w running)) (inr (inr (inl (subst IsOut (sym follows.phase) tt, record { out = out; back = refl; far = refl }))))
 
       tried : is_up s.phase ≡ true → timer_runs s.phase s ≡ true → (b : Bool) → nat_lt s.tries c.retries ≡ b → Kind w (acts c T1 w)
       tried up running true few =
           let left = ltb-true _ _ few in
-          inl (record { up = up; free = may.free up; tries = λ _. left }, fires c d joined reads laws w h empty up (may.free up) running left)
+          inl (record { up = up; free = may up; tries = λ _. left }, fires c d joined reads laws w h empty up (may up) running left)
       tried up running false none = over up running none
 
       runs : is_up s.phase ≡ true → (b : Bool) → timer_runs s.phase s ≡ b → Kind w (acts c T1 w)
@@ -86,15 +140,19 @@ module _ (c d : Settings) (joined : AreJoined c d) (reads : ReadsSpelled) (laws 
       runs up false stopped =
           let same = refused c d joined reads laws w stopped in
           let rest = (shows_at_rest c d joined reads laws w h up stopped).0 in
-          let heals : MayHeal c w.near = record { up = up; free = may.free up; tries = λ running. not_both (timer_runs s.phase s) running stopped } in
+          let heals : MayHeal c w.near = record { up = up; free = may up; tries = λ running. not_both (timer_runs s.phase s) running stopped } in
           inr (inl (heals, subst (λ (z : Stations). IsAtRest z.near.station) (sym same) rest, silent w (acts c T1 w) empty same))
+
+      off : is_up s.phase ≡ false → (b : Bool) → awaits_ua s.phase ≡ b → Kind w (acts c T1 w)
+      off not_up true awaits = waits w empty (waiting_is s.phase awaits)
+      off not_up false settled =
+          let gone = out_is s.phase settled not_up in
+          let same = refused c d joined reads laws w (no_timer s.phase s gone) in
+          inr (inr (inl (subst (λ (z : Stations). IsOut z.near.station.phase) (sym same) gone, silent w (acts c T1 w) empty same)))
 
       by : (b : Bool) → is_up s.phase ≡ b → Kind w (acts c T1 w)
       by true up = runs up (timer_runs s.phase s) refl
-      by false off =
-          let gone = out_is s.phase may.settled off in
-          let same = refused c d joined reads laws w (no_timer s.phase s gone) in
-          inr (inr (subst (λ (z : Stations). IsOut z.near.station.phase) (sym same) gone, silent w (acts c T1 w) empty same))
+      by false not_up = off not_up (awaits_ua s.phase) refl
 
   -- nothing is on the line, and each end is at rest or out
   both_quiet : (v : Stations) → v.out ≡ [] → v.back ≡ [] → IsAtRestOrOut v.near → IsAtRestOrOut v.far → (es : List Event) → AreDeliveries es
@@ -149,16 +207,31 @@ module _ (reads : ReadsSpelled) (laws : HealingLaws) where
       back_is : x.back ≡ w.back → x.back ≡ []
       back_is same = same ∙ quiet.drained.back
 
-      far_may_at : x.far ≡ w.far → MayFire x.far
-      far_may_at same = subst MayFire (sym same) far_may
+      far_may_at : x.far ≡ w.far → IsFreeIfUp x.far
+      far_may_at same = subst IsFreeIfUp (sym same) far_may
 
       far_was : x.far ≡ w.far → MayHeal d x.far → MayHeal d w.far
       far_was same may = subst (MayHeal d) same may
 
+      nothing_on : (from : Role) (n1 : ℕ) (os : List (List ℕ)) → os ≡ [] → Reads from n1 os []
+      nothing_on from n1 os none = subst (λ (z : List (List ℕ)). Reads from n1 z []) (sym none) tt
+
+      sets : SetsUp c d (swapped y) → Ends
+      sets h = set_up_settles c d joined reads laws (run c d es (swapped y)) (set_up_run c d joined reads laws es (swapped y) are h) after
+
       fired : MayHeal c w.near → Fired c d joined reads laws w x → Kind d c twisted reads laws (swapped x) y → Ends
       fired may f (inl g) = heals may (far_was f.far g.0)
       fired may f (inr (inl g)) = heals may (far_was f.far g.0)
-      fired may f (inr (inr g)) =
+      fired may f (inr (inr (inr g))) =
+          sets (inr (inl (record {
+            near = g.near;
+            far = subst (λ (e : StationEnd). is_up e.station.phase ≡ true) (sym g.far) f.up;
+            behind = rr true f.number true ∷ [];
+            out = g.out;
+            back = subst (λ (os : List (List ℕ)). Reads (other d.role) d.longest os (rr true f.number true ∷ [])) (sym g.back) f.out;
+            polls = below_eight f.number (length x.near.station.taken) f.is;
+          })))
+      fired may f (inr (inr (inl g))) =
           let near : y.far ≡ x.near = g.1.far in
           let polls : Polls c d (swapped y) =
           record { number = f.number; up = subst (λ (e : StationEnd). is_up e.station.phase ≡ true) (sym near) f.up; gone = g.0; out = subst (λ (os : List (List ℕ)). Reads (other d.role) d.longest os (rr true f.number true ∷ [])) (sym g.1.back) f.out; back = g.1.out } in
@@ -167,7 +240,16 @@ module _ (reads : ReadsSpelled) (laws : HealingLaws) where
       rested : MayHeal c w.near → IsAtRest x.near.station → Silent w x → Kind d c twisted reads laws (swapped x) y → Ends
       rested may rest k (inl g) = heals may (far_was k.far g.0)
       rested may rest k (inr (inl g)) = heals may (far_was k.far g.0)
-      rested may rest k (inr (inr g)) =
+      rested may rest k (inr (inr (inr g))) =
+          sets (inr (inl (record {
+            near = g.near;
+            far = subst (λ (e : StationEnd). is_up e.station.phase ≡ true) (sym g.far) (laws.rest.only_then x.near.station rest).0;
+            behind = [];
+            out = g.out;
+            back = nothing_on (other d.role) d.longest y.back (g.back ∙ k.out);
+            polls = tt;
+          })))
+      rested may rest k (inr (inr (inl g))) =
           both_quiet c d joined reads laws (swapped y) (g.1.back ∙ k.out) g.1.out (inl (subst (λ (e : StationEnd). IsAtRest e.station) (sym g.1.far) rest)) (inr (out_not_up y.near.station.phase g.0)) es are
 
       gone : IsOut x.near.station.phase → Silent w x → Kind d c twisted reads laws (swapped x) y → Ends
@@ -178,8 +260,63 @@ module _ (reads : ReadsSpelled) (laws : HealingLaws) where
           far_left c d joined (swapped y) (inl polls) es are after
       gone out k (inr (inl g)) =
           both_quiet c d joined reads laws (swapped y) (g.2.back ∙ k.out) g.2.out (inr (ap (λ (e : StationEnd). is_up e.station.phase) g.2.far ∙ out_not_up x.near.station.phase out)) (inl g.1) es are
-      gone out k (inr (inr g)) =
+      gone out k (inr (inr (inr g))) =
+          sets (inr (inr (record {
+            near = inr (ap (λ (e : StationEnd). is_up e.station.phase) g.far ∙ out_not_up x.near.station.phase out);
+            far = inr (ap is_up g.near);
+            there = [];
+            behind = sabm true ∷ [];
+            out = nothing_on (other d.role) d.longest y.back (g.back ∙ k.out);
+            back = g.out;
+            there_are = tt;
+            behind_are = (tt, tt);
+          })))
+      gone out k (inr (inr (inl g))) =
           both_quiet c d joined reads laws (swapped y) (g.1.back ∙ k.out) g.1.out (inr (ap (λ (e : StationEnd). is_up e.station.phase) g.1.far ∙ out_not_up x.near.station.phase out)) (inr (out_not_up y.near.station.phase g.0)) es are
+
+      -- the near end asks for set-up
+      asking : AsksSetUp c d joined reads laws w x → Kind d c twisted reads laws (swapped x) y → Ends
+      asking k (inl g) =
+          let f = g.1 in
+          sets (inl (record {
+            near = ap (λ (e : StationEnd). e.station.phase) f.far ∙ k.near;
+            far = f.up;
+            behind = rr true f.number true ∷ [];
+            out = subst (λ (os : List (List ℕ)). Reads (other d.role) d.longest os (sabm true ∷ [])) (sym f.back) k.out;
+            back = f.out;
+            polls = below_eight f.number (length y.near.station.taken) f.is;
+          }))
+      asking k (inr (inl g)) =
+          sets (inl (record {
+            near = ap (λ (e : StationEnd). e.station.phase) g.2.far ∙ k.near;
+            far = (laws.rest.only_then y.near.station g.1).0;
+            behind = [];
+            out = subst (λ (os : List (List ℕ)). Reads (other d.role) d.longest os (sabm true ∷ [])) (sym g.2.back) k.out;
+            back = nothing_on (other c.role) c.longest y.out g.2.out;
+            polls = tt;
+          }))
+      asking k (inr (inr (inl g))) =
+          sets (inr (inr (record {
+            near = inr (ap (λ (e : StationEnd). is_up e.station.phase) g.1.far ∙ ap is_up k.near);
+            far = inr (out_not_up y.near.station.phase g.0);
+            there = sabm true ∷ [];
+            behind = [];
+            out = subst (λ (os : List (List ℕ)). Reads (other d.role) d.longest os (sabm true ∷ [])) (sym g.1.back) k.out;
+            back = nothing_on (other c.role) c.longest y.out g.1.out;
+            there_are = (tt, tt);
+            behind_are = tt;
+          })))
+      asking k (inr (inr (inr g))) =
+          sets (inr (inr (record {
+            near = inr (ap (λ (e : StationEnd). is_up e.station.phase) g.far ∙ ap is_up k.near);
+            far = inr (ap is_up g.near);
+            there = sabm true ∷ [];
+            behind = sabm true ∷ [];
+            out = subst (λ (os : List (List ℕ)). Reads (other d.role) d.longest os (sabm true ∷ [])) (sym g.back) k.out;
+            back = g.out;
+            there_are = (tt, tt);
+            behind_are = (tt, tt);
+          })))
 
       far_kind : x.back ≡ w.back → x.far ≡ w.far → Kind d c twisted reads laws (swapped x) y
       far_kind back far = kind_of d c twisted reads laws (swapped x) (sound_swapped c d joined x (fire_sound c d joined reads laws w sound)) (back_is back) (far_may_at far)
@@ -187,4 +324,10 @@ module _ (reads : ReadsSpelled) (laws : HealingLaws) where
       by : Kind c d joined reads laws w x → Ends
       by (inl k) = fired k.0 k.1 (far_kind k.1.back k.1.far)
       by (inr (inl k)) = rested k.0 k.1 k.2 (far_kind k.2.back k.2.far)
-      by (inr (inr k)) = gone k.0 k.1 (far_kind k.1.back k.1.far)
+      by (inr (inr (inl k))) = gone k.0 k.1 (far_kind k.1.back k.1.far)
+      by (inr (inr (inr k))) = asking k (far_kind k.back k.far)
+
+  pub heals : Heals
+  heals c d joined events quiet near_free far_free es are after =
+      let each = each_rests_or_is_out c d joined events quiet near_free far_free es are after in
+      record { near = each.0; far = each.1; healed = λ near_may far_may. both_firings_heal reads laws c d joined events quiet near_may far_may es are after }

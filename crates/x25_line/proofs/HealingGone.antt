@@ -3,13 +3,13 @@ use Rattle.std.proofs.Common.{◌≡◌, ℕ, List, [], ◌∷◌, ◌++◌, ◌
 use Rattle.x25_bits.specs.declared.role.Role.{Role}
 use Rattle.x25_frame.specs.PlainFrame.{PlainFrame, rr, dm}
 use Rattle.x25_frame.specs.Spelling.{spelling_of}
-use Rattle.x25_frame.specs.ReadingLaw.{ReadsSpelled}
-use Rattle.x25_link.specs.Station.{Settings, Station, is_up}
+use Rattle.x25_frame.specs.laws.ReadingLaw.{ReadsSpelled}
+use Rattle.x25_link.specs.LinkStation.{Settings, LinkStation, is_up}
 use Rattle.x25_link.specs.MustSend.{Step, other}
 use Rattle.x25_link.specs.Steps.{take_step}
-use Rattle.x25_link.specs.WindowLaw.{IsOut}
+use Rattle.x25_link.specs.laws.WindowLaw.{IsOut}
 use Rattle.x25_line.specs.Stations.{StationEnd, Stations, Act, Put, Deliver, T1, Connect, Disconnect, Abandon, Lose, Damage, Event, Near, Far, after_step, delivered, acts, swapped, run, start}
-use Rattle.x25_line.specs.StationClaims.{AreJoined}
+use Rattle.x25_line.specs.laws.StationClaims.{AreJoined}
 use Rattle.x25_line.specs.Healing.{IsDrained, IsDeliver, AreDeliveries, GoneEnds}
 use Rattle.x25_line.proofs.HealingLines.{Reads, front_reads, none_reads, reads_none, reads_more}
 use Rattle.x25_line.proofs.HealingSteps.{HealingLaws}
@@ -56,7 +56,7 @@ module _ (c d : Settings) (joined : AreJoined c d) (reads : ReadsSpelled) (laws 
       let back : Reads (other c.role) c.longest (w.back ++ map (spelling_of d.role) step.side.out) (dm true ∷ []) =
       subst (λ (fs : List PlainFrame). Reads (other c.role) c.longest (w.back ++ map (spelling_of d.role) fs) (dm true ∷ [])) (sym a.out)
       (subst (λ (from : Role). Reads (other c.role) c.longest (w.back ++ map (spelling_of from) (dm true ∷ [])) (dm true ∷ [])) joined.far_role dm_reads) in
-      subst (Leaves c d) (sym same) (inr (inl (record { up = h.up; gone = subst (λ (z : Station). IsOut z.phase) (sym a.near) h.gone; out = none_reads (other d.role) d.longest r.others r.rest; back = back })))
+      subst (Leaves c d) (sym same) (inr (inl (record { up = h.up; gone = subst (λ (z : LinkStation). IsOut z.phase) (sym a.near) h.gone; out = none_reads (other d.role) d.longest r.others r.rest; back = back })))
 
   -- DM comes
   leaves : (w : Stations) → Declined c d w → Leaves c d (acts c Deliver w)
@@ -68,7 +68,7 @@ module _ (c d : Settings) (joined : AreJoined c d) (reads : ReadsSpelled) (laws 
       let v : Stations = after_step c w r.others [] step in
       let same : acts c Deliver w ≡ v = ap (λ (os : List (List ℕ)). delivered c os w) r.is in
       subst (Leaves c d) (sym same) (inr (inr (record {
-        off = ap (λ (z : Station). is_up z.phase) a.0;
+        off = ap (λ (z : LinkStation). is_up z.phase) a.0;
         gone = h.gone;
         out = ap (λ (fs : List PlainFrame). w.out ++ map (spelling_of c.role) fs) a.1 ∙ ap (λ (os : List (List ℕ)). os ++ []) h.out;
         back = none_reads (other c.role) c.longest r.others r.rest;

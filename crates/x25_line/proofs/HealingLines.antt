@@ -6,9 +6,9 @@ use Rattle.x25_bits.specs.declared.role.Role.{Role}
 use Rattle.x25_frame.specs.PlainFrame.{PlainFrame, info, rr, rnr, rej, sabm, disc, ua, dm, frmr}
 use Rattle.x25_frame.specs.Spelling.{spelling_of}
 use Rattle.x25_frame.specs.Reading.{frame_of}
-use Rattle.x25_frame.specs.ReadingLaw.{ReadsSpelled}
-use Rattle.x25_link.specs.AnswerLaw.{AreNext}
-use Rattle.x25_line.specs.StationClaims.{AreWhole}
+use Rattle.x25_frame.specs.laws.ReadingLaw.{ReadsSpelled}
+use Rattle.x25_link.specs.laws.AnswerLaw.{AreNext}
+use Rattle.x25_line.specs.laws.StationClaims.{AreWhole}
 
 -- ---- what octets on a line read as
 

@@ -4,12 +4,12 @@ use Rattle.std.specs.Prelude.{◌&&◌}
 use Rattle.std.proofs.lemmas.Bool.{eq-eqb}
 use Rattle.x25_bits.specs.declared.role.Role.{Role}
 use Rattle.x25_frame.specs.PlainFrame.{PlainFrame, info, rr, rnr, rej, sabm, disc, ua, dm, frmr}
-use Rattle.x25_frame.specs.ReadingLaw.{ReadsSpelled}
-use Rattle.x25_link.specs.Station.{Settings, Station, is_up, is_busy, wanted}
+use Rattle.x25_frame.specs.laws.ReadingLaw.{ReadsSpelled}
+use Rattle.x25_link.specs.LinkStation.{Settings, LinkStation, is_up, is_busy, wanted}
 use Rattle.x25_link.specs.MustSend.{other, is_taken}
-use Rattle.x25_link.specs.AnswerLaw.{says, AreNext, weight_of, weight_if, Outcome, heard, goes_on_from, confirms, once_taken}
+use Rattle.x25_link.specs.laws.AnswerLaw.{says, AreNext, weight_of, weight_if, Outcome, heard, goes_on_from, confirms, once_taken}
 use Rattle.x25_line.specs.Stations.{Stations, Act, Put, Deliver, T1, Connect, Disconnect, Abandon, Lose, Damage, Event, Near, Far, acts, swapped, run, start}
-use Rattle.x25_line.specs.StationClaims.{AreJoined}
+use Rattle.x25_line.specs.laws.StationClaims.{AreJoined}
 use Rattle.x25_line.specs.Healing.{IsDrained, IsDeliver, AreDeliveries, frame_load, line_load, to_send, load, EachFinds, DeliveriesEnd, SomeHeal}
 use Rattle.x25_line.proofs.StationSteps.{not_both}
 use Rattle.x25_line.proofs.StationRuns.{joined_swapped}
@@ -137,7 +137,7 @@ module _ (c d : Settings) (joined : AreJoined c d) (reads : ReadsSpelled) (laws 
       → Usual (length w.near.station.taken) f → load c d (acts c Deliver w) + 1 ≤ load c d w
   near_falls w b fs gs f out back usual = by f back usual
     where
-      s : Station
+      s : LinkStation
       s = w.near.station
 
       said : s.said_busy ≡ false

@@ -3,18 +3,18 @@ use Rattle.std.proofs.Common.{◌≡◌, ℕ, ◌+◌, ◌%◌, ◌≤◌, List,
 use Rattle.std.specs.Prelude.{◌==◌, ◌-◌, ◌&&◌, not, if◌then◌else◌}
 use Rattle.std.proofs.lemmas.Bool.{eq-eqb, eqb-true, and_parts}
 use Rattle.x25_frame.specs.PlainFrame.{PlainFrame, info, rr, rnr, rej, sabm, disc, ua, dm, frmr}
-use Rattle.x25_frame.specs.ReadingLaw.{ReadsSpelled}
+use Rattle.x25_frame.specs.laws.ReadingLaw.{ReadsSpelled}
 use Rattle.x25_window.specs.Modulo.{resolved}
 use Rattle.x25_link.specs.declared.phase.Phase.{Phase}
 use Rattle.x25_link.specs.declared.phase.Phase.TheVariants.{Down, Waiting, Up, Closed}
 use Rattle.x25_link.specs.Outgoing.{waits}
-use Rattle.x25_link.specs.Station.{Settings, Station, is_up, is_busy, wanted}
+use Rattle.x25_link.specs.LinkStation.{Settings, LinkStation, is_up, is_busy, wanted}
 use Rattle.x25_link.specs.MustSend.{other, is_taken}
-use Rattle.x25_link.specs.WindowLaw.{IsSound}
-use Rattle.x25_link.specs.RestLaw.{HasSaidAll, IsAtRest}
-use Rattle.x25_link.specs.AnswerLaw.{says, AreNext, Outcome, heard, heard_tries, goes_on_from, confirms, once_taken, busy_after, passed_over}
+use Rattle.x25_link.specs.laws.WindowLaw.{IsSound}
+use Rattle.x25_link.specs.laws.RestLaw.{HasSaidAll, IsAtRest}
+use Rattle.x25_link.specs.laws.AnswerLaw.{says, AreNext, Outcome, heard, heard_tries, goes_on_from, confirms, once_taken, busy_after, passed_over}
 use Rattle.x25_line.specs.Stations.{StationEnd, Stations, Deliver, delivered, acts, swapped}
-use Rattle.x25_line.specs.StationClaims.{AreJoined}
+use Rattle.x25_line.specs.laws.StationClaims.{AreJoined}
 use Rattle.x25_line.proofs.Kept.{resolved_is}
 use Rattle.x25_line.proofs.StationSteps.{not_both}
 use Rattle.x25_line.proofs.StationRuns.{joined_swapped}
@@ -78,14 +78,14 @@ up_is Down e = not_both false e refl
 up_is Waiting e = not_both false e refl
 up_is Closed e = not_both false e refl
 
-tries_low : (nr : ℕ) (s : Station) → heard_tries nr s ≤ s.tries
+tries_low : (nr : ℕ) (s : LinkStation) → heard_tries nr s ≤ s.tries
 tries_low nr s = by (heard nr s == s.outgoing.acked)
   where
     by : (b : Bool) → (if b then s.tries else 0) ≤ s.tries
     by true = omega arith
     by false = omega arith
 
-passed_ahead : (n : ℕ) (s : Station) → is_busy s ≡ false → Ahead n (passed_over false s) n
+passed_ahead : (n : ℕ) (s : LinkStation) → is_busy s ≡ false → Ahead n (passed_over false s) n
 passed_ahead n s free = rw free (by s.rejecting)
   where
     by : (b : Bool) → Ahead n (if not b then rej false (wanted s) false ∷ [] else if false then rr false (wanted s) true ∷ [] else []) n
@@ -102,7 +102,7 @@ confirms_next r n m true next h = h
 confirms_next r n m false next h = (refl, refl, refl, h)
 
 -- nothing waits where a station is at rest, and all is acknowledged
-pub rest_has_all : (s : Station) → IsAtRest s → s.outgoing.sent ≤ length s.outgoing.given → s.outgoing.acked ≡ s.outgoing.sent → length s.outgoing.given ≡ s.outgoing.acked
+pub rest_has_all : (s : LinkStation) → IsAtRest s → s.outgoing.sent ≤ length s.outgoing.given → s.outgoing.acked ≡ s.outgoing.sent → length s.outgoing.given ≡ s.outgoing.acked
 rest_has_all s rest high same =
     let outer = and_parts (is_up s.phase) (waits s.outgoing == 0 && s.outgoing.acked == s.outgoing.sent) rest.idle in
     let inner = and_parts (waits s.outgoing == 0) (s.outgoing.acked == s.outgoing.sent) outer.1 in
@@ -341,7 +341,7 @@ module _ (c d : Settings) (joined : AreJoined c d) (reads : ReadsSpelled) (laws 
   far_delivers w = swapped (acts d Deliver (swapped w))
 
   -- a station at rest stays so, as it was handed nothing, and hears of no busy peer
-  stays_at_rest : (s u : Station) → IsAtRest s → IsSound d.window s.outgoing → IsSound d.window u.outgoing → HasSaidAll d.window u → is_up u.phase ≡ true → (s.recovery ≡ false → u.recovery ≡ false)
+  stays_at_rest : (s u : LinkStation) → IsAtRest s → IsSound d.window s.outgoing → IsSound d.window u.outgoing → HasSaidAll d.window u → is_up u.phase ≡ true → (s.recovery ≡ false → u.recovery ≡ false)
       → (s.peer_busy ≡ false → u.peer_busy ≡ false) → u.outgoing.given ≡ s.outgoing.given → s.outgoing.acked ≤ u.outgoing.acked → IsAtRest u
   stays_at_rest s u rest before sound said up recovery peer_busy given acked =
       let t = laws.rest.only_then s rest in

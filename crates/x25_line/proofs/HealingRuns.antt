@@ -5,19 +5,19 @@ use Rattle.std.proofs.lemmas.Bool.{le-ltb, and_right}
 use Rattle.x25_bits.specs.declared.role.Role.{Role}
 use Rattle.x25_frame.specs.PlainFrame.{PlainFrame, rr}
 use Rattle.x25_frame.specs.Spelling.{spelling_of}
-use Rattle.x25_frame.specs.ReadingLaw.{ReadsSpelled}
+use Rattle.x25_frame.specs.laws.ReadingLaw.{ReadsSpelled}
 use Rattle.x25_link.specs.declared.error.LinkError.{LinkError}
 use Rattle.x25_link.specs.declared.phase.Notes.{Notes}
 use Rattle.x25_link.specs.declared.phase.Reason.TheVariants.{Retries}
-use Rattle.x25_link.specs.Station.{Settings, Station, is_up, is_busy, wanted, fresh}
+use Rattle.x25_link.specs.LinkStation.{Settings, LinkStation, is_up, is_busy, wanted, fresh}
 use Rattle.x25_link.specs.MustSend.{Step, other}
 use Rattle.x25_link.specs.Steps.{timer_step, timer_runs, timer_refusal, put_refusal, connect_refusal, disconnect_refusal, put_step, connect_step, disconnect_step, abandon_step}
 use Rattle.x25_link.specs.WindowMachine.{nothing}
-use Rattle.x25_link.specs.WindowLaw.{Follows}
-use Rattle.x25_link.specs.RestLaw.{HasSaidAll, IsAtRest}
-use Rattle.x25_link.specs.AnswerLaw.{says, Asks}
+use Rattle.x25_link.specs.laws.WindowLaw.{Follows}
+use Rattle.x25_link.specs.laws.RestLaw.{HasSaidAll, IsAtRest}
+use Rattle.x25_link.specs.laws.AnswerLaw.{says, Asks}
 use Rattle.x25_line.specs.Stations.{StationEnd, Stations, Act, Put, Deliver, T1, Connect, Disconnect, Abandon, Lose, Damage, Event, Near, Far, after_step, unless, delivered, is_visible, acts, swapped, happens, run, start}
-use Rattle.x25_line.specs.StationClaims.{AreJoined, IsSetUpOnce, AreWhole}
+use Rattle.x25_line.specs.laws.StationClaims.{AreJoined, IsSetUpOnce, AreWhole}
 use Rattle.x25_line.specs.WholeNumbers.{machine_acts, machine_run, machine_at_start}
 use Rattle.x25_line.specs.Healing.{IsDrained, IsDeliver, IsDelivery, AreDeliveries, HasArrived, ShowsAtRest, MayHeal, OneHeals}
 use Rattle.x25_line.proofs.StationRuns.{machine_joint, run_once, start_machine}
@@ -154,17 +154,17 @@ module _ (c d : Settings) (joined : AreJoined c d) (reads : ReadsSpelled) (laws 
   fires w h empty up free running few =
       subst (λ (z : Stations). Fired w z) (sym is) (record {
         sound = sound;
-        up = ap (λ (z : Station). is_up z.phase) asks.near ∙ up;
+        up = ap (λ (z : LinkStation). is_up z.phase) asks.near ∙ up;
         free = ap is_busy asks.near ∙ free;
-        recovery = ap (λ (z : Station). z.recovery) asks.near;
+        recovery = ap (λ (z : LinkStation). z.recovery) asks.near;
         number = wanted s;
-        is = ap (λ (z : Station). length z.taken % 8) (sym asks.near);
+        is = ap (λ (z : LinkStation). length z.taken % 8) (sym asks.near);
         out = read_out;
         back = refl;
         far = refl;
       })
     where
-      s : Station
+      s : LinkStation
       s = w.near.station
 
       step : Step

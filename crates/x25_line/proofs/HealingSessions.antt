@@ -1,22 +1,22 @@
 -- What rest shows over set-up and re-set-up, session by session.
 use Rattle.std.proofs.Common.{◌≡◌, ℕ, List, [], ◌⊎◌, inl, inr, true, false, refl, sym, subst, arith}
-use Rattle.x25_frame.specs.ReadingLaw.{ReadsSpelled}
+use Rattle.x25_frame.specs.laws.ReadingLaw.{ReadsSpelled}
 use Rattle.x25_link.specs.declared.phase.Phase.TheVariants.{Down}
-use Rattle.x25_link.specs.Station.{Settings, is_up, with_nothing}
+use Rattle.x25_link.specs.LinkStation.{Settings, is_up, with_nothing}
 use Rattle.x25_link.specs.Steps.{timer_runs}
-use Rattle.x25_link.specs.RestLaw.{HasSaidAll, IsAtRest}
+use Rattle.x25_link.specs.laws.RestLaw.{HasSaidAll, IsAtRest}
 use Rattle.x25_line.specs.Stations.{StationEnd, Stations, Event, start}
-use Rattle.x25_line.specs.StationClaims.{AreJoined}
+use Rattle.x25_line.specs.laws.StationClaims.{AreJoined}
 use Rattle.x25_line.specs.Sessions.{Sessions, run, from_nothing, from_set_up, swapped}
 use Rattle.x25_line.specs.SessionNumbers.{Standing}
-use Rattle.x25_line.specs.SessionClaims.{Throughout, IsEndOf, AreStationsOf}
+use Rattle.x25_line.specs.laws.SessionClaims.{Throughout, IsEndOf, AreStationsOf}
 use Rattle.x25_line.specs.Healing.{EachRestShows}
 use Rattle.x25_line.proofs.StationRuns.{joined_swapped}
-use Rattle.x25_line.proofs.SessionActs.{in_session}
-use Rattle.x25_line.proofs.SessionHeld.{Held}
-use Rattle.x25_line.proofs.SessionRuns.{SessionLaws, throughout, held_swapped}
-use Rattle.x25_line.proofs.SessionLatest.{idle_has_arrived}
-use Rattle.x25_line.proofs.SessionsForgotten.{sessions_are_stations, set_up_is_the_start}
+use Rattle.x25_line.proofs.sessions.SessionActs.{in_session}
+use Rattle.x25_line.proofs.sessions.SessionHeld.{Held}
+use Rattle.x25_line.proofs.sessions.SessionRuns.{SessionLaws, throughout, held_swapped}
+use Rattle.x25_line.proofs.sessions.SessionLatest.{idle_has_arrived}
+use Rattle.x25_line.proofs.sessions.SessionsForgotten.{sessions_are_links, set_up_is_the_start}
 use Rattle.x25_line.proofs.HealingSteps.{HealingLaws}
 use Rattle.x25_line.proofs.HealingRuns.{BothSaid, said_run, fresh_said}
 
@@ -41,10 +41,10 @@ module _ (laws : HealingLaws) where
       → (let w = run c d events begin in HasSaidAll c.window w.near.station × HasSaidAll d.window w.far.station)
   said_in c d joined begin v alike said events =
       let there = said_run laws c d joined events v said in
-      let same = sessions_are_stations c d events begin v alike in
+      let same = sessions_are_links c d events begin v alike in
       (subst (HasSaidAll c.window) same.near.station there.0, subst (HasSaidAll d.window) same.far.station there.1)
 
-  said_from : (c d : Settings) → AreJoined c d → (begin : Sessions) → (begin ≡ from_nothing) ⊎ (begin ≡ from_set_up) → (events : List Event)
+  pub said_from : (c d : Settings) → AreJoined c d → (begin : Sessions) → (begin ≡ from_nothing) ⊎ (begin ≡ from_set_up) → (events : List Event)
       → (let w = run c d events begin in HasSaidAll c.window w.near.station × HasSaidAll d.window w.far.station)
   said_from c d joined begin (inl is) events =
       subst (λ (b : Sessions). let w = run c d events b in HasSaidAll c.window w.near.station × HasSaidAll d.window w.far.station) (sym is)

@@ -5,21 +5,21 @@ use Rattle.std.proofs.lemmas.Bool.{ltb-false, le-ltb, le-leb}
 use Rattle.x25_bits.specs.declared.role.Role.{Role}
 use Rattle.x25_frame.specs.PlainFrame.{PlainFrame, info, rr, rnr, rej, sabm, disc, ua, dm, frmr}
 use Rattle.x25_frame.specs.Spelling.{spelling_of}
-use Rattle.x25_frame.specs.ReadingLaw.{ReadsSpelled}
+use Rattle.x25_frame.specs.laws.ReadingLaw.{ReadsSpelled}
 use Rattle.x25_frame.specs.declared.error.FrameError.{FrameError}
 use Rattle.x25_window.specs.Modulo.{resolved}
 use Rattle.x25_window.specs.Window.{Frame}
 use Rattle.x25_link.specs.declared.phase.Notes.{Notes}
-use Rattle.x25_link.specs.NoteLaw.{TakeContinues}
-use Rattle.x25_link.specs.Station.{Settings, Station, is_up, is_busy}
+use Rattle.x25_link.specs.laws.NoteLaw.{TakeContinues}
+use Rattle.x25_link.specs.LinkStation.{Settings, LinkStation, is_up, is_busy}
 use Rattle.x25_link.specs.MustSend.{Step, other, is_valid}
 use Rattle.x25_link.specs.Steps.{take_step}
 use Rattle.x25_link.specs.WindowMachine.{Window, Shows, ShowAll}
-use Rattle.x25_link.specs.RestLaw.{HasSaidAll, RestLaws}
-use Rattle.x25_link.specs.AnswerLaw.{AreNext, weight_of, weight_if, Outcome, Answers, AnswerLaws, heard}
+use Rattle.x25_link.specs.laws.RestLaw.{HasSaidAll, RestLaws}
+use Rattle.x25_link.specs.laws.AnswerLaw.{AreNext, weight_of, weight_if, Outcome, Answers, AnswerLaws, heard}
 use Rattle.x25_line.specs.Line.{Line, swapped as line_swapped}
 use Rattle.x25_line.specs.Stations.{Stations, Deliver, after_step, delivered, acts, swapped}
-use Rattle.x25_line.specs.StationClaims.{AreJoined, number_in, numbered_on, AreWhole}
+use Rattle.x25_line.specs.laws.StationClaims.{AreJoined, number_in, numbered_on, AreWhole}
 use Rattle.x25_line.specs.WholeNumbers.{machine_acts}
 use Rattle.x25_line.proofs.Kept.{Way, hears_valid, Way-acked}
 use Rattle.x25_line.proofs.Frames.{Acks-le}
@@ -53,7 +53,7 @@ pub far_up : (c d : Settings) (w : Stations) (h : Sound c d w) → is_up w.far.s
 far_up c d w h up = up_of (Unit {0}) d w.far.station h.line.far h.joint.far up
 
 -- what the near end counts as acknowledged was taken by the far end, and what that took was sent
-pub record Counted (k : ℕ) (near far : Station) : Type 0 where
+pub record Counted (k : ℕ) (near far : LinkStation) : Type 0 where
   pub acked : near.outgoing.acked ≤ length far.taken
   pub taken : length far.taken ≤ near.outgoing.sent
   pub room : near.outgoing.sent ≤ near.outgoing.acked + k
@@ -108,7 +108,7 @@ shows_number (dm p) g h s = absurd h
 shows_number (frmr p why) g h s = absurd h
 
 -- an N(R) that comes is valid, and stands for a number that the other end has taken
-pub record HearsWell (s other : Station) (nr : ℕ) : Type 0 where
+pub record HearsWell (s other : LinkStation) (nr : ℕ) : Type 0 where
   pub valid : is_valid nr s ≡ true
   pub low : s.outgoing.acked ≤ heard nr s
   pub high : heard nr s ≤ length other.taken

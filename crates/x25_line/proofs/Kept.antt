@@ -9,7 +9,7 @@ use Rattle.x25_window.specs.Window.{End, Frame, Numbered, Allows, after, numbere
 use Rattle.x25_window.specs.Window.Step.{HandDown, Send, Hear}
 use Rattle.x25_line.specs.Line.{Line, Move, MayTake, FrontMayBeTaken, AllowsMove, AllowsAll, fresh_line, swapped, takes_item, front_arrived, moved, all_moved}
 use Rattle.x25_line.specs.Line.Move.{HandsDown, Sends, Tells, Arrives, Loses}
-use Rattle.x25_line.specs.InWindow.{IsSentInWindow, IsNear, AllInWindow, Rising, WayInWindow, InWindow}
+use Rattle.x25_line.specs.laws.InWindow.{IsSentInWindow, IsNear, AllInWindow, Rising, WayInWindow, InWindow}
 use Rattle.x25_line.proofs.Frames.{Carries, Tops, Acks, slice_get-is, Tops-le, Tops-weaken, Tops-higher, Tops-grow, Tops-push, Tops-remove, Acks-le, Acks-higher, Acks-push, Acks-remove}
 
 -- the number stands for itself

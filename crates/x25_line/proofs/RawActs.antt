@@ -6,11 +6,11 @@ use Rattle.x25_window.specs.Modulo.{resolved}
 use Rattle.x25_window.specs.Window.{End, Frame, Numbered, after, frames_of}
 use Rattle.x25_window.specs.Window.Step.{HandDown, Send, Hear}
 use Rattle.x25_window.specs.Sending.{acknowledged}
-use Rattle.x25_window.specs.Held.{Fits}
+use Rattle.x25_window.specs.code.Held.{Fits}
 use Rattle.x25_line.specs.Line.{takes_item}
 use Rattle.x25_line.specs.RawMachine.{RawState, is_wanted, place_after_offer, refused_if, is_empty, refusal_of, acts}
-use Rattle.x25_line.specs.RawShown.{ShownEnd}
-use Rattle.x25_line.specs.RawFitting.{FitsLine, FitsFrame, FitsCarried, FitsEnd, FitsSide, Delivered, BringsBadAck, IsDue, sending_of}
+use Rattle.x25_line.specs.code.RawShown.{ShownEnd}
+use Rattle.x25_line.specs.code.RawFitting.{FitsLine, FitsFrame, FitsCarried, FitsEnd, FitsSide, Delivered, BringsBadAck, IsDue, sending_of}
 use Rattle.x25_window.specs.Receiving.{FitsTaken}
 use Rattle.x25_line.specs.declared.raw_frame.RawFrame.{RawFrame}
 use Rattle.x25_line.specs.declared.raw_frame.RawCarried.{RawCarried}

@@ -9,12 +9,12 @@ use Rattle.x25_link.specs.declared.phase.Phase.{Phase}
 use Rattle.x25_link.specs.declared.phase.Phase.TheVariants.{Down, Waiting, Up, Closed}
 use Rattle.x25_link.specs.declared.phase.Reason.{Reason}
 use Rattle.x25_link.specs.declared.phase.Notes.{Notes}
-use Rattle.x25_link.specs.NoteLaw.{IsQuiet}
-use Rattle.x25_link.specs.Station.{Settings, Station, Side, is_up, sends, pumped, pumped_once, ended}
+use Rattle.x25_link.specs.laws.NoteLaw.{IsQuiet}
+use Rattle.x25_link.specs.LinkStation.{Settings, LinkStation, Side, is_up, sends, pumped, pumped_once, ended}
 use Rattle.x25_link.specs.MustSend.{Step, quiet, other}
 use Rattle.x25_link.specs.Steps.{alone, closed_by, hears, take_step, connect_refusal}
 use Rattle.x25_link.specs.SetUp.{waiting_after, waiting_sends, waiting_up, TakesPart}
-use Rattle.x25_link.specs.WindowLaw.{IsOut, StaysOut}
+use Rattle.x25_link.specs.laws.WindowLaw.{IsOut, StaysOut}
 use Rattle.x25_line.proofs.StationLines.{AreParting}
 use Rattle.x25_line.proofs.StationSteps.{away_is_not_up, out_is_away, not_both}
 
@@ -35,15 +35,15 @@ closed_still k step off =
 
 -- ---- whatever comes, a station that is Closed stays so
 
-declines_out : (b : Bool) (s : Station) → IsOut s.phase → StaysOut (quiet (let u : Side = if b then sends (dm true) (alone s) else alone s in u))
+declines_out : (b : Bool) (s : LinkStation) → IsOut s.phase → StaysOut (quiet (let u : Side = if b then sends (dm true) (alone s) else alone s in u))
 declines_out true s out = record { out = out; frames = tt; packet = refl; quiet = refl }
 declines_out false s out = record { out = out; frames = tt; packet = refl; quiet = refl }
 
-closed_row : (c : Settings) (octets : List ℕ) (s : Station) → IsOut s.phase → (read : Result PlainFrame FrameError) → StaysOut (hears c octets read Closed (alone s))
+closed_row : (c : Settings) (octets : List ℕ) (s : LinkStation) → IsOut s.phase → (read : Result PlainFrame FrameError) → StaysOut (hears c octets read Closed (alone s))
 closed_row c octets s out (Ok frame) = declines_out (is_command frame && poll_or_final frame) s out
 closed_row c octets s out (Err e) = record { out = out; frames = tt; packet = refl; quiet = refl }
 
-pub closed_takes : (c : Settings) (octets : List ℕ) (s : Station) → s.phase ≡ Closed → StaysOut (take_step c octets s)
+pub closed_takes : (c : Settings) (octets : List ℕ) (s : LinkStation) → s.phase ≡ Closed → StaysOut (take_step c octets s)
 closed_takes c octets s is =
     let read = frame_of (other c.role) c.longest octets in
     let out : StaysOut (hears c octets read s.phase (alone s)) =
@@ -53,7 +53,7 @@ closed_takes c octets s is =
 
 -- ---- what comes while UA is awaited, other than that
 
-pub waits_on : (read : Result PlainFrame FrameError) (s : Station) → waiting_up read ≡ false → waiting_after read s ≡ s
+pub waits_on : (read : Result PlainFrame FrameError) (s : LinkStation) → waiting_up read ≡ false → waiting_after read s ≡ s
 waits_on (Ok (info ns nr p x)) s e = refl
 waits_on (Ok (rr command nr pf)) s e = refl
 waits_on (Ok (rnr command nr pf)) s e = refl

@@ -3,19 +3,19 @@ use Rattle.std.proofs.Common.{◌≡◌, ◌==◌, ℕ, ◌-◌, zero, suc, ◌�
 use Rattle.std.specs.Prelude.{replicate, ◌&&◌}
 use Rattle.std.proofs.lemmas.Bool.{eqb-true, and_parts}
 use Rattle.std.proofs.lemmas.List.{take-append-drop, take_all}
-use Rattle.x25_frame.specs.ReadingLaw.{ReadsSpelled}
+use Rattle.x25_frame.specs.laws.ReadingLaw.{ReadsSpelled}
 use Rattle.x25_window.specs.Window.{End, Frame}
 use Rattle.x25_link.specs.declared.phase.Reason.TheVariants.{Retries}
 use Rattle.x25_link.specs.Outgoing.{waits}
 use Rattle.x25_link.specs.Lists.{Lists, no_packets}
-use Rattle.x25_link.specs.Station.{Settings, Station, is_up, lists_of}
+use Rattle.x25_link.specs.LinkStation.{Settings, LinkStation, is_up, lists_of}
 use Rattle.x25_link.specs.Steps.{is_idle}
 use Rattle.x25_link.specs.WindowMachine.{Window}
-use Rattle.x25_line.specs.InWindow.{Begins}
+use Rattle.x25_line.specs.laws.InWindow.{IsPrefix}
 use Rattle.x25_line.specs.Line.{Line}
 use Rattle.x25_line.specs.Stations.{StationEnd, Stations, Event, run, start}
 use Rattle.x25_line.specs.WholeNumbers.{machine_run, machine_at_start, MachineGoesAlong}
-use Rattle.x25_line.specs.StationClaims.{AreJoined, IsSetUpOnce, Always, InOrder, BothInOrder, HasItsLists, BothHaveTheirLists, NotesItsEnd, BothNoteTheirEnds, OneLinkUnlessConnected, IsBehind, AreInWindow, NoFrmrSent, AreWhole, AllSentAreWhole}
+use Rattle.x25_line.specs.laws.StationClaims.{AreJoined, IsSetUpOnce, Always, InOrder, BothInOrder, HasItsLists, BothHaveTheirLists, NotesItsEnd, BothNoteTheirEnds, OneLinkUnlessConnected, IsBehind, AreInWindow, NoFrmrSent, AreWhole, AllSentAreWhole}
 use Rattle.x25_line.proofs.Kept.{Way, Way-acked, InWindow-from_Kept}
 use Rattle.x25_line.proofs.StationSteps.{away_is_not_up, AsUp, FitsEnd, NotesOnce, Joint, Holds, not_both}
 use Rattle.x25_line.proofs.StationRuns.{Laws, run_once, run_unasked, start_machine}
@@ -27,12 +27,12 @@ take_of_take (suc a) zero xs le = absurd (omega arith)
 take_of_take (suc a) (suc r) [] le = refl
 take_of_take (suc a) (suc r) (x ∷ xs) le = ap (λ (ys : List (List ℕ)). x ∷ ys) (take_of_take a r xs (omega arith))
 
-acked_begins : (a : ℕ) (down up : List (List ℕ)) → up ≡ take (length up) down → a ≤ length up → Begins (take a down) up
+acked_begins : (a : ℕ) (down up : List (List ℕ)) → up ≡ take (length up) down → a ≤ length up → IsPrefix (take a down) up
 acked_begins a down up begins le =
     let same : take a down ≡ take a up = sym (ap (take a) begins ∙ take_of_take a (length up) down le) in
     (drop a up, ap (λ (ys : List (List ℕ)). ys ++ drop a up) same ∙ take-append-drop a up)
 
-idle_all : (s : Station) → is_idle s ≡ true → s.outgoing.sent ≤ length s.outgoing.given → s.outgoing.acked ≡ length s.outgoing.given
+idle_all : (s : LinkStation) → is_idle s ≡ true → s.outgoing.sent ≤ length s.outgoing.given → s.outgoing.acked ≡ length s.outgoing.given
 idle_all s idle high =
     let outer = and_parts (is_up s.phase) (waits s.outgoing == 0 && s.outgoing.acked == s.outgoing.sent) idle in
     let inner = and_parts (waits s.outgoing == 0) (s.outgoing.acked == s.outgoing.sent) outer.1 in
@@ -42,7 +42,7 @@ idle_all s idle high =
     counts a m n none all high = omega arith
 
 -- an end that is Up isn't away
-pub up_of : (MayAsk : Type 0) (c : Settings) (s : Station) (e : End (List ℕ)) → FitsEnd MayAsk c s e → is_up s.phase ≡ true → AsUp c s e
+pub up_of : (MayAsk : Type 0) (c : Settings) (s : LinkStation) (e : End (List ℕ)) → FitsEnd MayAsk c s e → is_up s.phase ≡ true → AsUp c s e
 up_of MayAsk c s e (inl u) up = u
 up_of MayAsk c s e (inr away) up = not_both (is_up s.phase) up (away_is_not_up MayAsk s.phase away.away)
 
@@ -61,7 +61,7 @@ in_order MayAsk c giver taker e taken there back fits way is_down is_up_list =
       idle = all;
     }
   where
-    acked : FitsEnd MayAsk c giver.station e → taker.up ≡ take (length taker.up) giver.down → Begins (take giver.station.outgoing.acked giver.down) taker.up
+    acked : FitsEnd MayAsk c giver.station e → taker.up ≡ take (length taker.up) giver.down → IsPrefix (take giver.station.outgoing.acked giver.down) taker.up
     acked (inl u) begins =
         let bounds = Way-acked e taken there back way in
         let count = ap length is_up_list in

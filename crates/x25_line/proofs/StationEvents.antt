@@ -2,11 +2,11 @@
 use Rattle.std.proofs.Common.{◌≡◌, ℕ, List, [], ◌∷◌, length, Bool, true, false, if◌then◌else◌, Option, Some, None, refl, sym, ap, ◌∙◌, append-nil}
 use Rattle.std.specs.Prelude.{nat_le, nat_lt, ◌||◌}
 use Rattle.x25_link.specs.declared.error.LinkError.{LinkError}
-use Rattle.x25_link.specs.Station.{Settings, Station, is_up}
+use Rattle.x25_link.specs.LinkStation.{Settings, LinkStation, is_up}
 use Rattle.x25_link.specs.MustSend.{Step}
 use Rattle.x25_link.specs.Steps.{put_step, put_refusal, timer_step, timer_refusal, connect_step, connect_refusal, disconnect_step, disconnect_refusal, abandon_step}
 use Rattle.x25_line.specs.Stations.{Stations, Act, Put, Deliver, T1, Connect, Disconnect, Abandon, Lose, Damage, Near, Far, after_step, unless, delivered, replaced, is_visible, acts, swapped}
-use Rattle.x25_line.specs.StationClaims.{HandsOne, EachEventHandsOne}
+use Rattle.x25_line.specs.laws.StationClaims.{HandsOne, EachEventHandsOne}
 
 -- a step that hands nothing up, to which nothing was handed down, and that doesn't note LinkUp
 record HandsNothing (w v : Stations) : Type 0 where
@@ -42,10 +42,10 @@ up_if : (b : Bool) (x y : Step) → x.notes.up ≡ false → y.notes.up ≡ fals
 up_if true x y e f = e
 up_if false x y e f = f
 
-pub timer_packet : (c : Settings) (s : Station) → (timer_step c s).packet ≡ None
+pub timer_packet : (c : Settings) (s : LinkStation) → (timer_step c s).packet ≡ None
 timer_packet c s = packet_if (nat_lt s.tries c.retries) _ _ refl refl
 
-pub timer_up : (c : Settings) (s : Station) → (timer_step c s).notes.up ≡ false
+pub timer_up : (c : Settings) (s : LinkStation) → (timer_step c s).notes.up ≡ false
 timer_up c s = up_if (nat_lt s.tries c.retries) _ _ refl refl
 
 put_hands : (o : Option LinkError) (c : Settings) (packet : List ℕ) (w : Stations) → HandsOne (Put packet) w (unless o w (after_step c w w.back (packet ∷ []) (put_step c packet w.near.station)))

@@ -11,10 +11,10 @@ use Rattle.x25_frame.specs.Reading.{frame_of, addressed_frame}
 use Rattle.x25_frame.specs.declared.error.FrameError.{FrameError}
 use Rattle.x25_frame.specs.declared.error.FrameError.TheVariants.{Short, BadFcs, BadAddress, Undefined, NoInfoAllowed, TooLong}
 use Rattle.x25_window.specs.Window.{Numbered, Frame}
-use Rattle.x25_frame.specs.ReadingLaw.{ReadsSpelled}
+use Rattle.x25_frame.specs.laws.ReadingLaw.{ReadsSpelled}
 use Rattle.x25_link.specs.WindowMachine.{ShowsItem, Shows, ShowAll}
 use Rattle.x25_line.specs.Stations.{replaced, is_visible}
-use Rattle.x25_line.specs.StationClaims.{number_in, numbered_on, NoFrmr, IsHandedDown, AreWhole}
+use Rattle.x25_line.specs.laws.StationClaims.{number_in, numbered_on, NoFrmr, IsHandedDown, AreWhole}
 use Rattle.x25_line.specs.WholeNumbers.{first_of, one_more, behind, place_of, taken_out}
 
 -- ---- frames by frames

@@ -4,7 +4,7 @@ use Rattle.std.specs.Prelude.{nat_le, nat_lt}
 use Rattle.std.proofs.lemmas.Bool.{leb-true}
 use Rattle.x25_frame.specs.PlainFrame.{PlainFrame, info, rr, rnr, rej, sabm, disc, ua, dm, frmr}
 use Rattle.x25_frame.specs.Reading.{frame_of}
-use Rattle.x25_frame.specs.ReadingLaw.{ReadsSpelled}
+use Rattle.x25_frame.specs.laws.ReadingLaw.{ReadsSpelled}
 use Rattle.x25_frame.specs.declared.error.FrameError.{FrameError}
 use Rattle.x25_window.specs.Window.{Frame, after}
 use Rattle.x25_window.specs.Window.Step.{HandDown}
@@ -12,18 +12,18 @@ use Rattle.x25_link.specs.declared.phase.Phase.{Phase}
 use Rattle.x25_link.specs.declared.phase.Phase.TheVariants.{Down, Waiting, Up, Closed}
 use Rattle.x25_link.specs.declared.phase.Reason.TheVariants.{Retries, Local, Counts}
 use Rattle.x25_link.specs.declared.error.LinkError.{LinkError}
-use Rattle.x25_link.specs.NoteLaw.{Tells, TakeTells, TimerTells, DisconnectTells, AbandonTells}
-use Rattle.x25_link.specs.Station.{Settings, Station, is_up, with_nothing}
+use Rattle.x25_link.specs.laws.NoteLaw.{Tells, TakeTells, TimerTells, DisconnectTells, AbandonTells}
+use Rattle.x25_link.specs.LinkStation.{Settings, LinkStation, is_up, with_nothing}
 use Rattle.x25_link.specs.MustSend.{Step, other}
 use Rattle.x25_link.specs.Steps.{take_step, put_step, put_refusal, timer_step, timer_refusal, timer_runs, connect_step, connect_refusal, disconnect_step, disconnect_refusal, abandon_step}
 use Rattle.x25_link.specs.WindowMachine.{Window, hands_down, nothing, ShowAll}
 use Rattle.x25_link.specs.SetUp.{Is, TakesPart, SetUpLaws}
-use Rattle.x25_link.specs.WindowLaw.{Follows, IsOut, sets_up, StaysOut, StationLaws}
+use Rattle.x25_link.specs.laws.WindowLaw.{Follows, IsOut, sets_up, StaysOut, StationLaws}
 use Rattle.x25_line.specs.Line.{Line, moved, swapped as line_swapped}
 use Rattle.x25_line.specs.Line.Move.{HandsDown, Loses}
 use Rattle.x25_line.specs.Stations.{StationEnd, Stations, Act, Put, Deliver, T1, Connect, Disconnect, Abandon, Lose, Damage, Event, Near, Far, after_step, unless, delivered, replaced, is_visible, acts, swapped, happens, run, fresh_station, start}
 use Rattle.x25_line.specs.WholeNumbers.{first_of, place_of, taken_out, left_at, place_taken, machine_acts, machine_happens, machine_run, machine_at_start}
-use Rattle.x25_line.specs.StationClaims.{AreJoined, IsSetUpOnce, AcceptsNoConnect, AcceptsNoConnectAt, NoneConnects, number_in, numbered_on, IsReached, at_start, near_moves, far_moves, AreWhole, NotesUp, HandsOne}
+use Rattle.x25_line.specs.laws.StationClaims.{AreJoined, IsSetUpOnce, AcceptsNoConnect, AcceptsNoConnectAt, NoneConnects, number_in, numbered_on, IsReached, at_start, near_moves, far_moves, AreWhole, NotesUp, HandsOne}
 use Rattle.x25_line.proofs.Kept.{Kept, Kept-moved, Kept-swapped}
 use Rattle.x25_line.proofs.StationLines.{IsOrderly, orderly_where, AreOrderly, AreParting, shows_lost, shows_damaged, orderly_lost, orderly_damaged, visible_reads, whole_more, either_way}
 use Rattle.x25_line.proofs.StationSends.{AllWithin, within_push}
@@ -84,7 +84,7 @@ module _ (MayAsk : Type 0) (c d : Settings) (joined : AreJoined c d) (reads : Re
   deliver_joint w l [] is h once = stands_still MayAsk c d w l h
   deliver_joint w l (o ∷ os) is h once = go h.near
     where
-      s : Station
+      s : LinkStation
       s = w.near.station
 
       r : Result PlainFrame FrameError
@@ -168,10 +168,10 @@ module _ (MayAsk : Type 0) (c d : Settings) (joined : AreJoined c d) (reads : Re
   timer_by w l h u false step tells follows = ends_joint MayAsk c d joined reads w l h u.up w.back step Retries tt h.back h.back_orderly tells follows
 
   -- an end that isn't Up sends SABM or DISC, and notes nothing
-  asks_joint : (w : Stations) (l : Line (List ℕ)) → Joint MayAsk c d w l → is_up w.near.station.phase ≡ false → (near : Station) (frames : List PlainFrame) (step : Step)
+  asks_joint : (w : Stations) (l : Line (List ℕ)) → Joint MayAsk c d w l → is_up w.near.station.phase ≡ false → (near : LinkStation) (frames : List PlainFrame) (step : Step)
       → Is near frames None false step → AreParting MayAsk frames → IsAway MayAsk near → Leads MayAsk c d w l l.back (after_step c w w.back [] step)
   asks_joint w l h was_away near frames step i parting away =
-      let off : is_up step.side.near.phase ≡ false = ap (λ (z : Station). is_up z.phase) i.near ∙ away_is_not_up MayAsk near.phase away.away in
+      let off : is_up step.side.near.phase ≡ false = ap (λ (z : LinkStation). is_up z.phase) i.near ∙ away_is_not_up MayAsk near.phase away.away in
       parts_joint MayAsk c d joined reads w l h l.back w.back step h.kept h.reached h.back h.back_orderly (subst (AreParting MayAsk) (sym i.out) parting)
       (subst (IsAway MayAsk) (sym i.near) away) i.packet
       (quiet_notes MayAsk c w w.back [] step h.near_notes (quiet_by step i.down i.up) (off ∙ sym was_away))
@@ -184,12 +184,12 @@ module _ (MayAsk : Type 0) (c d : Settings) (joined : AreJoined c d) (reads : Re
   waiting_timer w l h away phase ask false step i =
       parts_joint MayAsk c d joined reads w l h l.back w.back step h.kept h.reached h.back h.back_orderly (subst (AreParting MayAsk) (sym i.out) tt)
       (subst (IsAway MayAsk) (sym i.near) (record { away = tt; empty = refl })) i.packet
-      (vain_notes MayAsk c w w.back step h.near_notes (ap is_up phase) ask i.down i.up (ap (λ (z : Station). is_up z.phase) i.near))
+      (vain_notes MayAsk c w w.back step h.near_notes (ap is_up phase) ask i.down i.up (ap (λ (z : LinkStation). is_up z.phase) i.near))
 
   timer_joint : (w : Stations) (l : Line (List ℕ)) → Joint MayAsk c d w l → Leads MayAsk c d w l l.back (unless (timer_refusal w.near.station) w (after_step c w w.back [] (timer_step c w.near.station)))
   timer_joint w l h = go h.near
     where
-      s : Station
+      s : LinkStation
       s = w.near.station
 
       by_phase : (p : Phase) → s.phase ≡ p → IsAway MayAsk s → MayBeAway MayAsk p → Leads MayAsk c d w l l.back (unless (timer_refusal s) w (after_step c w w.back [] (timer_step c s)))
@@ -211,7 +211,7 @@ module _ (MayAsk : Type 0) (c d : Settings) (joined : AreJoined c d) (reads : Re
       → Leads MayAsk c d w l l.back (unless (connect_refusal w.near.station.phase) w (after_step c w w.back [] (connect_step c w.near.station)))
   connect_joint w l h may = leads_unless MayAsk c d (connect_refusal w.near.station.phase) w _ l h (λ accepted. go (may accepted) (connects_from w.near.station.phase accepted) h.near)
     where
-      s : Station
+      s : LinkStation
       s = w.near.station
 
       go : MayAsk → s.phase ≡ Down → FitsEnd MayAsk c s l.near → Leads MayAsk c d w l l.back (after_step c w w.back [] (connect_step c s))
@@ -224,7 +224,7 @@ module _ (MayAsk : Type 0) (c d : Settings) (joined : AreJoined c d) (reads : Re
       → Leads MayAsk c d w l l.back (unless (disconnect_refusal w.near.station.phase) w (after_step c w w.back [] (disconnect_step c w.near.station)))
   disconnect_joint w l h = leads_unless MayAsk c d (disconnect_refusal w.near.station.phase) w _ l h (λ _. go h.near)
     where
-      s : Station
+      s : LinkStation
       s = w.near.station
 
       closes : IsOut s.phase → IsAway MayAsk s → Leads MayAsk c d w l l.back (after_step c w w.back [] (disconnect_step c s))

@@ -9,7 +9,7 @@ use Rattle.x25_window.specs.Window.Step.{HandDown, Send, Tell, Hear, Take}
 use Rattle.x25_link.specs.WindowMachine.{Window, ShowsItem, Shows, ShowAll, IsSent, Runs, rests, goes_on}
 use Rattle.x25_line.specs.Line.{Line, steps}
 use Rattle.x25_line.specs.Line.Move.{Sends, Tells}
-use Rattle.x25_line.specs.StationClaims.{IsReached, near_moves, IsHandedDown}
+use Rattle.x25_line.specs.laws.StationClaims.{IsReached, near_moves, IsHandedDown}
 use Rattle.x25_line.specs.WholeNumbers.{given}
 use Rattle.x25_line.proofs.Kept.{Kept, Kept-moved, resolved_is}
 use Rattle.x25_line.proofs.StationLines.{shows_append, IsGood, AllGood, good_append, AllHandedDown, handed_append}

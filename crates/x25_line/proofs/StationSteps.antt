@@ -6,7 +6,7 @@ use Rattle.std.proofs.lemmas.List.{replicate_more}
 use Rattle.x25_bits.specs.declared.role.Role.{Role}
 use Rattle.x25_frame.specs.PlainFrame.{PlainFrame, info, rr, rnr, rej, sabm, disc, ua, dm, frmr}
 use Rattle.x25_frame.specs.Spelling.{spelling_of}
-use Rattle.x25_frame.specs.ReadingLaw.{ReadsSpelled}
+use Rattle.x25_frame.specs.laws.ReadingLaw.{ReadsSpelled}
 use Rattle.x25_frame.specs.declared.error.FrameError.{FrameError}
 use Rattle.x25_frame.specs.declared.error.FrameError.TheVariants.{Short, BadFcs, BadAddress, Undefined, NoInfoAllowed, TooLong}
 use Rattle.x25_window.specs.Window.{End, Numbered, Frame, after}
@@ -17,16 +17,16 @@ use Rattle.x25_link.specs.declared.phase.Reason.{Reason}
 use Rattle.x25_link.specs.declared.phase.Reason.TheVariants.{Retries, Disc, Dm, FrmrSent, FrmrGot, Reset, Local, Counts}
 use Rattle.x25_link.specs.declared.phase.Notes.{Notes}
 use Rattle.x25_link.specs.Lists.{no_packets}
-use Rattle.x25_link.specs.NoteLaw.{IsQuiet, Tells}
+use Rattle.x25_link.specs.laws.NoteLaw.{IsQuiet, Tells}
 use Rattle.x25_link.specs.Outgoing.{Outgoing, no_packet}
-use Rattle.x25_link.specs.Station.{Settings, Station, is_up, lists_of}
+use Rattle.x25_link.specs.LinkStation.{Settings, LinkStation, is_up, lists_of}
 use Rattle.x25_link.specs.MustSend.{Step, other}
 use Rattle.x25_link.specs.WindowMachine.{Window, Input, receives, nothing, Shows, ShowAll}
-use Rattle.x25_link.specs.WindowLaw.{IsSound, window_of, brought_by, after_input, MayHandUp, if_valid, ending_of, ends_in, AreLast, Stays, Ends, Follows, IsOut, AreDeclining}
+use Rattle.x25_link.specs.laws.WindowLaw.{IsSound, window_of, brought_by, after_input, MayHandUp, if_valid, ending_of, ends_in, AreLast, Stays, Ends, Follows, IsOut, AreDeclining}
 use Rattle.x25_line.specs.Line.{Line, MayTake, FrontMayBeTaken, arrived, front_arrived, takes_item}
 use Rattle.x25_line.specs.Line.Move.{Arrives, Loses}
 use Rattle.x25_line.specs.Stations.{StationEnd, Stations, after_step}
-use Rattle.x25_line.specs.StationClaims.{AreJoined, IsReached, near_moves, number_in, numbered_on, NoFrmr, AreWhole}
+use Rattle.x25_line.specs.laws.StationClaims.{AreJoined, IsReached, near_moves, number_in, numbered_on, NoFrmr, AreWhole}
 use Rattle.x25_line.specs.WholeNumbers.{given, first_of, taken_out, counted}
 use Rattle.x25_line.proofs.Kept.{Kept, Way, Kept-moved, hears_valid}
 use Rattle.x25_line.proofs.StationLines.{shows_append, Front, front_of, carried_of, IsOrderly, AreOrderly, consed, numbered_append, orderly_append, AllGood, AreParting, no_frmr_append, good_no_frmr, parting_no_frmr, good_numbered, good_orderly, parting_numbered, parting_orderly, AllHandedDown, whole_more, whole_append, good_whole, parting_whole, first_more}
@@ -60,17 +60,17 @@ not_both b e f = absurd (never (sym e ∙ f))
 -- ---- what holds
 
 -- an end that is Up has the machine's lists and numbers
-pub record AsUp (c : Settings) (s : Station) (e : End (List ℕ)) : Type 0 where
+pub record AsUp (c : Settings) (s : LinkStation) (e : End (List ℕ)) : Type 0 where
   pub up : is_up s.phase ≡ true
   pub sound : IsSound c.window s.outgoing
   pub same : window_of c.window s ≡ e
 
 -- any other has empty lists, and its machine's end stands still
-pub record IsAway (MayAsk : Type 0) (s : Station) : Type 0 where
+pub record IsAway (MayAsk : Type 0) (s : LinkStation) : Type 0 where
   pub away : MayBeAway MayAsk s.phase
   pub empty : lists_of s ≡ no_packets
 
-abbrev pub FitsEnd : Type 0 → Settings → Station → End (List ℕ) → Type 0
+abbrev pub FitsEnd : Type 0 → Settings → LinkStation → End (List ℕ) → Type 0
 FitsEnd MayAsk c s e = AsUp c s e ⊎ IsAway MayAsk s
 
 -- the LinkDown by which Up was left, and then one each time that an end asked in vain
@@ -137,13 +137,13 @@ goes_is c w v l m left g =
     ∙ ap (λ (far : End (List ℕ)). (let e = counted c.window v.near.station l.near in made e far (l.out ++ given e.acked (length e.taken) l.near.sent put) m.back)) g.far
     ∙ ap (λ (back : List (Frame (List ℕ))). (let e = counted c.window v.near.station l.near in made e l.far (l.out ++ given e.acked (length e.taken) l.near.sent put) back)) g.back
 
-pub counted_up : (k : ℕ) (s : Station) (e : Window) → is_up s.phase ≡ true → counted k s e ≡ window_of k s
+pub counted_up : (k : ℕ) (s : LinkStation) (e : Window) → is_up s.phase ≡ true → counted k s e ≡ window_of k s
 counted_up k s e up = rw up refl
 
-pub counted_off : (k : ℕ) (s : Station) (e : Window) → is_up s.phase ≡ false → counted k s e ≡ e
+pub counted_off : (k : ℕ) (s : LinkStation) (e : Window) → is_up s.phase ≡ false → counted k s e ≡ e
 counted_off k s e off = rw off refl
 
-pub counted_fits : (MayAsk : Type 0) (c : Settings) (s : Station) (e : Window) → FitsEnd MayAsk c s e → counted c.window s e ≡ e
+pub counted_fits : (MayAsk : Type 0) (c : Settings) (s : LinkStation) (e : Window) → FitsEnd MayAsk c s e → counted c.window s e ≡ e
 counted_fits MayAsk c s e (inl u) = counted_up c.window s e u.up ∙ u.same
 counted_fits MayAsk c s e (inr away) = counted_off c.window s e (away_is_not_up MayAsk s.phase away.away)
 
@@ -163,7 +163,7 @@ nothing_put (x ∷ xs) = nothing_put xs
 pub left_alone : (MayAsk : Type 0) (c d : Settings) (w v : Stations) (l m : Line (List ℕ)) → Joint MayAsk c d w l → v.near.station ≡ w.near.station → v.out ≡ w.out → m.near ≡ l.near → m.far ≡ l.far
     → m.out ≡ l.out → Goes c w v l m m.back
 left_alone MayAsk c d w v l m h station out near far frames = record {
-  near = near ∙ sym (counted_fits MayAsk c w.near.station l.near h.near) ∙ ap (λ (s : Station). counted c.window s l.near) (sym station);
+  near = near ∙ sym (counted_fits MayAsk c w.near.station l.near h.near) ∙ ap (λ (s : LinkStation). counted c.window s l.near) (sym station);
   far = far;
   out = frames ∙ none_put l m.near.acked (length m.near.taken) (numbered_on c.role c.longest (not_taken w.out v.out)) (ap (λ (os : List (List ℕ)). numbered_on c.role c.longest os) (ap (not_taken w.out) out ∙ nothing_put w.out));
   back = refl;
@@ -186,11 +186,11 @@ quiet_notes MayAsk c w back down step h quiet same =
     }
 
 -- LinkUp is noted by a station that begins afresh
-not_afresh : (s : Station) (step : Step) → Tells s step → is_up step.side.near.phase ≡ false → step.notes.up ≡ false
+not_afresh : (s : LinkStation) (step : Step) → Tells s step → is_up step.side.near.phase ≡ false → step.notes.up ≡ false
 not_afresh s step tells off = go step.notes.up refl
   where
     go : (b : Bool) → step.notes.up ≡ b → step.notes.up ≡ false
-    go true e = not_both (is_up step.side.near.phase) (ap (λ (z : Station). is_up z.phase) (tells.fresh_up e)) off
+    go true e = not_both (is_up step.side.near.phase) (ap (λ (z : LinkStation). is_up z.phase) (tells.fresh_up e)) off
     go false e = e
 
 -- a step that leaves Up
@@ -364,7 +364,7 @@ module _ (MayAsk : Type 0) (c d : Settings) (joined : AreJoined c d) (reads : Re
       arrived_sent true None e = refl
       arrived_sent false o e = refl
 
-  hears_same : (s : Station) (e : End (List ℕ)) (g : Frame (List ℕ)) (nr : ℕ) → window_of c.window s ≡ e → nr ≡ g.ack % 8 → after e (Hear (g.ack % 8)) ≡ after (window_of c.window s) (Hear nr)
+  hears_same : (s : LinkStation) (e : End (List ℕ)) (g : Frame (List ℕ)) (nr : ℕ) → window_of c.window s ≡ e → nr ≡ g.ack % 8 → after e (Hear (g.ack % 8)) ≡ after (window_of c.window s) (Hear nr)
   hears_same s e g nr same is = ap (λ (n : ℕ). after e (Hear n)) (sym is) ∙ ap (λ (z : Window). after z (Hear nr)) (sym same)
 
   tell_stage : (w : Stations) (l : Line (List ℕ)) → Joint MayAsk c d w l → AsUp c w.near.station l.near → (os : List (List ℕ)) → AreOrderly MayAsk (other c.role) c.longest os → (g : Frame (List ℕ)) (gs : List (Frame (List ℕ)))

@@ -6,15 +6,15 @@ use Rattle.x25_frame.specs.PlainFrame.{PlainFrame, info, rr, rnr, rej}
 use Rattle.x25_frame.specs.Reading.{frame_of}
 use Rattle.x25_frame.specs.declared.error.FrameError.{FrameError}
 use Rattle.x25_link.specs.MustSend.{other}
-use Rattle.x25_link.specs.Station.{Settings, is_up, is_waiting, is_busy}
+use Rattle.x25_link.specs.LinkStation.{Settings, is_up, is_busy}
 use Rattle.x25_link.specs.Steps.{timer_runs}
-use Rattle.x25_link.specs.WindowLaw.{IsOut}
-use Rattle.x25_link.specs.RestLaw.{IsAtRest}
+use Rattle.x25_link.specs.laws.WindowLaw.{IsOut}
+use Rattle.x25_link.specs.laws.RestLaw.{IsAtRest}
 use Rattle.x25_line.specs.Stations.{StationEnd, Stations, Act, Put, Deliver, T1, Lose, Event, Near, Far, swapped, happens, run, start}
-use Rattle.x25_line.specs.StationClaims.{AreJoined, IsSetUpOnce}
-use Rattle.x25_line.specs.Sessions.{Sessions, Meeting}
-use Rattle.x25_line.specs.SessionClaims.{SomeMet}
-use Rattle.x25_line.specs.StationRows.{dte, dce}
+use Rattle.x25_line.specs.laws.StationClaims.{AreJoined, IsSetUpOnce}
+use Rattle.x25_line.specs.Sessions.{SessionEnd, Sessions, Meeting, from_nothing, from_set_up, AreTimely, run as run_sessions}
+use Rattle.x25_line.specs.laws.SessionClaims.{SomeMet}
+use Rattle.x25_line.specs.rows.StationRows.{dte, dce}
 
 -- nothing is on the line
 pub record IsDrained (w : Stations) : Type 0 where
@@ -177,6 +177,18 @@ SomeHeal =
     → (let w = run c d events start in MayHeal c w.near → MayHeal d w.far
     → (deliveries : List Event) × AreDeliveries deliveries × (let v = run c d (Near T1 ∷ Far T1 ∷ deliveries) w in IsDrained v × IsHealed v.near v.far × IsHealed v.far v.near))
 
+-- ---- each line drains
+
+-- From each world that events lead to, the world bounds how many deliveries find octets, in whichever order.
+abbrev pub DrainsEnd : Type 0
+DrainsEnd =
+    (c d : Settings) → AreJoined c d → (events : List Event)
+    → (let w = run c d events start in (most : ℕ) × ((deliveries : List Event) → AreDeliveries deliveries → EachFinds c d deliveries w → length deliveries ≤ most))
+
+-- So there are deliveries that drain its line.
+abbrev pub SomeDrain : Type 0
+SomeDrain = (c d : Settings) → AreJoined c d → (events : List Event) → (deliveries : List Event) × AreDeliveries deliveries × IsDrained (run c d deliveries (run c d events start))
+
 -- ---- an end whose peer is gone
 
 -- The far end is Down or Closed: it answers the poll by DM, and the near end leaves Up too.
@@ -188,10 +200,9 @@ GoneEnds =
 
 -- ---- whatever the ends are
 
--- an end doesn't await UA, and isn't busy where it is Up
-pub record MayFire (e : StationEnd) : Type 0 where
-  pub settled : is_waiting e.station.phase ≡ false
-  pub free : is_up e.station.phase ≡ true → is_busy e.station ≡ false
+-- an end isn't busy where it is Up
+abbrev pub IsFreeIfUp : StationEnd → Type 0
+IsFreeIfUp e = is_up e.station.phase ≡ true → is_busy e.station ≡ false
 
 abbrev pub IsAtRestOrOut : StationEnd → Type 0
 IsAtRestOrOut e = IsAtRest e.station ⊎ (is_up e.station.phase ≡ false)
@@ -200,8 +211,21 @@ IsAtRestOrOut e = IsAtRest e.station ⊎ (is_up e.station.phase ≡ false)
 abbrev pub EachRestsOrIsOut : Type 0
 EachRestsOrIsOut =
     (c d : Settings) → AreJoined c d → (events : List Event) → IsQuietMoment c d events
-    → (let w = run c d events start in MayFire w.near → MayFire w.far
+    → (let w = run c d events start in IsFreeIfUp w.near → IsFreeIfUp w.far
     → (deliveries : List Event) → AreDeliveries deliveries → (let v = run c d (Near T1 ∷ Far T1 ∷ deliveries) w in IsDrained v → IsAtRestOrOut v.near × IsAtRestOrOut v.far))
+
+-- Deliver, fire once at each end, deliver. Each end is then at rest or not Up; and if both were Up, with tries left where T1 ran, both are at rest, and
+-- everything has arrived.
+pub record AllHeals (c d : Settings) (w v : Stations) : Type 0 where
+  pub near : IsAtRestOrOut v.near
+  pub far : IsAtRestOrOut v.far
+  pub healed : MayHeal c w.near → MayHeal d w.far → IsHealed v.near v.far × IsHealed v.far v.near
+
+abbrev pub Heals : Type 0
+Heals =
+    (c d : Settings) → AreJoined c d → (events : List Event) → IsQuietMoment c d events
+    → (let w = run c d events start in IsFreeIfUp w.near → IsFreeIfUp w.far
+    → (deliveries : List Event) → AreDeliveries deliveries → (let v = run c d (Near T1 ∷ Far T1 ∷ deliveries) w in IsDrained v → AllHeals c d w v))
 
 -- ---- over set-up and re-set-up
 
@@ -212,6 +236,29 @@ pub record EachRestShows (c d : Settings) (w : Sessions) : Type 0 where
       → IsAtRest w.near.station × ((is_up w.far.station.phase ≡ true) ⊎ SomeMet (λ (m : Meeting). m.near ≡ w.near.begun) w.met → w.far.up w.far.begun ≡ w.near.down w.near.begun)
   pub far : is_up w.far.station.phase ≡ true → timer_runs w.far.station.phase w.far.station ≡ false
       → IsAtRest w.far.station × ((is_up w.near.station.phase ≡ true) ⊎ SomeMet (λ (m : Meeting). m.far ≡ w.far.begun) w.met → w.near.up w.near.begun ≡ w.far.down w.far.begun)
+
+-- an end of sessions is Up, and isn't busy. Where its timer T1 runs, it has tries left.
+pub record SessionMayHeal (c : Settings) (e : SessionEnd) : Type 0 where
+  pub up : is_up e.station.phase ≡ true
+  pub free : is_busy e.station ≡ false
+  pub tries : timer_runs e.station.phase e.station ≡ true → e.station.tries < c.retries
+
+-- Both ends are at rest, in the same sessions as before, and all that was handed down in these has been handed up at the other end.
+pub record SessionsAreHealed (w v : Sessions) : Type 0 where
+  pub near_rest : IsAtRest v.near.station
+  pub far_rest : IsAtRest v.far.station
+  pub near_session : v.near.begun ≡ w.near.begun
+  pub far_session : v.far.begun ≡ w.far.begun
+  pub there : v.far.up w.far.begun ≡ w.near.down w.near.begun
+  pub back : v.near.up w.near.begun ≡ w.far.down w.far.begun
+
+-- Nothing is on the line, and both ends are Up: both fire, and then all that is on the line comes, in any order of the two directions.
+abbrev pub SessionsHeal : Type 0
+SessionsHeal =
+    (c d : Settings) → AreJoined c d → (begin : Sessions) → (begin ≡ from_nothing) ⊎ (begin ≡ from_set_up) → (events : List Event) → AreTimely c d events begin
+    → (let w = run_sessions c d events begin in w.out ≡ [] → w.back ≡ [] → SessionMayHeal c w.near → SessionMayHeal d w.far
+    → (deliveries : List Event) → AreDeliveries deliveries
+    → (let v = run_sessions c d (Near T1 ∷ Far T1 ∷ deliveries) w in v.out ≡ [] → v.back ≡ [] → SessionsAreHealed w v))
 
 -- ---- a worked moment
 

@@ -5,8 +5,7 @@ use Rattle.x25_line.specs.Line.{Line, Move, fresh_line, swapped, all_moved}
 use Rattle.x25_line.specs.Line.Move.{HandsDown, Sends, Tells, Arrives, Loses}
 use Rattle.x25_bits.specs.declared.role.Role.{Role}
 use Rattle.x25_bits.specs.declared.role.Role.TheVariants.{Dte, Dce}
-use Rattle.x25_line.specs.declared.direction.Direction.{Direction}
-use Rattle.x25_line.specs.declared.direction.Direction.TheVariants.{ToDce, ToDte}
+use Rattle.x25_bits.specs.Role.{end_of}
 use Rattle.x25_line.specs.declared.raw_error.RawError.{RawError}
 use Rattle.x25_line.specs.declared.raw_error.RawError.TheVariants.{BadAck, Full, Empty, NoSuchFrame, NothingToSend, NoMemory}
 use Rattle.x25_line.specs.declared.raw_event.RawAct.{RawAct}
@@ -88,10 +87,6 @@ refusal_of s act.Deliver = refused_if (is_empty s.line.back) Empty
 refusal_of s (act.Lose place) = refused_if (nat_le (length s.line.back) place) NoSuchFrame
 
 -- ---- events
-
-abbrev pub end_of : Direction → Role
-end_of ToDce = Dce
-end_of ToDte = Dte
 
 abbrev pub end_of_event : RawEvent → Role
 end_of_event (event.Offer role item) = role

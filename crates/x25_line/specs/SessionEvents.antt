@@ -1,6 +1,6 @@
 -- What one event does to the sessions of two link stations: which session begins, what is handed down and up in it, and which meet.
 use Rattle.std.specs.Prelude.{◌≡◌, ◌⊎◌, ℕ, suc, Bool, if◌then◌else◌, List, [], ◌∷◌, ◌++◌, Option, option_to_list}
-use Rattle.x25_link.specs.Station.{Settings}
+use Rattle.x25_link.specs.LinkStation.{Settings}
 use Rattle.x25_line.specs.Stations.{Act, Put, Deliver, Event, Near, Far}
 use Rattle.x25_line.specs.Sessions.{SessionEnd, Meeting, Sessions, happens}
 

@@ -7,14 +7,14 @@ use Rattle.x25_frame.specs.Reading.{frame_of}
 use Rattle.x25_frame.specs.declared.error.FrameError.{FrameError}
 use Rattle.x25_link.specs.declared.phase.Phase.{Phase}
 use Rattle.x25_link.specs.declared.phase.Phase.TheVariants.{Waiting, Up, Closed}
-use Rattle.x25_link.specs.Station.{Settings, Station, is_up}
+use Rattle.x25_link.specs.LinkStation.{Settings, LinkStation, is_up}
 use Rattle.x25_link.specs.MustSend.{other}
 use Rattle.x25_line.specs.Line.{Line, swapped as line_swapped}
 use Rattle.x25_line.specs.Stations.{Act, Deliver, Event, Near, Far}
-use Rattle.x25_line.specs.StationClaims.{AreJoined, numbered_on, IsBehind}
+use Rattle.x25_line.specs.laws.StationClaims.{AreJoined, numbered_on, IsBehind}
 use Rattle.x25_line.specs.WholeNumbers.{given, place_of, taken_out, place_taken, counted, machine_at_start}
 use Rattle.x25_line.specs.Sessions.{Entry, Sessions, ua_in, acts, happens, run, swapped, from_nothing, from_set_up, AreTimely}
-use Rattle.x25_line.specs.SessionClaims.{octets_of, Stands}
+use Rattle.x25_line.specs.laws.SessionClaims.{octets_of, Stands}
 
 -- a session of each end, and the window machine behind the two
 pub record Standing : Type 0 where
@@ -75,12 +75,12 @@ gone_at c w (Some i) = place_to_hear w.near.station.phase (other c.role) c.longe
 
 -- The machine once its near end has acted: `station` is the station then, `put` are the octets that it has put on the line, and `gone` is
 -- the place of the frame that was taken off the line to it.
-abbrev pub machine_after : Settings → Station → List (List ℕ) → Option ℕ → Line (List ℕ) → Line (List ℕ)
+abbrev pub machine_after : Settings → LinkStation → List (List ℕ) → Option ℕ → Line (List ℕ) → Line (List ℕ)
 machine_after c station put gone l =
     let e = counted c.window station l.near in
     record { near = e; far = l.far; out = l.out ++ given e.acked (length e.taken) l.near.sent (numbered_on c.role c.longest put); back = taken_out gone l.back }
 
-abbrev pub standing_after : Settings → Station → List (List ℕ) → Option ℕ → Standing → Standing
+abbrev pub standing_after : Settings → LinkStation → List (List ℕ) → Option ℕ → Standing → Standing
 standing_after c station put gone s = record { near = s.near; far = s.far; machine = machine_after c station put gone s.machine }
 
 -- .. where `v` are the sessions then

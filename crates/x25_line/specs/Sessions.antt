@@ -9,11 +9,11 @@ use Rattle.x25_frame.specs.declared.error.FrameError.{FrameError}
 use Rattle.x25_link.specs.declared.error.LinkError.{LinkError}
 use Rattle.x25_link.specs.declared.phase.Phase.{Phase}
 use Rattle.x25_link.specs.declared.phase.Phase.TheVariants.{Down, Up, Waiting}
-use Rattle.x25_link.specs.Station.{Settings, Station, is_up, with_nothing}
+use Rattle.x25_link.specs.LinkStation.{Settings, LinkStation, is_up, with_nothing}
 use Rattle.x25_link.specs.MustSend.{Step, other}
 use Rattle.x25_link.specs.Steps.{take_step, put_step, put_refusal, timer_step, timer_refusal, connect_step, connect_refusal, disconnect_step, disconnect_refusal, abandon_step}
 use Rattle.x25_line.specs.Stations.{Act, Put, Deliver, T1, Connect, Disconnect, Abandon, Lose, Damage, Event, Near, Far, is_visible}
-use Rattle.x25_line.specs.StationClaims.{number_in}
+use Rattle.x25_line.specs.laws.StationClaims.{number_in}
 
 -- octets on the line, and the session in which they were sent
 pub record Entry : Type 0 where
@@ -22,7 +22,7 @@ pub record Entry : Type 0 where
 
 -- A station, how many sessions it began, and what was handed down and up in each, by its number, the first being 1.
 pub record SessionEnd : Type 0 where
-  pub station : Station
+  pub station : LinkStation
   pub begun : ℕ
   pub down : ℕ → List (List ℕ)
   pub up : ℕ → List (List ℕ)

@@ -6,14 +6,14 @@ use Rattle.x25_frame.specs.PlainFrame.{PlainFrame}
 use Rattle.x25_frame.specs.Spelling.{spelling_of}
 use Rattle.x25_link.specs.declared.error.LinkError.{LinkError}
 use Rattle.x25_link.specs.declared.phase.Reason.{Reason}
-use Rattle.x25_link.specs.Station.{Settings, Station, is_up, fresh}
+use Rattle.x25_link.specs.LinkStation.{Settings, LinkStation, is_up, fresh}
 use Rattle.x25_link.specs.MustSend.{Step}
 use Rattle.x25_link.specs.Steps.{take_step, put_step, put_refusal, timer_step, timer_refusal, connect_step, connect_refusal, disconnect_step, disconnect_refusal, abandon_step}
 
 -- A station, all packets that were handed down to it and that it handed up, the reasons of each LinkDown that it noted, and
 -- whether it ever noted LinkUp, by which the link was set up anew.
 pub record StationEnd : Type 0 where
-  pub station : Station
+  pub station : LinkStation
   pub down : List (List ℕ)
   pub up : List (List ℕ)
   pub reasons : List Reason

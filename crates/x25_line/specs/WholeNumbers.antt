@@ -7,13 +7,13 @@ use Rattle.x25_frame.specs.PlainFrame.{PlainFrame, info}
 use Rattle.x25_frame.specs.Reading.{frame_of}
 use Rattle.x25_window.specs.Modulo.{resolved}
 use Rattle.x25_window.specs.Window.{Frame, fresh_end}
-use Rattle.x25_link.specs.Station.{Settings, Station, is_up}
+use Rattle.x25_link.specs.LinkStation.{Settings, LinkStation, is_up}
 use Rattle.x25_link.specs.MustSend.{other}
 use Rattle.x25_link.specs.WindowMachine.{Window}
-use Rattle.x25_link.specs.WindowLaw.{window_of}
+use Rattle.x25_link.specs.laws.WindowLaw.{window_of}
 use Rattle.x25_line.specs.Line.{Line, swapped as line_swapped}
 use Rattle.x25_line.specs.Stations.{Stations, Act, Deliver, Lose, Damage, Event, Near, Far, is_visible, acts, swapped, happens, run, start}
-use Rattle.x25_line.specs.StationClaims.{AreJoined, IsSetUpOnce, number_in, numbered_on, IsBehind}
+use Rattle.x25_line.specs.laws.StationClaims.{AreJoined, IsSetUpOnce, number_in, numbered_on, IsBehind}
 
 -- ---- what is put on the line
 
@@ -65,12 +65,12 @@ place_taken act = None
 -- ---- the machine goes on
 
 -- an end that is Up has its station's numbers, and those of any other stand still
-abbrev pub counted : ℕ → Station → Window → Window
+abbrev pub counted : ℕ → LinkStation → Window → Window
 counted k s e = if is_up s.phase then window_of k s else e
 
 -- The machine once its near end has acted: `s` is the station then, `put` are the octets that it has put on the line, and `place` is where
 -- octets were taken off the line to it, which was `back`.
-abbrev pub went_on : Settings → Station → List (List ℕ) → List (List ℕ) → Option ℕ → Line (List ℕ) → Line (List ℕ)
+abbrev pub went_on : Settings → LinkStation → List (List ℕ) → List (List ℕ) → Option ℕ → Line (List ℕ) → Line (List ℕ)
 went_on c s put back place l =
     let e = counted c.window s l.near in
     record { near = e; far = l.far; out = l.out ++ given e.acked (length e.taken) l.near.sent (numbered_on c.role c.longest put); back = left_at (other c.role) c.longest back place l.back }

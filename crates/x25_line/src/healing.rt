@@ -1,8 +1,10 @@
 //! Healing: once the line is good for a moment, everything arrives. Laws of two link stations over a line, each the contract of a
 //! function that does nothing.
 ghost use Rattle.x25_line.specs.Healing.{RestShows, EachRestShows, OneFiringHeals, FarFiringHeals, OneFiringEnds, GoneEnds};
-ghost use Rattle.x25_line.specs.Healing.{BothFiringsHeal, TwoFiringsHeal, EachRestsOrIsOut, DeliveriesEnd, SomeHeal, BothLostMayHeal};
-ghost use Rattle.x25_line.specs.SessionClaims.{Throughout};
+ghost use Rattle.x25_line.specs.Healing.{BothFiringsHeal, TwoFiringsHeal, EachRestsOrIsOut, Heals, SessionsHeal, DeliveriesEnd, SomeHeal, BothLostMayHeal};
+ghost use Rattle.x25_line.specs.Healing.{DrainsEnd, SomeDrain};
+ghost use Rattle.x25_line.specs.rows.HealingRows.{NoFiringIsTooFew, OneFiringIsTooFew, NoTriesAreLeft, FiringsAloneEnd};
+ghost use Rattle.x25_line.specs.laws.SessionClaims.{Throughout};
 
 use x25_frame::reads_what_is_spelled;
 use x25_link::{
@@ -44,12 +46,15 @@ pub fn one_firing_heals()
 }
 
 /// Deliver, fire once at each end, deliver: everything sent has arrived, in order, once, and both ends are at rest. Both may fire before
-/// anything comes (`at_once`), or one after the other, with all deliveries of the first between them (`in_turn`). Where an end may be
-/// out, or have no tries left, each is at rest or not Up then (`whatever`).
+/// anything comes (`at_once`), or one after the other, with all deliveries of the first between them (`in_turn`). Whatever the phases of
+/// the ends and their tries are, as long as none is Up and busy, each is at rest or not Up then (`whatever`). The two together, of every
+/// such moment: `heals`. Over set-up and re-set-up, where both ends are Up, their sessions heal so, and no other begins (`sessions`).
 pub fn two_firings_heal()
     ensures at_once { BothFiringsHeal }
     ensures in_turn { TwoFiringsHeal }
     ensures whatever { EachRestsOrIsOut }
+    ensures heals { Heals }
+    ensures sessions { SessionsHeal }
 {
     follows_the_window();
     sets_up_by_rows();
@@ -72,5 +77,32 @@ pub fn deliveries_end()
     notes_what_changes();
     comes_to_rest();
     asks_and_answers();
+    reads_what_is_spelled();
+}
+
+/// Each line drains: from every world that events lead to, over set-up and re-set-up, in whichever phases and busy or not, deliveries
+/// alone come to an end, as the world bounds how many find octets, in whichever order (`end`). So there are deliveries after which
+/// nothing is on the line (`some`).
+pub fn drains_end()
+    ensures end { DrainsEnd }
+    ensures some { SomeDrain }
+{
+    follows_the_window();
+    sets_up_by_rows();
+    notes_what_changes();
+    comes_to_rest();
+    asks_and_answers();
+    reads_what_is_spelled();
+}
+
+/// What isn't so, each with its shortest script. Where a packet of each end was lost, nothing arrives without a firing (`none`), and by one
+/// firing in all that of one end alone (`one`). With no tries left the firing ends the link (`last`), and so do N2 + 1 firings with no
+/// delivery between them, though nothing was lost (`alone`).
+pub fn healing_takes_firings()
+    ensures none { NoFiringIsTooFew }
+    ensures one { OneFiringIsTooFew }
+    ensures last { NoTriesAreLeft }
+    ensures alone { FiringsAloneEnd }
+{
     reads_what_is_spelled();
 }

@@ -1,11 +1,11 @@
 //! Two link stations over a line, as laws about their definition. Each is the contract of a function that does nothing.
-ghost use Rattle.x25_line.specs.StationClaims.{Always, BothInOrder, BothHaveTheirLists, BothNoteTheirEnds, NoFrmrSent, AllSentAreWhole, OneLinkUnlessConnected, EachEventHandsOne};
+ghost use Rattle.x25_line.specs.laws.StationClaims.{Always, BothInOrder, BothHaveTheirLists, BothNoteTheirEnds, NoFrmrSent, AllSentAreWhole, OneLinkUnlessConnected, EachEventHandsOne};
 ghost use Rattle.x25_line.specs.WholeNumbers.{MachineGoesAlong, OnceStaysOnce};
-ghost use Rattle.x25_line.specs.SessionClaims.{Throughout, MeetInStep, MetAreInOrder, UnmetHandNothingUp, OnlyBegunHaveLists, EachUpStands, EachHearsLatest, EachMeetsLatest, IdleHasArrived, NoSessionSendsFrmr, AllSessionsSendWhole, SessionsAreStations, SetUpIsTheStart};
+ghost use Rattle.x25_line.specs.laws.SessionClaims.{Throughout, MeetInStep, MetAreInOrder, UnmetHandNothingUp, OnlyBegunHaveLists, EachUpStands, EachHearsLatest, EachMeetsLatest, IdleHasArrived, NoSessionSendsFrmr, AllSessionsSendWhole, SessionsAreStations, SetUpIsTheStart};
 ghost use Rattle.x25_line.specs.SessionNumbers.{StandingGoesAlong};
 ghost use Rattle.x25_line.specs.SessionEvents.{EachEventHandsInSession, EachEventMeetsLatest};
-ghost use Rattle.x25_line.specs.SessionRows.{SetsUpFromNothing, SetsUpAgain, UntimelyIsOutOfStep};
-ghost use Rattle.x25_line.specs.StationRows.{PacketGoes, PacketsCross, LostComesAgain, DamagedComesAgain, DisconnectEnds, AbandonEnds, ConnectSetsUp, ConnectIsDeclined};
+ghost use Rattle.x25_line.specs.rows.SessionRows.{SetsUpFromNothing, SetsUpAgain, UntimelyIsOutOfStep};
+ghost use Rattle.x25_line.specs.rows.StationRows.{PacketGoes, PacketsCross, LostComesAgain, DamagedComesAgain, DisconnectEnds, AbandonEnds, ConnectSetsUp, ConnectIsDeclined};
 
 use x25_frame::reads_what_is_spelled;
 use x25_link::{follows_the_window, notes_what_changes, sets_up_by_rows};
@@ -20,7 +20,7 @@ use x25_link::{follows_the_window, notes_what_changes, sets_up_by_rows};
 /// spelled, and the packet of an I frame is one that was handed down. An end that left Up noted why, and then each time that it
 /// asked for set-up in vain. Where no Connect is accepted (`once`), the link is never set up anew, and an end notes one LinkDown
 /// at most.
-pub fn stations_keep_order()
+pub fn links_keep_order()
     ensures order { Always BothInOrder }
     ensures lists { Always BothHaveTheirLists }
     ensures notes { Always BothNoteTheirEnds }
@@ -43,7 +43,7 @@ pub fn stations_keep_order()
 ///
 /// Sessions meet one to one, and in order at both ends. What is handed up in a session is a beginning of what was handed down in
 /// the one that it meets, and a session that meets none hands nothing up. The session of an end that is Up, and the one that it
-/// meets or is to meet, are those of a link set up once, of which all holds that `stations_keep_order` says. No FRMR is ever sent.
+/// meets or is to meet, are those of a link set up once, of which all holds that `links_keep_order` says. No FRMR is ever sent.
 /// Each frame ever sent may be spelled, and the packet of an I frame was handed down in a session of one of the ends.
 ///
 /// Behind the two sessions that stand is one window machine, which goes on from event to event, and begins anew where two sessions do:
@@ -72,9 +72,9 @@ pub fn sessions_keep_order()
     reads_what_is_spelled();
 }
 
-/// With the sessions forgotten, they are the two stations of `stations_keep_order`: the same events do the same, and what is handed
+/// With the sessions forgotten, they are the two stations of `links_keep_order`: the same events do the same, and what is handed
 /// down and up there is what was in all sessions.
-pub fn sessions_are_stations()
+pub fn sessions_are_links()
     ensures alike { SessionsAreStations }
     ensures start { SetUpIsTheStart }
 {}
@@ -107,7 +107,7 @@ pub fn each_event_hands_one()
 /// Worked rows: a packet is handed up and acknowledged, also where one comes the other way at once, and where its frame is
 /// lost or damaged and goes again. An end leaves at `disconnect` and at `abandon`. At `connect` the link is set up anew, or the
 /// other end declines.
-pub fn stations_move()
+pub fn links_move()
     ensures goes { PacketGoes }
     ensures cross { PacketsCross }
     ensures lost { LostComesAgain }

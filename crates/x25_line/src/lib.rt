@@ -1,7 +1,6 @@
 //! Two ends and a line between them that keeps order and may lose any frame: bare ends, and laws of two link stations.
 #![tactic(auto)]
 
-mod direction;
 mod healing;
 mod law;
 mod raw_end;
@@ -10,14 +9,16 @@ mod raw_event;
 mod raw_frame;
 mod raw_world;
 
-pub use direction::Direction;
-pub use healing::{deliveries_end, one_firing_heals, rest_shows, two_firings_heal};
+pub use healing::{
+    deliveries_end, drains_end, healing_takes_firings, one_firing_heals, rest_shows,
+    two_firings_heal,
+};
 pub use law::{
-    each_event_hands_one, each_session_event_hands_one, sessions_are_stations, sessions_keep_order,
-    sessions_move, stations_keep_order, stations_move,
+    each_event_hands_one, each_session_event_hands_one, links_keep_order, links_move,
+    sessions_are_links, sessions_keep_order, sessions_move,
 };
 pub use raw_error::{RawError, RawRefused};
 pub use raw_event::RawEvent;
 pub use raw_frame::{RawCarried, RawFrame};
 pub use raw_world::RawWorld;
-pub use x25_bits::Role;
+pub use x25_bits::{Direction, Role};

@@ -4,7 +4,7 @@ ghost use Rattle.x25_window.specs.Window.Step.{HandDown, Send};
 ghost use Rattle.x25_window.specs.Modulo.{resolved};
 ghost use Rattle.x25_line.specs.Line.{arrived};
 ghost use Rattle.x25_line.specs.RawMachine.{RawState, acts, refusal_of, place_after_offer, is_wanted};
-ghost use Rattle.x25_line.specs.RawFitting.{FitsLine, FitsFrame, FitsEnd, FitsSide, Delivered, BringsBadAck, IsDue, TakesMemory};
+ghost use Rattle.x25_line.specs.code.RawFitting.{FitsLine, FitsFrame, FitsEnd, FitsSide, Delivered, BringsBadAck, IsDue, TakesMemory};
 
 use crate::raw_error::RawError;
 use crate::raw_event::RawAct;
@@ -24,7 +24,7 @@ pub struct RawEnd {
 }
 
 impl Model for RawEnd {
-    ghost use Rattle.x25_line.specs.RawShown.{ShownEnd};
+    ghost use Rattle.x25_line.specs.code.RawShown.{ShownEnd};
 
     ghost Value = { ShownEnd };
 

@@ -1,7 +1,6 @@
 ghost use Rattle.std.specs.Prelude.{◌≡◌};
 
-use crate::direction::Direction;
-use x25_bits::Role;
+use x25_bits::{Direction, Role};
 
 /// What happens next, to one end or on the line.
 #[derive(Clone, Copy, Debug)]

@@ -1,6 +1,6 @@
 ghost use Rattle.std.specs.Prelude.{ℕ, ◌≡◌, ◌≢◌, ◌<◌, ◌≤◌, OnOk, OnErr, IfOk, IfErr, IfSome, MatchOption, length, take, slice_get, Some, None, Err, IsErrOf, List};
 ghost use Rattle.x25_line.specs.RawMachine.{RawState, happens, run, start, event_refusal, act_of_event, AllAccepted};
-ghost use Rattle.x25_line.specs.RawFitting.{FitsWorld, InOrder, IsBeginning, IsRefusal, StopsAt, TakesMemory, RunInWindow, shown_end, other_end};
+ghost use Rattle.x25_line.specs.code.RawFitting.{FitsWorld, InOrder, IsPrefix, IsRefusal, StopsAt, TakesMemory, RunInWindow, shown_end, other_end};
 
 use crate::raw_end::{RawEnd, act};
 use crate::raw_error::{RawError, RawRefused};
@@ -22,11 +22,11 @@ pub struct RawWorld {
 }
 
 impl Model for RawWorld {
-    ghost use Rattle.x25_line.specs.RawShown.{ShownWorld};
+    ghost use Rattle.x25_line.specs.code.RawShown.{ShownWorld};
 
     ghost Value = { ShownWorld };
 
-    ghost use Rattle.x25_line.specs.RawFitting.{Run};
+    ghost use Rattle.x25_line.specs.code.RawFitting.{Run};
 
     ghost view = { λ w. record { dte = w.dte; dce = w.dce; to_dce = w.to_dce.items; to_dte = w.to_dte.items } };
 
@@ -111,7 +111,7 @@ impl RawWorld {
     /// All items that this end has taken, in order: a beginning of what the other end was given.
     pub fn taken(&self, role: Role) -> &[u8]
         ensures value { result.now ≡ (shown_end self.now role).taken }
-        ensures begins { IsBeginning result.now (other_end self.now role).given }
+        ensures begins { IsPrefix result.now (other_end self.now role).given }
     {
         self.end(role).taken()
     }

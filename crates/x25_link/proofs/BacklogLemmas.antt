@@ -3,7 +3,7 @@ use Rattle.std.proofs.Common.{◌≡◌, ℕ, ◌+◌, ◌%◌, ◌<◌, ◌≤�
 use Rattle.std.specs.Prelude.{nat_lt}
 use Rattle.std.proofs.lemmas.List.{length-take-le, take_more, drop_more, length-drop, get_or-take}
 use Rattle.std.proofs.lemmas.Bool.{lt-ltb, ltb-true, ltb-false, eq-eqb}
-use Rattle.x25_window.specs.Held.{Held, Fits}
+use Rattle.x25_window.specs.code.Held.{Held, Fits}
 use Rattle.x25_window.specs.Sending.{offered, moved_on}
 use Rattle.x25_frame.specs.PlainFrame.{info}
 use Rattle.x25_link.specs.declared.outgoing.Outgoing.{Outgoing as OutgoingCode}

@@ -3,7 +3,7 @@ use Rattle.std.proofs.Common.{◌≡◌, ℕ, ◌+◌, ◌<◌, ◌≤◌, zero,
 use Rattle.std.specs.Prelude.{◌&&◌, nat_lt}
 use Rattle.std.proofs.lemmas.Bool.{lt-ltb, le-ltb, ltb-true, ltb-false, not-true, and_parts, and_left, and_right}
 use Rattle.x25_link.specs.Outgoing.{Outgoing, waits, is_open, added, moved_on}
-use Rattle.x25_link.specs.Station.{Station, Side, is_up, is_busy, ready, send_next, may_send, pumped_once, pumped, owes_ready, finished, ended}
+use Rattle.x25_link.specs.LinkStation.{LinkStation, Side, is_up, is_busy, ready, send_next, may_send, pumped_once, pumped, owes_ready, finished, ended}
 
 -- ---- tests
 
@@ -15,14 +15,14 @@ true_false e = absurd (never e)
 
 -- ---- what an open window is
 
-pub record Open (k : ℕ) (s : Station) : Type 0 where
+pub record Open (k : ℕ) (s : LinkStation) : Type 0 where
   pub up : is_up s.phase ≡ true
   pub recovery : s.recovery ≡ false
   pub peer_busy : s.peer_busy ≡ false
   pub room : s.outgoing.place < s.outgoing.acked + k
   pub packet : s.outgoing.place < length s.outgoing.given
 
-pub open_is : (k : ℕ) (s : Station) → may_send k s ≡ true → Open k s
+pub open_is : (k : ℕ) (s : LinkStation) → may_send k s ≡ true → Open k s
 open_is k s e =
     let a = and_parts (is_up s.phase) _ e in
     let b = and_parts (not s.recovery) _ a.1 in
@@ -30,7 +30,7 @@ open_is k s e =
     let f = and_parts (nat_lt s.outgoing.place (s.outgoing.acked + k)) _ d.1 in
     record { up = a.0; recovery = not-true _ b.0; peer_busy = not-true _ d.0; room = ltb-true _ _ f.0; packet = ltb-true _ _ f.1 }
 
-pub closed_is : (k : ℕ) (s : Station) → is_up s.phase ≡ true → s.recovery ≡ false → s.peer_busy ≡ false → may_send k s ≡ is_open k s.outgoing
+pub closed_is : (k : ℕ) (s : LinkStation) → is_up s.phase ≡ true → s.recovery ≡ false → s.peer_busy ≡ false → may_send k s ≡ is_open k s.outgoing
 closed_is k s up recovery peer_busy = rw (up, recovery, peer_busy) refl
 
 pub none_open : (k : ℕ) (o : Outgoing) → length o.given ≤ o.place → is_open k o ≡ false
@@ -39,7 +39,7 @@ none_open k o none = and_right _ _ (le-ltb o.place (length o.given) none)
 pub full_closed : (k : ℕ) (o : Outgoing) → o.acked + k ≤ o.place → is_open k o ≡ false
 full_closed k o full = and_left _ _ (le-ltb o.place (o.acked + k) full)
 
-pub not_open : (k : ℕ) (s : Station) → is_open k s.outgoing ≡ false → may_send k s ≡ false
+pub not_open : (k : ℕ) (s : LinkStation) → is_open k s.outgoing ≡ false → may_send k s ≡ false
 not_open k s e = and_right (is_up s.phase) _ (and_right (not s.recovery) _ (and_right (not s.peer_busy) _ e))
 
 -- ---- the sending rule comes to rest
@@ -110,7 +110,7 @@ owes_by true true false e u v = sym e
 owes_by true false busy e u v = true_false (sym v)
 owes_by false said busy e u v = true_false (sym u)
 
-pub busy_is : (s : Station) → owes_ready s ≡ false → is_up s.phase ≡ true → s.said_busy ≡ true → is_busy s ≡ true
+pub busy_is : (s : LinkStation) → owes_ready s ≡ false → is_up s.phase ≡ true → s.said_busy ≡ true → is_busy s ≡ true
 busy_is s = owes_by (is_up s.phase) s.said_busy (is_busy s)
 
 calm_from : (up said busy : Bool) → (up ≡ true → said ≡ true → busy ≡ true) → (up && (said && not busy)) ≡ false
@@ -119,31 +119,31 @@ calm_from true false busy f = refl
 calm_from true true true f = refl
 calm_from true true false f = sym (f refl refl)
 
-pub calm_is : (s : Station) → (is_up s.phase ≡ true → s.said_busy ≡ true → is_busy s ≡ true) → owes_ready s ≡ false
+pub calm_is : (s : LinkStation) → (is_up s.phase ≡ true → s.said_busy ≡ true → is_busy s ≡ true) → owes_ready s ≡ false
 calm_is s = calm_from (is_up s.phase) s.said_busy (is_busy s)
 
-abbrev pub with_packet : List ℕ → Station → Side
+abbrev pub with_packet : List ℕ → LinkStation → Side
 with_packet packet s = record { near = record s { outgoing = added packet s.outgoing }; out = [] }
 
 -- nothing waited where the window is open now
-all_sent : (k : ℕ) (s : Station) (packet : List ℕ) → may_send k s ≡ false → may_send k (with_packet packet s).near ≡ true → length s.outgoing.given ≤ s.outgoing.place
+all_sent : (k : ℕ) (s : LinkStation) (packet : List ℕ) → may_send k s ≡ false → may_send k (with_packet packet s).near ≡ true → length s.outgoing.given ≤ s.outgoing.place
 all_sent k s packet settled may =
     let o = open_is k (with_packet packet s).near may in
     let shut : is_open k s.outgoing ≡ false = sym (closed_is k s o.up o.recovery o.peer_busy) ∙ settled in
     let test = rw (lt-ltb s.outgoing.place (s.outgoing.acked + k) o.room) at shut in
     ltb-false _ _ test
 
-rests_by : (b : Bool) (k : ℕ) (s : Station) (packet : List ℕ) → may_send k s ≡ false → may_send k (with_packet packet s).near ≡ b
+rests_by : (b : Bool) (k : ℕ) (s : LinkStation) (packet : List ℕ) → may_send k s ≡ false → may_send k (with_packet packet s).near ≡ b
     → may_send k (pumped_once k (with_packet packet s)).near ≡ false
 rests_by true k s packet settled may =
     let all = all_sent k s packet settled may in
     rw may (not_open k (send_next (with_packet packet s)).near (none_open k (moved_on (added packet s.outgoing)) (omega (arith, length-append s.outgoing.given (packet ∷ [])))))
 rests_by false k s packet settled may = rw may may
 
-pub put_rests : (k : ℕ) (s : Station) (packet : List ℕ) → may_send k s ≡ false → may_send k (pumped_once k (with_packet packet s)).near ≡ false
+pub put_rests : (k : ℕ) (s : LinkStation) (packet : List ℕ) → may_send k s ≡ false → may_send k (pumped_once k (with_packet packet s)).near ≡ false
 put_rests k s packet settled = rests_by _ k s packet settled refl
 
-put_calm_by : (b : Bool) (k : ℕ) (s : Station) (packet : List ℕ) → s.outgoing.place ≤ s.outgoing.sent → may_send k s ≡ false → owes_ready s ≡ false
+put_calm_by : (b : Bool) (k : ℕ) (s : LinkStation) (packet : List ℕ) → s.outgoing.place ≤ s.outgoing.sent → may_send k s ≡ false → owes_ready s ≡ false
     → may_send k (with_packet packet s).near ≡ b → owes_ready (pumped_once k (with_packet packet s)).near ≡ false
 put_calm_by true k s packet low settled calm may =
     let all = all_sent k s packet settled may in
@@ -156,12 +156,12 @@ put_calm_by false k s packet low settled calm may =
     let more : 254 < waits (added packet s.outgoing) = omega (arith, ltb-true _ _ busy, length-append s.outgoing.given (packet ∷ [])) in
     lt-ltb _ _ more))
 
-pub put_calm : (k : ℕ) (s : Station) (packet : List ℕ) → s.outgoing.place ≤ s.outgoing.sent → may_send k s ≡ false → owes_ready s ≡ false
+pub put_calm : (k : ℕ) (s : LinkStation) (packet : List ℕ) → s.outgoing.place ≤ s.outgoing.sent → may_send k s ≡ false → owes_ready s ≡ false
     → owes_ready (pumped_once k (with_packet packet s)).near ≡ false
 put_calm k s packet low settled calm = put_calm_by _ k s packet low settled calm refl
 
 -- where nothing waits that may be sent, one packet more sends one frame at most, and no RR
-pub put_once : (k : ℕ) (s : Station) (packet : List ℕ) → s.outgoing.place ≤ s.outgoing.sent → may_send k s ≡ false → owes_ready s ≡ false
+pub put_once : (k : ℕ) (s : LinkStation) (packet : List ℕ) → s.outgoing.place ≤ s.outgoing.sent → may_send k s ≡ false → owes_ready s ≡ false
     → ended k (with_packet packet s) ≡ pumped_once k (with_packet packet s)
 put_once k s packet low settled calm =
     ap finished (once_stays 6 k (with_packet packet s) (put_rests k s packet settled)) ∙ rw (put_calm k s packet low settled calm) refl

@@ -10,15 +10,15 @@ use Rattle.x25_bits.specs.declared.role.Role.{Role}
 use Rattle.x25_frame.specs.PlainFrame.{PlainFrame, info}
 use Rattle.x25_frame.specs.Spelling.{spelling_of}
 use Rattle.x25_link.specs.declared.outgoing.Outgoing.{Outgoing as OutgoingCode}
-use Rattle.x25_link.specs.declared.station.Station.{Station as StationCode}
+use Rattle.x25_link.specs.declared.station.LinkStation.{LinkStation as StationCode}
 use Rattle.x25_link.specs.Outgoing.{Outgoing, acknowledged_to, gone_back, is_open, next_packet, moved_on}
 use Rattle.x25_link.specs.Backlog.{FitsBacklog}
 use Rattle.x25_link.specs.declared.phase.Phase.{Phase}
 use Rattle.x25_link.specs.declared.phase.Phase.TheVariants.{Up}
-use Rattle.x25_link.specs.Station.{Settings, Station, Side, with_near, with_nothing, fresh, is_up, wanted, may_send, pumped, pumped_once}
+use Rattle.x25_link.specs.LinkStation.{Settings, LinkStation, Side, with_near, with_nothing, fresh, is_up, wanted, may_send, pumped, pumped_once}
 use Rattle.x25_link.specs.MustSend.{Step, acknowledged, is_taken, takes, hears_info, peer_is, goes_back}
 use Rattle.x25_link.specs.declared.phase.Notes.{Notes}
-use Rattle.x25_link.specs.Fits.{FitsStation, FitsSide, Made}
+use Rattle.x25_link.specs.code.Fits.{FitsStation, FitsSide, Made}
 
 pub made_more : (c : Settings) (role : Role) (before old made : List (List ℕ)) (frames : List PlainFrame) (frame : PlainFrame) → role ≡ c.role → Made c before old frames
     → made ≡ old ++ spelling_of role frame ∷ [] → Made c before made (frames ++ frame ∷ [])
@@ -26,7 +26,7 @@ made_more c role before old made frames frame same h e =
     e ∙ ap (λ (r : Role). old ++ spelling_of r frame ∷ []) same ∙ ap (λ (o : List (List ℕ)). o ++ spelling_of c.role frame ∷ []) h
     ∙ append_assoc before _ _ ∙ ap (λ (m : List (List ℕ)). before ++ m) (sym (map-append (spelling_of c.role) frames (frame ∷ [])))
 
-pub with_backlog : (c : Settings) (v : StationCode) (s : Station) (b : OutgoingCode) (o : Outgoing) → FitsStation c v s → FitsBacklog c.window b o
+pub with_backlog : (c : Settings) (v : StationCode) (s : LinkStation) (b : OutgoingCode) (o : Outgoing) → FitsStation c v s → FitsBacklog c.window b o
     → FitsStation c (record v { backlog = b }) (record s { outgoing = o })
 with_backlog c v s b o fits backlog = record {
   role = fits.role;
@@ -42,7 +42,7 @@ with_backlog c v s b o fits backlog = record {
   said_busy = fits.said_busy;
 }
 
-pub may_send_is : (k : ℕ) (s : Station) → s.recovery ≡ false → s.peer_busy ≡ false → is_up s.phase ≡ true → may_send k s ≡ is_open k s.outgoing
+pub may_send_is : (k : ℕ) (s : LinkStation) → s.recovery ≡ false → s.peer_busy ≡ false → is_up s.phase ≡ true → may_send k s ≡ is_open k s.outgoing
 may_send_is k s recovery peer_busy up = rw (up, recovery, peer_busy) refl
 
 -- the sending rule, once, where neither recovery nor a busy peer holds it up
@@ -64,7 +64,7 @@ pub pumped_more : (n k : ℕ) (t : Side) → pumped (n + 1) k t ≡ pumped_once 
 unfolding pumped
 pumped_more n k t = rw (add-one n) refl
 
-pub said : (c : Settings) (v : StationCode) (s : Station) (b : Bool) → FitsStation c v s → FitsStation c (record v { said_busy = b }) (record s { said_busy = b })
+pub said : (c : Settings) (v : StationCode) (s : LinkStation) (b : Bool) → FitsStation c v s → FitsStation c (record v { said_busy = b }) (record s { said_busy = b })
 said c v s b fits = record {
   role = fits.role;
   longest = fits.longest;
@@ -79,7 +79,7 @@ said c v s b fits = record {
   said_busy = refl;
 }
 
-pub rejecting : (c : Settings) (v : StationCode) (s : Station) (b : Bool) → FitsStation c v s → FitsStation c (record v { rejecting = b }) (record s { rejecting = b })
+pub rejecting : (c : Settings) (v : StationCode) (s : LinkStation) (b : Bool) → FitsStation c v s → FitsStation c (record v { rejecting = b }) (record s { rejecting = b })
 rejecting c v s b fits = record {
   role = fits.role;
   longest = fits.longest;
@@ -94,7 +94,7 @@ rejecting c v s b fits = record {
   said_busy = fits.said_busy;
 }
 
-pub tries_fits : (c : Settings) (v : StationCode) (s : Station) (m n : ℕ) → m ≡ n → FitsStation c v s → FitsStation c (record v { tries = m }) (record s { tries = n })
+pub tries_fits : (c : Settings) (v : StationCode) (s : LinkStation) (m n : ℕ) → m ≡ n → FitsStation c v s → FitsStation c (record v { tries = m }) (record s { tries = n })
 tries_fits c v s m n same fits = record {
   role = fits.role;
   longest = fits.longest;
@@ -194,7 +194,7 @@ info_notes k ns p packet t = notes_by (is_taken ns t.near) _ _ _ refl refl
 
 -- ---- other variables
 
-pub phase_fits : (c : Settings) (v : StationCode) (s : Station) (phase : Phase) (tries : ℕ) → FitsStation c v s
+pub phase_fits : (c : Settings) (v : StationCode) (s : LinkStation) (phase : Phase) (tries : ℕ) → FitsStation c v s
     → FitsStation c (record v { phase = phase; tries = tries }) (record s { phase = phase; tries = tries })
 phase_fits c v s phase tries fits = record {
   role = fits.role;
@@ -210,7 +210,7 @@ phase_fits c v s phase tries fits = record {
   said_busy = fits.said_busy;
 }
 
-pub recovery_fits : (c : Settings) (v : StationCode) (s : Station) (b : Bool) → FitsStation c v s → FitsStation c (record v { recovery = b }) (record s { recovery = b })
+pub recovery_fits : (c : Settings) (v : StationCode) (s : LinkStation) (b : Bool) → FitsStation c v s → FitsStation c (record v { recovery = b }) (record s { recovery = b })
 recovery_fits c v s b fits = record {
   role = fits.role;
   longest = fits.longest;

@@ -4,10 +4,5 @@ pub mod FitsLemmas
 pub mod FrameCount
 pub mod LinkLemmas
 pub mod ListLemmas
-pub mod NoteRows
-pub mod SetUpRows
-pub mod StationRows
+pub mod rows
 pub mod WindowLemmas
-pub mod WindowRows
-pub mod RestRows
-pub mod AnswerRows

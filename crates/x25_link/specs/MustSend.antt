@@ -14,7 +14,7 @@ use Rattle.x25_link.specs.declared.phase.Reason.{Reason}
 use Rattle.x25_link.specs.declared.phase.Reason.TheVariants.{Disc, Dm, FrmrSent, FrmrGot, Reset}
 use Rattle.x25_link.specs.declared.phase.Notes.{Notes}
 use Rattle.x25_link.specs.Outgoing.{acknowledged_to, gone_back}
-use Rattle.x25_link.specs.Station.{Settings, Station, Side, with_nothing, fresh, wanted, is_busy, with_near, sends, ready, may_send, send_next}
+use Rattle.x25_link.specs.LinkStation.{Settings, LinkStation, Side, with_nothing, fresh, wanted, is_busy, with_near, sends, ready, may_send, send_next}
 
 -- the station after a step and the frames sent, the packet handed up, and what is noted
 pub record Step : Type 0 where
@@ -34,7 +34,7 @@ leaves reason t = record { side = with_near t (with_nothing Down t.near.tries); 
 
 -- Section 2.3.4.9: the rejected control; V(S), whether a response was rejected, and V(R); and the ground (1 is W, 2 X, 4 Y
 -- and 8 Z). V(S) is the highest number sent plus one (profile). F answers the P of a command.
-abbrev pub reject_of : Settings → List ℕ → ℕ → Station → PlainFrame
+abbrev pub reject_of : Settings → List ℕ → ℕ → LinkStation → PlainFrame
 reject_of c octets why s =
     let control = slice_index octets 1 in
     let command = slice_index octets 0 == address_of (other c.role) true in
@@ -47,7 +47,7 @@ rejects c octets why t = leaves FrmrSent (sends (reject_of c octets why t.near) 
 -- ---- N(R)
 
 -- an N(R) is valid from the first frame that isn't acknowledged to the highest sent plus one (section 2.3.4.9)
-abbrev pub is_valid : ℕ → Station → Bool
+abbrev pub is_valid : ℕ → LinkStation → Bool
 is_valid nr s = nat_le (resolved s.outgoing.acked nr) s.outgoing.sent
 
 -- all frames below it are acknowledged (section 2.4.5.6)
@@ -60,7 +60,7 @@ acknowledged nr t =
 -- ---- I frames (sections 2.4.5.2 and 2.4.5.4)
 
 -- the frame is the one wanted, and the station isn't busy
-abbrev pub is_taken : ℕ → Station → Bool
+abbrev pub is_taken : ℕ → LinkStation → Bool
 is_taken ns s = not (is_busy s) && ns == wanted s
 
 abbrev pub takes : List ℕ → Side → Side

@@ -7,12 +7,12 @@ use Rattle.x25_link.specs.declared.phase.Phase.{Phase}
 use Rattle.x25_link.specs.declared.phase.Phase.TheVariants.{Down, Waiting, Up, Closed}
 use Rattle.x25_link.specs.declared.phase.Reason.{Reason}
 use Rattle.x25_link.specs.declared.phase.Reason.TheVariants.{Retries, Reset}
-use Rattle.x25_link.specs.Station.{Settings, Station, fresh, with_nothing}
+use Rattle.x25_link.specs.LinkStation.{Settings, LinkStation, fresh, with_nothing}
 use Rattle.x25_link.specs.MustSend.{Step, other}
 use Rattle.x25_link.specs.Steps.{take_step, timer_step, connect_step, disconnect_step}
 
 -- the station after a step, what was sent, and whether the link went down and up; nothing is handed up
-pub record Is (station : Station) (frames : List PlainFrame) (ends : Option Reason) (begins : Bool) (step : Step) : Type 0 where
+pub record Is (station : LinkStation) (frames : List PlainFrame) (ends : Option Reason) (begins : Bool) (step : Step) : Type 0 where
   pub near : step.side.near ≡ station
   pub out : step.side.out ≡ frames
   pub packet : step.packet ≡ None
@@ -21,7 +21,7 @@ pub record Is (station : Station) (frames : List PlainFrame) (ends : Option Reas
 
 -- ---- while UA is awaited
 
-abbrev pub waiting_after : Result PlainFrame FrameError → Station → Station
+abbrev pub waiting_after : Result PlainFrame FrameError → LinkStation → LinkStation
 waiting_after (Ok (ua true)) s = fresh
 waiting_after (Ok frame) s = s
 waiting_after (Err e) s = s
@@ -38,7 +38,7 @@ waiting_up (Ok frame) = false
 waiting_up (Err e) = false
 
 abbrev pub TakeWaits : Type 0
-TakeWaits = (c : Settings) (octets : List ℕ) (s : Station) → s.phase ≡ Waiting → (read : Result PlainFrame FrameError) → read ≡ frame_of (other c.role) c.longest octets →
+TakeWaits = (c : Settings) (octets : List ℕ) (s : LinkStation) → s.phase ≡ Waiting → (read : Result PlainFrame FrameError) → read ≡ frame_of (other c.role) c.longest octets →
     Is (waiting_after read s) (waiting_sends read) None (waiting_up read) (take_step c octets s)
 
 -- ---- SABM in Down and in Up
@@ -55,21 +55,21 @@ reset_from Up = Some Reset
 reset_from phase = None
 
 abbrev pub TakeSetsUp : Type 0
-TakeSetsUp = (c : Settings) (octets : List ℕ) (s : Station) → TakesPart s.phase → (p : Bool) → frame_of (other c.role) c.longest octets ≡ Ok (sabm p) →
+TakeSetsUp = (c : Settings) (octets : List ℕ) (s : LinkStation) → TakesPart s.phase → (p : Bool) → frame_of (other c.role) c.longest octets ≡ Ok (sabm p) →
     Is fresh (ua p ∷ []) (reset_from s.phase) true (take_step c octets s)
 
 -- ---- connect, timer T1 and disconnect
 
 abbrev pub ConnectWaits : Type 0
-ConnectWaits = (c : Settings) (s : Station) → s.phase ≡ Down → Is (record s { phase = Waiting; tries = 0 }) (sabm true ∷ []) None false (connect_step c s)
+ConnectWaits = (c : Settings) (s : LinkStation) → s.phase ≡ Down → Is (record s { phase = Waiting; tries = 0 }) (sabm true ∷ []) None false (connect_step c s)
 
 abbrev pub TimerWaits : Type 0
-TimerWaits = (c : Settings) (s : Station) → s.phase ≡ Waiting →
+TimerWaits = (c : Settings) (s : LinkStation) → s.phase ≡ Waiting →
     Is (if nat_lt s.tries c.retries then record s { tries = suc s.tries } else with_nothing Down s.tries) (if nat_lt s.tries c.retries then sabm true ∷ [] else [])
     (if nat_lt s.tries c.retries then None else Some Retries) false (timer_step c s)
 
 abbrev pub DisconnectWaits : Type 0
-DisconnectWaits = (c : Settings) (s : Station) → s.phase ≡ Waiting → Is (with_nothing Closed s.tries) (disc true ∷ []) None false (disconnect_step c s)
+DisconnectWaits = (c : Settings) (s : LinkStation) → s.phase ≡ Waiting → Is (with_nothing Closed s.tries) (disc true ∷ []) None false (disconnect_step c s)
 
 -- the laws together
 pub record SetUpLaws : Type 0 where

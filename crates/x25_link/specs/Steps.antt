@@ -11,7 +11,7 @@ use Rattle.x25_link.specs.declared.phase.Phase.{Phase}
 use Rattle.x25_link.specs.declared.phase.Phase.TheVariants.{Down, Waiting, Up, Closed}
 use Rattle.x25_link.specs.declared.phase.Reason.TheVariants.{Retries, Local, Counts}
 use Rattle.x25_link.specs.Outgoing.{waits, added}
-use Rattle.x25_link.specs.Station.{Settings, Station, Side, with_nothing, fresh, is_up, with_near, sends, ready, ended}
+use Rattle.x25_link.specs.LinkStation.{Settings, LinkStation, Side, with_nothing, fresh, is_up, with_near, sends, ready, ended}
 use Rattle.x25_link.specs.MustSend.{Step, quiet, leaves, other, row_of}
 
 -- the end of a step
@@ -19,7 +19,7 @@ abbrev pub closed_by : ℕ → Step → Step
 closed_by k step = record { side = ended k step.side; packet = step.packet; notes = step.notes }
 
 -- a station before its step
-abbrev pub alone : Station → Side
+abbrev pub alone : LinkStation → Side
 alone s = record { near = s; out = [] }
 
 -- a refusal where one is due, and else want of memory alone
@@ -67,12 +67,12 @@ config_refusal k n1 n2 = if nat_le 1 k && (nat_le k 7 && (nat_le 1 n1 && (nat_le
 
 -- ---- take
 
-abbrev pub take_step : Settings → List ℕ → Station → Step
+abbrev pub take_step : Settings → List ℕ → LinkStation → Step
 take_step c octets s = closed_by c.window (hears c octets (frame_of (other c.role) c.longest octets) s.phase (alone s))
 
 -- ---- put
 
-abbrev pub put_refusal : Station → Option LinkError
+abbrev pub put_refusal : LinkStation → Option LinkError
 put_refusal s = if not (is_up s.phase) then Some error.NotUp
     else if waits s.outgoing == 256 then Some error.QueueFull
     else None
@@ -80,7 +80,7 @@ put_refusal s = if not (is_up s.phase) then Some error.NotUp
 abbrev pub puts : List ℕ → Side → Step
 puts packet t = quiet (with_near t (record t.near { outgoing = added packet t.near.outgoing }))
 
-abbrev pub put_step : Settings → List ℕ → Station → Step
+abbrev pub put_step : Settings → List ℕ → LinkStation → Step
 put_step c packet s = closed_by c.window (puts packet (alone s))
 
 -- ---- connect and disconnect
@@ -94,7 +94,7 @@ connect_refusal Closed = Some error.Closed
 abbrev pub connects : Side → Step
 connects t = quiet (sends (sabm true) (with_near t (record t.near { phase = Waiting; tries = 0 })))
 
-abbrev pub connect_step : Settings → Station → Step
+abbrev pub connect_step : Settings → LinkStation → Step
 connect_step c s = closed_by c.window (connects (alone s))
 
 abbrev pub disconnect_refusal : Phase → Option LinkError
@@ -110,19 +110,19 @@ disconnects t = record {
   notes = record { down = if is_up t.near.phase then Some Local else None; up = false };
 }
 
-abbrev pub disconnect_step : Settings → Station → Step
+abbrev pub disconnect_step : Settings → LinkStation → Step
 disconnect_step c s = closed_by c.window (disconnects (alone s))
 
 -- ---- timer T1
 
 -- T1 runs while UA is awaited, and in Up while frames are unacknowledged, in recovery, or while the peer is busy
-abbrev pub timer_runs : Phase → Station → Bool
+abbrev pub timer_runs : Phase → LinkStation → Bool
 timer_runs Down s = false
 timer_runs Waiting s = true
 timer_runs Up s = nat_lt s.outgoing.acked s.outgoing.sent || (s.recovery || s.peer_busy)
 timer_runs Closed s = false
 
-abbrev pub timer_refusal : Station → Option LinkError
+abbrev pub timer_refusal : LinkStation → Option LinkError
 timer_refusal s = if timer_runs s.phase s then None else Some error.NotRunning
 
 -- SABM again while UA is awaited, and a poll in Up (sections 2.4.4.1 and 2.4.5.9)
@@ -135,16 +135,16 @@ fires c t =
     if nat_lt t.near.tries c.retries then quiet (asks_again t.near.phase (with_near t (record t.near { tries = t.near.tries + 1 })))
     else leaves Retries t
 
-abbrev pub timer_step : Settings → Station → Step
+abbrev pub timer_step : Settings → LinkStation → Step
 timer_step c s = closed_by c.window (fires c (alone s))
 
 -- ---- abandon: Up is left without a frame (profile)
 
-abbrev pub abandon_step : Settings → Station → Step
+abbrev pub abandon_step : Settings → LinkStation → Step
 abandon_step c s = closed_by c.window (leaves Counts (alone s))
 
 -- ---- what is told
 
 -- nothing waits, and all that was sent is acknowledged
-abbrev pub is_idle : Station → Bool
+abbrev pub is_idle : LinkStation → Bool
 is_idle s = is_up s.phase && (waits s.outgoing == 0 && s.outgoing.acked == s.outgoing.sent)

@@ -1,7 +1,7 @@
 //! What a station does at the calls of its user and of its timer.
 ghost use Rattle.std.specs.Prelude.{◌≡◌, ℕ, ◌+◌, ◌<◌, ◌≤◌, List, length, false, true};
-ghost use Rattle.x25_link.specs.Station.{Settings, Station as StationState, Side, may_send, owes_ready, ended};
-ghost use Rattle.x25_link.specs.Fits.{FitsStation, FitsSide, FitsHeard};
+ghost use Rattle.x25_link.specs.LinkStation.{Settings, LinkStation as StationState, Side, may_send, owes_ready, ended};
+ghost use Rattle.x25_link.specs.code.Fits.{FitsStation, FitsSide, FitsHeard};
 ghost use Rattle.x25_link.specs.MustSend.{quiet};
 ghost use Rattle.x25_link.specs.Steps.{alone, puts, connects, disconnects, fires, timer_runs, is_idle, asks_again, closed_by};
 
@@ -9,10 +9,10 @@ use crate::heard::Heard;
 use crate::octets::Octets;
 use crate::outbox::Outbox;
 use crate::phase::{Phase, Reason};
-use crate::station::Station;
+use crate::station::LinkStation;
 use x25_frame::Frame;
 
-impl Station {
+impl LinkStation {
     /// Lets a packet wait, and sends it where it may go. Memory for one I frame is used or let go.
     pub fn give(&mut self, packet: Octets, out: &mut Outbox)
         requires free { length self.old.backlog.queue < 256 }

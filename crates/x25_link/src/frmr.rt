@@ -2,16 +2,28 @@
 ghost use Rattle.std.specs.Prelude.{◌≡◌, ℕ, ◌+◌, ◌*◌, ◌/◌, ◌%◌, ◌<◌, ◌≤◌, ◌==◌, List, length, slice_index, true, if◌then◌else◌};
 ghost use Rattle.x25_frame.specs.PlainFrame.{plain};
 ghost use Rattle.x25_frame.specs.Spelling.{information_of};
-ghost use Rattle.x25_link.specs.Station.{Settings, Station as StationState, Side};
+ghost use Rattle.x25_link.specs.LinkStation.{Settings, LinkStation as StationState, Side};
 ghost use Rattle.x25_link.specs.Backlog.{window_of};
-ghost use Rattle.x25_link.specs.Fits.{FitsStation, FitsSide, FitsHeard};
+ghost use Rattle.x25_link.specs.code.Fits.{FitsStation, FitsSide, FitsHeard};
 ghost use Rattle.x25_link.specs.MustSend.{rejects, reject_of};
 
 use crate::heard::Heard;
 use crate::outbox::Outbox;
 use crate::phase::Reason;
-use crate::station::Station;
+use crate::station::LinkStation;
 use x25_frame::{Frame, command_address};
+
+/// W, the first bit of FRMR's third octet: the control is undefined.
+pub const UNDEFINED_CONTROL: u8 = 1;
+
+/// W and X: the frame may have no information, or its information has a wrong length.
+pub const BAD_INFORMATION: u8 = 3;
+
+/// Y: there are more than N1 octets of information.
+pub const LONG_INFORMATION: u8 = 4;
+
+/// Z: the N(R) acknowledges what was never sent.
+pub const INVALID_NR: u8 = 8;
 
 // The octet at this place, or 0 where there is none.
 fn octet_at(octets: &[u8], place: usize) -> u8
@@ -24,7 +36,7 @@ fn octet_at(octets: &[u8], place: usize) -> u8
     }
 }
 
-impl Station {
+impl LinkStation {
     /// Sends FRMR for these octets, with the third octet of its information, and leaves Up.
     pub fn reject<'a>(&mut self, octets: &[u8], why: u8, out: &mut Outbox) -> Heard<'a>
         requires { 0 < out.old.short }

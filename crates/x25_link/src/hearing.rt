@@ -3,20 +3,21 @@ ghost use Rattle.std.specs.Prelude.{◌≡◌, ℕ, ◌+◌, ◌<◌, ◌≤◌,
 ghost use Rattle.x25_frame.specs.PlainFrame.{plain};
 ghost use Rattle.x25_frame.specs.Reading.{frame_of};
 ghost use Rattle.x25_frame.specs.Spelling.{is_command};
-ghost use Rattle.x25_link.specs.Station.{Settings, Station as StationState, Side, may_send, owes_ready};
+ghost use Rattle.x25_link.specs.LinkStation.{Settings, LinkStation as StationState, Side, may_send, owes_ready};
 ghost use Rattle.x25_link.specs.Backlog.{window_of, before_in};
-ghost use Rattle.x25_link.specs.Fits.{FitsStation, FitsSide, FitsHeard};
+ghost use Rattle.x25_link.specs.code.Fits.{FitsStation, FitsSide, FitsHeard};
 ghost use Rattle.x25_link.specs.MustSend.{numbered, hears_info, polls, peer_is, goes_back, quiet, row_of_frame, row_of, other};
 ghost use Rattle.x25_link.specs.Steps.{declines, when_down, when_waiting, hears, alone, take_step};
 
+use crate::frmr::{BAD_INFORMATION, INVALID_NR, LONG_INFORMATION, UNDEFINED_CONTROL};
 use crate::heard::Heard;
 use crate::outbox::Outbox;
 use crate::phase::{Phase, Reason};
-use crate::station::Station;
+use crate::station::LinkStation;
 use x25_bits::Seq;
 use x25_frame::{Frame, FrameError, decode};
 
-impl Station {
+impl LinkStation {
     // ---- Up
 
     // An I frame.
@@ -37,7 +38,7 @@ impl Station {
         ensures short { out.old.short ≤ out.new.short + 1 }
     {
         if !self.acknowledge(nr) {
-            return self.reject(octets, 8, out);
+            return self.reject(octets, INVALID_NR, out);
         }
         let packet = self.hear_info(ns, p, info, out);
         let mut heard = Heard::quiet();
@@ -63,7 +64,7 @@ impl Station {
         ensures short { out.old.short ≤ out.new.short + 1 }
     {
         if !self.acknowledge(nr) {
-            return self.reject(octets, 8, out);
+            return self.reject(octets, INVALID_NR, out);
         }
         self.peer_busy = busy;
         self.poll(command, pf, out);
@@ -87,7 +88,7 @@ impl Station {
         ensures short { out.old.short ≤ out.new.short + 1 }
     {
         if !self.acknowledge(nr) {
-            return self.reject(octets, 8, out);
+            return self.reject(octets, INVALID_NR, out);
         }
         self.peer_busy = false;
         self.backlog.go_back();
@@ -134,9 +135,9 @@ impl Station {
         ensures short { out.old.short ≤ out.new.short + 1 }
     {
         match error {
-            FrameError::Undefined { .. } => self.reject(octets, 1, out),
-            FrameError::NoInfoAllowed { .. } => self.reject(octets, 3, out),
-            FrameError::TooLong => self.reject(octets, 4, out),
+            FrameError::Undefined { .. } => self.reject(octets, UNDEFINED_CONTROL, out),
+            FrameError::NoInfoAllowed { .. } => self.reject(octets, BAD_INFORMATION, out),
+            FrameError::TooLong => self.reject(octets, LONG_INFORMATION, out),
             FrameError::Short | FrameError::BadFcs | FrameError::BadAddress => Heard::quiet(),
         }
     }

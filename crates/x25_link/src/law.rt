@@ -1,9 +1,9 @@
-ghost use Rattle.x25_link.specs.Bounds.{FewWait, FewStand, WindowIsSmall, TakeSendsFew, PutSendsOne};
-ghost use Rattle.x25_link.specs.NoteLaw.{TakeTells, TakeContinues, TakeHandsUp, TimerTells, TimerContinues, PutTells, ConnectTells, DisconnectTells, AbandonTells};
-ghost use Rattle.x25_link.specs.RestLaw.{TakeSaysAll, PutSaysAll, TimerSaysAll, ConnectSaysAll, DisconnectSaysAll, AbandonSaysAll, NoTimerIsIdle, AllHeardIsRest, RestIsAllHeard};
-ghost use Rattle.x25_link.specs.AnswerLaw.{TimerAsks, PollIsAnswered, FinalEndsRecovery, ReadyIsHeard, RejGoesBack, WantedIsTaken, OtherIsPassedOver, OutDeclines, DmLeavesUp};
+ghost use Rattle.x25_link.specs.code.Bounds.{FewWait, FewStand, WindowIsSmall, TakeSendsFew, PutSendsOne};
+ghost use Rattle.x25_link.specs.laws.NoteLaw.{TakeTells, TakeContinues, TakeHandsUp, TimerTells, TimerContinues, PutTells, ConnectTells, DisconnectTells, AbandonTells};
+ghost use Rattle.x25_link.specs.laws.RestLaw.{TakeSaysAll, PutSaysAll, TimerSaysAll, ConnectSaysAll, DisconnectSaysAll, AbandonSaysAll, NoTimerIsIdle, AllHeardIsRest, RestIsAllHeard};
+ghost use Rattle.x25_link.specs.laws.AnswerLaw.{TimerAsks, PollIsAnswered, FinalEndsRecovery, ReadyIsHeard, RejGoesBack, WantedIsTaken, OtherIsPassedOver, OutDeclines, DmLeavesUp};
 ghost use Rattle.x25_link.specs.SetUp.{TakeWaits, TakeSetsUp, ConnectWaits, TimerWaits, DisconnectWaits};
-ghost use Rattle.x25_link.specs.WindowLaw.{TakeFollows, PutFollows, TimerFollows, DisconnectFollows, AbandonFollows, TakeStaysOut, DisconnectStaysOut};
+ghost use Rattle.x25_link.specs.laws.WindowLaw.{TakeFollows, PutFollows, TimerFollows, DisconnectFollows, AbandonFollows, TakeStaysOut, DisconnectStaysOut};
 
 /// Each step of a station that is Up hears, hands up and then sends as the window machine may, and Up is left exactly
 /// where there is a reason. A station that is out stays out, but for a SABM.

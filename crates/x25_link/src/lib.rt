@@ -3,7 +3,6 @@
 
 mod calls;
 mod error;
-mod frame_memory;
 mod frmr;
 mod heard;
 mod hearing;
@@ -21,7 +20,6 @@ mod step;
 mod waiting_packets;
 
 pub use error::LinkError;
-pub use frame_memory::Blanks;
 pub use law::{
     asks_and_answers, comes_to_rest, follows_the_window, holds_few, notes_what_changes,
     sets_up_by_rows,

@@ -1,9 +1,9 @@
 ghost use Rattle.std.specs.Prelude.{◌≡◌, ℕ, ◌+◌, ◌-◌, ◌%◌, ◌<◌, ◌≤◌, ◌↔◌, ◌++◌, List, [], length, map, max, vec_len, Bool, true, false, Some, None, IfOk, IfErr, OnOk, OnErr, IsOk, IsErrOf};
 ghost use Rattle.x25_frame.specs.Spelling.{spelling_of};
-ghost use Rattle.x25_link.specs.Station.{Settings, Station as StationState, is_waiting, with_nothing};
+ghost use Rattle.x25_link.specs.LinkStation.{Settings, LinkStation as StationState, awaits_ua, with_nothing};
 ghost use Rattle.x25_link.specs.Steps.{Refuses, config_refusal, take_step, put_refusal, put_step, connect_refusal, connect_step, disconnect_refusal, disconnect_step, timer_refusal, timer_runs, timer_step, abandon_step, is_idle};
 ghost use Rattle.x25_link.specs.LinkError.{RefusesPut};
-ghost use Rattle.x25_link.specs.Link.{FitsLink, IsAnswer, limit_of, up_of, waiting_of};
+ghost use Rattle.x25_link.specs.code.Link.{FitsLink, IsAnswer, limit_of, up_of, waiting_of};
 ghost use Rattle.x25_link.specs.declared.phase.Phase.TheVariants.{Down};
 
 mod in_order;
@@ -14,7 +14,7 @@ use crate::octets::{LONGEST_PACKET, Octets};
 use crate::outbox::Outbox;
 use crate::outgoing::Outgoing;
 use crate::phase::{Phase, Reason};
-use crate::station::{FRAMES, Parameters, Station};
+use crate::station::{FRAMES, LinkStation, Parameters};
 use crate::step::Step;
 use crate::waiting_packets::PLACES;
 use std::alloc::Global;
@@ -30,14 +30,14 @@ const SHORT_FRAMES: usize = 2;
 /// Each call but `put` answers the frames to send, in order. The frames of `put` are kept until `sent` takes them.
 #[derive(Drop)]
 pub struct Link {
-    station: Station,
+    station: LinkStation,
     outgoing: Outbox,
     answers: Outbox,
 }
 
 impl Model for Link {
     ghost use Rattle.std.specs.Prelude.{◌≡◌, []};
-    ghost use Rattle.x25_link.specs.Link.{ShownLink};
+    ghost use Rattle.x25_link.specs.code.Link.{ShownLink};
 
     ghost Value = { ShownLink };
 
@@ -63,7 +63,7 @@ impl Link {
             return Err(LinkError::BadConfig);
         };
         Ok(Link {
-            station: Station {
+            station: LinkStation {
                 role,
                 parameters: Parameters { n1, n2 },
                 backlog,
@@ -202,10 +202,10 @@ impl Link {
     }
 
     /// Whether this end sent a SABM and awaits its UA.
-    pub fn is_waiting(&self) -> bool
-        ensures { (c : Settings) (s : StationState) → FitsLink c self.now s → result ≡ is_waiting s.phase }
+    pub fn awaits_ua(&self) -> bool
+        ensures { (c : Settings) (s : StationState) → FitsLink c self.now s → result ≡ awaits_ua s.phase }
     {
-        self.station.phase.is_waiting()
+        self.station.phase.awaits_ua()
     }
 
     /// Whether timer T1 runs: exactly where `t1` isn't refused with 11.
@@ -229,6 +229,38 @@ impl Link {
         ensures most { result ≤ max self.now.outgoing.long 16 + 16 }
     {
         self.outgoing.blanks().saturating_add(self.answers.blanks())
+    }
+
+    /// How many buffers are kept that were given back, of at most 4,103 octets each: 32 at most. They are used for frames that are sent
+    /// later.
+    pub fn returned(&self) -> usize
+        ensures { result ≤ 32 }
+    {
+        self.outgoing.returned() + self.answers.returned()
+    }
+
+    /// Takes the memory of a frame back, of this link or of another, for one that is sent later. The link is as before.
+    ///
+    /// It is let go of where it is for more than 4,103 octets, and where 32 are kept.
+    pub fn give_back(&mut self, octets: Vec<u8>)
+        ensures { self.new ≡ self.old }
+    {
+        if self.answers.returned() <= self.outgoing.returned() {
+            self.answers.give_back(octets);
+        } else {
+            self.outgoing.give_back(octets);
+        }
+    }
+
+    /// Takes a list of frames back, for the frames of a later call, with the memory of those that are still in it. The link is as before.
+    pub fn give_back_list(&mut self, mut frames: Vec<Vec<u8>>)
+        ensures { self.new ≡ self.old }
+    {
+        while let Some(octets) = frames.pop() {
+            self.give_back(octets);
+        }
+        let other = self.answers.swap_list(frames);
+        self.outgoing.swap_list(other);
     }
 
     // Hands a packet down, and keeps the frames.

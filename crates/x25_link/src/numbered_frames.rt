@@ -1,16 +1,16 @@
 //! What a station that is Up does with frames that carry an N(R).
 ghost use Rattle.std.specs.Prelude.{◌≡◌, ℕ, ◌+◌, ◌<◌, ◌≤◌, List, length, true, false, option_copied};
-ghost use Rattle.x25_link.specs.Station.{Settings, Station as StationState, Side};
+ghost use Rattle.x25_link.specs.LinkStation.{Settings, LinkStation as StationState, Side};
 ghost use Rattle.x25_link.specs.Backlog.{window_of, before_in};
-ghost use Rattle.x25_link.specs.Fits.{FitsStation, FitsSide};
+ghost use Rattle.x25_link.specs.code.Fits.{FitsStation, FitsSide};
 ghost use Rattle.x25_link.specs.MustSend.{is_valid, acknowledged, is_taken, takes, answers, passes_over, hears_info, polls};
 
 use crate::outbox::Outbox;
-use crate::station::Station;
+use crate::station::LinkStation;
 use x25_bits::Seq;
 use x25_frame::Frame;
 
-impl Station {
+impl LinkStation {
     /// Takes a received N(R), and says whether it is valid. All frames below it are acknowledged.
     pub fn acknowledge(&mut self, nr: Seq) -> bool
         ensures valid { (c : Settings) (s : StationState) → FitsStation c self.old s → result ≡ is_valid nr.number s }

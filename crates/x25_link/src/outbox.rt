@@ -1,15 +1,14 @@
 ghost use Rattle.std.specs.Prelude.{◌≡◌, ℕ, ◌+◌, ◌-◌, ◌<◌, ◌≤◌, ◌⊎◌, List, [], ◌∷◌, ◌++◌, length, map, max, vec_len, vec_capacity, false, OnOk, OnErr};
 ghost use Rattle.x25_frame.specs.PlainFrame.{plain, info};
 ghost use Rattle.x25_frame.specs.Spelling.{spelling_of, information_of};
-ghost use Rattle.x25_link.specs.Outbox.{ShownOutbox};
+ghost use Rattle.x25_link.specs.code.Outbox.{ShownOutbox};
 
-use crate::frame_memory::Blanks;
 use crate::heard::Heard;
 use crate::step::Step;
 use std::alloc::{AllocError, Global};
 use std::marker::Model;
 use std::mem;
-use x25_bits::{Role, Seq};
+use x25_bits::{Blanks, Role, Seq};
 use x25_frame::{Frame, encode};
 
 /// The most octets of a frame: those of a packet, address, control and frame check sequence.
@@ -24,13 +23,16 @@ const MOST_LONG: usize = 16;
 /// The most buffers for other frames that stay where no memory is promised: so many one call sends.
 const MOST_SHORT: usize = 2;
 
+/// The most places of a list of frames that is given back and stays.
+const MOST_PLACES: usize = 64;
+
 /// The octets of a frame beside its information: address, control and frame check sequence.
 const FRAME_OVERHEAD: usize = 4;
 
 /// Frames that were made, in order, and memory for further ones.
 ///
-/// Memory for I frames and for other frames is set aside apart. A frame that is handed out carries memory of its own length,
-/// wherever that is to be had when it is made.
+/// Memory for I frames and for other frames is set aside apart. A frame that is handed out carries memory that was given back, or
+/// else memory of its own length, wherever that is to be had when it is made.
 #[derive(Drop)]
 pub struct Outbox {
     made: Vec<Vec<u8>>,
@@ -41,7 +43,7 @@ pub struct Outbox {
 
 impl Model for Outbox {
     ghost use Rattle.std.specs.Prelude.{◌+◌, ◌≤◌, map, vec_len, vec_capacity};
-    ghost use Rattle.x25_link.specs.Outbox.{ShownOutbox};
+    ghost use Rattle.x25_link.specs.code.Outbox.{ShownOutbox};
 
     ghost Value = { ShownOutbox };
 
@@ -75,6 +77,13 @@ impl Outbox {
         ensures most { result ≤ max self.now.long 16 }
     {
         self.long.kept()
+    }
+
+    /// How many buffers are kept that were given back, each of at most 4,103 octets.
+    pub fn returned(&self) -> usize
+        ensures { result ≤ 16 }
+    {
+        self.long.returned()
     }
 
     /// Sets memory aside for at least so many I frames and other frames.
@@ -121,7 +130,7 @@ impl Outbox {
         requires fits { length (information_of (plain frame.now)) ≤ 3 }
         ensures { self.new ≡ record self.old { made = self.old.made ++ spelling_of from (plain frame.now) ∷ []; short = self.old.short - 1 } }
     {
-        let octets = self.short.take(SHORT_FRAME);
+        let octets = short_memory(&mut self.short, &mut self.long);
         self.made.push_reserved(spelled(from, frame, octets));
     }
 
@@ -157,6 +166,49 @@ impl Outbox {
             return Vec::new(self.alloc);
         }
         mem::replace(&mut self.made, Vec::new(self.alloc))
+    }
+
+    /// Takes memory of a frame back, for a later one.
+    pub fn give_back(&mut self, octets: Vec<u8>)
+        ensures { self.new ≡ self.old }
+    {
+        self.long.give_back(octets);
+    }
+
+    /// Takes an empty list back, for the frames of a later call, where it has more room than the one that is kept. The other is
+    /// answered.
+    pub fn swap_list(&mut self, list: Vec<Vec<u8>>) -> Vec<Vec<u8>>
+        requires { list.items ≡ [] }
+        ensures same { self.new ≡ self.old }
+        ensures empty { result.items ≡ [] }
+    {
+        let is_kept = self.made.is_empty()
+            && self.made.capacity() < list.capacity()
+            && list.capacity() <= MOST_PLACES;
+        if !is_kept {
+            return list;
+        }
+        mem::replace(&mut self.made, list)
+    }
+}
+
+// Memory for a frame that carries no packet: some that was given back, or else what was set aside.
+fn short_memory(
+    short: &mut Blanks<SHORT_FRAME, MOST_SHORT>,
+    long: &mut Blanks<LONGEST_FRAME, MOST_LONG>,
+) -> Vec<u8>
+    requires { 0 < short.old }
+    ensures empty { result.items ≡ [] }
+    ensures room { 7 ≤ vec_capacity result }
+    ensures fewer { short.new + 1 ≡ short.old }
+    ensures same { long.new ≡ long.old }
+{
+    match long.again(SHORT_FRAME) {
+        Some(octets) => {
+            short.limit(short.promised() - 1);
+            octets
+        }
+        None => short.take(SHORT_FRAME),
     }
 }
 

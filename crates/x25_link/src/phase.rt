@@ -13,7 +13,7 @@ pub enum Phase {
 
 impl Phase {
     ghost use Rattle.std.specs.Prelude.{◌≡◌};
-    ghost use Rattle.x25_link.specs.Station.{is_up, is_waiting};
+    ghost use Rattle.x25_link.specs.LinkStation.{is_up, awaits_ua};
 
     /// Whether packets are transferred.
     pub fn is_up(self) -> bool
@@ -23,8 +23,8 @@ impl Phase {
     }
 
     /// Whether UA is awaited.
-    pub fn is_waiting(self) -> bool
-        ensures { result ≡ is_waiting self }
+    pub fn awaits_ua(self) -> bool
+        ensures { result ≡ awaits_ua self }
     {
         matches!(self, Phase::Waiting)
     }

@@ -52,7 +52,7 @@ impl PlainLink {
 impl OrderedLink for PlainLink {
     ghost use Rattle.x25_link.specs.Lists.{Lists, handed_down};
     ghost use Rattle.x25_link.specs.Plain.{FitsPlain, unacknowledged};
-    ghost use Rattle.x25_link.specs.LinkLaws.{plain_waits, plain_few, plain_close};
+    ghost use Rattle.x25_link.specs.laws.LinkLaws.{plain_waits, plain_few, plain_close};
     ghost use Rattle.std.specs.Prelude.{length, true, refl};
 
     ghost State = { Lists };

@@ -2,7 +2,7 @@ ghost use Rattle.std.specs.Prelude.{◌≡◌, ℕ, ◌+◌, ◌<◌, ◌≤◌,
 ghost use Rattle.x25_frame.specs.PlainFrame.{plain};
 ghost use Rattle.x25_frame.specs.Spelling.{information_of};
 ghost use Rattle.x25_link.specs.MustSend.{leaves};
-ghost use Rattle.x25_link.specs.Station.{Settings, Station as StationState, Side, is_busy, sends, ready, with_nothing, with_near, fresh, may_send, pumped_once, pumped, finished, ended};
+ghost use Rattle.x25_link.specs.LinkStation.{Settings, LinkStation as StationState, Side, is_busy, sends, ready, with_nothing, with_near, fresh, may_send, pumped_once, pumped, finished, ended};
 
 use crate::heard::Heard;
 use crate::outbox::Outbox;
@@ -28,7 +28,7 @@ pub struct Parameters {
 
 /// The variables of a LAPB station. ITU-T X.25 (10/96), sections 2.3.2 and 2.4.
 #[derive(Drop)]
-pub struct Station {
+pub struct LinkStation {
     pub role: Role,
     pub parameters: Parameters,
     pub backlog: Outgoing,
@@ -42,9 +42,9 @@ pub struct Station {
     pub said_busy: bool,
 }
 
-impl Station {
+impl LinkStation {
     ghost use Rattle.x25_link.specs.Backlog.{window_of, before_in};
-    ghost use Rattle.x25_link.specs.Fits.{FitsStation, FitsSide, FitsHeard};
+    ghost use Rattle.x25_link.specs.code.Fits.{FitsStation, FitsSide, FitsHeard};
 
     /// Whether the station is busy, and takes no I frame.
     pub fn is_busy(&self) -> bool

@@ -6,6 +6,8 @@ mod client;
 #[cfg(test)]
 mod errors;
 #[cfg(test)]
+mod given_back;
+#[cfg(test)]
 mod pair;
 #[cfg(test)]
 mod phases;

@@ -251,7 +251,7 @@ impl End {
     }
 
     fn ask(&self, alloc: Global) -> Result<Shown, Fail> {
-        if self.link.is_waiting() {
+        if self.link.awaits_ua() {
             return silent(alloc, format!(in alloc; "UA is awaited")?);
         }
         if self.link.idle() {

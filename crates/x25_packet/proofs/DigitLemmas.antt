@@ -6,7 +6,7 @@ use Rattle.std.proofs.lemmas.List.{get_or-drop, get_or-take, length-take-le, len
 use Rattle.std.proofs.lemmas.List.Folds.{list_all-append}
 use Rattle.std.proofs.lemmas.Bool.{and_parts, leb-true, le-leb, and_from}
 use Rattle.x25_packet.specs.Digits.{halves_of, halves_at, digits_of_text, is_digit, is_pair, is_figure, hold_digits, IsAddress}
-use Rattle.x25_packet.specs.DigitsPlace.{digits_in, NamesDigits}
+use Rattle.x25_packet.specs.code.DigitsPlace.{digits_in, NamesDigits}
 use Rattle.x25_packet.specs.declared.digits.Place.{Place}
 use Rattle.x25_packet.specs.declared.digits.Place.TheVariants.{Text, Halves}
 

@@ -1,9 +1,9 @@
 pub mod PlainPacket
 pub mod Digits
-pub mod DigitsPlace
 pub mod Facilities
 pub mod Spelling
 pub mod PacketError
 pub mod Reading
 pub mod FirstError
-pub mod ReadingLaw
+pub mod laws
+pub mod code

@@ -36,7 +36,7 @@ pub struct Digits<'a> {
 
 impl<'a> Model for Digits<'a> {
     ghost use Rattle.std.specs.Prelude.{ℕ, List};
-    ghost use Rattle.x25_packet.specs.DigitsPlace.{NamesDigits, digits_in};
+    ghost use Rattle.x25_packet.specs.code.DigitsPlace.{NamesDigits, digits_in};
 
     ghost Value = { List ℕ };
 

@@ -3,14 +3,14 @@ use Rattle.std.proofs.Common.{◌≡◌, ◌∙◌, ℕ, Bool, List, ◌++◌, O
 use Rattle.std.specs.Prelude.{◌||◌}
 use Rattle.std.proofs.lemmas.List.{append-nil}
 use Rattle.std.proofs.Math.Bool.{or-false}
-use Rattle.x25_io.specs.Written.{AppendsBeginning}
+use Rattle.x25_io.specs.code.Written.{AppendsPrefix}
 use Rattle.x25_station.specs.Settings.{Settings}
 use Rattle.x25_station.specs.Station.{Station}
 use Rattle.x25_pipe.specs.declared.pipe.Pipe.{Pipe}
 use Rattle.x25_pipe.specs.Piped.{Turn, quiet, and_then, sayings_text, has_refusal}
-use Rattle.x25_pipe.specs.Stands.{Stands}
-use Rattle.x25_pipe.specs.Leaves.{Leaves}
-use Rattle.x25_io.proofs.ToldLemmas.{beginning_more, begins}
+use Rattle.x25_pipe.specs.code.Stands.{Stands}
+use Rattle.x25_pipe.specs.code.Leaves.{Leaves}
+use Rattle.x25_io.proofs.ToldLemmas.{prefix_more, told_prefix}
 use Rattle.x25_pipe.proofs.SayingLemmas.{parts_text, parts_refused}
 use Rattle.x25_pipe.proofs.StandLemmas.{StandsAt, BeginsAt}
 
@@ -42,10 +42,10 @@ module _ (c : Settings) (old now next : Option (List ℕ)) (s u : Pipe) (told : 
   pub part_failed : (all first rest : Station → Turn) (l : Leaves c old now s all told refused whole) → all l.at ≡ and_then rest (first l.at)
       → BeginsAt c old next l.text (first l.at) → BeginsAt c old next told whole
   part_failed all first rest l e b =
-      subst (AppendsBeginning old next)
+      subst (AppendsPrefix old next)
       (parts_text c.role l.text (first l.at).sayings (rest (first l.at).next).sayings ∙ sym (ap (λ t. l.text ++ sayings_text c.role t.sayings) e) ∙ l.same)
-      (beginning_more old next (l.text ++ sayings_text c.role (first l.at).sayings) (sayings_text c.role (rest (first l.at).next).sayings) b)
+      (prefix_more old next (l.text ++ sayings_text c.role (first l.at).sayings) (sayings_text c.role (rest (first l.at).next).sayings) b)
 
   -- nothing more is told
   pub given_up : (rest : Station → Turn) → Leaves c old now s rest told refused whole → BeginsAt c old now told whole
-  given_up rest l = subst (AppendsBeginning old now) l.same (beginning_more old now l.text (sayings_text c.role (rest l.at).sayings) (begins old now s.output l.text l.stands.tells))
+  given_up rest l = subst (AppendsPrefix old now) l.same (prefix_more old now l.text (sayings_text c.role (rest l.at).sayings) (told_prefix old now s.output l.text l.stands.tells))

@@ -1,4 +1,4 @@
-pub mod PipeRowLemmas
+pub mod rows
 pub mod MarkLemmas
 pub mod SayingLemmas
 pub mod StandLemmas

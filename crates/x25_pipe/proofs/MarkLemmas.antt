@@ -3,10 +3,10 @@ use Rattle.std.proofs.Common.{◌≡◌, ◌∙◌, ◌+◌, ◌<◌, ◌≤◌,
 use Rattle.std.specs.Prelude.{not, ◌||◌}
 use Rattle.std.proofs.lemmas.List.{at_drop_more, drop_all}
 use Rattle.x25_station.specs.declared.entry.Entry.{Entry}
-use Rattle.x25_station.specs.PlainEntry.{plain_entry}
+use Rattle.x25_station.specs.code.PlainEntry.{plain_entry}
 use Rattle.x25_station.specs.Station.{Station}
 use Rattle.x25_station.specs.Steps.{Step, Did}
-use Rattle.x25_station.specs.TimerLaw.{Event, is_firing, is_link_up, is_acknowledged, tells_up, runs, mark, mark_of}
+use Rattle.x25_station.specs.laws.TimerLaw.{Event, is_firing, is_link_up, is_acknowledged, tells_up, runs, mark, mark_of}
 
 -- among some entries the link came up
 abbrev pub up : List Entry → Bool

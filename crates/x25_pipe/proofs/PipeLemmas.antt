@@ -2,16 +2,16 @@
 use Rattle.std.proofs.Common.{◌≡◌, ℕ, false, List, [], Option, Some, None, refl, sym, subst}
 use Rattle.std.specs.Prelude.{IfSome}
 use Rattle.x25_io.specs.Lines.{lines_of}
-use Rattle.x25_io.specs.Written.{AppendsBeginning}
+use Rattle.x25_io.specs.code.Written.{AppendsPrefix}
 use Rattle.x25_station.specs.Settings.{Settings}
 use Rattle.x25_station.specs.Station.{new_station}
 use Rattle.x25_io.specs.HeldLine.{HoldsLine}
 use Rattle.x25_io.specs.declared.held_line.HeldLine.{HeldLine}
-use Rattle.x25_io.proofs.ToldLemmas.{none_told, begins_more}
-use Rattle.x25_station.specs.FitsStation.{FitsStation}
+use Rattle.x25_io.proofs.ToldLemmas.{none_told, told_more}
+use Rattle.x25_station.specs.code.FitsStation.{FitsStation}
 use Rattle.x25_pipe.specs.Piped.{sayings_text, has_refusal, turns, standing_turn, piped, text_of}
-use Rattle.x25_pipe.specs.Stands.{Stands}
-use Rattle.x25_pipe.specs.Stream.{Leads}
+use Rattle.x25_pipe.specs.code.Stands.{Stands}
+use Rattle.x25_pipe.specs.code.Stream.{Leads}
 use Rattle.x25_pipe.specs.declared.answerer.Answerer.{Answerer}
 use Rattle.x25_pipe.specs.declared.pipe.Pipe.{Pipe}
 use Rattle.x25_pipe.proofs.SayingLemmas.{parts_text, parts_refused}
@@ -22,8 +22,8 @@ if_some None P f = tt
 if_some (Some input) P f = f input refl
 
 -- before the first mark
-pub nothing_written : (written : Option (List ℕ)) (text : List ℕ) → AppendsBeginning written written text
-nothing_written written text = begins_more written written [] [] text (none_told written [] refl)
+pub nothing_written : (written : Option (List ℕ)) (text : List ℕ) → AppendsPrefix written written text
+nothing_written written text = told_more written written [] [] text (none_told written [] refl)
 
 -- a station that never was up
 pub stands_first : (c : Settings) (written : Option (List ℕ)) (p : Pipe) → FitsStation c p.station new_station → p.end ≡ c.role → p.output ≡ [] → p.is_refused ≡ false
@@ -32,7 +32,7 @@ stands_first c written p fits role empty status = record { fits = fits; role = r
 
 module _ (c : Settings) (old now : Option (List ℕ)) (p : Pipe) (input : List ℕ) where
   -- the first mark failed
-  pub mark_failed : BeginsAt c old now [] (standing_turn c new_station) → AppendsBeginning old now (text_of c input)
+  pub mark_failed : BeginsAt c old now [] (standing_turn c new_station) → AppendsPrefix old now (text_of c input)
   unfolding piped
   mark_failed b = begins_before c old now [] false (turns c (lines_of input)) (standing_turn c new_station) b
 

@@ -4,7 +4,7 @@ use Rattle.std.specs.Prelude.{◌||◌}
 use Rattle.std.proofs.lemmas.List.{append-nil, map-append}
 use Rattle.std.proofs.Math.Bool.{or-false, or-true}
 use Rattle.x25_bits.specs.declared.role.Role.{Role}
-use Rattle.x25_io.specs.Written.{AppendsBeginning, Tells}
+use Rattle.x25_io.specs.code.Written.{AppendsPrefix, Tells}
 use Rattle.x25_io.specs.declared.fault.Fault.{Fault}
 use Rattle.x25_layer.specs.Calls.{PullsAll}
 use Rattle.x25_frame.specs.Spelling.{spelling_of}
@@ -14,17 +14,17 @@ use Rattle.x25_station.specs.declared.station.Station as code
 use Rattle.x25_station.specs.declared.step.Step as code_step
 use Rattle.x25_station.specs.Entries.{StationEntry}
 use Rattle.x25_station.specs.Command.{Requests}
-use Rattle.x25_station.specs.FitsStation as fits
-use Rattle.x25_station.specs.FitsStation.{FitsStation}
-use Rattle.x25_station.specs.PlainEntry.{plain_entry}
+use Rattle.x25_station.specs.code.FitsStation as fits
+use Rattle.x25_station.specs.code.FitsStation.{FitsStation}
+use Rattle.x25_station.specs.code.PlainEntry.{plain_entry}
 use Rattle.x25_station.specs.Settings.{Settings}
 use Rattle.x25_station.specs.StationError.{number_of}
 use Rattle.x25_station.specs.Station.{Station}
 use Rattle.x25_station.specs.Steps.{Step, Outcome, Did, Refused, commands}
 use Rattle.x25_console.specs.Lines.{nothing_line, refusal_line}
-use Rattle.x25_io.proofs.ToldLemmas.{beginning_more}
+use Rattle.x25_io.proofs.ToldLemmas.{prefix_more}
 use Rattle.x25_pipe.specs.Piped.{Saying, enters, sends, refuses, reads_nothing, saying_line, sayings_text, has_refusal, Turn, and_then, said, step_told, pulled_behind, with_pulls}
-use Rattle.x25_pipe.specs.Stands.{Stands, IsStep, IsError, answer_told}
+use Rattle.x25_pipe.specs.code.Stands.{Stands, IsStep, IsError, answer_told}
 use Rattle.x25_pipe.specs.declared.pipe.Pipe.{Pipe}
 use Rattle.x25_pipe.proofs.SayingLemmas.{parts_text, parts_refused}
 
@@ -33,7 +33,7 @@ abbrev pub StandsAt : Settings → Option (List ℕ) → Option (List ℕ) → P
 StandsAt c old next u told refused t = Stands c old next u t.next (told ++ sayings_text c.role t.sayings) (refused || has_refusal t.sayings)
 
 abbrev pub BeginsAt : Settings → Option (List ℕ) → Option (List ℕ) → List ℕ → Turn → Type 0
-BeginsAt c old next told t = AppendsBeginning old next (told ++ sayings_text c.role t.sayings)
+BeginsAt c old next told t = AppendsPrefix old next (told ++ sayings_text c.role t.sayings)
 
 -- ---- one turn behind another
 
@@ -44,11 +44,11 @@ module _ (c : Settings) (old next : Option (List ℕ)) (told : List ℕ) (refuse
       (subst (Stands c old next u (rest t.next).next ((told ++ sayings_text c.role t.sayings) ++ sayings_text c.role (rest t.next).sayings)) (parts_refused refused t.sayings (rest t.next).sayings) h)
 
   pub begins_behind : BeginsAt c old next (told ++ sayings_text c.role t.sayings) (rest t.next) → BeginsAt c old next told (and_then rest t)
-  begins_behind b = subst (AppendsBeginning old next) (parts_text c.role told t.sayings (rest t.next).sayings) b
+  begins_behind b = subst (AppendsPrefix old next) (parts_text c.role told t.sayings (rest t.next).sayings) b
 
   pub begins_before : BeginsAt c old next told t → BeginsAt c old next told (and_then rest t)
   begins_before b =
-      subst (AppendsBeginning old next) (parts_text c.role told t.sayings (rest t.next).sayings) (beginning_more old next (told ++ sayings_text c.role t.sayings) (sayings_text c.role (rest t.next).sayings) b)
+      subst (AppendsPrefix old next) (parts_text c.role told t.sayings (rest t.next).sayings) (prefix_more old next (told ++ sayings_text c.role t.sayings) (sayings_text c.role (rest t.next).sayings) b)
 
 -- ---- one saying
 
@@ -76,9 +76,9 @@ stands_refused c old next u s told line refused x is same fits role status tells
   status = status ∙ sym (or-true refused) ∙ ap (λ b. refused || b) (sym is);
 }
 
-pub begins_told : (c : Settings) (old next : Option (List ℕ)) (s : Station) (told line : List ℕ) (x : Saying) → line ≡ saying_line c.role x → AppendsBeginning old next (told ++ line)
+pub begins_told : (c : Settings) (old next : Option (List ℕ)) (s : Station) (told line : List ℕ) (x : Saying) → line ≡ saying_line c.role x → AppendsPrefix old next (told ++ line)
     → BeginsAt c old next told (said s (x ∷ []))
-begins_told c old next s told line x same b = subst (AppendsBeginning old next) (ap (λ t. told ++ t) same ∙ one_told c.role told x) b
+begins_told c old next s told line x same b = subst (AppendsPrefix old next) (ap (λ t. told ++ t) same ∙ one_told c.role told x) b
 
 pub refusal_said : (end : Role) (error : StationError) → refusal_line (number_of error) ≡ saying_line end (refuses error)
 unfolding saying_line
@@ -120,8 +120,8 @@ stands_told c old next u step plain told refused h role tells status = record {
 }
 
 pub begins_step : (c : Settings) (old next : Option (List ℕ)) (v : code.Station) (step : code_step.Step) (plain : Step) (told : List ℕ)
-    → IsStep c v step (Did plain) → AppendsBeginning old next (told ++ sayings_text c.role (answer_told step)) → BeginsAt c old next told (said plain.near (step_told c plain))
-begins_step c old next v step plain told h b = subst (λ sayings. AppendsBeginning old next (told ++ sayings_text c.role sayings)) (answer_is c v step plain h) b
+    → IsStep c v step (Did plain) → AppendsPrefix old next (told ++ sayings_text c.role (answer_told step)) → BeginsAt c old next told (said plain.near (step_told c plain))
+begins_step c old next v step plain told h b = subst (λ sayings. AppendsPrefix old next (told ++ sayings_text c.role sayings)) (answer_is c v step plain h) b
 
 -- no step is answered where the definition refuses
 pub is_step : (c : Settings) (v : code.Station) (step : code_step.Step) (P : Outcome → Type 0) → ((plain : Step) → IsStep c v step (Did plain) → P (Did plain))

@@ -4,14 +4,14 @@ use Rattle.std.specs.Io.KnownBytes.{Appends}
 use Rattle.std.proofs.lemmas.Bool.{ne_eqb}
 use Rattle.std.proofs.lemmas.List.{append-nil}
 use Rattle.x25_io.specs.Lines.{IsOpen, lines_of}
-use Rattle.x25_io.specs.Written.{AppendsBeginning}
+use Rattle.x25_io.specs.code.Written.{AppendsPrefix}
 use Rattle.x25_station.specs.Settings.{Settings}
 use Rattle.x25_station.specs.Station.{Station}
 use Rattle.x25_pipe.specs.Piped.{Turn, quiet, and_then, turn, turns, sayings_text, has_refusal}
 use Rattle.x25_io.specs.HeldLine.{HoldsLine}
-use Rattle.x25_pipe.specs.Stands.{Stands}
-use Rattle.x25_pipe.specs.Leaves.{Leaves}
-use Rattle.x25_pipe.specs.Stream.{Leads, WritesEnded}
+use Rattle.x25_pipe.specs.code.Stands.{Stands}
+use Rattle.x25_pipe.specs.code.Leaves.{Leaves}
+use Rattle.x25_pipe.specs.code.Stream.{Leads, WritesEnded}
 use Rattle.x25_pipe.specs.declared.answerer.Answerer.{Answerer}
 use Rattle.x25_pipe.specs.declared.pipe.Pipe.{Pipe}
 use Rattle.x25_pipe.proofs.LeaveLemmas.{none_left, part_done, part_failed}
@@ -78,7 +78,7 @@ module _ (c : Settings) (old now next : Option (List ℕ)) (whole : Turn) where
   }
 
   pub line_failed : (s : Answerer) (rest : List ℕ) (l : Leads c old now s (10 ∷ rest) whole)
-      → BeginsAt c old next l.leaves.text (turn c l.begun l.leaves.at) → AppendsBeginning old next (sayings_text c.role whole.sayings)
+      → BeginsAt c old next l.leaves.text (turn c l.begun l.leaves.at) → AppendsPrefix old next (sayings_text c.role whole.sayings)
   line_failed s rest l b =
       part_failed c old now next s.pipe s.pipe [] false whole (turns c (lines_of (l.begun ++ 10 ∷ rest))) (turn c l.begun) (turns c (lines_of rest)) l.leaves
       (turns_ended c l.begun rest l.leaves.at l.is_open) b
@@ -91,7 +91,7 @@ module _ (c : Settings) (old now next : Option (List ℕ)) (whole : Turn) where
       (turns_last c l.begun l.leaves.at l.is_open some) h
 
   pub last_failed : (s : Answerer) (l : Leads c old now s [] whole) → (l.begun ≡ [] → ⊥)
-      → BeginsAt c old next l.leaves.text (turn c l.begun l.leaves.at) → AppendsBeginning old next (sayings_text c.role whole.sayings)
+      → BeginsAt c old next l.leaves.text (turn c l.begun l.leaves.at) → AppendsPrefix old next (sayings_text c.role whole.sayings)
   last_failed s l some b =
       part_failed c old now next s.pipe s.pipe [] false whole (turns c (lines_of (l.begun ++ []))) (turn c l.begun) (turns c (lines_of [])) l.leaves
       (turns_last c l.begun l.leaves.at l.is_open some) b
@@ -105,8 +105,8 @@ module _ (c : Settings) (old now next : Option (List ℕ)) (whole : Turn) where
       → Leaves c old next u rest [] false whole
   left_written s u rest l h = record { at = l.at; text = l.text; status = l.status; stands = h; next = l.next; same = l.same; any = l.any }
 
-  pub left_begun : (s : Pipe) (rest : Station → Turn) (l : Leaves c old now s rest [] false whole) → AppendsBeginning old next l.text → AppendsBeginning old next (sayings_text c.role whole.sayings)
-  left_begun s rest l b = subst (AppendsBeginning old next) l.same (b.0, b.1 ++ sayings_text c.role (rest l.at).sayings, ap (λ t. t ++ sayings_text c.role (rest l.at).sayings) b.2 ∙ append_assoc b.0 b.1 (sayings_text c.role (rest l.at).sayings), b.3)
+  pub left_begun : (s : Pipe) (rest : Station → Turn) (l : Leaves c old now s rest [] false whole) → AppendsPrefix old next l.text → AppendsPrefix old next (sayings_text c.role whole.sayings)
+  left_begun s rest l b = subst (AppendsPrefix old next) l.same (b.0, b.1 ++ sayings_text c.role (rest l.at).sayings, ap (λ t. t ++ sayings_text c.role (rest l.at).sayings) b.2 ∙ append_assoc b.0 b.1 (sayings_text c.role (rest l.at).sayings), b.3)
 
   pub leads_written : (s u : Answerer) (rest : List ℕ) (l : Leads c old now s rest whole) → u.held ≡ s.held → Stands c old next u.pipe l.leaves.at l.leaves.text l.leaves.status
       → Leads c old next u rest whole

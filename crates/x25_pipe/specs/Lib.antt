@@ -1,6 +1,4 @@
 pub mod Piped
-pub mod PipeRows
 pub mod Watched
-pub mod Stands
-pub mod Leaves
-pub mod Stream
+pub mod code
+pub mod rows

@@ -6,7 +6,7 @@ use Rattle.x25_bits.specs.Role.{other}
 use Rattle.x25_bits.specs.declared.role.Role.{Role}
 use Rattle.x25_bits.specs.declared.role.Role.TheVariants.{Dte, Dce}
 use Rattle.x25_frame.specs.Spelling.{spelling_of}
-use Rattle.x25_entries.specs.EntryText.{entry_line}
+use Rattle.x25_transcript.specs.EntryText.{entry_line}
 use Rattle.x25_script.specs.PlainLine.{PlainLine, command, t1, deliver, lose, damage, drain}
 use Rattle.x25_script.specs.Reading.{line_in}
 use Rattle.x25_decode.specs.Decoded.{sent_in}
@@ -24,8 +24,8 @@ use Rattle.x25_station.specs.Entries.{StationEntry}
 use Rattle.x25_station.specs.Station.{Station, new_station}
 use Rattle.x25_station.specs.Steps.{Step, Outcome, Did, Refused, commands}
 use Rattle.x25_station.specs.Told.{is_idle}
-use Rattle.x25_station.specs.TimerLaw as timer
-use Rattle.x25_station.specs.TimerLaw.{Event, Comes, Asks, Fires, Mark, Off, On, Start}
+use Rattle.x25_station.specs.laws.TimerLaw as timer
+use Rattle.x25_station.specs.laws.TimerLaw.{Event, Comes, Asks, Fires, Mark, Off, On, Start}
 
 -- ---- what a line asks for: this end's commands and T1, and frames of the other end
 

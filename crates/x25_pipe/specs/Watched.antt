@@ -1,7 +1,7 @@
 -- What of a station tells what timer T1 does behind a step.
 use Rattle.std.specs.Prelude.{◌≡◌, ◌%◌}
 use Rattle.x25_station.specs.Station.{Station}
-use Rattle.x25_station.specs.TimerLaw.{Mark, Off, On, Start, runs}
+use Rattle.x25_station.specs.laws.TimerLaw.{Mark, Off, On, Start, runs}
 use Rattle.x25_pipe.specs.declared.mark.Mark as code
 use Rattle.x25_pipe.specs.declared.mark.Mark.TheVariants as variant
 use Rattle.x25_pipe.specs.declared.mark.Watch.{Watch}

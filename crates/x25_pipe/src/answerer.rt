@@ -13,13 +13,13 @@ impl Answerer {
     ghost use Rattle.std.specs.Prelude.{◌≡◌, ◌++◌, ◌∷◌, [], ℕ, List, Option, true, false, OnOk, IsErrOf, MatchResult};
     ghost use Rattle.std.specs.Io.KnownBytes.{Appends};
     ghost use Rattle.x25_io.specs.Lines.{IsOpen, lines_of};
-    ghost use Rattle.x25_io.specs.Written.{AppendsBeginning};
+    ghost use Rattle.x25_io.specs.code.Written.{AppendsPrefix};
     ghost use Rattle.x25_station.specs.Settings.{Settings};
     ghost use Rattle.x25_io.specs.HeldLine.{HoldsLine};
-    ghost use Rattle.x25_pipe.specs.Leaves.{Leaves};
+    ghost use Rattle.x25_pipe.specs.code.Leaves.{Leaves};
     ghost use Rattle.x25_pipe.specs.Piped.{Turn, has_refusal, sayings_text, turn, turns};
-    ghost use Rattle.x25_pipe.specs.Stands.{Turns};
-    ghost use Rattle.x25_pipe.specs.Stream.{Leads};
+    ghost use Rattle.x25_pipe.specs.code.Stands.{Turns};
+    ghost use Rattle.x25_pipe.specs.code.Stream.{Leads};
 
     /// No line has begun.
     pub(crate) fn new(held: HeldLine, pipe: Pipe) -> Answerer
@@ -68,7 +68,7 @@ impl Answerer {
         ensures kept { OnOk result (W.is_marked writer.new ≡ W.is_marked writer.old) }
         ensures leads { (c : Settings) (old : Option (List ℕ)) (rest : List ℕ) (whole : Turn)
             → Leads c old (W.contents writer.old) self.old (tail.now ++ 10 ∷ rest) whole
-            → MatchResult result (λ _. Leads c old (W.contents writer.new) self.new rest whole) (λ _. AppendsBeginning old (W.contents writer.new) (sayings_text c.role whole.sayings)) }
+            → MatchResult result (λ _. Leads c old (W.contents writer.new) self.new rest whole) (λ _. AppendsPrefix old (W.contents writer.new) (sayings_text c.role whole.sayings)) }
         ensures written { OnOk result (self.new.pipe.output ≡ []) }
         ensures write { IsErrOf result Fault.Write → W.is_marked writer.new ≡ true }
         ensures memory { IsErrOf result Fault.NoMemory → W.is_marked writer.new ≡ W.is_marked writer.old }
@@ -84,7 +84,7 @@ impl Answerer {
         ensures text { (c : Settings) (old : Option (List ℕ)) (whole : Turn)
             → Leaves c old (W.contents writer.old) self.old.pipe (turns c (lines_of [])) [] false whole
             → MatchResult result (λ _. Appends old (W.contents writer.new) (sayings_text c.role whole.sayings) × (self.new.pipe.is_refused ≡ has_refusal whole.sayings))
-            (λ _. AppendsBeginning old (W.contents writer.new) (sayings_text c.role whole.sayings)) }
+            (λ _. AppendsPrefix old (W.contents writer.new) (sayings_text c.role whole.sayings)) }
         ensures write { IsErrOf result Fault.Write → W.is_marked writer.new ≡ true }
         ensures memory { IsErrOf result Fault.NoMemory → W.is_marked writer.new ≡ W.is_marked writer.old }
         ensures read { IsErrOf result Fault.Read → ⊥ }
@@ -97,7 +97,7 @@ impl Answerer {
         ensures kept { OnOk result (W.is_marked writer.new ≡ W.is_marked writer.old) }
         ensures text { (c : Settings) (old : Option (List ℕ)) (whole : Turn) → Leads c old (W.contents writer.old) self.old [] whole
             → MatchResult result (λ _. Appends old (W.contents writer.new) (sayings_text c.role whole.sayings) × (self.new.pipe.is_refused ≡ has_refusal whole.sayings))
-            (λ _. AppendsBeginning old (W.contents writer.new) (sayings_text c.role whole.sayings)) }
+            (λ _. AppendsPrefix old (W.contents writer.new) (sayings_text c.role whole.sayings)) }
         ensures write { IsErrOf result Fault.Write → W.is_marked writer.new ≡ true }
         ensures memory { IsErrOf result Fault.NoMemory → W.is_marked writer.new ≡ W.is_marked writer.old }
         ensures read { IsErrOf result Fault.Read → ⊥ }
@@ -113,7 +113,7 @@ impl Answerer {
 impl TextTaker for Answerer {
     ghost use Rattle.x25_station.specs.Settings.{Settings};
     ghost use Rattle.x25_pipe.specs.Piped.{piped, status_of as status, text_of as text};
-    ghost use Rattle.x25_pipe.specs.Stream.{Answers, WritesEnded};
+    ghost use Rattle.x25_pipe.specs.code.Stream.{Answers, WritesEnded};
 
     // Which end it is, and the settings of the station.
     ghost Setting = { Settings };

@@ -7,11 +7,11 @@ use crate::telling::{tell_entries, tell_frames, tell_mark, tell_refusal};
 use std::alloc::Global;
 use x25_console::{read_user, station_command, tell_nothing};
 use x25_decode::read_sent;
-use x25_entries::Line;
 use x25_io::{Fault, Output, Sink};
 use x25_script::{Command, ScriptLine, read_line};
 use x25_station::{Cfg, Role, Station, StationError, Step};
 use x25_text::MOST_OCTETS;
+use x25_transcript::Line;
 
 /// The station at an end, the octets of a frame and of a command, the line that tells, and what waits to be written.
 #[derive(Drop)]
@@ -80,16 +80,16 @@ impl Pipe {
     ghost use Rattle.std.specs.Prelude.{[], ◌∷◌, ℕ, Bool, true, false, List, Option, Some, None, OnOk, OnErr, IsErrOf, MatchResult, length, take};
     ghost use Rattle.x25_console.specs.Commands.{command_asked};
     ghost use Rattle.x25_io.specs.HeldLine.{most_line};
-    ghost use Rattle.x25_io.specs.Written.{AppendsBeginning, Tells};
+    ghost use Rattle.x25_io.specs.code.Written.{AppendsPrefix, Tells};
     ghost use Rattle.x25_script.specs.PlainLine.{plain, plain_command};
     ghost use Rattle.x25_script.specs.Reading.{line_in};
-    ghost use Rattle.x25_station.specs.FitsStation.{FitsStation};
+    ghost use Rattle.x25_station.specs.code.FitsStation.{FitsStation};
     ghost use Rattle.x25_station.specs.Settings.{Settings, config_refusal, settings_from};
     ghost use Rattle.x25_station.specs.Station.{Station as State, new_station};
     ghost use Rattle.x25_station.specs.Steps.{Outcome};
-    ghost use Rattle.x25_station.specs.TimerLaw.{Asks, Comes, Event, Fires, Mark as TimerMark, is_firing as is_firing_of};
+    ghost use Rattle.x25_station.specs.laws.TimerLaw.{Asks, Comes, Event, Fires, Mark as TimerMark, is_firing as is_firing_of};
     ghost use Rattle.x25_pipe.specs.Piped.{asked_turn, event_turn, mark_turn, only_of, read_event, sayings_text, script_event, standing_turn, trace_event, turn, turn_of, with_pulls};
-    ghost use Rattle.x25_pipe.specs.Stands.{IsError, IsStep, Stands, Stood, Turns, answer_told};
+    ghost use Rattle.x25_pipe.specs.code.Stands.{IsError, IsStep, Stands, Stood, Turns, answer_told};
     ghost use Rattle.x25_pipe.specs.Watched.{Watches, plain_mark};
 
     /// A station that never was up, and nothing was told.
@@ -126,7 +126,7 @@ impl Pipe {
         ensures kept { OnOk result (W.is_marked writer.new ≡ W.is_marked writer.old) }
         ensures stands { (c : Settings) (old : Option (List ℕ)) (s : State) (told : List ℕ) (refused : Bool)
             → Stands c old (W.contents writer.old) self.old s told refused
-            → MatchResult result (λ _. Stands c old (W.contents writer.new) self.new s told refused) (λ _. AppendsBeginning old (W.contents writer.new) told) }
+            → MatchResult result (λ _. Stands c old (W.contents writer.new) self.new s told refused) (λ _. AppendsPrefix old (W.contents writer.new) told) }
         ensures written { OnOk result (self.new.output ≡ []) }
         ensures is_refused { self.new.is_refused ≡ self.old.is_refused }
         ensures write { IfErr result (λ fault. fault ≡ Fault.Write) }
@@ -171,7 +171,7 @@ impl Pipe {
         ensures kept { OnOk result (W.is_marked writer.new ≡ W.is_marked writer.old) }
         ensures tells { (old : Option (List ℕ)) (told : List ℕ) → Tells old (W.contents writer.old) self.old.output told
             → MatchResult result (λ _. Tells old (W.contents writer.new) self.new.output (told ++ sayings_text self.old.end (answer_told step.now)))
-            (λ _. AppendsBeginning old (W.contents writer.new) (told ++ sayings_text self.old.end (answer_told step.now))) }
+            (λ _. AppendsPrefix old (W.contents writer.new) (told ++ sayings_text self.old.end (answer_told step.now))) }
         ensures station { self.new.station ≡ self.old.station }
         ensures role { self.new.end ≡ self.old.end }
         ensures is_refused { self.new.is_refused ≡ self.old.is_refused }

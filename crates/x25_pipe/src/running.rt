@@ -1,10 +1,10 @@
 //! Lines answered by one station.
 ghost use Rattle.std.specs.Prelude.{◌≡◌, ◌<◌, ◌≤◌, ◌-◌, ◌^◌, ℕ, true, List, Some, None, IfOk, OnOk, OnErr, IfSome, IsErrOf, length};
 ghost use Rattle.std.specs.Io.KnownBytes.{Appends};
-ghost use Rattle.x25_io.specs.Written.{AppendsBeginning};
+ghost use Rattle.x25_io.specs.code.Written.{AppendsPrefix};
 ghost use Rattle.x25_station.specs.Settings.{config_refusal, settings_from};
 ghost use Rattle.x25_pipe.specs.Piped.{piped, station_status, station_text};
-ghost use Rattle.x25_pipe.specs.Stream.{WritesEnded};
+ghost use Rattle.x25_pipe.specs.code.Stream.{WritesEnded};
 
 use crate::answerer::Answerer;
 use crate::pipe::Pipe;
@@ -38,7 +38,7 @@ pub fn station<R: Source, W: Sink>(
         → status ≡ station_status end cfg input)) }
     // What was written before a fault is a beginning of it.
     ensures fault { OnErr result (IfSome (R.remaining reader.old) (λ input. length input < 2 ^ 64 - 1
-        → AppendsBeginning (W.contents writer.old) (W.contents writer.new) (station_text end cfg input))) }
+        → AppendsPrefix (W.contents writer.old) (W.contents writer.new) (station_text end cfg input))) }
     // At a failed read the answers to all lines that had ended are written.
     ensures ended { IsErrOf result Fault.Read → IfSome (R.remaining reader.old) (λ input.
         (rest : List ℕ) × (R.remaining reader.new ≡ Some rest)

@@ -1,17 +1,17 @@
 //! What is told of a step of the station: a line for each entry and behind these for each frame, and the mark.
 ghost use Rattle.std.specs.Prelude.{◌≡◌, ◌++◌, true, ℕ, List, Option, OnOk, IsErrOf, MatchResult, map};
-ghost use Rattle.x25_io.specs.Written.{AppendsBeginning, Tells};
+ghost use Rattle.x25_io.specs.code.Written.{AppendsPrefix, Tells};
 ghost use Rattle.x25_console.specs.Lines.{refusal_line as line_of_refusal};
-ghost use Rattle.x25_station.specs.PlainEntry.{plain_entry};
+ghost use Rattle.x25_station.specs.code.PlainEntry.{plain_entry};
 ghost use Rattle.x25_station.specs.StationError.{number_of};
 ghost use Rattle.x25_pipe.specs.Piped.{enters, marks, saying_line, sayings_text, sends};
 ghost use Rattle.x25_pipe.specs.Watched.{plain_mark};
 
 use crate::mark::Mark;
 use x25_console::{tell, write_frame, write_refusal};
-use x25_entries::{Line, write_entry};
 use x25_io::{Fault, Output, Sink};
 use x25_station::{Entry, Role, StationError};
+use x25_transcript::{Line, write_entry};
 
 #[tactic(auto, unfolding(crate::specs::Piped::saying_line))]
 fn tell_entry<W: Sink>(
@@ -24,7 +24,7 @@ fn tell_entry<W: Sink>(
     ensures kept { OnOk result (W.is_marked writer.new ≡ W.is_marked writer.old) }
     ensures tells { (old : Option (List ℕ)) (told : List ℕ) → Tells old (W.contents writer.old) output.old told
         → MatchResult result (λ _. Tells old (W.contents writer.new) output.new (told ++ saying_line end (enters (plain_entry entry.now))))
-        (λ _. AppendsBeginning old (W.contents writer.new) (told ++ saying_line end (enters (plain_entry entry.now)))) }
+        (λ _. AppendsPrefix old (W.contents writer.new) (told ++ saying_line end (enters (plain_entry entry.now)))) }
     ensures write { IsErrOf result Fault.Write → W.is_marked writer.new ≡ true }
     ensures memory { IsErrOf result Fault.NoMemory → W.is_marked writer.new ≡ W.is_marked writer.old }
     ensures read { IsErrOf result Fault.Read → ⊥ }
@@ -46,7 +46,7 @@ fn tell_frame<W: Sink>(
     ensures kept { OnOk result (W.is_marked writer.new ≡ W.is_marked writer.old) }
     ensures tells { (old : Option (List ℕ)) (told : List ℕ) → Tells old (W.contents writer.old) output.old told
         → MatchResult result (λ _. Tells old (W.contents writer.new) output.new (told ++ saying_line end (sends frame.now.items)))
-        (λ _. AppendsBeginning old (W.contents writer.new) (told ++ saying_line end (sends frame.now.items))) }
+        (λ _. AppendsPrefix old (W.contents writer.new) (told ++ saying_line end (sends frame.now.items))) }
     ensures write { IsErrOf result Fault.Write → W.is_marked writer.new ≡ true }
     ensures memory { IsErrOf result Fault.NoMemory → W.is_marked writer.new ≡ W.is_marked writer.old }
     ensures read { IsErrOf result Fault.Read → ⊥ }
@@ -67,7 +67,7 @@ pub(crate) fn tell_entries<W: Sink>(
     ensures kept { OnOk result (W.is_marked writer.new ≡ W.is_marked writer.old) }
     ensures tells { (old : Option (List ℕ)) (told : List ℕ) → Tells old (W.contents writer.old) output.old told
         → MatchResult result (λ _. Tells old (W.contents writer.new) output.new (told ++ sayings_text end (map enters (map plain_entry entries.now))))
-        (λ _. AppendsBeginning old (W.contents writer.new) (told ++ sayings_text end (map enters (map plain_entry entries.now)))) }
+        (λ _. AppendsPrefix old (W.contents writer.new) (told ++ sayings_text end (map enters (map plain_entry entries.now)))) }
     ensures write { IsErrOf result Fault.Write → W.is_marked writer.new ≡ true }
     ensures memory { IsErrOf result Fault.NoMemory → W.is_marked writer.new ≡ W.is_marked writer.old }
     ensures read { IsErrOf result Fault.Read → ⊥ }
@@ -88,7 +88,7 @@ pub(crate) fn tell_frames<W: Sink>(
     ensures kept { OnOk result (W.is_marked writer.new ≡ W.is_marked writer.old) }
     ensures tells { (old : Option (List ℕ)) (told : List ℕ) → Tells old (W.contents writer.old) output.old told
         → MatchResult result (λ _. Tells old (W.contents writer.new) output.new (told ++ sayings_text end (map sends (map (λ frame. frame.items) frames.now))))
-        (λ _. AppendsBeginning old (W.contents writer.new) (told ++ sayings_text end (map sends (map (λ frame. frame.items) frames.now)))) }
+        (λ _. AppendsPrefix old (W.contents writer.new) (told ++ sayings_text end (map sends (map (λ frame. frame.items) frames.now)))) }
     ensures write { IsErrOf result Fault.Write → W.is_marked writer.new ≡ true }
     ensures memory { IsErrOf result Fault.NoMemory → W.is_marked writer.new ≡ W.is_marked writer.old }
     ensures read { IsErrOf result Fault.Read → ⊥ }
@@ -109,7 +109,7 @@ pub(crate) fn tell_refusal<W: Sink>(
     ensures kept { OnOk result (W.is_marked writer.new ≡ W.is_marked writer.old) }
     ensures tells { (old : Option (List ℕ)) (told : List ℕ) → Tells old (W.contents writer.old) output.old told
         → MatchResult result (λ _. Tells old (W.contents writer.new) output.new (told ++ line_of_refusal (number_of error)))
-        (λ _. AppendsBeginning old (W.contents writer.new) (told ++ line_of_refusal (number_of error))) }
+        (λ _. AppendsPrefix old (W.contents writer.new) (told ++ line_of_refusal (number_of error))) }
     ensures write { IsErrOf result Fault.Write → W.is_marked writer.new ≡ true }
     ensures memory { IsErrOf result Fault.NoMemory → W.is_marked writer.new ≡ W.is_marked writer.old }
     ensures read { IsErrOf result Fault.Read → ⊥ }
@@ -145,7 +145,7 @@ pub(crate) fn tell_mark<W: Sink>(
     ensures kept { OnOk result (W.is_marked writer.new ≡ W.is_marked writer.old) }
     ensures tells { (end : Role) (old : Option (List ℕ)) (told : List ℕ) → Tells old (W.contents writer.old) output.old told
         → MatchResult result (λ _. Tells old (W.contents writer.new) output.new (told ++ saying_line end (marks (plain_mark mark) is_idle)))
-        (λ _. AppendsBeginning old (W.contents writer.new) (told ++ saying_line end (marks (plain_mark mark) is_idle))) }
+        (λ _. AppendsPrefix old (W.contents writer.new) (told ++ saying_line end (marks (plain_mark mark) is_idle))) }
     ensures write { IsErrOf result Fault.Write → W.is_marked writer.new ≡ true }
     ensures memory { IsErrOf result Fault.NoMemory → W.is_marked writer.new ≡ W.is_marked writer.old }
     ensures read { IsErrOf result Fault.Read → ⊥ }

@@ -65,7 +65,7 @@ pub(crate) enum Holds {
 #[derive(Clone, Copy, Debug, PartialEq, Eq)]
 pub(crate) struct Answers {
     pub is_idle: bool,
-    pub is_waiting: bool,
+    pub awaits_ua: bool,
     pub timer_runs: bool,
     pub acknowledged: u8,
     pub holds: Holds,
@@ -75,7 +75,7 @@ pub(crate) struct Answers {
 pub(crate) fn answers_of(station: &Station) -> Answers {
     Answers {
         is_idle: station.idle(),
-        is_waiting: station.is_waiting(),
+        awaits_ua: station.awaits_ua(),
         timer_runs: station.timer_runs(),
         acknowledged: station.acknowledged().get(),
         holds: Holds::Stretch(station.stretch(1)),

@@ -1,7 +1,7 @@
 //! Lines that are shown, in memory whose refused growths are asked for again: one refusal doesn't end the player itself.
 use std::alloc::{AllocError, Global};
-use x25_entries::{Line, entry_line};
 use x25_station::{Entry, Role};
+use x25_transcript::{Line, entry_line};
 
 /// As many characters are set aside at first.
 const ROOM: usize = 8_192;

@@ -1,7 +1,7 @@
 //! Two links, and the lines between them. What a user sends is handed down as one packet by `put_packet`, and what interrupts by
 //! `room` and `put`, as the packet layer hands packets down.
 ghost use Rattle.std.specs.Prelude.{◌≤◌, vec_len};
-ghost use Rattle.x25_link.specs.Link.{limit_of};
+ghost use Rattle.x25_link.specs.code.Link.{limit_of};
 
 use crate::counts::{Counts, Kind};
 use crate::ends::{Answers, Ends, Holds, Outcome, Seen, Trouble};
@@ -209,7 +209,7 @@ impl End {
     fn answers(&self) -> Answers {
         Answers {
             is_idle: self.link.idle(),
-            is_waiting: self.link.is_waiting(),
+            awaits_ua: self.link.awaits_ua(),
             timer_runs: self.link.timer_runs(),
             acknowledged: self.link.acknowledged().get(),
             holds: Holds::Packets {

@@ -2,4 +2,4 @@ pub mod Octets
 pub mod PlainLine
 pub mod Spelling
 pub mod Reading
-pub mod ReadingLaw
+pub mod laws

@@ -3,8 +3,8 @@ use Rattle.std.proofs.Common.{◌≡◌, ◌∙◌, ℕ, zero, suc, Bool, Some, 
 use Rattle.x25_bits.specs.declared.role.Role.{Role}
 use Rattle.x25_station.specs.declared.config.Cfg.{Cfg}
 use Rattle.x25_world.specs.World.{World, Receives}
-use Rattle.x25_world.specs.ShownWorld.{ShownWorld}
-use Rattle.x25_world.specs.FitsWorld.{Gone, FitsWorld}
+use Rattle.x25_world.specs.code.ShownWorld.{ShownWorld}
+use Rattle.x25_world.specs.code.FitsWorld.{Gone, FitsWorld}
 use Rattle.x25_sim.specs.Simulated.{quiet, and_then, event_turn, next_end, delivered_to, drained}
 
 module _ (cfg : Cfg) (tap : Bool) where

@@ -3,15 +3,15 @@ use Rattle.std.proofs.Common.{◌≡◌, ◌∙◌, ℕ, Bool, List, ◌++◌, O
 use Rattle.std.specs.Prelude.{◌||◌}
 use Rattle.std.proofs.lemmas.List.{append-nil}
 use Rattle.std.proofs.Math.Bool.{or-false}
-use Rattle.x25_io.specs.Written.{AppendsBeginning}
+use Rattle.x25_io.specs.code.Written.{AppendsPrefix}
 use Rattle.x25_station.specs.declared.config.Cfg.{Cfg}
 use Rattle.x25_world.specs.World.{World}
 use Rattle.x25_sim.specs.declared.stage.Stage.{Stage}
 use Rattle.x25_sim.specs.Sayings.{sayings_text, has_refusal}
 use Rattle.x25_sim.specs.Simulated.{Turn, quiet, and_then}
-use Rattle.x25_sim.specs.Stands.{Stands}
-use Rattle.x25_sim.specs.Leaves.{Leaves}
-use Rattle.x25_io.proofs.ToldLemmas.{beginning_more, begins}
+use Rattle.x25_sim.specs.code.Stands.{Stands}
+use Rattle.x25_sim.specs.code.Leaves.{Leaves}
+use Rattle.x25_io.proofs.ToldLemmas.{prefix_more, told_prefix}
 use Rattle.x25_sim.proofs.StandLemmas.{StandsAt, BeginsAt, parts_text, parts_refused}
 
 module _ (cfg : Cfg) (tap : Bool) (old now next : Option (List ℕ)) (s u : Stage) (told : List ℕ) (refused : Bool) (whole : Turn) where
@@ -54,10 +54,10 @@ module _ (cfg : Cfg) (tap : Bool) (old now next : Option (List ℕ)) (s u : Stag
   pub part_failed : (all first rest : World → Turn) (l : Leaves cfg tap old now s all told refused whole) → all l.at ≡ and_then rest (first l.at)
       → BeginsAt old next l.text (first l.at) → BeginsAt old next told whole
   part_failed all first rest l e b =
-      subst (AppendsBeginning old next)
+      subst (AppendsPrefix old next)
       (parts_text l.text (first l.at).sayings (rest (first l.at).next).sayings ∙ sym (ap (λ t. l.text ++ sayings_text t.sayings) e) ∙ l.same)
-      (beginning_more old next (l.text ++ sayings_text (first l.at).sayings) (sayings_text (rest (first l.at).next).sayings) b)
+      (prefix_more old next (l.text ++ sayings_text (first l.at).sayings) (sayings_text (rest (first l.at).next).sayings) b)
 
   -- nothing more is told
   pub given_up : (rest : World → Turn) → Leaves cfg tap old now s rest told refused whole → BeginsAt old now told whole
-  given_up rest l = subst (AppendsBeginning old now) l.same (beginning_more old now l.text (sayings_text (rest l.at).sayings) (begins old now s.output l.text l.stands.tells))
+  given_up rest l = subst (AppendsPrefix old now) l.same (prefix_more old now l.text (sayings_text (rest l.at).sayings) (told_prefix old now s.output l.text l.stands.tells))

@@ -1,4 +1,4 @@
-pub mod SimRows
+pub mod rows
 pub mod SayingLemmas
 pub mod StepLemmas
 pub mod StandLemmas

@@ -2,16 +2,16 @@
 use Rattle.std.proofs.Common.{◌≡◌, ℕ, Bool, false, List, [], Option, Some, None, refl, sym, subst}
 use Rattle.std.specs.Prelude.{IfSome}
 use Rattle.x25_io.specs.Lines.{lines_of}
-use Rattle.x25_io.specs.Written.{AppendsBeginning}
+use Rattle.x25_io.specs.code.Written.{AppendsPrefix}
 use Rattle.x25_station.specs.declared.config.Cfg.{Cfg}
 use Rattle.x25_sim.specs.Sayings.{sayings_text, has_refusal}
 use Rattle.x25_sim.specs.Simulated.{turns, opened, simulated, sim_text}
 use Rattle.x25_io.specs.HeldLine.{HoldsLine}
-use Rattle.x25_sim.specs.Stream.{Leads}
+use Rattle.x25_sim.specs.code.Stream.{Leads}
 use Rattle.x25_io.specs.declared.held_line.HeldLine.{HeldLine}
 use Rattle.x25_sim.specs.declared.simulator.Simulator.{Simulator}
 use Rattle.x25_sim.specs.declared.stage.Stage.{Stage}
-use Rattle.x25_io.proofs.ToldLemmas.{none_told, begins_more}
+use Rattle.x25_io.proofs.ToldLemmas.{none_told, told_more}
 use Rattle.x25_sim.proofs.StandLemmas.{StandsAt, BeginsAt, begins_before, parts_text, parts_refused}
 
 pub if_some : (o : Option (List ℕ)) (P : List ℕ → Type 0) → ((script : List ℕ) → o ≡ Some script → P script) → IfSome o P
@@ -19,15 +19,15 @@ if_some None P f = tt
 if_some (Some script) P f = f script refl
 
 -- before the first step
-pub nothing_written : (written : Option (List ℕ)) (text : List ℕ) → AppendsBeginning written written text
-nothing_written written text = begins_more written written [] [] text (none_told written [] refl)
+pub nothing_written : (written : Option (List ℕ)) (text : List ℕ) → AppendsPrefix written written text
+nothing_written written text = told_more written written [] [] text (none_told written [] refl)
 
 module _ (cfg : Cfg) (down tap asked : Bool) (same : asked ≡ tap) (old now : Option (List ℕ)) (stage : Stage) (script : List ℕ) where
   -- what comes before the script failed
-  pub opening_failed : BeginsAt old now [] (opened cfg down asked) → AppendsBeginning old now (sim_text cfg down tap script)
+  pub opening_failed : BeginsAt old now [] (opened cfg down asked) → AppendsPrefix old now (sim_text cfg down tap script)
   unfolding simulated
   opening_failed b =
-      subst (λ a. AppendsBeginning old now (sim_text cfg down a script)) same
+      subst (λ a. AppendsPrefix old now (sim_text cfg down a script)) same
       (begins_before cfg asked old now stage [] false (turns cfg asked (lines_of script)) (opened cfg down asked) b)
 
   -- the script is still to come

@@ -3,17 +3,17 @@ use Rattle.std.proofs.Common.{◌≡◌, ◌∙◌, ℕ, Bool, true, false, List
 use Rattle.std.specs.Prelude.{◌⊎◌, ◌||◌}
 use Rattle.std.proofs.lemmas.List.Folds.{list_any-append}
 use Rattle.std.proofs.Math.Bool.{or_assoc, or-false, or-true}
-use Rattle.x25_io.specs.Written.{AppendsBeginning, Tells}
+use Rattle.x25_io.specs.code.Written.{AppendsPrefix, Tells}
 use Rattle.x25_station.specs.declared.config.Cfg.{Cfg}
 use Rattle.x25_world.specs.World.{World, WorldOutcome, refusal_of, after, start, connected}
-use Rattle.x25_world.specs.FitsWorld.{FitsWorld, all_of, nothing_gone}
+use Rattle.x25_world.specs.code.FitsWorld.{FitsWorld, all_of, nothing_gone}
 use Rattle.x25_world.specs.declared.error.WorldError.{WorldError}
 use Rattle.x25_sim.specs.declared.stage.Stage.{Stage}
 use Rattle.x25_sim.specs.Sayings.{Saying, refuses, reads_nothing, sayings_text, saying_line, refusal_number, is_refusal, has_refusal}
 use Rattle.x25_sim.specs.Simulated.{Turn, and_then, turn_of, told_between, asked_turn, connecting, opened}
-use Rattle.x25_sim.specs.Stands.{Stands, opening}
+use Rattle.x25_sim.specs.code.Stands.{Stands, opening}
 use Rattle.x25_console.specs.Lines.{refusal_line}
-use Rattle.x25_io.proofs.ToldLemmas.{beginning_more}
+use Rattle.x25_io.proofs.ToldLemmas.{prefix_more}
 use Rattle.x25_sim.proofs.SayingLemmas.{text-append}
 use Rattle.x25_sim.proofs.StepLemmas.{happened_turn, declined_turn, step_accepts, refusal_told}
 
@@ -22,7 +22,7 @@ abbrev pub StandsAt : Cfg → Bool → Option (List ℕ) → Option (List ℕ) �
 StandsAt cfg tap old next u told refused t = Stands cfg tap old next u t.next (told ++ sayings_text t.sayings) (refused || has_refusal t.sayings)
 
 abbrev pub BeginsAt : Option (List ℕ) → Option (List ℕ) → List ℕ → Turn → Type 0
-BeginsAt old next told t = AppendsBeginning old next (told ++ sayings_text t.sayings)
+BeginsAt old next told t = AppendsPrefix old next (told ++ sayings_text t.sayings)
 
 module _ (cfg : Cfg) (tap : Bool) (old now next : Option (List ℕ)) (s u : Stage) (w : World) (o : WorldOutcome) (told : List ℕ) (refused : Bool)
     (h : Stands cfg tap old now s w told refused) where
@@ -41,10 +41,10 @@ module _ (cfg : Cfg) (tap : Bool) (old now next : Option (List ℕ)) (s u : Stag
         } in
         subst (StandsAt cfg tap old next u told refused) (sym (happened_turn tap w o accepted)) stands
 
-    pub begins_moved : AppendsBeginning old next (told ++ sayings_text (told_between s.tap w (after w o))) → BeginsAt old next told (turn_of tap w o)
+    pub begins_moved : AppendsPrefix old next (told ++ sayings_text (told_between s.tap w (after w o))) → BeginsAt old next told (turn_of tap w o)
     begins_moved b =
         subst (BeginsAt old next told) (sym (happened_turn tap w o accepted))
-        (subst (λ a. AppendsBeginning old next (told ++ sayings_text (told_between a w (after w o)))) h.asked b)
+        (subst (λ a. AppendsPrefix old next (told ++ sayings_text (told_between a w (after w o)))) h.asked b)
 
   -- ---- an event was refused
 
@@ -61,9 +61,9 @@ module _ (cfg : Cfg) (tap : Bool) (old now next : Option (List ℕ)) (s u : Stag
         } in
         subst (StandsAt cfg tap old next u told refused) (sym (declined_turn tap w o error refusal)) stands
 
-    pub begins_refused : AppendsBeginning old next (told ++ refusal_line (refusal_number error)) → BeginsAt old next told (turn_of tap w o)
+    pub begins_refused : AppendsPrefix old next (told ++ refusal_line (refusal_number error)) → BeginsAt old next told (turn_of tap w o)
     begins_refused b =
-        subst (BeginsAt old next told) (sym (declined_turn tap w o error refusal)) (subst (λ t. AppendsBeginning old next (told ++ t)) (sym (refusal_told error)) b)
+        subst (BeginsAt old next told) (sym (declined_turn tap w o error refusal)) (subst (λ t. AppendsPrefix old next (told ++ t)) (sym (refusal_told error)) b)
 
 pub refusal_is : {P Q : Type 0} → P ⊎ Q → (Q → ⊥) → P
 refusal_is (inl p) other = p
@@ -85,9 +85,9 @@ module _ (cfg : Cfg) (tap : Bool) (old now next : Option (List ℕ)) (s u : Stag
     status = status ∙ sym (or-true refused);
   }
 
-pub begins_unread : (cfg : Cfg) (tap : Bool) (old next : Option (List ℕ)) (w : World) (told : List ℕ) → AppendsBeginning old next (told ++ codes "? 60\n")
+pub begins_unread : (cfg : Cfg) (tap : Bool) (old next : Option (List ℕ)) (w : World) (told : List ℕ) → AppendsPrefix old next (told ++ codes "? 60\n")
     → BeginsAt old next told (asked_turn cfg tap w None)
-begins_unread cfg tap old next w told b = subst (λ t. AppendsBeginning old next (told ++ t)) (sym nothing_read) b
+begins_unread cfg tap old next w told b = subst (λ t. AppendsPrefix old next (told ++ t)) (sym nothing_read) b
 
 -- ---- one turn behind another
 
@@ -105,11 +105,11 @@ module _ (cfg : Cfg) (tap : Bool) (old next : Option (List ℕ)) (u : Stage) (to
       (subst (Stands cfg tap old next u (rest t.next).next ((told ++ sayings_text t.sayings) ++ sayings_text (rest t.next).sayings)) (parts_refused refused t.sayings (rest t.next).sayings) h)
 
   pub begins_behind : BeginsAt old next (told ++ sayings_text t.sayings) (rest t.next) → BeginsAt old next told (and_then rest t)
-  begins_behind b = subst (AppendsBeginning old next) (parts_text told t.sayings (rest t.next).sayings) b
+  begins_behind b = subst (AppendsPrefix old next) (parts_text told t.sayings (rest t.next).sayings) b
 
   pub begins_before : BeginsAt old next told t → BeginsAt old next told (and_then rest t)
   begins_before b =
-      subst (AppendsBeginning old next) (parts_text told t.sayings (rest t.next).sayings) (beginning_more old next (told ++ sayings_text t.sayings) (sayings_text (rest t.next).sayings) b)
+      subst (AppendsPrefix old next) (parts_text told t.sayings (rest t.next).sayings) (prefix_more old next (told ++ sayings_text t.sayings) (sayings_text (rest t.next).sayings) b)
 
 -- the DTE has asked that the link be set up
 pub stands_connecting : (cfg : Cfg) (tap : Bool) (old next : Option (List ℕ)) (u : Stage) → FitsWorld cfg u.world (connected cfg) (all_of (connected cfg)) → u.tap ≡ tap → u.is_refused ≡ false

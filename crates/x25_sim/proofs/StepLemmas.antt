@@ -5,8 +5,8 @@ use Rattle.std.proofs.Math.Seq.{drop-append_seam}
 use Rattle.std.proofs.lemmas.Option.{same_Some}
 use Rattle.x25_station.specs.declared.config.Cfg.{Cfg}
 use Rattle.x25_world.specs.World.{World, OnTap, AtEnd, WorldOutcome, Happened, Declined, refusal_of, after}
-use Rattle.x25_world.specs.ShownWorld.{ShownWorld}
-use Rattle.x25_world.specs.FitsWorld.{FitsWorld, all_of}
+use Rattle.x25_world.specs.code.ShownWorld.{ShownWorld}
+use Rattle.x25_world.specs.code.FitsWorld.{FitsWorld, all_of}
 use Rattle.x25_world.specs.declared.error.WorldError.{WorldError}
 use Rattle.x25_sim.specs.Sayings.{enters, taps, refuses, sayings_text, saying_line, refusal_number, has_refusal}
 use Rattle.x25_console.specs.Lines.{refusal_line}

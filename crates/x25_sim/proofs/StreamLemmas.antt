@@ -4,15 +4,15 @@ use Rattle.std.specs.Io.KnownBytes.{Appends}
 use Rattle.std.proofs.lemmas.Bool.{ne_eqb}
 use Rattle.std.proofs.lemmas.List.{append-nil}
 use Rattle.x25_io.specs.Lines.{IsOpen, lines_of}
-use Rattle.x25_io.specs.Written.{AppendsBeginning}
+use Rattle.x25_io.specs.code.Written.{AppendsPrefix}
 use Rattle.x25_station.specs.declared.config.Cfg.{Cfg}
 use Rattle.x25_world.specs.World.{World}
 use Rattle.x25_sim.specs.Sayings.{sayings_text, has_refusal}
 use Rattle.x25_sim.specs.Simulated.{Turn, quiet, and_then, turn, turns}
 use Rattle.x25_io.specs.HeldLine.{HoldsLine}
-use Rattle.x25_sim.specs.Stands.{Stands}
-use Rattle.x25_sim.specs.Leaves.{Leaves}
-use Rattle.x25_sim.specs.Stream.{Leads, WritesEnded}
+use Rattle.x25_sim.specs.code.Stands.{Stands}
+use Rattle.x25_sim.specs.code.Leaves.{Leaves}
+use Rattle.x25_sim.specs.code.Stream.{Leads, WritesEnded}
 use Rattle.x25_sim.specs.declared.simulator.Simulator.{Simulator}
 use Rattle.x25_sim.specs.declared.stage.Stage.{Stage}
 use Rattle.x25_sim.proofs.LeaveLemmas.{none_left, part_done, part_failed}
@@ -79,7 +79,7 @@ module _ (cfg : Cfg) (tap : Bool) (old now next : Option (List ℕ)) (whole : Tu
   }
 
   pub line_failed : (s : Simulator) (rest : List ℕ) (l : Leads cfg tap old now s (10 ∷ rest) whole)
-      → BeginsAt old next l.leaves.text (turn cfg tap l.begun l.leaves.at) → AppendsBeginning old next (sayings_text whole.sayings)
+      → BeginsAt old next l.leaves.text (turn cfg tap l.begun l.leaves.at) → AppendsPrefix old next (sayings_text whole.sayings)
   line_failed s rest l b =
       part_failed cfg tap old now next s.stage s.stage [] false whole (turns cfg tap (lines_of (l.begun ++ 10 ∷ rest))) (turn cfg tap l.begun) (turns cfg tap (lines_of rest)) l.leaves
       (turns_ended cfg tap l.begun rest l.leaves.at l.is_open) b
@@ -92,7 +92,7 @@ module _ (cfg : Cfg) (tap : Bool) (old now next : Option (List ℕ)) (whole : Tu
       (turns_last cfg tap l.begun l.leaves.at l.is_open some) h
 
   pub last_failed : (s : Simulator) (l : Leads cfg tap old now s [] whole) → (l.begun ≡ [] → ⊥)
-      → BeginsAt old next l.leaves.text (turn cfg tap l.begun l.leaves.at) → AppendsBeginning old next (sayings_text whole.sayings)
+      → BeginsAt old next l.leaves.text (turn cfg tap l.begun l.leaves.at) → AppendsPrefix old next (sayings_text whole.sayings)
   last_failed s l some b =
       part_failed cfg tap old now next s.stage s.stage [] false whole (turns cfg tap (lines_of (l.begun ++ []))) (turn cfg tap l.begun) (turns cfg tap (lines_of [])) l.leaves
       (turns_last cfg tap l.begun l.leaves.at l.is_open some) b
@@ -106,8 +106,8 @@ module _ (cfg : Cfg) (tap : Bool) (old now next : Option (List ℕ)) (whole : Tu
       → Leaves cfg tap old next u rest [] false whole
   left_written s u rest l h = record { at = l.at; text = l.text; status = l.status; stands = h; next = l.next; same = l.same; any = l.any }
 
-  pub left_begun : (s : Stage) (rest : World → Turn) (l : Leaves cfg tap old now s rest [] false whole) → AppendsBeginning old next l.text → AppendsBeginning old next (sayings_text whole.sayings)
-  left_begun s rest l b = subst (AppendsBeginning old next) l.same (b.0, b.1 ++ sayings_text (rest l.at).sayings, ap (λ t. t ++ sayings_text (rest l.at).sayings) b.2 ∙ append_assoc b.0 b.1 (sayings_text (rest l.at).sayings), b.3)
+  pub left_begun : (s : Stage) (rest : World → Turn) (l : Leaves cfg tap old now s rest [] false whole) → AppendsPrefix old next l.text → AppendsPrefix old next (sayings_text whole.sayings)
+  left_begun s rest l b = subst (AppendsPrefix old next) l.same (b.0, b.1 ++ sayings_text (rest l.at).sayings, ap (λ t. t ++ sayings_text (rest l.at).sayings) b.2 ∙ append_assoc b.0 b.1 (sayings_text (rest l.at).sayings), b.3)
 
   pub leads_written : (s u : Simulator) (rest : List ℕ) (l : Leads cfg tap old now s rest whole) → u.held ≡ s.held → Stands cfg tap old next u.stage l.leaves.at l.leaves.text l.leaves.status
       → Leads cfg tap old next u rest whole

@@ -5,12 +5,12 @@ use Rattle.std.specs.Io.KnownBytes.{Appends}
 use Rattle.x25_station.specs.declared.config.Cfg.{Cfg}
 use Rattle.x25_station.specs.Settings.{config_refusal}
 use Rattle.x25_world.specs.World.{World}
-use Rattle.x25_world.specs.Claims.{HasNoProcedureError}
-use Rattle.x25_world.specs.SessionClaims.{MeetInStep, AreLawfulWhereMet, AreNamedInSessions, AllArrive, UnmetAreToldNothing, OpenStretchesMeet, SessionsKeepOrder}
+use Rattle.x25_world.specs.laws.Claims.{HasNoProcedureError}
+use Rattle.x25_world.specs.laws.SessionClaims.{MeetInStep, AreLawfulWhereMet, AreNamedInSessions, AllArrive, UnmetAreToldNothing, OpenStretchesMeet, SessionsKeepOrder}
 use Rattle.x25_world.specs.SessionWindow.{UpIsInWindow}
 use Rattle.x25_sim.specs.Simulated.{simulated, sim_text}
-use Rattle.x25_sim.specs.RunLaw.{frames_in, OfScripts, OfScriptsSetUp, OfAllScripts, ScriptsAreTold, ScriptsAreTapped}
-use Rattle.x25_sim.specs.WritesRun.{Writes, WritesOnce, WritesSetUp}
+use Rattle.x25_sim.specs.laws.RunLaw.{frames_in, OfScripts, OfScriptsSetUp, OfAllScripts, ScriptsAreTold, ScriptsAreTapped}
+use Rattle.x25_sim.specs.laws.WritesRun.{Writes, WritesOnce, WritesSetUp}
 
 tapped : (cfg : Cfg) (down tap : Bool) (script : List ℕ) → ScriptsAreTapped → tap ≡ true → frames_in (simulated cfg down tap script).sayings ≡ (simulated cfg down tap script).next.tap
 tapped cfg down true script law asked = law cfg down script

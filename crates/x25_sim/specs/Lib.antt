@@ -1,9 +1,5 @@
 pub mod Sayings
 pub mod Simulated
-pub mod RunLaw
-pub mod WritesRun
-pub mod ScriptRows
-pub mod Stands
-pub mod Leaves
-pub mod Stream
-pub mod Ready
+pub mod code
+pub mod laws
+pub mod rows

@@ -2,7 +2,7 @@
 use Rattle.std.specs.Prelude.{ℕ, Bool, true, false, List}
 use Rattle.std.specs.List.{flat_map, list_any}
 use Rattle.x25_station.specs.StationError as station
-use Rattle.x25_entries.specs.EntryText.{entry_line}
+use Rattle.x25_transcript.specs.EntryText.{entry_line}
 use Rattle.x25_console.specs.Lines.{frame_line, refusal_line, nothing_line}
 use Rattle.x25_world.specs.World.{AtEnd, OnTap}
 use Rattle.x25_world.specs.WorldError as world

@@ -1,11 +1,11 @@
 //! What the simulator writes is a run, and what holds of it, as laws about the definition: each is the contract of a function that
 //! does nothing.
-ghost use Rattle.x25_world.specs.Claims.{ArrivesAll, HasNoProcedureError, IsLawful, IsNamed};
+ghost use Rattle.x25_world.specs.laws.Claims.{ArrivesAll, HasNoProcedureError, IsLawful, IsNamed};
 ghost use Rattle.x25_world.specs.WindowGoes.{IsInWindow};
-ghost use Rattle.x25_world.specs.SessionClaims.{AllArrive, AreLawfulWhereMet, AreNamedInSessions, MeetInStep, OpenStretchesMeet, UnmetAreToldNothing};
+ghost use Rattle.x25_world.specs.laws.SessionClaims.{AllArrive, AreLawfulWhereMet, AreNamedInSessions, MeetInStep, OpenStretchesMeet, UnmetAreToldNothing};
 ghost use Rattle.x25_world.specs.SessionWindow.{UpIsInWindow};
-ghost use Rattle.x25_sim.specs.RunLaw.{OfAllScripts, OfScripts, OfScriptsSetUp, ScriptsAreRuns, ScriptsAreTapped, ScriptsAreTold, UpOnceUnlessAsked};
-ghost use Rattle.x25_sim.specs.ScriptRows.{BothEndsGoDown, CallsCollide, DamageIsSeen, FramesAreWritten, LinkGoesDown, LinkIsSetUp, LinkIsSetUpAgain, LinksComeUp, LostUaComesAgain, MessagesArrive, OtherLinesAreRefused, ResetIsDone, RestartIsDone};
+ghost use Rattle.x25_sim.specs.laws.RunLaw.{OfAllScripts, OfScripts, OfScriptsSetUp, ScriptsAreRuns, ScriptsAreTapped, ScriptsAreTold, UpOnceUnlessAsked};
+ghost use Rattle.x25_sim.specs.rows.ScriptRows.{BothEndsGoDown, CallsCollide, DamageIsSeen, FramesAreWritten, LinkGoesDown, LinkIsSetUp, LinkIsSetUpAgain, LinksComeUp, LostUaComesAgain, MessagesArrive, OtherLinesAreRefused, ResetIsDone, RestartIsDone};
 
 use x25_script::lines_are_in_octets;
 use x25_world::{stations_meet_in_sessions, two_stations_keep_order};

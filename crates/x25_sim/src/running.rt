@@ -1,14 +1,14 @@
 //! Scripts answered by transcripts.
 ghost use Rattle.std.specs.Prelude.{◌≡◌, ◌<◌, ◌≤◌, ◌-◌, ◌^◌, ℕ, true, List, Some, None, IfOk, OnOk, OnErr, IfSome, IsErrOf, length};
 ghost use Rattle.std.specs.Io.KnownBytes.{Appends};
-ghost use Rattle.x25_io.specs.Written.{AppendsBeginning};
+ghost use Rattle.x25_io.specs.code.Written.{AppendsPrefix};
 ghost use Rattle.x25_station.specs.Settings.{config_refusal};
 ghost use Rattle.x25_sim.specs.Simulated.{simulated, sim_status, sim_text};
-ghost use Rattle.x25_sim.specs.Stream.{WritesEnded};
-ghost use Rattle.x25_sim.specs.WritesRun.{Writes, WritesOnce, WritesSetUp};
-ghost use Rattle.x25_world.specs.Claims.{ArrivesAll, HasNoProcedureError, IsLawful, IsNamed};
+ghost use Rattle.x25_sim.specs.code.Stream.{WritesEnded};
+ghost use Rattle.x25_sim.specs.laws.WritesRun.{Writes, WritesOnce, WritesSetUp};
+ghost use Rattle.x25_world.specs.laws.Claims.{ArrivesAll, HasNoProcedureError, IsLawful, IsNamed};
 ghost use Rattle.x25_world.specs.WindowGoes.{IsInWindow};
-ghost use Rattle.x25_world.specs.SessionClaims.{SessionsKeepOrder};
+ghost use Rattle.x25_world.specs.laws.SessionClaims.{SessionsKeepOrder};
 
 use crate::law::{scripts_keep_order, scripts_meet_in_sessions};
 use crate::simulation::Simulation;
@@ -62,7 +62,7 @@ pub fn sim<R: Source, W: Sink>(
 
     // What was written before a fault is a beginning of it.
     ensures fault { OnErr result (IfSome (R.remaining reader.old) (λ script. length script < 2 ^ 64 - 1
-        → AppendsBeginning (W.contents writer.old) (W.contents writer.new) (sim_text cfg down tap script))) }
+        → AppendsPrefix (W.contents writer.old) (W.contents writer.new) (sim_text cfg down tap script))) }
     // At a failed read what all lines that had ended gave is written.
     ensures ended { IsErrOf result Fault.Read → IfSome (R.remaining reader.old) (λ script.
         (rest : List ℕ) × (R.remaining reader.new ≡ Some rest)

@@ -1,10 +1,10 @@
 //! A simulation, from its buffers to its status.
 ghost use Rattle.std.specs.Prelude.{◌≡◌, ◌<◌, ◌≤◌, ◌-◌, ◌^◌, ℕ, Bool, true, List, Some, None, IfOk, IfErr, OnOk, OnErr, IfSome, IsErrOf, length, vec_len};
 ghost use Rattle.std.specs.Io.KnownBytes.{Appends};
-ghost use Rattle.x25_io.specs.Written.{AppendsBeginning};
+ghost use Rattle.x25_io.specs.code.Written.{AppendsPrefix};
 ghost use Rattle.x25_station.specs.declared.config.Cfg.{Cfg as Settings};
 ghost use Rattle.x25_sim.specs.Simulated.{simulated, sim_status, sim_text};
-ghost use Rattle.x25_sim.specs.Stream.{WritesEnded};
+ghost use Rattle.x25_sim.specs.code.Stream.{WritesEnded};
 
 use crate::simulator::Simulator;
 use crate::stage::Stage;
@@ -24,7 +24,7 @@ pub struct Simulation {
 }
 
 impl Simulation {
-    ghost use Rattle.x25_sim.specs.Ready.{IsReady};
+    ghost use Rattle.x25_sim.specs.code.Ready.{IsReady};
 
     /// Makes the stations and the buffers. With `down` both links are down where the script begins, and with `tap` the frames of
     /// each step are told too. It has no reader and no writer, so a refusal reads nothing and writes nothing.
@@ -60,7 +60,7 @@ impl Simulation {
         ensures status { (cfg : Settings) (down tap : Bool) → IsReady cfg down tap self → IfOk result (λ status. IfSome (R.remaining reader.old) (λ script. length script < 2 ^ 64 - 1
             → status ≡ sim_status cfg down tap script)) }
         ensures fault { (cfg : Settings) (down tap : Bool) → IsReady cfg down tap self → OnErr result (IfSome (R.remaining reader.old) (λ script. length script < 2 ^ 64 - 1
-            → AppendsBeginning (W.contents writer.old) (W.contents writer.new) (sim_text cfg down tap script))) }
+            → AppendsPrefix (W.contents writer.old) (W.contents writer.new) (sim_text cfg down tap script))) }
         ensures ended { (cfg : Settings) (down tap : Bool) → IsReady cfg down tap self → IsErrOf result Fault.Read → IfSome (R.remaining reader.old) (λ script.
             (rest : List ℕ) × (R.remaining reader.new ≡ Some rest)
             × WritesEnded cfg tap (W.contents writer.old) (W.contents writer.new) rest (simulated cfg down tap script)) }

@@ -29,13 +29,13 @@ impl Simulator {
     ghost use Rattle.std.specs.Prelude.{◌≡◌, ◌++◌, ◌∷◌, [], true, false, Bool, Option, OnOk, IsErrOf, MatchResult};
     ghost use Rattle.std.specs.Io.KnownBytes.{Appends};
     ghost use Rattle.x25_io.specs.Lines.{IsOpen, lines_of};
-    ghost use Rattle.x25_io.specs.Written.{AppendsBeginning};
+    ghost use Rattle.x25_io.specs.code.Written.{AppendsPrefix};
     ghost use Rattle.x25_station.specs.declared.config.Cfg.{Cfg as Settings};
     ghost use Rattle.x25_sim.specs.Sayings.{has_refusal, sayings_text};
     ghost use Rattle.x25_sim.specs.Simulated.{Turn, turn, turns};
-    ghost use Rattle.x25_sim.specs.Leaves.{Leaves};
-    ghost use Rattle.x25_sim.specs.Stands.{Turns};
-    ghost use Rattle.x25_sim.specs.Stream.{Leads};
+    ghost use Rattle.x25_sim.specs.code.Leaves.{Leaves};
+    ghost use Rattle.x25_sim.specs.code.Stands.{Turns};
+    ghost use Rattle.x25_sim.specs.code.Stream.{Leads};
 
     /// No line has begun.
     pub(crate) fn new(held: HeldLine, octets: Vec<u8>, stage: Stage) -> Simulator
@@ -87,7 +87,7 @@ impl Simulator {
         ensures kept { OnOk result (W.is_marked writer.new ≡ W.is_marked writer.old) }
         ensures leads { (cfg : Settings) (tap : Bool) (old : Option (List ℕ)) (rest : List ℕ) (whole : Turn)
             → Leads cfg tap old (W.contents writer.old) self.old (tail.now ++ 10 ∷ rest) whole
-            → MatchResult result (λ _. Leads cfg tap old (W.contents writer.new) self.new rest whole) (λ _. AppendsBeginning old (W.contents writer.new) (sayings_text whole.sayings)) }
+            → MatchResult result (λ _. Leads cfg tap old (W.contents writer.new) self.new rest whole) (λ _. AppendsPrefix old (W.contents writer.new) (sayings_text whole.sayings)) }
         ensures write { IsErrOf result Fault.Write → W.is_marked writer.new ≡ true }
         ensures memory { IsErrOf result Fault.NoMemory → W.is_marked writer.new ≡ W.is_marked writer.old }
         ensures read { IsErrOf result Fault.Read → ⊥ }
@@ -102,7 +102,7 @@ impl Simulator {
         ensures text { (cfg : Settings) (tap : Bool) (old : Option (List ℕ)) (whole : Turn)
             → Leaves cfg tap old (W.contents writer.old) self.old.stage (turns cfg tap (lines_of [])) [] false whole
             → MatchResult result (λ _. Appends old (W.contents writer.new) (sayings_text whole.sayings) × (self.new.stage.is_refused ≡ has_refusal whole.sayings))
-            (λ _. AppendsBeginning old (W.contents writer.new) (sayings_text whole.sayings)) }
+            (λ _. AppendsPrefix old (W.contents writer.new) (sayings_text whole.sayings)) }
         ensures write { IsErrOf result Fault.Write → W.is_marked writer.new ≡ true }
         ensures memory { IsErrOf result Fault.NoMemory → W.is_marked writer.new ≡ W.is_marked writer.old }
         ensures read { IsErrOf result Fault.Read → ⊥ }
@@ -115,7 +115,7 @@ impl Simulator {
         ensures kept { OnOk result (W.is_marked writer.new ≡ W.is_marked writer.old) }
         ensures text { (cfg : Settings) (tap : Bool) (old : Option (List ℕ)) (whole : Turn) → Leads cfg tap old (W.contents writer.old) self.old [] whole
             → MatchResult result (λ _. Appends old (W.contents writer.new) (sayings_text whole.sayings) × (self.new.stage.is_refused ≡ has_refusal whole.sayings))
-            (λ _. AppendsBeginning old (W.contents writer.new) (sayings_text whole.sayings)) }
+            (λ _. AppendsPrefix old (W.contents writer.new) (sayings_text whole.sayings)) }
         ensures write { IsErrOf result Fault.Write → W.is_marked writer.new ≡ true }
         ensures memory { IsErrOf result Fault.NoMemory → W.is_marked writer.new ≡ W.is_marked writer.old }
         ensures read { IsErrOf result Fault.Read → ⊥ }
@@ -130,7 +130,7 @@ impl Simulator {
 
 impl TextTaker for Simulator {
     ghost use Rattle.x25_sim.specs.Simulated.{sim_status, sim_text, simulated};
-    ghost use Rattle.x25_sim.specs.Stream.{Asked, Simulates, WritesEnded};
+    ghost use Rattle.x25_sim.specs.code.Stream.{Asked, Simulates, WritesEnded};
 
     // How the simulation was asked for.
     ghost Setting = { Asked };

@@ -1,17 +1,16 @@
 //! Two stations, a line between them, and what is told of them.
 ghost use Rattle.std.specs.Prelude.{◌≡◌, ◌↔◌, IfOk, IsTrue};
-ghost use Rattle.x25_bits.specs.Role.{other};
-ghost use Rattle.x25_line.specs.RawMachine.{end_of};
-ghost use Rattle.x25_world.specs.FitsWorld.{FitsWorld, nothing_gone};
-ghost use Rattle.x25_sim.specs.Stands.{opening};
+ghost use Rattle.x25_bits.specs.Role.{end_of, other};
+ghost use Rattle.x25_world.specs.code.FitsWorld.{FitsWorld, nothing_gone};
+ghost use Rattle.x25_sim.specs.code.Stands.{opening};
 
 use crate::telling::{tell_entries, tell_frames, tell_refusal};
 use std::alloc::Global;
 use x25_console::{read_octets, read_user, station_command, tell_nothing};
-use x25_entries::Line;
 use x25_io::{Fault, Output, Sink};
 use x25_script::{Command, ScriptLine};
 use x25_station::Cfg;
+use x25_transcript::Line;
 use x25_world::{Direction, Event, Role, World, WorldError};
 
 /// A world whose transcript and frames were told and let go of, the line that tells, and what waits to be written.
@@ -55,17 +54,17 @@ fn away_from(end: Role) -> Direction
 impl Stage {
     ghost use Rattle.std.specs.Prelude.{◌≡◌, ◌⊎◌, ◌++◌, true, ℕ, List, Bool, Option, Some, None, [], false, OnOk, OnErr, IfErr, IsErrOf, MatchResult, option_map};
     ghost use Rattle.x25_script.specs.PlainLine.{plain, plain_command};
-    ghost use Rattle.x25_io.specs.Written.{AppendsBeginning, Tells};
+    ghost use Rattle.x25_io.specs.code.Written.{AppendsPrefix, Tells};
     ghost use Rattle.x25_station.specs.declared.config.Cfg.{Cfg as Settings};
     ghost use Rattle.x25_world.specs.World.{World as State, Commands, WorldOutcome, event_of, refusal_of};
-    ghost use Rattle.x25_world.specs.FitsWorld.{all_of};
+    ghost use Rattle.x25_world.specs.code.FitsWorld.{all_of};
     ghost use Rattle.x25_sim.specs.Sayings.{sayings_text};
     ghost use Rattle.x25_console.specs.Commands.{command_asked};
     ghost use Rattle.x25_sim.specs.Simulated.{asked_turn, drained, event_turn, line_turn, next_end, opened, set_up, step_told, told_between, turn_of};
-    ghost use Rattle.x25_sim.specs.Stands.{IsOpening, Stands, Stood, Turns};
+    ghost use Rattle.x25_sim.specs.code.Stands.{IsOpening, Stands, Stood, Turns};
 
     /// The first world, of which nothing was told.
-    #[tactic(auto, unfolding(crate::specs::Stands::IsOpening))]
+    #[tactic(auto, unfolding(crate::specs::code::Stands::IsOpening))]
     pub(crate) fn new(alloc: Global, down: bool, cfg: Cfg, tap: bool) -> Result<Stage, Fault>
         ensures opening { IfOk result (IsOpening cfg down) }
         ensures tap { IfOk result (λ s. s.tap ≡ tap) }
@@ -96,7 +95,7 @@ impl Stage {
         ensures kept { OnOk result (W.is_marked writer.new ≡ W.is_marked writer.old) }
         ensures tells { (old : Option (List ℕ)) (told : List ℕ) → Tells old (W.contents writer.old) self.old.output told
             → let sayings = step_told self.old.tap self.old.world.transcript self.old.world.tap in
-            MatchResult result (λ _. Tells old (W.contents writer.new) self.new.output (told ++ sayings_text sayings)) (λ _. AppendsBeginning old (W.contents writer.new) (told ++ sayings_text sayings)) }
+            MatchResult result (λ _. Tells old (W.contents writer.new) self.new.output (told ++ sayings_text sayings)) (λ _. AppendsPrefix old (W.contents writer.new) (told ++ sayings_text sayings)) }
         ensures world { self.new.world ≡ self.old.world }
         ensures tap { self.new.tap ≡ self.old.tap }
         ensures is_refused { self.new.is_refused ≡ self.old.is_refused }
@@ -121,7 +120,7 @@ impl Stage {
         ensures kept { OnOk result (W.is_marked writer.new ≡ W.is_marked writer.old) }
         ensures tells { (cfg : Settings) (old : Option (List ℕ)) (told : List ℕ) (w next : State) → FitsWorld cfg self.old.world next (all_of w)
             → Tells old (W.contents writer.old) self.old.output told → let sayings = told_between self.old.tap w next in
-            MatchResult result (λ _. Tells old (W.contents writer.new) self.new.output (told ++ sayings_text sayings)) (λ _. AppendsBeginning old (W.contents writer.new) (told ++ sayings_text sayings)) }
+            MatchResult result (λ _. Tells old (W.contents writer.new) self.new.output (told ++ sayings_text sayings)) (λ _. AppendsPrefix old (W.contents writer.new) (told ++ sayings_text sayings)) }
         ensures world { (cfg : Settings) (w next : State) → FitsWorld cfg self.old.world next (all_of w) → OnOk result (FitsWorld cfg self.new.world next (all_of next)) }
         ensures tap { self.new.tap ≡ self.old.tap }
         ensures is_refused { self.new.is_refused ≡ self.old.is_refused }
@@ -282,7 +281,7 @@ impl Stage {
         ensures kept { OnOk result (W.is_marked writer.new ≡ W.is_marked writer.old) }
         ensures stands { (cfg : Settings) (tap : Bool) (old : Option (List ℕ)) (w : State) (told : List ℕ) (refused : Bool)
             → Stands cfg tap old (W.contents writer.old) self.old w told refused
-            → MatchResult result (λ _. Stands cfg tap old (W.contents writer.new) self.new w told refused) (λ _. AppendsBeginning old (W.contents writer.new) told) }
+            → MatchResult result (λ _. Stands cfg tap old (W.contents writer.new) self.new w told refused) (λ _. AppendsPrefix old (W.contents writer.new) told) }
         ensures empty { OnOk result (self.new.output ≡ []) }
         ensures is_refused { self.new.is_refused ≡ self.old.is_refused }
         ensures write { IfErr result (λ fault. fault ≡ Fault.Write) }

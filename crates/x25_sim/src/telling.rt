@@ -1,13 +1,13 @@
 //! What is told of a step: a line for each entry, and for each frame where frames are asked for.
 ghost use Rattle.std.specs.Prelude.{◌≡◌, ◌++◌, true, ℕ, List, Option, OnOk, IsErrOf, MatchResult, map};
-ghost use Rattle.x25_io.specs.Written.{AppendsBeginning, Tells};
-ghost use Rattle.x25_world.specs.PlainTold.{plain_entered, plain_tapped};
+ghost use Rattle.x25_io.specs.code.Written.{AppendsPrefix, Tells};
+ghost use Rattle.x25_world.specs.code.PlainTold.{plain_entered, plain_tapped};
 ghost use Rattle.x25_console.specs.Lines.{refusal_line as line_of_refusal};
 ghost use Rattle.x25_sim.specs.Sayings.{enters, taps, refusal_number as number_of_refusal, saying_line, sayings_text};
 
 use x25_console::{tell, write_frame, write_refusal};
-use x25_entries::{Line, write_entry};
 use x25_io::{Fault, Output, Sink};
+use x25_transcript::{Line, write_entry};
 use x25_world::{Entered, Role, Tapped, WorldError};
 
 /// The number of a refusal, the station's own where the station refuses.
@@ -30,7 +30,7 @@ fn tell_entry<W: Sink>(
     ensures kept { OnOk result (W.is_marked writer.new ≡ W.is_marked writer.old) }
     ensures tells { (old : Option (List ℕ)) (told : List ℕ) → Tells old (W.contents writer.old) output.old told
         → MatchResult result (λ _. Tells old (W.contents writer.new) output.new (told ++ saying_line (enters (plain_entered entered.now))))
-        (λ _. AppendsBeginning old (W.contents writer.new) (told ++ saying_line (enters (plain_entered entered.now)))) }
+        (λ _. AppendsPrefix old (W.contents writer.new) (told ++ saying_line (enters (plain_entered entered.now)))) }
     ensures write { IsErrOf result Fault.Write → W.is_marked writer.new ≡ true }
     ensures memory { IsErrOf result Fault.NoMemory → W.is_marked writer.new ≡ W.is_marked writer.old }
     ensures read { IsErrOf result Fault.Read → ⊥ }
@@ -51,7 +51,7 @@ fn tell_frame<W: Sink>(
     ensures kept { OnOk result (W.is_marked writer.new ≡ W.is_marked writer.old) }
     ensures tells { (old : Option (List ℕ)) (told : List ℕ) → Tells old (W.contents writer.old) output.old told
         → MatchResult result (λ _. Tells old (W.contents writer.new) output.new (told ++ saying_line (taps (plain_tapped frame.now))))
-        (λ _. AppendsBeginning old (W.contents writer.new) (told ++ saying_line (taps (plain_tapped frame.now)))) }
+        (λ _. AppendsPrefix old (W.contents writer.new) (told ++ saying_line (taps (plain_tapped frame.now)))) }
     ensures write { IsErrOf result Fault.Write → W.is_marked writer.new ≡ true }
     ensures memory { IsErrOf result Fault.NoMemory → W.is_marked writer.new ≡ W.is_marked writer.old }
     ensures read { IsErrOf result Fault.Read → ⊥ }
@@ -71,7 +71,7 @@ pub(crate) fn tell_entries<W: Sink>(
     ensures kept { OnOk result (W.is_marked writer.new ≡ W.is_marked writer.old) }
     ensures tells { (old : Option (List ℕ)) (told : List ℕ) → Tells old (W.contents writer.old) output.old told
         → MatchResult result (λ _. Tells old (W.contents writer.new) output.new (told ++ sayings_text (map enters (map plain_entered entries.now))))
-        (λ _. AppendsBeginning old (W.contents writer.new) (told ++ sayings_text (map enters (map plain_entered entries.now)))) }
+        (λ _. AppendsPrefix old (W.contents writer.new) (told ++ sayings_text (map enters (map plain_entered entries.now)))) }
     ensures write { IsErrOf result Fault.Write → W.is_marked writer.new ≡ true }
     ensures memory { IsErrOf result Fault.NoMemory → W.is_marked writer.new ≡ W.is_marked writer.old }
     ensures read { IsErrOf result Fault.Read → ⊥ }
@@ -91,7 +91,7 @@ pub(crate) fn tell_frames<W: Sink>(
     ensures kept { OnOk result (W.is_marked writer.new ≡ W.is_marked writer.old) }
     ensures tells { (old : Option (List ℕ)) (told : List ℕ) → Tells old (W.contents writer.old) output.old told
         → MatchResult result (λ _. Tells old (W.contents writer.new) output.new (told ++ sayings_text (map taps (map plain_tapped frames.now))))
-        (λ _. AppendsBeginning old (W.contents writer.new) (told ++ sayings_text (map taps (map plain_tapped frames.now)))) }
+        (λ _. AppendsPrefix old (W.contents writer.new) (told ++ sayings_text (map taps (map plain_tapped frames.now)))) }
     ensures write { IsErrOf result Fault.Write → W.is_marked writer.new ≡ true }
     ensures memory { IsErrOf result Fault.NoMemory → W.is_marked writer.new ≡ W.is_marked writer.old }
     ensures read { IsErrOf result Fault.Read → ⊥ }
@@ -112,7 +112,7 @@ pub(crate) fn tell_refusal<W: Sink>(
     ensures kept { OnOk result (W.is_marked writer.new ≡ W.is_marked writer.old) }
     ensures tells { (old : Option (List ℕ)) (told : List ℕ) → Tells old (W.contents writer.old) output.old told
         → MatchResult result (λ _. Tells old (W.contents writer.new) output.new (told ++ line_of_refusal (number_of_refusal error)))
-        (λ _. AppendsBeginning old (W.contents writer.new) (told ++ line_of_refusal (number_of_refusal error))) }
+        (λ _. AppendsPrefix old (W.contents writer.new) (told ++ line_of_refusal (number_of_refusal error))) }
     ensures write { IsErrOf result Fault.Write → W.is_marked writer.new ≡ true }
     ensures memory { IsErrOf result Fault.NoMemory → W.is_marked writer.new ≡ W.is_marked writer.old }
     ensures read { IsErrOf result Fault.Read → ⊥ }

@@ -1,9 +1,9 @@
 -- What a station answers to a command, by what its layer answers.
 use Rattle.std.proofs.Common.{◌≡◌, ℕ, List, [], map, Option, Some, None, Result, Ok, Err, Bool, true, false, ◌==◌, if◌then◌else◌, inl, refl, ap, sym, subst, ◌∙◌}
 use Rattle.x25_packet.specs.PlainPacket.{PlainPacket}
-use Rattle.x25_link.specs.Station.{Settings as LinkSettings, Station as LinkStation, Side}
+use Rattle.x25_link.specs.LinkStation.{Settings as LinkSettings, LinkStation, Side}
 use Rattle.x25_link.specs.Steps.{alone}
-use Rattle.x25_link.specs.Link.{ShownLink, LinkState, FitsWhole, FitsLink, up_at, waits_of, after_put_to}
+use Rattle.x25_link.specs.code.Link.{ShownLink, LinkState, FitsWhole, FitsLink, up_at, waits_of, after_put_to}
 use Rattle.x25_circuit.specs.declared.params.Params.{Params}
 use Rattle.x25_circuit.specs.Circuit.{Circuit}
 use Rattle.x25_circuit.specs.Calls as circuit
@@ -15,7 +15,7 @@ use Rattle.x25_layer.specs.Calls.{LayerRequest, Asks, Dials, Restarts, PullsAll,
 use Rattle.x25_layer.specs.Rounds.{LinkView, Putting, Answered, Went, Refuses, went, calls}
 use Rattle.x25_layer.specs.OverLink as over
 use Rattle.x25_layer.specs.OverLink.{after_all, LayerGives, LinkGives}
-use Rattle.x25_layer.specs.FitsLayer.{FitsLayer}
+use Rattle.x25_layer.specs.code.FitsLayer.{FitsLayer}
 use Rattle.x25_station.specs.declared.step.Step as code_step
 use Rattle.x25_station.specs.declared.error.StationError.{StationError}
 use Rattle.x25_station.specs.declared.error.StationError.TheVariants as error
@@ -24,10 +24,10 @@ use Rattle.x25_station.specs.Settings.{Settings, link_settings, layer_settings}
 use Rattle.x25_station.specs.Entries.{StationEntry}
 use Rattle.x25_station.specs.Station.{Station, all_put, view_of, waiting_after}
 use Rattle.x25_station.specs.Steps.{Outcome, Did, Refused, did, requests, entries_of_outcome}
-use Rattle.x25_station.specs.KeepLaw.{KeptBy}
-use Rattle.x25_station.specs.PlainEntry.{plain_entry}
-use Rattle.x25_station.specs.FitsParts.{FitsParts}
-use Rattle.x25_station.specs.FitsStation as station
+use Rattle.x25_station.specs.laws.KeepLaw.{KeptBy}
+use Rattle.x25_station.specs.code.PlainEntry.{plain_entry}
+use Rattle.x25_station.specs.code.FitsParts.{FitsParts}
+use Rattle.x25_station.specs.code.FitsStation as station
 use Rattle.x25_station.specs.Receiving.{kept_of}
 use Rattle.x25_station.proofs.LinkLemmas.{put_by_put, same_view}
 use Rattle.x25_station.proofs.ResultLemmas.{ok_err, err_is}

@@ -14,7 +14,7 @@ use Rattle.x25_layer.specs.Layer.{LayerSettings, Layer, is_channel}
 use Rattle.x25_layer.specs.Calls.{LayerRequest, Asks, Dials, Restarts, PullsAll, LayerOutcome, Accepted, Declined, layer_outcome, outcome_in, outcome_on, if_at_once, puts_at_once, first_of, lowest_free, highest_free, free_channel}
 use Rattle.x25_layer.specs.Rounds.{LinkView, Putting, begin, rounds, Answered, Went, Refuses, went, calls}
 use Rattle.x25_layer.specs.Transcript.{Asked, name_of}
-use Rattle.x25_layer.specs.World.{shown, entry_of_dial}
+use Rattle.x25_layer.specs.TwoLayers.{shown, entry_of_dial}
 use Rattle.x25_station.specs.Entries.{StationEntry, of_channel, of_channels, restart_asked, station_asked}
 use Rattle.x25_station.specs.Steps.{entries_of_outcome}
 use Rattle.x25_station.proofs.NameLemmas.{rounds_name, rounds_params}

@@ -18,12 +18,12 @@ use Rattle.x25_window.specs.Modulo.{resolved}
 use Rattle.x25_packet.specs.Facilities.{IsFacilityField}
 use Rattle.x25_circuit.specs.declared.params.Params.{Params}
 use Rattle.x25_circuit.specs.Params.{default_params, may_propose, may_answer, field_for, said_in, called_terms, calling_terms}
-use Rattle.x25_circuit.specs.ParamsLaws.{FieldIsAllowed, SaidIsAllowed, AnswerIsAllowed, TermsAreAllowed, AreTerms}
+use Rattle.x25_circuit.specs.laws.ParamsLaws.{FieldIsAllowed, SaidIsAllowed, AnswerIsAllowed, TermsAreAllowed, AreTerms}
 use Rattle.x25_circuit.specs.Circuit.{Settings, Talk, Circuit, talking, outgoing, incoming, waits}
 use Rattle.x25_circuit.specs.Notices.{CallRequest, connected}
 use Rattle.x25_circuit.specs.Table as table
 use Rattle.x25_circuit.specs.Calls.{Outcome, Done, Refused, Request, Calls, Accepts, Clears, Sends, Interrupts, Resets, SaysReady, SaysNotReady, does, is_address_text, request_of, call_sent, may_call, call_in, accept_with, accept_in, clear_in, send_in, interrupt_in, reset_in, ready_in, outcome, Pulled, pulls_nothing, data_packet, pull_open, pull_in, pulled}
-use Rattle.x25_station.specs.ReadLaw.{AreOctets, AsksOctets}
+use Rattle.x25_station.specs.laws.ReadLaw.{AreOctets, AsksOctets}
 use Rattle.x25_station.proofs.FieldLemmas.{Fits}
 
 abbrev PieceFits : Piece → Type 0

@@ -1,6 +1,6 @@
 -- The entries of an accepted command are those of the definition.
 use Rattle.std.proofs.Common.{◌≡◌, ℕ, List, [], ◌∷◌, ◌==◌, Some, Ok, map, true, sym, subst, ◌∙◌}
-use Rattle.x25_link.specs.Link.{ShownLink}
+use Rattle.x25_link.specs.code.Link.{ShownLink}
 use Rattle.x25_circuit.specs.declared.params.Params.{Params}
 use Rattle.x25_circuit.specs.Calls as circuit
 use Rattle.x25_layer.specs.declared.layer.Layer as layer_code
@@ -8,17 +8,17 @@ use Rattle.x25_layer.specs.Layer.{LayerSettings, Layer, is_channel}
 use Rattle.x25_layer.specs.Calls.{LayerRequest, Asks, Dials, Restarts, PullsAll, layer_outcome, free_channel}
 use Rattle.x25_layer.specs.Rounds.{LinkView, Putting, Answered, Went}
 use Rattle.x25_layer.specs.OverLink.{LayerGives}
-use Rattle.x25_layer.specs.FitsLayer.{FitsLayer}
+use Rattle.x25_layer.specs.code.FitsLayer.{FitsLayer}
 use Rattle.x25_layer.specs.Transcript.{Asked, name_of}
-use Rattle.x25_layer.specs.World.{shown}
+use Rattle.x25_layer.specs.TwoLayers.{shown}
 use Rattle.x25_station.specs.declared.step.Step as code_step
 use Rattle.x25_station.specs.Settings.{Settings, link_settings, layer_settings}
 use Rattle.x25_station.specs.Entries.{StationEntry, of_channel, restart_asked}
 use Rattle.x25_station.specs.Station.{Station, view_of, waiting_after}
 use Rattle.x25_station.specs.Steps.{requests, entries_of_outcome}
-use Rattle.x25_station.specs.PlainEntry.{plain_entry}
-use Rattle.x25_station.specs.FitsParts.{FitsParts}
-use Rattle.x25_station.specs.FitsStation.{Enters}
+use Rattle.x25_station.specs.code.PlainEntry.{plain_entry}
+use Rattle.x25_station.specs.code.FitsParts.{FitsParts}
+use Rattle.x25_station.specs.code.FitsStation.{Enters}
 use Rattle.x25_station.proofs.AskLemmas.{Layers, answered_by, layer_gives, enters_did}
 use Rattle.x25_station.proofs.AskedEntryLemmas.{asked_entry, dialled_entry, restart_entry, pull_entry, asked_channel, free_is_channel}
 

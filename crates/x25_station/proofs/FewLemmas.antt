@@ -3,7 +3,7 @@ use Rattle.std.proofs.Common.{ℕ, ◌+◌, ◌≤◌, Bool, true, false, if◌t
 use Rattle.x25_link.specs.declared.phase.Phase.{Phase}
 use Rattle.x25_link.specs.declared.phase.Phase.TheVariants.{Down, Waiting, Up, Closed}
 use Rattle.x25_link.specs.declared.phase.Reason.TheVariants.{Retries, Counts}
-use Rattle.x25_link.specs.Station.{Settings as LinkSettings, Station as LinkStation, Side, is_busy, sends, ready, ended}
+use Rattle.x25_link.specs.LinkStation.{Settings as LinkSettings, LinkStation, Side, is_busy, sends, ready, ended}
 use Rattle.x25_link.specs.MustSend.{Step as LinkStep, quiet, leaves}
 use Rattle.x25_link.specs.Steps as link
 use Rattle.x25_link.specs.Steps.{alone, asks_again, connect_step, disconnect_step, timer_step, abandon_step}
@@ -12,7 +12,7 @@ use Rattle.x25_layer.specs.Calls.{LayerRequest}
 use Rattle.x25_station.specs.declared.step.Step as code_step
 use Rattle.x25_station.specs.declared.error.StationError.{StationError}
 use Rattle.x25_station.specs.Entries.{StationEntry}
-use Rattle.x25_station.specs.FitsStation.{Sends, Refuses}
+use Rattle.x25_station.specs.code.FitsStation.{Sends, Refuses}
 use Rattle.x25_station.specs.Settings.{Settings, link_settings, layer_settings}
 use Rattle.x25_station.specs.Station.{Station, view_of}
 use Rattle.x25_station.specs.Steps.{Outcome, Did, Refused, did, requests}

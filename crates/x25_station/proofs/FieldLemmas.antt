@@ -11,8 +11,8 @@ use Rattle.x25_packet.specs.PlainPacket.{PlainPacket, call, accept, clear, clear
 use Rattle.x25_packet.specs.Spelling.{channel_of, HasChannel, moved_to, format_of, type_of, call_body, accept_body, body_of, header_of, spelling_of, IsInRange, longest_user}
 use Rattle.x25_packet.specs.declared.facilities.Directions.{Directions}
 use Rattle.x25_packet.specs.Facilities.{facility, field_of, AreWithin, IfGiven, IsFacilityField}
-use Rattle.x25_packet.specs.ReadingLaw.{ReadsWhatIsSpelled}
-use Rattle.x25_station.specs.ReadLaw.{AreOctets, IsReadable}
+use Rattle.x25_packet.specs.laws.ReadingLaw.{ReadsWhatIsSpelled}
+use Rattle.x25_station.specs.laws.ReadLaw.{AreOctets, IsReadable}
 
 abbrev IsOctet : ℕ → Type 0
 IsOctet octet = octet < 256

@@ -7,7 +7,7 @@ use Rattle.x25_packet.specs.PlainPacket.{PlainPacket}
 use Rattle.x25_packet.specs.Spelling as packet
 use Rattle.x25_frame.specs.PlainFrame.{PlainFrame, rr, rnr}
 use Rattle.x25_link.specs.Outgoing.{is_open, added}
-use Rattle.x25_link.specs.Station.{Settings as LinkSettings, Station as LinkStation, Side, is_up, is_busy, with_near, sends, wanted, ready, send_next, next_frame, may_send, pumped, owes_ready, finished, ended}
+use Rattle.x25_link.specs.LinkStation.{Settings as LinkSettings, LinkStation, Side, is_up, is_busy, with_near, sends, wanted, ready, send_next, next_frame, may_send, pumped, owes_ready, finished, ended}
 use Rattle.x25_link.specs.Steps.{alone, put_step}
 use Rattle.x25_station.specs.Station.{put_on, all_put}
 

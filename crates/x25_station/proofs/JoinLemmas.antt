@@ -7,31 +7,31 @@ use Rattle.x25_packet.specs.PlainPacket.{PlainPacket}
 use Rattle.x25_packet.specs.Reading.{packet_of}
 use Rattle.x25_link.specs.declared.phase.Notes.{Notes}
 use Rattle.x25_link.specs.Outgoing.{waits}
-use Rattle.x25_link.specs.Station.{Station as LinkStation, Side, is_up}
+use Rattle.x25_link.specs.LinkStation.{LinkStation, Side, is_up}
 use Rattle.x25_link.specs.MustSend.{Step as LinkStep}
 use Rattle.x25_link.specs.Steps.{alone, take_step, abandon_step}
-use Rattle.x25_link.specs.NoteLaw.{IsQuiet, PutTells, TakeTells, TakeHandsUp}
+use Rattle.x25_link.specs.laws.NoteLaw.{IsQuiet, PutTells, TakeTells, TakeHandsUp}
 use Rattle.x25_layer.specs.declared.error.LayerError.TheVariants as layer_error
 use Rattle.x25_layer.specs.Layer.{LayerSettings, Layer, LayerAnswer, LayerNotice, goes_up, layer_answers}
 use Rattle.x25_layer.specs.Calls.{LayerOutcome, Accepted, Declined, layer_outcome}
 use Rattle.x25_layer.specs.Rounds.{LinkView, Putting, begin, rounds, Went, Refuses, went, calls, hears, answer_to}
 use Rattle.x25_packet.specs.Spelling.{longest_user}
 use Rattle.x25_layer.specs.Transcript.{Entry}
-use Rattle.x25_layer.specs.World.{World, Move, Requests, HandsUp, requested, answered, handed_up, moves_in, moves}
-use Rattle.x25_layer.specs.RoundLaw.{moves_all, pulls_of, AreChannels, IsRun, CallsRun, HearsRun, ComesUpAlone}
+use Rattle.x25_layer.specs.TwoLayers.{TwoLayers, Move, Requests, HandsUp, requested, answered, handed_up, moves_in, moves}
+use Rattle.x25_layer.specs.laws.RoundLaw.{moves_all, pulls_of, AreChannels, IsRun, CallsRun, HearsRun, ComesUpAlone}
 use Rattle.x25_station.specs.declared.error.StationError.{StationError}
 use Rattle.x25_station.specs.declared.error.StationError.TheVariants as error
 use Rattle.x25_station.specs.Settings.{Settings, link_settings, layer_settings}
 use Rattle.x25_station.specs.Entries.{StationEntry, entries_noted, station_asked, layer_entries, layer_notices}
 use Rattle.x25_station.specs.Station.{view_of}
 use Rattle.x25_station.specs.Steps.{Step, Outcome, Did, Refused, with_puts, layer_at, entries_heard, entries_of_answer, entries_of_outcome, layer_answer, follows, did}
-use Rattle.x25_station.specs.JoinLaw.{AreAccepted, IsJoined, RequestIsJoined, ReceiveIsJoined, QuietIsJoined, DownIsJoined, ComesUp, UpIsJoined}
+use Rattle.x25_station.specs.laws.JoinLaw.{AreAccepted, IsJoined, RequestIsJoined, ReceiveIsJoined, QuietIsJoined, DownIsJoined, ComesUp, UpIsJoined}
 use Rattle.x25_station.proofs.PutLemmas.{accepts, rounds_accepted, begin_accepted}
 use Rattle.x25_station.proofs.EntryLemmas.{told_entries, told_notices, asked_entries, asked_notices}
 use Rattle.x25_station.proofs.RequestLemmas.{has_room}
 
 -- a run of the layer's moves, and the link's acceptance of what it puts
-joined : (c : Settings) (w : World) (moved : List Move) (first : World) (t : Side) (back : List PlainPacket) (s : Putting) (entries : List StationEntry)
+joined : (c : Settings) (w : TwoLayers) (moved : List Move) (first : TwoLayers) (t : Side) (back : List PlainPacket) (s : Putting) (entries : List StationEntry)
     → IsRun (layer_settings c) w moved first s back → AreAccepted (link_settings c) s.put t
     → first.near.entries ≡ w.near.entries ++ layer_entries entries → first.near.told ≡ w.near.told ++ layer_notices entries
     → IsJoined c w (moves_all (layer_settings c) w moved) t back (with_puts c t s entries)
@@ -97,8 +97,8 @@ request_joined runs tells c link w request step up few is = at (is_up link.phase
           r.1,
           joined c w (move ∷ pulls_of r.0) (moves lc w move) (alone link) w.back s (station_asked lc w.near.layer next request) r.2
               (rounds_accepted tells (link_settings c) (alone link) lc (begin next packet) up_link (owed_accepted next packet up_link found))
-              (ap (λ (x : World). x.near.entries) all ∙ ap (λ (es : List Entry). w.near.entries ++ es) (sym (asked_entries lc w.near.layer next request)))
-              (ap (λ (x : World). x.near.told) all ∙ sym (append-nil w.near.told) ∙ ap (λ (ns : List LayerNotice). w.near.told ++ ns) (sym (asked_notices lc w.near.layer next request))),
+              (ap (λ (x : TwoLayers). x.near.entries) all ∙ ap (λ (es : List Entry). w.near.entries ++ es) (sym (asked_entries lc w.near.layer next request)))
+              (ap (λ (x : TwoLayers). x.near.told) all ∙ sym (append-nil w.near.told) ∙ ap (λ (ns : List LayerNotice). w.near.told ++ ns) (sym (asked_notices lc w.near.layer next request))),
         )
 
     at : (b : Bool) → is_up link.phase ≡ b → (o : LayerOutcome) → layer_outcome lc full w.near.layer request ≡ o
@@ -124,7 +124,7 @@ follows_heard c l k octets some quiet =
     ap (λ (o : Option (List ℕ)). follows c l (record { side = k.side; packet = o; notes = k.notes })) some
     ∙ ap (λ (n : Notes). follows c l (record { side = k.side; packet = Some octets; notes = n })) quiet
 
-heard_joined : HearsRun → PutTells → (c : Settings) (w : World) (k : LinkStep) (octets : List ℕ) (packet : PlainPacket) (back : List PlainPacket) → w.near.is_out ≡ false → w.back ≡ packet ∷ back
+heard_joined : HearsRun → PutTells → (c : Settings) (w : TwoLayers) (k : LinkStep) (octets : List ℕ) (packet : PlainPacket) (back : List PlainPacket) → w.near.is_out ≡ false → w.back ≡ packet ∷ back
     → k.packet ≡ Some octets → IsQuiet k → is_up k.side.near.phase ≡ true → waits k.side.near.outgoing < 256 → packet_of (longest_user c.long_data) octets ≡ Ok packet
     → (pulled : List ℕ) × AreChannels c.channels pulled × IsJoined c w (moves_all (layer_settings c) w (HandsUp ∷ pulls_of pulled)) k.side back (follows c w.near.layer k)
 heard_joined runs tells c w k octets packet back up front some quiet up_link low reads =
@@ -133,8 +133,8 @@ heard_joined runs tells c w k octets packet back up front some quiet up_link low
       r.1,
       joined c w (HandsUp ∷ pulls_of r.0) (moves lc w HandsUp) k.side back (hears view lc w.near.layer octets).step (entries_of_answer a) r.2
           (rounds_accepted tells (link_settings c) k.side lc (begin a.next a.owed) up_link (begin_accepted (link_settings c) k.side a.owed up_link low))
-          (ap (λ (x : World). x.near.entries) all ∙ ap (λ (es : List Entry). w.near.entries ++ es) (sym (told_entries a.next a.notices)))
-          (ap (λ (x : World). x.near.told) all ∙ ap (λ (ns : List LayerNotice). w.near.told ++ ns) (sym (told_notices a.next a.notices))),
+          (ap (λ (x : TwoLayers). x.near.entries) all ∙ ap (λ (es : List Entry). w.near.entries ++ es) (sym (told_entries a.next a.notices)))
+          (ap (λ (x : TwoLayers). x.near.told) all ∙ ap (λ (ns : List LayerNotice). w.near.told ++ ns) (sym (told_notices a.next a.notices))),
     )
   where
     lc : LayerSettings

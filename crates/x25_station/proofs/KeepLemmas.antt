@@ -12,10 +12,10 @@ use Rattle.x25_link.specs.declared.phase.Reason.{Reason}
 use Rattle.x25_link.specs.declared.phase.Reason.TheVariants.{Retries}
 use Rattle.x25_link.specs.Lists.{Lists}
 use Rattle.x25_link.specs.Outgoing.{Outgoing, waits, moved_on, added}
-use Rattle.x25_link.specs.Station.{Settings as LinkSettings, Station as LinkStation, Side, is_up, fresh, with_nothing, with_near, is_busy, ready, may_send, send_next, pumped, owes_ready, ended}
+use Rattle.x25_link.specs.LinkStation.{Settings as LinkSettings, LinkStation, Side, is_up, fresh, with_nothing, with_near, is_busy, ready, may_send, send_next, pumped, owes_ready, ended}
 use Rattle.x25_link.specs.MustSend.{Step as LinkStep, quiet, leaves}
 use Rattle.x25_link.specs.Steps.{alone, put_refusal, put_step, take_step, timer_refusal, asks_again, timer_step, connect_refusal, connects as link_connects, connect_step, disconnect_refusal, disconnects as link_disconnects, disconnect_step, abandon_step}
-use Rattle.x25_link.specs.NoteLaw.{IsQuiet, Tells, HandsUp, TakeTells, TakeContinues, TakeHandsUp, TimerTells, TimerContinues, PutTells, ConnectTells, DisconnectTells, AbandonTells}
+use Rattle.x25_link.specs.laws.NoteLaw.{IsQuiet, Tells, HandsUp, TakeTells, TakeContinues, TakeHandsUp, TimerTells, TimerContinues, PutTells, ConnectTells, DisconnectTells, AbandonTells}
 use Rattle.x25_layer.specs.declared.error.LayerError.TheVariants as layer_error
 use Rattle.x25_layer.specs.Layer.{LayerSettings, Layer, goes_up}
 use Rattle.x25_layer.specs.Calls.{LayerRequest, LayerOutcome, Accepted, Declined, layer_outcome}
@@ -25,8 +25,8 @@ use Rattle.x25_station.specs.Command.{Requests, Connects, Disconnects}
 use Rattle.x25_station.specs.Entries.{StationEntry, connect_asked, disconnect_asked}
 use Rattle.x25_station.specs.Station.{Station, put_on, all_put, view_of}
 use Rattle.x25_station.specs.Steps.{Step, with_puts, layer_at, layer_answer, follows, led_by, unless, abandons, entries_of_outcome, did, requests}
-use Rattle.x25_station.specs.JoinLaw.{AreAccepted}
-use Rattle.x25_station.specs.KeepLaw.{IsKept, KeptBy, ConnectKeeps, TimerKeeps, CommandKeeps, ReceiveKeeps}
+use Rattle.x25_station.specs.laws.JoinLaw.{AreAccepted}
+use Rattle.x25_station.specs.laws.KeepLaw.{IsKept, KeptBy, ConnectKeeps, TimerKeeps, CommandKeeps, ReceiveKeeps}
 use Rattle.x25_station.proofs.PutLemmas.{all_up, rounds_accepted, begin_accepted}
 use Rattle.x25_station.proofs.RequestLemmas.{has_room}
 

@@ -23,7 +23,6 @@ pub mod HoldLemmas
 pub mod ToldLemmas
 pub mod ResultLemmas
 pub mod OutcomeLemmas
-pub mod StationRows
+pub mod rows
 pub mod FewLemmas
 pub mod TimerLemmas
-pub mod TimerRows

@@ -8,7 +8,7 @@ use Rattle.x25_circuit.specs.declared.params.Params.{Params}
 use Rattle.x25_circuit.specs.Circuit.{Settings as CircuitSettings, Circuit, Talk, talking, outgoing}
 use Rattle.x25_circuit.specs.Messages.{Piece}
 use Rattle.x25_circuit.specs.Calls.{Pulled, pulled, pull_in, pull_open, pulls_nothing, data_packet}
-use Rattle.x25_epochs.specs.Names.{Name}
+use Rattle.x25_handshakes.specs.Names.{Name}
 use Rattle.x25_layer.specs.Layer.{LayerSettings, Layer, put_at}
 use Rattle.x25_layer.specs.Calls.{LayerPulled, layer_pulled}
 use Rattle.x25_layer.specs.Transcript.{name_of}

@@ -6,9 +6,9 @@ use Rattle.x25_link.specs.declared.error.LinkError.{LinkError}
 use Rattle.x25_link.specs.declared.error.LinkError.TheVariants as link_error
 use Rattle.x25_link.specs.declared.phase.Phase.{Phase}
 use Rattle.x25_link.specs.declared.phase.Phase.TheVariants.{Down, Waiting, Up, Closed}
-use Rattle.x25_link.specs.Station.{Station as LinkStation}
+use Rattle.x25_link.specs.LinkStation.{LinkStation}
 use Rattle.x25_link.specs.Steps as link
-use Rattle.x25_link.specs.Link.{ShownLink}
+use Rattle.x25_link.specs.code.Link.{ShownLink}
 use Rattle.x25_layer.specs.declared.layer.Layer as layer_code
 use Rattle.x25_station.specs.declared.step.Step as code_step
 use Rattle.x25_station.specs.declared.error.StationError.{StationError}
@@ -17,10 +17,10 @@ use Rattle.x25_station.specs.StationError.{of_link}
 use Rattle.x25_station.specs.Settings.{Settings}
 use Rattle.x25_station.specs.Station.{Station}
 use Rattle.x25_station.specs.Steps.{Step, Outcome, Did, Refused, unless}
-use Rattle.x25_station.specs.KeepLaw.{IsKept, KeptBy}
-use Rattle.x25_station.specs.PlainEntry.{plain_entry}
-use Rattle.x25_station.specs.FitsParts.{FitsParts, AreMeant}
-use Rattle.x25_station.specs.FitsStation.{LeavesParts, Sends, Enters, Refuses, RefusesExactly}
+use Rattle.x25_station.specs.laws.KeepLaw.{IsKept, KeptBy}
+use Rattle.x25_station.specs.code.PlainEntry.{plain_entry}
+use Rattle.x25_station.specs.code.FitsParts.{FitsParts, AreMeant}
+use Rattle.x25_station.specs.code.FitsStation.{LeavesParts, Sends, Enters, Refuses, RefusesExactly}
 use Rattle.x25_station.proofs.ResultLemmas.{ok_err, err_is}
 
 -- ---- an accepted call, which the link may refuse

@@ -5,14 +5,14 @@ use Rattle.x25_packet.specs.PlainPacket.{PlainPacket}
 use Rattle.x25_packet.specs.Spelling.{spelling_of}
 use Rattle.x25_link.specs.declared.error.LinkError.TheVariants as error
 use Rattle.x25_link.specs.Outgoing.{waits}
-use Rattle.x25_link.specs.Station.{Settings as LinkSettings, Station as LinkStation, Side, is_up}
+use Rattle.x25_link.specs.LinkStation.{Settings as LinkSettings, LinkStation, Side, is_up}
 use Rattle.x25_link.specs.Steps.{alone, put_refusal, put_step}
-use Rattle.x25_link.specs.NoteLaw.{PutTells}
+use Rattle.x25_link.specs.laws.NoteLaw.{PutTells}
 use Rattle.x25_layer.specs.Layer.{LayerSettings}
 use Rattle.x25_layer.specs.Calls.{layer_pulled}
 use Rattle.x25_layer.specs.Rounds.{Putting, with_pulled, pull_one, round, rounds_of, rounds, backlog}
 use Rattle.x25_station.specs.Station.{put_on, all_put, view_of, waiting_after}
-use Rattle.x25_station.specs.JoinLaw.{AreAccepted}
+use Rattle.x25_station.specs.laws.JoinLaw.{AreAccepted}
 
 -- ---- put after put
 

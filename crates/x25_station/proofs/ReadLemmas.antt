@@ -4,15 +4,15 @@ use Rattle.std.proofs.lemmas.Bool.{and_parts, leb-true}
 use Rattle.x25_bits.specs.declared.role.Role.{Role}
 use Rattle.x25_bits.specs.declared.role.Role.TheVariants.{Dte, Dce}
 use Rattle.x25_packet.specs.PlainPacket.{PlainPacket, call, accept, clear, clear_conf, user_data, rr, rnr, interrupt, interrupt_conf, reset, reset_conf, restart, restart_conf}
-use Rattle.x25_packet.specs.ReadingLaw.{ReadsWhatIsSpelled}
+use Rattle.x25_packet.specs.laws.ReadingLaw.{ReadsWhatIsSpelled}
 use Rattle.x25_circuit.specs.Circuit.{Circuit, begun}
 use Rattle.x25_circuit.specs.Table.{answers, cause_at}
 use Rattle.x25_circuit.specs.Calls.{Outcome, Done, Refused, Calls, outcome, pulled}
 use Rattle.x25_layer.specs.Layer.{LayerSettings, Layer, LayerAnswer, is_channel, put_at, packet_on, restarting_from, answers_on, drops, answers_ready, answers_restarting, answers_in, layer_answers, goes_up, restart_cause}
 use Rattle.x25_layer.specs.Calls.{LayerRequest, Asks, Dials, Restarts, PullsAll, LayerOutcome, Accepted, Declined, highest_free, lowest_free, first_of, free_channel, where_room, if_at_once, puts_at_once, outcome_on, dialled, outcome_ready, outcome_in, layer_outcome, layer_pulled}
 use Rattle.x25_layer.specs.declared.error.LayerError.TheVariants as error
-use Rattle.x25_layer.specs.World.{End, World, Move, Requests, Pulls, HandsUp, GoesDown, Event, requested, pulled_in, handed_up, moves_in, moves, turned, settings_of, happens, run, started, start}
-use Rattle.x25_station.specs.ReadLaw.{AreReadable, RequestsOctets, MovesOctets, BringOctets, PutsAreReadable}
+use Rattle.x25_layer.specs.TwoLayers.{End, TwoLayers, Move, Requests, Pulls, HandsUp, GoesDown, Event, requested, pulled_in, handed_up, moves_in, moves, turned, settings_of, happens, run, started, start}
+use Rattle.x25_station.specs.laws.ReadLaw.{AreReadable, RequestsOctets, MovesOctets, BringOctets, PutsAreReadable}
 use Rattle.x25_station.proofs.FieldLemmas.{Fits, IsOn, moved_fits, moved_on, readable}
 use Rattle.x25_station.proofs.CircuitLemmas.{Agreed, CircuitFits, MayGive, AnswerFits, answers_fit, OutcomeFits, outcome_fits, PulledFits, pulled_fits}
 
@@ -205,21 +205,21 @@ module _ (long_data : Bool) where
     layer : ChannelsFit e.layer.circuits
     given : AllFit e.given
 
-  record WorldFits (w : World) : Type 0 where
+  record WorldFits (w : TwoLayers) : Type 0 where
     near : EndFits w.near
     far : EndFits w.far
 
-  requested_fits : (c : LayerSettings) (w : World) (request : LayerRequest) (o : LayerOutcome) → WorldFits w → LayerOutcomeFits o → WorldFits (requested c w request o)
+  requested_fits : (c : LayerSettings) (w : TwoLayers) (request : LayerRequest) (o : LayerOutcome) → WorldFits w → LayerOutcomeFits o → WorldFits (requested c w request o)
   requested_fits c w request (Accepted next packet) f g = record { near = record { layer = g.0; given = all_fit_append w.near.given (option_to_list packet) f.near.given g.1 }; far = f.far }
   requested_fits c w request (Declined e) f g = f
 
-  handed_up_fits : Agreed → (c : LayerSettings) (w : World) (back : List PlainPacket) → c.channels ≤ 16 → WorldFits w → WorldFits (handed_up c w back)
+  handed_up_fits : Agreed → (c : LayerSettings) (w : TwoLayers) (back : List PlainPacket) → c.channels ≤ 16 → WorldFits w → WorldFits (handed_up c w back)
   handed_up_fits laws c w [] few f = f
   handed_up_fits laws c w (packet ∷ back) few f =
       let a : LayerFits (layer_answers c w.near.layer packet) = layer_fits laws c w.near.layer packet few f.near.layer in
       record { near = record { layer = a.next; given = all_fit_append w.near.given (option_to_list (layer_answers c w.near.layer packet).owed) f.near.given a.owed }; far = f.far }
 
-  pulls_fit : (c : LayerSettings) (w : World) (h : ℕ) → c.channels ≤ 16 → WorldFits w → WorldFits (if is_channel c.channels h then pulled_in w (layer_pulled c w.near.layer h) else w)
+  pulls_fit : (c : LayerSettings) (w : TwoLayers) (h : ℕ) → c.channels ≤ 16 → WorldFits w → WorldFits (if is_channel c.channels h then pulled_in w (layer_pulled c w.near.layer h) else w)
   pulls_fit c w h few f = test (is_channel c.channels h) refl
     where
       p : PulledFits long_data (pulled c.circuit (w.near.layer.circuits h))
@@ -235,7 +235,7 @@ module _ (long_data : Bool) where
       }
       test false is = f
 
-  moves_fit : Agreed → (c : LayerSettings) → c.circuit.long_data ≡ long_data → (w : World) (move : Move) → c.channels ≤ 16 → MovesOctets move → WorldFits w → WorldFits (moves c w move)
+  moves_fit : Agreed → (c : LayerSettings) → c.circuit.long_data ≡ long_data → (w : TwoLayers) (move : Move) → c.channels ≤ 16 → MovesOctets move → WorldFits w → WorldFits (moves c w move)
   moves_fit laws c same w move few octets f = by w.near.is_out move octets
     where
       by : (b : Bool) (m : Move) → MovesOctets m → WorldFits (moves_in c w b m)
@@ -245,17 +245,17 @@ module _ (long_data : Bool) where
       by false HandsUp octets = handed_up_fits laws c w w.back few f
       by false GoesDown octets = record { near = record { layer = begun_fits; given = f.near.given }; far = f.far }
 
-  turned_fits : (w : World) → WorldFits w → WorldFits (turned w)
+  turned_fits : (w : TwoLayers) → WorldFits w → WorldFits (turned w)
   turned_fits w f = record { near = f.far; far = f.near }
 
-  happens_fits : Agreed → (n : ℕ) → n ≤ 16 → (w : World) (e : Event) → MovesOctets e.what → WorldFits w → WorldFits (happens long_data n w e)
+  happens_fits : Agreed → (n : ℕ) → n ≤ 16 → (w : TwoLayers) (e : Event) → MovesOctets e.what → WorldFits w → WorldFits (happens long_data n w e)
   happens_fits laws n few w e octets f = test e.first
     where
       test : (b : Bool) → WorldFits (if b then moves (settings_of Dte long_data n) w e.what else turned (moves (settings_of Dce long_data n) (turned w) e.what))
       test true = moves_fit laws (settings_of Dte long_data n) refl w e.what few octets f
       test false = turned_fits (moves (settings_of Dce long_data n) (turned w) e.what) (moves_fit laws (settings_of Dce long_data n) refl (turned w) e.what few octets (turned_fits w f))
 
-  run_fits : Agreed → (n : ℕ) → n ≤ 16 → (events : List Event) (w : World) → BringOctets events → WorldFits w → WorldFits (run long_data n events w)
+  run_fits : Agreed → (n : ℕ) → n ≤ 16 → (events : List Event) (w : TwoLayers) → BringOctets events → WorldFits w → WorldFits (run long_data n events w)
   run_fits laws n few [] w octets f = f
   run_fits laws n few (e ∷ events) w octets f = run_fits laws n few events (happens long_data n w e) octets.1 (happens_fits laws n few w e octets.0 f)
 

@@ -4,10 +4,10 @@ use Rattle.std.specs.Option.{unwrap_or}
 use Rattle.x25_circuit.specs.declared.params.Params.{Params}
 use Rattle.x25_circuit.specs.Circuit.{Circuit}
 use Rattle.x25_circuit.specs.Calls as circuit
-use Rattle.x25_layer.specs.World.{shown}
+use Rattle.x25_layer.specs.TwoLayers.{shown}
 use Rattle.x25_station.specs.declared.entry.Asked.{Asked}
 use Rattle.x25_station.specs.declared.entry.Asked.TheVariants as asked
-use Rattle.x25_station.specs.PlainEntry.{plain_asked}
+use Rattle.x25_station.specs.code.PlainEntry.{plain_asked}
 
 -- it looks at packet sizes and windows alone
 pub same_shown : (x y : Circuit) (request : circuit.Request) → x.params ≡ y.params → shown x request ≡ shown y request

@@ -3,8 +3,8 @@ use Rattle.std.proofs.Common.{◌≡◌, ℕ, List, [], ◌∷◌, ◌++◌, Opt
 use Rattle.std.proofs.lemmas.List.{append_assoc}
 use Rattle.x25_circuit.specs.declared.notice.Notice.{Notice}
 use Rattle.x25_circuit.specs.Notices.{collided}
-use Rattle.x25_circuit.specs.Replies.{plain_notice, notices_of}
-use Rattle.x25_epochs.specs.Names.{Name}
+use Rattle.x25_circuit.specs.code.Replies.{plain_notice, notices_of}
+use Rattle.x25_handshakes.specs.Names.{Name}
 use Rattle.x25_layer.specs.declared.told.Told.{Told as Heard}
 use Rattle.x25_layer.specs.Told.{plain_told as plain_heard}
 use Rattle.x25_layer.specs.Transcript.{Told, name_of}

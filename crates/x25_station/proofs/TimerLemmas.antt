@@ -7,8 +7,8 @@ use Rattle.x25_station.specs.declared.error.StationError.TheVariants as error
 use Rattle.x25_station.specs.Settings.{Settings, link_settings}
 use Rattle.x25_station.specs.Station.{Station}
 use Rattle.x25_station.specs.Steps.{Step, Outcome, Did, Refused, follows, unless}
-use Rattle.x25_station.specs.TimerLaw as law
-use Rattle.x25_station.specs.TimerLaw.{Event, Watched, mark_of, heeds, runs, after, watched_by, watched_from}
+use Rattle.x25_station.specs.laws.TimerLaw as law
+use Rattle.x25_station.specs.laws.TimerLaw.{Event, Watched, mark_of, heeds, runs, after, watched_by, watched_from}
 
 -- where T1 ran before and nothing began it anew, the deadline stood
 heeded : (ran behind other stands : Bool) → stands ≡ ran → heeds (mark_of behind (not ran || other)) stands ≡ behind

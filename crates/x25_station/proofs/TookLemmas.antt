@@ -4,19 +4,19 @@ use Rattle.std.proofs.lemmas.List.{map-append}
 use Rattle.x25_frame.specs.PlainFrame.{PlainFrame}
 use Rattle.x25_frame.specs.Spelling.{spelling_of}
 use Rattle.x25_link.specs.declared.phase.Notes.{Notes}
-use Rattle.x25_link.specs.Station.{Station as LinkStation}
+use Rattle.x25_link.specs.LinkStation.{LinkStation}
 use Rattle.x25_link.specs.MustSend.{Step as LinkStep}
 use Rattle.x25_link.specs.Steps.{alone, take_step, abandon_step}
-use Rattle.x25_link.specs.Link.{ShownLink, FitsLink, FitsWhole}
+use Rattle.x25_link.specs.code.Link.{ShownLink, FitsLink, FitsWhole}
 use Rattle.x25_layer.specs.declared.layer.Layer as layer_code
-use Rattle.x25_layer.specs.FitsLayer.{FitsLayer}
+use Rattle.x25_layer.specs.code.FitsLayer.{FitsLayer}
 use Rattle.x25_layer.specs.Rounds.{Putting}
 use Rattle.x25_station.specs.Settings.{Settings, link_settings, layer_settings}
 use Rattle.x25_station.specs.Entries.{StationEntry, entries_noted}
 use Rattle.x25_station.specs.Station.{Station, view_of, all_put}
 use Rattle.x25_station.specs.Steps.{Step, layer_at, entries_heard, follows, abandons, receives}
-use Rattle.x25_station.specs.KeepLaw.{IsKept}
-use Rattle.x25_station.specs.FitsParts.{FitsParts}
+use Rattle.x25_station.specs.laws.KeepLaw.{IsKept}
+use Rattle.x25_station.specs.code.FitsParts.{FitsParts}
 use Rattle.x25_station.specs.Receiving.{kept_of}
 use Rattle.x25_station.proofs.PutLemmas.{near_alone}
 use Rattle.x25_station.proofs.FrameLemmas.{out_behind}

@@ -5,7 +5,7 @@ use Rattle.x25_link.specs.declared.phase.Notes.{Notes}
 use Rattle.x25_layer.specs.Layer.{LayerSettings, Layer, LayerNotice, on_channel, restarted, restart_done, layer_fault}
 use Rattle.x25_layer.specs.Calls.{LayerRequest, Asks, Dials, Restarts, PullsAll}
 use Rattle.x25_layer.specs.Transcript.{Entry, Said, Asked, Told, name_of}
-use Rattle.x25_layer.specs.World.{entries_asked}
+use Rattle.x25_layer.specs.TwoLayers.{entries_asked}
 
 pub data StationEntry : Type 0 where
   -- what a channel's user asked or was told, under the name of the stretch

@@ -5,13 +5,6 @@ pub mod Entries
 pub mod Station
 pub mod Steps
 pub mod Told
-pub mod JoinLaw
-pub mod ReadLaw
-pub mod KeepLaw
-pub mod PlainEntry
-pub mod Aside
-pub mod FitsParts
-pub mod FitsStation
 pub mod Receiving
-pub mod HoldLaw
-pub mod TimerLaw
+pub mod code
+pub mod laws

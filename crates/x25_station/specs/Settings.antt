@@ -1,9 +1,9 @@
 -- The settings of a station (profile), and with them those of its link and of its packet layer.
 use Rattle.std.specs.Prelude.{ℕ, Bool, nat_le, ◌&&◌, if◌then◌else◌, Option, Some, None}
 use Rattle.x25_bits.specs.declared.role.Role.{Role}
-use Rattle.x25_link.specs.Station.{Settings as LinkSettings}
+use Rattle.x25_link.specs.LinkStation.{Settings as LinkSettings}
 use Rattle.x25_layer.specs.Layer.{LayerSettings}
-use Rattle.x25_layer.specs.World.{settings_of}
+use Rattle.x25_layer.specs.TwoLayers.{settings_of}
 use Rattle.x25_station.specs.declared.config.Cfg.{Cfg}
 use Rattle.x25_station.specs.declared.error.StationError.{StationError}
 use Rattle.x25_station.specs.declared.error.StationError.TheVariants as error

@@ -6,12 +6,12 @@ use Rattle.x25_frame.specs.PlainFrame.{PlainFrame}
 use Rattle.x25_packet.specs.Spelling.{longest_user}
 use Rattle.x25_link.specs.declared.error.LinkError.{LinkError}
 use Rattle.x25_link.specs.declared.phase.Reason.{Reason}
-use Rattle.x25_link.specs.Station.{Station as LinkStation, Side, is_up}
+use Rattle.x25_link.specs.LinkStation.{LinkStation, Side, is_up}
 use Rattle.x25_link.specs.MustSend.{Step as LinkStep}
 use Rattle.x25_link.specs.Steps.{alone, take_step, timer_refusal, timer_step, connect_refusal, connect_step, disconnect_refusal, disconnect_step, abandon_step}
 use Rattle.x25_layer.specs.Layer.{LayerSettings, Layer, LayerAnswer, rested}
 use Rattle.x25_layer.specs.Calls.{LayerRequest, LayerOutcome, Accepted, Declined, layer_outcome}
-use Rattle.x25_layer.specs.FitsLayer.{is_full}
+use Rattle.x25_layer.specs.code.FitsLayer.{is_full}
 use Rattle.x25_layer.specs.Rounds.{LinkView, Putting, Answered, Went, Refuses, calls, hears, comes_up, answer_to}
 use Rattle.x25_station.specs.declared.error.StationError.{StationError}
 use Rattle.x25_station.specs.declared.error.StationError.TheVariants as error

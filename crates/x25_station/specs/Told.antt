@@ -1,9 +1,9 @@
 -- What a station tells of itself (profile).
 use Rattle.std.specs.Prelude.{ℕ, ◌==◌, Bool, ◌&&◌, if◌then◌else◌, Option, Some, None}
 use Rattle.x25_link.specs.Steps as link
-use Rattle.x25_epochs.specs.Names.{Name}
+use Rattle.x25_handshakes.specs.Names.{Name}
 use Rattle.x25_layer.specs.Transcript.{name_of}
-use Rattle.x25_layer.specs.FitsLayer.{is_open_at, waits_up_to}
+use Rattle.x25_layer.specs.code.FitsLayer.{is_open_at, waits_up_to}
 use Rattle.x25_station.specs.Settings.{Settings, layer_settings}
 use Rattle.x25_station.specs.Station.{Station}
 

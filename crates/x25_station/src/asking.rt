@@ -5,13 +5,13 @@ ghost use Rattle.x25_circuit.specs.Calls.{Calls, Accepts, Sends as CircuitSends}
 ghost use Rattle.x25_circuit.specs.Requests.{plain_request};
 ghost use Rattle.x25_layer.specs.Layer.{Layer as LayerState, LayerSettings, is_channel};
 ghost use Rattle.x25_layer.specs.Calls.{Asks, Dials, Restarts, PullsAll};
-ghost use Rattle.x25_layer.specs.FitsLayer.{FitsLayer};
+ghost use Rattle.x25_layer.specs.code.FitsLayer.{FitsLayer};
 ghost use Rattle.x25_layer.specs.Transcript.{name_of};
-ghost use Rattle.x25_layer.specs.World.{shown};
+ghost use Rattle.x25_layer.specs.TwoLayers.{shown};
 ghost use Rattle.x25_station.specs.Command.{command_of};
 ghost use Rattle.x25_station.specs.Entries.{of_channel};
-ghost use Rattle.x25_station.specs.FitsStation.{FitsStation, Leaves, Sends, Enters, Refuses, RefusesExactly};
-ghost use Rattle.x25_station.specs.PlainEntry.{plain_entry, plain_asked, plain_said};
+ghost use Rattle.x25_station.specs.code.FitsStation.{FitsStation, Leaves, Sends, Enters, Refuses, RefusesExactly};
+ghost use Rattle.x25_station.specs.code.PlainEntry.{plain_entry, plain_asked, plain_said};
 ghost use Rattle.x25_station.specs.Settings.{Settings};
 ghost use Rattle.x25_station.specs.Station.{Station as State};
 ghost use Rattle.x25_station.specs.Steps.{commands, requests};

@@ -1,18 +1,18 @@
 //! Entries of what the packet layer tells, in memory that was set aside.
 ghost use Rattle.std.specs.Prelude.{◌≡◌, ℕ, ◌+◌, ◌<◌, ◌≤◌, ◌++◌, [], ◌∷◌, map, take, true, vec_len, vec_capacity};
-ghost use Rattle.x25_circuit.specs.Replies.{plain_notice, notices_of};
+ghost use Rattle.x25_circuit.specs.code.Replies.{plain_notice, notices_of};
 ghost use Rattle.x25_layer.specs.Layer.{Layer as LayerState, LayerSettings, is_channel, notices_on};
-ghost use Rattle.x25_layer.specs.FitsLayer.{FitsLayer};
+ghost use Rattle.x25_layer.specs.code.FitsLayer.{FitsLayer};
 ghost use Rattle.x25_layer.specs.Transcript.{name_of};
 ghost use Rattle.x25_layer.specs.Told.{plain_told as plain_heard};
 ghost use Rattle.x25_station.specs.Entries.{of_channel, station_told};
-ghost use Rattle.x25_station.specs.PlainEntry.{plain_entry, plain_said, plain_told};
+ghost use Rattle.x25_station.specs.code.PlainEntry.{plain_entry, plain_said, plain_told};
 ghost use Rattle.x25_station.specs.Receiving.{IsShort, AreTellable};
 
 use crate::entry::{Entry, Said, Told};
+use x25_bits::Blanks;
 use x25_circuit::Notice;
 use x25_layer::{Layer, Told as Heard};
-use x25_link::Blanks;
 use x25_packet::Digits;
 
 /// The most octets of a text in an entry: those of the user data of a call, where it may be long. Interrupts and addresses have

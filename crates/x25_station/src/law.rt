@@ -1,9 +1,9 @@
 //! A station is its link and its packet layer joined, and what it holds: laws, each the contract of a function that does nothing.
-ghost use Rattle.x25_station.specs.JoinLaw.{RequestIsJoined, ReceiveIsJoined, QuietIsJoined, DownIsJoined, UpIsJoined};
-ghost use Rattle.x25_station.specs.KeepLaw.{ConnectKeeps, TimerKeeps, CommandKeeps, ReceiveKeeps};
-ghost use Rattle.x25_station.specs.ReadLaw.{PutsAreReadable};
-ghost use Rattle.x25_station.specs.HoldLaw.{FewWait, FewStand, FewMessages, FewJoined, FewHeld, FewAside};
-ghost use Rattle.x25_station.specs.TimerLaw.{DeadlineIsTrue, FiringIsTaken, OffIsRefused};
+ghost use Rattle.x25_station.specs.laws.JoinLaw.{RequestIsJoined, ReceiveIsJoined, QuietIsJoined, DownIsJoined, UpIsJoined};
+ghost use Rattle.x25_station.specs.laws.KeepLaw.{ConnectKeeps, TimerKeeps, CommandKeeps, ReceiveKeeps};
+ghost use Rattle.x25_station.specs.laws.ReadLaw.{PutsAreReadable};
+ghost use Rattle.x25_station.specs.laws.HoldLaw.{FewWait, FewStand, FewMessages, FewJoined, FewHeld, FewAside};
+ghost use Rattle.x25_station.specs.laws.TimerLaw.{DeadlineIsTrue, FiringIsTaken, OffIsRefused};
 
 use x25_circuit::values_are_agreed;
 use x25_layer::calls_are_runs;

@@ -1,11 +1,11 @@
 //! Calls that the link alone answers, and at LinkDown the packet layer.
 ghost use Rattle.std.specs.Prelude.{◌≡◌, ℕ, ◌+◌, ◌<◌, ◌≤◌, ◌++◌, map, None, vec_len, vec_capacity, IfOk, OnErr};
 ghost use Rattle.x25_layer.specs.Layer.{Layer as LayerState, LayerSettings};
-ghost use Rattle.x25_layer.specs.FitsLayer.{FitsLayer};
+ghost use Rattle.x25_layer.specs.code.FitsLayer.{FitsLayer};
 ghost use Rattle.x25_layer.specs.Room.{HasRoom};
 ghost use Rattle.x25_station.specs.Entries.{entries_down};
-ghost use Rattle.x25_station.specs.FitsStation.{FitsStation, Leaves, Sends, Enters, Refuses, RefusesExactly};
-ghost use Rattle.x25_station.specs.PlainEntry.{plain_entry};
+ghost use Rattle.x25_station.specs.code.FitsStation.{FitsStation, Leaves, Sends, Enters, Refuses, RefusesExactly};
+ghost use Rattle.x25_station.specs.code.PlainEntry.{plain_entry};
 ghost use Rattle.x25_station.specs.Settings.{Settings};
 ghost use Rattle.x25_station.specs.Station.{Station as State};
 ghost use Rattle.x25_station.specs.Steps.{connects, connects_asked, disconnects, fires, layer_down};

@@ -1,13 +1,13 @@
-ghost use Rattle.x25_station.specs.Aside.{IsFewAside};
-ghost use Rattle.x25_station.specs.FitsParts.{AreMeant};
+ghost use Rattle.x25_station.specs.code.Aside.{IsFewAside};
+ghost use Rattle.x25_station.specs.code.FitsParts.{AreMeant};
 
 use crate::config::Cfg;
 use crate::entering::TextMemory;
 use crate::error::StationError;
 use std::alloc::Global;
-use x25_bits::{Role, Seq};
+use x25_bits::{Blanks, Role, Seq};
 use x25_layer::{Layer, LayerError, Stretch};
-use x25_link::{Blanks, LONGEST_PACKET, Link, LinkError};
+use x25_link::{LONGEST_PACKET, Link, LinkError};
 
 /// A station of X.25, DTE or DCE: its link and its packet layer.
 ///
@@ -25,13 +25,13 @@ pub struct Station {
 
 impl Station {
     ghost use Rattle.std.specs.Prelude.{◌≡◌, ◌+◌, ◌≤◌, ◌%◌, IfOk};
-    ghost use Rattle.x25_station.specs.FitsStation.{FitsStation, RefusesWith};
+    ghost use Rattle.x25_station.specs.code.FitsStation.{FitsStation, RefusesWith};
     ghost use Rattle.x25_station.specs.Settings.{Settings, layer_settings, settings_from, config_refusal};
     ghost use Rattle.x25_station.specs.Station.{Station as State, new_station};
     ghost use Rattle.x25_station.specs.Told.{is_idle, stretch};
-    ghost use Rattle.x25_layer.specs.FitsLayer.{plain_stretch};
+    ghost use Rattle.x25_layer.specs.code.FitsLayer.{plain_stretch};
     ghost use Rattle.x25_layer.specs.InPart.{joined_at};
-    ghost use Rattle.x25_link.specs.Station.{is_waiting};
+    ghost use Rattle.x25_link.specs.LinkStation.{awaits_ua};
     ghost use Rattle.x25_link.specs.Steps.{timer_runs};
 
     /// A station whose link is down.
@@ -68,10 +68,10 @@ impl Station {
     }
 
     /// Whether the link is being set up: a SABM was sent, and its UA is awaited.
-    pub fn is_waiting(&self) -> bool
-        ensures { (c : Settings) (s : State) → FitsStation c self.now s → result ≡ is_waiting s.link.phase }
+    pub fn awaits_ua(&self) -> bool
+        ensures { (c : Settings) (s : State) → FitsStation c self.now s → result ≡ awaits_ua s.link.phase }
     {
-        self.link.is_waiting()
+        self.link.awaits_ua()
     }
 
     /// Whether timer T1 runs: exactly where `t1` isn't refused with 11.

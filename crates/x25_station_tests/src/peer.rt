@@ -6,9 +6,9 @@ use std::process::Abort;
 use std::str::from_utf8;
 use std::test::Fail;
 use x25_bits::Seq;
-use x25_entries::Line;
 use x25_frame::{Frame, encode};
 use x25_station::{Cfg, Cmd, Role, Station, StationError, Step};
+use x25_transcript::Line;
 
 /// What happens at a station.
 #[derive(Clone, Copy, Debug)]
@@ -102,7 +102,7 @@ impl End {
                 })
             }
             Act::Idle => {
-                let shown = match (self.station.idle(), self.station.is_waiting()) {
+                let shown = match (self.station.idle(), self.station.awaits_ua()) {
                     (true, _) => "idle",
                     (false, true) => "UA is awaited",
                     (false, false) => "not idle",

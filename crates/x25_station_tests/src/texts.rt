@@ -2,11 +2,11 @@
 
 use std::alloc::{AllocError, Global};
 use std::test::Fail;
-use x25_entries::{Line, entry_line};
 use x25_frame::decode;
 use x25_layer::Stretch;
 use x25_station::{Entry, Role, StationError, Step};
 use x25_text::{Text, push_fault, push_frame};
+use x25_transcript::{Line, entry_line};
 
 /// Each of these, and a line feed.
 pub fn lines(alloc: Global, shown: &[&str]) -> Result<Line, AllocError> {

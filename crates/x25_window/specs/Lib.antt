@@ -1,7 +1,5 @@
 pub mod Modulo
 pub mod Window
 pub mod Sending
-pub mod Held
 pub mod Receiving
-pub mod SenderFields
-pub mod SenderLends
+pub mod code

@@ -1,7 +1,7 @@
 ghost use Rattle.std.specs.Prelude.{ℕ, ◌≡◌, ◌+◌, ◌-◌, ◌%◌, ◌<◌, ◌≤◌, ◌↔◌, IsTrue, IsErr, OnOk, OnErr, OnSome, IfOk, IfErr, IfSome, IfNone, MatchOption, length, drop, slice_get};
 ghost use Rattle.x25_window.specs.Modulo.{resolved};
 ghost use Rattle.x25_window.specs.Sending.{Sending, Acknowledges, fresh, offered, acknowledged, from_acked, moved_on};
-ghost use Rattle.x25_window.specs.Held.{Fits, advanced, with_item, without};
+ghost use Rattle.x25_window.specs.code.Held.{Fits, advanced, with_item, without};
 
 use crate::window_error::WindowError;
 use circular_buffer::HeapCircularBuffer;
@@ -23,11 +23,11 @@ pub struct Sender<T> {
 }
 
 impl<T> Model for Sender<T> {
-    ghost use Rattle.x25_window.specs.Held.{Held};
+    ghost use Rattle.x25_window.specs.code.Held.{Held};
 
     ghost Value = { Held T };
 
-    ghost use Rattle.x25_window.specs.SenderFields.{held, IsSound};
+    ghost use Rattle.x25_window.specs.code.SenderFields.{held, IsSound};
 
     ghost view = { held };
 
@@ -36,7 +36,7 @@ impl<T> Model for Sender<T> {
 
 impl<T> Sender<T> {
     ghost use Rattle.std.specs.Borrow.{sem};
-    ghost use Rattle.x25_window.specs.SenderLends.{EndsFitting};
+    ghost use Rattle.x25_window.specs.code.SenderLends.{EndsFitting};
 
     /// A sender that has sent nothing, with room for `window` items (k, 1 to 7), or `None` for any other window.
     ///

@@ -5,16 +5,16 @@ use Rattle.x25_bits.specs.Sealed.{is_sealed}
 use Rattle.x25_bits.specs.SpanClass.{found_of}
 use Rattle.x25_bits.specs.Harmless.{between_flags, first_content}
 use Rattle.x25_line.specs.Stations.{is_visible}
-use Rattle.x25_line.specs.RawMachine.{end_of}
-use Rattle.x25_line.specs.declared.direction.Direction.{Direction}
-use Rattle.x25_line.specs.declared.direction.Direction.TheVariants.{ToDce, ToDte}
+use Rattle.x25_bits.specs.Role.{end_of}
+use Rattle.x25_bits.specs.declared.direction.Direction.{Direction}
+use Rattle.x25_bits.specs.declared.direction.Direction.TheVariants.{ToDce, ToDte}
 use Rattle.x25_station.specs.declared.config.Cfg.{Cfg}
 use Rattle.x25_world.specs.declared.error.WorldError.{WorldError}
 use Rattle.x25_world.specs.declared.error.WorldError.TheVariants as error
 use Rattle.x25_world.specs.World.{World, Damages, happens, refusal_of, damaged}
 use Rattle.x25_world.specs.BitDamage.{bit_damage, RefusesBits}
-use Rattle.x25_world.specs.ShownWorld.{ShownWorld, line_of}
-use Rattle.x25_world.specs.FitsWorld.{Gone, FitsWorld, IsRefusal}
+use Rattle.x25_world.specs.code.ShownWorld.{ShownWorld, line_of}
+use Rattle.x25_world.specs.code.FitsWorld.{Gone, FitsWorld, IsRefusal}
 use Rattle.x25_world.proofs.WorldLemmas.{only_memory}
 
 pub damage_is : (direction : Direction) (place : ℕ) (bits : List Bool) (octets : List ℕ) → octets ≡ first_content (found_of (between_flags bits))

@@ -9,7 +9,7 @@ use Rattle.x25_packet.specs.PlainPacket.{restart}
 use Rattle.x25_link.specs.declared.phase.Phase.TheVariants.{Down, Waiting}
 use Rattle.x25_link.specs.declared.phase.Reason.{Reason}
 use Rattle.x25_link.specs.SetUp.{Is}
-use Rattle.x25_link.specs.Station.{Station as LinkStation, with_nothing, fresh, is_up, pumped}
+use Rattle.x25_link.specs.LinkStation.{LinkStation, with_nothing, fresh, is_up, pumped}
 use Rattle.x25_link.specs.MustSend.{Step as LinkStep}
 use Rattle.x25_link.specs.Steps.{take_step, put_step}
 use Rattle.x25_layer.specs.Layer.{at_rest, goes_up, restart_cause}
@@ -18,13 +18,13 @@ use Rattle.x25_station.specs.Settings.{settings_from, longest_packet}
 use Rattle.x25_station.specs.Entries.{StationEntry, link_up, entries_noted}
 use Rattle.x25_station.specs.Station.{Station, new_station}
 use Rattle.x25_station.specs.Steps.{Step, follows, receives}
-use Rattle.x25_station.specs.KeepLaw.{IsKept}
+use Rattle.x25_station.specs.laws.KeepLaw.{IsKept}
 use Rattle.x25_world.specs.World.{World, swapped, entered, after_step, delivered, after, Event, Receives, happens, refusal_of, AreAccepted, connected, established}
-use Rattle.x25_world.specs.Claims.{link_of}
+use Rattle.x25_world.specs.laws.Claims.{link_of}
 use Rattle.x25_world.specs.WindowGoes.{restart_of, two_links}
-use Rattle.x25_world.proofs.SessionTrace.{layer_of}
+use Rattle.x25_world.proofs.sessions.SessionTrace.{layer_of}
 use Rattle.x25_world.proofs.Known.{Laws}
-use Rattle.x25_world.proofs.SessionLinks.{puts_up}
+use Rattle.x25_world.proofs.sessions.SessionLinks.{puts_up}
 
 -- ---- an end that comes up
 

@@ -10,7 +10,7 @@ use Rattle.x25_bits.specs.declared.role.Role.TheVariants.{Dte, Dce}
 use Rattle.x25_frame.specs.PlainFrame.{PlainFrame, info, rr, rnr, rej, sabm, disc, ua, dm, frmr}
 use Rattle.x25_frame.specs.Spelling.{is_command, address_of, control_of, information_of, IsInRange, MayCarry, IsWithin, body_of, spelling_of}
 use Rattle.x25_station.specs.Settings.{longest_packet}
-use Rattle.x25_station.specs.ReadLaw.{AreOctets}
+use Rattle.x25_station.specs.laws.ReadLaw.{AreOctets}
 use Rattle.x25_world.specs.TapOctets.{AreOfFrame}
 
 -- ---- the frame check sequence has sixteen bits

@@ -12,7 +12,7 @@ use Rattle.x25_layer.specs.Layer.{LayerNotice}
 use Rattle.x25_layer.specs.Transcript.{Entry}
 use Rattle.x25_station.specs.Entries.{StationEntry, in_layer, notice_in, layer_entries, layer_notices}
 use Rattle.x25_world.specs.World.{OnTap, AtEnd, tapped, entered}
-use Rattle.x25_world.specs.Claims.{entry_of_end, entries_at}
+use Rattle.x25_world.specs.laws.Claims.{entry_of_end, entries_at}
 
 -- ---- packets, by their octets
 

@@ -1,16 +1,16 @@
 -- After each list of events by which the link isn't set up anew the claims hold, as they do on its sessions.
 use Rattle.std.proofs.Common.{false}
-use Rattle.x25_line.specs.StationClaims.{OneLinkUnlessConnected}
+use Rattle.x25_line.specs.laws.StationClaims.{OneLinkUnlessConnected}
 use Rattle.x25_line.specs.WholeNumbers.{MachineGoesAlong, OnceStaysOnce}
-use Rattle.x25_station.specs.KeepLaw.{ConnectKeeps}
+use Rattle.x25_station.specs.laws.KeepLaw.{ConnectKeeps}
 use Rattle.x25_world.specs.World.{run, established}
-use Rattle.x25_world.specs.Claims.{Always, UntilSecondUp, UpOnceUnlessConnected, IsSetUp, IsLawful, IsNamed, ArrivesAll, HasNoProcedureError}
+use Rattle.x25_world.specs.laws.Claims.{Always, UntilSecondUp, UpOnceUnlessConnected, IsSetUp, IsLawful, IsNamed, ArrivesAll, HasNoProcedureError}
 use Rattle.x25_world.specs.WindowGoes.{StaysInWindow}
 use Rattle.x25_world.proofs.Known.{is_configured}
 use Rattle.x25_world.proofs.Established.{set_up_accepted}
-use Rattle.x25_world.proofs.SessionKnown.{SessionLaws}
-use Rattle.x25_world.proofs.SessionRuns.{set_up_throughout, throughout_joined}
-use Rattle.x25_world.proofs.SessionQuiet.{has_no_error}
+use Rattle.x25_world.proofs.sessions.SessionKnown.{SessionLaws}
+use Rattle.x25_world.proofs.sessions.SessionRuns.{set_up_throughout, throughout_joined}
+use Rattle.x25_world.proofs.sessions.claims.SessionQuiet.{has_no_error}
 use Rattle.x25_world.proofs.SetUpOnce.{lawful_once, named_once, arrives_once, is_up_once}
 use Rattle.x25_world.proofs.WindowRuns.{stays_in_window}
 

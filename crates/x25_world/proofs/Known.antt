@@ -2,18 +2,18 @@
 use Rattle.std.proofs.Common.{◌≡◌, ◌≤◌, Bool, true, false, ◌&&◌, nat_le, if◌then◌else◌, Option, Some, None, refl, ◌||◌}
 use Rattle.std.proofs.lemmas.Bool.{leb-true}
 use Rattle.x25_bits.specs.declared.role.Role.TheVariants.{Dte, Dce}
-use Rattle.x25_frame.specs.ReadingLaw.{ReadsSpelled}
-use Rattle.x25_link.specs.NoteLaw.{TakeTells, TakeHandsUp, TimerTells, PutTells, ConnectTells, DisconnectTells, AbandonTells}
+use Rattle.x25_frame.specs.laws.ReadingLaw.{ReadsSpelled}
+use Rattle.x25_link.specs.laws.NoteLaw.{TakeTells, TakeHandsUp, TimerTells, PutTells, ConnectTells, DisconnectTells, AbandonTells}
 use Rattle.x25_link.specs.SetUp.{TakeWaits, TakeSetsUp}
-use Rattle.x25_line.specs.StationClaims.{AreJoined}
+use Rattle.x25_line.specs.laws.StationClaims.{AreJoined}
 use Rattle.x25_station.specs.declared.config.Cfg.{Cfg}
 use Rattle.x25_station.specs.declared.error.StationError.{StationError}
 use Rattle.x25_station.specs.declared.error.StationError.TheVariants as error
 use Rattle.x25_station.specs.Settings.{config_refusal}
-use Rattle.x25_station.specs.JoinLaw.{RequestIsJoined, ReceiveIsJoined, QuietIsJoined, DownIsJoined, UpIsJoined}
-use Rattle.x25_station.specs.KeepLaw.{TimerKeeps, CommandKeeps, ReceiveKeeps}
-use Rattle.x25_station.specs.ReadLaw.{PutsAreReadable}
-use Rattle.x25_world.specs.Claims.{link_of}
+use Rattle.x25_station.specs.laws.JoinLaw.{RequestIsJoined, ReceiveIsJoined, QuietIsJoined, DownIsJoined, UpIsJoined}
+use Rattle.x25_station.specs.laws.KeepLaw.{TimerKeeps, CommandKeeps, ReceiveKeeps}
+use Rattle.x25_station.specs.laws.ReadLaw.{PutsAreReadable}
+use Rattle.x25_world.specs.laws.Claims.{link_of}
 
 -- the laws that all rests on
 pub record Laws : Type 0 where

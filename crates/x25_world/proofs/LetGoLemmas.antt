@@ -2,7 +2,7 @@
 use Rattle.std.proofs.Common.{◌≡◌, ℕ, zero, suc, ◌<◌, ◌≤◌, List, [], ◌∷◌, ◌++◌, length, map, refl, ap, ◌∙◌, add-zero, arith}
 use Rattle.std.proofs.Math.ListN.{set, get_or}
 use Rattle.x25_world.specs.World.{OnTap}
-use Rattle.x25_world.specs.PlainTold.{plain_tapped}
+use Rattle.x25_world.specs.code.PlainTold.{plain_tapped}
 use Rattle.x25_world.specs.OnLine.{octets_at, octets_of, IsOwn, shares}
 use Rattle.x25_world.specs.declared.told.Tapped.{Tapped}
 use Rattle.x25_world.specs.declared.on_line.OnLine.{OnLine}

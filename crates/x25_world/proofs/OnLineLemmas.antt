@@ -11,7 +11,7 @@ use Rattle.x25_world.specs.OnLine.{octets_at, octets_of, shown_line, IsThere, Is
 use Rattle.x25_world.specs.declared.on_line.OnLine.{OnLine}
 use Rattle.x25_world.specs.declared.on_line.OnLine.TheVariants as frame
 use Rattle.x25_world.specs.declared.told.Tapped.{Tapped}
-use Rattle.x25_world.specs.PlainTold.{plain_tapped}
+use Rattle.x25_world.specs.code.PlainTold.{plain_tapped}
 
 -- ---- places of the tap
 

@@ -5,23 +5,23 @@ use Rattle.x25_bits.specs.Role.{other}
 use Rattle.x25_bits.specs.declared.role.Role.{Role}
 use Rattle.x25_bits.specs.declared.role.Role.TheVariants.{Dte, Dce}
 use Rattle.x25_frame.specs.Spelling.{spelling_of}
-use Rattle.x25_link.specs.Station.{is_waiting}
+use Rattle.x25_link.specs.LinkStation.{awaits_ua}
 use Rattle.x25_station.specs.declared.config.Cfg.{Cfg}
 use Rattle.x25_station.specs.declared.error.StationError.{StationError}
 use Rattle.x25_station.specs.declared.error.StationError.TheVariants as station
 use Rattle.x25_station.specs.declared.station.Station as code
 use Rattle.x25_station.specs.declared.step.Step as code_step
 use Rattle.x25_station.specs.Entries.{StationEntry}
-use Rattle.x25_station.specs.FitsStation.{FitsStation, Leaves, Sends, Enters, Refuses, RefusesExactly}
-use Rattle.x25_station.specs.PlainEntry.{plain_entry}
+use Rattle.x25_station.specs.code.FitsStation.{FitsStation, Leaves, Sends, Enters, Refuses, RefusesExactly}
+use Rattle.x25_station.specs.code.PlainEntry.{plain_entry}
 use Rattle.x25_station.specs.Settings.{Settings, settings_from}
 use Rattle.x25_station.specs.Steps.{Step, Outcome, Did, Refused, fires, receives}
 use Rattle.x25_world.specs.declared.error.WorldError.{WorldError}
 use Rattle.x25_world.specs.declared.error.WorldError.TheVariants as error
 use Rattle.x25_world.specs.WorldError.{error_of}
 use Rattle.x25_world.specs.World.{AtEnd, World, WorldOutcome, Happened, Declined, after_step, of_station, delivered, on_line, is_on_line, fired, refusal_of, tapped, entered}
-use Rattle.x25_world.specs.ShownLine.{ShownLine, line_to, with_line_to, put_by}
-use Rattle.x25_world.specs.FitsWorld.{Gone, FitsSide, HasHappened}
+use Rattle.x25_world.specs.code.ShownLine.{ShownLine, line_to, with_line_to, put_by}
+use Rattle.x25_world.specs.code.FitsWorld.{Gone, FitsSide, HasHappened}
 
 -- what an end shares with the other, where this is left on the line to it
 pub record FitsShared (at : Role) (line : ShownLine) (transcript : List AtEnd) (w : World) (left : List (List ℕ)) (gone : Gone) : Type 0 where
@@ -99,10 +99,10 @@ exactly_refuses (Err x) (Refused e) h = inl (cc)
 
 -- ---- timer T1 runs out, or doesn't while UA can still come
 
-pub holds_back : (c : Settings) (w : World) → (is_waiting w.near.link.phase && is_on_line c w) ≡ true → fired c w ≡ Declined error.OnLine
+pub holds_back : (c : Settings) (w : World) → (awaits_ua w.near.link.phase && is_on_line c w) ≡ true → fired c w ≡ Declined error.OnLine
 holds_back c w waits = ap (λ (b : Bool). if b then Declined error.OnLine else of_station c w (fires c w.near)) waits
 
-pub lets_fire : (c : Settings) (w : World) → (is_waiting w.near.link.phase && is_on_line c w) ≡ false → fired c w ≡ of_station c w (fires c w.near)
+pub lets_fire : (c : Settings) (w : World) → (awaits_ua w.near.link.phase && is_on_line c w) ≡ false → fired c w ≡ of_station c w (fires c w.near)
 lets_fire c w runs = ap (λ (b : Bool). if b then Declined error.OnLine else of_station c w (fires c w.near)) runs
 
 -- ---- the front octets arrive

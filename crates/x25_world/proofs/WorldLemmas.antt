@@ -6,24 +6,24 @@ use Rattle.std.proofs.lemmas.Option.{slice_get-get_or}
 use Rattle.std.proofs.lemmas.List.{take_more, map-append, take_all, length-map, get_or-map}
 use Rattle.x25_bits.specs.declared.role.Role.{Role}
 use Rattle.x25_bits.specs.declared.role.Role.TheVariants.{Dte, Dce}
-use Rattle.x25_link.specs.Station.{is_waiting}
+use Rattle.x25_link.specs.LinkStation.{awaits_ua}
 use Rattle.x25_line.specs.Stations.{is_visible}
 use Rattle.x25_station.specs.declared.config.Cfg.{Cfg}
 use Rattle.x25_station.specs.declared.error.StationError.{StationError}
 use Rattle.x25_station.specs.declared.station.Station as code
-use Rattle.x25_station.specs.FitsStation.{FitsStation}
+use Rattle.x25_station.specs.code.FitsStation.{FitsStation}
 use Rattle.x25_station.specs.Settings.{Settings, settings_from, config_refusal}
 use Rattle.x25_station.specs.Steps.{Outcome, Did, Refused, commands, fires}
 use Rattle.x25_world.specs.declared.event.Event as code_event
 use Rattle.x25_world.specs.declared.error.WorldError.{WorldError}
 use Rattle.x25_world.specs.declared.error.WorldError.TheVariants as error
 use Rattle.x25_world.specs.World.{World, swapped, Event, Act, Commands, Receives, Fires, Loses, Damages, WorldOutcome, Happened, Declined, of_station, delivered, is_on_line, acts, swapped_back, event_of, AtEnd, happens, after, refusal_of, run, AreAccepted, connected, established, start}
-use Rattle.x25_world.specs.Claims.{ActsInOctets, AreInOctets, entries_at, ups_in, IsUpOnce, IsUpAtMostOnce, IsBeginning, NoneConnects, SetsUpOnce, UpOnceUnlessConnected, Always, UntilSecondUp, HasNoProcedureError}
+use Rattle.x25_world.specs.laws.Claims.{ActsInOctets, AreInOctets, entries_at, ups_in, IsUpOnce, IsUpAtMostOnce, IsBeginning, NoneConnects, SetsUpOnce, UpOnceUnlessConnected, Always, UntilSecondUp, HasNoProcedureError}
 use Rattle.x25_world.proofs.Established.{connected_tells}
-use Rattle.x25_world.specs.SessionClaims.{Throughout, ThroughoutAlong, MeetInStep, AreLawfulWhereMet, AreNamedInSessions, AllArrive, UnmetAreToldNothing, OpenStretchesMeet, SessionsKeepOrder}
+use Rattle.x25_world.specs.laws.SessionClaims.{Throughout, ThroughoutAlong, MeetInStep, AreLawfulWhereMet, AreNamedInSessions, AllArrive, UnmetAreToldNothing, OpenStretchesMeet, SessionsKeepOrder}
 use Rattle.x25_world.specs.SessionWindow.{SessionsStayInWindow}
-use Rattle.x25_world.specs.ShownWorld.{ShownWorld, ShownSide}
-use Rattle.x25_world.specs.FitsWorld.{Gone, nothing_gone, FitsWorld, FitsRun, Leaves, with_gone, and_then, FitsSide, HasHappened, IsRefusal, StopsAt, RefusesConfig}
+use Rattle.x25_world.specs.code.ShownWorld.{ShownWorld, ShownSide}
+use Rattle.x25_world.specs.code.FitsWorld.{Gone, nothing_gone, FitsWorld, FitsRun, Leaves, with_gone, and_then, FitsSide, HasHappened, IsRefusal, StopsAt, RefusesConfig}
 
 -- ---- the far end is as it was
 
@@ -46,7 +46,7 @@ keeps_if w false u v f g = g
 acts_keep_far : (c : Settings) (w : World) (a : Act) → KeepsFar w (acts c w a)
 acts_keep_far c w (Commands command) = station_keeps_far c w (commands c w.near command)
 acts_keep_far c w Receives = delivered_keeps_far c w w.back
-acts_keep_far c w Fires = keeps_if w (is_waiting w.near.link.phase && is_on_line c w) _ _ tt (station_keeps_far c w (fires c w.near))
+acts_keep_far c w Fires = keeps_if w (awaits_ua w.near.link.phase && is_on_line c w) _ _ tt (station_keeps_far c w (fires c w.near))
 acts_keep_far c w (Loses place) = keeps_if w (nat_lt place (length w.back)) _ _ refl tt
 acts_keep_far c w (Damages place octets) = keeps_if w (nat_lt place (length w.back)) _ _ (keeps_if w (is_visible octets) _ _ refl tt) tt
 

@@ -2,8 +2,8 @@
 use Rattle.std.specs.Prelude.{ℕ, ◌<◌, ◌≤◌, Bool, List, length}
 use Rattle.x25_bits.specs.SpanClass.{found_of}
 use Rattle.x25_bits.specs.Harmless.{between_flags, IsHarmless, first_content}
-use Rattle.x25_line.specs.declared.direction.Direction.{Direction}
-use Rattle.x25_line.specs.RawMachine.{end_of}
+use Rattle.x25_bits.specs.declared.direction.Direction.{Direction}
+use Rattle.x25_bits.specs.Role.{end_of}
 use Rattle.x25_world.specs.World.{Event, Damages}
 use Rattle.x25_world.specs.declared.error.WorldError.{WorldError}
 use Rattle.x25_world.specs.declared.error.WorldError.TheVariants.{NoSuchFrame, Unseen, NoMemory}

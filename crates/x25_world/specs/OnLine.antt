@@ -1,8 +1,8 @@
 -- A frame on the line: the octets of a frame of the tap, which isn't copied, or octets of its own.
 use Rattle.std.specs.Prelude.{◌≡◌, ℕ, zero, suc, ◌+◌, ◌≤◌, ◌<◌, ◌==◌, ◌-◌, if◌then◌else◌, List, [], ◌∷◌, length, map, take}
 use Rattle.x25_world.specs.World.{OnTap}
-use Rattle.x25_world.specs.ShownLine.{ShownLine}
-use Rattle.x25_world.specs.PlainTold.{plain_tapped}
+use Rattle.x25_world.specs.code.ShownLine.{ShownLine}
+use Rattle.x25_world.specs.code.PlainTold.{plain_tapped}
 use Rattle.x25_world.specs.declared.told.Tapped.{Tapped}
 use Rattle.x25_world.specs.declared.on_line.OnLine.{OnLine}
 use Rattle.x25_world.specs.declared.on_line.OnLine.TheVariants as frame

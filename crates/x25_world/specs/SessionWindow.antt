@@ -5,11 +5,11 @@ use Rattle.x25_bits.specs.declared.role.Role.TheVariants.{Dte, Dce}
 use Rattle.x25_line.specs.Stations as line
 use Rattle.x25_line.specs.Sessions as links
 use Rattle.x25_line.specs.Sessions.{Sessions, from_nothing, AreTimely}
-use Rattle.x25_line.specs.SessionClaims.{octets_of}
+use Rattle.x25_line.specs.laws.SessionClaims.{octets_of}
 use Rattle.x25_line.specs.SessionNumbers.{Standing, standing_run, standing_at, EachUpStandsWith}
 use Rattle.x25_station.specs.declared.config.Cfg.{Cfg}
 use Rattle.x25_world.specs.World.{World, Event, happens, after, run}
-use Rattle.x25_world.specs.Claims.{IsBeginning, link_of}
+use Rattle.x25_world.specs.laws.Claims.{IsBeginning, link_of}
 use Rattle.x25_world.specs.WindowGoes.{AsksAll, all_at}
 
 -- A run of two links from both down, with the links and lines of this world, and the sessions that stand by it, with their window machine.

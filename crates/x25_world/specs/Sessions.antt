@@ -6,7 +6,7 @@ use Rattle.x25_bits.specs.declared.role.Role.{Role}
 use Rattle.x25_layer.specs.Transcript.{Entry}
 use Rattle.x25_station.specs.Entries.{StationEntry, link_up, link_down, was_restarted, layer_entries}
 use Rattle.x25_world.specs.World.{AtEnd, World}
-use Rattle.x25_world.specs.Claims.{entry_of_end, entries_at}
+use Rattle.x25_world.specs.laws.Claims.{entry_of_end, entries_at}
 
 -- how many sessions an end began, and whether the last of them stands
 pub record Progress : Type 0 where

@@ -1,7 +1,7 @@
 -- What is put on the line, as octets.
 use Rattle.std.specs.Prelude.{ℕ, ◌≤◌, List, [], ◌∷◌, length}
 use Rattle.x25_station.specs.declared.config.Cfg.{Cfg}
-use Rattle.x25_station.specs.ReadLaw.{AreOctets}
+use Rattle.x25_station.specs.laws.ReadLaw.{AreOctets}
 use Rattle.x25_world.specs.World.{OnTap, World}
 
 -- the longest I frame: N1, address, control, and the frame check sequence (profile)

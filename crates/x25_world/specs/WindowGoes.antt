@@ -6,13 +6,13 @@ use Rattle.x25_packet.specs.PlainPacket.{restart}
 use Rattle.x25_packet.specs.Spelling as packet
 use Rattle.x25_line.specs.Line.{Line}
 use Rattle.x25_line.specs.Stations as line
-use Rattle.x25_line.specs.StationClaims.{IsBehind}
+use Rattle.x25_line.specs.laws.StationClaims.{IsBehind}
 use Rattle.x25_line.specs.WholeNumbers.{machine_run, machine_at_start}
 use Rattle.x25_layer.specs.Layer.{restart_cause}
 use Rattle.x25_station.specs.declared.config.Cfg.{Cfg}
 use Rattle.x25_station.specs.Command.{Requests, Connects, Disconnects}
 use Rattle.x25_world.specs.World.{World, Act, Commands, Receives, Fires, Loses, Damages, Event, happens, after, run, established}
-use Rattle.x25_world.specs.Claims.{link_of}
+use Rattle.x25_world.specs.laws.Claims.{link_of}
 
 -- ---- what an event does to the two links
 

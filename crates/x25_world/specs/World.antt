@@ -1,13 +1,12 @@
 -- Two stations joined by a line of octets that keeps order and may lose or visibly damage any frame (profile: the line).
 -- Each act is of the near end, or of the line to it. The far end's acts are those of the two ends swapped.
 use Rattle.std.specs.Prelude.{◌≡◌, ℕ, nat_lt, ◌&&◌, ◌||◌, Bool, List, [], ◌∷◌, ◌++◌, length, map, remove, Option, Some, None, if◌then◌else◌}
-use Rattle.x25_bits.specs.Role.{other}
+use Rattle.x25_bits.specs.Role.{end_of, other}
 use Rattle.x25_bits.specs.declared.role.Role.{Role}
 use Rattle.x25_bits.specs.declared.role.Role.TheVariants.{Dte, Dce}
 use Rattle.x25_frame.specs.Spelling.{spelling_of}
-use Rattle.x25_link.specs.Station.{is_waiting}
+use Rattle.x25_link.specs.LinkStation.{awaits_ua}
 use Rattle.x25_line.specs.Stations.{is_visible, replaced}
-use Rattle.x25_line.specs.RawMachine.{end_of}
 use Rattle.x25_station.specs.declared.config.Cfg.{Cfg}
 use Rattle.x25_station.specs.Settings.{Settings, settings_from}
 use Rattle.x25_station.specs.Command.{Command, command_of}
@@ -105,7 +104,7 @@ is_on_line c w = carries Sabm c.role w.out || carries Ua (other c.role) w.back
 
 -- timer T1 of an end that awaits UA doesn't run out while SABM or UA can still arrive
 abbrev pub fired : Settings → World → WorldOutcome
-fired c w = if is_waiting w.near.link.phase && is_on_line c w then Declined error.OnLine else of_station c w (fires c w.near)
+fired c w = if awaits_ua w.near.link.phase && is_on_line c w then Declined error.OnLine else of_station c w (fires c w.near)
 
 abbrev pub acts : Settings → World → Act → WorldOutcome
 acts c w (Commands command) = of_station c w (commands c w.near command)

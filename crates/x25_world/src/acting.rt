@@ -1,17 +1,17 @@
 //! What happens at one end, and on the line to it.
 ghost use Rattle.std.specs.Prelude.{◌≡◌, ◌&&◌, List, ◌+◌, ◌≤◌, ◌++◌, ◌⊎◌, length, map, vec_len, vec_capacity, IfErr, OnOk, OnErr, IsErrOf};
-ghost use Rattle.x25_link.specs.Station.{is_waiting};
+ghost use Rattle.x25_link.specs.LinkStation.{awaits_ua};
 ghost use Rattle.x25_line.specs.Stations.{is_visible};
 ghost use Rattle.x25_station.specs.Command.{command_of};
-ghost use Rattle.x25_station.specs.PlainEntry.{plain_entry};
+ghost use Rattle.x25_station.specs.code.PlainEntry.{plain_entry};
 ghost use Rattle.x25_station.specs.declared.config.Cfg.{Cfg};
 ghost use Rattle.x25_station.specs.Settings.{settings_from};
 ghost use Rattle.x25_station.specs.Steps.{connects, commands};
 ghost use Rattle.x25_world.specs.World as definition;
 ghost use Rattle.x25_world.specs.World.{AtEnd, Happened, Declined, of_station, delivered, is_on_line, fired, on_line, lost, damaged, acts, entered, event_of};
-ghost use Rattle.x25_world.specs.PlainTold.{plain_entered};
-ghost use Rattle.x25_world.specs.ShownLine.{put_by, line_to, with_line_to};
-ghost use Rattle.x25_world.specs.FitsWorld.{Gone, FitsSide, HasActed, TakesMemory};
+ghost use Rattle.x25_world.specs.code.PlainTold.{plain_entered};
+ghost use Rattle.x25_world.specs.code.ShownLine.{put_by, line_to, with_line_to};
+ghost use Rattle.x25_world.specs.code.FitsWorld.{Gone, FitsSide, HasActed, TakesMemory};
 
 use crate::error::WorldError;
 use crate::event::Event;
@@ -117,9 +117,9 @@ fn fire(
 // Whether UA is awaited, and can still come by frames that are on the line.
 fn awaits_frames(at: Role, near: &Station, line: &Line) -> bool
     ensures { (cfg : Cfg) (w : definition.World) (transcript : List AtEnd) (gone : Gone) → FitsSide cfg at (record { near = near.now; line = line.now; transcript = transcript }) w gone →
-        result ≡ (is_waiting w.near.link.phase && is_on_line (settings_from at cfg) w) }
+        result ≡ (awaits_ua w.near.link.phase && is_on_line (settings_from at cfg) w) }
 {
-    near.is_waiting() && is_on_line(at, line)
+    near.awaits_ua() && is_on_line(at, line)
 }
 
 // The end asks that the link be set up.

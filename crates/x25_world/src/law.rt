@@ -1,9 +1,9 @@
 //! Two stations over a line, as laws about their definition. Each is the contract of a function that does nothing.
-ghost use Rattle.x25_station.specs.ReadLaw.{AreOctets};
+ghost use Rattle.x25_station.specs.laws.ReadLaw.{AreOctets};
 ghost use Rattle.x25_world.specs.World.{event_of};
-ghost use Rattle.x25_world.specs.WorldRows.{SetsUp, MessageArrives, LostArrives, DamagedArrives, DisconnectEndsBoth, ConnectSetsUp, ConnectGoesAgain, SecondMeetsFirst, SecondMeet, TimerWaits, IsRefused};
-ghost use Rattle.x25_world.specs.SessionClaims.{Throughout, ThroughoutAlong, MeetInStep, AreLawfulWhereMet, AreNamedInSessions, AllArrive, UnmetAreToldNothing, OpenStretchesMeet};
-ghost use Rattle.x25_world.specs.Claims.{ActsInOctets, Always, UntilSecondUp, IsSetUp, IsLawful, IsNamed, ArrivesAll, HasNoProcedureError, UpOnceUnlessConnected};
+ghost use Rattle.x25_world.specs.rows.WorldRows.{SetsUp, MessageArrives, LostArrives, DamagedArrives, DisconnectEndsBoth, ConnectSetsUp, ConnectGoesAgain, SecondMeetsFirst, SecondMeet, TimerWaits, IsRefused};
+ghost use Rattle.x25_world.specs.laws.SessionClaims.{Throughout, ThroughoutAlong, MeetInStep, AreLawfulWhereMet, AreNamedInSessions, AllArrive, UnmetAreToldNothing, OpenStretchesMeet};
+ghost use Rattle.x25_world.specs.laws.Claims.{ActsInOctets, Always, UntilSecondUp, IsSetUp, IsLawful, IsNamed, ArrivesAll, HasNoProcedureError, UpOnceUnlessConnected};
 ghost use Rattle.x25_world.specs.WindowGoes.{StaysInWindow};
 ghost use Rattle.x25_world.specs.SessionWindow.{SessionsStayInWindow};
 ghost use Rattle.x25_world.specs.TapOctets.{IsTapOfOctets};
@@ -11,7 +11,7 @@ ghost use Rattle.x25_world.specs.TapOctets.{IsTapOfOctets};
 use crate::Event;
 use x25_frame::reads_what_is_spelled;
 use x25_layer::{apart_layers_keep_order, each_end_is_by_itself};
-use x25_line::{each_session_event_hands_one, sessions_keep_order, stations_keep_order};
+use x25_line::{each_session_event_hands_one, links_keep_order, sessions_keep_order};
 use x25_link::{notes_what_changes, sets_up_by_rows};
 use x25_station::{Cmd, puts_are_readable, steps_are_joined, steps_keep_bounds};
 
@@ -43,7 +43,7 @@ pub fn two_stations_keep_order()
     ensures window { Always StaysInWindow }
     ensures up_once { UpOnceUnlessConnected }
 {
-    stations_keep_order();
+    links_keep_order();
     sessions_keep_order();
     each_session_event_hands_one();
     apart_layers_keep_order();

@@ -1,7 +1,7 @@
 ghost use Rattle.std.specs.Prelude.{◌≡◌, ℕ, ◌+◌, ◌<◌, ◌≤◌, ◌++◌, [], length, map, remove, OnOk, OnErr, List, ◌∷◌, All, option_copied, slice_get, slice_set, take, vec_len, vec_capacity};
 ghost use Rattle.x25_line.specs.Stations.{replaced};
-ghost use Rattle.x25_world.specs.ShownLine.{ShownLine, line_to, with_line_to, put_by};
-ghost use Rattle.x25_world.specs.PlainTold.{plain_tapped};
+ghost use Rattle.x25_world.specs.code.ShownLine.{ShownLine, line_to, with_line_to, put_by};
+ghost use Rattle.x25_world.specs.code.PlainTold.{plain_tapped};
 ghost use Rattle.x25_world.specs.OnLine.{octets_of, AreLate, IsThere, shares};
 ghost use Rattle.x25_world.specs.declared.on_line.OnLine.{OnLine};
 ghost use Rattle.std.specs.VecDeque.{deque_len, deque_capacity};
@@ -30,7 +30,7 @@ impl Model for Line {
     ghost use Rattle.std.specs.Prelude.{◌+◌, ◌≤◌, length, vec_len, vec_capacity};
     ghost use Rattle.std.specs.VecDeque.{deque_len, deque_capacity};
     ghost use Rattle.x25_world.specs.OnLine.{shown_line, AreApart, AreLate};
-    ghost use Rattle.x25_world.specs.ShownLine.{ShownLine};
+    ghost use Rattle.x25_world.specs.code.ShownLine.{ShownLine};
 
     ghost Value = { ShownLine };
 

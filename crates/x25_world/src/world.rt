@@ -1,16 +1,16 @@
 ghost use Rattle.std.specs.Prelude.{◌≡◌, List, [], length, map, slice_get, OnOk, OnErr, IfOk, IfErr, IfSome, IsErrOf};
 ghost use Rattle.x25_station.specs.declared.config.Cfg.{Cfg};
-ghost use Rattle.x25_station.specs.FitsStation.{FitsStation};
+ghost use Rattle.x25_station.specs.code.FitsStation.{FitsStation};
 ghost use Rattle.x25_station.specs.Settings.{settings_from, config_refusal};
 ghost use Rattle.x25_station.specs.Station as station;
 ghost use Rattle.x25_bits.specs.Harmless.{IsHarmless};
 ghost use Rattle.x25_world.specs.BitDamage.{bit_damage, RefusesBits};
-ghost use Rattle.x25_world.specs.PlainTold.{plain_tapped, plain_entered};
-ghost use Rattle.x25_world.specs.ShownWorld.{line_of, station_of};
-ghost use Rattle.x25_world.specs.FitsWorld.{Gone, all_of, nothing_gone, FitsWorld, FitsRun, Leaves, and_then, and_all, HoldsAfter, HoldsAfterSetUp, HoldsThroughout, GoesOnThroughout, UpOnceAfter, IsRefusal, TakesMemory, StopsAt, RefusesConfig};
-ghost use Rattle.x25_world.specs.Claims.{IsLawful, IsNamed, ArrivesAll, HasNoProcedureError, IsUpOnce};
+ghost use Rattle.x25_world.specs.code.PlainTold.{plain_tapped, plain_entered};
+ghost use Rattle.x25_world.specs.code.ShownWorld.{line_of, station_of};
+ghost use Rattle.x25_world.specs.code.FitsWorld.{Gone, all_of, nothing_gone, FitsWorld, FitsRun, Leaves, and_then, and_all, HoldsAfter, HoldsAfterSetUp, HoldsThroughout, GoesOnThroughout, UpOnceAfter, IsRefusal, TakesMemory, StopsAt, RefusesConfig};
+ghost use Rattle.x25_world.specs.laws.Claims.{IsLawful, IsNamed, ArrivesAll, HasNoProcedureError, IsUpOnce};
 ghost use Rattle.x25_world.specs.WindowGoes.{StaysInWindow};
-ghost use Rattle.x25_world.specs.SessionClaims.{SessionsKeepOrder};
+ghost use Rattle.x25_world.specs.laws.SessionClaims.{SessionsKeepOrder};
 ghost use Rattle.x25_world.specs.SessionWindow.{SessionsStayInWindow};
 ghost use Rattle.x25_world.specs.World as definition;
 ghost use Rattle.x25_world.specs.World.{event_of, happens, after, refusal_of, run, AreAccepted, start, connected, established};
@@ -42,8 +42,8 @@ pub struct World {
 
 impl Model for World {
     ghost use Rattle.std.specs.Prelude.{map};
-    ghost use Rattle.x25_world.specs.PlainTold.{plain_entered};
-    ghost use Rattle.x25_world.specs.ShownWorld.{ShownWorld};
+    ghost use Rattle.x25_world.specs.code.PlainTold.{plain_entered};
+    ghost use Rattle.x25_world.specs.code.ShownWorld.{ShownWorld};
 
     ghost Value = { ShownWorld };
 

@@ -4,8 +4,8 @@ use std::alloc::Global;
 use std::process::Abort;
 use std::str;
 use std::test::Fail;
-use x25_entries::entry_line;
 use x25_station::Cfg;
+use x25_transcript::entry_line;
 use x25_world::{Direction, Event, World, WorldError};
 
 pub const USUAL: Cfg = Cfg {

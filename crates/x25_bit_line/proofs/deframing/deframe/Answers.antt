@@ -1,5 +1,5 @@
 use Rattle.std.proofs.Common.{◌∙◌, ◌<◌, ◌-◌, ◌^◌, [], ap, length, sym, subst}
-use Rattle.x25_bits.specs.Fits.{Fits}
+use Rattle.x25_bits.specs.code.Fits.{Fits}
 use Rattle.x25_bit_line.specs.Deframed.{deframed}
 use Rattle.x25_bit_line.proofs.ReadsLemmas.{reads_start}
 use Rattle.x25_bit_line.proofs.TellingLemmas.{nothing_written}

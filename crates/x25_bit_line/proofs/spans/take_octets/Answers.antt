@@ -4,9 +4,9 @@ use Rattle.std.proofs.lemmas.Result.{err_from_is_err_and}
 use Rattle.x25_bits.specs.Fcs.{bits_of}
 use Rattle.x25_bits.specs.SpanClass.{found_of}
 use Rattle.x25_bits.specs.declared.role.Role.{Role}
-use Rattle.x25_io.specs.Written.{AppendsBeginning}
+use Rattle.x25_io.specs.code.Written.{AppendsPrefix}
 use Rattle.x25_bit_line.specs.Deframed.{class_lines}
-use Rattle.x25_bit_line.specs.Reads.{Reads}
+use Rattle.x25_bit_line.specs.code.Reads.{Reads}
 use Rattle.x25_bit_line.proofs.ReadsLemmas.{all_bits, reads_next, rest_of_bits}
 use Rattle.x25_bit_line.proofs.spans.take_octets.Goals as goal
 
@@ -35,8 +35,8 @@ returns-in_err-at-clause-reads g c = λ old before h.
     let now = c.loop-at.invariant in
     let bits = bits_of c.args.octets.now in
     let here = subst (λ (from : Role). Reads from old (g.W.Sink.contents c.loop-at.writer) c.loop-at.deframer c.loop-at.lines.output (before ++ take c.loop-at.at bits)) (sym now.1) (now.4 old before h) in
-    rw p.1 (subst (λ (from : Role). AppendsBeginning old (g.W.Sink.contents c.take_span.new.writer) (class_lines from (found_of (before ++ bits)))) now.1
-    (subst (λ l. AppendsBeginning old (g.W.Sink.contents c.take_span.new.writer) (class_lines c.loop-at.lines.from (found_of l))) (rest_of_bits before bits c.loop-at.at)
+    rw p.1 (subst (λ (from : Role). AppendsPrefix old (g.W.Sink.contents c.take_span.new.writer) (class_lines from (found_of (before ++ bits)))) now.1
+    (subst (λ l. AppendsPrefix old (g.W.Sink.contents c.take_span.new.writer) (class_lines c.loop-at.lines.from (found_of l))) (rest_of_bits before bits c.loop-at.at)
     (c.in_err-at.ensures.reads old (before ++ take c.loop-at.at bits) here)))
 
 pub returns-clause-reads : goal.returns-clause-reads

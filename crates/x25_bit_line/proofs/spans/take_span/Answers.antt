@@ -2,9 +2,9 @@ use Rattle.std.proofs.Common.{◌∙◌, ◌++◌, ◌∷◌, [], ap, sym, subst
 use Rattle.std.proofs.lemmas.List.{append-nil}
 use Rattle.std.proofs.lemmas.Result.{err_from_is_err_and}
 use Rattle.x25_bits.specs.Fcs.{bits_of}
-use Rattle.x25_bits.specs.Plain.{listed_span, plain_span}
+use Rattle.x25_bits.specs.code.Plain.{listed_span, plain_span}
 use Rattle.x25_bits.specs.SpanClass.{found_of}
-use Rattle.x25_io.specs.Written.{AppendsBeginning, Tells}
+use Rattle.x25_io.specs.code.Written.{AppendsPrefix, Tells}
 use Rattle.x25_bit_line.specs.Deframed.{class_line, class_lines}
 use Rattle.x25_bit_line.proofs.ReadsLemmas.{told_more, told_part}
 use Rattle.x25_bit_line.proofs.spans.take_span.Goals as goal
@@ -21,7 +21,7 @@ returns-in_err-tell-clause-reads g c = λ old before h.
     let from = c.args.lines.now.from in
     rw p.1 (told_part c.cuts_agree.ensures.begins from old _ before c.args.at c.feed_next_octets.result.0 (bits_of c.args.octets.now) (plain_span c.in-Some.span ∷ [])
     (sym (ap listed_span c.in-Some.is) ∙ c.feed_next_octets.ensures.found before h.fits)
-    (subst (λ l. AppendsBeginning old (g.W.Sink.contents c.tell.new.writer) (class_lines from (found_of before) ++ l)) (sym (append-nil (class_line from (plain_span c.in-Some.span))))
+    (subst (λ l. AppendsPrefix old (g.W.Sink.contents c.tell.new.writer) (class_lines from (found_of before) ++ l)) (sym (append-nil (class_line from (plain_span c.in-Some.span))))
     (c.in_err-tell.ensures.tells old _ h.tells)))
 
 pub returns-clause-reads : goal.returns-clause-reads

@@ -1,9 +1,9 @@
 use Rattle.std.proofs.Common.{◌≤◌, length}
-use Rattle.x25_bits.specs.Begins.{Begins}
+use Rattle.x25_bits.specs.Prefix.{IsPrefix}
 use Rattle.x25_bits.proofs.bits.grow.Given as goal
 
 abbrev pub invariant-loop : goal.invariant-loop
 invariant-loop l = record {
-  begins : Begins l.initial.octets.items l.octets.items;
+  begins : IsPrefix l.initial.octets.items l.octets.items;
   room : l.counter ≤ length l.octets.items;
 }

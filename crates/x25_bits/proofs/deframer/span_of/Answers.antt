@@ -1,5 +1,5 @@
 use Rattle.std.proofs.Common.{◌≡◌, ◌∙◌, false, refl, sym}
-use Rattle.x25_bits.specs.Held.{closing}
+use Rattle.x25_bits.specs.code.Held.{closing}
 use Rattle.x25_bits.proofs.deframer.span_of.Goals as goal
 
 pub returns-then-scan : goal.returns-then-scan

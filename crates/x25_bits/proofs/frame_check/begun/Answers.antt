@@ -1,4 +1,4 @@
-use Rattle.std.proofs.Common.{◌∙◌, ap, arith, sym, take}
+use Rattle.std.proofs.Common.{◌∙◌, ap, arith, length, sym, take}
 use Rattle.x25_bits.specs.Fcs.{bits_of}
 use Rattle.x25_bits.specs.Register.{fed}
 use Rattle.x25_bits.proofs.FoldLemmas.{begun_empty, begun_is, ones}
@@ -12,8 +12,8 @@ pub returns : goal.returns
 returns c =
     elim c.if-octets-lt8.branch [
       | then-octets-lt8 w ↦
-          begun_is c.args.octets.now c.args.count c.args.count c.if-octets-lt8.word c.requires.few (omega arith) c.requires.within (λ i. omega (arith, c.type_inv.octets i))
-          (w.word-is ∙ w.read_uint-word.ensures)
+          begun_is c.args.octets.now c.args.count (length c.args.octets.now) c.if-octets-lt8.word c.requires.few c.requires.within (omega arith) (λ i. omega (arith, c.type_inv.octets i))
+          (w.word-is ∙ w.short_word-word.ensures)
       | else-octets-lt8 w ↦
           begun_is c.args.octets.now c.args.count 8 c.if-octets-lt8.word c.requires.few (omega (arith, c.requires.few)) (omega (arith, w.if-octets-lt8)) (λ i. omega (arith, c.type_inv.octets i))
           (w.word-is ∙ w.read_u64-word.ensures)

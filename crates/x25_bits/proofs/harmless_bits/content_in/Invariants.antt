@@ -1,6 +1,6 @@
 use Rattle.std.proofs.Common.{◌≡◌}
 use Rattle.x25_bits.specs.Harmless.{first_content}
-use Rattle.x25_bits.specs.Plain.{plains}
+use Rattle.x25_bits.specs.code.Plain.{plains}
 use Rattle.x25_bits.proofs.harmless_bits.content_in.Given as goal
 
 -- none of those so far is a content

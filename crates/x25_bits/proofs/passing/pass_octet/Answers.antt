@@ -1,7 +1,11 @@
-use Rattle.x25_bits.proofs.PassingLemmas.{octet_passes}
+use Rattle.std.proofs.Common.{refl, arith}
+use Rattle.x25_bits.proofs.OctetTable.{entries, table_passes, table_few}
 use Rattle.x25_bits.proofs.passing.pass_octet.Goals as goal
 
 pub returns-clause-passes : goal.returns-clause-passes
-returns-clause-passes c =
-    octet_passes c.in-Some.first c.in-Some-pass_four.last c.joined.result c.args.run c.args.is_inserted c.args.octet c.in-Some.ensures.passes c.in-Some-pass_four.ensures.passes
-    c.joined.ensures.kept c.joined.ensures.small c.joined.ensures.run c.joined.ensures.inserted
+unfolding entries
+returns-clause-passes c = λ was. table_passes c.args.run c.args.octet was _ c.if-run-gt-MOST_ONES.false (omega arith) c.if-ones-eq-SPECIAL.false refl refl refl refl
+
+pub returns-clause-few : goal.returns-clause-few
+unfolding entries
+returns-clause-few c = table_few c.args.run c.args.octet c.if-run-gt-MOST_ONES.false (omega arith) c.if-ones-eq-SPECIAL.false

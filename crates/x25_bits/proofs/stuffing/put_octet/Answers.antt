@@ -1,13 +1,13 @@
-use Rattle.std.proofs.Common.{◌∙◌, ◌++◌, ◌/◌, ◌%◌, ap, sym, append_assoc}
-use Rattle.x25_bits.specs.Fcs.{low_bits}
-use Rattle.x25_bits.specs.Stuffing.{stuffed_from}
-use Rattle.x25_bits.proofs.PassingLemmas.{octet_halves}
+use Rattle.std.proofs.Common.{◌+◌, ◌*◌, arith}
+use Rattle.x25_bits.proofs.StuffingTable.{stuffeds, stuffed_at, octet_few, octet_stuffs, in_two}
 use Rattle.x25_bits.proofs.stuffing.put_octet.Goals as goal
 
+pub returns-clause-few : goal.returns-clause-few
+unfolding stuffeds
+returns-clause-few c = octet_few c.args.run c.args.octet c.requires (omega arith)
+
 pub returns-clause-stuffs : goal.returns-clause-stuffs
+unfolding stuffeds
 returns-clause-stuffs c = λ rest.
-    let first = low_bits 4 (c.args.octet % 16) in
-    let last = low_bits 4 (c.args.octet / 16) in
-    c.in_ok-after.ensures.stuffs rest
-    ∙ c.in_ok-between.ensures.stuffs (last ++ rest)
-    ∙ ap (λ l. c.args.bits.now ++ stuffed_from c.args.run l) (sym (append_assoc first last rest) ∙ ap (λ l. l ++ rest) (sym (octet_halves c.args.octet)))
+    octet_stuffs c.args.run c.args.octet c.args.bits.now c.put_rest.new.bits rest c.requires (omega arith)
+    (in_two c.args.bits.now c.put_low.new.bits c.put_rest.new.bits (stuffed_at (c.args.run * 256 + c.args.octet)) c.in_ok-put_low.ensures.ok c.in_ok-put_rest.ensures.ok)

@@ -2,15 +2,15 @@ use Rattle.std.proofs.Common.{◌∙◌, ◌++◌, ap, codes, subst, sym}
 use Rattle.std.specs.Prelude.{if◌then◌else◌}
 use Rattle.std.proofs.lemmas.Result.{err_from_is_err_and}
 use Rattle.x25_decode.specs.Vectors.{verdict}
-use Rattle.x25_io.specs.Written.{AppendsBeginning}
-use Rattle.x25_decode.proofs.VerdictLemmas.{beginning_before, second_err}
+use Rattle.x25_io.specs.code.Written.{AppendsPrefix}
+use Rattle.x25_decode.proofs.VerdictLemmas.{prefix_before, second_err}
 use Rattle.x25_decode.proofs.test_vectors.write_verdict.Goals as goal
 
 pub returns-in_err-write_all-clause-err : goal.returns-in_err-write_all-clause-err
 returns-in_err-write_all-clause-err g c =
     let p = err_from_is_err_and c.from_residual.result c.from_residual.ensures.1 in
-    rw p.1 (beginning_before (g.W.Sink.contents c.args.writer.now) (g.W.Sink.contents c.write_all.new.writer) c.args.name.now (if c.args.is_right then codes " ok\n" else codes " bad\n")
-    (subst (AppendsBeginning (g.W.Sink.contents c.args.writer.now) (g.W.Sink.contents c.write_all.new.writer)) c.as_bytes.ensures.value c.in_err-write_all.ensures.err))
+    rw p.1 (prefix_before (g.W.Sink.contents c.args.writer.now) (g.W.Sink.contents c.write_all.new.writer) c.args.name.now (if c.args.is_right then codes " ok\n" else codes " bad\n")
+    (subst (AppendsPrefix (g.W.Sink.contents c.args.writer.now) (g.W.Sink.contents c.write_all.new.writer)) c.as_bytes.ensures.value c.in_err-write_all.ensures.err))
 
 pub returns-then-is_right-clause-err : goal.returns-then-is_right-clause-err
 returns-then-is_right-clause-err g c =

@@ -5,8 +5,8 @@ use Rattle.std.specs.List.{flat_map}
 use Rattle.std.proofs.lemmas.Result.{err_from_is_err_and}
 use Rattle.std.proofs.KnownBytes.{Appends-trans}
 use Rattle.x25_decode.specs.Vectors.{is_check_right, stored, verdict, verdict_of}
-use Rattle.x25_io.specs.Written.{AppendsBeginning}
-use Rattle.x25_decode.proofs.VerdictLemmas.{beginning_after, beginning_before}
+use Rattle.x25_io.specs.code.Written.{AppendsPrefix}
+use Rattle.x25_decode.proofs.VerdictLemmas.{prefix_after, prefix_before}
 use Rattle.x25_decode.proofs.test_vectors.write_verdicts.Goals as goal
 
 pub returns-in_err-write_verdict-clause-err : goal.returns-in_err-write_verdict-clause-err
@@ -15,7 +15,7 @@ returns-in_err-write_verdict-clause-err g c =
     let now = g.W.Sink.contents c.write_verdict.new.writer in
     let first : verdict (codes "V1") (nat_eq c.fcs-check_right.result 36974) ≡ verdict (codes "V1") is_check_right = ap (λ n. verdict (codes "V1") (nat_eq n 36974)) c.fcs-check_right.ensures in
     let p = err_from_is_err_and c.from_residual.result c.from_residual.ensures.1 in
-    rw p.1 (beginning_before old now (verdict (codes "V1") is_check_right) (flat_map verdict_of stored) (subst (AppendsBeginning old now) first c.in_err-write_verdict.ensures.err))
+    rw p.1 (prefix_before old now (verdict (codes "V1") is_check_right) (flat_map verdict_of stored) (subst (AppendsPrefix old now) first c.in_err-write_verdict.ensures.err))
 
 pub returns-clause-right : goal.returns-clause-right
 unfolding stored
@@ -37,5 +37,5 @@ returns-in_err-others_right-clause-err g c =
     let mid = g.W.Sink.contents c.write_verdict.new.writer in
     let first : verdict (codes "V1") (nat_eq c.fcs-check_right.result 36974) ≡ verdict (codes "V1") is_check_right = ap (λ n. verdict (codes "V1") (nat_eq n 36974)) c.fcs-check_right.ensures in
     let p = err_from_is_err_and c.from_residual-in_err-others_right.result c.from_residual-in_err-others_right.ensures.1 in
-    rw p.1 (beginning_after old mid (g.W.Sink.contents c.write_each.new.writer) (verdict (codes "V1") is_check_right) (flat_map verdict_of stored)
+    rw p.1 (prefix_after old mid (g.W.Sink.contents c.write_each.new.writer) (verdict (codes "V1") is_check_right) (flat_map verdict_of stored)
     (subst (Appends old mid) first c.in_ok-write_verdict.ensures.ok) c.in_err-others_right.ensures.err)

@@ -1,7 +1,7 @@
 use Rattle.std.proofs.Common.{◌≡◌, ◌∙◌, ◌<◌, ◌≤◌, ◌-◌, ◌^◌, ℕ, List, length, arith, subst}
 use Rattle.std.specs.Io.KnownBytes.{Appends}
 use Rattle.std.proofs.lemmas.Result.{err_from_is_err_and, MatchResult-weaker}
-use Rattle.x25_io.specs.Written.{AppendsBeginning}
+use Rattle.x25_io.specs.code.Written.{AppendsPrefix}
 use Rattle.x25_io.specs.declared.fault.Fault.TheVariants.{Read}
 use Rattle.x25_io.proofs.ReadLemmas.{at_end, consumed, fewer, if_some, kept, told_ok, told_fault}
 use Rattle.x25_io.proofs.pieces.take_text.Goals as goal
@@ -37,7 +37,7 @@ returns-then-count-eq0-clause-status g c = λ setting old begins. told_ok (g.R.S
     (c.end.ensures.all setting old text (subst (λ rest. g.T.TextTaker.leads setting c.loop.taker old (g.W.Sink.contents c.loop.writer) rest text) end at.3)) (λ n end. end.1) (λ _ _. tt))
 
 pub returns-then-count-eq0-clause-fault : goal.returns-then-count-eq0-clause-fault
-returns-then-count-eq0-clause-fault g c = λ setting old begins. told_fault (g.R.Source.remaining c.args.reader.now) c.end.result IsFew (λ text. AppendsBeginning old (g.W.Sink.contents c.end.new.writer) (g.T.TextTaker.text_of setting text))
+returns-then-count-eq0-clause-fault g c = λ setting old begins. told_fault (g.R.Source.remaining c.args.reader.now) c.end.result IsFew (λ text. AppendsPrefix old (g.W.Sink.contents c.end.new.writer) (g.T.TextTaker.text_of setting text))
     (λ text is few.
     let at = c.loop.invariant.2 setting old text is (begins text) in
     let end = at_end _ _ at.0 c.read.new.buffer c.in-Ok.count at.1 c.in-Ok.ensures.octets.0 c.if-count-eq0.true (c.in-Ok.ensures.octets.1 c.if-count-eq0.true (omega arith)) in
@@ -83,7 +83,7 @@ returns-clause-status g c = λ setting old begins. told_ok (g.R.Source.remaining
     absurd (omega (arith, all, few, c.loop-test.false)))
 
 pub returns-clause-fault : goal.returns-clause-fault
-returns-clause-fault g c = λ setting old begins. told_fault (g.R.Source.remaining c.args.reader.now) c.end-2.result IsFew (λ text. AppendsBeginning old (g.W.Sink.contents c.end-2.new.writer) (g.T.TextTaker.text_of setting text))
+returns-clause-fault g c = λ setting old begins. told_fault (g.R.Source.remaining c.args.reader.now) c.end-2.result IsFew (λ text. AppendsPrefix old (g.W.Sink.contents c.end-2.new.writer) (g.T.TextTaker.text_of setting text))
     (λ text is few.
     let at = c.loop.invariant.2 setting old text is (begins text) in
     let all : c.loop.counter ≤ length text = omega (arith, at.2) in

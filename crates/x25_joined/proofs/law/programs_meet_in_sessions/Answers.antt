@@ -1,5 +1,5 @@
 use Rattle.std.proofs.Common.{refl}
-use Rattle.x25_world.specs.SessionClaims.{SessionsKeepOrder}
+use Rattle.x25_world.specs.laws.SessionClaims.{SessionsKeepOrder}
 use Rattle.x25_joined.proofs.JoinedRuns.{of_programs}
 use Rattle.x25_joined.proofs.law.programs_meet_in_sessions.Goals as goal
 

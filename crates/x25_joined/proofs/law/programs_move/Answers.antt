@@ -1,4 +1,4 @@
-use Rattle.x25_joined.proofs.JoinedRowLemmas.{link_is_set_up, lost_sabm_goes_again, firing_has_to_wait, other_lines_do_nothing, message_arrives}
+use Rattle.x25_joined.proofs.rows.JoinedRowLemmas.{link_is_set_up, lost_sabm_goes_again, firing_has_to_wait, other_lines_do_nothing, message_arrives}
 use Rattle.x25_joined.proofs.law.programs_move.Goals as goal
 
 pub returns : goal.returns

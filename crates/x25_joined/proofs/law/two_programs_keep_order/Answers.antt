@@ -1,4 +1,4 @@
-use Rattle.x25_world.specs.Claims.{HasNoProcedureError, IsNamed}
+use Rattle.x25_world.specs.laws.Claims.{HasNoProcedureError, IsNamed}
 use Rattle.x25_joined.proofs.JoinedRuns.{are_lawful, arrive, of_programs_up_once}
 use Rattle.x25_joined.proofs.law.two_programs_keep_order.Goals as goal
 

@@ -3,8 +3,8 @@ use Rattle.std.proofs.lemmas.Option.{slice_get-get_or}
 use Rattle.x25_circuit.specs.declared.circuit.Circuit as circuit_code
 use Rattle.x25_circuit.specs.Circuit.{Circuit, forgotten}
 use Rattle.x25_layer.specs.Layer.{at_rest}
-use Rattle.x25_circuit.specs.FitsCircuit.{room_of}
-use Rattle.x25_layer.specs.FitsLayer.{FitsCircuits}
+use Rattle.x25_circuit.specs.code.FitsCircuit.{room_of}
+use Rattle.x25_layer.specs.code.FitsLayer.{FitsCircuits}
 use Rattle.x25_layer.specs.Room.{HaveRoom}
 use Rattle.x25_layer.proofs.FitLemmas.{changed_none, changed_more, changed_all, written_back, all_changed}
 use Rattle.x25_layer.proofs.circuits.begin_all.Goals as goal

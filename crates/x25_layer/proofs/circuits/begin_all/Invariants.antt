@@ -1,7 +1,7 @@
 use Rattle.std.proofs.Common.{ℕ}
 use Rattle.x25_circuit.specs.Circuit.{Circuit}
 use Rattle.x25_layer.specs.Layer.{LayerSettings, at_rest}
-use Rattle.x25_layer.specs.FitsLayer.{FitsCircuits}
+use Rattle.x25_layer.specs.code.FitsLayer.{FitsCircuits}
 use Rattle.x25_layer.specs.Room.{HaveRoom}
 use Rattle.x25_layer.proofs.FitLemmas.{ChangedBelow}
 use Rattle.x25_layer.proofs.circuits.begin_all.Given as goal

@@ -1,7 +1,7 @@
 use Rattle.std.proofs.Common.{◌≡◌, ◌≤◌, ◌+◌, List, vec_len, vec_capacity, arith, sym, subst}
 use Rattle.x25_circuit.specs.declared.circuit.Circuit as circuit_code
 use Rattle.x25_layer.specs.Layer.{at_rest, LayerSettings}
-use Rattle.x25_layer.specs.FitsLayer.{FitsCircuits}
+use Rattle.x25_layer.specs.code.FitsLayer.{FitsCircuits}
 use Rattle.x25_layer.proofs.FitLemmas.{fits_push}
 use Rattle.x25_layer.proofs.circuits.begun_circuits.Goals as goal
 

@@ -1,6 +1,6 @@
 use Rattle.std.proofs.Common.{◌≡◌, ◌≤◌, vec_len, vec_capacity}
 use Rattle.x25_layer.specs.Layer.{at_rest}
-use Rattle.x25_layer.specs.FitsLayer.{FitsCircuits}
+use Rattle.x25_layer.specs.code.FitsLayer.{FitsCircuits}
 use Rattle.x25_layer.proofs.circuits.begun_circuits.Given as goal
 
 abbrev pub invariant-loop : goal.invariant-loop

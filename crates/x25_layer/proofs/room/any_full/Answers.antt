@@ -1,7 +1,7 @@
 use Rattle.std.proofs.Common.{◌≡◌, ◌∙◌, ℕ, suc, ◌+◌, ◌<◌, length, Bool, ◌||◌, Some, slice_get, sym, ap, arith}
 use Rattle.std.proofs.lemmas.Option.{slice_get_within, slice_get-get_or}
 use Rattle.x25_circuit.specs.declared.circuit.Circuit as circuit_code
-use Rattle.x25_layer.specs.FitsLayer.{full_up_to}
+use Rattle.x25_layer.specs.code.FitsLayer.{full_up_to}
 use Rattle.x25_layer.specs.Room.{HasCountsLeft}
 use Rattle.x25_layer.proofs.FitLemmas.{neither, below_next}
 use Rattle.x25_layer.proofs.room.any_full.Goals as goal

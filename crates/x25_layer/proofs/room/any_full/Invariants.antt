@@ -2,7 +2,7 @@ use Rattle.std.proofs.Common.{◌≡◌, ℕ, ◌<◌, Some, false, slice_get}
 use Rattle.x25_circuit.specs.declared.circuit.Circuit as circuit_code
 use Rattle.x25_circuit.specs.Circuit.{Circuit}
 use Rattle.x25_layer.specs.Layer.{LayerSettings}
-use Rattle.x25_layer.specs.FitsLayer.{FitsCircuits, full_up_to}
+use Rattle.x25_layer.specs.code.FitsLayer.{FitsCircuits, full_up_to}
 use Rattle.x25_layer.specs.Room.{HasCountsLeft}
 use Rattle.x25_layer.proofs.room.any_full.Given as goal
 

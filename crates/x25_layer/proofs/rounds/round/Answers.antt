@@ -1,7 +1,7 @@
 use Rattle.std.proofs.Common.{◌≡◌, ℕ, min, suc, ◌+◌, ◌<◌, ◌≤◌, ◌∙◌, ◌⊎◌, inl, inr, List, length, true, set, nat_lt, option_to_list, sym, ap, subst, arith}
 use Rattle.std.proofs.lemmas.Option.{slice_get-get_or}
 use Rattle.x25_circuit.specs.declared.circuit.Circuit as circuit_code
-use Rattle.x25_circuit.specs.FitsCircuit.{room_of}
+use Rattle.x25_circuit.specs.code.FitsCircuit.{room_of}
 use Rattle.x25_layer.specs.Layer.{packet_on}
 use Rattle.x25_layer.specs.Room.{HaveRoom}
 use Rattle.x25_layer.specs.OverLink.{view_of, after_all}

@@ -1,6 +1,6 @@
 use Rattle.x25_line.proofs.HealingSteps.{HealingLaws}
 use Rattle.x25_line.proofs.HealingLoad.{deliveries_end, some_heal}
-use Rattle.x25_line.proofs.HealingRowLemmas.{both_lost_may_heal}
+use Rattle.x25_line.proofs.rows.HealingRowLemmas.{both_lost_may_heal}
 use Rattle.x25_line.proofs.healing.deliveries_end.Goals as goal
 
 pub returns : goal.returns

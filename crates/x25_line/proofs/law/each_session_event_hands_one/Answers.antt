@@ -1,4 +1,4 @@
-use Rattle.x25_line.proofs.SessionEvents.{each_hands_in_session}
+use Rattle.x25_line.proofs.sessions.SessionEvents.{each_hands_in_session}
 use Rattle.x25_line.proofs.law.each_session_event_hands_one.Goals as goal
 
 pub returns : goal.returns

@@ -1,4 +1,4 @@
-use Rattle.x25_line.proofs.SessionRowLemmas.{sets_up_from_nothing, sets_up_again, untimely_is_out_of_step}
+use Rattle.x25_line.proofs.rows.SessionRowLemmas.{sets_up_from_nothing, sets_up_again, untimely_is_out_of_step}
 use Rattle.x25_line.proofs.law.sessions_move.Goals as goal
 
 pub returns : goal.returns

@@ -1,4 +1,4 @@
-use Rattle.x25_link.proofs.NoteRows.{take_tells, take_continues, take_hands_up, timer_tells, timer_continues, put_tells, connect_tells, disconnect_tells, abandon_tells}
+use Rattle.x25_link.proofs.rows.NoteRows.{take_tells, take_continues, take_hands_up, timer_tells, timer_continues, put_tells, connect_tells, disconnect_tells, abandon_tells}
 use Rattle.x25_link.proofs.law.notes_what_changes.Goals as goal
 
 pub returns : goal.returns

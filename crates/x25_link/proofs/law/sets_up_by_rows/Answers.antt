@@ -1,4 +1,4 @@
-use Rattle.x25_link.proofs.SetUpRows.{take_waits, take_sets_up, connect_waits, timer_waits, disconnect_waits}
+use Rattle.x25_link.proofs.rows.SetUpRows.{take_waits, take_sets_up, connect_waits, timer_waits, disconnect_waits}
 use Rattle.x25_link.proofs.law.sets_up_by_rows.Goals as goal
 
 pub returns : goal.returns

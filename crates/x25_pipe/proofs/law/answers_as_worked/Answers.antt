@@ -1,4 +1,4 @@
-use Rattle.x25_pipe.proofs.PipeRowLemmas.{mark_comes_first, call_goes_out, others_are_refused}
+use Rattle.x25_pipe.proofs.rows.PipeRowLemmas.{mark_comes_first, call_goes_out, others_are_refused}
 use Rattle.x25_pipe.proofs.law.answers_as_worked.Goals as goal
 
 pub returns : goal.returns

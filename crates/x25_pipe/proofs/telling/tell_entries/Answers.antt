@@ -1,7 +1,7 @@
 use Rattle.std.proofs.Common.{◌++◌, append_assoc, take, map, subst}
 use Rattle.std.proofs.lemmas.Result.{err_from_is_err_and}
-use Rattle.x25_io.specs.Written.{AppendsBeginning}
-use Rattle.x25_station.specs.PlainEntry.{plain_entry}
+use Rattle.x25_io.specs.code.Written.{AppendsPrefix}
+use Rattle.x25_station.specs.code.PlainEntry.{plain_entry}
 use Rattle.x25_pipe.specs.Piped.{enters, saying_line, sayings_text}
 use Rattle.x25_io.proofs.ToldLemmas.{part_of_all}
 use Rattle.x25_pipe.proofs.SayingLemmas.{all_parts}
@@ -13,4 +13,4 @@ returns-in_err-tell_entry-clause-tells g c = λ old told h.
     let first = sayings_text c.args.end (map enters (map plain_entry (take c.loop-entry.entry-index c.args.entries.now))) in
     rw p.1 (part_of_all old _ told (first ++ saying_line c.args.end (enters (plain_entry c.entry-item.result))) _ _
     (all_parts c.args.end plain_entry enters c.args.entries.now c.loop-entry.entry-index c.entry-item.result c.loop-entry-test.true c.entry-item.is)
-    (subst (AppendsBeginning old (g.W.Sink.contents c.tell_entry.new.writer)) (append_assoc told first _) (c.in_err-tell_entry.ensures.tells old (told ++ first) (c.loop-entry.invariant.1 old told h))))
+    (subst (AppendsPrefix old (g.W.Sink.contents c.tell_entry.new.writer)) (append_assoc told first _) (c.in_err-tell_entry.ensures.tells old (told ++ first) (c.loop-entry.invariant.1 old told h))))

@@ -1,5 +1,5 @@
-use Rattle.x25_io.proofs.ToldLemmas.{begins_more}
+use Rattle.x25_io.proofs.ToldLemmas.{told_more}
 use Rattle.x25_pipe.proofs.telling.tell_frame.Goals as goal
 
 pub returns-in_default-clause-tells : goal.returns-in_default-clause-tells
-returns-in_default-clause-tells g c = λ old told h. begins_more _ _ _ told _ h
+returns-in_default-clause-tells g c = λ old told h. told_more _ _ _ told _ h

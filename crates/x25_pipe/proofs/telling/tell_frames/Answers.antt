@@ -1,6 +1,6 @@
 use Rattle.std.proofs.Common.{◌++◌, append_assoc, take, map, subst}
 use Rattle.std.proofs.lemmas.Result.{err_from_is_err_and}
-use Rattle.x25_io.specs.Written.{AppendsBeginning}
+use Rattle.x25_io.specs.code.Written.{AppendsPrefix}
 use Rattle.x25_pipe.specs.Piped.{sends, saying_line, sayings_text}
 use Rattle.x25_io.proofs.ToldLemmas.{part_of_all}
 use Rattle.x25_pipe.proofs.SayingLemmas.{all_parts}
@@ -12,4 +12,4 @@ returns-in_err-tell_frame-clause-tells g c = λ old told h.
     let first = sayings_text c.args.end (map sends (map (λ frame. frame.items) (take c.loop-frame.frame-index c.args.frames.now))) in
     rw p.1 (part_of_all old _ told (first ++ saying_line c.args.end (sends c.frame-item.result.items)) _ _
     (all_parts c.args.end (λ frame. frame.items) sends c.args.frames.now c.loop-frame.frame-index c.frame-item.result c.loop-frame-test.true c.frame-item.is)
-    (subst (AppendsBeginning old (g.W.Sink.contents c.tell_frame.new.writer)) (append_assoc told first _) (c.in_err-tell_frame.ensures.tells old (told ++ first) (c.loop-frame.invariant.1 old told h))))
+    (subst (AppendsPrefix old (g.W.Sink.contents c.tell_frame.new.writer)) (append_assoc told first _) (c.in_err-tell_frame.ensures.tells old (told ++ first) (c.loop-frame.invariant.1 old told h))))

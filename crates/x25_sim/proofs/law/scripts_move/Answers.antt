@@ -1,4 +1,4 @@
-use Rattle.x25_sim.proofs.SimRows.{links_come_up, frames_are_written, link_goes_down, damage_is_seen, calls_collide, other_lines_are_refused, messages_arrive, reset_is_done, restart_is_done, both_ends_go_down, link_is_set_up, lost_ua_comes_again, link_is_set_up_again}
+use Rattle.x25_sim.proofs.rows.SimRows.{links_come_up, frames_are_written, link_goes_down, damage_is_seen, calls_collide, other_lines_are_refused, messages_arrive, reset_is_done, restart_is_done, both_ends_go_down, link_is_set_up, lost_ua_comes_again, link_is_set_up_again}
 use Rattle.x25_sim.proofs.law.scripts_move.Goals as goal
 
 pub returns : goal.returns

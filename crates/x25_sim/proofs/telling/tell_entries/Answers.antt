@@ -1,7 +1,7 @@
 use Rattle.std.proofs.Common.{◌++◌, append_assoc, take, map, subst}
 use Rattle.std.proofs.lemmas.Result.{err_from_is_err_and}
-use Rattle.x25_io.specs.Written.{AppendsBeginning}
-use Rattle.x25_world.specs.PlainTold.{plain_entered}
+use Rattle.x25_io.specs.code.Written.{AppendsPrefix}
+use Rattle.x25_world.specs.code.PlainTold.{plain_entered}
 use Rattle.x25_sim.specs.Sayings.{enters, saying_line, sayings_text}
 use Rattle.x25_io.proofs.ToldLemmas.{part_of_all}
 use Rattle.x25_sim.proofs.SayingLemmas.{all_parts}
@@ -13,4 +13,4 @@ returns-in_err-tell_entry-clause-tells g c = λ old told h.
     let first = sayings_text (map enters (map plain_entered (take c.loop-entered.entered-index c.args.entries.now))) in
     rw p.1 (part_of_all old _ told (first ++ saying_line (enters (plain_entered c.entered-item.result))) _ _
     (all_parts plain_entered enters c.args.entries.now c.loop-entered.entered-index c.entered-item.result c.loop-entered-test.true c.entered-item.is)
-    (subst (AppendsBeginning old (g.W.Sink.contents c.tell_entry.new.writer)) (append_assoc told first _) (c.in_err-tell_entry.ensures.tells old (told ++ first) (c.loop-entered.invariant.1 old told h))))
+    (subst (AppendsPrefix old (g.W.Sink.contents c.tell_entry.new.writer)) (append_assoc told first _) (c.in_err-tell_entry.ensures.tells old (told ++ first) (c.loop-entered.invariant.1 old told h))))

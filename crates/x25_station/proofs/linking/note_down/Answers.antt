@@ -1,5 +1,5 @@
 use Rattle.std.proofs.Common.{sym, subst}
-use Rattle.x25_layer.specs.FitsLayer.{FitsLayer}
+use Rattle.x25_layer.specs.code.FitsLayer.{FitsLayer}
 use Rattle.x25_station.specs.Steps.{layer_down}
 use Rattle.x25_station.proofs.linking.note_down.Goals as goal
 

@@ -1,7 +1,7 @@
 use Rattle.std.proofs.Common.{option_copied, ap, sym, subst, ◌∙◌}
-use Rattle.x25_link.specs.Link.{FitsWhole}
+use Rattle.x25_link.specs.code.Link.{FitsWhole}
 use Rattle.x25_link.specs.Steps.{alone}
-use Rattle.x25_layer.specs.FitsLayer.{FitsLayer}
+use Rattle.x25_layer.specs.code.FitsLayer.{FitsLayer}
 use Rattle.x25_layer.specs.Rounds.{Putting}
 use Rattle.x25_station.specs.Settings.{link_settings, layer_settings}
 use Rattle.x25_station.specs.Receiving.{kept_of}

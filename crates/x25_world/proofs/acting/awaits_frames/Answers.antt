@@ -6,10 +6,10 @@ use Rattle.x25_world.specs.SetUpFrames.{carries}
 use Rattle.x25_world.specs.declared.set_up.SetUpFrame.TheVariants.{Sabm, Ua}
 use Rattle.x25_world.proofs.acting.awaits_frames.Goals as goal
 
-pub returns-then-is_waiting : goal.returns-then-is_waiting
-returns-then-is_waiting c = λ cfg w transcript gone side.
+pub returns-then-awaits_ua : goal.returns-then-awaits_ua
+returns-then-awaits_ua c = λ cfg w transcript gone side.
     c.is_on_line.ensures ∙ ap₂ (λ out back. carries Sabm c.args.at out || carries Ua (other c.args.at) back) side.out side.back
-    ∙ ap (λ b. b && is_on_line (settings_from c.args.at cfg) w) (sym c.if-is_waiting.true ∙ c.is_waiting.ensures _ _ side.near)
+    ∙ ap (λ b. b && is_on_line (settings_from c.args.at cfg) w) (sym c.if-awaits_ua.true ∙ c.awaits_ua.ensures _ _ side.near)
 
-pub returns-else-is_waiting : goal.returns-else-is_waiting
-returns-else-is_waiting c = λ cfg w transcript gone side. c.if-is_waiting.false ∙ ap (λ b. b && is_on_line (settings_from c.args.at cfg) w) (sym c.if-is_waiting.false ∙ c.is_waiting.ensures _ _ side.near)
+pub returns-else-awaits_ua : goal.returns-else-awaits_ua
+returns-else-awaits_ua c = λ cfg w transcript gone side. c.if-awaits_ua.false ∙ ap (λ b. b && is_on_line (settings_from c.args.at cfg) w) (sym c.if-awaits_ua.false ∙ c.awaits_ua.ensures _ _ side.near)

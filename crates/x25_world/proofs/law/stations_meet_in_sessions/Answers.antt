@@ -1,7 +1,7 @@
 use Rattle.x25_world.proofs.Known.{Laws}
-use Rattle.x25_world.proofs.SessionKnown.{SessionLaws}
-use Rattle.x25_world.proofs.SessionHeadline.{throughout_in_step, throughout_lawful, throughout_named, throughout_arrives, throughout_unmet, throughout_stand, throughout_quiet, throughout_octets}
-use Rattle.x25_world.proofs.SessionsAlong.{sessions_stay}
+use Rattle.x25_world.proofs.sessions.SessionKnown.{SessionLaws}
+use Rattle.x25_world.proofs.sessions.claims.SessionHeadline.{throughout_in_step, throughout_lawful, throughout_named, throughout_arrives, throughout_unmet, throughout_stand, throughout_quiet, throughout_octets}
+use Rattle.x25_world.proofs.sessions.SessionsAlong.{sessions_stay}
 use Rattle.x25_world.proofs.law.stations_meet_in_sessions.Goals as goal
 
 -- the links, the layers and the stations, by their contracts

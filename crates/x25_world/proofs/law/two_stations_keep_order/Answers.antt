@@ -1,5 +1,5 @@
 use Rattle.x25_world.proofs.Known.{Laws}
-use Rattle.x25_world.proofs.SessionKnown.{SessionLaws}
+use Rattle.x25_world.proofs.sessions.SessionKnown.{SessionLaws}
 use Rattle.x25_world.proofs.Headline.{is_set_up, always_lawful, always_named, always_arrives, always_quiet, always_in_window, up_once}
 use Rattle.x25_world.proofs.law.two_stations_keep_order.Goals as goal
 
@@ -57,7 +57,7 @@ returns c =
       alone = alone.alone;
       over_links = apart.runs;
     } in
-    let links = c.stations_keep_order.ensures in
+    let links = c.links_keep_order.ensures in
     record {
       set_up = is_set_up laws keeps.connect;
       lawful = always_lawful laws keeps.connect;

@@ -1,4 +1,4 @@
-use Rattle.x25_world.proofs.RowLemmas.{sets_up, message_arrives, lost_arrives, damaged_arrives, disconnect_ends_both, connect_sets_up, connect_goes_again, second_meets_first, second_meet, timer_waits, is_refused}
+use Rattle.x25_world.proofs.rows.RowLemmas.{sets_up, message_arrives, lost_arrives, damaged_arrives, disconnect_ends_both, connect_sets_up, connect_goes_again, second_meets_first, second_meet, timer_waits, is_refused}
 use Rattle.x25_world.proofs.law.two_stations_move.Goals as goal
 
 pub returns : goal.returns

@@ -1,6 +1,6 @@
 use Rattle.std.proofs.Common.{◌≡◌, ℕ, ◌+◌, ◌≤◌, List, length, map, take, vec_capacity}
 use Rattle.std.specs.VecDeque.{deque_len, deque_capacity}
-use Rattle.x25_world.specs.PlainTold.{plain_tapped}
+use Rattle.x25_world.specs.code.PlainTold.{plain_tapped}
 use Rattle.x25_world.specs.OnLine.{octets_of, shares}
 use Rattle.x25_world.specs.declared.on_line.OnLine.{OnLine}
 use Rattle.x25_world.proofs.line.own_all.Given as goal

@@ -1,7 +1,7 @@
 use Rattle.std.proofs.Common.{sym, ap, subst, ◌<◌, ◌∙◌}
 use Rattle.x25_bits.specs.Role.{other}
 use Rattle.x25_world.specs.SetUpFrames.{reads_as}
-use Rattle.x25_world.specs.ShownLine.{line_to}
+use Rattle.x25_world.specs.code.ShownLine.{line_to}
 use Rattle.x25_world.proofs.SetUpLemmas.{found_at, not_found_yet, none_there}
 use Rattle.x25_world.proofs.set_up.is_carried.Goals as goal
 use Rattle.x25_world.proofs.set_up.is_carried.Goals.{in-Some+else-reads_as, in_default}

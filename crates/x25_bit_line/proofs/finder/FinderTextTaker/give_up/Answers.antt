@@ -1,11 +1,11 @@
-use Rattle.x25_io.proofs.ToldLemmas.{begins}
+use Rattle.x25_io.proofs.ToldLemmas.{told_prefix}
 use Rattle.x25_bit_line.proofs.ReadsLemmas.{read_begun}
 use Rattle.x25_bit_line.proofs.TellingLemmas.{told_all}
 use Rattle.x25_bit_line.proofs.finder.FinderTextTaker.give_up.Goals as goal
 
 pub returns-in-Ok-clause-part : goal.returns-in-Ok-clause-part
 returns-in-Ok-clause-part g c = λ from old rest input h.
-    read_begun c.cuts_agree.ensures.begins from old _ h.done rest input h.split (begins old _ _ _ (c.in-Ok.ensures.tells old _ h.reads.tells))
+    read_begun c.cuts_agree.ensures.begins from old _ h.done rest input h.split (told_prefix old _ _ _ (c.in-Ok.ensures.tells old _ h.reads.tells))
 
 pub returns-in-Ok-clause-lines : goal.returns-in-Ok-clause-lines
 returns-in-Ok-clause-lines g c = λ from old rest input h read. record {

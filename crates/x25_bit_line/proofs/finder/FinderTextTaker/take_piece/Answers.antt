@@ -2,9 +2,9 @@ use Rattle.std.proofs.Common.{◌≡◌, ◌∙◌, ◌++◌, [], arith, ap, sym
 use Rattle.x25_bits.specs.Fcs.{bits_of}
 use Rattle.x25_bits.specs.SpanClass.{found_of}
 use Rattle.x25_bits.specs.declared.role.Role.{Role}
-use Rattle.x25_io.specs.Written.{AppendsBeginning}
+use Rattle.x25_io.specs.code.Written.{AppendsPrefix}
 use Rattle.x25_bit_line.specs.Deframed.{class_lines}
-use Rattle.x25_bit_line.specs.Reads.{Reads}
+use Rattle.x25_bit_line.specs.code.Reads.{Reads}
 use Rattle.std.proofs.lemmas.Bool.Decides.{nat_tests}
 use Rattle.x25_bit_line.proofs.TellingLemmas.{empty_is_nil}
 use Rattle.x25_bit_line.proofs.ReadsLemmas.{bits_of-append, octets_more, piece_split, read_begun, reads_piece}
@@ -39,8 +39,8 @@ returns-in-Err-clause-on g c = λ from old rest input h.
     ap (λ l. l ++ bits_of front) (sym (bits_of-append h.done part)) ∙ sym (bits_of-append (h.done ++ part) front) in
     read_begun c.cuts_agree.ensures.begins from old _ ((h.done ++ part) ++ front) (c.split_at.result.1.now ++ rest) input
     (piece_split h.done part front c.loop-left.left.now c.split_at.result.1.now c.args.piece.now rest input h.split now.2.1 c.split_at.ensures.by_index.0)
-    (subst (λ l. AppendsBeginning old (g.W.Sink.contents c.take_octets.new.writer) (class_lines from (found_of l))) bits
-    (subst (λ (f : Role). AppendsBeginning old (g.W.Sink.contents c.take_octets.new.writer) (class_lines f (found_of ((bits_of h.done ++ bits_of part) ++ bits_of front)))) (now.1 ∙ h.role)
+    (subst (λ l. AppendsPrefix old (g.W.Sink.contents c.take_octets.new.writer) (class_lines from (found_of l))) bits
+    (subst (λ (f : Role). AppendsPrefix old (g.W.Sink.contents c.take_octets.new.writer) (class_lines f (found_of ((bits_of h.done ++ bits_of part) ++ bits_of front)))) (now.1 ∙ h.role)
     (c.in-Err.ensures.reads old (bits_of h.done ++ bits_of part) here)))
 
 pub returns-in-Ok-clause-on : goal.returns-in-Ok-clause-on

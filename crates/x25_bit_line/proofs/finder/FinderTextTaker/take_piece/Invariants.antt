@@ -1,6 +1,6 @@
 use Rattle.std.proofs.Common.{◌≡◌, ◌++◌, ℕ, Bool, List, Option, length}
 use Rattle.x25_bits.specs.Fcs.{bits_of}
-use Rattle.x25_bit_line.specs.Reads.{Reads}
+use Rattle.x25_bit_line.specs.code.Reads.{Reads}
 use Rattle.x25_bit_line.proofs.finder.FinderTextTaker.take_piece.Given as goal
 
 -- what isn't left of the piece is read

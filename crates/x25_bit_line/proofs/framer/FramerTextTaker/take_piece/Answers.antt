@@ -1,7 +1,7 @@
 use Rattle.std.proofs.Common.{◌∙◌, ◌++◌, ◌∷◌, ap, append_assoc, refl, subst}
 use Rattle.std.proofs.lemmas.Result.{err_from_is_err_and, MatchResult-weaker}
 use Rattle.x25_bit_line.specs.Framed.{framed_bits, has_wrong}
-use Rattle.x25_bit_line.specs.Frames.{Leads}
+use Rattle.x25_bit_line.specs.code.Frames.{Leads}
 use Rattle.x25_bit_line.proofs.FramesLemmas.{held_more, leads_begun, leads_written}
 use Rattle.x25_bit_line.proofs.framer.FramerTextTaker.take_piece.Goals as goal
 

@@ -1,5 +1,5 @@
 use Rattle.std.proofs.Common.{◌≡◌, ◌++◌, ℕ, Bool, List, Option, length}
-use Rattle.x25_bit_line.specs.Frames.{Leads}
+use Rattle.x25_bit_line.specs.code.Frames.{Leads}
 use Rattle.x25_bit_line.proofs.framer.FramerTextTaker.take_piece.Given as goal
 
 -- what is left of the piece is still to come

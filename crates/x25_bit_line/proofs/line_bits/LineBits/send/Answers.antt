@@ -1,5 +1,5 @@
 use Rattle.std.proofs.lemmas.Result.{err_from_is_err_and}
-use Rattle.x25_io.proofs.ToldLemmas.{begins}
+use Rattle.x25_io.proofs.ToldLemmas.{told_prefix}
 use Rattle.x25_bit_line.proofs.line_bits.LineBits.send.Goals as goal
 
 pub returns-in_err-tell_octets-clause-tells : goal.returns-in_err-tell_octets-clause-tells
@@ -8,4 +8,4 @@ returns-in_err-tell_octets-clause-tells g c = λ old told h.
     rw p.1 (c.in_err-tell_octets.ensures.tells old told h)
 
 pub returns-in_default-clause-tells : goal.returns-in_default-clause-tells
-returns-in_default-clause-tells g c = λ old told h. begins old _ _ _ (c.in_ok-tell_octets.ensures.tells old told h)
+returns-in_default-clause-tells g c = λ old told h. told_prefix old _ _ _ (c.in_ok-tell_octets.ensures.tells old told h)

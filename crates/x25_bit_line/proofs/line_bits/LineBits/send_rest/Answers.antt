@@ -1,5 +1,5 @@
-use Rattle.x25_io.proofs.ToldLemmas.{begins_more}
+use Rattle.x25_io.proofs.ToldLemmas.{told_more}
 use Rattle.x25_bit_line.proofs.line_bits.LineBits.send_rest.Goals as goal
 
 pub returns-in-Err-clause-tells : goal.returns-in-Err-clause-tells
-returns-in-Err-clause-tells g c = λ old told h. begins_more old _ _ told _ h
+returns-in-Err-clause-tells g c = λ old told h. told_more old _ _ told _ h

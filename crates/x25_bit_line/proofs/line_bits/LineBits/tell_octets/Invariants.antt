@@ -1,6 +1,6 @@
 use Rattle.std.proofs.Common.{◌≡◌, ◌++◌, ℕ, List, Option}
 use Rattle.x25_bits.specs.SpanClass.{octets_by}
-use Rattle.x25_io.specs.Written.{Tells}
+use Rattle.x25_io.specs.code.Written.{Tells}
 use Rattle.x25_bit_line.proofs.line_bits.LineBits.tell_octets.Given as goal
 
 -- the first octets are told

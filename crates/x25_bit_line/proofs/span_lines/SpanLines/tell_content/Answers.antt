@@ -3,7 +3,7 @@ use Rattle.std.specs.Prelude.{MatchResult}
 use Rattle.std.specs.List.{flat_map}
 use Rattle.std.proofs.lemmas.Result.{err_from_is_err_and}
 use Rattle.x25_decode.specs.Decoded.{mark_of}
-use Rattle.x25_io.specs.Written.{AppendsBeginning, Tells}
+use Rattle.x25_io.specs.code.Written.{AppendsPrefix, Tells}
 use Rattle.x25_io.proofs.ToldLemmas.{part_of_all}
 use Rattle.x25_text.specs.OctetText.{octet_text}
 use Rattle.x25_bit_line.proofs.span_lines.SpanLines.tell_content.Goals as goal
@@ -21,12 +21,12 @@ returns-in_err-tell_digits-clause-tells g c = λ old told h.
     let p = err_from_is_err_and c.from_residual-in_err-tell_digits.result c.from_residual-in_err-tell_digits.ensures.1 in
     let digits = flat_map octet_text c.args.octets.now in
     rw p.1 (part_of_all old _ told (c.mark.result.now ++ digits) (10 ∷ []) _ (ap (λ m. (m ++ digits) ++ 10 ∷ []) (sym c.mark.ensures))
-    (subst (AppendsBeginning old (g.W.Sink.contents c.tell_digits.new.writer)) (append_assoc told c.mark.result.now digits)
+    (subst (AppendsPrefix old (g.W.Sink.contents c.tell_digits.new.writer)) (append_assoc told c.mark.result.now digits)
     (c.in_err-tell_digits.ensures.tells old (told ++ c.mark.result.now) (c.in_ok-tell.ensures.tells old told h))))
 
 pub returns-clause-tells : goal.returns-clause-tells
 returns-clause-tells g c = λ old told h.
     let digits = flat_map octet_text c.args.octets.now in
-    subst (λ t. MatchResult c.tell-2.result (λ _. Tells old (g.W.Sink.contents c.tell-2.new.writer) c.tell-2.new.self t) (λ _. AppendsBeginning old (g.W.Sink.contents c.tell-2.new.writer) t))
+    subst (λ t. MatchResult c.tell-2.result (λ _. Tells old (g.W.Sink.contents c.tell-2.new.writer) c.tell-2.new.self t) (λ _. AppendsPrefix old (g.W.Sink.contents c.tell-2.new.writer) t))
     (ap (λ t. t ++ 10 ∷ []) (append_assoc told c.mark.result.now digits) ∙ append_assoc told (c.mark.result.now ++ digits) (10 ∷ []) ∙ ap (λ m. told ++ ((m ++ digits) ++ 10 ∷ [])) c.mark.ensures)
     (c.tell-2.ensures.tells old ((told ++ c.mark.result.now) ++ digits) (c.in_ok-tell_digits.ensures.tells old (told ++ c.mark.result.now) (c.in_ok-tell.ensures.tells old told h)))

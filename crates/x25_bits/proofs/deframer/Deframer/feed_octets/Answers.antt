@@ -1,9 +1,9 @@
 use Rattle.std.proofs.Common.{◌≡◌, ◌∙◌, ◌++◌, ◌&&◌, ap, subst}
 use Rattle.x25_bits.specs.Fcs.{bits_of}
-use Rattle.x25_bits.specs.Held.{seen_of}
-use Rattle.x25_bits.specs.Keeping.{Keeping}
-use Rattle.x25_bits.specs.Plain.{plains}
-use Rattle.x25_bits.specs.FitsSeen.{FitsSeen}
+use Rattle.x25_bits.specs.code.Held.{seen_of}
+use Rattle.x25_bits.specs.code.Keeping.{Keeping}
+use Rattle.x25_bits.specs.code.Plain.{plains}
+use Rattle.x25_bits.specs.code.FitsSeen.{FitsSeen}
 use Rattle.x25_bits.proofs.FeedLemmas.{seen_all, found_all}
 use Rattle.x25_bits.proofs.FitsLemmas.{seen_fits, fits_seen}
 use Rattle.x25_bits.proofs.deframer.Deframer.feed_octets.Goals as goal

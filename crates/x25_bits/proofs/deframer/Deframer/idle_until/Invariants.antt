@@ -1,8 +1,8 @@
 use Rattle.std.proofs.Common.{◌≡◌, ◌≤◌, ◌-◌, ◌*◌, []}
 use Rattle.x25_bits.specs.Fcs.{bits_of}
-use Rattle.x25_bits.specs.FitsSeen.{FitsSeen}
-use Rattle.x25_bits.specs.Held.{Seen, seen_from, found_from}
-use Rattle.x25_bits.specs.Reading.{part}
+use Rattle.x25_bits.specs.code.FitsSeen.{FitsSeen}
+use Rattle.x25_bits.specs.code.Held.{Seen, seen_from, found_from}
+use Rattle.x25_bits.specs.code.Reading.{part}
 use Rattle.x25_bits.proofs.deframer.Deframer.idle_until.Given as goal
 
 abbrev pub invariant-loop-place : goal.invariant-loop-place

@@ -1,5 +1,5 @@
 use Rattle.std.proofs.Common.{refl}
-use Rattle.x25_bits.specs.Fits.{ones_from, behind_last}
+use Rattle.x25_bits.specs.code.Fits.{ones_from, behind_last}
 use Rattle.x25_bits.specs.Spans.{places_below}
 use Rattle.x25_bits.proofs.deframer.Deframer.new.Goals as goal
 

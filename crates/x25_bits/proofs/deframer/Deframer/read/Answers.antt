@@ -1,11 +1,14 @@
 use Rattle.std.proofs.Common.{◌+◌, ◌≡◌, ◌<◌, ◌≤◌, ◌∙◌, ◌++◌, sym, subst, arith}
 use Rattle.x25_bits.specs.Fcs.{bits_of}
-use Rattle.x25_bits.specs.Fits.{Fits}
-use Rattle.x25_bits.specs.FitsSeen.{FitsSeen}
-use Rattle.x25_bits.specs.Reading.{part}
+use Rattle.x25_bits.specs.code.Fits.{Fits}
+use Rattle.x25_bits.specs.code.FitsSeen.{FitsSeen}
+use Rattle.x25_bits.specs.code.Reading.{part}
 use Rattle.x25_bits.proofs.LendingLemmas.{reads_none, reads_more, reads_part, bit_fits, bit_lends, all_fit, all_lend, none_first}
 use Rattle.x25_bits.proofs.OctetLemmas.{length-bits_of}
 use Rattle.x25_bits.proofs.PassingLemmas.{passed_fits, passed_found}
+use Rattle.x25_bits.specs.code.Held.{seen_from}
+use Rattle.x25_bits.specs.code.Skips.{Skips}
+use Rattle.x25_bits.proofs.SkippingLemmas.{skipped_fits}
 use Rattle.x25_bits.proofs.deframer.Deframer.read.Goals as goal
 
 pub loop-place-init : goal.loop-place-init
@@ -26,19 +29,38 @@ loop-place-preserved-in-Some c =
           (passed_found c.loop-place.self c.in-Some.passed bits c.in-Some.ensures.passes);
     }
 
-pub loop-place-preserved-in-Some-passed_four_at : goal.loop-place-preserved-in-Some-passed_four_at
-loop-place-preserved-in-Some-passed_four_at c =
+pub loop-place-preserved-in-Some-stretch_at : goal.loop-place-preserved-in-Some-stretch_at
+loop-place-preserved-in-Some-stretch_at c =
     let low : c.args.at ≤ c.loop-place.place = c.loop-place.invariant.low in
-    let next : c.loop-place.place + 4 ≤ c.args.end = c.in-Some-passed_four_at.ensures.inside in
-    let bits = part c.loop-place.place (c.loop-place.place + 4) (bits_of c.args.octets.now) in
+    let stretch = c.in-Some-stretch_at.stretch in
+    let there = c.in-Some-stretch_at.ensures in
+    let behind : c.loop-place.place < stretch.end = there.low in
+    let bits = part c.loop-place.place stretch.end (bits_of c.args.octets.now) in
+    let kept = c.keep_passed_within-in-Some-stretch_at.ensures in
     record {
       low = omega arith;
-      high = next;
-      buffer = c.keep_passed_within-in-Some-passed_four_at.ensures.buffer;
-      reads = reads_part c.args.self.now c.loop-place.self c.keep_passed_within-in-Some-passed_four_at.new.self c.args.at c.loop-place.place (c.loop-place.place + 4) (bits_of c.args.octets.now) c.loop-place.invariant.reads low (omega arith)
-          (passed_fits c.loop-place.self c.keep_passed_within-in-Some-passed_four_at.new.self c.in-Some-passed_four_at.passed bits c.in-Some-passed_four_at.ensures.opened c.in-Some-passed_four_at.ensures.going c.in-Some-passed_four_at.ensures.room c.in-Some-passed_four_at.ensures.size
-          c.in-Some-passed_four_at.ensures.passes c.keep_passed_within-in-Some-passed_four_at.ensures.run c.keep_passed_within-in-Some-passed_four_at.ensures.opened c.keep_passed_within-in-Some-passed_four_at.ensures.aborted c.keep_passed_within-in-Some-passed_four_at.ensures.inserted c.keep_passed_within-in-Some-passed_four_at.ensures.kept)
-          (passed_found c.loop-place.self c.in-Some-passed_four_at.passed bits c.in-Some-passed_four_at.ensures.passes);
+      high = there.high;
+      buffer = kept.buffer;
+      reads = reads_part c.args.self.now c.loop-place.self c.keep_passed_within-in-Some-stretch_at.new.self c.args.at c.loop-place.place stretch.end (bits_of c.args.octets.now) c.loop-place.invariant.reads low (omega arith)
+          (passed_fits c.loop-place.self c.keep_passed_within-in-Some-stretch_at.new.self stretch.passed bits there.opened there.going there.room there.size there.passes
+          kept.run kept.opened kept.aborted kept.inserted kept.kept)
+          (passed_found c.loop-place.self stretch.passed bits there.passes);
+    }
+
+pub loop-place-preserved-in-Some-skip_at : goal.loop-place-preserved-in-Some-skip_at
+loop-place-preserved-in-Some-skip_at c =
+    let low : c.args.at ≤ c.loop-place.place = c.loop-place.invariant.low in
+    let skipped = c.in-Some-skip_at.skipped in
+    let there = c.in-Some-skip_at.ensures in
+    let behind : c.loop-place.place < skipped.end = there.low in
+    let bits = part c.loop-place.place skipped.end (bits_of c.args.octets.now) in
+    record {
+      low = omega arith;
+      high = there.high;
+      buffer = c.skip.ensures.buffer ∙ c.loop-place.invariant.buffer;
+      reads = reads_part c.args.self.now c.loop-place.self c.skip.new.self c.args.at c.loop-place.place skipped.end (bits_of c.args.octets.now) c.loop-place.invariant.reads low (omega arith)
+          (λ v f. skipped_fits c.skip.new.self (seen_from v bits) (subst (λ s. Skips s (seen_from v bits)) (sym c.skip.ensures.scan) (there.skips v f)))
+          there.none;
     }
 
 pub loop-place-preserved-then-next-place : goal.loop-place-preserved-then-next-place

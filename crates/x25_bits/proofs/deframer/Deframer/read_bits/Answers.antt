@@ -1,8 +1,8 @@
 use Rattle.std.proofs.Common.{◌≡◌, ◌++◌, [], subst, arith}
-use Rattle.x25_bits.specs.Cuts.{found_more}
+use Rattle.x25_bits.specs.laws.Cuts.{found_more}
 use Rattle.x25_bits.specs.Fcs.{bits_of}
-use Rattle.x25_bits.specs.Fits.{Fits}
-use Rattle.x25_bits.specs.Reading.{Lends}
+use Rattle.x25_bits.specs.code.Fits.{Fits}
+use Rattle.x25_bits.specs.code.Reading.{Lends}
 use Rattle.x25_bits.proofs.ReadingLemmas.{part_same}
 use Rattle.x25_bits.proofs.deframer.Deframer.read_bits.Goals as goal
 

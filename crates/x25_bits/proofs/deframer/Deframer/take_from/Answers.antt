@@ -1,10 +1,10 @@
 use Rattle.std.proofs.Common.{◌∙◌, ◌++◌, ◌<◌, ◌≤◌, length, ap, sym, subst, refl, arith, append_assoc}
 use Rattle.std.proofs.lemmas.List.{append-nil}
-use Rattle.x25_bits.specs.FitsSeen.{FitsSeen}
-use Rattle.x25_bits.specs.Held.{seen_from, found_from, seen_found}
-use Rattle.x25_bits.specs.Plain.{plains}
-use Rattle.x25_bits.specs.Reading.{part}
-use Rattle.x25_bits.proofs.BeginsLemmas.{begins_none, begins_more}
+use Rattle.x25_bits.specs.code.FitsSeen.{FitsSeen}
+use Rattle.x25_bits.specs.code.Held.{seen_from, found_from, seen_found}
+use Rattle.x25_bits.specs.code.Plain.{plains}
+use Rattle.x25_bits.specs.code.Reading.{part}
+use Rattle.x25_bits.proofs.PrefixLemmas.{prefix_none, prefix_more}
 use Rattle.x25_bits.proofs.ReadingLemmas.{part_none, part_rest, read_seen, read_found}
 use Rattle.x25_bits.proofs.deframer.Deframer.take_from.Goals as goal
 
@@ -14,8 +14,8 @@ loop-place-init c = record {
   low = omega arith;
   fits = λ v h. subst (λ l. FitsSeen c.args.self.now (seen_from v l)) (sym (part_none c.args.from c.args.bits.now)) h;
   found = λ v h. sym (append-nil _) ∙ ap (λ l. plains c.args.out.now.items ++ found_from v l) (sym (part_none c.args.from c.args.bits.now));
-  undo = begins_none _;
-  begins = begins_none _;
+  undo = prefix_none _;
+  begins = prefix_none _;
   roomy = refl;
   alloc = refl;
   last = refl;
@@ -37,8 +37,8 @@ loop-place-preserved c =
           ∙ ap (λ l. l ++ seen_found (seen_from v (part from place bits)) c.bit.result) (before.found v h)
           ∙ append_assoc (plains c.args.out.now.items) (found_from v (part from place bits)) (seen_found (seen_from v (part from place bits)) c.bit.result)
           ∙ ap (λ l. plains c.args.out.now.items ++ l) (sym (read_found v from place bits c.bit.result low inside c.bit.ensures));
-      undo = begins_more _ _ _ before.undo c.in_ok-take.ensures.undo;
-      begins = begins_more _ _ _ before.begins c.in_ok-take.ensures.begins;
+      undo = prefix_more _ _ _ before.undo c.in_ok-take.ensures.undo;
+      begins = prefix_more _ _ _ before.begins c.in_ok-take.ensures.begins;
       alloc = c.in_ok-take.ensures.alloc ∙ before.alloc;
       roomy = c.in_ok-take.ensures.roomy ∙ before.roomy;
       last = c.in_ok-take.ensures.last ∙ before.last;

@@ -1,18 +1,18 @@
 use Rattle.std.proofs.Common.{◌≡◌, ◌-◌, drop, length, unwrap_or}
-use Rattle.x25_bits.specs.Begins.{Begins}
+use Rattle.x25_bits.specs.Prefix.{IsPrefix}
 use Rattle.x25_bits.specs.Fcs.{bits_of}
-use Rattle.x25_bits.specs.Held.{Seen}
-use Rattle.x25_bits.specs.Plain.{plains}
-use Rattle.x25_bits.specs.FitsSeen.{FitsSeen}
+use Rattle.x25_bits.specs.code.Held.{Seen}
+use Rattle.x25_bits.specs.code.Plain.{plains}
+use Rattle.x25_bits.specs.code.FitsSeen.{FitsSeen}
 use Rattle.x25_bits.proofs.LeadsLemmas.{Leads}
 use Rattle.x25_bits.proofs.deframer.Deframer.take_octets.Given as goal
 
 abbrev pub invariant-loop-place : goal.invariant-loop-place
 invariant-loop-place l = record {
   leads : (v : Seen) → FitsSeen l.initial.self v → Leads v (bits_of l.octets) (plains l.initial.out.items) l.self (bits_of (drop l.place l.octets)) (plains l.out.items);
-  undo : Begins (unwrap_or l.initial.aside l.initial.self.kept).bits (unwrap_or l.aside l.self.kept).bits;
+  undo : IsPrefix (unwrap_or l.initial.aside l.initial.self.kept).bits (unwrap_or l.aside l.self.kept).bits;
   roomy : (unwrap_or l.aside l.self.kept).is_roomy ≡ (unwrap_or l.initial.aside l.initial.self.kept).is_roomy;
-  begins : Begins l.initial.out.items l.out.items;
+  begins : IsPrefix l.initial.out.items l.out.items;
   alloc : l.self.alloc ≡ l.initial.self.alloc;
   last : l.self.last ≡ l.initial.self.last;
 }

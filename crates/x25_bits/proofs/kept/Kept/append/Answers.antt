@@ -1,7 +1,7 @@
 use Rattle.std.proofs.Common.{◌≤◌, ◌≡◌, ◌∙◌, ◌++◌, ap, length, arith, take}
 use Rattle.std.proofs.lemmas.Result.{err_from_is_err_and}
 use Rattle.x25_bits.specs.Fcs.{bits_of, low_bits}
-use Rattle.x25_bits.specs.Keeping.{Keeping}
+use Rattle.x25_bits.specs.code.Keeping.{Keeping}
 use Rattle.x25_bits.proofs.KeepingLemmas.{count_of}
 use Rattle.x25_bits.proofs.OctetLemmas.{take_grown}
 use Rattle.x25_bits.proofs.kept.Kept.append.Goals as goal

@@ -1,6 +1,6 @@
 use Rattle.std.proofs.Common.{◌∙◌, ◌++◌, ◌∷◌, ◌<◌, [], false, length, ap, sym, take, arith}
 use Rattle.std.proofs.lemmas.List.{take_more, take_all}
-use Rattle.x25_bits.specs.Keeping.{Keeping}
+use Rattle.x25_bits.specs.code.Keeping.{Keeping}
 use Rattle.x25_bits.proofs.kept.Kept.copy_from.Goals as goal
 
 pub loop-place-init : goal.loop-place-init

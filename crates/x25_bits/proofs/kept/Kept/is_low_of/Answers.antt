@@ -1,5 +1,5 @@
 use Rattle.std.proofs.Common.{◌*◌, ◌^◌, ◌%◌, refl, sym, ◌<◌, ◌≡◌, length, ap, arith}
-use Rattle.x25_bits.specs.Keeping.{Keeping}
+use Rattle.x25_bits.specs.code.Keeping.{Keeping}
 use Rattle.x25_bits.proofs.IdleLemmas.{low_none, low_kept, weight_some}
 use Rattle.x25_bits.proofs.KeepingLemmas.{count_of}
 use Rattle.x25_bits.proofs.kept.Kept.is_low_of.Goals as goal

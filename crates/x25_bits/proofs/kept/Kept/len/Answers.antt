@@ -1,5 +1,5 @@
 use Rattle.std.proofs.Common.{ap}
-use Rattle.x25_bits.specs.Keeping.{Keeping}
+use Rattle.x25_bits.specs.code.Keeping.{Keeping}
 use Rattle.x25_bits.proofs.OctetLemmas.{count_is}
 use Rattle.x25_bits.proofs.kept.Kept.len.Goals as goal
 

@@ -1,5 +1,5 @@
 use Rattle.std.proofs.Common.{◌<◌, ◌≤◌, ◌≡◌, ◌∙◌, ap, length, arith}
-use Rattle.x25_bits.specs.Keeping.{Keeping}
+use Rattle.x25_bits.specs.code.Keeping.{Keeping}
 use Rattle.x25_bits.proofs.KeepingLemmas.{count_of}
 use Rattle.x25_bits.proofs.kept.Kept.push_within.Goals as goal
 

@@ -1,6 +1,6 @@
 use Rattle.std.proofs.Common.{◌≡◌, ◌∙◌, ◌/◌, ap, take}
 use Rattle.x25_bits.specs.Fcs.{bits_of}
-use Rattle.x25_bits.specs.Keeping.{Keeping}
+use Rattle.x25_bits.specs.code.Keeping.{Keeping}
 use Rattle.x25_bits.specs.SpanClass.{octets_by}
 use Rattle.x25_bits.proofs.OctetLemmas.{count_is}
 use Rattle.x25_bits.proofs.kept.Kept.whole_octets.Goals as goal

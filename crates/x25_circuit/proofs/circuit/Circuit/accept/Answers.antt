@@ -2,7 +2,7 @@ use Rattle.std.proofs.Common.{sym, refl, subst, false, ◌∙◌, lit≤}
 use Rattle.x25_circuit.specs.declared.params.Params.{Params}
 use Rattle.x25_circuit.specs.declared.state.State.TheVariants.{Open}
 use Rattle.x25_circuit.specs.Circuit.{entered}
-use Rattle.x25_circuit.specs.FitsCircuit.{FitsCircuit}
+use Rattle.x25_circuit.specs.code.FitsCircuit.{FitsCircuit}
 use Rattle.x25_circuit.proofs.TalkLemmas.{no_field}
 use Rattle.x25_circuit.proofs.circuit.Circuit.accept.Goals as goal
 

@@ -1,6 +1,5 @@
-use Rattle.std.proofs.Common.{sym, ◌∙◌}
-use Rattle.x25_circuit.proofs.RowLemmas.{interrupt_at}
+use Rattle.std.proofs.Common.{refl}
 use Rattle.x25_circuit.proofs.circuit.Circuit.interrupt.Goals as goal
 
-pub returns-in-Open-clause-outcome : goal.returns-in-Open-clause-outcome
-returns-in-Open-clause-outcome c = λ d x fits. rw (interrupt_at x x.state c.args.user.now (sym fits.state ∙ c.in-Open.is)) (c.interrupt_open.ensures.outcome d x fits)
+pub returns-in-Some-clause-outcome : goal.returns-in-Some-clause-outcome
+returns-in-Some-clause-outcome c = λ d x fits. rw (c.in-Some.ensures.refused d x fits) refl

@@ -11,7 +11,7 @@ pub returns-in-Clear : goal.returns-in-Clear
 returns-in-Clear c = λ d x fits. rw c.in-Clear.is (c.clear_refusal.ensures d x fits)
 
 pub returns-in-Interrupt : goal.returns-in-Interrupt
-returns-in-Interrupt c = λ d x fits. rw c.in-Interrupt.is (c.interrupt_refusal.ensures d x fits)
+returns-in-Interrupt c = λ d x fits. rw c.in-Interrupt.is (c.interrupt_refusal.ensures.refusal d x fits)
 
 pub returns-in-Reset : goal.returns-in-Reset
 returns-in-Reset c = λ d x fits.

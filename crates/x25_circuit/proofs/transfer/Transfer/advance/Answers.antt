@@ -2,7 +2,7 @@ use Rattle.std.proofs.Common.{◌∷◌, List, length, refl, sym, ap, ◌∙◌,
 use Rattle.std.proofs.lemmas.List.{length_push}
 use Rattle.x25_circuit.specs.Messages.{Piece, piece_of, cut_all}
 use Rattle.x25_circuit.specs.Queue.{waiting}
-use Rattle.x25_circuit.specs.Cutter.{first_left}
+use Rattle.x25_circuit.specs.code.Cutter.{first_left}
 use Rattle.std.proofs.lemmas.Bool.{lt-ltb, and_from}
 use Rattle.x25_circuit.proofs.MessageLemmas.{next_piece}
 use Rattle.x25_circuit.proofs.transfer.Transfer.advance.Goals as goal

@@ -1,6 +1,6 @@
 use Rattle.std.proofs.Common.{◌∙◌, ◌||◌, ◌++◌, sym, ap, subst}
 use Rattle.std.proofs.Math.Bool.{or-true}
-use Rattle.x25_decode.specs.Stream.{HoldsLine}
+use Rattle.x25_decode.specs.code.Stream.{HoldsLine}
 use Rattle.x25_decode.specs.Decoded.{answer_to, is_refused}
 use Rattle.x25_decode.proofs.HeldLemmas.{held_short, held_long, held_text}
 use Rattle.x25_decode.proofs.decoder.Decoder.answer_held.Goals as goal

@@ -1,6 +1,6 @@
 use Rattle.std.proofs.Common.{◌||◌, ◌++◌, ◌∷◌, ap}
 use Rattle.std.proofs.lemmas.Result.{err_from_is_err_and}
-use Rattle.x25_decode.specs.Stream.{LeadsFrom}
+use Rattle.x25_decode.specs.code.Stream.{LeadsFrom}
 use Rattle.x25_decode.proofs.StreamLemmas.{answered, direct, held}
 use Rattle.x25_decode.proofs.decoder.Decoder.close.Goals as goal
 

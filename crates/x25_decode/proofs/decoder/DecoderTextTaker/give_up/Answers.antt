@@ -1,7 +1,7 @@
 use Rattle.std.proofs.Common.{[], sym, subst}
 use Rattle.std.proofs.lemmas.List.{append-nil}
 use Rattle.x25_decode.specs.Decoded.{output_of}
-use Rattle.x25_decode.specs.Stream.{WritesEnded}
+use Rattle.x25_decode.specs.code.Stream.{WritesEnded}
 use Rattle.x25_decode.proofs.StreamLemmas.{flush_err, flushed}
 use Rattle.x25_decode.proofs.decoder.DecoderTextTaker.give_up.Goals as goal
 

@@ -1,6 +1,6 @@
 use Rattle.std.proofs.Common.{◌∙◌, ◌++◌, ◌∷◌, ap, append_assoc, subst}
 use Rattle.x25_decode.specs.Decoded.{has_refused, output_of}
-use Rattle.x25_decode.specs.Stream.{LeadsFrom}
+use Rattle.x25_decode.specs.code.Stream.{LeadsFrom}
 use Rattle.x25_decode.proofs.StreamLemmas.{flush_err, flush_ok, held}
 use Rattle.x25_decode.proofs.decoder.DecoderTextTaker.take_piece.Goals as goal
 

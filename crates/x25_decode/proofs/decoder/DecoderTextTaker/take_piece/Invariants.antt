@@ -1,5 +1,5 @@
 use Rattle.std.proofs.Common.{◌≡◌, ℕ, length, ◌++◌, List, Option, Bool}
-use Rattle.x25_decode.specs.Stream.{LeadsFrom}
+use Rattle.x25_decode.specs.code.Stream.{LeadsFrom}
 use Rattle.x25_decode.proofs.decoder.DecoderTextTaker.take_piece.Given as goal
 
 -- what is left of the piece is still to be answered

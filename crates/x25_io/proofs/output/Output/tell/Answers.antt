@@ -1,8 +1,8 @@
 use Rattle.std.proofs.lemmas.Result.{err_from_is_err_and}
-use Rattle.x25_io.proofs.ToldLemmas.{beginning_more}
+use Rattle.x25_io.proofs.ToldLemmas.{prefix_more}
 use Rattle.x25_io.proofs.output.Output.tell.Goals as goal
 
 pub returns-in_err-make_room-clause-tells : goal.returns-in_err-make_room-clause-tells
 returns-in_err-make_room-clause-tells g c = λ old told h.
     let p = err_from_is_err_and c.from_residual.result c.from_residual.ensures.1 in
-    rw p.1 (beginning_more _ _ told _ (c.in_err-make_room.ensures.tells old told h))
+    rw p.1 (prefix_more _ _ told _ (c.in_err-make_room.ensures.tells old told h))

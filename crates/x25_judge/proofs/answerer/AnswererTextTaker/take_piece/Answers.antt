@@ -1,7 +1,7 @@
 use Rattle.std.proofs.Common.{◌∙◌, ◌++◌, ◌∷◌, ap, append_assoc, subst}
 use Rattle.x25_io.specs.Lines.{lines_of}
 use Rattle.x25_judge.specs.Judged.{output_of, has_fault}
-use Rattle.x25_judge.specs.Stream.{LeadsFrom}
+use Rattle.x25_judge.specs.code.Stream.{LeadsFrom}
 use Rattle.x25_judge.proofs.StreamLemmas.{held_more}
 use Rattle.x25_judge.proofs.answerer.AnswererTextTaker.take_piece.Goals as goal
 

@@ -6,7 +6,7 @@ use Rattle.x25_layer.specs.Rounds.{LinkView, Answered, begin, went}
 use Rattle.x25_layer.specs.declared.layer.Layer as code
 use Rattle.x25_layer.specs.Layer.{packet_on}
 use Rattle.x25_layer.specs.Room.{HaveRoom}
-use Rattle.x25_circuit.specs.Replies.{plain_owed}
+use Rattle.x25_circuit.specs.code.Replies.{plain_owed}
 use Rattle.x25_layer.proofs.FitLemmas.{on_err}
 use Rattle.x25_layer.proofs.CallLemmas.{IsAccepted, is_accepted, declined_layer, declined_link, short_layer, short_link}
 use Rattle.x25_layer.proofs.layer.Layer.ask_ready.Goals as goal

@@ -1,6 +1,6 @@
 use Rattle.std.proofs.Common.{◌≡◌, ◌∙◌, ℕ, ◌^◌, ◌-◌, ◌==◌, ◌||◌, List, length, Bool, false, sym, ap, subst, arith}
 use Rattle.x25_circuit.specs.declared.circuit.Circuit as circuit_code
-use Rattle.x25_layer.specs.FitsLayer.{FitsCircuits, full_up_to}
+use Rattle.x25_layer.specs.code.FitsLayer.{FitsCircuits, full_up_to}
 use Rattle.x25_layer.proofs.SettleLemmas.{not_same}
 use Rattle.x25_layer.proofs.layer.Layer.full.Goals as goal
 

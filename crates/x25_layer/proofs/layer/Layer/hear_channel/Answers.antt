@@ -1,6 +1,6 @@
 use Rattle.std.proofs.Common.{ℕ, ◌-◌, ◌≤◌, min, refl, sym, ap, subst, arith}
 use Rattle.x25_circuit.specs.declared.circuit.Circuit as circuit_code
-use Rattle.x25_circuit.specs.FitsCircuit.{FitsCircuit, room_of}
+use Rattle.x25_circuit.specs.code.FitsCircuit.{FitsCircuit, room_of}
 use Rattle.x25_layer.specs.Receiving.{plain_read, circuit_hears}
 use Rattle.x25_layer.proofs.CallLemmas.{found_at, layer_put, layer_kept}
 use Rattle.x25_layer.proofs.FitLemmas.{all_changed, if_none}

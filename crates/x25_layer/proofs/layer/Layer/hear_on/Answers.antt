@@ -1,6 +1,6 @@
 use Rattle.std.proofs.Common.{rules, ◌≡◌, ◌∙◌, ℕ, length, true, false, sym, subst}
 use Rattle.x25_layer.specs.Layer.{Layer, is_channel}
-use Rattle.x25_layer.specs.FitsLayer.{FitsLayer}
+use Rattle.x25_layer.specs.code.FitsLayer.{FitsLayer}
 use Rattle.x25_layer.specs.Receiving.{plain_read}
 use Rattle.x25_layer.specs.Room.{HaveRoom}
 use Rattle.x25_layer.proofs.FitLemmas.{kept_unless}

@@ -2,7 +2,7 @@ use Rattle.std.proofs.Common.{◌≡◌, Bool, option_to_list, sym, subst, arith
 use Rattle.x25_packet.specs.Reading.{packet_of}
 use Rattle.x25_packet.specs.Spelling.{longest_user}
 use Rattle.x25_layer.specs.Layer.{LayerAnswer}
-use Rattle.x25_layer.specs.FitsLayer.{FitsLayer}
+use Rattle.x25_layer.specs.code.FitsLayer.{FitsLayer}
 use Rattle.x25_layer.specs.OverLink.{after_all}
 use Rattle.x25_layer.specs.Rounds.{answer_to, begin}
 use Rattle.x25_layer.specs.Room.{HaveRoom}

@@ -1,6 +1,6 @@
 use Rattle.std.proofs.Common.{◌≡◌, ◌∙◌, sym, ap, subst, arith}
 use Rattle.x25_layer.specs.Layer.{LayerSettings}
-use Rattle.x25_layer.specs.FitsLayer.{FitsLayer, FitsCircuits}
+use Rattle.x25_layer.specs.code.FitsLayer.{FitsLayer, FitsCircuits}
 use Rattle.x25_layer.specs.OverLink.{view_of, after_all}
 use Rattle.x25_layer.specs.Rounds.{LinkView, Putting, round, rounds}
 use Rattle.x25_layer.specs.Pulling.{IsEnough, Stands}

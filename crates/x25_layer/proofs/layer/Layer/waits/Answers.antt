@@ -1,5 +1,5 @@
 use Rattle.std.proofs.Common.{◌≡◌, ◌∙◌, ℕ, suc, subst, ap, arith, Some, slice_get}
-use Rattle.x25_layer.specs.FitsLayer.{waits_up_to}
+use Rattle.x25_layer.specs.code.FitsLayer.{waits_up_to}
 use Rattle.x25_layer.proofs.FitLemmas.{waits_more, read_at}
 use Rattle.x25_layer.proofs.layer.Layer.waits.Goals as goal
 

@@ -1,6 +1,6 @@
 use Rattle.std.proofs.Common.{◌≡◌, ◌*◌, ◌≤◌}
 use Rattle.x25_layer.specs.Layer.{LayerSettings, Layer}
-use Rattle.x25_layer.specs.FitsLayer.{FitsLayer, waits_up_to}
+use Rattle.x25_layer.specs.code.FitsLayer.{FitsLayer, waits_up_to}
 use Rattle.x25_layer.proofs.layer.Layer.waits.Given as goal
 
 abbrev pub invariant-loop-circuit : goal.invariant-loop-circuit

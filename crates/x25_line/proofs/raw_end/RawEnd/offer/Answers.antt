@@ -4,8 +4,8 @@ use Rattle.std.proofs.lemmas.Grind.{common_steps}
 use Rattle.std.proofs.lemmas.List.{length_push}
 use Rattle.x25_line.proofs.FitLemmas.{FitsLine_push}
 use Rattle.x25_line.proofs.Frames.{slice_get-last}
-use Rattle.x25_line.specs.RawFitting.{FitsEnd, sending_of}
-use Rattle.x25_line.specs.RawShown.{ShownEnd}
+use Rattle.x25_line.specs.code.RawFitting.{FitsEnd, sending_of}
+use Rattle.x25_line.specs.code.RawShown.{ShownEnd}
 use Rattle.x25_line.proofs.raw_end.RawEnd.offer.Goals as goal
 
 pub returns-clause-end : goal.returns-clause-end

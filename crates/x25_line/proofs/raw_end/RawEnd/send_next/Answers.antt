@@ -1,7 +1,7 @@
 use Rattle.std.proofs.Common.{sym, subst, refl, length}
 use Rattle.x25_line.proofs.FitLemmas.{FitsLine_push}
-use Rattle.x25_line.specs.RawFitting.{FitsEnd, sending_of}
-use Rattle.x25_line.specs.RawShown.{ShownEnd}
+use Rattle.x25_line.specs.code.RawFitting.{FitsEnd, sending_of}
+use Rattle.x25_line.specs.code.RawShown.{ShownEnd}
 use Rattle.x25_line.proofs.raw_end.RawEnd.send_next.Goals as goal
 
 pub returns-clause-line : goal.returns-clause-line

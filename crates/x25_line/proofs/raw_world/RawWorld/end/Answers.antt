@@ -1,6 +1,6 @@
 use Rattle.std.proofs.Common.{subst}
-use Rattle.x25_line.specs.RawFitting.{Run}
-use Rattle.x25_line.specs.RawShown.{ShownWorld}
+use Rattle.x25_line.specs.code.RawFitting.{Run}
+use Rattle.x25_line.specs.code.RawShown.{ShownWorld}
 use Rattle.x25_line.proofs.RawWorlds.{run_there, run_back}
 use Rattle.x25_line.proofs.raw_world.RawWorld.end.Goals as goal
 

@@ -2,8 +2,8 @@ use Rattle.std.proofs.Common.{take, subst}
 use Rattle.std.proofs.lemmas.List.{take_more}
 use Rattle.x25_bits.specs.declared.role.Role.TheVariants.{Dte}
 use Rattle.x25_line.specs.RawMachine.{run}
-use Rattle.x25_line.specs.RawShown.{ShownWorld}
-use Rattle.x25_line.specs.RawFitting.{Run}
+use Rattle.x25_line.specs.code.RawShown.{ShownWorld}
+use Rattle.x25_line.specs.code.RawFitting.{Run}
 use Rattle.x25_line.specs.declared.raw_event.RawEvent.TheVariants.{Offer}
 use Rattle.x25_line.proofs.RawWorlds.{run-push, AllAccepted-push, in_window, run_there, run_back}
 use Rattle.x25_line.proofs.raw_world.RawWorld.run.Goals as goal

@@ -1,6 +1,6 @@
 use Rattle.std.proofs.Common.{take}
 use Rattle.x25_line.specs.RawMachine.{RawState, run, AllAccepted}
-use Rattle.x25_line.specs.RawFitting.{FitsWorld}
+use Rattle.x25_line.specs.code.RawFitting.{FitsWorld}
 use Rattle.x25_line.proofs.raw_world.RawWorld.run.Given as goal
 
 -- the events before this one were accepted and have happened

@@ -1,5 +1,5 @@
 use Rattle.std.proofs.Common.{◌≡◌, ◌∙◌, ◌≤◌, ℕ, List, length, get_or, sym, ap, subst, arith}
-use Rattle.x25_packet.specs.DigitsPlace.{NamesDigits, digits_in}
+use Rattle.x25_packet.specs.code.DigitsPlace.{NamesDigits, digits_in}
 use Rattle.x25_packet.specs.declared.digits.Place.{Place}
 use Rattle.x25_packet.specs.declared.digits.Place.TheVariants.{Halves}
 use Rattle.x25_packet.proofs.DigitLemmas.{length-digits_in, digit_in_halves, digit_small}

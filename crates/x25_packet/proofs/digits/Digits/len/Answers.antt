@@ -1,6 +1,6 @@
 use Rattle.std.proofs.Common.{◌≡◌, ◌∙◌, sym, ap, subst, length}
 use Rattle.x25_packet.specs.Digits.{IsAddress}
-use Rattle.x25_packet.specs.DigitsPlace.{NamesDigits, digits_in}
+use Rattle.x25_packet.specs.code.DigitsPlace.{NamesDigits, digits_in}
 use Rattle.x25_packet.specs.declared.digits.Place.{Place}
 use Rattle.x25_packet.specs.declared.digits.Place.TheVariants.{Halves}
 use Rattle.x25_packet.proofs.DigitLemmas.{length-digits_in, named_are_address}

@@ -1,7 +1,7 @@
 use Rattle.std.proofs.Common.{◌≤◌, length, sym, subst}
 use Rattle.x25_io.specs.HeldLine.{most_line}
 use Rattle.x25_pipe.specs.Piped.{asked_turn, turn}
-use Rattle.x25_pipe.specs.Stands.{Stood, Turns}
+use Rattle.x25_pipe.specs.code.Stands.{Stood, Turns}
 use Rattle.x25_pipe.proofs.LineLemmas.{event_long}
 use Rattle.x25_pipe.proofs.answerer.Answerer.obey_line.Goals as goal
 

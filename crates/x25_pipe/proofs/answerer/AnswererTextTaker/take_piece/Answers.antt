@@ -1,7 +1,7 @@
 use Rattle.std.proofs.Common.{◌∙◌, ◌++◌, ◌∷◌, ap, append_assoc, refl, subst}
 use Rattle.std.proofs.lemmas.Result.{err_from_is_err_and, MatchResult-weaker}
 use Rattle.x25_pipe.specs.Piped.{piped}
-use Rattle.x25_pipe.specs.Stream.{Leads}
+use Rattle.x25_pipe.specs.code.Stream.{Leads}
 use Rattle.x25_pipe.proofs.StreamLemmas.{held_more, leads_written, left_begun}
 use Rattle.x25_pipe.proofs.answerer.AnswererTextTaker.take_piece.Goals as goal
 

@@ -1,7 +1,7 @@
 use Rattle.std.proofs.Common.{◌≡◌, ◌++◌, ℕ, List, Option, length}
 use Rattle.x25_station.specs.Settings.{Settings}
 use Rattle.x25_pipe.specs.Piped.{Turn}
-use Rattle.x25_pipe.specs.Stream.{Leads}
+use Rattle.x25_pipe.specs.code.Stream.{Leads}
 use Rattle.x25_pipe.proofs.answerer.AnswererTextTaker.take_piece.Given as goal
 
 -- what is left of the piece is still to come

@@ -1,6 +1,6 @@
 use Rattle.std.proofs.Common.{◌∙◌, ap}
 use Rattle.std.specs.Prelude.{not, ◌==◌, ◌%◌}
-use Rattle.x25_station.specs.TimerLaw.{mark_of}
+use Rattle.x25_station.specs.laws.TimerLaw.{mark_of}
 use Rattle.x25_pipe.proofs.MarkLemmas.{mark_is}
 use Rattle.x25_pipe.proofs.mark.Watch.behind.Goals as goal
 

@@ -1,5 +1,5 @@
 use Rattle.std.proofs.Common.{◌∙◌, false, ap}
-use Rattle.x25_station.specs.TimerLaw.{mark_of}
+use Rattle.x25_station.specs.laws.TimerLaw.{mark_of}
 use Rattle.x25_pipe.proofs.mark.Watch.standing.Goals as goal
 
 pub returns : goal.returns

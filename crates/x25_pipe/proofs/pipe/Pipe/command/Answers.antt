@@ -1,13 +1,13 @@
 use Rattle.std.proofs.Common.{refl, subst}
 use Rattle.x25_station.specs.Command.{command_of}
-use Rattle.x25_station.specs.TimerLaw.{Asks, outcome}
-use Rattle.x25_io.proofs.ToldLemmas.{begins_more}
+use Rattle.x25_station.specs.laws.TimerLaw.{Asks, outcome}
+use Rattle.x25_io.proofs.ToldLemmas.{told_more}
 use Rattle.x25_pipe.specs.Piped.{event_turn}
-use Rattle.x25_pipe.specs.Stands.{Stood}
+use Rattle.x25_pipe.specs.code.Stands.{Stood}
 use Rattle.x25_pipe.proofs.pipe.Pipe.command.Goals as goal
 
 pub returns-in_default-clause-turns : goal.returns-in_default-clause-turns
-returns-in_default-clause-turns g c = λ k old s told refused h. begins_more _ _ _ told _ h.tells
+returns-in_default-clause-turns g c = λ k old s told refused h. told_more _ _ _ told _ h.tells
 
 pub returns-in-Ok-command-clause-turns : goal.returns-in-Ok-command-clause-turns
 unfolding event_turn

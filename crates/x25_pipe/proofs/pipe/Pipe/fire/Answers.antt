@@ -1,5 +1,5 @@
 use Rattle.std.proofs.Common.{refl}
-use Rattle.x25_station.specs.TimerLaw.{Fires, outcome}
+use Rattle.x25_station.specs.laws.TimerLaw.{Fires, outcome}
 use Rattle.x25_pipe.specs.Piped.{event_turn}
 use Rattle.x25_pipe.proofs.pipe.Pipe.fire.Goals as goal
 

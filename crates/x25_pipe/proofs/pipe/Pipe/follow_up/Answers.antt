@@ -1,14 +1,14 @@
 use Rattle.std.proofs.Common.{◌∙◌, sym, subst}
 use Rattle.std.proofs.lemmas.Result.{err_from_is_err_and}
-use Rattle.x25_io.specs.Written.{Tells}
-use Rattle.x25_io.proofs.ToldLemmas.{begins_more}
+use Rattle.x25_io.specs.code.Written.{Tells}
+use Rattle.x25_io.proofs.ToldLemmas.{told_more}
 use Rattle.x25_pipe.specs.Piped.{with_pulls}
 use Rattle.x25_pipe.proofs.pipe.Pipe.follow_up.Goals as goal
 
 pub returns-in_err-both-clause-stood : goal.returns-in_err-both-clause-stood
 returns-in_err-both-clause-stood g c = λ k old s event o told refused before firing is role tells status.
     let p = err_from_is_err_and c.from_residual.result c.from_residual.ensures.1 in
-    rw p.1 (begins_more _ _ _ told _ tells)
+    rw p.1 (told_more _ _ _ told _ tells)
 
 pub returns-clause-stood : goal.returns-clause-stood
 returns-clause-stood g c = λ k old s event o told refused before firing is role tells status.

@@ -1,7 +1,7 @@
 use Rattle.std.proofs.Common.{sym, subst}
 use Rattle.std.specs.Prelude.{option_and_then}
 use Rattle.x25_pipe.specs.Piped.{asked_turn, script_event}
-use Rattle.x25_pipe.specs.Stands.{Stood}
+use Rattle.x25_pipe.specs.code.Stands.{Stood}
 use Rattle.x25_pipe.proofs.pipe.Pipe.obey_script.Goals as goal
 
 pub returns-in-Some-clause-turns : goal.returns-in-Some-clause-turns

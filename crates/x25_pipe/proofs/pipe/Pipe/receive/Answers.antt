@@ -1,5 +1,5 @@
 use Rattle.std.proofs.Common.{refl, take}
-use Rattle.x25_station.specs.TimerLaw.{Comes, outcome}
+use Rattle.x25_station.specs.laws.TimerLaw.{Comes, outcome}
 use Rattle.x25_pipe.specs.Piped.{event_turn}
 use Rattle.x25_pipe.proofs.pipe.Pipe.receive.Goals as goal
 

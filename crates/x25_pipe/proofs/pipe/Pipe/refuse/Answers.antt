@@ -1,14 +1,14 @@
 use Rattle.std.proofs.Common.{◌++◌, ◌∷◌, [], refl, sym, subst}
 use Rattle.std.proofs.lemmas.Result.{err_from_is_err_and, MatchResult-weaker}
-use Rattle.x25_io.specs.Written.{AppendsBeginning}
-use Rattle.x25_io.proofs.ToldLemmas.{begins_more}
+use Rattle.x25_io.specs.code.Written.{AppendsPrefix}
+use Rattle.x25_io.proofs.ToldLemmas.{told_more}
 use Rattle.x25_pipe.specs.Piped.{mark_turn, refuses, said, sayings_text, standing, turn_of, with_pulls}
-use Rattle.x25_pipe.specs.Stands.{Stood}
+use Rattle.x25_pipe.specs.code.Stands.{Stood}
 use Rattle.x25_pipe.proofs.StandLemmas.{begins_before, begins_behind, begins_told, error_is, refusal_said, stands_behind, stands_refused}
 use Rattle.x25_pipe.proofs.pipe.Pipe.refuse.Goals as goal
 
 pub returns-then-is_memory-clause-stood : goal.returns-then-is_memory-clause-stood
-returns-then-is_memory-clause-stood g c = λ k old s event o told refused h is. begins_more _ _ _ told _ h.tells
+returns-then-is_memory-clause-stood g c = λ k old s event o told refused h is. told_more _ _ _ told _ h.tells
 
 pub returns-in_err-tell_refusal-clause-stood : goal.returns-in_err-tell_refusal-clause-stood
 returns-in_err-tell_refusal-clause-stood g c = λ k old s event o told refused h is.
@@ -16,7 +16,7 @@ returns-in_err-tell_refusal-clause-stood g c = λ k old s event o told refused h
     let written = g.W.Sink.contents c.tell_refusal.new.writer in
     let error = c.args.error in
     let refusal = error_is error o is (λ is. let yes = c.is_memory.ensures.1 is in let no_memory = c.if-is_memory.false in cc) in
-    rw p.1 (subst (λ o. AppendsBeginning old written (told ++ sayings_text k.role (turn_of k s event (with_pulls k o)).sayings)) (sym refusal)
+    rw p.1 (subst (λ o. AppendsPrefix old written (told ++ sayings_text k.role (turn_of k s event (with_pulls k o)).sayings)) (sym refusal)
     (begins_before k old written told refused (mark_turn k (standing s)) (said s (refuses error ∷ []))
     (begins_told k old written s told _ (refuses error) (refusal_said k.role error) (c.in_err-tell_refusal.ensures.tells old told h.tells))))
 

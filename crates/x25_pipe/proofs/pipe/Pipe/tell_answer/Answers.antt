@@ -1,7 +1,7 @@
 use Rattle.std.proofs.Common.{◌∙◌, ◌++◌, map, ap, subst}
 use Rattle.std.proofs.lemmas.Result.{err_from_is_err_and, MatchResult-weaker}
-use Rattle.x25_io.specs.Written.{AppendsBeginning, Tells}
-use Rattle.x25_station.specs.PlainEntry.{plain_entry}
+use Rattle.x25_io.specs.code.Written.{AppendsPrefix, Tells}
+use Rattle.x25_station.specs.code.PlainEntry.{plain_entry}
 use Rattle.x25_io.proofs.ToldLemmas.{part_of_all}
 use Rattle.x25_pipe.specs.Piped.{enters, sends, sayings_text}
 use Rattle.x25_pipe.proofs.SayingLemmas.{text-append, parts_text}
@@ -13,7 +13,7 @@ returns-in_err-tell_entries-clause-tells g c = λ old told h.
     let end = c.args.self.now.end in
     let step = c.args.step.now in
     rw p.1 (part_of_all old _ told _ _ _ (text-append end (map enters (map plain_entry step.entries.items)) (map sends (map (λ frame. frame.items) step.frames.items)))
-    (subst (λ entries. AppendsBeginning old (g.W.Sink.contents c.tell_entries.new.writer) (told ++ sayings_text end (map enters (map plain_entry entries)))) c.as_slice-entries.ensures.value
+    (subst (λ entries. AppendsPrefix old (g.W.Sink.contents c.tell_entries.new.writer) (told ++ sayings_text end (map enters (map plain_entry entries)))) c.as_slice-entries.ensures.value
     (c.in_err-tell_entries.ensures.tells old told h)))
 
 pub returns-clause-tells : goal.returns-clause-tells
@@ -26,4 +26,4 @@ returns-clause-tells g c = λ old told h.
     ∙ parts_text end told (map enters (map plain_entry step.entries.items)) (map sends (map (λ frame. frame.items) step.frames.items)) in
     MatchResult-weaker c.tell_frames.result (c.tell_frames.ensures.tells old _ (c.in_ok-tell_entries.ensures.tells old told h))
     (λ _ tells. subst (Tells old (g.W.Sink.contents c.tell_frames.new.writer) c.tell_frames.new.output) both tells)
-    (λ _ begins. subst (AppendsBeginning old (g.W.Sink.contents c.tell_frames.new.writer)) both begins)
+    (λ _ begins. subst (AppendsPrefix old (g.W.Sink.contents c.tell_frames.new.writer)) both begins)

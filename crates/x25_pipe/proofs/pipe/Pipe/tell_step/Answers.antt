@@ -1,11 +1,11 @@
 use Rattle.std.proofs.Common.{◌∙◌, ◌++◌, map, ap, sym, subst}
 use Rattle.std.proofs.lemmas.Result.{err_from_is_err_and, MatchResult-weaker}
-use Rattle.x25_io.specs.Written.{AppendsBeginning, Tells}
-use Rattle.x25_station.specs.PlainEntry.{plain_entry}
+use Rattle.x25_io.specs.code.Written.{AppendsPrefix, Tells}
+use Rattle.x25_station.specs.code.PlainEntry.{plain_entry}
 use Rattle.x25_station.specs.Steps.{Did}
-use Rattle.x25_station.specs.TimerLaw.{mark, tells_up}
+use Rattle.x25_station.specs.laws.TimerLaw.{mark, tells_up}
 use Rattle.x25_pipe.specs.Piped.{mark_turn, said, sayings_text, step_told, turn_of}
-use Rattle.x25_pipe.specs.Stands.{IsStep, Stood, answer_told}
+use Rattle.x25_pipe.specs.code.Stands.{IsStep, Stood, answer_told}
 use Rattle.x25_pipe.proofs.StandLemmas.{begins_before, begins_behind, begins_step, is_step, stands_behind, stands_told}
 use Rattle.x25_pipe.proofs.pipe.Pipe.tell_step.Goals as goal
 
@@ -14,10 +14,10 @@ returns-in_err-tell_answer-clause-stood g c = λ k old s event o told refused be
     let p = err_from_is_err_and c.from_residual.result c.from_residual.ensures.1 in
     let written = g.W.Sink.contents c.tell_answer.new.writer in
     let step = c.args.step.now in
-    rw p.1 (is_step k c.args.self.now.station step (λ o. AppendsBeginning old written (told ++ sayings_text k.role (turn_of k s event o).sayings))
+    rw p.1 (is_step k c.args.self.now.station step (λ o. AppendsPrefix old written (told ++ sayings_text k.role (turn_of k s event o).sayings))
     (λ plain h. begins_before k old written told refused (mark_turn k (mark s event (Did plain))) (said plain.near (step_told k plain))
     (begins_step k old written c.args.self.now.station step plain told h
-    (subst (λ end. AppendsBeginning old written (told ++ sayings_text end (answer_told step))) role (c.in_err-tell_answer.ensures.tells old told tells))))
+    (subst (λ end. AppendsPrefix old written (told ++ sayings_text end (answer_told step))) role (c.in_err-tell_answer.ensures.tells old told tells))))
     o is)
 
 pub returns-clause-stood : goal.returns-clause-stood

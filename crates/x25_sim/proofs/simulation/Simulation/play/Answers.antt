@@ -1,13 +1,13 @@
 use Rattle.std.proofs.Common.{◌∙◌, ◌≡◌, ◌<◌, ◌-◌, ◌^◌, ℕ, Bool, List, Some, length, OnOk, OnErr, IfOk, IfSome, IsErrOf, sym, subst}
 use Rattle.std.specs.Io.KnownBytes.{Appends}
 use Rattle.std.proofs.lemmas.Result.{err_from_is_err_and, on_ok_weaker}
-use Rattle.x25_io.specs.Written.{AppendsBeginning}
+use Rattle.x25_io.specs.code.Written.{AppendsPrefix}
 use Rattle.x25_io.specs.declared.fault.Fault.TheVariants as fault
 use Rattle.x25_station.specs.declared.config.Cfg.{Cfg}
 use Rattle.x25_io.proofs.ToldLemmas.{none_told}
-use Rattle.x25_sim.specs.Ready.{IsReady}
+use Rattle.x25_sim.specs.code.Ready.{IsReady}
 use Rattle.x25_sim.specs.Simulated.{simulated, sim_status, sim_text}
-use Rattle.x25_sim.specs.Stream.{Leads, WritesEnded}
+use Rattle.x25_sim.specs.code.Stream.{Leads, WritesEnded}
 use Rattle.x25_sim.proofs.SimLemmas.{if_some, opening_failed, script_begins}
 use Rattle.x25_sim.proofs.simulation.Simulation.play.Given as given
 use Rattle.x25_sim.proofs.simulation.Simulation.play.Goals as goal
@@ -20,7 +20,7 @@ returns-in_err-open-clause-fault g c = λ cfg down tap ready.
     rw p.1 (if_some (g.R.Source.remaining c.args.reader.now) _
     (λ script is few.
     let written = g.W.Sink.contents c.args.writer.now in
-    subst (λ d. AppendsBeginning written (g.W.Sink.contents c.open.new.writer) (sim_text cfg d tap script)) ready.asked
+    subst (λ d. AppendsPrefix written (g.W.Sink.contents c.open.new.writer) (sim_text cfg d tap script)) ready.asked
     (opening_failed cfg s.down tap s.stage.tap ready.tapped written (g.W.Sink.contents c.open.new.writer) c.open.new.self script
     (c.in_err-open.ensures.stood cfg written here.opening ready.unrefused (none_told written s.stage.output ready.empty)))))
 
@@ -56,7 +56,7 @@ pub returns-clause-fault : goal.returns-clause-fault
 returns-clause-fault g c = λ cfg down tap ready.
     let written = g.W.Sink.contents c.args.writer.now in
     subst (λ d. OnErr c.take_text.result (IfSome (g.R.Source.remaining c.args.reader.now) (λ script. length script < 2 ^ 64 - 1
-    → AppendsBeginning written (g.W.Sink.contents c.take_text.new.writer) (sim_text cfg d tap script)))) ready.asked
+    → AppendsPrefix written (g.W.Sink.contents c.take_text.new.writer) (sim_text cfg d tap script)))) ready.asked
     (c.take_text.ensures.fault (record { cfg = cfg; down = c.args.self.down; tap = tap }) written (begins g c cfg down tap ready))
 
 pub returns-clause-ended : goal.returns-clause-ended

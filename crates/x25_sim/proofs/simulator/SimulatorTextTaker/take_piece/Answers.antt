@@ -1,7 +1,7 @@
 use Rattle.std.proofs.Common.{◌∙◌, ◌++◌, ◌∷◌, ap, append_assoc, refl, subst}
 use Rattle.std.proofs.lemmas.Result.{err_from_is_err_and, MatchResult-weaker}
 use Rattle.x25_sim.specs.Simulated.{simulated}
-use Rattle.x25_sim.specs.Stream.{Leads}
+use Rattle.x25_sim.specs.code.Stream.{Leads}
 use Rattle.x25_sim.proofs.StreamLemmas.{held_more, leads_written, left_begun}
 use Rattle.x25_sim.proofs.simulator.SimulatorTextTaker.take_piece.Goals as goal
 

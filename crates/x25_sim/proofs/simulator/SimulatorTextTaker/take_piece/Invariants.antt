@@ -1,7 +1,7 @@
 use Rattle.std.proofs.Common.{◌≡◌, ◌++◌, ℕ, List, Option, Bool, length}
 use Rattle.x25_station.specs.declared.config.Cfg.{Cfg}
 use Rattle.x25_sim.specs.Simulated.{Turn}
-use Rattle.x25_sim.specs.Stream.{Leads}
+use Rattle.x25_sim.specs.code.Stream.{Leads}
 use Rattle.x25_sim.proofs.simulator.SimulatorTextTaker.take_piece.Given as goal
 
 -- what is left of the piece is still to come

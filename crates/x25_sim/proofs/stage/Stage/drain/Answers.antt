@@ -1,8 +1,8 @@
 use Rattle.std.proofs.Common.{◌∙◌, ◌-◌, ◌+◌, sym, arith}
 use Rattle.std.proofs.lemmas.Result.{err_from_is_err_and}
-use Rattle.x25_line.specs.RawMachine.{end_of}
+use Rattle.x25_bits.specs.Role.{end_of}
 use Rattle.x25_world.specs.World.{Receives}
-use Rattle.x25_world.specs.FitsWorld.{all_of}
+use Rattle.x25_world.specs.code.FitsWorld.{all_of}
 use Rattle.x25_sim.specs.Simulated.{drained, event_turn}
 use Rattle.x25_sim.proofs.LeaveLemmas.{none_left, part_done, part_failed}
 use Rattle.x25_sim.proofs.DrainLemmas.{drained_all, drained_empty, drained_more, line_is}

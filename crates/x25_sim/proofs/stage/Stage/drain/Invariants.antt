@@ -2,8 +2,8 @@ use Rattle.std.proofs.Common.{◌≡◌, ◌-◌, ℕ, Bool, List, Option}
 use Rattle.x25_station.specs.declared.config.Cfg.{Cfg}
 use Rattle.x25_world.specs.World.{World}
 use Rattle.x25_sim.specs.Simulated.{drained}
-use Rattle.x25_sim.specs.Stands.{Stands}
-use Rattle.x25_sim.specs.Leaves.{Leaves}
+use Rattle.x25_sim.specs.code.Stands.{Stands}
+use Rattle.x25_sim.specs.code.Leaves.{Leaves}
 use Rattle.x25_sim.proofs.stage.Stage.drain.Given as goal
 
 -- the deliveries that are left

@@ -1,6 +1,6 @@
 use Rattle.std.proofs.Common.{[], false, refl, sym, subst}
 use Rattle.x25_sim.specs.Simulated.{opened}
-use Rattle.x25_sim.specs.Stands.{IsOpening, Stood}
+use Rattle.x25_sim.specs.code.Stands.{IsOpening, Stood}
 use Rattle.x25_sim.proofs.StandLemmas.{stands_down}
 use Rattle.x25_sim.proofs.stage.Stage.open.Goals as goal
 

@@ -1,11 +1,11 @@
 use Rattle.std.proofs.Common.{refl}
 use Rattle.std.proofs.lemmas.Result.{MatchResult-weaker}
-use Rattle.x25_io.proofs.ToldLemmas.{begins_more}
+use Rattle.x25_io.proofs.ToldLemmas.{told_more}
 use Rattle.x25_sim.proofs.StandLemmas.{stands_refused, begins_refused, refusal_is}
 use Rattle.x25_sim.proofs.stage.Stage.refuse.Goals as goal
 
 pub returns-then-is_memory-clause-stood : goal.returns-then-is_memory-clause-stood
-returns-then-is_memory-clause-stood g c = λ cfg tap old w outcome told refused h how. begins_more _ _ _ told _ h.tells
+returns-then-is_memory-clause-stood g c = λ cfg tap old w outcome told refused h how. told_more _ _ _ told _ h.tells
 
 pub returns-clause-stood : goal.returns-clause-stood
 returns-clause-stood g c = λ cfg tap old w outcome told refused h how.

@@ -3,7 +3,7 @@ use Rattle.std.proofs.lemmas.Result.{err_from_is_err_and, MatchResult-weaker}
 use Rattle.x25_bits.specs.declared.role.Role.TheVariants.{Dte, Dce}
 use Rattle.x25_world.specs.World.{Event, Receives, start, connected}
 use Rattle.x25_sim.specs.Simulated.{and_then, connecting, event_turn, set_up}
-use Rattle.x25_sim.specs.Stands.{IsOpening}
+use Rattle.x25_sim.specs.code.Stands.{IsOpening}
 use Rattle.x25_sim.proofs.StandLemmas.{stands_connecting, stands_behind, begins_behind, begins_before}
 use Rattle.x25_sim.proofs.stage.Stage.set_up.Goals as goal
 

@@ -2,7 +2,7 @@ use Rattle.std.proofs.Common.{arith, ◌≤◌, length, [], ◌++◌, map, ap, �
 use Rattle.x25_link.specs.MustSend.{Step as LinkStep}
 use Rattle.x25_link.specs.Steps.{abandon_step}
 use Rattle.x25_station.specs.Entries.{entries_down}
-use Rattle.x25_station.specs.PlainEntry.{plain_entry}
+use Rattle.x25_station.specs.code.PlainEntry.{plain_entry}
 use Rattle.x25_station.specs.Settings.{link_settings, layer_settings}
 use Rattle.x25_station.specs.Steps.{Step, receives}
 use Rattle.x25_station.proofs.DownLemmas.{fits_down, frames_down, entries_noted_down}

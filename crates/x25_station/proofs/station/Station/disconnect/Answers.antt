@@ -1,12 +1,12 @@
 use Rattle.std.proofs.Common.{arith, ◌≤◌, length, [], sym, subst, ◌∷◌, ap, ◌∙◌, ◌++◌, map}
 use Rattle.x25_link.specs.Steps.{disconnect_refusal, disconnect_step}
 use Rattle.x25_link.specs.declared.step.Step as link_step
-use Rattle.x25_station.specs.Aside.{IsFewAside}
-use Rattle.x25_station.specs.FitsParts.{AreMeant}
+use Rattle.x25_station.specs.code.Aside.{IsFewAside}
+use Rattle.x25_station.specs.code.FitsParts.{AreMeant}
 use Rattle.x25_station.specs.Settings.{link_settings, layer_settings}
 use Rattle.x25_station.specs.Command.{Disconnects}
 use Rattle.x25_station.specs.Entries.{entries_down, disconnect_asked}
-use Rattle.x25_station.specs.PlainEntry.{plain_entry}
+use Rattle.x25_station.specs.code.PlainEntry.{plain_entry}
 use Rattle.x25_station.specs.declared.entry.Entry.TheVariants.{DisconnectAsked}
 use Rattle.x25_station.specs.declared.step.Step as code_step
 use Rattle.x25_station.specs.Steps.{Step, unless, follows, led_by}

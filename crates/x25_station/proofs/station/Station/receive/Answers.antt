@@ -1,6 +1,6 @@
 use Rattle.std.proofs.Common.{Bool, ◌&&◌, ap, sym, ◌∙◌}
-use Rattle.x25_link.specs.Station.{is_up}
-use Rattle.x25_layer.specs.FitsLayer.{is_full}
+use Rattle.x25_link.specs.LinkStation.{is_up}
+use Rattle.x25_layer.specs.code.FitsLayer.{is_full}
 use Rattle.x25_station.specs.Settings.{layer_settings}
 use Rattle.x25_station.proofs.station.Station.receive.Goals as goal
 

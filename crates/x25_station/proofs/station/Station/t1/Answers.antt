@@ -1,11 +1,11 @@
 use Rattle.std.proofs.Common.{arith, ◌≤◌, length, [], sym, subst, ap, ◌∙◌, ◌++◌, map}
 use Rattle.x25_link.specs.Steps.{timer_refusal, timer_step}
 use Rattle.x25_link.specs.declared.step.Step as link_step
-use Rattle.x25_station.specs.Aside.{IsFewAside}
-use Rattle.x25_station.specs.FitsParts.{AreMeant}
+use Rattle.x25_station.specs.code.Aside.{IsFewAside}
+use Rattle.x25_station.specs.code.FitsParts.{AreMeant}
 use Rattle.x25_station.specs.Settings.{link_settings, layer_settings}
 use Rattle.x25_station.specs.Entries.{entries_down}
-use Rattle.x25_station.specs.PlainEntry.{plain_entry}
+use Rattle.x25_station.specs.code.PlainEntry.{plain_entry}
 use Rattle.x25_station.specs.declared.step.Step as code_step
 use Rattle.x25_station.specs.Steps.{Step, unless, follows}
 use Rattle.x25_station.proofs.DownLemmas.{timer_down, leaves_down, frames_down, entries_noted_down}

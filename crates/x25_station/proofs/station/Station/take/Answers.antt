@@ -4,12 +4,12 @@ use Rattle.std.proofs.lemmas.List.Elements.{All-from_get_or}
 use Rattle.x25_link.specs.declared.phase.Notes.{Notes}
 use Rattle.x25_link.specs.MustSend.{Step as LinkStep}
 use Rattle.x25_link.specs.Steps.{alone, take_step}
-use Rattle.x25_link.specs.Link.{FitsWhole, up_of}
+use Rattle.x25_link.specs.code.Link.{FitsWhole, up_of}
 use Rattle.x25_layer.specs.Room.{HasRoom, IsNotFull}
-use Rattle.x25_station.specs.Aside.{IsFewAside}
+use Rattle.x25_station.specs.code.Aside.{IsFewAside}
 use Rattle.x25_station.specs.Entries.{entries_noted}
-use Rattle.x25_station.specs.FitsParts.{AreMeant}
-use Rattle.x25_station.specs.PlainEntry.{plain_entry}
+use Rattle.x25_station.specs.code.FitsParts.{AreMeant}
+use Rattle.x25_station.specs.code.PlainEntry.{plain_entry}
 use Rattle.x25_station.specs.Receiving.{CanPut, kept_of}
 use Rattle.x25_station.specs.Settings.{link_settings, layer_settings}
 use Rattle.x25_station.specs.Station.{all_put}

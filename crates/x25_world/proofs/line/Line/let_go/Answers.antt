@@ -1,5 +1,5 @@
 use Rattle.std.proofs.Common.{[], ◌∙◌, map, refl}
-use Rattle.x25_world.specs.PlainTold.{plain_tapped}
+use Rattle.x25_world.specs.code.PlainTold.{plain_tapped}
 use Rattle.x25_world.proofs.LetGoLemmas.{own_alike}
 use Rattle.x25_world.proofs.line.Line.let_go.Goals as goal
 

@@ -1,5 +1,5 @@
 use Rattle.std.proofs.Common.{◌≡◌, map}
-use Rattle.x25_world.specs.ShownLine.{put_by}
+use Rattle.x25_world.specs.code.ShownLine.{put_by}
 use Rattle.x25_world.proofs.line.Line.put.Given as goal
 
 -- the frames so far were put

@@ -1,6 +1,6 @@
 use Rattle.std.proofs.Common.{arith}
 use Rattle.std.proofs.lemmas.List.{length-map}
-use Rattle.x25_world.specs.PlainTold.{plain_tapped}
+use Rattle.x25_world.specs.code.PlainTold.{plain_tapped}
 use Rattle.x25_world.proofs.OnLineLemmas.{all_there}
 use Rattle.x25_world.proofs.line.Line.queue.Goals as goal
 

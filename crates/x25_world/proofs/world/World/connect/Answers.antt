@@ -4,8 +4,8 @@ use Rattle.x25_bits.specs.declared.role.Role.TheVariants.{Dte}
 use Rattle.x25_station.specs.Station.{new_station}
 use Rattle.x25_station.specs.Steps.{connects}
 use Rattle.x25_world.specs.World.{start, of_station}
-use Rattle.x25_world.specs.ShownWorld.{ShownWorld}
-use Rattle.x25_world.specs.FitsWorld.{FitsWorld, nothing_gone}
+use Rattle.x25_world.specs.code.ShownWorld.{ShownWorld}
+use Rattle.x25_world.specs.code.FitsWorld.{FitsWorld, nothing_gone}
 use Rattle.x25_world.proofs.WorldLemmas.{dte_happened, station_keeps_far, only_memory}
 use Rattle.x25_world.proofs.world.World.connect.Goals as goal
 

@@ -2,10 +2,10 @@ use Rattle.std.proofs.Common.{[], inr, refl}
 use Rattle.std.proofs.lemmas.Result.{err_from_is_err_and}
 use Rattle.x25_world.proofs.WorldLemmas.{in_range, new_run, holds_after, holds_after_set_up, once_at_most, up_once_after, holds_throughout, goes_on_from, all_of_sessions, refused_later}
 use Rattle.x25_world.specs.World.{established}
-use Rattle.x25_world.specs.FitsWorld.{nothing_gone}
-use Rattle.x25_world.specs.Claims.{IsLawful, IsNamed, ArrivesAll, HasNoProcedureError}
+use Rattle.x25_world.specs.code.FitsWorld.{nothing_gone}
+use Rattle.x25_world.specs.laws.Claims.{IsLawful, IsNamed, ArrivesAll, HasNoProcedureError}
 use Rattle.x25_world.specs.WindowGoes.{StaysInWindow}
-use Rattle.x25_world.specs.SessionClaims.{SessionsKeepOrder}
+use Rattle.x25_world.specs.laws.SessionClaims.{SessionsKeepOrder}
 use Rattle.x25_world.specs.SessionWindow.{SessionsStayInWindow}
 use Rattle.x25_world.proofs.world.World.establish.Goals as goal
 

@@ -1,7 +1,7 @@
 use Rattle.std.proofs.Common.{◌∙◌, sym, subst}
 use Rattle.x25_world.specs.World.{swapped}
-use Rattle.x25_world.specs.ShownWorld.{ShownWorld}
-use Rattle.x25_world.specs.FitsWorld.{FitsWorld}
+use Rattle.x25_world.specs.code.ShownWorld.{ShownWorld}
+use Rattle.x25_world.specs.code.FitsWorld.{FitsWorld}
 use Rattle.x25_world.proofs.WorldLemmas.{dte_step, dce_step, dce_stays, is_accepted, swapped_accepted, dce_refused}
 use Rattle.x25_world.proofs.world.World.happen.Goals as goal
 

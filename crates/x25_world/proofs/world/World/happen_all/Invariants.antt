@@ -1,7 +1,7 @@
 use Rattle.std.proofs.Common.{List, ◌++◌, map, take}
 use Rattle.x25_station.specs.declared.config.Cfg.{Cfg}
 use Rattle.x25_world.specs.World.{World, Event, event_of, run, AreAccepted}
-use Rattle.x25_world.specs.FitsWorld.{Gone, FitsWorld, FitsRun}
+use Rattle.x25_world.specs.code.FitsWorld.{Gone, FitsWorld, FitsRun}
 use Rattle.x25_world.proofs.world.World.happen_all.Given as goal
 
 -- the events before this one were accepted and have happened

@@ -1,7 +1,7 @@
 use Rattle.std.proofs.Common.{Err}
 use Rattle.std.proofs.lemmas.Result.{err_from_is_err_and}
 use Rattle.x25_world.specs.World.{connected}
-use Rattle.x25_world.specs.FitsWorld.{nothing_gone}
+use Rattle.x25_world.specs.code.FitsWorld.{nothing_gone}
 use Rattle.x25_world.proofs.WorldLemmas.{only_memory}
 use Rattle.x25_world.proofs.world.World.set_up.Goals as goal
 

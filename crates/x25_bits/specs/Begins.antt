@@ -1,6 +1,0 @@
--- A list that begins another one. Profile.
-use Rattle.std.specs.Prelude.{◌≡◌, List, ◌++◌}
-
--- the second list is the first one and something behind it
-abbrev pub Begins : {A : Type 0} → List A → List A → Type 0
-Begins {A = A} first second = (more : List A) × (second ≡ first ++ more)

@@ -1,0 +1,6 @@
+-- Worked rows, by computing.
+mod DteRows
+mod DceRows
+mod CallRows
+mod ParamsRows
+pub mod RowLemmas

@@ -1,0 +1,9 @@
+-- What the code's values stand for: contracts and proofs need it, and a reader of the claims doesn't.
+pub mod Cutter
+pub mod CutterFields
+pub mod PartialMessage
+pub mod Changes
+pub mod FitsNumbers
+pub mod Fits
+pub mod Replies
+pub mod FitsCircuit

@@ -1,0 +1,14 @@
+-- What the fields of a cutter stand for.
+use Rattle.std.specs.Prelude.{◌-◌, ◌≤◌, if◌then◌else◌, [], ◌∷◌, length, take, drop}
+use Rattle.x25_circuit.specs.declared.cutter.Cutter.TheInside.{Inside}
+use Rattle.x25_circuit.specs.code.Cutter.{ShownCutter}
+
+abbrev pub shown : Inside → ShownCutter
+shown c = record {
+  left = if c.is_cut then [] else record { q = c.message.q; user = drop c.start c.message.user } ∷ [];
+  lent = take (c.start - c.lent) (drop c.lent c.message.user);
+}
+
+pub record IsSound (c : Inside) : Type 0 where
+  pub lent : c.lent ≤ c.start
+  pub start : c.start ≤ length c.message.user

@@ -1,0 +1,45 @@
+-- Which states of the definition a circuit stands for, and what its calls mean.
+use Rattle.std.specs.Prelude.{◌≡◌, ℕ, List, [], Some, None, Result, Err, IsOkAnd}
+use Rattle.x25_packet.specs.declared.packet.Packet.{Packet}
+use Rattle.x25_packet.specs.PlainPacket.{PlainPacket, plain, user_data}
+use Rattle.x25_circuit.specs.declared.circuit.Circuit as code
+use Rattle.x25_circuit.specs.declared.error.CircuitError.{CircuitError}
+use Rattle.x25_circuit.specs.Circuit.{Settings, Circuit, outgoing}
+use Rattle.x25_circuit.specs.code.Fits.{FitsTalk}
+use Rattle.x25_circuit.specs.Calls.{Outcome, Done, Refused}
+
+pub record FitsCircuit (c : Settings) (v : code.Circuit) (x : Circuit) : Type 0 where
+  pub role : v.role ≡ c.role
+  pub long_data : v.long_data ≡ c.long_data
+  pub state : v.state ≡ x.state
+  pub clears : v.clears ≡ x.clears
+  pub resets : v.resets ≡ x.resets
+  pub params : v.flow.params ≡ x.params
+  pub calls : v.calls ≡ x.calls
+  pub talk : FitsTalk (outgoing x).size v.transfer x.talk
+
+-- for how many octets of user data of a packet memory is set aside
+abbrev pub room_of : code.Circuit → ℕ
+room_of v = v.transfer.partial.room
+
+-- the counts
+abbrev pub clears_of : code.Circuit → ℕ
+clears_of v = v.clears
+
+abbrev pub resets_of : code.Circuit → ℕ
+resets_of v = v.resets
+
+-- a call with a packet to send
+abbrev pub Sends : Settings → code.Circuit → Result Packet CircuitError → Outcome → Type 0
+Sends c v result (Done next packet) = IsOkAnd result (λ p. FitsCircuit c v next × (packet ≡ Some (plain p)))
+Sends c v result (Refused e) = result ≡ Err e
+
+-- a call with none
+abbrev pub Keeps : {T : Type 0} → Settings → code.Circuit → Result T CircuitError → Outcome → Type 0
+Keeps c v result (Done next packet) = IsOkAnd result (λ p. FitsCircuit c v next × (packet ≡ None))
+Keeps c v result (Refused e) = result ≡ Err e
+
+-- the user data that a packet brings for a message
+abbrev pub user_octets : PlainPacket → List ℕ
+user_octets (user_data channel q m ps pr user) = user
+user_octets other = []

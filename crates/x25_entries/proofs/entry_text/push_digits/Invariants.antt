@@ -1,7 +1,0 @@
-use Rattle.std.proofs.Common.{◌≡◌, ◌++◌, take, decimal}
-use Rattle.std.specs.List.{flat_map}
-use Rattle.x25_entries.proofs.entry_text.push_digits.Given as goal
-
--- the first digits are appended
-abbrev pub invariant-loop-digit : goal.invariant-loop-digit
-invariant-loop-digit l = l.line ≡ l.initial.line ++ flat_map decimal (take l.digit-index l.digits)

@@ -1,9 +1,0 @@
-//! Tests of `x25_entries`: entries of a transcript beside their lines.
-#![tactic(auto)]
-
-#[cfg(test)]
-mod channels;
-#[cfg(test)]
-mod lines;
-#[cfg(test)]
-mod stations;

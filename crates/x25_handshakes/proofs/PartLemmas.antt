@@ -1,0 +1,134 @@
+-- What each step does to the parts of the relation of two stretches.
+use Rattle.std.proofs.Common.{◌≡◌, ℕ, ◌+◌, ◌%◌, ◌≤◌, List, [], ◌∷◌, ◌++◌, length, Option, Some, None, Bool, true, false, refl, sym, ap, subst, ◌∙◌, arith, append_assoc, length-append}
+use Rattle.std.proofs.lemmas.List.{length_push, append-nil}
+use Rattle.x25_circuit.specs.declared.message.Message.{Message}
+use Rattle.x25_circuit.specs.Messages.{Piece, no_part, joining, completed, carried_from, carried, piece_ground, AreSound, cut}
+use Rattle.x25_window.specs.Modulo.{resolved}
+use Rattle.x25_handshakes.specs.Stretch.{Packet, Data, Int, IntConf}
+use Rattle.x25_handshakes.proofs.StretchRelation.{Numbering, numbering, ack_in, int_in, conf_in, piece_of, pieces, number_at, Numbered, hears, heard, ints, confs, Flow, Acks, Ints, Text}
+use Rattle.x25_handshakes.proofs.TextLemmas.{joining-append, carried-append, AreSound-back, AreSound-append, AreSound-cut, joining-cut, carried-cut}
+use Rattle.x25_handshakes.proofs.LineLemmas.{resolved_is, heard_least, heard_push, pieces_push, ints_push, confs_push, Numbered_push}
+
+-- the data packets on the way, in their numbers
+
+pub Flow-le : (sent taken : List Piece) (u : List Packet) → Flow sent taken u → length sent ≡ length taken + length (pieces u)
+Flow-le sent taken u h = ap length h.flow ∙ length-append taken (pieces u)
+
+pub Flow-send : (sent taken : List Piece) (u : List Packet) (r : ℕ) (p : Piece) → Flow sent taken u → Flow (sent ++ p ∷ []) taken (u ++ Data (length sent % 8) r p ∷ [])
+Flow-send sent taken u r p h = record {
+  flow = ap (λ l. l ++ p ∷ []) h.flow ∙ append_assoc taken (pieces u) (p ∷ []) ∙ ap (λ l. taken ++ l) (sym (pieces_push u (Data (length sent % 8) r p)));
+  numbers = Numbered_push (length taken) u (Data (length sent % 8) r p) h.numbers (ap (λ n. n % 8) (Flow-le sent taken u h), tt);
+}
+
+pub Flow-push : (sent taken : List Piece) (u : List Packet) (q : Packet) → numbering q ≡ None → Flow sent taken u → Flow sent taken (u ++ q ∷ [])
+Flow-push sent taken u q none h = record {
+  flow = h.flow ∙ ap (λ l. taken ++ l) (sym (pieces_push u q ∙ ap (λ c. pieces u ++ piece_of c) none ∙ append-nil (pieces u)));
+  numbers = Numbered_push (length taken) u q h.numbers (subst (λ (c : Option Numbering). number_at (length taken + length (pieces u)) c (λ m. Unit {0})) (sym none) tt);
+}
+
+pub Flow-take : (sent taken : List Piece) (u : List Packet) (s r : ℕ) (p : Piece) → Flow sent taken (Data s r p ∷ u) → Flow sent (taken ++ p ∷ []) u
+Flow-take sent taken u s r p h = record {
+  flow = h.flow ∙ sym (append_assoc taken (p ∷ []) (pieces u));
+  numbers = subst (λ (n : ℕ). Numbered n u) (sym (length_push taken p)) h.numbers.1;
+}
+
+-- the window, and the numbers P(R) on the way back
+
+pub Acks-push : (k acked sent : ℕ) (v : List Packet) (taken : ℕ) (q : Packet) → k ≤ 7 → taken ≤ sent → ack_in q ≡ Some (taken % 8) → Acks k acked sent v taken → Acks k acked sent (v ++ q ∷ []) taken
+Acks-push k acked sent v taken q small le is h =
+    let least = heard_least acked v in
+    let low : heard acked v ≤ taken = h.acks in
+    let room : sent ≤ acked + k = h.room in
+    let end : heard acked (v ++ q ∷ []) ≡ resolved (heard acked v) (taken % 8) = heard_push acked v q ∙ ap (λ r. hears (heard acked v) r) is in
+    let same : resolved (heard acked v) (taken % 8) ≡ taken = resolved_is (heard acked v) taken low (omega arith) in
+    record { room = room; acks = subst (λ (n : ℕ). n ≤ taken) (sym (end ∙ same)) (let e : taken ≤ taken = omega arith in e) }
+
+pub Acks-pass : (k acked sent : ℕ) (v : List Packet) (taken : ℕ) (q : Packet) → ack_in q ≡ None → Acks k acked sent v taken → Acks k acked sent (v ++ q ∷ []) taken
+Acks-pass k acked sent v taken q is h =
+    let end : heard acked (v ++ q ∷ []) ≡ heard acked v = heard_push acked v q ∙ ap (λ r. hears (heard acked v) r) is in
+    record { room = h.room; acks = subst (λ (n : ℕ). n ≤ taken) (sym end) h.acks }
+
+pub Acks-more : (k acked sent more : ℕ) (v : List Packet) (taken : ℕ) → more ≤ acked + k → Acks k acked sent v taken → Acks k acked more v taken
+Acks-more k acked sent more v taken room h = record { room = room; acks = h.acks }
+
+pub Acks-taken : (k acked sent : ℕ) (v : List Packet) (taken more : ℕ) → taken ≤ more → Acks k acked sent v taken → Acks k acked sent v more
+Acks-taken k acked sent v taken more le h = record { room = h.room; acks = omega arith }
+
+pub Acks-hear : (k acked sent : ℕ) (v : List Packet) (r taken : ℕ) → sent ≤ acked + k → heard (resolved acked r) v ≤ taken → Acks k (resolved acked r) sent v taken
+Acks-hear k acked sent v r taken room acks = record { room = omega arith; acks = acks }
+
+pub heard_below : (acked sent : ℕ) (v : List Packet) (r taken : ℕ) → taken ≤ sent → heard (resolved acked r) v ≤ taken → resolved acked r ≤ sent
+heard_below acked sent v r taken le acks = omega (arith, heard_least (resolved acked r) v)
+
+-- interrupts and their confirmations
+
+pub Ints-there : (out : Bool) (down up : List (List ℕ)) (u v : List Packet) (q : Packet) → int_in q ≡ [] → Ints out down up u v → Ints out down up (u ++ q ∷ []) v
+Ints-there out down up u v q none h =
+    let e : ints (u ++ q ∷ []) ≡ ints u = ints_push u q ∙ ap (λ l. ints u ++ l) none ∙ append-nil (ints u) in
+    record { count = h.count ∙ ap (λ l. length l + confs v) (sym e); flow = h.flow ∙ ap (λ l. up ++ l) (sym e) }
+
+pub Ints-back : (out : Bool) (down up : List (List ℕ)) (u v : List Packet) (q : Packet) → conf_in q ≡ 0 → Ints out down up u v → Ints out down up u (v ++ q ∷ [])
+Ints-back out down up u v q none h =
+    record { count = omega (arith, confs_push v q); flow = h.flow }
+
+pub Ints-send : (down up : List (List ℕ)) (u v : List Packet) (xs : List ℕ) → Ints false down up u v → Ints true (down ++ xs ∷ []) up (u ++ Int xs ∷ []) v
+Ints-send down up u v xs h =
+    let e : ints (u ++ Int xs ∷ []) ≡ ints u ++ xs ∷ [] = ints_push u (Int xs) in
+    let n : length (ints (u ++ Int xs ∷ [])) ≡ length (ints u) + 1 = ap length e ∙ length_push (ints u) xs in
+    record {
+      count = omega arith;
+      flow = ap (λ l. l ++ xs ∷ []) h.flow ∙ append_assoc up (ints u) (xs ∷ []) ∙ ap (λ l. up ++ l) (sym e);
+    }
+
+pub Ints-take : (out : Bool) (down up : List (List ℕ)) (u v : List Packet) (xs : List ℕ) → Ints out down up (Int xs ∷ u) v → Ints out down (up ++ xs ∷ []) u (v ++ IntConf ∷ [])
+Ints-take out down up u v xs h =
+    record {
+      count = omega (arith, confs_push v IntConf);
+      flow = h.flow ∙ sym (append_assoc up (xs ∷ []) (ints u));
+    }
+
+pub Ints-out : (out : Bool) (down up : List (List ℕ)) (u v : List Packet) → Ints out down up u (IntConf ∷ v) → out ≡ true
+Ints-out true down up u v h = refl
+Ints-out false down up u v h = absurd (omega arith)
+
+pub Ints-conf : (down up : List (List ℕ)) (u v : List Packet) → Ints true down up u (IntConf ∷ v) → Ints false down up u v
+Ints-conf down up u v h = record { count = omega arith; flow = h.flow }
+
+-- messages
+
+pub Text-send : (size : ℕ) (sent rest : List Piece) (down : List Message) (q : Bool) (xs : List ℕ) → 1 ≤ size → length xs ≤ 65535 → Text size sent rest down
+    → Text size sent (rest ++ cut size q xs) (down ++ record { q = q; user = xs } ∷ [])
+Text-send size sent rest down q xs one small h =
+    let e : (sent ++ rest) ++ cut size q xs ≡ sent ++ (rest ++ cut size q xs) = append_assoc sent rest (cut size q xs) in
+    let far : length xs ≤ size + length xs = omega arith in
+    record {
+      fits = subst (λ (l : List Piece). AreSound size no_part l) e
+          (AreSound-append size no_part (sent ++ rest) (cut size q xs) h.fits
+          (subst (λ j. AreSound size j (cut size q xs)) (sym h.whole) (AreSound-cut (length xs) size q xs no_part one far (omega arith) refl)));
+      whole = ap (joining no_part) (sym e) ∙ joining-append no_part (sent ++ rest) (cut size q xs) ∙ joining-cut (length xs) size q xs (joining no_part (sent ++ rest));
+      messages = ap (λ l. l ++ record { q = q; user = xs } ∷ []) h.messages
+          ∙ sym (ap carried (sym e) ∙ carried-append no_part (sent ++ rest) (cut size q xs)
+          ∙ ap (λ j. carried (sent ++ rest) ++ carried_from j (cut size q xs)) h.whole
+          ∙ ap (λ l. carried (sent ++ rest) ++ l) (carried-cut (length xs) size q xs no_part));
+    }
+
+pub Text-pull : (size : ℕ) (sent : List Piece) (p : Piece) (rest : List Piece) (down : List Message) → Text size sent (p ∷ rest) down → Text size (sent ++ p ∷ []) rest down
+Text-pull size sent p rest down h =
+    let e : sent ++ (p ∷ rest) ≡ (sent ++ p ∷ []) ++ rest = sym (append_assoc sent (p ∷ []) rest) in
+    record {
+      fits = subst (λ (l : List Piece). AreSound size no_part l) e h.fits;
+      whole = ap (joining no_part) (sym e) ∙ h.whole;
+      messages = h.messages ∙ ap carried e;
+    }
+
+-- a packet on the way is refused on no ground
+pub Text-ground : (size : ℕ) (sent rest : List Piece) (down : List Message) (taken : List Piece) (p : Piece) (later : List Piece) → sent ≡ taken ++ (p ∷ later) → Text size sent rest down
+    → piece_ground size (joining no_part taken) p ≡ None
+Text-ground size sent rest down taken p later is h =
+    (AreSound-back size no_part taken ((p ∷ later) ++ rest)
+    (subst (λ (l : List Piece). AreSound size no_part l) (ap (λ l. l ++ rest) is ∙ append_assoc taken (p ∷ later) rest) h.fits)).0
+
+pub up-take : (up : List Message) (taken : List Piece) (p : Piece) → up ≡ carried taken → up ++ completed (joining no_part taken) p ≡ carried (taken ++ p ∷ [])
+up-take up taken p is =
+    ap (λ l. l ++ completed (joining no_part taken) p) is
+    ∙ sym (carried-append no_part taken (p ∷ []) ∙ ap (λ l. carried taken ++ l) (append-nil (completed (joining no_part taken) p)))

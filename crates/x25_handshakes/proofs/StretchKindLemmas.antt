@@ -1,0 +1,245 @@
+-- Messages and interrupts: what belongs to a stretch is handed up as the other end handed it down in that stretch.
+use Rattle.std.proofs.Common.{◌≡◌, inl, inr, ℕ, ◌+◌, List, [], ◌∷◌, ◌++◌, length, Option, Some, None, Bool, true, false, nat_lt, nat_le, if◌then◌else◌, refl, sym, ap, subst, ◌∙◌, arith}
+use Rattle.std.proofs.lemmas.List.{append-nil}
+use Rattle.std.proofs.lemmas.Bool.{cond_both}
+use Rattle.x25_circuit.specs.Messages.{Piece, wholes}
+use Rattle.x25_bits.specs.declared.role.Role.{Role}
+use Rattle.x25_bits.specs.declared.role.Role.TheVariants.{Dte, Dce}
+use Rattle.x25_circuit.specs.declared.params.Params.{Params}
+use Rattle.x25_circuit.specs.Params.{Terms, may_propose, may_answer, field_for, said_in}
+use Rattle.x25_circuit.specs.Notices.{CallRequest}
+use Rattle.x25_handshakes.proofs.TermsLemmas.{IsSound}
+use Rattle.x25_handshakes.specs.Handshake.{Inner, Side, Live, Left, At, state_of}
+use Rattle.x25_handshakes.specs.Stretch.{Packet, Data, Rr, Rnr, Int, IntConf, Reset, ResetConf, Call, Accept, Clear, ClearConf, Stretch, fresh, StretchStep, stretch_does, stretch_fails, StretchAct, Send, Pull, Ready, NotReady, Interrupt, pulls, stretch_acts, by_ground, data_ground, ack_ground, takes_data, takes_status, stretch_takes}
+use Rattle.x25_handshakes.specs.Transfer.{d1, rst, fresh_transfer, lifted, transfer_side_takes, transfer_takes, TransferAct, Inside, SendsReset, transfer_side_acts}
+use Rattle.x25_handshakes.specs.Calls.{Phase, Unused, Waiting, Offered, Crossed, Talking, Connection, CallStep, goes, unexpected, calling_talk, called_talk, is_answered, accepts, phase_takes, call_takes, CallAct, PlacesCall, AcceptsCall, Talks, phase_acts}
+use Rattle.x25_handshakes.specs.Books.{Lists, none, resets_in, held_in, of_stretch, messages, interrupts, IsPrefix}
+use Rattle.x25_handshakes.proofs.HandshakeLemmas.{meets}
+use Rattle.x25_handshakes.proofs.StretchRelation.{InFlowControl, FollowsFrom, GoodStretch}
+use Rattle.x25_handshakes.proofs.TransferRelation.{reset_mark, stretch_level, TransfersRelated}
+use Rattle.x25_handshakes.proofs.ChannelRelation.{clear_mark, Seen}
+use Rattle.x25_handshakes.proofs.StretchLemmas.{GoodStretch-takes, FollowsFrom-from_Dir}
+use Rattle.x25_handshakes.proofs.ClaimLemmas.{BothTalk, Seen-joint}
+use Rattle.x25_handshakes.proofs.BookLemmas.{Change, Stays, MoreResets, alike}
+use Rattle.x25_handshakes.proofs.TurnLemmas.{MayIndicate, WithinCall, IsHandled}
+
+-- what has to be known of two lists of a stretch
+pub record IsKept {M : Type 0} (down up : Stretch → List M) : Type 0 where
+  pub down_fresh : down fresh ≡ []
+  pub up_fresh : up fresh ≡ []
+  pub takes : (size : ℕ) (x : Stretch) (p : Packet) → down (stretch_takes size x p).next ≡ down x
+  pub acts : (t : Terms) (x : Stretch) (a : StretchAct) → IsPrefix (down x) (down (stretch_acts t x a).next) × (up (stretch_acts t x a).next ≡ up x)
+  pub begins : (giver : Stretch) (u : List Packet) (taker : Stretch) → FollowsFrom giver u taker → IsPrefix (up taker) (down giver)
+
+lists_are : {M : Type 0} (d d₂ u u₂ : List M) → d ≡ d₂ → u ≡ u₂ → ◌≡◌ {A = Lists M} (record { down = d; up = u }) (record { down = d₂; up = u₂ })
+lists_are {M} d d₂ u u₂ p q = ap (λ (a : List M). record { down = a; up = u }) p ∙ ap (λ (a : List M). record { down = d₂; up = a }) q
+
+held_fresh : {M : Type 0} (down up : Stretch → List M) → IsKept down up → ◌≡◌ {A = Lists M} (record { down = down fresh; up = up fresh }) none
+held_fresh down up k = lists_are (down fresh) [] (up fresh) [] k.down_fresh k.up_fresh
+
+-- in p4, whatever the terms
+abbrev held_of : {M : Type 0} → (Stretch → List M) → (Stretch → List M) → At Stretch → Lists M
+held_of down up x = record { down = down (state_of x.side); up = up (state_of x.side) }
+
+abbrev TransferChange : {M : Type 0} → (Stretch → List M) → (Stretch → List M) → (List M → Type 0) → ℕ → At Stretch → At Stretch → Type 0
+TransferChange down up A e x y = Change A e x.epoch (held_of down up x) e y.epoch (held_of down up y)
+
+still : {M : Type 0} (down up : Stretch → List M) (A : List M → Type 0) (e : ℕ) (x : At Stretch) → TransferChange down up A e x x
+still down up A e x = Stays refl refl (alike (down (state_of x.side))) (inl refl)
+
+lifted_taken : {M : Type 0} (down up : Stretch → List M) (A : List M → Type 0) (e s : ℕ) (x : Stretch) (st : StretchStep) (n : Option ℕ) → down st.next ≡ down x → A (up st.next)
+    → TransferChange down up A e (d1 s x) (lifted s st n).next
+lifted_taken down up A e s x st None same may = Stays refl refl ([], append-nil (down x) ∙ sym same) (inr may)
+lifted_taken down up A e s x st (Some n) same may = Stays refl refl ([], append-nil (down x) ∙ sym same) (inr may)
+
+transfer_taken : {M : Type 0} (down up : Stretch → List M) → IsKept down up → (A : List M → Type 0) (size e s : ℕ) (x : Side Stretch) (p : Packet)
+    → ((a : Stretch) → x ≡ Live a → InFlowControl p → A (up (stretch_takes size a p).next)) → TransferChange down up A e (record { epoch = s; side = x }) (transfer_side_takes size s x p).next
+transfer_taken down up k A size e s (Live x) Reset f = MoreResets refl (omega arith) (held_fresh down up k)
+transfer_taken down up k A size e s (Live x) ResetConf f = still down up A e (d1 s x)
+transfer_taken down up k A size e s (Live x) (Call i) f = still down up A e (d1 s x)
+transfer_taken down up k A size e s (Live x) (Accept field) f = still down up A e (d1 s x)
+transfer_taken down up k A size e s (Live x) Clear f = still down up A e (d1 s x)
+transfer_taken down up k A size e s (Live x) ClearConf f = still down up A e (d1 s x)
+transfer_taken down up k A size e s (Live x) other f = lifted_taken down up A e s x (stretch_takes size x other) (stretch_takes size x other).error (k.takes size x other) (f x refl tt)
+transfer_taken down up k A size e s (Left x) Reset f = MoreResets refl (omega arith) (held_fresh down up k)
+transfer_taken down up k A size e s (Left x) ResetConf f = MoreResets refl (omega arith) (held_fresh down up k)
+transfer_taken down up k A size e s (Left x) (Call i) f = still down up A e (rst s x)
+transfer_taken down up k A size e s (Left x) (Accept field) f = still down up A e (rst s x)
+transfer_taken down up k A size e s (Left x) Clear f = still down up A e (rst s x)
+transfer_taken down up k A size e s (Left x) ClearConf f = still down up A e (rst s x)
+transfer_taken down up k A size e s (Left x) other f = still down up A e (rst s x)
+
+reset_inner : (p : Packet) → InFlowControl p → reset_mark p ≡ Inner
+reset_inner Reset is = absurd is
+reset_inner ResetConf is = absurd is
+reset_inner other is = refl
+
+-- in p4: the packet is taken in the stretch in which the other end is, or which it left
+in_its_stretch : {M : Type 0} (down up : Stretch → List M) → IsKept down up → (t b : Terms) → IsSound b → (e : ℕ) (x : At Stretch) (u : List Packet) (p : Packet) (v : List Packet) (z : At Stretch)
+    → TransfersRelated t b x u (p ∷ v) z → TransferChange down up (λ l. (z.epoch ≡ x.epoch) × IsPrefix l (down (state_of z.side))) e x (transfer_takes b.size x p).next
+in_its_stretch down up k t b sound e x u p v z h =
+    transfer_taken down up k (λ l. (z.epoch ≡ x.epoch) × IsPrefix l (down (state_of z.side))) b.size e x.epoch x.side p
+    (λ a is open_p.
+    let hand = subst (λ (s : Side Stretch). TransfersRelated t b (record { epoch = x.epoch; side = s }) u (p ∷ v) z) is h in
+    let inside = meets (stretch_level t b) p (reset_inner p open_p) x.epoch z.epoch a z.side u v hand.hand in
+    let good : GoodStretch t b (stretch_takes b.size a p) inside.1 inside.2 (state_of z.side) = GoodStretch-takes t b sound a inside.1 p inside.2 (state_of z.side) inside.3 in (
+      sym inside.0,
+      k.begins (state_of z.side) inside.2 (stretch_takes b.size a p).next
+          (FollowsFrom-from_Dir b (state_of z.side) inside.2 (inside.1 ++ (stretch_takes b.size a p).out) (stretch_takes b.size a p).next good.kept.back),
+    ))
+
+-- outside of p4 nothing is held
+idle : {M : Type 0} (down up : Stretch → List M) (A : List M → Type 0) (e : ℕ) → Change A e 0 none e 0 none
+idle down up A e = Stays refl refl ([], refl) (inl refl)
+
+connects : {M : Type 0} (down up : Stretch → List M) → IsKept down up → (A : List M → Type 0) (e : ℕ) → Change A e 0 none e 0 (held_of down up fresh_transfer)
+connects down up k A e = Stays refl refl (down fresh, refl) (inl k.up_fresh)
+
+-- the start of p4, or none
+answered : {M : Type 0} (down up : Stretch → List M) → IsKept down up → (A : List M → Type 0) (e : ℕ) (a : Phase) (mine : Params) (m i : List CallRequest) (q : Params) → resets_in a ≡ 0 → held_in down up a ≡ none
+    → Change A e 0 none e (resets_in (is_answered a mine m i q).next.phase) (held_in down up (is_answered a mine m i q).next.phase)
+answered {M} down up k A e a mine m i q resets held =
+    cond_both (may_answer mine q) (goes (calling_talk q) m i []) (unexpected a m i) (λ (s : CallStep). Change A e 0 none e (resets_in s.next.phase) (held_in down up s.next.phase))
+    (λ _. connects down up k A e)
+    (λ _. subst (λ (n : ℕ). Change A e 0 none e n (held_in down up a)) (sym resets) (subst (λ (l : Lists M). Change A e 0 none e 0 l) (sym held) (idle down up A e)))
+
+-- the change by a packet within a call, where the other end is y
+phase_taken : {M : Type 0} (down up : Stretch → List M) → IsKept down up → (r : Role) (e : ℕ) (a : Phase) (m i : List CallRequest) (u : List Packet) (p : Packet) (v : List Packet) (y : Connection)
+    → Seen r (record { phase = a; made = m; indicated = i }) u (p ∷ v) y
+    → WithinCall (of_stretch down up) (MayIndicate (of_stretch down up) (record { phase = a; made = m; indicated = i }) y) e (record { phase = a; made = m; indicated = i }) (phase_takes r a m i p).next
+phase_taken down up k r e Unused m i u (Call n) v y h = idle down up _ e
+phase_taken down up k r e Unused m i u other v y h = idle down up _ e
+phase_taken down up k Dte e (Waiting mine) m i u (Call n) v y h = idle down up _ e
+phase_taken down up k Dce e (Waiting mine) m i u (Call n) v y h = idle down up _ e
+phase_taken down up k r e (Waiting mine) m i u (Accept field) v y h = answered down up k _ e (Waiting mine) mine m i (said_in mine field) refl refl
+phase_taken down up k r e (Waiting mine) m i u other v y h = idle down up _ e
+phase_taken down up k r e (Offered theirs) m i u p v y h = idle down up _ e
+phase_taken down up k r e (Crossed mine) m i u (Accept field) v y h = answered down up k _ e (Crossed mine) mine m i (said_in mine field) refl refl
+phase_taken down up k r e (Crossed mine) m i u other v y h = idle down up _ e
+phase_taken {M} down up k r e (Talking t b x) m i u p v y h =
+    let joint : BothTalk t b x u (p ∷ v) y.phase = Seen-joint r t b m i x y u p v h in
+    subst (λ (a : Phase). Change (λ (l : List M). (resets_in a ≡ x.epoch) × IsPrefix l (held_in down up a).down) e x.epoch (held_of down up x) e (transfer_takes b.size x p).next.epoch
+    (held_of down up (transfer_takes b.size x p).next)) (sym joint.phase)
+    (in_its_stretch down up k t b joint.talks.sound_back e x u p v joint.other joint.talks.related)
+
+call_taken : {M : Type 0} (down up : Stretch → List M) → IsKept down up → (r : Role) (e : ℕ) (c : Connection) (u : List Packet) (p : Packet) (v : List Packet) (y : Connection)
+    → clear_mark p ≡ Inner → Seen r c u (p ∷ v) y → WithinCall (of_stretch down up) (MayIndicate (of_stretch down up) c y) e c (call_takes r c p).next
+call_taken down up k r e c u p v y inner h = phase_taken down up k r e c.phase c.made c.indicated u p v y h
+
+abbrev Acted : {M : Type 0} → (Stretch → List M) → (Stretch → List M) → Phase → Phase → Type 0
+Acted down up a z = (resets_in z ≡ resets_in a) × IsPrefix (held_in down up a).down (held_in down up z).down × ((held_in down up z).up ≡ (held_in down up a).up)
+
+lifted_acted : {M : Type 0} (down up : Stretch → List M) (t b : Terms) (s : ℕ) (x : Stretch) (st : StretchStep) (n : Option ℕ) → IsPrefix (down x) (down st.next) × (up st.next ≡ up x)
+    → Acted down up (Talking t b (d1 s x)) (Talking t b (lifted s st n).next)
+lifted_acted down up t b s x st None h = (refl, h.0, h.1)
+lifted_acted down up t b s x st (Some n) h = (refl, h.0, h.1)
+
+transfer_acted : {M : Type 0} (down up : Stretch → List M) → IsKept down up → (t b : Terms) (s : ℕ) (x : Side Stretch) (a : TransferAct)
+    → Acted down up (Talking t b (record { epoch = s; side = x })) (Talking t b (transfer_side_acts t s x a).next)
+transfer_acted down up k t b s (Live x) (Inside a) = lifted_acted down up t b s x (stretch_acts t x a) (stretch_acts t x a).error (k.acts t x a)
+transfer_acted down up k t b s (Live x) SendsReset = (refl, alike (down x), refl)
+transfer_acted down up k t b s (Left x) a = (refl, alike (down x), refl)
+
+unmoved : {M : Type 0} (down up : Stretch → List M) (a : Phase) → Acted down up a a
+unmoved down up a = (refl, alike (held_in down up a).down, refl)
+
+accepted : {M : Type 0} (down up : Stretch → List M) → IsKept down up → (theirs : Params) (m i : List CallRequest) (answer : Option Params) → Acted down up (Offered theirs) (accepts theirs m i answer).next.phase
+accepted down up k theirs m i None = (refl, (down fresh, refl), k.up_fresh)
+accepted down up k theirs m i (Some q) =
+    cond_both (may_answer theirs q) (goes (called_talk q) m i (Accept (field_for theirs q) ∷ [])) (goes (Offered theirs) m i []) (λ (s : CallStep). Acted down up (Offered theirs) s.next.phase)
+    (λ _. (refl, (down fresh, refl), k.up_fresh))
+    (λ _. unmoved down up (Offered theirs))
+
+phase_acted : {M : Type 0} (down up : Stretch → List M) → IsKept down up → (a : Phase) (m i : List CallRequest) (act : CallAct) → Acted down up a (phase_acts a m i act).next.phase
+phase_acted down up k Unused m i (PlacesCall n) =
+    cond_both (may_propose n.params) (goes (Waiting n.params) (m ++ n ∷ []) i (Call n ∷ [])) (goes Unused m i []) (λ (s : CallStep). Acted down up Unused s.next.phase)
+    (λ _. (refl, ([], refl), refl))
+    (λ _. unmoved down up Unused)
+phase_acted down up k Unused m i other = unmoved down up Unused
+phase_acted down up k (Waiting mine) m i act = unmoved down up (Waiting mine)
+phase_acted down up k (Offered theirs) m i (AcceptsCall answer) = accepted down up k theirs m i answer
+phase_acted down up k (Offered theirs) m i other = unmoved down up (Offered theirs)
+phase_acted down up k (Crossed mine) m i act = unmoved down up (Crossed mine)
+phase_acted down up k (Talking t b x) m i (Talks a) = transfer_acted down up k t b x.epoch x.side a
+phase_acted down up k (Talking t b x) m i other = unmoved down up (Talking t b x)
+
+handled : {M : Type 0} (down up : Stretch → List M) → IsKept down up → IsHandled (of_stretch down up)
+handled down up k = record { fresh = refl; takes = call_taken down up k; acts = λ c a. phase_acted down up k c.phase c.made c.indicated a }
+
+-- messages and interrupts are such lists
+
+same_by : {T : Type 0} (f : Stretch → T) (x : Stretch) (g : Option ℕ) (good : StretchStep) → f good.next ≡ f x → f (by_ground g x good).next ≡ f x
+same_by f x None good is = is
+same_by f x (Some n) good is = refl
+
+messages_taken : (size : ℕ) (x : Stretch) (p : Packet) → (stretch_takes size x p).next.down ≡ x.down
+messages_taken size x (Data s r p) = same_by (λ y. y.down) x (data_ground size x s r p) (takes_data x r p) refl
+messages_taken size x (Rr r) = same_by (λ y. y.down) x (ack_ground x r) (takes_status x true r) refl
+messages_taken size x (Rnr r) = same_by (λ y. y.down) x (ack_ground x r) (takes_status x false r) refl
+messages_taken size x (Int xs) = refl
+messages_taken size x IntConf = test x.int_out
+  where
+    test : (b : Bool) → (if b then stretch_does (record x { int_out = false }) [] else stretch_fails x 43).next.down ≡ x.down
+    test true = refl
+    test false = refl
+messages_taken size x other = refl
+
+interrupts_taken : (size : ℕ) (x : Stretch) (p : Packet) → (stretch_takes size x p).next.int_down ≡ x.int_down
+interrupts_taken size x (Data s r p) = same_by (λ y. y.int_down) x (data_ground size x s r p) (takes_data x r p) refl
+interrupts_taken size x (Rr r) = same_by (λ y. y.int_down) x (ack_ground x r) (takes_status x true r) refl
+interrupts_taken size x (Rnr r) = same_by (λ y. y.int_down) x (ack_ground x r) (takes_status x false r) refl
+interrupts_taken size x (Int xs) = refl
+interrupts_taken size x IntConf = test x.int_out
+  where
+    test : (b : Bool) → (if b then stretch_does (record x { int_out = false }) [] else stretch_fails x 43).next.int_down ≡ x.int_down
+    test true = refl
+    test false = refl
+interrupts_taken size x other = refl
+
+abbrev Quiet : {M : Type 0} → (Stretch → List M) → (Stretch → List M) → Stretch → StretchStep → Type 0
+Quiet down up x s = IsPrefix (down x) (down s.next) × (up s.next ≡ up x)
+
+if_quiet : {M : Type 0} (down up : Stretch → List M) (x : Stretch) (b : Bool) (u v : StretchStep) → Quiet down up x u → Quiet down up x v → Quiet down up x (if b then u else v)
+if_quiet down up x true u v h g = h
+if_quiet down up x false u v h g = g
+
+messages_pulled : (t : Terms) (x : Stretch) (ps : List Piece) → Quiet (λ y. y.down) (λ y. y.up) x (pulls t x ps)
+messages_pulled t x [] = (alike x.down, refl)
+messages_pulled t x (p ∷ ps) =
+    if_quiet (λ y. y.down) (λ y. y.up) x x.peer_ready _ _ (if_quiet (λ y. y.down) (λ y. y.up) x (nat_lt (length x.sent) (x.acked + t.window)) _ _ (alike x.down, refl) (alike x.down, refl)) (alike x.down, refl)
+
+messages_acted : (t : Terms) (x : Stretch) (a : StretchAct) → Quiet (λ y. y.down) (λ y. y.up) x (stretch_acts t x a)
+messages_acted t x (Send q xs) =
+    if_quiet (λ y. y.down) (λ y. y.up) x (nat_le (length xs) 65535) _ _
+    (if_quiet (λ y. y.down) (λ y. y.up) x (nat_lt (wholes x.rest) 8) _ _ ((record { q = q; user = xs } ∷ [], refl), refl) (alike x.down, refl)) (alike x.down, refl)
+messages_acted t x Pull = messages_pulled t x x.rest
+messages_acted t x Ready = (alike x.down, refl)
+messages_acted t x NotReady = (alike x.down, refl)
+messages_acted t x (Interrupt xs) =
+    if_quiet (λ y. y.down) (λ y. y.up) x (nat_le 1 (length xs)) _ _
+    (if_quiet (λ y. y.down) (λ y. y.up) x (nat_le (length xs) 32) _ _ (if_quiet (λ y. y.down) (λ y. y.up) x x.int_out _ _ (alike x.down, refl) (alike x.down, refl)) (alike x.down, refl)) (alike x.down, refl)
+
+interrupts_pulled : (t : Terms) (x : Stretch) (ps : List Piece) → Quiet (λ y. y.int_down) (λ y. y.int_up) x (pulls t x ps)
+interrupts_pulled t x [] = (alike x.int_down, refl)
+interrupts_pulled t x (p ∷ ps) =
+    if_quiet (λ y. y.int_down) (λ y. y.int_up) x x.peer_ready _ _
+    (if_quiet (λ y. y.int_down) (λ y. y.int_up) x (nat_lt (length x.sent) (x.acked + t.window)) _ _ (alike x.int_down, refl) (alike x.int_down, refl)) (alike x.int_down, refl)
+
+interrupts_acted : (t : Terms) (x : Stretch) (a : StretchAct) → Quiet (λ y. y.int_down) (λ y. y.int_up) x (stretch_acts t x a)
+interrupts_acted t x (Send q xs) =
+    if_quiet (λ y. y.int_down) (λ y. y.int_up) x (nat_le (length xs) 65535) _ _
+    (if_quiet (λ y. y.int_down) (λ y. y.int_up) x (nat_lt (wholes x.rest) 8) _ _ (alike x.int_down, refl) (alike x.int_down, refl)) (alike x.int_down, refl)
+interrupts_acted t x Pull = interrupts_pulled t x x.rest
+interrupts_acted t x Ready = (alike x.int_down, refl)
+interrupts_acted t x NotReady = (alike x.int_down, refl)
+interrupts_acted t x (Interrupt xs) =
+    if_quiet (λ y. y.int_down) (λ y. y.int_up) x (nat_le 1 (length xs)) _ _
+    (if_quiet (λ y. y.int_down) (λ y. y.int_up) x (nat_le (length xs) 32) _ _ (if_quiet (λ y. y.int_down) (λ y. y.int_up) x x.int_out _ _ (alike x.int_down, refl) ((xs ∷ [], refl), refl)) (alike x.int_down, refl))
+    (alike x.int_down, refl)
+
+pub messages_handled : IsHandled messages
+messages_handled = handled (λ x. x.down) (λ x. x.up) (record { down_fresh = refl; up_fresh = refl; takes = messages_taken; acts = messages_acted; begins = λ giver u taker h. h.begins })
+
+pub interrupts_handled : IsHandled interrupts
+interrupts_handled =
+    handled (λ x. x.int_down) (λ x. x.int_up) (record { down_fresh = refl; up_fresh = refl; takes = interrupts_taken; acts = interrupts_acted; begins = λ giver u taker h. h.int_begins })

@@ -1,0 +1,131 @@
+-- What is kept of two circuits in d1 of one stretch, and the lines between them.
+use Rattle.std.proofs.Common.{◌≡◌, ℕ, ◌+◌, ◌%◌, ◌≤◌, List, [], ◌∷◌, ◌++◌, length, Option, Some, None, Bool, true, false}
+use Rattle.x25_circuit.specs.declared.message.Message.{Message}
+use Rattle.x25_circuit.specs.Messages.{Piece, no_part, joining, carried, AreSound}
+use Rattle.x25_window.specs.Modulo.{resolved}
+use Rattle.x25_circuit.specs.Params.{Terms}
+use Rattle.x25_handshakes.specs.Stretch.{Packet, Data, Rr, Rnr, Int, IntConf, Stretch, StretchStep}
+use Rattle.x25_handshakes.specs.Books.{IsPrefix}
+
+-- a data packet's number and what it carries
+pub record Numbering : Type 0 where
+  pub number : ℕ
+  pub piece : Piece
+
+abbrev pub numbering : Packet → Option Numbering
+numbering (Data s r p) = Some (record { number = s; piece = p })
+numbering other = None
+
+-- P(R), where the packet has one
+abbrev pub ack_in : Packet → Option ℕ
+ack_in (Data s r p) = Some r
+ack_in (Rr r) = Some r
+ack_in (Rnr r) = Some r
+ack_in other = None
+
+abbrev pub int_in : Packet → List (List ℕ)
+int_in (Int xs) = xs ∷ []
+int_in other = []
+
+abbrev pub conf_in : Packet → ℕ
+conf_in IntConf = 1
+conf_in other = 0
+
+-- what kinds of packets pass in d1
+abbrev pub InFlowControl : Packet → Type 0
+InFlowControl (Data s r p) = Unit {0}
+InFlowControl (Rr r) = Unit {0}
+InFlowControl (Rnr r) = Unit {0}
+InFlowControl (Int xs) = Unit {0}
+InFlowControl IntConf = Unit {0}
+InFlowControl other = ⊥
+
+abbrev pub AllInFlowControl : List Packet → Type 0
+AllInFlowControl [] = Unit {0}
+AllInFlowControl (p ∷ u) = InFlowControl p × AllInFlowControl u
+
+-- the data packets on a line
+abbrev pub piece_of : Option Numbering → List Piece
+piece_of None = []
+piece_of (Some c) = c.piece ∷ []
+
+abbrev pub pieces : List Packet → List Piece
+pieces [] = []
+pieces (p ∷ u) = piece_of (numbering p) ++ pieces u
+
+abbrev pub number_at : ℕ → Option Numbering → (ℕ → Type 0) → Type 0
+number_at n None later = later n
+number_at n (Some c) later = (c.number ≡ n % 8) × later (n + 1)
+
+-- the data packets are numbered from n on, modulo 8
+abbrev pub Numbered : ℕ → List Packet → Type 0
+Numbered n [] = Unit {0}
+Numbered n (p ∷ u) = number_at n (numbering p) (λ m. Numbered m u)
+
+-- the number acknowledged, once this P(R) has come
+abbrev pub hears : ℕ → Option ℕ → ℕ
+hears a None = a
+hears a (Some r) = resolved a r
+
+-- .. and once all of the line has
+abbrev pub heard : ℕ → List Packet → ℕ
+heard a [] = a
+heard a (p ∷ v) = heard (hears a (ack_in p)) v
+
+abbrev pub ints : List Packet → List (List ℕ)
+ints [] = []
+ints (p ∷ u) = int_in p ++ ints u
+
+abbrev pub confs : List Packet → ℕ
+confs [] = 0
+confs (p ∷ u) = conf_in p + confs u
+
+abbrev pub one_if : Bool → ℕ
+one_if true = 1
+one_if false = 0
+
+-- what was sent is what was taken and what is on the way, in its numbers
+pub record Flow (sent taken : List Piece) (u : List Packet) : Type 0 where
+  pub flow : sent ≡ taken ++ pieces u
+  pub numbers : Numbered (length taken) u
+
+-- the window, and the numbers P(R) on the way back
+pub record Acks (k acked sent : ℕ) (v : List Packet) (taken : ℕ) : Type 0 where
+  pub room : sent ≤ acked + k
+  pub acks : heard acked v ≤ taken
+
+-- at most one interrupt is out: it or its confirmation is on the way; and those handed down are those handed up and those on the way
+pub record Ints (out : Bool) (down up : List (List ℕ)) (u v : List Packet) : Type 0 where
+  pub count : one_if out ≡ length (ints u) + confs v
+  pub flow : down ≡ up ++ ints u
+
+-- what was sent, with what is still to be sent, is whole messages, those handed down
+pub record Text (size : ℕ) (sent rest : List Piece) (down : List Message) : Type 0 where
+  pub fits : AreSound size no_part (sent ++ rest)
+  pub whole : joining no_part (sent ++ rest) ≡ no_part
+  pub messages : down ≡ carried (sent ++ rest)
+
+-- the direction from x to y; u is on the way there, v on the way back
+pub record Direction (t : Terms) (x : Stretch) (u v : List Packet) (y : Stretch) : Type 0 where
+  pub flow : Flow x.sent y.taken u
+  pub acks : Acks t.window x.acked (length x.sent) v (length y.taken)
+  pub ints : Ints x.int_out x.int_down y.int_up u v
+  pub text : Text t.size x.sent x.rest x.down
+  pub up : y.up ≡ carried y.taken
+  pub kinds : AllInFlowControl u
+
+pub record StretchesRelated (t b : Terms) (x : Stretch) (u v : List Packet) (y : Stretch) : Type 0 where
+  pub there : Direction t x u v y
+  pub back : Direction b y v u x
+
+-- a step that is no error, and keeps the relation
+pub record GoodStretch (t b : Terms) (s : StretchStep) (u v : List Packet) (y : Stretch) : Type 0 where
+  pub quiet : s.error ≡ None
+  pub kept : StretchesRelated t b s.next (u ++ s.out) v y
+
+-- what is claimed of one direction
+pub record FollowsFrom (giver : Stretch) (u : List Packet) (taker : Stretch) : Type 0 where
+  pub begins : IsPrefix taker.up giver.down
+  pub int_begins : IsPrefix taker.int_up giver.int_down
+  pub all : u ≡ [] → giver.rest ≡ [] → taker.up ≡ giver.down
+  pub int_all : u ≡ [] → taker.int_up ≡ giver.int_down

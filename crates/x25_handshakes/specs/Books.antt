@@ -1,0 +1,112 @@
+-- What each end handed down and up on a channel, written under the names of its stretches.
+use Rattle.std.specs.Prelude.{◌≡◌, ℕ, List, [], ◌∷◌, ◌++◌, if◌then◌else◌}
+use Rattle.x25_circuit.specs.declared.message.Message.{Message}
+use Rattle.x25_bits.specs.declared.role.Role.{Role}
+use Rattle.x25_bits.specs.declared.role.Role.TheVariants.{Dte, Dce}
+use Rattle.x25_circuit.specs.Notices.{CallRequest}
+use Rattle.x25_handshakes.specs.Handshake.{At, state_of}
+use Rattle.x25_handshakes.specs.Stretch.{Stretch}
+use Rattle.x25_handshakes.specs.Calls.{Phase, Talking, Connection}
+use Rattle.x25_handshakes.specs.Layers.{Channels, Pair, Move, Event, turned, pair_moves, pair_start}
+use Rattle.x25_handshakes.specs.Names.{Name, same_name, IsEarlier}
+
+-- of one kind, as messages: those handed down, those handed up
+pub record Lists (M : Type 0) : Type 0 where
+  pub down : List M
+  pub up : List M
+
+abbrev pub none : {M : Type 0} → Lists M
+none = record { down = []; up = [] }
+
+-- a kind of thing that is handed down and up: what a circuit holds of it, and the count of resets in the name that this stands under
+pub record Kind (M : Type 0) : Type 0 where
+  pub resets : Connection → ℕ
+  pub held : Connection → Lists M
+
+abbrev pub resets_in : Phase → ℕ
+resets_in (Talking t b at) = at.epoch
+resets_in other = 0
+
+abbrev pub held_in : {M : Type 0} → (Stretch → List M) → (Stretch → List M) → Phase → Lists M
+held_in down up (Talking t b at) = record { down = down (state_of at.side); up = up (state_of at.side) }
+held_in down up other = none
+
+-- what belongs to a stretch
+abbrev pub of_stretch : {M : Type 0} → (Stretch → List M) → (Stretch → List M) → Kind M
+of_stretch down up = record { resets = λ c. resets_in c.phase; held = λ c. held_in down up c.phase }
+
+abbrev pub messages : Kind Message
+messages = of_stretch (λ x. x.down) (λ x. x.up)
+
+abbrev pub interrupts : Kind (List ℕ)
+interrupts = of_stretch (λ x. x.int_down) (λ x. x.int_up)
+
+-- calls stand before the first reset of what they may become
+abbrev pub calls : Kind CallRequest
+calls = record { resets = λ c. 0; held = λ c. record { down = c.made; up = c.indicated } }
+
+-- the circuit of channel k
+abbrev pub circuit_at : At Channels → ℕ → At Connection
+circuit_at x k = state_of x.side k
+
+abbrev pub name_at : {M : Type 0} → Kind M → At Channels → ℕ → Name
+name_at kind x k = record { restarts = x.epoch; clears = (circuit_at x k).epoch; resets = kind.resets (state_of (circuit_at x k).side) }
+
+abbrev pub held_at : {M : Type 0} → Kind M → At Channels → ℕ → Lists M
+held_at kind x k = kind.held (state_of (circuit_at x k).side)
+
+-- An end, as it is seen on a channel: its present name, what it holds under it, and its book.
+pub record Desk (M : Type 0) : Type 0 where
+  pub name : Name
+  pub held : Lists M
+  pub book : Name → Lists M
+
+abbrev pub written : {M : Type 0} → (Name → Lists M) → Name → Lists M → Name → Lists M
+written book n l m = if same_name m n then l else book m
+
+abbrev pub desk : {M : Type 0} → Kind M → At Channels → ℕ → (Name → Lists M) → Desk M
+desk kind x k book = record { name = name_at kind x k; held = held_at kind x k; book = book }
+
+abbrev pub IsPrefix : {T : Type 0} → List T → List T → Type 0
+IsPrefix {T} xs ys = (rest : List T) × (xs ++ rest ≡ ys)
+
+-- two ends' books of one channel: what each holds is what stands under its present name, nothing stands under a later one,
+-- and under each name what either handed up is a beginning of what the other handed down
+pub record IsLawful {M : Type 0} (e f : Desk M) : Type 0 where
+  pub held : e.book e.name ≡ e.held
+  pub held_there : f.book f.name ≡ f.held
+  pub later : (m : Name) → IsEarlier e.name m → e.book m ≡ none
+  pub later_there : (m : Name) → IsEarlier f.name m → f.book m ≡ none
+  pub begins : (m : Name) → IsPrefix (e.book m).up (f.book m).down
+  pub begins_there : (m : Name) → IsPrefix (f.book m).up (e.book m).down
+
+-- Two ends, with the book of each channel of either.
+pub record Ledger (M : Type 0) : Type 0 where
+  pub pair : Pair
+  pub near : ℕ → Name → Lists M
+  pub far : ℕ → Name → Lists M
+
+abbrev pub turned_ledger : {M : Type 0} → Ledger M → Ledger M
+turned_ledger g = record { pair = turned g.pair; near = g.far; far = g.near }
+
+-- the end that moves writes what it then holds under its name
+abbrev pub ledger_moves : {M : Type 0} → Kind M → Role → Ledger M → Move → Ledger M
+ledger_moves kind r g what =
+    let pair = pair_moves r g.pair g.pair.near what in
+    record { pair = pair; near = λ k. written (g.near k) (name_at kind (state_of pair.near) k) (held_at kind (state_of pair.near) k); far = g.far }
+
+abbrev pub ledger_happens : {M : Type 0} → Kind M → Ledger M → Event → Ledger M
+ledger_happens kind g e = if e.first then ledger_moves kind Dte g e.what else turned_ledger (ledger_moves kind Dce (turned_ledger g) e.what)
+
+abbrev pub ledger_run : {M : Type 0} → Kind M → List Event → Ledger M → Ledger M
+ledger_run kind [] g = g
+ledger_run kind (e ∷ es) g = ledger_run kind es (ledger_happens kind g e)
+
+abbrev pub ledger_start : {M : Type 0} → Ledger M
+ledger_start = record { pair = pair_start; near = λ k n. none; far = λ k n. none }
+
+-- of a kind: in every run, the books of the two ends are lawful on each channel
+abbrev pub AreInOrder : {M : Type 0} → Kind M → Type 0
+AreInOrder kind = (events : List Event) (k : ℕ) →
+    let g = ledger_run kind events ledger_start in
+    IsLawful (desk kind (state_of g.pair.near) k (g.near k)) (desk kind (state_of g.pair.far) k (g.far k))

@@ -1,0 +1,3 @@
+-- Worked rows, by computing.
+pub mod LayerRows
+pub mod ApartRows

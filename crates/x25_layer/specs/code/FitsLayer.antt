@@ -1,0 +1,58 @@
+-- Which states of the definition a layer stands for, and what it tells of them.
+use Rattle.std.specs.Prelude.{◌≡◌, ℕ, zero, suc, ◌+◌, ◌^◌, ◌-◌, ◌==◌, ◌||◌, List, length, Option, Some, None, Bool, false, slice_get, if◌then◌else◌}
+use Rattle.x25_circuit.specs.declared.circuit.Circuit as circuit_code
+use Rattle.x25_circuit.specs.declared.params.Params.{Params}
+use Rattle.x25_circuit.specs.Circuit.{Circuit, is_open, waits}
+use Rattle.x25_circuit.specs.code.FitsCircuit.{FitsCircuit}
+use Rattle.x25_handshakes.specs.Names.{Name}
+use Rattle.x25_layer.specs.declared.layer.Layer as code
+use Rattle.x25_layer.specs.declared.stretch.Stretch.{Stretch}
+use Rattle.x25_layer.specs.Layer.{LayerSettings, Layer, is_channel}
+use Rattle.x25_layer.specs.Transcript.{name_of}
+
+-- each of these circuits fits the one of its channel; the first is on channel 1
+abbrev pub FitsCircuits : LayerSettings → List circuit_code.Circuit → (ℕ → Circuit) → Type 0
+FitsCircuits c circuits f = (k : ℕ) (v : circuit_code.Circuit) → slice_get circuits k ≡ Some v → FitsCircuit c.circuit v (f (suc k))
+
+pub record FitsLayer (c : LayerSettings) (v : code.Layer) (l : Layer) : Type 0 where
+  pub role : v.role ≡ c.circuit.role
+  pub long_data : v.long_data ≡ c.circuit.long_data
+  pub channels : length v.circuits.items ≡ c.channels
+  pub restarting : v.restarting ≡ l.restarting
+  pub restarts : v.restarts ≡ l.restarts
+  pub circuits : FitsCircuits c v.circuits.items l.circuits
+
+-- ---- what a layer tells
+
+abbrev pub plain_stretch : Option Stretch → Option Name
+plain_stretch None = None
+plain_stretch (Some s) = Some (record { restarts = s.restarts; clears = s.clears; resets = s.resets })
+
+-- the name of the stretch of a configured channel
+abbrev pub name_at : LayerSettings → Layer → ℕ → Option Name
+name_at c l h = if is_channel c.channels h then Some (name_of l h) else None
+
+-- the packet sizes and windows of the call on a configured channel: those in force, or else those proposed
+abbrev pub params_at : LayerSettings → Layer → ℕ → Option Params
+params_at c l h = if is_channel c.channels h then Some (l.circuits h).params else None
+
+-- a configured channel is in p4 with d1
+abbrev pub is_open_at : LayerSettings → Layer → ℕ → Bool
+is_open_at c l h = if is_channel c.channels h then is_open (l.circuits h) else false
+
+-- how many messages wait in the circuits of the channels up to a number
+abbrev pub waits_up_to : (ℕ → Circuit) → ℕ → ℕ
+waits_up_to circuits zero = 0
+waits_up_to circuits (suc n) = waits_up_to circuits n + waits (circuits (suc n))
+
+-- a count is at its most (profile: 2^64 - 1)
+abbrev pub is_most : ℕ → Bool
+is_most count = count == 2 ^ 64 - 1
+
+-- .. of one of the channels up to a number
+abbrev pub full_up_to : (ℕ → Circuit) → ℕ → Bool
+full_up_to circuits zero = false
+full_up_to circuits (suc n) = full_up_to circuits n || (is_most (circuits (suc n)).clears || is_most (circuits (suc n)).resets)
+
+abbrev pub is_full : LayerSettings → Layer → Bool
+is_full c l = is_most l.restarts || full_up_to l.circuits c.channels

@@ -1,0 +1,327 @@
+-- Healing over set-up and re-set-up: two sessions that stand on a drained line are, by themselves, two stations of a link set up once.
+use Rattle.std.proofs.Common.{◌≡◌, ◌≤◌, ◌<◌, ℕ, List, [], ◌∷◌, ◌++◌, ◌⊎◌, inl, inr, map, Bool, true, false, if◌then◌else◌, Option, Some, None, Result, Ok, Err, refl, sym, ap, ◌∙◌, subst, append-nil}
+use Rattle.std.specs.Prelude.{◌==◌, option_to_list}
+use Rattle.x25_bits.specs.declared.role.Role.{Role}
+use Rattle.x25_frame.specs.PlainFrame.{PlainFrame}
+use Rattle.x25_frame.specs.Spelling.{spelling_of}
+use Rattle.x25_frame.specs.laws.ReadingLaw.{ReadsSpelled}
+use Rattle.x25_window.specs.Window.{End}
+use Rattle.x25_link.specs.declared.error.LinkError.{LinkError}
+use Rattle.x25_link.specs.declared.phase.Phase.{Phase}
+use Rattle.x25_link.specs.declared.phase.Phase.TheVariants.{Down, Waiting, Up, Closed}
+use Rattle.x25_link.specs.LinkStation.{Settings, LinkStation, is_up, is_busy}
+use Rattle.x25_link.specs.MustSend.{Step, other}
+use Rattle.x25_link.specs.Steps.{take_step, timer_step, timer_runs, timer_refusal, is_idle}
+use Rattle.x25_link.specs.WindowMachine.{ShowAll}
+use Rattle.x25_link.specs.laws.RestLaw.{HasSaidAll, IsAtRest}
+use Rattle.x25_line.specs.Line.{Line}
+use Rattle.x25_line.specs.Stations.{StationEnd, Stations, Act, Put, Deliver, T1, Connect, Disconnect, Abandon, Lose, Damage, Event, Near, Far}
+use Rattle.x25_line.specs.Stations as one
+use Rattle.x25_line.specs.laws.StationClaims.{AreJoined, numbered_on}
+use Rattle.x25_line.specs.Sessions.{Entry, SessionEnd, Sessions, extended, begun_by, sent_in, after_step, unless, delivered, acts, swapped, happens, run, from_nothing, from_set_up, IsTimely, AreTimely}
+use Rattle.x25_line.specs.Sessions.{Meeting}
+use Rattle.x25_line.specs.SessionNumbers.{Standing}
+use Rattle.x25_line.specs.laws.SessionClaims.{octets_of, IdleHasArrived}
+use Rattle.x25_line.specs.Healing.{IsDrained, IsDeliver, AreDeliveries, MayHeal, IsHealed, SessionMayHeal, SessionsAreHealed, SessionsHeal}
+use Rattle.x25_line.proofs.StationSteps.{AsUp, IsAway, FitsEnd, MayBeAway, AreEndings, NotesOnce, Joint, not_both}
+use Rattle.x25_line.proofs.StationRuns.{joined_swapped}
+use Rattle.x25_line.proofs.StationAway.{first_false, second_false}
+use Rattle.x25_line.proofs.sessions.SessionLines.{octets_append, octets_sent}
+use Rattle.x25_line.proofs.sessions.SessionHeld.{View, Live, Soon, Gone, IsView, IsHeard, Held}
+use Rattle.x25_line.proofs.sessions.SessionRuns.{SessionLaws, throughout}
+use Rattle.x25_line.proofs.sessions.SessionLatest.{idle_has_arrived}
+use Rattle.x25_line.proofs.HealingSteps.{HealingLaws, Sound}
+use Rattle.x25_line.proofs.HealingBoth.{Begun, both_run, both_settle, fired_both}
+use Rattle.x25_line.proofs.HealingSessions.{said_from}
+
+-- ---- an end that is Up is in the session that stands
+
+record InIt (from : Role) (n1 : ℕ) (e : SessionEnd) (s : LinkStation) (session : ℕ) (es : List Entry) (os : List (List ℕ)) : Type 0 where
+  pub station : s ≡ e.station
+  pub numbers : numbered_on from n1 (octets_of es) ≡ numbered_on from n1 os
+
+in_it : (v : View) (from : Role) (n1 : ℕ) (e : SessionEnd) (s : LinkStation) (session other_one : ℕ) (es : List Entry) (os : List (List ℕ)) → IsView v e s session
+    → IsHeard v from n1 e.station.phase es os other_one → is_up e.station.phase ≡ true → InIt from n1 e s session es os
+in_it Live from n1 e s session other_one es os view heard up = record { station = view.1; numbers = heard.0 }
+in_it Soon from n1 e s session other_one es os view heard up = not_both (is_up e.station.phase) up (ap is_up view.0)
+in_it Gone from n1 e s session other_one es os view heard up = not_both (is_up e.station.phase) up view.0
+
+-- ---- what holds of two sessions alone holds of stations that may ask for set-up
+
+looser_away : (p : Phase) → MayBeAway ⊥ p → MayBeAway (Unit {0}) p
+looser_away Down h = tt
+looser_away Waiting h = tt
+looser_away Up h = absurd h
+looser_away Closed h = tt
+
+looser_end : (c : Settings) (s : LinkStation) (l : End (List ℕ)) → FitsEnd ⊥ c s l → FitsEnd (Unit {0}) c s l
+looser_end c s l (inl up) = inl up
+looser_end c s l (inr away) = inr (record { away = looser_away s.phase away.away; empty = away.empty })
+
+looser_notes : (e : StationEnd) → NotesOnce ⊥ e → NotesOnce (Unit {0}) e
+looser_notes e h = record {
+  still_up = h.still_up;
+  left = λ off. (let l = h.left off in record { reason = l.reason; again = l.again; all = l.all; asked = λ _. tt });
+  once = h.once;
+}
+
+-- the two stations with nothing on the line
+abbrev emptied : Stations → Stations
+emptied v = record { near = v.near; far = v.far; out = []; back = []; sent = v.sent }
+
+emptied_joint : (c d : Settings) (v : Stations) (l : Line (List ℕ)) → Joint ⊥ c d v l → numbered_on (other d.role) d.longest v.out ≡ [] → numbered_on (other c.role) c.longest v.back ≡ []
+    → Joint (Unit {0}) c d (emptied v) l
+emptied_joint c d v l h out back = record {
+  reached = h.reached;
+  kept = h.kept;
+  near = looser_end c v.near.station l.near h.near;
+  far = looser_end d v.far.station l.far h.far;
+  out = subst (λ (fs : List PlainFrame). ShowAll fs l.out) out h.out;
+  back = subst (λ (fs : List PlainFrame). ShowAll fs l.back) back h.back;
+  out_orderly = tt;
+  back_orderly = tt;
+  near_down = h.near_down;
+  near_up = h.near_up;
+  far_down = h.far_down;
+  far_up = h.far_up;
+  near_within = h.near_within;
+  far_within = h.far_within;
+  near_notes = looser_notes v.near h.near_notes;
+  far_notes = looser_notes v.far h.far_notes;
+  no_frmr = h.no_frmr;
+  whole = h.whole;
+}
+
+-- ---- the same events do the same to the stations, and begin no session where these note no LinkUp
+
+record Alike (n m : ℕ) (near_down far_down : List (List ℕ)) (w : Sessions) (v : Stations) : Type 0 where
+  pub near : v.near.station ≡ w.near.station
+  pub far : v.far.station ≡ w.far.station
+  pub out : v.out ≡ octets_of w.out
+  pub back : v.back ≡ octets_of w.back
+  pub begun : v.near.came_up ≡ false → (w.near.begun ≡ n) × (w.near.down n ≡ near_down)
+  pub far_begun : v.far.came_up ≡ false → (w.far.begun ≡ m) × (w.far.down m ≡ far_down)
+
+nothing_more : (lists : ℕ → List (List ℕ)) (session n : ℕ) → extended lists session [] n ≡ lists n
+nothing_more lists session n = by (n == session)
+  where
+    by : (b : Bool) → (if b then lists n ++ [] else lists n) ≡ lists n
+    by true = append-nil (lists n)
+    by false = refl
+
+module _ (n m : ℕ) (near_down far_down : List (List ℕ)) where
+  abbrev A : Sessions → Stations → Type 0
+  A w v = Alike n m near_down far_down w v
+
+  step_alike : (c : Settings) (w : Sessions) (v : Stations) → A w v → (es : List Entry) (met : List Meeting) (step : Step) → A (after_step c w es met [] step) (one.after_step c v (octets_of es) [] step)
+  step_alike c w v h es met step = record {
+    near = refl;
+    far = h.far;
+    out = ap (λ (os : List (List ℕ)). os ++ map (spelling_of c.role) step.side.out) h.out
+        ∙ ap (λ (os : List (List ℕ)). octets_of w.out ++ os) (sym (octets_sent (begun_by step.notes.up w.near.begun) c.role step.side.out))
+        ∙ sym (octets_append w.out _);
+    back = refl;
+    begun = λ e.
+        let old = h.begun (first_false v.near.came_up step.notes.up e) in
+        let none : step.notes.up ≡ false = second_false v.near.came_up step.notes.up e in
+        (ap (λ (b : Bool). begun_by b w.near.begun) none ∙ old.0, nothing_more w.near.down (begun_by step.notes.up w.near.begun) n ∙ old.1);
+    far_begun = h.far_begun;
+  }
+
+  unless_alike : (o : Option LinkError) (w y : Sessions) (v z : Stations) → A w v → A y z → A (unless o w y) (one.unless o v z)
+  unless_alike (Some e) w y v z h k = h
+  unless_alike None w y v z h k = k
+
+  fires_alike : (c : Settings) (w : Sessions) (v : Stations) → A w v → A (acts c T1 w) (one.acts c T1 v)
+  fires_alike c w v h =
+      let step : A (after_step c w w.back w.met [] (timer_step c w.near.station)) (one.after_step c v v.back [] (timer_step c w.near.station)) =
+      subst (λ (os : List (List ℕ)). A (after_step c w w.back w.met [] (timer_step c w.near.station)) (one.after_step c v os [] (timer_step c w.near.station))) (sym h.back)
+      (step_alike c w v h w.back w.met (timer_step c w.near.station)) in
+      subst (λ (s : LinkStation). A (unless (timer_refusal w.near.station) w (after_step c w w.back w.met [] (timer_step c w.near.station))) (one.unless (timer_refusal s) v (one.after_step c v v.back [] (timer_step c s))))
+      (sym h.near) (unless_alike (timer_refusal w.near.station) w _ v _ h step)
+
+  delivered_alike : (c : Settings) (w : Sessions) (v : Stations) → A w v → (es : List Entry) → A (delivered c es w) (one.delivered c (octets_of es) v)
+  delivered_alike c w v h [] = h
+  delivered_alike c w v h (e ∷ es) =
+      subst (λ (s : LinkStation). A (delivered c (e ∷ es) w) (one.after_step c v (octets_of es) [] (take_step c e.octets s))) (sym h.near) (step_alike c w v h es _ (take_step c e.octets w.near.station))
+
+  act_alike : (c : Settings) (a : Act) (w : Sessions) (v : Stations) → IsDeliver a → A w v → A (acts c a w) (one.acts c a v)
+  act_alike c (Put packet) w v is h = absurd is
+  act_alike c Deliver w v is h = subst (λ (os : List (List ℕ)). A (delivered c w.back w) (one.delivered c os v)) (sym h.back) (delivered_alike c w v h w.back)
+  act_alike c T1 w v is h = absurd is
+  act_alike c Connect w v is h = absurd is
+  act_alike c Disconnect w v is h = absurd is
+  act_alike c Abandon w v is h = absurd is
+  act_alike c (Lose i) w v is h = absurd is
+  act_alike c (Damage i octets) w v is h = absurd is
+
+turned_alike : (n m : ℕ) (near_down far_down : List (List ℕ)) (w : Sessions) (v : Stations) → Alike n m near_down far_down w v → Alike m n far_down near_down (swapped w) (one.swapped v)
+turned_alike n m near_down far_down w v h = record { near = h.far; far = h.near; out = h.back; back = h.out; begun = h.far_begun; far_begun = h.begun }
+
+module _ (c d : Settings) (n m : ℕ) (near_down far_down : List (List ℕ)) where
+  far_fires_alike : (w : Sessions) (v : Stations) → Alike n m near_down far_down w v → Alike n m near_down far_down (swapped (acts d T1 (swapped w))) (one.swapped (one.acts d T1 (one.swapped v)))
+  far_fires_alike w v h =
+      turned_alike m n far_down near_down (acts d T1 (swapped w)) (one.acts d T1 (one.swapped v))
+      (fires_alike m n far_down near_down d (swapped w) (one.swapped v) (turned_alike n m near_down far_down w v h))
+
+  deliveries_alike : (es : List Event) (w : Sessions) (v : Stations) → AreDeliveries es → Alike n m near_down far_down w v → Alike n m near_down far_down (run c d es w) (one.run c d es v)
+  deliveries_alike [] w v are h = h
+  deliveries_alike (Near a ∷ es) w v are h = deliveries_alike es (acts c a w) (one.acts c a v) are.1 (act_alike n m near_down far_down c a w v are.0 h)
+  deliveries_alike (Far a ∷ es) w v are h =
+      deliveries_alike es (swapped (acts d a (swapped w))) (one.swapped (one.acts d a (one.swapped v))) are.1
+      (turned_alike m n far_down near_down (acts d a (swapped w)) (one.acts d a (one.swapped v))
+      (act_alike m n far_down near_down d a (swapped w) (one.swapped v) are.0 (turned_alike n m near_down far_down w v h)))
+
+-- ---- timer T1 is timely where both are Up
+
+run_append : (c d : Settings) (es fs : List Event) (w : Sessions) → run c d (es ++ fs) w ≡ run c d fs (run c d es w)
+run_append c d [] fs w = refl
+run_append c d (e ∷ es) fs w = run_append c d es fs (happens c d e w)
+
+timely_append : (c d : Settings) (es fs : List Event) (w : Sessions) → AreTimely c d es w → AreTimely c d fs (run c d es w) → AreTimely c d (es ++ fs) w
+timely_append c d [] fs w h g = g
+timely_append c d (e ∷ es) fs w h g = (h.0, timely_append c d es fs (happens c d e w) h.1 g)
+
+timely_delivery : (c d : Settings) (a : Act) (w : Sessions) → IsDeliver a → IsTimely c d a w
+timely_delivery c d (Put packet) w is = absurd is
+timely_delivery c d Deliver w is = tt
+timely_delivery c d T1 w is = absurd is
+timely_delivery c d Connect w is = absurd is
+timely_delivery c d Disconnect w is = absurd is
+timely_delivery c d Abandon w is = absurd is
+timely_delivery c d (Lose i) w is = absurd is
+timely_delivery c d (Damage i octets) w is = absurd is
+
+timely_deliveries : (c d : Settings) (es : List Event) (w : Sessions) → AreDeliveries es → AreTimely c d es w
+timely_deliveries c d [] w are = tt
+timely_deliveries c d (Near a ∷ es) w are = (timely_delivery c d a w are.0, timely_deliveries c d es (acts c a w) are.1)
+timely_deliveries c d (Far a ∷ es) w are = (timely_delivery d c a (swapped w) are.0, timely_deliveries c d es (swapped (acts d a (swapped w))) are.1)
+
+timely_up : (c d : Settings) (w : Sessions) → is_up w.near.station.phase ≡ true → IsTimely c d T1 w
+timely_up c d w up = λ waits. not_both (is_up w.near.station.phase) up (ap is_up waits)
+
+far_stays : (o : Option LinkError) (w v : Sessions) → v.far ≡ w.far → (unless o w v).far ≡ w.far
+far_stays (Some e) w v same = refl
+far_stays None w v same = same
+
+-- ---- the law
+
+module _ (reads : ReadsSpelled) (laws : HealingLaws) where
+  pub sessions_heal : SessionsHeal
+  sessions_heal c d joined begin is events timely no_out no_back near_may far_may es are out_after back_after =
+      let rest = both_settle c d joined reads laws begun.most begun.least v (both_run c d joined reads laws begun.most begun.least es v1 are begun.heals) drained in
+      let heals = both_run c d joined reads laws begun.most begun.least es v1 are begun.heals in
+      let near = alike.begun heals.0.0.sound.joint.near_notes.once in
+      let far = alike.far_begun heals.0.0.sound.joint.far_notes.once in
+      let near_rest : IsAtRest u.near.station = subst IsAtRest alike.near rest.0.rest in
+      let far_rest : IsAtRest u.far.station = subst IsAtRest alike.far rest.1.rest in
+      let near_up = (laws.rest.only_then u.near.station near_rest).0 in
+      let far_up = (laws.rest.only_then u.far.station far_rest).0 in
+      record {
+        near_rest = near_rest;
+        far_rest = far_rest;
+        near_session = near.0;
+        far_session = far.0;
+        there = ap u.far.up (sym far.0) ∙ arrived.near near_rest.idle (inl far_up) ∙ ap u.near.down near.0 ∙ near.1;
+        back = ap u.near.up (sym near.0) ∙ arrived.far far_rest.idle (inl near_up) ∙ ap u.far.down far.0 ∙ far.1;
+      }
+    where
+      w : Sessions
+      w = run c d events begin
+
+      more : List Event
+      more = Near T1 ∷ Far T1 ∷ es
+
+      u : Sessions
+      u = run c d more w
+
+      rests_on : SessionLaws
+      rests_on = record { laws = laws.laws; continues = laws.continues }
+
+      stand : Standing
+      stand = (throughout reads rests_on c d joined begin is events timely).0
+
+      held : Held stand c d w
+      held = (throughout reads rests_on c d joined begin is events timely).1
+
+      near_in : InIt (other c.role) c.longest w.near held.alone.near.station stand.near w.back held.alone.back
+      near_in = in_it held.near_view (other c.role) c.longest w.near held.alone.near.station stand.near stand.far w.back held.alone.back held.near held.back near_may.up
+
+      far_in : InIt (other d.role) d.longest w.far held.alone.far.station stand.far w.out held.alone.out
+      far_in = in_it held.far_view (other d.role) d.longest w.far held.alone.far.station stand.far stand.near w.out held.alone.out held.far held.out far_may.up
+
+      none_out : numbered_on (other d.role) d.longest held.alone.out ≡ []
+      none_out = sym far_in.numbers ∙ ap (λ (entries : List Entry). numbered_on (other d.role) d.longest (octets_of entries)) no_out
+
+      none_back : numbered_on (other c.role) c.longest held.alone.back ≡ []
+      none_back = sym near_in.numbers ∙ ap (λ (entries : List Entry). numbered_on (other c.role) c.longest (octets_of entries)) no_back
+
+      v0 : Stations
+      v0 = emptied held.alone
+
+      sound : Sound c d v0
+      sound =
+          let said = said_from laws c d joined begin is events in
+          record {
+            line = stand.machine;
+            joint = emptied_joint c d held.alone stand.machine held.holds none_out none_back;
+            near_said = subst (HasSaidAll c.window) (sym near_in.station) said.0;
+            far_said = subst (HasSaidAll d.window) (sym far_in.station) said.1;
+          }
+
+      may_near : MayHeal c v0.near
+      may_near = record {
+        up = ap (λ (s : LinkStation). is_up s.phase) near_in.station ∙ near_may.up;
+        free = ap is_busy near_in.station ∙ near_may.free;
+        tries = subst (λ (s : LinkStation). timer_runs s.phase s ≡ true → s.tries < c.retries) (sym near_in.station) near_may.tries;
+      }
+
+      may_far : MayHeal d v0.far
+      may_far = record {
+        up = ap (λ (s : LinkStation). is_up s.phase) far_in.station ∙ far_may.up;
+        free = ap is_busy far_in.station ∙ far_may.free;
+        tries = subst (λ (s : LinkStation). timer_runs s.phase s ≡ true → s.tries < d.retries) (sym far_in.station) far_may.tries;
+      }
+
+      v1 : Stations
+      v1 = one.swapped (one.acts d T1 (one.swapped (one.acts c T1 v0)))
+
+      begun : Begun c d joined reads laws v1
+      begun = fired_both reads laws c d joined v0 sound (record { out = refl; back = refl }) may_near may_far
+
+      v : Stations
+      v = one.run c d es v1
+
+      alike_first : Alike w.near.begun w.far.begun (w.near.down w.near.begun) (w.far.down w.far.begun) w v0
+      alike_first = record {
+        near = near_in.station;
+        far = far_in.station;
+        out = sym (ap octets_of no_out);
+        back = sym (ap octets_of no_back);
+        begun = λ _. (refl, refl);
+        far_begun = λ _. (refl, refl);
+      }
+
+      alike : Alike w.near.begun w.far.begun (w.near.down w.near.begun) (w.far.down w.far.begun) u v
+      alike =
+          let n = w.near.begun in
+          let m = w.far.begun in
+          let one_fired = fires_alike n m (w.near.down n) (w.far.down m) c w v0 alike_first in
+          deliveries_alike c d n m (w.near.down n) (w.far.down m) es _ v1 are (far_fires_alike c d n m (w.near.down n) (w.far.down m) (acts c T1 w) (one.acts c T1 v0) one_fired)
+
+      drained : IsDrained v
+      drained = record { out = alike.out ∙ ap octets_of out_after; back = alike.back ∙ ap octets_of back_after }
+
+      far_after : (acts c T1 w).far ≡ w.far
+      far_after = far_stays (timer_refusal w.near.station) w (after_step c w w.back w.met [] (timer_step c w.near.station)) refl
+
+      timely_more : AreTimely c d more w
+      timely_more = (
+        timely_up c d w near_may.up,
+        (timely_up d c (swapped (acts c T1 w)) (ap (λ (e : SessionEnd). is_up e.station.phase) far_after ∙ far_may.up), timely_deliveries c d es (swapped (acts d T1 (swapped (acts c T1 w)))) are),
+      )
+
+      arrived : IdleHasArrived c d u
+      arrived =
+          subst (IdleHasArrived c d) (run_append c d events more begin)
+          (idle_has_arrived reads rests_on c d joined begin is (events ++ more) (timely_append c d events more begin timely timely_more))

@@ -1,0 +1,140 @@
+-- The worked rows of sessions, by computing: what comes is what the frame is that was spelled.
+use Rattle.std.proofs.Common.{◌≡◌, ℕ, ◌+◌, List, [], ◌∷◌, inl, inr, true, false, Result, Ok, arith, refl, sym, ap, ◌∙◌, subst}
+use Rattle.x25_bits.specs.declared.role.Role.{Role}
+use Rattle.x25_bits.specs.declared.role.Role.TheVariants.{Dte, Dce}
+use Rattle.x25_frame.specs.PlainFrame.{PlainFrame, info, rr, sabm, ua}
+use Rattle.x25_frame.specs.Spelling.{spelling_of}
+use Rattle.x25_frame.specs.Reading.{frame_of}
+use Rattle.x25_frame.specs.laws.ReadingLaw.{ReadsSpelled}
+use Rattle.x25_frame.specs.declared.error.FrameError.{FrameError}
+use Rattle.x25_link.specs.LinkStation.{Settings, is_up, pumped}
+use Rattle.x25_link.specs.MustSend.{other}
+use Rattle.x25_link.specs.Steps.{alone, closed_by, hears}
+use Rattle.x25_line.specs.Stations.{Put, Deliver, T1, Connect, Abandon, Lose, Near, Far}
+use Rattle.x25_line.specs.rows.StationRows.{dte, dce}
+use Rattle.x25_line.specs.laws.StationClaims.{number_in}
+use Rattle.x25_line.specs.Sessions.{Entry, Sessions, after_step, heard, delivered, swapped, acts, happens, run, from_nothing, from_set_up, AreTimely, sabm_in, how_many}
+use Rattle.x25_line.specs.rows.SessionRows.{IsFirst, SetsUpFromNothing, IsSecond, SetsUpAgain, untimely, IsOutOfStep, UntimelyIsOutOfStep}
+
+-- the two stations once octets that read as this have come to the near end
+abbrev taken_as : Settings → Result PlainFrame FrameError → Entry → List Entry → Sessions → Sessions
+taken_as c r e back w =
+    after_step c w back (heard (is_up w.near.station.phase) (number_in r) (record { near = w.near.begun; far = e.session }) w.met) []
+    (closed_by c.window (hears c e.octets r w.near.station.phase (alone w.near.station)))
+
+comes : (c : Settings) (r : Result PlainFrame FrameError) (e : Entry) (back : List Entry) (w : Sessions) → frame_of (other c.role) c.longest e.octets ≡ r → w.back ≡ e ∷ back
+    → acts c Deliver w ≡ taken_as c r e back w
+comes c r e back w reads is = ap (λ (es : List Entry). delivered c es w) is ∙ ap (λ (z : Result PlainFrame FrameError). taken_as c z e back w) reads
+
+-- an entry of a frame that was sent in a session
+abbrev sent : ℕ → Role → PlainFrame → Entry
+sent session from f = record { session = session; octets = spelling_of from f }
+
+near_takes : (f : PlainFrame) (session : ℕ) (back : List Entry) (w : Sessions) → frame_of Dce 128 (spelling_of Dce f) ≡ Ok f → w.back ≡ sent session Dce f ∷ back
+    → happens dte dce (Near Deliver) w ≡ taken_as dte (Ok f) (sent session Dce f) back w
+near_takes f session back w reads is = comes dte (Ok f) (sent session Dce f) back w reads is
+
+far_takes : (f : PlainFrame) (session : ℕ) (out : List Entry) (w : Sessions) → frame_of Dte 128 (spelling_of Dte f) ≡ Ok f → w.out ≡ sent session Dte f ∷ out
+    → happens dte dce (Far Deliver) w ≡ swapped (taken_as dce (Ok f) (sent session Dte f) out (swapped w))
+far_takes f session out w reads is = ap swapped (comes dce (Ok f) (sent session Dte f) out (swapped w) reads is)
+
+abbrev five : PlainFrame
+five = info 0 0 false (5 ∷ [])
+
+abbrev seven : PlainFrame
+seven = info 0 0 false (7 ∷ [])
+
+module _ (reads : ReadsSpelled) where
+  five_reads : (from : Role) → frame_of from 128 (spelling_of from five) ≡ Ok five
+  five_reads from = reads from 128 five _ (record { in_range = (omega arith, omega arith); carries = tt; within = omega arith; spelling = refl })
+
+  seven_reads : (from : Role) → frame_of from 128 (spelling_of from seven) ≡ Ok seven
+  seven_reads from = reads from 128 seven _ (record { in_range = (omega arith, omega arith); carries = tt; within = omega arith; spelling = refl })
+
+  sabm_reads : frame_of Dte 128 (spelling_of Dte (sabm true)) ≡ Ok (sabm true)
+  sabm_reads = reads Dte 128 (sabm true) _ (record { in_range = tt; carries = refl; within = tt; spelling = refl })
+
+  ua_reads : frame_of Dce 128 (spelling_of Dce (ua true)) ≡ Ok (ua true)
+  ua_reads = reads Dce 128 (ua true) _ (record { in_range = tt; carries = refl; within = tt; spelling = refl })
+
+  ready_reads : frame_of Dce 128 (spelling_of Dce (rr false 1 false)) ≡ Ok (rr false 1 false)
+  ready_reads = reads Dce 128 (rr false 1 false) _ (record { in_range = omega arith; carries = refl; within = tt; spelling = refl })
+
+  pub sets_up_from_nothing : SetsUpFromNothing
+  unfolding pumped
+  sets_up_from_nothing =
+      let w = happens dte dce (Near T1) (happens dte dce (Far (Lose 0)) (happens dte dce (Near Connect) from_nothing)) in
+      let v = swapped (taken_as dce (Ok (sabm true)) (sent 0 Dte (sabm true)) [] (swapped w)) in
+      let u = taken_as dte (Ok (ua true)) (sent 1 Dce (ua true)) [] v in
+      let t = happens dte dce (Near (Put (5 ∷ []))) u in
+      let s = swapped (taken_as dce (Ok five) (sent 1 Dte five) [] (swapped t)) in
+      let first = far_takes (sabm true) 0 [] w sabm_reads refl in
+      let second = near_takes (ua true) 1 [] v ua_reads refl in
+      let third = far_takes five 1 [] t (five_reads Dte) refl in (
+        (tt, (tt, ((λ waiting. refl), (tt, (tt, (tt, (tt, tt))))))),
+        subst IsFirst (sym (ap (run dte dce (Near Deliver ∷ Near (Put (5 ∷ [])) ∷ Far Deliver ∷ [])) first ∙ ap (run dte dce (Near (Put (5 ∷ [])) ∷ Far Deliver ∷ [])) second ∙ third))
+            (refl, refl, refl, refl),
+      )
+
+  pub sets_up_again : SetsUpAgain
+  unfolding pumped
+  sets_up_again =
+      let w = happens dte dce (Near Connect) (happens dte dce (Near Abandon) (happens dte dce (Near (Put (5 ∷ []))) from_set_up)) in
+      let v = swapped (taken_as dce (Ok five) (sent 1 Dte five) (sent 1 Dte (sabm true) ∷ []) (swapped w)) in
+      let u = swapped (taken_as dce (Ok (sabm true)) (sent 1 Dte (sabm true)) [] (swapped v)) in
+      let t = taken_as dte (Ok (rr false 1 false)) (sent 1 Dce (rr false 1 false)) (sent 2 Dce (ua true) ∷ []) u in
+      let s = taken_as dte (Ok (ua true)) (sent 2 Dce (ua true)) [] t in
+      let r = happens dte dce (Near (Put (7 ∷ []))) s in
+      let first = far_takes five 1 (sent 1 Dte (sabm true) ∷ []) w (five_reads Dte) refl in
+      let second = far_takes (sabm true) 1 [] v sabm_reads refl in
+      let third = near_takes (rr false 1 false) 1 (sent 2 Dce (ua true) ∷ []) u ready_reads refl in
+      let fourth = near_takes (ua true) 2 [] t ua_reads refl in
+      let fifth = far_takes seven 2 [] r (seven_reads Dte) refl in (
+        (tt, (tt, (tt, (tt, (tt, (tt, (tt, (tt, (tt, tt))))))))),
+        subst IsSecond
+            (sym (ap (run dte dce (Far Deliver ∷ Near Deliver ∷ Near Deliver ∷ Near (Put (7 ∷ [])) ∷ Far Deliver ∷ [])) first
+            ∙ ap (run dte dce (Near Deliver ∷ Near Deliver ∷ Near (Put (7 ∷ [])) ∷ Far Deliver ∷ [])) second
+            ∙ ap (run dte dce (Near Deliver ∷ Near (Put (7 ∷ [])) ∷ Far Deliver ∷ [])) third
+            ∙ ap (run dte dce (Near (Put (7 ∷ [])) ∷ Far Deliver ∷ [])) fourth
+            ∙ fifth))
+            (refl, refl, refl, refl, refl),
+      )
+
+  -- the first SABM is on the line as T1 runs out
+  untimely_by : AreTimely dte dce untimely from_nothing → ⊥
+  unfolding pumped
+  untimely_by timely = absurd (omega (arith, none, some))
+    where
+      none : how_many sabm_in Dte 128 (sent 0 Dte (sabm true) ∷ []) + 0 ≡ 0
+      none = timely.1.0 refl
+
+      some : how_many sabm_in Dte 128 (sent 0 Dte (sabm true) ∷ []) ≡ 1 + 0
+      some = ap (λ (z : Result PlainFrame FrameError). sabm_in z + 0) sabm_reads
+
+  pub untimely_is_out_of_step : UntimelyIsOutOfStep
+  unfolding pumped
+  untimely_is_out_of_step =
+      let w = happens dte dce (Near T1) (happens dte dce (Near Connect) from_nothing) in
+      let v = swapped (taken_as dce (Ok (sabm true)) (sent 0 Dte (sabm true)) (sent 0 Dte (sabm true) ∷ []) (swapped w)) in
+      let u = taken_as dte (Ok (ua true)) (sent 1 Dce (ua true)) [] v in
+      let t = happens dte dce (Far (Put (5 ∷ []))) u in
+      let s = swapped (taken_as dce (Ok (sabm true)) (sent 0 Dte (sabm true)) [] (swapped t)) in
+      let r = taken_as dte (Ok five) (sent 1 Dce five) (sent 2 Dce (ua true) ∷ []) s in
+      let q = taken_as dte (Ok (ua true)) (sent 2 Dce (ua true)) [] r in
+      let p = happens dte dce (Far (Put (7 ∷ []))) q in
+      let first = far_takes (sabm true) 0 (sent 0 Dte (sabm true) ∷ []) w sabm_reads refl in
+      let second = near_takes (ua true) 1 [] v ua_reads refl in
+      let third = far_takes (sabm true) 0 [] t sabm_reads refl in
+      let fourth = near_takes five 1 (sent 2 Dce (ua true) ∷ []) s (five_reads Dce) refl in
+      let fifth = near_takes (ua true) 2 [] r ua_reads refl in
+      let sixth = near_takes seven 2 [] p (seven_reads Dce) refl in (
+        untimely_by,
+        subst IsOutOfStep
+            (sym (ap (run dte dce (Near Deliver ∷ Far (Put (5 ∷ [])) ∷ Far Deliver ∷ Near Deliver ∷ Near Deliver ∷ Far (Put (7 ∷ [])) ∷ Near Deliver ∷ [])) first
+            ∙ ap (run dte dce (Far (Put (5 ∷ [])) ∷ Far Deliver ∷ Near Deliver ∷ Near Deliver ∷ Far (Put (7 ∷ [])) ∷ Near Deliver ∷ [])) second
+            ∙ ap (run dte dce (Near Deliver ∷ Near Deliver ∷ Far (Put (7 ∷ [])) ∷ Near Deliver ∷ [])) third
+            ∙ ap (run dte dce (Near Deliver ∷ Far (Put (7 ∷ [])) ∷ Near Deliver ∷ [])) fourth
+            ∙ ap (run dte dce (Far (Put (7 ∷ [])) ∷ Near Deliver ∷ [])) fifth
+            ∙ sixth))
+            (record { near = refl; far = refl; met = refl; up = refl; out = λ k. elim k.0 [ inl same ↦ absurd (omega (arith, same.1)) | inr less ↦ absurd (omega (arith, less.0)) ] }),
+      )

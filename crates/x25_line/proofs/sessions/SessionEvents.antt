@@ -1,0 +1,276 @@
+-- What one event does to the sessions of two link stations, by cases of the event.
+use Rattle.std.proofs.Common.{◌≡◌, ◌<◌, ◌⊎◌, ℕ, suc, List, [], ◌∷◌, length, map, inl, inr, Bool, true, false, if◌then◌else◌, Option, Some, None, Ok, Err, refl, sym, ap, ◌∙◌, subst, arith, append-nil}
+use Rattle.std.specs.Prelude.{nat_le, option_to_list}
+use Rattle.x25_frame.specs.PlainFrame.{PlainFrame, info, rr, rnr, rej, sabm, disc, ua, dm, frmr}
+use Rattle.x25_frame.specs.laws.ReadingLaw.{ReadsSpelled}
+use Rattle.x25_link.specs.declared.error.LinkError.{LinkError}
+use Rattle.x25_link.specs.declared.phase.Notes.{Notes}
+use Rattle.x25_link.specs.declared.phase.Reason.{Reason}
+use Rattle.x25_link.specs.declared.phase.Reason.TheVariants.{FrmrSent}
+use Rattle.x25_link.specs.laws.NoteLaw.{Tells, HandsUp, TakeHandsUp}
+use Rattle.x25_link.specs.LinkStation.{Settings, LinkStation, is_up}
+use Rattle.x25_link.specs.MustSend.{Step, other}
+use Rattle.x25_link.specs.Steps.{take_step, put_step, put_refusal, timer_step, timer_refusal, connect_step, connect_refusal, disconnect_step, disconnect_refusal, abandon_step}
+use Rattle.x25_link.specs.WindowMachine.{Window, Input}
+use Rattle.x25_link.specs.laws.WindowLaw.{window_of, brought_by, ending_of, Follows}
+use Rattle.x25_line.specs.Stations.{Act, Put, Deliver, T1, Connect, Disconnect, Abandon, Lose, Damage, Near, Far, is_visible}
+use Rattle.x25_line.specs.laws.StationClaims.{AreJoined, number_in}
+use Rattle.x25_line.specs.Sessions.{Entry, SessionEnd, Meeting, Sessions, turned, swapped, begun_by, after_step, unless, heard, delivered, replaced, acts, run}
+use Rattle.x25_line.specs.SessionNumbers.{Standing}
+use Rattle.x25_line.specs.laws.SessionClaims.{Throughout, AllOf}
+use Rattle.x25_line.specs.SessionEvents.{NextBegins, GoesOn, HandsInSession, EachEventHandsInSession, latest, BeginsAfresh, MeetsNone, MeetsOne, EachEventMeetsLatest}
+use Rattle.x25_line.proofs.StationSteps.{not_both}
+use Rattle.x25_line.proofs.StationEvents.{timer_packet, timer_up}
+use Rattle.x25_line.proofs.sessions.SessionLines.{Read, none_is_some}
+use Rattle.x25_line.proofs.sessions.SessionHeld.{Held, extended_same, extended_other}
+use Rattle.x25_line.proofs.sessions.SessionSteps.{end_after, nothing_handed}
+use Rattle.x25_line.proofs.sessions.SessionUp.{follows_no_packet}
+use Rattle.x25_line.proofs.sessions.SessionActs.{in_session}
+use Rattle.x25_line.proofs.sessions.SessionTakes.{heard_out, read_of}
+use Rattle.x25_line.proofs.sessions.SessionRuns.{SessionLaws, held_swapped, throughout}
+use Rattle.x25_line.proofs.sessions.SessionLatest.{hears_latest}
+
+-- ---- a step
+
+-- the end after a step
+abbrev end_by : SessionEnd → List (List ℕ) → Step → SessionEnd
+end_by e down step = end_after e (begun_by step.notes.up e.begun) down step
+
+stays : (e : SessionEnd) → GoesOn [] [] e e
+stays e = record { begun = refl; down = sym (append-nil (e.down e.begun)); up = sym (append-nil (e.up e.begun)); other_down = λ n never. refl; other_up = λ n never. refl }
+
+-- no LinkUp is noted
+step_goes : (e : SessionEnd) (down : List (List ℕ)) (step : Step) → step.notes.up ≡ false → GoesOn down (option_to_list step.packet) e (end_by e down step)
+step_goes e down step low =
+    subst (λ (b : Bool). GoesOn down (option_to_list step.packet) e (end_after e (begun_by b e.begun) down step)) (sym low)
+    (record {
+      begun = refl;
+      down = extended_same e.down e.begun down;
+      up = extended_same e.up e.begun (option_to_list step.packet);
+      other_down = λ n never. extended_other e.down e.begun n down never;
+      other_up = λ n never. extended_other e.up e.begun n (option_to_list step.packet) never;
+    })
+
+-- nor is anything handed up
+quiet_goes : (e : SessionEnd) (step : Step) → step.packet ≡ None → step.notes.up ≡ false → GoesOn [] [] e (end_by e [] step)
+quiet_goes e step none low = subst (λ (o : Option (List ℕ)). GoesOn [] (option_to_list o) e (end_by e [] step)) none (step_goes e [] step low)
+
+step_begins : (e : SessionEnd) (step : Step) → step.packet ≡ None → step.notes.up ≡ true → NextBegins e (end_by e [] step)
+step_begins e step none high =
+    let same = nothing_handed e (suc e.begun) step none (omega arith) in
+    subst (λ (b : Bool). NextBegins e (end_after e (begun_by b e.begun) [] step)) (sym high) (record { begun = refl; down = same.down; up = same.up })
+
+-- as LinkUp is noted nothing is handed up
+begins_empty : (s : LinkStation) (step : Step) → HandsUp s step → step.notes.up ≡ true → step.packet ≡ None
+begins_empty s step h high = go step.packet refl
+  where
+    go : (o : Option (List ℕ)) → step.packet ≡ o → step.packet ≡ None
+    go None is = is
+    go (Some packet) is = not_both step.notes.up high (ap (λ (n : Notes). n.up) (h.quiet packet is))
+
+-- nor outside of Up
+out_empty : (s : LinkStation) (step : Step) → HandsUp s step → is_up s.phase ≡ false → step.packet ≡ None
+out_empty s step h off = go step.packet refl
+  where
+    go : (o : Option (List ℕ)) → step.packet ≡ o → step.packet ≡ None
+    go None is = is
+    go (Some packet) is = not_both (is_up s.phase) (ap is_up (h.up packet is)) off
+
+-- ---- what one event hands down and up
+
+-- the near end's lists go on, or the next session begins, and the far end stays as it was
+abbrev Hands : Act → Sessions → Sessions → Type 0
+Hands act w v = HandsInSession act w.near v.near × (v.far ≡ w.far)
+
+abbrev HandsNothing : Sessions → Sessions → Type 0
+HandsNothing w v = GoesOn [] [] w.near v.near × (v.far ≡ w.far)
+
+nothing_unless : (o : Option LinkError) (w v : Sessions) → HandsNothing w v → HandsNothing w (unless o w v)
+nothing_unless (Some e) w v h = (stays w.near, refl)
+nothing_unless None w v h = h
+
+nothing_if : (b : Bool) (w v : Sessions) → HandsNothing w v → HandsNothing w (if b then v else w)
+nothing_if true w v h = h
+nothing_if false w v h = (stays w.near, refl)
+
+put_hands : (o : Option LinkError) (c : Settings) (packet : List ℕ) (w : Sessions) → Hands (Put packet) w (unless o w (after_step c w w.back w.met (packet ∷ []) (put_step c packet w.near.station)))
+put_hands (Some e) c packet w = ((false, stays w.near), refl)
+put_hands None c packet w = ((true, step_goes w.near (packet ∷ []) (put_step c packet w.near.station) refl), refl)
+
+put_by : (b : Bool) (packet : List ℕ) (w v : Sessions) → Hands (Put packet) w v → Hands (Put packet) w (if b then v else w)
+put_by true packet w v h = h
+put_by false packet w v h = ((false, stays w.near), refl)
+
+deliver_hands : TakeHandsUp → (c : Settings) (es : List Entry) (w : Sessions) → Hands Deliver w (delivered c es w)
+deliver_hands hands_up c [] w = (inr (None, stays w.near), refl)
+deliver_hands hands_up c (e ∷ es) w = (by (take_step c e.octets w.near.station) (hands_up c e.octets w.near.station), refl)
+  where
+    by : (step : Step) → HandsUp w.near.station step → HandsInSession Deliver w.near (end_by w.near [] step)
+    by step h = go step.notes.up refl
+      where
+        go : (b : Bool) → step.notes.up ≡ b → HandsInSession Deliver w.near (end_by w.near [] step)
+        go true high = inl (step_begins w.near step (begins_empty w.near.station step h high) high)
+        go false low = inr (step.packet, step_goes w.near [] step low)
+
+acts_hands : TakeHandsUp → (c : Settings) (a : Act) (w : Sessions) → Hands a w (acts c a w)
+acts_hands hands_up c (Put packet) w =
+    put_by (nat_le (length packet) c.longest) packet w (unless (put_refusal w.near.station) w (after_step c w w.back w.met (packet ∷ []) (put_step c packet w.near.station)))
+    (put_hands (put_refusal w.near.station) c packet w)
+acts_hands hands_up c Deliver w = deliver_hands hands_up c w.back w
+acts_hands hands_up c T1 w =
+    let step = timer_step c w.near.station in
+    nothing_unless (timer_refusal w.near.station) w (after_step c w w.back w.met [] step) (quiet_goes w.near step (timer_packet c w.near.station) (timer_up c w.near.station), refl)
+acts_hands hands_up c Connect w =
+    let step = connect_step c w.near.station in
+    nothing_unless (connect_refusal w.near.station.phase) w (after_step c w w.back w.met [] step) (quiet_goes w.near step refl refl, refl)
+acts_hands hands_up c Disconnect w =
+    let step = disconnect_step c w.near.station in
+    nothing_unless (disconnect_refusal w.near.station.phase) w (after_step c w w.back w.met [] step) (quiet_goes w.near step refl refl, refl)
+acts_hands hands_up c Abandon w =
+    let step = abandon_step c w.near.station in
+    nothing_if (is_up w.near.station.phase) w (after_step c w w.back w.met [] step) (quiet_goes w.near step refl refl, refl)
+acts_hands hands_up c (Lose i) w = (stays w.near, refl)
+acts_hands hands_up c (Damage i octets) w = nothing_if (is_visible octets) w (record w { back = replaced w.back i octets }) (stays w.near, refl)
+
+pub each_hands_in_session : TakeHandsUp → EachEventHandsInSession
+each_hands_in_session hands_up c d (Near act) w = acts_hands hands_up c act w
+each_hands_in_session hands_up c d (Far act) w = acts_hands hands_up d act (swapped w)
+
+-- ---- no LinkUp is noted where a frame with a number comes
+
+ends_quiet : (s : LinkStation) (step : Step) → Tells s step → is_up step.side.near.phase ≡ false → step.notes.up ≡ false
+ends_quiet s step tells off = go step.notes.up refl
+  where
+    go : (b : Bool) → step.notes.up ≡ b → step.notes.up ≡ false
+    go true high = not_both (is_up step.side.near.phase) (ap (λ (t : LinkStation). is_up t.phase) (tells.fresh_up high)) off
+    go false low = low
+
+valid_quiet : (b : Bool) (k : ℕ) (input : Input) (s : LinkStation) (step : Step) → Tells s step → (let o : Option Reason = if b then None else Some FrmrSent in Follows o k input s step) → step.notes.up ≡ false
+valid_quiet true k input s step tells stay = ap (λ (n : Notes). n.up) stay.quiet
+valid_quiet false k input s step tells end = ends_quiet s step tells (ap is_up end.phase)
+
+number_quiet : (r : Read) (f : PlainFrame) (k : ℕ) (v : Window) (s : LinkStation) (step : Step) → number_in r ≡ Some f → Tells s step → Follows (ending_of r v) k (brought_by r) s step → step.notes.up ≡ false
+number_quiet (Ok (info ns nr p x)) f k v s step some tells h = valid_quiet _ k _ s step tells h
+number_quiet (Ok (rr command nr pf)) f k v s step some tells h = valid_quiet _ k _ s step tells h
+number_quiet (Ok (rnr command nr pf)) f k v s step some tells h = valid_quiet _ k _ s step tells h
+number_quiet (Ok (rej command nr pf)) f k v s step some tells h = valid_quiet _ k _ s step tells h
+number_quiet (Ok (sabm p)) f k v s step some tells h = none_is_some f some
+number_quiet (Ok (disc p)) f k v s step some tells h = none_is_some f some
+number_quiet (Ok (ua g)) f k v s step some tells h = none_is_some f some
+number_quiet (Ok (dm g)) f k v s step some tells h = none_is_some f some
+number_quiet (Ok (frmr g why)) f k v s step some tells h = none_is_some f some
+number_quiet (Err x) f k v s step some tells h = none_is_some f some
+
+-- ---- which sessions meet
+
+met_unless : (o : Option LinkError) (w v : Sessions) → v.met ≡ w.met → (unless o w v).met ≡ w.met
+met_unless (Some e) w v same = refl
+met_unless None w v same = same
+
+met_if : (b : Bool) (w v : Sessions) → v.met ≡ w.met → (if b then v else w).met ≡ w.met
+met_if true w v same = same
+met_if false w v same = refl
+
+-- the session that begins has no lists
+afresh : (old new : SessionEnd) → ((n : ℕ) → old.begun < n → (old.down n ≡ []) × (old.up n ≡ [])) → NextBegins old new → BeginsAfresh old new
+afresh old new later next =
+    let none = later (suc old.begun) (omega arith) in
+    record { begins = next; down = ap new.down next.begun ∙ next.down (suc old.begun) ∙ none.0; up = ap new.up next.begun ∙ next.up (suc old.begun) ∙ none.1 }
+
+-- nothing is handed up
+step_meets_none : {stand : Standing} (c d : Settings) (w : Sessions) → Held stand c d w → (step : Step) (now : List Meeting) → step.packet ≡ None → now ≡ w.met → MeetsNone w.near (end_by w.near [] step) w.met now
+step_meets_none {stand} c d w h step now none same = record { met = same; nothing_up = by step.notes.up refl }
+  where
+    by : (b : Bool) → step.notes.up ≡ b → BeginsAfresh w.near (end_by w.near [] step) ⊎ GoesOn [] [] w.near (end_by w.near [] step)
+    by true high = inl (afresh w.near (end_by w.near [] step) h.near_lists.later (step_begins w.near step none high))
+    by false low = inr (quiet_goes w.near step none low)
+
+module _ (rests : SessionLaws) (hands_up : TakeHandsUp) where
+  deliver_meets : {stand : Standing} (c d : Settings) (w : Sessions) → Held stand c d w → (es : List Entry) → w.back ≡ es
+      → MeetsOne Deliver (latest w) w.near (delivered c es w).near w.met (delivered c es w).met
+  deliver_meets {stand} c d w h [] is = inr (record { met = refl; nothing_up = inr (stays w.near) })
+  deliver_meets {stand} c d w h (e ∷ es) is = by (is_up w.near.station.phase) refl
+    where
+      step : Step
+      step = take_step c e.octets w.near.station
+
+      met : List Meeting
+      met = (delivered c (e ∷ es) w).met
+
+      pair : Meeting
+      pair = record { near = w.near.begun; far = e.session }
+
+      follows : is_up w.near.station.phase ≡ true → Follows (ending_of (read_of c e) (window_of c.window w.near.station)) c.window (brought_by (read_of c e)) w.near.station step
+      follows up = rests.laws.window.take c e.octets w.near.station (in_session c d w h up).running (read_of c e) refl
+
+      -- the front was sent in the far end's latest session, where it carries a number
+      front_latest : is_up w.near.station.phase ≡ true → (number_in (read_of c e) ≡ None) ⊎ (e.session ≡ w.far.begun)
+      front_latest up = (subst (λ (xs : List Entry). AllOf (other c.role) c.longest w.far.begun xs) is (hears_latest c d w h up)).0
+
+      heard_up : is_up w.near.station.phase ≡ true → (o : Option PlainFrame) → number_in (read_of c e) ≡ o → met ≡ heard true o pair w.met
+      heard_up up o number =
+          ap (λ (b : Bool). heard b (number_in (read_of c e)) pair w.met) up ∙ ap (λ (x : Option PlainFrame). heard true x pair w.met) number
+
+      goes : is_up w.near.station.phase ≡ true → (o : Option PlainFrame) → number_in (read_of c e) ≡ o → (number_in (read_of c e) ≡ None) ⊎ (e.session ≡ w.far.begun)
+          → MeetsOne Deliver (latest w) w.near (end_by w.near [] step) w.met met
+      goes up None none of =
+          inr (step_meets_none c d w h step met (follows_no_packet (ending_of (read_of c e) (window_of c.window w.near.station)) c.window (read_of c e) w.near.station step none (follows up)) (heard_up up None none))
+      goes up (Some f) some (inl none) = none_is_some f (sym none ∙ some)
+      goes up (Some f) some (inr session) =
+          inl (record {
+            met = heard_up up (Some f) some ∙ ap (λ (n : ℕ). let m : Meeting = record { near = w.near.begun; far = n } in m ∷ w.met) session;
+            packet = step.packet;
+            goes_on = step_goes w.near [] step
+                (number_quiet (read_of c e) f c.window (window_of c.window w.near.station) w.near.station step some (rests.laws.take_tells c e.octets w.near.station) (follows up));
+          })
+
+      by : (b : Bool) → is_up w.near.station.phase ≡ b → MeetsOne Deliver (latest w) w.near (end_by w.near [] step) w.met met
+      by true up = goes up (number_in (read_of c e)) refl (front_latest up)
+      by false off =
+          inr (step_meets_none c d w h step met (out_empty w.near.station step (hands_up c e.octets w.near.station) off) (heard_out (is_up w.near.station.phase) (number_in (read_of c e)) pair w.met off))
+
+  acts_meet : {stand : Standing} (c d : Settings) (a : Act) (w : Sessions) → Held stand c d w → MeetsOne a (latest w) w.near (acts c a w).near w.met (acts c a w).met
+  acts_meet {stand} c d (Put packet) w h =
+      let done = after_step c w w.back w.met (packet ∷ []) (put_step c packet w.near.station) in
+      met_if (nat_le (length packet) c.longest) w (unless (put_refusal w.near.station) w done) (met_unless (put_refusal w.near.station) w done refl)
+  acts_meet {stand} c d Deliver w h = deliver_meets c d w h w.back refl
+  acts_meet {stand} c d T1 w h = met_unless (timer_refusal w.near.station) w (after_step c w w.back w.met [] (timer_step c w.near.station)) refl
+  acts_meet {stand} c d Connect w h = met_unless (connect_refusal w.near.station.phase) w (after_step c w w.back w.met [] (connect_step c w.near.station)) refl
+  acts_meet {stand} c d Disconnect w h = met_unless (disconnect_refusal w.near.station.phase) w (after_step c w w.back w.met [] (disconnect_step c w.near.station)) refl
+  acts_meet {stand} c d Abandon w h = met_if (is_up w.near.station.phase) w (after_step c w w.back w.met [] (abandon_step c w.near.station)) refl
+  acts_meet {stand} c d (Lose i) w h = refl
+  acts_meet {stand} c d (Damage i octets) w h = met_if (is_visible octets) w (record w { back = replaced w.back i octets }) refl
+
+  -- ---- the other end
+
+  turned_twice : (met : List Meeting) → map turned (map turned met) ≡ met
+  turned_twice [] = refl
+  turned_twice (m ∷ ms) = ap (λ (xs : List Meeting). m ∷ xs) (turned_twice ms)
+
+  turned_back : (now before : List Meeting) → now ≡ map turned before → map turned now ≡ before
+  turned_back now before same = ap (map turned) same ∙ turned_twice before
+
+  meets_turned : (a : Act) (pair : Meeting) (old new : SessionEnd) (before now : List Meeting) → MeetsOne a pair old new (map turned before) now
+      → MeetsOne a (turned pair) old new before (map turned now)
+  meets_turned (Put packet) pair old new before now h = turned_back now before h
+  meets_turned Deliver pair old new before now h = elim h [
+    | inl m ↦ inl (record { met = ap (map turned) m.met ∙ ap (λ (xs : List Meeting). turned pair ∷ xs) (turned_twice before); packet = m.packet; goes_on = m.goes_on })
+    | inr m ↦ inr (record { met = turned_back now before m.met; nothing_up = m.nothing_up })
+  ]
+  meets_turned T1 pair old new before now h = turned_back now before h
+  meets_turned Connect pair old new before now h = turned_back now before h
+  meets_turned Disconnect pair old new before now h = turned_back now before h
+  meets_turned Abandon pair old new before now h = turned_back now before h
+  meets_turned (Lose i) pair old new before now h = turned_back now before h
+  meets_turned (Damage i octets) pair old new before now h = turned_back now before h
+
+  -- ---- the claim
+
+  event_meets : {stand : Standing} (c d : Settings) → AreJoined c d → (w : Sessions) → Held stand c d w → EachEventMeetsLatest c d w
+  event_meets {stand} c d joined w h (Near act) = acts_meet c d act w h
+  event_meets {stand} c d joined w h (Far act) =
+      let v = acts d act (swapped w) in
+      meets_turned act (latest (swapped w)) w.far v.near w.met v.met (acts_meet d c act (swapped w) (held_swapped c d joined w h))
+
+  pub each_event_meets_latest : ReadsSpelled → Throughout EachEventMeetsLatest
+  each_event_meets_latest reads c d joined begin is events timely = event_meets c d joined (run c d events begin) (throughout reads rests c d joined begin is events timely).1

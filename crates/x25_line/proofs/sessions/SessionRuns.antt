@@ -1,0 +1,395 @@
+-- Each event keeps what holds of two stations over sessions, so each run does, and what holds says the claims.
+use Rattle.std.proofs.Common.{◌≡◌, ℕ, List, [], ◌∷◌, ◌++◌, ◌⊎◌, inl, inr, length, map, drop, remove, Bool, true, false, not, if◌then◌else◌, Option, Some, None, refl, sym, ap, ◌∙◌, subst, arith}
+use Rattle.std.specs.Prelude.{nat_le}
+use Rattle.std.proofs.lemmas.Bool.{leb-true}
+use Rattle.x25_bits.specs.declared.role.Role.{Role}
+use Rattle.x25_frame.specs.PlainFrame.{PlainFrame}
+use Rattle.x25_frame.specs.Spelling.{spelling_of}
+use Rattle.x25_frame.specs.laws.ReadingLaw.{ReadsSpelled}
+use Rattle.x25_link.specs.declared.error.LinkError.{LinkError}
+use Rattle.x25_link.specs.declared.error.LinkError.TheVariants as error
+use Rattle.x25_link.specs.declared.phase.Phase.{Phase}
+use Rattle.x25_link.specs.declared.phase.Phase.TheVariants.{Down, Waiting, Up, Closed}
+use Rattle.x25_link.specs.laws.NoteLaw.{TakeContinues}
+use Rattle.x25_link.specs.LinkStation.{Settings, LinkStation, is_up}
+use Rattle.x25_link.specs.MustSend.{Step, other}
+use Rattle.x25_link.specs.Steps.{take_step, put_step, put_refusal, timer_step, timer_refusal, timer_runs, connect_step, connect_refusal, disconnect_step, disconnect_refusal, abandon_step}
+use Rattle.x25_line.specs.Stations.{Stations, Act, Put, Deliver, T1, Connect, Disconnect, Abandon, Lose, Damage, Event, Near, Far, is_visible, start}
+use Rattle.x25_line.specs.Stations as one
+use Rattle.x25_line.specs.laws.StationClaims.{AreJoined, AreWhole, number_in}
+use Rattle.x25_line.specs.Sessions.{Entry, SessionEnd, Meeting, Sessions, turned, swapped, begun_by, sent_in, after_step, unless, heard, delivered, replaced, acts, happens, run, from_nothing, from_set_up, IsTimely, IsTimelyAt, AreTimely}
+use Rattle.x25_line.specs.SessionNumbers.{Standing, turned as other_way, is_set_up, front_sets_up, anew, place_to_hear, gone_at, standing_after, same_two, standing_acts, standing_happens, standing_run, standing_at, StandsWith, EachUpStandsWith, StandingGoesAlong}
+use Rattle.x25_line.specs.laws.SessionClaims.{Throughout, octets_of, AllOf, AllMet, SomeMet, IsAbove, InStep, IsInOrder, MeetInStep, MetAreInOrder, UnmetHandNothingUp, OnlyBegunHaveLists, IsSession, Stands, EachUpStands, NoSessionSendsFrmr, AllSessionsSendWhole}
+use Rattle.x25_line.proofs.StationSteps.{Holds}
+use Rattle.x25_line.proofs.StationAway.{connects_from}
+use Rattle.x25_line.proofs.StationRuns.{Laws, joined_swapped, joint_swapped, start_machine}
+use Rattle.x25_line.proofs.StationClaimLemmas.{is_behind, holds_order, holds_lists, holds_window, holds_whole}
+use Rattle.x25_line.proofs.sessions.SessionLines.{octets_sent, removes, replaces}
+use Rattle.x25_line.proofs.sessions.SessionHeld.{Live, Gone, OnLine, IsPaired, IsBegun, Held, counted_view, stays_on, up_begun}
+use Rattle.x25_line.proofs.sessions.SessionSteps.{went_by}
+use Rattle.x25_line.proofs.sessions.SessionChanges.{heard_removes, heard_replaces, change_held}
+use Rattle.x25_line.proofs.sessions.SessionActs.{in_session, put_held, timer_up_held, abandon_held, connect_held, timer_waiting_held, disconnect_held}
+use Rattle.x25_line.proofs.sessions.SessionTakes.{read_of, take_held}
+
+-- with what stands once `w` is `v`, by the definition
+abbrev HeldNow : Standing → Settings → Settings → Option ℕ → Sessions → Sessions → Type 0
+HeldNow stand c d gone w v = Held (same_two c gone w v stand) c d v
+
+-- what a step puts
+put_is : (from : Role) (session : ℕ) (fs : List PlainFrame) (out : List Entry) → octets_of (drop (length out) (out ++ sent_in session from fs)) ≡ map (spelling_of from) fs
+put_is from session fs [] = octets_sent session from fs
+put_is from session fs (e ∷ out) = put_is from session fs out
+
+none_put_on : (out : List Entry) → octets_of (drop (length out) out) ≡ []
+none_put_on [] = refl
+none_put_on (e ∷ out) = none_put_on out
+
+step_now : (stand : Standing) (c d : Settings) (w : Sessions) (es : List Entry) (met : List Meeting) (down : List (List ℕ)) (step : Step) (gone : Option ℕ) → Held (went_by c step gone stand) c d (after_step c w es met down step)
+    → HeldNow stand c d gone w (after_step c w es met down step)
+step_now stand c d w es met down step gone h =
+    subst (λ (put : List (List ℕ)). Held (standing_after c step.side.near put gone stand) c d (after_step c w es met down step)) (sym (put_is c.role (begun_by step.notes.up w.near.begun) step.side.out w.out)) h
+
+-- nothing is put
+still_now : (stand : Standing) (c d : Settings) (w v : Sessions) (gone : Option ℕ) → v.out ≡ w.out → Held (standing_after c v.near.station [] gone stand) c d v → HeldNow stand c d gone w v
+still_now stand c d w v gone same h =
+    subst (λ (put : List (List ℕ)). Held (standing_after c v.near.station put gone stand) c d v) (sym (ap (λ (out : List Entry). octets_of (drop (length w.out) out)) same ∙ none_put_on w.out)) h
+
+-- what is refused changes nothing
+stays_now : {stand : Standing} (c d : Settings) (w : Sessions) → Held stand c d w → HeldNow stand c d None w w
+stays_now {stand} c d w h =
+    still_now stand c d w w None refl (subst (λ (z : Standing). Held z c d w)
+    (stays_on c w.near.station [] stand (counted_view h.near_view c w.near h.alone.near.station stand.near stand.machine.near h.near h.holds.near) refl) h)
+
+now_unless : {stand : Standing} (c d : Settings) (o : Option LinkError) (w v : Sessions) → Held stand c d w → (o ≡ None → HeldNow stand c d None w v) → HeldNow stand c d None w (unless o w v)
+now_unless {stand} c d (Some e) w v h g = stays_now c d w h
+now_unless {stand} c d None w v h g = g refl
+
+now_if : {stand : Standing} (c d : Settings) (b : Bool) (w v : Sessions) → Held stand c d w → (b ≡ true → HeldNow stand c d None w v) → HeldNow stand c d None w (if b then v else w)
+now_if {stand} c d true w v h g = g refl
+now_if {stand} c d false w v h g = stays_now c d w h
+
+-- a packet is accepted in Up alone
+put_accepted : (s : LinkStation) → put_refusal s ≡ None → is_up s.phase ≡ true
+put_accepted s accepted = go (is_up s.phase) _ accepted
+  where
+    go : (b : Bool) (o : Option LinkError) → (let z : Option LinkError = if not b then Some error.NotUp else o in z) ≡ None → b ≡ true
+    go true o e = refl
+    go false o e = absurd (never e)
+      where
+        never : Some error.NotUp ≡ None → ⊥
+        never k = cc
+
+-- the laws of a station that a run rests on
+pub record SessionLaws : Type 0 where
+  pub laws : Laws
+  pub continues : TakeContinues
+
+module _ (c d : Settings) (joined : AreJoined c d) (reads : ReadsSpelled) (rests_on : SessionLaws) where
+  -- what stands once the front is taken off the line
+  abbrev delivered_by : Sessions → List Entry → Standing → Standing
+  delivered_by w es stand =
+      if front_sets_up c w.near.station.phase es then anew c d w else same_two c (place_to_hear w.near.station.phase (other c.role) c.longest (octets_of es) 0) w (delivered c es w) stand
+
+  none_heard : (p : Phase) → place_to_hear p (other c.role) c.longest [] 0 ≡ None
+  none_heard Down = refl
+  none_heard Waiting = refl
+  none_heard Up = refl
+  none_heard Closed = refl
+
+  deliver_held : {stand : Standing} (w : Sessions) → Held stand c d w → (es : List Entry) → w.back ≡ es → Held (delivered_by w es stand) c d (delivered c es w)
+  deliver_held {stand} w h [] is = subst (λ (gone : Option ℕ). HeldNow stand c d gone w w) (sym (none_heard w.near.station.phase)) (stays_now c d w h)
+  deliver_held {stand} w h (e ∷ es) is = by (is_set_up w.near.station.phase (read_of c e)) (take_held c d joined reads rests_on.laws rests_on.continues w h e es is)
+    where
+      v : Sessions
+      v = delivered c (e ∷ es) w
+
+      gone : Option ℕ
+      gone = place_to_hear w.near.station.phase (other c.role) c.longest (octets_of (e ∷ es)) 0
+
+      by : (b : Bool) → Held (if b then anew c d w else went_by c (take_step c e.octets w.near.station) gone stand) c d v → Held (if b then anew c d w else same_two c gone w v stand) c d v
+      by true k = k
+      by false k =
+          step_now stand c d w es (heard (is_up w.near.station.phase) (number_in (read_of c e)) (record { near = w.near.begun; far = e.session }) w.met) [] (take_step c e.octets w.near.station) gone k
+
+  timer_held : {stand : Standing} (w : Sessions) → Held stand c d w → IsTimely c d T1 w
+      → HeldNow stand c d None w (unless (timer_refusal w.near.station) w (after_step c w w.back w.met [] (timer_step c w.near.station)))
+  timer_held {stand} w h timely = by w.near.station.phase refl
+    where
+      done : Sessions
+      done = after_step c w w.back w.met [] (timer_step c w.near.station)
+
+      by : (p : Phase) → w.near.station.phase ≡ p → HeldNow stand c d None w (unless (timer_refusal w.near.station) w (after_step c w w.back w.met [] (timer_step c w.near.station)))
+      by Down is = rw (ap (λ (p : Phase). timer_runs p w.near.station) is) (stays_now c d w h)
+      by Waiting is =
+          now_unless c d (timer_refusal w.near.station) w done h
+          (λ _. step_now stand c d w w.back w.met [] (timer_step c w.near.station) None (timer_waiting_held c d joined reads rests_on.laws w h is (timely is)))
+      by Up is =
+          now_unless c d (timer_refusal w.near.station) w done h
+          (λ _. step_now stand c d w w.back w.met [] (timer_step c w.near.station) None (timer_up_held c d joined reads rests_on.laws w h (ap is_up is)))
+      by Closed is = rw (ap (λ (p : Phase). timer_runs p w.near.station) is) (stays_now c d w h)
+
+  acts_held : {stand : Standing} (a : Act) (w : Sessions) → IsTimely c d a w → Held stand c d w → Held (standing_acts c d a w stand) c d (acts c a w)
+  acts_held {stand} (Put packet) w timely h =
+      let step = put_step c packet w.near.station in
+      let done = after_step c w w.back w.met (packet ∷ []) step in
+      now_if c d (nat_le (length packet) c.longest) w (unless (put_refusal w.near.station) w done) h
+      (λ short. now_unless c d (put_refusal w.near.station) w done h
+      (λ accepted. step_now stand c d w w.back w.met (packet ∷ []) step None (put_held c d joined reads rests_on.laws w h (put_accepted w.near.station accepted) packet (leb-true _ _ short))))
+  acts_held {stand} Deliver w timely h = deliver_held w h w.back refl
+  acts_held {stand} T1 w timely h = timer_held w h timely
+  acts_held {stand} Connect w timely h =
+      let step = connect_step c w.near.station in
+      now_unless c d (connect_refusal w.near.station.phase) w (after_step c w w.back w.met [] step) h
+      (λ accepted. step_now stand c d w w.back w.met [] step None (connect_held c d joined reads rests_on.laws w h (connects_from w.near.station.phase accepted)))
+  acts_held {stand} Disconnect w timely h =
+      let step = disconnect_step c w.near.station in
+      now_unless c d (disconnect_refusal w.near.station.phase) w (after_step c w w.back w.met [] step) h
+      (λ accepted. step_now stand c d w w.back w.met [] step None (disconnect_held c d joined reads rests_on.laws w h accepted))
+  acts_held {stand} Abandon w timely h =
+      let step = abandon_step c w.near.station in
+      now_if c d (is_up w.near.station.phase) w (after_step c w w.back w.met [] step) h
+      (λ up. step_now stand c d w w.back w.met [] step None (abandon_held c d joined reads rests_on.laws w h up))
+  acts_held {stand} (Lose i) w timely h =
+      let v : Sessions = record w { back = remove w.back i } in
+      still_now stand c d w v (gone_at c w (Some i)) refl
+      (subst (λ (gone : Option ℕ). Held (standing_after c w.near.station [] gone stand) c d v) (heard_removes (other c.role) c.longest w.near.station.phase w.back i)
+      (change_held c d joined reads rests_on.laws w h (remove w.back i) (removes (other c.role) c.longest w.back i)))
+  acts_held {stand} (Damage i octets) w timely h = by (is_visible octets) refl
+    where
+      v : Sessions
+      v = record w { back = replaced w.back i octets }
+
+      by : (b : Bool) → is_visible octets ≡ b → HeldNow stand c d (gone_at c w (if b then Some i else None)) w (if b then record w { back = replaced w.back i octets } else w)
+      by true visible =
+          still_now stand c d w v (gone_at c w (Some i)) refl
+          (subst (λ (gone : Option ℕ). Held (standing_after c w.near.station [] gone stand) c d v) (heard_replaces (other c.role) c.longest w.near.station.phase octets visible w.back i)
+          (change_held c d joined reads rests_on.laws w h (replaced w.back i octets) (replaces (other c.role) c.longest octets visible w.back i)))
+      by false hidden = stays_now c d w h
+
+-- ---- the other end
+
+begun_turned : (p q : ℕ) (met : List Meeting) → AllMet (IsBegun p q) met → AllMet (IsBegun q p) (map turned met)
+begun_turned p q [] h = tt
+begun_turned p q (m ∷ ms) h = ((h.0.1, h.0.0), begun_turned p q ms h.1)
+
+paired_turned : (p q : ℕ) (met : List Meeting) → AllMet (IsPaired p q) met → AllMet (IsPaired q p) (map turned met)
+paired_turned p q [] h = tt
+paired_turned p q (m ∷ ms) h = (elim h.0 [ inl same ↦ inl (same.1, same.0) | inr less ↦ inr (less.1, less.0) ], paired_turned p q ms h.1)
+
+above_turned : (m : Meeting) (met : List Meeting) → IsAbove m met → IsAbove (turned m) (map turned met)
+above_turned m [] h = tt
+above_turned m (n ∷ ms) h = elim h [ inl same ↦ inl (same.1, same.0) | inr less ↦ inr (less.1, less.0) ]
+
+in_step_turned : (met : List Meeting) → InStep met → InStep (map turned met)
+in_step_turned [] h = tt
+in_step_turned (m ∷ ms) h = (above_turned m ms h.0, in_step_turned ms h.1)
+
+in_order_turned : (near far : SessionEnd) (met : List Meeting) → AllMet (IsInOrder near far) met → AllMet (IsInOrder far near) (map turned met)
+in_order_turned near far [] h = tt
+in_order_turned near far (m ∷ ms) h = (record { there = h.0.back; back = h.0.there }, in_order_turned near far ms h.1)
+
+near_turned : (n : ℕ) (met : List Meeting) → SomeMet (λ (m : Meeting). m.near ≡ n) met → SomeMet (λ (m : Meeting). m.far ≡ n) (map turned met)
+near_turned n [] h = h
+near_turned n (m ∷ ms) h = elim h [ inl here ↦ inl here | inr there ↦ inr (near_turned n ms there) ]
+
+pub far_turned : (n : ℕ) (met : List Meeting) → SomeMet (λ (m : Meeting). m.far ≡ n) met → SomeMet (λ (m : Meeting). m.near ≡ n) (map turned met)
+far_turned n [] h = h
+far_turned n (m ∷ ms) h = elim h [ inl here ↦ inl here | inr there ↦ inr (far_turned n ms there) ]
+
+pub held_swapped : {stand : Standing} (c d : Settings) → AreJoined c d → (w : Sessions) → Held stand c d w → Held (other_way stand) d c (swapped w)
+held_swapped {stand} c d joined w h =
+    record {
+      alone = one.swapped h.alone;
+      holds = joint_swapped ⊥ c d joined.longest h.alone stand.machine h.holds;
+      near_view = h.far_view;
+      far_view = h.near_view;
+      near = h.far;
+      far = h.near;
+      back = h.out;
+      out = h.back;
+      line = record {
+        near_owes = h.line.far_owes;
+        far_owes = h.line.near_owes;
+        out_behind = h.line.back_behind;
+        back_behind = h.line.out_behind;
+        out_begun = h.line.back_begun;
+        back_begun = h.line.out_begun;
+        out_orderly = h.line.back_orderly;
+        back_orderly = h.line.out_orderly;
+      };
+      near_lists = h.far_lists;
+      far_lists = h.near_lists;
+      meetings = record {
+        begun = begun_turned w.near.begun w.far.begun w.met h.meetings.begun;
+        paired = paired_turned stand.near stand.far w.met h.meetings.paired;
+        in_step = in_step_turned w.met h.meetings.in_step;
+        in_order = in_order_turned w.near w.far w.met h.meetings.in_order;
+        near_unmet = λ n. elim (h.meetings.far_unmet n) [ inl empty ↦ inl empty | inr some ↦ inr (far_turned n w.met some) ];
+        far_unmet = λ n. elim (h.meetings.near_unmet n) [ inl empty ↦ inl empty | inr some ↦ inr (near_turned n w.met some) ];
+      };
+      no_frmr = h.no_frmr;
+      whole = record {
+        given = h.whole.given;
+        handed_down = λ x there. elim (h.whole.handed_down x there) [ inl near ↦ inr near | inr far ↦ inl far ];
+        whole = subst (λ (n : ℕ). AreWhole n h.whole.given w.sent) (sym joined.longest) h.whole.whole;
+      };
+    }
+
+-- ---- runs
+
+event_held : {stand : Standing} (c d : Settings) → AreJoined c d → ReadsSpelled → SessionLaws → (e : Event) (w : Sessions) → IsTimelyAt c d e w → Held stand c d w
+    → Held (standing_happens c d e w stand) c d (happens c d e w)
+event_held {stand} c d joined reads rests_on (Near act) w timely h = acts_held c d joined reads rests_on act w timely h
+event_held {stand} c d joined reads rests_on (Far act) w timely h =
+    let turn = joined_swapped c d joined in
+    held_swapped d c turn (acts d act (swapped w)) (acts_held d c turn reads rests_on act (swapped w) timely (held_swapped c d joined w h))
+
+-- what each event keeps is so after a run
+run_keeps : (P : Standing → Sessions → Type 0) (c d : Settings) → ((e : Event) (w : Sessions) (stand : Standing) → IsTimelyAt c d e w → P stand w → P (standing_happens c d e w stand) (happens c d e w))
+    → (es : List Event) (w : Sessions) (stand : Standing) → AreTimely c d es w → P stand w → P (standing_run c d es w stand) (run c d es w)
+run_keeps P c d keeps [] w stand timely h = h
+run_keeps P c d keeps (e ∷ es) w stand timely h = run_keeps P c d keeps es (happens c d e w) (standing_happens c d e w stand) timely.1 (keeps e w stand timely.0 h)
+
+-- ---- how a run begins
+
+clear_line : (c d : Settings) (p : Phase) → (p ≡ Down) ⊎ (p ≡ Up) → (n : ℕ) → OnLine c d p p n n [] []
+clear_line c d p is n =
+    elim is [
+      | inl down ↦ subst (λ (z : Phase). OnLine c d z z n n [] []) (sym down)
+          (record { near_owes = (omega arith, refl); far_owes = (omega arith, refl); out_behind = tt; back_behind = tt; out_begun = tt; back_begun = tt; out_orderly = tt; back_orderly = tt })
+      | inr up ↦ subst (λ (z : Phase). OnLine c d z z n n [] []) (sym up)
+          (record { near_owes = (omega arith, refl); far_owes = (omega arith, refl); out_behind = tt; back_behind = tt; out_begun = tt; back_begun = tt; out_orderly = tt; back_orderly = tt })
+    ]
+
+nothing_held : (c d : Settings) → AreJoined c d → Held (standing_at c d from_nothing) c d from_nothing
+nothing_held c d joined =
+    record {
+      alone = start;
+      holds = start_machine ⊥ c d joined;
+      near_view = Gone;
+      far_view = Gone;
+      near = (refl, omega arith);
+      far = (refl, omega arith);
+      back = λ waiting. refl;
+      out = λ waiting. refl;
+      line = clear_line c d Down (inl refl) 0;
+      near_lists = record { down = refl; up = refl; later = λ n less. (refl, refl) };
+      far_lists = record { down = refl; up = refl; later = λ n less. (refl, refl) };
+      meetings = record { begun = tt; paired = tt; in_step = tt; in_order = tt; near_unmet = λ n. inl refl; far_unmet = λ n. inl refl };
+      no_frmr = tt;
+      whole = record { given = []; handed_down = λ x there. absurd (omega (arith, there.1)); whole = tt };
+    }
+
+set_up_held : (c d : Settings) → AreJoined c d → Held (standing_at c d from_set_up) c d from_set_up
+set_up_held c d joined =
+    record {
+      alone = start;
+      holds = start_machine ⊥ c d joined;
+      near_view = Live;
+      far_view = Live;
+      near = (refl, refl, refl);
+      far = (refl, refl, refl);
+      back = (refl, tt);
+      out = (refl, tt);
+      line = clear_line c d Up (inr refl) 1;
+      near_lists = record { down = refl; up = refl; later = λ n less. (refl, refl) };
+      far_lists = record { down = refl; up = refl; later = λ n less. (refl, refl) };
+      meetings = record { begun = tt; paired = tt; in_step = tt; in_order = tt; near_unmet = λ n. inl refl; far_unmet = λ n. inl refl };
+      no_frmr = tt;
+      whole = record { given = []; handed_down = λ x there. absurd (omega (arith, there.1)); whole = tt };
+    }
+
+begin_held : (c d : Settings) → AreJoined c d → (begin : Sessions) → (begin ≡ from_nothing) ⊎ (begin ≡ from_set_up) → Held (standing_at c d begin) c d begin
+begin_held c d joined begin is = elim is [
+  | inl down ↦ subst (λ (w : Sessions). Held (standing_at c d w) c d w) (sym down) (nothing_held c d joined)
+  | inr up ↦ subst (λ (w : Sessions). Held (standing_at c d w) c d w) (sym up) (set_up_held c d joined)
+]
+
+-- ---- the claims
+
+is_session : (c d : Settings) → AreJoined c d → (v : Stations) → Holds ⊥ c d v → IsSession c d v
+is_session c d joined v holds =
+    record { order = holds_order ⊥ c d v holds; lists = holds_lists ⊥ c d v holds; window = holds_window ⊥ c d v holds; no_frmr = holds.1.no_frmr; whole = holds_whole ⊥ c d joined v holds }
+
+stands : {stand : Standing} (c d : Settings) → AreJoined c d → (w : Sessions) → Held stand c d w → is_up w.near.station.phase ≡ true → Stands c d w
+unfolding held_swapped
+stands {stand} c d joined w h up =
+    let i = in_session c d w h up in
+    record {
+      alone = h.alone;
+      session = is_session c d joined h.alone (stand.machine, h.holds);
+      other_session = stand.far;
+      station = i.view.1;
+      down = sym h.near_lists.down ∙ ap w.near.down (sym i.view.2);
+      up = sym h.near_lists.up ∙ ap w.near.up (sym i.view.2);
+      far_down = sym h.far_lists.down;
+      far_up = sym h.far_lists.up;
+      line = i.comes.0;
+      of_session = i.comes.1;
+      both = λ far_up. (let j = in_session d c (swapped w) (held_swapped c d joined w h) far_up in
+          record { station = j.view.1; session = sym j.view.2; line = j.comes.0; of_session = subst (λ (n : ℕ). AllOf (other d.role) d.longest n w.out) (sym i.view.2) j.comes.1 });
+    }
+
+-- ---- the machine behind what stands
+
+stands_with : {stand : Standing} (c d : Settings) → AreJoined c d → (w : Sessions) → Held stand c d w → is_up w.near.station.phase ≡ true → StandsWith c d w stand
+unfolding stands
+stands_with {stand} c d joined w h up =
+    record {
+      stands = stands c d joined w h up;
+      near = sym (up_begun h.near_view w.near h.alone.near.station stand.near h.near up);
+      far = refl;
+      behind = is_behind ⊥ c d h.alone stand.machine h.holds;
+    }
+
+each_stands_with : {stand : Standing} (c d : Settings) → AreJoined c d → (w : Sessions) → Held stand c d w → EachUpStandsWith c d w stand
+each_stands_with {stand} c d joined w h =
+    record { near = stands_with c d joined w h; far = stands_with d c (joined_swapped c d joined) (swapped w) (held_swapped c d joined w h) }
+
+-- with what stands
+abbrev pub HeldOf : Settings → Settings → Sessions → Type 0
+HeldOf c d w = (stand : Standing) × Held stand c d w
+
+module _ (reads : ReadsSpelled) (rests_on : SessionLaws) where
+  pub goes_along : (c d : Settings) → AreJoined c d → (begin : Sessions) → (begin ≡ from_nothing) ⊎ (begin ≡ from_set_up) → (events : List Event) → AreTimely c d events begin
+      → Held (standing_run c d events begin (standing_at c d begin)) c d (run c d events begin)
+  goes_along c d joined begin is events timely =
+      run_keeps (λ (stand : Standing) (w : Sessions). Held stand c d w) c d (λ e w stand at h. event_held c d joined reads rests_on e w at h) events begin (standing_at c d begin) timely (begin_held c d joined begin is)
+
+  pub throughout : Throughout HeldOf
+  throughout c d joined begin is events timely = (standing_run c d events begin (standing_at c d begin), goes_along c d joined begin is events timely)
+
+  pub standing_goes_along : StandingGoesAlong
+  standing_goes_along c d joined begin is events timely = each_stands_with c d joined (run c d events begin) (goes_along c d joined begin is events timely)
+
+  pub meet_in_step : Throughout MeetInStep
+  meet_in_step c d joined begin is events timely = (throughout c d joined begin is events timely).1.meetings.in_step
+
+  pub met_in_order : Throughout MetAreInOrder
+  met_in_order c d joined begin is events timely = (throughout c d joined begin is events timely).1.meetings.in_order
+
+  pub unmet_nothing : Throughout UnmetHandNothingUp
+  unmet_nothing c d joined begin is events timely =
+      let h = (throughout c d joined begin is events timely).1 in
+      record { near = h.meetings.near_unmet; far = h.meetings.far_unmet }
+
+  pub only_begun : Throughout OnlyBegunHaveLists
+  only_begun c d joined begin is events timely =
+      let h = (throughout c d joined begin is events timely).1 in
+      record { met = h.meetings.begun; near = h.near_lists.later; far = h.far_lists.later }
+
+  pub each_stands : Throughout EachUpStands
+  each_stands c d joined begin is events timely =
+      let w = run c d events begin in
+      let h = (throughout c d joined begin is events timely).1 in
+      let turn = joined_swapped c d joined in
+      record { near = stands c d joined w h; far = stands d c turn (swapped w) (held_swapped c d joined w h) }
+
+  pub never_frmr : Throughout NoSessionSendsFrmr
+  never_frmr c d joined begin is events timely = (throughout c d joined begin is events timely).1.no_frmr
+
+  pub send_whole : Throughout AllSessionsSendWhole
+  send_whole c d joined begin is events timely =
+      let w = run c d events begin in
+      let h = (throughout c d joined begin is events timely).1.whole in
+      record { given = h.given; handed_down = h.handed_down; whole = subst (λ (n : ℕ). AreWhole n h.given w.sent) (sym joined.longest) h.whole }

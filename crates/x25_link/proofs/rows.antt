@@ -1,0 +1,7 @@
+-- Worked rows, by computing.
+pub mod NoteRows
+pub mod SetUpRows
+pub mod StationRows
+pub mod WindowRows
+pub mod RestRows
+pub mod AnswerRows

@@ -1,0 +1,14 @@
+use Rattle.std.proofs.Common.{◌≡◌, sym, ◌∙◌, subst, true}
+use Rattle.x25_link.specs.declared.phase.Phase.{Phase}
+use Rattle.x25_link.specs.declared.phase.Phase.TheVariants.{Up}
+use Rattle.x25_link.specs.code.Fits.{FitsSide}
+use Rattle.x25_link.specs.LinkStation.{with_near}
+use Rattle.x25_link.specs.Steps.{asks_again}
+use Rattle.x25_link.proofs.FitsLemmas.{recovery_fits}
+use Rattle.x25_link.proofs.station.LinkStation.ask_again.Goals as goal
+
+pub returns-in-Up : goal.returns-in-Up
+returns-in-Up c = λ d before t fits.
+    let up : t.near.phase ≡ Up = sym fits.near.phase ∙ c.in-Up.is in
+    subst (λ (p : Phase). FitsSide d c.ready.new.self before c.ready.new.out.made (asks_again p t)) (sym up)
+    (c.ready.ensures.step d before (with_near t (record t.near { recovery = true })) (record { near = recovery_fits d _ t.near true fits.near; out = fits.out }))

@@ -1,0 +1,19 @@
+use Rattle.std.proofs.Common.{◌≡◌, Some, None, if◌then◌else◌, sym, ap, ◌∙◌, refl}
+use Rattle.x25_link.specs.declared.phase.Phase.TheVariants.{Closed}
+use Rattle.x25_link.specs.declared.phase.Reason.TheVariants.{Local}
+use Rattle.x25_link.specs.LinkStation.{is_up, with_near, with_nothing}
+use Rattle.x25_link.proofs.station.LinkStation.disconnect.Goals as goal
+use Rattle.x25_link.proofs.station.LinkStation.disconnect.Goals.{then-is_up, else-is_up}
+
+pub returns : goal.returns
+returns c = λ d before t fits.
+    let phase = ap is_up fits.near.phase in
+    let down : c.if-is_up.down ≡ (if is_up t.near.phase then Some Local else None) = elim c.if-is_up.branch [
+      | then-is_up w ↦ w.down-is ∙ rw (sym phase, sym w.if-is_up.ensures) refl
+      | else-is_up w ↦ w.down-is ∙ rw (sym phase, sym w.if-is_up.ensures) refl
+    ] in
+    record {
+      side = c.send.ensures.step d before (with_near t (with_nothing Closed t.near.tries)) (c.clear.ensures.step d before _ t fits);
+      packet = rw c.noted.ensures.packet refl;
+      notes = rw (sym down) (c.noted.ensures.notes);
+    }

@@ -1,0 +1,22 @@
+use Rattle.std.proofs.Common.{refl}
+use Rattle.x25_frame.specs.PlainFrame.{ua}
+use Rattle.x25_link.specs.LinkStation.{sends}
+use Rattle.x25_link.proofs.station.LinkStation.hear_frame.Goals as goal
+
+pub returns-in-Sabm-clause-step : goal.returns-in-Sabm-clause-step
+returns-in-Sabm-clause-step c = λ d before t fits.
+    rw c.in-Sabm.is (record {
+      side = c.set_up.ensures.step d before _ (sends (ua c.in-Sabm.p) t) (c.send.ensures.step d before t fits);
+      packet = rw c.noted.ensures.packet refl;
+      notes = c.noted.ensures.notes;
+    })
+
+pub returns-in-Disc-clause-step : goal.returns-in-Disc-clause-step
+returns-in-Disc-clause-step c = λ d before t fits.
+    rw c.in-Disc.is (c.leave.ensures.step d before _ (sends (ua c.in-Disc.p) t) (c.send-in-Disc.ensures.step d before t fits))
+
+pub returns-in-Dm-clause-step : goal.returns-in-Dm-clause-step
+returns-in-Dm-clause-step c = λ d before t fits. rw c.in-Dm.is (c.leave-in-Dm.ensures.step d before _ t fits)
+
+pub returns-in-Frmr-clause-step : goal.returns-in-Frmr-clause-step
+returns-in-Frmr-clause-step c = λ d before t fits. rw c.in-Frmr.is (c.leave-in-Frmr.ensures.step d before _ t fits)

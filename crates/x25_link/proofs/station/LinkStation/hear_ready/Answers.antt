@@ -1,0 +1,21 @@
+use Rattle.std.proofs.Common.{sym, refl}
+use Rattle.x25_link.specs.MustSend.{acknowledged, peer_is}
+use Rattle.x25_link.proofs.FitsLemmas.{peer_fits}
+use Rattle.x25_link.proofs.station.LinkStation.hear_ready.Goals as goal
+
+pub returns-then-not-acknowledge-clause-step : goal.returns-then-not-acknowledge-clause-step
+returns-then-not-acknowledge-clause-step c = λ d before t fits.
+    let invalid = c.if-not-acknowledge.ensures.valid d t.near fits.near in
+    let same = c.if-not-acknowledge.ensures.unchanged refl in
+    rw (sym invalid) (c.reject.ensures.step d before t (rw same fits))
+
+pub returns-clause-step : goal.returns-clause-step
+returns-clause-step c = λ d before t fits.
+    let valid = c.if-not-acknowledge.ensures.valid d t.near fits.near in
+    let u = acknowledged c.args.nr.number t in
+    let acked = c.if-not-acknowledge.ensures.step d before _ t fits refl in
+    rw (sym valid) (record {
+      side = c.poll.ensures.step d before (peer_is c.args.busy u) (peer_fits d _ before _ u c.args.busy acked);
+      packet = rw c.quiet.ensures.packet refl;
+      notes = c.quiet.ensures.notes;
+    })

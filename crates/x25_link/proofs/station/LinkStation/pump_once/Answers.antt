@@ -1,0 +1,17 @@
+use Rattle.std.proofs.Common.{sym, ap, ◌∙◌}
+use Rattle.x25_link.specs.LinkStation.{is_up}
+use Rattle.x25_link.proofs.FitsLemmas.{pump_fits, may_send_is}
+use Rattle.x25_link.proofs.station.LinkStation.pump_once.Goals as goal
+
+pub returns-clause-step : goal.returns-clause-step
+returns-clause-step c = λ d before t fits.
+    let k = d.window in
+    let o = t.near.outgoing in
+    let backlog = fits.near.backlog in
+    pump_fits d _ _ before _ _ t _ c.send_next.result fits c.if-self.false c.if-self-2.false (sym c.if-not-is_up.ensures)
+    (c.wanted-nr.ensures.state _ fits.near.taken) (c.send_next.ensures.sent k o backlog) (c.send_next.ensures.step k o backlog) (c.send_next.ensures.made k o backlog)
+
+pub returns-clause-sent : goal.returns-clause-sent
+returns-clause-sent c = λ d s fits.
+    c.send_next.ensures.sent d.window s.outgoing fits.backlog
+    ∙ sym (may_send_is d.window s (sym fits.recovery ∙ c.if-self.false) (sym fits.peer_busy ∙ c.if-self-2.false) (sym (ap is_up fits.phase) ∙ sym c.if-not-is_up.ensures))

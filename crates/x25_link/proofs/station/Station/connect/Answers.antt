@@ -1,8 +1,0 @@
-use Rattle.x25_link.specs.declared.phase.Phase.TheVariants.{Waiting}
-use Rattle.x25_link.specs.Station.{with_near}
-use Rattle.x25_link.proofs.FitsLemmas.{phase_fits}
-use Rattle.x25_link.proofs.station.Station.connect.Goals as goal
-
-pub returns : goal.returns
-returns c = λ d before t fits.
-    c.send.ensures.step d before (with_near t (record t.near { phase = Waiting; tries = 0 })) (record { near = phase_fits d _ t.near Waiting 0 fits.near; out = fits.out })

@@ -1,0 +1,37 @@
+-- Which states of the definition the code's variables stand for.
+use Rattle.std.specs.Prelude.{◌≡◌, ℕ, List, ◌++◌, length, map, option_copied}
+use Rattle.x25_frame.specs.PlainFrame.{PlainFrame}
+use Rattle.x25_frame.specs.Spelling.{spelling_of}
+use Rattle.x25_window.specs.Receiving.{FitsTaken}
+use Rattle.x25_link.specs.declared.station.LinkStation.{LinkStation as StationCode}
+use Rattle.x25_link.specs.declared.heard.Heard.{Heard}
+use Rattle.x25_link.specs.MustSend.{Step}
+use Rattle.x25_link.specs.Backlog.{FitsBacklog}
+use Rattle.x25_link.specs.LinkStation.{Settings, LinkStation, Side}
+
+pub record FitsStation (c : Settings) (v : StationCode) (s : LinkStation) : Type 0 where
+  pub role : v.role ≡ c.role
+  pub longest : v.parameters.n1 ≡ c.longest
+  pub retries : v.parameters.n2 ≡ c.retries
+  pub backlog : FitsBacklog c.window v.backlog s.outgoing
+  pub taken : FitsTaken v.receiver (length s.taken)
+  pub phase : v.phase ≡ s.phase
+  pub tries : v.tries ≡ s.tries
+  pub recovery : v.recovery ≡ s.recovery
+  pub peer_busy : v.peer_busy ≡ s.peer_busy
+  pub rejecting : v.rejecting ≡ s.rejecting
+  pub said_busy : v.said_busy ≡ s.said_busy
+
+-- the frames made are those that were there before the step, and then those sent, as the octets that spell them
+abbrev pub Made : Settings → List (List ℕ) → List (List ℕ) → List PlainFrame → Type 0
+Made c before made frames = made ≡ before ++ map (spelling_of c.role) frames
+
+pub record FitsSide (c : Settings) (v : StationCode) (before made : List (List ℕ)) (t : Side) : Type 0 where
+  pub near : FitsStation c v t.near
+  pub out : Made c before made t.out
+
+-- what was heard is that step's: the state and the frames, the packet handed up, and what is noted
+pub record FitsHeard (c : Settings) (v : StationCode) (before made : List (List ℕ)) (heard : Heard) (step : Step) : Type 0 where
+  pub side : FitsSide c v before made step.side
+  pub packet : option_copied heard.packet ≡ step.packet
+  pub notes : heard.notes ≡ step.notes

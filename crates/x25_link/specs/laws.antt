@@ -1,0 +1,6 @@
+-- What the laws of this crate say (src/law.rt).
+pub mod WindowLaw
+pub mod RestLaw
+pub mod AnswerLaw
+pub mod NoteLaw
+pub mod LinkLaws

@@ -1,0 +1,160 @@
+-- The packet layers of both ends and all their channels, and what a frame changes and breaks. ITU-T X.25 (10/96), sections 3 and 4.
+use Rattle.std.specs.Prelude.{ℕ, ◌%◌, ◌==◌, Bool, not, if◌then◌else◌, List, slice_index_or, slice_set, Option, Some, None, Result, Ok, Err}
+use Rattle.x25_bits.specs.declared.role.Role.{Role}
+use Rattle.x25_bits.specs.declared.role.Role.TheVariants.{Dte, Dce}
+use Rattle.x25_frame.specs.PlainFrame.{PlainFrame, info, rr, rnr, rej, sabm, disc, ua, dm, frmr}
+use Rattle.x25_packet.specs.PlainPacket.{PlainPacket, restart, restart_conf}
+use Rattle.x25_packet.specs.Reading.{channel_in, packet_of}
+use Rattle.x25_packet.specs.Spelling.{longest_user}
+use Rattle.x25_packet.specs.declared.error.PacketError.{PacketError}
+use Rattle.x25_packet_judge.specs.Layer as layer
+use Rattle.x25_packet_judge.specs.PacketRule.{first}
+use Rattle.x25_packet_judge.specs.Packets.{sends}
+use Rattle.x25_packet_judge.specs.Pair.{unknown}
+use Rattle.x25_packet_judge.specs.Port.{all_alike, blank, fresh}
+use Rattle.x25_packet_judge.specs.declared.book.Book.{Book}
+use Rattle.x25_packet_judge.specs.declared.layer.Layers.{Layers}
+use Rattle.x25_packet_judge.specs.declared.packet_rule.PacketRule.{PacketRule}
+use Rattle.x25_packet_judge.specs.declared.pair.Pair.{Pair}
+use Rattle.x25_packet_judge.specs.declared.port.Port.{Port}
+
+abbrev pub other : Role → Role
+other Dte = Dce
+other Dce = Dte
+
+-- nothing was sent
+abbrev pub empty : Book
+empty = record { dte = layer.unseen; dce = layer.unseen; dte_ports = all_alike blank; dce_ports = all_alike blank }
+
+-- ---- parts: the end that sends comes first
+
+abbrev pub layers_of : Role → Book → Layers
+layers_of Dte b = record { own = b.dte; other = b.dce; rule = None }
+layers_of Dce b = record { own = b.dce; other = b.dte; rule = None }
+
+abbrev pub keeps : Role → Layers → Book → Book
+keeps Dte t b = record { dte = t.own; dce = t.other; dte_ports = b.dte_ports; dce_ports = b.dce_ports }
+keeps Dce t b = record { dte = t.other; dce = t.own; dte_ports = b.dte_ports; dce_ports = b.dce_ports }
+
+-- the channels of an end, or of both, are all as this one
+abbrev pub fills : Role → Port → Book → Book
+fills Dte p b = record { dte = b.dte; dce = b.dce; dte_ports = all_alike p; dce_ports = b.dce_ports }
+fills Dce p b = record { dte = b.dte; dce = b.dce; dte_ports = b.dte_ports; dce_ports = all_alike p }
+
+abbrev pub fills_both : Port → Book → Book
+fills_both p b = record { dte = b.dte; dce = b.dce; dte_ports = all_alike p; dce_ports = all_alike p }
+
+abbrev pub port_of : ℕ → List Port → Port
+port_of channel ports = slice_index_or ports (channel % 4096) blank
+
+abbrev pub pair_of : Role → Bool → ℕ → Book → Pair
+pair_of Dte reaches channel b = record { from = Dte; reaches = reaches; own = port_of channel b.dte_ports; other = port_of channel b.dce_ports; rule = None }
+pair_of Dce reaches channel b = record { from = Dce; reaches = reaches; own = port_of channel b.dce_ports; other = port_of channel b.dte_ports; rule = None }
+
+abbrev pub puts : Role → ℕ → Pair → Book → Book
+puts Dte channel p b = record {
+  dte = b.dte;
+  dce = b.dce;
+  dte_ports = slice_set b.dte_ports (channel % 4096) p.own;
+  dce_ports = slice_set b.dce_ports (channel % 4096) p.other;
+}
+puts Dce channel p b = record {
+  dte = b.dte;
+  dce = b.dce;
+  dte_ports = slice_set b.dte_ports (channel % 4096) p.other;
+  dce_ports = slice_set b.dce_ports (channel % 4096) p.own;
+}
+
+-- ---- a packet
+
+pub record Seen : Type 0 where
+  pub book : Book
+  pub rule : Option PacketRule
+
+abbrev pub quiet : Book → Seen
+quiet b = record { book = b; rule = None }
+
+-- both ends of its channel, behind it
+abbrev pub took : Role → Layers → ℕ → Pair → Book → Seen
+took from t channel p b = record { book = puts from channel p (keeps from t b); rule = first t.rule p.rule }
+
+unfoldable pub takes_on : Role → Layers → ℕ → PlainPacket → Book → Seen
+takes_on from t channel packet b =
+    if not (layer.are_sure t) then record { book = keeps from t b; rule = t.rule }
+    else took from t channel (sends packet (pair_of from (layer.are_level t) channel b)) b
+
+-- where no restart went before, nothing is known of the end's channels
+unfoldable pub runs : Role → ℕ → PlainPacket → Book → Seen
+runs from channel packet b =
+    if layer.is_begun (layers_of from b).own.restart
+    then takes_on from (layer.runs (layers_of from b)) channel packet (fills from blank b)
+    else takes_on from (layer.runs (layers_of from b)) channel packet b
+
+-- RESTART and its confirmation: all channels of the end that sends begin anew
+unfoldable pub restarts : Role → Layers → Book → Seen
+restarts from t b = record { book = keeps from t (fills from fresh b); rule = t.rule }
+
+unfoldable pub takes : Role → ℕ → PlainPacket → Book → Seen
+takes from channel (restart cause diagnostic) b = restarts from (layer.restarts (layers_of from b)) b
+takes from channel restart_conf b = restarts from (layer.confirms_restart (layers_of from b)) b
+takes from channel packet b = runs from channel packet b
+
+-- octets that spell none: nothing may be said of their channel, or of restarts where they name none
+abbrev pub misses_on : Role → ℕ → Book → Book
+misses_on from channel b =
+    if channel == 0 then keeps from (layer.are_unsure (layers_of from b)) b
+    else puts from channel (unknown (pair_of from (layer.are_level (layers_of from b)) channel b)) b
+
+abbrev pub takes_read : Role → ℕ → Result PlainPacket PacketError → Book → Seen
+takes_read from channel (Ok packet) b = takes from channel packet b
+takes_read from channel (Err e) b = quiet (misses_on from channel b)
+
+abbrev pub reads_on : Role → Bool → List ℕ → Option ℕ → Book → Seen
+reads_on from long_data octets None b = quiet b
+reads_on from long_data octets (Some channel) b = takes_read from channel (packet_of (longest_user long_data) octets) b
+
+-- the information of an I frame
+unfoldable pub reads : Role → Bool → List ℕ → Book → Seen
+reads from long_data octets b = reads_on from long_data octets (channel_in octets) b
+
+-- ---- a frame
+
+-- an N(R): where it shows that packets of the other end weren't seen, nothing is known of its channels
+unfoldable pub hears : Role → ℕ → Book → Book
+hears from number b =
+    if layer.finds_other number (layers_of from b)
+    then keeps from (layer.hears number (layers_of from b)) (fills (other from) blank b)
+    else keeps from (layer.hears number (layers_of from b)) b
+
+abbrev pub reads_if : Bool → Role → Bool → List ℕ → Book → Seen
+reads_if may from long_data octets b = if may then reads from long_data octets b else quiet b
+
+-- an I frame, by N(S)
+unfoldable pub moves : Role → Bool → ℕ → List ℕ → Book → Seen
+moves from long_data number octets b =
+    reads_if (layer.may_judge number (layers_of from b)) from long_data octets (keeps from (layer.moves number (layers_of from b)) b)
+
+-- one that breaks a rule of the link layer may hide packets
+unfoldable pub sends_info : Role → Bool → ℕ → ℕ → List ℕ → Bool → Book → Seen
+sends_info from long_data ns nr octets is_broken b =
+    if is_broken then quiet (keeps from (layer.loses (layers_of from b)) b) else moves from long_data ns octets (hears from nr b)
+
+-- the channels of both ends begin anew: of an end that is followed on, nothing was seen of them yet
+unfoldable pub begins : Role → Layers → Book → Book
+begins from t b = keeps from t (fills_both fresh b)
+
+-- by whether it breaks a rule of the link layer
+unfoldable pub sees : Role → Bool → PlainFrame → Bool → Book → Seen
+sees from long_data (info ns nr p octets) is_broken b = sends_info from long_data ns nr octets is_broken b
+sees from long_data (rr command nr pf) is_broken b = quiet (hears from nr b)
+sees from long_data (rnr command nr pf) is_broken b = quiet (hears from nr b)
+sees from long_data (rej command nr pf) is_broken b = quiet (hears from nr b)
+sees from long_data (sabm p) is_broken b = quiet (begins from (layer.asks (layers_of from b)) b)
+sees from long_data (ua f) is_broken b = quiet (begins from (layer.accepts (layers_of from b)) b)
+sees from long_data (dm f) is_broken b = quiet (keeps from (layer.declines (layers_of from b)) b)
+sees from long_data (disc p) is_broken b = quiet (keeps from (layer.leaves (layers_of from b)) b)
+sees from long_data (frmr f why) is_broken b = quiet b
+
+-- octets that are no frame
+abbrev pub misses : Role → Book → Book
+misses from b = keeps from (layer.misses (layers_of from b)) b

@@ -1,0 +1,223 @@
+-- The packet layers of both ends, as the frames of the link and their RESTARTs show them, and the rules on these.
+-- ITU-T X.25 (10/96), section 3.3. When packets are judged, and what is said behind a fault, is profile.
+use Rattle.std.specs.Prelude.{ℕ, ◌+◌, ◌-◌, ◌%◌, ◌==◌, nat_lt, Bool, true, false, not, ◌&&◌, ◌||◌, if◌then◌else◌, min, Some}
+use Rattle.x25_packet_judge.specs.PacketRule.{first}
+use Rattle.x25_packet_judge.specs.Numbers.{apart}
+use Rattle.x25_packet_judge.specs.declared.layer.Restart.{Restart}
+use Rattle.x25_packet_judge.specs.declared.layer.Restart.TheVariants.{Begun, Asking, Ready}
+use Rattle.x25_packet_judge.specs.declared.layer.Track.{Track}
+use Rattle.x25_packet_judge.specs.declared.layer.Track.TheVariants.{Unseen, Dropped, Followed}
+use Rattle.x25_packet_judge.specs.declared.layer.Layer.{Layer}
+use Rattle.x25_packet_judge.specs.declared.layer.Layers.{Layers}
+use Rattle.x25_packet_judge.specs.declared.packet_rule.PacketRule.{PacketRule}
+use Rattle.x25_packet_judge.specs.declared.packet_rule.PacketRule.TheVariants.{RestartAwaited, RestartUnasked}
+
+-- ---- one end
+
+abbrev pub is_unseen : Track → Bool
+is_unseen Unseen = true
+is_unseen Dropped = false
+is_unseen Followed = false
+
+abbrev pub is_dropped : Track → Bool
+is_dropped Unseen = false
+is_dropped Dropped = true
+is_dropped Followed = false
+
+abbrev pub is_followed : Track → Bool
+is_followed Unseen = false
+is_followed Dropped = false
+is_followed Followed = true
+
+-- nothing is known
+abbrev pub unseen : Layer
+unseen = record { track = Unseen; is_fresh = false; next = 0; acked = 0; asked = 0; restart = Ready; owed = 0; is_sure = true; is_counted = false }
+
+-- the link is set up
+abbrev pub begun : ℕ → Layer
+begun asked = record { track = Followed; is_fresh = true; next = 0; acked = 0; asked = asked; restart = Begun; owed = 0; is_sure = true; is_counted = true }
+
+-- packets are followed from an N(R) of the other end on: it has taken none from there on
+abbrev pub found_at : ℕ → Layer → Layer
+found_at number l = record {
+  track = Followed;
+  is_fresh = false;
+  next = number;
+  acked = number;
+  asked = l.asked;
+  restart = Ready;
+  owed = 0;
+  is_sure = true;
+  is_counted = false;
+}
+
+-- not all packets were seen
+abbrev pub lost : Layer → Layer
+lost l = record l { track = Unseen; is_fresh = false }
+
+-- Behind a set-up of the other end: what this end sent before it is dropped.
+abbrev pub set_up_again : Layer → Layer
+set_up_again l = if l.is_fresh then begun l.asked else record l { track = Dropped }
+
+abbrev pub worn : Layer → Layer
+worn l = record l { is_fresh = false }
+
+abbrev pub with_asked : ℕ → Layer → Layer
+with_asked asked l = record l { asked = asked }
+
+abbrev pub with_acked : ℕ → Layer → Layer
+with_acked acked l = record l { acked = acked }
+
+abbrev pub moved : Layer → Layer
+moved l = record l { next = min (l.next + 1) 255 % 8 }
+
+abbrev pub is_asking : Restart → Bool
+is_asking Begun = false
+is_asking Asking = true
+is_asking Ready = false
+
+abbrev pub with_restart : Restart → Layer → Layer
+with_restart restart l = record l { restart = restart }
+
+-- behind a RESTART of this end, or its confirmation of the other's
+abbrev pub restarted : Restart → Layer → Layer
+restarted restart l = record l { restart = restart; owed = l.owed - 1 }
+
+-- the other end sent one
+abbrev pub owing : Bool → Layer → Layer
+owing is_more l = record l { owed = if is_more then min (l.owed + 1) 255 else l.owed }
+
+abbrev pub unsure : Layer → Layer
+unsure l = record l { is_sure = false; is_counted = false }
+
+abbrev pub uncounted : Layer → Layer
+uncounted l = record l { is_counted = false }
+
+abbrev pub found : Restart → Layer → Layer
+found restart l = record l { restart = restart; owed = 0; is_sure = true; is_counted = true }
+
+-- ---- both ends
+
+abbrev pub with_own : Layer → Layers → Layers
+with_own own t = record t { own = own }
+
+abbrev pub with_other : Layer → Layers → Layers
+with_other other t = record t { other = other }
+
+abbrev pub tells : PacketRule → Layers → Layers
+tells rule t = record t { rule = first t.rule (Some rule) }
+
+-- ---- frames
+
+-- packets of the first end were missed, and so may be what the other end answers
+abbrev pub loses : Layers → Layers
+loses t = if t.other.is_fresh then with_own (lost t.own) t else with_other (lost t.other) (with_own (lost t.own) t)
+
+-- SABM or UA of the first end: its packets begin anew
+abbrev pub begins : ℕ → Layers → Layers
+begins asked t = with_own (begun asked) (with_other (set_up_again t.other) t)
+
+-- SABM or DISC asks for UA or DM
+abbrev pub asks_more : Layers → Layers
+asks_more t = with_other (with_asked (min (t.other.asked + 1) 255) t.other) t
+
+abbrev pub answers : Layers → Layers
+answers t = with_own (with_asked (t.own.asked - 1) t.own) t
+
+-- An N(R) is about the packets of the other end, but where one of both is behind a set-up.
+abbrev pub may_hear : Layers → Bool
+may_hear t = not (is_dropped t.own.track) && (not (is_dropped t.other.track) && not t.other.is_fresh)
+
+-- one that acknowledges more than was seen shows that packets were missed
+abbrev pub finds_other : ℕ → Layers → Bool
+finds_other number t = may_hear t
+    && (is_unseen t.other.track || nat_lt (apart t.other.next t.other.acked) (apart number t.other.acked))
+
+abbrev pub hears : ℕ → Layers → Layers
+hears number t =
+    if finds_other number t then with_other (found_at number t.other) (with_own (worn t.own) t)
+    else if may_hear t then with_other (with_acked number t.other) (with_own (worn t.own) t)
+    else with_own (worn t.own) t
+
+-- packets are seen in the order of N(S), each once
+abbrev pub is_next : ℕ → Layers → Bool
+is_next number t = is_followed t.own.track && number == t.own.next
+
+-- .. and judged, where those of both ends are followed
+abbrev pub may_judge : ℕ → Layers → Bool
+may_judge number t = is_followed t.other.track && is_next number t
+
+abbrev pub moves : ℕ → Layers → Layers
+moves number t = if is_next number t then with_own (moved t.own) t else t
+
+abbrev pub asks : Layers → Layers
+asks t = begins t.own.asked (asks_more t)
+
+abbrev pub accepts : Layers → Layers
+accepts t = begins (t.own.asked - 1) t
+
+abbrev pub declines : Layers → Layers
+declines t = answers t
+
+abbrev pub leaves : Layers → Layers
+leaves t = asks_more t
+
+-- octets that spell none may have been UA, where one was asked for
+abbrev pub misses : Layers → Layers
+misses t = if nat_lt 0 t.own.asked then loses (with_own (worn t.own) t) else with_own (worn t.own) t
+
+-- ---- restarts (section 3.3)
+
+abbrev pub are_sure : Layers → Bool
+are_sure t = t.own.is_sure && t.other.is_sure
+
+abbrev pub are_counted : Layers → Bool
+are_counted t = t.own.is_counted && t.other.is_counted
+
+-- Each end has sent as many RESTARTs and confirmations as the other.
+abbrev pub are_level : Layers → Bool
+are_level t = t.own.owed == 0 && t.other.owed == 0
+
+abbrev pub are_unsure : Layers → Layers
+are_unsure t = with_other (unsure t.other) (with_own (unsure t.own) t)
+
+abbrev pub are_uncounted : Layers → Layers
+are_uncounted t = with_other (uncounted t.other) (with_own (uncounted t.own) t)
+
+abbrev pub goes_to : Restart → Layers → Layers
+goes_to restart t = with_own (with_restart restart t.own) t
+
+-- RESTART or its confirmation
+abbrev pub marks : Restart → Layers → Layers
+marks restart t = with_own (restarted restart t.own) (with_other (owing (t.own.owed == 0) t.other) t)
+
+-- one that is repeated while it waits leaves open what its confirmations answer, and so does one behind packets that were missed
+abbrev pub restarts : Layers → Layers
+restarts t = if are_counted t && not (is_asking t.own.restart && nat_lt 0 t.other.owed) then marks Asking t else goes_to Asking (are_unsure t)
+
+-- .. until one is confirmed
+abbrev pub finds : Layers → Layers
+finds t = if is_asking t.other.restart then with_other (found Asking t.other) (with_own (found Ready t.own) t) else goes_to Ready (are_unsure t)
+
+abbrev pub confirms_restart : Layers → Layers
+confirms_restart t =
+    if not (are_counted t) then finds t
+    else if nat_lt 0 t.own.owed then marks Ready t
+    else are_unsure (tells RestartUnasked t)
+
+abbrev pub is_awaiting : Layers → Bool
+is_awaiting t = are_counted t && nat_lt 0 t.other.owed
+
+abbrev pub is_begun : Restart → Bool
+is_begun Begun = true
+is_begun Asking = false
+is_begun Ready = false
+
+-- A packet of a channel. Where no restart went before, nothing is said of restarts.
+abbrev pub runs_in : Restart → Layers → Layers
+runs_in Begun t = are_uncounted (goes_to Ready t)
+runs_in Asking t = if is_awaiting t then tells RestartAwaited (goes_to Ready t) else goes_to Ready t
+runs_in Ready t = goes_to Ready t
+
+abbrev pub runs : Layers → Layers
+runs t = runs_in t.own.restart t

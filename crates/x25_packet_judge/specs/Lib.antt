@@ -1,0 +1,12 @@
+pub mod Numbers
+pub mod PacketRuleText
+pub mod PacketRule
+pub mod Flow
+pub mod Message
+pub mod Terms
+pub mod Port
+pub mod Pair
+pub mod Talking
+pub mod Packets
+pub mod Layer
+pub mod Book

@@ -1,0 +1,77 @@
+-- Both ends of a logical channel: data, interrupts and resets, and the rules on them. ITU-T X.25 (10/96), sections 4.3 and 4.4; what
+-- is said behind a fault is profile.
+use Rattle.std.specs.Prelude.{ℕ, ◌==◌, nat_lt, Bool, true, false, not, ◌&&◌, if◌then◌else◌, Some}
+use Rattle.x25_packet_judge.specs.Flow.{heard, sent}
+use Rattle.x25_packet_judge.specs.Message.{after, broken}
+use Rattle.x25_packet_judge.specs.Pair.{with_own, with_other, tells, unknown, is_matched}
+use Rattle.x25_packet_judge.specs.Port as port
+use Rattle.x25_packet_judge.specs.declared.flow.FlowTold.{FlowTold}
+use Rattle.x25_packet_judge.specs.declared.packet_rule.PacketRule.TheVariants.{ResetAwaited, ResetUnasked, InterruptAgain, InterruptUnasked}
+use Rattle.x25_packet_judge.specs.declared.pair.Pair.{Pair}
+use Rattle.x25_packet_judge.specs.declared.port.Talk.{Talk}
+
+abbrev pub with_own_talk : Talk → Pair → Pair
+with_own_talk talk t = with_own (port.with_talk talk t.own) t
+
+abbrev pub with_other_talk : Talk → Pair → Pair
+with_other_talk talk t = with_other (port.with_talk talk t.other) t
+
+-- each end has sent as many RESETs and confirmations as the other
+abbrev pub is_together : Pair → Bool
+is_together t = is_matched t && (t.own.talk.owed == 0 && t.other.talk.owed == 0)
+
+-- ---- resetting (section 4.4.3)
+
+-- RESET or its confirmation
+abbrev pub marks_reset : Bool → Pair → Pair
+marks_reset is_resetting t =
+    with_own_talk (port.reset is_resetting t.own.talk) (with_other_talk (port.owing (is_matched t && t.own.talk.owed == 0) t.other.talk) t)
+
+-- one that is repeated while it waits leaves open what its confirmations answer
+abbrev pub resets : Pair → Pair
+resets t = if t.own.talk.is_resetting && nat_lt 0 t.other.talk.owed then unknown t else marks_reset true t
+
+abbrev pub confirms_reset : Pair → Pair
+confirms_reset t = if nat_lt 0 t.own.talk.owed then marks_reset false t else tells (Some ResetUnasked) t
+
+-- nothing else is sent until RESET is confirmed
+abbrev pub goes_on : Pair → Pair
+goes_on t = if t.own.talk.is_resetting && nat_lt 0 t.other.talk.owed
+    then tells (Some ResetAwaited) (with_own_talk (port.resetting false t.own.talk) t)
+    else with_own_talk (port.resetting false t.own.talk) t
+
+-- ---- data
+
+abbrev pub of_other : FlowTold → Pair → Pair
+of_other told t = tells told.rule (with_other_talk (port.with_flow told.flow t.other.talk) t)
+
+abbrev pub of_own : FlowTold → Pair → Pair
+of_own told t = tells told.rule (with_own_talk (port.with_flow told.flow t.own.talk) t)
+
+-- a P(R) is about the other end's data packets
+abbrev pub hears : ℕ → Pair → Pair
+hears number t = if is_together t then of_other (heard number t.other.talk.flow) t else t
+
+abbrev pub numbers : ℕ → Pair → Pair
+numbers number t = of_own (sent t.own.talk.window number t.own.talk.flow) t
+
+abbrev pub carries : Bool → Bool → ℕ → Pair → Pair
+carries m q size t =
+    with_own_talk (port.with_message (after m q) t.own.talk) (tells (broken t.own.talk.most m q size t.own.talk.message) t)
+
+-- DATA, by the number of its octets
+abbrev pub sends_data : Bool → Bool → ℕ → ℕ → ℕ → Pair → Pair
+sends_data m q ps pr size t = carries m q size (numbers ps (hears pr (goes_on t)))
+
+-- ---- interrupts (section 4.3.7)
+
+abbrev pub interrupts : Pair → Pair
+interrupts t = if t.own.talk.is_interrupting
+    then tells (Some InterruptAgain) (with_own_talk (port.interrupting true t.own.talk) t)
+    else with_own_talk (port.interrupting true t.own.talk) t
+
+abbrev pub confirms_interrupt : Pair → Pair
+confirms_interrupt t =
+    if not (is_together t) then t
+    else if t.other.talk.is_interrupting then with_other_talk (port.interrupting false t.other.talk) t
+    else tells (Some InterruptUnasked) t

@@ -1,0 +1,355 @@
+//! The packet layers of both ends and all their channels.
+ghost use Rattle.std.specs.Prelude.{◌≡◌, IfOk};
+ghost use Rattle.x25_frame.specs.PlainFrame.{plain as plain_frame};
+ghost use Rattle.x25_packet.specs.PlainPacket.{plain};
+ghost use Rattle.x25_packet_judge.specs.Book as definition;
+
+use crate::layer::{Layer, Layers};
+use crate::packet_rule::{PacketRule, first};
+use crate::pair::Pair;
+use crate::port::Port;
+use crate::ports::Ports;
+use std::alloc::{AllocError, Global};
+use x25_frame::{Frame, Role};
+use x25_packet::{Packet, channel, decode_within, longest_user};
+
+/// Both packet layers, and the ends of the channels.
+#[derive(Drop)]
+pub struct Book {
+    pub(crate) dte: Layer,
+    pub(crate) dce: Layer,
+    pub(crate) dte_ports: Ports,
+    pub(crate) dce_ports: Ports,
+}
+
+fn other(role: Role) -> Role
+    ensures { result ≡ definition.other role }
+{
+    match role {
+        Role::Dte => Role::Dce,
+        Role::Dce => Role::Dte,
+    }
+}
+
+impl Book {
+    /// Nothing was sent.
+    pub fn new(alloc: Global) -> Result<Book, AllocError>
+        ensures { IfOk result (λ book. book ≡ definition.empty) }
+    {
+        let dte_ports = Ports::new(alloc)?;
+        let dce_ports = Ports::new(alloc)?;
+        Ok(Book {
+            dte: Layer::unseen(),
+            dce: Layer::unseen(),
+            dte_ports,
+            dce_ports,
+        })
+    }
+
+    /// The end that sends, and the other one.
+    fn layers(&self, from: Role) -> Layers
+        ensures { result ≡ definition.layers_of from self.now }
+    {
+        match from {
+            Role::Dte => Layers {
+                own: self.dte,
+                other: self.dce,
+                rule: None,
+            },
+            Role::Dce => Layers {
+                own: self.dce,
+                other: self.dte,
+                rule: None,
+            },
+        }
+    }
+
+    fn keep(&mut self, from: Role, layers: Layers)
+        ensures { self.new ≡ definition.keeps from layers self.old }
+    {
+        match from {
+            Role::Dte => {
+                self.dte = layers.own;
+                self.dce = layers.other;
+            }
+            Role::Dce => {
+                self.dce = layers.own;
+                self.dte = layers.other;
+            }
+        }
+    }
+
+    /// The channels of an end are all as this one.
+    fn fill(&mut self, role: Role, port: Port)
+        ensures { self.new ≡ definition.fills role port self.old }
+    {
+        match role {
+            Role::Dte => self.dte_ports.fill(port),
+            Role::Dce => self.dce_ports.fill(port),
+        }
+    }
+
+    /// The channels of both ends are.
+    fn fill_both(&mut self, port: Port)
+        ensures { self.new ≡ definition.fills_both port self.old }
+    {
+        self.dte_ports.fill(port);
+        self.dce_ports.fill(port);
+    }
+
+    /// Both ends of a channel.
+    fn pair(&self, from: Role, reaches: bool, channel: u16) -> Pair
+        ensures { result ≡ definition.pair_of from reaches channel self.now }
+    {
+        match from {
+            Role::Dte => Pair {
+                from,
+                reaches,
+                own: self.dte_ports.get(channel),
+                other: self.dce_ports.get(channel),
+                rule: None,
+            },
+            Role::Dce => Pair {
+                from,
+                reaches,
+                own: self.dce_ports.get(channel),
+                other: self.dte_ports.get(channel),
+                rule: None,
+            },
+        }
+    }
+
+    fn put(&mut self, from: Role, channel: u16, pair: Pair)
+        ensures { self.new ≡ definition.puts from channel pair self.old }
+    {
+        match from {
+            Role::Dte => {
+                self.dte_ports.set(channel, pair.own);
+                self.dce_ports.set(channel, pair.other);
+            }
+            Role::Dce => {
+                self.dce_ports.set(channel, pair.own);
+                self.dte_ports.set(channel, pair.other);
+            }
+        }
+    }
+
+    /// A packet of a channel.
+    #[tactic(auto, unfolding(crate::specs::Book::takes_on))]
+    fn takes_on(
+        &mut self,
+        from: Role,
+        layers: Layers,
+        channel: u16,
+        packet: &Packet,
+    ) -> Option<PacketRule>
+        ensures book { self.new ≡ (definition.takes_on from layers channel (plain packet.now) self.old).book }
+        ensures rule { result ≡ (definition.takes_on from layers channel (plain packet.now) self.old).rule }
+    {
+        self.keep(from, layers);
+        if !layers.are_sure() {
+            return layers.rule;
+        }
+        let pair = self.pair(from, layers.are_level(), channel).sends(packet);
+        self.put(from, channel, pair);
+        first(layers.rule, pair.rule)
+    }
+
+    /// .. and where no restart went before, nothing is known of the end's channels.
+    #[tactic(auto, unfolding(crate::specs::Book::runs))]
+    fn runs(&mut self, from: Role, channel: u16, packet: &Packet) -> Option<PacketRule>
+        ensures book { self.new ≡ (definition.runs from channel (plain packet.now) self.old).book }
+        ensures rule { result ≡ (definition.runs from channel (plain packet.now) self.old).rule }
+    {
+        let layers = self.layers(from);
+        if layers.is_begun() {
+            self.fill(from, Port::blank());
+            self.takes_on(from, layers.runs(), channel, packet)
+        } else {
+            self.takes_on(from, layers.runs(), channel, packet)
+        }
+    }
+
+    /// A RESTART or its confirmation.
+    #[tactic(auto, unfolding(crate::specs::Book::restarts))]
+    fn restarts(&mut self, from: Role, layers: Layers) -> Option<PacketRule>
+        ensures book { self.new ≡ (definition.restarts from layers self.old).book }
+        ensures rule { result ≡ (definition.restarts from layers self.old).rule }
+    {
+        self.fill(from, Port::fresh());
+        self.keep(from, layers);
+        layers.rule
+    }
+
+    /// A packet; the rule that it breaks is answered.
+    #[tactic(auto, unfolding(crate::specs::Book::takes))]
+    fn takes(&mut self, from: Role, channel: u16, packet: &Packet) -> Option<PacketRule>
+        ensures book { self.new ≡ (definition.takes from channel (plain packet.now) self.old).book }
+        ensures rule { result ≡ (definition.takes from channel (plain packet.now) self.old).rule }
+    {
+        match packet {
+            Packet::Restart { .. } => self.restarts(from, self.layers(from).restarts()),
+            Packet::RestartConf => self.restarts(from, self.layers(from).confirms_restart()),
+            Packet::Call { .. }
+            | Packet::Accept { .. }
+            | Packet::Clear { .. }
+            | Packet::ClearConf { .. }
+            | Packet::Data { .. }
+            | Packet::Rr { .. }
+            | Packet::Rnr { .. }
+            | Packet::Interrupt { .. }
+            | Packet::InterruptConf { .. }
+            | Packet::Reset { .. }
+            | Packet::ResetConf { .. } => self.runs(from, channel, packet),
+        }
+    }
+
+    /// Octets that spell no packet: nothing may be said of their channel, or of restarts where they name none.
+    fn misses_on(&mut self, from: Role, channel: u16)
+        ensures { self.new ≡ definition.misses_on from channel self.old }
+    {
+        let layers = self.layers(from);
+        if channel == 0 {
+            self.keep(from, layers.unsure());
+        } else {
+            let pair = self.pair(from, layers.are_level(), channel).unknown();
+            self.put(from, channel, pair);
+        }
+    }
+
+    /// The information of an I frame; the rule that it breaks is answered.
+    #[tactic(auto, unfolding(crate::specs::Book::reads))]
+    fn reads(&mut self, from: Role, long_data: bool, octets: &[u8]) -> Option<PacketRule>
+        ensures book { self.new ≡ (definition.reads from long_data octets.now self.old).book }
+        ensures rule { result ≡ (definition.reads from long_data octets.now self.old).rule }
+    {
+        let Some(channel) = channel(octets) else {
+            return None;
+        };
+        match decode_within(longest_user(long_data), octets) {
+            Ok(packet) => self.takes(from, channel, &packet),
+            Err(_) => {
+                self.misses_on(from, channel);
+                None
+            }
+        }
+    }
+
+    /// An N(R): where it shows that packets of the other end weren't seen, nothing is known of its channels.
+    #[tactic(auto, unfolding(crate::specs::Book::hears))]
+    fn hears(&mut self, from: Role, number: u8)
+        ensures { self.new ≡ definition.hears from number self.old }
+    {
+        let layers = self.layers(from);
+        if layers.finds_other(number) {
+            self.fill(other(from), Port::blank());
+            self.keep(from, layers.hears(number));
+        } else {
+            self.keep(from, layers.hears(number));
+        }
+    }
+
+    /// An I frame that breaks no rule of the link layer; the rule that its packet breaks is answered.
+    #[tactic(auto, unfolding(crate::specs::Book::moves))]
+    fn moves(
+        &mut self,
+        from: Role,
+        long_data: bool,
+        number: u8,
+        octets: &[u8],
+    ) -> Option<PacketRule>
+        ensures book { self.new ≡ (definition.moves from long_data number octets.now self.old).book }
+        ensures rule { result ≡ (definition.moves from long_data number octets.now self.old).rule }
+    {
+        let layers = self.layers(from);
+        self.keep(from, layers.moves(number));
+        if layers.may_judge(number) {
+            self.reads(from, long_data, octets)
+        } else {
+            None
+        }
+    }
+
+    /// The link is set up for an end.
+    #[tactic(auto, unfolding(crate::specs::Book::begins))]
+    fn begins(&mut self, from: Role, layers: Layers)
+        ensures { self.new ≡ definition.begins from layers self.old }
+    {
+        self.fill_both(Port::fresh());
+        self.keep(from, layers);
+    }
+
+    /// An I frame, which breaks a rule of the link layer where `is_broken`.
+    #[tactic(auto, unfolding(crate::specs::Book::sends_info))]
+    fn info(
+        &mut self,
+        from: Role,
+        long_data: bool,
+        numbers: (u8, u8),
+        octets: &[u8],
+        is_broken: bool,
+    ) -> Option<PacketRule>
+        ensures book { self.new ≡ (definition.sends_info from long_data numbers.0 numbers.1 octets.now is_broken self.old).book }
+        ensures rule { result ≡ (definition.sends_info from long_data numbers.0 numbers.1 octets.now is_broken self.old).rule }
+    {
+        if is_broken {
+            self.keep(from, self.layers(from).lost());
+            None
+        } else {
+            self.hears(from, numbers.1);
+            self.moves(from, long_data, numbers.0, octets)
+        }
+    }
+
+    /// The end sends a frame, which breaks a rule of the link layer where `is_broken`; the rule that its packet breaks is answered.
+    #[tactic(auto, unfolding(crate::specs::Book::sees))]
+    pub fn sees(
+        &mut self,
+        from: Role,
+        long_data: bool,
+        frame: &Frame,
+        is_broken: bool,
+    ) -> Option<PacketRule>
+        ensures book { self.new ≡ (definition.sees from long_data (plain_frame frame.now) is_broken self.old).book }
+        ensures rule { result ≡ (definition.sees from long_data (plain_frame frame.now) is_broken self.old).rule }
+    {
+        match frame {
+            Frame::I { ns, nr, info, .. } => self.info(
+                from,
+                long_data,
+                (ns.get(), nr.get()),
+                info,
+                is_broken,
+            ),
+            Frame::Rr { nr, .. } | Frame::Rnr { nr, .. } | Frame::Rej { nr, .. } => {
+                self.hears(from, nr.get());
+                None
+            }
+            Frame::Sabm { .. } => {
+                self.begins(from, self.layers(from).asks());
+                None
+            }
+            Frame::Ua { .. } => {
+                self.begins(from, self.layers(from).accepts());
+                None
+            }
+            Frame::Dm { .. } => {
+                self.keep(from, self.layers(from).declines());
+                None
+            }
+            Frame::Disc { .. } => {
+                self.keep(from, self.layers(from).leaves());
+                None
+            }
+            Frame::Frmr { .. } => None,
+        }
+    }
+
+    /// The end sends octets that are no frame.
+    pub fn misses(&mut self, from: Role)
+        ensures { self.new ≡ definition.misses from self.old }
+    {
+        let next = self.layers(from).misses();
+        self.keep(from, next);
+    }
+}

@@ -1,0 +1,23 @@
+//! The rules of the packet layer, judged of a trace: which of them a frame breaks by the packet that it carries.
+//!
+//! docs/FORMATS.md has the rules and what is said of them. Profile.
+#![tactic(auto)]
+
+mod book;
+mod flow;
+mod layer;
+mod message;
+mod numbers;
+mod packet_rule;
+mod packet_rule_text;
+mod packets;
+mod pair;
+mod port;
+mod ports;
+mod talking;
+mod terms;
+
+pub use book::Book;
+pub use numbers::apart;
+pub use packet_rule::PacketRule;
+pub use packet_rule_text::{MOST_PACKET_RULE, push_packet_rule};

@@ -1,0 +1,105 @@
+//! Both ends of a logical channel, and any packet of it.
+ghost use Rattle.std.specs.Prelude.{◌≡◌};
+ghost use Rattle.x25_packet.specs.PlainPacket.{plain};
+ghost use Rattle.x25_packet_judge.specs.Packets as definition;
+
+use crate::packet_rule::PacketRule;
+use crate::pair::Pair;
+use crate::port::Call;
+use crate::terms::Terms;
+use x25_packet::Packet;
+
+impl Pair {
+    /// A packet that belongs to a call.
+    #[tactic(auto, unfolding(crate::specs::Packets::speaks))]
+    fn speaks(self, packet: &Packet) -> Pair
+        ensures { result ≡ definition.speaks (plain packet.now) self }
+    {
+        match packet {
+            Packet::Data {
+                q,
+                m,
+                ps,
+                pr,
+                user,
+                ..
+            } => self.data(*m, *q, ps.get(), pr.get(), user),
+            Packet::Rr { pr, .. } | Packet::Rnr { pr, .. } => self.goes_on().hears(pr.get()),
+            Packet::Interrupt { .. } => self.goes_on().interrupts(),
+            Packet::InterruptConf { .. } => self.goes_on().confirms_interrupt(),
+            Packet::Reset { .. } => self.resets(),
+            Packet::ResetConf { .. } => self.confirms_reset(),
+            Packet::Call { .. }
+            | Packet::Accept { .. }
+            | Packet::Clear { .. }
+            | Packet::ClearConf { .. }
+            | Packet::Restart { .. }
+            | Packet::RestartConf => self,
+        }
+    }
+
+    #[tactic(auto, unfolding(crate::specs::Packets::talks))]
+    fn talks(self, packet: &Packet) -> Pair
+        ensures { result ≡ definition.talks (plain packet.now) self }
+    {
+        if self.may_talk() {
+            self.with_own(self.own.in_call(Call::Open)).speaks(packet)
+        } else {
+            self.breaks(PacketRule::NoCall)
+        }
+    }
+
+    /// A packet, where the channel is known.
+    #[tactic(auto, unfolding(crate::specs::Packets::sends_known))]
+    fn sends_known(self, packet: &Packet) -> Pair
+        ensures { result ≡ definition.sends_known (plain packet.now) self }
+    {
+        match packet {
+            Packet::Clear { .. } => self.clears(),
+            Packet::ClearConf { .. } => self.confirms_clear(),
+            Packet::Call { facilities, .. } => self.starts().calls(Terms::usual().said(facilities)),
+            Packet::Accept { facilities, .. } => self.starts().accepts(facilities),
+            Packet::Restart { .. } | Packet::RestartConf => self,
+            Packet::Data { .. }
+            | Packet::Rr { .. }
+            | Packet::Rnr { .. }
+            | Packet::Interrupt { .. }
+            | Packet::InterruptConf { .. }
+            | Packet::Reset { .. }
+            | Packet::ResetConf { .. } => self.starts().talks(packet),
+        }
+    }
+
+    /// .. where it isn't.
+    #[tactic(auto, unfolding(crate::specs::Packets::sends_unknown))]
+    fn sends_unknown(self, packet: &Packet) -> Pair
+        ensures { result ≡ definition.sends_unknown (plain packet.now) self }
+    {
+        match packet {
+            Packet::Clear { .. } => self.clears_unknown(),
+            Packet::ClearConf { .. } => self.finds(),
+            Packet::Call { facilities, .. } => self.calls_unknown(Terms::usual().said(facilities)),
+            Packet::Accept { facilities, .. } => self.finds_call(facilities),
+            Packet::Restart { .. } | Packet::RestartConf => self,
+            Packet::Data { .. }
+            | Packet::Rr { .. }
+            | Packet::Rnr { .. }
+            | Packet::Interrupt { .. }
+            | Packet::InterruptConf { .. }
+            | Packet::Reset { .. }
+            | Packet::ResetConf { .. } => self.settles(),
+        }
+    }
+
+    /// The first end sends a packet of the channel.
+    #[tactic(auto, unfolding(crate::specs::Packets::sends))]
+    pub(crate) fn sends(self, packet: &Packet) -> Pair
+        ensures { result ≡ definition.sends (plain packet.now) self }
+    {
+        if self.is_known() {
+            self.sends_known(packet)
+        } else {
+            self.sends_unknown(packet)
+        }
+    }
+}

@@ -1,0 +1,258 @@
+//! Both ends of a logical channel: setting up and clearing.
+ghost use Rattle.std.specs.Prelude.{◌≡◌};
+ghost use Rattle.x25_packet_judge.specs.Pair as definition;
+
+use crate::packet_rule::{PacketRule, first};
+use crate::port::{Call, Port};
+use crate::terms::Terms;
+use x25_frame::Role;
+
+/// The end that sends a packet and the other end, and the first rule that the packet breaks.
+#[derive(Clone, Copy)]
+pub(crate) struct Pair {
+    /// Which end sends it.
+    pub(crate) from: Role,
+    /// Neither end is behind the other by a restart, so that the packet can be taken.
+    pub(crate) reaches: bool,
+    pub(crate) own: Port,
+    pub(crate) other: Port,
+    pub(crate) rule: Option<PacketRule>,
+}
+
+fn is_dce(role: Role) -> bool
+    ensures { result ≡ definition.is_dce role }
+{
+    matches!(role, Role::Dce)
+}
+
+impl Pair {
+    pub(crate) fn with_own(self, own: Port) -> Pair
+        ensures { result ≡ definition.with_own own self }
+    {
+        Pair { own, ..self }
+    }
+
+    pub(crate) fn with_other(self, other: Port) -> Pair
+        ensures { result ≡ definition.with_other other self }
+    {
+        Pair { other, ..self }
+    }
+
+    pub(crate) fn tells(self, rule: Option<PacketRule>) -> Pair
+        ensures { result ≡ definition.tells rule self }
+    {
+        Pair {
+            rule: first(self.rule, rule),
+            ..self
+        }
+    }
+
+    /// Nothing may be said of the channel.
+    pub(crate) fn unknown(self) -> Pair
+        ensures { result ≡ definition.unknown self }
+    {
+        self.with_own(self.own.unknown())
+            .with_other(self.other.unknown())
+    }
+
+    /// A rule is broken that leaves open where the call stands.
+    pub(crate) fn breaks(self, rule: PacketRule) -> Pair
+        ensures { result ≡ definition.breaks rule self }
+    {
+        self.tells(Some(rule)).unknown()
+    }
+
+    pub(crate) fn is_known(self) -> bool
+        ensures { result ≡ definition.is_known self }
+    {
+        self.own.is_known && self.other.is_known
+    }
+
+    /// Whether what is sent belongs to the same call at both ends.
+    pub(crate) fn is_matched(self) -> bool
+        ensures { result ≡ definition.is_matched self }
+    {
+        self.reaches && (self.own.owed == 0 && self.other.owed == 0)
+    }
+
+    // ---- clearing
+
+    /// A CLEAR or its confirmation.
+    fn marks(self, is_clearing: bool) -> Pair
+        ensures { result ≡ definition.marks is_clearing self }
+    {
+        let is_more = self.reaches && self.own.owed == 0;
+        self.with_other(self.other.owing(is_more))
+            .with_own(self.own.cleared(is_clearing))
+    }
+
+    pub(crate) fn clears(self) -> Pair
+        ensures { result ≡ definition.clears self }
+    {
+        let is_again = self.own.is_clearing && 0 < self.other.owed;
+        if is_again {
+            self.unknown()
+        } else {
+            self.marks(true)
+        }
+    }
+
+    pub(crate) fn confirms_clear(self) -> Pair
+        ensures { result ≡ definition.confirms_clear self }
+    {
+        if 0 < self.own.owed {
+            self.marks(false)
+        } else {
+            self.tells(Some(PacketRule::ClearUnasked))
+        }
+    }
+
+    /// Nothing but a CLEAR is sent until it is confirmed.
+    pub(crate) fn starts(self) -> Pair
+        ensures { result ≡ definition.starts self }
+    {
+        let next = self.with_own(self.own.clearing(false));
+        if self.own.is_clearing && 0 < self.other.owed {
+            next.tells(Some(PacketRule::ClearAwaited))
+        } else {
+            next
+        }
+    }
+
+    // ---- where nothing is known
+
+    pub(crate) fn clears_unknown(self) -> Pair
+        ensures { result ≡ definition.clears_unknown self }
+    {
+        self.with_own(self.own.clears_unknown())
+    }
+
+    pub(crate) fn calls_unknown(self, terms: Terms) -> Pair
+        ensures { result ≡ definition.calls_unknown terms self }
+    {
+        self.with_own(self.own.calls_unknown(terms))
+    }
+
+    pub(crate) fn settles(self) -> Pair
+        ensures { result ≡ definition.settles self }
+    {
+        self.with_own(self.own.settled())
+    }
+
+    /// A confirmation of a CLEAR makes the channel known.
+    pub(crate) fn finds(self) -> Pair
+        ensures { result ≡ definition.finds self }
+    {
+        if self.other.is_clearing {
+            self.with_own(Port::fresh()).with_other(self.other.found())
+        } else {
+            self.settles()
+        }
+    }
+
+    fn is_up(self, terms: Terms) -> Pair
+        ensures { result ≡ definition.is_up terms self }
+    {
+        self.with_own(Port::fresh().set_up(Call::Open, true, terms))
+            .with_other(Port::fresh().set_up(Call::Answered, false, terms))
+    }
+
+    /// An acceptance of a CALL makes the channel known, where not both ends called.
+    pub(crate) fn finds_call(self, field: &[u8]) -> Pair
+        ensures { result ≡ definition.finds_call field.now self }
+    {
+        if self.other.is_calling() && !self.own.is_calling() {
+            self.is_up(self.other.terms.said(field))
+        } else {
+            self.settles()
+        }
+    }
+
+    // ---- setting up
+
+    /// The other end may take the CALL. The DCE gives its own up where both called.
+    fn called(self, terms: Terms) -> Port
+        ensures { result ≡ definition.called terms self }
+    {
+        match self.other.call {
+            Call::Idle => self.other.in_call(Call::Called).proposing(terms),
+            Call::Calling => if is_dce(self.from) {
+                self.other.in_call(Call::Collided)
+            } else {
+                self.other.in_call(Call::Collided).proposing(terms)
+            },
+            Call::Called | Call::Collided | Call::Answered | Call::Open => self.other,
+        }
+    }
+
+    fn reaches_with(self, other: Port) -> Pair
+        ensures { result ≡ definition.reaches_with other self }
+    {
+        if self.is_matched() {
+            self.with_other(other)
+        } else {
+            self
+        }
+    }
+
+    pub(crate) fn calls(self, terms: Terms) -> Pair
+        ensures { result ≡ definition.calls terms self }
+    {
+        let next = self.reaches_with(self.called(terms));
+        match self.own.call {
+            Call::Idle => next.with_own(self.own.in_call(Call::Calling).proposing(terms)),
+            Call::Called => if is_dce(self.from) {
+                next.with_own(self.own.in_call(Call::Collided))
+            } else {
+                next.with_own(self.own.in_call(Call::Collided).proposing(terms))
+            },
+            Call::Calling | Call::Collided | Call::Answered | Call::Open => self.breaks(
+                PacketRule::CallAgain,
+            ),
+        }
+    }
+
+    /// The other end's call may be up now.
+    fn answered(self, terms: Terms) -> Port
+        ensures { result ≡ definition.answered terms self }
+    {
+        match self.other.call {
+            Call::Calling | Call::Collided => self.other.set_up(Call::Answered, false, terms),
+            Call::Idle | Call::Called | Call::Answered | Call::Open => self.other,
+        }
+    }
+
+    /// Whether there is a call to accept: where both called, that of the DTE.
+    fn may_accept(self) -> bool
+        ensures { result ≡ definition.may_accept self }
+    {
+        match self.own.call {
+            Call::Called => true,
+            Call::Collided => is_dce(self.from),
+            Call::Idle | Call::Calling | Call::Answered | Call::Open => false,
+        }
+    }
+
+    pub(crate) fn accepts(self, field: &[u8]) -> Pair
+        ensures { result ≡ definition.accepts field.now self }
+    {
+        if !self.may_accept() {
+            return self.breaks(PacketRule::AcceptUnasked);
+        }
+        let terms = self.own.terms.said(field);
+        self.reaches_with(self.answered(terms))
+            .with_own(self.own.set_up(Call::Open, true, terms))
+    }
+
+    // ---- data
+
+    /// Whether data may be sent.
+    pub(crate) fn may_talk(self) -> bool
+        ensures { result ≡ definition.may_talk self }
+    {
+        match self.own.call {
+            Call::Answered | Call::Open => true,
+            Call::Idle | Call::Called | Call::Calling | Call::Collided => false,
+        }
+    }
+}

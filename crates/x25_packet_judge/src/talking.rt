@@ -1,0 +1,147 @@
+//! Both ends of a logical channel: data, interrupts and resets.
+ghost use Rattle.std.specs.Prelude.{◌≡◌, length};
+ghost use Rattle.x25_packet.specs.PlainPacket.{plain};
+ghost use Rattle.x25_packet_judge.specs.Talking as definition;
+
+use crate::flow::FlowTold;
+use crate::message::Message;
+use crate::packet_rule::PacketRule;
+use crate::pair::Pair;
+use crate::port::Talk;
+
+impl Pair {
+    fn with_own_talk(self, talk: Talk) -> Pair
+        ensures { result ≡ definition.with_own_talk talk self }
+    {
+        self.with_own(self.own.with_talk(talk))
+    }
+
+    fn with_other_talk(self, talk: Talk) -> Pair
+        ensures { result ≡ definition.with_other_talk talk self }
+    {
+        self.with_other(self.other.with_talk(talk))
+    }
+
+    /// Whether what is sent belongs to the same stretch at both ends, from a set-up or a reset to the next.
+    fn is_together(self) -> bool
+        ensures { result ≡ definition.is_together self }
+    {
+        self.is_matched() && (self.own.talk.owed == 0 && self.other.talk.owed == 0)
+    }
+
+    // ---- resetting
+
+    /// A RESET or its confirmation.
+    fn marks_reset(self, is_resetting: bool) -> Pair
+        ensures { result ≡ definition.marks_reset is_resetting self }
+    {
+        let is_more = self.is_matched() && self.own.talk.owed == 0;
+        self.with_other_talk(self.other.talk.owing(is_more))
+            .with_own_talk(self.own.talk.reset(is_resetting))
+    }
+
+    pub(crate) fn resets(self) -> Pair
+        ensures { result ≡ definition.resets self }
+    {
+        let is_again = self.own.talk.is_resetting && 0 < self.other.talk.owed;
+        if is_again {
+            self.unknown()
+        } else {
+            self.marks_reset(true)
+        }
+    }
+
+    pub(crate) fn confirms_reset(self) -> Pair
+        ensures { result ≡ definition.confirms_reset self }
+    {
+        if 0 < self.own.talk.owed {
+            self.marks_reset(false)
+        } else {
+            self.tells(Some(PacketRule::ResetUnasked))
+        }
+    }
+
+    /// Nothing but a RESET is sent until it is confirmed.
+    pub(crate) fn goes_on(self) -> Pair
+        ensures { result ≡ definition.goes_on self }
+    {
+        let next = self.with_own_talk(self.own.talk.resetting(false));
+        if self.own.talk.is_resetting && 0 < self.other.talk.owed {
+            next.tells(Some(PacketRule::ResetAwaited))
+        } else {
+            next
+        }
+    }
+
+    // ---- numbers
+
+    fn of_other(self, told: FlowTold) -> Pair
+        ensures { result ≡ definition.of_other told self }
+    {
+        self.with_other_talk(self.other.talk.with_flow(told.flow))
+            .tells(told.rule)
+    }
+
+    fn of_own(self, told: FlowTold) -> Pair
+        ensures { result ≡ definition.of_own told self }
+    {
+        self.with_own_talk(self.own.talk.with_flow(told.flow))
+            .tells(told.rule)
+    }
+
+    /// A P(R) is about the other end's data packets.
+    pub(crate) fn hears(self, number: u8) -> Pair
+        ensures { result ≡ definition.hears number self }
+    {
+        if self.is_together() {
+            self.of_other(self.other.talk.flow.heard(number))
+        } else {
+            self
+        }
+    }
+
+    fn numbers(self, number: u8) -> Pair
+        ensures { result ≡ definition.numbers number self }
+    {
+        self.of_own(self.own.talk.flow.sent(self.own.talk.window, number))
+    }
+
+    fn carries(self, m: bool, q: bool, user: &[u8]) -> Pair
+        ensures { result ≡ definition.carries m q (length user.now) self }
+    {
+        let talk = self.own.talk;
+        self.tells(talk.message.broken(talk.most, m, q, user))
+            .with_own_talk(talk.with_message(Message::after(m, q)))
+    }
+
+    pub(crate) fn data(self, m: bool, q: bool, ps: u8, pr: u8, user: &[u8]) -> Pair
+        ensures { result ≡ definition.sends_data m q ps pr (length user.now) self }
+    {
+        self.goes_on().hears(pr).numbers(ps).carries(m, q, user)
+    }
+
+    // ---- interrupts
+
+    pub(crate) fn interrupts(self) -> Pair
+        ensures { result ≡ definition.interrupts self }
+    {
+        let next = self.with_own_talk(self.own.talk.interrupting(true));
+        if self.own.talk.is_interrupting {
+            next.tells(Some(PacketRule::InterruptAgain))
+        } else {
+            next
+        }
+    }
+
+    pub(crate) fn confirms_interrupt(self) -> Pair
+        ensures { result ≡ definition.confirms_interrupt self }
+    {
+        if !self.is_together() {
+            self
+        } else if self.other.talk.is_interrupting {
+            self.with_other_talk(self.other.talk.interrupting(false))
+        } else {
+            self.tells(Some(PacketRule::InterruptUnasked))
+        }
+    }
+}

@@ -1,0 +1,26 @@
+-- What was written is the transcript of a run of two stations, and what holds of it.
+use Rattle.std.specs.Prelude.{◌≡◌, ℕ, Bool, true, false, List, Option}
+use Rattle.std.specs.Io.KnownBytes.{Appends}
+use Rattle.x25_station.specs.declared.config.Cfg.{Cfg}
+use Rattle.x25_world.specs.World.{World}
+use Rattle.x25_world.specs.laws.Claims.{IsUpOnce, IsUpAtMostOnce}
+use Rattle.x25_sim.specs.Sayings.{Saying, sayings_text}
+use Rattle.x25_sim.specs.Simulated.{simulated}
+use Rattle.x25_sim.specs.laws.RunLaw.{entries_in, frames_in}
+
+-- What was written behind `old` is the text of sayings. The entries among these are the transcript of the two stations to which the script
+-- leads, and the frames, where they are asked for, their tap. Of these stations this holds.
+pub record Writes (Holds : Cfg → World → Type 0) (cfg : Cfg) (down tap : Bool) (script : List ℕ) (old now : Option (List ℕ)) : Type 0 where
+  pub sayings : List Saying
+  pub text : Appends old now (sayings_text sayings)
+  pub entries : entries_in sayings ≡ (simulated cfg down tap script).next.transcript
+  pub frames : tap ≡ true → frames_in sayings ≡ (simulated cfg down tap script).next.tap
+  pub holds : Holds cfg (simulated cfg down tap script).next
+
+-- .. as long as neither end goes up a second time
+abbrev pub WritesOnce : (Cfg → World → Type 0) → Cfg → Bool → Bool → List ℕ → Option (List ℕ) → Option (List ℕ) → Type 0
+WritesOnce Holds cfg down tap script old now = IsUpAtMostOnce cfg (simulated cfg down tap script).next → Writes Holds cfg down tap script old now
+
+-- .. of a script that begins with the link set up, which isn't set up anew
+abbrev pub WritesSetUp : (Cfg → World → Type 0) → Cfg → Bool → Bool → List ℕ → Option (List ℕ) → Option (List ℕ) → Type 0
+WritesSetUp Holds cfg down tap script old now = down ≡ false → IsUpOnce cfg (simulated cfg down tap script).next → Writes Holds cfg down tap script old now

@@ -1,0 +1,3 @@
+-- Worked rows, by computing.
+pub mod StationRows
+pub mod TimerRows

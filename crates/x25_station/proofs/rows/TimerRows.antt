@@ -1,0 +1,80 @@
+-- Worked rows of the marks of timer T1, computed on the definition.
+use Rattle.std.proofs.Common.{◌≡◌, [], ◌∷◌, true, false, None, Some, refl}
+use Rattle.x25_bits.specs.declared.role.Role.TheVariants.{Dte}
+use Rattle.x25_link.specs.declared.phase.Phase.TheVariants.{Waiting}
+use Rattle.x25_link.specs.declared.phase.Reason.TheVariants.{Reset}
+use Rattle.x25_link.specs.LinkStation.{LinkStation, with_nothing, fresh, pumped}
+use Rattle.x25_link.specs.MustSend.{quiet}
+use Rattle.x25_link.specs.Steps.{alone, goes_up}
+use Rattle.x25_circuit.specs.Circuit.{begun}
+use Rattle.x25_layer.specs.Layer as layer
+use Rattle.x25_station.specs.Settings.{Settings}
+use Rattle.x25_station.specs.Command.{Connects, Disconnects}
+use Rattle.x25_station.specs.Station.{Station, new_station}
+use Rattle.x25_station.specs.Steps.{Did, follows, commands, fires}
+use Rattle.x25_station.specs.laws.TimerLaw.{Comes, Asks, Fires, Off, On, Start, mark}
+
+abbrev dte : Settings
+dte = record { role = Dte; window = 7; retries = 1; channels = 1; long_data = false }
+
+abbrev awaits_ua : Station
+awaits_ua = record { link = with_nothing Waiting 0; layer = layer.at_rest }
+
+-- up, with two frames sent, of which none, one, or both are acknowledged
+abbrev with_two : LinkStation
+with_two = record fresh { outgoing = record { given = [] ∷ [] ∷ []; acked = 0; sent = 2; place = 2 } }
+
+abbrev with_one : LinkStation
+with_one = record fresh { outgoing = record { given = [] ∷ [] ∷ []; acked = 1; sent = 2; place = 2 } }
+
+abbrev with_none : LinkStation
+with_none = record fresh { outgoing = record { given = [] ∷ [] ∷ []; acked = 2; sent = 2; place = 2 } }
+
+abbrev up : LinkStation → Station
+up link = record { link = link; layer = layer.is_ready 1 (λ k. begun) }
+
+row_connect : mark new_station (Asks Connects) (commands dte new_station Connects) ≡ Start
+unfolding pumped
+row_connect = refl
+
+row_asks_again : mark awaits_ua Fires (fires dte awaits_ua) ≡ Start
+unfolding pumped
+row_asks_again = refl
+
+row_gives_up : mark (record awaits_ua { link = with_nothing Waiting 1 }) Fires (fires dte (record awaits_ua { link = with_nothing Waiting 1 })) ≡ Off
+unfolding pumped
+row_gives_up = refl
+
+-- RESTART goes in the step of the UA
+row_link_up : mark awaits_ua (Comes []) (Did (follows dte layer.at_rest (goes_up (alone (with_nothing Waiting 0))))) ≡ Start
+unfolding pumped
+row_link_up = refl
+
+-- .. and in that of a SABM in Up, though no number changes
+row_reset : mark (up with_two) (Comes []) (Did (follows dte (layer.is_ready 1 (λ k. begun)) (record { side = alone fresh; packet = None; notes = record { down = Some Reset; up = true } }))) ≡ Start
+unfolding pumped
+row_reset = refl
+
+row_nothing_heard : mark (up with_two) (Comes []) (Did (follows dte (layer.is_ready 1 (λ k. begun)) (quiet (alone with_two)))) ≡ On
+unfolding pumped
+row_nothing_heard = refl
+
+row_one_acknowledged : mark (up with_two) (Comes []) (Did (follows dte (layer.is_ready 1 (λ k. begun)) (quiet (alone with_one)))) ≡ Start
+unfolding pumped
+row_one_acknowledged = refl
+
+row_all_acknowledged : mark (up with_two) (Comes []) (Did (follows dte (layer.is_ready 1 (λ k. begun)) (quiet (alone with_none)))) ≡ Off
+unfolding pumped
+row_all_acknowledged = refl
+
+row_refused : mark (up with_two) (Asks Connects) (commands dte (up with_two) Connects) ≡ On
+unfolding pumped
+row_refused = refl
+
+row_refused_off : mark (up fresh) Fires (fires dte (up fresh)) ≡ Off
+unfolding pumped
+row_refused_off = refl
+
+row_disconnect : mark (up with_two) (Asks Disconnects) (commands dte (up with_two) Disconnects) ≡ Off
+unfolding pumped
+row_disconnect = refl

@@ -1,0 +1,52 @@
+-- Which states of the definition a station stands for, and what its calls answer.
+use Rattle.std.specs.Prelude.{◌≡◌, ◌⊎◌, map, Option, Some, None, Result, Err, OnOk, IfOk, IfErr, IsErrAnd}
+use Rattle.x25_frame.specs.Spelling.{spelling_of}
+use Rattle.x25_link.specs.code.Link.{ShownLink}
+use Rattle.x25_layer.specs.declared.layer.Layer as layer_code
+use Rattle.x25_station.specs.declared.station.Station as code
+use Rattle.x25_station.specs.declared.step.Step as code_step
+use Rattle.x25_station.specs.declared.error.StationError.{StationError}
+use Rattle.x25_station.specs.declared.error.StationError.TheVariants as error
+use Rattle.x25_station.specs.Settings.{Settings}
+use Rattle.x25_station.specs.Station.{Station}
+use Rattle.x25_station.specs.Steps.{Outcome, Did, Refused}
+use Rattle.x25_station.specs.code.FitsParts.{FitsParts}
+use Rattle.x25_station.specs.code.PlainEntry.{plain_entry}
+
+abbrev pub FitsStation : Settings → code.Station → Station → Type 0
+FitsStation c v s = FitsParts c v.link v.layer s
+
+-- ---- what a call leaves and answers, by what the definition says of it
+
+-- an accepted call leaves the station of the step
+abbrev pub LeavesParts : {T : Type 0} → Settings → ShownLink → layer_code.Layer → Result T StationError → Outcome → Type 0
+LeavesParts c l y result (Did step) = OnOk result (FitsParts c l y step.near)
+LeavesParts c l y result (Refused e) = Unit {0}
+
+abbrev pub Leaves : {T : Type 0} → Settings → code.Station → Result T StationError → Outcome → Type 0
+Leaves c v result outcome = LeavesParts c v.link v.layer result outcome
+
+-- the frames are those of the step, as the octets that spell them
+abbrev pub Sends : Settings → Result code_step.Step StationError → Outcome → Type 0
+Sends c result (Did step) = IfOk result (λ answer. map (λ frame. frame.items) answer.frames.items ≡ map (spelling_of c.role) step.out)
+Sends c result (Refused e) = Unit {0}
+
+-- the entries are those of the step
+abbrev pub Enters : Result code_step.Step StationError → Outcome → Type 0
+Enters result (Did step) = IfOk result (λ answer. map plain_entry answer.entries.items ≡ step.entries)
+Enters result (Refused e) = Unit {0}
+
+-- a call is refused where the definition refuses it, with its error or with 70, and else with 70 alone
+abbrev pub Refuses : {T : Type 0} → Result T StationError → Outcome → Type 0
+Refuses result (Did step) = IfErr result (λ e. e ≡ error.NoMemory)
+Refuses result (Refused e) = IsErrAnd result (λ found. (found ≡ e) ⊎ (found ≡ error.NoMemory))
+
+-- .. with its error and nothing else
+abbrev pub RefusesExactly : {T : Type 0} → Result T StationError → Outcome → Type 0
+RefusesExactly result (Did step) = IfErr result (λ e. e ≡ error.NoMemory)
+RefusesExactly result (Refused e) = result ≡ Err e
+
+-- a call that makes a station is refused with this, or else with 70 alone
+abbrev pub RefusesWith : {T : Type 0} → Result T StationError → Option StationError → Type 0
+RefusesWith result None = IfErr result (λ e. e ≡ error.NoMemory)
+RefusesWith result (Some e) = result ≡ Err e

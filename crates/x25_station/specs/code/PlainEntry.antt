@@ -1,0 +1,57 @@
+-- Which entry of the definition an entry of the code is.
+use Rattle.std.specs.Prelude.{string_bytes, Some}
+use Rattle.x25_circuit.specs.Notices.{PlainNotice, incoming, connected, collided, cleared, clear_done, was_reset, reset_done, delivered, interrupted, interrupt_done, fault}
+use Rattle.x25_circuit.specs.Calls.{Request, Calls, Accepts, Clears, Sends, Interrupts, Resets, SaysReady, SaysNotReady}
+use Rattle.x25_handshakes.specs.Names.{Name}
+use Rattle.x25_layer.specs.declared.stretch.Stretch.{Stretch}
+use Rattle.x25_layer.specs.Transcript as layer
+use Rattle.x25_station.specs.declared.entry.Entry.{Entry}
+use Rattle.x25_station.specs.declared.entry.Entry.TheVariants as code
+use Rattle.x25_station.specs.declared.entry.Said.{Said}
+use Rattle.x25_station.specs.declared.entry.Said.TheVariants as said
+use Rattle.x25_station.specs.declared.entry.Asked.{Asked}
+use Rattle.x25_station.specs.declared.entry.Asked.TheVariants as asked
+use Rattle.x25_station.specs.declared.entry.Told.{Told}
+use Rattle.x25_station.specs.declared.entry.Told.TheVariants as told
+use Rattle.x25_station.specs.Entries.{StationEntry, of_channel, restart_asked, connect_asked, disconnect_asked, link_up, link_down, was_restarted, restart_confirmed, at_fault}
+
+abbrev pub plain_name : Stretch → Name
+plain_name s = record { restarts = s.restarts; clears = s.clears; resets = s.resets }
+
+abbrev pub plain_asked : Asked → Request
+plain_asked (asked.Call called calling user params) = Calls (string_bytes called) (string_bytes calling) user.items params
+plain_asked (asked.Accept params) = Accepts (Some params)
+plain_asked asked.Clear = Clears
+plain_asked (asked.Send q user) = Sends q user.items
+plain_asked (asked.Interrupt user) = Interrupts user.items
+plain_asked asked.Reset = Resets
+plain_asked asked.Ready = SaysReady
+plain_asked asked.NotReady = SaysNotReady
+
+abbrev pub plain_told : Told → PlainNotice
+plain_told (told.Incoming called calling user params) = incoming (record { called = called.items; calling = calling.items; user = user.items; params = params })
+plain_told (told.Connected params) = connected params
+plain_told told.Collided = collided
+plain_told (told.Cleared cause diagnostic) = cleared cause diagnostic
+plain_told told.ClearDone = clear_done
+plain_told (told.WasReset cause diagnostic) = was_reset cause diagnostic
+plain_told told.ResetDone = reset_done
+plain_told (told.Delivered message) = delivered message
+plain_told (told.Interrupted user) = interrupted user.items
+plain_told told.InterruptDone = interrupt_done
+plain_told (told.Fault diagnostic) = fault diagnostic
+
+abbrev pub plain_said : Said → layer.Said
+plain_said (said.Asked what) = layer.Asked (plain_asked what)
+plain_said (said.Told what) = layer.Told (plain_told what)
+
+abbrev pub plain_entry : Entry → StationEntry
+plain_entry (code.OnChannel channel name what) = of_channel (record { channel = channel; name = plain_name name; said = plain_said what })
+plain_entry code.RestartAsked = restart_asked
+plain_entry code.ConnectAsked = connect_asked
+plain_entry code.DisconnectAsked = disconnect_asked
+plain_entry code.LinkUp = link_up
+plain_entry (code.LinkDown reason) = link_down reason
+plain_entry (code.WasRestarted cause diagnostic) = was_restarted cause diagnostic
+plain_entry code.RestartDone = restart_confirmed
+plain_entry (code.Fault diagnostic) = at_fault diagnostic

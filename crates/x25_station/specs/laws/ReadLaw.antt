@@ -1,0 +1,49 @@
+-- What the layers put the other end reads again: each packet's octets are octets, fit in an I frame, and read as the packet, with as much
+-- user data of a CALL as both ends may send.
+use Rattle.std.specs.Prelude.{◌≡◌, Bool, ℕ, ◌<◌, ◌≤◌, List, [], ◌∷◌, length, All, Ok}
+use Rattle.x25_packet.specs.PlainPacket.{PlainPacket}
+use Rattle.x25_packet.specs.Spelling.{spelling_of, longest_user}
+use Rattle.x25_packet.specs.Reading.{packet_of}
+use Rattle.x25_circuit.specs.Calls.{Request, Calls, Sends, Interrupts}
+use Rattle.x25_layer.specs.Calls.{LayerRequest, Asks, Dials, Restarts, PullsAll}
+use Rattle.x25_layer.specs.TwoLayers.{TwoLayers, Move, Requests, Event, run, start}
+use Rattle.x25_station.specs.Settings.{longest_packet}
+
+abbrev pub AreOctets : List ℕ → Type 0
+AreOctets xs = All (λ octet. octet < 256) xs
+
+pub record IsReadable (long_data : Bool) (packet : PlainPacket) : Type 0 where
+  pub octets : AreOctets (spelling_of packet)
+  pub short : length (spelling_of packet) ≤ longest_packet
+  pub reads : packet_of (longest_user long_data) (spelling_of packet) ≡ Ok packet
+
+abbrev pub AreReadable : Bool → List PlainPacket → Type 0
+AreReadable long_data [] = Unit {0}
+AreReadable long_data (packet ∷ packets) = IsReadable long_data packet × AreReadable long_data packets
+
+-- ---- what users hand down is octets
+
+abbrev pub AsksOctets : Request → Type 0
+AsksOctets (Calls called calling user params) = AreOctets user
+AsksOctets (Sends q user) = AreOctets user
+AsksOctets (Interrupts user) = AreOctets user
+AsksOctets request = Unit {0}
+
+abbrev pub RequestsOctets : LayerRequest → Type 0
+RequestsOctets (Asks h request) = AsksOctets request
+RequestsOctets (Dials called calling user params) = AreOctets user
+RequestsOctets Restarts = Unit {0}
+RequestsOctets PullsAll = Unit {0}
+
+abbrev pub MovesOctets : Move → Type 0
+MovesOctets (Requests is_full request) = RequestsOctets request
+MovesOctets move = Unit {0}
+
+abbrev pub BringOctets : List Event → Type 0
+BringOctets [] = Unit {0}
+BringOctets (e ∷ events) = MovesOctets e.what × BringOctets events
+
+-- whatever happens to two layers of at most 16 channels
+abbrev pub PutsAreReadable : Type 0
+PutsAreReadable = (long_data : Bool) (channels : ℕ) → channels ≤ 16 → (events : List Event) → BringOctets events →
+    let w : TwoLayers = run long_data channels events (start long_data channels) in AreReadable long_data w.near.given × AreReadable long_data w.far.given

@@ -1,0 +1,53 @@
+use std::alloc::{AllocError, Global};
+use std::test::Fail;
+use x25_link::Reason;
+use x25_station::{Entry, Role};
+use x25_transcript::entry_line;
+
+/// Why a link goes down, and its line at the DCE.
+static REASONS: [(Reason, &str); 8] = [
+    (Reason::Retries, "dce linkdown retries\n"),
+    (Reason::Disc, "dce linkdown disc\n"),
+    (Reason::Dm, "dce linkdown dm\n"),
+    (Reason::FrmrSent, "dce linkdown frmr-sent\n"),
+    (Reason::FrmrGot, "dce linkdown frmr-got\n"),
+    (Reason::Reset, "dce linkdown reset\n"),
+    (Reason::Local, "dce linkdown local\n"),
+    (Reason::Counts, "dce linkdown counts\n"),
+];
+
+#[test]
+fn says_why_the_link_went_down(rt: HostRuntime) -> Result<(), Fail> {
+    for &(reason, shown) in &REASONS {
+        let line = entry_line(rt.alloc(), Role::Dce, &Entry::LinkDown(reason))?;
+        assert_eq!(rt; line.as_slice(), shown.as_bytes());
+    }
+    Ok(())
+}
+
+fn rows(alloc: Global) -> Result<Vec<(Entry, &'static str)>, AllocError> {
+    Ok(vec![in alloc;
+        (Entry::LinkUp, "dte linkup\n"),
+        (Entry::RestartAsked, "dte restart\n"),
+        (Entry::ConnectAsked, "dte connect\n"),
+        (Entry::DisconnectAsked, "dte disconnect\n"),
+        (
+            Entry::WasRestarted {
+                cause: 7,
+                diagnostic: 0,
+            },
+            "dte restarted cause=7 diag=0\n",
+        ),
+        (Entry::RestartDone, "dte restartdone\n"),
+        (Entry::Fault { diagnostic: 17 }, "dte fault ch=0 diag=17\n"),
+    ]?)
+}
+
+#[test]
+fn shows_entries_of_the_station(rt: HostRuntime) -> Result<(), Fail> {
+    for (entry, shown) in rows(rt.alloc())? {
+        let line = entry_line(rt.alloc(), Role::Dte, &entry)?;
+        assert_eq!(rt; line.as_slice(), shown.as_bytes());
+    }
+    Ok(())
+}

@@ -1,0 +1,14 @@
+-- What holds over set-up and re-set-up: proofs of the claims on sessions.
+pub mod SessionTrace
+pub mod SessionReaches
+pub mod SessionJoined
+pub mod SessionEntries
+pub mod SessionKnown
+pub mod SessionLinks
+pub mod SessionGoes
+pub mod SessionFollows
+pub mod SessionMoves
+pub mod SessionRuns
+pub mod SessionsAlong
+pub mod acts
+pub mod claims

@@ -1,0 +1,203 @@
+-- What entries that an end's step adds say of its sessions, and of whom they meet.
+use Rattle.std.proofs.Common.{◌≡◌, ℕ, List, [], ◌∷◌, ◌++◌, Bool, true, false, if◌then◌else◌, Option, Some, None, refl, sym, ap, ap₂, ◌∙◌, subst, append_assoc}
+use Rattle.x25_bits.specs.declared.role.Role.{Role}
+use Rattle.x25_bits.specs.declared.role.Role.TheVariants.{Dte, Dce}
+use Rattle.x25_link.specs.declared.phase.Notes.{Notes}
+use Rattle.x25_link.specs.MustSend.{other}
+use Rattle.x25_link.specs.laws.NoteLaw.{IsQuiet}
+use Rattle.x25_link.specs.MustSend.{Step as LinkStep}
+use Rattle.x25_layer.specs.Layer.{LayerSettings, Layer, LayerNotice, on_channel, restarted, restart_done, layer_fault}
+use Rattle.x25_layer.specs.Calls.{LayerRequest, Asks, Dials, Restarts, PullsAll, LayerOutcome, Accepted, Declined}
+use Rattle.x25_layer.specs.Transcript.{Entry, Said, Asked, Told}
+use Rattle.x25_layer.specs.TwoLayers.{entries_asked}
+use Rattle.x25_layer.specs.laws.ApartLaw.{BeginsRestarted}
+use Rattle.x25_station.specs.Settings.{Settings, layer_settings}
+use Rattle.x25_station.specs.Entries.{StationEntry, of_channel, restart_asked, connect_asked, disconnect_asked, link_up, link_down, was_restarted, restart_confirmed, at_fault, of_channels, station_told, entries_noted, notice_of, layer_notices}
+use Rattle.x25_station.specs.Steps.{entries_of_outcome, layer_answer, entries_heard, follows}
+use Rattle.x25_world.specs.World.{AtEnd, entered}
+use Rattle.x25_world.specs.laws.Claims.{entry_of_end, entries_at}
+use Rattle.x25_world.specs.Sessions.{Progress, none_begun, after_entry, after_entries, is_in, entry_if, session_from, first_of, met_at, met_by, meets_from, meets}
+
+-- ---- one behind the other
+
+pub after_append : (p : Progress) (xs ys : List StationEntry) → after_entries p (xs ++ ys) ≡ after_entries (after_entries p xs) ys
+after_append p [] ys = refl
+after_append p (x ∷ xs) ys = after_append (after_entry p x) xs ys
+
+pub session_append : (n : ℕ) (p : Progress) (xs ys : List StationEntry) → session_from n p (xs ++ ys) ≡ session_from n p xs ++ session_from n (after_entries p xs) ys
+session_append n p [] ys = refl
+session_append n p (x ∷ xs) ys =
+    let q = after_entry p x in
+    ap (λ (l : List StationEntry). entry_if (is_in n q) x ++ l) (session_append n q xs ys) ∙ sym (append_assoc (entry_if (is_in n q) x) (session_from n q xs) (session_from n (after_entries q xs) ys))
+
+first_assoc : (a b c : Option ℕ) → first_of a (first_of b c) ≡ first_of (first_of a b) c
+first_assoc None b c = refl
+first_assoc (Some m) b c = refl
+
+met_append : (end : Role) (n : ℕ) (here there : Progress) (xs ys : List AtEnd)
+    → meets_from end n here there (xs ++ ys) ≡ first_of (meets_from end n here there xs) (meets_from end n (after_entries here (entries_at end xs)) (after_entries there (entries_at (other end) xs)) ys)
+met_append end n here there [] ys = refl
+met_append end n here there (x ∷ xs) ys =
+    let own = entry_of_end end x.at x.entry in
+    let others = entry_of_end (other end) x.at x.entry in
+    let h = after_entries here own in
+    let t = after_entries there others in
+    ap (λ (o : Option ℕ). first_of (met_by n here there own) o) (met_append end n h t xs ys)
+    ∙ first_assoc (met_by n here there own) (meets_from end n h t xs) (meets_from end n (after_entries h (entries_at end xs)) (after_entries t (entries_at (other end) xs)) ys)
+    ∙ ap₂ (λ (p q : Progress). first_of (first_of (met_by n here there own) (meets_from end n h t xs)) (meets_from end n p q ys)) (sym (after_append here own (entries_at end xs)))
+    (sym (after_append there others (entries_at (other end) xs)))
+
+first_none : (a : Option ℕ) → first_of a None ≡ a
+first_none None = refl
+first_none (Some m) = refl
+
+one_met : (n : ℕ) (here there : Progress) (e : StationEntry) → met_by n here there (e ∷ []) ≡ met_at n here there e
+one_met n here there e = first_none (met_at n here there e)
+
+-- entries of the end itself
+
+met_entered : (end : Role) (n : ℕ) (here there : Progress) (entries : List StationEntry) → meets_from end n here there (entered end entries) ≡ met_by n here there entries
+met_entered end n here there [] = refl
+met_entered Dte n here there (e ∷ entries) = ap₂ (λ (a b : Option ℕ). first_of a b) (one_met n here there e) (met_entered Dte n (after_entry here e) there entries)
+met_entered Dce n here there (e ∷ entries) = ap₂ (λ (a b : Option ℕ). first_of a b) (one_met n here there e) (met_entered Dce n (after_entry here e) there entries)
+
+none_entered : (end : Role) (n : ℕ) (here there : Progress) (entries : List StationEntry) → meets_from (other end) n here there (entered end entries) ≡ None
+none_entered end n here there [] = refl
+none_entered Dte n here there (e ∷ entries) = none_entered Dte n here (after_entry there e) entries
+none_entered Dce n here there (e ∷ entries) = none_entered Dce n here (after_entry there e) entries
+
+pub meets_more : (end : Role) (n : ℕ) (transcript : List AtEnd) (entries : List StationEntry)
+    → meets end n (transcript ++ entered end entries)
+    ≡ first_of (meets end n transcript) (met_by n (after_entries none_begun (entries_at end transcript)) (after_entries none_begun (entries_at (other end) transcript)) entries)
+meets_more end n transcript entries =
+    met_append end n none_begun none_begun transcript (entered end entries)
+    ∙ ap (λ (o : Option ℕ). first_of (meets end n transcript) o) (met_entered end n (after_entries none_begun (entries_at end transcript)) (after_entries none_begun (entries_at (other end) transcript)) entries)
+
+-- .. and of the other one
+pub meets_other : (end : Role) (n : ℕ) (transcript : List AtEnd) (entries : List StationEntry) → meets (other end) n (transcript ++ entered end entries) ≡ meets (other end) n transcript
+meets_other end n transcript entries =
+    met_append (other end) n none_begun none_begun transcript (entered end entries)
+    ∙ ap (λ (o : Option ℕ). first_of (meets (other end) n transcript) o)
+    (none_entered end n (after_entries none_begun (entries_at (other end) transcript)) (after_entries none_begun (entries_at (other (other end)) transcript)) entries)
+    ∙ first_none (meets (other end) n transcript)
+
+-- ---- whether they tell of a restart by the other end
+
+something : {A : Type 0} {B : Type 0} (x : B) (xs : List B) → x ∷ xs ≡ [] → A
+something x xs e = absurd (cc)
+
+pub none_met : (n : ℕ) (here there : Progress) (entries : List StationEntry) → layer_notices entries ≡ [] → met_by n here there entries ≡ None
+none_met n here there [] none = refl
+none_met n here there (of_channel e ∷ entries) none = none_met n here there entries (by e.said none)
+  where
+    by : (said : Said) → notice_of e.channel said ++ layer_notices entries ≡ [] → layer_notices entries ≡ []
+    by (Asked request) none = none
+    by (Told notice) none = something (on_channel e.channel notice) (layer_notices entries) none
+none_met n here there (restart_asked ∷ entries) none = none_met n here there entries none
+none_met n here there (connect_asked ∷ entries) none = none_met n here there entries none
+none_met n here there (disconnect_asked ∷ entries) none = none_met n here there entries none
+none_met n here there (link_up ∷ entries) none = none_met n (after_entry here link_up) there entries none
+none_met n here there (link_down reason ∷ entries) none = none_met n (after_entry here (link_down reason)) there entries none
+none_met n here there (was_restarted cause diagnostic ∷ entries) none = something (restarted cause diagnostic) (layer_notices entries) none
+none_met n here there (restart_confirmed ∷ entries) none = something restart_done (layer_notices entries) none
+none_met n here there (at_fault diagnostic ∷ entries) none = something (layer_fault diagnostic) (layer_notices entries) none
+
+-- ---- entries that aren't the link's
+
+abbrev pub IsPlain : StationEntry → Type 0
+IsPlain link_up = ⊥
+IsPlain (link_down reason) = ⊥
+IsPlain entry = Unit {0}
+
+abbrev pub ArePlain : List StationEntry → Type 0
+ArePlain [] = Unit {0}
+ArePlain (e ∷ entries) = IsPlain e × ArePlain entries
+
+plain_after : (p : Progress) (e : StationEntry) → IsPlain e → after_entry p e ≡ p
+plain_after p (of_channel e) h = refl
+plain_after p restart_asked h = refl
+plain_after p connect_asked h = refl
+plain_after p disconnect_asked h = refl
+plain_after p link_up h = absurd h
+plain_after p (link_down reason) h = absurd h
+plain_after p (was_restarted cause diagnostic) h = refl
+plain_after p restart_confirmed h = refl
+plain_after p (at_fault diagnostic) h = refl
+
+pub plain_progress : (p : Progress) (entries : List StationEntry) → ArePlain entries → after_entries p entries ≡ p
+plain_progress p [] h = refl
+plain_progress p (e ∷ entries) h = ap (λ (q : Progress). after_entries q entries) (plain_after p e h.0) ∙ plain_progress p entries h.1
+
+-- they are of the session that stands
+pub plain_here : (n : ℕ) (p : Progress) (entries : List StationEntry) → ArePlain entries → is_in n p ≡ true → session_from n p entries ≡ entries
+plain_here n p [] h here = refl
+plain_here n p (e ∷ entries) h here =
+    ap (λ (q : Progress). entry_if (is_in n q) e ++ session_from n q entries) (plain_after p e h.0) ∙ ap₂ (λ (b : Bool) (l : List StationEntry). entry_if b e ++ l) here (plain_here n p entries h.1 here)
+
+pub plain_elsewhere : (n : ℕ) (p : Progress) (entries : List StationEntry) → ArePlain entries → is_in n p ≡ false → session_from n p entries ≡ []
+plain_elsewhere n p [] h out = refl
+plain_elsewhere n p (e ∷ entries) h out =
+    ap (λ (q : Progress). entry_if (is_in n q) e ++ session_from n q entries) (plain_after p e h.0) ∙ ap₂ (λ (b : Bool) (l : List StationEntry). entry_if b e ++ l) out (plain_elsewhere n p entries h.1 out)
+
+-- where the first notice is a restart by the other end, its latest session is met
+pub restart_met : (n : ℕ) (here there : Progress) (entries : List StationEntry) → ArePlain entries → is_in n here ≡ true → BeginsRestarted (layer_notices entries) → met_by n here there entries ≡ Some there.begun
+restart_met n here there [] plain is begins = absurd begins
+restart_met n here there (of_channel e ∷ entries) plain is begins = restart_met n here there entries plain.1 is (by e.said begins)
+  where
+    by : (said : Said) → BeginsRestarted (notice_of e.channel said ++ layer_notices entries) → BeginsRestarted (layer_notices entries)
+    by (Asked request) begins = begins
+    by (Told notice) begins = absurd begins
+restart_met n here there (restart_asked ∷ entries) plain is begins = restart_met n here there entries plain.1 is begins
+restart_met n here there (connect_asked ∷ entries) plain is begins = restart_met n here there entries plain.1 is begins
+restart_met n here there (disconnect_asked ∷ entries) plain is begins = restart_met n here there entries plain.1 is begins
+restart_met n here there (link_up ∷ entries) plain is begins = absurd plain.0
+restart_met n here there (link_down reason ∷ entries) plain is begins = absurd plain.0
+restart_met n here there (was_restarted cause diagnostic ∷ entries) plain is begins =
+    ap (λ (b : Bool). first_of (if b then Some there.begun else None) (met_by n here there entries)) is
+restart_met n here there (restart_confirmed ∷ entries) plain is begins = absurd begins
+restart_met n here there (at_fault diagnostic ∷ entries) plain is begins = absurd begins
+
+-- in a session that doesn't stand none is met
+pub elsewhere_met : (n : ℕ) (here there : Progress) (entries : List StationEntry) → ArePlain entries → is_in n here ≡ false → met_by n here there entries ≡ None
+elsewhere_met n here there [] plain out = refl
+elsewhere_met n here there (e ∷ entries) plain out =
+    ap₂ (λ (a b : Option ℕ). first_of a b) (at_one e plain.0) (ap (λ (p : Progress). met_by n p there entries) (plain_after here e plain.0) ∙ elsewhere_met n here there entries plain.1 out)
+  where
+    at_one : (e : StationEntry) → IsPlain e → met_at n here there e ≡ None
+    at_one (of_channel e) h = refl
+    at_one restart_asked h = refl
+    at_one connect_asked h = refl
+    at_one disconnect_asked h = refl
+    at_one link_up h = refl
+    at_one (link_down reason) h = refl
+    at_one (was_restarted cause diagnostic) h = ap (λ (b : Bool). if b then Some there.begun else None) out
+    at_one restart_confirmed h = refl
+    at_one (at_fault diagnostic) h = refl
+
+-- ---- those of a step that notes nothing are such
+
+channel_plain : (es : List Entry) → ArePlain (of_channels es)
+channel_plain [] = tt
+channel_plain (e ∷ es) = (tt, channel_plain es)
+
+pub outcome_plain : (c : LayerSettings) (l : Layer) (request : LayerRequest) (o : LayerOutcome) → ArePlain (entries_of_outcome c l request o)
+outcome_plain c l (Asks h request) (Accepted next packet) = channel_plain (entries_asked c l next (Asks h request))
+outcome_plain c l (Dials called calling user params) (Accepted next packet) = channel_plain (entries_asked c l next (Dials called calling user params))
+outcome_plain c l Restarts (Accepted next packet) = (tt, tt)
+outcome_plain c l PullsAll (Accepted next packet) = tt
+outcome_plain c l request (Declined e) = tt
+
+told_plain : (l : Layer) (notices : List LayerNotice) → ArePlain (station_told l notices)
+told_plain l [] = tt
+told_plain l (on_channel h notice ∷ notices) = (tt, told_plain l notices)
+told_plain l (restarted cause diagnostic ∷ notices) = (tt, told_plain l notices)
+told_plain l (restart_done ∷ notices) = (tt, told_plain l notices)
+told_plain l (layer_fault diagnostic ∷ notices) = (tt, told_plain l notices)
+
+-- the entries of a packet that is handed up
+pub heard_plain : (c : Settings) (l : Layer) (k : LinkStep) (octets : List ℕ) → k.packet ≡ Some octets → IsQuiet k → ArePlain (follows c l k).entries
+heard_plain c l k octets some quiet =
+    subst ArePlain
+    (sym (ap (λ (o : Option (List ℕ)). entries_noted k.notes ++ entries_heard (layer_settings c) l o k.notes.down k.notes.up) some
+    ∙ ap (λ (n : Notes). entries_noted n ++ entries_heard (layer_settings c) l (Some octets) n.down n.up) quiet))
+    (told_plain (layer_answer (layer_settings c) l octets).next (layer_answer (layer_settings c) l octets).notices)

@@ -1,0 +1,199 @@
+-- A step of the link that hands nothing up: nothing is noted; or LinkDown; or LinkUp, by which a session begins.
+use Rattle.std.proofs.Common.{◌≡◌, ℕ, suc, ◌==◌, List, [], ◌∷◌, ◌++◌, map, Bool, true, false, Option, Some, None, refl, sym, ap, ap₂, ◌∙◌, subst, arith}
+use Rattle.x25_bits.specs.declared.role.Role.{Role}
+use Rattle.x25_frame.specs.PlainFrame.{PlainFrame}
+use Rattle.x25_frame.specs.Spelling.{spelling_of}
+use Rattle.x25_packet.specs.PlainPacket.{PlainPacket, restart}
+use Rattle.x25_link.specs.declared.phase.Reason.{Reason}
+use Rattle.x25_link.specs.declared.phase.Notes.{Notes}
+use Rattle.x25_link.specs.LinkStation.{LinkStation, is_up}
+use Rattle.x25_link.specs.MustSend.{Step as LinkStep}
+use Rattle.x25_link.specs.laws.NoteLaw.{IsQuiet, Tells}
+use Rattle.x25_line.specs.Stations as line
+use Rattle.x25_line.specs.Sessions.{Sessions}
+use Rattle.x25_line.specs.laws.SessionClaims.{octets_of, OnlyBegunHaveLists}
+use Rattle.x25_layer.specs.Layer.{rested, restart_cause, goes_up}
+use Rattle.x25_layer.specs.TwoLayers as layer
+use Rattle.x25_layer.specs.TwoLayers.{started}
+use Rattle.x25_layer.specs.Apart.{OwnMove, own_run}
+use Rattle.x25_station.specs.declared.config.Cfg.{Cfg}
+use Rattle.x25_station.specs.Settings.{settings_from}
+use Rattle.x25_station.specs.Entries.{StationEntry, connect_asked, disconnect_asked, link_up, link_down, entries_noted, layer_entries, layer_notices}
+use Rattle.x25_station.specs.Steps.{Step, follows, led_by}
+use Rattle.x25_station.specs.laws.KeepLaw.{IsKept}
+use Rattle.x25_station.specs.laws.JoinLaw.{station_with}
+use Rattle.x25_station.specs.laws.ReadLaw.{AreReadable}
+use Rattle.x25_world.specs.World.{World, after_step}
+use Rattle.x25_world.specs.laws.Claims.{link_of}
+use Rattle.x25_world.specs.Sessions.{Progress, is_in, entry_if}
+use Rattle.x25_world.proofs.Known.{IsConfigured, true_false}
+use Rattle.x25_world.proofs.sessions.SessionTrace.{layer_of, own, TakeNothing}
+use Rattle.x25_world.proofs.sessions.SessionReaches.{Beginning, MayAsk, SessionsReach, known_sessions}
+use Rattle.x25_world.proofs.sessions.SessionJoined.{HasMet, PairsAreInOrder, SessionsJoined}
+use Rattle.x25_world.proofs.sessions.SessionKnown.{SessionLaws, nothing_in_order, own_readable}
+use Rattle.x25_world.proofs.sessions.SessionLinks.{SessionGoes, puts_go, puts_up}
+use Rattle.x25_world.proofs.sessions.SessionGoes.{IsSilent, IsPrefix, not_in, rests, begins_session}
+
+-- the command that a step is of, if it is one of the link
+pub data Lead : Type 0 where
+  no_command : Lead
+  connect : Lead
+  disconnect : Lead
+
+-- its entry comes first
+abbrev pub lead_of : Lead → List StationEntry
+lead_of no_command = []
+lead_of connect = connect_asked ∷ []
+lead_of disconnect = disconnect_asked ∷ []
+
+-- ---- entries that aren't the layer's
+
+asked_entries : (b : Bool) (e : StationEntry) → layer_entries (e ∷ []) ≡ [] → layer_entries (entry_if b e ++ []) ≡ []
+asked_entries true e none = none
+asked_entries false e none = refl
+
+asked_told : (b : Bool) (e : StationEntry) → layer_notices (e ∷ []) ≡ [] → layer_notices (entry_if b e ++ []) ≡ []
+asked_told true e none = none
+asked_told false e none = refl
+
+asked_elsewhere : (n : ℕ) (p : Progress) (e : StationEntry) → (n ≡ p.begun → ⊥) → entry_if (is_in n p) e ++ [] ≡ []
+asked_elsewhere n p e differs = ap (λ (b : Bool). entry_if b e ++ []) (not_in n p differs)
+
+-- where nothing is noted
+quiet_silent : (lead : Lead) (p : Progress) (still : Bool) → p.stands ≡ still → IsSilent p still (lead_of lead ++ [])
+quiet_silent no_command p still same = record { progress = ap (λ (b : Bool). record { begun = p.begun; stands = b }) same; entries = λ n. refl; told = λ n. refl; all_entries = refl; all_told = refl; later = λ n differs. refl }
+quiet_silent connect p still same = record {
+  progress = ap (λ (b : Bool). record { begun = p.begun; stands = b }) same;
+  entries = λ n. asked_entries (is_in n p) connect_asked refl;
+  told = λ n. asked_told (is_in n p) connect_asked refl;
+  all_entries = refl;
+  all_told = refl;
+  later = λ n differs. asked_elsewhere n p connect_asked differs;
+}
+quiet_silent disconnect p still same = record {
+  progress = ap (λ (b : Bool). record { begun = p.begun; stands = b }) same;
+  entries = λ n. asked_entries (is_in n p) disconnect_asked refl;
+  told = λ n. asked_told (is_in n p) disconnect_asked refl;
+  all_entries = refl;
+  all_told = refl;
+  later = λ n differs. asked_elsewhere n p disconnect_asked differs;
+}
+
+-- LinkDown alone
+down_silent : (lead : Lead) (p : Progress) (reason : Reason) → IsSilent p false (lead_of lead ++ link_down reason ∷ [])
+down_silent no_command p reason = record { progress = refl; entries = λ n. refl; told = λ n. refl; all_entries = refl; all_told = refl; later = λ n differs. refl }
+down_silent connect p reason = record {
+  progress = refl;
+  entries = λ n. asked_entries (is_in n p) connect_asked refl;
+  told = λ n. asked_told (is_in n p) connect_asked refl;
+  all_entries = refl;
+  all_told = refl;
+  later = λ n differs. asked_elsewhere n p connect_asked differs;
+}
+down_silent disconnect p reason = record {
+  progress = refl;
+  entries = λ n. asked_entries (is_in n p) disconnect_asked refl;
+  told = λ n. asked_told (is_in n p) disconnect_asked refl;
+  all_entries = refl;
+  all_told = refl;
+  later = λ n differs. asked_elsewhere n p disconnect_asked differs;
+}
+
+-- LinkUp, after LinkDown or alone
+up_begins : (p : Progress) (down : Option Reason) → IsPrefix p.begun p (entries_noted (record { down = down; up = true }))
+up_begins p None = record {
+  progress = refl;
+  entries = λ m. asked_entries (m == suc p.begun) link_up refl;
+  told = λ m. asked_told (m == suc p.begun) link_up refl;
+  all_entries = refl;
+  all_told = refl;
+  others = λ m differs. asked_elsewhere m (record { begun = suc p.begun; stands = true }) link_up differs;
+}
+up_begins p (Some reason) = record {
+  progress = refl;
+  entries = λ m. asked_entries (m == suc p.begun) link_up refl;
+  told = λ m. asked_told (m == suc p.begun) link_up refl;
+  all_entries = refl;
+  all_told = refl;
+  others = λ m differs. asked_elsewhere m (record { begun = suc p.begun; stands = true }) link_up differs;
+}
+
+-- ---- the link's step, at `v`, and the layer's
+
+module _ {since : Beginning} (laws : SessionLaws) (cfg : Cfg) (fine : IsConfigured cfg) (end : Role) (w : World) (h : SessionsJoined since cfg end w) (lead : Lead) (back : List (List ℕ)) (k : LinkStep) (v : Sessions)
+    (reach : SessionsReach since cfg end v) (pairs : PairsAreInOrder cfg end h.trace v.met) (more : (n m : ℕ) → HasMet n m h.links.met → HasMet n m v.met) (tells : Tells w.near.link k) where
+  abbrev whole_step : Step
+  whole_step = led_by (lead_of lead) (follows (settings_from end cfg) w.near.layer k)
+
+  abbrev GoesTo : ℕ → Type 0
+  GoesTo n = SessionGoes (link_of cfg end) h.links v n k.side.near k.side.out [] [] back v.met
+
+  abbrev standing : Progress
+  standing = record { begun = h.links.near.begun; stands = is_up w.near.link.phase }
+
+  quiet_step : GoesTo h.links.near.begun → k.packet ≡ None → IsKept whole_step.near → IsQuiet k → SessionsJoined since cfg end (after_step (settings_from end cfg) w back whole_step)
+  quiet_step g none kept quiet =
+      let is = laws.stations.quiet (settings_from end cfg) w.near.layer k none quiet in
+      let step : Step = record { near = station_with k.side.near w.near.layer; out = k.side.out; entries = lead_of lead ++ [] } in
+      let same : step ≡ whole_step = ap (λ (s : Step). led_by (lead_of lead) s) (sym is) in
+      subst (λ (s : Step). SessionsJoined since cfg end (after_step (settings_from end cfg) w back s)) same
+      (rests cfg end w h step back v v.met g (quiet_silent lead standing (is_up k.side.near.phase) (sym (tells.stays quiet))) (λ still. (sym (tells.stays quiet) ∙ still, refl))
+      (subst (λ (s : Step). IsKept s.near) (sym same) kept) reach pairs more)
+
+  down_step : GoesTo h.links.near.begun → IsKept whole_step.near → (reason : Reason) → k.notes ≡ record { down = Some reason; up = false }
+      → SessionsJoined since cfg end (after_step (settings_from end cfg) w back whole_step)
+  down_step g kept reason noted =
+      let is = laws.stations.down (settings_from end cfg) w.near.layer k reason noted in
+      let step : Step = record { near = station_with k.side.near (rested w.near.layer); out = k.side.out; entries = lead_of lead ++ link_down reason ∷ [] } in
+      let same : step ≡ whole_step = ap (λ (s : Step). led_by (lead_of lead) s) (sym is) in
+      let off : is_up k.side.near.phase ≡ false = tells.left reason (ap (λ (n : Notes). n.down) noted) (ap (λ (n : Notes). n.up) noted) in
+      subst (λ (s : Step). SessionsJoined since cfg end (after_step (settings_from end cfg) w back s)) same
+      (rests cfg end w h step back v v.met g (subst (λ (b : Bool). IsSilent standing b (lead_of lead ++ link_down reason ∷ [])) (sym off) (down_silent lead standing reason)) (λ still. true_false (sym still ∙ off))
+      (subst (λ (s : Step). IsKept s.near) (sym same) kept) reach pairs more)
+
+  pub follows_silent : k.notes.up ≡ false → GoesTo h.links.near.begun → k.packet ≡ None → IsKept whole_step.near → SessionsJoined since cfg end (after_step (settings_from end cfg) w back whole_step)
+  follows_silent not_up g none kept = by k.notes.down refl
+    where
+      by : (o : Option Reason) → k.notes.down ≡ o → SessionsJoined since cfg end (after_step (settings_from end cfg) w back whole_step)
+      by None is = quiet_step g none kept (ap₂ (λ (d : Option Reason) (u : Bool). record { down = d; up = u }) is not_up)
+      by (Some reason) is = down_step g kept reason (ap₂ (λ (d : Option Reason) (u : Bool). record { down = d; up = u }) is not_up)
+
+  -- ---- a session begins
+
+  -- the layer's end in a session that isn't begun
+  not_begun : own cfg end (suc h.links.near.begun) h.trace ≡ started (goes_up (layer_of cfg end))
+  not_begun = ap (λ (l : List OwnMove). own_run (layer_of cfg end) l (started (goes_up (layer_of cfg end)))) (h.near.later (suc h.links.near.begun) (omega arith)).moves
+
+  restart_readable : AreReadable cfg.long_data (restart (restart_cause end) 0 ∷ [])
+  restart_readable =
+      let n = suc h.links.near.begun in
+      let m = suc h.links.far.begun in
+      subst (λ (e : layer.End). AreReadable cfg.long_data e.given) not_begun
+      (own_readable laws cfg fine end n m h.trace
+      (nothing_in_order cfg end h.trace n m (subst TakeNothing (sym (h.near.later n (omega arith)).moves) tt) (subst TakeNothing (sym (h.far.later m (omega arith)).moves) tt)) h.octets)
+
+  pub follows_up : ((octets : List ℕ) → MayAsk since end (line.Put octets)) → k.notes.up ≡ true → GoesTo (suc h.links.near.begun) → IsKept (follows (settings_from end cfg) w.near.layer k).near
+      → SessionsJoined since cfg end (after_step (settings_from end cfg) w back (follows (settings_from end cfg) w.near.layer k))
+  follows_up asks up g kept =
+      let c = link_of cfg end in
+      let step : Step = follows (settings_from end cfg) w.near.layer k in
+      let u = laws.stations.up (settings_from end cfg) w.near.layer k up (tells.fresh_up up) in
+      let packets : List PlainPacket = restart (restart_cause end) 0 ∷ [] in
+      let r = puts_go cfg end h.links v (suc h.links.near.begun) packets k.side [] [] back v.met asks reach g u.link.accepted restart_readable in
+      let still : is_up step.near.link.phase ≡ true = ap (λ (s : LinkStation). is_up s.phase) u.link.link ∙ puts_up laws.stations.put_tells c packets k.side (ap (λ (s : LinkStation). is_up s.phase) (tells.fresh_up up)) in
+      let begins : IsPrefix h.links.near.begun standing step.entries =
+      subst (λ (es : List StationEntry). IsPrefix h.links.near.begun standing es) (sym (u.entries ∙ ap (λ (b : Bool). entries_noted (record { down = k.notes.down; up = b })) up)) (up_begins standing k.notes.down) in
+      let known = known_sessions OnlyBegunHaveLists laws.begun cfg fine end h.links h.reach in
+      begins_session cfg end w h step back r.links v.met
+      (record {
+        station = r.goes.station ∙ sym u.link.link;
+        begun = r.goes.begun;
+        down = r.goes.down;
+        up = r.goes.up;
+        far = r.goes.far;
+        out = r.goes.out ∙ ap (λ (fs : List PlainFrame). octets_of h.links.out ++ map (spelling_of end) fs) (sym u.link.out);
+        back = r.goes.back;
+        sent = r.goes.sent ∙ ap (λ (fs : List PlainFrame). h.links.sent ++ fs) (sym u.link.out);
+        met = r.goes.met;
+      })
+      begins known.near still u.layer kept r.reach pairs more

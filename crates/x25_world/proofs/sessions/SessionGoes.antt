@@ -1,0 +1,494 @@
+-- A step of the near end, joined of a step of its link and moves of its layer: in the session that stands, at rest, or as a session begins.
+use Rattle.std.proofs.Common.{◌≡◌, ℕ, suc, ◌==◌, ◌≤◌, ◌<◌, ◌⊎◌, inl, inr, List, [], ◌∷◌, ◌++◌, map, Bool, true, false, ◌&&◌, if◌then◌else◌, Option, Some, None, refl, sym, ap, ap₂, ◌∙◌, subst, append-nil, arith}
+use Rattle.std.proofs.lemmas.Bool.{eqb-true, eq-eqb}
+use Rattle.x25_bits.specs.declared.role.Role.{Role}
+use Rattle.x25_bits.specs.declared.role.Role.TheVariants.{Dte, Dce}
+use Rattle.x25_frame.specs.PlainFrame.{PlainFrame}
+use Rattle.x25_frame.specs.Spelling.{spelling_of}
+use Rattle.x25_packet.specs.PlainPacket.{PlainPacket, restart}
+use Rattle.x25_link.specs.LinkStation.{is_up}
+use Rattle.x25_link.specs.MustSend.{other}
+use Rattle.x25_line.specs.Sessions.{SessionEnd, Meeting, Sessions, extended}
+use Rattle.x25_line.specs.laws.SessionClaims.{octets_of}
+use Rattle.x25_layer.specs.Layer.{Layer, LayerNotice, goes_up, restart_cause}
+use Rattle.x25_layer.specs.Transcript.{Entry}
+use Rattle.x25_layer.specs.Quiet.{AreNoFaults}
+use Rattle.x25_layer.specs.TwoLayers as layer
+use Rattle.x25_layer.specs.TwoLayers.{started}
+use Rattle.x25_layer.specs.Apart.{OwnMove, own_run}
+use Rattle.x25_layer.specs.laws.ApartLaw.{BeginsRestarted}
+use Rattle.x25_station.specs.declared.config.Cfg.{Cfg}
+use Rattle.x25_station.specs.Settings.{settings_from}
+use Rattle.x25_station.specs.Entries.{StationEntry, layer_entries, layer_notices}
+use Rattle.x25_station.specs.Station.{Station}
+use Rattle.x25_station.specs.Steps.{Step}
+use Rattle.x25_station.specs.laws.KeepLaw.{IsKept}
+use Rattle.x25_world.specs.World.{World, tapped, entered, after_step}
+use Rattle.x25_world.specs.laws.Claims.{entries_at, link_of}
+use Rattle.x25_world.specs.Sessions.{Progress, none_begun, after_entries, is_in, session_from, first_of, met_by, meets}
+use Rattle.x25_world.proofs.Growing.{spelled, spelled_none, grown, AreOnTap, entries_more, entries_other, layer_append, notices_append, on_tap}
+use Rattle.x25_world.proofs.Known.{true_false}
+use Rattle.x25_world.proofs.sessions.SessionTrace.{layer_of, Done, moved, own_in, own, own_more, own_same, own_other, own_goes, same_number, other_number, TakeNothing, nothing_append, BringOctets, octets_append}
+use Rattle.x25_world.proofs.sessions.SessionReaches.{Beginning, SessionsReach}
+use Rattle.x25_world.proofs.sessions.SessionJoined.{HaveAll, IsSession, IsLayer, IsEnd, HasMet, Meets, Hears, PairsAreInOrder, SessionsJoined}
+use Rattle.x25_world.proofs.sessions.SessionEntries.{after_append, session_append, meets_more, meets_other, none_met, ArePlain, plain_progress, plain_here, plain_elsewhere, restart_met, elsewhere_met}
+use Rattle.x25_world.proofs.sessions.SessionLinks.{SessionGoes, extended_none}
+
+-- ---- lists
+
+pub here_extended : (lists : ℕ → List (List ℕ)) (n : ℕ) (more : List (List ℕ)) → extended lists n more n ≡ lists n ++ more
+here_extended lists n more = ap (λ (b : Bool). if b then lists n ++ more else lists n) (same_number n)
+
+elsewhere_extended : (lists : ℕ → List (List ℕ)) (n m : ℕ) (more : List (List ℕ)) → (n ≡ m → ⊥) → extended lists m more n ≡ lists n
+elsewhere_extended lists n m more differs = ap (λ (b : Bool). if b then lists n ++ more else lists n) (other_number n m differs)
+
+-- one number or another
+pub same_or_not : {A : Type 0} (n m : ℕ) → (n ≡ m → A) → ((n ≡ m → ⊥) → A) → A
+same_or_not {A} n m same differs = by (n == m) refl
+  where
+    by : (b : Bool) → (n == m) ≡ b → A
+    by true is = same (eqb-true n m is)
+    by false is = differs (λ (e : n ≡ m). true_false (sym (eq-eqb n m e) ∙ is))
+
+pub not_in : (n : ℕ) (p : Progress) → (n ≡ p.begun → ⊥) → is_in n p ≡ false
+not_in n p differs = ap (λ (b : Bool). p.stands && b) (other_number n p.begun differs) ∙ by p.stands
+  where
+    by : (b : Bool) → (b && false) ≡ false
+    by true = refl
+    by false = refl
+
+is_here : (n : ℕ) → is_in n (record { begun = n; stands = true }) ≡ true
+is_here n = same_number n
+
+no_faults_append : (xs ys : List LayerNotice) → AreNoFaults xs → AreNoFaults ys → AreNoFaults (xs ++ ys)
+no_faults_append [] ys f g = g
+no_faults_append (x ∷ xs) ys f g = (f.0, no_faults_append xs ys f.1 g)
+
+nothing_of : (xs ys : List (List ℕ)) → xs ++ ys ≡ [] → xs ≡ []
+nothing_of [] ys e = refl
+nothing_of (x ∷ xs) ys e = absurd (cc)
+
+-- ---- entries that aren't the layer's
+
+-- behind them the same session stands, or not; none are of another
+pub record IsSilent (p : Progress) (still : Bool) (es : List StationEntry) : Type 0 where
+  pub progress : after_entries p es ≡ record { begun = p.begun; stands = still }
+  pub entries : (n : ℕ) → layer_entries (session_from n p es) ≡ []
+  pub told : (n : ℕ) → layer_notices (session_from n p es) ≡ []
+  pub all_entries : layer_entries es ≡ []
+  pub all_told : layer_notices es ≡ []
+  pub later : (n : ℕ) → (n ≡ p.begun → ⊥) → session_from n p es ≡ []
+
+-- behind them the next session stands
+pub record IsPrefix (n : ℕ) (p : Progress) (es : List StationEntry) : Type 0 where
+  pub progress : after_entries p es ≡ record { begun = suc n; stands = true }
+  pub entries : (m : ℕ) → layer_entries (session_from m p es) ≡ []
+  pub told : (m : ℕ) → layer_notices (session_from m p es) ≡ []
+  pub all_entries : layer_entries es ≡ []
+  pub all_told : layer_notices es ≡ []
+  pub others : (m : ℕ) → (m ≡ suc n → ⊥) → session_from m p es ≡ []
+
+-- ---- the layer in the session that stands
+
+-- the layer's end goes to this one: it has put and taken these packets, and has entered and told what these entries say
+pub record OwnGoes (e f : layer.End) (l : Layer) (put lifted : List PlainPacket) (es : List StationEntry) : Type 0 where
+  pub layer : f.layer ≡ l
+  pub out : f.is_out ≡ false
+  pub given : f.given ≡ e.given ++ put
+  pub taken : f.taken ≡ e.taken ++ lifted
+  pub entries : f.entries ≡ e.entries ++ layer_entries es
+  pub told : f.told ≡ e.told ++ layer_notices es
+
+session_goes : (e f : layer.End) (l : Layer) (put lifted : List PlainPacket) (es before all : List StationEntry) (down up down₂ up₂ : List (List ℕ)) → OwnGoes e f l put lifted es → IsSession e down up before
+    → all ≡ before ++ es → down₂ ≡ down ++ spelled put → up₂ ≡ up ++ spelled lifted → IsSession f down₂ up₂ all
+session_goes e f l put lifted es before all down up down₂ up₂ o h is more_down more_up = record {
+  down = grown down down₂ e.given f.given put h.down more_down o.given;
+  up = grown up up₂ e.taken f.taken lifted h.up more_up o.taken;
+  entries = o.entries ∙ ap (λ (l : List Entry). l ++ layer_entries es) h.entries ∙ sym (layer_append before es) ∙ ap layer_entries (sym is);
+  told = o.told ∙ ap (λ (l : List LayerNotice). l ++ layer_notices es) h.told ∙ sym (notices_append before es) ∙ ap layer_notices (sym is);
+}
+
+-- with nothing put or taken, and entries that aren't the layer's
+session_rests : (e f : layer.End) (before all more : List StationEntry) (down up down₂ up₂ : List (List ℕ)) → f ≡ e → IsSession e down up before → all ≡ before ++ more → layer_entries more ≡ []
+    → layer_notices more ≡ [] → down₂ ≡ down → up₂ ≡ up → IsSession f down₂ up₂ all
+session_rests e f before all more down up down₂ up₂ same h is none untold same_down same_up = record {
+  down = same_down ∙ h.down ∙ ap (λ (x : layer.End). spelled x.given) (sym same);
+  up = same_up ∙ h.up ∙ ap (λ (x : layer.End). spelled x.taken) (sym same);
+  entries = ap (λ (x : layer.End). x.entries) same ∙ h.entries ∙ sym (append-nil (layer_entries before)) ∙ ap (λ (l : List Entry). layer_entries before ++ l) (sym none)
+      ∙ sym (layer_append before more) ∙ ap layer_entries (sym is);
+  told = ap (λ (x : layer.End). x.told) same ∙ h.told ∙ sym (append-nil (layer_notices before)) ∙ ap (λ (l : List LayerNotice). layer_notices before ++ l) (sym untold)
+      ∙ sym (notices_append before more) ∙ ap layer_notices (sym is);
+}
+
+none_behind : (xs ys : List (List ℕ)) → xs ++ ys ≡ [] → ys ≡ []
+none_behind [] ys e = e
+none_behind (x ∷ xs) ys e = absurd (cc)
+
+-- ---- the other end
+
+-- its own moves are the same
+end_stays : (cfg : Cfg) (end : Role) (s : Station) (k : SessionEnd) (t t₂ : List Done) (es : List StationEntry) → ((n : ℕ) → own_in end n t₂ ≡ own_in end n t) → IsEnd cfg end s k t es → IsEnd cfg end s k t₂ es
+end_stays cfg end s k t t₂ es same h = record {
+  link = h.link;
+  kept = h.kept;
+  progress = h.progress;
+  first = h.first;
+  before = h.before;
+  sessions = λ n low high. subst (λ (e : layer.End). IsSession e (k.down n) (k.up n) (session_from n none_begun es)) (sym (own_stays n)) (h.sessions n low high);
+  later = λ n more. (let nothing = h.later n more in record { moves = same n ∙ nothing.moves; entries = nothing.entries });
+  now = λ up. subst (λ (e : layer.End). IsLayer e s) (sym (own_stays k.begun)) (h.now up);
+  alone = λ n none. subst TakeNothing (sym (same n)) (h.alone n none);
+  no_fault = h.no_fault;
+  first_has_all = h.first_has_all;
+}
+  where
+    own_stays : (n : ℕ) → own cfg end n t₂ ≡ own cfg end n t
+    own_stays n = ap (λ (l : List OwnMove). own_run (layer_of cfg end) l (started (goes_up (layer_of cfg end)))) (same n)
+
+-- ---- who is met
+
+hears_more : (Met Met₂ : ℕ → ℕ → Type 0) (n : ℕ) (up up₂ : List (List ℕ)) (old found all : Option ℕ) → ((m : ℕ) → Met n m → Met₂ n m) → all ≡ first_of old found
+    → (up ≡ [] → ((up₂ ≡ []) × (found ≡ None)) ⊎ Meets Met₂ n found) → Hears Met n up old → Hears Met₂ n up₂ all
+hears_more Met Met₂ n up up₂ old found all more is now h = elim h [
+  | inl none ↦ elim (now none.0) [
+    | inl still ↦ inl (still.0, is ∙ ap (λ (o : Option ℕ). first_of o found) none.1 ∙ still.1)
+    | inr some ↦ inr (record { session = some.session; told = is ∙ ap (λ (o : Option ℕ). first_of o found) none.1 ∙ some.told; has_met = some.has_met; begun = some.begun })
+  ]
+  | inr some ↦ inr (record { session = some.session; told = is ∙ ap (λ (o : Option ℕ). first_of o found) some.told; has_met = more some.session some.has_met; begun = some.begun })
+]
+
+-- the session that stands is restarted by the other end's latest one
+pub record IsNews (n m : ℕ) (met : List Meeting) (notices : List LayerNotice) : Type 0 where
+  pub has_met : HasMet n m met
+  pub restarts : BeginsRestarted notices
+  pub begun : 1 ≤ m
+
+module _ {since : Beginning} (cfg : Cfg) (end : Role) (w : World) (h : SessionsJoined since cfg end w) (step : Step) (back : List (List ℕ)) (v : Sessions) (met : List Meeting) where
+  abbrev session : ℕ
+  session = h.links.near.begun
+
+  abbrev told_before : List StationEntry
+  told_before = entries_at end w.transcript
+
+  abbrev told_there : List StationEntry
+  told_there = entries_at (other end) w.transcript
+
+  abbrev standing : Progress
+  standing = record { begun = session; stands = is_up w.near.link.phase }
+
+  -- the entries of a session
+  session_more : (n : ℕ) → session_from n none_begun (told_before ++ step.entries) ≡ session_from n none_begun told_before ++ session_from n standing step.entries
+  session_more n =
+      session_append n none_begun told_before step.entries
+      ∙ ap (λ (p : Progress). session_from n none_begun told_before ++ session_from n p step.entries) h.near.progress
+
+  all_more : HaveAll (session_from 1 none_begun told_before) told_before → HaveAll (session_from 1 standing step.entries) step.entries
+      → HaveAll (session_from 1 none_begun (told_before ++ step.entries)) (told_before ++ step.entries)
+  all_more before more = record {
+    entries = ap layer_entries (session_more 1) ∙ layer_append (session_from 1 none_begun told_before) (session_from 1 standing step.entries)
+        ∙ ap₂ (λ (a b : List Entry). a ++ b) before.entries more.entries ∙ sym (layer_append told_before step.entries);
+    told = ap layer_notices (session_more 1) ∙ notices_append (session_from 1 none_begun told_before) (session_from 1 standing step.entries)
+        ∙ ap₂ (λ (a b : List LayerNotice). a ++ b) before.told more.told ∙ sym (notices_append told_before step.entries);
+  }
+
+  progress_more : after_entries none_begun (told_before ++ step.entries) ≡ after_entries standing step.entries
+  progress_more = after_append none_begun told_before step.entries ∙ ap (λ (p : Progress). after_entries p step.entries) h.near.progress
+
+  abbrev found : ℕ → Option ℕ
+  found n = met_by n standing (after_entries none_begun told_there) step.entries
+
+  meets_now : (n : ℕ) → meets end n (w.transcript ++ entered end step.entries) ≡ first_of (meets end n w.transcript) (found n)
+  meets_now n = meets_more end n w.transcript step.entries
+      ∙ ap (λ (p : Progress). first_of (meets end n w.transcript) (met_by n p (after_entries none_begun told_there) step.entries)) h.near.progress
+
+  -- the sessions of both ends, where the near end's part is known
+  joined_of : (moves : List OwnMove) (at : ℕ) → SessionsReach since cfg end v → v.far ≡ h.links.far → octets_of v.out ≡ octets_of h.links.out ++ map (spelling_of end) step.out → octets_of v.back ≡ back
+      → v.sent ≡ h.links.sent ++ step.out → v.met ≡ met → IsEnd cfg end step.near v.near (h.trace ++ moved end at moves) (told_before ++ step.entries) → BringOctets (moved end at moves)
+      → PairsAreInOrder cfg end (h.trace ++ moved end at moves) met → ((n m : ℕ) → HasMet n m h.links.met → HasMet n m met)
+      → ((n : ℕ) → Hears (λ (n m : ℕ). HasMet n m met) n (v.near.up n) (meets end n (w.transcript ++ entered end step.entries)))
+      → SessionsJoined since cfg end (after_step (settings_from end cfg) w back step)
+  joined_of moves at reach far out left sent same_met near octets pairs more hears = record {
+    links = v;
+    trace = h.trace ++ moved end at moves;
+    reach = reach;
+    near = subst (λ (es : List StationEntry). IsEnd cfg end step.near v.near (h.trace ++ moved end at moves) es) (sym (entries_more end w.transcript step.entries)) near;
+    far = subst (λ (es : List StationEntry). IsEnd cfg (other end) w.far v.far (h.trace ++ moved end at moves) es) (sym (entries_other end w.transcript step.entries))
+        (subst (λ (k : SessionEnd). IsEnd cfg (other end) w.far k (h.trace ++ moved end at moves) told_there) (sym far)
+        (end_stays cfg (other end) w.far h.links.far h.trace (h.trace ++ moved end at moves) told_there (λ n. own_other end n at h.trace moves) h.far));
+    out = out ∙ ap (λ (os : List (List ℕ)). os ++ map (spelling_of end) step.out) h.out;
+    back = left;
+    tap = subst (λ (fs : List PlainFrame). AreOnTap (w.tap ++ tapped end (map (spelling_of end) step.out)) fs) (sym sent) (on_tap end w.tap h.links.sent step.out h.tap);
+    octets = octets_append h.trace (moved end at moves) h.octets octets;
+    pairs = subst (PairsAreInOrder cfg end (h.trace ++ moved end at moves)) (sym same_met) pairs;
+    near_hears = λ n. subst (λ (ms : List Meeting). Hears (λ (n m : ℕ). HasMet n m ms) n (v.near.up n) (meets end n (w.transcript ++ entered end step.entries))) (sym same_met) (hears n);
+    far_hears = λ n. subst (λ (ms : List Meeting). Hears (λ (n m : ℕ). HasMet m n ms) n (v.far.up n) (meets (other end) n (w.transcript ++ entered end step.entries))) (sym same_met)
+        (hears_more (λ (n m : ℕ). HasMet m n h.links.met) (λ (n m : ℕ). HasMet m n met) n (h.links.far.up n) (v.far.up n) (meets (other end) n w.transcript) None
+        (meets (other end) n (w.transcript ++ entered end step.entries)) (λ m has. more m n has) (meets_other end n w.transcript step.entries ∙ sym (with_none (meets (other end) n w.transcript)))
+        (λ none. inl (ap (λ (k : SessionEnd). k.up n) far ∙ none, refl)) (h.far_hears n));
+  }
+    where
+      with_none : (o : Option ℕ) → first_of o None ≡ o
+      with_none None = refl
+      with_none (Some m) = refl
+
+  -- ---- in the session that stands
+
+  module _ (moves : List OwnMove) (packets lifted : List PlainPacket) (g : SessionGoes (link_of cfg end) h.links v session step.near.link step.out (spelled packets) (spelled lifted) back met)
+      (o : OwnGoes (own cfg end session h.trace) (own_run (layer_of cfg end) moves (own cfg end session h.trace)) step.near.layer packets lifted step.entries) (up : is_up w.near.link.phase ≡ true)
+      (still : is_up step.near.link.phase ≡ true) (plain : ArePlain step.entries) (kept : IsKept step.near) where
+    abbrev trace_on : List Done
+    trace_on = h.trace ++ moved end session moves
+
+    stands_here : is_in session standing ≡ true
+    stands_here = ap (λ (b : Bool). b && (session == session)) up ∙ same_number session
+
+    own_elsewhere : (n : ℕ) → (n ≡ session → ⊥) → own cfg end n trace_on ≡ own cfg end n h.trace
+    own_elsewhere n differs = ap (λ (l : List OwnMove). own_run (layer_of cfg end) l (started (goes_up (layer_of cfg end)))) (own_same end n session h.trace moves differs)
+
+    up_here : v.near.up session ≡ h.links.near.up session ++ spelled lifted
+    up_here = g.up session ∙ here_extended h.links.near.up session (spelled lifted)
+
+    up_elsewhere : (n : ℕ) → (n ≡ session → ⊥) → v.near.up n ≡ h.links.near.up n
+    up_elsewhere n differs = g.up n ∙ elsewhere_extended h.links.near.up n session (spelled lifted) differs
+
+    abbrev IsSessionOn : ℕ → Type 0
+    IsSessionOn n = IsSession (own cfg end n trace_on) (v.near.down n) (v.near.up n) (session_from n none_begun (told_before ++ step.entries))
+
+    session_here : IsSessionOn session
+    session_here =
+        session_goes (own cfg end session h.trace) (own cfg end session trace_on) step.near.layer packets lifted step.entries (session_from session none_begun told_before)
+        (session_from session none_begun (told_before ++ step.entries)) (h.links.near.down session) (h.links.near.up session) (v.near.down session) (v.near.up session)
+        (subst (λ (e : layer.End). OwnGoes (own cfg end session h.trace) e step.near.layer packets lifted step.entries) (sym (own_goes cfg end session h.trace moves)) o)
+        (h.near.sessions session (h.near.first up) (omega arith))
+        (session_more session ∙ ap (λ (l : List StationEntry). session_from session none_begun told_before ++ l) (plain_here session standing step.entries plain stands_here))
+        (g.down session ∙ here_extended h.links.near.down session (spelled packets)) up_here
+
+    session_elsewhere : (n : ℕ) → 1 ≤ n → n ≤ session → (n ≡ session → ⊥) → IsSessionOn n
+    session_elsewhere n low high differs =
+        session_rests (own cfg end n h.trace) (own cfg end n trace_on) (session_from n none_begun told_before) (session_from n none_begun (told_before ++ step.entries)) []
+        (h.links.near.down n) (h.links.near.up n) (v.near.down n) (v.near.up n) (own_elsewhere n differs) (h.near.sessions n low high)
+        (session_more n ∙ ap (λ (l : List StationEntry). session_from n none_begun told_before ++ l) (plain_elsewhere n standing step.entries plain (not_in n standing differs)))
+        refl refl (g.down n ∙ elsewhere_extended h.links.near.down n session (spelled packets) differs) (up_elsewhere n differs)
+
+    nothing_taken : (lifted ≡ [] → TakeNothing moves) → (n : ℕ) → v.near.up n ≡ [] → TakeNothing (own_in end n trace_on)
+    nothing_taken alone n none = same_or_not n session here elsewhere
+      where
+        elsewhere : (n ≡ session → ⊥) → TakeNothing (own_in end n trace_on)
+        elsewhere differs = subst TakeNothing (sym (own_same end n session h.trace moves differs)) (h.near.alone n (sym (up_elsewhere n differs) ∙ none))
+
+        at_session : v.near.up session ≡ [] → TakeNothing (own_in end session trace_on)
+        at_session none =
+            let both = sym up_here ∙ none in
+            subst TakeNothing (sym (own_more end session h.trace moves))
+            (nothing_append (own_in end session h.trace) moves (h.near.alone session (nothing_of (h.links.near.up session) (spelled lifted) both))
+            (alone (spelled_none lifted (none_behind (h.links.near.up session) (spelled lifted) both))))
+
+        here : n ≡ session → TakeNothing (own_in end n trace_on)
+        here is = subst (λ (k : ℕ). TakeNothing (own_in end k trace_on)) (sym is) (at_session (ap v.near.up (sym is) ∙ none))
+
+    near_goes_on : (lifted ≡ [] → TakeNothing moves) → AreNoFaults (layer_notices step.entries) → IsEnd cfg end step.near v.near trace_on (told_before ++ step.entries)
+    near_goes_on alone no_fault = record {
+      link = g.station;
+      kept = kept;
+      progress = progress_more ∙ plain_progress standing step.entries plain ∙ ap₂ (λ (n : ℕ) (b : Bool). record { begun = n; stands = b }) (sym g.begun) (up ∙ sym still);
+      first = λ _. subst (λ (n : ℕ). 1 ≤ n) (sym g.begun) (h.near.first up);
+      before = (
+        g.down 0 ∙ elsewhere_extended h.links.near.down 0 session (spelled packets) none ∙ h.near.before.0,
+        up_elsewhere 0 none ∙ h.near.before.1,
+      );
+      sessions = λ n low high. (let most = subst (λ (m : ℕ). n ≤ m) g.begun high in
+          same_or_not n session (λ (is : n ≡ session). subst IsSessionOn (sym is) session_here) (λ (differs : n ≡ session → ⊥). session_elsewhere n low most differs));
+      later = λ n more. (let above = subst (λ (m : ℕ). m < n) g.begun more in
+          let differs = over n above in
+          let nothing = h.near.later n above in
+          record {
+            moves = own_same end n session h.trace moves differs ∙ nothing.moves;
+            entries = session_more n ∙ ap₂ (λ (a b : List StationEntry). a ++ b) nothing.entries (plain_elsewhere n standing step.entries plain (not_in n standing differs));
+          });
+      now = λ _. subst (λ (n : ℕ). IsLayer (own cfg end n trace_on) step.near) (sym g.begun)
+          (subst (λ (e : layer.End). IsLayer e step.near) (sym (own_goes cfg end session h.trace moves)) (record { layer = o.layer; out = o.out }));
+      alone = nothing_taken alone;
+      no_fault = subst AreNoFaults (sym (notices_append told_before step.entries)) (no_faults_append (layer_notices told_before) (layer_notices step.entries) h.near.no_fault no_fault);
+      first_has_all = λ low. (let most = subst (λ (n : ℕ). n ≤ 1) g.begun low in
+          let all = plain_here 1 standing step.entries plain (subst (λ (n : ℕ). is_in n standing ≡ true) (first_one session (h.near.first up) most) stands_here) in
+          all_more (h.near.first_has_all most) (record { entries = ap layer_entries all; told = ap layer_notices all }));
+    }
+      where
+        first_one : (n : ℕ) → 1 ≤ n → n ≤ 1 → n ≡ 1
+        first_one n low high = omega (arith, low, high)
+
+        none : 0 ≡ session → ⊥
+        none is = (let low = h.near.first up in omega (arith, low, is))
+
+        over : (n : ℕ) → session < n → n ≡ session → ⊥
+        over n more is = omega (arith, more, is)
+
+    abbrev HasMetOn : ℕ → ℕ → Type 0
+    HasMetOn n m = HasMet n m met
+
+    abbrev all_of : ℕ → Option ℕ
+    all_of n = meets end n (w.transcript ++ entered end step.entries)
+
+    pub goes_on : SessionsReach since cfg end v → (lifted ≡ [] → TakeNothing moves) → AreNoFaults (layer_notices step.entries) → BringOctets (moved end session moves)
+        → PairsAreInOrder cfg end trace_on met → ((n m : ℕ) → HasMet n m h.links.met → HasMet n m met)
+        → ((own cfg end session h.trace).taken ≡ [] → ((lifted ≡ []) × (layer_notices step.entries ≡ [])) ⊎ IsNews session h.links.far.begun met (layer_notices step.entries))
+        → SessionsJoined since cfg end (after_step (settings_from end cfg) w back step)
+    goes_on reach alone no_fault octets pairs more news =
+        joined_of moves session reach g.far g.out g.back g.sent g.met (near_goes_on alone no_fault) octets pairs more hears
+      where
+        far_begun : (after_entries none_begun told_there).begun ≡ h.links.far.begun
+        far_begun = ap (λ (p : Progress). p.begun) h.far.progress
+
+        here : h.links.near.up session ≡ [] → ((v.near.up session ≡ []) × (found session ≡ None)) ⊎ Meets HasMetOn session (found session)
+        here none = elim (news (spelled_none (own cfg end session h.trace).taken (sym (h.near.sessions session (h.near.first up) (omega arith)).up ∙ none))) [
+          | inl still ↦ inl (
+            up_here ∙ ap₂ (λ (xs : List (List ℕ)) (ps : List PlainPacket). xs ++ spelled ps) none still.0,
+            none_met session standing (after_entries none_begun told_there) step.entries still.1,
+          )
+          | inr new ↦ inr (record {
+            session = h.links.far.begun;
+            told = restart_met session standing (after_entries none_begun told_there) step.entries plain stands_here new.restarts ∙ ap (λ (m : ℕ). Some m) far_begun;
+            has_met = new.has_met;
+            begun = (h.near.first up, new.begun);
+          })
+        ]
+
+        elsewhere : (n : ℕ) → (n ≡ session → ⊥) → h.links.near.up n ≡ [] → ((v.near.up n ≡ []) × (found n ≡ None)) ⊎ Meets HasMetOn n (found n)
+        elsewhere n differs none =
+            inl (up_elsewhere n differs ∙ none, elsewhere_met n standing (after_entries none_begun told_there) step.entries plain (not_in n standing differs))
+
+        now : (n : ℕ) → h.links.near.up n ≡ [] → ((v.near.up n ≡ []) × (found n ≡ None)) ⊎ Meets HasMetOn n (found n)
+        now n = same_or_not n session
+            (λ (is : n ≡ session). subst (λ (k : ℕ). h.links.near.up k ≡ [] → ((v.near.up k ≡ []) × (found k ≡ None)) ⊎ Meets HasMetOn k (found k)) (sym is) here)
+            (λ (differs : n ≡ session → ⊥). elsewhere n differs)
+
+        hears : (n : ℕ) → Hears HasMetOn n (v.near.up n) (all_of n)
+        hears n =
+            hears_more (λ (n m : ℕ). HasMet n m h.links.met) HasMetOn n (h.links.near.up n) (v.near.up n) (meets end n w.transcript) (found n) (all_of n) (λ m has. more n m has) (meets_now n) (now n)
+            (h.near_hears n)
+
+  -- ---- where nothing is asked of the layer
+
+  -- entries that aren't the layer's: the session that stands has gone on so
+  module _ (g : SessionGoes (link_of cfg end) h.links v session step.near.link step.out [] [] back met) (silent : IsSilent standing (is_up step.near.link.phase) step.entries)
+      (layer_stays : is_up step.near.link.phase ≡ true → (is_up w.near.link.phase ≡ true) × (step.near.layer ≡ w.near.layer)) (kept : IsKept step.near) where
+    down_same : (n : ℕ) → v.near.down n ≡ h.links.near.down n
+    down_same n = g.down n ∙ extended_none h.links.near.down session n
+
+    up_same : (n : ℕ) → v.near.up n ≡ h.links.near.up n
+    up_same n = g.up n ∙ extended_none h.links.near.up session n
+
+    near_rests : IsEnd cfg end step.near v.near h.trace (told_before ++ step.entries)
+    near_rests = record {
+      link = g.station;
+      kept = kept;
+      progress = progress_more ∙ silent.progress ∙ ap (λ (n : ℕ). record { begun = n; stands = is_up step.near.link.phase }) (sym g.begun);
+      first = λ still. subst (λ (n : ℕ). 1 ≤ n) (sym g.begun) (h.near.first (layer_stays still).0);
+      before = (down_same 0 ∙ h.near.before.0, up_same 0 ∙ h.near.before.1);
+      sessions = λ n low high.
+          session_rests (own cfg end n h.trace) (own cfg end n h.trace) (session_from n none_begun told_before) (session_from n none_begun (told_before ++ step.entries)) (session_from n standing step.entries)
+          (h.links.near.down n) (h.links.near.up n) (v.near.down n) (v.near.up n) refl (h.near.sessions n low (subst (λ (m : ℕ). n ≤ m) g.begun high)) (session_more n) (silent.entries n) (silent.told n)
+          (down_same n) (up_same n);
+      later = λ n more. (let above = subst (λ (m : ℕ). m < n) g.begun more in
+          let nothing = h.near.later n above in
+          record { moves = nothing.moves; entries = session_more n ∙ ap₂ (λ (a b : List StationEntry). a ++ b) nothing.entries (silent.later n (over n above)) });
+      now = λ still. (let before = layer_stays still in
+          let old = h.near.now before.0 in
+          subst (λ (n : ℕ). IsLayer (own cfg end n h.trace) step.near) (sym g.begun) (record { layer = old.layer ∙ sym before.1; out = old.out }));
+      alone = λ n none. h.near.alone n (sym (up_same n) ∙ none);
+      no_fault = subst AreNoFaults (sym (notices_append told_before step.entries ∙ ap (λ (ns : List LayerNotice). layer_notices told_before ++ ns) silent.all_told ∙ append-nil (layer_notices told_before))) h.near.no_fault;
+      first_has_all = λ low. all_more (h.near.first_has_all (subst (λ (n : ℕ). n ≤ 1) g.begun low)) (record { entries = silent.entries 1 ∙ sym silent.all_entries; told = silent.told 1 ∙ sym silent.all_told });
+    }
+      where
+        over : (n : ℕ) → session < n → n ≡ session → ⊥
+        over n more is = omega (arith, more, is)
+
+    pub rests : SessionsReach since cfg end v → PairsAreInOrder cfg end h.trace met → ((n m : ℕ) → HasMet n m h.links.met → HasMet n m met) → SessionsJoined since cfg end (after_step (settings_from end cfg) w back step)
+    rests reach pairs more =
+        joined_of [] session reach g.far g.out g.back g.sent g.met (subst (λ (t : List Done). IsEnd cfg end step.near v.near t (told_before ++ step.entries)) (sym (append-nil h.trace)) near_rests) tt
+        (subst (λ (t : List Done). PairsAreInOrder cfg end t met) (sym (append-nil h.trace)) pairs) more
+        (λ n. hears_more (λ (n m : ℕ). HasMet n m h.links.met) (λ (n m : ℕ). HasMet n m met) n (h.links.near.up n) (v.near.up n) (meets end n w.transcript) (found n)
+        (meets end n (w.transcript ++ entered end step.entries)) (λ m has. more n m has) (meets_now n)
+        (λ none. inl (up_same n ∙ none, none_met n standing (after_entries none_begun told_there) step.entries silent.all_told)) (h.near_hears n))
+
+  -- ---- as a session begins
+
+  module _ (g : SessionGoes (link_of cfg end) h.links v (suc session) step.near.link step.out (spelled (restart (restart_cause end) 0 ∷ [])) [] back met)
+      (begins : IsPrefix session standing step.entries) (fresh : (n : ℕ) → session < n → (h.links.near.down n ≡ []) × (h.links.near.up n ≡ [])) (still : is_up step.near.link.phase ≡ true)
+      (layer_begins : step.near.layer ≡ (goes_up (layer_of cfg end)).next) (kept : IsKept step.near) where
+    abbrev the_next : ℕ
+    the_next = suc session
+
+    begun_up_same : (n : ℕ) → v.near.up n ≡ h.links.near.up n
+    begun_up_same n = g.up n ∙ extended_none h.links.near.up the_next n
+
+    begun_down_same : (n : ℕ) → (n ≡ the_next → ⊥) → v.near.down n ≡ h.links.near.down n
+    begun_down_same n differs = g.down n ∙ elsewhere_extended h.links.near.down n the_next (spelled (restart (restart_cause end) 0 ∷ [])) differs
+
+    none_moved : own_in end the_next h.trace ≡ []
+    none_moved = (h.near.later the_next (omega arith)).moves
+
+    own_afresh : own cfg end the_next h.trace ≡ started (goes_up (layer_of cfg end))
+    own_afresh = ap (λ (l : List OwnMove). own_run (layer_of cfg end) l (started (goes_up (layer_of cfg end)))) none_moved
+
+    abbrev IsSessionBegun : ℕ → Type 0
+    IsSessionBegun n = IsSession (own cfg end n h.trace) (v.near.down n) (v.near.up n) (session_from n none_begun (told_before ++ step.entries))
+
+    next_session : IsSessionBegun the_next
+    next_session =
+        let nothing = fresh the_next (omega arith) in
+        let all : session_from the_next none_begun (told_before ++ step.entries) ≡ session_from the_next standing step.entries =
+        session_more the_next ∙ ap (λ (l : List StationEntry). l ++ session_from the_next standing step.entries) (h.near.later the_next (omega arith)).entries in
+        subst (λ (e : layer.End). IsSession e (v.near.down the_next) (v.near.up the_next) (session_from the_next none_begun (told_before ++ step.entries))) (sym own_afresh) (record {
+          down = g.down the_next ∙ here_extended h.links.near.down the_next (spelled (restart (restart_cause end) 0 ∷ []))
+              ∙ ap (λ (l : List (List ℕ)). l ++ spelled (restart (restart_cause end) 0 ∷ [])) nothing.0 ∙ by_role end;
+          up = begun_up_same the_next ∙ nothing.1;
+          entries = sym (ap layer_entries all ∙ begins.entries the_next);
+          told = sym (ap layer_notices all ∙ begins.told the_next);
+        })
+      where
+        by_role : (end : Role) → spelled (restart (restart_cause end) 0 ∷ []) ≡ spelled (started (goes_up (layer_of cfg end))).given
+        by_role Dte = refl
+        by_role Dce = refl
+
+    near_begins : IsEnd cfg end step.near v.near h.trace (told_before ++ step.entries)
+    near_begins = record {
+      link = g.station;
+      kept = kept;
+      progress = progress_more ∙ begins.progress ∙ ap₂ (λ (n : ℕ) (b : Bool). record { begun = n; stands = b }) (sym g.begun) (sym still);
+      first = λ _. subst (λ (n : ℕ). 1 ≤ n) (sym g.begun) (omega arith);
+      before = (begun_down_same 0 none ∙ h.near.before.0, begun_up_same 0 ∙ h.near.before.1);
+      sessions = λ n low high. same_or_not n the_next (λ (is : n ≡ the_next). subst IsSessionBegun (sym is) next_session)
+          (λ (differs : n ≡ the_next → ⊥). session_before n low (below n (subst (λ (m : ℕ). n ≤ m) g.begun high) differs) differs);
+      later = λ n more. (let above = subst (λ (m : ℕ). m < n) g.begun more in
+          let nothing = h.near.later n (omega (arith, above)) in
+          record { moves = nothing.moves; entries = session_more n ∙ ap₂ (λ (a b : List StationEntry). a ++ b) nothing.entries (begins.others n (over n above)) });
+      now = λ _. subst (λ (n : ℕ). IsLayer (own cfg end n h.trace) step.near) (sym g.begun)
+          (subst (λ (e : layer.End). IsLayer e step.near) (sym own_afresh) (record { layer = sym layer_begins; out = refl }));
+      alone = λ n none. h.near.alone n (sym (begun_up_same n) ∙ none);
+      no_fault = subst AreNoFaults (sym (notices_append told_before step.entries ∙ ap (λ (ns : List LayerNotice). layer_notices told_before ++ ns) begins.all_told ∙ append-nil (layer_notices told_before))) h.near.no_fault;
+      first_has_all = λ low. (let most = subst (λ (n : ℕ). n ≤ 1) g.begun low in
+          all_more (h.near.first_has_all (omega (arith, most))) (record { entries = begins.entries 1 ∙ sym begins.all_entries; told = begins.told 1 ∙ sym begins.all_told }));
+    }
+      where
+        none : 0 ≡ the_next → ⊥
+        none is = omega (arith, is)
+
+        over : (n : ℕ) → the_next < n → n ≡ the_next → ⊥
+        over n more is = omega (arith, more, is)
+
+        below : (n : ℕ) → n ≤ the_next → (n ≡ the_next → ⊥) → n ≤ session
+        below n le differs = omega (arith, le, differs)
+
+        session_before : (n : ℕ) → 1 ≤ n → n ≤ session → (n ≡ the_next → ⊥) → IsSessionBegun n
+        session_before n low high differs =
+            session_rests (own cfg end n h.trace) (own cfg end n h.trace) (session_from n none_begun told_before) (session_from n none_begun (told_before ++ step.entries)) (session_from n standing step.entries)
+            (h.links.near.down n) (h.links.near.up n) (v.near.down n) (v.near.up n) refl (h.near.sessions n low high) (session_more n) (begins.entries n) (begins.told n) (begun_down_same n differs) (begun_up_same n)
+
+    pub begins_session : SessionsReach since cfg end v → PairsAreInOrder cfg end h.trace met → ((n m : ℕ) → HasMet n m h.links.met → HasMet n m met) → SessionsJoined since cfg end (after_step (settings_from end cfg) w back step)
+    begins_session reach pairs more =
+        joined_of [] session reach g.far g.out g.back g.sent g.met (subst (λ (t : List Done). IsEnd cfg end step.near v.near t (told_before ++ step.entries)) (sym (append-nil h.trace)) near_begins) tt
+        (subst (λ (t : List Done). PairsAreInOrder cfg end t met) (sym (append-nil h.trace)) pairs) more
+        (λ n. hears_more (λ (n m : ℕ). HasMet n m h.links.met) (λ (n m : ℕ). HasMet n m met) n (h.links.near.up n) (v.near.up n) (meets end n w.transcript) (found n)
+        (meets end n (w.transcript ++ entered end step.entries)) (λ m has. more n m has) (meets_now n)
+        (λ none. inl (begun_up_same n ∙ none, none_met n standing (after_entries none_begun told_there) step.entries begins.all_told)) (h.near_hears n))

@@ -1,0 +1,156 @@
+-- A world of two stations over set-up and re-set-up, as one of the ends sees it: a run of two links with their sessions, and moves of the
+-- layers in each session. The sessions that meet are two layers whose packets come in order.
+use Rattle.std.proofs.Common.{◌≡◌, ℕ, ◌≤◌, ◌<◌, ◌⊎◌, inl, inr, List, [], ◌∷◌, map, true, false, Option, Some, None, refl, sym, subst}
+use Rattle.x25_bits.specs.declared.role.Role.{Role}
+use Rattle.x25_bits.specs.declared.role.Role.TheVariants.{Dte, Dce}
+use Rattle.x25_link.specs.LinkStation.{is_up}
+use Rattle.x25_link.specs.MustSend.{other}
+use Rattle.x25_line.specs.Sessions as links
+use Rattle.x25_line.specs.Sessions.{SessionEnd, Meeting, Sessions, turned}
+use Rattle.x25_line.specs.laws.SessionClaims.{AllMet, SomeMet, octets_of}
+use Rattle.x25_layer.specs.Quiet.{AreNoFaults}
+use Rattle.x25_layer.specs.TwoLayers as layer
+use Rattle.x25_layer.specs.Apart.{ApartEvent, apart_start, AreInOrder}
+use Rattle.x25_station.specs.declared.config.Cfg.{Cfg}
+use Rattle.x25_station.specs.Entries.{StationEntry, layer_entries, layer_notices}
+use Rattle.x25_station.specs.Station.{Station}
+use Rattle.x25_station.specs.laws.KeepLaw.{IsKept}
+use Rattle.x25_world.specs.World.{World, swapped}
+use Rattle.x25_world.specs.laws.Claims.{entries_at}
+use Rattle.x25_world.specs.Sessions.{none_begun, after_entries, session_from, meets}
+use Rattle.x25_world.proofs.Growing.{spelled, AreOnTap}
+use Rattle.x25_world.proofs.sessions.SessionTrace.{Done, own_in, own, pair_at, pair_turned, TakeNothing, BringOctets}
+use Rattle.x25_world.proofs.sessions.SessionReaches.{Beginning, SessionsReach, reach_swapped}
+
+-- ---- an end
+
+-- what is of the layer in some of the entries is all
+pub record HaveAll (some all : List StationEntry) : Type 0 where
+  pub entries : layer_entries some ≡ layer_entries all
+  pub told : layer_notices some ≡ layer_notices all
+
+-- the layer's end in a session, the packets that its link was handed down and handed up there, and the entries
+pub record IsSession (e : layer.End) (handed lifted : List (List ℕ)) (es : List StationEntry) : Type 0 where
+  pub down : handed ≡ spelled e.given
+  pub up : lifted ≡ spelled e.taken
+  pub entries : e.entries ≡ layer_entries es
+  pub told : e.told ≡ layer_notices es
+
+-- a session that isn't begun has nothing
+pub record HasNothing (end : Role) (n : ℕ) (trace : List Done) (es : List StationEntry) : Type 0 where
+  pub moves : own_in end n trace ≡ []
+  pub entries : session_from n none_begun es ≡ []
+
+-- the layer in the session that stands
+pub record IsLayer (e : layer.End) (s : Station) : Type 0 where
+  pub layer : e.layer ≡ s.layer
+  pub out : e.is_out ≡ false
+
+-- A station, its link among two links with their sessions, the moves of its layer in each of these, and its transcript. Session 0 is
+-- that before the first.
+pub record IsEnd (cfg : Cfg) (end : Role) (s : Station) (k : SessionEnd) (trace : List Done) (es : List StationEntry) : Type 0 where
+  pub link : k.station ≡ s.link
+  pub kept : IsKept s
+  pub progress : after_entries none_begun es ≡ record { begun = k.begun; stands = is_up s.link.phase }
+  pub first : is_up s.link.phase ≡ true → 1 ≤ k.begun
+  pub before : (k.down 0 ≡ []) × (k.up 0 ≡ [])
+  pub sessions : (n : ℕ) → 1 ≤ n → n ≤ k.begun → IsSession (own cfg end n trace) (k.down n) (k.up n) (session_from n none_begun es)
+  pub later : (n : ℕ) → k.begun < n → HasNothing end n trace es
+  pub now : is_up s.link.phase ≡ true → IsLayer (own cfg end k.begun trace) s
+  -- where nothing was handed up, the layer took nothing
+  pub alone : (n : ℕ) → k.up n ≡ [] → TakeNothing (own_in end n trace)
+  pub no_fault : AreNoFaults (layer_notices es)
+  -- where no session followed the first
+  pub first_has_all : k.begun ≤ 1 → HaveAll (session_from 1 none_begun es) es
+
+-- ---- who meets whom
+
+-- the two sessions meet
+abbrev pub HasMet : ℕ → ℕ → List Meeting → Type 0
+HasMet n m met = SomeMet (λ (p : Meeting). (p.near ≡ n) × (p.far ≡ m)) met
+
+-- the session met this one, by its transcript and by the links
+pub record Meets (Met : ℕ → ℕ → Type 0) (n : ℕ) (met : Option ℕ) : Type 0 where
+  pub session : ℕ
+  pub told : met ≡ Some session
+  pub has_met : Met n session
+  pub begun : (1 ≤ n) × (1 ≤ session)
+
+-- where a session meets none by its transcript, nothing was handed up in it
+abbrev pub Hears : (ℕ → ℕ → Type 0) → ℕ → List (List ℕ) → Option ℕ → Type 0
+Hears Met n up met = ((up ≡ []) × (met ≡ None)) ⊎ Meets Met n met
+
+-- the moves of two sessions are in order
+abbrev pub PairIsInOrder : Cfg → Role → List Done → ℕ → ℕ → Type 0
+PairIsInOrder cfg end trace n m = AreInOrder cfg.long_data cfg.channels (pair_at end n m trace) (apart_start cfg.long_data cfg.channels)
+
+abbrev pub PairsAreInOrder : Cfg → Role → List Done → List Meeting → Type 0
+PairsAreInOrder cfg end trace met = AllMet (λ (p : Meeting). PairIsInOrder cfg end trace p.near p.far) met
+
+pub record SessionsJoined (since : Beginning) (cfg : Cfg) (end : Role) (w : World) : Type 0 where
+  pub links : Sessions
+  pub trace : List Done
+  pub reach : SessionsReach since cfg end links
+  pub near : IsEnd cfg end w.near links.near trace (entries_at end w.transcript)
+  pub far : IsEnd cfg (other end) w.far links.far trace (entries_at (other end) w.transcript)
+  pub out : octets_of links.out ≡ w.out
+  pub back : octets_of links.back ≡ w.back
+  pub tap : AreOnTap w.tap links.sent
+  pub octets : BringOctets trace
+  pub pairs : PairsAreInOrder cfg end trace links.met
+  pub near_hears : (n : ℕ) → Hears (λ (n m : ℕ). HasMet n m links.met) n (links.near.up n) (meets end n w.transcript)
+  pub far_hears : (n : ℕ) → Hears (λ (n m : ℕ). HasMet m n links.met) n (links.far.up n) (meets (other end) n w.transcript)
+
+-- ---- as the other end sees it
+
+pub met_turned : (n m : ℕ) (met : List Meeting) → HasMet n m met → HasMet m n (map turned met)
+met_turned n m [] h = absurd h
+met_turned n m (p ∷ met) h = elim h [ inl here ↦ inl (here.1, here.0) | inr there ↦ inr (met_turned n m met there) ]
+
+pairs_turned : (cfg : Cfg) (end : Role) (trace : List Done) (met : List Meeting) → PairsAreInOrder cfg end trace met → PairsAreInOrder cfg (other end) trace (map turned met)
+pairs_turned cfg end trace [] h = tt
+pairs_turned cfg end trace (p ∷ met) h = (
+  subst (λ (es : List ApartEvent). AreInOrder cfg.long_data cfg.channels es (apart_start cfg.long_data cfg.channels)) (sym (pair_turned end p.near p.far trace)) h.0,
+  pairs_turned cfg end trace met h.1,
+)
+
+hears_turned : (n : ℕ) (up : List (List ℕ)) (met : Option ℕ) (ms : List Meeting) → Hears (λ (n m : ℕ). HasMet n m ms) n up met → Hears (λ (n m : ℕ). HasMet m n (map turned ms)) n up met
+hears_turned n up met ms h = elim h [ inl none ↦ inl none | inr some ↦ inr (record { session = some.session; told = some.told; has_met = met_turned n some.session ms some.has_met; begun = some.begun }) ]
+
+hears_back : (n : ℕ) (up : List (List ℕ)) (met : Option ℕ) (ms : List Meeting) → Hears (λ (n m : ℕ). HasMet m n ms) n up met → Hears (λ (n m : ℕ). HasMet n m (map turned ms)) n up met
+hears_back n up met ms h = elim h [ inl none ↦ inl none | inr some ↦ inr (record { session = some.session; told = some.told; has_met = met_turned some.session n ms some.has_met; begun = some.begun }) ]
+
+pub sessions_swapped : {since : Beginning} (cfg : Cfg) (end : Role) (w : World) → SessionsJoined since cfg end w → SessionsJoined since cfg (other end) (swapped w)
+sessions_swapped cfg Dte w h = record {
+  links = links.swapped h.links;
+  trace = h.trace;
+  reach = reach_swapped cfg Dte h.links h.reach;
+  near = h.far;
+  far = h.near;
+  out = h.back;
+  back = h.out;
+  tap = h.tap;
+  octets = h.octets;
+  pairs = pairs_turned cfg Dte h.trace h.links.met h.pairs;
+  near_hears = λ n. hears_back n (h.links.far.up n) (meets Dce n w.transcript) h.links.met (h.far_hears n);
+  far_hears = λ n. hears_turned n (h.links.near.up n) (meets Dte n w.transcript) h.links.met (h.near_hears n);
+}
+sessions_swapped cfg Dce w h = record {
+  links = links.swapped h.links;
+  trace = h.trace;
+  reach = reach_swapped cfg Dce h.links h.reach;
+  near = h.far;
+  far = h.near;
+  out = h.back;
+  back = h.out;
+  tap = h.tap;
+  octets = h.octets;
+  pairs = pairs_turned cfg Dce h.trace h.links.met h.pairs;
+  near_hears = λ n. hears_back n (h.links.far.up n) (meets Dte n w.transcript) h.links.met (h.far_hears n);
+  far_hears = λ n. hears_turned n (h.links.near.up n) (meets Dce n w.transcript) h.links.met (h.near_hears n);
+}
+
+pub links_swapped : {since : Beginning} (cfg : Cfg) (end : Role) (w : World) (h : SessionsJoined since cfg end w) → (sessions_swapped cfg end w h).links ≡ links.swapped h.links
+unfolding sessions_swapped
+links_swapped cfg Dte w h = refl
+links_swapped cfg Dce w h = refl

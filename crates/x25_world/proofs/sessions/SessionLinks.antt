@@ -1,0 +1,140 @@
+-- Of two links with their sessions: a step of the near end, and the packets that are handed down to it behind that.
+use Rattle.std.proofs.Common.{◌≡◌, ℕ, ◌==◌, ◌≤◌, List, [], ◌∷◌, ◌++◌, length, map, Bool, true, false, if◌then◌else◌, None, option_to_list, refl, sym, ap, ap₂, ◌∙◌, subst, append_assoc, append-nil}
+use Rattle.std.proofs.lemmas.Bool.{le-leb}
+use Rattle.std.proofs.lemmas.List.{map-append}
+use Rattle.x25_bits.specs.declared.role.Role.{Role}
+use Rattle.x25_frame.specs.PlainFrame.{PlainFrame}
+use Rattle.x25_frame.specs.Spelling.{spelling_of}
+use Rattle.x25_packet.specs.PlainPacket.{PlainPacket}
+use Rattle.x25_packet.specs.Spelling as packet
+use Rattle.x25_link.specs.MustSend.{Step as LinkStep}
+use Rattle.x25_link.specs.LinkStation.{Settings as LinkSettings, LinkStation, Side, is_up}
+use Rattle.x25_link.specs.Steps.{put_refusal, put_step, take_step}
+use Rattle.x25_line.specs.Stations as line
+use Rattle.x25_line.specs.Sessions as links
+use Rattle.x25_line.specs.Sessions.{SessionEnd, Meeting, Sessions, sent_in, extended, begun_by}
+use Rattle.x25_line.specs.laws.SessionClaims.{octets_of}
+use Rattle.x25_station.specs.declared.config.Cfg.{Cfg}
+use Rattle.x25_station.specs.Station.{put_on, all_put}
+use Rattle.x25_station.specs.laws.JoinLaw.{AreAccepted}
+use Rattle.x25_station.specs.laws.ReadLaw.{AreReadable}
+use Rattle.x25_world.specs.laws.Claims.{link_of}
+use Rattle.x25_world.proofs.Growing.{spelled}
+use Rattle.x25_world.proofs.OneLink.{octets_append, octets_sent}
+use Rattle.x25_world.proofs.sessions.SessionReaches.{Beginning, SessionsReach, MayAsk, sessions_act}
+use Rattle.x25_link.specs.laws.NoteLaw.{PutTells}
+
+-- The near link goes to this one in this session, and puts these frames; it was handed down and hands up these packets in it, and
+-- these sessions have met.
+pub record SessionGoes (c : LinkSettings) (v v₂ : Sessions) (session : ℕ) (link : LinkStation) (frames : List PlainFrame) (handed lifted left : List (List ℕ)) (all_met : List Meeting) : Type 0 where
+  pub station : v₂.near.station ≡ link
+  pub begun : v₂.near.begun ≡ session
+  pub down : (n : ℕ) → v₂.near.down n ≡ extended v.near.down session handed n
+  pub up : (n : ℕ) → v₂.near.up n ≡ extended v.near.up session lifted n
+  pub far : v₂.far ≡ v.far
+  pub out : octets_of v₂.out ≡ octets_of v.out ++ map (spelling_of c.role) frames
+  pub back : octets_of v₂.back ≡ left
+  pub sent : v₂.sent ≡ v.sent ++ frames
+  pub met : v₂.met ≡ all_met
+
+-- ---- the link's own step
+
+pub own_step : (c : LinkSettings) (v : Sessions) (rest : List links.Entry) (met : List Meeting) (k : LinkStep)
+    → SessionGoes c v (links.after_step c v rest met [] k) (begun_by k.notes.up v.near.begun) k.side.near k.side.out [] (option_to_list k.packet) (octets_of rest) met
+own_step c v rest met k =
+    let session = begun_by k.notes.up v.near.begun in
+    record {
+      station = refl;
+      begun = refl;
+      down = λ n. refl;
+      up = λ n. refl;
+      far = refl;
+      out = octets_append v.out (sent_in session c.role k.side.out) ∙ ap (λ (l : List (List ℕ)). octets_of v.out ++ l) (octets_sent session c.role k.side.out);
+      back = refl;
+      sent = refl;
+      met = refl;
+    }
+
+-- the front octets are taken
+pub deliver_goes : (c : LinkSettings) (v : Sessions) (e : links.Entry) (rest : List links.Entry) → v.back ≡ e ∷ rest → (let k = take_step c e.octets v.near.station in
+    SessionGoes c v (links.acts c line.Deliver v) (begun_by k.notes.up v.near.begun) k.side.near k.side.out [] (option_to_list k.packet) (octets_of rest) (links.acts c line.Deliver v).met)
+deliver_goes c v e rest is =
+    let k = take_step c e.octets v.near.station in
+    subst (λ (es : List links.Entry). SessionGoes c v (links.delivered c es v) (begun_by k.notes.up v.near.begun) k.side.near k.side.out [] (option_to_list k.packet) (octets_of rest) (links.delivered c es v).met)
+    (sym is) (own_step c v rest _ k)
+
+-- ---- a packet is accepted
+
+accepted : (c : LinkSettings) (packet : List ℕ) (v : Sessions) → length packet ≤ c.longest → put_refusal v.near.station ≡ None
+    → links.acts c (line.Put packet) v ≡ links.after_step c v v.back v.met (packet ∷ []) (put_step c packet v.near.station)
+accepted c packet v short none = rw (le-leb (length packet) c.longest short, none) refl
+
+-- more in the same session
+extended_more : (b : Bool) (x some more : List (List ℕ)) → (if b then (if b then x ++ some else x) ++ more else (if b then x ++ some else x)) ≡ (if b then x ++ (some ++ more) else x)
+extended_more true x some more = append_assoc x some more
+extended_more false x some more = refl
+
+extended_again : (lists between : ℕ → List (List ℕ)) (session : ℕ) (some more : List (List ℕ)) → ((n : ℕ) → between n ≡ extended lists session some n)
+    → (n : ℕ) → extended between session more n ≡ extended lists session (some ++ more) n
+extended_again lists between session some more same n =
+    ap (λ (l : List (List ℕ)). if n == session then l ++ more else l) (same n) ∙ extended_more (n == session) (lists n) some more
+
+pub extended_none : (lists : ℕ → List (List ℕ)) (session n : ℕ) → extended lists session [] n ≡ lists n
+extended_none lists session n = by (n == session)
+  where
+    by : (b : Bool) → (if b then lists n ++ [] else lists n) ≡ lists n
+    by true = append-nil (lists n)
+    by false = refl
+
+put_goes : (c : LinkSettings) (v v₁ : Sessions) (session : ℕ) (t : Side) (down up back : List (List ℕ)) (met : List Meeting) (p : PlainPacket)
+    → length (packet.spelling_of p) ≤ c.longest → put_refusal t.near ≡ None → SessionGoes c v v₁ session t.near t.out down up back met
+    → SessionGoes c v (links.acts c (line.Put (packet.spelling_of p)) v₁) session (put_on c p t).near (put_on c p t).out (down ++ packet.spelling_of p ∷ []) up back met
+put_goes c v v₁ session t down up back met p short none g =
+    let o : List ℕ = packet.spelling_of p in
+    let there : put_refusal v₁.near.station ≡ None = ap put_refusal g.station ∙ none in
+    let k : LinkStep = put_step c o v₁.near.station in
+    let frames : k.side.out ≡ (put_step c o t.near).side.out = ap (λ (s : LinkStation). (put_step c o s).side.out) g.station in
+    subst (λ (x : Sessions). SessionGoes c v x session (put_on c p t).near (put_on c p t).out (down ++ o ∷ []) up back met) (sym (accepted c o v₁ short there)) (record {
+      station = ap (λ (s : LinkStation). (put_step c o s).side.near) g.station;
+      begun = g.begun;
+      down = λ n. ap (λ (s : ℕ). extended v₁.near.down s (o ∷ []) n) g.begun ∙ extended_again v.near.down v₁.near.down session down (o ∷ []) g.down n;
+      up = λ n. extended_none v₁.near.up v₁.near.begun n ∙ g.up n;
+      far = g.far;
+      out = octets_append v₁.out (sent_in v₁.near.begun c.role k.side.out) ∙ ap (λ (l : List (List ℕ)). octets_of v₁.out ++ l) (octets_sent v₁.near.begun c.role k.side.out)
+          ∙ ap₂ (λ (l : List (List ℕ)) (fs : List PlainFrame). l ++ map (spelling_of c.role) fs) g.out frames
+          ∙ append_assoc (octets_of v.out) (map (spelling_of c.role) t.out) (map (spelling_of c.role) (put_step c o t.near).side.out)
+          ∙ ap (λ (l : List (List ℕ)). octets_of v.out ++ l) (sym (map-append (spelling_of c.role) t.out (put_step c o t.near).side.out));
+      back = g.back;
+      sent = ap₂ (λ (l fs : List PlainFrame). l ++ fs) g.sent frames ∙ append_assoc v.sent t.out (put_step c o t.near).side.out;
+      met = g.met;
+    })
+
+-- one after another
+pub record PutsGo (since : Beginning) (cfg : Cfg) (end : Role) (v : Sessions) (session : ℕ) (packets : List PlainPacket) (t : Side) (handed lifted left : List (List ℕ)) (met : List Meeting) : Type 0 where
+  pub links : Sessions
+  pub reach : SessionsReach since cfg end links
+  pub goes : SessionGoes (link_of cfg end) v links session (all_put (link_of cfg end) packets t).near (all_put (link_of cfg end) packets t).out handed lifted left met
+
+pub puts_go : {since : Beginning} (cfg : Cfg) (end : Role) (v v₁ : Sessions) (session : ℕ) (packets : List PlainPacket) (t : Side) (down up back : List (List ℕ)) (met : List Meeting)
+    → ((octets : List ℕ) → MayAsk since end (line.Put octets)) → SessionsReach since cfg end v₁ → SessionGoes (link_of cfg end) v v₁ session t.near t.out down up back met → AreAccepted (link_of cfg end) packets t → AreReadable cfg.long_data packets
+    → PutsGo since cfg end v session packets t (down ++ spelled packets) up back met
+puts_go cfg end v v₁ session [] t down up back met asks reach g ok readable = record {
+  links = v₁;
+  reach = reach;
+  goes = subst (λ (d : List (List ℕ)). SessionGoes (link_of cfg end) v v₁ session t.near t.out d up back met) (sym (append-nil down)) g;
+}
+puts_go {since} cfg end v v₁ session (p ∷ packets) t down up back met asks reach g ok readable =
+    let c : LinkSettings = link_of cfg end in
+    let o : List ℕ = packet.spelling_of p in
+    subst (λ (d : List (List ℕ)). PutsGo since cfg end v session (p ∷ packets) t d up back met) (append_assoc down (o ∷ []) (spelled packets))
+    (more (puts_go cfg end v (links.acts c (line.Put o) v₁) session packets (put_on c p t) (down ++ o ∷ []) up back met asks (sessions_act cfg end (line.Put o) v₁ tt (λ off s same. tt) (asks o) reach)
+    (put_goes c v v₁ session t down up back met p readable.0.short ok.0 g) ok.1 readable.1))
+  where
+    more : PutsGo since cfg end v session packets (put_on (link_of cfg end) p t) ((down ++ packet.spelling_of p ∷ []) ++ spelled packets) up back met
+        → PutsGo since cfg end v session (p ∷ packets) t ((down ++ packet.spelling_of p ∷ []) ++ spelled packets) up back met
+    more r = record { links = r.links; reach = r.reach; goes = r.goes }
+
+-- a link that accepts packets stays up
+pub puts_up : PutTells → (c : LinkSettings) (packets : List PlainPacket) (t : Side) → is_up t.near.phase ≡ true → is_up (all_put c packets t).near.phase ≡ true
+puts_up tells c [] t up = up
+puts_up tells c (p ∷ packets) t up = puts_up tells c packets (put_on c p t) ((tells c (packet.spelling_of p) t.near up).stays refl ∙ up)

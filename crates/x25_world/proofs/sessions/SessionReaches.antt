@@ -1,0 +1,182 @@
+-- Two links over set-up and re-set-up, as either end sees them: a run of the same events, with the ends swapped.
+use Rattle.std.proofs.Common.{◌≡◌, Bool, false, List, [], ◌∷◌, ◌++◌, inl, refl, sym, ap, ◌∙◌, subst, map}
+use Rattle.x25_bits.specs.declared.role.Role.{Role}
+use Rattle.x25_bits.specs.declared.role.Role.TheVariants.{Dte, Dce}
+use Rattle.x25_link.specs.LinkStation.{Settings as LinkSettings}
+use Rattle.x25_link.specs.MustSend.{other}
+use Rattle.x25_line.specs.Stations as line
+use Rattle.x25_line.specs.laws.StationClaims.{AreJoined, AcceptsNoConnect}
+use Rattle.x25_line.specs.Sessions as links
+use Rattle.x25_line.specs.Sessions.{Meeting, Sessions, turned, from_nothing, IsTimely, IsTimelyAt, AreTimely}
+use Rattle.x25_line.specs.laws.SessionClaims.{Throughout}
+use Rattle.x25_station.specs.declared.config.Cfg.{Cfg}
+use Rattle.x25_world.specs.World.{Act, Event}
+use Rattle.x25_world.specs.laws.Claims.{link_of}
+use Rattle.x25_world.specs.WindowGoes.{Asks, AsksAll, at_end, all_at}
+use Rattle.x25_world.proofs.Known.{IsConfigured}
+use Rattle.x25_world.proofs.OneLink.{OneLink, one_turned, one_acts}
+
+-- ---- the ends swapped
+
+turned_twice : (ms : List Meeting) → map turned (map turned ms) ≡ ms
+turned_twice [] = refl
+turned_twice (m ∷ ms) = ap (λ (l : List Meeting). m ∷ l) (turned_twice ms)
+
+pub twice : (w : Sessions) → links.swapped (links.swapped w) ≡ w
+twice w = ap (λ (met : List Meeting). record { near = w.near; far = w.far; out = w.out; back = w.back; met = met; sent = w.sent }) (turned_twice w.met)
+
+abbrev flipped : line.Event → line.Event
+flipped (line.Near act) = line.Far act
+flipped (line.Far act) = line.Near act
+
+abbrev all_flipped : List line.Event → List line.Event
+all_flipped [] = []
+all_flipped (e ∷ es) = flipped e ∷ all_flipped es
+
+event_flipped : (c d : LinkSettings) (e : line.Event) (w : Sessions) → links.happens d c (flipped e) (links.swapped w) ≡ links.swapped (links.happens c d e w)
+event_flipped c d (line.Near act) w = ap (λ (x : Sessions). links.swapped (links.acts c act x)) (twice w)
+event_flipped c d (line.Far act) w = sym (twice (links.acts d act (links.swapped w)))
+
+run_flipped : (c d : LinkSettings) (es : List line.Event) (w : Sessions) → links.run d c (all_flipped es) (links.swapped w) ≡ links.swapped (links.run c d es w)
+run_flipped c d [] w = refl
+run_flipped c d (e ∷ es) w = ap (λ (x : Sessions). links.run d c (all_flipped es) x) (event_flipped c d e w) ∙ run_flipped c d es (links.happens c d e w)
+
+timely_at : (c d : LinkSettings) (e : line.Event) (w : Sessions) → IsTimelyAt c d e w → IsTimelyAt d c (flipped e) (links.swapped w)
+timely_at c d (line.Near act) w h = subst (λ (x : Sessions). IsTimely c d act x) (sym (twice w)) h
+timely_at c d (line.Far act) w h = h
+
+timely_flipped : (c d : LinkSettings) (es : List line.Event) (w : Sessions) → AreTimely c d es w → AreTimely d c (all_flipped es) (links.swapped w)
+timely_flipped c d [] w h = tt
+timely_flipped c d (e ∷ es) w h = (
+  timely_at c d e w h.0,
+  subst (λ (x : Sessions). AreTimely d c (all_flipped es) x) (sym (event_flipped c d e w)) (timely_flipped c d es (links.happens c d e w) h.1),
+)
+
+-- ---- as an end sees them
+
+-- How a run began: with both links down; or with a link just set up, where, if `asks` is false, none of the two has asked for set-up since; or
+-- with these links, of which all that follows belongs to this event.
+pub data Beginning : Type 0 where
+  both_down : Beginning
+  set_up : (asks : Bool) → Beginning
+  at_event : (before : Sessions) (e : Event) → Beginning
+
+abbrev seen_from : Role → Sessions → Sessions
+seen_from Dte v = v
+seen_from Dce v = links.swapped v
+
+-- what the end of the event has asked so far
+pub record Grown (cfg : Cfg) (e : Event) (end : Role) (before v : Sessions) : Type 0 where
+  pub asked : List line.Act
+  pub may : AsksAll e.act asked
+  pub timely : AreTimely (link_of cfg Dte) (link_of cfg Dce) (all_at e.at asked) before
+  pub run : links.run (link_of cfg Dte) (link_of cfg Dce) (all_at e.at asked) before ≡ seen_from end v
+
+-- From a link just set up it is a run of two stations too.
+pub record SessionsReach (since : Beginning) (cfg : Cfg) (end : Role) (v : Sessions) : Type 0 where
+  pub events : List line.Event
+  pub timely : AreTimely (link_of cfg end) (link_of cfg (other end)) events from_nothing
+  pub run : links.run (link_of cfg end) (link_of cfg (other end)) events from_nothing ≡ v
+  pub one_link : (asks : Bool) → since ≡ set_up asks → OneLink asks cfg end v
+  pub grown : (before : Sessions) (e : Event) → since ≡ at_event before e → Grown cfg e end before v
+
+pub reach_swapped : {since : Beginning} (cfg : Cfg) (end : Role) (v : Sessions) → SessionsReach since cfg end v → SessionsReach since cfg (other end) (links.swapped v)
+reach_swapped cfg Dte v h = record {
+  events = all_flipped h.events;
+  timely = timely_flipped (link_of cfg Dte) (link_of cfg Dce) h.events from_nothing h.timely;
+  run = run_flipped (link_of cfg Dte) (link_of cfg Dce) h.events from_nothing ∙ ap links.swapped h.run;
+  one_link = λ asks is. one_turned asks cfg Dte v (h.one_link asks is);
+  grown = λ before e is. (let g = h.grown before e is in record { asked = g.asked; may = g.may; timely = g.timely; run = g.run ∙ sym (twice v) });
+}
+reach_swapped cfg Dce v h = record {
+  events = all_flipped h.events;
+  timely = timely_flipped (link_of cfg Dce) (link_of cfg Dte) h.events from_nothing h.timely;
+  run = run_flipped (link_of cfg Dce) (link_of cfg Dte) h.events from_nothing ∙ ap links.swapped h.run;
+  one_link = λ asks is. one_turned asks cfg Dce v (h.one_link asks is);
+  grown = λ before e is. (let g = h.grown before e is in record { asked = g.asked; may = g.may; timely = g.timely; run = g.run });
+}
+
+run_more : (c d : LinkSettings) (es : List line.Event) (e : line.Event) (v : Sessions) → links.run c d (es ++ e ∷ []) v ≡ links.happens c d e (links.run c d es v)
+run_more c d [] e v = refl
+run_more c d (x ∷ es) e v = run_more c d es e (links.happens c d x v)
+
+timely_more : (c d : LinkSettings) (es : List line.Event) (e : line.Event) (v : Sessions) → AreTimely c d es v → IsTimelyAt c d e (links.run c d es v) → AreTimely c d (es ++ e ∷ []) v
+timely_more c d [] e v h g = (g, tt)
+timely_more c d (x ∷ es) e v h g = (h.0, timely_more c d es e (links.happens c d x v) h.1 g)
+
+-- Since a set-up after which none may ask for another, the act is no Connect that is accepted.
+abbrev pub MayAct : Beginning → line.Act → Sessions → Type 0
+MayAct since act v = since ≡ set_up false → (s : line.Stations) → s.near.station ≡ v.near.station → AcceptsNoConnect act s
+
+-- within an event the act is one that its end may ask for
+abbrev pub MayAsk : Beginning → Role → line.Act → Type 0
+MayAsk since end asked = (before : Sessions) (e : Event) → since ≡ at_event before e → (e.at ≡ end) × Asks e.act asked
+
+-- within an event, it is this one
+abbrev pub IsAt : Beginning → Role → Act → Type 0
+IsAt since end act = (before : Sessions) (e : Event) → since ≡ at_event before e → e ≡ record { at = end; act = act }
+
+pub may_ask : {since : Beginning} (end : Role) (act : Act) (asked : line.Act) → IsAt since end act → Asks act asked → MayAsk since end asked
+may_ask end act asked is asks = λ before e same.
+    let k = is before e same in
+    (ap (λ (x : Event). x.at) k, subst (λ (x : Event). Asks x.act asked) (sym k) asks)
+
+all_more : (end : Role) (acts : List line.Act) (act : line.Act) → all_at end (acts ++ act ∷ []) ≡ all_at end acts ++ at_end end act ∷ []
+all_more end [] act = refl
+all_more end (x ∷ acts) act = ap (λ (es : List line.Event). at_end end x ∷ es) (all_more end acts act)
+
+asks_more : (what : Act) (acts : List line.Act) (act : line.Act) → AsksAll what acts → Asks what act → AsksAll what (acts ++ act ∷ [])
+asks_more what [] act h g = (g, tt)
+asks_more what (x ∷ acts) act h g = (h.0, asks_more what acts act h.1 g)
+
+seen_acts : (cfg : Cfg) (end : Role) (act : line.Act) (v : Sessions)
+    → links.happens (link_of cfg Dte) (link_of cfg Dce) (at_end end act) (seen_from end v) ≡ seen_from end (links.acts (link_of cfg end) act v)
+seen_acts cfg Dte act v = refl
+seen_acts cfg Dce act v = ap (λ (x : Sessions). links.swapped (links.acts (link_of cfg Dce) act x)) (twice v)
+
+seen_timely : (cfg : Cfg) (end : Role) (act : line.Act) (v : Sessions) → IsTimely (link_of cfg end) (link_of cfg (other end)) act v → IsTimelyAt (link_of cfg Dte) (link_of cfg Dce) (at_end end act) (seen_from end v)
+seen_timely cfg Dte act v h = h
+seen_timely cfg Dce act v h = subst (λ (x : Sessions). IsTimely (link_of cfg Dce) (link_of cfg Dte) act x) (sym (twice v)) h
+
+grow : (cfg : Cfg) (end : Role) (act : line.Act) (v before : Sessions) (e : Event) → IsTimely (link_of cfg end) (link_of cfg (other end)) act v → (e.at ≡ end) × Asks e.act act → Grown cfg e end before v
+    → Grown cfg e end before (links.acts (link_of cfg end) act v)
+grow cfg end act v before e timely asks g =
+    let c = link_of cfg Dte in
+    let d = link_of cfg Dce in
+    record {
+      asked = g.asked ++ act ∷ [];
+      may = asks_more e.act g.asked act g.may asks.1;
+      timely = subst (λ (es : List line.Event). AreTimely c d es before) (sym (all_more e.at g.asked act))
+          (timely_more c d (all_at e.at g.asked) (at_end e.at act) before g.timely
+          (subst (λ (x : Sessions). IsTimelyAt c d (at_end e.at act) x) (sym g.run)
+          (subst (λ (at : Role). IsTimelyAt c d (at_end at act) (seen_from end v)) (sym asks.0) (seen_timely cfg end act v timely))));
+      run = ap (λ (es : List line.Event). links.run c d es before) (all_more e.at g.asked act)
+          ∙ run_more c d (all_at e.at g.asked) (at_end e.at act) before
+          ∙ ap (links.happens c d (at_end e.at act)) g.run
+          ∙ ap (λ (at : Role). links.happens c d (at_end at act) (seen_from end v)) asks.0
+          ∙ seen_acts cfg end act v;
+    }
+
+-- one act more of the end
+pub sessions_act : {since : Beginning} (cfg : Cfg) (end : Role) (act : line.Act) (v : Sessions) → IsTimely (link_of cfg end) (link_of cfg (other end)) act v → MayAct since act v → MayAsk since end act → SessionsReach since cfg end v
+    → SessionsReach since cfg end (links.acts (link_of cfg end) act v)
+sessions_act cfg end act v timely may asks h =
+    let c = link_of cfg end in
+    let d = link_of cfg (other end) in
+    record {
+      events = h.events ++ line.Near act ∷ [];
+      timely = timely_more c d h.events (line.Near act) from_nothing h.timely (subst (λ (x : Sessions). IsTimely c d act x) (sym h.run) timely);
+      run = run_more c d h.events (line.Near act) from_nothing ∙ ap (λ (x : Sessions). links.acts c act x) h.run;
+      one_link = λ asks is. one_acts asks cfg end act v (λ free. may (is ∙ ap set_up free)) (h.one_link asks is);
+      grown = λ before e is. grow cfg end act v before e timely (asks before e is) (h.grown before e is);
+    }
+
+pub joined_at : (cfg : Cfg) (end : Role) → IsConfigured cfg → AreJoined (link_of cfg end) (link_of cfg (other end))
+joined_at cfg Dte fine = record { near_role = refl; far_role = refl; longest = refl; near_low = fine.low; near_high = fine.high; far_low = fine.low; far_high = fine.high }
+joined_at cfg Dce fine = record { near_role = refl; far_role = refl; longest = refl; near_low = fine.low; near_high = fine.high; far_low = fine.low; far_high = fine.high }
+
+-- what always holds of two links
+pub known_sessions : {since : Beginning} (P : _) → Throughout P → (cfg : Cfg) → IsConfigured cfg → (end : Role) (v : Sessions) → SessionsReach since cfg end v → P (link_of cfg end) (link_of cfg (other end)) v
+known_sessions P law cfg fine end v h =
+    subst (λ (x : Sessions). P (link_of cfg end) (link_of cfg (other end)) x) h.run
+    (law (link_of cfg end) (link_of cfg (other end)) (joined_at cfg end fine) from_nothing (inl refl) h.events h.timely)

@@ -1,0 +1,265 @@
+-- What the layers of two stations did, in the order in which it happened, each move in a session of its end. The moves of one session
+-- of each end are those of two layers.
+use Rattle.std.proofs.Common.{◌≡◌, ℕ, ◌==◌, List, [], ◌∷◌, ◌++◌, Bool, true, false, if◌then◌else◌, refl, sym, ap, ap₂, ◌∙◌, append_assoc, append-nil}
+use Rattle.std.proofs.lemmas.Bool.{eqb-true, eq-eqb}
+use Rattle.x25_bits.specs.declared.role.Role.{Role}
+use Rattle.x25_bits.specs.declared.role.Role.TheVariants.{Dte, Dce}
+use Rattle.x25_link.specs.MustSend.{other}
+use Rattle.x25_layer.specs.Layer.{LayerSettings, goes_up}
+use Rattle.x25_layer.specs.TwoLayers as layer
+use Rattle.x25_layer.specs.TwoLayers.{started}
+use Rattle.x25_layer.specs.Apart.{OwnMove, Requests, Pulls, Takes, GoesDown, as_move, own_moves, own_run, Ends, ApartEvent, apart_happens, near_moves, far_moves, IsNext, IsInOrder, AreInOrder}
+use Rattle.x25_station.specs.declared.config.Cfg.{Cfg}
+use Rattle.x25_station.specs.Settings.{settings_from, layer_settings}
+use Rattle.x25_station.specs.laws.ReadLaw.{MovesOctets}
+
+abbrev pub layer_of : Cfg → Role → LayerSettings
+layer_of cfg end = layer_settings (settings_from end cfg)
+
+pub record Done : Type 0 where
+  pub at : Role
+  pub session : ℕ
+  pub what : OwnMove
+
+abbrev pub moved : Role → ℕ → List OwnMove → List Done
+moved at n [] = []
+moved at n (what ∷ rest) = record { at = at; session = n; what = what } ∷ moved at n rest
+
+-- ---- of one session of an end
+
+abbrev pub own_one : Role → ℕ → Role → ℕ → OwnMove → List OwnMove
+own_one Dte n Dte session what = if n == session then what ∷ [] else []
+own_one Dce n Dce session what = if n == session then what ∷ [] else []
+own_one end n at session what = []
+
+abbrev pub own_in : Role → ℕ → List Done → List OwnMove
+own_in end n [] = []
+own_in end n (t ∷ trace) = own_one end n t.at t.session t.what ++ own_in end n trace
+
+-- the layer's end in session n, as its moves have led to it
+abbrev pub own : Cfg → Role → ℕ → List Done → layer.End
+own cfg end n trace = own_run (layer_of cfg end) (own_in end n trace) (started (goes_up (layer_of cfg end)))
+
+pub own_append : (end : Role) (n : ℕ) (xs ys : List Done) → own_in end n (xs ++ ys) ≡ own_in end n xs ++ own_in end n ys
+own_append end n [] ys = refl
+own_append end n (x ∷ xs) ys =
+    ap (λ (l : List OwnMove). own_one end n x.at x.session x.what ++ l) (own_append end n xs ys) ∙ sym (append_assoc (own_one end n x.at x.session x.what) (own_in end n xs) (own_in end n ys))
+
+pub same_number : (n : ℕ) → (n == n) ≡ true
+same_number n = eq-eqb n n refl
+
+pub other_number : (n m : ℕ) → (n ≡ m → ⊥) → (n == m) ≡ false
+other_number n m differs = by (n == m) refl
+  where
+    by : (b : Bool) → (n == m) ≡ b → b ≡ false
+    by true is = absurd (differs (eqb-true n m is))
+    by false is = refl
+
+one_here : (end : Role) (n : ℕ) (what : OwnMove) → own_one end n end n what ≡ what ∷ []
+one_here Dte n what = ap (λ (b : Bool). if b then what ∷ [] else []) (same_number n)
+one_here Dce n what = ap (λ (b : Bool). if b then what ∷ [] else []) (same_number n)
+
+one_elsewhere : (end : Role) (n m : ℕ) (what : OwnMove) → (n ≡ m → ⊥) → own_one end n end m what ≡ []
+one_elsewhere Dte n m what differs = ap (λ (b : Bool). if b then what ∷ [] else []) (other_number n m differs)
+one_elsewhere Dce n m what differs = ap (λ (b : Bool). if b then what ∷ [] else []) (other_number n m differs)
+
+one_there : (end : Role) (n m : ℕ) (what : OwnMove) → own_one (other end) n end m what ≡ []
+one_there Dte n m what = refl
+one_there Dce n m what = refl
+
+own_moved : (end : Role) (n : ℕ) (moves : List OwnMove) → own_in end n (moved end n moves) ≡ moves
+own_moved end n [] = refl
+own_moved end n (what ∷ moves) = ap₂ (λ (l r : List OwnMove). l ++ r) (one_here end n what) (own_moved end n moves)
+
+own_elsewhere : (end : Role) (n m : ℕ) (moves : List OwnMove) → (n ≡ m → ⊥) → own_in end n (moved end m moves) ≡ []
+own_elsewhere end n m [] differs = refl
+own_elsewhere end n m (what ∷ moves) differs = ap₂ (λ (l r : List OwnMove). l ++ r) (one_elsewhere end n m what differs) (own_elsewhere end n m moves differs)
+
+own_there : (end : Role) (n m : ℕ) (moves : List OwnMove) → own_in (other end) n (moved end m moves) ≡ []
+own_there end n m [] = refl
+own_there end n m (what ∷ moves) = ap₂ (λ (l r : List OwnMove). l ++ r) (one_there end n m what) (own_there end n m moves)
+
+-- more moves of an end in a session
+
+pub own_more : (end : Role) (n : ℕ) (trace : List Done) (moves : List OwnMove) → own_in end n (trace ++ moved end n moves) ≡ own_in end n trace ++ moves
+own_more end n trace moves = own_append end n trace (moved end n moves) ∙ ap (λ (l : List OwnMove). own_in end n trace ++ l) (own_moved end n moves)
+
+pub own_same : (end : Role) (n m : ℕ) (trace : List Done) (moves : List OwnMove) → (n ≡ m → ⊥) → own_in end n (trace ++ moved end m moves) ≡ own_in end n trace
+own_same end n m trace moves differs =
+    own_append end n trace (moved end m moves) ∙ ap (λ (l : List OwnMove). own_in end n trace ++ l) (own_elsewhere end n m moves differs) ∙ append-nil (own_in end n trace)
+
+pub own_other : (end : Role) (n m : ℕ) (trace : List Done) (moves : List OwnMove) → own_in (other end) n (trace ++ moved end m moves) ≡ own_in (other end) n trace
+own_other end n m trace moves =
+    own_append (other end) n trace (moved end m moves) ∙ ap (λ (l : List OwnMove). own_in (other end) n trace ++ l) (own_there end n m moves) ∙ append-nil (own_in (other end) n trace)
+
+run_append : (c : LayerSettings) (xs ys : List OwnMove) (e : layer.End) → own_run c (xs ++ ys) e ≡ own_run c ys (own_run c xs e)
+run_append c [] ys e = refl
+run_append c (x ∷ xs) ys e = run_append c xs ys (own_moves c e x)
+
+pub own_goes : (cfg : Cfg) (end : Role) (n : ℕ) (trace : List Done) (moves : List OwnMove) → own cfg end n (trace ++ moved end n moves) ≡ own_run (layer_of cfg end) moves (own cfg end n trace)
+own_goes cfg end n trace moves =
+    ap (λ (l : List OwnMove). own_run (layer_of cfg end) l (started (goes_up (layer_of cfg end)))) (own_more end n trace moves)
+    ∙ run_append (layer_of cfg end) (own_in end n trace) moves (started (goes_up (layer_of cfg end)))
+
+-- ---- of a session of each end
+
+-- n of the DTE, m of the DCE
+abbrev pub pair_one : ℕ → ℕ → Role → ℕ → OwnMove → List ApartEvent
+pair_one n m Dte session what = if n == session then record { first = true; what = what } ∷ [] else []
+pair_one n m Dce session what = if m == session then record { first = false; what = what } ∷ [] else []
+
+abbrev pub pair_in : ℕ → ℕ → List Done → List ApartEvent
+pair_in n m [] = []
+pair_in n m (t ∷ trace) = pair_one n m t.at t.session t.what ++ pair_in n m trace
+
+-- n of the end, m of the other
+abbrev pub pair_at : Role → ℕ → ℕ → List Done → List ApartEvent
+pair_at Dte n m trace = pair_in n m trace
+pair_at Dce n m trace = pair_in m n trace
+
+pub pair_turned : (end : Role) (n m : ℕ) (trace : List Done) → pair_at (other end) m n trace ≡ pair_at end n m trace
+pair_turned Dte n m trace = refl
+pair_turned Dce n m trace = refl
+
+abbrev pub event_of : Role → OwnMove → ApartEvent
+event_of Dte what = record { first = true; what = what }
+event_of Dce what = record { first = false; what = what }
+
+abbrev pub events_of : Role → List OwnMove → List ApartEvent
+events_of end [] = []
+events_of end (what ∷ moves) = event_of end what ∷ events_of end moves
+
+pair_append : (n m : ℕ) (xs ys : List Done) → pair_in n m (xs ++ ys) ≡ pair_in n m xs ++ pair_in n m ys
+pair_append n m [] ys = refl
+pair_append n m (x ∷ xs) ys =
+    ap (λ (l : List ApartEvent). pair_one n m x.at x.session x.what ++ l) (pair_append n m xs ys) ∙ sym (append_assoc (pair_one n m x.at x.session x.what) (pair_in n m xs) (pair_in n m ys))
+
+pair_at_append : (end : Role) (n m : ℕ) (xs ys : List Done) → pair_at end n m (xs ++ ys) ≡ pair_at end n m xs ++ pair_at end n m ys
+pair_at_append Dte n m xs ys = pair_append n m xs ys
+pair_at_append Dce n m xs ys = pair_append m n xs ys
+
+pair_moved : (end : Role) (n m : ℕ) (moves : List OwnMove) → pair_at end n m (moved end n moves) ≡ events_of end moves
+pair_moved Dte n m [] = refl
+pair_moved Dce n m [] = refl
+pair_moved Dte n m (what ∷ moves) =
+    ap₂ (λ (b : Bool) (l : List ApartEvent). (if b then record { first = true; what = what } ∷ [] else []) ++ l) (same_number n) (pair_moved Dte n m moves)
+pair_moved Dce n m (what ∷ moves) =
+    ap₂ (λ (b : Bool) (l : List ApartEvent). (if b then record { first = false; what = what } ∷ [] else []) ++ l) (same_number n) (pair_moved Dce n m moves)
+
+pair_elsewhere : (end : Role) (n m session : ℕ) (moves : List OwnMove) → (n ≡ session → ⊥) → pair_at end n m (moved end session moves) ≡ []
+pair_elsewhere Dte n m session [] differs = refl
+pair_elsewhere Dce n m session [] differs = refl
+pair_elsewhere Dte n m session (what ∷ moves) differs =
+    ap₂ (λ (b : Bool) (l : List ApartEvent). (if b then record { first = true; what = what } ∷ [] else []) ++ l) (other_number n session differs) (pair_elsewhere Dte n m session moves differs)
+pair_elsewhere Dce n m session (what ∷ moves) differs =
+    ap₂ (λ (b : Bool) (l : List ApartEvent). (if b then record { first = false; what = what } ∷ [] else []) ++ l) (other_number n session differs) (pair_elsewhere Dce n m session moves differs)
+
+pub pair_more : (end : Role) (n m : ℕ) (trace : List Done) (moves : List OwnMove) → pair_at end n m (trace ++ moved end n moves) ≡ pair_at end n m trace ++ events_of end moves
+pair_more end n m trace moves = pair_at_append end n m trace (moved end n moves) ∙ ap (λ (l : List ApartEvent). pair_at end n m trace ++ l) (pair_moved end n m moves)
+
+pub pair_same : (end : Role) (n m session : ℕ) (trace : List Done) (moves : List OwnMove) → (n ≡ session → ⊥) → pair_at end n m (trace ++ moved end session moves) ≡ pair_at end n m trace
+pair_same end n m session trace moves differs =
+    pair_at_append end n m trace (moved end session moves) ∙ ap (λ (l : List ApartEvent). pair_at end n m trace ++ l) (pair_elsewhere end n m session moves differs) ∙ append-nil (pair_at end n m trace)
+
+-- the moves of either end of the pair
+
+near_append : (xs ys : List ApartEvent) → near_moves (xs ++ ys) ≡ near_moves xs ++ near_moves ys
+near_append [] ys = refl
+near_append (x ∷ xs) ys = by x.first (near_append xs ys)
+  where
+    by : (b : Bool) → near_moves (xs ++ ys) ≡ near_moves xs ++ near_moves ys
+        → (if b then x.what ∷ near_moves (xs ++ ys) else near_moves (xs ++ ys)) ≡ (if b then x.what ∷ near_moves xs else near_moves xs) ++ near_moves ys
+    by true rest = ap (λ (l : List OwnMove). x.what ∷ l) rest
+    by false rest = rest
+
+far_append : (xs ys : List ApartEvent) → far_moves (xs ++ ys) ≡ far_moves xs ++ far_moves ys
+far_append [] ys = refl
+far_append (x ∷ xs) ys = by x.first (far_append xs ys)
+  where
+    by : (b : Bool) → far_moves (xs ++ ys) ≡ far_moves xs ++ far_moves ys
+        → (if b then far_moves (xs ++ ys) else x.what ∷ far_moves (xs ++ ys)) ≡ (if b then far_moves xs else x.what ∷ far_moves xs) ++ far_moves ys
+    by true rest = rest
+    by false rest = ap (λ (l : List OwnMove). x.what ∷ l) rest
+
+near_one : (n m : ℕ) (at : Role) (session : ℕ) (what : OwnMove) → near_moves (pair_one n m at session what) ≡ own_one Dte n at session what
+near_one n m Dte session what = by (n == session)
+  where
+    by : (b : Bool) → near_moves (if b then record { first = true; what = what } ∷ [] else []) ≡ (if b then what ∷ [] else [])
+    by true = refl
+    by false = refl
+near_one n m Dce session what = by (m == session)
+  where
+    by : (b : Bool) → near_moves (if b then record { first = false; what = what } ∷ [] else []) ≡ []
+    by true = refl
+    by false = refl
+
+far_one : (n m : ℕ) (at : Role) (session : ℕ) (what : OwnMove) → far_moves (pair_one n m at session what) ≡ own_one Dce m at session what
+far_one n m Dte session what = by (n == session)
+  where
+    by : (b : Bool) → far_moves (if b then record { first = true; what = what } ∷ [] else []) ≡ []
+    by true = refl
+    by false = refl
+far_one n m Dce session what = by (m == session)
+  where
+    by : (b : Bool) → far_moves (if b then record { first = false; what = what } ∷ [] else []) ≡ (if b then what ∷ [] else [])
+    by true = refl
+    by false = refl
+
+pub near_of_pair : (n m : ℕ) (trace : List Done) → near_moves (pair_in n m trace) ≡ own_in Dte n trace
+near_of_pair n m [] = refl
+near_of_pair n m (t ∷ trace) =
+    near_append (pair_one n m t.at t.session t.what) (pair_in n m trace) ∙ ap₂ (λ (l r : List OwnMove). l ++ r) (near_one n m t.at t.session t.what) (near_of_pair n m trace)
+
+pub far_of_pair : (n m : ℕ) (trace : List Done) → far_moves (pair_in n m trace) ≡ own_in Dce m trace
+far_of_pair n m [] = refl
+far_of_pair n m (t ∷ trace) =
+    far_append (pair_one n m t.at t.session t.what) (pair_in n m trace) ∙ ap₂ (λ (l r : List OwnMove). l ++ r) (far_one n m t.at t.session t.what) (far_of_pair n m trace)
+
+-- ---- moves that take nothing
+
+abbrev pub TakesNone : OwnMove → Type 0
+TakesNone (Takes packet) = ⊥
+TakesNone what = Unit {0}
+
+abbrev pub TakeNothing : List OwnMove → Type 0
+TakeNothing [] = Unit {0}
+TakeNothing (what ∷ moves) = TakesNone what × TakeNothing moves
+
+pub nothing_append : (xs ys : List OwnMove) → TakeNothing xs → TakeNothing ys → TakeNothing (xs ++ ys)
+nothing_append [] ys f g = g
+nothing_append (x ∷ xs) ys f g = (f.0, nothing_append xs ys f.1 g)
+
+next_of_none : (taker giver : layer.End) (what : OwnMove) → TakesNone what → IsNext taker giver what
+next_of_none taker giver (Requests is_full request) h = tt
+next_of_none taker giver (Pulls channel) h = tt
+next_of_none taker giver (Takes packet) h = absurd h
+next_of_none taker giver GoesDown h = tt
+
+-- where neither end takes anything, all is in order
+pub order_of_nothing : (long_data : Bool) (channels : ℕ) (es : List ApartEvent) (ends : Ends) → TakeNothing (near_moves es) → TakeNothing (far_moves es) → AreInOrder long_data channels es ends
+order_of_nothing long_data channels [] ends f g = tt
+order_of_nothing long_data channels (e ∷ es) ends f g = by e.first f g (order_of_nothing long_data channels es (apart_happens long_data channels ends e))
+  where
+    by : (b : Bool) → TakeNothing (if b then e.what ∷ near_moves es else near_moves es) → TakeNothing (if b then far_moves es else e.what ∷ far_moves es)
+        → (TakeNothing (near_moves es) → TakeNothing (far_moves es) → AreInOrder long_data channels es (apart_happens long_data channels ends e))
+        → IsInOrder ends (record { first = b; what = e.what }) × AreInOrder long_data channels es (apart_happens long_data channels ends e)
+    by true f g rest = (next_of_none ends.near ends.far e.what f.0, rest f.1 g)
+    by false f g rest = (next_of_none ends.far ends.near e.what g.0, rest f g.1)
+
+-- so are moves of an end that takes nothing
+pub nothing_goes : (long_data : Bool) (channels : ℕ) (end : Role) (moves : List OwnMove) (ends : Ends) → TakeNothing moves → AreInOrder long_data channels (events_of end moves) ends
+nothing_goes long_data channels end [] ends h = tt
+nothing_goes long_data channels Dte (what ∷ moves) ends h =
+    (next_of_none ends.near ends.far what h.0, nothing_goes long_data channels Dte moves (apart_happens long_data channels ends (event_of Dte what)) h.1)
+nothing_goes long_data channels Dce (what ∷ moves) ends h =
+    (next_of_none ends.far ends.near what h.0, nothing_goes long_data channels Dce moves (apart_happens long_data channels ends (event_of Dce what)) h.1)
+
+-- ---- what users hand down is octets
+
+abbrev pub BringOctets : List Done → Type 0
+BringOctets [] = Unit {0}
+BringOctets (t ∷ trace) = MovesOctets (as_move t.what) × BringOctets trace
+
+pub octets_append : (xs ys : List Done) → BringOctets xs → BringOctets ys → BringOctets (xs ++ ys)
+octets_append [] ys f g = g
+octets_append (x ∷ xs) ys f g = (f.0, octets_append xs ys f.1 g)

@@ -1,0 +1,415 @@
+-- Octets come, over set-up and re-set-up: the link takes them, and the layer the packet that the link hands up, which is the next of those that
+-- the other end gave in its latest session.
+use Rattle.std.proofs.Common.{◌≡◌, ℕ, zero, suc, ◌≤◌, ◌<◌, inl, inr, List, [], ◌∷◌, ◌++◌, remove, Bool, true, false, if◌then◌else◌, Option, Some, None, Ok, option_to_list, refl, sym, ap, ◌∙◌, subst, append_assoc, arith}
+use Rattle.std.proofs.lemmas.List.{append_cancel_left, map-append}
+use Rattle.x25_bits.specs.declared.role.Role.{Role}
+use Rattle.x25_bits.specs.declared.role.Role.TheVariants.{Dte, Dce}
+use Rattle.x25_packet.specs.PlainPacket.{PlainPacket}
+use Rattle.x25_packet.specs.Spelling.{spelling_of, longest_user}
+use Rattle.x25_packet.specs.Reading.{packet_of}
+use Rattle.x25_handshakes.specs.Books.{IsPrefix}
+use Rattle.x25_link.specs.LinkStation.{LinkStation, is_up}
+use Rattle.x25_link.specs.MustSend.{other, Step as LinkStep}
+use Rattle.x25_link.specs.laws.NoteLaw.{IsQuiet}
+use Rattle.x25_link.specs.declared.phase.Notes.{Notes}
+use Rattle.x25_link.specs.Steps.{take_step, abandon_step}
+use Rattle.x25_line.specs.Stations as line
+use Rattle.x25_line.specs.Sessions as links
+use Rattle.x25_line.specs.Sessions.{SessionEnd, Meeting, Sessions, begun_by}
+use Rattle.x25_line.specs.laws.SessionClaims as met
+use Rattle.x25_line.specs.laws.SessionClaims.{AllMet, SomeMet, IsNoEarlier, InStep, MetAreInOrder, UnmetHandNothingUp, octets_of}
+use Rattle.x25_line.specs.SessionEvents.{EachEventMeetsLatest, MeetsOne}
+use Rattle.x25_layer.specs.Layer.{Layer, LayerNotice}
+use Rattle.x25_layer.specs.code.FitsLayer.{is_full}
+use Rattle.x25_layer.specs.TwoLayers as layer
+use Rattle.x25_layer.specs.TwoLayers.{HandsUp}
+use Rattle.x25_layer.specs.laws.RoundLaw.{moves_all, pulls_of}
+use Rattle.x25_layer.specs.Apart as apart
+use Rattle.x25_layer.specs.Apart.{OwnMove, Takes, Ends, own_run, apart_happens, AreInOrder}
+use Rattle.x25_layer.specs.laws.ApartLaw.{BeginsRestarted, IsToldFirst}
+use Rattle.x25_station.specs.declared.config.Cfg.{Cfg}
+use Rattle.x25_station.specs.Settings.{Settings, settings_from, layer_settings}
+use Rattle.x25_station.specs.Entries.{layer_notices}
+use Rattle.x25_station.specs.Steps.{Step, follows, abandons, receives}
+use Rattle.x25_station.specs.laws.JoinLaw.{station_with, IsJoined}
+use Rattle.x25_station.specs.laws.KeepLaw.{IsKept}
+use Rattle.x25_station.specs.laws.ReadLaw.{AreReadable, IsReadable}
+use Rattle.x25_world.specs.World.{World, Receives, delivered, after, after_step}
+use Rattle.x25_world.specs.laws.Claims.{link_of}
+use Rattle.x25_world.proofs.Known.{IsConfigured, both_true, true_false}
+use Rattle.x25_world.proofs.Growing.{spelled}
+use Rattle.x25_world.proofs.sessions.SessionTrace.{layer_of, Done, moved, own, own_goes, events_of, pair_turned, nothing_goes}
+use Rattle.x25_world.proofs.sessions.SessionReaches.{Beginning, SessionsReach, IsAt, may_ask, known_sessions, sessions_act}
+use Rattle.x25_world.proofs.sessions.SessionJoined.{HasMet, PairIsInOrder, PairsAreInOrder, SessionsJoined}
+use Rattle.x25_world.proofs.sessions.SessionKnown.{SessionLaws, all_no_earlier, met_in_order, pair_ends, here_in, here_is, there_is, pair_world, own_order, own_first, own_readable, nothing_in_order}
+use Rattle.x25_world.proofs.sessions.SessionEntries.{heard_plain}
+use Rattle.x25_world.proofs.sessions.SessionLinks.{SessionGoes, own_step, deliver_goes}
+use Rattle.x25_world.proofs.sessions.SessionGoes.{here_extended}
+use Rattle.x25_world.proofs.sessions.SessionFollows.{no_command, follows_silent, follows_up}
+use Rattle.x25_world.proofs.sessions.SessionMoves.{own_pulls, pulls_take_nothing, pulls_bring_octets, near_pulls, take_takes}
+use Rattle.x25_world.proofs.sessions.acts.SessionRequests.{readable_behind, pair_goes, pair_stays, joins}
+use Rattle.x25_world.proofs.sessions.acts.SessionTimers.{not_begun_by}
+
+-- the packet in front of those in flight, by its octets
+record Front (octets : List ℕ) (flight : List PlainPacket) : Type 0 where
+  pub packet : PlainPacket
+  pub others : List PlainPacket
+  pub is : flight ≡ packet ∷ others
+  pub spells : octets ≡ spelling_of packet
+
+abbrev first_of : List ℕ → List (List ℕ) → List ℕ
+first_of none [] = none
+first_of none (x ∷ xs) = x
+
+front_of : (octets : List ℕ) (rest : List (List ℕ)) (flight : List PlainPacket) → octets ∷ rest ≡ spelled flight → Front octets flight
+front_of octets rest [] is = absurd (cc)
+front_of octets rest (p ∷ flight) is = record { packet = p; others = flight; is = refl; spells = ap (first_of []) is }
+
+-- ---- the line
+
+-- octets on the line are those of an entry
+record FrontEntry (front : List ℕ) (behind : List (List ℕ)) (es : List links.Entry) : Type 0 where
+  pub entry : links.Entry
+  pub others : List links.Entry
+  pub is : es ≡ entry ∷ others
+  pub octets : entry.octets ≡ front
+  pub left : octets_of others ≡ behind
+
+abbrev front_octets : List (List ℕ) → List ℕ
+front_octets [] = []
+front_octets (x ∷ xs) = x
+
+abbrev behind_front : List (List ℕ) → List (List ℕ)
+behind_front [] = []
+behind_front (x ∷ xs) = xs
+
+-- ---- meetings
+
+-- where one of the two met before, they met each other
+met_again : (m : Meeting) (ms : List Meeting) → AllMet (IsNoEarlier m) ms → SomeMet (λ (p : Meeting). p.near ≡ m.near) ms → HasMet m.near m.far ms
+met_again m [] all some = absurd some
+met_again m (p ∷ ms) all some = elim some [
+  | inl here ↦ elim all.0 [ inl same ↦ inl (same.0, same.1) | inr less ↦ absurd (never p.near m.near here less.0) ]
+  | inr there ↦ inr (met_again m ms all.1 there)
+]
+  where
+    never : (a b : ℕ) → a ≡ b → a < b → ⊥
+    never a b e lt = omega (arith, e, lt)
+
+met_again_there : (m : Meeting) (ms : List Meeting) → AllMet (IsNoEarlier m) ms → SomeMet (λ (p : Meeting). p.far ≡ m.far) ms → HasMet m.near m.far ms
+met_again_there m [] all some = absurd some
+met_again_there m (p ∷ ms) all some = elim some [
+  | inl here ↦ elim all.0 [ inl same ↦ inl (same.0, same.1) | inr less ↦ absurd (never p.far m.far here less.1) ]
+  | inr there ↦ inr (met_again_there m ms all.1 there)
+]
+  where
+    never : (a b : ℕ) → a ≡ b → a < b → ⊥
+    never a b e lt = omega (arith, e, lt)
+
+-- ---- packets
+
+-- the packet that an end takes is the next, and its pulls take none
+next_at : (cfg : Cfg) (end : Role) (ends : Ends) (packet : PlainPacket) (channels : List ℕ) → IsPrefix ((here_in end ends).taken ++ packet ∷ []) (here_in (other end) ends).given
+    → AreInOrder cfg.long_data cfg.channels (events_of end (Takes packet ∷ own_pulls channels)) ends
+next_at cfg Dte ends packet channels begins = (λ out. begins, nothing_goes cfg.long_data cfg.channels Dte (own_pulls channels) _ (pulls_take_nothing channels))
+next_at cfg Dce ends packet channels begins = (λ out. begins, nothing_goes cfg.long_data cfg.channels Dce (own_pulls channels) _ (pulls_take_nothing channels))
+
+module _ {since : Beginning} (laws : SessionLaws) (cfg : Cfg) (fine : IsConfigured cfg) (end : Role) (w : World) (h : SessionsJoined since cfg end w) (is_at : IsAt since end Receives) where
+  abbrev here : ℕ
+  here = h.links.near.begun
+
+  abbrev there : ℕ
+  there = h.links.far.begun
+
+  abbrev now_met : Meeting
+  now_met = record { near = here; far = there }
+
+  -- the latest sessions of both are in order, as they meet
+  pair_now : InStep (now_met ∷ h.links.met) → PairIsInOrder cfg end h.trace here there
+  pair_now step =
+      let unmet = known_sessions UnmetHandNothingUp laws.unmet cfg fine end h.links h.reach in
+      let earlier = all_no_earlier now_met h.links.met step in
+      elim (unmet.near here) [
+        | inl empty ↦ elim (unmet.far there) [
+          | inl empty_there ↦ nothing_in_order cfg end h.trace here there (h.near.alone here empty) (h.far.alone there empty_there)
+          | inr some ↦ met_in_order cfg end h.trace h.links.met here there h.pairs (met_again_there now_met h.links.met earlier some)
+        ]
+        | inr some ↦ met_in_order cfg end h.trace h.links.met here there h.pairs (met_again now_met h.links.met earlier some)
+      ]
+
+  record HaveMet (v : Sessions) : Type 0 where
+    pub pairs : PairsAreInOrder cfg end h.trace v.met
+    pub more : (n m : ℕ) → HasMet n m h.links.met → HasMet n m v.met
+
+  have_met : (v : Sessions) (e f : SessionEnd) → SessionsReach since cfg end v → MeetsOne line.Deliver now_met e f h.links.met v.met → HaveMet v
+  have_met v e f reach one = elim one [
+    | inl now ↦ (let step = subst InStep now.met (known_sessions met.MeetInStep laws.step cfg fine end v reach) in
+        record {
+          pairs = subst (PairsAreInOrder cfg end h.trace) (sym now.met) (pair_now step, h.pairs);
+          more = λ n m has. subst (λ (ms : List Meeting). HasMet n m ms) (sym now.met) (inr has);
+        })
+    | inr none ↦ record {
+      pairs = subst (PairsAreInOrder cfg end h.trace) (sym none.met) h.pairs;
+      more = λ n m has. subst (λ (ms : List Meeting). HasMet n m ms) (sym none.met) has;
+    }
+  ]
+
+  module _ (octets : List ℕ) (back : List (List ℕ)) (front : w.back ≡ octets ∷ back) where
+    front_entry : FrontEntry octets back h.links.back
+    front_entry = by h.links.back refl
+      where
+        by : (es : List links.Entry) → h.links.back ≡ es → FrontEntry octets back h.links.back
+        by [] is = absurd (cc)
+        by (e ∷ es) is =
+            let same : e.octets ∷ octets_of es ≡ octets ∷ back = ap octets_of (sym is) ∙ h.back ∙ front in
+            record { entry = e; others = es; is = is; octets = ap front_octets same; left = ap behind_front same }
+
+    -- ---- where a count is full
+
+    -- the link is left, and the octets are lost
+    abbrev gone : Sessions
+    gone = links.acts (link_of cfg end) (line.Lose 0) (links.acts (link_of cfg end) line.Abandon h.links)
+
+    abandoned : abandons (settings_from end cfg) w.near ≡ true → IsKept (follows (settings_from end cfg) w.near.layer (abandon_step (link_of cfg end) w.near.link)).near
+        → SessionsJoined since cfg end (after_step (settings_from end cfg) w back (follows (settings_from end cfg) w.near.layer (abandon_step (link_of cfg end) w.near.link)))
+    abandoned full kept =
+        let c = link_of cfg end in
+        let up : is_up w.near.link.phase ≡ true = (both_true (is_up w.near.link.phase) (is_full (layer_settings (settings_from end cfg)) w.near.layer) full).0 in
+        let k = abandon_step c w.near.link in
+        let left : LinkStation → Sessions = λ s. links.after_step c h.links h.links.back h.links.met [] (abandon_step c s) in
+        let was : links.acts c line.Abandon h.links ≡ left w.near.link =
+        ap (λ (s : LinkStation). if is_up s.phase then left s else h.links) h.near.link ∙ ap (λ (b : Bool). if b then left w.near.link else h.links) up in
+        let same : gone ≡ record (left w.near.link) { back = remove h.links.back 0 } = ap (λ (x : Sessions). record x { back = remove x.back 0 }) was in
+        let not_up : k.notes.up ≡ false = not_begun_by k.notes.up here (sym (ap (λ (x : Sessions). x.near.begun) was) ∙ (laws.hands c c (line.Near line.Abandon) h.links).0.begun) in
+        let g = own_step c h.links (remove h.links.back 0) h.links.met k in
+        let f = front_entry in
+        let goes : SessionGoes c h.links (record (left w.near.link) { back = remove h.links.back 0 }) here k.side.near k.side.out [] [] back h.links.met =
+        subst (λ (b : Bool). SessionGoes c h.links (record (left w.near.link) { back = remove h.links.back 0 }) (begun_by b here) k.side.near k.side.out [] [] back h.links.met) not_up
+        (subst (λ (os : List (List ℕ)). SessionGoes c h.links (record (left w.near.link) { back = remove h.links.back 0 }) (begun_by k.notes.up here) k.side.near k.side.out [] [] os h.links.met)
+        (ap (λ (es : List links.Entry). octets_of (remove es 0)) f.is ∙ f.left) g) in
+        follows_silent laws cfg fine end w h no_command back k gone
+        (sessions_act cfg end (line.Lose 0) (links.acts c line.Abandon h.links) tt (λ off s same. tt) (may_ask end Receives (line.Lose 0) is_at refl)
+        (sessions_act cfg end line.Abandon h.links tt (λ off s same. tt) (may_ask end Receives line.Abandon is_at tt) h.reach))
+        (subst (λ (x : Sessions). PairsAreInOrder cfg end h.trace x.met) (sym same) h.pairs) (λ n m has. subst (λ (x : Sessions). HasMet n m x.met) (sym same) has) (laws.stations.abandon_tells c w.near.link) not_up
+        (subst (λ (x : Sessions). SessionGoes c h.links x here k.side.near k.side.out [] [] back x.met) (sym same) goes) refl kept
+
+    -- ---- where the link takes the octets
+
+    abbrev taken : LinkStep
+    taken = take_step (link_of cfg end) octets w.near.link
+
+    abbrev after_taken : Sessions
+    after_taken = links.acts (link_of cfg end) line.Deliver h.links
+
+    reach_taken : SessionsReach since cfg end after_taken
+    reach_taken = sessions_act cfg end line.Deliver h.links tt (λ off s same. tt) (may_ask end Receives line.Deliver is_at tt) h.reach
+
+    goes_taken : SessionGoes (link_of cfg end) h.links after_taken (begun_by taken.notes.up here) taken.side.near taken.side.out [] (option_to_list taken.packet) back after_taken.met
+    goes_taken =
+        let c = link_of cfg end in
+        let f = front_entry in
+        subst (λ (os : List (List ℕ)). SessionGoes c h.links after_taken (begun_by taken.notes.up here) taken.side.near taken.side.out [] (option_to_list taken.packet) os after_taken.met) f.left
+        (subst (λ (s : LinkStation). (let k = take_step c octets s in
+        SessionGoes c h.links after_taken (begun_by k.notes.up here) k.side.near k.side.out [] (option_to_list k.packet) (octets_of f.others) after_taken.met)) h.near.link
+        (subst (λ (o : List ℕ). (let k = take_step c o h.links.near.station in
+        SessionGoes c h.links after_taken (begun_by k.notes.up here) k.side.near k.side.out [] (option_to_list k.packet) (octets_of f.others) after_taken.met)) f.octets
+        (deliver_goes c h.links f.entry f.others f.is)))
+
+    goes_in : (up : Bool) (packet : Option (List ℕ)) → taken.notes.up ≡ up → taken.packet ≡ packet
+        → SessionGoes (link_of cfg end) h.links after_taken (begun_by up here) taken.side.near taken.side.out [] (option_to_list packet) back after_taken.met
+    goes_in up packet is same =
+        subst (λ (b : Bool). SessionGoes (link_of cfg end) h.links after_taken (begun_by b here) taken.side.near taken.side.out [] (option_to_list packet) back after_taken.met) is
+        (subst (λ (p : Option (List ℕ)). SessionGoes (link_of cfg end) h.links after_taken (begun_by taken.notes.up here) taken.side.near taken.side.out [] (option_to_list p) back after_taken.met) same goes_taken)
+
+    meets_one : MeetsOne line.Deliver now_met h.links.near after_taken.near h.links.met after_taken.met
+    meets_one = known_sessions EachEventMeetsLatest laws.meets cfg fine end h.links h.reach (line.Near line.Deliver)
+
+    met_taken : HaveMet after_taken
+    met_taken = have_met after_taken h.links.near after_taken.near reach_taken meets_one
+
+    -- ---- a packet is handed up
+
+    module _ (not_up : taken.notes.up ≡ false) (packet_octets : List ℕ) (some : taken.packet ≡ Some packet_octets) where
+      goes_up_one : SessionGoes (link_of cfg end) h.links after_taken here taken.side.near taken.side.out [] (packet_octets ∷ []) back after_taken.met
+      goes_up_one = goes_in false (Some packet_octets) not_up some
+
+      up_more : after_taken.near.up here ≡ h.links.near.up here ++ packet_octets ∷ []
+      up_more = goes_up_one.up here ∙ here_extended h.links.near.up here (packet_octets ∷ [])
+
+      -- so the latest sessions of both meet
+      met_now : after_taken.met ≡ now_met ∷ h.links.met
+      met_now = elim meets_one [
+        | inl now ↦ now.met
+        | inr none ↦ elim none.nothing_up [
+          | inl afresh ↦ absurd (one_more here (sym afresh.begins.begun ∙ goes_up_one.begun))
+          | inr rest ↦ absurd (never (append_cancel_left (h.links.near.up here) (packet_octets ∷ []) [] (sym up_more ∙ rest.up)))
+        ]
+      ]
+        where
+          one_more : (n : ℕ) → suc n ≡ n → ⊥
+          one_more n e = omega (arith, e)
+
+          never : packet_octets ∷ [] ≡ [] → ⊥
+          never e = cc
+
+      met_in_step : InStep (now_met ∷ h.links.met)
+      met_in_step = subst InStep met_now (known_sessions met.MeetInStep laws.step cfg fine end after_taken reach_taken)
+
+      paired : PairIsInOrder cfg end h.trace here there
+      paired = pair_now met_in_step
+
+      -- what was handed up is a beginning of what the other was handed down
+      begins_down : (rest : List (List ℕ)) × (h.links.near.up here ++ (packet_octets ∷ rest) ≡ h.links.far.down there)
+      begins_down =
+          let order = (subst (AllMet (met.IsInOrder after_taken.near after_taken.far)) met_now (known_sessions MetAreInOrder laws.order cfg fine end after_taken reach_taken)).0.back in (
+            order.0,
+            sym (append_assoc (h.links.near.up here) (packet_octets ∷ []) order.0) ∙ ap (λ (l : List (List ℕ)). l ++ order.0) (sym up_more) ∙ order.1 ∙ ap (λ (e : SessionEnd). e.down there) goes_up_one.far,
+          )
+
+      -- so it began a session
+      there_begun : 1 ≤ there
+      there_begun = by there refl
+        where
+          none : {A : Type 0} (xs ys : List (List ℕ)) (x : List ℕ) → xs ++ (x ∷ ys) ≡ [] → A
+          none [] ys x e = absurd (cc)
+          none (y ∷ xs) ys x e = absurd (cc)
+
+          by : (n : ℕ) → there ≡ n → 1 ≤ there
+          by zero is = none (h.links.near.up here) begins_down.0 packet_octets (begins_down.1 ∙ ap h.links.far.down is ∙ h.far.before.0)
+          by (suc n) is = omega (arith, is)
+
+      up : is_up w.near.link.phase ≡ true
+      up = ap is_up ((laws.stations.take_hands_up (link_of cfg end) octets w.near.link).up packet_octets some)
+
+      abbrev own_here : layer.End
+      own_here = own cfg end here h.trace
+
+      abbrev own_there : layer.End
+      own_there = own cfg (other end) there h.trace
+
+      abbrev flight : List PlainPacket
+      flight = (pair_world laws cfg end here there h.trace).back
+
+      given_is : own_there.given ≡ own_here.taken ++ flight
+      given_is = own_order laws cfg end here there h.trace paired
+
+      in_front : Front packet_octets flight
+      in_front =
+          let near = (h.near.sessions here (h.near.first up) (omega arith)).up in
+          let far = (h.far.sessions there there_begun (omega arith)).down in
+          let given : h.links.far.down there ≡ h.links.near.up here ++ spelled flight =
+          far ∙ ap spelled given_is ∙ map-append spelling_of own_here.taken flight ∙ ap (λ (l : List (List ℕ)). l ++ spelled flight) (sym near) in
+          front_of packet_octets begins_down.0 flight (append_cancel_left (h.links.near.up here) (packet_octets ∷ begins_down.0) (spelled flight) (begins_down.1 ∙ given))
+
+      -- the layer takes the packet in front
+      module _ (channels : List ℕ) where
+        abbrev moves : List OwnMove
+        moves = Takes in_front.packet ∷ own_pulls channels
+
+        abbrev trace_on : List Done
+        trace_on = h.trace ++ moved end here moves
+
+        begins_own : IsPrefix (own_here.taken ++ in_front.packet ∷ []) own_there.given
+        begins_own = (in_front.others, append_assoc own_here.taken (in_front.packet ∷ []) in_front.others ∙ ap (λ (l : List PlainPacket). own_here.taken ++ l) (sym in_front.is) ∙ sym given_is)
+
+        pair_on : PairIsInOrder cfg end trace_on here there
+        pair_on =
+            pair_goes laws cfg end h.trace here moves there paired
+            (next_at cfg end (pair_ends cfg end here there h.trace) in_front.packet channels
+            (subst (λ (e : layer.End). IsPrefix (e.taken ++ in_front.packet ∷ []) (here_in (other end) (pair_ends cfg end here there h.trace)).given) (sym (here_is laws cfg end here there h.trace))
+            (subst (λ (e : layer.End). IsPrefix (own_here.taken ++ in_front.packet ∷ []) e.given) (sym (there_is laws cfg end here there h.trace)) begins_own)))
+
+        others_on : (ms : List Meeting) → AllMet (IsNoEarlier now_met) ms → PairsAreInOrder cfg end h.trace ms → PairsAreInOrder cfg end trace_on ms
+        others_on [] earlier pairs = tt
+        others_on (p ∷ ms) earlier pairs = (
+          elim earlier.0 [
+            | inl same ↦ subst (λ (n : ℕ). PairIsInOrder cfg end trace_on n p.far) (sym same.0) (subst (λ (m : ℕ). PairIsInOrder cfg end trace_on here m) (sym same.1) pair_on)
+            | inr less ↦ pair_stays laws cfg end h.trace here moves p.near p.far (below p.near less.0) pairs.0
+          ],
+          others_on ms earlier.1 pairs.1,
+        )
+          where
+            below : (n : ℕ) → n < here → n ≡ here → ⊥
+            below n lt e = omega (arith, lt, e)
+
+        pairs_on : PairsAreInOrder cfg end trace_on after_taken.met
+        pairs_on = subst (PairsAreInOrder cfg end trace_on) (sym met_now) (pair_on, others_on h.links.met (all_no_earlier now_met h.links.met met_in_step) h.pairs)
+
+        -- the first packet is told as a restart by the other end
+        restarts : (told : List LayerNotice) → (own cfg end here trace_on).taken ≡ own_here.taken ++ in_front.packet ∷ [] → (own cfg end here trace_on).told ≡ own_here.told ++ told → own_here.taken ≡ [] → BeginsRestarted told
+        restarts told taken_on told_on none =
+            let before : own_here.told ≡ [] = subst (λ (ps : List PlainPacket). IsToldFirst ps own_here.told) none (own_first laws cfg end here there h.trace paired) in
+            subst (λ (ns : List LayerNotice). IsToldFirst (in_front.packet ∷ []) ns) (told_on ∙ ap (λ (ns : List LayerNotice). ns ++ told) before)
+            (subst (λ (ps : List PlainPacket). IsToldFirst ps (own cfg end here trace_on).told) (taken_on ∙ ap (λ (ps : List PlainPacket). ps ++ in_front.packet ∷ []) none) (own_first laws cfg end here there trace_on pair_on))
+
+      handed : abandons (settings_from end cfg) w.near ≡ false → IsKept (follows (settings_from end cfg) w.near.layer taken).near
+          → SessionsJoined since cfg end (after_step (settings_from end cfg) w back (follows (settings_from end cfg) w.near.layer taken))
+      handed none kept =
+          let c : Settings = settings_from end cfg in
+          let step : Step = follows c w.near.layer taken in
+          let hands = laws.stations.take_hands_up (link_of cfg end) octets w.near.link in
+          let quiet : IsQuiet taken = hands.quiet packet_octets some in
+          let up_after : is_up taken.side.near.phase ≡ true = (laws.stations.take_tells (link_of cfg end) octets w.near.link).stays quiet ∙ up in
+          let now = h.near.now up in
+          let f = in_front in
+          let far : AreReadable cfg.long_data (own_here.taken ++ (f.packet ∷ f.others)) =
+          subst (AreReadable cfg.long_data) (given_is ∙ ap (λ (l : List PlainPacket). own_here.taken ++ l) f.is)
+          (own_readable laws cfg fine (other end) there here h.trace
+          (subst (λ (es : List apart.ApartEvent). AreInOrder cfg.long_data cfg.channels es (apart.apart_start cfg.long_data cfg.channels)) (sym (pair_turned end here there h.trace)) paired) h.octets) in
+          let readable : IsReadable cfg.long_data f.packet = (readable_behind cfg.long_data own_here.taken (f.packet ∷ f.others) far).0 in
+          let reads : packet_of (longest_user cfg.long_data) packet_octets ≡ Ok f.packet = ap (λ (o : List ℕ). packet_of (longest_user cfg.long_data) o) f.spells ∙ readable.reads in
+          let begin : layer.TwoLayers = apart.alone own_here (f.packet ∷ []) in
+          let j = laws.stations.receive c w.near.link begin octets packet_octets f.packet [] now.out refl
+          (ap (λ (l : Layer). abandons c (station_with w.near.link l)) now.layer ∙ none) some reads in
+          let u : layer.TwoLayers = moves_all (layer_of cfg end) begin (HandsUp ∷ pulls_of j.0) in
+          let is : receives c (station_with w.near.link own_here.layer) octets ≡ step =
+          ap (λ (l : Layer). receives c (station_with w.near.link l) octets) now.layer
+          ∙ ap (λ (b : Bool). follows c w.near.layer (if b then abandon_step (link_of cfg end) w.near.link else taken)) none in
+          let joined : IsJoined c begin u taken.side [] step = subst (λ (s : Step). IsJoined c begin u taken.side [] s) is j.2 in
+          let near : u.near ≡ own_run (layer_of cfg end) (moves j.0) own_here = near_pulls (layer_of cfg end) (layer.moves (layer_of cfg end) begin HandsUp) j.0 in
+          let takes = take_takes (layer_of cfg end) own_here f.packet j.0 now.out in
+          let all = own_goes cfg end here h.trace (moves j.0) in
+          joins laws cfg fine end w h step after_taken taken.side u (moves j.0) (f.packet ∷ []) [] (f.packet ∷ []) back
+          (subst (λ (o : List ℕ). SessionGoes (link_of cfg end) h.links after_taken here taken.side.near taken.side.out [] (o ∷ []) back after_taken.met) f.spells goes_up_one)
+          up up_after joined near takes (heard_plain c w.near.layer taken packet_octets some quiet) kept (tt, pulls_bring_octets end here j.0) (there, pair_on j.0)
+          (λ o. may_ask end Receives (line.Put o) is_at tt) reach_taken (λ nothing. absurd (not_empty f.packet nothing)) (pairs_on j.0) met_taken.more
+          (λ first. inr (record {
+            has_met = subst (λ (ms : List Meeting). HasMet here there ms) (sym met_now) (inl (refl, refl));
+            restarts = restarts j.0 (layer_notices step.entries) (ap (λ (e : layer.End). e.taken) all ∙ takes) (ap (λ (e : layer.End). e.told) all ∙ ap (λ (e : layer.End). e.told) (sym near) ∙ joined.layer.told) first;
+            begun = there_begun;
+          }))
+        where
+          not_empty : (p : PlainPacket) → p ∷ [] ≡ [] → ⊥
+          not_empty p e = cc
+
+    -- ---- all that may come
+
+    takes_joined : abandons (settings_from end cfg) w.near ≡ false → IsKept (follows (settings_from end cfg) w.near.layer taken).near
+        → SessionsJoined since cfg end (after_step (settings_from end cfg) w back (follows (settings_from end cfg) w.near.layer taken))
+    takes_joined none kept = by taken.notes.up taken.packet refl refl
+      where
+        by : (up : Bool) (o : Option (List ℕ)) → taken.notes.up ≡ up → taken.packet ≡ o → SessionsJoined since cfg end (after_step (settings_from end cfg) w back (follows (settings_from end cfg) w.near.layer taken))
+        by true None up is =
+            follows_up laws cfg fine end w h no_command back taken after_taken reach_taken met_taken.pairs met_taken.more (laws.stations.take_tells (link_of cfg end) octets w.near.link) (λ o. may_ask end Receives (line.Put o) is_at tt) up (goes_in true None up is) kept
+        by true (Some packet_octets) up is =
+            true_false (sym up ∙ ap (λ (n : Notes). n.up) ((laws.stations.take_hands_up (link_of cfg end) octets w.near.link).quiet packet_octets is))
+        by false None up is =
+            follows_silent laws cfg fine end w h no_command back taken after_taken reach_taken met_taken.pairs met_taken.more (laws.stations.take_tells (link_of cfg end) octets w.near.link) up (goes_in false None up is) is kept
+        by false (Some packet_octets) up is = handed up packet_octets is none kept
+
+    came_joined : SessionsJoined since cfg end (after_step (settings_from end cfg) w back (receives (settings_from end cfg) w.near octets))
+    came_joined = by (abandons (settings_from end cfg) w.near) refl (laws.stations.receive_keeps (settings_from end cfg) w.near octets h.near.kept)
+      where
+        step : Bool → Step
+        step b = follows (settings_from end cfg) w.near.layer (if b then abandon_step (link_of cfg end) w.near.link else taken)
+
+        by : (b : Bool) → abandons (settings_from end cfg) w.near ≡ b → IsKept (step b).near → SessionsJoined since cfg end (after_step (settings_from end cfg) w back (step b))
+        by true is kept = abandoned is kept
+        by false is kept = takes_joined is kept
+
+  pub receives_joined : SessionsJoined since cfg end (after w (delivered (settings_from end cfg) w w.back))
+  receives_joined = by w.back refl
+    where
+      by : (l : List (List ℕ)) → w.back ≡ l → SessionsJoined since cfg end (after w (delivered (settings_from end cfg) w l))
+      by [] is = h
+      by (octets ∷ back) is = came_joined octets back is

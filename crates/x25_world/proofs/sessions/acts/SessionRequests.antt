@@ -1,0 +1,217 @@
+-- A command to the layer in a session: its own packet is put, and then what waits.
+use Rattle.std.proofs.Common.{◌≡◌, ℕ, suc, ◌==◌, ◌⊎◌, inl, inr, List, [], ◌∷◌, ◌++◌, map, Bool, true, refl, sym, ap, ◌∙◌, subst, append-nil, arith, false, if◌then◌else◌}
+use Rattle.std.proofs.lemmas.List.{append_cancel_left}
+use Rattle.x25_bits.specs.declared.role.Role.{Role}
+use Rattle.x25_frame.specs.PlainFrame.{PlainFrame}
+use Rattle.x25_frame.specs.Spelling.{spelling_of}
+use Rattle.x25_packet.specs.PlainPacket.{PlainPacket}
+use Rattle.x25_link.specs.Outgoing.{waits}
+use Rattle.x25_link.specs.LinkStation.{LinkStation, Side, is_up}
+use Rattle.x25_link.specs.Steps.{alone}
+use Rattle.x25_line.specs.Stations as line
+use Rattle.x25_line.specs.Sessions.{Meeting, Sessions}
+use Rattle.x25_line.specs.laws.SessionClaims.{octets_of}
+use Rattle.x25_layer.specs.Layer.{Layer, LayerNotice}
+use Rattle.x25_layer.specs.Calls.{LayerRequest, layer_outcome}
+use Rattle.x25_layer.specs.Quiet.{AreNoFaults}
+use Rattle.x25_layer.specs.TwoLayers as layer
+use Rattle.x25_layer.specs.TwoLayers.{Requests as Requested}
+use Rattle.x25_layer.specs.laws.RoundLaw.{moves_all, pulls_of}
+use Rattle.x25_layer.specs.Apart as apart
+use Rattle.x25_layer.specs.Apart.{OwnMove, Requests, apart_start, own_moves, own_run, AreInOrder}
+use Rattle.x25_station.specs.declared.config.Cfg.{Cfg}
+use Rattle.x25_station.specs.Settings.{Settings, settings_from, layer_settings, link_settings}
+use Rattle.x25_station.specs.Command as command
+use Rattle.x25_station.specs.Entries.{layer_notices, StationEntry}
+use Rattle.x25_station.specs.Steps.{Step, Outcome, Did, Refused, requests, did, entries_of_outcome}
+use Rattle.x25_station.specs.laws.JoinLaw.{station_with, IsJoined}
+use Rattle.x25_station.specs.laws.KeepLaw.{IsKept, KeptBy}
+use Rattle.x25_station.specs.laws.ReadLaw.{AreReadable, RequestsOctets}
+use Rattle.x25_world.specs.World.{World, Commands, of_station, after, after_step}
+use Rattle.x25_world.specs.laws.Claims.{link_of}
+use Rattle.x25_world.proofs.Known.{IsConfigured}
+use Rattle.x25_world.proofs.Growing.{spelled}
+use Rattle.x25_world.proofs.sessions.SessionTrace.{layer_of, Done, moved, own, own_goes, pair_at, events_of, pair_more, pair_same, TakeNothing, nothing_goes, BringOctets, octets_append}
+use Rattle.x25_world.proofs.sessions.SessionReaches.{Beginning, MayAsk, IsAt, may_ask, SessionsReach}
+use Rattle.x25_world.proofs.sessions.SessionJoined.{HasMet, PairIsInOrder, PairsAreInOrder, SessionsJoined}
+use Rattle.x25_world.proofs.sessions.SessionKnown.{SessionLaws, met_in_order, all_map, pair_ends, own_quiet, own_readable, nothing_in_order}
+use Rattle.x25_world.proofs.sessions.SessionEntries.{ArePlain, outcome_plain}
+use Rattle.x25_world.proofs.sessions.SessionLinks.{puts_up, SessionGoes, puts_go, extended_none}
+use Rattle.x25_world.proofs.sessions.SessionGoes.{same_or_not, IsNews, goes_on}
+use Rattle.x25_world.proofs.sessions.SessionMoves.{own_pulls, pulls_take_nothing, pulls_bring_octets, near_pulls, request_leaves}
+use Rattle.x25_station.specs.declared.error.StationError.{StationError}
+use Rattle.x25_station.specs.declared.error.StationError.TheVariants as error
+use Rattle.x25_layer.specs.declared.error.LayerError.TheVariants as layer_error
+use Rattle.x25_station.specs.Station.{Station, view_of}
+use Rattle.x25_layer.specs.Rounds.{LinkView, Answered, Went, Refuses, went}
+
+abbrev step_in : Step → Outcome → Step
+step_in k (Did step) = step
+step_in k (Refused e) = k
+
+refused_did : {A : Type 0} (e : StationError) (step : Step) → Refused e ≡ Did step → A
+refused_did e step is = absurd (subst (λ (o : Outcome). elim o as (λ _. Type 0) [ Did x ↦ ⊥ | Refused y ↦ Unit {0} ]) is tt)
+
+-- the entries of a command that is accepted
+did_entries : (c : Settings) (t : Side) (entries : List StationEntry) (a : Answered) (step : Step) → did c t entries a ≡ Did step → step.entries ≡ entries
+did_entries c t entries (Went s) step is = ap (λ (o : Outcome). (step_in step o).entries) (sym is)
+did_entries c t entries (Refuses e) step is = refused_did (error.Layer e) step is
+
+pub readable_behind : (long_data : Bool) (ps qs : List PlainPacket) → AreReadable long_data (ps ++ qs) → AreReadable long_data qs
+readable_behind long_data [] qs h = h
+readable_behind long_data (p ∷ ps) qs h = readable_behind long_data ps qs h.1
+
+-- a link that isn't up refuses a command to the layer
+did_up : (c : Settings) (s : Station) (request : LayerRequest) (step : Step) → requests c s request ≡ Did step → is_up s.link.phase ≡ true
+did_up c s request step is = by (is_up s.link.phase) refl
+  where
+    view : LinkView
+    view = view_of (link_settings c) s.link
+
+    by : (b : Bool) → is_up s.link.phase ≡ b → is_up s.link.phase ≡ true
+    by true up = up
+    by false off =
+        refused_did (error.Layer layer_error.NotUp) step
+        (sym (ap (λ (b : Bool). did c (alone s.link) (entries_of_outcome (layer_settings c) s.layer request (layer_outcome (layer_settings c) (view.waits [] == 256) s.layer request))
+        (if b then went view (layer_settings c) (layer_outcome (layer_settings c) (view.waits [] == 256) s.layer request) else Refuses layer_error.NotUp)) off) ∙ is)
+
+no_faults_behind : (xs ys : List LayerNotice) → AreNoFaults (xs ++ ys) → AreNoFaults ys
+no_faults_behind [] ys h = h
+no_faults_behind (x ∷ xs) ys h = no_faults_behind xs ys h.1
+
+-- ---- more moves of the near end in the session that stands
+
+module _ (laws : SessionLaws) (cfg : Cfg) (end : Role) (trace : List Done) (session : ℕ) (moves : List OwnMove) where
+  abbrev trace_on : List Done
+  trace_on = trace ++ moved end session moves
+
+  -- .. which are in order
+  pub pair_goes : (m : ℕ) → PairIsInOrder cfg end trace session m → AreInOrder cfg.long_data cfg.channels (events_of end moves) (pair_ends cfg end session m trace) → PairIsInOrder cfg end trace_on session m
+  pair_goes m order next =
+      subst (λ (es : List apart.ApartEvent). AreInOrder cfg.long_data cfg.channels es (apart_start cfg.long_data cfg.channels)) (sym (pair_more end session m trace moves))
+      ((laws.behind cfg.long_data cfg.channels (pair_at end session m trace) (events_of end moves) (apart_start cfg.long_data cfg.channels)).order order next)
+
+  pub pair_stays : (n m : ℕ) → (n ≡ session → ⊥) → PairIsInOrder cfg end trace n m → PairIsInOrder cfg end trace_on n m
+  pair_stays n m differs order =
+      subst (λ (es : List apart.ApartEvent). AreInOrder cfg.long_data cfg.channels es (apart_start cfg.long_data cfg.channels)) (sym (pair_same end n m session trace moves differs)) order
+
+  -- where nothing is taken all are
+  pub pair_goes_quietly : TakeNothing moves → (n m : ℕ) → PairIsInOrder cfg end trace n m → PairIsInOrder cfg end trace_on n m
+  pair_goes_quietly nothing n m order = same_or_not n session
+      (λ (is : n ≡ session). subst (λ (k : ℕ). PairIsInOrder cfg end trace_on k m) (sym is)
+      (pair_goes m (subst (λ (k : ℕ). PairIsInOrder cfg end trace k m) is order) (nothing_goes cfg.long_data cfg.channels end moves (pair_ends cfg end session m trace) nothing)))
+      (λ (differs : n ≡ session → ⊥). pair_stays n m differs order)
+
+  pub pairs_go_quietly : TakeNothing moves → (met : List Meeting) → PairsAreInOrder cfg end trace met → PairsAreInOrder cfg end trace_on met
+  pairs_go_quietly nothing met pairs =
+      all_map (λ (p : Meeting). PairIsInOrder cfg end trace p.near p.far) (λ (p : Meeting). PairIsInOrder cfg end trace_on p.near p.far) (λ (p : Meeting) order. pair_goes_quietly nothing p.near p.far order) met pairs
+
+module _ {since : Beginning} (laws : SessionLaws) (cfg : Cfg) (fine : IsConfigured cfg) (end : Role) (w : World) (h : SessionsJoined since cfg end w) where
+  abbrev session : ℕ
+  session = h.links.near.begun
+
+  abbrev own_now : layer.End
+  own_now = own cfg end session h.trace
+
+  -- each session is one of two in order: with the one that it meets, or with one that isn't begun
+  pub session_pair : (n : ℕ) → (m : ℕ) × PairIsInOrder cfg end h.trace n m
+  session_pair n = elim (h.near_hears n) [
+    | inl none ↦ (let m = suc h.links.far.begun in (m, nothing_in_order cfg end h.trace n m (h.near.alone n none.0) (subst TakeNothing (sym (h.far.later m (omega arith)).moves) tt)))
+    | inr one ↦ (one.session, met_in_order cfg end h.trace h.links.met n one.session h.pairs one.has_met)
+  ]
+
+  -- the link's own step is at `v`, with the side `t`; behind it go the packets that the layer puts
+  module _ (step : Step) (v : Sessions) (t : Side) (u : layer.TwoLayers) (moves : List OwnMove) (lifted behind coming : List PlainPacket) (back : List (List ℕ))
+      (g : SessionGoes (link_of cfg end) h.links v session t.near t.out [] (spelled lifted) back v.met) (up : is_up w.near.link.phase ≡ true) (up_after : is_up t.near.phase ≡ true)
+      (j : IsJoined (settings_from end cfg) (apart.alone own_now coming) u t behind step) (near : u.near ≡ own_run (layer_of cfg end) moves own_now)
+      (taken : (own_run (layer_of cfg end) moves own_now).taken ≡ own_now.taken ++ lifted) (plain : ArePlain step.entries) (kept : IsKept step.near)
+      (octets : BringOctets (moved end session moves)) (paired : (m : ℕ) × PairIsInOrder cfg end (h.trace ++ moved end session moves) session m) where
+    abbrev own_then : layer.End
+    own_then = own_run (layer_of cfg end) moves own_now
+
+    given_then : own_then.given ≡ own_now.given ++ j.packets
+    given_then = ap (λ (e : layer.End). e.given) (sym near) ∙ j.layer.given
+
+    told_then : own_then.told ≡ own_now.told ++ layer_notices step.entries
+    told_then = ap (λ (e : layer.End). e.told) (sym near) ∙ j.layer.told
+
+    puts_readable : AreReadable cfg.long_data j.packets
+    puts_readable =
+        readable_behind cfg.long_data own_now.given j.packets
+        (subst (AreReadable cfg.long_data) (ap (λ (e : layer.End). e.given) (own_goes cfg end session h.trace moves) ∙ given_then)
+        (own_readable laws cfg fine end session paired.0 (h.trace ++ moved end session moves) paired.1 (octets_append h.trace (moved end session moves) h.octets octets)))
+
+    pub joins : ((octets : List ℕ) → MayAsk since end (line.Put octets)) → SessionsReach since cfg end v → (lifted ≡ [] → TakeNothing moves) → PairsAreInOrder cfg end (h.trace ++ moved end session moves) v.met → ((n m : ℕ) → HasMet n m h.links.met → HasMet n m v.met)
+        → (own_now.taken ≡ [] → ((lifted ≡ []) × (layer_notices step.entries ≡ [])) ⊎ IsNews session h.links.far.begun v.met (layer_notices step.entries))
+        → SessionsJoined since cfg end (after_step (settings_from end cfg) w back step)
+    joins asks reach alone pairs more news =
+        let r = puts_go cfg end h.links v session j.packets t [] (spelled lifted) back v.met asks reach g j.link.accepted puts_readable in
+        let still : is_up step.near.link.phase ≡ true = ap (λ (s : LinkStation). is_up s.phase) j.link.link ∙ puts_up laws.stations.put_tells (link_of cfg end) j.packets t up_after in
+        goes_on cfg end w h step back r.links v.met moves j.packets lifted
+        (record {
+          station = r.goes.station ∙ sym j.link.link;
+          begun = r.goes.begun;
+          down = r.goes.down;
+          up = r.goes.up;
+          far = r.goes.far;
+          out = r.goes.out ∙ ap (λ (fs : List PlainFrame). octets_of h.links.out ++ map (spelling_of end) fs) (sym j.link.out);
+          back = r.goes.back;
+          sent = r.goes.sent ∙ ap (λ (fs : List PlainFrame). h.links.sent ++ fs) (sym j.link.out);
+          met = r.goes.met;
+        })
+        (record {
+          layer = ap (λ (e : layer.End). e.layer) (sym near) ∙ j.layer.layer;
+          out = ap (λ (e : layer.End). e.is_out) (sym near) ∙ j.layer.up;
+          given = given_then;
+          taken = taken;
+          entries = ap (λ (e : layer.End). e.entries) (sym near) ∙ j.layer.entries;
+          told = told_then;
+        })
+        up still plain kept r.reach alone
+        (no_faults_behind own_now.told (layer_notices step.entries)
+        (subst AreNoFaults (ap (λ (e : layer.End). e.told) (own_goes cfg end session h.trace moves) ∙ told_then) (own_quiet laws cfg end session paired.0 (h.trace ++ moved end session moves) paired.1).told))
+        octets pairs more news
+
+  -- ---- a command
+
+  accepted_joined : (request : LayerRequest) → IsAt since end (Commands (command.Requests request)) → RequestsOctets request → (step : Step) → requests (settings_from end cfg) w.near request ≡ Did step
+      → SessionsJoined since cfg end (after_step (settings_from end cfg) w w.back step)
+  accepted_joined request is_at octets step is =
+      let c : Settings = settings_from end cfg in
+      let up = did_up c w.near request step is in
+      let now = h.near.now up in
+      let same : requests c (station_with w.near.link own_now.layer) request ≡ Did step = ap (λ (l : Layer). requests c (station_with w.near.link l) request) now.layer ∙ is in
+      let full : Bool = waits w.near.link.outgoing == 256 in
+      let begin : layer.TwoLayers = apart.alone own_now [] in
+      let j = laws.stations.request c w.near.link begin request step now.out h.near.kept.few same in
+      let moves : List OwnMove = Requests full request ∷ own_pulls j.0 in
+      let u : layer.TwoLayers = moves_all (layer_of cfg end) begin (Requested full request ∷ pulls_of j.0) in
+      let nothing : TakeNothing moves = (tt, pulls_take_nothing j.0) in
+      let near : u.near ≡ own_run (layer_of cfg end) moves own_now = near_pulls (layer_of cfg end) (layer.moves (layer_of cfg end) begin (Requested full request)) j.0 in
+      let leaves = request_leaves (layer_of cfg end) own_now full request j.0 in
+      let pair = session_pair session in
+      let untold : layer_notices step.entries ≡ [] =
+      append_cancel_left own_now.told (layer_notices step.entries) [] (sym j.2.layer.told ∙ ap (λ (e : layer.End). e.told) near ∙ leaves.told ∙ sym (append-nil own_now.told)) in
+      joins step h.links (alone w.near.link) u moves [] [] [] w.back
+      (record {
+        station = h.near.link;
+        begun = refl;
+        down = λ n. sym (extended_none h.links.near.down session n);
+        up = λ n. sym (extended_none h.links.near.up session n);
+        far = refl;
+        out = sym (append-nil (octets_of h.links.out));
+        back = h.back;
+        sent = sym (append-nil h.links.sent);
+        met = refl;
+      })
+      up up j.2 near (leaves.taken ∙ sym (append-nil own_now.taken))
+      (subst ArePlain (sym (did_entries c (alone w.near.link) _ _ step is)) (outcome_plain (layer_settings c) w.near.layer request _))
+      (subst KeptBy is (laws.stations.command_keeps c w.near (command.Requests request) h.near.kept)) (octets, pulls_bring_octets end session j.0) (pair.0, pair_goes_quietly laws cfg end h.trace session moves nothing session pair.0 pair.1)
+      (λ o. may_ask end (Commands (command.Requests request)) (line.Put o) is_at tt) h.reach (λ none. nothing) (pairs_go_quietly laws cfg end h.trace session moves nothing h.links.met h.pairs) (λ n m has. has) (λ none. inl (refl, untold))
+
+  pub requests_joined : (request : LayerRequest) → IsAt since end (Commands (command.Requests request)) → RequestsOctets request → SessionsJoined since cfg end (after w (of_station (settings_from end cfg) w (requests (settings_from end cfg) w.near request)))
+  requests_joined request is_at octets = by (requests (settings_from end cfg) w.near request) refl
+    where
+      by : (o : Outcome) → requests (settings_from end cfg) w.near request ≡ o → SessionsJoined since cfg end (after w (of_station (settings_from end cfg) w o))
+      by (Did step) is = accepted_joined request is_at octets step is
+      by (Refused e) is = h

@@ -1,0 +1,199 @@
+-- Timer T1 runs out, and the link is connected and disconnected, over set-up and re-set-up.
+use Rattle.std.proofs.Common.{◌≡◌, ℕ, ◌+◌, List, [], ◌∷◌, Bool, true, false, ◌&&◌, ◌||◌, if◌then◌else◌, Option, Some, None, Result, Ok, Err, option_to_list, refl, sym, ap, ◌∙◌, subst, arith, nat_lt}
+use Rattle.std.specs.List.{list_any}
+use Rattle.x25_bits.specs.Role as bits
+use Rattle.x25_bits.specs.declared.role.Role.{Role}
+use Rattle.x25_bits.specs.declared.role.Role.TheVariants.{Dte, Dce}
+use Rattle.x25_frame.specs.PlainFrame.{PlainFrame, info, rr, rnr, rej, sabm, disc, ua, dm, frmr}
+use Rattle.x25_frame.specs.Reading.{frame_of}
+use Rattle.x25_frame.specs.declared.error.FrameError.{FrameError}
+use Rattle.x25_link.specs.declared.error.LinkError.{LinkError}
+use Rattle.x25_link.specs.declared.phase.Phase.{Phase}
+use Rattle.x25_link.specs.declared.phase.Phase.TheVariants.{Waiting, Down, Up, Closed}
+use Rattle.x25_link.specs.LinkStation.{LinkStation, awaits_ua, Settings as LinkSettings, with_near}
+use Rattle.x25_link.specs.MustSend.{other, Step as LinkStep, quiet, leaves}
+use Rattle.x25_link.specs.laws.NoteLaw.{Tells}
+use Rattle.x25_link.specs.Steps.{timer_refusal, timer_step, connect_refusal, connect_step, disconnect_refusal, disconnect_step, alone, closed_by, asks_again}
+use Rattle.x25_line.specs.Stations as line
+use Rattle.x25_line.specs.Sessions as links
+use Rattle.x25_line.specs.Sessions.{Sessions, begun_by, sabm_in, ua_in, how_many, IsTimely}
+use Rattle.x25_line.specs.laws.SessionClaims.{octets_of}
+use Rattle.x25_station.specs.declared.config.Cfg.{Cfg}
+use Rattle.x25_station.specs.Settings.{settings_from, longest_packet}
+use Rattle.x25_station.specs.Command.{Connects, Disconnects}
+use Rattle.x25_station.specs.Entries.{connect_asked, disconnect_asked}
+use Rattle.x25_station.specs.Steps.{Step, follows, led_by, fires, connects, connects_asked, disconnects, unless}
+use Rattle.x25_station.specs.laws.KeepLaw.{IsKept, KeptBy, ConnectKeeps}
+use Rattle.x25_world.specs.SetUpFrames.{is_a, reads_as, carries}
+use Rattle.x25_world.specs.declared.set_up.SetUpFrame.{SetUpFrame}
+use Rattle.x25_world.specs.declared.set_up.SetUpFrame.TheVariants.{Sabm, Ua}
+use Rattle.x25_world.specs.declared.error.WorldError.TheVariants as error
+use Rattle.x25_world.specs.World.{World, Declined, Commands, Fires, of_station, refusal_of, is_on_line, fired, after, after_step}
+use Rattle.x25_world.specs.laws.Claims.{link_of, IsNoConnect}
+use Rattle.x25_world.proofs.Known.{IsConfigured, true_false, second_false}
+use Rattle.x25_world.proofs.sessions.SessionReaches.{Beginning, set_up, MayAct, MayAsk, IsAt, may_ask, SessionsReach, sessions_act}
+use Rattle.x25_world.proofs.sessions.SessionJoined.{SessionsJoined}
+use Rattle.x25_world.proofs.sessions.SessionKnown.{SessionLaws}
+use Rattle.x25_world.proofs.sessions.SessionLinks.{SessionGoes, own_step}
+use Rattle.x25_world.proofs.sessions.SessionFollows.{Lead, no_command, connect, disconnect, lead_of, follows_silent}
+use Rattle.x25_link.specs.declared.phase.Reason.TheVariants.{Retries}
+
+timer_packet : (c : LinkSettings) (s : LinkStation) → (timer_step c s).packet ≡ None
+timer_packet c s = by (nat_lt s.tries c.retries)
+  where
+    by : (b : Bool)
+        → (closed_by c.window (if b then quiet (asks_again s.phase (with_near (alone s) (record s { tries = s.tries + 1 }))) else leaves Retries (alone s))).packet ≡ None
+    by true = refl
+    by false = refl
+
+-- connect is accepted in Down alone
+was_down : (p : Phase) → connect_refusal p ≡ None → p ≡ Down
+was_down Down is = refl
+was_down Waiting is = absurd (cc)
+was_down Up is = absurd (cc)
+was_down Closed is = absurd (cc)
+
+-- ---- frames of a set-up on the line
+
+first_false : (a b : Bool) → (a || b) ≡ false → a ≡ false
+first_false true b e = true_false e
+first_false false b e = refl
+
+not_sabm : (read : Result PlainFrame FrameError) → is_a Sabm read ≡ false → sabm_in read ≡ 0
+not_sabm (Ok (info ns nr p x)) e = refl
+not_sabm (Ok (rr command nr pf)) e = refl
+not_sabm (Ok (rnr command nr pf)) e = refl
+not_sabm (Ok (rej command nr pf)) e = refl
+not_sabm (Ok (sabm p)) e = true_false e
+not_sabm (Ok (disc p)) e = refl
+not_sabm (Ok (ua f)) e = refl
+not_sabm (Ok (dm f)) e = refl
+not_sabm (Ok (frmr f why)) e = refl
+not_sabm (Err error) e = refl
+
+not_ua : (read : Result PlainFrame FrameError) → is_a Ua read ≡ false → ua_in read ≡ 0
+not_ua (Ok (info ns nr p x)) e = refl
+not_ua (Ok (rr command nr pf)) e = refl
+not_ua (Ok (rnr command nr pf)) e = refl
+not_ua (Ok (rej command nr pf)) e = refl
+not_ua (Ok (sabm p)) e = refl
+not_ua (Ok (disc p)) e = refl
+not_ua (Ok (ua f)) e = true_false e
+not_ua (Ok (dm f)) e = refl
+not_ua (Ok (frmr f why)) e = refl
+not_ua (Err error) e = refl
+
+none_of : (frame : SetUpFrame) (count : Result PlainFrame FrameError → ℕ) → ((read : Result PlainFrame FrameError) → is_a frame read ≡ false → count read ≡ 0) → (from : Role) (es : List links.Entry)
+    → carries frame from (octets_of es) ≡ false → how_many count from longest_packet es ≡ 0
+none_of frame count none from [] e = refl
+none_of frame count none from (x ∷ es) e =
+    let here = none (frame_of from longest_packet x.octets) (first_false (reads_as frame from x.octets) (list_any (reads_as frame from) (octets_of es)) e) in
+    let rest = none_of frame count none from es (second_false (reads_as frame from x.octets) (list_any (reads_as frame from) (octets_of es)) e) in
+    omega (arith, here, rest)
+
+waits_for_ua : (p : Phase) → p ≡ Waiting → awaits_ua p ≡ true
+waits_for_ua p is = ap awaits_ua is
+
+only_second : (a b : Bool) → (a && b) ≡ false → a ≡ true → b ≡ false
+only_second true b e is = e
+only_second false b e is = true_false (sym is)
+
+-- one session more or not
+pub not_begun_by : (b : Bool) (n : ℕ) → begun_by b n ≡ n → b ≡ false
+not_begun_by true n e = absurd (omega (arith, e))
+not_begun_by false n e = refl
+
+module _ {since : Beginning} (laws : SessionLaws) (cfg : Cfg) (fine : IsConfigured cfg) (end : Role) (w : World) (h : SessionsJoined since cfg end w) where
+  -- an act of the link that isn't refused, and hands nothing up
+  act_follows : (lead : Lead) (act : line.Act) (refusal : LinkStation → Option LinkError) (step : LinkStation → LinkStep)
+      → links.acts (link_of cfg end) act h.links
+      ≡ links.unless (refusal h.links.near.station) h.links (links.after_step (link_of cfg end) h.links h.links.back h.links.met [] (step h.links.near.station))
+      → (links.acts (link_of cfg end) act h.links).near.begun ≡ h.links.near.begun → IsTimely (link_of cfg end) (link_of cfg (other end)) act h.links → MayAct since act h.links → MayAsk since end act → refusal w.near.link ≡ None
+      → (step w.near.link).packet ≡ None → Tells w.near.link (step w.near.link) → IsKept (led_by (lead_of lead) (follows (settings_from end cfg) w.near.layer (step w.near.link))).near
+      → SessionsJoined since cfg end (after_step (settings_from end cfg) w w.back (led_by (lead_of lead) (follows (settings_from end cfg) w.near.layer (step w.near.link))))
+  act_follows lead act refusal step is same timely may asks accepted none tells kept =
+      let c = link_of cfg end in
+      let k = step w.near.link in
+      let v = links.after_step c h.links h.links.back h.links.met [] k in
+      let done : links.acts c act h.links ≡ v =
+      is ∙ ap (λ (s : LinkStation). links.unless (refusal s) h.links (links.after_step c h.links h.links.back h.links.met [] (step s))) h.near.link
+      ∙ ap (λ (o : Option LinkError). links.unless o h.links v) accepted in
+      let not_up : k.notes.up ≡ false = not_begun_by k.notes.up h.links.near.begun (sym (ap (λ (x : Sessions). x.near.begun) done) ∙ same) in
+      follows_silent laws cfg fine end w h lead w.back k v (subst (λ (x : Sessions). SessionsReach since cfg end x) done (sessions_act cfg end act h.links timely may asks h.reach)) h.pairs (λ n m has. has) tells not_up
+      (subst (λ (b : Bool). SessionGoes c h.links v (begun_by b h.links.near.begun) k.side.near k.side.out [] [] w.back h.links.met) not_up
+      (subst (λ (p : Option (List ℕ)). SessionGoes c h.links v (begun_by k.notes.up h.links.near.begun) k.side.near k.side.out [] (option_to_list p) w.back h.links.met) none
+      (subst (λ (os : List (List ℕ)). SessionGoes c h.links v (begun_by k.notes.up h.links.near.begun) k.side.near k.side.out [] (option_to_list k.packet) os h.links.met) h.back
+      (own_step c h.links h.links.back h.links.met k)))) none kept
+
+  -- while UA is awaited T1 doesn't run out
+  is_timely : (awaits_ua w.near.link.phase && is_on_line (settings_from end cfg) w) ≡ false → IsTimely (link_of cfg end) (link_of cfg (other end)) line.T1 h.links
+  is_timely off waiting =
+      let clear : is_on_line (settings_from end cfg) w ≡ false = only_second (awaits_ua w.near.link.phase) _ off (ap (λ (s : LinkStation). awaits_ua s.phase) (sym h.near.link) ∙ ap awaits_ua waiting) in
+      let sabms : carries Sabm end (octets_of h.links.out) ≡ false = ap (λ (os : List (List ℕ)). carries Sabm end os) h.out ∙ first_false (carries Sabm end w.out) _ clear in
+      let uas : carries Ua (bits.other end) (octets_of h.links.back) ≡ false = ap (λ (os : List (List ℕ)). carries Ua (bits.other end) os) h.back ∙ second_false (carries Sabm end w.out) _ clear in
+      let a = none_of Sabm sabm_in not_sabm end h.links.out sabms in
+      let b = none_of Ua ua_in not_ua (bits.other end) h.links.back uas in
+      by end (omega (arith, a, b))
+    where
+      by : (e : Role) → how_many sabm_in e longest_packet h.links.out + how_many ua_in (bits.other e) longest_packet h.links.back ≡ 0
+          → how_many sabm_in (other (other e)) longest_packet h.links.out + how_many ua_in (other e) longest_packet h.links.back ≡ 0
+      by Dte none = none
+      by Dce none = none
+
+  fires_joined : IsAt since end Fires → (awaits_ua w.near.link.phase && is_on_line (settings_from end cfg) w) ≡ false → SessionsJoined since cfg end (after w (of_station (settings_from end cfg) w (fires (settings_from end cfg) w.near)))
+  fires_joined is_at off = by (timer_refusal w.near.link) refl
+    where
+      step : Step
+      step = follows (settings_from end cfg) w.near.layer (timer_step (link_of cfg end) w.near.link)
+
+      by : (o : Option LinkError) → timer_refusal w.near.link ≡ o → SessionsJoined since cfg end (after w (of_station (settings_from end cfg) w (unless o step)))
+      by (Some e) is = h
+      by None is =
+          act_follows no_command line.T1 timer_refusal (timer_step (link_of cfg end)) refl (laws.hands (link_of cfg end) (link_of cfg end) (line.Near line.T1) h.links).0.begun (is_timely off) (λ off s same. tt) (may_ask end Fires line.T1 is_at tt) is
+          (timer_packet (link_of cfg end) w.near.link) (laws.stations.timer_tells (link_of cfg end) w.near.link)
+          (subst (λ (o : Option LinkError). KeptBy (unless o step)) is (laws.stations.timer_keeps (settings_from end cfg) w.near h.near.kept))
+
+  pub fired_joined : IsAt since end Fires → SessionsJoined since cfg end (after w (fired (settings_from end cfg) w))
+  fired_joined is_at = by (awaits_ua w.near.link.phase && is_on_line (settings_from end cfg) w) refl
+    where
+      by : (b : Bool) → (awaits_ua w.near.link.phase && is_on_line (settings_from end cfg) w) ≡ b
+          → SessionsJoined since cfg end (after w (if b then Declined error.OnLine else of_station (settings_from end cfg) w (fires (settings_from end cfg) w.near)))
+      by true is = h
+      by false is = fires_joined is_at is
+
+  -- set-up is asked for, by a command or not
+  connecting : (lead : Lead) → MayAsk since end line.Connect → (since ≡ set_up false → connect_refusal w.near.link.phase ≡ None → ⊥) → KeptBy (unless (connect_refusal w.near.link.phase) (led_by (lead_of lead) (follows (settings_from end cfg) w.near.layer (connect_step (link_of cfg end) w.near.link))))
+      → SessionsJoined since cfg end
+      (after w (of_station (settings_from end cfg) w (unless (connect_refusal w.near.link.phase) (led_by (lead_of lead) (follows (settings_from end cfg) w.near.layer (connect_step (link_of cfg end) w.near.link))))))
+  connecting lead asks may keeps = by (connect_refusal w.near.link.phase) refl keeps
+    where
+      step : Step
+      step = led_by (lead_of lead) (follows (settings_from end cfg) w.near.layer (connect_step (link_of cfg end) w.near.link))
+
+      by : (o : Option LinkError) → connect_refusal w.near.link.phase ≡ o → KeptBy (unless o step) → SessionsJoined since cfg end (after w (of_station (settings_from end cfg) w (unless o step)))
+      by (Some e) is keeps = h
+      by None is keeps =
+          act_follows lead line.Connect (λ (s : LinkStation). connect_refusal s.phase) (connect_step (link_of cfg end)) refl (laws.hands (link_of cfg end) (link_of cfg end) (line.Near line.Connect) h.links).0.begun tt
+          (λ free s same accepted. may free (ap (λ (x : LinkStation). connect_refusal x.phase) (sym (same ∙ h.near.link)) ∙ accepted)) asks is refl
+          (laws.stations.connect_tells (link_of cfg end) w.near.link (was_down w.near.link.phase is)) keeps
+
+  pub connects_joined : IsAt since end (Commands Connects) → (since ≡ set_up false → IsNoConnect (Commands Connects) (refusal_of (of_station (settings_from end cfg) w (connects_asked (settings_from end cfg) w.near))))
+      → SessionsJoined since cfg end (after w (of_station (settings_from end cfg) w (connects_asked (settings_from end cfg) w.near)))
+  connects_joined is_at none = connecting connect (may_ask end (Commands Connects) line.Connect is_at tt) (λ free accepted. subst (λ (o : Option LinkError). IsNoConnect (Commands Connects) (refusal_of (of_station (settings_from end cfg) w (unless o
+      (led_by (connect_asked ∷ []) (follows (settings_from end cfg) w.near.layer (connect_step (link_of cfg end) w.near.link))))))) accepted (none free)) (laws.stations.command_keeps (settings_from end cfg) w.near Connects h.near.kept)
+
+  pub connects_alone_joined : MayAsk since end line.Connect → (since ≡ set_up false → ⊥) → ConnectKeeps → SessionsJoined since cfg end (after w (of_station (settings_from end cfg) w (connects (settings_from end cfg) w.near)))
+  connects_alone_joined asks unasked keeps = connecting no_command asks (λ free accepted. unasked free) (keeps (settings_from end cfg) w.near h.near.kept)
+
+  pub disconnects_joined : IsAt since end (Commands Disconnects) → SessionsJoined since cfg end (after w (of_station (settings_from end cfg) w (disconnects (settings_from end cfg) w.near)))
+  disconnects_joined is_at = by (disconnect_refusal w.near.link.phase) refl
+    where
+      step : Step
+      step = led_by (disconnect_asked ∷ []) (follows (settings_from end cfg) w.near.layer (disconnect_step (link_of cfg end) w.near.link))
+
+      by : (o : Option LinkError) → disconnect_refusal w.near.link.phase ≡ o → SessionsJoined since cfg end (after w (of_station (settings_from end cfg) w (unless o step)))
+      by (Some e) is = h
+      by None is =
+          act_follows disconnect line.Disconnect (λ (s : LinkStation). disconnect_refusal s.phase) (disconnect_step (link_of cfg end)) refl
+          (laws.hands (link_of cfg end) (link_of cfg end) (line.Near line.Disconnect) h.links).0.begun tt (λ off s same. tt) (may_ask end (Commands Disconnects) line.Disconnect is_at tt) is refl (laws.stations.disconnect_tells (link_of cfg end) w.near.link)
+          (subst (λ (o : Option LinkError). KeptBy (unless o step)) is (laws.stations.command_keeps (settings_from end cfg) w.near Disconnects h.near.kept))

@@ -1,0 +1,8 @@
+-- The claims on sessions, from what is kept.
+pub mod SessionMeets
+pub mod SessionLawful
+pub mod SessionNamed
+pub mod SessionArrives
+pub mod SessionQuiet
+pub mod SessionOctets
+pub mod SessionHeadline

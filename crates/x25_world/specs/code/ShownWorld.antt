@@ -1,0 +1,32 @@
+-- What a world holds, as clauses see it.
+use Rattle.std.specs.Prelude.{ℕ, List}
+use Rattle.x25_bits.specs.declared.role.Role.{Role}
+use Rattle.x25_bits.specs.declared.role.Role.TheVariants.{Dte, Dce}
+use Rattle.x25_bits.specs.declared.direction.Direction.{Direction}
+use Rattle.x25_bits.specs.declared.direction.Direction.TheVariants.{ToDce, ToDte}
+use Rattle.x25_station.specs.declared.station.Station.{Station}
+use Rattle.x25_world.specs.World.{OnTap, AtEnd}
+use Rattle.x25_world.specs.code.ShownLine.{ShownLine}
+
+-- the stations, the octets on the line in each direction, front first, and of tap and transcript what wasn't let go of
+pub record ShownWorld : Type 0 where
+  pub dte : Station
+  pub dce : Station
+  pub to_dce : List (List ℕ)
+  pub to_dte : List (List ℕ)
+  pub tap : List OnTap
+  pub transcript : List AtEnd
+
+abbrev pub line_of : ShownWorld → Direction → List (List ℕ)
+line_of v ToDce = v.to_dce
+line_of v ToDte = v.to_dte
+
+abbrev pub station_of : ShownWorld → Role → Station
+station_of v Dte = v.dte
+station_of v Dce = v.dce
+
+-- an end, and what it shares with the other
+pub record ShownSide : Type 0 where
+  pub near : Station
+  pub line : ShownLine
+  pub transcript : List AtEnd
