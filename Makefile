@@ -14,7 +14,7 @@
 
 x25: build/x25
 
-# The libraries are proved side by side. rt then proves, builds and runs the program; the run reads nothing and is thrown away.
+# The libraries are proved lowest first. rt then proves, builds and runs the program; the run reads nothing and is thrown away.
 build/x25: crates.txt $(shell find crates -path '*/out' -prune -o -type f -print) | kit
 	.ci/prove x25
 	cd crates/x25 && rt run -- decode < /dev/null > /dev/null
