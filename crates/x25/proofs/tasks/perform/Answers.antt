@@ -20,3 +20,6 @@ returns-in-Deframe-clause-text g c = rw c.in-Deframe.is (rw c.role_of.ensures at
 
 pub returns-in-Judge-clause-text : goal.returns-in-Judge-clause-text
 returns-in-Judge-clause-text g c = rw c.in-Judge.is c.judge_lines.ensures.text
+
+pub returns-in-Judge-clause-fault : goal.returns-in-Judge-clause-fault
+returns-in-Judge-clause-fault g c = rw c.in-Judge.is c.judge_lines.ensures.fault
