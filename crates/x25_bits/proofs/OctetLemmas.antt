@@ -267,13 +267,6 @@ octet_at (suc i) (o ∷ octets) h =
     ∙ ap (take 8) (drop-append-add (low_bits 8 o) (bits_of octets) (8 * i))
     ∙ octet_at i octets (omega arith)
 
--- the eight bits that begin where an octet does
-pub part_octet : (place : ℕ) (octets : List ℕ) → place % 8 ≡ 0 → place / 8 < length octets → take (place + 8 - place) (drop place (bits_of octets)) ≡ low_bits 8 (get_or octets (place / 8) 0)
-part_octet place octets h k =
-    let eight : place + 8 - place ≡ 8 = omega arith in
-    let at : place ≡ 8 * (place / 8) = omega arith in
-    ap (λ n. take n (drop place (bits_of octets))) eight ∙ ap (λ n. take 8 (drop n (bits_of octets))) at ∙ octet_at (place / 8) octets k
-
 pub drop_low : (j k n : ℕ) → drop j (low_bits (j + k) n) ≡ low_bits k (n / 2 ^ j)
 unfolding low_bits
 drop_low zero k n = let none : 0 + k ≡ k = omega arith in let same : n / 1 ≡ n = div-one n in ap (λ m. low_bits m n) none ∙ ap (low_bits k) (sym same)
@@ -302,3 +295,7 @@ part_low place k octets h s =
     ap (λ n. take n (drop place (bits_of octets))) many ∙ ap (λ n. take k (drop n (bits_of octets))) at ∙ low_at (place / 8) j k octets s h
     ∙ ap (λ n. take k (drop j (low_bits n o))) whole ∙ ap (take k) (drop_low j (8 - j) o)
     ∙ take_low k (8 - j) (o / 2 ^ j) (omega (h, arith))
+
+-- what is written into a slice of all octets stands in their vector
+pub slice_written : (n : ℕ) (new old : List ℕ) → n ≡ length old → length new ≡ length old → take n (new ++ drop (length new) old) ≡ new
+slice_written n new old e f = take-append-le n new (drop (length new) old) (omega arith) ∙ take_all n new (omega arith)

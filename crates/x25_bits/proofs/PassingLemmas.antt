@@ -1,19 +1,22 @@
 -- Bits in which no flag ends and no seventh 1 bit comes.
-use Rattle.std.proofs.Common.{ℕ, zero, suc, ◌+◌, ◌*◌, ◌/◌, ◌%◌, ◌^◌, ◌<◌, ◌≤◌, ◌≡◌, ◌∙◌, Bool, true, false, not, ◌==◌, ◌&&◌, List, [], ◌∷◌, ◌++◌, length, take, refl, ap, sym, subst, arith, append_assoc, length-append}
+use Rattle.std.proofs.Common.{ℕ, zero, suc, ◌+◌, ◌-◌, ◌*◌, ◌/◌, ◌%◌, ◌^◌, ◌<◌, ◌≤◌, ◌≡◌, ◌∙◌, Bool, true, false, not, ◌==◌, ◌&&◌, List, [], ◌∷◌, ◌++◌, length, take, drop, get_or, refl, ap, sym, subst, arith, append_assoc, length-append}
 use Rattle.std.specs.Prelude.{if◌then◌else◌, ◌||◌}
 use Rattle.std.proofs.lemmas.Nat.{pow-add}
 use Rattle.std.proofs.lemmas.List.{append-nil, take_all}
-use Rattle.x25_bits.specs.Fcs.{low_bits}
+use Rattle.x25_bits.specs.Fcs.{bits_of, low_bits}
 use Rattle.x25_bits.specs.code.Fits.{ones_from}
 use Rattle.x25_bits.specs.code.FitsSeen.{FitsSeen}
+use Rattle.x25_bits.specs.code.Reading.{part}
 use Rattle.x25_bits.specs.code.Held.{Seen, up, keeps, ends, seen_next, seen_found, seen_from, found_from, closing}
-use Rattle.x25_bits.specs.Passing.{passes, kept_from, inserted_after, Passes}
+use Rattle.x25_bits.specs.Passing.{passes, kept_from, inserted_after, Passes, PassesOn}
 use Rattle.x25_bits.specs.SpanClass.{Class}
 use Rattle.x25_bits.specs.declared.deframer.Deframer.{Deframer}
 use Rattle.x25_bits.specs.declared.passing.Passed.{Passed}
 use Rattle.x25_bits.proofs.FcsLemmas.{length-low_bits}
 use Rattle.x25_bits.proofs.KeptLemmas.{take_short}
 use Rattle.x25_bits.proofs.LinearLemmas.{low_bits-join}
+use Rattle.x25_bits.proofs.OctetLemmas.{octet_at}
+use Rattle.x25_bits.proofs.ReadingLemmas.{part_join}
 
 -- ---- eight bits are four and four
 
@@ -115,6 +118,30 @@ kept_so n kept after all more e h k a =
     let short : length all + length more ≤ n = rw whole at k in
     a ∙ ap (λ l. l ++ more) whole ∙ sym (take_all n (all ++ more) (omega arith))
 
+pub content_found : (d : Deframer) (bits : List Bool) → passes d.scan.run bits ≡ true → (v : Seen) → FitsSeen d v → found_from v bits ≡ []
+content_found d bits quiet v f =
+    found_passes v.is_open v.held.run v.held.is_aborted v.held.is_inserted v.held.kept bits (ap (λ r. passes r bits) (sym f.run) ∙ quiet)
+
+pub content_fits : (d e : Deframer) (n : ℕ) (is_inserted : Bool) (bits : List Bool) → d.scan.is_open ≡ true → d.scan.is_aborted ≡ false → length d.kept.bits < 32831 → length e.kept.bits ≤ 32831
+    → PassesOn n is_inserted d.scan.run d.scan.is_inserted bits
+    → e.scan.run ≡ n → e.scan.is_open ≡ d.scan.is_open → e.scan.is_aborted ≡ d.scan.is_aborted → e.scan.is_inserted ≡ is_inserted
+    → e.kept.bits ≡ d.kept.bits ++ kept_from d.scan.run bits
+    → (v : Seen) → FitsSeen d v → FitsSeen e (seen_from v bits)
+content_fits d e n is_inserted bits opens going less few h run is_open aborted inserted kept v f =
+    let quiet : passes v.held.run bits ≡ true = ap (λ r. passes r bits) (sym f.run) ∙ h.quiet in
+    let opened : v.is_open ≡ true = sym f.is_open ∙ opens in
+    let on : v.held.is_aborted ≡ false = sym (f.aborted opened) ∙ going in
+    let behind : e.kept.bits ≡ d.kept.bits ++ kept_from v.held.run bits = kept ∙ ap (λ r. d.kept.bits ++ kept_from r bits) f.run in
+    let size : length e.kept.bits ≡ length d.kept.bits + length (kept_from v.held.run bits) = ap length behind ∙ length-append d.kept.bits (kept_from v.held.run bits) in
+    let room : length d.kept.bits + length (kept_from v.held.run bits) ≤ 32831 = omega arith in
+    subst (FitsSeen e) (sym (seen_passes v.is_open v.held.run v.held.is_aborted v.held.is_inserted v.held.kept bits quiet)) (record {
+      is_open = is_open ∙ f.is_open;
+      run = run ∙ h.ones ∙ ap (λ r. ones_from r bits) f.run;
+      aborted = λ a. aborted ∙ f.aborted a;
+      inserted = λ a b. inserted ∙ h.inserted ∙ ap (λ r. inserted_after r d.scan.is_inserted bits) f.run ∙ ap (λ i. inserted_after v.held.run i bits) (f.inserted opened on);
+      kept = λ a b. kept_so 32831 d.kept.bits e.kept.bits v.held.kept (kept_from v.held.run bits) (f.kept opened on) less room behind;
+    })
+
 pub passed_found : (d : Deframer) (p : Passed) (bits : List Bool) → Passes p d.scan.run d.scan.is_inserted bits → (v : Seen) → FitsSeen d v → found_from v bits ≡ []
 passed_found d p bits h v f =
     found_passes v.is_open v.held.run v.held.is_aborted v.held.is_inserted v.held.kept bits (ap (λ r. passes r bits) (sym f.run) ∙ h.quiet)
@@ -140,3 +167,44 @@ passed_fits d e p bits opens going few count h run is_open aborted inserted kept
       kept = λ a b. kept_so 32831 d.kept.bits e.kept.bits v.held.kept (kept_from v.held.run bits) (f.kept opened on) less room
           (kept ∙ ap (λ l. d.kept.bits ++ l) more);
     })
+
+-- ---- octet behind octet
+
+pub passes_none : (run : ℕ) (last : Bool) → PassesOn run last run last []
+unfolding passes ones_from inserted_after
+passes_none run last = record { quiet = refl; ones = refl; inserted = refl }
+
+pub passes_more : (n : ℕ) (b : Bool) (run : ℕ) (last : Bool) (bits more : List Bool) (p : Passed) → PassesOn n b run last bits → Passes p n b more
+    → PassesOn p.run p.is_inserted run last (bits ++ more)
+passes_more n b run last bits more p h k = record {
+  quiet = passes-append run bits more h.quiet (ap (λ r. passes r more) (sym h.ones) ∙ k.quiet);
+  ones = k.ones ∙ ap (λ r. ones_from r more) h.ones ∙ sym (ones_from-append run bits more);
+  inserted = k.inserted ∙ ap (λ r. inserted_after r b more) h.ones ∙ ap (λ l. inserted_after (ones_from run bits) l more) h.inserted ∙ sym (inserted_after-append run last bits more);
+}
+
+pub kept_more : (n : ℕ) (b : Bool) (run : ℕ) (last : Bool) (bits more before after next : List Bool) (p : Passed) → PassesOn n b run last bits → Passes p n b more
+    → after ≡ before ++ kept_from run bits → next ≡ after ++ low_bits p.count p.kept → next ≡ before ++ kept_from run (bits ++ more)
+kept_more n b run last bits more before after next p h k e f =
+    f ∙ ap (λ l. l ++ low_bits p.count p.kept) e ∙ append_assoc before (kept_from run bits) (low_bits p.count p.kept)
+    ∙ ap (λ l. before ++ (kept_from run bits ++ l)) (k.kept ∙ ap (λ r. kept_from r more) h.ones)
+    ∙ ap (λ l. before ++ l) (sym (kept_from-append run bits more))
+
+pub kept_none : (run : ℕ) (before : List Bool) → before ≡ before ++ kept_from run []
+unfolding kept_from
+kept_none run before = sym (append-nil before)
+
+-- of whole octets, one more
+pub octet_more : (at i : ℕ) (octets : List ℕ) → at ≤ i → i < length octets → part (8 * at) (8 * (i + 1)) (bits_of octets) ≡ part (8 * at) (8 * i) (bits_of octets) ++ low_bits 8 (get_or octets i 0)
+octet_more at i octets low high =
+    let eight : 8 * (i + 1) - 8 * i ≡ 8 = omega arith in
+    part_join (8 * at) (8 * i) (8 * (i + 1)) (bits_of octets) (omega arith) (omega arith)
+    ∙ ap (λ l. part (8 * at) (8 * i) (bits_of octets) ++ l) (ap (λ n. take n (drop (8 * i) (bits_of octets))) eight ∙ octet_at i octets high)
+
+-- from a place that is an octet's
+pub whole_part : (d e : Deframer) (place at end : ℕ) (octets : List ℕ) → place ≡ 8 * at
+    → ((v : Seen) → FitsSeen d v → FitsSeen e (seen_from v (part (8 * at) (8 * end) (bits_of octets))))
+    → (v : Seen) → FitsSeen d v → FitsSeen e (seen_from v (part place (8 * end) (bits_of octets)))
+whole_part d e place at end octets same h v f = subst (λ n. FitsSeen e (seen_from v (part n (8 * end) (bits_of octets)))) (sym same) (h v f)
+
+pub whole_quiet : (run place at end : ℕ) (octets : List ℕ) → place ≡ 8 * at → passes run (part (8 * at) (8 * end) (bits_of octets)) ≡ true → passes run (part place (8 * end) (bits_of octets)) ≡ true
+whole_quiet run place at end octets same h = ap (λ n. passes run (part n (8 * end) (bits_of octets))) same ∙ h

@@ -181,15 +181,25 @@ fn behind(octet: u8, size: usize, next: u8) -> u16
 
 /// Writes the bits of an octet behind the first `place` bits of the octets, of which one more stands behind that place's.
 #[inline]
-pub(crate) fn set_octet(octets: &mut Vec<u8>, place: usize, octet: u8)
-    requires { place / 8 + 1 < length octets.old.items }
-    ensures bits { (count : ℕ) → count ≤ 8 → take (place + count) (bits_of octets.new.items) ≡ take place (bits_of octets.old.items) ++ low_bits count octet }
-    ensures len { length octets.new.items ≡ length octets.old.items }
+pub(crate) fn write_octet(octets: &mut [u8], place: usize, octet: u8)
+    requires { place / 8 + 1 < length octets.old }
+    ensures bits { (count : ℕ) → count ≤ 8 → take (place + count) (bits_of octets.new) ≡ take place (bits_of octets.old) ++ low_bits count octet }
+    ensures len { length octets.new ≡ length octets.old }
 {
     let at = place / 8;
     let both = behind(octets[at], place % 8, octet);
     octets[at] = (both % 256) as u8;
     octets[at + 1] = (both / 256) as u8;
+}
+
+/// The same of a vector's.
+#[inline]
+pub(crate) fn set_octet(octets: &mut Vec<u8>, place: usize, octet: u8)
+    requires { place / 8 + 1 < length octets.old.items }
+    ensures bits { (count : ℕ) → count ≤ 8 → take (place + count) (bits_of octets.new.items) ≡ take place (bits_of octets.old.items) ++ low_bits count octet }
+    ensures len { length octets.new.items ≡ length octets.old.items }
+{
+    write_octet(octets.as_mut_slice(), place, octet);
 }
 
 /// Puts octets of 0 behind these, up to so many in all.

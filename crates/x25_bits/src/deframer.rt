@@ -143,18 +143,18 @@ impl Deframer {
     {
         let mut place = 0;
         while place < octets.len() {
-            if let Some(passed) = self.passed(octets[place]) {
-                self.keep_passed(passed)?;
-                place += 1;
+            let behind = self.take_content(octets, place, octets.len())?;
+            if behind == octets.len() {
+                place = behind;
                 continue;
             }
-            let next = self.idle_until(octets, place, octets.len());
-            if next > place {
+            let next = self.idle_until(octets, behind, octets.len());
+            if next > behind {
                 place = next;
                 continue;
             }
-            self.take_octet(octets[place], aside, out)?;
-            place += 1;
+            self.take_octet(octets[behind], aside, out)?;
+            place = behind + 1;
         }
         Ok(())
     }

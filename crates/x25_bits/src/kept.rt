@@ -1,11 +1,15 @@
 //! The bits that are kept between flags, in memory that grows or that was set aside for all of them.
-ghost use Rattle.std.specs.Prelude.{ℕ, ◌≡◌, ◌+◌, ◌*◌, ◌<◌, ◌≤◌, ◌++◌, ◌∷◌, [], Bool, true, false, length, take, IfOk, OnOk, OnErr, slice_index_or};
-ghost use Rattle.x25_bits.specs.Fcs.{low_bits};
+ghost use Rattle.std.specs.Prelude.{ℕ, ◌≡◌, ◌+◌, ◌-◌, ◌*◌, ◌<◌, ◌≤◌, ◌++◌, ◌∷◌, [], Bool, true, false, length, take, IfOk, OnOk, OnErr, slice_index_or};
+ghost use Rattle.x25_bits.specs.Fcs.{bits_of, low_bits};
+ghost use Rattle.x25_bits.specs.Passing.{PassesOn, kept_from};
 ghost use Rattle.x25_bits.specs.SpanClass.{octets_of};
 ghost use Rattle.x25_bits.specs.code.Keeping.{Keeping, with_bits};
+ghost use Rattle.x25_bits.specs.code.Reading.{part};
 
 use crate::bits::{grow, read_bit, set_bit, set_octet, whole_octets, write_bit};
+use crate::contents::{Taken, take_whole};
 use crate::no_memory::NoMemory;
+use crate::scan::Scan;
 use std::alloc::Global;
 use std::marker::Model;
 
@@ -108,6 +112,55 @@ impl Kept {
     {
         set_octet(&mut self.octets, self.count, octet);
         self.count += size as usize;
+    }
+
+    /// Appends what is kept of octets' bits, from the place `at` on, none from `end` on. Error 70 where there is no memory for it.
+    pub(crate) fn take_whole(
+        &mut self,
+        octets: &[u8],
+        at: usize,
+        end: usize,
+        scan: Scan,
+    ) -> Result<Taken, NoMemory>
+        requires at { at ≤ end }
+        requires end { end ≤ length octets.now }
+        requires few { length self.old.bits + 8 * (end - at) ≤ 32831 }
+        ensures low { IfOk result (λ taken. at ≤ taken.end) }
+        ensures high { IfOk result (λ taken. taken.end ≤ end) }
+        ensures passes { IfOk result (λ taken. PassesOn taken.run taken.is_inserted scan.run scan.is_inserted (part (8 * at) (8 * taken.end) (bits_of octets.now))) }
+        ensures bits { IfOk result (λ taken. self.new.bits ≡ self.old.bits ++ kept_from scan.run (part (8 * at) (8 * taken.end) (bits_of octets.now))) }
+        ensures few { OnOk result (length self.new.bits ≤ 32831) }
+        ensures roomy { self.new.is_roomy ≡ self.old.is_roomy }
+        ensures err { OnErr result (self.new ≡ self.old) }
+    {
+        grow(&mut self.octets, self.count / 8 + (end - at) + 1)?;
+        let taken = take_whole(octets, at, end, scan, &mut self.octets, self.count);
+        self.count = taken.count;
+        Ok(taken)
+    }
+
+    /// The same in memory that was set aside.
+    pub(crate) fn take_whole_within(
+        &mut self,
+        octets: &[u8],
+        at: usize,
+        end: usize,
+        scan: Scan,
+    ) -> Taken
+        requires at { at ≤ end }
+        requires end { end ≤ length octets.now }
+        requires room { self.old.is_roomy ≡ true }
+        requires few { length self.old.bits + 8 * (end - at) ≤ 32831 }
+        ensures low { at ≤ result.end }
+        ensures high { result.end ≤ end }
+        ensures passes { PassesOn result.run result.is_inserted scan.run scan.is_inserted (part (8 * at) (8 * result.end) (bits_of octets.now)) }
+        ensures bits { self.new.bits ≡ self.old.bits ++ kept_from scan.run (part (8 * at) (8 * result.end) (bits_of octets.now)) }
+        ensures few { length self.new.bits ≤ 32831 }
+        ensures roomy { self.new.is_roomy ≡ true }
+    {
+        let taken = take_whole(octets, at, end, scan, &mut self.octets, self.count);
+        self.count = taken.count;
+        taken
     }
 
     /// Whether memory for 32,832 bits is counted on.

@@ -94,28 +94,28 @@ impl Deframer {
     {
         let mut place = at;
         while place < end {
-            if let Some(passed) = self.passed_at(octets, place, end) {
-                self.keep_passed_within(passed);
-                place += 8;
+            let behind = self.take_content_within(octets, place, end);
+            if behind == end {
+                place = behind;
                 continue;
             }
-            let next = self.idle_bits_until(octets, place, end);
-            if next > place {
+            let next = self.idle_bits_until(octets, behind, end);
+            if next > behind {
                 place = next;
                 continue;
             }
-            if let Some(stretch) = self.stretch_at(octets, place, end) {
+            if let Some(stretch) = self.stretch_at(octets, behind, end) {
                 self.keep_passed_within(stretch.passed);
                 place = stretch.end;
                 continue;
             }
-            if let Some(skipped) = self.skip_at(octets, place, end) {
+            if let Some(skipped) = self.skip_at(octets, behind, end) {
                 self.skip(skipped.scan);
                 place = skipped.end;
                 continue;
             }
-            let closed = self.step(read_bit(octets, place));
-            place += 1;
+            let closed = self.step(read_bit(octets, behind));
+            place = behind + 1;
             if closed.is_some() {
                 return (place, closed);
             }

@@ -2,6 +2,7 @@
 #![tactic(auto)]
 
 mod bits;
+mod contents;
 mod deframer;
 mod direction;
 mod found;

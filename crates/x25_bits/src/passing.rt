@@ -1,12 +1,11 @@
 //! Bits in which no flag ends and no seventh 1 bit comes: what an octet's leave is looked up.
-ghost use Rattle.std.specs.Prelude.{Bool, ◌≡◌, ◌<◌, ◌≤◌, ◌^◌, ◌++◌, ◌+◌, ◌*◌, ◌/◌, ◌==◌, if◌then◌else◌, true, false, length, IfSome, OnOk, OnSome};
+ghost use Rattle.std.specs.Prelude.{Bool, ◌≡◌, ◌<◌, ◌≤◌, ◌^◌, ◌++◌, ◌+◌, ◌*◌, ◌/◌, ◌==◌, if◌then◌else◌, true, length, IfSome, OnOk};
 ghost use Rattle.x25_bits.specs.Prefix.{IsPrefix};
-ghost use Rattle.x25_bits.specs.Fcs.{bits_of, low_bits};
+ghost use Rattle.x25_bits.specs.Fcs.{low_bits};
 ghost use Rattle.x25_bits.specs.code.Fits.{has_buffer};
 ghost use Rattle.x25_bits.specs.Passing.{Passes};
-ghost use Rattle.x25_bits.specs.code.Reading.{part};
 
-use crate::deframer::{Deframer, HELD};
+use crate::deframer::Deframer;
 use crate::no_memory::NoMemory;
 use crate::octet_table::{ENTRIES, SPECIAL};
 
@@ -49,27 +48,6 @@ pub fn pass_octet(run: u8, octet: u8) -> Option<Passed>
 }
 
 impl Deframer {
-    /// What an octet leaves where its bits come in a content, no flag ends in it, and no seventh 1 bit comes.
-    #[inline]
-    pub(crate) fn passed(&self, octet: u8) -> Option<Passed>
-        ensures passes { IfSome result (λ passed. Passes passed self.now.scan.run self.now.scan.is_inserted (low_bits 8 octet)) }
-        ensures size { IfSome result (λ passed. passed.count ≤ 8) }
-        ensures opened { OnSome result (self.now.scan.is_open ≡ true) }
-        ensures going { OnSome result (self.now.scan.is_aborted ≡ false) }
-        ensures room { OnSome result (length self.now.kept.bits ≤ 32823) }
-    {
-        if !self.scan.is_open {
-            return None;
-        }
-        if self.scan.is_aborted {
-            return None;
-        }
-        if self.kept.len() > HELD - 8 {
-            return None;
-        }
-        pass_octet(self.scan.run, octet)
-    }
-
     /// Keeps what these bits leave.
     pub(crate) fn keep_passed(&mut self, passed: Passed) -> Result<(), NoMemory>
         requires size { passed.count ≤ 8 }
@@ -87,27 +65,6 @@ impl Deframer {
         self.kept.append(passed.kept, passed.count)?;
         self.scan = self.scan.behind(passed);
         Ok(())
-    }
-
-    /// What the octet leaves that begins at this place, where one does, and where its bits pass.
-    #[inline]
-    pub(crate) fn passed_at(&self, octets: &[u8], place: usize, end: usize) -> Option<Passed>
-        requires place { place < end }
-        requires end { end ≤ 8 * length octets.now }
-        ensures passes { IfSome result (λ passed. Passes passed self.now.scan.run self.now.scan.is_inserted (part place (place + 8) (bits_of octets.now))) }
-        ensures size { IfSome result (λ passed. passed.count ≤ 8) }
-        ensures opened { OnSome result (self.now.scan.is_open ≡ true) }
-        ensures going { OnSome result (self.now.scan.is_aborted ≡ false) }
-        ensures room { OnSome result (length self.now.kept.bits ≤ 32823) }
-        ensures inside { OnSome result (place + 8 ≤ end) }
-    {
-        if place % 8 != 0 {
-            return None;
-        }
-        if end - place < 8 {
-            return None;
-        }
-        self.passed(octets[place / 8])
     }
 
     /// Keeps what these bits leave.

@@ -1,6 +1,7 @@
 ghost use Rattle.std.specs.Prelude.{◌≡◌, ◌==◌, ◌&&◌, ◌||◌, not, if◌then◌else◌};
 ghost use Rattle.x25_bits.specs.code.Held.{up, keeps};
 
+use crate::contents::Taken;
 use crate::passing::Passed;
 
 /// What the bits so far say, beside those that are kept.
@@ -78,6 +79,21 @@ impl Scan {
             is_open: self.is_open,
             is_aborted: self.is_aborted,
             is_inserted: passed.is_inserted,
+        }
+    }
+
+    /// After whole octets of a content.
+    pub fn behind_octets(self, taken: Taken) -> Scan
+        ensures run { result.run ≡ taken.run }
+        ensures opened { result.is_open ≡ self.is_open }
+        ensures aborted { result.is_aborted ≡ self.is_aborted }
+        ensures inserted { result.is_inserted ≡ taken.is_inserted }
+    {
+        Scan {
+            run: taken.run,
+            is_open: self.is_open,
+            is_aborted: self.is_aborted,
+            is_inserted: taken.is_inserted,
         }
     }
 }

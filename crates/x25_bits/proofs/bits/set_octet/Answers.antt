@@ -1,12 +1,17 @@
-use Rattle.std.proofs.Common.{◌≡◌, ◌∙◌, ◌+◌, ◌*◌, ◌/◌, ◌%◌, ◌^◌, arith, ap}
-use Rattle.std.proofs.lemmas.List.{get_or_default}
-use Rattle.x25_bits.proofs.OctetLemmas.{place_octet}
+use Rattle.std.proofs.Common.{◌∙◌, ◌+◌, ◌++◌, ap, length, take, sym}
+use Rattle.x25_bits.specs.Fcs.{bits_of, low_bits}
+use Rattle.x25_bits.proofs.OctetLemmas.{slice_written}
 use Rattle.x25_bits.proofs.bits.set_octet.Goals as goal
 
 pub returns-clause-bits : goal.returns-clause-bits
-returns-clause-bits c =
-    let both = c.behind-both.result in
-    let whole : both % 256 + both / 256 * 256 ≡ both = omega arith in
-    place_octet c.args.place c.args.octet (both % 256) (both / 256) c.args.octets.now.items c.requires (omega arith)
-    (whole ∙ c.behind-both.ensures ∙ ap (λ o. o % 2 ^ (c.args.place % 8) + c.args.octet * 2 ^ (c.args.place % 8))
-    (c.index.ensures ∙ get_or_default c.args.octets.now.items (c.args.place / 8) c.index.result.now 0 (omega (arith, c.requires))))
+returns-clause-bits c = λ count h.
+    let lent = c.as_mut_slice.ensures in
+    let written = c.write_octet.ensures in
+    let same = slice_written _ c.write_octet.new.octets _ (sym lent.len ∙ ap length lent.value) (written.len ∙ ap length lent.value) in
+    ap (λ o. take (c.args.place + count) (bits_of o)) same ∙ written.bits count h ∙ ap (λ o. take c.args.place (bits_of o) ++ low_bits count c.args.octet) lent.value
+
+pub returns-clause-len : goal.returns-clause-len
+returns-clause-len c =
+    let lent = c.as_mut_slice.ensures in
+    let written = c.write_octet.ensures in
+    ap length (slice_written _ c.write_octet.new.octets _ (sym lent.len ∙ ap length lent.value) (written.len ∙ ap length lent.value)) ∙ written.len ∙ ap length lent.value

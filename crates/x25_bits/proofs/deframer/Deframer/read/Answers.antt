@@ -14,100 +14,147 @@ use Rattle.x25_bits.proofs.deframer.Deframer.read.Goals as goal
 pub loop-place-init : goal.loop-place-init
 loop-place-init c = record { low = omega arith; high = c.requires.at; buffer = c.requires.buffer; reads = reads_none c.args.self.now c.args.at (bits_of c.args.octets.now) }
 
+pub loop-place-preserved-then-behind-end : goal.loop-place-preserved-then-behind-end
+loop-place-preserved-then-behind-end c =
+    let content = c.take_content_within-behind.ensures in
+    let e = c.take_content_within-behind.new.self in
+    let place = c.loop-place.place in
+    let behind = c.take_content_within-behind.result in
+    let was : c.args.at ≤ place = c.loop-place.invariant.low in
+    let on : place ≤ behind = content.low in
+    let low : c.args.at ≤ behind = omega arith in
+    let reads = reads_part c.args.self.now c.loop-place.self e c.args.at place behind (bits_of c.args.octets.now) c.loop-place.invariant.reads was on content.fits content.found in
+    record { low = low; high = content.high; buffer = content.buffer; reads = reads }
+
 pub loop-place-preserved-in-Some : goal.loop-place-preserved-in-Some
 loop-place-preserved-in-Some c =
-    let low : c.args.at ≤ c.loop-place.place = c.loop-place.invariant.low in
-    let next : c.loop-place.place + 8 ≤ c.args.end = c.in-Some.ensures.inside in
-    let bits = part c.loop-place.place (c.loop-place.place + 8) (bits_of c.args.octets.now) in
-    record {
-      low = omega arith;
-      high = next;
-      buffer = c.keep_passed_within.ensures.buffer;
-      reads = reads_part c.args.self.now c.loop-place.self c.keep_passed_within.new.self c.args.at c.loop-place.place (c.loop-place.place + 8) (bits_of c.args.octets.now) c.loop-place.invariant.reads low (omega arith)
-          (passed_fits c.loop-place.self c.keep_passed_within.new.self c.in-Some.passed bits c.in-Some.ensures.opened c.in-Some.ensures.going c.in-Some.ensures.room c.in-Some.ensures.size
-          c.in-Some.ensures.passes c.keep_passed_within.ensures.run c.keep_passed_within.ensures.opened c.keep_passed_within.ensures.aborted c.keep_passed_within.ensures.inserted c.keep_passed_within.ensures.kept)
-          (passed_found c.loop-place.self c.in-Some.passed bits c.in-Some.ensures.passes);
-    }
-
-pub loop-place-preserved-in-Some-stretch_at : goal.loop-place-preserved-in-Some-stretch_at
-loop-place-preserved-in-Some-stretch_at c =
-    let low : c.args.at ≤ c.loop-place.place = c.loop-place.invariant.low in
-    let stretch = c.in-Some-stretch_at.stretch in
-    let there = c.in-Some-stretch_at.ensures in
-    let behind : c.loop-place.place < stretch.end = there.low in
-    let bits = part c.loop-place.place stretch.end (bits_of c.args.octets.now) in
-    let kept = c.keep_passed_within-in-Some-stretch_at.ensures in
+    let content = c.take_content_within-behind.ensures in
+    let e = c.take_content_within-behind.new.self in
+    let place = c.loop-place.place in
+    let behind = c.take_content_within-behind.result in
+    let was : c.args.at ≤ place = c.loop-place.invariant.low in
+    let on : place ≤ behind = content.low in
+    let low : c.args.at ≤ behind = omega arith in
+    let reads = reads_part c.args.self.now c.loop-place.self e c.args.at place behind (bits_of c.args.octets.now) c.loop-place.invariant.reads was on content.fits content.found in
+    let stretch = c.in-Some.stretch in
+    let there = c.in-Some.ensures in
+    let later : behind < stretch.end = there.low in
+    let bits = part behind stretch.end (bits_of c.args.octets.now) in
+    let kept = c.keep_passed_within.ensures in
     record {
       low = omega arith;
       high = there.high;
       buffer = kept.buffer;
-      reads = reads_part c.args.self.now c.loop-place.self c.keep_passed_within-in-Some-stretch_at.new.self c.args.at c.loop-place.place stretch.end (bits_of c.args.octets.now) c.loop-place.invariant.reads low (omega arith)
-          (passed_fits c.loop-place.self c.keep_passed_within-in-Some-stretch_at.new.self stretch.passed bits there.opened there.going there.room there.size there.passes
+      reads = reads_part c.args.self.now e c.keep_passed_within.new.self c.args.at behind stretch.end (bits_of c.args.octets.now) reads low (omega arith)
+          (passed_fits e c.keep_passed_within.new.self stretch.passed bits there.opened there.going there.room there.size there.passes
           kept.run kept.opened kept.aborted kept.inserted kept.kept)
-          (passed_found c.loop-place.self stretch.passed bits there.passes);
+          (passed_found e stretch.passed bits there.passes);
     }
 
 pub loop-place-preserved-in-Some-skip_at : goal.loop-place-preserved-in-Some-skip_at
 loop-place-preserved-in-Some-skip_at c =
-    let low : c.args.at ≤ c.loop-place.place = c.loop-place.invariant.low in
+    let content = c.take_content_within-behind.ensures in
+    let e = c.take_content_within-behind.new.self in
+    let place = c.loop-place.place in
+    let behind = c.take_content_within-behind.result in
+    let was : c.args.at ≤ place = c.loop-place.invariant.low in
+    let on : place ≤ behind = content.low in
+    let low : c.args.at ≤ behind = omega arith in
+    let reads = reads_part c.args.self.now c.loop-place.self e c.args.at place behind (bits_of c.args.octets.now) c.loop-place.invariant.reads was on content.fits content.found in
     let skipped = c.in-Some-skip_at.skipped in
     let there = c.in-Some-skip_at.ensures in
-    let behind : c.loop-place.place < skipped.end = there.low in
-    let bits = part c.loop-place.place skipped.end (bits_of c.args.octets.now) in
+    let later : behind < skipped.end = there.low in
+    let bits = part behind skipped.end (bits_of c.args.octets.now) in
     record {
       low = omega arith;
       high = there.high;
-      buffer = c.skip.ensures.buffer ∙ c.loop-place.invariant.buffer;
-      reads = reads_part c.args.self.now c.loop-place.self c.skip.new.self c.args.at c.loop-place.place skipped.end (bits_of c.args.octets.now) c.loop-place.invariant.reads low (omega arith)
+      buffer = c.skip.ensures.buffer ∙ content.buffer;
+      reads = reads_part c.args.self.now e c.skip.new.self c.args.at behind skipped.end (bits_of c.args.octets.now) reads low (omega arith)
           (λ v f. skipped_fits c.skip.new.self (seen_from v bits) (subst (λ s. Skips s (seen_from v bits)) (sym c.skip.ensures.scan) (there.skips v f)))
           there.none;
     }
 
-pub loop-place-preserved-then-next-place : goal.loop-place-preserved-then-next-place
-loop-place-preserved-then-next-place c =
-    let low : c.args.at ≤ c.loop-place.place = c.loop-place.invariant.low in
-    let next : c.loop-place.place ≤ c.idle_bits_until-next.result = c.idle_bits_until-next.ensures.low in
+pub loop-place-preserved-then-next-behind : goal.loop-place-preserved-then-next-behind
+loop-place-preserved-then-next-behind c =
+    let content = c.take_content_within-behind.ensures in
+    let e = c.take_content_within-behind.new.self in
+    let place = c.loop-place.place in
+    let behind = c.take_content_within-behind.result in
+    let was : c.args.at ≤ place = c.loop-place.invariant.low in
+    let on : place ≤ behind = content.low in
+    let low : c.args.at ≤ behind = omega arith in
+    let reads = reads_part c.args.self.now c.loop-place.self e c.args.at place behind (bits_of c.args.octets.now) c.loop-place.invariant.reads was on content.fits content.found in
+    let next : behind ≤ c.idle_bits_until-next.result = c.idle_bits_until-next.ensures.low in
     record {
       low = omega arith;
       high = c.idle_bits_until-next.ensures.high;
-      buffer = c.loop-place.invariant.buffer;
-      reads = reads_part c.args.self.now c.loop-place.self c.loop-place.self c.args.at c.loop-place.place c.idle_bits_until-next.result (bits_of c.args.octets.now) c.loop-place.invariant.reads low next
-          (λ v f. subst (FitsSeen c.loop-place.self) (sym (c.idle_bits_until-next.ensures.seen v f)) f)
+      buffer = content.buffer;
+      reads = reads_part c.args.self.now e e c.args.at behind c.idle_bits_until-next.result (bits_of c.args.octets.now) reads low next
+          (λ v f. subst (FitsSeen e) (sym (c.idle_bits_until-next.ensures.seen v f)) f)
           c.idle_bits_until-next.ensures.found;
     }
 
 pub loop-place-preserved : goal.loop-place-preserved
 loop-place-preserved c =
     let size = length-bits_of c.args.octets.now in
-    let low : c.args.at ≤ c.loop-place.place = c.loop-place.invariant.low in
-    let inside : c.loop-place.place < c.args.end = c.loop-place-test.true in
+    let content = c.take_content_within-behind.ensures in
+    let e = c.take_content_within-behind.new.self in
+    let place = c.loop-place.place in
+    let behind = c.take_content_within-behind.result in
+    let was : c.args.at ≤ place = c.loop-place.invariant.low in
+    let on : place ≤ behind = content.low in
+    let low : c.args.at ≤ behind = omega arith in
+    let reads = reads_part c.args.self.now c.loop-place.self e c.args.at place behind (bits_of c.args.octets.now) c.loop-place.invariant.reads was on content.fits content.found in
+    let inside : behind < c.args.end = omega (arith, content.high, c.if-behind-end.false) in
     record {
       low = omega arith;
       high = omega arith;
       buffer = c.step-closed.ensures.buffer;
-      reads = reads_more c.args.self.now c.loop-place.self c.step-closed.new.self c.step-closed.result c.args.at c.loop-place.place (bits_of c.args.octets.now) c.step-closed.new.self.last.bits c.read_bit.result
-          c.loop-place.invariant.reads (omega arith) (omega arith) c.read_bit.ensures c.step-closed.ensures.fits c.step-closed.ensures.found (sym c.is_some.ensures ∙ c.if-is_some.false);
+      reads = reads_more c.args.self.now e c.step-closed.new.self c.step-closed.result c.args.at behind (bits_of c.args.octets.now) c.step-closed.new.self.last.bits c.read_bit.result
+          reads (omega arith) (omega arith) c.read_bit.ensures c.step-closed.ensures.fits c.step-closed.ensures.found (sym c.is_some.ensures ∙ c.if-is_some.false);
     }
 
 pub returns-then-is_some-clause-fits : goal.returns-then-is_some-clause-fits
 returns-then-is_some-clause-fits c = λ before h.
     let size = length-bits_of c.args.octets.now in
-    let low : c.args.at ≤ c.loop-place.place = c.loop-place.invariant.low in
-    let inside : c.loop-place.place < c.args.end = c.loop-place-test.true in
-    all_fit c.args.self.now c.step-closed.new.self c.args.at (c.loop-place.place + 1) (bits_of c.args.octets.now) before
-    (bit_fits c.args.self.now c.loop-place.self c.step-closed.new.self c.args.at c.loop-place.place (bits_of c.args.octets.now) c.read_bit.result c.loop-place.invariant.reads (omega arith) (omega arith) c.read_bit.ensures c.step-closed.ensures.fits) h
+    let content = c.take_content_within-behind.ensures in
+    let e = c.take_content_within-behind.new.self in
+    let place = c.loop-place.place in
+    let behind = c.take_content_within-behind.result in
+    let was : c.args.at ≤ place = c.loop-place.invariant.low in
+    let on : place ≤ behind = content.low in
+    let low : c.args.at ≤ behind = omega arith in
+    let reads = reads_part c.args.self.now c.loop-place.self e c.args.at place behind (bits_of c.args.octets.now) c.loop-place.invariant.reads was on content.fits content.found in
+    let inside : behind < c.args.end = omega (arith, content.high, c.if-behind-end.false) in
+    all_fit c.args.self.now c.step-closed.new.self c.args.at (behind + 1) (bits_of c.args.octets.now) before
+    (bit_fits c.args.self.now e c.step-closed.new.self c.args.at behind (bits_of c.args.octets.now) c.read_bit.result reads (omega arith) (omega arith) c.read_bit.ensures c.step-closed.ensures.fits) h
 
 pub returns-then-is_some-clause-found : goal.returns-then-is_some-clause-found
 returns-then-is_some-clause-found c = λ before h.
     let size = length-bits_of c.args.octets.now in
-    let low : c.args.at ≤ c.loop-place.place = c.loop-place.invariant.low in
-    let inside : c.loop-place.place < c.args.end = c.loop-place-test.true in
-    all_lend c.args.self.now c.step-closed.result c.args.at (c.loop-place.place + 1) (bits_of c.args.octets.now) c.step-closed.new.self.last.bits before
-    (bit_lends c.args.self.now c.loop-place.self c.step-closed.result c.args.at c.loop-place.place (bits_of c.args.octets.now) c.step-closed.new.self.last.bits c.read_bit.result c.loop-place.invariant.reads (omega arith) (omega arith) c.read_bit.ensures c.step-closed.ensures.found) h
+    let content = c.take_content_within-behind.ensures in
+    let e = c.take_content_within-behind.new.self in
+    let place = c.loop-place.place in
+    let behind = c.take_content_within-behind.result in
+    let was : c.args.at ≤ place = c.loop-place.invariant.low in
+    let on : place ≤ behind = content.low in
+    let low : c.args.at ≤ behind = omega arith in
+    let reads = reads_part c.args.self.now c.loop-place.self e c.args.at place behind (bits_of c.args.octets.now) c.loop-place.invariant.reads was on content.fits content.found in
+    let inside : behind < c.args.end = omega (arith, content.high, c.if-behind-end.false) in
+    all_lend c.args.self.now c.step-closed.result c.args.at (behind + 1) (bits_of c.args.octets.now) c.step-closed.new.self.last.bits before
+    (bit_lends c.args.self.now e c.step-closed.result c.args.at behind (bits_of c.args.octets.now) c.step-closed.new.self.last.bits c.read_bit.result reads (omega arith) (omega arith) c.read_bit.ensures c.step-closed.ensures.found) h
 
 pub returns-then-is_some-clause-first : goal.returns-then-is_some-clause-first
 returns-then-is_some-clause-first c = λ before n h less.
-    none_first c.args.self.now c.loop-place.self c.args.at n c.loop-place.place (bits_of c.args.octets.now) before c.loop-place.invariant.reads (omega arith) h
+    let content = c.take_content_within-behind.ensures in
+    let e = c.take_content_within-behind.new.self in
+    let place = c.loop-place.place in
+    let behind = c.take_content_within-behind.result in
+    let was : c.args.at ≤ place = c.loop-place.invariant.low in
+    let on : place ≤ behind = content.low in
+    let low : c.args.at ≤ behind = omega arith in
+    let reads = reads_part c.args.self.now c.loop-place.self e c.args.at place behind (bits_of c.args.octets.now) c.loop-place.invariant.reads was on content.fits content.found in
+    none_first c.args.self.now e c.args.at n behind (bits_of c.args.octets.now) before reads (omega arith) h
 
 pub returns-clause-fits : goal.returns-clause-fits
 returns-clause-fits c = λ before h.

@@ -1,0 +1,36 @@
+use Rattle.std.proofs.Common.{◌≤◌, ◌≡◌, ◌∙◌, ◌+◌, ◌-◌, ◌*◌, ap, length, arith}
+use Rattle.std.proofs.lemmas.List.{length-take}
+use Rattle.x25_bits.specs.Fcs.{bits_of}
+use Rattle.x25_bits.specs.code.Keeping.{Keeping}
+use Rattle.x25_bits.proofs.KeepingLemmas.{count_of}
+use Rattle.x25_bits.proofs.kept.Kept.take_whole_within.Goals as goal
+
+pub take_whole-taken-requires-clause-few : goal.take_whole-taken-requires-clause-few
+take_whole-taken-requires-clause-few c =
+    let size : c.self.inside.count ≡ length c.args.self.now.bits = count_of c.self.inside.count c.self.inside.octets.items c.self.inside.is_roomy c.args.self.now c.self.invariant.0 c.self.view_is in
+    let few : length c.args.self.now.bits + 8 * (c.args.end - c.args.at) ≤ 32831 = c.requires.few in
+    omega arith
+
+pub take_whole-taken-requires-clause-room : goal.take_whole-taken-requires-clause-room
+take_whole-taken-requires-clause-room c =
+    let size : c.self.inside.count ≡ length c.args.self.now.bits = count_of c.self.inside.count c.self.inside.octets.items c.self.inside.is_roomy c.args.self.now c.self.invariant.0 c.self.view_is in
+    let room : 4104 ≤ length c.self.inside.octets.items = c.self.invariant.1 (ap (λ (k : Keeping). k.is_roomy) c.self.view_is ∙ c.requires.room) in
+    let few : length c.args.self.now.bits + 8 * (c.args.end - c.args.at) ≤ 32831 = c.requires.few in
+    omega arith
+
+pub invariant_of-self : goal.invariant_of-self
+invariant_of-self c =
+    let size : c.self.inside.count ≡ length c.args.self.now.bits = count_of c.self.inside.count c.self.inside.octets.items c.self.inside.is_roomy c.args.self.now c.self.invariant.0 c.self.view_is in
+    let room : 4104 ≤ length c.self.inside.octets.items = c.self.invariant.1 (ap (λ (k : Keeping). k.is_roomy) c.self.view_is ∙ c.requires.room) in
+    let few : length c.args.self.now.bits + 8 * (c.args.end - c.args.at) ≤ 32831 = c.requires.few in
+    let more = c.take_whole-taken.ensures.few in
+    let same : length c.take_whole-taken.new.memory.items ≡ length c.self.inside.octets.items = c.take_whole-taken.ensures.len in
+    (omega arith, λ e. omega arith)
+
+pub returns-clause-few : goal.returns-clause-few
+returns-clause-few c =
+    let size : c.self.inside.count ≡ length c.args.self.now.bits = count_of c.self.inside.count c.self.inside.octets.items c.self.inside.is_roomy c.args.self.now c.self.invariant.0 c.self.view_is in
+    let few : length c.args.self.now.bits + 8 * (c.args.end - c.args.at) ≤ 32831 = c.requires.few in
+    let more = c.take_whole-taken.ensures.few in
+    let all = length-take c.take_whole-taken.result.count (bits_of c.take_whole-taken.new.memory.items) in
+    omega arith
