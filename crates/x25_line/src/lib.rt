@@ -10,7 +10,7 @@ mod raw_frame;
 mod raw_world;
 
 pub use healing::{
-    deliveries_end, drains_end, healing_takes_firings, one_firing_heals, rest_shows,
+    deliveries_end, drains_end, healing_takes_firings, one_busy_heals, one_firing_heals, rest_shows,
     two_firings_heal,
 };
 pub use law::{
