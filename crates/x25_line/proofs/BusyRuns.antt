@@ -310,4 +310,5 @@ module _ (reads : ReadsSpelled) (laws : HealingLaws) (busy_laws : BusyLaws) wher
       let v : Stations = after_firings c d w in
       let same : run c d (events ++ Near T1 ∷ Far T1 ∷ []) start ≡ v = run_append c d events (Near T1 ∷ Far T1 ∷ []) start in
       let after : IsDrained (run c d some.0 v) = subst (λ (z : Stations). IsDrained (run c d some.0 z)) same some.2 in
-      (some.0, some.1, (after, one_busy_heals c d joined events quiet near_may far_may free some.0 some.1 after))
+      let healed = one_busy_heals c d joined events quiet near_may far_may free some.0 some.1 after in
+      (some.0, some.1, (after, healed.0, healed.1))

@@ -6,7 +6,7 @@ use Rattle.x25_frame.specs.PlainFrame.{PlainFrame, info, rr, rnr, rej}
 use Rattle.x25_frame.specs.Reading.{frame_of}
 use Rattle.x25_frame.specs.declared.error.FrameError.{FrameError}
 use Rattle.x25_link.specs.MustSend.{other}
-use Rattle.x25_link.specs.LinkStation.{Settings, is_up, is_busy}
+use Rattle.x25_link.specs.LinkStation.{Settings, LinkStation, is_up, is_busy}
 use Rattle.x25_link.specs.Steps.{timer_runs}
 use Rattle.x25_link.specs.laws.WindowLaw.{IsOut}
 use Rattle.x25_link.specs.laws.RestLaw.{IsAtRest}
