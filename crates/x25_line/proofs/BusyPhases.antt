@@ -1,17 +1,15 @@
 -- How the near end heals after its firing, where one of the two ends may be busy: its poll is on the line, then the answer; then what isn't
 -- acknowledged goes again, or waits until the other end is heard to be busy no more.
-use Rattle.std.proofs.Common.{◌≡◌, ℕ, ◌+◌, ◌%◌, ◌≤◌, List, [], ◌∷◌, ◌++◌, ◌⊎◌, inl, inr, length, max, Bool, true, false, Result, Ok, refl, sym, ap, ◌∙◌, subst, arith, length-append, append_assoc}
+use Rattle.std.proofs.Common.{◌≡◌, ℕ, ◌+◌, ◌%◌, List, [], ◌∷◌, ◌++◌, ◌⊎◌, inl, inr, length, max, Bool, true, false, Ok, refl, sym, ap, ◌∙◌, subst, arith, length-append, append_assoc}
 use Rattle.std.specs.Prelude.{◌&&◌, not, if◌then◌else◌}
 use Rattle.std.proofs.lemmas.Bool.{eq-eqb}
 use Rattle.x25_frame.specs.PlainFrame.{PlainFrame, info, rr, rnr, rej, sabm, disc, ua, dm, frmr}
 use Rattle.x25_frame.specs.Reading.{frame_of}
-use Rattle.x25_frame.specs.declared.error.FrameError.{FrameError}
 use Rattle.x25_frame.specs.laws.ReadingLaw.{ReadsSpelled}
 use Rattle.x25_window.specs.Modulo.{resolved}
 use Rattle.x25_link.specs.LinkStation.{Settings, LinkStation, is_up, is_busy, wanted}
 use Rattle.x25_link.specs.MustSend.{Step, other, is_valid, is_taken}
 use Rattle.x25_link.specs.Steps.{take_step}
-use Rattle.x25_link.specs.laws.RestLaw.{IsAtRest}
 use Rattle.x25_link.specs.laws.AnswerLaw.{says, AreNext, Outcome, Answers, heard, goes_on_from, confirms, once_taken, busy_after, passed_over}
 use Rattle.x25_link.specs.laws.BusyLaw.{Says, BusyLaws}
 use Rattle.x25_line.specs.Stations.{StationEnd, Stations, Deliver, after_step, delivered, acts, swapped}
@@ -21,7 +19,7 @@ use Rattle.x25_line.proofs.Kept.{resolved_is}
 use Rattle.x25_line.proofs.StationSteps.{not_both}
 use Rattle.x25_line.proofs.StationRuns.{joined_swapped}
 use Rattle.x25_line.proofs.HealingLines.{Reads, FrontReads, front_reads, none_reads, LastTells, Reports, next_tells, tells_behind, reports_more, reports_new, reports_heard}
-use Rattle.x25_line.proofs.HealingSteps.{HealingLaws, Sound, sound_swapped, near_up, counted, number_of, IsNumbered, HearsWell, hears_well, Delivered, delivers}
+use Rattle.x25_line.proofs.HealingSteps.{HealingLaws, Sound, sound_swapped, counted, number_of, IsNumbered, HearsWell, hears_well, Delivered, delivers}
 use Rattle.x25_line.proofs.HealingPhases.{up_is, confirms_next}
 use Rattle.x25_line.proofs.BusyLines.{Onward, onward_low, onward_more, next_onward, Gentle, gentle_onward, gentle_more, held_gentle, silent_stays, none_behind, AtMostAsks, hears_busy, hears_more, tells_free, Told, told_on, told_first}
 
@@ -293,9 +291,11 @@ module _ (c d : Settings) (joined : AreJoined c d) (reads : ReadsSpelled) (laws 
       let s = w.near.station in
       let o : Outcome = record (goes_on_from nr s) { said_busy = busy_after false s; first = passed_over false s } in
       let k = (hears c d joined reads laws busy_laws w b h.there gs (info ns nr false x) nr o tt refl h.out back
-      (λ octets read valid. laws.answers.other ns nr false x c octets s (up_is s.phase b.near_on) read valid is)).1 in
-      (k.pair, inr (inr (inl (near_resends w h.there gs nr s.outgoing.place o b k h.recovery h.peer_busy refl h.onward
-          (subst (λ (n : ℕ). Onward s.outgoing.place o.first n) (sym (place_stays w h.there nr h.onward k.well)) (gentle_onward s.outgoing.place o.first (passed_gentle s))) tells h.free))))
+      (λ octets read valid. laws.answers.other ns nr false x c octets s (up_is s.phase b.near_on) read valid is)).1 in (
+        k.pair,
+        inr (inr (inl (near_resends w h.there gs nr s.outgoing.place o b k h.recovery h.peer_busy refl h.onward
+            (subst (λ (n : ℕ). Onward s.outgoing.place o.first n) (sym (place_stays w h.there nr h.onward k.well)) (gentle_onward s.outgoing.place o.first (passed_gentle s))) tells h.free))),
+      )
 
   near_resent : (w : Stations) → Pair c d w → (h : Resent c d w) (gs : List PlainFrame) → Reads (other c.role) c.longest w.back gs → Reports (length w.far.station.taken) w.near.station.outgoing.acked gs
       → Heals c d (acts c Deliver w)

@@ -1,5 +1,5 @@
 -- Both ends fire, one of which may be busy, and everything arrives.
-use Rattle.std.proofs.Common.{◌≡◌, ℕ, ◌+◌, ◌-◌, ◌%◌, ◌≤◌, ◌<◌, List, [], ◌∷◌, ◌++◌, ◌⊎◌, inl, inr, length, Bool, true, false, refl, sym, ap, ◌∙◌, subst, arith}
+use Rattle.std.proofs.Common.{◌≡◌, ℕ, ◌%◌, ◌<◌, List, [], ◌∷◌, ◌++◌, ◌⊎◌, inl, inr, length, Bool, true, false, refl, sym, ap, ◌∙◌, subst, arith}
 use Rattle.std.specs.Prelude.{◌&&◌, ◌==◌}
 use Rattle.std.proofs.lemmas.Bool.{le-ltb, eqb-true, and_parts}
 use Rattle.x25_frame.specs.PlainFrame.{PlainFrame, rr, rnr}
@@ -167,7 +167,7 @@ module _ (reads : ReadsSpelled) (laws : HealingLaws) (busy_laws : BusyLaws) wher
       → timer_runs w.near.station.phase w.near.station ≡ true → timer_runs w.far.station.phase w.far.station ≡ true → HealsBoth c d (after_firings c d w)
   both_ask c d joined w h drained near_may far_may free near_runs far_runs = (
     asked_at c d joined reads laws busy_laws (swapped u) (pair_swapped d c twisted u pair) (ap (λ (e : StationEnd). e.station.recovery) g.far ∙ f.recovery) (is_busy w.near.station) f.number
-    (says (is_busy v.far.station) true g.number true ∷ []) out g.out (asks_at (is_busy v.far.station) g.number),
+        (says (is_busy v.far.station) true g.number true ∷ []) out g.out (asks_at (is_busy v.far.station) g.number),
     asked_at d c twisted reads laws busy_laws u pair g.recovery (is_busy v.far.station) g.number (says (is_busy w.near.station) true f.number true ∷ []) g.out out (asks_at (is_busy w.near.station) f.number),
   )
     where

@@ -1,5 +1,5 @@
 -- Whatever the two ends are at a quiet moment, once both have fired and all has come each is at rest or not Up.
-use Rattle.std.proofs.Common.{◌≡◌, List, [], ◌∷◌, ◌++◌, ◌⊎◌, inl, inr, length, map, Bool, true, false, if◌then◌else◌, ℕ, suc, ◌%◌, ◌<◌, Option, Some, None, refl, sym, ap, ◌∙◌, subst, arith}
+use Rattle.std.proofs.Common.{◌≡◌, List, [], ◌∷◌, ◌++◌, ◌⊎◌, inl, inr, length, map, Bool, true, false, if◌then◌else◌, ℕ, suc, ◌%◌, ◌<◌, Some, None, refl, sym, ap, ◌∙◌, subst, arith}
 use Rattle.std.specs.Prelude.{nat_lt}
 use Rattle.std.proofs.lemmas.Bool.{ltb-true}
 use Rattle.x25_bits.specs.declared.role.Role.{Role}
@@ -28,7 +28,7 @@ use Rattle.x25_line.proofs.HealingPhases.{up_is}
 use Rattle.x25_line.proofs.HealingRuns.{reached_sound, refused, fires_is, idle_run, flip, flip_all, flip_run}
 use Rattle.x25_line.proofs.HealingBoth.{both_firings_heal}
 use Rattle.x25_line.proofs.HealingGone.{Polls, Leaves, all_go, is_gone, has_left}
-use Rattle.x25_line.proofs.HealingSetUp.{reads_more_set_up, Calm, Asking, SetsUp, set_up_settles, set_up_run}
+use Rattle.x25_line.proofs.HealingSetUp.{reads_more_set_up, SetsUp, set_up_settles, set_up_run}
 
 -- what a firing on an empty line makes of its end: a poll or SABM goes; or nothing goes, and the end is at rest or out
 pub record Silent (w x : Stations) : Type 0 where
@@ -369,8 +369,8 @@ module _ (reads : ReadsSpelled) (laws : HealingLaws) where
       let near_in : IsInOrderIfUp c w.near = record { sound = λ up. (near_up c d w sound up).sound; said = λ _. sound.near_said } in
       let far_in : IsInOrderIfUp d w.far = record { sound = λ up. (far_up c d w sound up).sound; said = λ _. sound.far_said } in
       rest_or_out c d joined w near_in far_in quiet.drained near_may far_may es are after (λ near far.
-          let both = both_firings_heal reads laws c d joined events quiet near far es are after in
-          (inl both.0.rest, inl both.1.rest))
+      let both = both_firings_heal reads laws c d joined events quiet near far es are after in
+      (inl both.0.rest, inl both.1.rest))
 
   pub heals : Heals
   heals c d joined events quiet near_free far_free es are after =

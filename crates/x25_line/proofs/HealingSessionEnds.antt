@@ -1,17 +1,14 @@
 -- Over set-up and re-set-up, whatever the two ends are on a drained line: once both have fired and all has come, each is at rest or not Up.
-use Rattle.std.proofs.Common.{◌≡◌, List, [], ◌∷◌, ◌⊎◌, inl, inr, false, refl, sym, ap, ◌∙◌, subst}
+use Rattle.std.proofs.Common.{◌≡◌, [], ◌∷◌, ◌⊎◌, inl, false, refl, sym, ap, ◌∙◌, subst}
 use Rattle.x25_frame.specs.laws.ReadingLaw.{ReadsSpelled}
 use Rattle.x25_link.specs.LinkStation.{Settings, LinkStation, is_up}
-use Rattle.x25_link.specs.laws.WindowLaw.{IsSound}
 use Rattle.x25_link.specs.laws.RestLaw.{HasSaidAll, IsAtRest}
 use Rattle.x25_line.specs.Stations.{StationEnd, Stations, T1, Event, Near, Far}
 use Rattle.x25_line.specs.Stations as one
-use Rattle.x25_line.specs.laws.StationClaims.{AreJoined}
 use Rattle.x25_line.specs.Sessions.{SessionEnd, Sessions, acts, swapped, run}
 use Rattle.x25_line.specs.SessionNumbers.{Standing}
 use Rattle.x25_line.specs.laws.SessionClaims.{octets_of}
 use Rattle.x25_line.specs.Healing.{IsDrained, MayHeal, SessionMayHeal, SessionsAreHealed, EachSessionRestsOrIsOut}
-use Rattle.x25_line.proofs.StationRuns.{joined_swapped}
 use Rattle.x25_line.proofs.sessions.SessionActs.{in_session}
 use Rattle.x25_line.proofs.sessions.SessionHeld.{Held}
 use Rattle.x25_line.proofs.sessions.SessionRuns.{SessionLaws, throughout, held_swapped}
@@ -82,5 +79,5 @@ module _ (reads : ReadsSpelled) (laws : HealingLaws) where
       ended =
           let far_in = in_order d c (swapped w) (held_swapped c d joined w held) said.1 in
           rest_or_out reads laws c d joined v0 (in_order c d w held said.0) far_in (record { out = refl; back = refl }) near_free far_free es are drained (λ near_may far_may.
-              let healed = heals (may_heal c w.near near_may) (may_heal d w.far far_may) in
-              (inl (subst IsAtRest (sym alike.near) healed.near_rest), inl (subst IsAtRest (sym alike.far) healed.far_rest)))
+          let healed = heals (may_heal c w.near near_may) (may_heal d w.far far_may) in
+          (inl (subst IsAtRest (sym alike.near) healed.near_rest), inl (subst IsAtRest (sym alike.far) healed.far_rest)))

@@ -1,6 +1,6 @@
 -- Healing over set-up and re-set-up: two sessions that stand on a drained line are, by themselves, two stations of a link set up once.
-use Rattle.std.proofs.Common.{◌≡◌, ◌≤◌, ◌<◌, ℕ, List, [], ◌∷◌, ◌++◌, ◌⊎◌, inl, inr, map, Bool, true, false, if◌then◌else◌, Option, Some, None, Result, Ok, Err, refl, sym, ap, ◌∙◌, subst, append-nil}
-use Rattle.std.specs.Prelude.{◌==◌, option_to_list}
+use Rattle.std.proofs.Common.{◌≡◌, ◌<◌, ℕ, List, [], ◌∷◌, ◌++◌, ◌⊎◌, inl, inr, map, Bool, true, false, if◌then◌else◌, Option, Some, None, refl, sym, ap, ◌∙◌, subst, append-nil}
+use Rattle.std.specs.Prelude.{◌==◌}
 use Rattle.x25_bits.specs.declared.role.Role.{Role}
 use Rattle.x25_frame.specs.PlainFrame.{PlainFrame}
 use Rattle.x25_frame.specs.Spelling.{spelling_of}
@@ -11,20 +11,19 @@ use Rattle.x25_link.specs.declared.phase.Phase.{Phase}
 use Rattle.x25_link.specs.declared.phase.Phase.TheVariants.{Down, Waiting, Up, Closed}
 use Rattle.x25_link.specs.LinkStation.{Settings, LinkStation, is_up, is_busy}
 use Rattle.x25_link.specs.MustSend.{Step, other}
-use Rattle.x25_link.specs.Steps.{take_step, timer_step, timer_runs, timer_refusal, is_idle}
+use Rattle.x25_link.specs.Steps.{take_step, timer_step, timer_runs, timer_refusal}
 use Rattle.x25_link.specs.WindowMachine.{ShowAll}
 use Rattle.x25_link.specs.laws.RestLaw.{HasSaidAll, IsAtRest}
 use Rattle.x25_line.specs.Line.{Line}
 use Rattle.x25_line.specs.Stations.{StationEnd, Stations, Act, Put, Deliver, T1, Connect, Disconnect, Abandon, Lose, Damage, Event, Near, Far}
 use Rattle.x25_line.specs.Stations as one
 use Rattle.x25_line.specs.laws.StationClaims.{AreJoined, IsSetUpOnce, numbered_on}
-use Rattle.x25_line.specs.Sessions.{Entry, SessionEnd, Sessions, extended, begun_by, sent_in, after_step, unless, delivered, acts, swapped, happens, run, from_nothing, from_set_up, IsTimely, AreTimely}
+use Rattle.x25_line.specs.Sessions.{Entry, SessionEnd, Sessions, extended, begun_by, after_step, unless, delivered, acts, swapped, happens, run, from_nothing, from_set_up, IsTimely, AreTimely}
 use Rattle.x25_line.specs.Sessions.{Meeting}
 use Rattle.x25_line.specs.SessionNumbers.{Standing}
 use Rattle.x25_line.specs.laws.SessionClaims.{octets_of, IdleHasArrived}
-use Rattle.x25_line.specs.Healing.{IsDrained, IsDeliver, AreDeliveries, MayHeal, SessionMayHeal, SessionsAreHealed, SessionsHeal}
-use Rattle.x25_line.proofs.StationSteps.{AsUp, IsAway, FitsEnd, MayBeAway, AreEndings, NotesOnce, Joint, not_both}
-use Rattle.x25_line.proofs.StationRuns.{joined_swapped}
+use Rattle.x25_line.specs.Healing.{IsDrained, IsDeliver, AreDeliveries, MayHeal, SessionsAreHealed, SessionsHeal}
+use Rattle.x25_line.proofs.StationSteps.{FitsEnd, MayBeAway, NotesOnce, Joint, not_both}
 use Rattle.x25_line.proofs.StationAway.{first_false, second_false}
 use Rattle.x25_line.proofs.sessions.SessionLines.{octets_append, octets_sent}
 use Rattle.x25_line.proofs.sessions.SessionHeld.{View, Live, Soon, Gone, IsView, IsHeard, Held}
@@ -322,17 +321,17 @@ module _ (reads : ReadsSpelled) (laws : HealingLaws) where
   pub sessions_heal : SessionsHeal
   sessions_heal c d joined begin is events timely no_out no_back near_may far_may es are out_after back_after =
       sessions_rest c d joined begin is events timely no_out no_back near_may.up far_may.up es are out_after back_after (λ v sound drained near far after.
-          let may_near : MayHeal c v.near = record {
-            up = ap (λ (s : LinkStation). is_up s.phase) near ∙ near_may.up;
-            free = ap is_busy near ∙ near_may.free;
-            tries = subst (λ (s : LinkStation). timer_runs s.phase s ≡ true → s.tries < c.retries) (sym near) near_may.tries;
-          } in
-          let may_far : MayHeal d v.far = record {
-            up = ap (λ (s : LinkStation). is_up s.phase) far ∙ far_may.up;
-            free = ap is_busy far ∙ far_may.free;
-            tries = subst (λ (s : LinkStation). timer_runs s.phase s ≡ true → s.tries < d.retries) (sym far) far_may.tries;
-          } in
-          let begun = fired_both reads laws c d joined v sound drained may_near may_far in
-          let heals = both_run c d joined reads laws begun.most begun.least es (one.swapped (one.acts d T1 (one.swapped (one.acts c T1 v)))) are begun.heals in
-          let rest = both_settle c d joined reads laws begun.most begun.least (fired_run c d es v) heals after in
-          record { near = rest.0.rest; far = rest.1.rest; once = record { near = heals.0.0.sound.joint.near_notes.once; far = heals.0.0.sound.joint.far_notes.once } })
+      let may_near : MayHeal c v.near = record {
+        up = ap (λ (s : LinkStation). is_up s.phase) near ∙ near_may.up;
+        free = ap is_busy near ∙ near_may.free;
+        tries = subst (λ (s : LinkStation). timer_runs s.phase s ≡ true → s.tries < c.retries) (sym near) near_may.tries;
+      } in
+      let may_far : MayHeal d v.far = record {
+        up = ap (λ (s : LinkStation). is_up s.phase) far ∙ far_may.up;
+        free = ap is_busy far ∙ far_may.free;
+        tries = subst (λ (s : LinkStation). timer_runs s.phase s ≡ true → s.tries < d.retries) (sym far) far_may.tries;
+      } in
+      let begun = fired_both reads laws c d joined v sound drained may_near may_far in
+      let heals = both_run c d joined reads laws begun.most begun.least es (one.swapped (one.acts d T1 (one.swapped (one.acts c T1 v)))) are begun.heals in
+      let rest = both_settle c d joined reads laws begun.most begun.least (fired_run c d es v) heals after in
+      record { near = rest.0.rest; far = rest.1.rest; once = record { near = heals.0.0.sound.joint.near_notes.once; far = heals.0.0.sound.joint.far_notes.once } })
