@@ -1,7 +1,7 @@
 -- What octets that come make of a station: it weighs less with what it sends; or it changes its session or hears a new number, of
 -- which there are only so many.
-use Rattle.std.proofs.Common.{◌≡◌, ℕ, suc, zero, ◌+◌, ◌-◌, ◌*◌, ◌%◌, ◌<◌, ◌≤◌, List, [], ◌∷◌, ◌++◌, ◌⊎◌, inl, inr, length, max, Bool, true, false, not, if◌then◌else◌, Result, Ok, Err, refl, sym, ap, ◌∙◌, subst, arith}
-use Rattle.std.specs.Prelude.{◌==◌, ◌&&◌, nat_le}
+use Rattle.std.proofs.Common.{◌≡◌, ℕ, suc, zero, ◌+◌, ◌-◌, ◌*◌, ◌%◌, ◌<◌, ◌≤◌, List, [], ◌∷◌, ◌⊎◌, inl, inr, length, max, Bool, true, false, if◌then◌else◌, Result, Ok, Err, refl, sym, ap, subst, arith}
+use Rattle.std.specs.Prelude.{◌==◌, ◌&&◌}
 use Rattle.std.proofs.lemmas.Bool.{leb-true, eqb-true, eqb-false}
 use Rattle.x25_link.proofs.EndLemmas.{true_false}
 use Rattle.x25_frame.specs.PlainFrame.{PlainFrame, info, rr, rnr, rej, sabm, disc, ua, dm, frmr}
@@ -11,12 +11,12 @@ use Rattle.x25_frame.specs.declared.error.FrameError.{FrameError}
 use Rattle.x25_frame.specs.declared.error.FrameError.TheVariants.{Short, BadFcs, BadAddress, Undefined, NoInfoAllowed, TooLong}
 use Rattle.x25_link.specs.declared.phase.Phase.{Phase}
 use Rattle.x25_link.specs.declared.phase.Phase.TheVariants.{Down, Waiting, Up, Closed}
-use Rattle.x25_link.specs.LinkStation.{Settings, LinkStation, Side, with_nothing, fresh, with_near, sends, ended}
-use Rattle.x25_link.specs.MustSend.{Step, quiet, leaves, other, is_valid, acknowledged, hears_info, peer_is, goes_back, polls, numbered, rejects, reject_of, row_of_frame, row_of}
-use Rattle.x25_link.specs.Steps.{alone, closed_by, if_read, hears, declines, when_down, when_waiting, take_step}
+use Rattle.x25_link.specs.LinkStation.{Settings, LinkStation, Side, with_nothing, sends, ended}
+use Rattle.x25_link.specs.MustSend.{Step, quiet, other, is_valid, acknowledged, hears_info, peer_is, goes_back, polls, numbered, rejects, reject_of, row_of_frame, row_of}
+use Rattle.x25_link.specs.Steps.{alone, hears, declines, when_down, when_waiting, take_step}
 use Rattle.x25_link.specs.laws.AnswerLaw.{heard}
 use Rattle.x25_line.proofs.StationSends.{AllWithin}
-use Rattle.x25_line.proofs.DrainWeights.{more_if, times, times_more, seven_times, ready_weight, rej_weight, weight, read_weight, weights, to_take, station_weight, asks_set_up, IsSpelled, AreSpelled, Weighs, W-more, W-sends, W-ended, W-info, W-peer, W-polls, W-rej}
+use Rattle.x25_line.proofs.DrainWeights.{more_if, times_more, seven_times, ready_weight, rej_weight, weight, read_weight, weights, to_take, station_weight, asks_set_up, IsSpelled, AreSpelled, Weighs, W-sends, W-ended, W-info, W-peer, W-polls, W-rej}
 
 -- ---- how many changes may come yet
 

@@ -1,5 +1,5 @@
 -- Whatever the two ends are at a quiet moment, once both have fired and all has come each is at rest or not Up.
-use Rattle.std.proofs.Common.{◌≡◌, List, [], ◌∷◌, ◌++◌, ◌⊎◌, inl, inr, length, map, Bool, true, false, if◌then◌else◌, ℕ, suc, ◌%◌, ◌<◌, Option, Some, None, refl, sym, ap, ◌∙◌, subst, arith}
+use Rattle.std.proofs.Common.{◌≡◌, List, [], ◌∷◌, ◌++◌, ◌⊎◌, inl, inr, length, map, Bool, true, false, if◌then◌else◌, ℕ, suc, ◌%◌, ◌<◌, Some, None, refl, sym, ap, ◌∙◌, subst, arith}
 use Rattle.std.specs.Prelude.{nat_lt}
 use Rattle.std.proofs.lemmas.Bool.{ltb-true}
 use Rattle.x25_bits.specs.declared.role.Role.{Role}
@@ -9,24 +9,26 @@ use Rattle.x25_frame.specs.laws.ReadingLaw.{ReadsSpelled}
 use Rattle.x25_link.specs.declared.phase.Phase.{Phase}
 use Rattle.x25_link.specs.declared.phase.Phase.TheVariants.{Down, Waiting, Up, Closed}
 use Rattle.x25_link.specs.declared.phase.Reason.TheVariants.{Retries}
-use Rattle.x25_link.specs.LinkStation.{Settings, LinkStation, is_up, awaits_ua, with_nothing}
+use Rattle.x25_link.specs.LinkStation.{Settings, LinkStation, is_up, is_busy, awaits_ua, wanted, with_nothing}
 use Rattle.x25_link.specs.MustSend.{Step, other}
 use Rattle.x25_link.specs.Steps.{timer_step, timer_runs}
 use Rattle.x25_link.specs.SetUp.{Is}
 use Rattle.x25_link.specs.WindowMachine.{nothing}
-use Rattle.x25_link.specs.laws.WindowLaw.{Follows, IsOut}
-use Rattle.x25_link.specs.laws.RestLaw.{IsAtRest}
+use Rattle.x25_link.specs.laws.WindowLaw.{IsSound, Follows, IsOut}
+use Rattle.x25_link.specs.laws.RestLaw.{HasSaidAll, IsAtRest}
+use Rattle.x25_link.specs.laws.AnswerLaw.{says}
 use Rattle.x25_line.specs.Stations.{StationEnd, Stations, T1, Event, after_step, acts, swapped, run, start}
 use Rattle.x25_line.specs.laws.StationClaims.{AreJoined}
 use Rattle.x25_line.specs.Healing.{IsDrained, AreDeliveries, MayHeal, IsFreeIfUp, IsAtRestOrOut, EachRestsOrIsOut, Heals}
 use Rattle.x25_line.proofs.StationSteps.{not_both}
 use Rattle.x25_line.proofs.StationRuns.{joined_swapped}
 use Rattle.x25_line.proofs.HealingLines.{Reads}
-use Rattle.x25_line.proofs.HealingSteps.{HealingLaws, Sound, sound_swapped, near_up}
-use Rattle.x25_line.proofs.HealingRuns.{reached_sound, shows_at_rest, refused, fires_is, fire_sound, Fired, fires, idle_run, flip, flip_all, flip_run}
+use Rattle.x25_line.proofs.HealingSteps.{HealingLaws, near_up, far_up}
+use Rattle.x25_line.proofs.HealingPhases.{up_is}
+use Rattle.x25_line.proofs.HealingRuns.{reached_sound, refused, fires_is, idle_run, flip, flip_all, flip_run}
 use Rattle.x25_line.proofs.HealingBoth.{both_firings_heal}
 use Rattle.x25_line.proofs.HealingGone.{Polls, Leaves, all_go, is_gone, has_left}
-use Rattle.x25_line.proofs.HealingSetUp.{reads_more_set_up, Calm, Asking, SetsUp, set_up_settles, set_up_run}
+use Rattle.x25_line.proofs.HealingSetUp.{reads_more_set_up, SetsUp, set_up_settles, set_up_run}
 
 -- what a firing on an empty line makes of its end: a poll or SABM goes; or nothing goes, and the end is at rest or out
 pub record Silent (w x : Stations) : Type 0 where
@@ -61,7 +63,43 @@ out_not_up Waiting h = absurd h
 out_not_up Up h = absurd h
 out_not_up Closed h = refl
 
+-- an end that is Up has numbers in order, and has said all that it may
+pub record IsInOrderIfUp (c : Settings) (e : StationEnd) : Type 0 where
+  pub sound : is_up e.station.phase ≡ true → IsSound c.window e.station.outgoing
+  pub said : is_up e.station.phase ≡ true → HasSaidAll c.window e.station
+
 module _ (c d : Settings) (joined : AreJoined c d) (reads : ReadsSpelled) (laws : HealingLaws) where
+  -- a poll goes on the empty line
+  record Polled (w x : Stations) : Type 0 where
+    pub up : is_up x.near.station.phase ≡ true
+    pub number : ℕ
+    pub is : number ≡ length x.near.station.taken % 8
+    pub out : Reads (other d.role) d.longest x.out (rr true number true ∷ [])
+    pub back : x.back ≡ w.back
+    pub far : x.far ≡ w.far
+
+  polls : (w : Stations) → w.out ≡ [] → is_up w.near.station.phase ≡ true → is_busy w.near.station ≡ false → timer_runs w.near.station.phase w.near.station ≡ true → w.near.station.tries < c.retries
+      → Polled w (acts c T1 w)
+  polls w empty up free running few =
+      let s = w.near.station in
+      let step : Step = timer_step c s in
+      let v : Stations = after_step c w w.back [] step in
+      let asks = laws.answers.timer c s (up_is s.phase up) few in
+      let poll : step.side.out ≡ rr true (wanted s) true ∷ [] = asks.out ∙ ap (λ (busy : Bool). says busy true (wanted s) true ∷ []) free in
+      let none : Reads (other d.role) d.longest w.out [] = subst (λ (os : List (List ℕ)). Reads (other d.role) d.longest os []) (sym empty) tt in
+      let out : Reads (other d.role) d.longest v.out (rr true (wanted s) true ∷ []) =
+      subst (λ (fs : List PlainFrame). Reads (other d.role) d.longest (w.out ++ map (spelling_of c.role) fs) (rr true (wanted s) true ∷ [])) (sym poll)
+      (subst (λ (from : Role). Reads (other d.role) d.longest (w.out ++ map (spelling_of from) (rr true (wanted s) true ∷ [])) (rr true (wanted s) true ∷ [])) joined.near_role
+      (reads_more_set_up reads (other d.role) d.longest w.out [] (rr true (wanted s) true ∷ []) none (below_eight (wanted s) (length s.taken) refl, tt))) in
+      subst (Polled w) (sym (fires_is c d joined reads laws w running)) (record {
+        up = ap (λ (z : LinkStation). is_up z.phase) asks.near ∙ up;
+        number = wanted s;
+        is = ap (λ (z : LinkStation). length z.taken % 8) (sym asks.near);
+        out = out;
+        back = refl;
+        far = refl;
+      })
+
   -- SABM goes on the empty line
   record AsksSetUp (w x : Stations) : Type 0 where
     pub near : x.near.station.phase ≡ Waiting
@@ -70,7 +108,7 @@ module _ (c d : Settings) (joined : AreJoined c d) (reads : ReadsSpelled) (laws 
     pub far : x.far ≡ w.far
 
   abbrev Kind : Stations → Stations → Type 0
-  Kind w x = (MayHeal c w.near × Fired c d joined reads laws w x) ⊎ ((MayHeal c w.near × IsAtRest x.near.station × Silent w x) ⊎ ((IsOut x.near.station.phase × Silent w x) ⊎ AsksSetUp w x))
+  Kind w x = (MayHeal c w.near × Polled w x) ⊎ ((MayHeal c w.near × IsAtRest x.near.station × Silent w x) ⊎ ((IsOut x.near.station.phase × Silent w x) ⊎ AsksSetUp w x))
 
   -- an end that awaits UA fires
   waits : (w : Stations) → w.out ≡ [] → w.near.station.phase ≡ Waiting → Kind w (acts c T1 w)
@@ -110,7 +148,7 @@ module _ (c d : Settings) (joined : AreJoined c d) (reads : ReadsSpelled) (laws 
   silent : (w x : Stations) → w.out ≡ [] → x ≡ w → Silent w x
   silent w x empty same = subst (λ (z : Stations). Silent w z) (sym same) (record { out = empty; back = refl; far = refl })
 
-  kind_of : (w : Stations) → Sound c d w → w.out ≡ [] → IsFreeIfUp w.near → Kind w (acts c T1 w)
+  kind_of : (w : Stations) → IsInOrderIfUp c w.near → w.out ≡ [] → IsFreeIfUp w.near → Kind w (acts c T1 w)
   kind_of w h empty may = by (is_up w.near.station.phase) refl
     where
       s : LinkStation
@@ -123,23 +161,22 @@ module _ (c d : Settings) (joined : AreJoined c d) (reads : ReadsSpelled) (laws 
       over : is_up s.phase ≡ true → timer_runs s.phase s ≡ true → nat_lt s.tries c.retries ≡ false → Kind w (acts c T1 w)
       over up running none =
           let step : Step = timer_step c s in
-          let u = near_up c d w h up in
           let v : Stations = after_step c w w.back [] step in
-          let follows = subst (λ (b : Bool). Follows (if b then None else Some Retries) c.window nothing s step) none (laws.laws.window.timer c s (record { up = up; sound = u.sound })) in
+          let follows = subst (λ (b : Bool). Follows (if b then None else Some Retries) c.window nothing s step) none (laws.laws.window.timer c s (record { up = up; sound = h.sound up })) in
           let out : v.out ≡ [] = ap (λ (fs : List PlainFrame). w.out ++ map (spelling_of c.role) fs) follows.frames ∙ ap (λ (os : List (List ℕ)). os ++ []) empty in
           subst (λ (z : Stations). Kind w z) (sym (fires_is c d joined reads laws w running)) (inr (inr (inl (subst IsOut (sym follows.phase) tt, record { out = out; back = refl; far = refl }))))
 
       tried : is_up s.phase ≡ true → timer_runs s.phase s ≡ true → (b : Bool) → nat_lt s.tries c.retries ≡ b → Kind w (acts c T1 w)
       tried up running true few =
           let left = ltb-true _ _ few in
-          inl (record { up = up; free = may up; tries = λ _. left }, fires c d joined reads laws w h empty up (may up) running left)
+          inl (record { up = up; free = may up; tries = λ _. left }, polls w empty up (may up) running left)
       tried up running false none = over up running none
 
       runs : is_up s.phase ≡ true → (b : Bool) → timer_runs s.phase s ≡ b → Kind w (acts c T1 w)
       runs up true running = tried up running (nat_lt s.tries c.retries) refl
       runs up false stopped =
           let same = refused c d joined reads laws w stopped in
-          let rest = (shows_at_rest c d joined reads laws w h up stopped).0 in
+          let rest : IsAtRest s = record { idle = laws.rest.no_timer c.window s joined.near_low (h.sound up) (h.said up) up stopped; no_timer = stopped } in
           let heals : MayHeal c w.near = record { up = up; free = may up; tries = λ running. not_both (timer_runs s.phase s) running stopped } in
           inr (inl (heals, subst (λ (z : Stations). IsAtRest z.near.station) (sym same) rest, silent w (acts c T1 w) empty same))
 
@@ -167,6 +204,13 @@ module _ (c d : Settings) (joined : AreJoined c d) (reads : ReadsSpelled) (laws 
       let k = all_go c d joined reads laws es v are h in
       (inr (has_left c d joined reads laws u drained k), inr (out_not_up u.far.station.phase (is_gone c d joined reads laws u k)))
 
+-- both ends fire
+abbrev pub after_firings : Settings → Settings → Stations → Stations
+after_firings c d w = swapped (acts d T1 (swapped (acts c T1 w)))
+
+abbrev pub RestOrOut : Settings → Settings → List Event → Stations → Type 0
+RestOrOut c d es v = (let u = run c d es v in IsAtRestOrOut u.near × IsAtRestOrOut u.far)
+
 module _ (reads : ReadsSpelled) (laws : HealingLaws) where
   -- the same where the far end has a poll on the line
   far_left : (c d : Settings) (joined : AreJoined c d) (v : Stations) → Leaves d c (swapped v) → (es : List Event) → AreDeliveries es → IsDrained (run c d es v)
@@ -178,15 +222,11 @@ module _ (reads : ReadsSpelled) (laws : HealingLaws) where
       let there = subst (λ (z : Stations). IsAtRestOrOut z.near × IsAtRestOrOut z.far) (sym same) ended in
       (there.1, there.0)
 
-  pub each_rests_or_is_out : EachRestsOrIsOut
-  each_rests_or_is_out c d joined events quiet near_may far_may es are after = by (kind_of c d joined reads laws w sound quiet.drained.out near_may)
+  -- from any two ends, where two that may heal come to rest
+  pub rest_or_out : (c d : Settings) → AreJoined c d → (w : Stations) → IsInOrderIfUp c w.near → IsInOrderIfUp d w.far → IsDrained w → IsFreeIfUp w.near → IsFreeIfUp w.far → (es : List Event) → AreDeliveries es
+      → IsDrained (run c d es (after_firings c d w)) → (MayHeal c w.near → MayHeal d w.far → RestOrOut c d es (after_firings c d w)) → RestOrOut c d es (after_firings c d w)
+  rest_or_out c d joined w near_in far_in was near_may far_may es are after heals = by (kind_of c d joined reads laws w near_in was.out near_may)
     where
-      w : Stations
-      w = run c d events start
-
-      sound : Sound c d w
-      sound = reached_sound laws reads c d joined events quiet.once
-
       twisted : AreJoined d c
       twisted = joined_swapped c d joined
 
@@ -199,13 +239,8 @@ module _ (reads : ReadsSpelled) (laws : HealingLaws) where
       Ends : Type 0
       Ends = (let u = run c d es (swapped y) in IsAtRestOrOut u.near × IsAtRestOrOut u.far)
 
-      heals : MayHeal c w.near → MayHeal d w.far → Ends
-      heals near far =
-          let both = both_firings_heal reads laws c d joined events quiet near far es are after in
-          (inl both.0.rest, inl both.1.rest)
-
       back_is : x.back ≡ w.back → x.back ≡ []
-      back_is same = same ∙ quiet.drained.back
+      back_is same = same ∙ was.back
 
       far_may_at : x.far ≡ w.far → IsFreeIfUp x.far
       far_may_at same = subst IsFreeIfUp (sym same) far_may
@@ -219,7 +254,7 @@ module _ (reads : ReadsSpelled) (laws : HealingLaws) where
       sets : SetsUp c d (swapped y) → Ends
       sets h = set_up_settles c d joined reads laws (run c d es (swapped y)) (set_up_run c d joined reads laws es (swapped y) are h) after
 
-      fired : MayHeal c w.near → Fired c d joined reads laws w x → Kind d c twisted reads laws (swapped x) y → Ends
+      fired : MayHeal c w.near → Polled c d joined reads laws w x → Kind d c twisted reads laws (swapped x) y → Ends
       fired may f (inl g) = heals may (far_was f.far g.0)
       fired may f (inr (inl g)) = heals may (far_was f.far g.0)
       fired may f (inr (inr (inr g))) =
@@ -319,13 +354,23 @@ module _ (reads : ReadsSpelled) (laws : HealingLaws) where
           })))
 
       far_kind : x.back ≡ w.back → x.far ≡ w.far → Kind d c twisted reads laws (swapped x) y
-      far_kind back far = kind_of d c twisted reads laws (swapped x) (sound_swapped c d joined x (fire_sound c d joined reads laws w sound)) (back_is back) (far_may_at far)
+      far_kind back far = kind_of d c twisted reads laws (swapped x) (subst (IsInOrderIfUp d) (sym far) far_in) (back_is back) (far_may_at far)
 
       by : Kind c d joined reads laws w x → Ends
       by (inl k) = fired k.0 k.1 (far_kind k.1.back k.1.far)
       by (inr (inl k)) = rested k.0 k.1 k.2 (far_kind k.2.back k.2.far)
       by (inr (inr (inl k))) = gone k.0 k.1 (far_kind k.1.back k.1.far)
       by (inr (inr (inr k))) = asking k (far_kind k.back k.far)
+
+  pub each_rests_or_is_out : EachRestsOrIsOut
+  each_rests_or_is_out c d joined events quiet near_may far_may es are after =
+      let w : Stations = run c d events start in
+      let sound = reached_sound laws reads c d joined events quiet.once in
+      let near_in : IsInOrderIfUp c w.near = record { sound = λ up. (near_up c d w sound up).sound; said = λ _. sound.near_said } in
+      let far_in : IsInOrderIfUp d w.far = record { sound = λ up. (far_up c d w sound up).sound; said = λ _. sound.far_said } in
+      rest_or_out c d joined w near_in far_in quiet.drained near_may far_may es are after (λ near far.
+      let both = both_firings_heal reads laws c d joined events quiet near far es are after in
+      (inl both.0.rest, inl both.1.rest))
 
   pub heals : Heals
   heals c d joined events quiet near_free far_free es are after =

@@ -97,7 +97,7 @@ confirms_ahead n r true = refl
 confirms_ahead n r false = (refl, refl)
 
 -- what is put once the I frame is taken has the new number
-confirms_next : (r n m : ℕ) (goes : Bool) (next : List PlainFrame) → AreNext r n next m → AreNext r n (confirms goes false r ++ next) m
+pub confirms_next : (r n m : ℕ) (goes : Bool) (next : List PlainFrame) → AreNext r n next m → AreNext r n (confirms goes false r ++ next) m
 confirms_next r n m true next h = h
 confirms_next r n m false next h = (refl, refl, refl, h)
 

@@ -137,25 +137,26 @@ module _ (c d : Settings) (joined : AreJoined c d) (reads : ReadsSpelled) (laws 
         far_said = subst (λ (e : StationEnd). HasSaidAll d.window e.station) (sym one.far) h.far_said;
       }
 
-  -- a poll goes on the empty line to the other end, and recovery begins
-  pub record Fired (w v : Stations) : Type 0 where
+  -- a poll goes on the empty line to the other end, as RNR where the end is busy, and recovery begins
+  pub record SentPoll (w v : Stations) : Type 0 where
     pub sound : Sound c d v
     pub up : is_up v.near.station.phase ≡ true
-    pub free : is_busy v.near.station ≡ false
+    pub busy : is_busy v.near.station ≡ is_busy w.near.station
+    pub said : v.near.station.said_busy ≡ is_busy w.near.station
     pub recovery : v.near.station.recovery ≡ true
     pub number : ℕ
     pub is : number ≡ length v.near.station.taken % 8
-    pub out : Reads (other d.role) d.longest v.out (rr true number true ∷ [])
+    pub out : Reads (other d.role) d.longest v.out (says (is_busy w.near.station) true number true ∷ [])
     pub back : v.back ≡ w.back
     pub far : v.far ≡ w.far
 
-  pub fires : (w : Stations) → Sound c d w → w.out ≡ [] → is_up w.near.station.phase ≡ true → is_busy w.near.station ≡ false
-      → timer_runs w.near.station.phase w.near.station ≡ true → w.near.station.tries < c.retries → Fired w (acts c T1 w)
-  fires w h empty up free running few =
-      subst (λ (z : Stations). Fired w z) (sym is) (record {
+  pub sends_poll : (w : Stations) → Sound c d w → w.out ≡ [] → is_up w.near.station.phase ≡ true → timer_runs w.near.station.phase w.near.station ≡ true → w.near.station.tries < c.retries → SentPoll w (acts c T1 w)
+  sends_poll w h empty up running few =
+      subst (λ (z : Stations). SentPoll w z) (sym is) (record {
         sound = sound;
         up = ap (λ (z : LinkStation). is_up z.phase) asks.near ∙ up;
-        free = ap is_busy asks.near ∙ free;
+        busy = ap is_busy asks.near;
+        said = ap (λ (z : LinkStation). z.said_busy) asks.near;
         recovery = ap (λ (z : LinkStation). z.recovery) asks.near;
         number = wanted s;
         is = ap (λ (z : LinkStation). length z.taken % 8) (sym asks.near);
@@ -187,16 +188,41 @@ module _ (c d : Settings) (joined : AreJoined c d) (reads : ReadsSpelled) (laws 
         far_said = subst (λ (z : Stations). HasSaidAll d.window z.far.station) (sym is) h.far_said;
       })
 
-      poll : step.side.out ≡ rr true (wanted s) true ∷ []
-      poll = asks.out ∙ ap (λ (busy : Bool). says busy true (wanted s) true ∷ []) free
-
-      read_out : Reads (other d.role) d.longest (w.out ++ map (spelling_of c.role) step.side.out) (rr true (wanted s) true ∷ [])
+      read_out : Reads (other d.role) d.longest (w.out ++ map (spelling_of c.role) step.side.out) (says (is_busy s) true (wanted s) true ∷ [])
       read_out =
           let given = (w.near.down ++ []) ++ w.far.down in
           let whole : AreWhole d.longest given step.side.out = whole_behind d.longest given w.sent step.side.out sound.joint.whole in
-          subst (λ (es : List PlainFrame). Reads (other d.role) d.longest (w.out ++ map (spelling_of c.role) step.side.out) es) poll
+          subst (λ (es : List PlainFrame). Reads (other d.role) d.longest (w.out ++ map (spelling_of c.role) step.side.out) es) asks.out
           (subst (λ (from : Role). Reads (other d.role) d.longest (w.out ++ map (spelling_of from) step.side.out) step.side.out) joined.near_role
           (reads_more reads (other d.role) d.longest given w.out [] step.side.out (subst (λ (os : List (List ℕ)). Reads (other d.role) d.longest os []) (sym empty) tt) whole))
+
+  -- RR goes where the end isn't busy
+  pub record Fired (w v : Stations) : Type 0 where
+    pub sound : Sound c d v
+    pub up : is_up v.near.station.phase ≡ true
+    pub free : is_busy v.near.station ≡ false
+    pub recovery : v.near.station.recovery ≡ true
+    pub number : ℕ
+    pub is : number ≡ length v.near.station.taken % 8
+    pub out : Reads (other d.role) d.longest v.out (rr true number true ∷ [])
+    pub back : v.back ≡ w.back
+    pub far : v.far ≡ w.far
+
+  pub fires : (w : Stations) → Sound c d w → w.out ≡ [] → is_up w.near.station.phase ≡ true → is_busy w.near.station ≡ false
+      → timer_runs w.near.station.phase w.near.station ≡ true → w.near.station.tries < c.retries → Fired w (acts c T1 w)
+  fires w h empty up free running few =
+      let p = sends_poll w h empty up running few in
+      record {
+        sound = p.sound;
+        up = p.up;
+        free = p.busy ∙ free;
+        recovery = p.recovery;
+        number = p.number;
+        is = p.is;
+        out = subst (λ (busy : Bool). Reads (other d.role) d.longest (acts c T1 w).out (says busy true p.number true ∷ [])) free p.out;
+        back = p.back;
+        far = p.far;
+      }
 
   pub fired : (w : Stations) → Sound c d w → IsDrained w → is_up w.near.station.phase ≡ true → is_busy w.near.station ≡ false → is_up w.far.station.phase ≡ true → is_busy w.far.station ≡ false
       → timer_runs w.near.station.phase w.near.station ≡ true → w.near.station.tries < c.retries → Heals c d w.far.station.tries (IsAtRest w.far.station) (acts c T1 w)

@@ -1,6 +1,6 @@
 -- An end that awaits UA: once its SABM has come, nothing but set-up is on the line, and each end that is Up has nothing to send.
-use Rattle.std.proofs.Common.{◌≡◌, ℕ, ◌+◌, ◌%◌, ◌≤◌, ◌<◌, List, [], ◌∷◌, ◌++◌, ◌⊎◌, inl, inr, length, map, Bool, true, false, not, if◌then◌else◌, Result, Ok, Err, None, refl, sym, ap, ◌∙◌, subst, arith, append-nil}
-use Rattle.std.specs.Prelude.{◌&&◌, ◌==◌, nat_lt}
+use Rattle.std.proofs.Common.{◌≡◌, ℕ, ◌%◌, ◌<◌, List, [], ◌∷◌, ◌++◌, ◌⊎◌, inl, inr, length, map, Bool, true, false, if◌then◌else◌, Result, Ok, refl, sym, ap, ◌∙◌, subst, arith, append-nil}
+use Rattle.std.specs.Prelude.{◌&&◌, nat_lt}
 use Rattle.std.proofs.lemmas.Bool.{leb-true, le-ltb, eq-eqb, and_parts}
 use Rattle.x25_bits.specs.declared.role.Role.{Role}
 use Rattle.x25_frame.specs.PlainFrame.{PlainFrame, info, rr, rnr, rej, sabm, disc, ua, dm, frmr}
@@ -11,9 +11,9 @@ use Rattle.x25_frame.specs.declared.error.FrameError.{FrameError}
 use Rattle.x25_link.specs.declared.phase.Phase.{Phase}
 use Rattle.x25_link.specs.declared.phase.Phase.TheVariants.{Down, Waiting, Up, Closed}
 use Rattle.x25_link.specs.Outgoing.{waits}
-use Rattle.x25_link.specs.LinkStation.{Settings, LinkStation, Side, is_up, is_busy, wanted, fresh, with_nothing, with_near, sends, ready, may_send, pumped, owes_ready, finished, ended}
-use Rattle.x25_link.specs.MustSend.{Step, quiet, other, is_valid, acknowledged, peer_is, goes_back, polls, rejects, reject_of, row_of_frame}
-use Rattle.x25_link.specs.Steps.{alone, hears, declines, when_down, when_waiting, take_step, timer_runs, is_idle}
+use Rattle.x25_link.specs.LinkStation.{Settings, LinkStation, Side, is_up, is_busy, wanted, fresh, sends, ready, may_send, owes_ready, finished, ended}
+use Rattle.x25_link.specs.MustSend.{Step, quiet, other, is_valid, acknowledged, peer_is, polls, rejects, row_of_frame}
+use Rattle.x25_link.specs.Steps.{alone, hears, declines, when_down, when_waiting, take_step, timer_runs}
 use Rattle.x25_link.specs.laws.RestLaw.{IsAtRest}
 use Rattle.x25_link.proofs.EndLemmas.{none_open, not_open, pumped_stays}
 use Rattle.x25_line.specs.Stations.{StationEnd, Stations, Act, Put, Deliver, T1, Connect, Disconnect, Abandon, Lose, Damage, Event, Near, Far, after_step, delivered, acts, swapped, run}

@@ -1,6 +1,6 @@
 -- Healing over set-up and re-set-up: two sessions that stand on a drained line are, by themselves, two stations of a link set up once.
-use Rattle.std.proofs.Common.{◌≡◌, ◌≤◌, ◌<◌, ℕ, List, [], ◌∷◌, ◌++◌, ◌⊎◌, inl, inr, map, Bool, true, false, if◌then◌else◌, Option, Some, None, Result, Ok, Err, refl, sym, ap, ◌∙◌, subst, append-nil}
-use Rattle.std.specs.Prelude.{◌==◌, option_to_list}
+use Rattle.std.proofs.Common.{◌≡◌, ◌<◌, ℕ, List, [], ◌∷◌, ◌++◌, ◌⊎◌, inl, inr, map, Bool, true, false, if◌then◌else◌, Option, Some, None, refl, sym, ap, ◌∙◌, subst, append-nil}
+use Rattle.std.specs.Prelude.{◌==◌}
 use Rattle.x25_bits.specs.declared.role.Role.{Role}
 use Rattle.x25_frame.specs.PlainFrame.{PlainFrame}
 use Rattle.x25_frame.specs.Spelling.{spelling_of}
@@ -11,27 +11,26 @@ use Rattle.x25_link.specs.declared.phase.Phase.{Phase}
 use Rattle.x25_link.specs.declared.phase.Phase.TheVariants.{Down, Waiting, Up, Closed}
 use Rattle.x25_link.specs.LinkStation.{Settings, LinkStation, is_up, is_busy}
 use Rattle.x25_link.specs.MustSend.{Step, other}
-use Rattle.x25_link.specs.Steps.{take_step, timer_step, timer_runs, timer_refusal, is_idle}
+use Rattle.x25_link.specs.Steps.{take_step, timer_step, timer_runs, timer_refusal}
 use Rattle.x25_link.specs.WindowMachine.{ShowAll}
 use Rattle.x25_link.specs.laws.RestLaw.{HasSaidAll, IsAtRest}
 use Rattle.x25_line.specs.Line.{Line}
 use Rattle.x25_line.specs.Stations.{StationEnd, Stations, Act, Put, Deliver, T1, Connect, Disconnect, Abandon, Lose, Damage, Event, Near, Far}
 use Rattle.x25_line.specs.Stations as one
-use Rattle.x25_line.specs.laws.StationClaims.{AreJoined, numbered_on}
-use Rattle.x25_line.specs.Sessions.{Entry, SessionEnd, Sessions, extended, begun_by, sent_in, after_step, unless, delivered, acts, swapped, happens, run, from_nothing, from_set_up, IsTimely, AreTimely}
+use Rattle.x25_line.specs.laws.StationClaims.{AreJoined, IsSetUpOnce, numbered_on}
+use Rattle.x25_line.specs.Sessions.{Entry, SessionEnd, Sessions, extended, begun_by, after_step, unless, delivered, acts, swapped, happens, run, from_nothing, from_set_up, IsTimely, AreTimely}
 use Rattle.x25_line.specs.Sessions.{Meeting}
 use Rattle.x25_line.specs.SessionNumbers.{Standing}
 use Rattle.x25_line.specs.laws.SessionClaims.{octets_of, IdleHasArrived}
-use Rattle.x25_line.specs.Healing.{IsDrained, IsDeliver, AreDeliveries, MayHeal, IsHealed, SessionMayHeal, SessionsAreHealed, SessionsHeal}
-use Rattle.x25_line.proofs.StationSteps.{AsUp, IsAway, FitsEnd, MayBeAway, AreEndings, NotesOnce, Joint, not_both}
-use Rattle.x25_line.proofs.StationRuns.{joined_swapped}
+use Rattle.x25_line.specs.Healing.{IsDrained, IsDeliver, AreDeliveries, MayHeal, SessionsAreHealed, SessionsHeal}
+use Rattle.x25_line.proofs.StationSteps.{FitsEnd, MayBeAway, NotesOnce, Joint, not_both}
 use Rattle.x25_line.proofs.StationAway.{first_false, second_false}
 use Rattle.x25_line.proofs.sessions.SessionLines.{octets_append, octets_sent}
 use Rattle.x25_line.proofs.sessions.SessionHeld.{View, Live, Soon, Gone, IsView, IsHeard, Held}
 use Rattle.x25_line.proofs.sessions.SessionRuns.{SessionLaws, throughout}
 use Rattle.x25_line.proofs.sessions.SessionLatest.{idle_has_arrived}
 use Rattle.x25_line.proofs.HealingSteps.{HealingLaws, Sound}
-use Rattle.x25_line.proofs.HealingBoth.{Begun, both_run, both_settle, fired_both}
+use Rattle.x25_line.proofs.HealingBoth.{both_run, both_settle, fired_both}
 use Rattle.x25_line.proofs.HealingSessions.{said_from}
 
 -- ---- an end that is Up is in the session that stands
@@ -94,7 +93,7 @@ emptied_joint c d v l h out back = record {
 
 -- ---- the same events do the same to the stations, and begin no session where these note no LinkUp
 
-record Alike (n m : ℕ) (near_down far_down : List (List ℕ)) (w : Sessions) (v : Stations) : Type 0 where
+pub record Alike (n m : ℕ) (near_down far_down : List (List ℕ)) (w : Sessions) (v : Stations) : Type 0 where
   pub near : v.near.station ≡ w.near.station
   pub far : v.far.station ≡ w.far.station
   pub out : v.out ≡ octets_of w.out
@@ -132,7 +131,7 @@ module _ (n m : ℕ) (near_down far_down : List (List ℕ)) where
   unless_alike (Some e) w y v z h k = h
   unless_alike None w y v z h k = k
 
-  fires_alike : (c : Settings) (w : Sessions) (v : Stations) → A w v → A (acts c T1 w) (one.acts c T1 v)
+  pub fires_alike : (c : Settings) (w : Sessions) (v : Stations) → A w v → A (acts c T1 w) (one.acts c T1 v)
   fires_alike c w v h =
       let step : A (after_step c w w.back w.met [] (timer_step c w.near.station)) (one.after_step c v v.back [] (timer_step c w.near.station)) =
       subst (λ (os : List (List ℕ)). A (after_step c w w.back w.met [] (timer_step c w.near.station)) (one.after_step c v os [] (timer_step c w.near.station))) (sym h.back)
@@ -159,12 +158,12 @@ turned_alike : (n m : ℕ) (near_down far_down : List (List ℕ)) (w : Sessions)
 turned_alike n m near_down far_down w v h = record { near = h.far; far = h.near; out = h.back; back = h.out; begun = h.far_begun; far_begun = h.begun }
 
 module _ (c d : Settings) (n m : ℕ) (near_down far_down : List (List ℕ)) where
-  far_fires_alike : (w : Sessions) (v : Stations) → Alike n m near_down far_down w v → Alike n m near_down far_down (swapped (acts d T1 (swapped w))) (one.swapped (one.acts d T1 (one.swapped v)))
+  pub far_fires_alike : (w : Sessions) (v : Stations) → Alike n m near_down far_down w v → Alike n m near_down far_down (swapped (acts d T1 (swapped w))) (one.swapped (one.acts d T1 (one.swapped v)))
   far_fires_alike w v h =
       turned_alike m n far_down near_down (acts d T1 (swapped w)) (one.acts d T1 (one.swapped v))
       (fires_alike m n far_down near_down d (swapped w) (one.swapped v) (turned_alike n m near_down far_down w v h))
 
-  deliveries_alike : (es : List Event) (w : Sessions) (v : Stations) → AreDeliveries es → Alike n m near_down far_down w v → Alike n m near_down far_down (run c d es w) (one.run c d es v)
+  pub deliveries_alike : (es : List Event) (w : Sessions) (v : Stations) → AreDeliveries es → Alike n m near_down far_down w v → Alike n m near_down far_down (run c d es w) (one.run c d es v)
   deliveries_alike [] w v are h = h
   deliveries_alike (Near a ∷ es) w v are h = deliveries_alike es (acts c a w) (one.acts c a v) are.1 (act_alike n m near_down far_down c a w v are.0 h)
   deliveries_alike (Far a ∷ es) w v are h =
@@ -206,15 +205,28 @@ far_stays None w v same = same
 
 -- ---- the law
 
+-- two stations have come to rest, and the link wasn't set up anew
+pub record HaveComeToRest (v : Stations) : Type 0 where
+  pub near : IsAtRest v.near.station
+  pub far : IsAtRest v.far.station
+  pub once : IsSetUpOnce v
+
+-- both ends fire, and these deliveries come
+abbrev pub fired_run : Settings → Settings → List Event → Stations → Stations
+fired_run c d es v = one.run c d es (one.swapped (one.acts d T1 (one.swapped (one.acts c T1 v))))
+
 module _ (reads : ReadsSpelled) (laws : HealingLaws) where
-  pub sessions_heal : SessionsHeal
-  sessions_heal c d joined begin is events timely no_out no_back near_may far_may es are out_after back_after =
-      let rest = both_settle c d joined reads laws begun.most begun.least v (both_run c d joined reads laws begun.most begun.least es v1 are begun.heals) drained in
-      let heals = both_run c d joined reads laws begun.most begun.least es v1 are begun.heals in
-      let near = alike.begun heals.0.0.sound.joint.near_notes.once in
-      let far = alike.far_begun heals.0.0.sound.joint.far_notes.once in
-      let near_rest : IsAtRest u.near.station = subst IsAtRest alike.near rest.0.rest in
-      let far_rest : IsAtRest u.far.station = subst IsAtRest alike.far rest.1.rest in
+  -- Where the two stations by themselves come to rest, so do the sessions of both ends.
+  pub sessions_rest : (c d : Settings) → AreJoined c d → (begin : Sessions) → (begin ≡ from_nothing) ⊎ (begin ≡ from_set_up) → (events : List Event) → AreTimely c d events begin
+      → (let w = run c d events begin in w.out ≡ [] → w.back ≡ [] → is_up w.near.station.phase ≡ true → is_up w.far.station.phase ≡ true → (es : List Event) → AreDeliveries es
+      → (let u = run c d (Near T1 ∷ Far T1 ∷ es) w in u.out ≡ [] → u.back ≡ []
+      → ((v : Stations) → Sound c d v → IsDrained v → v.near.station ≡ w.near.station → v.far.station ≡ w.far.station → IsDrained (fired_run c d es v) → HaveComeToRest (fired_run c d es v)) → SessionsAreHealed w u))
+  sessions_rest c d joined begin is events timely no_out no_back near_on far_on es are out_after back_after rests =
+      let rest = rests v0 sound (record { out = refl; back = refl }) near_in.station far_in.station drained in
+      let near = alike.begun rest.once.near in
+      let far = alike.far_begun rest.once.far in
+      let near_rest : IsAtRest u.near.station = subst IsAtRest alike.near rest.near in
+      let far_rest : IsAtRest u.far.station = subst IsAtRest alike.far rest.far in
       let near_up = (laws.rest.only_then u.near.station near_rest).0 in
       let far_up = (laws.rest.only_then u.far.station far_rest).0 in
       record {
@@ -245,10 +257,10 @@ module _ (reads : ReadsSpelled) (laws : HealingLaws) where
       held = (throughout reads rests_on c d joined begin is events timely).1
 
       near_in : InIt (other c.role) c.longest w.near held.alone.near.station stand.near w.back held.alone.back
-      near_in = in_it held.near_view (other c.role) c.longest w.near held.alone.near.station stand.near stand.far w.back held.alone.back held.near held.back near_may.up
+      near_in = in_it held.near_view (other c.role) c.longest w.near held.alone.near.station stand.near stand.far w.back held.alone.back held.near held.back near_on
 
       far_in : InIt (other d.role) d.longest w.far held.alone.far.station stand.far w.out held.alone.out
-      far_in = in_it held.far_view (other d.role) d.longest w.far held.alone.far.station stand.far stand.near w.out held.alone.out held.far held.out far_may.up
+      far_in = in_it held.far_view (other d.role) d.longest w.far held.alone.far.station stand.far stand.near w.out held.alone.out held.far held.out far_on
 
       none_out : numbered_on (other d.role) d.longest held.alone.out ≡ []
       none_out = sym far_in.numbers ∙ ap (λ (entries : List Entry). numbered_on (other d.role) d.longest (octets_of entries)) no_out
@@ -269,28 +281,8 @@ module _ (reads : ReadsSpelled) (laws : HealingLaws) where
             far_said = subst (HasSaidAll d.window) (sym far_in.station) said.1;
           }
 
-      may_near : MayHeal c v0.near
-      may_near = record {
-        up = ap (λ (s : LinkStation). is_up s.phase) near_in.station ∙ near_may.up;
-        free = ap is_busy near_in.station ∙ near_may.free;
-        tries = subst (λ (s : LinkStation). timer_runs s.phase s ≡ true → s.tries < c.retries) (sym near_in.station) near_may.tries;
-      }
-
-      may_far : MayHeal d v0.far
-      may_far = record {
-        up = ap (λ (s : LinkStation). is_up s.phase) far_in.station ∙ far_may.up;
-        free = ap is_busy far_in.station ∙ far_may.free;
-        tries = subst (λ (s : LinkStation). timer_runs s.phase s ≡ true → s.tries < d.retries) (sym far_in.station) far_may.tries;
-      }
-
-      v1 : Stations
-      v1 = one.swapped (one.acts d T1 (one.swapped (one.acts c T1 v0)))
-
-      begun : Begun c d joined reads laws v1
-      begun = fired_both reads laws c d joined v0 sound (record { out = refl; back = refl }) may_near may_far
-
       v : Stations
-      v = one.run c d es v1
+      v = fired_run c d es v0
 
       alike_first : Alike w.near.begun w.far.begun (w.near.down w.near.begun) (w.far.down w.far.begun) w v0
       alike_first = record {
@@ -307,7 +299,7 @@ module _ (reads : ReadsSpelled) (laws : HealingLaws) where
           let n = w.near.begun in
           let m = w.far.begun in
           let one_fired = fires_alike n m (w.near.down n) (w.far.down m) c w v0 alike_first in
-          deliveries_alike c d n m (w.near.down n) (w.far.down m) es _ v1 are (far_fires_alike c d n m (w.near.down n) (w.far.down m) (acts c T1 w) (one.acts c T1 v0) one_fired)
+          deliveries_alike c d n m (w.near.down n) (w.far.down m) es _ (one.swapped (one.acts d T1 (one.swapped (one.acts c T1 v0)))) are (far_fires_alike c d n m (w.near.down n) (w.far.down m) (acts c T1 w) (one.acts c T1 v0) one_fired)
 
       drained : IsDrained v
       drained = record { out = alike.out ∙ ap octets_of out_after; back = alike.back ∙ ap octets_of back_after }
@@ -317,11 +309,29 @@ module _ (reads : ReadsSpelled) (laws : HealingLaws) where
 
       timely_more : AreTimely c d more w
       timely_more = (
-        timely_up c d w near_may.up,
-        (timely_up d c (swapped (acts c T1 w)) (ap (λ (e : SessionEnd). is_up e.station.phase) far_after ∙ far_may.up), timely_deliveries c d es (swapped (acts d T1 (swapped (acts c T1 w)))) are),
+        timely_up c d w near_on,
+        (timely_up d c (swapped (acts c T1 w)) (ap (λ (e : SessionEnd). is_up e.station.phase) far_after ∙ far_on), timely_deliveries c d es (swapped (acts d T1 (swapped (acts c T1 w)))) are),
       )
 
       arrived : IdleHasArrived c d u
       arrived =
           subst (IdleHasArrived c d) (run_append c d events more begin)
           (idle_has_arrived reads rests_on c d joined begin is (events ++ more) (timely_append c d events more begin timely timely_more))
+
+  pub sessions_heal : SessionsHeal
+  sessions_heal c d joined begin is events timely no_out no_back near_may far_may es are out_after back_after =
+      sessions_rest c d joined begin is events timely no_out no_back near_may.up far_may.up es are out_after back_after (λ v sound drained near far after.
+      let may_near : MayHeal c v.near = record {
+        up = ap (λ (s : LinkStation). is_up s.phase) near ∙ near_may.up;
+        free = ap is_busy near ∙ near_may.free;
+        tries = subst (λ (s : LinkStation). timer_runs s.phase s ≡ true → s.tries < c.retries) (sym near) near_may.tries;
+      } in
+      let may_far : MayHeal d v.far = record {
+        up = ap (λ (s : LinkStation). is_up s.phase) far ∙ far_may.up;
+        free = ap is_busy far ∙ far_may.free;
+        tries = subst (λ (s : LinkStation). timer_runs s.phase s ≡ true → s.tries < d.retries) (sym far) far_may.tries;
+      } in
+      let begun = fired_both reads laws c d joined v sound drained may_near may_far in
+      let heals = both_run c d joined reads laws begun.most begun.least es (one.swapped (one.acts d T1 (one.swapped (one.acts c T1 v)))) are begun.heals in
+      let rest = both_settle c d joined reads laws begun.most begun.least (fired_run c d es v) heals after in
+      record { near = rest.0.rest; far = rest.1.rest; once = record { near = heals.0.0.sound.joint.near_notes.once; far = heals.0.0.sound.joint.far_notes.once } })

@@ -23,7 +23,12 @@ pub mod HealingSetUp
 pub mod HealingEnds
 pub mod HealingSessions
 pub mod HealingStands
+pub mod HealingSessionEnds
 pub mod DrainWeights
 pub mod DrainSteps
 pub mod DrainRuns
+pub mod BusyLines
+pub mod BusyPhases
+pub mod BusyRuns
+pub mod BusySessions
 pub mod sessions

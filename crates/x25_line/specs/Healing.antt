@@ -6,7 +6,7 @@ use Rattle.x25_frame.specs.PlainFrame.{PlainFrame, info, rr, rnr, rej}
 use Rattle.x25_frame.specs.Reading.{frame_of}
 use Rattle.x25_frame.specs.declared.error.FrameError.{FrameError}
 use Rattle.x25_link.specs.MustSend.{other}
-use Rattle.x25_link.specs.LinkStation.{Settings, is_up, is_busy}
+use Rattle.x25_link.specs.LinkStation.{Settings, LinkStation, is_up, is_busy}
 use Rattle.x25_link.specs.Steps.{timer_runs}
 use Rattle.x25_link.specs.laws.WindowLaw.{IsOut}
 use Rattle.x25_link.specs.laws.RestLaw.{IsAtRest}
@@ -257,6 +257,65 @@ abbrev pub SessionsHeal : Type 0
 SessionsHeal =
     (c d : Settings) → AreJoined c d → (begin : Sessions) → (begin ≡ from_nothing) ⊎ (begin ≡ from_set_up) → (events : List Event) → AreTimely c d events begin
     → (let w = run_sessions c d events begin in w.out ≡ [] → w.back ≡ [] → SessionMayHeal c w.near → SessionMayHeal d w.far
+    → (deliveries : List Event) → AreDeliveries deliveries
+    → (let v = run_sessions c d (Near T1 ∷ Far T1 ∷ deliveries) w in v.out ≡ [] → v.back ≡ [] → SessionsAreHealed w v))
+
+-- an end of sessions isn't busy where it is Up
+abbrev pub IsFreeSessionIfUp : SessionEnd → Type 0
+IsFreeSessionIfUp e = is_up e.station.phase ≡ true → is_busy e.station ≡ false
+
+abbrev pub IsSessionAtRestOrOut : SessionEnd → Type 0
+IsSessionAtRestOrOut e = IsAtRest e.station ⊎ (is_up e.station.phase ≡ false)
+
+-- Each end is at rest or not Up; and if both were Up, with tries left where T1 ran, both are at rest in their sessions, and everything has arrived.
+pub record AllSessionsHeal (c d : Settings) (w v : Sessions) : Type 0 where
+  pub near : IsSessionAtRestOrOut v.near
+  pub far : IsSessionAtRestOrOut v.far
+  pub healed : SessionMayHeal c w.near → SessionMayHeal d w.far → SessionsAreHealed w v
+
+-- Nothing is on the line, and no end that is Up is busy, whatever the phases and the tries are: both fire where their T1 runs, and then all that is on
+-- the line comes.
+abbrev pub EachSessionRestsOrIsOut : Type 0
+EachSessionRestsOrIsOut =
+    (c d : Settings) → AreJoined c d → (begin : Sessions) → (begin ≡ from_nothing) ⊎ (begin ≡ from_set_up) → (events : List Event) → AreTimely c d events begin
+    → (let w = run_sessions c d events begin in w.out ≡ [] → w.back ≡ [] → IsFreeSessionIfUp w.near → IsFreeSessionIfUp w.far
+    → (deliveries : List Event) → AreDeliveries deliveries
+    → (let v = run_sessions c d (Near T1 ∷ Far T1 ∷ deliveries) w in v.out ≡ [] → v.back ≡ [] → AllSessionsHeal c d w v))
+
+-- ---- one busy end
+
+-- an end is Up; where its timer T1 runs, it has tries left
+pub record HasTries (c : Settings) (e : StationEnd) : Type 0 where
+  pub up : is_up e.station.phase ≡ true
+  pub tries : timer_runs e.station.phase e.station ≡ true → e.station.tries < c.retries
+
+abbrev pub OneIsFree : LinkStation → LinkStation → Type 0
+OneIsFree s t = (is_busy s ≡ false) ⊎ (is_busy t ≡ false)
+
+-- Nothing is on the line, both ends are Up, and one of them may be busy: both fire, and then all that is on the line comes, in any order of the two
+-- directions. Everything sent has arrived, and both are at rest.
+abbrev pub OneBusyHeals : Type 0
+OneBusyHeals =
+    (c d : Settings) → AreJoined c d → (events : List Event) → IsQuietMoment c d events
+    → (let w = run c d events start in HasTries c w.near → HasTries d w.far → OneIsFree w.near.station w.far.station
+    → (deliveries : List Event) → AreDeliveries deliveries → (let v = run c d (Near T1 ∷ Far T1 ∷ deliveries) w in IsDrained v → IsHealed v.near v.far × IsHealed v.far v.near))
+
+-- and there are such deliveries
+abbrev pub SomeBusyHeal : Type 0
+SomeBusyHeal =
+    (c d : Settings) → AreJoined c d → (events : List Event) → IsQuietMoment c d events
+    → (let w = run c d events start in HasTries c w.near → HasTries d w.far → OneIsFree w.near.station w.far.station
+    → (deliveries : List Event) × AreDeliveries deliveries × (let v = run c d (Near T1 ∷ Far T1 ∷ deliveries) w in IsDrained v × IsHealed v.near v.far × IsHealed v.far v.near))
+
+pub record SessionHasTries (c : Settings) (e : SessionEnd) : Type 0 where
+  pub up : is_up e.station.phase ≡ true
+  pub tries : timer_runs e.station.phase e.station ≡ true → e.station.tries < c.retries
+
+-- the same over set-up and re-set-up
+abbrev pub SessionsHealBusy : Type 0
+SessionsHealBusy =
+    (c d : Settings) → AreJoined c d → (begin : Sessions) → (begin ≡ from_nothing) ⊎ (begin ≡ from_set_up) → (events : List Event) → AreTimely c d events begin
+    → (let w = run_sessions c d events begin in w.out ≡ [] → w.back ≡ [] → SessionHasTries c w.near → SessionHasTries d w.far → OneIsFree w.near.station w.far.station
     → (deliveries : List Event) → AreDeliveries deliveries
     → (let v = run_sessions c d (Near T1 ∷ Far T1 ∷ deliveries) w in v.out ≡ [] → v.back ≡ [] → SessionsAreHealed w v))
 

@@ -1,14 +1,15 @@
 //! Healing: once the line is good for a moment, everything arrives. Laws of two link stations over a line, each the contract of a
 //! function that does nothing.
 ghost use Rattle.x25_line.specs.Healing.{RestShows, EachRestShows, OneFiringHeals, FarFiringHeals, OneFiringEnds, GoneEnds};
-ghost use Rattle.x25_line.specs.Healing.{BothFiringsHeal, TwoFiringsHeal, EachRestsOrIsOut, Heals, SessionsHeal, DeliveriesEnd, SomeHeal, BothLostMayHeal};
-ghost use Rattle.x25_line.specs.Healing.{DrainsEnd, SomeDrain};
+ghost use Rattle.x25_line.specs.Healing.{BothFiringsHeal, TwoFiringsHeal, EachRestsOrIsOut, Heals, SessionsHeal, EachSessionRestsOrIsOut, DeliveriesEnd, SomeHeal, BothLostMayHeal};
+ghost use Rattle.x25_line.specs.Healing.{DrainsEnd, SomeDrain, OneBusyHeals, SomeBusyHeal, SessionsHealBusy};
 ghost use Rattle.x25_line.specs.rows.HealingRows.{NoFiringIsTooFew, OneFiringIsTooFew, NoTriesAreLeft, FiringsAloneEnd};
 ghost use Rattle.x25_line.specs.laws.SessionClaims.{Throughout};
 
 use x25_frame::reads_what_is_spelled;
 use x25_link::{
     asks_and_answers, comes_to_rest, follows_the_window, notes_what_changes, sets_up_by_rows,
+    tells_whether_busy,
 };
 
 /// After each list of events, as long as the link isn't set up anew: an end that is Up and whose timer T1 doesn't run is at rest, and
@@ -48,19 +49,38 @@ pub fn one_firing_heals()
 /// Deliver, fire once at each end, deliver: everything sent has arrived, in order, once, and both ends are at rest. Both may fire before
 /// anything comes (`at_once`), or one after the other, with all deliveries of the first between them (`in_turn`). Whatever the phases of
 /// the ends and their tries are, as long as none is Up and busy, each is at rest or not Up then (`whatever`). The two together, of every
-/// such moment: `heals`. Over set-up and re-set-up, where both ends are Up, their sessions heal so, and no other begins (`sessions`).
+/// such moment: `heals`. Over set-up and re-set-up, where both ends are Up, their sessions heal so, and no other begins (`sessions`); and
+/// whatever the ends are there, as long as none is Up and busy, each is at rest or not Up then (`each_session`).
 pub fn two_firings_heal()
     ensures at_once { BothFiringsHeal }
     ensures in_turn { TwoFiringsHeal }
     ensures whatever { EachRestsOrIsOut }
     ensures heals { Heals }
     ensures sessions { SessionsHeal }
+    ensures each_session { EachSessionRestsOrIsOut }
 {
     follows_the_window();
     sets_up_by_rows();
     notes_what_changes();
     comes_to_rest();
     asks_and_answers();
+    reads_what_is_spelled();
+}
+
+/// The same with one busy end: from a moment in which nothing is on the line, both ends are Up, with tries left where timer T1 runs, and not
+/// both are busy. Both fire, and all that is on the line comes, in any order of the two directions: everything sent has arrived, and both ends
+/// are at rest (`at_once`). There are such deliveries (`some`). Over set-up and re-set-up their sessions heal so (`sessions`).
+pub fn one_busy_heals()
+    ensures at_once { OneBusyHeals }
+    ensures some { SomeBusyHeal }
+    ensures sessions { SessionsHealBusy }
+{
+    follows_the_window();
+    sets_up_by_rows();
+    notes_what_changes();
+    comes_to_rest();
+    asks_and_answers();
+    tells_whether_busy();
     reads_what_is_spelled();
 }
 

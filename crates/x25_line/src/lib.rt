@@ -10,8 +10,8 @@ mod raw_frame;
 mod raw_world;
 
 pub use healing::{
-    deliveries_end, drains_end, healing_takes_firings, one_firing_heals, rest_shows,
-    two_firings_heal,
+    deliveries_end, drains_end, healing_takes_firings, one_busy_heals, one_firing_heals,
+    rest_shows, two_firings_heal,
 };
 pub use law::{
     each_event_hands_one, each_session_event_hands_one, links_keep_order, links_move,

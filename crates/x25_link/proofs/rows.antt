@@ -5,3 +5,4 @@ pub mod StationRows
 pub mod WindowRows
 pub mod RestRows
 pub mod AnswerRows
+pub mod BusyRows

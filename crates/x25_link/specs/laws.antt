@@ -3,4 +3,5 @@ pub mod WindowLaw
 pub mod RestLaw
 pub mod AnswerLaw
 pub mod NoteLaw
+pub mod BusyLaw
 pub mod LinkLaws

@@ -2,6 +2,7 @@ ghost use Rattle.x25_link.specs.code.Bounds.{FewWait, FewStand, WindowIsSmall, T
 ghost use Rattle.x25_link.specs.laws.NoteLaw.{TakeTells, TakeContinues, TakeHandsUp, TimerTells, TimerContinues, PutTells, ConnectTells, DisconnectTells, AbandonTells};
 ghost use Rattle.x25_link.specs.laws.RestLaw.{TakeSaysAll, PutSaysAll, TimerSaysAll, ConnectSaysAll, DisconnectSaysAll, AbandonSaysAll, NoTimerIsIdle, AllHeardIsRest, RestIsAllHeard};
 ghost use Rattle.x25_link.specs.laws.AnswerLaw.{TimerAsks, PollIsAnswered, FinalEndsRecovery, ReadyIsHeard, RejGoesBack, WantedIsTaken, OtherIsPassedOver, OutDeclines, DmLeavesUp};
+ghost use Rattle.x25_link.specs.laws.BusyLaw.{TakeSaysBusy, PutSaysBusy, TimerSaysBusy};
 ghost use Rattle.x25_link.specs.SetUp.{TakeWaits, TakeSetsUp, ConnectWaits, TimerWaits, DisconnectWaits};
 ghost use Rattle.x25_link.specs.laws.WindowLaw.{TakeFollows, PutFollows, TimerFollows, DisconnectFollows, AbandonFollows, TakeStaysOut, DisconnectStaysOut};
 
@@ -79,4 +80,13 @@ pub fn asks_and_answers()
     ensures other { OtherIsPassedOver }
     ensures out { OutDeclines }
     ensures dm { DmLeavesUp }
+{}
+
+/// What a station that is Up says of whether it is busy, at each step that leaves it Up. RNR was the last of the RRs and RNRs that it said
+/// exactly where it keeps so; an RR or REJ goes only where it isn't busy after the step; and no I frame goes where its peer is busy then.
+/// With `comes_to_rest`: where RNR was the last, the station is busy, so an RR goes in the step by which it no longer is.
+pub fn tells_whether_busy()
+    ensures take { TakeSaysBusy }
+    ensures put { PutSaysBusy }
+    ensures timer { TimerSaysBusy }
 {}

@@ -22,7 +22,7 @@ mod waiting_packets;
 pub use error::LinkError;
 pub use law::{
     asks_and_answers, comes_to_rest, follows_the_window, holds_few, notes_what_changes,
-    sets_up_by_rows,
+    sets_up_by_rows, tells_whether_busy,
 };
 pub use link::Link;
 pub use octets::LONGEST_PACKET;

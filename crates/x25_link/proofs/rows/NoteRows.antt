@@ -86,10 +86,10 @@ hands_from k s step h = record {
 
 -- ---- rows in which Up is left, or a link is set up
 
-noted_quiet : {A : Type 0} (reason : Reason) (up : Bool) → (let n : Notes = record { down = Some reason; up = up } in n) ≡ record { down = None; up = false } → A
+pub noted_quiet : {A : Type 0} (reason : Reason) (up : Bool) → (let n : Notes = record { down = Some reason; up = up } in n) ≡ record { down = None; up = false } → A
 noted_quiet reason up e = none_is_some reason (sym (ap (λ (n : Notes). n.down) e))
 
-up_quiet : {A : Type 0} (down : Option Reason) → (let n : Notes = record { down = down; up = true } in n) ≡ record { down = None; up = false } → A
+pub up_quiet : {A : Type 0} (down : Option Reason) → (let n : Notes = record { down = down; up = true } in n) ≡ record { down = None; up = false } → A
 up_quiet down e = true_false (ap (λ (n : Notes). n.up) e)
 
 leaves_tells : (s : LinkStation) (reason : Reason) (t : Side) → Tells s (leaves reason t)

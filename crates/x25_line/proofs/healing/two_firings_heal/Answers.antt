@@ -2,6 +2,7 @@ use Rattle.x25_line.proofs.HealingSteps.{HealingLaws}
 use Rattle.x25_line.proofs.HealingBoth.{two_firings_heal, both_firings_heal}
 use Rattle.x25_line.proofs.HealingEnds.{each_rests_or_is_out, heals}
 use Rattle.x25_line.proofs.HealingStands.{sessions_heal}
+use Rattle.x25_line.proofs.HealingSessionEnds.{each_session_rests_or_is_out}
 use Rattle.x25_line.proofs.healing.two_firings_heal.Goals as goal
 
 pub returns : goal.returns
@@ -25,4 +26,4 @@ returns c =
       rest = record { take = rest.take; put = rest.put; timer = rest.timer; connect = rest.connect; disconnect = rest.disconnect; abandon = rest.abandon; no_timer = rest.no_timer; all_heard = rest.all_heard; only_then = rest.only_then };
       answers = record { timer = answer.timer; poll = answer.poll; recovery = answer.recovery; ready = answer.ready; rej = answer.rej; wanted = answer.wanted; other = answer.other; out = answer.out; dm = answer.dm };
     } in
-    record { at_once = both_firings_heal reads laws; in_turn = two_firings_heal reads laws; whatever = each_rests_or_is_out reads laws; heals = heals reads laws; sessions = sessions_heal reads laws }
+    record { at_once = both_firings_heal reads laws; in_turn = two_firings_heal reads laws; whatever = each_rests_or_is_out reads laws; heals = heals reads laws; sessions = sessions_heal reads laws; each_session = each_session_rests_or_is_out reads laws }

@@ -1,0 +1,214 @@
+-- The frames on a line where one of the two ends is busy: RNR may stand among them, and what is heard last tells whether the end is busy.
+use Rattle.std.proofs.Common.{◌≡◌, ℕ, ◌+◌, ◌%◌, ◌≤◌, List, [], ◌∷◌, ◌++◌, Bool, true, false, refl, sym, ◌∙◌, subst, arith}
+use Rattle.std.specs.Prelude.{◌&&◌}
+use Rattle.std.proofs.lemmas.Bool.{and_left}
+use Rattle.x25_frame.specs.PlainFrame.{PlainFrame, info, rr, rnr, rej, sabm, disc, ua, dm, frmr}
+use Rattle.x25_link.specs.LinkStation.{LinkStation, is_busy}
+use Rattle.x25_link.specs.laws.AnswerLaw.{says, AreNext}
+use Rattle.x25_link.specs.laws.BusyLaw.{said_last, says_free, NoInfo, Says}
+use Rattle.x25_line.proofs.StationSteps.{not_both}
+use Rattle.x25_line.proofs.HealingLines.{LastTells, next_ahead, ahead_low}
+
+-- ---- frames to the other end: the I frames that are awaited, one after another, and nothing that asks
+
+abbrev pub Onward : ℕ → List PlainFrame → ℕ → Type 0
+Onward n [] m = n ≡ m
+Onward n (info ns nr p x ∷ fs) m = (ns ≡ n % 8) × (p ≡ false) × Onward (n + 1) fs m
+Onward n (rr command nr pf ∷ fs) m = ((command && pf) ≡ false) × Onward n fs m
+Onward n (rnr command nr pf ∷ fs) m = ((command && pf) ≡ false) × Onward n fs m
+Onward n (rej command nr pf ∷ fs) m = (pf ≡ false) × Onward n fs m
+Onward n (f ∷ fs) m = ⊥
+
+pub onward_low : (n : ℕ) (fs : List PlainFrame) (m : ℕ) → Onward n fs m → n ≤ m
+onward_low n [] m h = omega (arith, h)
+onward_low n (info ns nr p x ∷ fs) m h = omega (arith, onward_low (n + 1) fs m h.2)
+onward_low n (rr command nr pf ∷ fs) m h = onward_low n fs m h.1
+onward_low n (rnr command nr pf ∷ fs) m h = onward_low n fs m h.1
+onward_low n (rej command nr pf ∷ fs) m h = onward_low n fs m h.1
+onward_low n (sabm p ∷ fs) m h = absurd h
+onward_low n (disc p ∷ fs) m h = absurd h
+onward_low n (ua p ∷ fs) m h = absurd h
+onward_low n (dm p ∷ fs) m h = absurd h
+onward_low n (frmr p why ∷ fs) m h = absurd h
+
+pub onward_more : (n m k : ℕ) (fs es : List PlainFrame) → Onward n fs m → Onward m es k → Onward n (fs ++ es) k
+onward_more n m k [] es h g = subst (λ (z : ℕ). Onward z es k) (sym h) g
+onward_more n m k (info ns nr p x ∷ fs) es h g = (h.0, h.1, onward_more (n + 1) m k fs es h.2 g)
+onward_more n m k (rr command nr pf ∷ fs) es h g = (h.0, onward_more n m k fs es h.1 g)
+onward_more n m k (rnr command nr pf ∷ fs) es h g = (h.0, onward_more n m k fs es h.1 g)
+onward_more n m k (rej command nr pf ∷ fs) es h g = (h.0, onward_more n m k fs es h.1 g)
+onward_more n m k (sabm p ∷ fs) es h g = absurd h
+onward_more n m k (disc p ∷ fs) es h g = absurd h
+onward_more n m k (ua p ∷ fs) es h g = absurd h
+onward_more n m k (dm p ∷ fs) es h g = absurd h
+onward_more n m k (frmr p why ∷ fs) es h g = absurd h
+
+-- what the sending rule sends is of this kind
+pub next_onward : (r n : ℕ) (fs : List PlainFrame) (m : ℕ) → AreNext r n fs m → Onward n fs m
+next_onward r n [] m h = h
+next_onward r n (info ns nr p x ∷ fs) m h = (h.0, h.2, next_onward r (n + 1) fs m h.3)
+next_onward r n (rr command nr pf ∷ fs) m h = (and_left command pf h.0, next_onward r n fs m h.3)
+next_onward r n (rnr command nr pf ∷ fs) m h = absurd h
+next_onward r n (rej command nr pf ∷ fs) m h = absurd h
+next_onward r n (sabm p ∷ fs) m h = absurd h
+next_onward r n (disc p ∷ fs) m h = absurd h
+next_onward r n (ua p ∷ fs) m h = absurd h
+next_onward r n (dm p ∷ fs) m h = absurd h
+next_onward r n (frmr p why ∷ fs) m h = absurd h
+
+-- ---- the same without I frames, as in recovery, or while the peer is busy
+
+abbrev pub Gentle : List PlainFrame → Type 0
+Gentle [] = Unit {0}
+Gentle (rr command nr pf ∷ fs) = ((command && pf) ≡ false) × Gentle fs
+Gentle (rnr command nr pf ∷ fs) = ((command && pf) ≡ false) × Gentle fs
+Gentle (rej command nr pf ∷ fs) = (pf ≡ false) × Gentle fs
+Gentle (f ∷ fs) = ⊥
+
+pub gentle_onward : (n : ℕ) (fs : List PlainFrame) → Gentle fs → Onward n fs n
+gentle_onward n [] h = refl
+gentle_onward n (rr command nr pf ∷ fs) h = (h.0, gentle_onward n fs h.1)
+gentle_onward n (rnr command nr pf ∷ fs) h = (h.0, gentle_onward n fs h.1)
+gentle_onward n (rej command nr pf ∷ fs) h = (h.0, gentle_onward n fs h.1)
+gentle_onward n (info ns nr p x ∷ fs) h = absurd h
+gentle_onward n (sabm p ∷ fs) h = absurd h
+gentle_onward n (disc p ∷ fs) h = absurd h
+gentle_onward n (ua p ∷ fs) h = absurd h
+gentle_onward n (dm p ∷ fs) h = absurd h
+gentle_onward n (frmr p why ∷ fs) h = absurd h
+
+pub gentle_more : (fs es : List PlainFrame) → Gentle fs → Gentle es → Gentle (fs ++ es)
+gentle_more [] es h g = g
+gentle_more (rr command nr pf ∷ fs) es h g = (h.0, gentle_more fs es h.1 g)
+gentle_more (rnr command nr pf ∷ fs) es h g = (h.0, gentle_more fs es h.1 g)
+gentle_more (rej command nr pf ∷ fs) es h g = (h.0, gentle_more fs es h.1 g)
+gentle_more (info ns nr p x ∷ fs) es h g = absurd h
+gentle_more (sabm p ∷ fs) es h g = absurd h
+gentle_more (disc p ∷ fs) es h g = absurd h
+gentle_more (ua p ∷ fs) es h g = absurd h
+gentle_more (dm p ∷ fs) es h g = absurd h
+gentle_more (frmr p why ∷ fs) es h g = absurd h
+
+-- where V(S) stays, no I frame went
+pub held_gentle : (r n : ℕ) (fs : List PlainFrame) (m : ℕ) → AreNext r n fs m → m ≤ n → Gentle fs
+held_gentle r n [] m h le = tt
+held_gentle r n (rr command nr pf ∷ fs) m h le = (and_left command pf h.0, held_gentle r n fs m h.3 le)
+held_gentle r n (info ns nr p x ∷ fs) m h le = absurd (omega (arith, le, ahead_low (n + 1) fs m (next_ahead r (n + 1) fs m h.3)))
+held_gentle r n (rej command nr pf ∷ fs) m h le = absurd h
+held_gentle r n (rnr command nr pf ∷ fs) m h le = absurd h
+held_gentle r n (sabm p ∷ fs) m h le = absurd h
+held_gentle r n (disc p ∷ fs) m h le = absurd h
+held_gentle r n (ua p ∷ fs) m h le = absurd h
+held_gentle r n (dm p ∷ fs) m h le = absurd h
+held_gentle r n (frmr p why ∷ fs) m h le = absurd h
+
+-- where no I frame went, V(S) stays
+pub silent_stays : (r n : ℕ) (fs : List PlainFrame) (m : ℕ) → AreNext r n fs m → NoInfo fs → m ≡ n
+silent_stays r n [] m h none = sym h
+silent_stays r n (rr command nr pf ∷ fs) m h none = silent_stays r n fs m h.3 none
+silent_stays r n (info ns nr p x ∷ fs) m h none = absurd none
+silent_stays r n (rej command nr pf ∷ fs) m h none = absurd h
+silent_stays r n (rnr command nr pf ∷ fs) m h none = absurd h
+silent_stays r n (sabm p ∷ fs) m h none = absurd h
+silent_stays r n (disc p ∷ fs) m h none = absurd h
+silent_stays r n (ua p ∷ fs) m h none = absurd h
+silent_stays r n (dm p ∷ fs) m h none = absurd h
+silent_stays r n (frmr p why ∷ fs) m h none = absurd h
+
+pub none_behind : (fs es : List PlainFrame) → NoInfo (fs ++ es) → NoInfo es
+none_behind [] es h = h
+none_behind (info ns nr p x ∷ fs) es h = absurd h
+none_behind (rr command nr pf ∷ fs) es h = none_behind fs es h
+none_behind (rnr command nr pf ∷ fs) es h = none_behind fs es h
+none_behind (rej command nr pf ∷ fs) es h = none_behind fs es h
+none_behind (sabm p ∷ fs) es h = none_behind fs es h
+none_behind (disc p ∷ fs) es h = none_behind fs es h
+none_behind (ua p ∷ fs) es h = none_behind fs es h
+none_behind (dm p ∷ fs) es h = none_behind fs es h
+none_behind (frmr p why ∷ fs) es h = none_behind fs es h
+
+-- nothing, or one poll
+abbrev pub AtMostAsks : List PlainFrame → Type 0
+AtMostAsks [] = Unit {0}
+AtMostAsks (rr true nr true ∷ []) = Unit {0}
+AtMostAsks (rnr true nr true ∷ []) = Unit {0}
+AtMostAsks fs = ⊥
+
+-- ---- what an end will hear of whether the other is busy
+
+abbrev pub hears_busy : Bool → List PlainFrame → Bool
+hears_busy b [] = b
+hears_busy b (rr command nr pf ∷ fs) = hears_busy false fs
+hears_busy b (rnr command nr pf ∷ fs) = hears_busy true fs
+hears_busy b (rej command nr pf ∷ fs) = hears_busy false fs
+hears_busy b (f ∷ fs) = hears_busy b fs
+
+pub hears_more : (b : Bool) (fs es : List PlainFrame) → hears_busy b (fs ++ es) ≡ hears_busy (hears_busy b fs) es
+hears_more b [] es = refl
+hears_more b (info ns nr p x ∷ fs) es = hears_more b fs es
+hears_more b (rr command nr pf ∷ fs) es = hears_more false fs es
+hears_more b (rnr command nr pf ∷ fs) es = hears_more true fs es
+hears_more b (rej command nr pf ∷ fs) es = hears_more false fs es
+hears_more b (sabm p ∷ fs) es = hears_more b fs es
+hears_more b (disc p ∷ fs) es = hears_more b fs es
+hears_more b (ua p ∷ fs) es = hears_more b fs es
+hears_more b (dm p ∷ fs) es = hears_more b fs es
+hears_more b (frmr p why ∷ fs) es = hears_more b fs es
+
+-- what is heard as busy was said so last
+busy_said : (b x : Bool) (fs : List PlainFrame) → (b ≡ true → x ≡ true) → hears_busy b fs ≡ true → said_last x fs ≡ true
+busy_said b x [] h e = h e
+busy_said b x (info ns nr p y ∷ fs) h e = busy_said b x fs h e
+busy_said b x (rr command nr pf ∷ fs) h e = busy_said false false fs (λ g. g) e
+busy_said b x (rnr command nr pf ∷ fs) h e = busy_said true true fs (λ g. g) e
+busy_said b x (rej command nr pf ∷ fs) h e = busy_said false x fs (λ g. not_both true refl (sym g)) e
+busy_said b x (sabm p ∷ fs) h e = busy_said b x fs h e
+busy_said b x (disc p ∷ fs) h e = busy_said b x fs h e
+busy_said b x (ua p ∷ fs) h e = busy_said b x fs h e
+busy_said b x (dm p ∷ fs) h e = busy_said b x fs h e
+busy_said b x (frmr p why ∷ fs) h e = busy_said b x fs h e
+
+-- it is heard to be free again by an RR or REJ alone
+free_said : (fs : List PlainFrame) → hears_busy true fs ≡ false → says_free fs ≡ true
+free_said [] e = not_both true refl e
+free_said (info ns nr p y ∷ fs) e = free_said fs e
+free_said (rr command nr pf ∷ fs) e = refl
+free_said (rnr command nr pf ∷ fs) e = free_said fs e
+free_said (rej command nr pf ∷ fs) e = refl
+free_said (sabm p ∷ fs) e = free_said fs e
+free_said (disc p ∷ fs) e = free_said fs e
+free_said (ua p ∷ fs) e = free_said fs e
+free_said (dm p ∷ fs) e = free_said fs e
+free_said (frmr p why ∷ fs) e = free_said fs e
+
+-- no RNR is among frames of this kind
+pub tells_free : (r nr : ℕ) (gs : List PlainFrame) → LastTells r nr gs → hears_busy false gs ≡ false
+tells_free r nr [] h = refl
+tells_free r nr (info ns k p x ∷ gs) h = tells_free r k gs h.1
+tells_free r nr (rr command k pf ∷ gs) h = tells_free r k gs h.1
+tells_free r nr (rej command k pf ∷ gs) h = absurd h
+tells_free r nr (rnr command k pf ∷ gs) h = absurd h
+tells_free r nr (sabm p ∷ gs) h = absurd h
+tells_free r nr (disc p ∷ gs) h = absurd h
+tells_free r nr (ua p ∷ gs) h = absurd h
+tells_free r nr (dm p ∷ gs) h = absurd h
+tells_free r nr (frmr p why ∷ gs) h = absurd h
+
+-- who is heard to be busy in the end said so last, and who is heard to be free is
+abbrev pub Told : Bool → LinkStation → Type 0
+Told true s = s.said_busy ≡ true
+Told false s = is_busy s ≡ false
+
+by_told : (b : Bool) (t : LinkStation) → (b ≡ true → t.said_busy ≡ true) → (b ≡ false → is_busy t ≡ false) → Told b t
+by_told true t f g = f refl
+by_told false t f g = g refl
+
+-- more goes behind
+pub told_on : (b : Bool) (s t : LinkStation) (out : List PlainFrame) → Told b s → Says s.said_busy t.said_busy (is_busy t) t.peer_busy out → (is_busy s ≡ false → is_busy t ≡ false) → Told (hears_busy b out) t
+told_on true s t out told h stays = by_told (hears_busy true out) t (λ e. h.said ∙ busy_said true s.said_busy out (λ _. told) e) (λ e. h.free (free_said out e))
+told_on false s t out told h stays = by_told (hears_busy false out) t (λ e. h.said ∙ busy_said false s.said_busy out (λ g. not_both true refl (sym g)) e) (λ _. stays told)
+
+-- RR or RNR goes first
+pub told_first : (b before : Bool) (t : LinkStation) (n : ℕ) (next : List PlainFrame) → Says before t.said_busy (is_busy t) t.peer_busy (says b false n true ∷ next) → Told (hears_busy b next) t
+told_first true before t n next h = by_told (hears_busy true next) t (λ e. h.said ∙ busy_said true true next (λ g. g) e) (λ e. h.free (free_said next e))
+told_first false before t n next h = by_told (hears_busy false next) t (λ e. h.said ∙ busy_said false false next (λ g. g) e) (λ _. h.free refl)

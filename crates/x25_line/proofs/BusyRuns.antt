@@ -1,0 +1,314 @@
+-- Both ends fire, one of which may be busy, and everything arrives.
+use Rattle.std.proofs.Common.{◌≡◌, ℕ, ◌%◌, ◌<◌, List, [], ◌∷◌, ◌++◌, ◌⊎◌, inl, inr, length, Bool, true, false, refl, sym, ap, ◌∙◌, subst, arith}
+use Rattle.std.specs.Prelude.{◌&&◌, ◌==◌}
+use Rattle.std.proofs.lemmas.Bool.{le-ltb, eqb-true, and_parts}
+use Rattle.x25_frame.specs.PlainFrame.{PlainFrame, rr, rnr}
+use Rattle.x25_frame.specs.laws.ReadingLaw.{ReadsSpelled}
+use Rattle.x25_link.specs.Outgoing.{waits}
+use Rattle.x25_link.specs.LinkStation.{Settings, LinkStation, is_up, is_busy}
+use Rattle.x25_link.specs.MustSend.{other}
+use Rattle.x25_link.specs.Steps.{timer_runs}
+use Rattle.x25_link.specs.laws.RestLaw.{IsAtRest}
+use Rattle.x25_link.specs.laws.AnswerLaw.{says}
+use Rattle.x25_link.specs.laws.BusyLaw.{BusyLaws}
+use Rattle.x25_link.proofs.EndLemmas.{busy_is}
+use Rattle.x25_line.specs.Stations.{StationEnd, Stations, Act, Put, Deliver, T1, Connect, Disconnect, Abandon, Lose, Damage, Event, Near, Far, acts, swapped, happens, run, start}
+use Rattle.x25_line.specs.laws.StationClaims.{AreJoined, IsSetUpOnce}
+use Rattle.x25_line.specs.Healing.{IsDrained, IsDeliver, AreDeliveries, IsHealed, HasTries, OneIsFree, OneBusyHeals, SomeBusyHeal}
+use Rattle.x25_line.proofs.StationSteps.{not_both}
+use Rattle.x25_line.proofs.StationRuns.{joined_swapped}
+use Rattle.x25_line.proofs.HealingLines.{Reads, reads_none, Reports}
+use Rattle.x25_line.proofs.HealingSteps.{HealingLaws, Sound, sound_swapped, near_up, counted}
+use Rattle.x25_line.proofs.HealingRuns.{reached_sound, arrives, shows_at_rest, refused, SentPoll, sends_poll}
+use Rattle.x25_line.proofs.HealingEnds.{after_firings}
+use Rattle.x25_line.proofs.DrainRuns.{some_drain}
+use Rattle.x25_line.proofs.BusyLines.{Onward, AtMostAsks, hears_busy, Told}
+use Rattle.x25_line.proofs.BusyPhases.{Pair, pair_swapped, Heals, near_heals, far_heals}
+
+-- nothing waits at an end at rest, so it isn't busy
+rest_free : (s : LinkStation) → IsAtRest s → is_busy s ≡ false
+rest_free s rest =
+    let outer = and_parts (is_up s.phase) (waits s.outgoing == 0 && s.outgoing.acked == s.outgoing.sent) rest.idle in
+    let inner = and_parts (waits s.outgoing == 0) (s.outgoing.acked == s.outgoing.sent) outer.1 in
+    let none : waits s.outgoing ≡ 0 = eqb-true (waits s.outgoing) 0 inner.0 in
+    le-ltb 254 (waits s.outgoing) (omega (arith, none))
+
+asks_at : (busy : Bool) (n : ℕ) → AtMostAsks (says busy true n true ∷ [])
+asks_at true n = tt
+asks_at false n = tt
+
+one_frame : (f : PlainFrame) (fs : List PlainFrame) {A : Type 0} → f ∷ fs ≡ [] → A
+one_frame f fs e = absurd (omega (arith, ap length e))
+
+not_behind : (before : List PlainFrame) (f : PlainFrame) (fs : List PlainFrame) {A : Type 0} → before ++ f ∷ fs ≡ [] → A
+not_behind [] f fs e = one_frame f fs e
+not_behind (g ∷ gs) f fs e = one_frame g (gs ++ f ∷ fs) e
+
+free_turned : (s t : LinkStation) → OneIsFree s t → OneIsFree t s
+free_turned s t h = elim h [ inl near ↦ inr near | inr far ↦ inl far ]
+
+-- an end is at rest, or the other is busy
+abbrev RestsUnlessBusy : Stations → Type 0
+RestsUnlessBusy v = IsAtRest v.near.station ⊎ (is_busy v.far.station ≡ true)
+
+both_rest : (v : Stations) → OneIsFree v.near.station v.far.station → RestsUnlessBusy v → RestsUnlessBusy (swapped v) → IsAtRest v.near.station × IsAtRest v.far.station
+both_rest v free (inl near) (inl far) = (near, far)
+both_rest v free (inl near) (inr busy) = not_both (is_busy v.near.station) busy (rest_free v.near.station near)
+both_rest v free (inr busy) (inl far) = not_both (is_busy v.far.station) busy (rest_free v.far.station far)
+both_rest v (inl free) (inr busy) (inr near_busy) = not_both (is_busy v.near.station) near_busy free
+both_rest v (inr free) (inr busy) (inr near_busy) = not_both (is_busy v.far.station) busy free
+
+module _ (c d : Settings) (joined : AreJoined c d) (reads : ReadsSpelled) (laws : HealingLaws) (busy_laws : BusyLaws) where
+  -- ---- deliveries
+
+  near_event : (a : Act) (w : Stations) → IsDeliver a → Heals c d w → Heals c d (acts c a w)
+  near_event (Put packet) w is h = absurd is
+  near_event Deliver w is h = near_heals c d joined reads laws busy_laws w h
+  near_event T1 w is h = absurd is
+  near_event Connect w is h = absurd is
+  near_event Disconnect w is h = absurd is
+  near_event Abandon w is h = absurd is
+  near_event (Lose i) w is h = absurd is
+  near_event (Damage i octets) w is h = absurd is
+
+  far_event : (a : Act) (w : Stations) → IsDeliver a → Heals c d w → Heals c d (swapped (acts d a (swapped w)))
+  far_event (Put packet) w is h = absurd is
+  far_event Deliver w is h = far_heals c d joined reads laws busy_laws w h
+  far_event T1 w is h = absurd is
+  far_event Connect w is h = absurd is
+  far_event Disconnect w is h = absurd is
+  far_event Abandon w is h = absurd is
+  far_event (Lose i) w is h = absurd is
+  far_event (Damage i octets) w is h = absurd is
+
+  -- once nothing is on the line any more
+  settles : (v : Stations) → Heals c d v → IsDrained v → RestsUnlessBusy v
+  settles v (b, inl h) drained = one_frame _ _ (reads_none (other d.role) d.longest v.out (says h.busy true h.number true ∷ h.rest) h.out drained.out)
+  settles v (b, inr (inl h)) drained =
+      not_behind h.before (says h.busy false h.number true) h.behind (reads_none (other c.role) c.longest v.back (h.before ++ says h.busy false h.number true ∷ h.behind) h.back drained.back)
+  settles v (b, inr (inr (inl h))) drained =
+      let r = length v.far.station.taken in
+      let o = v.near.station.outgoing in
+      let none = reads_none (other d.role) d.longest v.out h.there h.out drained.out in
+      let nothing_back = reads_none (other c.role) c.longest v.back h.behind h.back drained.back in
+      let onward : r ≡ o.place = subst (λ (fs : List PlainFrame). Onward r fs o.place) none h.onward in
+      let reports : o.acked ≡ r = subst (λ (gs : List PlainFrame). Reports r o.acked gs) nothing_back h.reports in
+      inl (laws.rest.all_heard c.window v.near.station joined.near_low (near_up c d v b.sound b.near_on).sound b.sound.near_said b.near_on h.recovery h.peer_busy (omega (arith, onward, reports)))
+  settles v (b, inr (inr (inr (inl h)))) drained =
+      let nothing_back = reads_none (other c.role) c.longest v.back h.behind h.back drained.back in
+      let said : v.far.station.said_busy ≡ true = subst (λ (gs : List PlainFrame). Told (hears_busy true gs) v.far.station) nothing_back h.told in
+      inr (busy_is v.far.station b.sound.far_said.calm b.far_on said)
+  settles v (b, inr (inr (inr (inr h)))) drained = one_frame _ _ (reads_none (other c.role) c.longest v.back (rnr true h.number true ∷ []) h.back drained.back)
+
+  -- ---- the world once both have fired, or were refused
+
+  asked_at : (v : Stations) → Pair c d v → v.near.station.recovery ≡ true → (busy : Bool) (n : ℕ) (before : List PlainFrame) → Reads (other d.role) d.longest v.out (says busy true n true ∷ [])
+      → Reads (other c.role) c.longest v.back before → AtMostAsks before → Heals c d v
+  asked_at v b recovery busy n before out back asks = (b, inl (record { busy = busy; number = n; rest = []; before = before; recovery = recovery; out = out; gentle = tt; back = back; asks = asks }))
+
+  -- an end at rest has nothing to send
+  record HasAll (v : Stations) : Type 0 where
+    pub recovery : v.near.station.recovery ≡ false
+    pub peer_busy : v.near.station.peer_busy ≡ false
+    pub place : length v.far.station.taken ≡ v.near.station.outgoing.place
+    pub acked : v.near.station.outgoing.acked ≡ length v.far.station.taken
+
+  has_all : (v : Stations) → Pair c d v → IsAtRest v.near.station → HasAll v
+  has_all v b rest =
+      let t = laws.rest.only_then v.near.station rest in
+      let n = counted c d v b.sound b.near_on b.far_on in
+      let u = near_up c d v b.sound b.near_on in
+      record {
+        recovery = t.1;
+        peer_busy = t.2;
+        place = omega (arith, t.3, n.acked, n.taken, u.sound.place_low, u.sound.place_high);
+        acked = omega (arith, t.3, n.acked, n.taken);
+      }
+
+  rests_alone : (v : Stations) → Pair c d v → IsAtRest v.near.station → is_busy v.far.station ≡ false → v.out ≡ [] → (behind : List PlainFrame) → Reads (other c.role) c.longest v.back behind
+      → Reports (length v.far.station.taken) v.near.station.outgoing.acked behind → Heals c d v
+  rests_alone v b rest free empty behind back reports =
+      let a = has_all v b rest in (
+        b,
+        inr (inr (inl (record {
+          there = [];
+          behind = behind;
+          out = subst (λ (os : List (List ℕ)). Reads (other d.role) d.longest os []) (sym empty) tt;
+          back = back;
+          recovery = a.recovery;
+          peer_busy = a.peer_busy;
+          onward = a.place;
+          reports = reports;
+          free = free;
+        }))),
+      )
+
+  rests_polled : (v : Stations) → Pair c d v → IsAtRest v.near.station → v.out ≡ [] → (busy : Bool) → is_busy v.far.station ≡ busy → v.far.station.said_busy ≡ busy → (n : ℕ) → n ≡ length v.far.station.taken % 8
+      → Reads (other c.role) c.longest v.back (says busy true n true ∷ []) → Heals c d v
+  rests_polled v b rest empty false free said n is back = rests_alone v b rest free empty (rr true n true ∷ []) back (refl, is)
+  rests_polled v b rest empty true busy said n is back =
+      let a = has_all v b rest in
+      (b, inr (inr (inr (inr (record { number = n; out = empty; back = back; is = is; recovery = a.recovery; place = sym a.place; acked = a.acked; told = said })))))
+
+module _ (reads : ReadsSpelled) (laws : HealingLaws) (busy_laws : BusyLaws) where
+  abbrev pub HealsBoth : Settings → Settings → Stations → Type 0
+  HealsBoth c d w = Heals c d w × Heals d c (swapped w)
+
+  both_run : (c d : Settings) → AreJoined c d → (es : List Event) (w : Stations) → AreDeliveries es → HealsBoth c d w → HealsBoth c d (run c d es w)
+  both_run c d joined [] w are h = h
+  both_run c d joined (Near a ∷ es) w are h =
+      both_run c d joined es (acts c a w) are.1 (near_event c d joined reads laws busy_laws a w are.0 h.0, far_event d c (joined_swapped c d joined) reads laws busy_laws a (swapped w) are.0 h.1)
+  both_run c d joined (Far a ∷ es) w are h =
+      both_run c d joined es (swapped (acts d a (swapped w))) are.1
+      (far_event c d joined reads laws busy_laws a w are.0 h.0, near_event d c (joined_swapped c d joined) reads laws busy_laws a (swapped w) are.0 h.1)
+
+  -- both fire
+  both_ask : (c d : Settings) → AreJoined c d → (w : Stations) → Sound c d w → IsDrained w → HasTries c w.near → HasTries d w.far → OneIsFree w.near.station w.far.station
+      → timer_runs w.near.station.phase w.near.station ≡ true → timer_runs w.far.station.phase w.far.station ≡ true → HealsBoth c d (after_firings c d w)
+  both_ask c d joined w h drained near_may far_may free near_runs far_runs = (
+    asked_at c d joined reads laws busy_laws (swapped u) (pair_swapped d c twisted u pair) (ap (λ (e : StationEnd). e.station.recovery) g.far ∙ f.recovery) (is_busy w.near.station) f.number
+        (says (is_busy v.far.station) true g.number true ∷ []) out g.out (asks_at (is_busy v.far.station) g.number),
+    asked_at d c twisted reads laws busy_laws u pair g.recovery (is_busy v.far.station) g.number (says (is_busy w.near.station) true f.number true ∷ []) g.out out (asks_at (is_busy w.near.station) f.number),
+  )
+    where
+      twisted : AreJoined d c
+      twisted = joined_swapped c d joined
+
+      v : Stations
+      v = acts c T1 w
+
+      u : Stations
+      u = acts d T1 (swapped v)
+
+      f : SentPoll c d joined reads laws w v
+      f = sends_poll c d joined reads laws w h drained.out near_may.up near_runs (near_may.tries near_runs)
+
+      g : SentPoll d c twisted reads laws (swapped v) u
+      g = sends_poll d c twisted reads laws (swapped v) (sound_swapped c d joined v f.sound) (f.back ∙ drained.back) (ap (λ (e : StationEnd). is_up e.station.phase) f.far ∙ far_may.up)
+          (ap (λ (e : StationEnd). timer_runs e.station.phase e.station) f.far ∙ far_runs) (subst (λ (e : StationEnd). e.station.tries < d.retries) (sym f.far) (far_may.tries far_runs))
+
+      near_busy : is_busy u.far.station ≡ is_busy w.near.station
+      near_busy = ap (λ (e : StationEnd). is_busy e.station) g.far ∙ f.busy
+
+      far_busy : is_busy u.near.station ≡ is_busy w.far.station
+      far_busy = g.busy ∙ ap (λ (e : StationEnd). is_busy e.station) f.far
+
+      pair : Pair d c u
+      pair = record {
+        sound = g.sound;
+        near_on = g.up;
+        far_on = ap (λ (e : StationEnd). is_up e.station.phase) g.far ∙ f.up;
+        one_free = elim free [ inl near ↦ inr (near_busy ∙ near) | inr far ↦ inl (far_busy ∙ far) ];
+      }
+
+      out : Reads (other d.role) d.longest u.back (says (is_busy w.near.station) true f.number true ∷ [])
+      out = subst (λ (os : List (List ℕ)). Reads (other d.role) d.longest os (says (is_busy w.near.station) true f.number true ∷ [])) (sym g.back) f.out
+
+  -- the near end fires, and the other is at rest
+  one_asks : (c d : Settings) → AreJoined c d → (w : Stations) → Sound c d w → IsDrained w → HasTries c w.near → HasTries d w.far → OneIsFree w.near.station w.far.station
+      → timer_runs w.near.station.phase w.near.station ≡ true → timer_runs w.far.station.phase w.far.station ≡ false → HealsBoth c d (acts c T1 w)
+  one_asks c d joined w h drained near_may far_may free near_runs far_stops = (
+    asked_at c d joined reads laws busy_laws x pair f.recovery (is_busy w.near.station) f.number [] f.out (subst (λ (os : List (List ℕ)). Reads (other c.role) c.longest os []) (sym none) tt) tt,
+    rests_polled d c twisted reads laws busy_laws (swapped x) (pair_swapped c d joined x pair) rest none (is_busy w.near.station) f.busy f.said f.number f.is f.out,
+  )
+    where
+      twisted : AreJoined d c
+      twisted = joined_swapped c d joined
+
+      x : Stations
+      x = acts c T1 w
+
+      f : SentPoll c d joined reads laws w x
+      f = sends_poll c d joined reads laws w h drained.out near_may.up near_runs (near_may.tries near_runs)
+
+      none : x.back ≡ []
+      none = f.back ∙ drained.back
+
+      far_on : is_up x.far.station.phase ≡ true
+      far_on = ap (λ (e : StationEnd). is_up e.station.phase) f.far ∙ far_may.up
+
+      rest : IsAtRest x.far.station
+      rest = (shows_at_rest d c twisted reads laws (swapped x) (sound_swapped c d joined x f.sound) far_on (ap (λ (e : StationEnd). timer_runs e.station.phase e.station) f.far ∙ far_stops)).0
+
+      pair : Pair c d x
+      pair = record { sound = f.sound; near_on = f.up; far_on = far_on; one_free = inr (rest_free x.far.station rest) }
+
+  pub begins : (c d : Settings) → AreJoined c d → (w : Stations) → Sound c d w → IsDrained w → HasTries c w.near → HasTries d w.far → OneIsFree w.near.station w.far.station → HealsBoth c d (after_firings c d w)
+  begins c d joined w sound drained near_may far_may free = by (timer_runs w.near.station.phase w.near.station) (timer_runs w.far.station.phase w.far.station) refl refl
+    where
+      twisted : AreJoined d c
+      twisted = joined_swapped c d joined
+
+      v : Stations
+      v = after_firings c d w
+
+      turned : Sound d c (swapped w)
+      turned = sound_swapped c d joined w sound
+
+      by : (near far : Bool) → timer_runs w.near.station.phase w.near.station ≡ near → timer_runs w.far.station.phase w.far.station ≡ far → HealsBoth c d v
+      by true true near_runs far_runs = both_ask c d joined w sound drained near_may far_may free near_runs far_runs
+      by true false near_runs far_stops =
+          let x : Stations = acts c T1 w in
+          let f = sends_poll c d joined reads laws w sound drained.out near_may.up near_runs (near_may.tries near_runs) in
+          let stops : timer_runs x.far.station.phase x.far.station ≡ false = ap (λ (e : StationEnd). timer_runs e.station.phase e.station) f.far ∙ far_stops in
+          let same : v ≡ x = ap swapped (refused d c twisted reads laws (swapped x) stops) in
+          subst (HealsBoth c d) (sym same) (one_asks c d joined w sound drained near_may far_may free near_runs far_stops)
+      by false true near_stops far_runs =
+          let y : Stations = acts d T1 (swapped w) in
+          let same : v ≡ swapped y = ap (λ (z : Stations). swapped (acts d T1 (swapped z))) (refused c d joined reads laws w near_stops) in
+          let both = one_asks d c twisted (swapped w) turned (record { out = drained.back; back = drained.out }) far_may near_may (free_turned w.near.station w.far.station free) far_runs near_stops in
+          subst (HealsBoth c d) (sym same) (both.1, both.0)
+      by false false near_stops far_stops =
+          let one : acts c T1 w ≡ w = refused c d joined reads laws w near_stops in
+          let same : v ≡ w = ap (λ (z : Stations). swapped (acts d T1 (swapped z))) one ∙ ap swapped (refused d c twisted reads laws (swapped w) far_stops) in
+          let near = (shows_at_rest c d joined reads laws w sound near_may.up near_stops).0 in
+          let far = (shows_at_rest d c twisted reads laws (swapped w) turned far_may.up far_stops).0 in
+          let pair : Pair c d w = record { sound = sound; near_on = near_may.up; far_on = far_may.up; one_free = free } in
+          let other_pair = pair_swapped c d joined w pair in
+          let there = rests_alone c d joined reads laws busy_laws w pair near (rest_free w.far.station far) drained.out [] (subst (λ (os : List (List ℕ)). Reads (other c.role) c.longest os []) (sym drained.back) tt)
+          (has_all c d joined reads laws busy_laws w pair near).acked in
+          let back = rests_alone d c twisted reads laws busy_laws (swapped w) other_pair far (rest_free w.near.station near) drained.back [] (subst (λ (os : List (List ℕ)). Reads (other d.role) d.longest os []) (sym drained.out) tt)
+          (has_all d c twisted reads laws busy_laws (swapped w) other_pair far).acked in
+          subst (HealsBoth c d) (sym same) (there, back)
+
+  -- both are at rest, and LinkUp wasn't noted
+  pub record Settled (v : Stations) : Type 0 where
+    pub near : IsHealed v.near v.far
+    pub far : IsHealed v.far v.near
+    pub once : IsSetUpOnce v
+
+  pub settled : (c d : Settings) → AreJoined c d → (w : Stations) → Sound c d w → IsDrained w → HasTries c w.near → HasTries d w.far → OneIsFree w.near.station w.far.station
+      → (es : List Event) → AreDeliveries es → IsDrained (run c d es (after_firings c d w)) → Settled (run c d es (after_firings c d w))
+  settled c d joined w sound drained near_may far_may free es are after =
+      let twisted = joined_swapped c d joined in
+      let v : Stations = run c d es (after_firings c d w) in
+      let h = both_run c d joined es (after_firings c d w) are (begins c d joined w sound drained near_may far_may free) in
+      let near = settles c d joined reads laws busy_laws v h.0 after in
+      let far = settles d c twisted reads laws busy_laws (swapped v) h.1 (record { out = after.back; back = after.out }) in
+      let rest = both_rest v h.0.0.one_free near far in
+      record {
+        near = record { rest = rest.0; arrived = arrives c d joined reads laws v h.0.0.sound h.0.0.near_on rest.0 };
+        far = record { rest = rest.1; arrived = arrives d c twisted reads laws (swapped v) h.1.0.sound h.1.0.near_on rest.1 };
+        once = record { near = h.0.0.sound.joint.near_notes.once; far = h.0.0.sound.joint.far_notes.once };
+      }
+
+  pub one_busy_heals : OneBusyHeals
+  one_busy_heals c d joined events quiet near_may far_may free es are after =
+      let w : Stations = run c d events start in
+      let s = settled c d joined w (reached_sound laws reads c d joined events quiet.once) quiet.drained near_may far_may free es are after in
+      (s.near, s.far)
+
+  run_append : (c d : Settings) (es fs : List Event) (w : Stations) → run c d (es ++ fs) w ≡ run c d fs (run c d es w)
+  run_append c d [] fs w = refl
+  run_append c d (e ∷ es) fs w = run_append c d es fs (happens c d e w)
+
+  -- the line drains from there, as it does from every world
+  pub some_busy_heal : SomeBusyHeal
+  some_busy_heal c d joined events quiet near_may far_may free =
+      let w : Stations = run c d events start in
+      let some = some_drain reads laws c d joined (events ++ Near T1 ∷ Far T1 ∷ []) in
+      let v : Stations = after_firings c d w in
+      let same : run c d (events ++ Near T1 ∷ Far T1 ∷ []) start ≡ v = run_append c d events (Near T1 ∷ Far T1 ∷ []) start in
+      let after : IsDrained (run c d some.0 v) = subst (λ (z : Stations). IsDrained (run c d some.0 z)) same some.2 in
+      let healed = one_busy_heals c d joined events quiet near_may far_may free some.0 some.1 after in
+      (some.0, some.1, (after, healed.0, healed.1))
