@@ -16,11 +16,11 @@ use Rattle.x25_text.proofs.LaneLemmas.{block_read, tops_of_map}
 pub front_all : (p : ℕ → Bool) (n : ℕ) (xs : List ℕ) → n ≤ prefix_len p xs → list_all p (take n xs) ≡ true
 front_all p zero xs h = refl
 front_all p (suc n) [] h = absurd (omega (arith, h))
-front_all p (suc n) (x ∷ xs) h = go (p x) h
+front_all p (suc n) (x ∷ xs) h = go (p x) h (λ le. front_all p n xs le)
   where
-    go : (b : Bool) → suc n ≤ cond b (1 + prefix_len p xs) 0 → (b && list_all p (take n xs)) ≡ true
-    go true h = front_all p n xs (omega (arith, h))
-    go false h = absurd (omega (arith, h))
+    go : (b : Bool) → suc n ≤ cond b (1 + prefix_len p xs) 0 → (n ≤ prefix_len p xs → list_all p (take n xs) ≡ true) → (b && list_all p (take n xs)) ≡ true
+    go true h rest = rest (omega (arith, h))
+    go false h rest = absurd (omega (arith, h))
 
 not_above : (x : ℕ) → not (nat_le 16 x) ≡ nat_lt x 16
 not_above x = go (nat_lt x 16) refl

@@ -4,6 +4,7 @@ use Rattle.std.proofs.lemmas.List.Sums.{prefix_len-le-length}
 use Rattle.std.proofs.lemmas.Simd.{chunk-fits, length-chunk}
 use Rattle.std.specs.Prelude.{nat_lt}
 use Rattle.x25_text.specs.Hexadecimal.{octets_of, value_of}
+use Rattle.x25_text.proofs.BlockLemmas.{before_block}
 use Rattle.x25_text.proofs.LaneLemmas.{fits_each}
 use Rattle.x25_text.proofs.LineLemmas.{front_all, front_read, stored_front}
 use Rattle.x25_text.proofs.hexadecimal.read_leading.Goals as goal
@@ -28,3 +29,6 @@ returns-clause-octets c = λ count le.
     ap octets_of (sym (take-take (2 * count) 16 (drop (2 * c.args.place) c.args.text.now) few))
     ∙ front_read count c.leading.result v c.values-values.result long fits c.values-values.ensures c.leading.ensures le few
     ∙ ap (λ l. Some l) (sym (stored_front c.args.place count c.args.octets.now c.joined.result c.joined.ensures.size c.requires.room (omega (arith, few)) ∙ c.joined.ensures.front count (omega (arith, few)) all))
+
+pub returns-clause-before : goal.returns-clause-before
+returns-clause-before c = before_block c.args.place c.args.octets.now c.joined.result (omega (arith, c.joined.ensures.size, c.requires.room))
