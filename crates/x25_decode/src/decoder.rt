@@ -158,7 +158,7 @@ impl Decoder {
             → LeadsFrom old (W.contents writer.old) self.old (left.now ++ rest) all any
             → MatchResult result (λ after. MatchOption after (LeadsFrom old (W.contents writer.new) self.new (left.now ++ rest) all any)
             (λ more. LeadsFrom old (W.contents writer.new) self.new (more.now ++ rest) all any))
-            (λ _. AppendsBeginning old (W.contents writer.new) all) }
+            (λ _. AppendsPrefix old (W.contents writer.new) all) }
         ensures line { IfOk result (λ after. MatchOption after (IsOpen left.now) (λ more. length more.now < length left.now)) }
         ensures marked { OnErr result (W.is_marked writer.new ≡ true) }
         ensures long_data { self.new.long_data ≡ self.old.long_data }
@@ -177,7 +177,7 @@ impl Decoder {
             → LeadsFrom old (W.contents writer.old) self.old (left.now ++ rest) all any
             → MatchResult result (λ after. MatchOption after (LeadsFrom old (W.contents writer.new) self.new (left.now ++ rest) all any)
             (λ more. LeadsFrom old (W.contents writer.new) self.new (more.now ++ rest) all any))
-            (λ _. AppendsBeginning old (W.contents writer.new) all) }
+            (λ _. AppendsPrefix old (W.contents writer.new) all) }
         ensures line { IfOk result (λ after. MatchOption after (IsOpen left.now) (λ more. length more.now < length left.now)) }
         ensures marked { OnErr result (W.is_marked writer.new ≡ true) }
         ensures long_data { self.new.long_data ≡ self.old.long_data }
@@ -198,7 +198,7 @@ impl Decoder {
         ensures leads { (old : Option (List ℕ)) (rest all : List ℕ) (any : Bool)
             → LeadsFrom old (W.contents writer.old) self.old (piece.now ++ rest) all any
             → MatchResult result (λ left. LeadsFrom old (W.contents writer.new) self.new (left.now ++ rest) all any)
-            (λ _. AppendsBeginning old (W.contents writer.new) all) }
+            (λ _. AppendsPrefix old (W.contents writer.new) all) }
         ensures open { IfOk result (λ left. IsOpen left.now) }
         ensures marked { OnErr result (W.is_marked writer.new ≡ true) }
         ensures long_data { self.new.long_data ≡ self.old.long_data }
