@@ -1,18 +1,18 @@
 -- The line at the front of a text.
-use Rattle.std.proofs.Common.{ℕ, zero, suc, ◌≡◌, ◌≢◌, ◌<◌, ◌≤◌, ◌+◌, ◌*◌, ◌∙◌, Bool, true, false, List, [], ◌∷◌, ◌++◌, length, take, drop, refl, ap, sym, subst, arith, Option, Some, None}
+use Rattle.std.proofs.Common.{ℕ, suc, ◌≡◌, ◌≢◌, ◌==◌, ◌<◌, ◌≤◌, ◌+◌, ◌*◌, ◌%◌, ◌∙◌, Bool, true, false, List, [], ◌∷◌, ◌++◌, length, take, drop, refl, ap, sym, subst, arith, if◌then◌else◌, Option, Some, None, Result, Ok, Err}
 use Rattle.std.specs.Prelude.{◌||◌, nat_le, slice_index, option_and_then, option_map}
 use Rattle.std.specs.Result.{result_ok}
 use Rattle.std.proofs.lemmas.Bool.{le-leb}
 use Rattle.std.proofs.lemmas.List.{length-take-le, take-append-drop}
 use Rattle.std.proofs.Math.Bool.{or-false}
 use Rattle.std.proofs.Math.Seq.{drop-cons}
-use Rattle.hex.specs.Hex.{decode_of, hex_digit_value}
+use Rattle.hex.specs.Hex.{◌>>=◌, decode_of, decode_pairs, digit_or_error, hex_digit_value}
+use Rattle.hex.specs.declared.error.FromHexError.{FromHexError}
+use Rattle.hex.specs.declared.error.FromHexError.TheVariants.{OddLength}
 use Rattle.x25_bits.specs.declared.role.Role.{Role}
 use Rattle.x25_decode.specs.Decoded.{octets_in, sender_of, sent_in}
 use Rattle.x25_decode.specs.code.Front.{StandsInFront}
 use Rattle.x25_io.specs.Lines.{IsOpen}
-use Rattle.x25_text.specs.Hexadecimal.{joined, octets_of}
-use Rattle.x25_text.proofs.PairLemmas.{decode_read}
 
 no_feed : (c v : ℕ) → hex_digit_value c ≡ Some v → c ≢ 10
 no_feed c v e = λ ten. let none : None ≡ Some v = subst (λ c. hex_digit_value c ≡ Some v) ten e in cc none
@@ -21,24 +21,30 @@ no_feed c v e = λ ten. let none : None ≡ Some v = subst (λ c. hex_digit_valu
 pub no_mark : (mark : ℕ) (from : Role) → sender_of mark ≡ Some from → mark ≢ 10
 no_mark mark from e = λ ten. let none : None ≡ Some from = subst (λ m. sender_of m ≡ Some from) ten e in cc none
 
--- digits have no line feed
-pub open_digits : (n : ℕ) (digits octets : List ℕ) → length digits ≡ 2 * n → octets_of digits ≡ Some octets → IsOpen digits
-unfolding octets_of
-open_digits zero [] octets e h = tt
-open_digits zero (x ∷ digits) octets e h = absurd (omega arith)
-open_digits (suc n) [] octets e h = absurd (omega arith)
-open_digits (suc n) (x ∷ []) octets e h = absurd (omega arith)
-open_digits (suc n) (high ∷ low ∷ digits) octets e h = go (hex_digit_value high) (hex_digit_value low) (octets_of digits) refl refl refl h
+open_pairs : (i : ℕ) (digits octets : List ℕ) → result_ok (decode_pairs i digits) ≡ Some octets → IsOpen digits
+unfolding decode_pairs
+open_pairs i [] octets h = tt
+open_pairs i (x ∷ []) octets h = cc h
+open_pairs i (high ∷ low ∷ digits) octets h = go (hex_digit_value high) (hex_digit_value low) (decode_pairs (i + 2) digits) refl refl refl h
   where
-    go : (p q : Option ℕ) (r : Option (List ℕ)) → hex_digit_value high ≡ p → hex_digit_value low ≡ q → octets_of digits ≡ r
-        → joined p q r ≡ Some octets → IsOpen (high ∷ low ∷ digits)
-    go (Some p) (Some q) (Some x) a b c h = (no_feed high p a, no_feed low q b, open_digits n digits x (omega (arith, e)) c)
-    go (Some p) (Some q) None a b c h = cc h
+    go : (p q : Option ℕ) (r : Result (List ℕ) FromHexError) → hex_digit_value high ≡ p → hex_digit_value low ≡ q → decode_pairs (i + 2) digits ≡ r
+        → result_ok ((digit_or_error high i p >>= λ h. digit_or_error low (i + 1) q >>= λ l. Ok (h * 16 + l)) >>= λ byte. r >>= λ bytes. Ok (byte ∷ bytes)) ≡ Some octets
+        → IsOpen (high ∷ low ∷ digits)
+    go (Some p) (Some q) (Ok x) a b c h = (no_feed high p a, no_feed low q b, open_pairs (i + 2) digits x (ap result_ok c))
+    go (Some p) (Some q) (Err e) a b c h = cc h
     go (Some p) None r a b c h = cc h
     go None q r a b c h = cc h
 
+-- digits have no line feed
+pub open_digits : (digits octets : List ℕ) → result_ok (decode_of digits) ≡ Some octets → IsOpen digits
+open_digits digits octets h = go (length digits % 2 == 1) h
+  where
+    go : (odd : Bool) → result_ok (if odd then Err OddLength else decode_pairs 0 digits) ≡ Some octets → IsOpen digits
+    go true h = cc h
+    go false h = open_pairs 0 digits octets h
+
 -- a mark, a space and digits
-module _ (mark count : ℕ) (digits octets : List ℕ) (few : count ≤ 4103) (within : 2 * count < length digits) (read : octets_of (take (2 * count) digits) ≡ Some octets) where
+module _ (mark count : ℕ) (digits octets : List ℕ) (few : count ≤ 4103) (within : 2 * count < length digits) (read : result_ok (decode_of (take (2 * count) digits)) ≡ Some octets) where
   size : length (take (2 * count) digits) ≡ 2 * count
   size = length-take-le (2 * count) digits (omega (arith, within))
 
@@ -51,7 +57,7 @@ module _ (mark count : ℕ) (digits octets : List ℕ) (few : count ≤ 4103) (w
   octets_are : octets_in (take (2 * count) digits) ≡ Some octets
   octets_are =
       let test : nat_le (length (take (2 * count) digits)) 8206 ≡ true = le-leb (length (take (2 * count) digits)) 8206 (omega (arith, size, few)) in
-      rw test (decode_read (take (2 * count) digits) count size ∙ read)
+      rw test read
 
   pub sent_front : (from : Role) → sender_of mark ≡ Some from → sent_in (take (2 * count + 2) (mark ∷ 32 ∷ digits)) ≡ Some (from, octets)
   sent_front from is = ap sent_in front ∙ go (sender_of mark) (octets_in (take (2 * count) digits)) is octets_are
@@ -66,7 +72,7 @@ module _ (mark count : ℕ) (digits octets : List ℕ) (few : count ≤ 4103) (w
       (
         omega (arith, within),
         ap (slice_index (mark ∷ 32 ∷ digits)) two_more ∙ feed,
-        subst IsOpen (sym front) (other, space, open_digits count (take (2 * count) digits) octets size read),
+        subst IsOpen (sym front) (other, space, open_digits (take (2 * count) digits) octets read),
       )
 
 -- the line, its line feed and the rest

@@ -1,5 +1,5 @@
 -- Octets at the front of a text, up to the first character that is no digit.
-use Rattle.std.proofs.Common.{ℕ, zero, suc, ◌≡◌, ◌<◌, ◌≤◌, ◌+◌, ◌*◌, ◌%◌, ◌^◌, ◌∙◌, Bool, true, false, cond, not, List, [], ◌∷◌, ◌++◌, length, map, take, drop, get_or, refl, ap, sym, subst, arith, Option, Some, None}
+use Rattle.std.proofs.Common.{ℕ, zero, suc, ◌≡◌, ◌<◌, ◌≤◌, ◌+◌, ◌*◌, ◌%◌, ◌^◌, ◌∙◌, Bool, true, false, cond, not, List, [], ◌∷◌, ◌++◌, length, map, take, drop, get_or, refl, ap, sym, arith, Option, Some, None}
 use Rattle.std.specs.Int.{trailing_zeros, w64}
 use Rattle.std.specs.Prelude.{◌&&◌, IfSome, nat_eq, nat_lt, nat_le}
 use Rattle.std.specs.List.{list_all, prefix_len}

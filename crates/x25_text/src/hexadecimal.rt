@@ -186,7 +186,7 @@ fn blocks(characters: usize, room: usize) -> usize
 pub fn read_line(text: &[u8], octets: &mut [u8]) -> Option<usize>
     ensures room { IfSome result (λ count. count ≤ length octets.new) }
     ensures end { IfSome result (λ count. (2 * count < length text.now) × (slice_index text.now (2 * count) ≡ 10)) }
-    ensures octets { IfSome result (λ count. octets_of (take (2 * count) text.now) ≡ Some (take count octets.new)) }
+    ensures octets { IfSome result (λ count. result_ok (decode_of (take (2 * count) text.now)) ≡ Some (take count octets.new)) }
 {
     for eight in 0..blocks(text.len(), octets.len()) {
         let more = read_leading(text, octets, 8 * eight);

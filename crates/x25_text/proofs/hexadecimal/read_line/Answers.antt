@@ -1,7 +1,9 @@
 use Rattle.std.proofs.Common.{◌≡◌, ◌≤◌, ◌∙◌, ◌+◌, ◌-◌, ◌*◌, Some, ap, arith, length, slice_index, subst, take}
+use Rattle.std.proofs.lemmas.List.{length-take-le}
 use Rattle.std.proofs.lemmas.Option.{IfSome_then}
 use Rattle.x25_text.specs.Hexadecimal.{octets_of}
 use Rattle.x25_text.proofs.BlockLemmas.{Reads, reads_none}
+use Rattle.x25_text.proofs.PairLemmas.{decode_read}
 use Rattle.x25_text.proofs.LineLemmas.{IfSome_both, reads_on}
 use Rattle.x25_text.proofs.hexadecimal.read_line.Goals as goal
 
@@ -39,6 +41,7 @@ returns-then-more-lt16-clause-octets c = IfSome_then c.octets_before.result c.oc
     omega (arith, h, c.if-more-lt16.true, c.loop-eight-test.true, c.loop-eight.auto.eight-end, c.blocks-eight-end.ensures.characters) in
     let sum : place + (n - place) ≡ n = omega (arith, h) in
     let some : 2 * (n - place) ≤ c.read_leading-more.result = omega (arith, h) in
-    subst (λ m. octets_of (take (2 * m) text) ≡ Some (take m next)) sum
+    decode_read (take (2 * n) text) n (length-take-le (2 * n) text (omega (arith, within, sum)))
+    ∙ subst (λ m. octets_of (take (2 * m) text) ≡ Some (take m next)) sum
     (reads_on size place (n - place) text c.loop-eight.octets next c.loop-eight.invariant within
     (c.read_leading-more.ensures.octets (n - place) some) c.read_leading-more.ensures.before (omega (arith, c.read_leading-more.auto.octets, c.loop-eight.invariant.long))).same)
