@@ -1,9 +1,9 @@
 -- The line at the front of a text.
-use Rattle.std.proofs.Common.{ℕ, suc, ◌≡◌, ◌≢◌, ◌==◌, ◌<◌, ◌≤◌, ◌+◌, ◌*◌, ◌%◌, ◌∙◌, Bool, true, false, List, [], ◌∷◌, ◌++◌, length, take, drop, refl, ap, sym, subst, arith, if◌then◌else◌, Option, Some, None, Result, Ok, Err}
+use Rattle.std.proofs.Common.{ℕ, suc, ◌≡◌, ◌≢◌, ◌==◌, ◌<◌, ◌≤◌, ◌+◌, ◌-◌, ◌*◌, ◌%◌, ◌∙◌, Bool, true, false, List, [], ◌∷◌, ◌++◌, length, take, drop, refl, ap, sym, subst, arith, if◌then◌else◌, Option, Some, None, Result, Ok, Err}
 use Rattle.std.specs.Prelude.{◌||◌, nat_le, slice_index, option_and_then, option_map}
 use Rattle.std.specs.Result.{result_ok}
 use Rattle.std.proofs.lemmas.Bool.{le-leb}
-use Rattle.std.proofs.lemmas.List.{length-take-le, take-append-drop}
+use Rattle.std.proofs.lemmas.List.{length-drop, length-take-le, take_all, take-append-drop}
 use Rattle.std.proofs.Math.Bool.{or-false}
 use Rattle.std.proofs.Math.Seq.{drop-cons}
 use Rattle.hex.specs.Hex.{◌>>=◌, decode_of, decode_pairs, digit_or_error, hex_digit_value}
@@ -25,12 +25,12 @@ open_pairs : (i : ℕ) (digits octets : List ℕ) → result_ok (decode_pairs i 
 unfolding decode_pairs
 open_pairs i [] octets h = tt
 open_pairs i (x ∷ []) octets h = cc h
-open_pairs i (high ∷ low ∷ digits) octets h = go (hex_digit_value high) (hex_digit_value low) (decode_pairs (i + 2) digits) refl refl refl h
+open_pairs i (high ∷ low ∷ digits) octets h = go (hex_digit_value high) (hex_digit_value low) (decode_pairs (i + 2) digits) refl refl (λ x e. open_pairs (i + 2) digits x e) h
   where
-    go : (p q : Option ℕ) (r : Result (List ℕ) FromHexError) → hex_digit_value high ≡ p → hex_digit_value low ≡ q → decode_pairs (i + 2) digits ≡ r
+    go : (p q : Option ℕ) (r : Result (List ℕ) FromHexError) → hex_digit_value high ≡ p → hex_digit_value low ≡ q → ((x : List ℕ) → result_ok r ≡ Some x → IsOpen digits)
         → result_ok ((digit_or_error high i p >>= λ h. digit_or_error low (i + 1) q >>= λ l. Ok (h * 16 + l)) >>= λ byte. r >>= λ bytes. Ok (byte ∷ bytes)) ≡ Some octets
         → IsOpen (high ∷ low ∷ digits)
-    go (Some p) (Some q) (Ok x) a b c h = (no_feed high p a, no_feed low q b, open_pairs (i + 2) digits x (ap result_ok c))
+    go (Some p) (Some q) (Ok x) a b c h = (no_feed high p a, (no_feed low q b, c x refl))
     go (Some p) (Some q) (Err e) a b c h = cc h
     go (Some p) None r a b c h = cc h
     go None q r a b c h = cc h
@@ -72,12 +72,27 @@ module _ (mark count : ℕ) (digits octets : List ℕ) (few : count ≤ 4103) (w
       (
         omega (arith, within),
         ap (slice_index (mark ∷ 32 ∷ digits)) two_more ∙ feed,
-        subst IsOpen (sym front) (other, space, open_digits (take (2 * count) digits) octets read),
+        subst IsOpen (sym front) (other, (space, open_digits (take (2 * count) digits) octets read)),
       )
 
+-- .. of a text
+pub line_left : (left digits : List ℕ) (count : ℕ) (octets : List ℕ) (from : Role) → digits ≡ drop 2 left → 2 ≤ length left → slice_index left 1 ≡ 32
+    → sender_of (slice_index left 0) ≡ Some from → count ≤ 4103 → (2 * count < length digits) × (slice_index digits (2 * count) ≡ 10)
+    → result_ok (decode_of (take (2 * count) digits)) ≡ Some octets
+    → StandsInFront (2 * count + 2) left × (sent_in (take (2 * count + 2) left) ≡ Some (from, octets))
+line_left [] digits count octets from same long is_space marked few end read = absurd (omega arith)
+line_left (mark ∷ []) digits count octets from same long is_space marked few end read = absurd (omega arith)
+line_left (mark ∷ space ∷ behind) digits count octets from same long is_space marked few end read =
+    let are : digits ≡ behind = same in
+    subst (λ left. StandsInFront (2 * count + 2) left × (sent_in (take (2 * count + 2) left) ≡ Some (from, octets))) (λ i. mark ∷ sym is_space i ∷ are i) (
+      stands_front mark count digits octets few end.0 read (no_mark mark from marked) end.1,
+      sent_front mark count digits octets few end.0 read from marked,
+    )
+
 -- the line, its line feed and the rest
-pub parted : (count : ℕ) (left : List ℕ) → StandsInFront count left → left ≡ take count left ++ 10 ∷ drop (count + 1) left
+pub parted : (count : ℕ) (left : List ℕ) → StandsInFront count left → left ≡ take count left ++ 10 ∷ take (length left - (count + 1)) (drop (count + 1) left)
 parted count left stands =
     let one : suc count ≡ count + 1 = omega arith in
+    let behind : take (length left - (count + 1)) (drop (count + 1) left) ≡ drop (count + 1) left = take_all (length left - (count + 1)) (drop (count + 1) left) (omega (arith, length-drop (count + 1) left)) in
     sym (take-append-drop count left)
-    ∙ ap (λ rest. take count left ++ rest) (drop-cons left count 0 stands.0 ∙ (λ i. stands.1 i ∷ drop (one i) left))
+    ∙ ap (λ rest. take count left ++ rest) (drop-cons left count 0 stands.0 ∙ (λ i. stands.1 i ∷ drop (one i) left) ∙ ap (λ rest. 10 ∷ rest) (sym behind))
