@@ -14,11 +14,16 @@ use Rattle.x25_decode.specs.Decoded.{octets_in, sender_of, sent_in}
 use Rattle.x25_decode.specs.code.Front.{StandsInFront}
 use Rattle.x25_io.specs.Lines.{IsOpen}
 
+-- a digit is no line feed
 no_feed : (c v : ℕ) → hex_digit_value c ≡ Some v → c ≢ 10
 no_feed c v e = λ ten. let none : None ≡ Some v = subst (λ c. hex_digit_value c ≡ Some v) ten e in cc none
 
--- nor is a mark one
-pub no_mark : (mark : ℕ) (from : Role) → sender_of mark ≡ Some from → mark ≢ 10
+-- nor is a space
+no_space : 32 ≢ 10
+no_space e = omega (arith, e)
+
+-- nor is a mark
+no_mark : (mark : ℕ) (from : Role) → sender_of mark ≡ Some from → mark ≢ 10
 no_mark mark from e = λ ten. let none : None ≡ Some from = subst (λ m. sender_of m ≡ Some from) ten e in cc none
 
 open_pairs : (i : ℕ) (digits octets : List ℕ) → result_ok (decode_pairs i digits) ≡ Some octets → IsOpen digits
@@ -68,11 +73,10 @@ module _ (mark count : ℕ) (digits octets : List ℕ) (few : count ≤ 4103) (w
 
   pub stands_front : mark ≢ 10 → slice_index digits (2 * count) ≡ 10 → StandsInFront (2 * count + 2) (mark ∷ 32 ∷ digits)
   stands_front other feed =
-      let space : 32 ≢ 10 = λ e. omega (arith, e) in
       (
         omega (arith, within),
         ap (slice_index (mark ∷ 32 ∷ digits)) two_more ∙ feed,
-        subst IsOpen (sym front) (other, (space, open_digits (take (2 * count) digits) octets read)),
+        subst IsOpen (sym front) (other, (no_space, open_digits (take (2 * count) digits) octets read)),
       )
 
 -- .. of a text
