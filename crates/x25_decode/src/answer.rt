@@ -6,7 +6,9 @@ ghost use Rattle.x25_decode.specs.code.Front.{StandsInFront};
 ghost use Rattle.x25_text.specs.FrameText.{reading_text};
 
 use x25_frame::{Role, decode};
-use x25_text::{MOST_OCTETS, MOST_TEXT, ROOM, Text, push_fault, push_frame, read_hexadecimal, read_line};
+use x25_text::{
+    MOST_OCTETS, MOST_TEXT, ROOM, Text, push_fault, push_frame, read_hexadecimal, read_line,
+};
 
 /// The most octets of information in an I frame.
 const N1: usize = 4_099;
@@ -20,11 +22,7 @@ fn sender(mark: u8) -> Option<Role>
     if mark != b'>' && mark != b'<' {
         return None;
     }
-    Some(if mark == b'>' {
-        Role::Dte
-    } else {
-        Role::Dce
-    })
+    Some(if mark == b'>' { Role::Dte } else { Role::Dce })
 }
 
 /// The mark of an end.
@@ -144,7 +142,12 @@ fn read_front(left: &[u8], octets: &mut [u8]) -> Option<(Role, usize)>
 ///
 /// With `long_data` the user data of a CALL has at most 128 octets, else at most 16.
 #[tactic(auto, unfolding(crate::specs::Decoded::answer_to, crate::specs::Decoded::is_refused))]
-pub fn answer_front(long_data: bool, left: &[u8], octets: &mut [u8], text: &mut Text) -> Option<usize>
+pub fn answer_front(
+    long_data: bool,
+    left: &[u8],
+    octets: &mut [u8],
+    text: &mut Text,
+) -> Option<usize>
     requires octets { length octets.old ≡ MOST_OCTETS }
     requires room { length text.old + MOST_ANSWER ≤ ROOM }
     ensures line { IfSome result (λ count. StandsInFront count left.now) }

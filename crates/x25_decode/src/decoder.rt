@@ -152,7 +152,11 @@ impl Decoder {
     }
 
     /// Takes the line at the front of a text, where it ends there, and answers what stands behind it. Its end is searched for.
-    fn take_found_line<'a, W: Sink>(&mut self, left: &'a [u8], writer: &mut W) -> Result<Option<&'a [u8]>, Failed>
+    fn take_found_line<'a, W: Sink>(
+        &mut self,
+        left: &'a [u8],
+        writer: &mut W,
+    ) -> Result<Option<&'a [u8]>, Failed>
         ensures kept { OnOk result (W.is_marked writer.new ≡ W.is_marked writer.old) }
         ensures leads { (old : Option (List ℕ)) (rest all : List ℕ) (any : Bool)
             → LeadsFrom old (W.contents writer.old) self.old (left.now ++ rest) all any
@@ -171,7 +175,11 @@ impl Decoder {
     }
 
     /// Takes the line at the front of a text, where it ends there, and answers what stands behind it.
-    fn take_line<'a, W: Sink>(&mut self, left: &'a [u8], writer: &mut W) -> Result<Option<&'a [u8]>, Failed>
+    fn take_line<'a, W: Sink>(
+        &mut self,
+        left: &'a [u8],
+        writer: &mut W,
+    ) -> Result<Option<&'a [u8]>, Failed>
         ensures kept { OnOk result (W.is_marked writer.new ≡ W.is_marked writer.old) }
         ensures leads { (old : Option (List ℕ)) (rest all : List ℕ) (any : Bool)
             → LeadsFrom old (W.contents writer.old) self.old (left.now ++ rest) all any
@@ -193,7 +201,11 @@ impl Decoder {
     }
 
     /// Takes the lines that end in a piece, and answers what stands behind them.
-    fn take_lines<'a, W: Sink>(&mut self, piece: &'a [u8], writer: &mut W) -> Result<&'a [u8], Failed>
+    fn take_lines<'a, W: Sink>(
+        &mut self,
+        piece: &'a [u8],
+        writer: &mut W,
+    ) -> Result<&'a [u8], Failed>
         ensures kept { OnOk result (W.is_marked writer.new ≡ W.is_marked writer.old) }
         ensures leads { (old : Option (List ℕ)) (rest all : List ℕ) (any : Bool)
             → LeadsFrom old (W.contents writer.old) self.old (piece.now ++ rest) all any
