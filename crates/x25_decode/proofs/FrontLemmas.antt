@@ -14,16 +14,11 @@ use Rattle.x25_decode.specs.Decoded.{octets_in, sender_of, sent_in}
 use Rattle.x25_decode.specs.code.Front.{StandsInFront}
 use Rattle.x25_io.specs.Lines.{IsOpen}
 
--- a digit is no line feed
 no_feed : (c v : ℕ) → hex_digit_value c ≡ Some v → c ≢ 10
 no_feed c v e = λ ten. let none : None ≡ Some v = subst (λ c. hex_digit_value c ≡ Some v) ten e in cc none
 
--- nor is a space
-no_space : (c : ℕ) → c ≡ 32 → c ≢ 10
-no_space c e ten = omega (arith, e, ten)
-
--- nor is a mark
-no_mark : (mark : ℕ) (from : Role) → sender_of mark ≡ Some from → mark ≢ 10
+-- nor is a mark one
+pub no_mark : (mark : ℕ) (from : Role) → sender_of mark ≡ Some from → mark ≢ 10
 no_mark mark from e = λ ten. let none : None ≡ Some from = subst (λ m. sender_of m ≡ Some from) ten e in cc none
 
 open_pairs : (i : ℕ) (digits octets : List ℕ) → result_ok (decode_pairs i digits) ≡ Some octets → IsOpen digits
@@ -72,11 +67,13 @@ module _ (mark count : ℕ) (digits octets : List ℕ) (few : count ≤ 4103) (w
       go s o p q = rw (p, q) refl
 
   pub stands_front : mark ≢ 10 → slice_index digits (2 * count) ≡ 10 → StandsInFront (2 * count + 2) (mark ∷ 32 ∷ digits)
-  stands_front other feed = (
-    omega (arith, within),
-    ap (slice_index (mark ∷ 32 ∷ digits)) two_more ∙ feed,
-    subst IsOpen (sym front) (other, (no_space 32 refl, open_digits (take (2 * count) digits) octets read)),
-  )
+  stands_front other feed =
+      let space : 32 ≢ 10 = λ e. omega (arith, e) in
+      (
+        omega (arith, within),
+        ap (slice_index (mark ∷ 32 ∷ digits)) two_more ∙ feed,
+        subst IsOpen (sym front) (other, (space, open_digits (take (2 * count) digits) octets read)),
+      )
 
 -- .. of a text
 pub line_left : (left digits : List ℕ) (count : ℕ) (octets : List ℕ) (from : Role) → digits ≡ drop 2 left → 2 ≤ length left → slice_index left 1 ≡ 32
