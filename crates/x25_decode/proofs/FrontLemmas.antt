@@ -1,10 +1,9 @@
 -- The line at the front of a text.
 use Rattle.std.proofs.Common.{ℕ, suc, ◌≡◌, ◌≢◌, ◌==◌, ◌<◌, ◌≤◌, ◌+◌, ◌-◌, ◌*◌, ◌%◌, ◌∙◌, Bool, true, false, List, [], ◌∷◌, ◌++◌, length, take, drop, refl, ap, sym, subst, arith, if◌then◌else◌, Option, Some, None, Result, Ok, Err}
-use Rattle.std.specs.Prelude.{◌||◌, nat_le, slice_index, option_and_then, option_map}
+use Rattle.std.specs.Prelude.{nat_le, slice_index, option_and_then, option_map}
 use Rattle.std.specs.Result.{result_ok}
 use Rattle.std.proofs.lemmas.Bool.{le-leb}
 use Rattle.std.proofs.lemmas.List.{length-drop, length-take-le, take_all, take-append-drop}
-use Rattle.std.proofs.Math.Bool.{or-false}
 use Rattle.std.proofs.Math.Seq.{drop-cons}
 use Rattle.hex.specs.Hex.{◌>>=◌, decode_of, decode_pairs, digit_or_error, hex_digit_value}
 use Rattle.hex.specs.declared.error.FromHexError.{FromHexError}
@@ -68,8 +67,7 @@ module _ (mark count : ℕ) (digits octets : List ℕ) (few : count ≤ 4103) (w
 
   pub stands_front : mark ≢ 10 → slice_index digits (2 * count) ≡ 10 → StandsInFront (2 * count + 2) (mark ∷ 32 ∷ digits)
   stands_front other feed =
-      let space : 32 ≢ 10 = λ e. omega (arith, e) in
-      (
+      let space : 32 ≢ 10 = λ e. omega (arith, e) in (
         omega (arith, within),
         ap (slice_index (mark ∷ 32 ∷ digits)) two_more ∙ feed,
         subst IsOpen (sym front) (other, (space, open_digits (take (2 * count) digits) octets read)),

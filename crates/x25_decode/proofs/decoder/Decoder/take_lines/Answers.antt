@@ -1,4 +1,3 @@
-use Rattle.std.proofs.Common.{◌++◌}
 use Rattle.std.proofs.lemmas.Result.{err_from_is_err_and}
 use Rattle.x25_decode.proofs.decoder.Decoder.take_lines.Goals as goal
 

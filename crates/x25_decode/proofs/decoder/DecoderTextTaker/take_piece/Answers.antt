@@ -1,4 +1,4 @@
-use Rattle.std.proofs.Common.{◌∙◌, ◌++◌}
+use Rattle.std.proofs.Common.{◌∙◌}
 use Rattle.x25_decode.specs.Decoded.{has_refused, output_of}
 use Rattle.x25_decode.proofs.StreamLemmas.{flush_err, flush_ok, held}
 use Rattle.x25_decode.proofs.decoder.DecoderTextTaker.take_piece.Goals as goal
