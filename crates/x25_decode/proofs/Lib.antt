@@ -1,4 +1,5 @@
 pub mod StreamLemmas
+pub mod FrontLemmas
 pub mod HeldLemmas
 pub mod VectorLemmas
 pub mod VerdictLemmas

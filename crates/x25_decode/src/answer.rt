@@ -1,11 +1,14 @@
 //! What answers a line.
-ghost use Rattle.std.specs.Prelude.{◌≡◌, ◌+◌, ◌≤◌, ◌++◌, Some, None, length, take, MatchOption};
+ghost use Rattle.std.specs.Prelude.{◌≡◌, ◌+◌, ◌*◌, ◌≤◌, ◌++◌, ◌∷◌, Some, None, false, codes, length, take, IfSome, MatchOption};
 ghost use Rattle.x25_frame.specs.Reading.{frame_of};
-ghost use Rattle.x25_decode.specs.Decoded.{answer_to, is_refused, n1, octets_in, sender_of, sent_in};
+ghost use Rattle.x25_decode.specs.Decoded.{answer_to, is_refused, mark_of, n1, octets_in, sender_of, sent_in, sent_text};
+ghost use Rattle.x25_decode.specs.code.Front.{StandsInFront};
 ghost use Rattle.x25_text.specs.FrameText.{reading_text};
 
 use x25_frame::{Role, decode};
-use x25_text::{MOST_OCTETS, MOST_TEXT, ROOM, Text, push_fault, push_frame, read_hexadecimal};
+use x25_text::{
+    MOST_OCTETS, MOST_TEXT, ROOM, Text, push_fault, push_frame, read_hexadecimal, read_line,
+};
 
 /// The most octets of information in an I frame.
 const N1: usize = 4_099;
@@ -16,10 +19,19 @@ pub const MOST_ANSWER: usize = MOST_TEXT + 3;
 fn sender(mark: u8) -> Option<Role>
     ensures { result ≡ sender_of mark }
 {
-    match mark {
-        b'>' => Some(Role::Dte),
-        b'<' => Some(Role::Dce),
-        _ => None,
+    if mark != b'>' && mark != b'<' {
+        return None;
+    }
+    Some(if mark == b'>' { Role::Dte } else { Role::Dce })
+}
+
+/// The mark of an end.
+fn mark(from: Role) -> u8
+    ensures { mark_of from ≡ result ∷ codes " " }
+{
+    match from {
+        Role::Dte => b'>',
+        Role::Dce => b'<',
     }
 }
 
@@ -73,6 +85,16 @@ fn push_reading(long_data: bool, from: Role, octets: &[u8], text: &mut Text)
     }
 }
 
+/// Appends the line that answers octets which were sent.
+fn push_answer(long_data: bool, from: Role, octets: &[u8], text: &mut Text)
+    requires room { length text.old + MOST_ANSWER ≤ ROOM }
+    ensures { text.new ≡ text.old ++ (sent_text long_data (Some (from, octets.now)) ++ codes "\n") }
+{
+    text.push(&[mark(from), b' ']);
+    push_reading(long_data, from, octets, text);
+    text.push(b"\n");
+}
+
 /// Appends the line that answers a line, and says whether that line was refused. `octets` is overwritten.
 ///
 /// With `long_data` the user data of a CALL has at most 128 octets, else at most 16.
@@ -85,17 +107,58 @@ pub fn answer(long_data: bool, line: &[u8], octets: &mut [u8], text: &mut Text) 
 {
     match read_sent(line, octets) {
         Some((from, count)) => {
-            match from {
-                Role::Dte => text.push(b"> "),
-                Role::Dce => text.push(b"< "),
-            }
-            push_reading(long_data, from, &octets[..count], text);
-            text.push(b"\n");
+            push_answer(long_data, from, &octets[..count], text);
             false
         }
         None => {
             text.push(b"? 60\n");
             true
         }
+    }
+}
+
+/// Reads the octets of the line at the front of a text to the front of `octets`, where it can be read with no search for its
+/// end, and answers their sender and how many they are.
+fn read_front(left: &[u8], octets: &mut [u8]) -> Option<(Role, usize)>
+    requires { length octets.old ≡ MOST_OCTETS }
+    ensures few { IfSome result (λ sent. sent.1 ≤ MOST_OCTETS) }
+    ensures line { IfSome result (λ sent. StandsInFront (2 * sent.1 + 2) left.now) }
+    ensures sent { IfSome result (λ sent. sent_in (take (2 * sent.1 + 2) left.now) ≡ Some (sent.0, take sent.1 octets.new)) }
+{
+    let [mark, b' ', digits @ ..] = left else {
+        return None;
+    };
+    let Some(from) = sender(*mark) else {
+        return None;
+    };
+    match read_line(digits, octets) {
+        Some(count) => Some((from, count)),
+        None => None,
+    }
+}
+
+/// Appends the line that answers the line at the front of a text, where that can be read with no search for its end, and
+/// answers how many characters it has before its line feed. `octets` is overwritten.
+///
+/// With `long_data` the user data of a CALL has at most 128 octets, else at most 16.
+#[tactic(auto, unfolding(crate::specs::Decoded::answer_to, crate::specs::Decoded::is_refused))]
+pub fn answer_front(
+    long_data: bool,
+    left: &[u8],
+    octets: &mut [u8],
+    text: &mut Text,
+) -> Option<usize>
+    requires octets { length octets.old ≡ MOST_OCTETS }
+    requires room { length text.old + MOST_ANSWER ≤ ROOM }
+    ensures line { IfSome result (λ count. StandsInFront count left.now) }
+    ensures text { MatchOption result (text.new ≡ text.old) (λ count. text.new ≡ text.old ++ answer_to long_data (take count left.now)) }
+    ensures taken { IfSome result (λ count. is_refused (take count left.now) ≡ false) }
+{
+    match read_front(left, octets) {
+        Some((from, count)) => {
+            push_answer(long_data, from, &octets[..count], text);
+            Some(2 * count + 2)
+        }
+        None => None,
     }
 }

@@ -1,7 +1,7 @@
 //! Lines answered as they come, with at most one line held.
 ghost use Rattle.std.specs.Prelude.{◌≤◌, length};
 
-use crate::answer::{MOST_ANSWER, answer};
+use crate::answer::{MOST_ANSWER, answer, answer_front};
 use std::alloc::{AllocError, Global};
 use x25_io::{Failed, Fault, Sink, TextTaker, split_line, write_all};
 use x25_text::{MOST_OCTETS, ROOM, Text};
@@ -24,7 +24,7 @@ pub struct Decoder {
 }
 
 impl Decoder {
-    ghost use Rattle.std.specs.Prelude.{◌≡◌, ◌≤◌, ◌+◌, ◌++◌, ◌∷◌, [], ℕ, Bool, true, false, List, Option, ◌||◌, IfOk, OnOk, OnErr, MatchResult, length};
+    ghost use Rattle.std.specs.Prelude.{◌≡◌, ◌≤◌, ◌<◌, ◌+◌, ◌++◌, ◌∷◌, [], ℕ, Bool, true, false, List, Option, ◌||◌, IfOk, OnOk, OnErr, MatchOption, MatchResult, length};
     ghost use Rattle.std.specs.Io.KnownBytes.{Appends};
     ghost use Rattle.x25_decode.specs.Decoded.{answer_to, is_refused};
     ghost use Rattle.x25_decode.specs.code.Stream.{DecodesOn, HoldsLine, LeadsFrom};
@@ -151,6 +151,77 @@ impl Decoder {
         Ok(())
     }
 
+    /// Takes the line at the front of a text, where it ends there, and answers what stands behind it. Its end is searched for.
+    fn take_found_line<'a, W: Sink>(
+        &mut self,
+        left: &'a [u8],
+        writer: &mut W,
+    ) -> Result<Option<&'a [u8]>, Failed>
+        ensures kept { OnOk result (W.is_marked writer.new ≡ W.is_marked writer.old) }
+        ensures leads { (old : Option (List ℕ)) (rest all : List ℕ) (any : Bool)
+            → LeadsFrom old (W.contents writer.old) self.old (left.now ++ rest) all any
+            → MatchResult result (λ after. MatchOption after (LeadsFrom old (W.contents writer.new) self.new (left.now ++ rest) all any)
+            (λ more. LeadsFrom old (W.contents writer.new) self.new (more.now ++ rest) all any))
+            (λ _. AppendsPrefix old (W.contents writer.new) all) }
+        ensures line { IfOk result (λ after. MatchOption after (IsOpen left.now) (λ more. length more.now < length left.now)) }
+        ensures marked { OnErr result (W.is_marked writer.new ≡ true) }
+        ensures long_data { self.new.long_data ≡ self.old.long_data }
+    {
+        let Some((tail, after)) = split_line(left) else {
+            return Ok(None);
+        };
+        self.close(tail, writer)?;
+        Ok(Some(after))
+    }
+
+    /// Takes the line at the front of a text, where it ends there, and answers what stands behind it.
+    fn take_line<'a, W: Sink>(
+        &mut self,
+        left: &'a [u8],
+        writer: &mut W,
+    ) -> Result<Option<&'a [u8]>, Failed>
+        ensures kept { OnOk result (W.is_marked writer.new ≡ W.is_marked writer.old) }
+        ensures leads { (old : Option (List ℕ)) (rest all : List ℕ) (any : Bool)
+            → LeadsFrom old (W.contents writer.old) self.old (left.now ++ rest) all any
+            → MatchResult result (λ after. MatchOption after (LeadsFrom old (W.contents writer.new) self.new (left.now ++ rest) all any)
+            (λ more. LeadsFrom old (W.contents writer.new) self.new (more.now ++ rest) all any))
+            (λ _. AppendsPrefix old (W.contents writer.new) all) }
+        ensures line { IfOk result (λ after. MatchOption after (IsOpen left.now) (λ more. length more.now < length left.now)) }
+        ensures marked { OnErr result (W.is_marked writer.new ≡ true) }
+        ensures long_data { self.new.long_data ≡ self.old.long_data }
+    {
+        self.make_room(writer)?;
+        if !self.line.is_empty() {
+            return self.take_found_line(left, writer);
+        }
+        match answer_front(self.long_data, left, &mut self.octets, &mut self.text) {
+            Some(count) => Ok(Some(&left[count + 1..])),
+            None => self.take_found_line(left, writer),
+        }
+    }
+
+    /// Takes the lines that end in a piece, and answers what stands behind them.
+    fn take_lines<'a, W: Sink>(
+        &mut self,
+        piece: &'a [u8],
+        writer: &mut W,
+    ) -> Result<&'a [u8], Failed>
+        ensures kept { OnOk result (W.is_marked writer.new ≡ W.is_marked writer.old) }
+        ensures leads { (old : Option (List ℕ)) (rest all : List ℕ) (any : Bool)
+            → LeadsFrom old (W.contents writer.old) self.old (piece.now ++ rest) all any
+            → MatchResult result (λ left. LeadsFrom old (W.contents writer.new) self.new (left.now ++ rest) all any)
+            (λ _. AppendsPrefix old (W.contents writer.new) all) }
+        ensures open { IfOk result (λ left. IsOpen left.now) }
+        ensures marked { OnErr result (W.is_marked writer.new ≡ true) }
+        ensures long_data { self.new.long_data ≡ self.old.long_data }
+    {
+        let mut left = piece;
+        while let Some(after) = self.take_line(left, writer)? {
+            left = after;
+        }
+        Ok(left)
+    }
+
     /// Answers the last line, where it has no line feed, and writes what waits.
     fn finish<W: Sink>(&mut self, writer: &mut W) -> Result<(), Failed>
         ensures kept { OnOk result (W.is_marked writer.new ≡ W.is_marked writer.old) }
@@ -190,13 +261,9 @@ impl TextTaker for Decoder {
     ghost may_want = { ⊥ };
 
     fn take_piece<W: Sink>(&mut self, piece: &[u8], writer: &mut W) -> Result<(), Fault> {
-        let mut left = piece;
-        while let Some((tail, after)) = split_line(left) {
-            if let Err(_) = self.close(tail, writer) {
-                return Err(Fault::Write);
-            }
-            left = after;
-        }
+        let Ok(left) = self.take_lines(piece, writer) else {
+            return Err(Fault::Write);
+        };
         self.hold(left);
         match self.flush(writer) {
             Ok(()) => Ok(()),

@@ -1,5 +1,5 @@
 -- Sixteen characters at a time, lane by lane.
-use Rattle.std.proofs.Common.{ℕ, zero, suc, ◌≡◌, ◌<◌, ◌≤◌, ◌+◌, ◌-◌, ◌*◌, ◌%◌, ◌^◌, ◌∙◌, inl, inr, Bool, true, false, cond, List, [], ◌∷◌, length, map, get_or, refl, ap, sym, arith, Fits, w8}
+use Rattle.std.proofs.Common.{ℕ, zero, suc, ◌≡◌, ◌<◌, ◌≤◌, ◌+◌, ◌-◌, ◌*◌, ◌%◌, ◌^◌, ◌∙◌, inl, inr, Bool, true, false, cond, List, [], ◌∷◌, length, map, take, get_or, refl, ap, sym, arith, Fits, w8}
 use Rattle.std.specs.Prelude.{◌==◌, ◌&&◌, nat_lt, nat_eq, Option, Some, None}
 use Rattle.std.specs.List.{list_all}
 use Rattle.std.proofs.lemmas.Bool.{cases_eq, eq-eqb, eqb-true, ne_eqb, ltb-true, ltb-false, and_parts, agree_below, agree_below_at}
@@ -99,6 +99,12 @@ joined_is (suc n) k (high ∷ low ∷ v) w e all same =
 
     on : (k j : ℕ) → 2 * (k + 1) + j ≡ 2 * k + suc (suc j)
     on k j = omega arith
+
+pub take_octets_from : (count k n : ℕ) (w : List ℕ) → count ≤ n → take count (octets_from w k n) ≡ octets_from w k count
+unfolding octets_from
+take_octets_from zero k n w h = refl
+take_octets_from (suc count) k zero w h = absurd (omega (arith, h))
+take_octets_from (suc count) k (suc n) w h = ap (λ rest. octet_at w k ∷ rest) (take_octets_from count (k + 1) n w (omega (arith, h)))
 
 -- ---- the octets of a block
 

@@ -3,6 +3,7 @@ pub mod DigitLemmas
 pub mod DigitTable
 pub mod PairLemmas
 pub mod LaneLemmas
+pub mod LineLemmas
 pub mod BlockLemmas
 pub mod ShownLemmas
 pub mod TestedLemmas

@@ -21,11 +21,12 @@ fn push_supervisory(label: &[u8], command: bool, pf: bool, nr: Seq, text: &mut T
     ensures size { length text.new ≡ length text.old + (length label.now + 11) }
 {
     text.push(label);
-    let mut characters = if command {
-        *b"cmd P=_ R=_"
+    let empty = if command {
+        b"cmd P=_ R=_"
     } else {
-        *b"rsp F=_ R=_"
+        b"rsp F=_ R=_"
     };
+    let mut characters = *empty;
     characters[6] = bit_digit(pf);
     characters[10] = seq_digit(nr);
     text.push(&characters);

@@ -1,7 +1,8 @@
 //! Octets from hexadecimal digits, and as such.
-ghost use Rattle.std.specs.Prelude.{◌≡◌, ◌+◌, ◌*◌, ◌≤◌, ◌++◌, nat_lt, if◌then◌else◌, length, take, drop, map, Some, None, IsTrue};
+ghost use Rattle.std.specs.Prelude.{◌≡◌, ◌==◌, ◌+◌, ◌*◌, ◌≤◌, ◌<◌, ◌++◌, ℕ, nat_lt, if◌then◌else◌, length, slice_index, take, drop, map, Some, None, IfSome, IsTrue};
 ghost use Rattle.std.specs.Char.{is_ascii_hexdigit};
-ghost use Rattle.std.specs.List.{flat_map, list_all};
+ghost use Rattle.std.specs.Int.{trailing_zeros, w64};
+ghost use Rattle.std.specs.List.{flat_map, list_all, prefix_len};
 ghost use Rattle.std.specs.Result.{result_ok};
 ghost use Rattle.hex.specs.Hex.{decode_of};
 ghost use Rattle.x25_text.specs.Hexadecimal.{octets_of, paired, value_of};
@@ -71,11 +72,12 @@ fn are_digits(values: u8x16) -> bool
     values.simd_lt(u8x16::splat(16)).all()
 }
 
-/// The octets of sixteen values.
+/// The octets of sixteen values, as far as these are values of digits.
 #[inline]
 fn joined(values: u8x16) -> u8x8
-    requires { IsTrue (list_all (λ value. nat_lt value 16) values) }
-    ensures { result ≡ paired values }
+    ensures size { length result ≡ 8 }
+    ensures front { (count : ℕ) → count ≤ 8 → IsTrue (list_all (λ value. nat_lt value 16) (take (2 * count) values))
+        → take count result ≡ paired (take (2 * count) values) }
 {
     let high: u8x8 = values.swizzle([0, 2, 4, 6, 8, 10, 12, 14]);
     let low: u8x8 = values.swizzle([1, 3, 5, 7, 9, 11, 13, 15]);
@@ -116,6 +118,83 @@ pub fn read_hexadecimal(digits: &[u8], octets: &mut [u8]) -> bool
         }
     }
     read_eight(digits, octets, count - 8)
+}
+
+/// The place of the lowest bit that is set, 16 where none is.
+#[inline]
+fn lowest_set(mask: u64) -> usize
+    ensures { result ≡ (if mask == 0 then 16 else trailing_zeros w64 mask) }
+{
+    if mask == 0 {
+        16
+    } else {
+        mask.trailing_zeros() as usize
+    }
+}
+
+/// How many of sixteen values stand before the first that is of no digit.
+#[inline]
+fn leading(values: u8x16) -> usize
+    ensures { result ≡ prefix_len (λ value. nat_lt value 16) values }
+{
+    lowest_set(values.simd_ge(u8x16::splat(16)).to_bitmask())
+}
+
+/// Reads eight octets from a place on, and answers how many of their sixteen characters stand before the first that is no
+/// digit: so far the octets are right.
+#[inline]
+fn read_leading(text: &[u8], octets: &mut [u8], place: usize) -> usize
+    requires text { 2 * place + 16 ≤ length text.now }
+    requires room { place + 8 ≤ length octets.old }
+    ensures few { result ≤ 16 }
+    ensures octets { (count : ℕ) → 2 * count ≤ result
+        → octets_of (take (2 * count) (drop (2 * place) text.now)) ≡ Some (take count (drop place octets.new)) }
+    ensures before { take place octets.new ≡ take place octets.old }
+{
+    let values = values(u8x16::from_slice(&text[2 * place..]));
+    joined(values).copy_to_slice(&mut octets[place..]);
+    leading(values)
+}
+
+/// The octets before a line feed, where one stands behind so many characters: `before` octets of two, and `more`.
+#[inline]
+fn octets_before(text: &[u8], before: usize, more: usize) -> Option<usize>
+    requires { 2 * before + more < length text.now }
+    ensures count { IfSome result (λ count. 2 * count ≡ 2 * before + more) }
+    ensures end { IfSome result (λ _. slice_index text.now (2 * before + more) ≡ 10) }
+{
+    if more % 2 == 1 || text[2 * before + more] != b'\n' {
+        return None;
+    }
+    Some(before + more / 2)
+}
+
+/// How many times eight octets can be read of so many characters into so much room, with sixteen characters looked at each time.
+fn blocks(characters: usize, room: usize) -> usize
+    ensures characters { 16 * result ≤ characters }
+    ensures room { 8 * result ≤ room }
+{
+    let whole = characters / 16;
+    let most = room / 8;
+    if whole < most { whole } else { most }
+}
+
+/// Reads the octets that the digits write at the front of a text, up to its first line feed, and answers how many they are.
+///
+/// Eight octets at a time, so that the line feed is found on the way. `None` says nothing of the text: it comes also where
+/// fewer than sixteen characters are left, or room for fewer than eight octets.
+pub fn read_line(text: &[u8], octets: &mut [u8]) -> Option<usize>
+    ensures room { IfSome result (λ count. count ≤ length octets.new) }
+    ensures end { IfSome result (λ count. (2 * count < length text.now) × (slice_index text.now (2 * count) ≡ 10)) }
+    ensures octets { IfSome result (λ count. result_ok (decode_of (take (2 * count) text.now)) ≡ Some (take count octets.new)) }
+{
+    for eight in 0..blocks(text.len(), octets.len()) {
+        let more = read_leading(text, octets, 8 * eight);
+        if more < 16 {
+            return octets_before(text, 8 * eight, more);
+        }
+    }
+    None
 }
 
 /// The digits of eight octets.

@@ -1,5 +1,5 @@
 use std::test::Fail;
-use x25_text::{is_hexadecimal, read_hexadecimal, write_hexadecimal};
+use x25_text::{is_hexadecimal, read_hexadecimal, read_line, write_hexadecimal};
 
 static DIGITS: [u8; 58] = *b"0123456789abcdefABCDEF0011223344556677889900aaBBccDDeeFF12";
 
@@ -12,6 +12,25 @@ fn reads_digits_as_hex_does(rt: HostRuntime) -> Result<(), Fail> {
         let mut octets = [0u8; 29];
         assert!(rt; read_hexadecimal(digits, &mut octets[..count]));
         assert_eq!(rt; &octets[..count], wanted.as_slice());
+    }
+    Ok(())
+}
+
+/// For each number of octets, with a line feed behind them and more characters behind that.
+#[test]
+fn reads_a_line_as_hex_does(rt: HostRuntime) -> Result<(), Fail> {
+    for count in 0..30usize {
+        let digits = &DIGITS[..2 * count];
+        let wanted = hex::decode(rt.alloc(), digits)?;
+        let mut text = [b'0'; 80];
+        text[..2 * count].copy_from_slice(digits);
+        text[2 * count] = b'\n';
+        let mut octets = [0u8; 32];
+        assert_eq!(rt; read_line(&text, &mut octets), Some(count));
+        assert_eq!(rt; &octets[..count], wanted.as_slice());
+        text[2 * count + 1] = b'\n';
+        text[2 * count] = b'0';
+        assert_eq!(rt; read_line(&text, &mut octets), None);
     }
     Ok(())
 }

@@ -1,0 +1,7 @@
+use Rattle.std.proofs.Common.{◌*◌, length}
+use Rattle.x25_text.proofs.BlockLemmas.{Reads}
+use Rattle.x25_text.proofs.hexadecimal.read_line.Given as goal
+
+-- the first octets are read, and all their characters are digits
+abbrev pub invariant-loop-eight : goal.invariant-loop-eight
+invariant-loop-eight l = Reads (length l.fn.octets) (8 * l.eight) l.text l.octets
