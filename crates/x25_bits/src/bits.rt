@@ -79,6 +79,7 @@ impl Bits {
         self.count
     }
 
+    /// Whether there is no bit.
     pub fn is_empty(&self) -> bool
         ensures { IsTrue result ↔ (self.now ≡ []) }
     {

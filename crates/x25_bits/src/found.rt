@@ -30,7 +30,7 @@ pub enum Span<'a> {
 }
 
 impl Span<'_> {
-    /// The same with octets of its own.
+    /// The same with octets of its own. Error 70 where there is no memory for them.
     pub fn copied(&self, alloc: Global) -> Result<Found, NoMemory>
         ensures { IfOk result (λ found. plain found ≡ plain_span self.now) }
     {

@@ -125,7 +125,7 @@ pub fn check(octets: &[u8]) -> bool
 
 /// Appends the frame check sequence of the octets to them, the low octet first.
 ///
-/// It takes no memory where the capacity has room for two octets more.
+/// It takes no memory where the capacity has room for two octets more. Error 70 where there is none for them; the octets are as they were then.
 pub fn seal(octets: &mut Vec<u8>) -> Result<(), NoMemory>
     ensures ok { OnOk result (octets.new.items ≡ octets.old.items ++ seal_of octets.old.items) }
     ensures err { OnErr result (VecUnchanged octets.old octets.new) }

@@ -90,6 +90,7 @@ impl<const ROOM: usize, const MOST: usize> Model for Blanks<ROOM, MOST> {
 }
 
 impl<const ROOM: usize, const MOST: usize> Blanks<ROOM, MOST> {
+    /// Memory is promised for no frame, and no buffer is kept.
     pub fn new(alloc: Global) -> Blanks<ROOM, MOST>
         ensures { result ≡ 0 }
     {
@@ -101,6 +102,7 @@ impl<const ROOM: usize, const MOST: usize> Blanks<ROOM, MOST> {
         }
     }
 
+    /// For how many frames memory is promised.
     pub fn promised(&self) -> usize
         ensures { result ≡ self.now }
     {
@@ -122,7 +124,7 @@ impl<const ROOM: usize, const MOST: usize> Blanks<ROOM, MOST> {
         self.returned.len()
     }
 
-    /// Promises memory for at least so many frames.
+    /// Promises memory for at least so many frames. Err: no memory for more than were promised; as many are promised as before.
     pub fn reserve(&mut self, count: usize) -> Result<(), AllocError>
         ensures ok { OnOk result (self.new ≡ max self.old count) }
         ensures missing { OnErr result (self.old < count) }

@@ -55,7 +55,7 @@ pub fn write_refusal(number: u8, line: &mut Line) -> Result<(), AllocError>
     Ok(())
 }
 
-/// Tells a line.
+/// Tells a line. 62 alone: a call of the writer failed, and the writer is marked.
 pub fn tell<W: Sink>(line: &[u8], output: &mut Output, writer: &mut W) -> Result<(), Fault>
     ensures kept { OnOk result (W.is_marked writer.new ≡ W.is_marked writer.old) }
     ensures tells { (old : Option (List ℕ)) (told : List ℕ) → Tells old (W.contents writer.old) output.old told
@@ -70,7 +70,7 @@ pub fn tell<W: Sink>(line: &[u8], output: &mut Output, writer: &mut W) -> Result
     }
 }
 
-/// Tells that a line isn't in the grammar.
+/// Tells that a line isn't in the grammar, by `? 60`. 62 alone: a call of the writer failed, and the writer is marked.
 pub fn tell_nothing<W: Sink>(output: &mut Output, writer: &mut W) -> Result<(), Fault>
     ensures kept { OnOk result (W.is_marked writer.new ≡ W.is_marked writer.old) }
     ensures tells { (old : Option (List ℕ)) (told : List ℕ) → Tells old (W.contents writer.old) output.old told

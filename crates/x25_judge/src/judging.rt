@@ -46,11 +46,7 @@ pub fn judge_lines<R: Source, W: Sink>(
     ensures read { IsErrOf result Fault.Read → R.is_marked reader.new ≡ true }
     ensures write { IsErrOf result Fault.Write → W.is_marked writer.new ≡ true }
 {
-    let Ok(mut piece) = vec![in alloc; 0u8; PIECE] else {
-        return Err(Fault::NoMemory);
-    };
-    let Ok(answerer) = Answerer::new(alloc, window, long) else {
-        return Err(Fault::NoMemory);
-    };
+    let mut piece = vec![in alloc; 0u8; PIECE]?;
+    let answerer = Answerer::new(alloc, window, long)?;
     take_text(answerer, piece.as_mut_slice(), reader, writer)
 }

@@ -16,14 +16,12 @@ ghost use Rattle.x25_layer.specs.Room.{HaveRoom, HasRoom, KeepsRoom};
 use crate::error::LayerError;
 use crate::layer::Layer;
 use crate::putting::{MOST_PUT, PacketMemory, put};
+use crate::sending::DATA_HEADER;
 use x25_circuit::Circuit;
 use x25_link::OrderedLink;
 
 /// A data packet is pulled where fewer packets than these wait in the link.
 const FEW: usize = 8;
-
-/// The octets of a data packet before its user data.
-const HEADER_OCTETS: usize = 3;
 
 // Whether fewer than 8 packets wait in the link. Memory that was set aside for 15 packets lasts as long as that.
 fn may_pull<L: OrderedLink>(link: &L, memory: &PacketMemory) -> bool
@@ -64,7 +62,7 @@ fn pull_one<L: OrderedLink>(
         return false;
     };
     let packet = data.packet().with_channel(channel);
-    put(memory, link, &packet, HEADER_OCTETS + data.user.len());
+    put(memory, link, &packet, DATA_HEADER + data.user.len());
     true
 }
 

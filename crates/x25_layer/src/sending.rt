@@ -13,7 +13,7 @@ use x25_link::OrderedLink;
 use x25_packet::Packet;
 
 /// The octets of a data packet before its user data. ITU-T X.25 (10/96), section 5.3.1.
-const DATA_HEADER: usize = 3;
+pub(crate) const DATA_HEADER: usize = 3;
 
 /// The most octets of a CALL before its user data: 3, an address block of 16, and a facility field of 6 behind its length.
 /// Section 5.2.1.

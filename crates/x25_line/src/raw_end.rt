@@ -32,7 +32,7 @@ impl Model for RawEnd {
 }
 
 impl RawEnd {
-    /// An end that was given nothing and has taken nothing, or `None` where the window isn't 1 to 7.
+    /// An end that was given nothing and has taken nothing, or `None` where the window isn't 1 to 7. 70 alone.
     pub fn new(alloc: Global, window: u8) -> Result<Option<RawEnd>, NoMemory>
         ensures { IfOk result (λ made. MatchOption made (¬ ((1 ≤ window) × (window ≤ 7))) (λ end. FitsEnd end (fresh_end window) 0)) }
     {
@@ -47,25 +47,29 @@ impl RawEnd {
         }))
     }
 
+    /// The items that were handed down, in order.
     pub fn given(&self) -> &[u8]
         ensures { result.now ≡ self.now.given }
     {
         &self.given
     }
 
+    /// The items that were handed up, in order.
     pub fn taken(&self) -> &[u8]
         ensures { result.now ≡ self.now.taken }
     {
         &self.taken
     }
 
+    /// How many items were sent and aren't acknowledged.
     pub fn unacked(&self) -> u8
         ensures { result ≡ length self.now.sender.items }
     {
         self.sender.unacked()
     }
 
-    // An item is handed down and goes on the line.
+    /// An item is handed down and goes on the line. 8 Full where as many stand unacknowledged as the window holds, and else 70 alone; all is
+    /// as before then.
     pub fn offer(&mut self, out: &mut Vec<RawFrame>, item: u8) -> Result<(), RawError>
         ensures open { (e : End ℕ) (place : ℕ) → FitsEnd self.old e place → OnOk result (e.sent < e.acked + e.window) }
         ensures end { (e : End ℕ) (place : ℕ) → FitsEnd self.old e place →
@@ -90,7 +94,8 @@ impl RawEnd {
         Ok(())
     }
 
-    // The item at the place to send from goes on the line.
+    /// The item at the place to send from goes on the line. 55 NothingToSend where all were sent since that place was moved back, and else
+    /// 70 alone; all is as before then.
     pub fn send_next(&mut self, out: &mut Vec<RawFrame>) -> Result<(), RawError>
         ensures below { (e : End ℕ) (place : ℕ) → FitsEnd self.old e place → OnOk result (place < e.sent) }
         ensures end { (e : End ℕ) (place : ℕ) → FitsEnd self.old e place → OnOk result (FitsEnd self.new (after e (Send place)) (place + 1)) }
@@ -115,14 +120,14 @@ impl RawEnd {
         Ok(())
     }
 
-    // The place to send from falls back to the first item that isn't acknowledged.
+    /// The place to send from falls back to the first item that isn't acknowledged.
     pub fn go_back(&mut self)
         ensures { (e : End ℕ) (place : ℕ) → FitsEnd self.old e place → FitsEnd self.new e e.acked }
     {
         self.sender.again();
     }
 
-    // A frame without an item goes on the line.
+    /// A frame without an item goes on the line. 70 alone; the line is as before then.
     #[tactic(auto, using(crate::proofs::FitLemmas::FitsLine_push))]
     pub fn tell(&self, out: &mut Vec<RawFrame>) -> Result<(), RawError>
         ensures line { (e : End ℕ) (place : ℕ) (fs : List (Frame ℕ)) → FitsEnd self.now e place → FitsLine out.old.items fs →
@@ -140,7 +145,8 @@ impl RawEnd {
         Ok(())
     }
 
-    // The front frame of the line to this end arrives.
+    /// The front frame of the line to this end arrives. 50 Empty where there is none, 7 BadAck where its N(R) is invalid, and else 70 alone;
+    /// all is as before then.
     pub fn receive(&mut self, back: &mut Vec<RawFrame>) -> Result<(), RawError>
         ensures ok { (e : End ℕ) (place : ℕ) (fs : List (Frame ℕ)) → FitsEnd self.old e place → FitsLine back.old.items fs →
             OnOk result (Delivered self.new back.new.items e place fs) }
@@ -183,7 +189,7 @@ impl RawEnd {
     }
 }
 
-// The frame at the place is lost.
+/// The frame at the place is lost. 51 NoSuchFrame alone, where there is none.
 #[tactic(auto, using(crate::proofs::FitLemmas::FitsLine_remove))]
 pub fn lose(back: &mut Vec<RawFrame>, place: usize) -> Result<(), RawError>
     ensures ok { (fs : List (Frame ℕ)) → FitsLine back.old.items fs → OnOk result (FitsLine back.new.items (remove fs place)) }
@@ -198,7 +204,8 @@ pub fn lose(back: &mut Vec<RawFrame>, place: usize) -> Result<(), RawError>
     Ok(())
 }
 
-// What one end does, on the line from it and the line to it.
+/// What one end does, on the line from it and the line to it. Refused as the call is that does it, with 7, 8, 50, 51, 55 or 70; all is as
+/// before then.
 pub fn act(
     near: &mut RawEnd,
     out: &mut Vec<RawFrame>,

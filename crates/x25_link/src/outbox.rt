@@ -53,6 +53,7 @@ impl Model for Outbox {
 }
 
 impl Outbox {
+    /// No frame is made, and no memory set aside.
     pub fn new(alloc: Global) -> Outbox
         ensures { result ≡ record { made = []; long = 0; short = 0 } }
     {
@@ -86,7 +87,8 @@ impl Outbox {
         self.long.returned()
     }
 
-    /// Sets memory aside for at least so many I frames and other frames.
+    /// Sets memory aside for at least so many I frames and other frames. Err: no memory for more than was set aside; as much is set aside as
+    /// before.
     pub fn reserve(&mut self, long: usize, short: usize) -> Result<(), AllocError>
         ensures made { self.new.made ≡ self.old.made }
         ensures long { OnOk result (self.new.long ≡ max self.old.long long) }

@@ -25,6 +25,7 @@ pub struct Outgoing {
 impl Outgoing {
     ghost use Rattle.x25_link.specs.Backlog.{FitsBacklog, window_of, before_in};
 
+    /// No packet, or `None` where the window k isn't 1 to 7. 70 alone.
     pub fn new(alloc: Global, window: u8) -> Result<Option<Outgoing>, LinkError>
         ensures fits { IfOk result (λ made. MatchOption made (¬ ((1 ≤ window) × (window ≤ 7))) (λ b. FitsBacklog window b no_packet)) }
         ensures err { IfErr result (λ e. e ≡ LinkError.NoMemory) }
@@ -87,7 +88,8 @@ impl Outgoing {
         self.queue.push(packet);
     }
 
-    /// Takes a received N(R), and says how many frames it acknowledges.
+    /// Takes a received N(R), and says how many frames it acknowledges. 7 BadAck where it is none from the first frame that isn't
+    /// acknowledged to V(S) at its highest; nothing changes then.
     #[tactic(auto, using(crate::proofs::BacklogLemmas::sent_length))]
     pub fn ack(&mut self, nr: Seq) -> Result<u8, WindowError>
         ensures step { (k : ℕ) (o : OutgoingState) → FitsBacklog k self.old o → IfOk result (λ count. FitsBacklog k self.new (acknowledged_to (o.acked + count) o)) }

@@ -23,6 +23,7 @@ impl Model for Queue {
 }
 
 impl Queue {
+    /// No packet, in memory for all 256. Err: no memory.
     pub fn new(alloc: Global) -> Result<Queue, AllocError>
         ensures { IfOk result (λ q. q ≡ []) }
     {
@@ -30,6 +31,7 @@ impl Queue {
         Ok(Queue { ring })
     }
 
+    /// How many packets wait.
     pub fn len(&self) -> usize
         ensures value { result ≡ length self.now }
         ensures few { result ≤ 256 }
@@ -37,6 +39,7 @@ impl Queue {
         self.ring.len()
     }
 
+    /// Lets a packet wait behind the others, of which there are fewer than 256.
     pub fn push(&mut self, packet: Octets)
         requires { length self.old < 256 }
         ensures { self.new ≡ self.old ++ packet ∷ [] }
@@ -51,6 +54,7 @@ impl Queue {
         self.ring.pop_front()
     }
 
+    /// Drops all packets.
     pub fn clear(&mut self)
         ensures { self.new ≡ [] }
     {

@@ -20,7 +20,8 @@ fn facility_field<'a>(size: u8, octets: &'a [u8]) -> Result<(&'a [u8], &'a [u8])
     Ok((field, rest))
 }
 
-/// An ACCEPT: nothing, or address lengths of 0 and a facility field.
+/// An ACCEPT: nothing, or address lengths of 0 and a facility field. Else the ground that is found first from its front on: 24 BadDigit for
+/// an address, 20 TooShort, 26 BadParameter for an empty facility field, 25 and 26 of a facility, and 23 TooLong.
 pub fn accept<'a>(channel: u16, body: &'a [u8]) -> Result<Packet<'a>, PacketError>
     ensures { Gives result (accept_of channel body.now) }
 {
@@ -94,7 +95,8 @@ fn addressed<'a>(
     facilities_and_user(most, channel, called_digits, calling_digits, rest)
 }
 
-/// A CALL with at most `most` octets of user data: address lengths, digits, facility field and user data.
+/// A CALL with at most `most` octets of user data: address lengths, digits, facility field and user data. Else the ground that is found
+/// first from its front on: 20 TooShort, 24 BadDigit, 25 and 26 of a facility, and 23 TooLong for more user data.
 pub fn call<'a>(most: usize, channel: u16, body: &'a [u8]) -> Result<Packet<'a>, PacketError>
     ensures { Gives result (call_of most channel body.now) }
 {

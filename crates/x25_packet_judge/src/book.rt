@@ -32,7 +32,7 @@ fn other(role: Role) -> Role
 }
 
 impl Book {
-    /// Nothing was sent.
+    /// Nothing was sent. Err: no memory.
     pub fn new(alloc: Global) -> Result<Book, AllocError>
         ensures { IfOk result (λ book. book ≡ definition.empty) }
     {

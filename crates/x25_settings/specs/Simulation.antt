@@ -28,6 +28,12 @@ most_of Window = 7
 most_of Tries = 255
 most_of Channels = 16
 
+-- what it is where nothing is said
+abbrev pub default_of : Numbered → ℕ
+default_of Window = 7
+default_of Tries = 10
+default_of Channels = 1
+
 -- an option, with its number where it has one
 pub data Choice : Type 0 where
   flag : Flag → Choice
@@ -77,15 +83,18 @@ abbrev pub Leads : Chosen → List Choice → Chosen → Type 0
 Leads c [] end = end ≡ c
 Leads c (choice ∷ choices) end = IsOpen c choice × Leads (with_choice c choice) choices end
 
+abbrev pub chosen_or_default : Chosen → Numbered → ℕ
+chosen_or_default c x = unwrap_or (chosen_number c x) (default_of x)
+
 -- the defaults for the rest
 abbrev pub settled : Chosen → Simulation
-settled c = record { down = c.down; long = c.long; tap = c.tap; k = unwrap_or c.k 7; n2 = unwrap_or c.n2 10; channels = unwrap_or c.channels 1 }
+settled c = record { down = c.down; long = c.long; tap = c.tap; k = chosen_or_default c Window; n2 = chosen_or_default c Tries; channels = chosen_or_default c Channels }
 
 abbrev pub settled_at : End → Chosen → Place
-settled_at end c = record { end = end; long = c.long; k = unwrap_or c.k 7; n2 = unwrap_or c.n2 10; channels = unwrap_or c.channels 1 }
+settled_at end c = record { end = end; long = c.long; k = chosen_or_default c Window; n2 = chosen_or_default c Tries; channels = chosen_or_default c Channels }
 
 abbrev pub judging_in : Chosen → Judging
-judging_in c = record { long = c.long; k = unwrap_or c.k 7 }
+judging_in c = record { long = c.long; k = chosen_or_default c Window }
 
 -- these words choose this
 abbrev pub Choose : List (List ℕ) → Chosen → Type 0
@@ -120,10 +129,10 @@ pub record SayJudging (words : List (List ℕ)) (g : Judging) : Type 0 where
   pub same : g ≡ judging_in end
 
 abbrev pub JudgingIsInRange : Judging → Type 0
-JudgingIsInRange g = (1 ≤ g.k) × (g.k ≤ 7)
+JudgingIsInRange g = IsInRange Window g.k
 
 abbrev pub PlaceIsInRange : Place → Type 0
-PlaceIsInRange p = ((1 ≤ p.k) × (p.k ≤ 7)) × ((1 ≤ p.n2) × (p.n2 ≤ 255)) × ((1 ≤ p.channels) × (p.channels ≤ 16))
+PlaceIsInRange p = IsInRange Window p.k × IsInRange Tries p.n2 × IsInRange Channels p.channels
 
 abbrev pub AreInRange : Simulation → Type 0
-AreInRange s = ((1 ≤ s.k) × (s.k ≤ 7)) × ((1 ≤ s.n2) × (s.n2 ≤ 255)) × ((1 ≤ s.channels) × (s.channels ≤ 16))
+AreInRange s = IsInRange Window s.k × IsInRange Tries s.n2 × IsInRange Channels s.channels

@@ -2,7 +2,7 @@
 ghost use Rattle.std.specs.Prelude.{◌≡◌, ◌<◌, ◌↔◌, ◌∷◌, [], IfSome, MatchOption, IsTrue, decimal, map, length};
 ghost use Rattle.std.specs.Str.{bytes_eq};
 ghost use Rattle.x25_settings.specs.Choosing.{chosen_in, end_in, flag_in, judge_in, judging_of, number_in, numbered_in, placed, put_flag, put_number, simulation_in, station_in};
-ghost use Rattle.x25_settings.specs.Simulation.{nothing, settled};
+ghost use Rattle.x25_settings.specs.Simulation.{default_of, most_of, nothing, settled};
 
 use itoa::Buffer;
 use std::convert::AsStr;
@@ -14,7 +14,7 @@ pub struct Simulation {
     pub down: bool,
     /// A CALL has up to 128 octets of user data, in place of up to 16.
     pub long: bool,
-    /// The frames of each step are told behind its entries.
+    /// The frames of each step are written behind its entries.
     pub tap: bool,
     /// The window of the link, 1 to 7.
     pub k: u8,
@@ -65,10 +65,52 @@ enum Flag {
 
 /// The options that have a number.
 #[derive(Clone, Copy)]
-enum Numbered {
+pub(crate) enum Numbered {
     Window,
     Tries,
     Channels,
+}
+
+impl Numbered {
+    /// The word of the option, without its two dashes.
+    pub(crate) fn name<'a>(self) -> &'a str {
+        match self {
+            Numbered::Window => "k",
+            Numbered::Tries => "n2",
+            Numbered::Channels => "channels",
+        }
+    }
+
+    /// The most that the number may be; the least is 1.
+    pub(crate) fn most(self) -> u8
+        ensures { result ≡ most_of self }
+    {
+        match self {
+            Numbered::Window => 7,
+            Numbered::Tries => 255,
+            Numbered::Channels => 16,
+        }
+    }
+
+    /// The number where the option isn't there.
+    fn usual(self) -> u8
+        ensures { result ≡ default_of self }
+    {
+        match self {
+            Numbered::Window => 7,
+            Numbered::Tries => 10,
+            Numbered::Channels => 1,
+        }
+    }
+
+    /// The same in decimal.
+    pub(crate) fn usual_text<'a>(self) -> &'a str {
+        match self {
+            Numbered::Window => "7",
+            Numbered::Tries => "10",
+            Numbered::Channels => "1",
+        }
+    }
 }
 
 /// What was chosen so far.
@@ -163,34 +205,27 @@ impl Chosen {
     fn with_number(self, word: &str, text: &str) -> Option<Chosen>
         ensures { result ≡ put_number self word.now text.now }
     {
-        match numbered_option(word)? {
-            Numbered::Window => {
-                let n = number(text, 7)?;
-                match self.k {
-                    None => Some(Chosen { k: Some(n), ..self }),
-                    Some(_) => None,
-                }
-            }
-            Numbered::Tries => {
-                let n = number(text, 255)?;
-                match self.n2 {
-                    None => Some(Chosen {
-                        n2: Some(n),
-                        ..self
-                    }),
-                    Some(_) => None,
-                }
-            }
-            Numbered::Channels => {
-                let n = number(text, 16)?;
-                match self.channels {
-                    None => Some(Chosen {
-                        channels: Some(n),
-                        ..self
-                    }),
-                    Some(_) => None,
-                }
-            }
+        let option = numbered_option(word)?;
+        let n = number(text, option.most())?;
+        match option {
+            Numbered::Window => match self.k {
+                None => Some(Chosen { k: Some(n), ..self }),
+                Some(_) => None,
+            },
+            Numbered::Tries => match self.n2 {
+                None => Some(Chosen {
+                    n2: Some(n),
+                    ..self
+                }),
+                Some(_) => None,
+            },
+            Numbered::Channels => match self.channels {
+                None => Some(Chosen {
+                    channels: Some(n),
+                    ..self
+                }),
+                Some(_) => None,
+            },
         }
     }
 
@@ -238,9 +273,9 @@ impl Chosen {
             down: self.down,
             long: self.long,
             tap: self.tap,
-            k: self.k.unwrap_or(7),
-            n2: self.n2.unwrap_or(10),
-            channels: self.channels.unwrap_or(1),
+            k: self.k.unwrap_or(Numbered::Window.usual()),
+            n2: self.n2.unwrap_or(Numbered::Tries.usual()),
+            channels: self.channels.unwrap_or(Numbered::Channels.usual()),
         }
     }
 }

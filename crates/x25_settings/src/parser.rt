@@ -1,8 +1,9 @@
-//! The parser that says what is wrong with words, and what asks for help is told.
+//! The parser that says what is wrong with words, and answers what asks for help.
+use crate::options::Numbered;
 use clap::{Arg, ArgAction, Command, value_parser};
 use std::alloc::{AllocError, Global};
 
-/// What is told behind the options of `sim`.
+/// The help behind the options of `sim`.
 const EXAMPLES: &str = "Examples:
   x25 sim < examples/call.script
   x25 sim --tap < examples/call.script | grep '^[<>]' | x25 decode";
@@ -10,34 +11,33 @@ const EXAMPLES: &str = "Examples:
 /// The words for an end.
 const ENDS: &[&str] = &["dte", "dce"];
 
-/// What is told behind the options of `station`.
+/// The help behind the options of `station`.
 const STATION_EXAMPLE: &str = "Examples:
   printf 'dte connect\\n< 01738357\\n' | x25 station dte";
 
-/// What is told behind the options of `judge`.
+/// The help behind the options of `judge`.
 const JUDGE_EXAMPLE: &str = "Examples:
   x25 judge < examples/exchange.trace
   x25 sim --tap < examples/losses.script | grep '^[<>]' | x25 judge";
 
-/// What is told behind the words of `deframe`.
+/// The help behind the words of `deframe`.
 const DEFRAME_EXAMPLE: &str = "Examples:
   x25 deframe dte < line.bin | grep -v '^#' | x25 decode
   grep '^>' trace | x25 frame | x25 deframe dte";
 
 /// An option with a number.
-fn number_option<'a>(
-    alloc: Global,
-    name: &'a str,
-    most: i64,
-    default: &'a str,
-    help: &'a str,
-) -> Arg<'a> {
-    Arg::new(alloc, name)
-        .long(name)
+fn number_option<'a>(alloc: Global, option: Numbered, help: &'a str) -> Arg<'a> {
+    Arg::new(alloc, option.name())
+        .long(option.name())
         .value_name("N")
-        .value_parser(value_parser!(u8).range(1..=most))
-        .default_value(default)
+        .value_parser(value_parser!(u8).range(1..=i64::from(option.most())))
+        .default_value(option.usual_text())
         .help(help)
+}
+
+/// The window of the link.
+fn window_option<'a>(alloc: Global) -> Arg<'a> {
+    number_option(alloc, Numbered::Window, "The window of the link: 1 to 7")
 }
 
 /// That a CALL may have long user data.
@@ -50,22 +50,17 @@ fn long_option<'a>(alloc: Global) -> Arg<'a> {
 
 /// The window, the tries and the channels.
 fn with_numbers<'a>(alloc: Global, command: Command<'a>) -> Result<Command<'a>, AllocError> {
-    let window = number_option(alloc, "k", 7, "7", "The window of the link: 1 to 7");
     let tries = number_option(
         alloc,
-        "n2",
-        255,
-        "10",
+        Numbered::Tries,
         "How often an unanswered command of the link is sent again: 1 to 255",
     );
     let channels = number_option(
         alloc,
-        "channels",
-        16,
-        "1",
+        Numbered::Channels,
         "The number of logical channels: 1 to 16",
     );
-    command.arg(window)?.arg(tries)?.arg(channels)
+    command.arg(window_option(alloc))?.arg(tries)?.arg(channels)
 }
 
 fn sim_command<'a>(alloc: Global) -> Result<Command<'a>, AllocError> {
@@ -103,14 +98,13 @@ fn station_command<'a>(alloc: Global) -> Result<Command<'a>, AllocError> {
 }
 
 fn judge_command<'a>(alloc: Global) -> Result<Command<'a>, AllocError> {
-    let window = number_option(alloc, "k", 7, "7", "The window of the link: 1 to 7");
     Command::new(alloc, "judge")
         .about(
             "Answer lines of a trace of both ends as `decode` does, and say which end broke which rule",
         )
         .override_usage("x25 judge [OPTIONS] < TRACE")
         .after_help(JUDGE_EXAMPLE)
-        .arg(window)?
+        .arg(window_option(alloc))?
         .arg(long_option(alloc))
 }
 

@@ -143,7 +143,7 @@ fn read_task<S: AsStr>(words: &[S]) -> Option<Task>
     read_behind(word, behind)
 }
 
-/// What is told of words that the parser takes and that aren't plain.
+/// What is said of words that the parser takes and that aren't plain.
 const NOT_PLAIN: &str =
     "each option is one word, and its number the next one, without a sign and leading zeros: `--k 3`";
 

@@ -29,7 +29,7 @@ impl Simulation {
     /// Makes the stations and the buffers. With `down` both links are down where the script begins, and with `tap` the frames of
     /// each step are told too. It has no reader and no writer, so a refusal reads nothing and writes nothing.
     ///
-    /// `NoMemory` alone.
+    /// 70 NoMemory alone.
     pub fn new(alloc: Global, down: bool, cfg: Cfg, tap: bool) -> Result<Simulation, Fault>
         ensures ready { IfOk result (IsReady cfg down tap) }
         ensures memory { IfErr result (λ fault. fault ≡ Fault.NoMemory) }
@@ -51,7 +51,7 @@ impl Simulation {
     }
 
     /// Sets the link up, unless it was asked for with both links down, does what the lines of the script ask for, and writes what
-    /// happens, as `sim` says.
+    /// happens, as `sim` says. 61 where a call of the reader failed, 62 where one of the writer did, 70 where a growth was refused.
     pub fn play<R: Source, W: Sink>(mut self, reader: &mut R, writer: &mut W) -> Result<u8, Fault>
         ensures clean { OnOk result ((R.is_marked reader.new ≡ R.is_marked reader.old) × (W.is_marked writer.new ≡ W.is_marked writer.old)) }
         ensures zero_or_one { IfOk result (λ status. status ≤ 1) }

@@ -70,7 +70,7 @@ pub(crate) fn seq_digit(number: Seq) -> u8
 }
 
 impl Text {
-    /// No characters.
+    /// No characters, in memory for as many as there ever are. Err: no memory.
     pub fn new(alloc: Global) -> Result<Text, AllocError>
         ensures { IfOk result (λ text. text ≡ []) }
     {
@@ -78,18 +78,21 @@ impl Text {
         Ok(Text { buffer, count: 0 })
     }
 
+    /// The characters.
     pub fn as_slice(&self) -> &[u8]
         ensures { result.now ≡ self.now }
     {
         &self.buffer[..self.count]
     }
 
+    /// The number of characters.
     pub fn len(&self) -> usize
         ensures { result ≡ length self.now }
     {
         self.as_slice().len()
     }
 
+    /// Whether there is no character.
     pub fn is_empty(&self) -> bool
         ensures { IsTrue result ↔ (length self.now ≡ 0) }
     {

@@ -96,7 +96,7 @@ impl Line {
         self.count = 0;
     }
 
-    /// Appends the characters.
+    /// Appends the characters. Err: no memory; the line is as it was then.
     pub fn push(&mut self, characters: &[u8]) -> Result<(), AllocError>
         ensures text { OnOk result (self.new ≡ self.old ++ characters.now) }
         ensures unchanged { OnErr result (self.new ≡ self.old) }
@@ -118,7 +118,7 @@ impl Line {
         Ok(())
     }
 
-    /// Appends a label and then a number in decimal.
+    /// Appends a label and then a number in decimal. Err: no memory; the line is as it was then.
     pub fn push_number(&mut self, label: &[u8], number: u64) -> Result<(), AllocError>
         ensures text { OnOk result (self.new ≡ self.old ++ (label.now ++ decimal number)) }
         ensures unchanged { OnErr result (self.new ≡ self.old) }
@@ -130,7 +130,7 @@ impl Line {
         self.push_both(label, buffer.format(number).as_bytes())
     }
 
-    /// Appends a label and then a bit.
+    /// Appends a label and then a bit. Err: no memory; the line is as it was then.
     pub fn push_bit(&mut self, label: &[u8], is_set: bool) -> Result<(), AllocError>
         ensures text { OnOk result (self.new ≡ self.old ++ (label.now ++ decimal (bit is_set))) }
         ensures unchanged { OnErr result (self.new ≡ self.old) }
@@ -153,7 +153,7 @@ impl Line {
         Ok(())
     }
 
-    /// Appends the octets as hexadecimal digits, two for each.
+    /// Appends the octets as hexadecimal digits, two for each. Err: no memory; the line is as it was then.
     pub fn push_hexadecimal(&mut self, octets: &[u8]) -> Result<(), AllocError>
         ensures text { OnOk result (self.new ≡ self.old ++ flat_map octet_text octets.now) }
         ensures unchanged { OnErr result (self.new ≡ self.old) }
@@ -161,7 +161,7 @@ impl Line {
         self.push_digits(b"", octets)
     }
 
-    /// Appends a label and then octets as hexadecimal digits, `-` where there are none.
+    /// Appends a label and then octets as hexadecimal digits, `-` where there are none. Err: no memory; the line is as it was then.
     pub fn push_octets(&mut self, label: &[u8], octets: &[u8]) -> Result<(), AllocError>
         ensures text { OnOk result (self.new ≡ self.old ++ (label.now ++ octets_text octets.now)) }
         ensures unchanged { OnErr result (self.new ≡ self.old) }

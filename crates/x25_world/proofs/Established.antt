@@ -23,7 +23,7 @@ use Rattle.x25_world.specs.World.{World, swapped, entered, after_step, delivered
 use Rattle.x25_world.specs.laws.Claims.{link_of}
 use Rattle.x25_world.specs.WindowGoes.{restart_of, two_links}
 use Rattle.x25_world.proofs.sessions.SessionTrace.{layer_of}
-use Rattle.x25_world.proofs.Known.{Laws}
+use Rattle.x25_world.specs.laws.LawsBelow.{Laws}
 use Rattle.x25_world.proofs.sessions.SessionLinks.{puts_up}
 
 -- ---- an end that comes up

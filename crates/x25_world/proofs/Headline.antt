@@ -8,7 +8,7 @@ use Rattle.x25_world.specs.laws.Claims.{Always, UntilSecondUp, UpOnceUnlessConne
 use Rattle.x25_world.specs.WindowGoes.{StaysInWindow}
 use Rattle.x25_world.proofs.Known.{is_configured}
 use Rattle.x25_world.proofs.Established.{set_up_accepted}
-use Rattle.x25_world.proofs.sessions.SessionKnown.{SessionLaws}
+use Rattle.x25_world.specs.laws.LawsBelow.{SessionLaws}
 use Rattle.x25_world.proofs.sessions.SessionRuns.{set_up_throughout, throughout_joined}
 use Rattle.x25_world.proofs.sessions.claims.SessionQuiet.{has_no_error}
 use Rattle.x25_world.proofs.SetUpOnce.{lawful_once, named_once, arrives_once, is_up_once}

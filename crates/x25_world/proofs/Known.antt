@@ -1,41 +1,13 @@
--- What the laws of two links and of two layers say of a run of either, as an end sees it.
+-- The settings of a world, as the laws of its links want them.
 use Rattle.std.proofs.Common.{◌≡◌, ◌≤◌, Bool, true, false, ◌&&◌, nat_le, if◌then◌else◌, Option, Some, None, refl, ◌||◌}
 use Rattle.std.proofs.lemmas.Bool.{leb-true}
 use Rattle.x25_bits.specs.declared.role.Role.TheVariants.{Dte, Dce}
-use Rattle.x25_frame.specs.laws.ReadingLaw.{ReadsSpelled}
-use Rattle.x25_link.specs.laws.NoteLaw.{TakeTells, TakeHandsUp, TimerTells, PutTells, ConnectTells, DisconnectTells, AbandonTells}
-use Rattle.x25_link.specs.SetUp.{TakeWaits, TakeSetsUp}
 use Rattle.x25_line.specs.laws.StationClaims.{AreJoined}
 use Rattle.x25_station.specs.declared.config.Cfg.{Cfg}
 use Rattle.x25_station.specs.declared.error.StationError.{StationError}
 use Rattle.x25_station.specs.declared.error.StationError.TheVariants as error
 use Rattle.x25_station.specs.Settings.{config_refusal}
-use Rattle.x25_station.specs.laws.JoinLaw.{RequestIsJoined, ReceiveIsJoined, QuietIsJoined, DownIsJoined, UpIsJoined}
-use Rattle.x25_station.specs.laws.KeepLaw.{TimerKeeps, CommandKeeps, ReceiveKeeps}
-use Rattle.x25_station.specs.laws.ReadLaw.{PutsAreReadable}
 use Rattle.x25_world.specs.laws.Claims.{link_of}
-
--- the laws that all rests on
-pub record Laws : Type 0 where
-  pub readable : PutsAreReadable
-  pub request : RequestIsJoined
-  pub receive : ReceiveIsJoined
-  pub quiet : QuietIsJoined
-  pub down : DownIsJoined
-  pub up : UpIsJoined
-  pub timer_keeps : TimerKeeps
-  pub command_keeps : CommandKeeps
-  pub receive_keeps : ReceiveKeeps
-  pub take_tells : TakeTells
-  pub take_hands_up : TakeHandsUp
-  pub timer_tells : TimerTells
-  pub put_tells : PutTells
-  pub connect_tells : ConnectTells
-  pub disconnect_tells : DisconnectTells
-  pub abandon_tells : AbandonTells
-  pub take_waits : TakeWaits
-  pub take_sets_up : TakeSetsUp
-  pub reads : ReadsSpelled
 
 -- ---- the settings
 

@@ -25,7 +25,8 @@ use Rattle.x25_world.proofs.OneLink.{IsAnew, OneLink}
 use Rattle.x25_world.proofs.sessions.SessionTrace.{Done, layer_of, own}
 use Rattle.x25_world.proofs.sessions.SessionReaches.{Beginning, set_up, known_sessions, joined_at}
 use Rattle.x25_world.proofs.sessions.SessionJoined.{HaveAll, IsEnd, HasMet, PairIsInOrder, SessionsJoined}
-use Rattle.x25_world.proofs.sessions.SessionKnown.{SessionLaws, met_in_order, nothing_in_order}
+use Rattle.x25_world.specs.laws.LawsBelow.{SessionLaws}
+use Rattle.x25_world.proofs.sessions.SessionKnown.{met_in_order, nothing_in_order}
 use Rattle.x25_world.proofs.sessions.claims.SessionMeets.{begun_both, meet_in_step}
 use Rattle.x25_world.proofs.sessions.claims.SessionLawful.{own_lawful}
 use Rattle.x25_world.proofs.sessions.claims.SessionNamed.{are_named}

@@ -21,7 +21,8 @@ use crate::told::Entered;
 use x25_bits::{Role, check};
 use x25_station::{Cmd, MOST_ENTRIES, MOST_FRAMES, Station, Step};
 
-// The event happens at the end, or on the line to it.
+/// The event happens at the end, or on the line to it. Refused with the one ground that applies, 50, 51, 52, 53 or 54, or with 70; all is as
+/// before then.
 pub fn act(
     at: Role,
     near: &mut Station,
@@ -122,7 +123,7 @@ fn awaits_frames(at: Role, near: &Station, line: &Line) -> bool
     near.awaits_ua() && is_on_line(at, line)
 }
 
-// The end asks that the link be set up.
+/// The end asks that the link be set up. 53 where the station refuses it, or else 70; all is as before then.
 pub fn connect(
     at: Role,
     near: &mut Station,

@@ -3,6 +3,7 @@ ghost use Rattle.x25_station.specs.laws.ReadLaw.{AreOctets};
 ghost use Rattle.x25_world.specs.World.{event_of};
 ghost use Rattle.x25_world.specs.rows.WorldRows.{SetsUp, MessageArrives, LostArrives, DamagedArrives, DisconnectEndsBoth, ConnectSetsUp, ConnectGoesAgain, SecondMeetsFirst, SecondMeet, TimerWaits, IsRefused};
 ghost use Rattle.x25_world.specs.laws.SessionClaims.{Throughout, ThroughoutAlong, MeetInStep, AreLawfulWhereMet, AreNamedInSessions, AllArrive, UnmetAreToldNothing, OpenStretchesMeet};
+ghost use Rattle.x25_world.specs.laws.LawsBelow.{SessionLaws};
 ghost use Rattle.x25_world.specs.laws.Claims.{ActsInOctets, Always, UntilSecondUp, IsSetUp, IsLawful, IsNamed, ArrivesAll, HasNoProcedureError, UpOnceUnlessConnected};
 ghost use Rattle.x25_world.specs.WindowGoes.{StaysInWindow};
 ghost use Rattle.x25_world.specs.SessionWindow.{SessionsStayInWindow};
@@ -14,6 +15,22 @@ use x25_layer::{apart_layers_keep_order, each_end_is_by_itself};
 use x25_line::{each_session_event_hands_one, links_keep_order, sessions_keep_order};
 use x25_link::{notes_what_changes, sets_up_by_rows};
 use x25_station::{Cmd, puts_are_readable, steps_are_joined, steps_keep_bounds};
+
+// What the laws of the links, the layers and the stations say, which the next two laws rest on.
+fn laws_below()
+    ensures { SessionLaws }
+{
+    sessions_keep_order();
+    each_session_event_hands_one();
+    apart_layers_keep_order();
+    each_end_is_by_itself();
+    steps_are_joined();
+    steps_keep_bounds();
+    puts_are_readable();
+    notes_what_changes();
+    sets_up_by_rows();
+    reads_what_is_spelled();
+}
 
 /// Two stations joined by a line of octets that keeps order and may lose or visibly damage any frame, from both links down and nothing
 /// on the line, from the DTE's SABM on the line, or from a link just set up: what holds after each list of commands, deliveries, losses,
@@ -43,17 +60,8 @@ pub fn two_stations_keep_order()
     ensures window { Always StaysInWindow }
     ensures up_once { UpOnceUnlessConnected }
 {
+    laws_below();
     links_keep_order();
-    sessions_keep_order();
-    each_session_event_hands_one();
-    apart_layers_keep_order();
-    each_end_is_by_itself();
-    steps_are_joined();
-    steps_keep_bounds();
-    puts_are_readable();
-    notes_what_changes();
-    sets_up_by_rows();
-    reads_what_is_spelled();
 }
 
 /// Two stations joined by such a line, over set-up and re-set-up at any moment: what holds after each list of commands, `connect` among
@@ -92,16 +100,7 @@ pub fn stations_meet_in_sessions()
     ensures octets { Throughout IsTapOfOctets }
     ensures window { ThroughoutAlong SessionsStayInWindow }
 {
-    sessions_keep_order();
-    each_session_event_hands_one();
-    apart_layers_keep_order();
-    each_end_is_by_itself();
-    steps_are_joined();
-    steps_keep_bounds();
-    puts_are_readable();
-    notes_what_changes();
-    sets_up_by_rows();
-    reads_what_is_spelled();
+    laws_below();
 }
 
 /// Worked rows: the octets of set-up; a message that arrives, also where its frame is lost or damaged and goes again; `disconnect`,

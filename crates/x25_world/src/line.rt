@@ -72,7 +72,7 @@ impl Line {
         &self.tap
     }
 
-    /// Makes room for so many frames on the line and on the tap.
+    /// Makes room for so many frames on the line and on the tap. Err: no memory. It changes nothing but the room.
     pub fn reserve(&mut self, frames: usize) -> Result<(), AllocError>
         ensures room { OnOk result (frames ≤ self.new.room) }
         ensures same { self.new ≡ record self.old { room = self.new.room } }

@@ -17,7 +17,7 @@ pub enum SetUpFrame {
     Ua,
 }
 
-// Whether the SABM of this end is on the line, or a UA to it.
+/// Whether the SABM of this end is on the line, or a UA to it.
 pub fn is_on_line(end: Role, line: &Line) -> bool
     ensures { result ≡ (carries SetUpFrame.Sabm end (line_to line.now (other end)) || carries SetUpFrame.Ua (other end) (line_to line.now end)) }
 {

@@ -30,7 +30,8 @@ use Rattle.x25_world.proofs.Known.{IsConfigured, true_false}
 use Rattle.x25_world.proofs.sessions.SessionTrace.{layer_of, own, TakeNothing}
 use Rattle.x25_world.proofs.sessions.SessionReaches.{Beginning, MayAsk, SessionsReach, known_sessions}
 use Rattle.x25_world.proofs.sessions.SessionJoined.{HasMet, PairsAreInOrder, SessionsJoined}
-use Rattle.x25_world.proofs.sessions.SessionKnown.{SessionLaws, nothing_in_order, own_readable}
+use Rattle.x25_world.specs.laws.LawsBelow.{SessionLaws}
+use Rattle.x25_world.proofs.sessions.SessionKnown.{nothing_in_order, own_readable}
 use Rattle.x25_world.proofs.sessions.SessionLinks.{SessionGoes, puts_go, puts_up}
 use Rattle.x25_world.proofs.sessions.SessionGoes.{IsSilent, IsPrefix, not_in, rests, begins_session}
 

@@ -4,44 +4,18 @@ use Rattle.x25_bits.specs.declared.role.Role.{Role}
 use Rattle.x25_bits.specs.declared.role.Role.TheVariants.{Dte, Dce}
 use Rattle.x25_link.specs.MustSend.{other}
 use Rattle.x25_line.specs.Sessions.{Meeting}
-use Rattle.x25_line.specs.laws.SessionClaims as line
-use Rattle.x25_line.specs.laws.SessionClaims.{AllMet, SomeMet, MetAreInOrder, UnmetHandNothingUp, OnlyBegunHaveLists, EachMeetsLatest, IdleHasArrived, NoSessionSendsFrmr, AllSessionsSendWhole, IsNoEarlier, InStep}
-use Rattle.x25_line.specs.SessionEvents.{EachEventHandsInSession, EachEventMeetsLatest}
+use Rattle.x25_line.specs.laws.SessionClaims.{AllMet, SomeMet, IsNoEarlier, InStep}
 use Rattle.x25_layer.specs.TwoLayers as layer
-use Rattle.x25_layer.specs.laws.Law.{KeepsOrder, IsQuietEnd, IsQuietWorld, IsLawfulWorld, ArrivesAll}
-use Rattle.x25_layer.specs.laws.NameLaw.{NamesAreCounted}
-use Rattle.x25_layer.specs.Apart.{OwnMove, as_move, own_run, Ends, ApartEvent, apart_run, apart_start, as_world, AlwaysApart, all_over_links}
-use Rattle.x25_layer.specs.laws.ApartLaw.{IsOverLinks, IsToldFirst, RestartsFirst, BeginsAlone, OwnMovesDecide, EventsRunOn}
+use Rattle.x25_layer.specs.laws.Law.{IsQuietEnd}
+use Rattle.x25_layer.specs.Apart.{OwnMove, as_move, own_run, Ends, ApartEvent, apart_run, apart_start, as_world, all_over_links}
+use Rattle.x25_layer.specs.laws.ApartLaw.{IsToldFirst}
 use Rattle.x25_station.specs.declared.config.Cfg.{Cfg}
 use Rattle.x25_station.specs.laws.ReadLaw.{AreReadable, MovesOctets, BringOctets}
-use Rattle.x25_world.proofs.Known.{Laws, IsConfigured}
+use Rattle.x25_world.specs.laws.LawsBelow.{SessionLaws}
+use Rattle.x25_world.proofs.Known.{IsConfigured}
 use Rattle.x25_world.proofs.sessions.SessionTrace as traced
-use Rattle.x25_world.proofs.sessions.SessionTrace.{layer_of, Done, own_in, own, pair_one, pair_in, pair_at, pair_turned, near_of_pair, far_of_pair, TakeNothing, order_of_nothing}
+use Rattle.x25_world.proofs.sessions.SessionTrace.{layer_of, Done, own_in, own, pair_one, pair_in, pair_at, near_of_pair, far_of_pair, TakeNothing, order_of_nothing}
 use Rattle.x25_world.proofs.sessions.SessionJoined.{HasMet, PairIsInOrder, PairsAreInOrder}
-
--- the laws that all rests on
-pub record SessionLaws : Type 0 where
-  pub stations : Laws
-  pub step : line.Throughout line.MeetInStep
-  pub order : line.Throughout MetAreInOrder
-  pub unmet : line.Throughout UnmetHandNothingUp
-  pub begun : line.Throughout OnlyBegunHaveLists
-  pub agree : line.Throughout EachMeetsLatest
-  pub meets : line.Throughout EachEventMeetsLatest
-  pub idle : line.Throughout IdleHasArrived
-  pub no_frmr : line.Throughout NoSessionSendsFrmr
-  pub whole : line.Throughout AllSessionsSendWhole
-  pub hands : EachEventHandsInSession
-  pub layers_order : (long_data : Bool) (channels : ℕ) → AlwaysApart KeepsOrder long_data channels
-  pub layers_quiet : (long_data : Bool) (channels : ℕ) → AlwaysApart (IsQuietWorld channels) long_data channels
-  pub layers_lawful : (long_data : Bool) (channels : ℕ) → AlwaysApart IsLawfulWorld long_data channels
-  pub layers_arrive : (long_data : Bool) (channels : ℕ) → AlwaysApart ArrivesAll long_data channels
-  pub layers_named : (long_data : Bool) (channels : ℕ) → AlwaysApart NamesAreCounted long_data channels
-  pub layers_restarted : (long_data : Bool) (channels : ℕ) → AlwaysApart RestartsFirst long_data channels
-  pub own : OwnMovesDecide
-  pub behind : EventsRunOn
-  pub alone : BeginsAlone
-  pub over_links : (long_data : Bool) (channels : ℕ) → IsOverLinks long_data channels
 
 -- ---- meetings
 

@@ -20,7 +20,7 @@ use Rattle.x25_world.proofs.WorldLemmas.{refusal-swapped}
 use Rattle.x25_world.proofs.OneLink.{AreAlike}
 use Rattle.x25_world.proofs.sessions.SessionReaches.{Beginning, both_down, set_up, at_event, IsAt}
 use Rattle.x25_world.proofs.sessions.SessionJoined.{IsEnd, SessionsJoined, sessions_swapped}
-use Rattle.x25_world.proofs.sessions.SessionKnown.{SessionLaws}
+use Rattle.x25_world.specs.laws.LawsBelow.{SessionLaws}
 use Rattle.x25_world.proofs.sessions.acts.SessionLines.{lost_joined, damaged_joined}
 use Rattle.x25_world.proofs.sessions.acts.SessionTimers.{fired_joined, connects_joined, connects_alone_joined, disconnects_joined}
 use Rattle.x25_world.proofs.sessions.acts.SessionRequests.{requests_joined}

@@ -30,7 +30,7 @@ use Rattle.x25_world.proofs.Known.{IsConfigured, is_configured}
 use Rattle.x25_world.proofs.OneLink.{octets_append, octets_sent, octets_removed, octets_replaced}
 use Rattle.x25_world.proofs.sessions.SessionReaches.{both_down, joined_at}
 use Rattle.x25_world.proofs.sessions.SessionJoined.{SessionsJoined}
-use Rattle.x25_world.proofs.sessions.SessionKnown.{SessionLaws}
+use Rattle.x25_world.specs.laws.LawsBelow.{SessionLaws}
 use Rattle.x25_world.proofs.sessions.SessionRuns.{begin_joined, throughout_joined}
 use Rattle.x25_world.proofs.WindowRuns.{Next, next}
 

@@ -1,69 +1,17 @@
-use Rattle.x25_world.proofs.Known.{Laws}
-use Rattle.x25_world.proofs.sessions.SessionKnown.{SessionLaws}
 use Rattle.x25_world.proofs.Headline.{is_set_up, always_lawful, always_named, always_arrives, always_quiet, always_in_window, up_once}
 use Rattle.x25_world.proofs.law.two_stations_keep_order.Goals as goal
 
--- the links, the layers and the stations, by their contracts
 pub returns : goal.returns
 returns c =
-    let sessions = c.sessions_keep_order.ensures in
-    let apart = c.apart_layers_keep_order.ensures in
-    let alone = c.each_end_is_by_itself.ensures in
-    let joins = c.steps_are_joined.ensures in
-    let keeps = c.steps_keep_bounds.ensures in
-    let notes = c.notes_what_changes.ensures in
-    let sets_up = c.sets_up_by_rows.ensures in
-    let stations : Laws = record {
-      readable = c.puts_are_readable.ensures;
-      request = joins.request;
-      receive = joins.receive;
-      quiet = joins.quiet;
-      down = joins.down;
-      up = joins.up;
-      timer_keeps = keeps.timer;
-      command_keeps = keeps.command;
-      receive_keeps = keeps.receive;
-      take_tells = notes.take;
-      take_hands_up = notes.take_hands_up;
-      timer_tells = notes.timer;
-      put_tells = notes.put;
-      connect_tells = notes.connect;
-      disconnect_tells = notes.disconnect;
-      abandon_tells = notes.abandon;
-      take_waits = sets_up.waits;
-      take_sets_up = sets_up.sets_up;
-      reads = c.reads_what_is_spelled.ensures.reads;
-    } in
-    let laws : SessionLaws = record {
-      stations = stations;
-      step = sessions.step;
-      order = sessions.order;
-      unmet = sessions.unmet;
-      begun = sessions.begun;
-      agree = sessions.agree;
-      meets = sessions.meets;
-      idle = sessions.idle;
-      no_frmr = sessions.no_frmr;
-      whole = sessions.whole;
-      hands = c.each_session_event_hands_one.ensures;
-      layers_order = apart.order;
-      layers_quiet = apart.quiet;
-      layers_lawful = apart.lawful;
-      layers_arrive = apart.arrives;
-      layers_named = apart.names;
-      layers_restarted = apart.restarted;
-      own = alone.own;
-      behind = alone.behind;
-      alone = alone.alone;
-      over_links = apart.runs;
-    } in
+    let laws = c.laws_below.ensures in
+    let keeps = laws.stations.connect_keeps in
     let links = c.links_keep_order.ensures in
     record {
-      set_up = is_set_up laws keeps.connect;
-      lawful = always_lawful laws keeps.connect;
-      named = always_named laws keeps.connect;
-      arrives = always_arrives laws keeps.connect;
-      quiet = always_quiet laws keeps.connect;
-      window = always_in_window laws keeps.connect links.window links.before;
-      up_once = up_once laws keeps.connect links.once;
+      set_up = is_set_up laws keeps;
+      lawful = always_lawful laws keeps;
+      named = always_named laws keeps;
+      arrives = always_arrives laws keeps;
+      quiet = always_quiet laws keeps;
+      window = always_in_window laws keeps links.window links.before;
+      up_once = up_once laws keeps links.once;
     }

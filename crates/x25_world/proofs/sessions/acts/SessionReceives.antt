@@ -41,7 +41,8 @@ use Rattle.x25_world.proofs.Growing.{spelled}
 use Rattle.x25_world.proofs.sessions.SessionTrace.{layer_of, Done, moved, own, own_goes, events_of, pair_turned, nothing_goes}
 use Rattle.x25_world.proofs.sessions.SessionReaches.{Beginning, SessionsReach, IsAt, may_ask, known_sessions, sessions_act}
 use Rattle.x25_world.proofs.sessions.SessionJoined.{HasMet, PairIsInOrder, PairsAreInOrder, SessionsJoined}
-use Rattle.x25_world.proofs.sessions.SessionKnown.{SessionLaws, all_no_earlier, met_in_order, pair_ends, here_in, here_is, there_is, pair_world, own_order, own_first, own_readable, nothing_in_order}
+use Rattle.x25_world.specs.laws.LawsBelow.{SessionLaws}
+use Rattle.x25_world.proofs.sessions.SessionKnown.{all_no_earlier, met_in_order, pair_ends, here_in, here_is, there_is, pair_world, own_order, own_first, own_readable, nothing_in_order}
 use Rattle.x25_world.proofs.sessions.SessionEntries.{heard_plain}
 use Rattle.x25_world.proofs.sessions.SessionLinks.{SessionGoes, own_step, deliver_goes}
 use Rattle.x25_world.proofs.sessions.SessionGoes.{here_extended}

@@ -34,7 +34,8 @@ use Rattle.x25_world.proofs.Growing.{spelled}
 use Rattle.x25_world.proofs.sessions.SessionTrace.{layer_of, Done, moved, own, own_goes, pair_at, events_of, pair_more, pair_same, TakeNothing, nothing_goes, BringOctets, octets_append}
 use Rattle.x25_world.proofs.sessions.SessionReaches.{Beginning, MayAsk, IsAt, may_ask, SessionsReach}
 use Rattle.x25_world.proofs.sessions.SessionJoined.{HasMet, PairIsInOrder, PairsAreInOrder, SessionsJoined}
-use Rattle.x25_world.proofs.sessions.SessionKnown.{SessionLaws, met_in_order, all_map, pair_ends, own_quiet, own_readable, nothing_in_order}
+use Rattle.x25_world.specs.laws.LawsBelow.{SessionLaws}
+use Rattle.x25_world.proofs.sessions.SessionKnown.{met_in_order, all_map, pair_ends, own_quiet, own_readable, nothing_in_order}
 use Rattle.x25_world.proofs.sessions.SessionEntries.{ArePlain, outcome_plain}
 use Rattle.x25_world.proofs.sessions.SessionLinks.{puts_up, SessionGoes, puts_go, extended_none}
 use Rattle.x25_world.proofs.sessions.SessionGoes.{same_or_not, IsNews, goes_on}

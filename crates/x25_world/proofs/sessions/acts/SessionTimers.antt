@@ -33,7 +33,7 @@ use Rattle.x25_world.specs.laws.Claims.{link_of, IsNoConnect}
 use Rattle.x25_world.proofs.Known.{IsConfigured, true_false, second_false}
 use Rattle.x25_world.proofs.sessions.SessionReaches.{Beginning, set_up, MayAct, MayAsk, IsAt, may_ask, SessionsReach, sessions_act}
 use Rattle.x25_world.proofs.sessions.SessionJoined.{SessionsJoined}
-use Rattle.x25_world.proofs.sessions.SessionKnown.{SessionLaws}
+use Rattle.x25_world.specs.laws.LawsBelow.{SessionLaws}
 use Rattle.x25_world.proofs.sessions.SessionLinks.{SessionGoes, own_step}
 use Rattle.x25_world.proofs.sessions.SessionFollows.{Lead, no_command, connect, disconnect, lead_of, follows_silent}
 use Rattle.x25_link.specs.declared.phase.Reason.TheVariants.{Retries}

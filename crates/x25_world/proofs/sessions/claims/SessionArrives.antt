@@ -28,7 +28,8 @@ use Rattle.x25_world.proofs.Growing.{spelled, spelled_none}
 use Rattle.x25_world.proofs.sessions.SessionTrace.{layer_of, Done, own_in, own, pair_in}
 use Rattle.x25_world.proofs.sessions.SessionReaches.{Beginning, known_sessions}
 use Rattle.x25_world.proofs.sessions.SessionJoined.{HasMet, PairIsInOrder, SessionsJoined, sessions_swapped}
-use Rattle.x25_world.proofs.sessions.SessionKnown.{SessionLaws, all_some, some_map, met_in_order, pair_world, world_here, world_there}
+use Rattle.x25_world.specs.laws.LawsBelow.{SessionLaws}
+use Rattle.x25_world.proofs.sessions.SessionKnown.{all_some, some_map, met_in_order, pair_world, world_here, world_there}
 use Rattle.x25_packet.specs.Spelling as packet
 use Rattle.x25_layer.specs.code.FitsLayer.{waits_up_to}
 use Rattle.std.proofs.lemmas.Bool.{eqb-true, eq-eqb, leb-true}

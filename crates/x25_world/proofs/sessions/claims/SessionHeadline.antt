@@ -5,7 +5,7 @@ use Rattle.x25_world.specs.laws.Claims.{HasNoProcedureError}
 use Rattle.x25_world.specs.laws.SessionClaims.{Throughout, MeetInStep, AreLawfulWhereMet, AreNamedInSessions, UnmetAreToldNothing, OpenStretchesMeet, AllArrive}
 use Rattle.x25_world.specs.TapOctets.{IsTapOfOctets}
 use Rattle.x25_world.proofs.Known.{is_configured}
-use Rattle.x25_world.proofs.sessions.SessionKnown.{SessionLaws}
+use Rattle.x25_world.specs.laws.LawsBelow.{SessionLaws}
 use Rattle.x25_world.proofs.sessions.claims.SessionMeets.{meet_in_step}
 use Rattle.x25_world.proofs.sessions.claims.SessionLawful.{are_lawful, unmet_told_nothing}
 use Rattle.x25_world.proofs.sessions.claims.SessionNamed.{are_named}

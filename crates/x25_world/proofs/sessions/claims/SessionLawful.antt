@@ -20,7 +20,8 @@ use Rattle.x25_world.proofs.Growing.{spelled_none}
 use Rattle.x25_world.proofs.sessions.SessionTrace.{layer_of, Done, own_in, own, pair_in}
 use Rattle.x25_world.proofs.sessions.SessionReaches.{Beginning, known_sessions}
 use Rattle.x25_world.proofs.sessions.SessionJoined.{HasMet, PairIsInOrder, SessionsJoined, sessions_swapped}
-use Rattle.x25_world.proofs.sessions.SessionKnown.{SessionLaws, met_in_order, pair_world, world_here, world_there}
+use Rattle.x25_world.specs.laws.LawsBelow.{SessionLaws}
+use Rattle.x25_world.proofs.sessions.SessionKnown.{met_in_order, pair_world, world_here, world_there}
 use Rattle.x25_world.proofs.sessions.claims.SessionMeets.{told_met, begun_both}
 
 -- ---- which session

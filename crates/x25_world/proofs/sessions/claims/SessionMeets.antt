@@ -13,7 +13,8 @@ use Rattle.x25_world.specs.laws.SessionClaims.{MeetInStep}
 use Rattle.x25_world.proofs.Known.{IsConfigured}
 use Rattle.x25_world.proofs.sessions.SessionReaches.{Beginning, known_sessions}
 use Rattle.x25_world.proofs.sessions.SessionJoined.{HasMet, Hears, SessionsJoined}
-use Rattle.x25_world.proofs.sessions.SessionKnown.{SessionLaws, all_no_earlier, all_some}
+use Rattle.x25_world.specs.laws.LawsBelow.{SessionLaws}
+use Rattle.x25_world.proofs.sessions.SessionKnown.{all_no_earlier, all_some}
 
 -- ---- by the links
 

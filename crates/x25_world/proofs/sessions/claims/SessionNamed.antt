@@ -16,7 +16,8 @@ use Rattle.x25_world.proofs.Known.{IsConfigured}
 use Rattle.x25_world.proofs.sessions.SessionTrace.{Done, own, pair_in}
 use Rattle.x25_world.proofs.sessions.SessionReaches.{Beginning}
 use Rattle.x25_world.proofs.sessions.SessionJoined.{PairIsInOrder, SessionsJoined, sessions_swapped}
-use Rattle.x25_world.proofs.sessions.SessionKnown.{SessionLaws, pair_world, world_here}
+use Rattle.x25_world.specs.laws.LawsBelow.{SessionLaws}
+use Rattle.x25_world.proofs.sessions.SessionKnown.{pair_world, world_here}
 use Rattle.x25_world.proofs.sessions.acts.SessionRequests.{session_pair}
 
 module _ (laws : SessionLaws) (cfg : Cfg) where

@@ -18,7 +18,7 @@ use Rattle.x25_world.proofs.Growing.{spelled, AreOnTap}
 use Rattle.x25_world.proofs.Known.{IsConfigured}
 use Rattle.x25_world.proofs.sessions.SessionReaches.{Beginning, known_sessions}
 use Rattle.x25_world.proofs.sessions.SessionJoined.{SessionsJoined}
-use Rattle.x25_world.proofs.sessions.SessionKnown.{SessionLaws}
+use Rattle.x25_world.specs.laws.LawsBelow.{SessionLaws}
 use Rattle.x25_world.proofs.sessions.claims.SessionQuiet.{held_of_given}
 
 packet_octets : (long_data : Bool) (channels : ℕ) (ps : List PlainPacket) → AreQuiet channels ps → AreReadable long_data ps → (octets : List ℕ) → Contains (spelled ps) octets → AreOctets octets

@@ -27,7 +27,8 @@ use Rattle.x25_world.proofs.Known.{IsConfigured}
 use Rattle.x25_world.proofs.sessions.SessionTrace.{own}
 use Rattle.x25_world.proofs.sessions.SessionReaches.{Beginning, known_sessions}
 use Rattle.x25_world.proofs.sessions.SessionJoined.{SessionsJoined, sessions_swapped, links_swapped}
-use Rattle.x25_world.proofs.sessions.SessionKnown.{SessionLaws, own_quiet, own_readable}
+use Rattle.x25_world.specs.laws.LawsBelow.{SessionLaws}
+use Rattle.x25_world.proofs.sessions.SessionKnown.{own_quiet, own_readable}
 use Rattle.x25_world.proofs.sessions.claims.SessionLawful.{which_session}
 use Rattle.x25_world.proofs.sessions.acts.SessionRequests.{session_pair}
 
