@@ -22,7 +22,7 @@ pub(crate) enum Phase {
 #[derive(Clone, Copy)]
 pub(crate) struct End {
     pub(crate) phase: Phase,
-    /// How many commands with P=1 it sent that no F=1 has answered.
+    /// How many commands with P=1 it sent that no F=1 has answered; 255 where there are more.
     pub(crate) polls: u8,
     /// No F=1 came behind the last of them.
     pub(crate) is_polling: bool,
@@ -48,6 +48,17 @@ fn first(rule: Option<Rule>, next: Option<Rule>) -> Option<Rule>
     match rule {
         Some(_) => rule,
         None => next,
+    }
+}
+
+/// One poll fewer that may be answered; 255 stand for that many or more.
+fn fewer(polls: u8) -> u8
+    ensures { result ≡ definition.fewer polls }
+{
+    if polls < u8::MAX {
+        polls.saturating_sub(1)
+    } else {
+        polls
     }
 }
 
@@ -269,7 +280,7 @@ impl Sides {
     {
         self.with_other(
             self.other
-                .with_polls(self.other.polls.saturating_sub(1), false),
+                .with_polls(fewer(self.other.polls), false),
         )
     }
 
