@@ -278,10 +278,7 @@ impl Sides {
     fn poll_answered(self) -> Sides
         ensures { result ≡ definition.poll_answered self }
     {
-        self.with_other(
-            self.other
-                .with_polls(fewer(self.other.polls), false),
-        )
+        self.with_other(self.other.with_polls(fewer(self.other.polls), false))
     }
 
     /// An F=1: one that answers nothing is at fault where `is_sure`.
