@@ -38,7 +38,7 @@ class Program(unittest.TestCase):
 
     def test_head_takes_a_line_of_an_endless_answer(self):
         sabm = "> 013febdf", b"> SABM cmd P=1\n"
-        for words, line, first in ("decode", *sabm), ("judge", *sabm), ("sim --down", "x", b"? 60\n"), ("station dte", "x", b". off idle\n"):
+        for words, line, first in ("decode", *sabm), ("judge", *sabm), ("sim --down", "x", b"? 60\n"), ("station dte", "x", b". off busy\n"):
             with self.subTest(words):
                 script = f'yes "$1" | "$0" {words} | head -1; echo "${{PIPESTATUS[1]}}"'
                 done = subprocess.run(["bash", "-c", script, support.PROGRAM, line], capture_output=True, timeout=60)
