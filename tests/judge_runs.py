@@ -91,13 +91,13 @@ def judged(program, words, frames):
 
 
 def told(program, seed):
-    """The lines of a run that tell of a rule, whole or from a frame in its midst on, and how many frames the whole run has."""
+    """The lines that tell of a rule, of a run as a whole and from a frame in its midst on, and how many frames the whole run has."""
     words, judge_words, script = run(seed)
     tap = subprocess.run([program, "sim", *words], input=script, stdout=subprocess.PIPE).stdout
     frames = [line for line in tap.splitlines(True) if line[:2] in (b"> ", b"< ")]
     at_fault, count = judged(program, judge_words, frames)
     midst = losses.Dice(seed).below(len(frames) + 1)
-    return at_fault + judged(program, judge_words, frames[midst:])[0], count
+    return at_fault + [b"from frame %d on: %s" % (midst, line) for line in judged(program, judge_words, frames[midst:])[0]], count
 
 
 def main():

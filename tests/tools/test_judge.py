@@ -1,16 +1,50 @@
-"""Tests of `judge`: nothing is told of random runs of two stations, nor of a recording of Linux's X.25."""
+"""Tests of `judge`: each rule has a case that breaks it alone; nothing is told of random runs of two stations, nor of a recording of Linux's X.25."""
 
 import gzip
+import re
 import subprocess
 import unittest
 
 import support
 from support import PROGRAM
 
+import golden
 import judge_runs
 
 # In the gate; `make judge-runs` plays 10,000.
 RUNS = 300
+
+
+def remarks(mark, output):
+    """What stands behind a mark in the lines of an answer, each without the number at its end."""
+    return [re.sub(r" \d+$", "", line.partition(mark)[2]) for line in output.decode().splitlines() if mark in line]
+
+
+class Cases(unittest.TestCase):
+    """The golden cases of `judge`, and the tables of docs/FORMATS.md."""
+
+    def setUp(self):
+        section = support.read("docs", "FORMATS.md").decode().split("## What `judge` writes")[1].split("\n## ")[0]
+        tables = [re.findall(r"^\| `([^`]+)` \|", table, re.MULTILINE) for table in section.split("| Text | ")[1:]]
+        self.rules, self.notes = ([re.sub(r" \d+$", "", text) for text in table] for table in tables)
+        self.cases = {name: golden.Case(name) for name in golden.names() if name.startswith("judge_")}
+
+    def test_each_rule_has_one_that_breaks_it_alone(self):
+        broken = {name: [rule.partition(": ")[2] for rule in remarks(" ! ", case.output)] for name, case in self.cases.items()}
+        self.assertGreater(len(self.rules), 20)
+        self.assertEqual([rule for rule in self.rules if [rule] not in broken.values()], [])
+        self.assertEqual([rules for rules in broken.values() if not set(rules) <= set(self.rules)], [])
+        for name, case in self.cases.items():
+            self.assertEqual(case.status, 1 if broken[name] or b"\n? 60\n" in b"\n" + case.output else 0, name)
+
+    def test_the_tables_are_those_of_the_program(self):
+        sources = ("x25_judge/src/rule_text.rt", "x25_packet_judge/src/packet_rule_text.rt", "x25_judge/src/note.rt")
+        said = {text.strip() for source in sources for text in re.findall(r'b"([^"]+)"', support.read("crates", source).decode())}
+        self.assertEqual(said, {*self.rules, *self.notes})
+
+    def test_each_note_has_one_that_breaks_no_rule(self):
+        noted = [note for case in self.cases.values() if b" ! " not in case.output for note in remarks(" ~ note: ", case.output)]
+        self.assertEqual(set(noted), set(self.notes))
 
 
 @support.needs_program

@@ -28,7 +28,8 @@ class Program(unittest.TestCase):
             self.assertEqual(self.run_on(["vectors"], input=b"", stdout=full), (3, b"write failed\n"))
 
     def test_a_write_that_nobody_reads(self):
-        for words, lines in (["decode"], b"> 013febdf\n"), (["sim"], b"drain 9\n"), (["vectors"], b""), (["--help"], b""), (["--version"], b""):
+        lines_of = {"decode": b"> 013febdf\n", "judge": b"> 013febdf\n", "frame": b"> 013febdf\n", "deframe dte": b"\x7e\x01\x7e", "station dte": b"", "sim": b"drain 9\n"}
+        for words, lines in *((name.split(), given) for name, given in lines_of.items()), (["vectors"], b""), (["--help"], b""), (["--version"], b""):
             with self.subTest(words):
                 left, right = os.pipe()
                 os.close(left)
@@ -36,7 +37,8 @@ class Program(unittest.TestCase):
                     self.assertEqual(self.run_on(words, input=lines, stdout=unread), (3, b""))
 
     def test_head_takes_a_line_of_an_endless_answer(self):
-        for words, line, first in ("decode", "> 013febdf", b"> SABM cmd P=1\n"), ("sim --down", "x", b"? 60\n"):
+        sabm = "> 013febdf", b"> SABM cmd P=1\n"
+        for words, line, first in ("decode", *sabm), ("judge", *sabm), ("sim --down", "x", b"? 60\n"), ("station dte", "x", b". off busy\n"):
             with self.subTest(words):
                 script = f'yes "$1" | "$0" {words} | head -1; echo "${{PIPESTATUS[1]}}"'
                 done = subprocess.run(["bash", "-c", script, support.PROGRAM, line], capture_output=True, timeout=60)
@@ -64,18 +66,21 @@ class Program(unittest.TestCase):
             self.assertEqual(self.run_on(["--help"], input=b"", stdout=full), (3, b"write failed\n"))
 
     def test_a_line_is_answered_before_the_input_ends(self):
-        with subprocess.Popen([support.PROGRAM, "decode"], stdin=subprocess.PIPE, stdout=subprocess.PIPE) as child:
-            for _ in range(3):
-                child.stdin.write(b"> 013febdf\n")
-                child.stdin.flush()
-                self.assertEqual(child.stdout.readline(), b"> SABM cmd P=1\n")
-            child.stdin.close()
-            self.assertEqual(child.stdout.read(), b"")
+        for word in "decode", "judge":
+            with self.subTest(word), subprocess.Popen([support.PROGRAM, word], stdin=subprocess.PIPE, stdout=subprocess.PIPE) as child:
+                for _ in range(3):
+                    child.stdin.write(b"> 01011607\n")
+                    child.stdin.flush()
+                    self.assertEqual(child.stdout.readline(), b"> RR cmd P=0 R=0\n")
+                child.stdin.close()
+                self.assertEqual(child.stdout.read(), b"")
 
     def test_memory_does_not_grow_with_the_input(self):
         whole = b"> " + b"0" * (80 << 20) + b"\n> 013febdf\n"
-        done = subprocess.run([support.PROGRAM, "decode"], input=whole, capture_output=True, timeout=60, preexec_fn=few_megabytes)
-        self.assertEqual((done.returncode, done.stdout, done.stderr), (1, b"? 60\n> SABM cmd P=1\n", b""))
+        for word in "decode", "judge":
+            with self.subTest(word):
+                done = subprocess.run([support.PROGRAM, word], input=whole, capture_output=True, timeout=60, preexec_fn=few_megabytes)
+                self.assertEqual((done.returncode, done.stdout, done.stderr), (1, b"? 60\n> SABM cmd P=1\n", b""))
 
 
 if __name__ == "__main__":

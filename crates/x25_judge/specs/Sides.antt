@@ -151,8 +151,12 @@ asks_on is_polling t = with_own (with_polls (min (t.own.polls + 1) 255) is_polli
 abbrev pub polls : Sides → Sides
 polls t = if t.own.is_polling then notes (Some PollAgain) (asks_on true t) else asks_on true t
 
+-- one fewer; 255 stand for that many or more
+abbrev pub fewer : ℕ → ℕ
+fewer polls = if nat_lt polls 255 then polls - 1 else polls
+
 abbrev pub poll_answered : Sides → Sides
-poll_answered t = with_other (with_polls (t.other.polls - 1) false t.other) t
+poll_answered t = with_other (with_polls (fewer t.other.polls) false t.other) t
 
 -- F=1 answers one P=1: where `is_sure` one that was seen, since the sender is known to be up or out behind it
 abbrev pub answers_poll : Bool → Sides → Sides

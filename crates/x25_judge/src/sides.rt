@@ -22,7 +22,7 @@ pub(crate) enum Phase {
 #[derive(Clone, Copy)]
 pub(crate) struct End {
     pub(crate) phase: Phase,
-    /// How many commands with P=1 it sent that no F=1 has answered.
+    /// How many commands with P=1 it sent that no F=1 has answered; 255 where there are more.
     pub(crate) polls: u8,
     /// No F=1 came behind the last of them.
     pub(crate) is_polling: bool,
@@ -48,6 +48,17 @@ fn first(rule: Option<Rule>, next: Option<Rule>) -> Option<Rule>
     match rule {
         Some(_) => rule,
         None => next,
+    }
+}
+
+/// One poll fewer that may be answered; 255 stand for that many or more.
+fn fewer(polls: u8) -> u8
+    ensures { result ≡ definition.fewer polls }
+{
+    if polls < u8::MAX {
+        polls.saturating_sub(1)
+    } else {
+        polls
     }
 }
 
@@ -267,10 +278,7 @@ impl Sides {
     fn poll_answered(self) -> Sides
         ensures { result ≡ definition.poll_answered self }
     {
-        self.with_other(
-            self.other
-                .with_polls(self.other.polls.saturating_sub(1), false),
-        )
+        self.with_other(self.other.with_polls(fewer(self.other.polls), false))
     }
 
     /// An F=1: one that answers nothing is at fault where `is_sure`.
