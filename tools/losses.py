@@ -1,9 +1,10 @@
 #!/usr/bin/env python3
 """Writes a random script for `x25 sim`: calls, data both ways, resets and interrupts, with losses, damage and early timers.
 
-    losses.py SEED LINES [--loss P] [--damage P] [--t1 P] [--channels N] | x25 sim --channels N
+    losses.py SEED LINES [--loss P] [--damage P] [--t1 P] [--channels N] [--heal] | x25 sim --channels N
 
-P is the probability that a line is of that kind. The same numbers give the same script, on any machine and any Python. The
+P is the probability that a line is of that kind. With --heal the users are ready to take messages behind these lines, and then the line
+between the stations is good for a moment: what was sent arrives. The same numbers give the same script, on any machine and any Python. The
 script doesn't know what the stations do with it, so some of its lines are refused (`! N`); that is meant.
 
 Exit status: 0, or 2 for bad words.
@@ -71,6 +72,12 @@ class Script:
         opening = ("drain 100", f"dte call {self._dice.digits(15)} {self._dice.digits(15)} -", "drain 100", f"dce accept {self._channels}", "drain 100")
         for number in range(count):
             yield opening[number] if number < len(opening) else self._line()
+
+    def healing(self):
+        """Yields the lines by which a run ends with all that was sent handed up."""
+        for channel in range(1, self._channels + 1):
+            yield from (f"{end} ready {channel}" for end in ENDS)
+        yield "heal"
 
     def _line(self):
         draw = self._dice.fraction()
@@ -162,6 +169,7 @@ def words():
     parser.add_argument("--damage", metavar="P", type=within(float, 0, 1), default=0.02, help="lines that damage a frame (0.02)")
     parser.add_argument("--t1", metavar="P", type=within(float, 0, 1), default=0.05, help="lines that let timer T1 fire (0.05)")
     parser.add_argument("--channels", metavar="N", type=within(int, 1, MOST_CHANNELS), default=1, help="logical channels, 1 to 16 (1)")
+    parser.add_argument("--heal", action="store_true", help="end the script by `heal`")
     options = parser.parse_args()
     if options.loss + options.damage + options.t1 > 1:
         parser.error("the three probabilities come to more than 1")
@@ -172,6 +180,8 @@ def main():
     options = words()
     script = Script(Dice(options.seed), options.channels, options.loss, options.damage, options.t1)
     for line in script.lines(options.lines):
+        sys.stdout.write(line + "\n")
+    for line in script.healing() if options.heal else ():
         sys.stdout.write(line + "\n")
     return 0
 

@@ -82,6 +82,8 @@ def _follow(begun, steps):
         if event.startswith("t1 ") and not is_refused(made):
             line.lines.append(f"{event[3:]} timer T1 fires")
         line.put(made)
+        if event == "heal":
+            line.deliver_all()
     return line.run()
 
 
@@ -109,6 +111,11 @@ class Line:
         """Takes the first frame off the line, where there is one."""
         if self._waiting[direction]:
             self._waiting[direction].pop(0)
+
+    def deliver_all(self):
+        """Takes all frames off the line."""
+        for waiting in self._waiting.values():
+            waiting.clear()
 
     def step(self, event, made):
         """What an event does to the frames on the line, where it was accepted."""

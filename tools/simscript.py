@@ -29,6 +29,7 @@ FORMS = [
     f"lose {DIRECTION} {NUMBER}",
     f"damage {DIRECTION} {NUMBER} {HEX}",
     f"drain {POSITIVE}",
+    "heal",
 ]
 LINE = re.compile("|".join(FORMS))
 

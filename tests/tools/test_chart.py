@@ -152,6 +152,15 @@ class Charts(ToolCase):
         self.assertEqual(picture, support.read("docs/repeat.svg").decode())
 
     @support.needs_program
+    def test_nothing_waits_behind_heal(self):
+        chart = self.chart(b"lose > 0\nheal\n", "--script", "--x25", support.PROGRAM)
+        self.assertEqual(chart.count("lost"), 1)
+        self.assertNotIn("on the line", chart)
+        self.assertIn("restarted cause=0 diag=0 o", chart)
+        chart = self.chart(b"heal\ndte call 1 2 -\n", "--script", "--x25", support.PROGRAM)
+        self.assertEqual(chart.count("on the line"), 1)
+
+    @support.needs_program
     def test_many_frames(self):
         chart = self.chart(b"> 013febdf\n? 60\n" * 5000, "--x25", support.PROGRAM)
         self.assertEqual(chart.count("SABM cmd P=1"), 5000)

@@ -2,21 +2,24 @@
 
 import collections
 import hashlib
+import re
+import subprocess
 import unittest
 
 import support
-from support import ToolCase
+from support import PROGRAM, ToolCase
 
+import losses
 import simscript
 import x25lines
 
 # One line of each form, and lines that are none.
 LINES = """dte call 123 4567 41|dce call - - -|dte call 1 2 0A0b|dte accept 1|dce clear 65535|dte send 1 0 6869|dce send 0 1 -|dte int 1 00
 dte int 1 -|dte reset 1|dce ready 1|dte notready 1|dce restart|dce connect|dte disconnect|t1 dte|t1 dce|deliver >|deliver <|lose > 0|lose < 65535
-damage > 0 00|damage < 12 -|drain 1|drain 100|drain 65535"""
+damage > 0 00|damage < 12 -|drain 1|drain 100|drain 65535|heal"""
 NO_LINES = """|dte| dte restart|dte restart |dte  restart|dte\trestart|DTE restart|dte call 1 2|dte call 1 2 4|dte call x 2 -|dte call  2 -|dte accept
 dte accept 01|dte accept -1|dte accept +1|dte accept 65536|dte accept 1 |dte send 1 2 -|dte send 1 0|dte int 1 0g|t1|t1 both|deliver|deliver =
-deliver > 0|lose >|lose > 70000|damage > 0|damage > 0 0|drain|drain 0|drain 00|drain 65536|drain 1.5|dte connect 1|dte restart\r|dte restart\n"""
+deliver > 0|lose >|lose > 70000|damage > 0|damage > 0 0|drain|drain 0|drain 00|drain 65536|drain 1.5|heal |heal 1|dte heal|dte connect 1|dte restart\r|dte restart\n"""
 
 # What may follow a call or its acceptance, and what may not.
 PARAMS = ["7 7 2 2", "7 8 3 2", "0 255 0 255", "3 9 99 199", "12 10 249 250"]
@@ -92,6 +95,11 @@ class Scripts(ToolCase):
         wanted = {"call", "accept", "clear", "send", "int", "reset", "ready", "notready", "restart", "t1", "deliver", "lose", "damage", "drain"}
         self.assertEqual(set(found), wanted)
 
+    def test_it_ends_by_heal(self):
+        healing = [f"{end} ready {channel}" for channel in (1, 2, 3) for end in ("dte", "dce")] + ["heal"]
+        words = "9", "50", "--channels", "3"
+        self.assertEqual(script(*words, "--heal"), script(*words) + healing)
+
     def test_probabilities(self):
         found = kinds(script("3", "10000", "--loss", "0.3", "--damage", "0.2", "--t1", "0.1"))
         for kind, share in (("lose", 0.3), ("damage", 0.2), ("t1", 0.1)):
@@ -114,6 +122,59 @@ class Scripts(ToolCase):
             self.assertEqual(support.run("losses.py", *words).returncode, 2)
         self.assertEqual(support.run("losses.py", "1", "5", "--loss", "0.9", "--t1", "0.2").returncode, 2)
         self.assertEqual(support.run("losses.py", "--help").returncode, 0)
+
+
+RUNS = 300
+# Behind `heal` nothing is on the line, and timer T1 runs at neither end.
+AT_REST = "t1 dte\nt1 dce\ndeliver >\ndeliver <\n"
+REFUSED_AT_REST = ["! 11", "! 11", "! 50", "! 50"]
+DATA = re.compile("(dte|dce) (send|message|int|interrupt) ch=([0-9]+) (at .*)")
+# What ends a stretch of a channel, so that data may be lost; and what ends those of all channels.
+ENDING = re.compile("(?:dte|dce) (?:clear|cleared|reset|wasreset|collided|fault) ch=([0-9]+)")
+ENDING_ALL = re.compile("(?:dte|dce) (?:linkdown|restart|restartdone|fault)( |$)")
+
+
+def healed(seed):
+    """What `sim` writes for a random script that ends by `heal`, and is then asked whether all is at rest. In three of four nothing is cleared
+    or reset."""
+    dice = losses.Dice(seed)
+    channels, window = dice.one_of((1, 1, 2, 4)), dice.one_of((7, 7, 1, 2, 3))
+    made = losses.Script(dice, channels, 0.2 * dice.fraction(), 0.1 * dice.fraction(), 0.2 * dice.fraction())
+    begun = [line for line in made.lines(120) if seed % 4 == 0 or not re.search("clear|reset|restart", line)]
+    lines = "".join(line + "\n" for line in (*begun, *made.healing()))
+    words = ["sim", "--k", str(window), "--channels", str(channels)]
+    done = subprocess.run([PROGRAM, *words], input=(lines + AT_REST).encode(), stdout=subprocess.PIPE, timeout=60)
+    return done.stdout.decode().splitlines()
+
+
+def handed(lines):
+    """By giver and channel, the messages and interrupts that were handed down and those that were handed up, where nothing ended their stretch."""
+    down, up = collections.defaultdict(list), collections.defaultdict(list)
+    ended = {match[1] for match in map(ENDING.match, lines) if match}
+    for match in map(DATA.match, lines):
+        if match and match[3] not in ended:
+            end, word, channel, rest = match.groups()
+            giver = end if word in ("send", "int") else "dce" if end == "dte" else "dte"
+            kind = "message" if word in ("send", "message") else "interrupt"
+            (down if word in ("send", "int") else up)[giver, channel, kind].append(rest)
+    return down, up
+
+
+@support.needs_program
+class Healed(ToolCase):
+    def test_everything_arrives(self):
+        compared = runs = 0
+        for seed in range(RUNS):
+            with self.subTest(seed):
+                lines = healed(seed)
+                self.assertEqual(lines[-4:], REFUSED_AT_REST)
+                if any(ENDING_ALL.match(line) for line in lines):
+                    continue
+                down, up = handed(lines)
+                self.assertEqual(down, up)
+                compared, runs = compared + sum(map(len, down.values())), runs + 1
+        self.assertGreater(runs, RUNS // 2)
+        self.assertGreater(compared, 2000)
 
 
 if __name__ == "__main__":

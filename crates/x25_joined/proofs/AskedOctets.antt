@@ -3,7 +3,7 @@ use Rattle.std.proofs.Common.{◌≡◌, ℕ, nat_le, Bool, true, false, cond, L
 use Rattle.x25_bits.specs.declared.role.Role.{Role}
 use Rattle.x25_bits.specs.declared.role.Role.TheVariants.{Dte, Dce}
 use Rattle.x25_station.specs.laws.TimerLaw.{Event, Asks, Fires}
-use Rattle.x25_script.specs.PlainLine.{PlainCommand, call, accept, clear, send, interrupt, reset, ready, not_ready, restart, pull, connect, disconnect, PlainLine, command, t1, deliver, lose, damage, drain}
+use Rattle.x25_script.specs.PlainLine.{PlainCommand, call, accept, clear, send, interrupt, reset, ready, not_ready, restart, pull, connect, disconnect, PlainLine, command, t1, deliver, lose, damage, drain, heal}
 use Rattle.x25_script.specs.Reading.{line_in}
 use Rattle.x25_script.specs.laws.ReadingLaw.{AsksInOctets, IsInOctets, ReadsOctets}
 use Rattle.x25_decode.specs.Decoded.{sent_in}
@@ -44,6 +44,7 @@ of_line end (deliver from) h = tt
 of_line end (lose from place) h = tt
 of_line end (damage from place octets) h = tt
 of_line end (drain count) h = tt
+of_line end heal h = tt
 
 of_read : ReadsOctets → (end : Role) (text : List ℕ) (read : Option PlainLine) → line_in text ≡ read → AsksOctets (option_and_then (script_event end) read)
 of_read reads end text None e = tt

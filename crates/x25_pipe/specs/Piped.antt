@@ -7,7 +7,7 @@ use Rattle.x25_bits.specs.declared.role.Role.{Role}
 use Rattle.x25_bits.specs.declared.role.Role.TheVariants.{Dte, Dce}
 use Rattle.x25_frame.specs.Spelling.{spelling_of}
 use Rattle.x25_transcript.specs.EntryText.{entry_line}
-use Rattle.x25_script.specs.PlainLine.{PlainLine, command, t1, deliver, lose, damage, drain}
+use Rattle.x25_script.specs.PlainLine.{PlainLine, command, t1, deliver, lose, damage, drain, heal}
 use Rattle.x25_script.specs.Reading.{line_in}
 use Rattle.x25_decode.specs.Decoded.{sent_in}
 use Rattle.x25_io.specs.Lines.{lines_of}
@@ -38,7 +38,7 @@ is_same Dce Dce = true
 abbrev pub only_of : Role → Role → Event → Option Event
 only_of end found event = if is_same end found then Some event else None
 
--- the events of a station alone; a line has nothing on it to deliver, lose or damage
+-- the events of a station alone; a line has nothing on it to deliver, lose or damage, and the other end isn't here to heal
 abbrev pub script_event : Role → PlainLine → Option Event
 script_event end (command at asked) = only_of end at (Asks (command_asked asked))
 script_event end (t1 at) = only_of end at Fires
@@ -46,6 +46,7 @@ script_event end (deliver from) = None
 script_event end (lose from place) = None
 script_event end (damage from place octets) = None
 script_event end (drain count) = None
+script_event end heal = None
 
 abbrev pub trace_event : Role → Role × List ℕ → Option Event
 trace_event end sent = only_of (other end) sent.0 (Comes sent.1)

@@ -405,6 +405,7 @@ impl Pipe {
             ScriptLine::Lose { .. } => self.read_nothing(writer),
             ScriptLine::Damage { .. } => self.read_nothing(writer),
             ScriptLine::Drain { .. } => self.read_nothing(writer),
+            ScriptLine::Heal => self.read_nothing(writer),
         }
     }
 

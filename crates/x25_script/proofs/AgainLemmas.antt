@@ -7,7 +7,7 @@ use Rattle.std.proofs.lemmas.Fmt.{digits_decimal}
 use Rattle.x25_bits.specs.declared.role.Role.{Role}
 use Rattle.x25_bits.specs.declared.role.Role.TheVariants.{Dte, Dce}
 use Rattle.x25_script.specs.declared.params.Params.{Params}
-use Rattle.x25_script.specs.PlainLine.{PlainCommand, call, accept, clear, send, interrupt, reset, ready, not_ready, restart, pull, connect, disconnect, PlainLine, command, t1, deliver, lose, damage, drain}
+use Rattle.x25_script.specs.PlainLine.{PlainCommand, call, accept, clear, send, interrupt, reset, ready, not_ready, restart, pull, connect, disconnect, PlainLine, command, t1, deliver, lose, damage, drain, heal}
 use Rattle.x25_script.specs.Spelling.{end_text, direction_text, q_text, address_text, IsAddress, IsNumber, Writes, AreParams, params_text, SpellsCommand, Spells}
 use Rattle.x25_script.specs.Reading.{parts_of, number_in, small_number_in, params_in, with_params_of, with_params_in, call_in, accept_in, send_in, interrupt_in, on_channel, with_fields, command_in, lose_in, damage_in, drain_in, line_in}
 use Rattle.x25_script.proofs.NumberLemmas.{own, number_again}
@@ -146,3 +146,4 @@ line_again (deliver from) text s = ap line_in s ∙ bind_again _ _ from _ (from_
 line_again (lose from place) text s = ap line_in s.1 ∙ lose_again from place s.0
 line_again (damage from place octets) text s = ap line_in s.1.2 ∙ damage_again from place octets s.1.0 s.0 s.1.1
 line_again (drain count) text s = ap line_in s.2 ∙ drain_again count s.0 s.1
+line_again heal text s = ap line_in s

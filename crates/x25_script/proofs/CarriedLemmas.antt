@@ -3,7 +3,7 @@ use Rattle.std.proofs.Common.{ℕ, ◌<◌, List, [], ◌∷◌}
 use Rattle.std.proofs.lemmas.List.Elements.{All-nil, All-from_get_or}
 use Rattle.hex.proofs.HexLemmas.{decode_of-ok}
 use Rattle.x25_script.specs.Octets.{AreOctets}
-use Rattle.x25_script.specs.PlainLine.{PlainCommand, call, accept, clear, send, interrupt, reset, ready, not_ready, restart, pull, connect, disconnect, PlainLine, command, t1, deliver, lose, damage, drain}
+use Rattle.x25_script.specs.PlainLine.{PlainCommand, call, accept, clear, send, interrupt, reset, ready, not_ready, restart, pull, connect, disconnect, PlainLine, command, t1, deliver, lose, damage, drain, heal}
 use Rattle.x25_script.specs.laws.ReadingLaw.{AsksInOctets, IsInOctets}
 use Rattle.x25_script.specs.Spelling.{Writes, SpellsCommand, Spells}
 
@@ -32,3 +32,4 @@ spelled_octets (t1 end) text h = tt
 spelled_octets (deliver from) text h = tt
 spelled_octets (lose from place) text h = tt
 spelled_octets (drain count) text h = tt
+spelled_octets heal text h = tt

@@ -10,9 +10,9 @@ use Rattle.x25_script.specs.declared.words.Keyword.TheVariants.{End, T1, Deliver
 use Rattle.x25_script.specs.declared.words.Verb.{Verb}
 use Rattle.x25_script.specs.declared.words.Verb.TheVariants.{Call, Accept, Clear, Send, Interrupt, Reset, Ready, NotReady}
 use Rattle.x25_script.specs.declared.params.Params.{Params}
-use Rattle.x25_script.specs.PlainLine.{PlainCommand, clear, reset, ready, not_ready, restart, pull, connect, disconnect, PlainLine}
+use Rattle.x25_script.specs.PlainLine.{PlainCommand, clear, reset, ready, not_ready, restart, pull, connect, disconnect, PlainLine, heal}
 use Rattle.x25_script.specs.Spelling.{end_text, direction_text, q_text, address_text, IsNumber, AreParams, params_text, SpellsCommand, Spells}
-use Rattle.x25_script.specs.Reading.{parts_of, end_in, from_in, q_in, number_in, address_in, octets_in, verb_in, keyword_in, small_number_in, params_in, with_params_of, with_params_in, call_in, accept_in, send_in, interrupt_in, on_channel, with_fields, bare_command_in, command_of, command_in, lose_in, damage_in, drain_in, after, line_in}
+use Rattle.x25_script.specs.Reading.{parts_of, end_in, from_in, q_in, number_in, address_in, octets_in, verb_in, keyword_in, small_number_in, params_in, with_params_of, with_params_in, call_in, accept_in, send_in, interrupt_in, on_channel, with_fields, bare_command_in, command_of, command_in, lose_in, damage_in, drain_in, after, bare_line_in, line_of, line_in}
 use Rattle.x25_script.proofs.NumberLemmas.{number_found}
 use Rattle.x25_script.proofs.PartLemmas.{chosen, bind_found, bytes_same, parts_joined, end_found, from_found, q_found, address_found, octets_found}
 
@@ -281,11 +281,19 @@ after_found Lose fields v e = lose_found fields v e
 after_found Damage fields v e = damage_found fields v e
 after_found Drain fields v e = drain_found fields v e
 
+bare_line_found : (text : List ℕ) (v : PlainLine) → bare_line_in text ≡ Some v → Spells v text
+bare_line_found text v e =
+    let test = cond_some (bytes_eq text (codes "heal")) heal v e in
+    subst (λ (w : PlainLine). Spells w text) test.1 (bytes_same text _ test.0)
+
+line_parts : (text : List ℕ) (parts : Option (List ℕ × List ℕ)) (v : PlainLine) → parts_of text ≡ parts → line_of text parts ≡ Some v → Spells v text
+line_parts text None v same e = bare_line_found text v e
+line_parts text (Some parts) v same e =
+    let word = bind_found (keyword_in parts.0) _ v e in
+    subst (λ (t : List ℕ). Spells v t)
+    (sym (fields_two text parts.0 parts.1 (keyword_text word.0) parts.1 (parts_joined text parts same) (keyword_found parts.0 word.0 word.1) refl))
+    (after_found word.0 parts.1 v word.2)
+
 pub line_found : (text : List ℕ) (v : PlainLine) → line_in text ≡ Some v → Spells v text
 unfolding line_in
-line_found text v e =
-    let parts = bind_found (parts_of text) _ v e in
-    let word = bind_found (keyword_in parts.0.0) _ v parts.2 in
-    subst (λ (t : List ℕ). Spells v t)
-    (sym (fields_two text parts.0.0 parts.0.1 (keyword_text word.0) parts.0.1 (parts_joined text parts.0 parts.1) (keyword_found parts.0.0 word.0 word.1) refl))
-    (after_found word.0 parts.0.1 v word.2)
+line_found text v e = line_parts text (parts_of text) v refl e

@@ -31,6 +31,7 @@ pub data PlainLine : Type 0 where
   lose : Role → ℕ → PlainLine
   damage : Role → ℕ → List ℕ → PlainLine
   drain : ℕ → PlainLine
+  heal : PlainLine
 
 abbrev pub plain_command : Command → PlainCommand
 plain_command (command_code.Call called calling user params) = call called.now calling.now user params
@@ -53,3 +54,4 @@ plain (line_code.Deliver from) = deliver from
 plain (line_code.Lose from place) = lose from place
 plain (line_code.Damage from place octets) = damage from place octets
 plain (line_code.Drain count) = drain count
+plain line_code.Heal = heal

@@ -15,7 +15,7 @@ use Rattle.x25_script.specs.declared.words.Keyword.TheVariants.{End, T1, Deliver
 use Rattle.x25_script.specs.declared.words.Verb.{Verb}
 use Rattle.x25_script.specs.declared.words.Verb.TheVariants.{Call, Accept, Clear, Send, Interrupt, Reset, Ready, NotReady}
 use Rattle.x25_script.specs.Octets.{octets_of}
-use Rattle.x25_script.specs.PlainLine.{PlainCommand, call, accept, clear, send, interrupt, reset, ready, not_ready, restart, pull, connect, disconnect, PlainLine, command, t1, deliver, lose, damage, drain, plain_command, plain}
+use Rattle.x25_script.specs.PlainLine.{PlainCommand, call, accept, clear, send, interrupt, reset, ready, not_ready, restart, pull, connect, disconnect, PlainLine, command, t1, deliver, lose, damage, drain, heal, plain_command, plain}
 
 -- a step of reading, where the steps before it read something
 infixl 10 ◌>>=◌
@@ -207,12 +207,20 @@ after Lose text = lose_in text
 after Damage text = damage_in text
 after Drain text = drain_in text
 
--- the line that the characters spell
-unfoldable pub line_in : List ℕ → Option PlainLine
-line_in text = do
-  parts ← parts_of text
+-- a line of one word
+abbrev pub bare_line_in : List ℕ → Option PlainLine
+bare_line_in text = if bytes_eq text (codes "heal") then Some heal else None
+
+-- of a text and its parts at the first blank
+abbrev pub line_of : List ℕ → Option (List ℕ × List ℕ) → Option PlainLine
+line_of text None = bare_line_in text
+line_of text (Some parts) = do
   word ← keyword_in parts.0
   after word parts.1
+
+-- the line that the characters spell
+unfoldable pub line_in : List ℕ → Option PlainLine
+line_in text = line_of text (parts_of text)
 
 -- an answer is what the characters read as
 abbrev pub GivesParts : Option (Bor (List ℕ) × Bor (List ℕ)) → Option (List ℕ × List ℕ) → Type 0

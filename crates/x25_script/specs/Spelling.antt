@@ -6,7 +6,7 @@ use Rattle.hex.specs.Hex.{decode_of}
 use Rattle.x25_bits.specs.declared.role.Role.{Role}
 use Rattle.x25_bits.specs.declared.role.Role.TheVariants.{Dte, Dce}
 use Rattle.x25_script.specs.declared.params.Params.{Params}
-use Rattle.x25_script.specs.PlainLine.{PlainCommand, call, accept, clear, send, interrupt, reset, ready, not_ready, restart, pull, connect, disconnect, PlainLine, command, t1, deliver, lose, damage, drain}
+use Rattle.x25_script.specs.PlainLine.{PlainCommand, call, accept, clear, send, interrupt, reset, ready, not_ready, restart, pull, connect, disconnect, PlainLine, command, t1, deliver, lose, damage, drain, heal}
 
 -- an end
 abbrev pub end_text : Role → List ℕ
@@ -84,3 +84,4 @@ Spells (damage from place octets) text = IsNumber place
     × ((digits : List ℕ) × Writes digits octets
     × (text ≡ codes "damage " ++ (direction_text from ++ (codes " " ++ (decimal place ++ (codes " " ++ digits))))))
 Spells (drain count) text = IsNumber count × (1 ≤ count) × (text ≡ codes "drain " ++ decimal count)
+Spells heal text = text ≡ codes "heal"

@@ -1,11 +1,11 @@
 //! A line of a script read from its characters.
 ghost use Rattle.std.specs.Prelude.{◌≡◌, IfSome, IsSomeAnd};
 ghost use Rattle.x25_script.specs.PlainLine.{PlainLine, plain};
-ghost use Rattle.x25_script.specs.Reading.{damage_in, drain_in, line_in, lose_in, GivesLine};
+ghost use Rattle.x25_script.specs.Reading.{after, bare_line_in, damage_in, drain_in, line_in, lose_in, GivesLine};
 ghost use Rattle.x25_script.specs.Spelling.{Spells};
 
 use crate::command::command;
-use crate::fields::{end, from, keyword, number, octets, split_blank};
+use crate::fields::{end, from, is, keyword, number, octets, split_blank};
 use crate::script_line::ScriptLine;
 use crate::words::Keyword;
 
@@ -44,12 +44,11 @@ fn drain(fields: &[u8]) -> Option<ScriptLine<'_>>
     Some(ScriptLine::Drain { count })
 }
 
-#[tactic(auto, unfolding(crate::specs::Reading::line_in))]
-fn read(line: &[u8]) -> Option<ScriptLine<'_>>
-    ensures { GivesLine result (line_in line.now) }
+/// The line of this first word, with what follows it.
+fn line_with(word: Keyword, fields: &[u8]) -> Option<ScriptLine<'_>>
+    ensures { GivesLine result (after word fields.now) }
 {
-    let (word, fields) = split_blank(line)?;
-    match keyword(word)? {
+    match word {
         Keyword::End(end) => {
             let command = command(fields)?;
             Some(ScriptLine::Command { end, command })
@@ -65,6 +64,27 @@ fn read(line: &[u8]) -> Option<ScriptLine<'_>>
         Keyword::Lose => lose(fields),
         Keyword::Damage => damage(fields),
         Keyword::Drain => drain(fields),
+    }
+}
+
+/// A line of one word.
+fn bare_line(text: &[u8]) -> Option<ScriptLine<'_>>
+    ensures { GivesLine result (bare_line_in text.now) }
+{
+    if is(text, "heal") {
+        Some(ScriptLine::Heal)
+    } else {
+        None
+    }
+}
+
+#[tactic(auto, unfolding(crate::specs::Reading::line_in))]
+fn read(line: &[u8]) -> Option<ScriptLine<'_>>
+    ensures { GivesLine result (line_in line.now) }
+{
+    match split_blank(line) {
+        Some((word, fields)) => line_with(keyword(word)?, fields),
+        None => bare_line(line),
     }
 }
 

@@ -80,4 +80,6 @@ pub enum ScriptLine<'a> {
     Drain {
         count: u16,
     },
+    /// All that is on the line arrives, timer T1 runs out at each end where it runs, and what was handed down arrives.
+    Heal,
 }

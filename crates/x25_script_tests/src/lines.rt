@@ -3,7 +3,7 @@ use std::test::Fail;
 use x25_script::{lines_are_in_octets, read_line, reading_is_the_grammar};
 
 /// Lines of a script, and what they say.
-const LINES: [(&[u8], &str); 42] = [
+const LINES: [(&[u8], &str); 43] = [
     (b"dte call 1 2 41", "DTE: call of [1] from [2] with 41"),
     (
         b"dce call 123 4567 48656C6c6F",
@@ -85,10 +85,11 @@ const LINES: [(&[u8], &str); 42] = [
     (b"damage < 12 0AbCdEf9", "from DCE 12 becomes 0abcdef9"),
     (b"drain 1", "at most 1 come"),
     (b"drain 65535", "at most 65535 come"),
+    (b"heal", "heals"),
 ];
 
 /// Characters that are no line of a script.
-const OTHERS: [&[u8]; 170] = [
+const OTHERS: [&[u8]; 177] = [
     b"",
     b" ",
     b"\r",
@@ -254,6 +255,13 @@ const OTHERS: [&[u8]; 170] = [
     b"drain > 1",
     b"drain 1 1",
     b"drains 1",
+    b"heal ",
+    b" heal",
+    b"heal 1",
+    b"heals",
+    b"Heal",
+    b"dte heal",
+    b"heal\r",
     b"> 013febdf",
     b"? 60",
     b"dte call 1 2 \xff",

@@ -99,5 +99,6 @@ pub fn shown(alloc: Global, line: &ScriptLine<'_>) -> Result<String, AllocError>
             format!(in alloc; "from {from} {place} becomes {octets}")
         }
         ScriptLine::Drain { count } => format!(in alloc; "at most {count} come"),
+        ScriptLine::Heal => String::from_str(alloc, "heals"),
     }
 }

@@ -37,6 +37,18 @@ module _ (cfg : Cfg) (tap : Bool) (old now next : Option (List ℕ)) (s u : Stag
       (subst (λ t. Stands cfg tap old now s l.at t (refused || has_refusal whole.sayings)) text
       (subst (Stands cfg tap old now s l.at l.text) any l.stands))
 
+  -- the same is left
+  pub left_as : (rest other : World → Turn) (l : Leaves cfg tap old now s rest told refused whole) → rest l.at ≡ other l.at → Leaves cfg tap old now s other told refused whole
+  left_as rest other l e = record {
+    at = l.at;
+    text = l.text;
+    status = l.status;
+    stands = l.stands;
+    next = sym (ap (λ t. t.next) e) ∙ l.next;
+    same = sym (ap (λ t. l.text ++ sayings_text t.sayings) e) ∙ l.same;
+    any = sym (ap (λ t. l.status || has_refusal t.sayings) e) ∙ l.any;
+  }
+
   -- a part of it is done
   pub part_done : (all first rest : World → Turn) (l : Leaves cfg tap old now s all told refused whole) → all l.at ≡ and_then rest (first l.at)
       → StandsAt cfg tap old next u l.text l.status (first l.at) → Leaves cfg tap old next u rest told refused whole

@@ -4,6 +4,7 @@ pub mod StepLemmas
 pub mod StandLemmas
 pub mod LeaveLemmas
 pub mod DrainLemmas
+pub mod HealLemmas
 pub mod StreamLemmas
 pub mod SimLemmas
 pub mod RunLemmas

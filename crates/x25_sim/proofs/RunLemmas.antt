@@ -10,7 +10,7 @@ use Rattle.x25_line.specs.Stations.{is_visible, replaced}
 use Rattle.x25_station.specs.declared.config.Cfg.{Cfg}
 use Rattle.x25_station.specs.Settings.{Settings, settings_from}
 use Rattle.x25_station.specs.Steps.{Outcome, Did, Refused, fires, commands}
-use Rattle.x25_script.specs.PlainLine.{PlainCommand, call, accept, clear, send, interrupt, reset, ready, not_ready, restart, pull, connect, disconnect, PlainLine, command, t1, deliver, lose, damage, drain}
+use Rattle.x25_script.specs.PlainLine.{PlainCommand, call, accept, clear, send, interrupt, reset, ready, not_ready, restart, pull, connect, disconnect, PlainLine, command, t1, deliver, lose, damage, drain, heal}
 use Rattle.x25_script.specs.Reading.{line_in}
 use Rattle.x25_script.specs.laws.ReadingLaw.{AsksInOctets, IsInOctets, ReadsOctets}
 use Rattle.x25_io.specs.Lines.{lines_of}
@@ -21,7 +21,7 @@ use Rattle.x25_world.specs.laws.SessionClaims.{Throughout, ThroughoutAlong}
 use Rattle.x25_sim.specs.Sayings.{Saying, enters, taps, reads_nothing, refuses}
 use Rattle.x25_console.specs.Commands.{command_asked}
 use Rattle.x25_io.specs.HeldLine.{most_line}
-use Rattle.x25_sim.specs.Simulated.{Turn, and_then, step_told, told_between, turn_of, event_turn, next_end, delivered_to, drained, line_turn, asked_in, asked_turn, turn, turns, connecting, set_up, opened, simulated}
+use Rattle.x25_sim.specs.Simulated.{Turn, and_then, step_told, told_between, turn_of, event_turn, next_end, delivered_to, drained, tried_of, tried, both_tried, most_times, fired, pulled, unless_empty, emptied, healed, line_turn, asked_in, asked_turn, turn, turns, connecting, set_up, opened, simulated}
 use Rattle.x25_sim.specs.laws.RunLaw.{entries_in, frames_in, begins, IsNoConnectLine, NoneAsks, IsRun, ScriptsAreRuns, OfScripts, OfScriptsSetUp, OfAllScripts, UpOnceUnlessAsked, ScriptsAreTold, ScriptsAreTapped}
 
 -- ---- a world only grows
@@ -237,6 +237,48 @@ unfolding drained
 drain_runs P cfg tap zero w = stays P cfg tap w [] refl refl
 drain_runs P cfg tap (suc n) w = delivery_runs P cfg tap (drained cfg tap n) w (next_end w.out w.back) (drain_runs P cfg tap n)
 
+outcome_runs : (P : Type 0) (cfg : Cfg) (tap : Bool) (w : World) (e : Event) (o : WorldOutcome) → happens cfg w e ≡ o → GrowsTo w o → ActsInOctets e.act
+    → (P → (refusal : Option WorldError) → IsNoConnect e.act refusal) → Runs P cfg tap w (tried_of tap w o)
+outcome_runs P cfg tap w e (Happened next) is g octets other = moves P cfg tap w e (Happened next) is g octets other
+outcome_runs P cfg tap w e (Declined error) is g octets other = stays P cfg tap w [] refl refl
+
+tried_runs : (P : Type 0) (cfg : Cfg) (tap : Bool) (e : Event) (w : World) → ActsInOctets e.act → (P → (refusal : Option WorldError) → IsNoConnect e.act refusal)
+    → Runs P cfg tap w (tried cfg tap e w)
+unfolding tried
+tried_runs P cfg tap e w octets other = outcome_runs P cfg tap w e (happens cfg w e) refl (by_event cfg w e.at e.act) octets other
+
+both_tried_run : (P : Type 0) (cfg : Cfg) (tap : Bool) (act : Act) (w : World) → ActsInOctets act → (P → (refusal : Option WorldError) → IsNoConnect act refusal)
+    → Runs P cfg tap w (both_tried cfg tap act w)
+unfolding both_tried
+both_tried_run P cfg tap act w octets other =
+    both_run P cfg tap w _ (tried cfg tap (record { at = Dce; act = act })) (tried_runs P cfg tap (record { at = Dte; act = act }) w octets other)
+    (λ v. tried_runs P cfg tap (record { at = Dce; act = act }) v octets other)
+
+fired_runs : (P : Type 0) (cfg : Cfg) (tap : Bool) (w : World) → Runs P cfg tap w (fired cfg tap w)
+unfolding fired
+fired_runs P cfg tap w = both_run P cfg tap w _ (both_tried cfg tap Fires) (drain_runs P cfg tap most_times w) (λ v. both_tried_run P cfg tap Fires v tt (λ p refusal. tt))
+
+pulled_runs : (P : Type 0) (cfg : Cfg) (tap : Bool) (w : World) → Runs P cfg tap w (pulled cfg tap w)
+unfolding pulled
+pulled_runs P cfg tap w =
+    both_run P cfg tap w _ (both_tried cfg tap (Commands (command_asked pull))) (drain_runs P cfg tap most_times w)
+    (λ v. both_tried_run P cfg tap (Commands (command_asked pull)) v tt (λ p refusal. tt))
+
+rest_runs : (P : Type 0) (cfg : Cfg) (tap : Bool) (rest : World → Turn) (w : World) (at : Option Role) → ((v : World) → Runs P cfg tap v (rest v)) → Runs P cfg tap w (unless_empty rest w at)
+rest_runs P cfg tap rest w None h = stays P cfg tap w [] refl refl
+rest_runs P cfg tap rest w (Some at) h = h w
+
+emptied_runs : (P : Type 0) (cfg : Cfg) (tap : Bool) (n : ℕ) (w : World) → Runs P cfg tap w (emptied cfg tap n w)
+unfolding emptied
+emptied_runs P cfg tap zero w = stays P cfg tap w [] refl refl
+emptied_runs P cfg tap (suc n) w =
+    both_run P cfg tap w _ (λ v. unless_empty (emptied cfg tap n) v (next_end v.out v.back)) (pulled_runs P cfg tap w)
+    (λ v. rest_runs P cfg tap (emptied cfg tap n) v (next_end v.out v.back) (emptied_runs P cfg tap n))
+
+healed_runs : (P : Type 0) (cfg : Cfg) (tap : Bool) (w : World) → Runs P cfg tap w (healed cfg tap w)
+unfolding healed
+healed_runs P cfg tap w = both_run P cfg tap w _ (emptied cfg tap most_times) (fired_runs P cfg tap w) (emptied_runs P cfg tap most_times)
+
 line_runs : (P : Type 0) (cfg : Cfg) (tap : Bool) (line : PlainLine) (w : World) → IsInOctets line → (P → IsNoConnectLine (Some line)) → Runs P cfg tap w (line_turn cfg tap line w)
 unfolding line_turn
 line_runs P cfg tap (command end asked) w h other = event_runs P cfg tap _ w (handed asked h) (λ p refusal. other_asked end asked refusal (other p))
@@ -245,6 +287,7 @@ line_runs P cfg tap (deliver from) w h other = event_runs P cfg tap _ w tt (λ p
 line_runs P cfg tap (lose from place) w h other = event_runs P cfg tap _ w tt (λ p refusal. tt)
 line_runs P cfg tap (damage from place octets) w h other = event_runs P cfg tap _ w tt (λ p refusal. tt)
 line_runs P cfg tap (drain count) w h other = drain_runs P cfg tap count w
+line_runs P cfg tap heal w h other = healed_runs P cfg tap w
 
 asked_runs : (P : Type 0) (cfg : Cfg) (tap : Bool) (w : World) (asked : Option PlainLine) → AskedInOctets asked → (P → IsNoConnectLine asked) → Runs P cfg tap w (asked_turn cfg tap w asked)
 asked_runs P cfg tap w None h other = stays P cfg tap w (reads_nothing ∷ []) refl refl

@@ -1,6 +1,7 @@
 -- Where the simulator stands after a turn.
 use Rattle.std.proofs.Common.{◌≡◌, ◌∙◌, ℕ, Bool, true, false, List, [], ◌∷◌, ◌++◌, Option, Some, None, append_assoc, ap, sym, subst, refl, codes, inl, inr}
 use Rattle.std.specs.Prelude.{◌⊎◌, ◌||◌}
+use Rattle.std.proofs.lemmas.List.{append-nil}
 use Rattle.std.proofs.lemmas.List.Folds.{list_any-append}
 use Rattle.std.proofs.Math.Bool.{or_assoc, or-false, or-true}
 use Rattle.x25_io.specs.code.Written.{AppendsPrefix, Tells}
@@ -10,12 +11,12 @@ use Rattle.x25_world.specs.code.FitsWorld.{FitsWorld, all_of, nothing_gone}
 use Rattle.x25_world.specs.declared.error.WorldError.{WorldError}
 use Rattle.x25_sim.specs.declared.stage.Stage.{Stage}
 use Rattle.x25_sim.specs.Sayings.{Saying, refuses, reads_nothing, sayings_text, saying_line, refusal_number, is_refusal, has_refusal}
-use Rattle.x25_sim.specs.Simulated.{Turn, and_then, turn_of, told_between, asked_turn, connecting, opened}
+use Rattle.x25_sim.specs.Simulated.{Turn, quiet, and_then, turn_of, tried_of, told_between, asked_turn, connecting, opened}
 use Rattle.x25_sim.specs.code.Stands.{Stands, opening}
 use Rattle.x25_console.specs.Lines.{refusal_line}
 use Rattle.x25_io.proofs.ToldLemmas.{prefix_more}
 use Rattle.x25_sim.proofs.SayingLemmas.{text-append}
-use Rattle.x25_sim.proofs.StepLemmas.{happened_turn, declined_turn, step_accepts, refusal_told}
+use Rattle.x25_sim.proofs.StepLemmas.{happened_turn, declined_turn, happened_tried, declined_tried, step_accepts, refusal_told}
 
 -- where it stands, by the turn that led there
 abbrev pub StandsAt : Cfg → Bool → Option (List ℕ) → Option (List ℕ) → Stage → List ℕ → Bool → Turn → Type 0
@@ -46,6 +47,15 @@ module _ (cfg : Cfg) (tap : Bool) (old now next : Option (List ℕ)) (s u : Stag
         subst (BeginsAt old next told) (sym (happened_turn tap w o accepted))
         (subst (λ a. AppendsPrefix old next (told ++ sayings_text (told_between a w (after w o)))) h.asked b)
 
+    -- .. where nothing would be said of a refusal
+    pub stands_tried : FitsWorld cfg u.world (after w o) (all_of (after w o)) → u.tap ≡ s.tap → u.is_refused ≡ s.is_refused
+        → Tells old next u.output (told ++ sayings_text (told_between s.tap w (after w o))) → StandsAt cfg tap old next u told refused (tried_of tap w o)
+    stands_tried fits asked status tells =
+        subst (StandsAt cfg tap old next u told refused) (sym (happened_tried tap w o accepted)) (stands_moved fits asked status tells)
+
+    pub begins_tried : AppendsPrefix old next (told ++ sayings_text (told_between s.tap w (after w o))) → BeginsAt old next told (tried_of tap w o)
+    begins_tried b = subst (BeginsAt old next told) (sym (happened_tried tap w o accepted)) (begins_moved b)
+
   -- ---- an event was refused
 
   module _ (error : WorldError) (refusal : refusal_of o ≡ Some error) where
@@ -64,6 +74,18 @@ module _ (cfg : Cfg) (tap : Bool) (old now next : Option (List ℕ)) (s u : Stag
     pub begins_refused : AppendsPrefix old next (told ++ refusal_line (refusal_number error)) → BeginsAt old next told (turn_of tap w o)
     begins_refused b =
         subst (BeginsAt old next told) (sym (declined_turn tap w o error refusal)) (subst (λ t. AppendsPrefix old next (told ++ t)) (sym (refusal_told error)) b)
+
+    -- .. and nothing is said of it
+    pub stands_left_out : FitsWorld cfg u.world w (all_of w) → u.tap ≡ s.tap → u.is_refused ≡ s.is_refused → Tells old next u.output told
+        → StandsAt cfg tap old next u told refused (tried_of tap w o)
+    stands_left_out fits asked status tells =
+        let stays : StandsAt cfg tap old next u told refused (quiet w) = record {
+          fits = fits;
+          asked = asked ∙ h.asked;
+          tells = subst (Tells old next u.output) (sym (append-nil told)) tells;
+          status = status ∙ h.status ∙ sym (or-false refused);
+        } in
+        subst (StandsAt cfg tap old next u told refused) (sym (declined_tried tap w o error refusal)) stays
 
 pub refusal_is : {P Q : Type 0} → P ⊎ Q → (Q → ⊥) → P
 refusal_is (inl p) other = p

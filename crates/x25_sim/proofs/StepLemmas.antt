@@ -10,7 +10,7 @@ use Rattle.x25_world.specs.code.FitsWorld.{FitsWorld, all_of}
 use Rattle.x25_world.specs.declared.error.WorldError.{WorldError}
 use Rattle.x25_sim.specs.Sayings.{enters, taps, refuses, sayings_text, saying_line, refusal_number, has_refusal}
 use Rattle.x25_console.specs.Lines.{refusal_line}
-use Rattle.x25_sim.specs.Simulated.{frames_told, step_told, told_between, turn_of}
+use Rattle.x25_sim.specs.Simulated.{quiet, frames_told, step_told, told_between, turn_of, tried_of}
 use Rattle.x25_sim.proofs.SayingLemmas.{text-append}
 
 pub entries_first : (tap : Bool) (entries : List AtEnd) (frames : List OnTap)
@@ -42,6 +42,14 @@ happened_turn tap w (Declined error) e = absurd (cc)
 pub declined_turn : (tap : Bool) (w : World) (o : WorldOutcome) (error : WorldError) → refusal_of o ≡ Some error → turn_of tap w o ≡ record { next = w; sayings = refuses error ∷ [] }
 declined_turn tap w (Happened next) error e = absurd (cc)
 declined_turn tap w (Declined found) error e = ap (λ x. record { next = w; sayings = refuses x ∷ [] }) (same_Some found error e)
+
+pub happened_tried : (tap : Bool) (w : World) (o : WorldOutcome) → refusal_of o ≡ None → tried_of tap w o ≡ turn_of tap w o
+happened_tried tap w (Happened next) e = refl
+happened_tried tap w (Declined error) e = absurd (cc)
+
+pub declined_tried : (tap : Bool) (w : World) (o : WorldOutcome) (error : WorldError) → refusal_of o ≡ Some error → tried_of tap w o ≡ quiet w
+declined_tried tap w (Happened next) error e = absurd (cc)
+declined_tried tap w (Declined found) error e = refl
 
 -- entries and frames are no refusals
 none_refused : (tap : Bool) (entries : List AtEnd) (frames : List OnTap) → has_refusal (step_told tap entries frames) ≡ false

@@ -1,16 +1,16 @@
--- What the simulator does with a script (profile): each line is an event of a world of two stations, `drain` several deliveries, and
--- what happens is said.
+-- What the simulator does with a script (profile): each line is an event of a world of two stations, `drain` and `heal` several events,
+-- and what happens is said.
 use Rattle.std.specs.Prelude.{ℕ, zero, suc, nat_le, Bool, true, false, List, [], ◌∷◌, ◌++◌, length, drop, map, if◌then◌else◌, Option, Some, None}
 use Rattle.x25_bits.specs.Role.{other}
 use Rattle.x25_bits.specs.declared.role.Role.{Role}
 use Rattle.x25_bits.specs.declared.role.Role.TheVariants.{Dte, Dce}
 use Rattle.x25_station.specs.declared.config.Cfg.{Cfg}
-use Rattle.x25_script.specs.PlainLine.{PlainLine, command, t1, deliver, lose, damage, drain}
+use Rattle.x25_script.specs.PlainLine.{PlainLine, command, t1, deliver, lose, damage, drain, heal, pull}
 use Rattle.x25_script.specs.Reading.{line_in}
 use Rattle.x25_io.specs.Lines.{lines_of}
 use Rattle.x25_console.specs.Commands.{command_asked}
 use Rattle.x25_io.specs.HeldLine.{most_line}
-use Rattle.x25_world.specs.World.{World, OnTap, AtEnd, Event, Commands, Receives, Fires, Loses, Damages, WorldOutcome, Happened, Declined, happens, start, connected}
+use Rattle.x25_world.specs.World.{World, OnTap, AtEnd, Event, Act, Commands, Receives, Fires, Loses, Damages, WorldOutcome, Happened, Declined, happens, start, connected}
 use Rattle.x25_sim.specs.Sayings.{Saying, enters, taps, reads_nothing, refuses, sayings_text, has_refusal}
 
 -- ---- turns
@@ -65,6 +65,45 @@ unfoldable pub drained : Cfg → Bool → ℕ → World → Turn
 drained cfg tap zero w = quiet w
 drained cfg tap (suc n) w = delivered_to cfg tap (drained cfg tap n) w (next_end w.out w.back)
 
+-- ---- healing
+
+-- an event that is refused is left out, and nothing is said of it
+abbrev pub tried_of : Bool → World → WorldOutcome → Turn
+tried_of tap w (Happened next) = turn_of tap w (Happened next)
+tried_of tap w (Declined error) = quiet w
+
+unfoldable pub tried : Cfg → Bool → Event → World → Turn
+tried cfg tap e w = tried_of tap w (happens cfg w e)
+
+-- this act at the DTE, and then at the DCE
+unfoldable pub both_tried : Cfg → Bool → Act → World → Turn
+both_tried cfg tap act w = and_then (tried cfg tap (record { at = Dce; act = act })) (tried cfg tap (record { at = Dte; act = act }) w)
+
+-- how many deliveries follow one another at most, and how many rounds of them
+abbrev pub most_times : ℕ
+most_times = 4294967295
+
+-- What is on the line arrives, and then timer T1 runs out at each end where it runs.
+unfoldable pub fired : Cfg → Bool → World → Turn
+fired cfg tap w = and_then (both_tried cfg tap Fires) (drained cfg tap most_times w)
+
+-- What is on the line arrives, and then each end pulls what waits in its circuits.
+unfoldable pub pulled : Cfg → Bool → World → Turn
+pulled cfg tap w = and_then (both_tried cfg tap (Commands (command_asked pull))) (drained cfg tap most_times w)
+
+-- the rest, where frames are on the line
+abbrev pub unless_empty : (World → Turn) → World → Option Role → Turn
+unless_empty rest w None = quiet w
+unless_empty rest w (Some at) = rest w
+
+-- .. again and again, as long as that puts frames on the line
+unfoldable pub emptied : Cfg → Bool → ℕ → World → Turn
+emptied cfg tap zero w = quiet w
+emptied cfg tap (suc n) w = and_then (λ v. unless_empty (emptied cfg tap n) v (next_end v.out v.back)) (pulled cfg tap w)
+
+unfoldable pub healed : Cfg → Bool → World → Turn
+healed cfg tap w = and_then (emptied cfg tap most_times) (fired cfg tap w)
+
 -- ---- lines
 
 -- A direction leads away from an end, and frames are delivered, lost and damaged at the other one.
@@ -75,6 +114,7 @@ line_turn cfg tap (deliver from) w = event_turn cfg tap (record { at = other fro
 line_turn cfg tap (lose from place) w = event_turn cfg tap (record { at = other from; act = Loses place }) w
 line_turn cfg tap (damage from place octets) w = event_turn cfg tap (record { at = other from; act = Damages place octets }) w
 line_turn cfg tap (drain count) w = drained cfg tap count w
+line_turn cfg tap heal w = healed cfg tap w
 
 -- a longer line isn't in the grammar
 unfoldable pub asked_in : List ℕ → Option PlainLine

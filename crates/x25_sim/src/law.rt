@@ -5,7 +5,7 @@ ghost use Rattle.x25_world.specs.WindowGoes.{IsInWindow};
 ghost use Rattle.x25_world.specs.laws.SessionClaims.{AllArrive, AreLawfulWhereMet, AreNamedInSessions, MeetInStep, OpenStretchesMeet, UnmetAreToldNothing};
 ghost use Rattle.x25_world.specs.SessionWindow.{UpIsInWindow};
 ghost use Rattle.x25_sim.specs.laws.RunLaw.{OfAllScripts, OfScripts, OfScriptsSetUp, ScriptsAreRuns, ScriptsAreTapped, ScriptsAreTold, UpOnceUnlessAsked};
-ghost use Rattle.x25_sim.specs.rows.ScriptRows.{BothEndsGoDown, CallsCollide, DamageIsSeen, FramesAreWritten, LinkGoesDown, LinkIsSetUp, LinkIsSetUpAgain, LinksComeUp, LostUaComesAgain, MessagesArrive, OtherLinesAreRefused, ResetIsDone, RestartIsDone};
+ghost use Rattle.x25_sim.specs.rows.ScriptRows.{BothEndsGoDown, BothEndsHeal, CallsCollide, DamageIsSeen, FramesAreWritten, LinkGoesDown, LinkIsSetUp, LinkIsSetUpAgain, LinksComeUp, LinksThatAreDownHeal, LostFrameArrives, LostUaComesAgain, MessagesArrive, OtherLinesAreRefused, ResetIsDone, RestartIsDone, WaitingMessageIsPulled};
 
 use x25_script::lines_are_in_octets;
 use x25_world::{stations_meet_in_sessions, two_stations_keep_order};
@@ -59,7 +59,8 @@ pub fn scripts_meet_in_sessions()
 
 /// Worked scripts, with what is written and the status: set-up, and with its frames; a link that goes down by retries; damage and
 /// other refusals; two calls that collide; lines outside of the grammar; a call and its messages; `reset`, `restart` and `disconnect`;
-/// `connect` from both links down, also where a UA is lost, and of a link that went down.
+/// `connect` from both links down, also where a UA is lost, and of a link that went down; `heal` where frames are lost one way and both ways, where
+/// a message waits in its circuit, and where both links are down.
 pub fn scripts_move()
     ensures set_up { LinksComeUp }
     ensures frames { FramesAreWritten }
@@ -74,4 +75,8 @@ pub fn scripts_move()
     ensures connect { LinkIsSetUp }
     ensures lost_ua { LostUaComesAgain }
     ensures again { LinkIsSetUpAgain }
+    ensures healed { LostFrameArrives }
+    ensures both_healed { BothEndsHeal }
+    ensures pulled { WaitingMessageIsPulled }
+    ensures nothing_healed { LinksThatAreDownHeal }
 {}

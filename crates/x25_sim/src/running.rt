@@ -22,10 +22,10 @@ use x25_station::Cfg;
 /// the status: 1 where a line or an event was refused, else 0.
 ///
 /// A line outside of the grammar, or of more than 131,200 characters, becomes `? 60`; an event that is refused `! ` and its
-/// number, which is the station's own where the station refuses. `drain` is several deliveries, each a step. What was told
-/// is let go of. Buffers are made first, by `Simulation::new`, which reads and writes nothing; a growth that is refused later ends the
-/// run with `NoMemory`. A reader is called at
-/// most 2^64 - 1 times; the clauses on the text speak of scripts of fewer octets than that. Profile.
+/// number, which is the station's own where the station refuses. `drain` is several deliveries, and `heal` deliveries,
+/// firings of timer T1 and pulls, each a step. What was told is let go of. Buffers are made first, by `Simulation::new`, which
+/// reads and writes nothing; a growth that is refused later ends the run with `NoMemory`. A reader is called at most 2^64 - 1
+/// times; the clauses on the text speak of scripts of fewer octets than that. Profile.
 pub fn sim<R: Source, W: Sink>(
     alloc: Global,
     down: bool,

@@ -1,5 +1,5 @@
 //! Two stations, a line between them, and what is told of them.
-ghost use Rattle.std.specs.Prelude.{◌≡◌, ◌↔◌, IfOk, IsTrue};
+ghost use Rattle.std.specs.Prelude.{◌≡◌, ◌≢◌, ◌↔◌, IfErr, IfOk, IsTrue, OnOk};
 ghost use Rattle.x25_bits.specs.Role.{end_of, other};
 ghost use Rattle.x25_world.specs.code.FitsWorld.{FitsWorld, nothing_gone};
 ghost use Rattle.x25_sim.specs.code.Stands.{opening};
@@ -9,7 +9,7 @@ use std::alloc::Global;
 use x25_console::{read_octets, read_user, station_command, tell_nothing};
 use x25_io::{Fault, Output, Sink};
 use x25_script::{Command, ScriptLine};
-use x25_station::Cfg;
+use x25_station::{Cfg, Cmd};
 use x25_transcript::Line;
 use x25_world::{Direction, Event, Role, World, WorldError};
 
@@ -22,6 +22,9 @@ pub(crate) struct Stage {
     output: Output,
     is_refused: bool,
 }
+
+/// How many deliveries follow one another at most, and how many rounds of them, where frames arrive until there is none.
+const MOST_TIMES: u32 = 4_294_967_295;
 
 /// Whether memory was refused.
 fn is_memory(error: WorldError) -> bool
@@ -41,6 +44,17 @@ fn first_world(alloc: Global, down: bool, cfg: Cfg) -> Result<World, WorldError>
     }
 }
 
+/// Nothing, where an event was refused; want of memory is a fault.
+fn unless_memory(error: WorldError) -> Result<(), Fault>
+    ensures other { OnOk result (error ≢ WorldError.NoMemory) }
+    ensures memory { IfErr result (λ fault. fault ≡ Fault.NoMemory) }
+{
+    if is_memory(error) {
+        return Err(Fault::NoMemory);
+    }
+    Ok(())
+}
+
 /// The direction that leads away from an end.
 fn away_from(end: Role) -> Direction
     ensures { end_of result ≡ other end }
@@ -52,7 +66,7 @@ fn away_from(end: Role) -> Direction
 }
 
 impl Stage {
-    ghost use Rattle.std.specs.Prelude.{◌≡◌, ◌⊎◌, ◌++◌, true, ℕ, List, Bool, Option, Some, None, [], false, OnOk, OnErr, IfErr, IsErrOf, MatchResult, option_map};
+    ghost use Rattle.std.specs.Prelude.{◌≡◌, ◌⊎◌, ◌++◌, true, ℕ, List, Bool, Option, Some, None, [], false, OnOk, OnErr, IfErr, IsErrOf, MatchResult, is_none, option_map};
     ghost use Rattle.x25_script.specs.PlainLine.{plain, plain_command};
     ghost use Rattle.x25_io.specs.code.Written.{AppendsPrefix, Tells};
     ghost use Rattle.x25_station.specs.declared.config.Cfg.{Cfg as Settings};
@@ -60,7 +74,7 @@ impl Stage {
     ghost use Rattle.x25_world.specs.code.FitsWorld.{all_of};
     ghost use Rattle.x25_sim.specs.Sayings.{sayings_text};
     ghost use Rattle.x25_console.specs.Commands.{command_asked};
-    ghost use Rattle.x25_sim.specs.Simulated.{asked_turn, drained, event_turn, line_turn, next_end, opened, set_up, step_told, told_between, turn_of};
+    ghost use Rattle.x25_sim.specs.Simulated.{and_then, asked_turn, drained, emptied, event_turn, fired, healed, line_turn, most_times, next_end, opened, pulled, set_up, step_told, told_between, tried, turn_of};
     ghost use Rattle.x25_sim.specs.code.Stands.{IsOpening, Stands, Stood, Turns};
 
     /// The first world, of which nothing was told.
@@ -178,8 +192,15 @@ impl Stage {
         }
     }
 
+    /// Whether nothing is on the line.
+    fn is_line_empty(&self) -> bool
+        ensures { result ≡ is_none (next_end self.now.world.to_dce self.now.world.to_dte) }
+    {
+        self.next_direction().is_none()
+    }
+
     /// At most so many frames are delivered.
-    pub(crate) fn drain<W: Sink>(&mut self, count: u16, writer: &mut W) -> Result<(), Fault>
+    fn drain<W: Sink>(&mut self, count: u32, writer: &mut W) -> Result<(), Fault>
         ensures kept { OnOk result (W.is_marked writer.new ≡ W.is_marked writer.old) }
         ensures turns { (cfg : Settings) (tap : Bool) (old : Option (List ℕ))
             → Turns cfg tap old (W.contents writer.old) (W.contents writer.new) self.old self.new result (drained cfg tap count) }
@@ -194,6 +215,119 @@ impl Stage {
             self.happen(Event::Deliver(direction), writer)?;
         }
         Ok(())
+    }
+
+    /// An event happens, and is told; where it is refused nothing is told.
+    fn attempt<W: Sink>(&mut self, event: Event, writer: &mut W) -> Result<(), Fault>
+        ensures kept { OnOk result (W.is_marked writer.new ≡ W.is_marked writer.old) }
+        ensures turns { (cfg : Settings) (tap : Bool) (old : Option (List ℕ))
+            → Turns cfg tap old (W.contents writer.old) (W.contents writer.new) self.old self.new result (tried cfg tap (event_of event.entry)) }
+        ensures write { IsErrOf result Fault.Write → W.is_marked writer.new ≡ true }
+        ensures memory { IsErrOf result Fault.NoMemory → W.is_marked writer.new ≡ W.is_marked writer.old }
+        ensures read { IsErrOf result Fault.Read → ⊥ }
+    {
+        if let Err(error) = self.world.apply(event) {
+            return unless_memory(error);
+        }
+        self.end_step(writer)
+    }
+
+    /// Two events happen, each where it isn't refused.
+    fn attempt_both<W: Sink>(
+        &mut self,
+        first: Event,
+        second: Event,
+        writer: &mut W,
+    ) -> Result<(), Fault>
+        ensures kept { OnOk result (W.is_marked writer.new ≡ W.is_marked writer.old) }
+        ensures turns { (cfg : Settings) (tap : Bool) (old : Option (List ℕ))
+            → Turns cfg tap old (W.contents writer.old) (W.contents writer.new) self.old self.new result
+            (λ w. and_then (tried cfg tap (event_of second.entry)) (tried cfg tap (event_of first.entry) w)) }
+        ensures write { IsErrOf result Fault.Write → W.is_marked writer.new ≡ true }
+        ensures memory { IsErrOf result Fault.NoMemory → W.is_marked writer.new ≡ W.is_marked writer.old }
+        ensures read { IsErrOf result Fault.Read → ⊥ }
+    {
+        self.attempt(first, writer)?;
+        self.attempt(second, writer)
+    }
+
+    /// What is on the line arrives, and then two events happen, each where it isn't refused.
+    fn deliver_all_then<W: Sink>(
+        &mut self,
+        first: Event,
+        second: Event,
+        writer: &mut W,
+    ) -> Result<(), Fault>
+        ensures kept { OnOk result (W.is_marked writer.new ≡ W.is_marked writer.old) }
+        ensures turns { (cfg : Settings) (tap : Bool) (old : Option (List ℕ))
+            → Turns cfg tap old (W.contents writer.old) (W.contents writer.new) self.old self.new result
+            (λ w. and_then (λ v. and_then (tried cfg tap (event_of second.entry)) (tried cfg tap (event_of first.entry) v)) (drained cfg tap most_times w)) }
+        ensures write { IsErrOf result Fault.Write → W.is_marked writer.new ≡ true }
+        ensures memory { IsErrOf result Fault.NoMemory → W.is_marked writer.new ≡ W.is_marked writer.old }
+        ensures read { IsErrOf result Fault.Read → ⊥ }
+    {
+        self.drain(MOST_TIMES, writer)?;
+        self.attempt_both(first, second, writer)
+    }
+
+    /// What is on the line arrives, and then timer T1 runs out at each end where it runs.
+    fn fire<W: Sink>(&mut self, writer: &mut W) -> Result<(), Fault>
+        ensures kept { OnOk result (W.is_marked writer.new ≡ W.is_marked writer.old) }
+        ensures turns { (cfg : Settings) (tap : Bool) (old : Option (List ℕ))
+            → Turns cfg tap old (W.contents writer.old) (W.contents writer.new) self.old self.new result (fired cfg tap) }
+        ensures write { IsErrOf result Fault.Write → W.is_marked writer.new ≡ true }
+        ensures memory { IsErrOf result Fault.NoMemory → W.is_marked writer.new ≡ W.is_marked writer.old }
+        ensures read { IsErrOf result Fault.Read → ⊥ }
+    {
+        self.deliver_all_then(Event::T1(Role::Dte), Event::T1(Role::Dce), writer)
+    }
+
+    /// What is on the line arrives, and then each end pulls what waits in its circuits.
+    fn pull<W: Sink>(&mut self, writer: &mut W) -> Result<(), Fault>
+        ensures kept { OnOk result (W.is_marked writer.new ≡ W.is_marked writer.old) }
+        ensures turns { (cfg : Settings) (tap : Bool) (old : Option (List ℕ))
+            → Turns cfg tap old (W.contents writer.old) (W.contents writer.new) self.old self.new result (pulled cfg tap) }
+        ensures write { IsErrOf result Fault.Write → W.is_marked writer.new ≡ true }
+        ensures memory { IsErrOf result Fault.NoMemory → W.is_marked writer.new ≡ W.is_marked writer.old }
+        ensures read { IsErrOf result Fault.Read → ⊥ }
+    {
+        self.deliver_all_then(
+            Event::Command(Role::Dte, Cmd::Pull),
+            Event::Command(Role::Dce, Cmd::Pull),
+            writer,
+        )
+    }
+
+    /// So it goes on as long as that puts frames on the line.
+    fn empty<W: Sink>(&mut self, writer: &mut W) -> Result<(), Fault>
+        ensures kept { OnOk result (W.is_marked writer.new ≡ W.is_marked writer.old) }
+        ensures turns { (cfg : Settings) (tap : Bool) (old : Option (List ℕ))
+            → Turns cfg tap old (W.contents writer.old) (W.contents writer.new) self.old self.new result (emptied cfg tap most_times) }
+        ensures write { IsErrOf result Fault.Write → W.is_marked writer.new ≡ true }
+        ensures memory { IsErrOf result Fault.NoMemory → W.is_marked writer.new ≡ W.is_marked writer.old }
+        ensures read { IsErrOf result Fault.Read → ⊥ }
+    {
+        for _ in 0..MOST_TIMES {
+            self.pull(writer)?;
+            if self.is_line_empty() {
+                return Ok(());
+            }
+        }
+        Ok(())
+    }
+
+    /// The line is good for a moment: what is on it arrives, timer T1 runs out at each end where it runs, and what they send then and what waits in
+    /// the circuits arrives.
+    fn heal<W: Sink>(&mut self, writer: &mut W) -> Result<(), Fault>
+        ensures kept { OnOk result (W.is_marked writer.new ≡ W.is_marked writer.old) }
+        ensures turns { (cfg : Settings) (tap : Bool) (old : Option (List ℕ))
+            → Turns cfg tap old (W.contents writer.old) (W.contents writer.new) self.old self.new result (healed cfg tap) }
+        ensures write { IsErrOf result Fault.Write → W.is_marked writer.new ≡ true }
+        ensures memory { IsErrOf result Fault.NoMemory → W.is_marked writer.new ≡ W.is_marked writer.old }
+        ensures read { IsErrOf result Fault.Read → ⊥ }
+    {
+        self.fire(writer)?;
+        self.empty(writer)
     }
 
     /// Tells that a line isn't in the grammar.
@@ -265,7 +399,8 @@ impl Stage {
                 let damage = Event::Damage(away_from(from), usize::from(place), octets.as_slice());
                 self.happen(damage, writer)
             }
-            ScriptLine::Drain { count } => self.drain(count, writer),
+            ScriptLine::Drain { count } => self.drain(u32::from(count), writer),
+            ScriptLine::Heal => self.heal(writer),
         }
     }
 

@@ -21,4 +21,4 @@ CallGoesOut = IsAnswered Dte (codes "dte connect\n< 01738357\n< 03001000fb0700c4
 
 -- the other end's lines, what a line alone can have happen, and a refusal
 abbrev pub OthersAreRefused : Type 0
-OthersAreRefused = IsAnswered Dce (codes "dte connect\n< 01738357\ndrain 1\nt1 dce\n") (codes ". off busy\n? 60\n. off busy\n? 60\n. off busy\n? 60\n. off busy\n! 11\n. off busy\n") 1
+OthersAreRefused = IsAnswered Dce (codes "dte connect\n< 01738357\ndrain 1\nheal\nt1 dce\n") (codes ". off busy\n? 60\n. off busy\n? 60\n. off busy\n? 60\n. off busy\n? 60\n. off busy\n! 11\n. off busy\n") 1

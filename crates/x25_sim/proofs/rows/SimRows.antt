@@ -14,8 +14,8 @@ use Rattle.x25_io.specs.Lines.{lines_of}
 use Rattle.x25_transcript.specs.EntryText.{entry_line}
 use Rattle.x25_console.specs.Lines.{frame_line, refusal_line}
 use Rattle.x25_sim.specs.Sayings.{saying_line}
-use Rattle.x25_sim.specs.Simulated.{event_turn, drained, line_turn, asked_in, turn, turns, set_up, simulated}
-use Rattle.x25_sim.specs.rows.ScriptRows.{LinksComeUp, FramesAreWritten, LinkGoesDown, DamageIsSeen, CallsCollide, OtherLinesAreRefused, MessagesArrive, ResetIsDone, RestartIsDone, BothEndsGoDown, LinkIsSetUp, LostUaComesAgain, LinkIsSetUpAgain}
+use Rattle.x25_sim.specs.Simulated.{event_turn, drained, tried, both_tried, fired, pulled, emptied, healed, line_turn, asked_in, turn, turns, set_up, simulated}
+use Rattle.x25_sim.specs.rows.ScriptRows.{LinksComeUp, FramesAreWritten, LinkGoesDown, DamageIsSeen, CallsCollide, OtherLinesAreRefused, MessagesArrive, ResetIsDone, RestartIsDone, BothEndsGoDown, LinkIsSetUp, LostUaComesAgain, LinkIsSetUpAgain, LostFrameArrives, BothEndsHeal, WaitingMessageIsPulled, LinksThatAreDownHeal}
 
 pub links_come_up : LinksComeUp
 unfolding digits decode_pairs simulated set_up event_turn line_turn drained turn turns asked_in lines_of line_in parts_of number_in lose_in damage_in drain_in command_in with_fields small_number_in params_in with_params_in call_in accept_in send_in interrupt_in saying_line entry_line frame_line refusal_line pumped frame_of packet_of halves_of packed facilities_of is_sealed fcs_of number_of divided low_bits add divisor
@@ -68,3 +68,19 @@ lost_ua_comes_again = (refl, refl)
 pub link_is_set_up_again : LinkIsSetUpAgain
 unfolding digits decode_pairs simulated set_up event_turn line_turn drained turn turns asked_in lines_of line_in parts_of number_in lose_in damage_in drain_in command_in with_fields small_number_in params_in with_params_in call_in accept_in send_in interrupt_in saying_line entry_line frame_line refusal_line pumped frame_of packet_of halves_of packed facilities_of is_sealed fcs_of number_of divided low_bits add divisor
 link_is_set_up_again = (refl, refl)
+
+pub lost_frame_arrives : LostFrameArrives
+unfolding digits decode_pairs simulated set_up event_turn line_turn drained tried both_tried fired pulled emptied healed turn turns asked_in lines_of line_in parts_of number_in lose_in damage_in drain_in command_in with_fields small_number_in params_in with_params_in call_in accept_in send_in interrupt_in saying_line entry_line frame_line refusal_line pumped frame_of packet_of halves_of packed facilities_of is_sealed fcs_of number_of divided low_bits add divisor
+lost_frame_arrives = (refl, refl)
+
+pub both_ends_heal : BothEndsHeal
+unfolding digits decode_pairs simulated set_up event_turn line_turn drained tried both_tried fired pulled emptied healed turn turns asked_in lines_of line_in parts_of number_in lose_in damage_in drain_in command_in with_fields small_number_in params_in with_params_in call_in accept_in send_in interrupt_in saying_line entry_line frame_line refusal_line pumped frame_of packet_of halves_of packed facilities_of is_sealed fcs_of number_of divided low_bits add divisor
+both_ends_heal = (refl, refl)
+
+pub waiting_message_is_pulled : WaitingMessageIsPulled
+unfolding digits decode_pairs simulated set_up event_turn line_turn drained tried both_tried fired pulled emptied healed turn turns asked_in lines_of line_in parts_of number_in lose_in damage_in drain_in command_in with_fields small_number_in params_in with_params_in call_in accept_in send_in interrupt_in saying_line entry_line frame_line refusal_line pumped frame_of packet_of halves_of packed facilities_of is_sealed fcs_of number_of divided low_bits add divisor
+waiting_message_is_pulled = (refl, refl)
+
+pub links_that_are_down_heal : LinksThatAreDownHeal
+unfolding digits decode_pairs simulated set_up event_turn line_turn drained tried both_tried fired pulled emptied healed turn turns asked_in lines_of line_in parts_of number_in lose_in damage_in drain_in command_in with_fields small_number_in params_in with_params_in call_in accept_in send_in interrupt_in saying_line entry_line frame_line refusal_line pumped frame_of packet_of halves_of packed facilities_of is_sealed fcs_of number_of divided low_bits add divisor
+links_that_are_down_heal = (refl, refl)

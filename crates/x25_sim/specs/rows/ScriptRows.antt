@@ -6,6 +6,9 @@ use Rattle.x25_sim.specs.Simulated.{sim_text, sim_status}
 abbrev pub usual : Cfg
 usual = record { k = 7; n2 = 10; channels = 1; long_data = false }
 
+abbrev pub narrow : Cfg
+narrow = record { k = 1; n2 = 10; channels = 1; long_data = false }
+
 abbrev pub once : Cfg
 once = record { k = 7; n2 = 1; channels = 1; long_data = false }
 
@@ -64,3 +67,19 @@ LostUaComesAgain = Simulates usual true false (codes "dte connect\ndeliver >\nlo
 -- a link that went down by retries is set up again
 abbrev pub LinkIsSetUpAgain : Type 0
 LinkIsSetUpAgain = Simulates once false false (codes "lose > 0\nt1 dte\nt1 dte\ndte connect\ndrain 100\n") (codes "dce linkup\ndte linkup\ndte linkdown retries\ndte connect\ndce linkdown reset\ndce linkup\ndte linkup\ndce restarted cause=0 diag=0\ndte restarted cause=7 diag=0\n") 0
+
+-- a message whose frame was lost arrives, and T1 stops at the other end too
+abbrev pub LostFrameArrives : Type 0
+LostFrameArrives = Simulates usual false false (codes "drain 100\ndte call 1 2 -\ndrain 100\ndce accept 1\ndrain 100\ndte send 1 0 61\nlose > 0\nheal\nt1 dte\nt1 dce\n") (codes "dce linkup\ndte linkup\ndce restarted cause=0 diag=0\ndte restarted cause=7 diag=0\ndte call ch=1 at 1.0.0 called=1 calling=2 data=-\ndce incoming ch=1 at 1.0.0 called=1 calling=2 data=-\ndce accept ch=1\ndte connected ch=1\ndte send ch=1 at 1.0.0 q=0 data=61\ndce message ch=1 at 1.0.0 q=0 data=61\n! 11\n! 11\n") 1
+
+-- both ends have lost a frame, and one of them a poll
+abbrev pub BothEndsHeal : Type 0
+BothEndsHeal = Simulates usual false false (codes "drain 100\ndte call 1 2 -\ndrain 100\ndce accept 1\ndrain 100\ndte send 1 0 61\ndce send 1 0 62\nlose > 0\nlose < 0\nt1 dte\nlose > 0\nheal\n") (codes "dce linkup\ndte linkup\ndce restarted cause=0 diag=0\ndte restarted cause=7 diag=0\ndte call ch=1 at 1.0.0 called=1 calling=2 data=-\ndce incoming ch=1 at 1.0.0 called=1 calling=2 data=-\ndce accept ch=1\ndte connected ch=1\ndte send ch=1 at 1.0.0 q=0 data=61\ndce send ch=1 at 1.0.0 q=0 data=62\ndce message ch=1 at 1.0.0 q=0 data=61\ndte message ch=1 at 1.0.0 q=0 data=62\n") 0
+
+-- a message waits in its circuit with nothing on the line
+abbrev pub WaitingMessageIsPulled : Type 0
+WaitingMessageIsPulled = Simulates narrow false false (codes "drain 100\ndte call 1 2 -\ndrain 100\ndce accept 1\ndrain 100\ndte ready 1\ndte ready 1\ndte ready 1\ndte ready 1\ndte ready 1\ndte ready 1\ndte ready 1\ndte ready 1\ndte ready 1\ndte send 1 0 61\ndrain 100\nheal\n") (codes "dce linkup\ndte linkup\ndce restarted cause=0 diag=0\ndte restarted cause=7 diag=0\ndte call ch=1 at 1.0.0 called=1 calling=2 data=-\ndce incoming ch=1 at 1.0.0 called=1 calling=2 data=-\ndce accept ch=1\ndte connected ch=1\ndte ready ch=1\ndte ready ch=1\ndte ready ch=1\ndte ready ch=1\ndte ready ch=1\ndte ready ch=1\ndte ready ch=1\ndte ready ch=1\ndte ready ch=1\ndte send ch=1 at 1.0.0 q=0 data=61\ndce message ch=1 at 1.0.0 q=0 data=61\n") 0
+
+-- there is nothing to do where both links are down, and nothing is refused
+abbrev pub LinksThatAreDownHeal : Type 0
+LinksThatAreDownHeal = Simulates usual true false (codes "heal\n") [] 0

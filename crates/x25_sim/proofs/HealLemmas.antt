@@ -1,0 +1,45 @@
+-- Rounds of pulls, one after another.
+use Rattle.std.proofs.Common.{◌≡◌, ℕ, suc, ◌+◌, ◌-◌, ◌<◌, Bool, true, false, Option, Some, None, ap, arith, refl}
+use Rattle.std.specs.Prelude.{is_none, is_some, not, option_map}
+use Rattle.x25_bits.specs.declared.role.Role.{Role}
+use Rattle.x25_station.specs.declared.config.Cfg.{Cfg}
+use Rattle.x25_world.specs.World.{World}
+use Rattle.x25_sim.specs.Simulated.{Turn, quiet, and_then, next_end, pulled, unless_empty, emptied}
+
+-- whether there is none, by whether there is some
+pub none_by_some : {A B : Type 0} (f : A → B) (o : Option A) (b : Bool) → is_some o ≡ not b → b ≡ is_none (option_map f o)
+none_by_some f None true e = refl
+none_by_some f None false e = absurd (cc)
+none_by_some f (Some x) true e = absurd (cc)
+none_by_some f (Some x) false e = refl
+
+-- one less is left
+pub one_less : (all done : ℕ) → done < all → all - done ≡ suc (all - (done + 1))
+one_less all done h = omega (arith, h)
+
+-- what is left behind a round
+abbrev pub left_behind : Cfg → Bool → ℕ → World → Turn
+left_behind cfg tap n w = unless_empty (emptied cfg tap n) w (next_end w.out w.back)
+
+module _ (cfg : Cfg) (tap : Bool) where
+  pub emptied_all : (n : ℕ) (w : World) → n ≡ 0 → emptied cfg tap n w ≡ quiet w
+  unfolding emptied
+  emptied_all n w e = ap (λ m. emptied cfg tap m w) e
+
+  pub emptied_more : (n m : ℕ) (w : World) → n ≡ suc m → emptied cfg tap n w ≡ and_then (left_behind cfg tap m) (pulled cfg tap w)
+  unfolding emptied
+  emptied_more n m w e = ap (λ n. emptied cfg tap n w) e
+
+  by_line : (rest : World → Turn) (w : World) (at : Option Role) → is_none at ≡ true → unless_empty rest w at ≡ quiet w
+  by_line rest w None e = refl
+  by_line rest w (Some at) e = absurd (cc)
+
+  pub line_empty : (n : ℕ) (w : World) → is_none (next_end w.out w.back) ≡ true → left_behind cfg tap n w ≡ quiet w
+  line_empty n w e = by_line (emptied cfg tap n) w (next_end w.out w.back) e
+
+  by_frames : (rest : World → Turn) (w : World) (at : Option Role) → is_none at ≡ false → unless_empty rest w at ≡ rest w
+  by_frames rest w None e = absurd (cc)
+  by_frames rest w (Some at) e = refl
+
+  pub line_filled : (n : ℕ) (w : World) → is_none (next_end w.out w.back) ≡ false → left_behind cfg tap n w ≡ emptied cfg tap n w
+  line_filled n w e = by_frames (emptied cfg tap n) w (next_end w.out w.back) e
