@@ -224,7 +224,7 @@ impl Station {
         steps_keep_bounds();
         holds_few();
         let asked = asked_call(self.alloc, called, calling, user, params)?;
-        let Ok(mut entries) = Vec::with_capacity(self.alloc, 1) else {
+        let Ok(mut entries) = self.lists.entries() else {
             return Err(StationError::NoMemory);
         };
         match self
@@ -267,7 +267,7 @@ impl Station {
         steps_keep_bounds();
         holds_few();
         let asked = asked_of(self.alloc, &request)?;
-        let Ok(mut entries) = Vec::with_capacity(self.alloc, 1) else {
+        let Ok(mut entries) = self.lists.entries() else {
             return Err(StationError::NoMemory);
         };
         match self.layer.ask(&mut self.link, channel, request) {
@@ -277,7 +277,10 @@ impl Station {
                 let frames = self.link.sent();
                 Ok(Step { frames, entries })
             }
-            Err(error) => Err(StationError::of_layer(error)),
+            Err(error) => {
+                self.lists.give_back_entries(entries);
+                Err(StationError::of_layer(error))
+            }
         }
     }
 
@@ -293,7 +296,7 @@ impl Station {
     {
         steps_keep_bounds();
         holds_few();
-        let Ok(mut entries) = Vec::with_capacity(self.alloc, 1) else {
+        let Ok(mut entries) = self.lists.entries() else {
             return Err(StationError::NoMemory);
         };
         match self.layer.restart(&mut self.link) {

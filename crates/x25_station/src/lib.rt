@@ -9,6 +9,7 @@ mod entry;
 mod error;
 mod law;
 mod linking;
+mod lists;
 mod receiving;
 mod station;
 mod step;

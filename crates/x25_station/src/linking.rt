@@ -77,7 +77,7 @@ impl Station {
     {
         steps_keep_bounds();
         holds_few();
-        let Ok(mut entries) = Vec::with_capacity(self.alloc, 1) else {
+        let Ok(mut entries) = self.lists.entries() else {
             return Err(StationError::NoMemory);
         };
         match self.link.t1() {

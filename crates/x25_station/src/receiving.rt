@@ -21,21 +21,19 @@ use crate::error::StationError;
 use crate::law::steps_keep_bounds;
 use crate::linking::note_down;
 use crate::station::Station;
-use crate::step::{MOST_ENTRIES, MOST_FRAMES, Step};
+use crate::step::Step;
 use x25_frame::reading_is_the_grammar as reads_frames;
 use x25_layer::Layer;
 use x25_link::{Link, Notes, OrderedLink, holds_few, notes_what_changes};
 use x25_packet::reading_is_the_grammar;
 
-// Puts frames behind others, in memory that was set aside.
-fn append(frames: &mut Vec<Vec<u8>>, more: Vec<Vec<u8>>)
-    requires { vec_len frames.old + vec_len more ≤ vec_capacity frames.old }
-    ensures items { frames.new.items ≡ frames.old.items ++ more.items }
-    ensures capacity { vec_capacity frames.new ≡ vec_capacity frames.old }
+// Puts frames behind others, in memory that was set aside, and leaves their list empty.
+fn append(frames: &mut Vec<Vec<u8>>, more: &mut Vec<Vec<u8>>)
+    requires { vec_len frames.old + vec_len more.old ≤ vec_capacity frames.old }
+    ensures items { frames.new.items ≡ frames.old.items ++ more.old.items }
+    ensures capacity { vec_capacity frames.old ≤ vec_capacity frames.new }
 {
-    for frame in more {
-        frames.push_reserved(frame);
-    }
+    frames.append(more).unwrap();
 }
 
 // What the layer does at LinkUp.
@@ -191,10 +189,10 @@ impl Station {
         ensures most_spares { self.new.link.outgoing.long ≤ max self.old.link.outgoing.long 16 }
         ensures most_circuits { (bound : ℕ) → 4096 ≤ bound → HaveAtMost bound self.old.layer.circuits.items → HaveAtMost bound self.new.layer.circuits.items }
     {
-        let Ok(frames) = Vec::with_capacity(self.alloc, MOST_FRAMES) else {
+        let Ok(frames) = self.lists.frames() else {
             return Err(StationError::NoMemory);
         };
-        let Ok(entries) = Vec::with_capacity(self.alloc, MOST_ENTRIES) else {
+        let Ok(entries) = self.lists.entries() else {
             return Err(StationError::NoMemory);
         };
         if self.texts.reserve(MOST_TEXTS).is_err() {
@@ -225,7 +223,8 @@ impl Station {
         let (mut frames, mut entries) = self.set_aside(octets.len())?;
         match self.link.take(octets) {
             Ok(step) => {
-                append(&mut frames, step.frames);
+                let mut used = step.frames;
+                append(&mut frames, &mut used);
                 follow(
                     &mut self.layer,
                     &mut self.link,
@@ -234,7 +233,10 @@ impl Station {
                     step.packet,
                     &mut entries,
                 );
-                append(&mut frames, self.link.sent());
+                let mut kept = self.link.sent();
+                append(&mut frames, &mut kept);
+                self.link.give_back_list(used);
+                self.link.give_back_list(kept);
                 Ok(Step { frames, entries })
             }
             Err(error) => Err(StationError::of_link(error)),

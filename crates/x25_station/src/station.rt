@@ -4,6 +4,8 @@ ghost use Rattle.x25_station.specs.code.FitsParts.{AreMeant};
 use crate::config::Cfg;
 use crate::entering::TextMemory;
 use crate::error::StationError;
+use crate::lists::Lists;
+use crate::step::Step;
 use std::alloc::Global;
 use x25_bits::{Blanks, Role, Seq};
 use x25_layer::{Layer, LayerError, Stretch};
@@ -18,6 +20,8 @@ pub struct Station {
     pub(crate) layer: Layer,
     /// Memory for texts of entries.
     pub(crate) texts: TextMemory,
+    /// Lists for what later calls answer.
+    pub(crate) lists: Lists,
     pub(crate) alloc: Global,
     ghost meant: { AreMeant link layer },
     ghost aside: { IsFewAside link layer texts },
@@ -56,6 +60,7 @@ impl Station {
             link,
             layer,
             texts: Blanks::new(alloc),
+            lists: Lists::new(alloc),
             alloc,
         })
     }
@@ -116,6 +121,31 @@ impl Station {
         ensures most { result ≤ 51 }
     {
         self.link.blanks() + self.layer.blanks() + self.texts.kept()
+    }
+
+    /// How many buffers are kept that were given back, for frames that are sent later: 32 at most, of at most 4,103 octets each.
+    pub fn returned(&self) -> usize
+        ensures { result ≤ 32 }
+    {
+        self.link.returned()
+    }
+
+    /// Takes back what a call answered: its lists serve later calls, and the memory of frames that are still in them later frames. The
+    /// station is as before.
+    pub fn give_back(&mut self, step: Step)
+        ensures { (c : Settings) (s : State) → FitsStation c self.old s → FitsStation c self.new s }
+    {
+        let frames = self.lists.give_back(step);
+        self.link.give_back_list(frames);
+    }
+
+    /// Takes the memory of a frame back, of this station or of another, for one that is sent later. The station is as before.
+    ///
+    /// It is let go of where it is for more than 4,103 octets, and where 32 are kept.
+    pub fn give_back_frame(&mut self, octets: Vec<u8>)
+        ensures { (c : Settings) (s : State) → FitsStation c self.old s → FitsStation c self.new s }
+    {
+        self.link.give_back(octets);
     }
 
     /// The name of the stretch that is open on a channel, in p4 with d1, where one is.

@@ -8,6 +8,8 @@ mod commands;
 #[cfg(test)]
 mod errors;
 #[cfg(test)]
+mod given_back;
+#[cfg(test)]
 mod hearing;
 #[cfg(test)]
 mod linking;

@@ -16,8 +16,8 @@ use Rattle.x25_station.proofs.TakeLemmas.{least_by_meaning}
 use Rattle.x25_station.proofs.FewLemmas.{few_asked}
 use Rattle.x25_station.proofs.station.Station.ask.Goals as goal
 
-pub invariant_of-self : goal.invariant_of-self
-invariant_of-self c = record {
+pub invariant_of-self-in-Ok-ask : goal.invariant_of-self-in-Ok-ask
+invariant_of-self-in-Ok-ask c = record {
   meant = still_meant _ _ _ _ c.args.self.now.meant (λ c' s fits.
       let request = Asks c.args.channel (plain_request c.args.request) in
       let a = answers c.in-Ok-ask.field-0 c' _ c.ask.new.link c.sent-frames.new.self _ c.ask.new.self (record { frames = c.sent-frames.result; entries = c.enter.new.entries }) s request fits
@@ -32,8 +32,8 @@ invariant_of-self c = record {
       record { packets = omega (arith, packets, low); spares = omega (arith, spares); texts = before.texts };
 }
 
-pub invariant_of-self-in-Err-ask : goal.invariant_of-self-in-Err-ask
-invariant_of-self-in-Err-ask c = record {
+pub invariant_of-self-in-Err : goal.invariant_of-self-in-Err
+invariant_of-self-in-Err c = record {
   meant = still_meant _ _ _ _ c.args.self.now.meant (λ c' s fits.
       (c', s, still_fits c' c.args.self.now.link c.ask.new.link _ c.ask.new.self s fits (c.in-Err.ensures.layer_stays (layer_settings c') s.layer fits.layer) c.in-Err.ensures.link_stays));
   aside =

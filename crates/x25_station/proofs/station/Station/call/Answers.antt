@@ -15,8 +15,8 @@ use Rattle.x25_station.proofs.TakeLemmas.{least_by_meaning}
 use Rattle.x25_station.proofs.FewLemmas.{few_asked}
 use Rattle.x25_station.proofs.station.Station.call.Goals as goal
 
-pub invariant_of-self : goal.invariant_of-self
-invariant_of-self c = record {
+pub invariant_of-self-in-Ok-call_with : goal.invariant_of-self-in-Ok-call_with
+invariant_of-self-in-Ok-call_with c = record {
   meant = still_meant _ _ _ _ c.args.self.now.meant (λ c' s fits.
       let request = Dials c.args.called.now c.args.calling.now c.args.user.now c.args.params in
       let a = answers c.in-Ok-call_with.channel c' _ c.call_with.new.link c.sent-frames.new.self _ c.call_with.new.self (record { frames = c.sent-frames.result; entries = c.enter.new.entries }) s request fits

@@ -13,8 +13,8 @@ use Rattle.x25_station.proofs.TakeLemmas.{least_by_meaning}
 use Rattle.x25_station.proofs.FewLemmas.{few_asked}
 use Rattle.x25_station.proofs.station.Station.restart.Goals as goal
 
-pub invariant_of-self : goal.invariant_of-self
-invariant_of-self c = record {
+pub invariant_of-self-in-Ok-restart : goal.invariant_of-self-in-Ok-restart
+invariant_of-self-in-Ok-restart c = record {
   meant = still_meant _ _ _ _ c.args.self.now.meant (λ c' s fits.
       let request = Restarts in
       let a = answers c.in-Ok-restart.field-0 c' _ c.restart.new.link c.sent-frames.new.self _ c.restart.new.self (record { frames = c.sent-frames.result; entries = c.push_reserved.new.self }) s request fits

@@ -14,8 +14,8 @@ use Rattle.x25_station.proofs.TakeLemmas.{least_by_meaning, few_frames}
 use Rattle.x25_station.proofs.FewLemmas.{timer_few}
 use Rattle.x25_station.proofs.station.Station.t1.Goals as goal
 
-pub invariant_of-self : goal.invariant_of-self
-invariant_of-self c = record {
+pub invariant_of-self-in-Ok-t1 : goal.invariant_of-self-in-Ok-t1
+invariant_of-self-in-Ok-t1 c = record {
   meant = still_meant _ _ _ _ c.args.self.now.meant (λ c' s fits.
       let k = timer_step (link_settings c') s.link in
       let step : Step = follows c' s.layer k in

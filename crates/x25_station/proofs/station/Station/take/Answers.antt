@@ -65,7 +65,7 @@ append-requires-in-Ok c =
     let lk = link_settings c' in
     few_frames c'.role c.in-Ok.step.frames.items (λ frame. frame.items) (take_step lk c.args.octets.now s.link).side.out 9
     (c.in-Ok.ensures.answer lk s.link (c.in_ok-frames.ensures.fits c' s fits).link).frames (c.holds_few.ensures.take lk c.args.octets.now s.link)) in
-    let more : length c.sent.result.items ≤ 8 = least_by_meaning _ _ (length c.sent.result.items) 8 c.args.self.now.meant (λ c' s fits.
+    let more : length c.sent-kept.result.items ≤ 8 = least_by_meaning _ _ (length c.sent-kept.result.items) 8 c.args.self.now.meant (λ c' s fits.
     let lk = link_settings c' in
     let k : LinkStep = take_step lk c.args.octets.now s.link in
     let before = c.in_ok-frames.ensures.fits c' s fits in
@@ -73,9 +73,9 @@ append-requires-in-Ok c =
     let whole : FitsWhole c.take.new.self (kept_of lk (alone k.side.near)) = record { link = c.in-Ok.ensures.state lk s.link before.link; kept = ap (λ o. o.made) c.in-Ok.ensures.outgoing ∙ before.sent } in
     let step = put_behind c' s k (option_copied c.in-Ok.step.packet) c.in-Ok.step.notes in
     let link = c.follow.ensures.link c' s.layer k.side before.layer whole in
-    few_frames c'.role c.sent.result.items (λ frame. frame.items) (all_put lk step.put (alone k.side.near)).out 8 (c.sent.ensures.frames ∙ link.kept)
+    few_frames c'.role c.sent-kept.result.items (λ frame. frame.items) (all_put lk step.put (alone k.side.near)).out 8 (c.sent-kept.ensures.frames ∙ link.kept)
     (few_put lk step.put k.side.near (c.holds_few.ensures.window lk c.take.new.self k.side.near whole.link) (c.holds_few.ensures.stand lk c.take.new.self k.side.near whole.link).place_low)) in
-    grind (arith, few, more, c.in_ok-frames.ensures.frames, c.in_ok-frames.ensures.frames_room, c.append.ensures.items, c.append.ensures.capacity, c.in_ok-frames.frames.ok, c.in-Ok.step.frames.ok, c.append.new.frames.ok, c.sent.result.ok)
+    grind (arith, few, more, c.in_ok-frames.ensures.frames, c.in_ok-frames.ensures.frames_room, c.append.ensures.items, c.append.ensures.capacity, c.in_ok-frames.frames.ok, c.in-Ok.step.frames.ok, c.append.new.frames.ok, c.sent-kept.result.ok)
 
 pub invariant_of-self : goal.invariant_of-self
 invariant_of-self c = record {
@@ -87,8 +87,8 @@ invariant_of-self c = record {
       let whole : FitsWhole c.take.new.self (kept_of lk (alone k.side.near)) = record { link = c.in-Ok.ensures.state lk s.link before.link; kept = ap (λ o. o.made) c.in-Ok.ensures.outgoing ∙ before.sent } in (
         c',
         (receives c' s c.args.octets.now).near,
-        took_fits c' s c.args.octets.now (option_copied c.in-Ok.step.packet) c.in-Ok.step.notes c.follow.new.link c.sent.new.self c.follow.new.layer (c.requires.goes_on c' s fits) (answer.packet, answer.notes)
-            (c.follow.ensures.link c' s.layer k.side before.layer whole) (c.follow.ensures.layer c' s.layer k.side before.layer whole) c.sent.ensures.station (ap (λ o. o.made) c.sent.ensures.outgoing)
+        took_fits c' s c.args.octets.now (option_copied c.in-Ok.step.packet) c.in-Ok.step.notes c.follow.new.link c.give_back_list-in-Ok.new.self c.follow.new.layer (c.requires.goes_on c' s fits) (answer.packet, answer.notes)
+            (c.follow.ensures.link c' s.layer k.side before.layer whole) (c.follow.ensures.layer c' s.layer k.side before.layer whole) (ap (λ l. l.station) (c.give_back_list-in-Ok.ensures ∙ c.give_back_list.ensures) ∙ c.sent-kept.ensures.station) (ap (λ l. l.outgoing.made) (c.give_back_list-in-Ok.ensures ∙ c.give_back_list.ensures) ∙ ap (λ o. o.made) c.sent-kept.ensures.outgoing)
             (c.steps_keep_bounds.ensures.receive c' s c.args.octets.now fits.kept),
       ));
   aside =
@@ -97,7 +97,7 @@ invariant_of-self c = record {
       let few = before.texts in
       let packets = c.follow.ensures.most_memory in
       let texts = c.follow.ensures.texts in
-      let spares : c.sent.new.self.outgoing.long ≡ 0 = ap (λ o. o.long) c.sent.ensures.outgoing in
+      let spares : c.give_back_list-in-Ok.new.self.outgoing.long ≡ 0 = ap (λ l. l.outgoing.long) (c.give_back_list-in-Ok.ensures ∙ c.give_back_list.ensures) ∙ ap (λ o. o.long) c.sent-kept.ensures.outgoing in
       record { packets = omega (arith, packets, low); spares = omega (arith, spares); texts = omega (arith, texts, few) };
 }
 
@@ -111,8 +111,8 @@ returns-in-Ok-clause-state c = λ c' s fits.
     let before = c.in_ok-frames.ensures.fits c' s fits in
     let answer = c.in-Ok.ensures.answer lk s.link before.link in
     let whole : FitsWhole c.take.new.self (kept_of lk (alone k.side.near)) = record { link = c.in-Ok.ensures.state lk s.link before.link; kept = ap (λ o. o.made) c.in-Ok.ensures.outgoing ∙ before.sent } in
-    took_fits c' s c.args.octets.now (option_copied c.in-Ok.step.packet) c.in-Ok.step.notes c.follow.new.link c.sent.new.self c.follow.new.layer (c.requires.goes_on c' s fits) (answer.packet, answer.notes)
-    (c.follow.ensures.link c' s.layer k.side before.layer whole) (c.follow.ensures.layer c' s.layer k.side before.layer whole) c.sent.ensures.station (ap (λ o. o.made) c.sent.ensures.outgoing)
+    took_fits c' s c.args.octets.now (option_copied c.in-Ok.step.packet) c.in-Ok.step.notes c.follow.new.link c.give_back_list-in-Ok.new.self c.follow.new.layer (c.requires.goes_on c' s fits) (answer.packet, answer.notes)
+    (c.follow.ensures.link c' s.layer k.side before.layer whole) (c.follow.ensures.layer c' s.layer k.side before.layer whole) (ap (λ l. l.station) (c.give_back_list-in-Ok.ensures ∙ c.give_back_list.ensures) ∙ c.sent-kept.ensures.station) (ap (λ l. l.outgoing.made) (c.give_back_list-in-Ok.ensures ∙ c.give_back_list.ensures) ∙ ap (λ o. o.made) c.sent-kept.ensures.outgoing)
     (c.steps_keep_bounds.ensures.receive c' s c.args.octets.now fits.kept)
 
 pub returns-in-Ok-clause-frames : goal.returns-in-Ok-clause-frames
@@ -124,10 +124,10 @@ returns-in-Ok-clause-frames c = λ c' s fits.
     let whole : FitsWhole c.take.new.self (kept_of lk (alone k.side.near)) = record { link = c.in-Ok.ensures.state lk s.link before.link; kept = ap (λ o. o.made) c.in-Ok.ensures.outgoing ∙ before.sent } in
     let link = c.follow.ensures.link c' s.layer k.side before.layer whole in
     let a = c.in-Ok.step.frames.items in
-    let b = c.sent.result.items in
+    let b = c.sent-kept.result.items in
     ap (λ frames. map (λ frame. frame.items) frames) (c.append-in-Ok.ensures.items ∙ ap (λ frames. frames ++ b) (c.append.ensures.items ∙ ap (λ frames. frames ++ a) c.in_ok-frames.ensures.frames))
     ∙ map-append (λ frame. frame.items) a b
-    ∙ took_sends c' s c.args.octets.now (option_copied c.in-Ok.step.packet) c.in-Ok.step.notes _ _ (c.requires.goes_on c' s fits) (answer.packet, answer.notes) answer.frames (c.sent.ensures.frames ∙ link.kept)
+    ∙ took_sends c' s c.args.octets.now (option_copied c.in-Ok.step.packet) c.in-Ok.step.notes _ _ (c.requires.goes_on c' s fits) (answer.packet, answer.notes) answer.frames (c.sent-kept.ensures.frames ∙ link.kept)
 
 pub returns-in-Ok-clause-entries : goal.returns-in-Ok-clause-entries
 returns-in-Ok-clause-entries c = λ c' s fits.
@@ -146,7 +146,7 @@ returns-in-Ok-clause-few_frames c =
     let lk = link_settings c' in
     few_frames c'.role c.in-Ok.step.frames.items (λ frame. frame.items) (take_step lk c.args.octets.now s.link).side.out 9
     (c.in-Ok.ensures.answer lk s.link (c.in_ok-frames.ensures.fits c' s fits).link).frames (c.holds_few.ensures.take lk c.args.octets.now s.link)) in
-    let more : length c.sent.result.items ≤ 8 = least_by_meaning _ _ (length c.sent.result.items) 8 c.args.self.now.meant (λ c' s fits.
+    let more : length c.sent-kept.result.items ≤ 8 = least_by_meaning _ _ (length c.sent-kept.result.items) 8 c.args.self.now.meant (λ c' s fits.
     let lk = link_settings c' in
     let k : LinkStep = take_step lk c.args.octets.now s.link in
     let before = c.in_ok-frames.ensures.fits c' s fits in
@@ -154,10 +154,10 @@ returns-in-Ok-clause-few_frames c =
     let whole : FitsWhole c.take.new.self (kept_of lk (alone k.side.near)) = record { link = c.in-Ok.ensures.state lk s.link before.link; kept = ap (λ o. o.made) c.in-Ok.ensures.outgoing ∙ before.sent } in
     let step = put_behind c' s k (option_copied c.in-Ok.step.packet) c.in-Ok.step.notes in
     let link = c.follow.ensures.link c' s.layer k.side before.layer whole in
-    few_frames c'.role c.sent.result.items (λ frame. frame.items) (all_put lk step.put (alone k.side.near)).out 8 (c.sent.ensures.frames ∙ link.kept)
+    few_frames c'.role c.sent-kept.result.items (λ frame. frame.items) (all_put lk step.put (alone k.side.near)).out 8 (c.sent-kept.ensures.frames ∙ link.kept)
     (few_put lk step.put k.side.near (c.holds_few.ensures.window lk c.take.new.self k.side.near whole.link) (c.holds_few.ensures.stand lk c.take.new.self k.side.near whole.link).place_low)) in
     let none : length c.in_ok-frames.frames.items ≡ 0 = ap length c.in_ok-frames.ensures.frames in
     let own : length c.append.new.frames.items ≡ length c.in_ok-frames.frames.items + length c.in-Ok.step.frames.items = ap length c.append.ensures.items ∙ length-append _ _ in
-    let all : length c.append-in-Ok.new.frames.items ≡ length c.append.new.frames.items + length c.sent.result.items = ap length c.append-in-Ok.ensures.items ∙ length-append _ _ in
+    let all : length c.append-in-Ok.new.frames.items ≡ length c.append.new.frames.items + length c.sent-kept.result.items = ap length c.append-in-Ok.ensures.items ∙ length-append _ _ in
     let held = c.append-in-Ok.new.frames.ok.0 in
     omega (arith, few, more, none, own, all, held)
