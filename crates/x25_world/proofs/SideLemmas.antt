@@ -15,6 +15,7 @@ use Rattle.x25_station.specs.Entries.{StationEntry}
 use Rattle.x25_station.specs.code.FitsStation.{FitsStation, Leaves, Sends, Enters, Refuses, RefusesExactly}
 use Rattle.x25_station.specs.code.PlainEntry.{plain_entry}
 use Rattle.x25_station.specs.Settings.{Settings, settings_from}
+use Rattle.x25_station.specs.Station.{Station}
 use Rattle.x25_station.specs.Steps.{Step, Outcome, Did, Refused, fires, receives}
 use Rattle.x25_world.specs.declared.error.WorldError.{WorldError}
 use Rattle.x25_world.specs.declared.error.WorldError.TheVariants as error
@@ -59,6 +60,13 @@ shared_of cfg Dte near line transcript w gone room side = record { out = side.ou
 shared_of cfg Dce near line transcript w gone room side = record { out = side.out; back = side.back; tap = side.tap; told = side.transcript }
 
 -- ---- an accepted call of the station
+
+-- a station that stands for all that another one stood for leaves what that one left
+pub leaves_on : (c : Settings) (old new : code.Station) (result : Result code_step.Step StationError) (outcome : Outcome)
+    → ((k : Settings) (s : Station) → FitsStation k old s → FitsStation k new s) → Leaves c old result outcome → Leaves c new result outcome
+leaves_on c old new (Ok x) (Did step) on leaves = on c step.near leaves
+leaves_on c old new (Err e) (Did step) on leaves = tt
+leaves_on c old new result (Refused e) on leaves = tt
 
 pub has_happened : (cfg : Cfg) (at : Role) (near : code.Station) (line : ShownLine) (transcript : List AtEnd) (w : World) (gone : Gone) (outcome : Outcome) (answer : code_step.Step)
     → FitsShared at line transcript w w.back gone → Leaves (settings_from at cfg) near (let r : Result code_step.Step StationError = Ok answer in r) outcome

@@ -5,7 +5,9 @@ ghost use Rattle.x25_line.specs.Stations.{is_visible};
 ghost use Rattle.x25_station.specs.Command.{command_of};
 ghost use Rattle.x25_station.specs.code.PlainEntry.{plain_entry};
 ghost use Rattle.x25_station.specs.declared.config.Cfg.{Cfg};
-ghost use Rattle.x25_station.specs.Settings.{settings_from};
+ghost use Rattle.x25_station.specs.Settings.{Settings, settings_from};
+ghost use Rattle.x25_station.specs.Station.{Station as StationState};
+ghost use Rattle.x25_station.specs.code.FitsStation.{FitsStation};
 ghost use Rattle.x25_station.specs.Steps.{connects, commands};
 ghost use Rattle.x25_world.specs.World as definition;
 ghost use Rattle.x25_world.specs.World.{AtEnd, Happened, Declined, of_station, delivered, is_on_line, fired, on_line, lost, damaged, acts, entered, event_of};
@@ -59,7 +61,7 @@ fn command(
     make_room(line, transcript)?;
     match near.command(cmd) {
         Ok(step) => {
-            tell(at, line, transcript, step);
+            tell(at, near, line, transcript, step);
             Ok(())
         }
         Err(error) => Err(WorldError::of_station(error)),
@@ -83,11 +85,21 @@ fn deliver(
     };
     match near.receive(octets) {
         Ok(step) => {
-            line.remove(at, 0);
-            tell(at, line, transcript, step);
+            let octets = line.remove(at, 0);
+            give_back(near, octets);
+            tell(at, near, line, transcript, step);
             Ok(())
         }
         Err(error) => Err(WorldError::of_station(error)),
+    }
+}
+
+// The memory of a frame that came, where nothing else holds it, serves frames that the end sends later.
+fn give_back(near: &mut Station, octets: Option<Vec<u8>>)
+    ensures { (c : Settings) (s : StationState) → FitsStation c near.old s → FitsStation c near.new s }
+{
+    if let Some(octets) = octets {
+        near.give_back_frame(octets);
     }
 }
 
@@ -108,7 +120,7 @@ fn fire(
     make_room(line, transcript)?;
     match near.t1() {
         Ok(step) => {
-            tell(at, line, transcript, step);
+            tell(at, near, line, transcript, step);
             Ok(())
         }
         Err(error) => Err(WorldError::of_station(error)),
@@ -137,7 +149,7 @@ pub fn connect(
     make_room(line, transcript)?;
     match near.connect() {
         Ok(step) => {
-            tell(at, line, transcript, step);
+            tell(at, near, line, transcript, step);
             Ok(())
         }
         Err(error) => Err(WorldError::of_station(error)),
@@ -158,17 +170,25 @@ fn make_room(line: &mut Line, transcript: &mut Vec<Entered>) -> Result<(), World
     Ok(())
 }
 
-// What a step answers goes on the line and on the tap, and into the transcript, in room that there is.
-fn tell(at: Role, line: &mut Line, transcript: &mut Vec<Entered>, step: Step)
+// What a step answers goes on the line and on the tap, and into the transcript, in room that there is. Its lists are given back.
+fn tell(
+    at: Role,
+    near: &mut Station,
+    line: &mut Line,
+    transcript: &mut Vec<Entered>,
+    mut step: Step,
+)
     requires frames { vec_len step.frames ≤ line.old.room }
     requires entries { vec_len transcript.old + vec_len step.entries ≤ vec_capacity transcript.old }
     ensures line { line.new ≡ put_by line.old at (map (λ frame. frame.items) step.frames.items) }
     ensures transcript { map plain_entered transcript.new.items ≡ map plain_entered transcript.old.items ++ entered at (map plain_entry step.entries.items) }
+    ensures near { (c : Settings) (s : StationState) → FitsStation c near.old s → FitsStation c near.new s }
 {
-    line.put(at, step.frames);
-    for entry in step.entries {
+    line.put(at, &mut step.frames);
+    for entry in step.entries.drain(..) {
         transcript.push_reserved(Entered { at, entry });
     }
+    near.give_back(step);
 }
 
 // The frame at this place on the line to the end is lost.
@@ -182,7 +202,7 @@ fn lose(to: Role, line: &mut Line, place: usize) -> Result<(), WorldError>
     if place >= line.len(to) {
         return Err(WorldError::NoSuchFrame);
     }
-    line.remove(to, place);
+    let _ = line.remove(to, place);
     Ok(())
 }
 

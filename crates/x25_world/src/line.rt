@@ -87,12 +87,12 @@ impl Line {
         Ok(())
     }
 
-    /// An end puts frames on the line, in room that there is.
-    pub fn put(&mut self, from: Role, frames: Vec<Vec<u8>>)
-        requires room { vec_len frames ≤ self.old.room }
-        ensures { self.new ≡ put_by self.old from (map (λ frame. frame.items) frames.items) }
+    /// An end puts frames on the line, in room that there is, and leaves their list empty.
+    pub fn put(&mut self, from: Role, frames: &mut Vec<Vec<u8>>)
+        requires room { vec_len frames.old ≤ self.old.room }
+        ensures { self.new ≡ put_by self.old from (map (λ frame. frame.items) frames.old.items) }
     {
-        for octets in frames {
+        for octets in frames.drain(..) {
             self.put_one(from, octets);
         }
     }
@@ -128,8 +128,9 @@ impl Line {
         }
     }
 
-    /// The frame at this place on the line to this end, 0 at the front, is taken off it.
-    pub fn remove(&mut self, to: Role, place: usize)
+    /// The frame at this place on the line to this end, 0 at the front, is taken off it. It answers the frame's octets, where the tap
+    /// doesn't hold them.
+    pub fn remove(&mut self, to: Role, place: usize) -> Option<Vec<u8>>
         requires { place < length (line_to self.old to) }
         ensures { self.new ≡ with_line_to self.old to (remove (line_to self.old to) place) }
     {
@@ -189,13 +190,16 @@ fn share(queue: &mut VecDeque<OnLine>, tap: &mut Vec<Tapped>, from: Role, octets
     tap.push_reserved(Tapped { from, octets });
 }
 
-fn take_off(queue: &mut VecDeque<OnLine>, place: usize)
+fn take_off(queue: &mut VecDeque<OnLine>, place: usize) -> Option<Vec<u8>>
     requires { place < length queue.old.items }
     ensures items { queue.new.items ≡ remove queue.old.items place }
     ensures len { deque_len queue.new ≤ deque_len queue.old }
     ensures capacity { deque_capacity queue.new ≡ deque_capacity queue.old }
 {
-    queue.remove(place);
+    match queue.remove(place) {
+        Some(OnLine::Own(octets)) => Some(octets),
+        _ => None,
+    }
 }
 
 fn put_in(queue: &mut VecDeque<OnLine>, place: usize, octets: Vec<u8>)

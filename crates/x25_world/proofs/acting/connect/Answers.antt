@@ -1,5 +1,6 @@
 use Rattle.std.proofs.Common.{Ok, Err, sym}
-use Rattle.x25_world.proofs.SideLemmas.{shared_of, has_happened, is_refusal, exactly_refuses, side_stays}
+use Rattle.x25_station.specs.Settings.{settings_from}
+use Rattle.x25_world.proofs.SideLemmas.{leaves_on, shared_of, has_happened, is_refusal, exactly_refuses, side_stays}
 use Rattle.x25_world.proofs.acting.connect.Goals as goal
 
 pub returns-in-Ok : goal.returns-in-Ok
@@ -9,7 +10,7 @@ returns-in-Ok c = λ cfg w gone side.
     let called = c.in-Ok.ensures in
     record {
       happened = rw (c.tell.ensures.line, c.tell.ensures.transcript, c.make_room.ensures.transcript)
-          (has_happened cfg c.args.at _ _ _ w gone _ c.in-Ok.step shared (called.state _ _ fits) (called.frames _ _ fits) (called.entries _ _ fits) (exactly_refuses (Ok c.in-Ok.step) _ (called.refused _ _ fits)));
+          (has_happened cfg c.args.at _ _ _ w gone _ c.in-Ok.step shared (leaves_on (settings_from c.args.at cfg) c.connect.new.self c.tell.new.near (Ok c.in-Ok.step) _ c.tell.ensures.near (called.state _ _ fits)) (called.frames _ _ fits) (called.entries _ _ fits) (exactly_refuses (Ok c.in-Ok.step) _ (called.refused _ _ fits)));
       refused = tt;
       stays = tt;
     }

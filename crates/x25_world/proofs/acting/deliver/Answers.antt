@@ -1,6 +1,8 @@
-use Rattle.std.proofs.Common.{◌≡◌, ◌∙◌, Some, inr, slice_get, sym, ap}
+use Rattle.std.proofs.Common.{Ok, ◌≡◌, ◌∙◌, Some, inr, slice_get, sym, ap}
 use Rattle.x25_world.specs.WorldError.{error_of}
-use Rattle.x25_world.proofs.SideLemmas.{shared_of, has_arrived, side_stays}
+use Rattle.x25_station.specs.Settings.{settings_from}
+use Rattle.x25_station.specs.Steps.{Did, receives}
+use Rattle.x25_world.proofs.SideLemmas.{leaves_on, shared_of, has_arrived, side_stays}
 use Rattle.x25_world.proofs.acting.deliver.Goals as goal
 
 pub returns-in-Ok : goal.returns-in-Ok
@@ -10,8 +12,8 @@ returns-in-Ok c = λ cfg w gone side.
     let called = c.in-Ok.ensures in
     let front : Some c.in-Some.octets.now ≡ slice_get w.back 0 = c.in-Some.ensures ∙ ap (λ l. slice_get l 0) shared.back in
     record {
-      happened = rw (c.tell.ensures.line, c.tell.ensures.transcript, c.make_room.ensures.transcript, c.remove.ensures)
-          (has_arrived cfg c.args.at _ c.make_room.new.line _ w w.back gone c.in-Some.octets.now c.in-Ok.step shared front (called.state _ _ fits) (called.frames _ _ fits) (called.entries _ _ fits));
+      happened = rw (c.tell.ensures.line, c.tell.ensures.transcript, c.make_room.ensures.transcript, c.remove-octets.ensures)
+          (has_arrived cfg c.args.at _ c.make_room.new.line _ w w.back gone c.in-Some.octets.now c.in-Ok.step shared front (leaves_on (settings_from c.args.at cfg) c.receive.new.self c.tell.new.near (Ok c.in-Ok.step) (Did (receives (settings_from c.args.at cfg) w.near c.in-Some.octets.now)) (λ k s f. c.tell.ensures.near k s (c.give_back.ensures k s f)) (called.state _ _ fits)) (called.frames _ _ fits) (called.entries _ _ fits));
       refused = tt;
       stays = tt;
     }

@@ -1,7 +1,7 @@
-use Rattle.std.proofs.Common.{sym, ap, inl, ◌∙◌}
+use Rattle.std.proofs.Common.{Ok, sym, ap, inl, ◌∙◌}
 use Rattle.x25_station.specs.Settings.{settings_from}
 use Rattle.x25_world.specs.World.{refusal_of}
-use Rattle.x25_world.proofs.SideLemmas.{shared_of, has_happened, is_refusal, side_stays, holds_back, lets_fire}
+use Rattle.x25_world.proofs.SideLemmas.{leaves_on, shared_of, has_happened, is_refusal, side_stays, holds_back, lets_fire}
 use Rattle.x25_world.proofs.acting.fire.Goals as goal
 
 pub returns-then-awaits_frames : goal.returns-then-awaits_frames
@@ -17,7 +17,7 @@ returns-in-Ok c = λ cfg w gone side.
     let called = c.in-Ok.ensures in
     record {
       happened = rw (fires, c.tell.ensures.line, c.tell.ensures.transcript, c.make_room.ensures.transcript)
-          (has_happened cfg c.args.at _ _ _ w gone _ c.in-Ok.step shared (called.state _ _ fits) (called.frames _ _ fits) (called.entries _ _ fits) (called.refused _ _ fits));
+          (has_happened cfg c.args.at _ _ _ w gone _ c.in-Ok.step shared (leaves_on (settings_from c.args.at cfg) c.t1.new.self c.tell.new.near (Ok c.in-Ok.step) _ c.tell.ensures.near (called.state _ _ fits)) (called.frames _ _ fits) (called.entries _ _ fits) (called.refused _ _ fits));
       refused = tt;
       stays = tt;
     }
