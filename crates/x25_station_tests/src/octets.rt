@@ -1,5 +1,4 @@
-//! Octets that no table chose: 10,000 strings, made from stored numbers, at a station whose user accepts each call, and at one that is
-//! given back what it answers and the memory of what came.
+//! Octets that no table chose: 10,000 strings, made from stored numbers, at a station whose user accepts each call.
 
 use std::alloc::Global;
 use std::test::Fail;
@@ -49,8 +48,6 @@ fn following(number: u64) -> u64 {
 struct Peer {
     alloc: Global,
     station: Station,
-    /// Of the same settings, and given memory back.
-    given: Station,
     ns: Seq,
     nr: Seq,
     told: usize,
@@ -98,24 +95,9 @@ impl Peer {
     fn sends(&mut self, octets: &[u8]) -> Result<(), Fail> {
         let step = self.station.receive(octets)?;
         self.sees_all(&step);
-        let same = self.given.receive(octets)?;
-        self.gives_back(&step, same)?;
-        self.given
-            .give_back_frame(Vec::from_slice(self.alloc, octets)?);
         if let Ok(step) = self.station.command(Cmd::Accept { channel: 1 }) {
             self.sees_all(&step);
-            let same = self.given.command(Cmd::Accept { channel: 1 })?;
-            self.gives_back(&step, same)?;
         }
-        Ok(())
-    }
-
-    /// The station that is given memory back answers the same, and is given that back.
-    fn gives_back(&mut self, step: &Step, same: Step) -> Result<(), Fail> {
-        if same.frames != step.frames || same.entries.len() != step.entries.len() {
-            return Err(Fail::from("both stations answer the same"));
-        }
-        self.given.give_back(same);
         Ok(())
     }
 
@@ -182,14 +164,11 @@ fn all_octets_are_taken(rt: HostRuntime) -> Result<(), Fail> {
     let mut peer = Peer {
         alloc: rt.alloc(),
         station: Station::new(rt.alloc(), Role::Dce, cfg)?,
-        given: Station::new(rt.alloc(), Role::Dce, cfg)?,
         ns: Seq::ZERO,
         nr: Seq::ZERO,
         told: 0,
     };
     peer.strings()?;
     assert!(rt; peer.told > 2_000, "{}", peer.told);
-    assert_eq!(rt; peer.station.returned(), 0);
-    assert_eq!(rt; peer.given.returned(), 32);
     Ok(())
 }
