@@ -4,6 +4,7 @@ pub mod Growing
 pub mod Established
 pub mod Headline
 pub mod sessions
+pub mod HealingLemmas
 pub mod FrameOctets
 pub mod SetUpOnce
 pub mod WindowRuns
