@@ -1,5 +1,5 @@
 -- What a world of the code has gone through where it heals.
-use Rattle.std.specs.Prelude.{◌≡◌, ℕ, List, ◌++◌, take, OnOk, Result}
+use Rattle.std.specs.Prelude.{◌≡◌, List, ◌++◌, OnOk, Result}
 use Rattle.x25_station.specs.declared.config.Cfg.{Cfg}
 use Rattle.x25_world.specs.World.{World, Event, run, AreAccepted}
 use Rattle.x25_world.specs.laws.Claims.{IsBeginning}
@@ -17,8 +17,10 @@ pub record GoesBy (cfg : Cfg) (events : List Event) (w : World) (v : ShownWorld)
 -- memory was refused, and only the first of the events have happened
 pub record GoesPartly (cfg : Cfg) (events : List Event) (w : World) (v : ShownWorld) (gone : Gone) (error : WorldError) : Type 0 where
   pub memory : error ≡ NoMemory
-  pub count : ℕ
-  pub goes : GoesBy cfg (take count events) w v gone
+  pub done : List Event
+  pub left : List Event
+  pub all : events ≡ done ++ left
+  pub goes : GoesBy cfg done w v gone
 
 -- Where events led to the world before, and it healed, this holds of the world before and of the one that is left.
 abbrev pub HoldsHealed : (Cfg → World → World → Type 0) → {T : Type 0} → ShownWorld → ShownWorld → Result T WorldError → Type 0
