@@ -278,8 +278,17 @@ fn heals(rt: &impl Abort, alloc: Global) -> Result<(), Fail> {
     assert_eq!(rt; count, world.tap().len() as u64);
     assert_eq!(rt; world.transcript().len(), 1);
     assert_eq!(rt; (world.on_line(ToDce), world.on_line(ToDte)), (0, 0));
-    assert_eq!(rt; (world.station(Dte).timer_runs(), world.station(Dce).timer_runs()), (false, false));
-    assert_eq!(rt; (world.station(Dte).idle(), world.station(Dce).idle()), (true, true));
+    assert_eq!(rt;
+        (
+            world.station(Dte).timer_runs(),
+            world.station(Dce).timer_runs()
+        ),
+        (false, false)
+    );
+    assert_eq!(rt;
+        (world.station(Dte).idle(), world.station(Dce).idle()),
+        (true, true)
+    );
     Ok(())
 }
 
