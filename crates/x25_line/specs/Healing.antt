@@ -319,6 +319,36 @@ SessionsHealBusy =
     → (deliveries : List Event) → AreDeliveries deliveries
     → (let v = run_sessions c d (Near T1 ∷ Far T1 ∷ deliveries) w in v.out ≡ [] → v.back ≡ [] → SessionsAreHealed w v))
 
+-- ---- not both ends busy, whatever they are
+
+-- Each end is at rest or not Up; and if both were Up, with tries left where T1 ran, both are at rest, and everything has arrived.
+pub record EachHeals (c d : Settings) (w v : Stations) : Type 0 where
+  pub near : IsAtRestOrOut v.near
+  pub far : IsAtRestOrOut v.far
+  pub healed : HasTries c w.near → HasTries d w.far → IsHealed v.near v.far × IsHealed v.far v.near
+
+-- Nothing is on the line, and not both ends are busy, whatever the phases and the tries are: both fire where their T1 runs, and then all that is on
+-- the line comes, in any order of the two directions.
+abbrev pub HealsUnlessBothBusy : Type 0
+HealsUnlessBothBusy =
+    (c d : Settings) → AreJoined c d → (events : List Event) → IsQuietMoment c d events
+    → (let w = run c d events start in OneIsFree w.near.station w.far.station
+    → (deliveries : List Event) → AreDeliveries deliveries → (let v = run c d (Near T1 ∷ Far T1 ∷ deliveries) w in IsDrained v → EachHeals c d w v))
+
+-- Each end is at rest or not Up; and if both were Up, with tries left where T1 ran, both are at rest in their sessions, and everything has arrived.
+pub record EachSessionHeals (c d : Settings) (w v : Sessions) : Type 0 where
+  pub near : IsSessionAtRestOrOut v.near
+  pub far : IsSessionAtRestOrOut v.far
+  pub healed : SessionHasTries c w.near → SessionHasTries d w.far → SessionsAreHealed w v
+
+-- the same over set-up and re-set-up
+abbrev pub SessionsHealUnlessBothBusy : Type 0
+SessionsHealUnlessBothBusy =
+    (c d : Settings) → AreJoined c d → (begin : Sessions) → (begin ≡ from_nothing) ⊎ (begin ≡ from_set_up) → (events : List Event) → AreTimely c d events begin
+    → (let w = run_sessions c d events begin in w.out ≡ [] → w.back ≡ [] → OneIsFree w.near.station w.far.station
+    → (deliveries : List Event) → AreDeliveries deliveries
+    → (let v = run_sessions c d (Near T1 ∷ Far T1 ∷ deliveries) w in v.out ≡ [] → v.back ≡ [] → EachSessionHeals c d w v))
+
 -- ---- a worked moment
 
 -- the packet of each end was lost

@@ -2,7 +2,7 @@
 //! function that does nothing.
 ghost use Rattle.x25_line.specs.Healing.{RestShows, EachRestShows, OneFiringHeals, FarFiringHeals, OneFiringEnds, GoneEnds};
 ghost use Rattle.x25_line.specs.Healing.{BothFiringsHeal, TwoFiringsHeal, EachRestsOrIsOut, Heals, SessionsHeal, EachSessionRestsOrIsOut, DeliveriesEnd, SomeHeal, BothLostMayHeal};
-ghost use Rattle.x25_line.specs.Healing.{DrainsEnd, SomeDrain, OneBusyHeals, SomeBusyHeal, SessionsHealBusy};
+ghost use Rattle.x25_line.specs.Healing.{DrainsEnd, SomeDrain, OneBusyHeals, SomeBusyHeal, SessionsHealBusy, HealsUnlessBothBusy, SessionsHealUnlessBothBusy};
 ghost use Rattle.x25_line.specs.rows.HealingRows.{NoFiringIsTooFew, OneFiringIsTooFew, NoTriesAreLeft, FiringsAloneEnd};
 ghost use Rattle.x25_line.specs.laws.SessionClaims.{Throughout};
 
@@ -70,10 +70,15 @@ pub fn two_firings_heal()
 /// The same with one busy end: from a moment in which nothing is on the line, both ends are Up, with tries left where timer T1 runs, and not
 /// both are busy. Both fire, and all that is on the line comes, in any order of the two directions: everything sent has arrived, and both ends
 /// are at rest (`at_once`). There are such deliveries (`some`). Over set-up and re-set-up their sessions heal so (`sessions`).
+///
+/// Whatever the phases of the ends and their tries are, as long as not both are busy, each is at rest or not Up then, and the two together are said of
+/// every such moment (`whatever`), and so over set-up and re-set-up (`each_session`). These two say the most of a link that heals.
 pub fn one_busy_heals()
     ensures at_once { OneBusyHeals }
     ensures some { SomeBusyHeal }
+    ensures whatever { HealsUnlessBothBusy }
     ensures sessions { SessionsHealBusy }
+    ensures each_session { SessionsHealUnlessBothBusy }
 {
     follows_the_window();
     sets_up_by_rows();
