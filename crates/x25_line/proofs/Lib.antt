@@ -27,6 +27,7 @@ pub mod HealingSessionEnds
 pub mod DrainWeights
 pub mod DrainSteps
 pub mod DrainRuns
+pub mod DrainSessions
 pub mod BusyLines
 pub mod BusyPhases
 pub mod BusyRuns

@@ -12,7 +12,7 @@ use Rattle.x25_link.specs.laws.WindowLaw.{IsOut}
 use Rattle.x25_link.specs.laws.RestLaw.{IsAtRest}
 use Rattle.x25_line.specs.Stations.{StationEnd, Stations, Act, Put, Deliver, T1, Lose, Event, Near, Far, swapped, happens, run, start}
 use Rattle.x25_line.specs.laws.StationClaims.{AreJoined, IsSetUpOnce}
-use Rattle.x25_line.specs.Sessions.{SessionEnd, Sessions, Meeting, from_nothing, from_set_up, AreTimely, run as run_sessions}
+use Rattle.x25_line.specs.Sessions.{SessionEnd, Sessions, Meeting, from_nothing, from_set_up, AreTimely, happens as happens_in_sessions, run as run_sessions}
 use Rattle.x25_line.specs.laws.SessionClaims.{SomeMet}
 use Rattle.x25_line.specs.rows.StationRows.{dte, dce}
 
@@ -188,6 +188,26 @@ DrainsEnd =
 -- So there are deliveries that drain its line.
 abbrev pub SomeDrain : Type 0
 SomeDrain = (c d : Settings) → AreJoined c d → (events : List Event) → (deliveries : List Event) × AreDeliveries deliveries × IsDrained (run c d deliveries (run c d events start))
+
+-- the same over set-up and re-set-up, from nothing too, whenever timer T1 runs out
+
+abbrev pub FindsIn : Event → Sessions → Type 0
+FindsIn (Near act) w = w.back ≡ [] → ⊥
+FindsIn (Far act) w = w.out ≡ [] → ⊥
+
+abbrev pub EachFindsIn : Settings → Settings → List Event → Sessions → Type 0
+EachFindsIn c d [] w = Unit {0}
+EachFindsIn c d (e ∷ es) w = FindsIn e w × EachFindsIn c d es (happens_in_sessions c d e w)
+
+abbrev pub SessionsDrainEnd : Type 0
+SessionsDrainEnd =
+    (c d : Settings) → AreJoined c d → (begin : Sessions) → (begin ≡ from_nothing) ⊎ (begin ≡ from_set_up) → (events : List Event)
+    → (let w = run_sessions c d events begin in (most : ℕ) × ((deliveries : List Event) → AreDeliveries deliveries → EachFindsIn c d deliveries w → length deliveries ≤ most))
+
+abbrev pub SomeSessionsDrain : Type 0
+SomeSessionsDrain =
+    (c d : Settings) → AreJoined c d → (begin : Sessions) → (begin ≡ from_nothing) ⊎ (begin ≡ from_set_up) → (events : List Event)
+    → (deliveries : List Event) × AreDeliveries deliveries × (let v = run_sessions c d deliveries (run_sessions c d events begin) in (v.out ≡ []) × (v.back ≡ []))
 
 -- ---- an end whose peer is gone
 

@@ -2,7 +2,7 @@
 //! function that does nothing.
 ghost use Rattle.x25_line.specs.Healing.{RestShows, EachRestShows, OneFiringHeals, FarFiringHeals, OneFiringEnds, GoneEnds};
 ghost use Rattle.x25_line.specs.Healing.{BothFiringsHeal, TwoFiringsHeal, EachRestsOrIsOut, Heals, SessionsHeal, EachSessionRestsOrIsOut, DeliveriesEnd, SomeHeal, BothLostMayHeal};
-ghost use Rattle.x25_line.specs.Healing.{DrainsEnd, SomeDrain, OneBusyHeals, SomeBusyHeal, SessionsHealBusy, HealsUnlessBothBusy, SessionsHealUnlessBothBusy};
+ghost use Rattle.x25_line.specs.Healing.{DrainsEnd, SomeDrain, SessionsDrainEnd, SomeSessionsDrain, OneBusyHeals, SomeBusyHeal, SessionsHealBusy, HealsUnlessBothBusy, SessionsHealUnlessBothBusy};
 ghost use Rattle.x25_line.specs.rows.HealingRows.{NoFiringIsTooFew, OneFiringIsTooFew, NoTriesAreLeft, FiringsAloneEnd};
 ghost use Rattle.x25_line.specs.laws.SessionClaims.{Throughout};
 
@@ -105,12 +105,15 @@ pub fn deliveries_end()
     reads_what_is_spelled();
 }
 
-/// Each line drains: from every world that events lead to, over set-up and re-set-up, in whichever phases and busy or not, deliveries
-/// alone come to an end, as the world bounds how many find octets, in whichever order (`end`). So there are deliveries after which
-/// nothing is on the line (`some`).
+/// Each line drains: from every world that events lead to, over set-up and re-set-up, in whichever phases and busy or not, with any frame
+/// lost or damaged, deliveries alone come to an end, as the world bounds how many find octets, in whichever order (`end`). So there are
+/// deliveries after which nothing is on the line (`some`). The same of sessions, from nothing as well as from a link just set up (`sessions`,
+/// `some_sessions`), whenever timer T1 runs out.
 pub fn drains_end()
     ensures end { DrainsEnd }
     ensures some { SomeDrain }
+    ensures sessions { SessionsDrainEnd }
+    ensures some_sessions { SomeSessionsDrain }
 {
     follows_the_window();
     sets_up_by_rows();
