@@ -1,5 +1,6 @@
 mod RowStates
 pub mod rows
+pub mod TableLemmas
 pub mod ParamsLemmas
 pub mod MessageLemmas
 pub mod AskLemmas

@@ -3,4 +3,3 @@ mod DteRows
 mod DceRows
 mod CallRows
 mod ParamsRows
-pub mod RowLemmas

@@ -13,7 +13,7 @@ use Rattle.x25_handshakes.specs.Calls.{Phase, Unused, Waiting, Offered, Crossed,
 use Rattle.x25_handshakes.specs.Channel.{live}
 use Rattle.x25_handshakes.specs.Layers.{LayerPacket, Channels, ready, Pair, turned, pair_run, pair_start}
 use Rattle.x25_handshakes.specs.Names.{Name}
-use Rattle.x25_handshakes.specs.Books.{messages, name_at}
+use Rattle.x25_handshakes.specs.Histories.{messages, name_at}
 use Rattle.x25_handshakes.specs.Arrivals.{open_in, open_phase, open_call, open_channel, open_at, HasArrived, AllArrives}
 use Rattle.x25_handshakes.proofs.TermsLemmas.{Laws}
 use Rattle.x25_handshakes.proofs.LayersRelation.{EndsRelated}

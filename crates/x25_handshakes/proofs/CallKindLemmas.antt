@@ -10,11 +10,11 @@ use Rattle.x25_circuit.specs.Notices.{CallRequest}
 use Rattle.x25_handshakes.specs.Handshake.{Inner}
 use Rattle.x25_handshakes.specs.Stretch.{Packet, Call, Accept}
 use Rattle.x25_handshakes.specs.Calls.{Phase, Unused, Waiting, Offered, Crossed, Talking, Connection, CallStep, goes, unexpected, calling_talk, called_talk, is_answered, accepts, phase_takes, call_takes, CallAct, PlacesCall, AcceptsCall, Talks, phase_acts}
-use Rattle.x25_handshakes.specs.Books.{calls, IsPrefix}
+use Rattle.x25_handshakes.specs.Histories.{calls, IsPrefix}
 use Rattle.x25_handshakes.proofs.CallsRelation.{Joint, ConnectionsRelated, GoodDte, GoodDce}
 use Rattle.x25_handshakes.proofs.ChannelRelation.{clear_mark, Seen}
 use Rattle.x25_handshakes.proofs.CallLemmas.{GoodDte-takes, GoodDce-takes}
-use Rattle.x25_handshakes.proofs.BookLemmas.{Stays, alike}
+use Rattle.x25_handshakes.proofs.HistoryLemmas.{Stays, alike}
 use Rattle.x25_handshakes.proofs.TurnLemmas.{MayIndicate, WithinCall, IsHandled}
 
 empty_begins : (i m : List CallRequest) → i ≡ [] → IsPrefix i m

@@ -8,7 +8,7 @@ use Rattle.x25_handshakes.specs.Transfer.{fresh_transfer}
 use Rattle.x25_handshakes.specs.Calls.{Phase, Offered, Talking, CallAct, PlacesCall, AcceptsCall}
 use Rattle.x25_handshakes.specs.Channel.{Within}
 use Rattle.x25_handshakes.specs.Layers.{Channels, OnChannel, Move, Acts, Takes, Event, pair_run, pair_start}
-use Rattle.x25_handshakes.specs.Books.{circuit_at}
+use Rattle.x25_handshakes.specs.Histories.{circuit_at}
 
 item : CallRequest
 item = record { called = 1 ∷ []; calling = 2 ∷ []; user = []; params = record { size_called = 8; size_calling = 9; win_called = 3; win_calling = 5 } }

@@ -1,4 +1,4 @@
--- In every run, the books of the two ends are lawful: for any kind of thing that is handled so within a call.
+-- In every run, the histories of the two ends are lawful: for any kind of thing that is handled so within a call.
 use Rattle.std.proofs.Common.{ℕ, List, [], ◌∷◌, Option, Bool, true, false, if◌then◌else◌, refl, sym, subst}
 use Rattle.x25_bits.specs.declared.role.Role.{Role}
 use Rattle.x25_bits.specs.declared.role.Role.TheVariants.{Dte, Dce}
@@ -6,76 +6,76 @@ use Rattle.x25_handshakes.specs.Handshake.{Side, Live, Left, At, state_of}
 use Rattle.x25_handshakes.specs.Calls.{call_takes}
 use Rattle.x25_handshakes.specs.Layers.{LayerPacket, On, Channels, ready, Move, Acts, Takes, LinkDown, Event, pair_moves, layer_acts, layer_takes, layer_side_takes}
 use Rattle.x25_handshakes.specs.Names.{Name}
-use Rattle.x25_handshakes.specs.Books.{Lists, Kind, name_at, held_at, desk, written, IsLawful, Ledger, turned_ledger, ledger_moves, ledger_happens, ledger_run, ledger_start, AreInOrder}
+use Rattle.x25_handshakes.specs.Histories.{Lists, Kind, name_at, held_at, channel_view, written, IsLawful, Histories, turned_histories, histories_moves, histories_happens, histories_run, histories_start, AreInOrder}
 use Rattle.x25_handshakes.proofs.ChannelRelation.{other_role}
 use Rattle.x25_handshakes.proofs.TermsLemmas.{Laws}
 use Rattle.x25_handshakes.proofs.LayersRelation.{EndsRelated}
 use Rattle.x25_handshakes.proofs.LayerLemmas.{Stands, Stands-moves, Stands-turned, Stands-start}
-use Rattle.x25_handshakes.proofs.BookLemmas.{Turn, MayHandUp, lawful_turned, lawful_turn}
+use Rattle.x25_handshakes.proofs.HistoryLemmas.{Turn, MayHandUp, lawful_turned, lawful_turn}
 use Rattle.x25_handshakes.proofs.TurnLemmas.{IsHandled, WithinCall, turn_still, turn_taken, turn_acted, taken_in_its_epoch}
 
 taken : {M : Type 0} (kind : Kind M) → IsHandled kind → (r : Role) (e : ℕ) (x : Side Channels) (k : ℕ) (p : LayerPacket) (L K : List LayerPacket) (far : Side (At Channels))
-    (book : Name → Lists M) → EndsRelated r (Live (record { epoch = e; side = x })) L (p ∷ K) far
-    → Turn kind (MayHandUp (name_at kind (record { epoch = e; side = x }) k) (desk kind (state_of far) k book)) k (record { epoch = e; side = x }) (layer_side_takes r e x p).next
-taken kind handled r e x k p L K far book top =
-    turn_taken kind handled (MayHandUp (name_at kind (record { epoch = e; side = x }) k) (desk kind (state_of far) k book)) k r e x p
+    (history : Name → Lists M) → EndsRelated r (Live (record { epoch = e; side = x })) L (p ∷ K) far
+    → Turn kind (MayHandUp (name_at kind (record { epoch = e; side = x }) k) (channel_view kind (state_of far) k history)) k (record { epoch = e; side = x }) (layer_side_takes r e x p).next
+taken kind handled r e x k p L K far history top =
+    turn_taken kind handled (MayHandUp (name_at kind (record { epoch = e; side = x }) k) (channel_view kind (state_of far) k history)) k r e x p
     (λ y q c is_x is_p side inner.
     let top_y : EndsRelated r (Live (ready e y)) L (On k q ∷ K) far =
     subst (λ (z : LayerPacket). EndsRelated r (Live (ready e y)) L (z ∷ K) far) is_p
     (subst (λ (z : Side Channels). EndsRelated r (Live (record { epoch = e; side = z })) L (p ∷ K) far) is_x top) in
-    subst (λ (z : Side Channels). WithinCall kind (MayHandUp (name_at kind (record { epoch = e; side = z }) k) (desk kind (state_of far) k book)) (y k).epoch c (call_takes r c q).next) (sym is_x)
-    (taken_in_its_epoch kind handled r e y k c q L K far book inner side top_y))
+    subst (λ (z : Side Channels). WithinCall kind (MayHandUp (name_at kind (record { epoch = e; side = z }) k) (channel_view kind (state_of far) k history)) (y k).epoch c (call_takes r c q).next) (sym is_x)
+    (taken_in_its_epoch kind handled r e y k c q L K far history inner side top_y))
 
 lawful_moves : {M : Type 0} (kind : Kind M) → IsHandled kind → (r : Role) (near : Side (At Channels)) (out back : List LayerPacket) (far : Side (At Channels)) (error : Option ℕ)
-    (what : Move) (k : ℕ) (book there : Name → Lists M) → EndsRelated r near out back far → IsLawful (desk kind (state_of near) k book) (desk kind (state_of far) k there)
+    (what : Move) (k : ℕ) (history there : Name → Lists M) → EndsRelated r near out back far → IsLawful (channel_view kind (state_of near) k history) (channel_view kind (state_of far) k there)
     → let w = pair_moves r (record { near = near; far = far; out = out; back = back; error = error }) near what in
-    IsLawful (desk kind (state_of w.near) k (written book (name_at kind (state_of w.near) k) (held_at kind (state_of w.near) k))) (desk kind (state_of w.far) k there)
-lawful_moves kind handled r (Live x) out back far error (Acts a) k book there top h =
-    lawful_turn kind k x (layer_acts x a).next book (desk kind (state_of far) k there) (turn_acted kind handled (MayHandUp (name_at kind x k) (desk kind (state_of far) k there)) k x.epoch x.side a) h
-lawful_moves kind handled r (Live x) out [] far error Takes k book there top h =
-    lawful_turn kind k x x book (desk kind (state_of far) k there) (turn_still kind (MayHandUp (name_at kind x k) (desk kind (state_of far) k there)) k x) h
-lawful_moves kind handled r (Live x) out (p ∷ K) far error Takes k book there top h =
-    lawful_turn kind k x (layer_takes r x p).next book (desk kind (state_of far) k there) (taken kind handled r x.epoch x.side k p out K far there top) h
-lawful_moves kind handled r (Live x) out back far error LinkDown k book there top h =
-    lawful_turn kind k x x book (desk kind (state_of far) k there) (turn_still kind (MayHandUp (name_at kind x k) (desk kind (state_of far) k there)) k x) h
-lawful_moves kind handled r (Left x) out back far error what k book there top h =
-    lawful_turn kind k x x book (desk kind (state_of far) k there) (turn_still kind (MayHandUp (name_at kind x k) (desk kind (state_of far) k there)) k x) h
+    IsLawful (channel_view kind (state_of w.near) k (written history (name_at kind (state_of w.near) k) (held_at kind (state_of w.near) k))) (channel_view kind (state_of w.far) k there)
+lawful_moves kind handled r (Live x) out back far error (Acts a) k history there top h =
+    lawful_turn kind k x (layer_acts x a).next history (channel_view kind (state_of far) k there) (turn_acted kind handled (MayHandUp (name_at kind x k) (channel_view kind (state_of far) k there)) k x.epoch x.side a) h
+lawful_moves kind handled r (Live x) out [] far error Takes k history there top h =
+    lawful_turn kind k x x history (channel_view kind (state_of far) k there) (turn_still kind (MayHandUp (name_at kind x k) (channel_view kind (state_of far) k there)) k x) h
+lawful_moves kind handled r (Live x) out (p ∷ K) far error Takes k history there top h =
+    lawful_turn kind k x (layer_takes r x p).next history (channel_view kind (state_of far) k there) (taken kind handled r x.epoch x.side k p out K far there top) h
+lawful_moves kind handled r (Live x) out back far error LinkDown k history there top h =
+    lawful_turn kind k x x history (channel_view kind (state_of far) k there) (turn_still kind (MayHandUp (name_at kind x k) (channel_view kind (state_of far) k there)) k x) h
+lawful_moves kind handled r (Left x) out back far error what k history there top h =
+    lawful_turn kind k x x history (channel_view kind (state_of far) k there) (turn_still kind (MayHandUp (name_at kind x k) (channel_view kind (state_of far) k there)) k x) h
 
-record Holds {M : Type 0} (kind : Kind M) (r : Role) (g : Ledger M) : Type 0 where
+record Holds {M : Type 0} (kind : Kind M) (r : Role) (g : Histories M) : Type 0 where
   stands : Stands r g.pair
-  books : (k : ℕ) → IsLawful (desk kind (state_of g.pair.near) k (g.near k)) (desk kind (state_of g.pair.far) k (g.far k))
+  histories : (k : ℕ) → IsLawful (channel_view kind (state_of g.pair.near) k (g.near k)) (channel_view kind (state_of g.pair.far) k (g.far k))
 
-holds_turned : {M : Type 0} (kind : Kind M) (r : Role) (g : Ledger M) → Holds kind r g → Holds kind (other_role r) (turned_ledger g)
+holds_turned : {M : Type 0} (kind : Kind M) (r : Role) (g : Histories M) → Holds kind r g → Holds kind (other_role r) (turned_histories g)
 holds_turned kind r g h = record {
   stands = Stands-turned r g.pair h.stands;
-  books = λ k. lawful_turned (desk kind (state_of g.pair.near) k (g.near k)) (desk kind (state_of g.pair.far) k (g.far k)) (h.books k);
+  histories = λ k. lawful_turned (channel_view kind (state_of g.pair.near) k (g.near k)) (channel_view kind (state_of g.pair.far) k (g.far k)) (h.histories k);
 }
 
 holds_moves : {M : Type 0} (kind : Kind M) → IsHandled kind → Laws → (r : Role) (near far : Side (At Channels)) (out back : List LayerPacket) (error : Option ℕ)
-    (book there : ℕ → Name → Lists M) (what : Move)
-    → let g : Ledger M = record { pair = record { near = near; far = far; out = out; back = back; error = error }; near = book; far = there } in Holds kind r g → Holds kind r (ledger_moves kind r g what)
-holds_moves kind handled laws r near far out back error book there what h = record {
+    (history there : ℕ → Name → Lists M) (what : Move)
+    → let g : Histories M = record { pair = record { near = near; far = far; out = out; back = back; error = error }; near = history; far = there } in Holds kind r g → Holds kind r (histories_moves kind r g what)
+holds_moves kind handled laws r near far out back error history there what h = record {
   stands = Stands-moves laws r near out back far error what h.stands;
-  books = λ k. lawful_moves kind handled r near out back far error what k (book k) (there k) h.stands.top (h.books k);
+  histories = λ k. lawful_moves kind handled r near out back far error what k (history k) (there k) h.stands.top (h.histories k);
 }
 
-holds_if : {M : Type 0} (kind : Kind M) (r : Role) (first : Bool) (u v : Ledger M) → Holds kind r u → Holds kind r v → Holds kind r (if first then u else v)
+holds_if : {M : Type 0} (kind : Kind M) (r : Role) (first : Bool) (u v : Histories M) → Holds kind r u → Holds kind r v → Holds kind r (if first then u else v)
 holds_if kind r true u v f g = f
 holds_if kind r false u v f g = g
 
-holds_run : {M : Type 0} (kind : Kind M) → IsHandled kind → Laws → (es : List Event) (g : Ledger M) → Holds kind Dte g → Holds kind Dte (ledger_run kind es g)
+holds_run : {M : Type 0} (kind : Kind M) → IsHandled kind → Laws → (es : List Event) (g : Histories M) → Holds kind Dte g → Holds kind Dte (histories_run kind es g)
 holds_run kind handled laws [] g h = h
 holds_run kind handled laws (e ∷ es) g h =
-    holds_run kind handled laws es (ledger_happens kind g e)
-    (holds_if kind Dte e.first (ledger_moves kind Dte g e.what) (turned_ledger (ledger_moves kind Dce (turned_ledger g) e.what))
+    holds_run kind handled laws es (histories_happens kind g e)
+    (holds_if kind Dte e.first (histories_moves kind Dte g e.what) (turned_histories (histories_moves kind Dce (turned_histories g) e.what))
     (holds_moves kind handled laws Dte g.pair.near g.pair.far g.pair.out g.pair.back g.pair.error g.near g.far e.what h)
-    (holds_turned kind Dce (ledger_moves kind Dce (turned_ledger g) e.what)
+    (holds_turned kind Dce (histories_moves kind Dce (turned_histories g) e.what)
     (holds_moves kind handled laws Dce g.pair.far g.pair.near g.pair.back g.pair.out g.pair.error g.far g.near e.what (holds_turned kind Dte g h))))
 
-holds_start : {M : Type 0} (kind : Kind M) → IsHandled kind → Holds kind Dte ledger_start
+holds_start : {M : Type 0} (kind : Kind M) → IsHandled kind → Holds kind Dte histories_start
 holds_start kind handled = record {
   stands = Stands-start;
-  books = λ k. record {
+  histories = λ k. record {
     held = sym handled.fresh;
     held_there = sym handled.fresh;
     later = λ m l. refl;
@@ -86,4 +86,4 @@ holds_start kind handled = record {
 }
 
 pub in_order : {M : Type 0} (kind : Kind M) → IsHandled kind → Laws → AreInOrder kind
-in_order kind handled laws es k = (holds_run kind handled laws es ledger_start (holds_start kind handled)).books k
+in_order kind handled laws es k = (holds_run kind handled laws es histories_start (holds_start kind handled)).histories k

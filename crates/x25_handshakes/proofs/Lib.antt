@@ -16,7 +16,7 @@ pub mod ChannelLemmas
 pub mod LayerLemmas
 pub mod ClaimLemmas
 pub mod NameLemmas
-pub mod BookLemmas
+pub mod HistoryLemmas
 pub mod TurnLemmas
 pub mod StretchKindLemmas
 pub mod CallKindLemmas

@@ -13,14 +13,14 @@ use Rattle.x25_handshakes.specs.Handshake.{Inner, Side, Live, Left, At, state_of
 use Rattle.x25_handshakes.specs.Stretch.{Packet, Data, Rr, Rnr, Int, IntConf, Reset, ResetConf, Call, Accept, Clear, ClearConf, Stretch, fresh, StretchStep, stretch_does, stretch_fails, StretchAct, Send, Pull, Ready, NotReady, Interrupt, pulls, stretch_acts, by_ground, data_ground, ack_ground, takes_data, takes_status, stretch_takes}
 use Rattle.x25_handshakes.specs.Transfer.{d1, rst, fresh_transfer, lifted, transfer_side_takes, transfer_takes, TransferAct, Inside, SendsReset, transfer_side_acts}
 use Rattle.x25_handshakes.specs.Calls.{Phase, Unused, Waiting, Offered, Crossed, Talking, Connection, CallStep, goes, unexpected, calling_talk, called_talk, is_answered, accepts, phase_takes, call_takes, CallAct, PlacesCall, AcceptsCall, Talks, phase_acts}
-use Rattle.x25_handshakes.specs.Books.{Lists, none, resets_in, held_in, of_stretch, messages, interrupts, IsPrefix}
+use Rattle.x25_handshakes.specs.Histories.{Lists, none, resets_in, held_in, of_stretch, messages, interrupts, IsPrefix}
 use Rattle.x25_handshakes.proofs.HandshakeLemmas.{meets}
 use Rattle.x25_handshakes.proofs.StretchRelation.{InFlowControl, FollowsFrom, GoodStretch}
 use Rattle.x25_handshakes.proofs.TransferRelation.{reset_mark, stretch_level, TransfersRelated}
 use Rattle.x25_handshakes.proofs.ChannelRelation.{clear_mark, Seen}
 use Rattle.x25_handshakes.proofs.StretchLemmas.{GoodStretch-takes, FollowsFrom-from_Dir}
 use Rattle.x25_handshakes.proofs.ClaimLemmas.{BothTalk, Seen-joint}
-use Rattle.x25_handshakes.proofs.BookLemmas.{Change, Stays, MoreResets, alike}
+use Rattle.x25_handshakes.proofs.HistoryLemmas.{Change, Stays, MoreResets, alike}
 use Rattle.x25_handshakes.proofs.TurnLemmas.{MayIndicate, WithinCall, IsHandled}
 
 -- what has to be known of two lists of a stretch

@@ -5,7 +5,7 @@ use Rattle.x25_circuit.specs.Messages.{Piece, no_part, joining, carried, AreSoun
 use Rattle.x25_window.specs.Modulo.{resolved}
 use Rattle.x25_circuit.specs.Params.{Terms}
 use Rattle.x25_handshakes.specs.Stretch.{Packet, Data, Rr, Rnr, Int, IntConf, Stretch, StretchStep}
-use Rattle.x25_handshakes.specs.Books.{IsPrefix}
+use Rattle.x25_handshakes.specs.Histories.{IsPrefix}
 
 -- a data packet's number and what it carries
 pub record Numbering : Type 0 where

@@ -8,13 +8,13 @@ use Rattle.x25_handshakes.specs.Calls.{Phase, Unused, Connection, CallStep, call
 use Rattle.x25_handshakes.specs.Channel.{live, lifted_call, channel_side_takes, channel_takes, ChannelAct, Within, SendsClear, clears, channel_side_acts, channel_acts}
 use Rattle.x25_handshakes.specs.Layers.{LayerPacket, On, Restart, RestartConf, Channels, put, ready, layer_side_takes, LayerAct, OnChannel, SendsRestart, layer_side_acts}
 use Rattle.x25_handshakes.specs.Names.{Name}
-use Rattle.x25_handshakes.specs.Books.{Lists, none, Kind, circuit_at, name_at, desk, IsPrefix}
+use Rattle.x25_handshakes.specs.Histories.{Lists, none, Kind, circuit_at, name_at, channel_view, IsPrefix}
 use Rattle.x25_handshakes.proofs.HandshakeLemmas.{meets}
 use Rattle.x25_handshakes.proofs.ChannelRelation.{clear_mark, Seen, connection_level, ChannelRelated}
 use Rattle.x25_handshakes.proofs.LayersRelation.{on, channels_level, LayersRelated, EndsRelated}
 use Rattle.x25_handshakes.proofs.LayerLemmas.{on-front}
 use Rattle.x25_handshakes.proofs.NameLemmas.{name_eq}
-use Rattle.x25_handshakes.proofs.BookLemmas.{Change, Stays, MoreResets, MoreClears, Turn, Remained, Restarted, MayHandUp, alike}
+use Rattle.x25_handshakes.proofs.HistoryLemmas.{Change, Stays, MoreResets, MoreClears, Turn, Remained, Restarted, MayHandUp, alike}
 
 -- what may be handed up in a call, where the other end stands in y
 abbrev pub MayIndicate : {M : Type 0} → Kind M → Connection → Connection → List M → Type 0
@@ -105,9 +105,9 @@ Ends-meet r x L K (Left z) h = (h.0, h.2)
 
 -- A packet of a call is taken only in the epochs of the other end, live or stopped; so what it has this end hand up, the other end handed down under the same name.
 pub taken_in_its_epoch : {M : Type 0} (kind : Kind M) → IsHandled kind → (r : Role) (rs : ℕ) (x : Channels) (k : ℕ) (c : Connection) (p : Packet) (L K : List LayerPacket)
-    (far : Side (At Channels)) (book : Name → Lists M) → clear_mark p ≡ Inner → (x k).side ≡ Live c → EndsRelated r (Live (ready rs x)) L (On k p ∷ K) far
-    → WithinCall kind (MayHandUp (name_at kind (ready rs x) k) (desk kind (state_of far) k book)) (x k).epoch c (call_takes r c p).next
-taken_in_its_epoch kind handled r rs x k c p L K far book inner side top =
+    (far : Side (At Channels)) (history : Name → Lists M) → clear_mark p ≡ Inner → (x k).side ≡ Live c → EndsRelated r (Live (ready rs x)) L (On k p ∷ K) far
+    → WithinCall kind (MayHandUp (name_at kind (ready rs x) k) (channel_view kind (state_of far) k history)) (x k).epoch c (call_takes r c p).next
+taken_in_its_epoch kind handled r rs x k c p L K far history inner side top =
     let layers = Ends-meet r (ready rs x) L (On k p ∷ K) far top in
     let y : At Channels = state_of far in
     let channels = meets (channels_level r) (On k p) refl rs y.epoch x y.side layers.0 K layers.1.hand in
@@ -120,7 +120,7 @@ taken_in_its_epoch kind handled r rs x k c p L K far book inner side top =
     let call = meets (connection_level r) p inner (x k).epoch z.epoch c z.side u v channel.hand in
     let counted : kind.resets c ≡ kind.resets (state_of (x k).side) = ap (λ (s : Side Connection). kind.resets (state_of s)) (sym side) in
     let n : Connection = (call_takes r c p).next in
-    change_map (MayIndicate kind c (state_of z.side)) (MayHandUp (name_at kind (ready rs x) k) (desk kind (state_of far) k book))
+    change_map (MayIndicate kind c (state_of z.side)) (MayHandUp (name_at kind (ready rs x) k) (channel_view kind (state_of far) k history))
     (x k).epoch (kind.resets c) (kind.held c) (x k).epoch (kind.resets n) (kind.held n)
     (λ may. (name_eq (name_at kind y k) (name_at kind (ready rs x) k) (sym channels.0) (sym call.0) (may.0 ∙ counted), may.1))
     (handled.takes r (x k).epoch c call.1 p call.2 (state_of z.side) inner call.3)

@@ -5,7 +5,7 @@ use Rattle.x25_handshakes.specs.Handshake.{Side, Live, Left, At, state_of}
 use Rattle.x25_handshakes.specs.Stretch.{Stretch}
 use Rattle.x25_handshakes.specs.Calls.{Phase, Talking, Connection}
 use Rattle.x25_handshakes.specs.Layers.{Channels, Event, pair_run, pair_start}
-use Rattle.x25_handshakes.specs.Books.{messages, name_at}
+use Rattle.x25_handshakes.specs.Histories.{messages, name_at}
 
 abbrev pub open_in : Side Stretch → Option Stretch
 open_in (Live x) = Some x

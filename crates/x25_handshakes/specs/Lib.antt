@@ -5,5 +5,5 @@ pub mod Calls
 pub mod Channel
 pub mod Layers
 pub mod Names
-pub mod Books
+pub mod Histories
 pub mod Arrivals

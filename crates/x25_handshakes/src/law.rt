@@ -1,6 +1,6 @@
 ghost use Rattle.std.specs.Prelude.{◌≡◌, List, None};
 ghost use Rattle.x25_handshakes.specs.Layers.{Event, pair_run, pair_start};
-ghost use Rattle.x25_handshakes.specs.Books.{messages, interrupts, calls, AreInOrder};
+ghost use Rattle.x25_handshakes.specs.Histories.{messages, interrupts, calls, AreInOrder};
 ghost use Rattle.x25_handshakes.specs.Arrivals.{AllArrives};
 
 /// Two packet layers over lines that keep order, each end out at any moment, and any calls of their users, with the packet sizes

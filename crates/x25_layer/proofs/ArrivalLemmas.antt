@@ -10,7 +10,7 @@ use Rattle.x25_handshakes.specs.Stretch.{Stretch}
 use Rattle.x25_handshakes.specs.Calls.{Phase, Unused, Waiting, Offered, Crossed, Talking, Connection}
 use Rattle.x25_handshakes.specs.Layers.{Channels}
 use Rattle.x25_handshakes.specs.Names.{Name}
-use Rattle.x25_handshakes.specs.Books.{Lists, messages, interrupts, held_in, name_at, held_at}
+use Rattle.x25_handshakes.specs.Histories.{Lists, messages, interrupts, held_in, name_at, held_at}
 use Rattle.x25_handshakes.specs.Arrivals.{open_call, open_at, HasArrived}
 use Rattle.x25_layer.specs.Layer.{Layer}
 use Rattle.x25_layer.specs.Transcript.{under, messages_in, interrupts_in, name_of}

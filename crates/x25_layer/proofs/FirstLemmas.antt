@@ -7,7 +7,7 @@ use Rattle.x25_circuit.specs.declared.state.State.{State}
 use Rattle.x25_circuit.specs.declared.state.State.TheVariants.{Free}
 use Rattle.x25_circuit.specs.Circuit.{Circuit, is_free_in}
 use Rattle.x25_circuit.specs.Calls.{Pulled, pull_in, pulled, pulls_nothing}
-use Rattle.x25_handshakes.specs.Books.{IsPrefix}
+use Rattle.x25_handshakes.specs.Histories.{IsPrefix}
 use Rattle.x25_layer.specs.Layer.{LayerSettings, Layer, LayerNotice, restarted, is_channel, packet_on, answers_in, layer_answers, restart_cause, goes_up}
 use Rattle.x25_layer.specs.Calls.{LayerRequest, LayerOutcome, Accepted, Declined, outcome_in, layer_outcome, layer_pulled}
 use Rattle.x25_layer.specs.Quiet.{AreQuiet, AreNoFaults}

@@ -3,12 +3,12 @@ use Rattle.std.proofs.Common.{◌≡◌, Bool, ℕ, sym, ap, subst, ◌∙◌}
 use Rattle.x25_handshakes.specs.Handshake.{state_of}
 use Rattle.x25_handshakes.specs.Layers.{Pair, pair_run, pair_start}
 use Rattle.x25_handshakes.specs.Names.{Name}
-use Rattle.x25_handshakes.specs.Books.{Lists, Kind, messages, interrupts, calls, name_at, held_at, IsPrefix, IsLawful, desk, Ledger, ledger_run, ledger_start}
+use Rattle.x25_handshakes.specs.Histories.{Lists, Kind, messages, interrupts, calls, name_at, held_at, IsPrefix, IsLawful, channel_view, Histories, histories_run, histories_start}
 use Rattle.x25_layer.specs.Transcript.{Handed, under, calls_in, messages_in, interrupts_in}
 use Rattle.x25_layer.specs.TwoLayers.{TwoLayers, run, start}
 use Rattle.x25_layer.specs.laws.Law.{Always, IsQuietWorld, IsLawfulWorld, ArrivesAll, KeepsOrder}
 use Rattle.x25_layer.proofs.LayerSees.{bare_layers}
-use Rattle.x25_layer.proofs.RunLemmas.{Premises, ledger_pair, AreBooks, InRun, in_run}
+use Rattle.x25_layer.proofs.RunLemmas.{Premises, histories_pair, AreHistories, InRun, in_run}
 use Rattle.x25_layer.proofs.ArrivalLemmas.{none_in_flight, AtPresent, has_all}
 
 pub always_in_order : Premises → (long_data : Bool) (channels : ℕ) → Always KeepsOrder long_data channels
@@ -19,19 +19,19 @@ always_quiet p long_data channels es =
     let h = in_run p long_data channels es in
     record { near = h.sees.near_quiet; far = h.sees.far_quiet }
 
-near_begins : {M : Type 0} (kind : Kind M) (lists : Handed → Lists M) (w : TwoLayers) (g : Ledger M) → AreBooks kind lists w g
-    → ((k : ℕ) → IsLawful (desk kind (state_of g.pair.near) k (g.near k)) (desk kind (state_of g.pair.far) k (g.far k)))
+near_begins : {M : Type 0} (kind : Kind M) (lists : Handed → Lists M) (w : TwoLayers) (g : Histories M) → AreHistories kind lists w g
+    → ((k : ℕ) → IsLawful (channel_view kind (state_of g.pair.near) k (g.near k)) (channel_view kind (state_of g.pair.far) k (g.far k)))
     → (k : ℕ) (m : Name) → IsPrefix (lists (under k m w.near.entries)).up (lists (under k m w.far.entries)).down
-near_begins {M} kind lists w g books law k m =
-    subst (λ (l : Lists M). IsPrefix l.up (lists (under k m w.far.entries)).down) (sym (books.near k m))
-    (subst (λ (l : Lists M). IsPrefix (g.near k m).up l.down) (sym (books.far k m)) ((law k).begins m))
+near_begins {M} kind lists w g histories law k m =
+    subst (λ (l : Lists M). IsPrefix l.up (lists (under k m w.far.entries)).down) (sym (histories.near k m))
+    (subst (λ (l : Lists M). IsPrefix (g.near k m).up l.down) (sym (histories.far k m)) ((law k).begins m))
 
-far_begins : {M : Type 0} (kind : Kind M) (lists : Handed → Lists M) (w : TwoLayers) (g : Ledger M) → AreBooks kind lists w g
-    → ((k : ℕ) → IsLawful (desk kind (state_of g.pair.near) k (g.near k)) (desk kind (state_of g.pair.far) k (g.far k)))
+far_begins : {M : Type 0} (kind : Kind M) (lists : Handed → Lists M) (w : TwoLayers) (g : Histories M) → AreHistories kind lists w g
+    → ((k : ℕ) → IsLawful (channel_view kind (state_of g.pair.near) k (g.near k)) (channel_view kind (state_of g.pair.far) k (g.far k)))
     → (k : ℕ) (m : Name) → IsPrefix (lists (under k m w.far.entries)).up (lists (under k m w.near.entries)).down
-far_begins {M} kind lists w g books law k m =
-    subst (λ (l : Lists M). IsPrefix l.up (lists (under k m w.near.entries)).down) (sym (books.far k m))
-    (subst (λ (l : Lists M). IsPrefix (g.far k m).up l.down) (sym (books.near k m)) ((law k).begins_there m))
+far_begins {M} kind lists w g histories law k m =
+    subst (λ (l : Lists M). IsPrefix l.up (lists (under k m w.near.entries)).down) (sym (histories.far k m))
+    (subst (λ (l : Lists M). IsPrefix (g.far k m).up l.down) (sym (histories.near k m)) ((law k).begins_there m))
 
 pub always_lawful : Premises → (long_data : Bool) (channels : ℕ) → Always IsLawfulWorld long_data channels
 always_lawful p long_data channels es =
@@ -40,34 +40,34 @@ always_lawful p long_data channels es =
     let order_m = p.messages h.events in
     let order_i = p.interrupts h.events in
     let order_c = p.calls h.events in
-    let ledger_m : Ledger _ = ledger_run messages h.events ledger_start in
-    let ledger_i : Ledger _ = ledger_run interrupts h.events ledger_start in
-    let ledger_c : Ledger _ = ledger_run calls h.events ledger_start in
+    let histories_m : Histories _ = histories_run messages h.events histories_start in
+    let histories_i : Histories _ = histories_run interrupts h.events histories_start in
+    let histories_c : Histories _ = histories_run calls h.events histories_start in
     record {
       near = record {
-        messages = near_begins messages messages_in w ledger_m h.messages order_m;
-        interrupts = near_begins interrupts interrupts_in w ledger_i h.interrupts order_i;
-        calls = near_begins calls calls_in w ledger_c h.calls order_c;
+        messages = near_begins messages messages_in w histories_m h.messages order_m;
+        interrupts = near_begins interrupts interrupts_in w histories_i h.interrupts order_i;
+        calls = near_begins calls calls_in w histories_c h.calls order_c;
       };
       far = record {
-        messages = far_begins messages messages_in w ledger_m h.messages order_m;
-        interrupts = far_begins interrupts interrupts_in w ledger_i h.interrupts order_i;
-        calls = far_begins calls calls_in w ledger_c h.calls order_c;
+        messages = far_begins messages messages_in w histories_m h.messages order_m;
+        interrupts = far_begins interrupts interrupts_in w histories_i h.interrupts order_i;
+        calls = far_begins calls calls_in w histories_c h.calls order_c;
       };
     }
 
 -- what stands under the present name of an end
-near_present : {M : Type 0} (kind : Kind M) (lists : Handed → Lists M) (w : TwoLayers) (j : Pair) (g : Ledger M) → AreBooks kind lists w g → g.pair ≡ j → (k : ℕ)
+near_present : {M : Type 0} (kind : Kind M) (lists : Handed → Lists M) (w : TwoLayers) (j : Pair) (g : Histories M) → AreHistories kind lists w g → g.pair ≡ j → (k : ℕ)
     → g.near k (name_at kind (state_of g.pair.near) k) ≡ held_at kind (state_of g.pair.near) k
     → lists (under k (name_at kind (state_of j.near) k) w.near.entries) ≡ held_at kind (state_of j.near) k
-near_present kind lists w j g books same k held =
-    subst (λ (q : Pair). lists (under k (name_at kind (state_of q.near) k) w.near.entries) ≡ held_at kind (state_of q.near) k) same (books.near k (name_at kind (state_of g.pair.near) k) ∙ held)
+near_present kind lists w j g histories same k held =
+    subst (λ (q : Pair). lists (under k (name_at kind (state_of q.near) k) w.near.entries) ≡ held_at kind (state_of q.near) k) same (histories.near k (name_at kind (state_of g.pair.near) k) ∙ held)
 
-far_present : {M : Type 0} (kind : Kind M) (lists : Handed → Lists M) (w : TwoLayers) (j : Pair) (g : Ledger M) → AreBooks kind lists w g → g.pair ≡ j → (k : ℕ)
+far_present : {M : Type 0} (kind : Kind M) (lists : Handed → Lists M) (w : TwoLayers) (j : Pair) (g : Histories M) → AreHistories kind lists w g → g.pair ≡ j → (k : ℕ)
     → g.far k (name_at kind (state_of g.pair.far) k) ≡ held_at kind (state_of g.pair.far) k
     → lists (under k (name_at kind (state_of j.far) k) w.far.entries) ≡ held_at kind (state_of j.far) k
-far_present kind lists w j g books same k held =
-    subst (λ (q : Pair). lists (under k (name_at kind (state_of q.far) k) w.far.entries) ≡ held_at kind (state_of q.far) k) same (books.far k (name_at kind (state_of g.pair.far) k) ∙ held)
+far_present kind lists w j g histories same k held =
+    subst (λ (q : Pair). lists (under k (name_at kind (state_of q.far) k) w.far.entries) ≡ held_at kind (state_of q.far) k) same (histories.far k (name_at kind (state_of g.pair.far) k) ∙ held)
 
 pub always_arrives : Premises → (long_data : Bool) (channels : ℕ) → Always ArrivesAll long_data channels
 always_arrives p long_data channels es =
@@ -75,12 +75,12 @@ always_arrives p long_data channels es =
     let h : InRun channels w = in_run p long_data channels es in
     let j : Pair = pair_run h.events pair_start in
     let near : (k : ℕ) → AtPresent w.near j.near k = λ k. record {
-      of_messages = near_present messages messages_in w j (ledger_run messages h.events ledger_start) h.messages (ledger_pair messages h.events ledger_start) k (p.messages h.events k).held;
-      of_interrupts = near_present interrupts interrupts_in w j (ledger_run interrupts h.events ledger_start) h.interrupts (ledger_pair interrupts h.events ledger_start) k (p.interrupts h.events k).held;
+      of_messages = near_present messages messages_in w j (histories_run messages h.events histories_start) h.messages (histories_pair messages h.events histories_start) k (p.messages h.events k).held;
+      of_interrupts = near_present interrupts interrupts_in w j (histories_run interrupts h.events histories_start) h.interrupts (histories_pair interrupts h.events histories_start) k (p.interrupts h.events k).held;
     } in
     let far : (k : ℕ) → AtPresent w.far j.far k = λ k. record {
-      of_messages = far_present messages messages_in w j (ledger_run messages h.events ledger_start) h.messages (ledger_pair messages h.events ledger_start) k (p.messages h.events k).held_there;
-      of_interrupts = far_present interrupts interrupts_in w j (ledger_run interrupts h.events ledger_start) h.interrupts (ledger_pair interrupts h.events ledger_start) k (p.interrupts h.events k).held_there;
+      of_messages = far_present messages messages_in w j (histories_run messages h.events histories_start) h.messages (histories_pair messages h.events histories_start) k (p.messages h.events k).held_there;
+      of_interrupts = far_present interrupts interrupts_in w j (histories_run interrupts h.events histories_start) h.interrupts (histories_pair interrupts h.events histories_start) k (p.interrupts h.events k).held_there;
     } in
     record {
       near = λ k acked idle. has_all w.near w.far j.near j.far k acked h.sees.near h.sees.far (near k) (far k) idle

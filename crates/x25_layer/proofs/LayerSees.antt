@@ -8,7 +8,7 @@ use Rattle.x25_circuit.specs.Calls.{Calls}
 use Rattle.x25_handshakes.specs.Handshake.{Side, Live, Left, has_left, At}
 use Rattle.x25_handshakes.specs.Layers.{LayerPacket, On, Restart, RestartConf, Channels, LayerStep, LayerAct, OnChannel, SendsRestart}
 use Rattle.x25_handshakes.specs.Names.{Name, same_name}
-use Rattle.x25_handshakes.specs.Books.{circuit_at}
+use Rattle.x25_handshakes.specs.Histories.{circuit_at}
 use Rattle.x25_layer.specs.Layer.{LayerSettings, Layer, LayerAnswer}
 use Rattle.x25_layer.specs.Calls.{LayerRequest, Asks, Dials, Restarts, PullsAll, LayerOutcome, Accepted, Declined, free_channel}
 use Rattle.x25_layer.specs.Quiet.{AreQuiet, AreNoFaults}

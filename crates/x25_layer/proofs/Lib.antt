@@ -5,7 +5,7 @@ pub mod NoteLemmas
 pub mod LayerSees
 pub mod StepLemmas
 pub mod LayerLemmas
-pub mod BookLemmas
+pub mod HistoryLemmas
 pub mod TwoLayerLemmas
 pub mod RunLemmas
 pub mod ArrivalLemmas

@@ -1,4 +1,4 @@
--- Each run of two layers is a run of the nested handshakes, with the transcripts as books.
+-- Each run of two layers is a run of the nested handshakes, with the transcripts as histories.
 use Rattle.std.proofs.Common.{◌≡◌, ◌⊎◌, inl, inr, ℕ, List, [], ◌∷◌, ◌++◌, None, Bool, true, false, if◌then◌else◌, refl, sym, ap, subst, ◌∙◌}
 use Rattle.x25_bits.specs.declared.role.Role.{Role}
 use Rattle.x25_bits.specs.declared.role.Role.TheVariants.{Dte, Dce}
@@ -6,13 +6,13 @@ use Rattle.x25_handshakes.specs.Handshake.{state_of}
 use Rattle.x25_handshakes.specs.Layers.{Channels, Pair, pair_moves, pair_happens, pair_run, pair_start}
 use Rattle.x25_handshakes.specs.Layers as nested
 use Rattle.x25_handshakes.specs.Names.{Name, IsEarlier}
-use Rattle.x25_handshakes.specs.Books.{Lists, none, Kind, messages, interrupts, calls, name_at, held_at, Ledger, turned_ledger, ledger_moves, ledger_happens, ledger_run, ledger_start, AreInOrder}
+use Rattle.x25_handshakes.specs.Histories.{Lists, none, Kind, messages, interrupts, calls, name_at, held_at, Histories, turned_histories, histories_moves, histories_happens, histories_run, histories_start, AreInOrder}
 use Rattle.x25_handshakes.specs.Arrivals.{AllArrives}
 use Rattle.x25_layer.specs.Transcript.{Handed, Entry, under, calls_in, messages_in, interrupts_in}
 use Rattle.x25_layer.specs.TwoLayers.{TwoLayers, Move, Event, moves, turned, happens, run, start, settings_of}
 use Rattle.x25_layer.proofs.Sees.{ParamsLaws}
 use Rattle.x25_layer.proofs.LayerSees.{StepOf}
-use Rattle.x25_layer.proofs.BookLemmas.{IsListed, booked, messages_listed, interrupts_listed, calls_listed}
+use Rattle.x25_layer.proofs.HistoryLemmas.{IsListed, recorded, messages_listed, interrupts_listed, calls_listed}
 use Rattle.x25_layer.proofs.TwoLayerLemmas.{Sees, Stepped, world_moves, sees_turned}
 
 -- what is known of the nested handshakes, and of packet sizes and windows
@@ -30,70 +30,70 @@ pub run_more : (es : List nested.Event) (e : nested.Event) (w : Pair) → pair_r
 run_more [] e w = refl
 run_more (d ∷ es) e w = run_more es e (pair_happens w d)
 
-ledger_more : {M : Type 0} (kind : Kind M) (es : List nested.Event) (e : nested.Event) (g : Ledger M) → ledger_run kind (es ++ e ∷ []) g ≡ ledger_happens kind (ledger_run kind es g) e
-ledger_more kind [] e g = refl
-ledger_more kind (d ∷ es) e g = ledger_more kind es e (ledger_happens kind g d)
+histories_more : {M : Type 0} (kind : Kind M) (es : List nested.Event) (e : nested.Event) (g : Histories M) → histories_run kind (es ++ e ∷ []) g ≡ histories_happens kind (histories_run kind es g) e
+histories_more kind [] e g = refl
+histories_more kind (d ∷ es) e g = histories_more kind es e (histories_happens kind g d)
 
-pub ledger_pair : {M : Type 0} (kind : Kind M) (es : List nested.Event) (g : Ledger M) → (ledger_run kind es g).pair ≡ pair_run es g.pair
-ledger_pair kind [] g = refl
-ledger_pair {M} kind (e ∷ es) g = ledger_pair kind es (ledger_happens kind g e) ∙ ap (λ (w : Pair). pair_run es w) (one e.first)
+pub histories_pair : {M : Type 0} (kind : Kind M) (es : List nested.Event) (g : Histories M) → (histories_run kind es g).pair ≡ pair_run es g.pair
+histories_pair kind [] g = refl
+histories_pair {M} kind (e ∷ es) g = histories_pair kind es (histories_happens kind g e) ∙ ap (λ (w : Pair). pair_run es w) (one e.first)
   where
     one : (first : Bool)
-        → (if first then ledger_moves kind Dte g e.what else turned_ledger (ledger_moves kind Dce (turned_ledger g) e.what)).pair
+        → (if first then histories_moves kind Dte g e.what else turned_histories (histories_moves kind Dce (turned_histories g) e.what)).pair
         ≡ (if first then pair_moves Dte g.pair g.pair.near e.what else nested.turned (pair_moves Dce (nested.turned g.pair) g.pair.far e.what))
     one true = refl
     one false = refl
 
--- the transcripts are the books
-pub record AreBooks {M : Type 0} (kind : Kind M) (lists : Handed → Lists M) (w : TwoLayers) (g : Ledger M) : Type 0 where
+-- the transcripts are the histories
+pub record AreHistories {M : Type 0} (kind : Kind M) (lists : Handed → Lists M) (w : TwoLayers) (g : Histories M) : Type 0 where
   pub near : (k : ℕ) (m : Name) → lists (under k m w.near.entries) ≡ g.near k m
   pub far : (k : ℕ) (m : Name) → lists (under k m w.far.entries) ≡ g.far k m
 
 -- a step of the near end
-near_books : {M : Type 0} (kind : Kind M) (lists : Handed → Lists M) → IsListed kind lists → (r : Role) (channels : ℕ) (w : TwoLayers) (w₂ : TwoLayers) (j : Pair) (g : Ledger M) → g.pair ≡ j
+near_histories : {M : Type 0} (kind : Kind M) (lists : Handed → Lists M) → IsListed kind lists → (r : Role) (channels : ℕ) (w : TwoLayers) (w₂ : TwoLayers) (j : Pair) (g : Histories M) → g.pair ≡ j
     → ((k : ℕ) → g.near k (name_at kind (state_of g.pair.near) k) ≡ held_at kind (state_of g.pair.near) k)
     → ((k : ℕ) (m : Name) → IsEarlier (name_at kind (state_of g.pair.near) k) m → g.near k m ≡ none)
-    → AreBooks kind lists w g → (s : Stepped r channels w j w₂) → AreBooks kind lists w₂ (ledger_moves kind r g s.move)
-near_books {M} kind lists listed r channels w w₂ j g same held later books s = record {
+    → AreHistories kind lists w g → (s : Stepped r channels w j w₂) → AreHistories kind lists w₂ (histories_moves kind r g s.move)
+near_histories {M} kind lists listed r channels w w₂ j g same held later histories s = record {
   near = λ k m.
       ap (λ (es : List Entry). lists (under k m es)) s.near_entries
-      ∙ booked kind lists listed k (state_of g.pair.near) (state_of (pair_moves r g.pair g.pair.near s.move).near) w.near.entries s.entries (g.near k) (held k) (later k) (books.near k)
+      ∙ recorded kind lists listed k (state_of g.pair.near) (state_of (pair_moves r g.pair g.pair.near s.move).near) w.near.entries s.entries (g.near k) (held k) (later k) (histories.near k)
       (subst (λ (p : Pair). StepOf (state_of p.near) (state_of (pair_moves r p p.near s.move).near) s.entries) (sym same) s.step) m;
-  far = λ k m. ap (λ (es : List Entry). lists (under k m es)) s.far_entries ∙ books.far k m;
+  far = λ k m. ap (λ (es : List Entry). lists (under k m es)) s.far_entries ∙ histories.far k m;
 }
 
-books_turned : {M : Type 0} (kind : Kind M) (lists : Handed → Lists M) (w : TwoLayers) (g : Ledger M) → AreBooks kind lists w g → AreBooks kind lists (turned w) (turned_ledger g)
-books_turned kind lists w g b = record { near = b.far; far = b.near }
+histories_turned : {M : Type 0} (kind : Kind M) (lists : Handed → Lists M) (w : TwoLayers) (g : Histories M) → AreHistories kind lists w g → AreHistories kind lists (turned w) (turned_histories g)
+histories_turned kind lists w g b = record { near = b.far; far = b.near }
 
 -- a run of two layers, as a run of the nested handshakes
 pub record InRun (channels : ℕ) (w : TwoLayers) : Type 0 where
   pub events : List nested.Event
   pub sees : Sees channels w (pair_run events pair_start)
-  pub messages : AreBooks messages messages_in w (ledger_run messages events ledger_start)
-  pub interrupts : AreBooks interrupts interrupts_in w (ledger_run interrupts events ledger_start)
-  pub calls : AreBooks calls calls_in w (ledger_run calls events ledger_start)
+  pub messages : AreHistories messages messages_in w (histories_run messages events histories_start)
+  pub interrupts : AreHistories interrupts interrupts_in w (histories_run interrupts events histories_start)
+  pub calls : AreHistories calls calls_in w (histories_run calls events histories_start)
 
 abbrev event : Bool → nested.Move → nested.Event
 event first what = record { first = first; what = what }
 
 near_kept : {M : Type 0} (kind : Kind M) (lists : Handed → Lists M) → IsListed kind lists → AreInOrder kind → (channels : ℕ) (w w₂ : TwoLayers) (es : List nested.Event)
-    → AreBooks kind lists w (ledger_run kind es ledger_start) → (s : Stepped Dte channels w (pair_run es pair_start) w₂)
-    → AreBooks kind lists w₂ (ledger_run kind (es ++ event true s.move ∷ []) ledger_start)
-near_kept {M} kind lists listed order channels w w₂ es books s =
-    let g : Ledger M = ledger_run kind es ledger_start in
-    subst (λ (l : Ledger M). AreBooks kind lists w₂ l) (sym (ledger_more kind es (event true s.move) ledger_start))
-    (near_books kind lists listed Dte channels w w₂ (pair_run es pair_start) g (ledger_pair kind es ledger_start)
-    (λ k. (order es k).held) (λ k m. (order es k).later m) books s)
+    → AreHistories kind lists w (histories_run kind es histories_start) → (s : Stepped Dte channels w (pair_run es pair_start) w₂)
+    → AreHistories kind lists w₂ (histories_run kind (es ++ event true s.move ∷ []) histories_start)
+near_kept {M} kind lists listed order channels w w₂ es histories s =
+    let g : Histories M = histories_run kind es histories_start in
+    subst (λ (l : Histories M). AreHistories kind lists w₂ l) (sym (histories_more kind es (event true s.move) histories_start))
+    (near_histories kind lists listed Dte channels w w₂ (pair_run es pair_start) g (histories_pair kind es histories_start)
+    (λ k. (order es k).held) (λ k m. (order es k).later m) histories s)
 
 far_kept : {M : Type 0} (kind : Kind M) (lists : Handed → Lists M) → IsListed kind lists → AreInOrder kind → (channels : ℕ) (w w₂ : TwoLayers) (es : List nested.Event)
-    → AreBooks kind lists w (ledger_run kind es ledger_start) → (s : Stepped Dce channels (turned w) (nested.turned (pair_run es pair_start)) w₂)
-    → AreBooks kind lists (turned w₂) (ledger_run kind (es ++ event false s.move ∷ []) ledger_start)
-far_kept {M} kind lists listed order channels w w₂ es books s =
-    let g : Ledger M = ledger_run kind es ledger_start in
-    subst (λ (l : Ledger M). AreBooks kind lists (turned w₂) l) (sym (ledger_more kind es (event false s.move) ledger_start))
-    (books_turned kind lists w₂ (ledger_moves kind Dce (turned_ledger g) s.move)
-    (near_books kind lists listed Dce channels (turned w) w₂ (nested.turned (pair_run es pair_start)) (turned_ledger g) (ap nested.turned (ledger_pair kind es ledger_start))
-    (λ k. (order es k).held_there) (λ k m. (order es k).later_there m) (books_turned kind lists w g books) s))
+    → AreHistories kind lists w (histories_run kind es histories_start) → (s : Stepped Dce channels (turned w) (nested.turned (pair_run es pair_start)) w₂)
+    → AreHistories kind lists (turned w₂) (histories_run kind (es ++ event false s.move ∷ []) histories_start)
+far_kept {M} kind lists listed order channels w w₂ es histories s =
+    let g : Histories M = histories_run kind es histories_start in
+    subst (λ (l : Histories M). AreHistories kind lists (turned w₂) l) (sym (histories_more kind es (event false s.move) histories_start))
+    (histories_turned kind lists w₂ (histories_moves kind Dce (turned_histories g) s.move)
+    (near_histories kind lists listed Dce channels (turned w) w₂ (nested.turned (pair_run es pair_start)) (turned_histories g) (ap nested.turned (histories_pair kind es histories_start))
+    (λ k. (order es k).held_there) (λ k m. (order es k).later_there m) (histories_turned kind lists w g histories) s))
 
 near_happens : Premises → (long_data : Bool) (channels : ℕ) (w : TwoLayers) (what : Move) → InRun channels w → InRun channels (moves (settings_of Dte long_data channels) w what)
 near_happens p long_data channels w what h =

@@ -18,7 +18,7 @@ use Rattle.x25_handshakes.specs.Stretch.{Packet, Data, Rr, Rnr, Int, IntConf, Re
 use Rattle.x25_handshakes.specs.Transfer.{Inside, SendsReset}
 use Rattle.x25_handshakes.specs.Calls.{Phase, Unused, Waiting, Offered, Crossed, Talking, Connection, PlacesCall, AcceptsCall, Talks}
 use Rattle.x25_handshakes.specs.Channel.{ChannelStep, ChannelAct, Within, SendsClear}
-use Rattle.x25_handshakes.specs.Books.{resets_in}
+use Rattle.x25_handshakes.specs.Histories.{resets_in}
 use Rattle.x25_layer.specs.Quiet.{IsQuiet, IsNoFault}
 use Rattle.x25_layer.specs.Transcript.{Handed, nothing_handed, added}
 

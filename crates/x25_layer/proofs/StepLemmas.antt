@@ -7,7 +7,7 @@ use Rattle.x25_handshakes.specs.Handshake.{Side, At}
 use Rattle.x25_handshakes.specs.Calls.{Connection}
 use Rattle.x25_handshakes.specs.Layers.{Channels, put, ready, all_fresh}
 use Rattle.x25_handshakes.specs.Names.{Name, both, same_name}
-use Rattle.x25_handshakes.specs.Books.{circuit_at}
+use Rattle.x25_handshakes.specs.Histories.{circuit_at}
 use Rattle.x25_layer.specs.Layer.{Layer, notices_on}
 use Rattle.x25_layer.specs.Transcript.{Handed, nothing_handed, added, told_by, told_by_all, Entry, under, name_of}
 use Rattle.x25_layer.specs.TwoLayers.{entries_told}

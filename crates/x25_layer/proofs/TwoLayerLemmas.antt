@@ -5,7 +5,7 @@ use Rattle.x25_packet.specs.PlainPacket.{PlainPacket}
 use Rattle.x25_handshakes.specs.Handshake.{Side, Live, Left, At, state_of}
 use Rattle.x25_handshakes.specs.Layers.{LayerPacket, Channels, LayerStep, OnChannel, Pair, Acts, Takes, LinkDown, first_error, pair_moves, layer_acts, layer_takes}
 use Rattle.x25_handshakes.specs.Layers as nested
-use Rattle.x25_handshakes.specs.Books.{circuit_at}
+use Rattle.x25_handshakes.specs.Histories.{circuit_at}
 use Rattle.x25_layer.specs.Layer.{LayerSettings, Layer, LayerNotice, LayerAnswer, is_channel, layer_answers, rested}
 use Rattle.x25_layer.specs.Calls.{LayerRequest, PullsAll, LayerOutcome, Accepted, Declined, outcome_in, layer_outcome, LayerPulled, layer_pulled}
 use Rattle.x25_layer.specs.Quiet.{AreQuiet, AreNoFaults}

@@ -4,7 +4,7 @@ use Rattle.x25_circuit.specs.declared.message.Message.{Message}
 use Rattle.x25_circuit.specs.Notices.{CallRequest, PlainNotice, incoming, delivered, interrupted}
 use Rattle.x25_circuit.specs.Calls.{Request, Calls, Sends, Interrupts, request_of}
 use Rattle.x25_handshakes.specs.Names.{Name, both, same_name}
-use Rattle.x25_handshakes.specs.Books.{Lists}
+use Rattle.x25_handshakes.specs.Histories.{Lists}
 use Rattle.x25_layer.specs.Layer.{Layer}
 
 -- the calls made and indicated, the messages sent and delivered, and the interrupts sent and taken, in order

@@ -12,7 +12,7 @@ use Rattle.x25_frame.specs.Spelling.{spelling_of}
 use Rattle.x25_link.specs.declared.outgoing.Outgoing.{Outgoing as OutgoingCode}
 use Rattle.x25_link.specs.declared.station.LinkStation.{LinkStation as StationCode}
 use Rattle.x25_link.specs.Outgoing.{Outgoing, acknowledged_to, gone_back, is_open, next_packet, moved_on}
-use Rattle.x25_link.specs.Backlog.{FitsBacklog}
+use Rattle.x25_link.specs.code.OutgoingHeld.{FitsOutgoing}
 use Rattle.x25_link.specs.declared.phase.Phase.{Phase}
 use Rattle.x25_link.specs.declared.phase.Phase.TheVariants.{Up}
 use Rattle.x25_link.specs.LinkStation.{Settings, LinkStation, Side, with_near, with_nothing, fresh, is_up, wanted, may_send, pumped, pumped_once}
@@ -26,13 +26,13 @@ made_more c role before old made frames frame same h e =
     e ∙ ap (λ (r : Role). old ++ spelling_of r frame ∷ []) same ∙ ap (λ (o : List (List ℕ)). o ++ spelling_of c.role frame ∷ []) h
     ∙ append_assoc before _ _ ∙ ap (λ (m : List (List ℕ)). before ++ m) (sym (map-append (spelling_of c.role) frames (frame ∷ [])))
 
-pub with_backlog : (c : Settings) (v : StationCode) (s : LinkStation) (b : OutgoingCode) (o : Outgoing) → FitsStation c v s → FitsBacklog c.window b o
-    → FitsStation c (record v { backlog = b }) (record s { outgoing = o })
-with_backlog c v s b o fits backlog = record {
+pub with_outgoing : (c : Settings) (v : StationCode) (s : LinkStation) (b : OutgoingCode) (o : Outgoing) → FitsStation c v s → FitsOutgoing c.window b o
+    → FitsStation c (record v { outgoing = b }) (record s { outgoing = o })
+with_outgoing c v s b o fits outgoing = record {
   role = fits.role;
   longest = fits.longest;
   retries = fits.retries;
-  backlog = backlog;
+  outgoing = outgoing;
   taken = fits.taken;
   phase = fits.phase;
   tries = fits.tries;
@@ -48,17 +48,17 @@ may_send_is k s recovery peer_busy up = rw (up, recovery, peer_busy) refl
 -- the sending rule, once, where neither recovery nor a busy peer holds it up
 pub pump_fits : (c : Settings) (v : StationCode) (b : OutgoingCode) (before old made : List (List ℕ)) (t : Side) (nr : ℕ) (sent : Bool) → FitsSide c v before old t
     → v.recovery ≡ false → v.peer_busy ≡ false → is_up v.phase ≡ true → nr ≡ wanted t.near → sent ≡ is_open c.window t.near.outgoing
-    → FitsBacklog c.window b (if sent then moved_on t.near.outgoing else t.near.outgoing)
+    → FitsOutgoing c.window b (if sent then moved_on t.near.outgoing else t.near.outgoing)
     → made ≡ (if sent then old ++ spelling_of v.role (info (t.near.outgoing.place % 8) nr false (next_packet t.near.outgoing)) ∷ [] else old)
-    → FitsSide c (record v { backlog = b }) before made (pumped_once c.window t)
-pump_fits c v b before old made t nr true fits recovery peer_busy up number opened backlog e =
+    → FitsSide c (record v { outgoing = b }) before made (pumped_once c.window t)
+pump_fits c v b before old made t nr true fits recovery peer_busy up number opened outgoing e =
     let near = fits.near in
     let may = may_send_is c.window t.near (sym near.recovery ∙ recovery) (sym near.peer_busy ∙ peer_busy) (sym (ap is_up near.phase) ∙ up) in
-    rw (may, sym opened) (record { near = with_backlog c v t.near b _ near backlog; out = made_more c v.role before old made t.out _ near.role fits.out (rw number at e) })
-pump_fits c v b before old made t nr false fits recovery peer_busy up number opened backlog e =
+    rw (may, sym opened) (record { near = with_outgoing c v t.near b _ near outgoing; out = made_more c v.role before old made t.out _ near.role fits.out (rw number at e) })
+pump_fits c v b before old made t nr false fits recovery peer_busy up number opened outgoing e =
     let near = fits.near in
     let may = may_send_is c.window t.near (sym near.recovery ∙ recovery) (sym near.peer_busy ∙ peer_busy) (sym (ap is_up near.phase) ∙ up) in
-    rw (may, sym opened) (record { near = with_backlog c v t.near b _ near backlog; out = e ∙ fits.out })
+    rw (may, sym opened) (record { near = with_outgoing c v t.near b _ near outgoing; out = e ∙ fits.out })
 
 pub pumped_more : (n k : ℕ) (t : Side) → pumped (n + 1) k t ≡ pumped_once k (pumped n k t)
 unfolding pumped
@@ -69,7 +69,7 @@ said c v s b fits = record {
   role = fits.role;
   longest = fits.longest;
   retries = fits.retries;
-  backlog = fits.backlog;
+  outgoing = fits.outgoing;
   taken = fits.taken;
   phase = fits.phase;
   tries = fits.tries;
@@ -84,7 +84,7 @@ rejecting c v s b fits = record {
   role = fits.role;
   longest = fits.longest;
   retries = fits.retries;
-  backlog = fits.backlog;
+  outgoing = fits.outgoing;
   taken = fits.taken;
   phase = fits.phase;
   tries = fits.tries;
@@ -99,7 +99,7 @@ tries_fits c v s m n same fits = record {
   role = fits.role;
   longest = fits.longest;
   retries = fits.retries;
-  backlog = fits.backlog;
+  outgoing = fits.outgoing;
   taken = fits.taken;
   phase = fits.phase;
   tries = same;
@@ -112,22 +112,22 @@ tries_fits c v s m n same fits = record {
 -- ---- an N(R) that acknowledges some frames, or none
 
 pub risen : (c : Settings) (v : StationCode) (b : OutgoingCode) (before made : List (List ℕ)) (t : Side) (count nr : ℕ) → FitsSide c v before made t → 0 < count
-    → t.near.outgoing.acked + count ≡ resolved t.near.outgoing.acked nr → FitsBacklog c.window b (acknowledged_to (t.near.outgoing.acked + count) t.near.outgoing)
-    → FitsSide c (record v { backlog = b; tries = 0 }) before made (acknowledged nr t)
-risen c v b before made t count nr side some number backlog =
+    → t.near.outgoing.acked + count ≡ resolved t.near.outgoing.acked nr → FitsOutgoing c.window b (acknowledged_to (t.near.outgoing.acked + count) t.near.outgoing)
+    → FitsSide c (record v { outgoing = b; tries = 0 }) before made (acknowledged nr t)
+risen c v b before made t count nr side some number outgoing =
     let test : (resolved t.near.outgoing.acked nr == t.near.outgoing.acked) ≡ false = ne_eqb _ _ (λ e. omega arith) in
     rw test (record {
-      near = tries_fits c (record v { backlog = b }) _ 0 0 refl (with_backlog c v t.near b _ side.near (rw number at backlog));
+      near = tries_fits c (record v { outgoing = b }) _ 0 0 refl (with_outgoing c v t.near b _ side.near (rw number at outgoing));
       out = side.out;
     })
 
 pub not_risen : (c : Settings) (v : StationCode) (b : OutgoingCode) (before made : List (List ℕ)) (t : Side) (count nr : ℕ) → FitsSide c v before made t → count ≡ 0
-    → t.near.outgoing.acked + count ≡ resolved t.near.outgoing.acked nr → FitsBacklog c.window b (acknowledged_to (t.near.outgoing.acked + count) t.near.outgoing)
-    → FitsSide c (record v { backlog = b }) before made (acknowledged nr t)
-not_risen c v b before made t count nr side none number backlog =
+    → t.near.outgoing.acked + count ≡ resolved t.near.outgoing.acked nr → FitsOutgoing c.window b (acknowledged_to (t.near.outgoing.acked + count) t.near.outgoing)
+    → FitsSide c (record v { outgoing = b }) before made (acknowledged nr t)
+not_risen c v b before made t count nr side none number outgoing =
     let test : (resolved t.near.outgoing.acked nr == t.near.outgoing.acked) ≡ true = eq-eqb _ _ (omega arith) in
     rw test (record {
-      near = with_backlog c v t.near b _ side.near (rw number at backlog);
+      near = with_outgoing c v t.near b _ side.near (rw number at outgoing);
       out = side.out;
     })
 
@@ -142,7 +142,7 @@ taken_fits c v r before made t packet side taken =
         role = fits.role;
         longest = fits.longest;
         retries = fits.retries;
-        backlog = fits.backlog;
+        outgoing = fits.outgoing;
         taken = rw length_push taken;
         phase = fits.phase;
         tries = fits.tries;
@@ -169,7 +169,7 @@ peer_fits c v before made t busy side =
         role = fits.role;
         longest = fits.longest;
         retries = fits.retries;
-        backlog = fits.backlog;
+        outgoing = fits.outgoing;
         taken = fits.taken;
         phase = fits.phase;
         tries = fits.tries;
@@ -181,9 +181,9 @@ peer_fits c v before made t busy side =
       out = side.out;
     }
 
-pub back_fits : (c : Settings) (v : StationCode) (b : OutgoingCode) (before made : List (List ℕ)) (t : Side) → FitsSide c v before made t → FitsBacklog c.window b (gone_back t.near.outgoing)
-    → FitsSide c (record v { backlog = b }) before made (goes_back t)
-back_fits c v b before made t side backlog = record { near = with_backlog c v t.near b _ side.near backlog; out = side.out }
+pub back_fits : (c : Settings) (v : StationCode) (b : OutgoingCode) (before made : List (List ℕ)) (t : Side) → FitsSide c v before made t → FitsOutgoing c.window b (gone_back t.near.outgoing)
+    → FitsSide c (record v { outgoing = b }) before made (goes_back t)
+back_fits c v b before made t side outgoing = record { near = with_outgoing c v t.near b _ side.near outgoing; out = side.out }
 
 notes_by : (b : Bool) (x y : Step) (n : Notes) → x.notes ≡ n → y.notes ≡ n → (let z : Step = if b then x else y in z.notes) ≡ n
 notes_by true x y n e f = e
@@ -200,7 +200,7 @@ phase_fits c v s phase tries fits = record {
   role = fits.role;
   longest = fits.longest;
   retries = fits.retries;
-  backlog = fits.backlog;
+  outgoing = fits.outgoing;
   taken = fits.taken;
   phase = refl;
   tries = refl;
@@ -215,7 +215,7 @@ recovery_fits c v s b fits = record {
   role = fits.role;
   longest = fits.longest;
   retries = fits.retries;
-  backlog = fits.backlog;
+  outgoing = fits.outgoing;
   taken = fits.taken;
   phase = fits.phase;
   tries = fits.tries;

@@ -10,7 +10,7 @@ use Rattle.x25_link.specs.LinkStation.{Settings, LinkStation, Side, is_busy, wan
 use Rattle.x25_link.specs.MustSend.{Step, quiet, other, is_valid, acknowledged, is_taken, takes, answers, passes_over, hears_info, peer_is, goes_back, polls, numbered, rejects, reject_of, row_of_frame, row_of}
 use Rattle.x25_link.specs.Steps.{alone, hears, when_down, when_waiting}
 use Rattle.x25_link.specs.code.Bounds.{TakeSendsFew, PutSendsOne}
-use Rattle.x25_link.proofs.BacklogLemmas.{sent_length}
+use Rattle.x25_link.proofs.OutgoingLemmas.{sent_length}
 use Rattle.x25_link.proofs.EndLemmas.{with_packet, put_once}
 
 -- ---- one frame at most
@@ -146,9 +146,9 @@ take_sends_few c octets s =
 
 pub put_sends_one : PutSendsOne
 put_sends_one c v s packet fits =
-    let backlog = fits.near.backlog in
-    let l = sent_length c.window _ s.outgoing backlog in
-    let high = backlog.sender.sound.place_high in
+    let outgoing = fits.near.outgoing in
+    let l = sent_length c.window _ s.outgoing outgoing in
+    let high = outgoing.sender.sound.place_high in
     let t = with_packet packet s in
     subst (λ (u : Side). length u.out ≤ 1) (sym (put_once c.window s packet (omega arith) fits.settled fits.calm))
     (few_if (may_send c.window t.near) (send_next t) t (first (next_frame t.near) [] refl) (nothing t refl))

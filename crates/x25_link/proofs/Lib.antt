@@ -1,4 +1,4 @@
-pub mod BacklogLemmas
+pub mod OutgoingLemmas
 pub mod EndLemmas
 pub mod FitsLemmas
 pub mod FrameCount

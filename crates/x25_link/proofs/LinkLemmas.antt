@@ -9,7 +9,7 @@ use Rattle.x25_link.specs.declared.phase.Phase.TheVariants.{Down, Waiting, Up, C
 use Rattle.x25_link.specs.LinkStation.{Settings, Side, is_up, is_busy, with_near, ready, may_send, owes_ready, ended}
 use Rattle.x25_link.specs.Steps.{asks_again, fires}
 use Rattle.x25_link.specs.code.Fits.{FitsStation}
-use Rattle.x25_link.proofs.BacklogLemmas.{sent_length}
+use Rattle.x25_link.proofs.OutgoingLemmas.{sent_length}
 use Rattle.x25_link.specs.code.Bounds.{FewWait, FewStand, WindowIsSmall}
 use Rattle.x25_link.specs.code.Link.{ShownLink, FitsLink}
 use Rattle.x25_link.proofs.EndLemmas.{ready_sends, ended_stays}
@@ -60,16 +60,16 @@ fires_calm c t = fires_calm_by _ c t refl
 
 pub few_wait : FewWait
 few_wait c v s fits =
-    subst (λ (n : ℕ). n ≤ 256) (ap length fits.near.backlog.queue ∙ length-drop s.outgoing.sent s.outgoing.given) fits.near.backlog.few
+    subst (λ (n : ℕ). n ≤ 256) (ap length fits.near.outgoing.queue ∙ length-drop s.outgoing.sent s.outgoing.given) fits.near.outgoing.few
 
 pub few_stand : FewStand
 few_stand c v s fits =
-    let backlog = fits.near.backlog in
-    let sound = backlog.sender.sound in
-    let l = sent_length c.window v.station.backlog s.outgoing backlog in
+    let outgoing = fits.near.outgoing in
+    let sound = outgoing.sender.sound in
+    let l = sent_length c.window v.station.outgoing s.outgoing outgoing in
     let high = sound.place_high in
     let room = sound.room in
-    record { place_low = sound.place_low; place_high = omega arith; sent_high = backlog.sent; room = omega arith }
+    record { place_low = sound.place_low; place_high = omega arith; sent_high = outgoing.sent; room = omega arith }
 
 pub window_is_small : WindowIsSmall
-window_is_small c v s fits = fits.near.backlog.sender.sound.window_high
+window_is_small c v s fits = fits.near.outgoing.sender.sound.window_high

@@ -2,7 +2,6 @@ pub mod LinkError
 pub mod Lists
 pub mod Plain
 pub mod Outgoing
-pub mod Backlog
 pub mod LinkStation
 pub mod MustSend
 pub mod WindowMachine

@@ -1,7 +1,7 @@
 -- Each call of a link: when it is refused, and what it does.
 -- ITU-T X.25 (10/96), section 2.4.4, and where it leaves a choice the profile.
 use Rattle.std.specs.Prelude.{◌≡◌, ℕ, ◌+◌, ◌==◌, nat_lt, nat_le, Bool, true, false, not, ◌&&◌, ◌||◌, if◌then◌else◌, List, [], Option, Some, None, Result, Ok, Err, IfErr}
-use Rattle.x25_frame.specs.PlainFrame.{PlainFrame, info, rr, rnr, rej, sabm, disc, ua, dm, frmr}
+use Rattle.x25_frame.specs.PlainFrame.{PlainFrame, sabm, disc, ua, dm}
 use Rattle.x25_frame.specs.Spelling.{is_command, poll_or_final}
 use Rattle.x25_frame.specs.Reading.{frame_of}
 use Rattle.x25_frame.specs.declared.error.FrameError.{FrameError}

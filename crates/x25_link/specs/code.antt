@@ -1,4 +1,5 @@
 -- What the code's values stand for: contracts and proofs need it, and a reader of the claims doesn't.
+pub mod OutgoingHeld
 pub mod Outbox
 pub mod Fits
 pub mod Link

@@ -15,16 +15,16 @@ use x25_frame::Frame;
 impl LinkStation {
     /// Lets a packet wait, and sends it where it may go. Memory for one I frame is used or let go.
     pub fn give(&mut self, packet: Octets, out: &mut Outbox)
-        requires free { length self.old.backlog.queue < 256 }
+        requires free { length self.old.outgoing.queue < 256 }
         requires long { 0 < out.old.long }
         ensures step { (c : Settings) (before : List (List ℕ)) (s : StationState) → FitsSide c self.old before out.old.made (alone s) → may_send c.window s ≡ false → owes_ready s ≡ false →
             FitsSide c self.new before out.new.made (closed_by c.window (puts packet (alone s))).side }
-        ensures kept { self.new ≡ record self.old { backlog = self.new.backlog } }
-        ensures queue { length self.new.backlog.queue ≤ length self.old.backlog.queue + 1 }
+        ensures kept { self.new ≡ record self.old { outgoing = self.new.outgoing } }
+        ensures queue { length self.new.outgoing.queue ≤ length self.old.outgoing.queue + 1 }
         ensures long { out.new.long + 1 ≡ out.old.long }
         ensures short { out.new.short ≡ out.old.short }
     {
-        self.backlog.add(packet);
+        self.outgoing.add(packet);
         if !self.pump_once(out) {
             out.discard();
         }
@@ -62,7 +62,7 @@ impl LinkStation {
         match self.phase {
             Phase::Down | Phase::Closed => false,
             Phase::Waiting => true,
-            Phase::Up => self.backlog.unacked() > 0 || self.recovery || self.peer_busy,
+            Phase::Up => self.outgoing.unacked() > 0 || self.recovery || self.peer_busy,
         }
     }
 
@@ -100,6 +100,6 @@ impl LinkStation {
     pub fn is_idle(&self) -> bool
         ensures { (c : Settings) (s : StationState) → FitsStation c self.now s → result ≡ is_idle s }
     {
-        self.phase.is_up() && self.backlog.waiting() == 0 && self.backlog.unacked() == 0
+        self.phase.is_up() && self.outgoing.waiting() == 0 && self.outgoing.unacked() == 0
     }
 }

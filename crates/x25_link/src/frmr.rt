@@ -3,7 +3,7 @@ ghost use Rattle.std.specs.Prelude.{◌≡◌, ℕ, ◌+◌, ◌*◌, ◌/◌, �
 ghost use Rattle.x25_frame.specs.PlainFrame.{plain};
 ghost use Rattle.x25_frame.specs.Spelling.{information_of};
 ghost use Rattle.x25_link.specs.LinkStation.{Settings, LinkStation as StationState, Side};
-ghost use Rattle.x25_link.specs.Backlog.{window_of};
+ghost use Rattle.x25_link.specs.code.OutgoingHeld.{window_of};
 ghost use Rattle.x25_link.specs.code.Fits.{FitsStation, FitsSide, FitsHeard};
 ghost use Rattle.x25_link.specs.MustSend.{rejects, reject_of};
 
@@ -41,7 +41,7 @@ impl LinkStation {
     pub fn reject<'a>(&mut self, octets: &[u8], why: u8, out: &mut Outbox) -> Heard<'a>
         requires { 0 < out.old.short }
         ensures step { (c : Settings) (before : List (List ℕ)) (t : Side) → FitsSide c self.old before out.old.made t → FitsHeard c self.new before out.new.made result (rejects c octets.now why t) }
-        ensures window { window_of self.new.backlog ≡ window_of self.old.backlog }
+        ensures window { window_of self.new.outgoing ≡ window_of self.old.outgoing }
         ensures long { out.new.long ≡ out.old.long }
         ensures short { out.old.short ≤ out.new.short + 1 }
     {
@@ -58,7 +58,7 @@ impl LinkStation {
         let control = octet_at(octets, 1);
         let command = octet_at(octets, 0) == command_address(self.role.other());
         let of_response = if command { 0 } else { 16 };
-        let numbers = 2 * self.backlog.top().get()
+        let numbers = 2 * self.outgoing.top().get()
             + of_response
             + 32 * self.receiver.wanted().get();
         Frame::Frmr {

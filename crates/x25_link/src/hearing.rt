@@ -4,7 +4,7 @@ ghost use Rattle.x25_frame.specs.PlainFrame.{plain};
 ghost use Rattle.x25_frame.specs.Reading.{frame_of};
 ghost use Rattle.x25_frame.specs.Spelling.{is_command};
 ghost use Rattle.x25_link.specs.LinkStation.{Settings, LinkStation as StationState, Side, may_send, owes_ready};
-ghost use Rattle.x25_link.specs.Backlog.{window_of, before_in};
+ghost use Rattle.x25_link.specs.code.OutgoingHeld.{window_of, before_in};
 ghost use Rattle.x25_link.specs.code.Fits.{FitsStation, FitsSide, FitsHeard};
 ghost use Rattle.x25_link.specs.MustSend.{numbered, hears_info, polls, peer_is, goes_back, quiet, row_of_frame, row_of, other};
 ghost use Rattle.x25_link.specs.Steps.{declines, when_down, when_waiting, hears, alone, take_step};
@@ -30,11 +30,11 @@ impl LinkStation {
         info: &'a [u8],
         out: &mut Outbox,
     ) -> Heard<'a>
-        requires room { window_of self.old.backlog ≤ out.old.long }
+        requires room { window_of self.old.outgoing ≤ out.old.long }
         requires short { 0 < out.old.short }
         ensures step { (c : Settings) (before : List (List ℕ)) (t : Side) → FitsSide c self.old before out.old.made t →
             FitsHeard c self.new before out.new.made result (numbered c octets.now nr.number (hears_info c.window ns.number p info.now) t) }
-        ensures room { window_of self.new.backlog ≤ out.new.long + before_in self.new.backlog }
+        ensures room { window_of self.new.outgoing ≤ out.new.long + before_in self.new.outgoing }
         ensures short { out.old.short ≤ out.new.short + 1 }
     {
         if !self.acknowledge(nr) {
@@ -59,7 +59,7 @@ impl LinkStation {
         requires { 0 < out.old.short }
         ensures step { (c : Settings) (before : List (List ℕ)) (t : Side) → FitsSide c self.old before out.old.made t →
             FitsHeard c self.new before out.new.made result (numbered c octets.now nr.number (λ u. quiet (polls command pf (peer_is busy u))) t) }
-        ensures window { window_of self.new.backlog ≡ window_of self.old.backlog }
+        ensures window { window_of self.new.outgoing ≡ window_of self.old.outgoing }
         ensures long { out.new.long ≡ out.old.long }
         ensures short { out.old.short ≤ out.new.short + 1 }
     {
@@ -83,7 +83,7 @@ impl LinkStation {
         requires { 0 < out.old.short }
         ensures step { (c : Settings) (before : List (List ℕ)) (t : Side) → FitsSide c self.old before out.old.made t →
             FitsHeard c self.new before out.new.made result (numbered c octets.now nr.number (λ u. quiet (polls command pf (goes_back (peer_is false u)))) t) }
-        ensures window { window_of self.new.backlog ≡ window_of self.old.backlog }
+        ensures window { window_of self.new.outgoing ≡ window_of self.old.outgoing }
         ensures long { out.new.long ≡ out.old.long }
         ensures short { out.old.short ≤ out.new.short + 1 }
     {
@@ -91,18 +91,18 @@ impl LinkStation {
             return self.reject(octets, INVALID_NR, out);
         }
         self.peer_busy = false;
-        self.backlog.go_back();
+        self.outgoing.go_back();
         self.poll(command, pf, out);
         Heard::quiet()
     }
 
     // A frame, in Up.
     fn hear_frame<'a>(&mut self, octets: &[u8], frame: Frame<'a>, out: &mut Outbox) -> Heard<'a>
-        requires room { window_of self.old.backlog ≤ out.old.long }
+        requires room { window_of self.old.outgoing ≤ out.old.long }
         requires short { 0 < out.old.short }
         ensures step { (c : Settings) (before : List (List ℕ)) (t : Side) → FitsSide c self.old before out.old.made t →
             FitsHeard c self.new before out.new.made result (row_of_frame c octets.now (plain frame.entry) t) }
-        ensures room { window_of self.new.backlog ≤ out.new.long + before_in self.new.backlog }
+        ensures room { window_of self.new.outgoing ≤ out.new.long + before_in self.new.outgoing }
         ensures short { out.old.short ≤ out.new.short + 1 }
     {
         match frame {
@@ -130,7 +130,7 @@ impl LinkStation {
         requires { 0 < out.old.short }
         ensures step { (c : Settings) (before : List (List ℕ)) (t : Side) → FitsSide c self.old before out.old.made t →
             FitsHeard c self.new before out.new.made result (row_of c octets.now (Err error) t) }
-        ensures window { window_of self.new.backlog ≡ window_of self.old.backlog }
+        ensures window { window_of self.new.outgoing ≡ window_of self.old.outgoing }
         ensures long { out.new.long ≡ out.old.long }
         ensures short { out.old.short ≤ out.new.short + 1 }
     {
@@ -162,7 +162,7 @@ impl LinkStation {
         requires { 0 < out.old.short }
         ensures step { (c : Settings) (before : List (List ℕ)) (t : Side) → FitsSide c self.old before out.old.made t →
             FitsHeard c self.new before out.new.made result (when_down (plain frame.now) t) }
-        ensures window { window_of self.new.backlog ≡ window_of self.old.backlog }
+        ensures window { window_of self.new.outgoing ≡ window_of self.old.outgoing }
         ensures long { out.new.long ≡ out.old.long }
         ensures short { out.old.short ≤ out.new.short + 1 }
     {
@@ -188,7 +188,7 @@ impl LinkStation {
         requires { 0 < out.old.short }
         ensures step { (c : Settings) (before : List (List ℕ)) (t : Side) → FitsSide c self.old before out.old.made t →
             FitsHeard c self.new before out.new.made result (when_waiting (plain frame.now) t) }
-        ensures window { window_of self.new.backlog ≡ window_of self.old.backlog }
+        ensures window { window_of self.new.outgoing ≡ window_of self.old.outgoing }
         ensures long { out.new.long ≡ out.old.long }
         ensures short { out.old.short ≤ out.new.short + 1 }
     {
@@ -216,7 +216,7 @@ impl LinkStation {
         requires { 0 < out.old.short }
         ensures step { (c : Settings) (before : List (List ℕ)) (t : Side) → FitsSide c self.old before out.old.made t →
             FitsHeard c self.new before out.new.made result (hears c octets.now (Err error) t.near.phase t) }
-        ensures window { window_of self.new.backlog ≡ window_of self.old.backlog }
+        ensures window { window_of self.new.outgoing ≡ window_of self.old.outgoing }
         ensures long { out.new.long ≡ out.old.long }
         ensures short { out.old.short ≤ out.new.short + 1 }
     {
@@ -228,11 +228,11 @@ impl LinkStation {
 
     // A frame.
     fn hear_read<'a>(&mut self, octets: &[u8], frame: Frame<'a>, out: &mut Outbox) -> Heard<'a>
-        requires room { window_of self.old.backlog ≤ out.old.long }
+        requires room { window_of self.old.outgoing ≤ out.old.long }
         requires short { 0 < out.old.short }
         ensures step { (c : Settings) (before : List (List ℕ)) (t : Side) → FitsSide c self.old before out.old.made t →
             FitsHeard c self.new before out.new.made result (hears c octets.now (Ok (plain frame.entry)) t.near.phase t) }
-        ensures room { window_of self.new.backlog ≤ out.new.long + before_in self.new.backlog }
+        ensures room { window_of self.new.outgoing ≤ out.new.long + before_in self.new.outgoing }
         ensures short { out.old.short ≤ out.new.short + 1 }
     {
         match self.phase {
@@ -248,11 +248,11 @@ impl LinkStation {
 
     // What the octets bring, before the sending rule.
     fn hear_octets<'a>(&mut self, octets: &'a [u8], out: &mut Outbox) -> Heard<'a>
-        requires room { window_of self.old.backlog ≤ out.old.long }
+        requires room { window_of self.old.outgoing ≤ out.old.long }
         requires short { 0 < out.old.short }
         ensures step { (c : Settings) (before : List (List ℕ)) (t : Side) → FitsSide c self.old before out.old.made t →
             FitsHeard c self.new before out.new.made result (hears c octets.now (frame_of (other c.role) c.longest octets.now) t.near.phase t) }
-        ensures room { window_of self.new.backlog ≤ out.new.long + before_in self.new.backlog }
+        ensures room { window_of self.new.outgoing ≤ out.new.long + before_in self.new.outgoing }
         ensures short { out.old.short ≤ out.new.short + 1 }
     {
         match decode(self.role.other(), self.parameters.n1, octets) {
@@ -263,7 +263,7 @@ impl LinkStation {
 
     /// Takes octets, and sends what they ask for.
     pub fn hear<'a>(&mut self, octets: &'a [u8], out: &mut Outbox) -> Heard<'a>
-        requires long { window_of self.old.backlog ≤ out.old.long }
+        requires long { window_of self.old.outgoing ≤ out.old.long }
         requires short { 2 ≤ out.old.short }
         ensures step { (c : Settings) (before : List (List ℕ)) (s : StationState) → FitsSide c self.old before out.old.made (alone s) →
             FitsHeard c self.new before out.new.made result (take_step c octets.now s) }

@@ -31,7 +31,7 @@ const SHORT_FRAMES: usize = 2;
 #[derive(Drop)]
 pub struct Link {
     station: LinkStation,
-    outgoing: Outbox,
+    outbox: Outbox,
     answers: Outbox,
 }
 
@@ -41,7 +41,7 @@ impl Model for Link {
 
     ghost Value = { ShownLink };
 
-    ghost view = { λ l. record { station = l.station; outgoing = l.outgoing } };
+    ghost view = { λ l. record { station = l.station; outbox = l.outbox } };
 
     ghost invariant = { λ l. (l.answers.made ≡ []) × (l.answers.long ≡ 0) };
 }
@@ -53,20 +53,20 @@ impl Link {
     /// 14 where one is out of its range, then 70.
     pub fn new(alloc: Global, role: Role, k: u8, n1: usize, n2: u8) -> Result<Link, LinkError>
         ensures state { IfOk result (λ l. FitsLink (record { role = role; window = k; longest = n1; retries = n2 }) l (with_nothing Down 0)) }
-        ensures none_kept { IfOk result (λ l. l.outgoing ≡ record { made = []; long = 0; short = 0 }) }
+        ensures none_kept { IfOk result (λ l. l.outbox ≡ record { made = []; long = 0; short = 0 }) }
         ensures refused { Refuses (config_refusal k n1 n2) result }
     {
         if k < 1 || k > FRAMES || n1 < 1 || n1 > LONGEST_PACKET || n2 < 1 {
             return Err(LinkError::BadConfig);
         }
-        let Some(backlog) = Outgoing::new(alloc, k)? else {
+        let Some(outgoing) = Outgoing::new(alloc, k)? else {
             return Err(LinkError::BadConfig);
         };
         Ok(Link {
             station: LinkStation {
                 role,
                 parameters: Parameters { n1, n2 },
-                backlog,
+                outgoing,
                 receiver: Receiver::new(),
                 phase: Phase::Down,
                 tries: 0,
@@ -75,7 +75,7 @@ impl Link {
                 rejecting: false,
                 said_busy: false,
             },
-            outgoing: Outbox::new(alloc),
+            outbox: Outbox::new(alloc),
             answers: Outbox::new(alloc),
         })
     }
@@ -87,7 +87,7 @@ impl Link {
         ensures state { (c : Settings) (s : StationState) → FitsLink c self.old s → OnOk result (FitsLink c self.new (connect_step c s).side.near) }
         ensures answer { (c : Settings) (s : StationState) → FitsLink c self.old s → IfOk result (λ answer. IsAnswer c answer (connect_step c s)) }
         ensures refused { (c : Settings) (s : StationState) → FitsLink c self.old s → Refuses (connect_refusal s.phase) result }
-        ensures outgoing { self.new.outgoing ≡ self.old.outgoing }
+        ensures outbox { self.new.outbox ≡ self.old.outbox }
         ensures err { OnErr result (self.new ≡ self.old) }
     {
         match self.station.phase {
@@ -108,10 +108,10 @@ impl Link {
         ensures state { (c : Settings) (s : StationState) → FitsLink c self.old s → OnOk result (FitsLink c self.new (take_step c octets.now s).side.near) }
         ensures answer { (c : Settings) (s : StationState) → FitsLink c self.old s → IfOk result (λ answer. IsAnswer c answer (take_step c octets.now s)) }
         ensures refused { IfErr result (λ e. e ≡ LinkError.NoMemory) }
-        ensures outgoing { self.new.outgoing ≡ self.old.outgoing }
+        ensures outbox { self.new.outbox ≡ self.old.outbox }
         ensures err { OnErr result (self.new ≡ self.old) }
     {
-        let window = self.station.backlog.window() as usize;
+        let window = self.station.outgoing.window() as usize;
         self.answers.reserve(window, SHORT_FRAMES)?;
         let heard = self.station.hear(octets, &mut self.answers);
         Ok(self.answers.answered(heard))
@@ -124,7 +124,7 @@ impl Link {
         ensures state { (c : Settings) (s : StationState) → FitsLink c self.old s → OnOk result (FitsLink c self.new (disconnect_step c s).side.near) }
         ensures answer { (c : Settings) (s : StationState) → FitsLink c self.old s → IfOk result (λ answer. IsAnswer c answer (disconnect_step c s)) }
         ensures refused { (c : Settings) (s : StationState) → FitsLink c self.old s → Refuses (disconnect_refusal s.phase) result }
-        ensures outgoing { self.new.outgoing ≡ self.old.outgoing }
+        ensures outbox { self.new.outbox ≡ self.old.outbox }
         ensures err { OnErr result (self.new ≡ self.old) }
     {
         match self.station.phase {
@@ -143,7 +143,7 @@ impl Link {
         ensures state { (c : Settings) (s : StationState) → FitsLink c self.old s → OnOk result (FitsLink c self.new (timer_step c s).side.near) }
         ensures answer { (c : Settings) (s : StationState) → FitsLink c self.old s → IfOk result (λ answer. IsAnswer c answer (timer_step c s)) }
         ensures refused { (c : Settings) (s : StationState) → FitsLink c self.old s → Refuses (timer_refusal s) result }
-        ensures outgoing { self.new.outgoing ≡ self.old.outgoing }
+        ensures outbox { self.new.outbox ≡ self.old.outbox }
         ensures err { OnErr result (self.new ≡ self.old) }
     {
         if !self.station.timer_runs() {
@@ -159,7 +159,7 @@ impl Link {
         requires { up_of self.old ≡ true }
         ensures state { (c : Settings) (s : StationState) → FitsLink c self.old s → FitsLink c self.new (abandon_step c s).side.near }
         ensures answer { (c : Settings) (s : StationState) → FitsLink c self.old s → IsAnswer c result (abandon_step c s) }
-        ensures outgoing { self.new.outgoing ≡ self.old.outgoing }
+        ensures outbox { self.new.outbox ≡ self.old.outbox }
     {
         let heard = self.station.leave(Reason::Counts);
         self.answers.answered(heard)
@@ -173,25 +173,25 @@ impl Link {
         requires { vec_len packet ≤ limit_of self.old }
         ensures state { (c : Settings) (s : StationState) → FitsLink c self.old s → OnOk result (FitsLink c self.new (put_step c packet.items s).side.near) }
         ensures frames { (c : Settings) (s : StationState) → FitsLink c self.old s →
-            IfOk result (λ answer. map (λ f. f.items) answer.frames.items ≡ self.old.outgoing.made ++ map (spelling_of c.role) (put_step c packet.items s).side.out) }
+            IfOk result (λ answer. map (λ f. f.items) answer.frames.items ≡ self.old.outbox.made ++ map (spelling_of c.role) (put_step c packet.items s).side.out) }
         ensures packet { IfOk result (λ answer. answer.packet ≡ None) }
         ensures notes { IfOk result (λ answer. answer.notes ≡ record { down = None; up = false }) }
         ensures refused { (c : Settings) (s : StationState) → FitsLink c self.old s → Refuses (put_refusal s) result }
-        ensures memory { IsErrOf result LinkError.NoMemory → self.old.outgoing.long ≡ 0 }
-        ensures outgoing { OnOk result (self.new.outgoing ≡ record { made = []; long = 0; short = 0 }) }
+        ensures memory { IsErrOf result LinkError.NoMemory → self.old.outbox.long ≡ 0 }
+        ensures outbox { OnOk result (self.new.outbox ≡ record { made = []; long = 0; short = 0 }) }
         ensures err { OnErr result (self.new ≡ self.old) }
     {
         self.give(packet)?;
-        Ok(self.outgoing.answered(Heard::quiet()))
+        Ok(self.outbox.answered(Heard::quiet()))
     }
 
     /// Hands out the frames of `put`, in order. No memory is set aside for further calls of `put` after it.
     pub fn sent(&mut self) -> Vec<Vec<u8>>
-        ensures frames { map (λ f. f.items) result.items ≡ self.old.outgoing.made }
-        ensures outgoing { self.new.outgoing ≡ record { made = []; long = 0; short = 0 } }
+        ensures frames { map (λ f. f.items) result.items ≡ self.old.outbox.made }
+        ensures outbox { self.new.outbox ≡ record { made = []; long = 0; short = 0 } }
         ensures station { self.new.station ≡ self.old.station }
     {
-        self.outgoing.drain()
+        self.outbox.drain()
     }
 
     /// Whether the link is up, nothing waits and all that was sent is acknowledged.
@@ -219,16 +219,16 @@ impl Link {
     pub fn acknowledged(&self) -> Seq
         ensures { (c : Settings) (s : StationState) → FitsLink c self.now s → result.number ≡ s.outgoing.acked % 8 }
     {
-        self.station.backlog.first()
+        self.station.outgoing.first()
     }
 
     /// How many buffers of the longest frame, of 4,103 octets each, are kept: 32 at most, or as many more as memory is set aside
     /// for more than 16 calls of `put`. They are used where memory for a frame is refused.
     pub fn blanks(&self) -> usize
-        ensures least { self.now.outgoing.long ≤ result }
-        ensures most { result ≤ max self.now.outgoing.long 16 + 16 }
+        ensures least { self.now.outbox.long ≤ result }
+        ensures most { result ≤ max self.now.outbox.long 16 + 16 }
     {
-        self.outgoing.blanks().saturating_add(self.answers.blanks())
+        self.outbox.blanks().saturating_add(self.answers.blanks())
     }
 
     /// How many buffers are kept that were given back, of at most 4,103 octets each: 32 at most. They are used for frames that are sent
@@ -236,7 +236,7 @@ impl Link {
     pub fn returned(&self) -> usize
         ensures { result ≤ 32 }
     {
-        self.outgoing.returned() + self.answers.returned()
+        self.outbox.returned() + self.answers.returned()
     }
 
     /// Takes the memory of a frame back, of this link or of another, for one that is sent later. The link is as before.
@@ -245,10 +245,10 @@ impl Link {
     pub fn give_back(&mut self, octets: Vec<u8>)
         ensures { self.new ≡ self.old }
     {
-        if self.answers.returned() <= self.outgoing.returned() {
+        if self.answers.returned() <= self.outbox.returned() {
             self.answers.give_back(octets);
         } else {
-            self.outgoing.give_back(octets);
+            self.outbox.give_back(octets);
         }
     }
 
@@ -260,7 +260,7 @@ impl Link {
             self.give_back(octets);
         }
         let other = self.answers.swap_list(frames);
-        self.outgoing.swap_list(other);
+        self.outbox.swap_list(other);
     }
 
     // Hands a packet down, and keeps the frames.
@@ -268,14 +268,14 @@ impl Link {
         requires { vec_len packet ≤ limit_of self.old }
         ensures state { (c : Settings) (s : StationState) → FitsLink c self.old s → OnOk result (FitsLink c self.new (put_step c packet.items s).side.near) }
         ensures made { (c : Settings) (s : StationState) → FitsLink c self.old s →
-            OnOk result (self.new.outgoing.made ≡ self.old.outgoing.made ++ map (spelling_of c.role) (put_step c packet.items s).side.out) }
-        ensures spare { OnOk result (self.new.outgoing.long ≡ self.old.outgoing.long - 1) }
+            OnOk result (self.new.outbox.made ≡ self.old.outbox.made ++ map (spelling_of c.role) (put_step c packet.items s).side.out) }
+        ensures spare { OnOk result (self.new.outbox.long ≡ self.old.outbox.long - 1) }
         ensures refused { (c : Settings) (s : StationState) → FitsLink c self.old s → Refuses (put_refusal s) result }
         ensures not_up { IsErrOf result LinkError.NotUp ↔ (up_of self.old ≡ false) }
         ensures full { IsErrOf result LinkError.QueueFull ↔ ((up_of self.old ≡ true) × (waiting_of self.old ≡ 256)) }
         ensures kinds { IfErr result RefusesPut }
-        ensures memory { IsErrOf result LinkError.NoMemory → self.old.outgoing.long ≡ 0 }
-        ensures accepted { up_of self.old ≡ true → waiting_of self.old < 256 → 0 < self.old.outgoing.long → IsOk result }
+        ensures memory { IsErrOf result LinkError.NoMemory → self.old.outbox.long ≡ 0 }
+        ensures accepted { up_of self.old ≡ true → waiting_of self.old < 256 → 0 < self.old.outbox.long → IsOk result }
         ensures up_stays { up_of self.new ≡ up_of self.old }
         ensures longest_stays { limit_of self.new ≡ limit_of self.old }
         ensures waits_more { OnOk result (waiting_of self.new ≤ waiting_of self.old + 1) }
@@ -284,11 +284,11 @@ impl Link {
         if !self.station.phase.is_up() {
             return Err(LinkError::NotUp);
         }
-        if self.station.backlog.waiting() == PLACES {
+        if self.station.outgoing.waiting() == PLACES {
             return Err(LinkError::QueueFull);
         }
-        self.outgoing.reserve(1, 0)?;
-        self.station.give(Octets::of(packet), &mut self.outgoing);
+        self.outbox.reserve(1, 0)?;
+        self.station.give(Octets::of(packet), &mut self.outbox);
         Ok(())
     }
 }

@@ -1,7 +1,7 @@
 //! What a station that is Up does with frames that carry an N(R).
 ghost use Rattle.std.specs.Prelude.{◌≡◌, ℕ, ◌+◌, ◌<◌, ◌≤◌, List, length, true, false, option_copied};
 ghost use Rattle.x25_link.specs.LinkStation.{Settings, LinkStation as StationState, Side};
-ghost use Rattle.x25_link.specs.Backlog.{window_of, before_in};
+ghost use Rattle.x25_link.specs.code.OutgoingHeld.{window_of, before_in};
 ghost use Rattle.x25_link.specs.code.Fits.{FitsStation, FitsSide};
 ghost use Rattle.x25_link.specs.MustSend.{is_valid, acknowledged, is_taken, takes, answers, passes_over, hears_info, polls};
 
@@ -15,10 +15,10 @@ impl LinkStation {
     pub fn acknowledge(&mut self, nr: Seq) -> bool
         ensures valid { (c : Settings) (s : StationState) → FitsStation c self.old s → result ≡ is_valid nr.number s }
         ensures step { (c : Settings) (before made : List (List ℕ)) (t : Side) → FitsSide c self.old before made t → result ≡ true → FitsSide c self.new before made (acknowledged nr.number t) }
-        ensures window { window_of self.new.backlog ≡ window_of self.old.backlog }
+        ensures window { window_of self.new.outgoing ≡ window_of self.old.outgoing }
         ensures unchanged { result ≡ false → self.new ≡ self.old }
     {
-        let Ok(count) = self.backlog.ack(nr) else {
+        let Ok(count) = self.outgoing.ack(nr) else {
             return false;
         };
         if count > 0 {
@@ -36,13 +36,13 @@ impl LinkStation {
         info: &'a [u8],
         out: &mut Outbox,
     ) -> Option<&'a [u8]>
-        requires room { window_of self.old.backlog ≤ out.old.long }
+        requires room { window_of self.old.outgoing ≤ out.old.long }
         requires short { 0 < out.old.short }
         ensures step { (c : Settings) (before : List (List ℕ)) (t : Side) → FitsSide c self.old before out.old.made t →
             FitsSide c self.new before out.new.made (hears_info c.window ns.number p info.now t).side }
         ensures packet { (c : Settings) (before : List (List ℕ)) (t : Side) → FitsSide c self.old before out.old.made t →
             option_copied result ≡ (hears_info c.window ns.number p info.now t).packet }
-        ensures room { window_of self.new.backlog ≤ out.new.long + before_in self.new.backlog }
+        ensures room { window_of self.new.outgoing ≤ out.new.long + before_in self.new.outgoing }
         ensures short { out.old.short ≤ out.new.short + 1 }
     {
         if self.takes(ns) {
@@ -57,7 +57,7 @@ impl LinkStation {
     fn takes(&mut self, ns: Seq) -> bool
         ensures value { (c : Settings) (s : StationState) → FitsStation c self.old s → result ≡ is_taken ns.number s }
         ensures taken { (c : Settings) (packet : List ℕ) (before made : List (List ℕ)) (t : Side) → FitsSide c self.old before made t → result ≡ true → FitsSide c self.new before made (takes packet t) }
-        ensures backlog { self.new.backlog ≡ self.old.backlog }
+        ensures outgoing { self.new.outgoing ≡ self.old.outgoing }
         ensures passed { (c : Settings) (s : StationState) → FitsStation c self.old s → result ≡ false → FitsStation c self.new s }
     {
         let busy = self.is_busy();
@@ -73,10 +73,10 @@ impl LinkStation {
 
     // Answers an I frame that was taken.
     fn answer(&mut self, p: bool, out: &mut Outbox)
-        requires room { window_of self.old.backlog ≤ out.old.long }
+        requires room { window_of self.old.outgoing ≤ out.old.long }
         requires short { 0 < out.old.short }
         ensures step { (c : Settings) (before : List (List ℕ)) (t : Side) → FitsSide c self.old before out.old.made t → FitsSide c self.new before out.new.made (answers c.window p t) }
-        ensures room { window_of self.new.backlog ≤ out.new.long + before_in self.new.backlog }
+        ensures room { window_of self.new.outgoing ≤ out.new.long + before_in self.new.outgoing }
         ensures short { out.old.short ≤ out.new.short + 1 }
     {
         if p {
@@ -92,7 +92,7 @@ impl LinkStation {
     fn pass_over(&mut self, p: bool, out: &mut Outbox)
         requires { 0 < out.old.short }
         ensures step { (c : Settings) (before : List (List ℕ)) (t : Side) → FitsSide c self.old before out.old.made t → FitsSide c self.new before out.new.made (passes_over p t) }
-        ensures backlog { self.new.backlog ≡ self.old.backlog }
+        ensures outgoing { self.new.outgoing ≡ self.old.outgoing }
         ensures long { out.new.long ≡ out.old.long }
         ensures short { out.old.short ≤ out.new.short + 1 }
     {
@@ -118,7 +118,7 @@ impl LinkStation {
     pub fn poll(&mut self, command: bool, pf: bool, out: &mut Outbox)
         requires { 0 < out.old.short }
         ensures step { (c : Settings) (before : List (List ℕ)) (t : Side) → FitsSide c self.old before out.old.made t → FitsSide c self.new before out.new.made (polls command pf t) }
-        ensures window { window_of self.new.backlog ≡ window_of self.old.backlog }
+        ensures window { window_of self.new.outgoing ≡ window_of self.old.outgoing }
         ensures long { out.new.long ≡ out.old.long }
         ensures short { out.old.short ≤ out.new.short + 1 }
     {
@@ -127,7 +127,7 @@ impl LinkStation {
             (false, true) => {
                 self.recovery = false;
                 self.tries = 0;
-                self.backlog.go_back();
+                self.outgoing.go_back();
             }
             (_, false) => {}
         }

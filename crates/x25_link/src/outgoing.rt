@@ -10,7 +10,7 @@ ghost use Rattle.x25_link.specs.Outgoing.{moved_on as sent_on};
 use crate::error::LinkError;
 use crate::octets::Octets;
 use crate::outbox::Outbox;
-use crate::waiting_packets::Queue;
+use crate::waiting_packets::WaitingPackets;
 use std::alloc::Global;
 use x25_bits::{Role, Seq};
 use x25_window::{Sender, WindowError};
@@ -19,28 +19,28 @@ use x25_window::{Sender, WindowError};
 #[derive(Drop)]
 pub struct Outgoing {
     pub sender: Sender<Octets>,
-    pub queue: Queue,
+    pub queue: WaitingPackets,
 }
 
 impl Outgoing {
-    ghost use Rattle.x25_link.specs.Backlog.{FitsBacklog, window_of, before_in};
+    ghost use Rattle.x25_link.specs.code.OutgoingHeld.{FitsOutgoing, window_of, before_in};
 
     /// No packet, or `None` where the window k isn't 1 to 7. 70 alone.
     pub fn new(alloc: Global, window: u8) -> Result<Option<Outgoing>, LinkError>
-        ensures fits { IfOk result (λ made. MatchOption made (¬ ((1 ≤ window) × (window ≤ 7))) (λ b. FitsBacklog window b no_packet)) }
+        ensures fits { IfOk result (λ made. MatchOption made (¬ ((1 ≤ window) × (window ≤ 7))) (λ b. FitsOutgoing window b no_packet)) }
         ensures err { IfErr result (λ e. e ≡ LinkError.NoMemory) }
     {
         let Some(sender) = Sender::new(alloc, window)? else {
             return Ok(None);
         };
-        let queue = Queue::new(alloc)?;
+        let queue = WaitingPackets::new(alloc)?;
         Ok(Some(Outgoing { sender, queue }))
     }
 
     /// How many packets wait.
     pub fn waiting(&self) -> usize
         ensures value { result ≡ length self.now.queue }
-        ensures state { (k : ℕ) (o : OutgoingState) → FitsBacklog k self.now o → result ≡ waits o }
+        ensures state { (k : ℕ) (o : OutgoingState) → FitsOutgoing k self.now o → result ≡ waits o }
         ensures few { result ≤ 256 }
     {
         self.queue.len()
@@ -55,24 +55,24 @@ impl Outgoing {
     }
 
     /// How many frames were sent and aren't acknowledged.
-    #[tactic(auto, using(crate::proofs::BacklogLemmas::sent_length))]
+    #[tactic(auto, using(crate::proofs::OutgoingLemmas::sent_length))]
     pub fn unacked(&self) -> u8
-        ensures { (k : ℕ) (o : OutgoingState) → FitsBacklog k self.now o → o.acked + result ≡ o.sent }
+        ensures { (k : ℕ) (o : OutgoingState) → FitsOutgoing k self.now o → o.acked + result ≡ o.sent }
     {
         self.sender.unacked()
     }
 
     /// The highest number ever sent plus one.
-    #[tactic(auto, using(crate::proofs::BacklogLemmas::sent_length))]
+    #[tactic(auto, using(crate::proofs::OutgoingLemmas::sent_length))]
     pub fn top(&self) -> Seq
-        ensures { (k : ℕ) (o : OutgoingState) → FitsBacklog k self.now o → result.number ≡ o.sent % 8 }
+        ensures { (k : ℕ) (o : OutgoingState) → FitsOutgoing k self.now o → result.number ≡ o.sent % 8 }
     {
         self.sender.top()
     }
 
     /// The number of the first frame that isn't acknowledged.
     pub fn first(&self) -> Seq
-        ensures { (k : ℕ) (o : OutgoingState) → FitsBacklog k self.now o → result.number ≡ o.acked % 8 }
+        ensures { (k : ℕ) (o : OutgoingState) → FitsOutgoing k self.now o → result.number ≡ o.acked % 8 }
     {
         let unacked = self.sender.unacked();
         Seq::modulo(self.sender.top().get() + 8 - unacked)
@@ -83,19 +83,19 @@ impl Outgoing {
         requires { length self.old.queue < 256 }
         ensures queue { length self.new.queue ≡ length self.old.queue + 1 }
         ensures sender { self.new.sender ≡ self.old.sender }
-        ensures state { (k : ℕ) (o : OutgoingState) → FitsBacklog k self.old o → FitsBacklog k self.new (added packet o) }
+        ensures state { (k : ℕ) (o : OutgoingState) → FitsOutgoing k self.old o → FitsOutgoing k self.new (added packet o) }
     {
         self.queue.push(packet);
     }
 
     /// Takes a received N(R), and says how many frames it acknowledges. 7 BadAck where it is none from the first frame that isn't
     /// acknowledged to V(S) at its highest; nothing changes then.
-    #[tactic(auto, using(crate::proofs::BacklogLemmas::sent_length))]
+    #[tactic(auto, using(crate::proofs::OutgoingLemmas::sent_length))]
     pub fn ack(&mut self, nr: Seq) -> Result<u8, WindowError>
-        ensures step { (k : ℕ) (o : OutgoingState) → FitsBacklog k self.old o → IfOk result (λ count. FitsBacklog k self.new (acknowledged_to (o.acked + count) o)) }
-        ensures number { (k : ℕ) (o : OutgoingState) → FitsBacklog k self.old o → IfOk result (λ count. o.acked + count ≡ resolved o.acked nr.number) }
-        ensures within { (k : ℕ) (o : OutgoingState) → FitsBacklog k self.old o → IfOk result (λ count. o.acked + count ≤ o.sent) }
-        ensures beyond { (k : ℕ) (o : OutgoingState) → FitsBacklog k self.old o → OnErr result (o.sent < resolved o.acked nr.number) }
+        ensures step { (k : ℕ) (o : OutgoingState) → FitsOutgoing k self.old o → IfOk result (λ count. FitsOutgoing k self.new (acknowledged_to (o.acked + count) o)) }
+        ensures number { (k : ℕ) (o : OutgoingState) → FitsOutgoing k self.old o → IfOk result (λ count. o.acked + count ≡ resolved o.acked nr.number) }
+        ensures within { (k : ℕ) (o : OutgoingState) → FitsOutgoing k self.old o → IfOk result (λ count. o.acked + count ≤ o.sent) }
+        ensures beyond { (k : ℕ) (o : OutgoingState) → FitsOutgoing k self.old o → OnErr result (o.sent < resolved o.acked nr.number) }
         ensures window { window_of self.new ≡ window_of self.old }
         ensures err { OnErr result (self.new ≡ self.old) }
     {
@@ -104,7 +104,7 @@ impl Outgoing {
 
     /// Moves the place to send from back to the first frame that isn't acknowledged.
     pub fn go_back(&mut self)
-        ensures state { (k : ℕ) (o : OutgoingState) → FitsBacklog k self.old o → FitsBacklog k self.new (gone_back o) }
+        ensures state { (k : ℕ) (o : OutgoingState) → FitsOutgoing k self.old o → FitsOutgoing k self.new (gone_back o) }
         ensures window { window_of self.new ≡ window_of self.old }
     {
         self.sender.again();
@@ -112,7 +112,7 @@ impl Outgoing {
 
     /// Drops all packets.
     pub fn clear(&mut self)
-        ensures state { (k : ℕ) (o : OutgoingState) → FitsBacklog k self.old o → FitsBacklog k self.new no_packet }
+        ensures state { (k : ℕ) (o : OutgoingState) → FitsOutgoing k self.old o → FitsOutgoing k self.new no_packet }
         ensures window { window_of self.new ≡ window_of self.old }
     {
         self.sender.clear();
@@ -122,9 +122,9 @@ impl Outgoing {
     /// Sends the next packet, again or new, where the window is open and there is one. It says whether it did.
     pub fn send_next(&mut self, from: Role, nr: Seq, out: &mut Outbox) -> bool
         requires { before_in self.old < window_of self.old → 0 < out.old.long }
-        ensures sent { (k : ℕ) (o : OutgoingState) → FitsBacklog k self.old o → result ≡ is_open k o }
-        ensures step { (k : ℕ) (o : OutgoingState) → FitsBacklog k self.old o → FitsBacklog k self.new (if result then sent_on o else o) }
-        ensures made { (k : ℕ) (o : OutgoingState) → FitsBacklog k self.old o →
+        ensures sent { (k : ℕ) (o : OutgoingState) → FitsOutgoing k self.old o → result ≡ is_open k o }
+        ensures step { (k : ℕ) (o : OutgoingState) → FitsOutgoing k self.old o → FitsOutgoing k self.new (if result then sent_on o else o) }
+        ensures made { (k : ℕ) (o : OutgoingState) → FitsOutgoing k self.old o →
             out.new.made ≡ (if result then out.old.made ++ spelling_of from (info (o.place % 8) nr.number false (next_packet o)) ∷ [] else out.old.made) }
         ensures queue { length self.new.queue ≤ length self.old.queue }
         ensures window { window_of self.new ≡ window_of self.old }

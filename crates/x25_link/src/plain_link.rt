@@ -5,14 +5,14 @@ ghost use Rattle.x25_link.specs.Plain.{ShownPlain, FitsPlain};
 use crate::error::LinkError;
 use crate::octets::{LONGEST_PACKET, Octets};
 use crate::ordered_link::OrderedLink;
-use crate::waiting_packets::{PLACES, Queue};
+use crate::waiting_packets::{PLACES, WaitingPackets};
 use std::alloc::Global;
 use std::marker::Model;
 
 /// A link that is always up and loses nothing: what is put comes out, in order (profile).
 #[derive(Drop)]
 pub struct PlainLink {
-    queue: Queue,
+    queue: WaitingPackets,
     spare: usize,
 }
 
@@ -33,7 +33,7 @@ impl PlainLink {
         ensures spare { IfOk result (λ l. l.spare ≡ 0) }
         ensures err { IfErr result (λ e. e ≡ LinkError.NoMemory) }
     {
-        let queue = Queue::new(alloc)?;
+        let queue = WaitingPackets::new(alloc)?;
         Ok(PlainLink { queue, spare: 0 })
     }
 

@@ -31,7 +31,7 @@ pub struct Parameters {
 pub struct LinkStation {
     pub role: Role,
     pub parameters: Parameters,
-    pub backlog: Outgoing,
+    pub outgoing: Outgoing,
     pub receiver: Receiver,
     pub phase: Phase,
     pub tries: u8,
@@ -43,14 +43,14 @@ pub struct LinkStation {
 }
 
 impl LinkStation {
-    ghost use Rattle.x25_link.specs.Backlog.{window_of, before_in};
+    ghost use Rattle.x25_link.specs.code.OutgoingHeld.{window_of, before_in};
     ghost use Rattle.x25_link.specs.code.Fits.{FitsStation, FitsSide, FitsHeard};
 
     /// Whether the station is busy, and takes no I frame.
     pub fn is_busy(&self) -> bool
         ensures { (c : Settings) (s : StationState) → FitsStation c self.now s → result ≡ is_busy s }
     {
-        self.backlog.waiting() > BUSY_ABOVE
+        self.outgoing.waiting() > BUSY_ABOVE
     }
 
     /// Sends a frame that carries no packet.
@@ -69,7 +69,7 @@ impl LinkStation {
     pub fn ready(&mut self, command: bool, pf: bool, out: &mut Outbox)
         requires { 0 < out.old.short }
         ensures step { (c : Settings) (before : List (List ℕ)) (t : Side) → FitsSide c self.old before out.old.made t → FitsSide c self.new before out.new.made (ready command pf t) }
-        ensures backlog { self.new.backlog ≡ self.old.backlog }
+        ensures outgoing { self.new.outgoing ≡ self.old.outgoing }
         ensures short { out.old.short ≡ out.new.short + 1 }
         ensures long { out.new.long ≡ out.old.long }
     {
@@ -86,7 +86,7 @@ impl LinkStation {
     /// Sends by the sending rule, for at most seven frames, and then an RR where RNR was the last and the station is no
     /// longer busy.
     pub fn end(&mut self, out: &mut Outbox)
-        requires long { window_of self.old.backlog ≤ out.old.long + before_in self.old.backlog }
+        requires long { window_of self.old.outgoing ≤ out.old.long + before_in self.old.outgoing }
         requires short { 0 < out.old.short }
         ensures { (c : Settings) (before : List (List ℕ)) (t : Side) → FitsSide c self.old before out.old.made t → FitsSide c self.new before out.new.made (ended c.window t) }
     {
@@ -98,14 +98,14 @@ impl LinkStation {
 
     /// The sending rule, once. It says whether a frame was sent.
     pub fn pump_once(&mut self, out: &mut Outbox) -> bool
-        requires { before_in self.old.backlog < window_of self.old.backlog → 0 < out.old.long }
+        requires { before_in self.old.outgoing < window_of self.old.outgoing → 0 < out.old.long }
         ensures sent { (c : Settings) (s : StationState) → FitsStation c self.old s → result ≡ may_send c.window s }
         ensures step { (c : Settings) (before : List (List ℕ)) (t : Side) → FitsSide c self.old before out.old.made t → FitsSide c self.new before out.new.made (pumped_once c.window t) }
         ensures long { out.old.long ≤ out.new.long + 1 }
-        ensures kept { self.new ≡ record self.old { backlog = self.new.backlog } }
-        ensures queue { length self.new.backlog.queue ≤ length self.old.backlog.queue }
-        ensures window { window_of self.new.backlog ≡ window_of self.old.backlog }
-        ensures before { before_in self.new.backlog ≡ (if result then before_in self.old.backlog + 1 else before_in self.old.backlog) }
+        ensures kept { self.new ≡ record self.old { outgoing = self.new.outgoing } }
+        ensures queue { length self.new.outgoing.queue ≤ length self.old.outgoing.queue }
+        ensures window { window_of self.new.outgoing ≡ window_of self.old.outgoing }
+        ensures before { before_in self.new.outgoing ≡ (if result then before_in self.old.outgoing + 1 else before_in self.old.outgoing) }
         ensures used { out.old.long ≡ (if result then out.new.long + 1 else out.new.long) }
         ensures short { out.new.short ≡ out.old.short }
     {
@@ -113,7 +113,7 @@ impl LinkStation {
             return false;
         }
         let nr = self.receiver.wanted();
-        self.backlog.send_next(self.role, nr, out)
+        self.outgoing.send_next(self.role, nr, out)
     }
 
     // RR, where RNR was the last and the station is no longer busy.
@@ -129,10 +129,10 @@ impl LinkStation {
     /// Drops all packets, and sets all variables but `tries` to 0.
     pub fn clear(&mut self, phase: Phase)
         ensures step { (c : Settings) (before made : List (List ℕ)) (t : Side) → FitsSide c self.old before made t → FitsSide c self.new before made (with_near t (with_nothing phase t.near.tries)) }
-        ensures window { window_of self.new.backlog ≡ window_of self.old.backlog }
+        ensures window { window_of self.new.outgoing ≡ window_of self.old.outgoing }
     {
         self.phase = phase;
-        self.backlog.clear();
+        self.outgoing.clear();
         self.receiver.clear();
         self.recovery = false;
         self.peer_busy = false;
@@ -143,7 +143,7 @@ impl LinkStation {
     /// The link is set up: all variables are 0.
     pub fn set_up(&mut self)
         ensures step { (c : Settings) (before made : List (List ℕ)) (t : Side) → FitsSide c self.old before made t → FitsSide c self.new before made (with_near t fresh) }
-        ensures window { window_of self.new.backlog ≡ window_of self.old.backlog }
+        ensures window { window_of self.new.outgoing ≡ window_of self.old.outgoing }
     {
         self.clear(Phase::Up);
         self.tries = 0;
@@ -152,7 +152,7 @@ impl LinkStation {
     /// Leaves Up.
     pub fn leave<'a>(&mut self, reason: Reason) -> Heard<'a>
         ensures step { (c : Settings) (before made : List (List ℕ)) (t : Side) → FitsSide c self.old before made t → FitsHeard c self.new before made result (leaves reason t) }
-        ensures window { window_of self.new.backlog ≡ window_of self.old.backlog }
+        ensures window { window_of self.new.outgoing ≡ window_of self.old.outgoing }
     {
         self.clear(Phase::Down);
         Heard::down(reason)

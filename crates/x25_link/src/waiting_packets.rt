@@ -10,11 +10,11 @@ pub const PLACES: usize = 256;
 
 /// The packets that wait, at most 256, in a ring that is made once.
 #[derive(Drop)]
-pub struct Queue {
+pub struct WaitingPackets {
     ring: HeapCircularBuffer<Octets>,
 }
 
-impl Model for Queue {
+impl Model for WaitingPackets {
     ghost Value = { List (List ℕ) };
 
     ghost view = { λ q. q.ring.items };
@@ -22,13 +22,13 @@ impl Model for Queue {
     ghost invariant = { λ q. q.ring.capacity ≡ 256 };
 }
 
-impl Queue {
+impl WaitingPackets {
     /// No packet, in memory for all 256. Err: no memory.
-    pub fn new(alloc: Global) -> Result<Queue, AllocError>
+    pub fn new(alloc: Global) -> Result<WaitingPackets, AllocError>
         ensures { IfOk result (λ q. q ≡ []) }
     {
         let ring = HeapCircularBuffer::with_capacity(alloc, PLACES)?;
-        Ok(Queue { ring })
+        Ok(WaitingPackets { ring })
     }
 
     /// How many packets wait.

@@ -54,7 +54,7 @@ disconnect_down c l s = follows_down c l (disconnect_step (link_settings c) s) r
 -- ---- the station after it
 
 pub fits_down : (c : Settings) (v : ShownLink) (y : layer_code.Layer) (l : Layer) (k : LinkStep) (step : Step) (down : Option Reason) → step.near ≡ (downs l k.side k.notes.down).near → down ≡ k.notes.down
-    → FitsLink (link_settings c) v k.side.near → FitsLayer (layer_settings c) y (layer_down l down) → v.outgoing.made ≡ [] → IsKept step.near → FitsParts c v y step.near
+    → FitsLink (link_settings c) v k.side.near → FitsLayer (layer_settings c) y (layer_down l down) → v.outbox.made ≡ [] → IsKept step.near → FitsParts c v y step.near
 fits_down c v y l k step down near is link layer sent kept =
     let moved : layer_down l down ≡ step.near.layer = ap (layer_down l) is ∙ sym (ap (λ (x : Station). x.layer) near) in
     record {
@@ -65,7 +65,7 @@ fits_down c v y l k step down near is link layer sent kept =
     }
 
 pub leaves_down : (c : Settings) (v : ShownLink) (y : layer_code.Layer) (r : code_step.Step) (o : Option LinkError) (l : Layer) (k : LinkStep) (step : Step) (down : Option Reason) → step.near ≡ (downs l k.side k.notes.down).near
-    → down ≡ k.notes.down → FitsLink (link_settings c) v k.side.near → FitsLayer (layer_settings c) y (layer_down l down) → v.outgoing.made ≡ [] → KeptBy (unless o step) → LeavesParts c v y (Ok r) (unless o step)
+    → down ≡ k.notes.down → FitsLink (link_settings c) v k.side.near → FitsLayer (layer_settings c) y (layer_down l down) → v.outbox.made ≡ [] → KeptBy (unless o step) → LeavesParts c v y (Ok r) (unless o step)
 leaves_down c v y r o l k step down near is link layer sent kept = leaves_unless c v y r o step kept (λ now. fits_down c v y l k step down near is link layer sent now)
 
 -- ---- what it answers

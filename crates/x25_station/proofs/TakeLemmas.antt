@@ -91,7 +91,7 @@ handed_short reads hands c octets s p bytes is =
 -- ---- the link takes packets
 
 free_of : (c : LinkSettings) (l : ShownLink) (s : LinkStation) → FitsLink c l s → waiting_of l ≡ waits s.outgoing
-free_of c l s fits = link_waits l (record { settings = c; station = s; kept = l.outgoing.made }) (record { link = fits; kept = refl })
+free_of c l s fits = link_waits l (record { settings = c; station = s; kept = l.outbox.made }) (record { link = fits; kept = refl })
 
 can_put : (c : Settings) (l : ShownLink) (s : LinkStation) → FitsLink (link_settings c) l s → is_up s.phase ≡ true → waits s.outgoing < 256 → CanPut l
 can_put c l s fits up low =

@@ -61,7 +61,7 @@ pub took_fits : (c : Settings) (s : Station) (octets : List ℕ) (o : Option (Li
     → (let k : LinkStep = take_step (link_settings c) octets s.link in (o ≡ k.packet) × (notes ≡ k.notes))
     → (let k : LinkStep = take_step (link_settings c) octets s.link in FitsWhole m (kept_of (link_settings c) (all_put (link_settings c) (put_behind c s k o notes).put (alone k.side.near))))
     → (let k : LinkStep = take_step (link_settings c) octets s.link in FitsLayer (layer_settings c) z (put_behind c s k o notes).layer)
-    → n.station ≡ m.station → n.outgoing.made ≡ [] → IsKept (receives c s octets).near → FitsParts c n z (receives c s octets).near
+    → n.station ≡ m.station → n.outbox.made ≡ [] → IsKept (receives c s octets).near → FitsParts c n z (receives c s octets).near
 took_fits c s octets o notes m n z on same link layer station none kept =
     let b = took c s octets o notes on same in
     record {

@@ -39,7 +39,7 @@ fn append(frames: &mut Vec<Vec<u8>>, more: &mut Vec<Vec<u8>>)
 // What the layer does at LinkUp.
 fn come_up(layer: &mut Layer, link: &mut Link, entries: &mut Vec<Entry>)
     requires put { CanPut link.old }
-    requires room { HasRoom 0 layer.old link.old.outgoing.long }
+    requires room { HasRoom 0 layer.old link.old.outbox.long }
     requires entries { vec_len entries.old < vec_capacity entries.old }
     ensures layer { (c : Settings) (l : LayerState) (t : Side) → FitsLayer (layer_settings c) layer.old l → FitsWhole link.old (kept_of (link_settings c) (alone t.near)) →
         FitsLayer (layer_settings c) layer.new (comes_up (view_of (link_settings c) t.near) (layer_settings c)).step.layer }
@@ -48,7 +48,7 @@ fn come_up(layer: &mut Layer, link: &mut Link, entries: &mut Vec<Entry>)
     ensures entries { map plain_entry entries.new.items ≡ map plain_entry entries.old.items ++ entries_up true }
     ensures length { vec_len entries.new ≡ vec_len entries.old + 1 }
     ensures most_memory { layer.new.memory ≤ max layer.old.memory 16 }
-    ensures most_spares { link.new.outgoing.long ≤ max link.old.outgoing.long 16 }
+    ensures most_spares { link.new.outbox.long ≤ max link.old.outbox.long 16 }
 {
     entries.push_reserved(Entry::LinkUp);
     layer.up(link).unwrap();
@@ -64,7 +64,7 @@ fn hear(
 )
     requires put { CanPut link.old }
     requires left { IsNotFull layer.old }
-    requires room { HasRoom (length packet.now) layer.old link.old.outgoing.long }
+    requires room { HasRoom (length packet.now) layer.old link.old.outbox.long }
     requires texts { 3 ≤ texts.old }
     requires entries { vec_len entries.old + 2 ≤ vec_capacity entries.old }
     ensures layer { (c : Settings) (l : LayerState) (t : Side) → FitsLayer (layer_settings c) layer.old l → FitsWhole link.old (kept_of (link_settings c) (alone t.near)) →
@@ -75,7 +75,7 @@ fn hear(
         map plain_entry entries.new.items ≡ map plain_entry entries.old.items ++ entries_of_answer (layer_answer (layer_settings c) l packet.now) }
     ensures length { vec_len entries.new ≤ vec_len entries.old + 2 }
     ensures most_memory { layer.new.memory ≤ max layer.old.memory 16 }
-    ensures most_spares { link.new.outgoing.long ≤ max link.old.outgoing.long 16 }
+    ensures most_spares { link.new.outbox.long ≤ max link.old.outbox.long 16 }
     ensures texts { texts.new ≤ texts.old }
 {
     reading_is_the_grammar();
@@ -95,8 +95,8 @@ fn follow(
     requires up { notes.up ≡ true → CanPut link.old }
     requires put { IfSome packet (λ _. CanPut link.old) }
     requires left { IfSome packet (λ _. IsNotFull layer.old) }
-    requires begun { HasRoom 0 layer.old link.old.outgoing.long }
-    requires room { IfSome packet (λ p. HasRoom (length p.now) layer.old link.old.outgoing.long) }
+    requires begun { HasRoom 0 layer.old link.old.outbox.long }
+    requires room { IfSome packet (λ p. HasRoom (length p.now) layer.old link.old.outbox.long) }
     requires texts { 3 ≤ texts.old }
     requires entries { vec_len entries.old + 3 ≤ vec_capacity entries.old }
     ensures layer { (c : Settings) (l : LayerState) (t : Side) → FitsLayer (layer_settings c) layer.old l → FitsWhole link.old (kept_of (link_settings c) (alone t.near)) →
@@ -107,7 +107,7 @@ fn follow(
         map plain_entry entries.new.items ≡ map plain_entry entries.old.items ++ (entries_noted notes ++ entries_heard (layer_settings c) l (option_copied packet.entry) notes.down notes.up) }
     ensures length { vec_len entries.new ≤ vec_len entries.old + 3 }
     ensures most_memory { layer.new.memory ≤ max layer.old.memory 16 }
-    ensures most_spares { link.new.outgoing.long ≤ max link.old.outgoing.long 16 }
+    ensures most_spares { link.new.outbox.long ≤ max link.old.outbox.long 16 }
     ensures texts { texts.new ≤ texts.old }
 {
     note_down(layer, notes.down, entries);
@@ -177,7 +177,7 @@ impl Station {
     fn set_aside(&mut self, len: usize) -> Result<(Vec<Vec<u8>>, Vec<Entry>), StationError>
         ensures fits { (c : Settings) (s : State) → FitsStation c self.old s → FitsStation c self.new s }
         ensures left { IsNotFull self.old.layer → IsNotFull self.new.layer }
-        ensures room { OnOk result (HasRoom len self.new.layer self.new.link.outgoing.long) }
+        ensures room { OnOk result (HasRoom len self.new.layer self.new.link.outbox.long) }
         ensures texts { OnOk result (3 ≤ self.new.texts) }
         ensures frames { IfOk result (λ made. made.0.items ≡ []) }
         ensures frames_room { IfOk result (λ made. 17 ≤ vec_capacity made.0) }
@@ -186,7 +186,7 @@ impl Station {
         ensures refused { IfErr result (λ e. e ≡ StationError.NoMemory) }
         ensures most_texts { self.new.texts ≤ max self.old.texts 3 }
         ensures most_memory { self.new.layer.memory ≤ max self.old.layer.memory 16 }
-        ensures most_spares { self.new.link.outgoing.long ≤ max self.old.link.outgoing.long 16 }
+        ensures most_spares { self.new.link.outbox.long ≤ max self.old.link.outbox.long 16 }
         ensures most_circuits { (bound : ℕ) → 4096 ≤ bound → HaveAtMost bound self.old.layer.circuits.items → HaveAtMost bound self.new.layer.circuits.items }
     {
         let Ok(frames) = self.lists.frames() else {

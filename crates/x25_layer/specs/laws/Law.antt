@@ -2,7 +2,7 @@
 use Rattle.std.specs.Prelude.{◌≡◌, Bool, ℕ, ◌≤◌, List, ◌++◌, length, true}
 use Rattle.x25_circuit.specs.Circuit.{is_open, waits}
 use Rattle.x25_handshakes.specs.Names.{Name}
-use Rattle.x25_handshakes.specs.Books.{IsPrefix}
+use Rattle.x25_handshakes.specs.Histories.{IsPrefix}
 use Rattle.x25_layer.specs.Quiet.{AreQuiet, AreNoFaults}
 use Rattle.x25_layer.specs.Transcript.{Entry, under, calls_in, messages_in, interrupts_in, name_of}
 use Rattle.x25_layer.specs.TwoLayers.{End, TwoLayers, Event, run, start}

@@ -6,14 +6,14 @@ use Rattle.x25_window.specs.Receiving.{FitsTaken}
 use Rattle.x25_link.specs.declared.station.LinkStation.{LinkStation as StationCode}
 use Rattle.x25_link.specs.declared.heard.Heard.{Heard}
 use Rattle.x25_link.specs.MustSend.{Step}
-use Rattle.x25_link.specs.Backlog.{FitsBacklog}
+use Rattle.x25_link.specs.code.OutgoingHeld.{FitsOutgoing}
 use Rattle.x25_link.specs.LinkStation.{Settings, LinkStation, Side}
 
 pub record FitsStation (c : Settings) (v : StationCode) (s : LinkStation) : Type 0 where
   pub role : v.role ≡ c.role
   pub longest : v.parameters.n1 ≡ c.longest
   pub retries : v.parameters.n2 ≡ c.retries
-  pub backlog : FitsBacklog c.window v.backlog s.outgoing
+  pub outgoing : FitsOutgoing c.window v.outgoing s.outgoing
   pub taken : FitsTaken v.receiver (length s.taken)
   pub phase : v.phase ≡ s.phase
   pub tries : v.tries ≡ s.tries

@@ -14,7 +14,7 @@ use Rattle.x25_link.specs.code.Fits.{FitsStation}
 -- the variables of the station, and the frames that `sent` will hand out, with the memory set aside for further ones
 pub record ShownLink : Type 0 where
   pub station : StationCode
-  pub outgoing : ShownOutbox
+  pub outbox : ShownOutbox
 
 -- the most octets of a packet, whether the link is up, and how many packets wait
 abbrev pub limit_of : ShownLink → ℕ
@@ -24,7 +24,7 @@ abbrev pub up_of : ShownLink → Bool
 up_of v = is_up v.station.phase
 
 abbrev pub waiting_of : ShownLink → ℕ
-waiting_of v = length v.station.backlog.queue
+waiting_of v = length v.station.outgoing.queue
 
 -- between calls nothing is left to be sent
 pub record FitsLink (c : Settings) (v : ShownLink) (s : LinkStation) : Type 0 where
@@ -48,7 +48,7 @@ pub record LinkState : Type 0 where
 
 pub record FitsWhole (v : ShownLink) (x : LinkState) : Type 0 where
   pub link : FitsLink x.settings v x.station
-  pub kept : v.outgoing.made ≡ x.kept
+  pub kept : v.outbox.made ≡ x.kept
 
 abbrev pub lists_in : LinkState → Lists
 lists_in x = lists_of x.station

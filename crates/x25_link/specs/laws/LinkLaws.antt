@@ -33,17 +33,17 @@ put_adds x packet = ended_lists x.settings.window (with_near (alone x.station) (
 pub acked_low : (v : ShownLink) (x : LinkState) → FitsWhole v x → (lists_in x).acked ≤ length (lists_in x).given
 acked_low v x fits =
     let o = x.station.outgoing in
-    let backlog = fits.link.near.backlog in
-    let sound = backlog.sender.sound in
+    let outgoing = fits.link.near.outgoing in
+    let sound = outgoing.sender.sound in
     le_trans (le_trans sound.place_low sound.place_high)
-    (subst (λ (n : ℕ). n ≤ length o.given) (sym (length-take-le o.sent o.given backlog.sent)) backlog.sent)
+    (subst (λ (n : ℕ). n ≤ length o.given) (sym (length-take-le o.sent o.given outgoing.sent)) outgoing.sent)
 
 -- ---- how many wait, and whether it is up
 
 pub link_waits : (v : ShownLink) (x : LinkState) → FitsWhole v x → waiting_of v ≡ waits_of x
 link_waits v x fits =
     let o = x.station.outgoing in
-    ap length fits.link.near.backlog.queue ∙ length-drop o.sent o.given
+    ap length fits.link.near.outgoing.queue ∙ length-drop o.sent o.given
 
 pub link_up : (v : ShownLink) (x : LinkState) → FitsWhole v x → up_of v ≡ up_at x
 link_up v x fits = ap is_up fits.link.near.phase
@@ -67,14 +67,14 @@ pub put_stays_up : (x : LinkState) (packet : List ℕ) → up_at (after_put_to x
 put_stays_up x packet = ap is_up (ended_phase x.settings.window (with_near (alone x.station) (record x.station { outgoing = added packet x.station.outgoing })))
 
 pub link_few : (v : ShownLink) (x : LinkState) → FitsWhole v x → waits_of x ≤ 256
-link_few v x fits = subst (λ (n : ℕ). n ≤ 256) (link_waits v x fits) fits.link.near.backlog.few
+link_few v x fits = subst (λ (n : ℕ). n ≤ 256) (link_waits v x fits) fits.link.near.outgoing.few
 
 pub link_close : (v : ShownLink) (x : LinkState) → FitsWhole v x → length (lists_in x).given ≤ (lists_in x).acked + waits_of x + 7
 link_close v x fits =
     let o = x.station.outgoing in
-    let backlog = fits.link.near.backlog in
-    let sound = backlog.sender.sound in
-    omega (arith, sound.room, sound.window_high, backlog.sent, length-take-le o.sent o.given backlog.sent)
+    let outgoing = fits.link.near.outgoing in
+    let sound = outgoing.sender.sound in
+    omega (arith, sound.room, sound.window_high, outgoing.sent, length-take-le o.sent o.given outgoing.sent)
 
 -- ---- a plain link
 

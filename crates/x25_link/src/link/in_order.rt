@@ -41,14 +41,14 @@ impl OrderedLink for Link {
 
     ghost up = { up_of };
 
-    ghost spares = { λ l. l.outgoing.long };
+    ghost spares = { λ l. l.outbox.long };
 
     fn limit(&self) -> usize {
         self.station.parameters.n1
     }
 
     fn waiting(&self) -> usize {
-        self.station.backlog.waiting()
+        self.station.outgoing.waiting()
     }
 
     fn is_up(&self) -> bool {
@@ -56,11 +56,11 @@ impl OrderedLink for Link {
     }
 
     fn spare(&self) -> usize {
-        self.outgoing.long()
+        self.outbox.long()
     }
 
     fn room(&mut self, count: usize) -> Result<(), LinkError> {
-        self.outgoing.reserve(count, 0)?;
+        self.outbox.reserve(count, 0)?;
         Ok(())
     }
 

@@ -12,7 +12,7 @@ pub record FitsParts (c : Settings) (l : ShownLink) (y : layer_code.Layer) (s : 
   pub link : FitsLink (link_settings c) l s.link
   pub layer : FitsLayer (layer_settings c) y s.layer
   pub kept : IsKept s
-  pub sent : l.outgoing.made ≡ []
+  pub sent : l.outbox.made ≡ []
 
 -- they stand for some state
 abbrev pub AreMeant : ShownLink → layer_code.Layer → Type 0

@@ -7,7 +7,7 @@ use Rattle.x25_bits.specs.declared.role.Role.TheVariants.{Dte, Dce}
 use Rattle.x25_packet.specs.PlainPacket.{PlainPacket}
 use Rattle.x25_packet.specs.Spelling.{spelling_of, longest_user}
 use Rattle.x25_packet.specs.Reading.{packet_of}
-use Rattle.x25_handshakes.specs.Books.{IsPrefix}
+use Rattle.x25_handshakes.specs.Histories.{IsPrefix}
 use Rattle.x25_link.specs.LinkStation.{LinkStation, is_up}
 use Rattle.x25_link.specs.MustSend.{other, Step as LinkStep}
 use Rattle.x25_link.specs.laws.NoteLaw.{IsQuiet}

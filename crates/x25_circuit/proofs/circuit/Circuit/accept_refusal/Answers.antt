@@ -1,5 +1,5 @@
 use Rattle.std.proofs.Common.{sym, ◌∙◌}
-use Rattle.x25_circuit.proofs.rows.RowLemmas.{accept_at}
+use Rattle.x25_circuit.proofs.TableLemmas.{accept_at}
 use Rattle.x25_circuit.proofs.circuit.Circuit.accept_refusal.Goals as goal
 
 pub returns-in-Some : goal.returns-in-Some

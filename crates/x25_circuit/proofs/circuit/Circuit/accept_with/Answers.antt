@@ -1,5 +1,5 @@
 use Rattle.std.proofs.Common.{sym, ◌∙◌}
-use Rattle.x25_circuit.proofs.rows.RowLemmas.{accept_at}
+use Rattle.x25_circuit.proofs.TableLemmas.{accept_at}
 use Rattle.x25_circuit.proofs.circuit.Circuit.accept_with.Goals as goal
 
 pub returns-in-Arriving-clause-outcome : goal.returns-in-Arriving-clause-outcome

@@ -5,7 +5,7 @@ use Rattle.x25_circuit.specs.declared.state.State.TheVariants.{Open}
 use Rattle.x25_circuit.specs.Circuit.{entered}
 use Rattle.x25_circuit.specs.code.FitsCircuit.{FitsCircuit}
 use Rattle.x25_circuit.specs.Params.{may_answer, may_propose}
-use Rattle.x25_circuit.proofs.rows.RowLemmas.{answer_accepts}
+use Rattle.x25_circuit.proofs.TableLemmas.{answer_accepts}
 use Rattle.x25_circuit.proofs.ParamsLemmas.{field_is_allowed}
 use Rattle.x25_circuit.proofs.circuit.Circuit.answer.Goals as goal
 

@@ -3,7 +3,7 @@ use Rattle.x25_circuit.specs.declared.params.Params.{Params}
 use Rattle.x25_circuit.specs.declared.state.State.TheVariants.{Free}
 use Rattle.x25_circuit.specs.Calls.{call_in}
 use Rattle.x25_circuit.specs.code.FitsCircuit.{Sends}
-use Rattle.x25_circuit.proofs.rows.RowLemmas.{call_at}
+use Rattle.x25_circuit.proofs.TableLemmas.{call_at}
 use Rattle.x25_circuit.proofs.circuit.Circuit.call.Goals as goal
 
 pub returns-in-Free-clause-outcome : goal.returns-in-Free-clause-outcome

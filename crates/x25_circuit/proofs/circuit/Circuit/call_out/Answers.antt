@@ -6,7 +6,7 @@ use Rattle.x25_circuit.specs.declared.state.State.TheVariants.{Calling}
 use Rattle.x25_circuit.specs.Circuit.{entered}
 use Rattle.x25_circuit.specs.code.FitsCircuit.{FitsCircuit}
 use Rattle.x25_circuit.specs.Params.{default_params}
-use Rattle.x25_circuit.proofs.rows.RowLemmas.{calls_with}
+use Rattle.x25_circuit.proofs.TableLemmas.{calls_with}
 use Rattle.x25_circuit.proofs.ParamsLemmas.{field_is_allowed}
 use Rattle.x25_circuit.proofs.circuit.Circuit.call_out.Goals as goal
 

@@ -1,5 +1,5 @@
 use Rattle.std.proofs.Common.{sym, refl}
-use Rattle.x25_circuit.proofs.rows.RowLemmas.{clear_done}
+use Rattle.x25_circuit.proofs.TableLemmas.{clear_done}
 use Rattle.x25_circuit.proofs.circuit.Circuit.clear.Goals as goal
 
 pub returns-in_default-clause-outcome : goal.returns-in_default-clause-outcome

@@ -3,7 +3,7 @@ use Rattle.x25_circuit.specs.declared.params.Params.{Params}
 use Rattle.x25_circuit.specs.declared.state.State.TheVariants.{Collision}
 use Rattle.x25_circuit.specs.Circuit.{entered}
 use Rattle.x25_circuit.specs.code.FitsCircuit.{FitsCircuit}
-use Rattle.x25_circuit.proofs.rows.RowLemmas.{collides_at_dte, collides_at_dce}
+use Rattle.x25_circuit.proofs.TableLemmas.{collides_at_dte, collides_at_dce}
 use Rattle.x25_circuit.proofs.circuit.Circuit.collide.Goals as goal
 
 pub returns-in-Dte-clause-next : goal.returns-in-Dte-clause-next

@@ -4,7 +4,7 @@ use Rattle.x25_circuit.specs.declared.state.State.TheVariants.{Arriving}
 use Rattle.x25_circuit.specs.Circuit.{entered}
 use Rattle.x25_circuit.specs.code.FitsCircuit.{FitsCircuit}
 use Rattle.x25_circuit.specs.Params.{said_in}
-use Rattle.x25_circuit.proofs.rows.RowLemmas.{call_strays}
+use Rattle.x25_circuit.proofs.TableLemmas.{call_strays}
 use Rattle.x25_circuit.proofs.circuit.Circuit.hear_call.Goals as goal
 
 pub returns-in-Free-clause-next : goal.returns-in-Free-clause-next

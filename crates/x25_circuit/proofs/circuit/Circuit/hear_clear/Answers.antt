@@ -1,5 +1,5 @@
 use Rattle.std.proofs.Common.{lit≤}
-use Rattle.x25_circuit.proofs.rows.RowLemmas.{clear_told}
+use Rattle.x25_circuit.proofs.TableLemmas.{clear_told}
 use Rattle.x25_circuit.proofs.circuit.Circuit.hear_clear.Goals as goal
 
 pub returns-in-Clearing-clause-next : goal.returns-in-Clearing-clause-next

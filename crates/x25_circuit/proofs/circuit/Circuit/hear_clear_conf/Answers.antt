@@ -1,4 +1,4 @@
-use Rattle.x25_circuit.proofs.rows.RowLemmas.{clear_conf_strays}
+use Rattle.x25_circuit.proofs.TableLemmas.{clear_conf_strays}
 use Rattle.x25_circuit.proofs.circuit.Circuit.hear_clear_conf.Goals as goal
 
 pub returns-in-Clearing-clause-next : goal.returns-in-Clearing-clause-next

@@ -1,4 +1,4 @@
-use Rattle.x25_circuit.proofs.rows.RowLemmas.{reset_conf_strays}
+use Rattle.x25_circuit.proofs.TableLemmas.{reset_conf_strays}
 use Rattle.x25_circuit.proofs.circuit.Circuit.hear_reset_conf.Goals as goal
 
 pub returns-in-Open-clause-next : goal.returns-in-Open-clause-next

@@ -1,4 +1,4 @@
-use Rattle.x25_circuit.proofs.rows.RowLemmas.{data_strays}
+use Rattle.x25_circuit.proofs.TableLemmas.{data_strays}
 use Rattle.x25_circuit.proofs.circuit.Circuit.hear_transfer.Goals as goal
 
 pub returns-in_default-clause-next : goal.returns-in_default-clause-next

@@ -1,5 +1,5 @@
 use Rattle.std.proofs.Common.{sym}
-use Rattle.x25_circuit.proofs.rows.RowLemmas.{undecoded_clears}
+use Rattle.x25_circuit.proofs.TableLemmas.{undecoded_clears}
 use Rattle.x25_circuit.proofs.circuit.Circuit.hear_undecoded.Goals as goal
 
 pub returns-in-Open-clause-next : goal.returns-in-Open-clause-next

@@ -1,7 +1,7 @@
 use Rattle.std.proofs.Common.{sym, ap, ◌∙◌, Some, refl}
 use Rattle.x25_circuit.specs.Circuit.{outgoing}
 use Rattle.x25_circuit.proofs.TalkLemmas.{with_transfer, own_fits}
-use Rattle.x25_circuit.proofs.rows.RowLemmas.{ready_at}
+use Rattle.x25_circuit.proofs.TableLemmas.{ready_at}
 use Rattle.x25_circuit.proofs.circuit.Circuit.say.Goals as goal
 
 pub returns-in-Some-clause-outcome : goal.returns-in-Some-clause-outcome

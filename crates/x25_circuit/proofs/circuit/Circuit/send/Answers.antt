@@ -1,5 +1,5 @@
 use Rattle.std.proofs.Common.{sym, ◌∙◌, arith, refl}
-use Rattle.x25_circuit.proofs.rows.RowLemmas.{send_at, send_waits}
+use Rattle.x25_circuit.proofs.TableLemmas.{send_at, send_waits}
 use Rattle.x25_circuit.proofs.TalkLemmas.{with_transfer, waits_are}
 use Rattle.x25_circuit.specs.Circuit.{outgoing}
 use Rattle.x25_circuit.proofs.circuit.Circuit.send.Goals as goal

@@ -1,7 +1,7 @@
 use Rattle.std.proofs.Common.{arith}
 use Rattle.std.proofs.lemmas.Result.{MatchResult-weaker}
-use Rattle.x25_link.specs.Backlog.{sending_of}
-use Rattle.x25_link.proofs.BacklogLemmas.{sent_length}
+use Rattle.x25_link.specs.code.OutgoingHeld.{sending_of}
+use Rattle.x25_link.proofs.OutgoingLemmas.{sent_length}
 use Rattle.x25_link.proofs.outgoing.Outgoing.ack.Goals as goal
 
 pub returns-clause-step : goal.returns-clause-step

@@ -1,5 +1,5 @@
 use Rattle.std.proofs.Common.{◌≡◌, ℕ, ◌+◌, ◌-◌, ◌%◌, ◌≤◌, arith}
-use Rattle.x25_link.specs.Backlog.{sending_of}
+use Rattle.x25_link.specs.code.OutgoingHeld.{sending_of}
 use Rattle.x25_link.proofs.outgoing.Outgoing.first.Goals as goal
 
 -- the highest number sent plus one, less how many stand

@@ -2,8 +2,8 @@ use Rattle.std.proofs.Common.{length, ℕ, ◌%◌, List, [], ◌∷◌, ◌++�
 use Rattle.x25_frame.specs.PlainFrame.{PlainFrame, info}
 use Rattle.x25_frame.specs.Spelling.{spelling_of}
 use Rattle.x25_link.specs.Outgoing.{next_packet}
-use Rattle.x25_link.specs.Backlog.{sending_of}
-use Rattle.x25_link.proofs.BacklogLemmas.{again_is, again_fits, all_sent, same_fits, empty_waits, next_is, new_fits, sent_length, new_frame, next_open, below_of}
+use Rattle.x25_link.specs.code.OutgoingHeld.{sending_of}
+use Rattle.x25_link.proofs.OutgoingLemmas.{again_is, again_fits, all_sent, same_fits, empty_waits, next_is, new_fits, sent_length, new_frame, next_open, below_of}
 use Rattle.x25_link.proofs.EndLemmas.{none_open, full_closed}
 use Rattle.x25_link.proofs.outgoing.Outgoing.send_next.Goals as goal
 

@@ -1,6 +1,6 @@
 use Rattle.std.proofs.Common.{ap, ◌∙◌, ◌%◌}
-use Rattle.x25_link.specs.Backlog.{sending_of}
-use Rattle.x25_link.proofs.BacklogLemmas.{sent_length}
+use Rattle.x25_link.specs.code.OutgoingHeld.{sending_of}
+use Rattle.x25_link.proofs.OutgoingLemmas.{sent_length}
 use Rattle.x25_link.proofs.outgoing.Outgoing.top.Goals as goal
 
 pub returns : goal.returns

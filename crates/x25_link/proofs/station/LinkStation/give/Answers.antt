@@ -1,18 +1,18 @@
 use Rattle.std.proofs.Common.{◌≤◌, sym, ap, subst, arith}
 use Rattle.x25_link.specs.LinkStation.{Side}
 use Rattle.x25_link.specs.code.Fits.{FitsSide}
-use Rattle.x25_link.proofs.BacklogLemmas.{sent_length}
-use Rattle.x25_link.proofs.FitsLemmas.{with_backlog}
+use Rattle.x25_link.proofs.OutgoingLemmas.{sent_length}
+use Rattle.x25_link.proofs.FitsLemmas.{with_outgoing}
 use Rattle.x25_link.proofs.EndLemmas.{with_packet, put_once}
 use Rattle.x25_link.proofs.station.LinkStation.give.Goals as goal
 
 pub returns-then-not-pump_once-clause-step : goal.returns-then-not-pump_once-clause-step
 returns-then-not-pump_once-clause-step c = λ d before s fits settled calm.
-    let backlog = fits.near.backlog in
-    let l = sent_length d.window _ s.outgoing backlog in
-    let high = backlog.sender.sound.place_high in
+    let outgoing = fits.near.outgoing in
+    let l = sent_length d.window _ s.outgoing outgoing in
+    let high = outgoing.sender.sound.place_high in
     let low : s.outgoing.place ≤ s.outgoing.sent = omega arith in
-    let near = with_backlog d _ s _ _ fits.near (c.add.ensures.state d.window s.outgoing backlog) in
+    let near = with_outgoing d _ s _ _ fits.near (c.add.ensures.state d.window s.outgoing outgoing) in
     let once = c.pump_once.ensures.step d before (with_packet c.args.packet s) (record { near = near; out = fits.out }) in
     subst (λ (u : Side). FitsSide d c.pump_once.new.self before c.discard.new.self.made u) (sym (put_once d.window s c.args.packet low settled calm))
     (rw (ap (λ o. o.made) c.discard.ensures) once)
@@ -25,10 +25,10 @@ returns-then-not-pump_once-clause-long c =
 
 pub returns-else-not-pump_once-clause-step : goal.returns-else-not-pump_once-clause-step
 returns-else-not-pump_once-clause-step c = λ d before s fits settled calm.
-    let backlog = fits.near.backlog in
-    let l = sent_length d.window _ s.outgoing backlog in
-    let high = backlog.sender.sound.place_high in
+    let outgoing = fits.near.outgoing in
+    let l = sent_length d.window _ s.outgoing outgoing in
+    let high = outgoing.sender.sound.place_high in
     let low : s.outgoing.place ≤ s.outgoing.sent = omega arith in
-    let near = with_backlog d _ s _ _ fits.near (c.add.ensures.state d.window s.outgoing backlog) in
+    let near = with_outgoing d _ s _ _ fits.near (c.add.ensures.state d.window s.outgoing outgoing) in
     let once = c.pump_once.ensures.step d before (with_packet c.args.packet s) (record { near = near; out = fits.out }) in
     subst (λ (u : Side). FitsSide d c.pump_once.new.self before c.pump_once.new.out.made u) (sym (put_once d.window s c.args.packet low settled calm)) once

@@ -13,6 +13,6 @@ returns-clause-step c = λ d before s fits.
 pub returns-clause-settled : goal.returns-clause-settled
 returns-clause-settled c = λ d s fits.
     let heard = c.hear_octets-heard.ensures.step d _ (alone s) (record { near = fits; out = sym (append-nil _) }) in
-    let sound = heard.side.near.backlog.sender.sound in
+    let sound = heard.side.near.outgoing.sender.sound in
     let octets = c.args.octets.now in
     ended_settled d.window (let step = hears d octets (frame_of (other d.role) d.longest octets) s.phase (alone s) in step.side) sound.window_high sound.place_low

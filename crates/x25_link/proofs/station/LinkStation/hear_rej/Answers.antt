@@ -15,7 +15,7 @@ returns-clause-step c = λ d before t fits.
     let u = acknowledged c.args.nr.number t in
     let acked = c.if-not-acknowledge.ensures.step d before _ t fits refl in
     let peer = peer_fits d _ before _ u false acked in
-    let back = back_fits d _ _ before _ (peer_is false u) peer (c.go_back.ensures.state d.window u.near.outgoing acked.near.backlog) in
+    let back = back_fits d _ _ before _ (peer_is false u) peer (c.go_back.ensures.state d.window u.near.outgoing acked.near.outgoing) in
     rw (sym valid) (record {
       side = c.poll.ensures.step d before (goes_back (peer_is false u)) back;
       packet = rw c.quiet.ensures.packet refl;

@@ -7,11 +7,11 @@ pub returns-clause-step : goal.returns-clause-step
 returns-clause-step c = λ d before t fits.
     let k = d.window in
     let o = t.near.outgoing in
-    let backlog = fits.near.backlog in
+    let outgoing = fits.near.outgoing in
     pump_fits d _ _ before _ _ t _ c.send_next.result fits c.if-self.false c.if-self-2.false (sym c.if-not-is_up.ensures)
-    (c.wanted-nr.ensures.state _ fits.near.taken) (c.send_next.ensures.sent k o backlog) (c.send_next.ensures.step k o backlog) (c.send_next.ensures.made k o backlog)
+    (c.wanted-nr.ensures.state _ fits.near.taken) (c.send_next.ensures.sent k o outgoing) (c.send_next.ensures.step k o outgoing) (c.send_next.ensures.made k o outgoing)
 
 pub returns-clause-sent : goal.returns-clause-sent
 returns-clause-sent c = λ d s fits.
-    c.send_next.ensures.sent d.window s.outgoing fits.backlog
+    c.send_next.ensures.sent d.window s.outgoing fits.outgoing
     ∙ sym (may_send_is d.window s (sym fits.recovery ∙ c.if-self.false) (sym fits.peer_busy ∙ c.if-self-2.false) (sym (ap is_up fits.phase) ∙ sym c.if-not-is_up.ensures))

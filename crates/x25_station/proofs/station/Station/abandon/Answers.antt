@@ -23,7 +23,7 @@ invariant_of-self c = record {
             (ap (λ n. n.down) (c.abandon-step.ensures.answer (link_settings c') s.link fits.link).notes)
             (c.abandon-step.ensures.state (link_settings c') s.link fits.link)
             (c.note_down.ensures.layer (layer_settings c') s.layer fits.layer)
-            (ap (λ o. o.made) c.abandon-step.ensures.outgoing ∙ fits.sent)
+            (ap (λ o. o.made) c.abandon-step.ensures.outbox ∙ fits.sent)
             (c.steps_keep_bounds.ensures.receive c' s c.args.octets.now fits.kept),
       ));
   aside =
@@ -31,7 +31,7 @@ invariant_of-self c = record {
       let low = before.packets in
       let few = before.spares in
       let memory = c.note_down.ensures.memory in
-      let same = ap (λ o. o.long) c.abandon-step.ensures.outgoing in
+      let same = ap (λ o. o.long) c.abandon-step.ensures.outbox in
       record { packets = omega (arith, memory, low); spares = omega (arith, same, few); texts = before.texts };
 }
 
@@ -43,7 +43,7 @@ returns-clause-state c = λ c' s fits.
     (ap (λ n. n.down) (c.abandon-step.ensures.answer (link_settings c') s.link fits.link).notes)
     (c.abandon-step.ensures.state (link_settings c') s.link fits.link)
     (c.note_down.ensures.layer (layer_settings c') s.layer fits.layer)
-    (ap (λ o. o.made) c.abandon-step.ensures.outgoing ∙ fits.sent)
+    (ap (λ o. o.made) c.abandon-step.ensures.outbox ∙ fits.sent)
     (c.steps_keep_bounds.ensures.receive c' s c.args.octets.now fits.kept)
 
 pub returns-clause-frames : goal.returns-clause-frames

@@ -21,14 +21,14 @@ invariant_of-self-in-Ok-ask c = record {
   meant = still_meant _ _ _ _ c.args.self.now.meant (λ c' s fits.
       let request = Asks c.args.channel (plain_request c.args.request) in
       let a = answers c.in-Ok-ask.field-0 c' _ c.ask.new.link c.sent-frames.new.self _ c.ask.new.self (record { frames = c.sent-frames.result; entries = c.enter.new.entries }) s request fits
-      c.in-Ok-ask.ensures.layer c.in-Ok-ask.ensures.link c.sent-frames.ensures.station (ap (λ o. o.made) c.sent-frames.ensures.outgoing) c.sent-frames.ensures.frames
+      c.in-Ok-ask.ensures.layer c.in-Ok-ask.ensures.link c.sent-frames.ensures.station (ap (λ o. o.made) c.sent-frames.ensures.outbox) c.sent-frames.ensures.frames
       (c.steps_keep_bounds.ensures.command c' s (Requests request) fits.kept) in
       leaves_some c' _ _ (record { frames = c.sent-frames.result; entries = c.enter.new.entries }) (requests c' s request) a.state a.refused);
   aside =
       let before = c.args.self.now.aside in
       let packets = c.in-Ok-ask.ensures.most_memory in
       let low = before.packets in
-      let spares : c.sent-frames.new.self.outgoing.long ≡ 0 = ap (λ o. o.long) c.sent-frames.ensures.outgoing in
+      let spares : c.sent-frames.new.self.outbox.long ≡ 0 = ap (λ o. o.long) c.sent-frames.ensures.outbox in
       record { packets = omega (arith, packets, low); spares = omega (arith, spares); texts = before.texts };
 }
 
@@ -49,14 +49,14 @@ pub returns-in-Ok-ask-clause-state : goal.returns-in-Ok-ask-clause-state
 returns-in-Ok-ask-clause-state c = λ c' s fits.
     let request = Asks c.args.channel (plain_request c.args.request) in
     (answers c.in-Ok-ask.field-0 c' _ c.ask.new.link c.sent-frames.new.self _ c.ask.new.self (record { frames = c.sent-frames.result; entries = c.enter.new.entries }) s request fits
-    c.in-Ok-ask.ensures.layer c.in-Ok-ask.ensures.link c.sent-frames.ensures.station (ap (λ o. o.made) c.sent-frames.ensures.outgoing) c.sent-frames.ensures.frames
+    c.in-Ok-ask.ensures.layer c.in-Ok-ask.ensures.link c.sent-frames.ensures.station (ap (λ o. o.made) c.sent-frames.ensures.outbox) c.sent-frames.ensures.frames
     (c.steps_keep_bounds.ensures.command c' s (Requests request) fits.kept)).state
 
 pub returns-in-Ok-ask-clause-frames : goal.returns-in-Ok-ask-clause-frames
 returns-in-Ok-ask-clause-frames c = λ c' s fits.
     let request = Asks c.args.channel (plain_request c.args.request) in
     (answers c.in-Ok-ask.field-0 c' _ c.ask.new.link c.sent-frames.new.self _ c.ask.new.self (record { frames = c.sent-frames.result; entries = c.enter.new.entries }) s request fits
-    c.in-Ok-ask.ensures.layer c.in-Ok-ask.ensures.link c.sent-frames.ensures.station (ap (λ o. o.made) c.sent-frames.ensures.outgoing) c.sent-frames.ensures.frames
+    c.in-Ok-ask.ensures.layer c.in-Ok-ask.ensures.link c.sent-frames.ensures.station (ap (λ o. o.made) c.sent-frames.ensures.outbox) c.sent-frames.ensures.frames
     (c.steps_keep_bounds.ensures.command c' s (Requests request) fits.kept)).frames
 
 pub returns-in-Ok-ask-clause-entries : goal.returns-in-Ok-ask-clause-entries
@@ -71,7 +71,7 @@ pub returns-in-Ok-ask-clause-refused : goal.returns-in-Ok-ask-clause-refused
 returns-in-Ok-ask-clause-refused c = λ c' s fits.
     let request = Asks c.args.channel (plain_request c.args.request) in
     (answers c.in-Ok-ask.field-0 c' _ c.ask.new.link c.sent-frames.new.self _ c.ask.new.self (record { frames = c.sent-frames.result; entries = c.enter.new.entries }) s request fits
-    c.in-Ok-ask.ensures.layer c.in-Ok-ask.ensures.link c.sent-frames.ensures.station (ap (λ o. o.made) c.sent-frames.ensures.outgoing) c.sent-frames.ensures.frames
+    c.in-Ok-ask.ensures.layer c.in-Ok-ask.ensures.link c.sent-frames.ensures.station (ap (λ o. o.made) c.sent-frames.ensures.outbox) c.sent-frames.ensures.frames
     (c.steps_keep_bounds.ensures.command c' s (Requests request) fits.kept)).refused
 
 pub returns-in-Err-clause-refused : goal.returns-in-Err-clause-refused

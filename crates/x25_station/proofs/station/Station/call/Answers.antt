@@ -20,14 +20,14 @@ invariant_of-self-in-Ok-call_with c = record {
   meant = still_meant _ _ _ _ c.args.self.now.meant (λ c' s fits.
       let request = Dials c.args.called.now c.args.calling.now c.args.user.now c.args.params in
       let a = answers c.in-Ok-call_with.channel c' _ c.call_with.new.link c.sent-frames.new.self _ c.call_with.new.self (record { frames = c.sent-frames.result; entries = c.enter.new.entries }) s request fits
-      c.in-Ok-call_with.ensures.layer c.in-Ok-call_with.ensures.link c.sent-frames.ensures.station (ap (λ o. o.made) c.sent-frames.ensures.outgoing) c.sent-frames.ensures.frames
+      c.in-Ok-call_with.ensures.layer c.in-Ok-call_with.ensures.link c.sent-frames.ensures.station (ap (λ o. o.made) c.sent-frames.ensures.outbox) c.sent-frames.ensures.frames
       (c.steps_keep_bounds.ensures.command c' s (Requests request) fits.kept) in
       leaves_some c' _ _ (record { frames = c.sent-frames.result; entries = c.enter.new.entries }) (requests c' s request) a.state a.refused);
   aside =
       let before = c.args.self.now.aside in
       let packets = c.in-Ok-call_with.ensures.most_memory in
       let low = before.packets in
-      let spares : c.sent-frames.new.self.outgoing.long ≡ 0 = ap (λ o. o.long) c.sent-frames.ensures.outgoing in
+      let spares : c.sent-frames.new.self.outbox.long ≡ 0 = ap (λ o. o.long) c.sent-frames.ensures.outbox in
       record { packets = omega (arith, packets, low); spares = omega (arith, spares); texts = before.texts };
 }
 
@@ -48,14 +48,14 @@ pub returns-in-Ok-call_with-clause-state : goal.returns-in-Ok-call_with-clause-s
 returns-in-Ok-call_with-clause-state c = λ c' s fits.
     let request = Dials c.args.called.now c.args.calling.now c.args.user.now c.args.params in
     (answers c.in-Ok-call_with.channel c' _ c.call_with.new.link c.sent-frames.new.self _ c.call_with.new.self (record { frames = c.sent-frames.result; entries = c.enter.new.entries }) s request fits
-    c.in-Ok-call_with.ensures.layer c.in-Ok-call_with.ensures.link c.sent-frames.ensures.station (ap (λ o. o.made) c.sent-frames.ensures.outgoing) c.sent-frames.ensures.frames
+    c.in-Ok-call_with.ensures.layer c.in-Ok-call_with.ensures.link c.sent-frames.ensures.station (ap (λ o. o.made) c.sent-frames.ensures.outbox) c.sent-frames.ensures.frames
     (c.steps_keep_bounds.ensures.command c' s (Requests request) fits.kept)).state
 
 pub returns-in-Ok-call_with-clause-frames : goal.returns-in-Ok-call_with-clause-frames
 returns-in-Ok-call_with-clause-frames c = λ c' s fits.
     let request = Dials c.args.called.now c.args.calling.now c.args.user.now c.args.params in
     (answers c.in-Ok-call_with.channel c' _ c.call_with.new.link c.sent-frames.new.self _ c.call_with.new.self (record { frames = c.sent-frames.result; entries = c.enter.new.entries }) s request fits
-    c.in-Ok-call_with.ensures.layer c.in-Ok-call_with.ensures.link c.sent-frames.ensures.station (ap (λ o. o.made) c.sent-frames.ensures.outgoing) c.sent-frames.ensures.frames
+    c.in-Ok-call_with.ensures.layer c.in-Ok-call_with.ensures.link c.sent-frames.ensures.station (ap (λ o. o.made) c.sent-frames.ensures.outbox) c.sent-frames.ensures.frames
     (c.steps_keep_bounds.ensures.command c' s (Requests request) fits.kept)).frames
 
 pub returns-in-Ok-call_with-clause-entries : goal.returns-in-Ok-call_with-clause-entries
@@ -70,7 +70,7 @@ pub returns-in-Ok-call_with-clause-refused : goal.returns-in-Ok-call_with-clause
 returns-in-Ok-call_with-clause-refused c = λ c' s fits.
     let request = Dials c.args.called.now c.args.calling.now c.args.user.now c.args.params in
     (answers c.in-Ok-call_with.channel c' _ c.call_with.new.link c.sent-frames.new.self _ c.call_with.new.self (record { frames = c.sent-frames.result; entries = c.enter.new.entries }) s request fits
-    c.in-Ok-call_with.ensures.layer c.in-Ok-call_with.ensures.link c.sent-frames.ensures.station (ap (λ o. o.made) c.sent-frames.ensures.outgoing) c.sent-frames.ensures.frames
+    c.in-Ok-call_with.ensures.layer c.in-Ok-call_with.ensures.link c.sent-frames.ensures.station (ap (λ o. o.made) c.sent-frames.ensures.outbox) c.sent-frames.ensures.frames
     (c.steps_keep_bounds.ensures.command c' s (Requests request) fits.kept)).refused
 
 pub returns-in-Err-clause-refused : goal.returns-in-Err-clause-refused

@@ -12,11 +12,11 @@ invariant_of-self c = record {
   meant = still_meant _ _ _ _ c.args.self.now.meant (λ c' s fits.
       fits_unless c.connect.result _ c' c.args.self.now.link _ _ s (connect_refusal s.link.phase) (follows c' s.layer (connect_step (link_settings c') s.link)) fits
       (c.connect.ensures.refused (link_settings c') s.link fits.link) c.connect.ensures.err (c.connect.ensures.state (link_settings c') s.link fits.link) (c.steps_keep_bounds.ensures.connect c' s fits.kept)
-      (λ near kept. record { link = near; layer = fits.layer; kept = kept; sent = ap (λ o. o.made) c.connect.ensures.outgoing ∙ fits.sent }));
+      (λ near kept. record { link = near; layer = fits.layer; kept = kept; sent = ap (λ o. o.made) c.connect.ensures.outbox ∙ fits.sent }));
   aside =
       let before = c.args.self.now.aside in
       let few = before.spares in
-      let same : c.connect.new.self.outgoing.long ≡ c.args.self.now.link.outgoing.long = ap (λ o. o.long) c.connect.ensures.outgoing in
+      let same : c.connect.new.self.outbox.long ≡ c.args.self.now.link.outbox.long = ap (λ o. o.long) c.connect.ensures.outbox in
       record { packets = before.packets; spares = omega (arith, same, few); texts = before.texts };
 }
 
@@ -26,7 +26,7 @@ returns-in-Ok-clause-state c = λ c' s fits.
       link = c.in-Ok.ensures.state (link_settings c') s.link fits.link;
       layer = fits.layer;
       kept = kept;
-      sent = ap (λ o. o.made) c.in-Ok.ensures.outgoing ∙ fits.sent;
+      sent = ap (λ o. o.made) c.in-Ok.ensures.outbox ∙ fits.sent;
     })
 
 pub returns-in-Ok-clause-frames : goal.returns-in-Ok-clause-frames

@@ -26,7 +26,7 @@ invariant_of-self c = record {
       (ap (λ n. n.down) (c.in-Ok-disconnect.ensures.answer (link_settings c') s.link fits.link).notes)
       (c.in-Ok-disconnect.ensures.state (link_settings c') s.link fits.link)
       (c.note_down.ensures.layer (layer_settings c') s.layer fits.layer)
-      (ap (λ o. o.made) c.in-Ok-disconnect.ensures.outgoing ∙ fits.sent)
+      (ap (λ o. o.made) c.in-Ok-disconnect.ensures.outbox ∙ fits.sent)
       (c.steps_keep_bounds.ensures.command c' s Disconnects fits.kept))
       (goes _ (record { frames = c.in-Ok-disconnect.step.frames; entries = c.note_down.new.entries }) (disconnect_refusal s.link.phase) step (c.in-Ok-disconnect.ensures.refused (link_settings c') s.link fits.link)));
   aside =
@@ -34,7 +34,7 @@ invariant_of-self c = record {
       let low = before.packets in
       let few = before.spares in
       let memory = c.note_down.ensures.memory in
-      let same = ap (λ o. o.long) c.in-Ok-disconnect.ensures.outgoing in
+      let same = ap (λ o. o.long) c.in-Ok-disconnect.ensures.outbox in
       record { packets = omega (arith, memory, low); spares = omega (arith, same, few); texts = before.texts };
 }
 
@@ -49,7 +49,7 @@ returns-in-Ok-disconnect-clause-state c = λ c' s fits.
     (ap (λ n. n.down) (c.in-Ok-disconnect.ensures.answer (link_settings c') s.link fits.link).notes)
     (c.in-Ok-disconnect.ensures.state (link_settings c') s.link fits.link)
     (c.note_down.ensures.layer (layer_settings c') s.layer fits.layer)
-    (ap (λ o. o.made) c.in-Ok-disconnect.ensures.outgoing ∙ fits.sent)
+    (ap (λ o. o.made) c.in-Ok-disconnect.ensures.outbox ∙ fits.sent)
     (c.steps_keep_bounds.ensures.command c' s Disconnects fits.kept)
 
 pub returns-in-Ok-disconnect-clause-frames : goal.returns-in-Ok-disconnect-clause-frames

@@ -17,14 +17,14 @@ invariant_of-self c = record {
   meant = still_meant _ _ _ _ c.args.self.now.meant (λ c' s fits.
       let request = PullsAll in
       let a = answers c.in-Ok.field-0 c' _ c.pull.new.link c.sent-frames.new.self _ c.pull.new.self (record { frames = c.sent-frames.result; entries = c.new-entries.result }) s request fits
-      c.in-Ok.ensures.layer c.in-Ok.ensures.link c.sent-frames.ensures.station (ap (λ o. o.made) c.sent-frames.ensures.outgoing) c.sent-frames.ensures.frames
+      c.in-Ok.ensures.layer c.in-Ok.ensures.link c.sent-frames.ensures.station (ap (λ o. o.made) c.sent-frames.ensures.outbox) c.sent-frames.ensures.frames
       (c.steps_keep_bounds.ensures.command c' s (Requests request) fits.kept) in
       leaves_some c' _ _ (record { frames = c.sent-frames.result; entries = c.new-entries.result }) (requests c' s request) a.state a.refused);
   aside =
       let before = c.args.self.now.aside in
       let packets = c.in-Ok.ensures.most_memory in
       let low = before.packets in
-      let spares : c.sent-frames.new.self.outgoing.long ≡ 0 = ap (λ o. o.long) c.sent-frames.ensures.outgoing in
+      let spares : c.sent-frames.new.self.outbox.long ≡ 0 = ap (λ o. o.long) c.sent-frames.ensures.outbox in
       record { packets = omega (arith, packets, low); spares = omega (arith, spares); texts = before.texts };
 }
 
@@ -45,14 +45,14 @@ pub returns-in-Ok-clause-state : goal.returns-in-Ok-clause-state
 returns-in-Ok-clause-state c = λ c' s fits.
     let request = PullsAll in
     (answers c.in-Ok.field-0 c' _ c.pull.new.link c.sent-frames.new.self _ c.pull.new.self (record { frames = c.sent-frames.result; entries = c.new-entries.result }) s request fits
-    c.in-Ok.ensures.layer c.in-Ok.ensures.link c.sent-frames.ensures.station (ap (λ o. o.made) c.sent-frames.ensures.outgoing) c.sent-frames.ensures.frames
+    c.in-Ok.ensures.layer c.in-Ok.ensures.link c.sent-frames.ensures.station (ap (λ o. o.made) c.sent-frames.ensures.outbox) c.sent-frames.ensures.frames
     (c.steps_keep_bounds.ensures.command c' s (Requests request) fits.kept)).state
 
 pub returns-in-Ok-clause-frames : goal.returns-in-Ok-clause-frames
 returns-in-Ok-clause-frames c = λ c' s fits.
     let request = PullsAll in
     (answers c.in-Ok.field-0 c' _ c.pull.new.link c.sent-frames.new.self _ c.pull.new.self (record { frames = c.sent-frames.result; entries = c.new-entries.result }) s request fits
-    c.in-Ok.ensures.layer c.in-Ok.ensures.link c.sent-frames.ensures.station (ap (λ o. o.made) c.sent-frames.ensures.outgoing) c.sent-frames.ensures.frames
+    c.in-Ok.ensures.layer c.in-Ok.ensures.link c.sent-frames.ensures.station (ap (λ o. o.made) c.sent-frames.ensures.outbox) c.sent-frames.ensures.frames
     (c.steps_keep_bounds.ensures.command c' s (Requests request) fits.kept)).frames
 
 pub returns-in-Ok-clause-entries : goal.returns-in-Ok-clause-entries
@@ -64,7 +64,7 @@ returns-in-Ok-clause-refused c = λ c' s fits.
     let request = PullsAll in
     let r : code_step.Step = record { frames = c.sent-frames.result; entries = c.new-entries.result } in
     goes_exactly r (requests c' s request) (answers c.in-Ok.field-0 c' _ c.pull.new.link c.sent-frames.new.self _ c.pull.new.self r s request fits
-    c.in-Ok.ensures.layer c.in-Ok.ensures.link c.sent-frames.ensures.station (ap (λ o. o.made) c.sent-frames.ensures.outgoing) c.sent-frames.ensures.frames
+    c.in-Ok.ensures.layer c.in-Ok.ensures.link c.sent-frames.ensures.station (ap (λ o. o.made) c.sent-frames.ensures.outbox) c.sent-frames.ensures.frames
     (c.steps_keep_bounds.ensures.command c' s (Requests request) fits.kept)).refused
 
 pub returns-in-Err-clause-refused : goal.returns-in-Err-clause-refused

@@ -18,14 +18,14 @@ invariant_of-self-in-Ok-restart c = record {
   meant = still_meant _ _ _ _ c.args.self.now.meant (λ c' s fits.
       let request = Restarts in
       let a = answers c.in-Ok-restart.field-0 c' _ c.restart.new.link c.sent-frames.new.self _ c.restart.new.self (record { frames = c.sent-frames.result; entries = c.push_reserved.new.self }) s request fits
-      c.in-Ok-restart.ensures.layer c.in-Ok-restart.ensures.link c.sent-frames.ensures.station (ap (λ o. o.made) c.sent-frames.ensures.outgoing) c.sent-frames.ensures.frames
+      c.in-Ok-restart.ensures.layer c.in-Ok-restart.ensures.link c.sent-frames.ensures.station (ap (λ o. o.made) c.sent-frames.ensures.outbox) c.sent-frames.ensures.frames
       (c.steps_keep_bounds.ensures.command c' s (Requests request) fits.kept) in
       leaves_some c' _ _ (record { frames = c.sent-frames.result; entries = c.push_reserved.new.self }) (requests c' s request) a.state a.refused);
   aside =
       let before = c.args.self.now.aside in
       let packets = c.in-Ok-restart.ensures.most_memory in
       let low = before.packets in
-      let spares : c.sent-frames.new.self.outgoing.long ≡ 0 = ap (λ o. o.long) c.sent-frames.ensures.outgoing in
+      let spares : c.sent-frames.new.self.outbox.long ≡ 0 = ap (λ o. o.long) c.sent-frames.ensures.outbox in
       record { packets = omega (arith, packets, low); spares = omega (arith, spares); texts = before.texts };
 }
 
@@ -46,14 +46,14 @@ pub returns-in-Ok-restart-clause-state : goal.returns-in-Ok-restart-clause-state
 returns-in-Ok-restart-clause-state c = λ c' s fits.
     let request = Restarts in
     (answers c.in-Ok-restart.field-0 c' _ c.restart.new.link c.sent-frames.new.self _ c.restart.new.self (record { frames = c.sent-frames.result; entries = c.push_reserved.new.self }) s request fits
-    c.in-Ok-restart.ensures.layer c.in-Ok-restart.ensures.link c.sent-frames.ensures.station (ap (λ o. o.made) c.sent-frames.ensures.outgoing) c.sent-frames.ensures.frames
+    c.in-Ok-restart.ensures.layer c.in-Ok-restart.ensures.link c.sent-frames.ensures.station (ap (λ o. o.made) c.sent-frames.ensures.outbox) c.sent-frames.ensures.frames
     (c.steps_keep_bounds.ensures.command c' s (Requests request) fits.kept)).state
 
 pub returns-in-Ok-restart-clause-frames : goal.returns-in-Ok-restart-clause-frames
 returns-in-Ok-restart-clause-frames c = λ c' s fits.
     let request = Restarts in
     (answers c.in-Ok-restart.field-0 c' _ c.restart.new.link c.sent-frames.new.self _ c.restart.new.self (record { frames = c.sent-frames.result; entries = c.push_reserved.new.self }) s request fits
-    c.in-Ok-restart.ensures.layer c.in-Ok-restart.ensures.link c.sent-frames.ensures.station (ap (λ o. o.made) c.sent-frames.ensures.outgoing) c.sent-frames.ensures.frames
+    c.in-Ok-restart.ensures.layer c.in-Ok-restart.ensures.link c.sent-frames.ensures.station (ap (λ o. o.made) c.sent-frames.ensures.outbox) c.sent-frames.ensures.frames
     (c.steps_keep_bounds.ensures.command c' s (Requests request) fits.kept)).frames
 
 pub returns-in-Ok-restart-clause-entries : goal.returns-in-Ok-restart-clause-entries
@@ -65,7 +65,7 @@ pub returns-in-Ok-restart-clause-refused : goal.returns-in-Ok-restart-clause-ref
 returns-in-Ok-restart-clause-refused c = λ c' s fits.
     let request = Restarts in
     (answers c.in-Ok-restart.field-0 c' _ c.restart.new.link c.sent-frames.new.self _ c.restart.new.self (record { frames = c.sent-frames.result; entries = c.push_reserved.new.self }) s request fits
-    c.in-Ok-restart.ensures.layer c.in-Ok-restart.ensures.link c.sent-frames.ensures.station (ap (λ o. o.made) c.sent-frames.ensures.outgoing) c.sent-frames.ensures.frames
+    c.in-Ok-restart.ensures.layer c.in-Ok-restart.ensures.link c.sent-frames.ensures.station (ap (λ o. o.made) c.sent-frames.ensures.outbox) c.sent-frames.ensures.frames
     (c.steps_keep_bounds.ensures.command c' s (Requests request) fits.kept)).refused
 
 pub returns-in-Err-clause-refused : goal.returns-in-Err-clause-refused

@@ -24,7 +24,7 @@ invariant_of-self-in-Ok-t1 c = record {
       (ap (λ n. n.down) (c.in-Ok-t1.ensures.answer (link_settings c') s.link fits.link).notes)
       (c.in-Ok-t1.ensures.state (link_settings c') s.link fits.link)
       (c.note_down.ensures.layer (layer_settings c') s.layer fits.layer)
-      (ap (λ o. o.made) c.in-Ok-t1.ensures.outgoing ∙ fits.sent)
+      (ap (λ o. o.made) c.in-Ok-t1.ensures.outbox ∙ fits.sent)
       (c.steps_keep_bounds.ensures.timer c' s fits.kept))
       (goes _ (record { frames = c.in-Ok-t1.step.frames; entries = c.note_down.new.entries }) (timer_refusal s.link) step (c.in-Ok-t1.ensures.refused (link_settings c') s.link fits.link)));
   aside =
@@ -32,7 +32,7 @@ invariant_of-self-in-Ok-t1 c = record {
       let low = before.packets in
       let few = before.spares in
       let memory = c.note_down.ensures.memory in
-      let same = ap (λ o. o.long) c.in-Ok-t1.ensures.outgoing in
+      let same = ap (λ o. o.long) c.in-Ok-t1.ensures.outbox in
       record { packets = omega (arith, memory, low); spares = omega (arith, same, few); texts = before.texts };
 }
 
@@ -47,7 +47,7 @@ returns-in-Ok-t1-clause-state c = λ c' s fits.
     (ap (λ n. n.down) (c.in-Ok-t1.ensures.answer (link_settings c') s.link fits.link).notes)
     (c.in-Ok-t1.ensures.state (link_settings c') s.link fits.link)
     (c.note_down.ensures.layer (layer_settings c') s.layer fits.layer)
-    (ap (λ o. o.made) c.in-Ok-t1.ensures.outgoing ∙ fits.sent)
+    (ap (λ o. o.made) c.in-Ok-t1.ensures.outbox ∙ fits.sent)
     (c.steps_keep_bounds.ensures.timer c' s fits.kept)
 
 pub returns-in-Ok-t1-clause-frames : goal.returns-in-Ok-t1-clause-frames

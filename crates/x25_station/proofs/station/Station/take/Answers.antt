@@ -51,13 +51,13 @@ follow-requires-clause-left c = if_some c.in-Ok.step.packet (λ x. IsNotFull c.s
 pub follow-requires-clause-room : goal.follow-requires-clause-room
 follow-requires-clause-room c =
     let bytes : All (λ octet. octet < 256) c.args.octets.now = All-from_get_or (λ octet. octet < 256) c.args.octets.now 0 (λ i low. omega (arith, c.type_inv.octets i)) in
-    if_some c.in-Ok.step.packet (λ p. HasRoom (length p.now) c.set_aside.new.self.layer c.take.new.self.outgoing.long) (λ p is.
-    less_room (length p.now) (length c.args.octets.now) c.set_aside.new.self.layer c.set_aside.new.self.link.outgoing.long c.take.new.self.outgoing.long
+    if_some c.in-Ok.step.packet (λ p. HasRoom (length p.now) c.set_aside.new.self.layer c.take.new.self.outbox.long) (λ p is.
+    less_room (length p.now) (length c.args.octets.now) c.set_aside.new.self.layer c.set_aside.new.self.link.outbox.long c.take.new.self.outbox.long
     (least_by_meaning _ _ (length p.now) (length c.args.octets.now) c.args.self.now.meant (λ c' s fits.
     let lk = link_settings c' in
     handed_short c.reading_is_the_grammar.ensures.spelled c.notes_what_changes.ensures.take_hands_up lk c.args.octets.now s.link p.now bytes
     (sym (c.in-Ok.ensures.answer lk s.link (c.in_ok-frames.ensures.fits c' s fits).link).packet ∙ ap option_copied is)))
-    (sym (ap (λ o. o.long) c.in-Ok.ensures.outgoing)) c.in_ok-frames.ensures.room)
+    (sym (ap (λ o. o.long) c.in-Ok.ensures.outbox)) c.in_ok-frames.ensures.room)
 
 pub append-requires-in-Ok : goal.append-requires-in-Ok
 append-requires-in-Ok c =
@@ -70,7 +70,7 @@ append-requires-in-Ok c =
     let k : LinkStep = take_step lk c.args.octets.now s.link in
     let before = c.in_ok-frames.ensures.fits c' s fits in
     let answer = c.in-Ok.ensures.answer lk s.link before.link in
-    let whole : FitsWhole c.take.new.self (kept_of lk (alone k.side.near)) = record { link = c.in-Ok.ensures.state lk s.link before.link; kept = ap (λ o. o.made) c.in-Ok.ensures.outgoing ∙ before.sent } in
+    let whole : FitsWhole c.take.new.self (kept_of lk (alone k.side.near)) = record { link = c.in-Ok.ensures.state lk s.link before.link; kept = ap (λ o. o.made) c.in-Ok.ensures.outbox ∙ before.sent } in
     let step = put_behind c' s k (option_copied c.in-Ok.step.packet) c.in-Ok.step.notes in
     let link = c.follow.ensures.link c' s.layer k.side before.layer whole in
     few_frames c'.role c.sent-kept.result.items (λ frame. frame.items) (all_put lk step.put (alone k.side.near)).out 8 (c.sent-kept.ensures.frames ∙ link.kept)
@@ -84,11 +84,11 @@ invariant_of-self c = record {
       let k : LinkStep = take_step lk c.args.octets.now s.link in
       let before = c.in_ok-frames.ensures.fits c' s fits in
       let answer = c.in-Ok.ensures.answer lk s.link before.link in
-      let whole : FitsWhole c.take.new.self (kept_of lk (alone k.side.near)) = record { link = c.in-Ok.ensures.state lk s.link before.link; kept = ap (λ o. o.made) c.in-Ok.ensures.outgoing ∙ before.sent } in (
+      let whole : FitsWhole c.take.new.self (kept_of lk (alone k.side.near)) = record { link = c.in-Ok.ensures.state lk s.link before.link; kept = ap (λ o. o.made) c.in-Ok.ensures.outbox ∙ before.sent } in (
         c',
         (receives c' s c.args.octets.now).near,
         took_fits c' s c.args.octets.now (option_copied c.in-Ok.step.packet) c.in-Ok.step.notes c.follow.new.link c.give_back_list-in-Ok.new.self c.follow.new.layer (c.requires.goes_on c' s fits) (answer.packet, answer.notes)
-            (c.follow.ensures.link c' s.layer k.side before.layer whole) (c.follow.ensures.layer c' s.layer k.side before.layer whole) (ap (λ l. l.station) (c.give_back_list-in-Ok.ensures ∙ c.give_back_list.ensures) ∙ c.sent-kept.ensures.station) (ap (λ l. l.outgoing.made) (c.give_back_list-in-Ok.ensures ∙ c.give_back_list.ensures) ∙ ap (λ o. o.made) c.sent-kept.ensures.outgoing)
+            (c.follow.ensures.link c' s.layer k.side before.layer whole) (c.follow.ensures.layer c' s.layer k.side before.layer whole) (ap (λ l. l.station) (c.give_back_list-in-Ok.ensures ∙ c.give_back_list.ensures) ∙ c.sent-kept.ensures.station) (ap (λ l. l.outbox.made) (c.give_back_list-in-Ok.ensures ∙ c.give_back_list.ensures) ∙ ap (λ o. o.made) c.sent-kept.ensures.outbox)
             (c.steps_keep_bounds.ensures.receive c' s c.args.octets.now fits.kept),
       ));
   aside =
@@ -97,7 +97,7 @@ invariant_of-self c = record {
       let few = before.texts in
       let packets = c.follow.ensures.most_memory in
       let texts = c.follow.ensures.texts in
-      let spares : c.give_back_list-in-Ok.new.self.outgoing.long ≡ 0 = ap (λ l. l.outgoing.long) (c.give_back_list-in-Ok.ensures ∙ c.give_back_list.ensures) ∙ ap (λ o. o.long) c.sent-kept.ensures.outgoing in
+      let spares : c.give_back_list-in-Ok.new.self.outbox.long ≡ 0 = ap (λ l. l.outbox.long) (c.give_back_list-in-Ok.ensures ∙ c.give_back_list.ensures) ∙ ap (λ o. o.long) c.sent-kept.ensures.outbox in
       record { packets = omega (arith, packets, low); spares = omega (arith, spares); texts = omega (arith, texts, few) };
 }
 
@@ -110,9 +110,9 @@ returns-in-Ok-clause-state c = λ c' s fits.
     let k : LinkStep = take_step lk c.args.octets.now s.link in
     let before = c.in_ok-frames.ensures.fits c' s fits in
     let answer = c.in-Ok.ensures.answer lk s.link before.link in
-    let whole : FitsWhole c.take.new.self (kept_of lk (alone k.side.near)) = record { link = c.in-Ok.ensures.state lk s.link before.link; kept = ap (λ o. o.made) c.in-Ok.ensures.outgoing ∙ before.sent } in
+    let whole : FitsWhole c.take.new.self (kept_of lk (alone k.side.near)) = record { link = c.in-Ok.ensures.state lk s.link before.link; kept = ap (λ o. o.made) c.in-Ok.ensures.outbox ∙ before.sent } in
     took_fits c' s c.args.octets.now (option_copied c.in-Ok.step.packet) c.in-Ok.step.notes c.follow.new.link c.give_back_list-in-Ok.new.self c.follow.new.layer (c.requires.goes_on c' s fits) (answer.packet, answer.notes)
-    (c.follow.ensures.link c' s.layer k.side before.layer whole) (c.follow.ensures.layer c' s.layer k.side before.layer whole) (ap (λ l. l.station) (c.give_back_list-in-Ok.ensures ∙ c.give_back_list.ensures) ∙ c.sent-kept.ensures.station) (ap (λ l. l.outgoing.made) (c.give_back_list-in-Ok.ensures ∙ c.give_back_list.ensures) ∙ ap (λ o. o.made) c.sent-kept.ensures.outgoing)
+    (c.follow.ensures.link c' s.layer k.side before.layer whole) (c.follow.ensures.layer c' s.layer k.side before.layer whole) (ap (λ l. l.station) (c.give_back_list-in-Ok.ensures ∙ c.give_back_list.ensures) ∙ c.sent-kept.ensures.station) (ap (λ l. l.outbox.made) (c.give_back_list-in-Ok.ensures ∙ c.give_back_list.ensures) ∙ ap (λ o. o.made) c.sent-kept.ensures.outbox)
     (c.steps_keep_bounds.ensures.receive c' s c.args.octets.now fits.kept)
 
 pub returns-in-Ok-clause-frames : goal.returns-in-Ok-clause-frames
@@ -121,7 +121,7 @@ returns-in-Ok-clause-frames c = λ c' s fits.
     let k : LinkStep = take_step lk c.args.octets.now s.link in
     let before = c.in_ok-frames.ensures.fits c' s fits in
     let answer = c.in-Ok.ensures.answer lk s.link before.link in
-    let whole : FitsWhole c.take.new.self (kept_of lk (alone k.side.near)) = record { link = c.in-Ok.ensures.state lk s.link before.link; kept = ap (λ o. o.made) c.in-Ok.ensures.outgoing ∙ before.sent } in
+    let whole : FitsWhole c.take.new.self (kept_of lk (alone k.side.near)) = record { link = c.in-Ok.ensures.state lk s.link before.link; kept = ap (λ o. o.made) c.in-Ok.ensures.outbox ∙ before.sent } in
     let link = c.follow.ensures.link c' s.layer k.side before.layer whole in
     let a = c.in-Ok.step.frames.items in
     let b = c.sent-kept.result.items in
@@ -135,7 +135,7 @@ returns-in-Ok-clause-entries c = λ c' s fits.
     let k : LinkStep = take_step lk c.args.octets.now s.link in
     let before = c.in_ok-frames.ensures.fits c' s fits in
     let answer = c.in-Ok.ensures.answer lk s.link before.link in
-    let whole : FitsWhole c.take.new.self (kept_of lk (alone k.side.near)) = record { link = c.in-Ok.ensures.state lk s.link before.link; kept = ap (λ o. o.made) c.in-Ok.ensures.outgoing ∙ before.sent } in
+    let whole : FitsWhole c.take.new.self (kept_of lk (alone k.side.near)) = record { link = c.in-Ok.ensures.state lk s.link before.link; kept = ap (λ o. o.made) c.in-Ok.ensures.outbox ∙ before.sent } in
     let noted = entries_noted c.in-Ok.step.notes ++ entries_heard (layer_settings c') s.layer (option_copied c.in-Ok.step.packet) c.in-Ok.step.notes.down c.in-Ok.step.notes.up in
     took_enters c' s c.args.octets.now (option_copied c.in-Ok.step.packet) c.in-Ok.step.notes _ (c.requires.goes_on c' s fits) (answer.packet, answer.notes)
     (c.follow.ensures.entries c' s.layer k.side before.layer whole ∙ ap (λ es. map plain_entry es ++ noted) c.in_ok-frames.ensures.entries)
@@ -151,7 +151,7 @@ returns-in-Ok-clause-few_frames c =
     let k : LinkStep = take_step lk c.args.octets.now s.link in
     let before = c.in_ok-frames.ensures.fits c' s fits in
     let answer = c.in-Ok.ensures.answer lk s.link before.link in
-    let whole : FitsWhole c.take.new.self (kept_of lk (alone k.side.near)) = record { link = c.in-Ok.ensures.state lk s.link before.link; kept = ap (λ o. o.made) c.in-Ok.ensures.outgoing ∙ before.sent } in
+    let whole : FitsWhole c.take.new.self (kept_of lk (alone k.side.near)) = record { link = c.in-Ok.ensures.state lk s.link before.link; kept = ap (λ o. o.made) c.in-Ok.ensures.outbox ∙ before.sent } in
     let step = put_behind c' s k (option_copied c.in-Ok.step.packet) c.in-Ok.step.notes in
     let link = c.follow.ensures.link c' s.layer k.side before.layer whole in
     few_frames c'.role c.sent-kept.result.items (λ frame. frame.items) (all_put lk step.put (alone k.side.near)).out 8 (c.sent-kept.ensures.frames ∙ link.kept)

@@ -1,4 +1,4 @@
--- The transcript of an end is its book, of each kind: of calls, messages and interrupts.
+-- The transcript of an end is its history, of each kind: of calls, messages and interrupts.
 use Rattle.std.proofs.Common.{◌≡◌, ◌⊎◌, inl, inr, ℕ, List, [], ◌∷◌, ◌++◌, Bool, true, false, ◌==◌, if◌then◌else◌, refl, sym, ap, ◌∙◌, append_assoc}
 use Rattle.std.proofs.lemmas.Bool.{eqb-true}
 use Rattle.x25_circuit.specs.Notices.{CallRequest}
@@ -7,7 +7,7 @@ use Rattle.x25_handshakes.specs.Stretch.{Stretch}
 use Rattle.x25_handshakes.specs.Calls.{Phase, Unused, Talking, Connection}
 use Rattle.x25_handshakes.specs.Layers.{Channels}
 use Rattle.x25_handshakes.specs.Names.{Name, both, same_name, IsEarlier}
-use Rattle.x25_handshakes.specs.Books.{Lists, none, Kind, held_in, of_stretch, messages, interrupts, calls, circuit_at, name_at, held_at, written}
+use Rattle.x25_handshakes.specs.Histories.{Lists, none, Kind, held_in, of_stretch, messages, interrupts, calls, circuit_at, name_at, held_at, written}
 use Rattle.x25_layer.specs.Transcript.{Handed, nothing_handed, added, Entry, says, under, calls_in, messages_in, interrupts_in}
 use Rattle.x25_layer.proofs.Sees.{held_phase, held_of, Adds, AfterReset, AfterClear}
 use Rattle.x25_layer.proofs.NoteLemmas.{append_nil}
@@ -80,22 +80,22 @@ entered {M} kind lists listed k x y h turn m = by (listed.named k x y h turn)
     by (inl e) = as_lists (same_name m (present y k)) ∙ all_none (same_name m (present y k)) (same_name m (name_at kind y k)) e
     by (inr e) = as_lists (same_name m (present y k)) ∙ ap (λ (n : Name). if same_name m n then lists h else none) (sym e)
 
--- So the transcript stays the book, where that held what the end holds under its present name, and nothing under later ones.
-pub booked : {M : Type 0} (kind : Kind M) (lists : Handed → Lists M) → IsListed kind lists → (k : ℕ) (x y : At Channels) (log es : List Entry) (book : Name → Lists M)
-    → book (name_at kind x k) ≡ held_at kind x k → ((m : Name) → IsEarlier (name_at kind x k) m → book m ≡ none) → ((m : Name) → lists (under k m log) ≡ book m) → StepOf x y es
-    → (m : Name) → lists (under k m (log ++ es)) ≡ written book (name_at kind y k) (held_at kind y k) m
-booked {M} kind lists listed k x y log es book held later same step m =
+-- So the transcript stays the history, where that held what the end holds under its present name, and nothing under later ones.
+pub recorded : {M : Type 0} (kind : Kind M) (lists : Handed → Lists M) → IsListed kind lists → (k : ℕ) (x y : At Channels) (log es : List Entry) (history : Name → Lists M)
+    → history (name_at kind x k) ≡ held_at kind x k → ((m : Name) → IsEarlier (name_at kind x k) m → history m ≡ none) → ((m : Name) → lists (under k m log) ≡ history m) → StepOf x y es
+    → (m : Name) → lists (under k m (log ++ es)) ≡ written history (name_at kind y k) (held_at kind y k) m
+recorded {M} kind lists listed k x y log es history held later same step m =
     let s : Lists M = lists (step k).0 in
     let moves : Moves kind k x y s = listed.moves k x y (step k).0 (step k).1 in
     under_more kind lists listed k m log es
     ∙ ap (λ (l : Lists M). joined l (lists (under k m es))) (same m)
-    ∙ ap (λ (l : Lists M). joined (book m) l) (ap lists ((step k).2 m) ∙ entered kind lists listed k x y (step k).0 (step k).1 m)
-    ∙ by_name (same_name m (name_at kind y k)) (book m) s (held_at kind y k) (λ is. here s moves (same_name-is m (name_at kind y k) is))
+    ∙ ap (λ (l : Lists M). joined (history m) l) (ap lists ((step k).2 m) ∙ entered kind lists listed k x y (step k).0 (step k).1 m)
+    ∙ by_name (same_name m (name_at kind y k)) (history m) s (held_at kind y k) (λ is. here s moves (same_name-is m (name_at kind y k) is))
   where
-    here : (s : Lists M) → Moves kind k x y s → m ≡ name_at kind y k → joined (book m) s ≡ held_at kind y k
-    here s (StaysAt name more) is = ap (λ (j : Name). joined (book j) s) (is ∙ name) ∙ ap (λ (l : Lists M). joined l s) held ∙ sym more
+    here : (s : Lists M) → Moves kind k x y s → m ≡ name_at kind y k → joined (history m) s ≡ held_at kind y k
+    here s (StaysAt name more) is = ap (λ (j : Name). joined (history j) s) (is ∙ name) ∙ ap (λ (l : Lists M). joined l s) held ∙ sym more
     here s (GrowsAt less empty nothing) is =
-        ap (λ (l : Lists M). joined (book m) l) nothing ∙ joined_none (book m) ∙ ap book is ∙ later (name_at kind y k) less ∙ sym empty
+        ap (λ (l : Lists M). joined (history m) l) nothing ∙ joined_none (history m) ∙ ap history is ∙ later (name_at kind y k) less ∙ sym empty
 
 -- ---- messages and interrupts
 

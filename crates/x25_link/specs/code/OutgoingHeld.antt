@@ -1,4 +1,4 @@
--- Which packets handed down a backlog stands for.
+-- Which packets handed down a outgoing stands for.
 use Rattle.std.specs.Prelude.{◌≡◌, ℕ, ◌≤◌, List, length, take, drop}
 use Rattle.x25_window.specs.Sending.{Sending}
 use Rattle.x25_window.specs.code.Held.{Fits}
@@ -17,7 +17,7 @@ abbrev pub sending_of : ℕ → Outgoing → Sending (List ℕ)
 sending_of k o = record { given = take o.sent o.given; acked = o.acked; place = o.place; window = k }
 
 -- what was sent and isn't acknowledged, and what waits
-pub record FitsBacklog (k : ℕ) (b : OutgoingCode) (o : Outgoing) : Type 0 where
+pub record FitsOutgoing (k : ℕ) (b : OutgoingCode) (o : Outgoing) : Type 0 where
   pub sender : Fits b.sender (sending_of k o)
   pub queue : b.queue ≡ drop o.sent o.given
   pub sent : o.sent ≤ length o.given

@@ -55,58 +55,58 @@ name_at kind x k = record { restarts = x.epoch; clears = (circuit_at x k).epoch;
 abbrev pub held_at : {M : Type 0} → Kind M → At Channels → ℕ → Lists M
 held_at kind x k = kind.held (state_of (circuit_at x k).side)
 
--- An end, as it is seen on a channel: its present name, what it holds under it, and its book.
-pub record Desk (M : Type 0) : Type 0 where
+-- An end, as it is seen on a channel: its present name, what it holds under it, and its history.
+pub record ChannelView (M : Type 0) : Type 0 where
   pub name : Name
   pub held : Lists M
-  pub book : Name → Lists M
+  pub history : Name → Lists M
 
 abbrev pub written : {M : Type 0} → (Name → Lists M) → Name → Lists M → Name → Lists M
-written book n l m = if same_name m n then l else book m
+written history n l m = if same_name m n then l else history m
 
-abbrev pub desk : {M : Type 0} → Kind M → At Channels → ℕ → (Name → Lists M) → Desk M
-desk kind x k book = record { name = name_at kind x k; held = held_at kind x k; book = book }
+abbrev pub channel_view : {M : Type 0} → Kind M → At Channels → ℕ → (Name → Lists M) → ChannelView M
+channel_view kind x k history = record { name = name_at kind x k; held = held_at kind x k; history = history }
 
 abbrev pub IsPrefix : {T : Type 0} → List T → List T → Type 0
 IsPrefix {T} xs ys = (rest : List T) × (xs ++ rest ≡ ys)
 
--- two ends' books of one channel: what each holds is what stands under its present name, nothing stands under a later one,
+-- two ends' histories of one channel: what each holds is what stands under its present name, nothing stands under a later one,
 -- and under each name what either handed up is a beginning of what the other handed down
-pub record IsLawful {M : Type 0} (e f : Desk M) : Type 0 where
-  pub held : e.book e.name ≡ e.held
-  pub held_there : f.book f.name ≡ f.held
-  pub later : (m : Name) → IsEarlier e.name m → e.book m ≡ none
-  pub later_there : (m : Name) → IsEarlier f.name m → f.book m ≡ none
-  pub begins : (m : Name) → IsPrefix (e.book m).up (f.book m).down
-  pub begins_there : (m : Name) → IsPrefix (f.book m).up (e.book m).down
+pub record IsLawful {M : Type 0} (e f : ChannelView M) : Type 0 where
+  pub held : e.history e.name ≡ e.held
+  pub held_there : f.history f.name ≡ f.held
+  pub later : (m : Name) → IsEarlier e.name m → e.history m ≡ none
+  pub later_there : (m : Name) → IsEarlier f.name m → f.history m ≡ none
+  pub begins : (m : Name) → IsPrefix (e.history m).up (f.history m).down
+  pub begins_there : (m : Name) → IsPrefix (f.history m).up (e.history m).down
 
--- Two ends, with the book of each channel of either.
-pub record Ledger (M : Type 0) : Type 0 where
+-- Two ends, with the history of each channel of either.
+pub record Histories (M : Type 0) : Type 0 where
   pub pair : Pair
   pub near : ℕ → Name → Lists M
   pub far : ℕ → Name → Lists M
 
-abbrev pub turned_ledger : {M : Type 0} → Ledger M → Ledger M
-turned_ledger g = record { pair = turned g.pair; near = g.far; far = g.near }
+abbrev pub turned_histories : {M : Type 0} → Histories M → Histories M
+turned_histories g = record { pair = turned g.pair; near = g.far; far = g.near }
 
 -- the end that moves writes what it then holds under its name
-abbrev pub ledger_moves : {M : Type 0} → Kind M → Role → Ledger M → Move → Ledger M
-ledger_moves kind r g what =
+abbrev pub histories_moves : {M : Type 0} → Kind M → Role → Histories M → Move → Histories M
+histories_moves kind r g what =
     let pair = pair_moves r g.pair g.pair.near what in
     record { pair = pair; near = λ k. written (g.near k) (name_at kind (state_of pair.near) k) (held_at kind (state_of pair.near) k); far = g.far }
 
-abbrev pub ledger_happens : {M : Type 0} → Kind M → Ledger M → Event → Ledger M
-ledger_happens kind g e = if e.first then ledger_moves kind Dte g e.what else turned_ledger (ledger_moves kind Dce (turned_ledger g) e.what)
+abbrev pub histories_happens : {M : Type 0} → Kind M → Histories M → Event → Histories M
+histories_happens kind g e = if e.first then histories_moves kind Dte g e.what else turned_histories (histories_moves kind Dce (turned_histories g) e.what)
 
-abbrev pub ledger_run : {M : Type 0} → Kind M → List Event → Ledger M → Ledger M
-ledger_run kind [] g = g
-ledger_run kind (e ∷ es) g = ledger_run kind es (ledger_happens kind g e)
+abbrev pub histories_run : {M : Type 0} → Kind M → List Event → Histories M → Histories M
+histories_run kind [] g = g
+histories_run kind (e ∷ es) g = histories_run kind es (histories_happens kind g e)
 
-abbrev pub ledger_start : {M : Type 0} → Ledger M
-ledger_start = record { pair = pair_start; near = λ k n. none; far = λ k n. none }
+abbrev pub histories_start : {M : Type 0} → Histories M
+histories_start = record { pair = pair_start; near = λ k n. none; far = λ k n. none }
 
--- of a kind: in every run, the books of the two ends are lawful on each channel
+-- of a kind: in every run, the histories of the two ends are lawful on each channel
 abbrev pub AreInOrder : {M : Type 0} → Kind M → Type 0
 AreInOrder kind = (events : List Event) (k : ℕ) →
-    let g = ledger_run kind events ledger_start in
-    IsLawful (desk kind (state_of g.pair.near) k (g.near k)) (desk kind (state_of g.pair.far) k (g.far k))
+    let g = histories_run kind events histories_start in
+    IsLawful (channel_view kind (state_of g.pair.near) k (g.near k)) (channel_view kind (state_of g.pair.far) k (g.far k))

@@ -1,4 +1,4 @@
--- The two lists of a backlog, the packets sent and those that wait, as one.
+-- The two lists of a outgoing, the packets sent and those that wait, as one.
 use Rattle.std.proofs.Common.{◌≡◌, ℕ, ◌+◌, ◌%◌, ◌<◌, ◌≤◌, List, [], ◌∷◌, length, take, drop, slice_index_or, max, Bool, true, false, refl, sym, ap, ◌∙◌, arith}
 use Rattle.std.specs.Prelude.{nat_lt}
 use Rattle.std.proofs.lemmas.List.{length-take-le, take_more, drop_more, length-drop, get_or-take}
@@ -9,9 +9,9 @@ use Rattle.x25_frame.specs.PlainFrame.{info}
 use Rattle.x25_link.specs.declared.outgoing.Outgoing.{Outgoing as OutgoingCode}
 use Rattle.x25_link.specs.Outgoing.{moved_on as sent_on}
 use Rattle.x25_link.specs.Outgoing.{Outgoing, is_open, next_packet}
-use Rattle.x25_link.specs.Backlog.{FitsBacklog, sending_of}
+use Rattle.x25_link.specs.code.OutgoingHeld.{FitsOutgoing, sending_of}
 
-pub sent_length : (k : ℕ) (b : OutgoingCode) (o : Outgoing) → FitsBacklog k b o → length (take o.sent o.given) ≡ o.sent
+pub sent_length : (k : ℕ) (b : OutgoingCode) (o : Outgoing) → FitsOutgoing k b o → length (take o.sent o.given) ≡ o.sent
 sent_length k b o fits = length-take-le o.sent o.given fits.sent
 
 -- ---- a packet that was sent before
@@ -21,7 +21,7 @@ pub record Again (k : ℕ) (o : Outgoing) : Type 0 where
   pub open_is : is_open k o ≡ true
   pub packet : slice_index_or (take o.sent o.given) o.place [] ≡ next_packet o
 
-pub again_is : (k : ℕ) (b : OutgoingCode) (o : Outgoing) → FitsBacklog k b o → true ≡ nat_lt o.place (length (take o.sent o.given)) → Again k o
+pub again_is : (k : ℕ) (b : OutgoingCode) (o : Outgoing) → FitsOutgoing k b o → true ≡ nat_lt o.place (length (take o.sent o.given)) → Again k o
 again_is k b o fits test =
     let l = sent_length k b o fits in
     let below : o.place < length (take o.sent o.given) = ltb-true _ _ (sym test) in
@@ -33,25 +33,25 @@ again_is k b o fits test =
       packet = get_or-take o.sent o.given o.place [] (omega arith);
     }
 
-pub again_fits : (k : ℕ) (b : OutgoingCode) (h : Held (List ℕ)) (o : Outgoing) → FitsBacklog k b o → o.place < o.sent → Fits h (moved_on (sending_of k o))
-    → FitsBacklog k (record { sender = h; queue = b.queue }) (sent_on o)
+pub again_fits : (k : ℕ) (b : OutgoingCode) (h : Held (List ℕ)) (o : Outgoing) → FitsOutgoing k b o → o.place < o.sent → Fits h (moved_on (sending_of k o))
+    → FitsOutgoing k (record { sender = h; queue = b.queue }) (sent_on o)
 again_fits k b h o fits below sender =
     let same : max o.sent (o.place + 1) ≡ o.sent = omega arith in
     record { sender = rw same sender; queue = rw same (fits.queue); sent = rw same (fits.sent); few = fits.few }
 
 -- ---- all was sent: the place to send from is the number of the first packet that waits
 
-pub all_sent : (k : ℕ) (b : OutgoingCode) (o : Outgoing) → FitsBacklog k b o → false ≡ nat_lt o.place (length (take o.sent o.given)) → o.place ≡ o.sent
+pub all_sent : (k : ℕ) (b : OutgoingCode) (o : Outgoing) → FitsOutgoing k b o → false ≡ nat_lt o.place (length (take o.sent o.given)) → o.place ≡ o.sent
 all_sent k b o fits test =
     let l = sent_length k b o fits in
     let above = ltb-false _ _ (sym test) in
     let high = fits.sender.sound.place_high in
     omega arith
 
-pub same_fits : (k : ℕ) (b : OutgoingCode) (h : Held (List ℕ)) (o : Outgoing) → FitsBacklog k b o → Fits h (sending_of k o) → FitsBacklog k (record { sender = h; queue = b.queue }) o
+pub same_fits : (k : ℕ) (b : OutgoingCode) (h : Held (List ℕ)) (o : Outgoing) → FitsOutgoing k b o → Fits h (sending_of k o) → FitsOutgoing k (record { sender = h; queue = b.queue }) o
 same_fits k b h o fits sender = record { sender = sender; queue = fits.queue; sent = fits.sent; few = fits.few }
 
-pub empty_waits : (k : ℕ) (b : OutgoingCode) (o : Outgoing) → FitsBacklog k b o → b.queue ≡ [] → length o.given ≤ o.sent
+pub empty_waits : (k : ℕ) (b : OutgoingCode) (o : Outgoing) → FitsOutgoing k b o → b.queue ≡ [] → length o.given ≤ o.sent
 empty_waits k b o fits empty =
     let rest = ap length (sym fits.queue ∙ empty) in
     omega (arith, length-drop o.sent o.given)
@@ -63,7 +63,7 @@ pub record Next (o : Outgoing) (x : List ℕ) (rest : List (List ℕ)) : Type 0 
   pub packet : slice_index_or o.given o.sent [] ≡ x
   pub left : rest ≡ drop (o.sent + 1) o.given
 
-pub next_is : (k : ℕ) (b : OutgoingCode) (o : Outgoing) (x : List ℕ) (rest : List (List ℕ)) → FitsBacklog k b o → b.queue ≡ x ∷ rest → Next o x rest
+pub next_is : (k : ℕ) (b : OutgoingCode) (o : Outgoing) (x : List ℕ) (rest : List (List ℕ)) → FitsOutgoing k b o → b.queue ≡ x ∷ rest → Next o x rest
 next_is k b o x rest fits queue =
     let waits : drop o.sent o.given ≡ x ∷ rest = sym fits.queue ∙ queue in
     let some = ap length waits in
@@ -71,8 +71,8 @@ next_is k b o x rest fits queue =
     let split = drop_more o.given o.sent [] below in
     record { below = below; packet = cc; left = cc }
 
-pub new_fits : (k : ℕ) (b : OutgoingCode) (h : Held (List ℕ)) (o : Outgoing) (x : List ℕ) (rest : List (List ℕ)) → FitsBacklog k b o → o.place ≡ o.sent → Next o x rest → length rest ≤ 256
-    → Fits h (offered (sending_of k o) x) → FitsBacklog k (record { sender = h; queue = rest }) (sent_on o)
+pub new_fits : (k : ℕ) (b : OutgoingCode) (h : Held (List ℕ)) (o : Outgoing) (x : List ℕ) (rest : List (List ℕ)) → FitsOutgoing k b o → o.place ≡ o.sent → Next o x rest → length rest ≤ 256
+    → Fits h (offered (sending_of k o) x) → FitsOutgoing k (record { sender = h; queue = rest }) (sent_on o)
 new_fits k b h o x rest fits place next few sender =
     let l = sent_length k b o fits in
     let same : max o.sent (o.place + 1) ≡ o.sent + 1 = omega arith in
@@ -84,13 +84,13 @@ new_fits k b h o x rest fits place next few sender =
       few = few;
     })
 
-pub new_frame : (k : ℕ) (b : OutgoingCode) (o : Outgoing) (x : List ℕ) (rest : List (List ℕ)) (nr : ℕ) → FitsBacklog k b o → o.place ≡ o.sent → Next o x rest
+pub new_frame : (k : ℕ) (b : OutgoingCode) (o : Outgoing) (x : List ℕ) (rest : List (List ℕ)) (nr : ℕ) → FitsOutgoing k b o → o.place ≡ o.sent → Next o x rest
     → info (length (take o.sent o.given) % 8) nr false x ≡ info (o.place % 8) nr false (next_packet o)
 new_frame k b o x rest nr fits place next =
     let l = sent_length k b o fits in
     rw (l, place, next.packet) refl
 
-pub next_open : (k : ℕ) (b : OutgoingCode) (o : Outgoing) (x : List ℕ) (rest : List (List ℕ)) → FitsBacklog k b o → o.place ≡ o.sent → Next o x rest → o.sent < o.acked + k → is_open k o ≡ true
+pub next_open : (k : ℕ) (b : OutgoingCode) (o : Outgoing) (x : List ℕ) (rest : List (List ℕ)) → FitsOutgoing k b o → o.place ≡ o.sent → Next o x rest → o.sent < o.acked + k → is_open k o ≡ true
 next_open k b o x rest fits place next room =
     rw (lt-ltb o.place (o.acked + k) (omega arith), lt-ltb o.place (length o.given) (omega (arith, next.below))) refl
 
