@@ -32,4 +32,5 @@ pub mod BusyLines
 pub mod BusyPhases
 pub mod BusyRuns
 pub mod BusySessions
+pub mod BusyBoth
 pub mod sessions

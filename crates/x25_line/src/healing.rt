@@ -3,7 +3,7 @@
 ghost use Rattle.x25_line.specs.Healing.{RestShows, EachRestShows, OneFiringHeals, FarFiringHeals, OneFiringEnds, GoneEnds};
 ghost use Rattle.x25_line.specs.Healing.{BothFiringsHeal, TwoFiringsHeal, EachRestsOrIsOut, Heals, SessionsHeal, EachSessionRestsOrIsOut, DeliveriesEnd, SomeHeal, BothLostMayHeal};
 ghost use Rattle.x25_line.specs.Healing.{DrainsEnd, SomeDrain, SessionsDrainEnd, SomeSessionsDrain, OneBusyHeals, SomeBusyHeal, SessionsHealBusy, HealsUnlessBothBusy, SessionsHealUnlessBothBusy};
-ghost use Rattle.x25_line.specs.rows.HealingRows.{NoFiringIsTooFew, OneFiringIsTooFew, NoTriesAreLeft, FiringsAloneEnd};
+ghost use Rattle.x25_line.specs.rows.HealingRows.{NoFiringIsTooFew, OneFiringIsTooFew, NoTriesAreLeft, FiringsAloneEnd, BothBusyStay};
 ghost use Rattle.x25_line.specs.laws.SessionClaims.{Throughout};
 
 use x25_frame::reads_what_is_spelled;
@@ -125,12 +125,14 @@ pub fn drains_end()
 
 /// What isn't so, each with its shortest script. Where a packet of each end was lost, nothing arrives without a firing (`none`), and by one
 /// firing in all that of one end alone (`one`). With no tries left the firing ends the link (`last`), and so do N2 + 1 firings with no
-/// delivery between them, though nothing was lost (`alone`).
+/// delivery between them, though nothing was lost (`alone`). Where both ends are busy, nothing is ever handed up, however often both fire
+/// and all comes (`busy`).
 pub fn healing_takes_firings()
     ensures none { NoFiringIsTooFew }
     ensures one { OneFiringIsTooFew }
     ensures last { NoTriesAreLeft }
     ensures alone { FiringsAloneEnd }
+    ensures busy { BothBusyStay }
 {
     reads_what_is_spelled();
 }
