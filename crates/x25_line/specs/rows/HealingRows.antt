@@ -1,11 +1,11 @@
--- What isn't so of healing, each with its shortest script, and of two busy ends by every one.
-use Rattle.std.specs.Prelude.{◌≡◌, true, List, [], ◌∷◌}
-use Rattle.x25_link.specs.declared.phase.Phase.TheVariants.{Down}
+-- What isn't so of healing, each with its shortest script, and of two busy ends by every one; and moments with one busy end.
+use Rattle.std.specs.Prelude.{◌≡◌, ℕ, zero, suc, true, List, [], ◌∷◌, ◌++◌}
+use Rattle.x25_link.specs.declared.phase.Phase.TheVariants.{Down, Waiting, Up}
 use Rattle.x25_link.specs.LinkStation.{Settings, is_up, is_busy}
 use Rattle.x25_link.specs.Steps.{timer_runs}
-use Rattle.x25_line.specs.Stations.{StationEnd, Stations, Act, Put, Deliver, T1, Lose, Event, Near, Far, run, start}
+use Rattle.x25_line.specs.Stations.{StationEnd, Stations, Act, Put, Deliver, T1, Connect, Abandon, Lose, Event, Near, Far, run, start}
 use Rattle.x25_line.specs.laws.StationClaims.{AreJoined}
-use Rattle.x25_line.specs.Healing.{IsDrained, both_lost}
+use Rattle.x25_line.specs.Healing.{IsDrained, IsQuietMoment, both_lost}
 use Rattle.x25_line.specs.rows.StationRows.{dte, dce}
 
 -- The packet of each end was lost. Without a firing nothing arrives, as nothing is on the line.
@@ -66,3 +66,39 @@ abbrev pub BothBusyStay : Type 0
 BothBusyStay =
     (c d : Settings) → AreJoined c d → (w : Stations) → IsDrained w → IsUpAndBusy w.near → IsUpAndBusy w.far
     → (events : List Event) → AreFiringsAndDeliveries events → HandNothingUp w (run c d events w)
+
+-- There is such a moment: the window is one frame, 256 packets are handed down at each end, and the frame that each sends is lost.
+abbrev pub narrow_dte : Settings
+narrow_dte = record dte { window = 1 }
+
+abbrev pub narrow_dce : Settings
+narrow_dce = record dce { window = 1 }
+
+abbrev pub many : (Act → Event) → ℕ → List Event
+many at zero = []
+many at (suc n) = at (Put (5 ∷ [])) ∷ many at n
+
+abbrev pub BothBusyIsReached : Type 0
+BothBusyIsReached =
+    let w = run narrow_dte narrow_dce (many Near 256 ++ many Far 256 ++ Far (Lose 0) ∷ Near (Lose 0) ∷ []) start in
+    IsDrained w × IsUpAndBusy w.near × IsUpAndBusy w.far × (w.near.up ≡ []) × (w.far.up ≡ [])
+
+-- ---- one busy end
+
+-- the near end has 255 packets that wait, and the one that it sent was lost
+abbrev pub busy_near : List Event
+busy_near = many Near 256 ++ Far (Lose 0) ∷ []
+
+-- The other end has left Up; or has left and asks for set-up, and its SABM was lost; or it is Up, and the busy end has made its only try.
+abbrev pub OneBusyIsReached : Type 0
+OneBusyIsReached =
+    (let events = busy_near ++ Far Abandon ∷ [] in
+    let w = run narrow_dte narrow_dce events start in
+    IsQuietMoment narrow_dte narrow_dce events × IsUpAndBusy w.near × (w.far.station.phase ≡ Down))
+    × (let events = busy_near ++ Far Abandon ∷ Far Connect ∷ Near (Lose 0) ∷ [] in
+    let w = run narrow_dte narrow_dce events start in
+    IsQuietMoment narrow_dte narrow_dce events × IsUpAndBusy w.near × (w.far.station.phase ≡ Waiting))
+    × (let c : Settings = record narrow_dte { retries = 1 } in
+    let events = busy_near ++ Near T1 ∷ Far (Lose 0) ∷ [] in
+    let w = run c narrow_dce events start in
+    IsQuietMoment c narrow_dce events × IsUpAndBusy w.near × (w.near.station.tries ≡ 1) × (w.far.station.phase ≡ Up))

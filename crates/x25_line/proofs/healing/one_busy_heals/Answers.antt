@@ -2,6 +2,7 @@ use Rattle.x25_line.proofs.HealingSteps.{HealingLaws}
 use Rattle.x25_link.specs.laws.BusyLaw.{BusyLaws}
 use Rattle.x25_line.proofs.BusyRuns.{one_busy_heals, some_busy_heal, heals_unless_both_busy}
 use Rattle.x25_line.proofs.BusySessions.{sessions_heal_busy, sessions_heal_unless_both_busy}
+use Rattle.x25_line.proofs.rows.HealingRowLemmas.{one_busy_is_reached}
 use Rattle.x25_line.proofs.healing.one_busy_heals.Goals as goal
 
 pub returns : goal.returns
@@ -33,4 +34,5 @@ returns c =
       whatever = heals_unless_both_busy reads laws busy_laws;
       sessions = sessions_heal_busy reads laws busy_laws;
       each_session = sessions_heal_unless_both_busy reads laws busy_laws;
+      reached = one_busy_is_reached;
     }
