@@ -9,6 +9,7 @@ pub mod LayersRelation
 pub mod TextLemmas
 pub mod LineLemmas
 pub mod PartLemmas
+pub mod ToldLemmas
 pub mod StretchLemmas
 pub mod TransferLemmas
 pub mod CallLemmas
