@@ -23,4 +23,5 @@ pub mod StretchKindLemmas
 pub mod CallKindLemmas
 pub mod LawLemmas
 pub mod ArrivalLemmas
+pub mod DrainedLemmas
 mod CallRun
