@@ -1,5 +1,5 @@
 -- Where nothing is on the way, a stretch that is open at one end is open at the other, and all that either told is known.
-use Rattle.std.proofs.Common.{◌≡◌, ◌⊎◌, inl, inr, ℕ, ◌+◌, ◌%◌, ◌<◌, ◌≤◌, List, [], ◌∷◌, ◌++◌, length, Option, Some, None, Bool, true, false, nat_lt, if◌then◌else◌, refl, sym, ap, subst, ◌∙◌, arith}
+use Rattle.std.proofs.Common.{◌≡◌, ◌⊎◌, inl, inr, ℕ, ◌+◌, ◌%◌, ◌≤◌, List, [], ◌∷◌, ◌++◌, length, Some, Bool, true, false, nat_lt, if◌then◌else◌, refl, sym, ap, subst, ◌∙◌, arith}
 use Rattle.std.proofs.lemmas.Bool.{true≢false, lt-ltb}
 use Rattle.x25_circuit.specs.Messages.{Piece}
 use Rattle.x25_bits.specs.declared.role.Role.{Role}
@@ -7,7 +7,7 @@ use Rattle.x25_bits.specs.declared.role.Role.TheVariants.{Dte, Dce}
 use Rattle.x25_circuit.specs.Params.{Terms}
 use Rattle.x25_circuit.specs.Notices.{CallRequest}
 use Rattle.x25_handshakes.specs.Handshake.{Side, Live, Left, At, state_of}
-use Rattle.x25_handshakes.specs.Stretch.{Packet, Data, Stretch, StretchStep, Pull, stretch_does, pulls}
+use Rattle.x25_handshakes.specs.Stretch.{Data, Stretch, StretchStep, Pull, stretch_does, pulls}
 use Rattle.x25_handshakes.specs.Transfer.{Inside, d1, lifted}
 use Rattle.x25_handshakes.specs.Calls.{Phase, Unused, Waiting, Offered, Crossed, Talking, Connection, Talks, in_transfer}
 use Rattle.x25_handshakes.specs.Channel.{Within, live, lifted_call, channel_acts}
