@@ -115,7 +115,7 @@ one_lessens link c h low high s = room (nat_lt (link.waits s.put) 8)
     room true = given (pulled c.circuit (s.layer.circuits h)).packet refl
     room false = inl refl
 
-lessens_then : (c : LayerSettings) (s s₂ s₃ : Putting) → Lessens c s s₂ → Lessens c s₂ s₃ → Lessens c s s₃
+pub lessens_then : (c : LayerSettings) (s s₂ s₃ : Putting) → Lessens c s s₂ → Lessens c s₂ s₃ → Lessens c s s₃
 lessens_then c s s₂ s₃ (inl p) (inl q) = inl (q ∙ p)
 lessens_then c s s₂ s₃ (inl p) (inr q) = inr (let l = ap (λ (t : Putting). left c t) p in omega (arith, q, l))
 lessens_then c s s₂ s₃ (inr p) (inl q) = inr (let l = ap (λ (t : Putting). left c t) q in omega (arith, p, l))

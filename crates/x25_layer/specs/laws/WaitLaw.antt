@@ -3,8 +3,8 @@ use Rattle.std.specs.Prelude.{◌≡◌, ◌<◌, Bool, ℕ, [], None, true, fal
 use Rattle.x25_bits.specs.declared.role.Role.TheVariants.{Dte, Dce}
 use Rattle.x25_circuit.specs.Circuit.{is_open, waits}
 use Rattle.x25_layer.specs.Layer.{LayerSettings, Layer, is_channel}
-use Rattle.x25_layer.specs.Calls.{layer_pulled}
-use Rattle.x25_layer.specs.Rounds.{LinkView, Putting, rounds}
+use Rattle.x25_layer.specs.Calls.{PullsAll, layer_pulled}
+use Rattle.x25_layer.specs.Rounds.{LinkView, Putting, rounds, Went, calls}
 use Rattle.x25_layer.specs.Transcript.{name_of}
 use Rattle.x25_layer.specs.TwoLayers.{End, TwoLayers, settings_of}
 use Rattle.x25_layer.specs.laws.Law.{HasAllOf}
@@ -16,6 +16,10 @@ PullsNone c l = (k : ℕ) → is_channel c.channels k ≡ true → (layer_pulled
 -- behind the rounds, where the link has room
 abbrev pub RoundsLeaveNone : Type 0
 RoundsLeaveNone = (link : LinkView) (c : LayerSettings) (s : Putting) → link.waits (rounds link c s).put < 8 → PullsNone c (rounds link c s).layer
+
+-- .. and where the pull of all leaves the layer as it was, in a link that has room
+abbrev pub StillPullsNone : Type 0
+StillPullsNone = (link : LinkView) (c : LayerSettings) (l : Layer) (s : Putting) → calls link c l PullsAll ≡ Went s → s.layer ≡ l → link.waits [] < 8 → PullsNone c l
 
 -- both links are up, and nothing is in flight
 pub record IsDrained (w : TwoLayers) : Type 0 where

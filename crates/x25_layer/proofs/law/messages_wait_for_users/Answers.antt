@@ -2,7 +2,7 @@ use Rattle.std.proofs.Common.{ℕ, Bool}
 use Rattle.x25_layer.specs.laws.Law.{Always}
 use Rattle.x25_layer.specs.laws.WaitLaw.{WaitForUsersAlone}
 use Rattle.x25_layer.proofs.RunLemmas.{Premises}
-use Rattle.x25_layer.proofs.LeftLemmas.{rounds_leave_none}
+use Rattle.x25_layer.proofs.LeftLemmas.{rounds_leave_none, still_pulls_none}
 use Rattle.x25_layer.proofs.WaitLemmas.{always_waits}
 use Rattle.x25_layer.proofs.ApartLemmas.{always_apart}
 use Rattle.x25_layer.proofs.law.messages_wait_for_users.Goals as goal
@@ -23,6 +23,9 @@ wait c = always_waits (known c) c.drained_ends_know.ensures.known
 
 pub returns-clause-left : goal.returns-clause-left
 returns-clause-left c = rounds_leave_none
+
+pub returns-clause-still : goal.returns-clause-still
+returns-clause-still c = still_pulls_none
 
 pub returns-clause-waits : goal.returns-clause-waits
 returns-clause-waits c = wait c
