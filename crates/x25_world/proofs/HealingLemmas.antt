@@ -1,5 +1,5 @@
 -- What rest shows at a world of two stations; and how its two links heal, while the layers put nothing.
-use Rattle.std.proofs.Common.{◌≡◌, ℕ, ◌+◌, List, [], ◌∷◌, ◌++◌, map, Bool, true, false, ◌&&◌, if◌then◌else◌, Option, Some, None, refl, sym, ap, ◌∙◌, subst, nat_lt}
+use Rattle.std.proofs.Common.{◌≡◌, ℕ, ◌+◌, List, [], ◌∷◌, ◌++◌, map, Bool, true, false, ◌&&◌, if◌then◌else◌, Option, Some, None, refl, sym, ap, ◌∙◌, subst, nat_lt, suc, length, ◌≤◌, inl}
 use Rattle.std.specs.Prelude.{◌==◌}
 use Rattle.std.proofs.lemmas.Bool.{eq-eqb}
 use Rattle.x25_bits.specs.declared.role.Role.{Role}
@@ -7,11 +7,9 @@ use Rattle.x25_bits.specs.declared.role.Role.TheVariants.{Dte, Dce}
 use Rattle.x25_frame.specs.Spelling.{spelling_of}
 use Rattle.x25_packet.specs.PlainPacket.{PlainPacket}
 use Rattle.x25_link.specs.declared.error.LinkError.{LinkError}
-use Rattle.x25_link.specs.declared.phase.Phase.{Phase}
-use Rattle.x25_link.specs.declared.phase.Phase.TheVariants.{Down, Waiting, Up, Closed}
 use Rattle.x25_link.specs.declared.phase.Reason.{Reason}
 use Rattle.x25_link.specs.declared.phase.Reason.TheVariants.{Retries}
-use Rattle.x25_link.specs.LinkStation.{Settings as LinkSettings, LinkStation, with_near, is_up, is_busy, awaits_ua}
+use Rattle.x25_link.specs.LinkStation.{Settings as LinkSettings, LinkStation, with_near, is_up, awaits_ua}
 use Rattle.x25_link.specs.MustSend.{Step as LinkStep, other, quiet, leaves}
 use Rattle.x25_link.specs.Steps.{alone, closed_by, asks_again, take_step, timer_step, timer_refusal, timer_runs, abandon_step}
 use Rattle.x25_link.specs.Steps as link
@@ -22,7 +20,7 @@ use Rattle.x25_line.specs.Sessions.{Meeting, Sessions, from_nothing, sent_in, be
 use Rattle.x25_line.specs.SessionNumbers.{standing_run, standing_at}
 use Rattle.x25_line.specs.laws.SessionClaims as claims
 use Rattle.x25_line.specs.laws.SessionClaims.{octets_of}
-use Rattle.x25_line.specs.Healing.{AreDeliveries, EachRestShows, SessionHasTries, OneIsFree, IsFreeSessionIfUp, AllSessionsHeal, SessionsAreHealed, EachSessionRestsOrIsOut, SessionsHealBusy}
+use Rattle.x25_line.specs.Healing.{AreDeliveries, EachRestShows, SessionHasTries, OneIsFree, EachSessionHeals, SessionsHealUnlessBothBusy, FindsIn, EachFindsIn, SessionsDrainEnd}
 use Rattle.x25_layer.specs.Layer.{LayerSettings, Layer}
 use Rattle.x25_layer.specs.Rounds.{LinkView}
 use Rattle.x25_layer.specs.code.FitsLayer.{waits_up_to}
@@ -34,16 +32,17 @@ use Rattle.x25_station.specs.Station.{all_put, view_of}
 use Rattle.x25_station.specs.Steps.{follows, layer_at, unless, fires}
 use Rattle.x25_station.specs.laws.KeepLaw.{ConnectKeeps}
 use Rattle.x25_station.specs.Told.{stretch}
-use Rattle.x25_world.specs.World.{World, swapped, WorldOutcome, Happened, Declined, swapped_back, Receives, acts, delivered, fired, of_station, is_on_line, after, after_step, happens, run}
+use Rattle.x25_world.specs.World.{World, swapped, WorldOutcome, Happened, Declined, swapped_back, Receives, acts, delivered, fired, of_station, is_on_line, after, after_step, happens, refusal_of, run, AreAccepted}
 use Rattle.x25_world.specs.declared.error.WorldError.TheVariants as error
 use Rattle.x25_world.specs.laws.Claims.{link_of, station_at}
 use Rattle.x25_world.specs.laws.LawsBelow.{SessionLaws}
 use Rattle.x25_world.specs.laws.SessionClaims.{Throughout, AllArrive}
 use Rattle.x25_world.specs.WindowGoes.{at_end}
 use Rattle.x25_world.specs.Sessions.{last_session, handed_in}
-use Rattle.x25_world.specs.Healing.{IsDrained, receipt, all_received, firing, AreLinksOf, StopsAtRest, RestShows, PutsNothing, PutsNothingAt, NonePut, HasTries, RestsOrIsOut, Heals, HealsWhereNonePut}
-use Rattle.x25_world.proofs.Known.{IsConfigured, is_configured}
+use Rattle.x25_world.specs.Healing.{IsDrained, receipt, all_received, firing, AreLinksOf, StopsAtRest, RestShows, PutsNothing, PutsNothingAt, NonePut, HasTries, RestsOrIsOut, Heals, MayHeal, HealsWhereNonePut, DrainsWhereNonePut}
+use Rattle.x25_world.proofs.Known.{IsConfigured, is_configured, links_joined}
 use Rattle.x25_world.proofs.OneLink.{octets_append, octets_sent}
+use Rattle.x25_world.proofs.WorldLemmas.{refusal-swapped}
 use Rattle.x25_world.proofs.sessions.SessionReaches.{both_down, known_sessions}
 use Rattle.x25_world.proofs.sessions.SessionJoined.{SessionsJoined}
 use Rattle.x25_world.proofs.sessions.SessionRuns.{throughout_joined}
@@ -168,16 +167,10 @@ deliveries_timely c d [] v = tt
 deliveries_timely c d (Dte ∷ ends) v = (tt, deliveries_timely c d ends (links.happens c d (line.Near line.Deliver) v))
 deliveries_timely c d (Dce ∷ ends) v = (tt, deliveries_timely c d ends (links.happens c d (line.Far line.Deliver) v))
 
-up_awaits_none : (p : Phase) → is_up p ≡ true → awaits_ua p ≡ false
-up_awaits_none Up is = refl
-up_awaits_none Down is = absurd (cc)
-up_awaits_none Waiting is = absurd (cc)
-up_awaits_none Closed is = absurd (cc)
-
-up_timely : (c d : LinkSettings) (v : Sessions) → is_up v.near.station.phase ≡ true → IsTimely c d line.T1 v
-up_timely c d v up = λ waiting. absurd (never (sym (ap is_up waiting) ∙ up))
+off_timely : (c d : LinkSettings) (v : Sessions) → awaits_ua v.near.station.phase ≡ false → IsTimely c d line.T1 v
+off_timely c d v off = λ waiting. absurd (never (sym (ap awaits_ua waiting) ∙ off))
   where
-    never : false ≡ true → ⊥
+    never : true ≡ false → ⊥
     never e = cc
 
 -- its firing changes nothing of the other end
@@ -189,17 +182,17 @@ fires_alone c v = by (timer_refusal v.near.station)
     by None = refl
 
 -- both fire
-both_alike : (cfg : Cfg) (w : World) (v : Sessions) → Alike w v → is_up w.near.link.phase ≡ true → is_up w.far.link.phase ≡ true
+both_alike : (cfg : Cfg) (w : World) (v : Sessions) → Alike w v → awaits_ua w.near.link.phase ≡ false → awaits_ua w.far.link.phase ≡ false
     → Alike (run cfg (firing Dte ∷ firing Dce ∷ []) w) (links.run (c_of cfg) (d_of cfg) (line.Near line.T1 ∷ line.Far line.T1 ∷ []) v)
-both_alike cfg w v h near_up far_up =
+both_alike cfg w v h near_off far_off =
     let v1 = links.acts (c_of cfg) line.T1 v in
     let w1 = after w (fired (settings_from Dte cfg) w) in
-    let h1 : Alike w1 v1 = fired_alike (settings_from Dte cfg) w v h (up_awaits_none w.near.link.phase near_up) in
+    let h1 : Alike w1 v1 = fired_alike (settings_from Dte cfg) w v h near_off in
     let same : w1.far.link ≡ w.far.link = sym h1.far ∙ ap (λ (e : links.SessionEnd). e.station) (fires_alone (c_of cfg) v) ∙ h.far in
     let o = fired (settings_from Dce cfg) (swapped w1) in
     let x = links.acts (d_of cfg) line.T1 (links.swapped v1) in
     subst (λ (z : World). Alike z (links.swapped x)) (sym (back_after w1 o))
-    (turned (after (swapped w1) o) x (fired_alike (settings_from Dce cfg) (swapped w1) (links.swapped v1) (turned w1 v1 h1) (up_awaits_none w1.far.link.phase (ap (λ (s : LinkStation). is_up s.phase) same ∙ far_up))))
+    (turned (after (swapped w1) o) x (fired_alike (settings_from Dce cfg) (swapped w1) (links.swapped v1) (turned w1 v1 h1) (ap (λ (s : LinkStation). awaits_ua s.phase) same ∙ far_off)))
 
 none_of : (es : List links.Entry) → octets_of es ≡ [] → es ≡ []
 none_of [] is = refl
@@ -207,6 +200,31 @@ none_of (e ∷ es) is = absurd (never is)
   where
     never : e.octets ∷ octets_of es ≡ [] → ⊥
     never k = cc
+
+received_length : (ends : List Role) → length (received ends) ≡ length ends
+received_length [] = refl
+received_length (at ∷ ends) = ap suc (received_length ends)
+
+-- where a delivery is accepted it finds octets
+
+some_there : (c : Settings) (w : World) (back : List (List ℕ)) → refusal_of (delivered c w back) ≡ None → back ≡ [] → ⊥
+some_there c w [] accepted none = cc
+some_there c w (octets ∷ back) accepted none = cc
+
+finds : (cfg : Cfg) (at : Role) (w : World) (v : Sessions) → Alike w v → refusal_of (happens cfg w (receipt at)) ≡ None → FindsIn (at_end at line.Deliver) v
+finds cfg Dte w v h accepted = λ none. some_there (settings_from Dte cfg) w w.back accepted (sym h.back ∙ ap octets_of none)
+finds cfg Dce w v h accepted = λ none.
+    some_there (settings_from Dce cfg) (swapped w) w.out (sym (refusal-swapped (acts (settings_from Dce cfg) (swapped w) Receives)) ∙ accepted) (sym h.out ∙ ap octets_of none)
+
+each_finds : (cfg : Cfg) (ends : List Role) (w : World) (v : Sessions) → Alike w v → NonePut cfg ends w → AreAccepted cfg (all_received ends) w → EachFindsIn (c_of cfg) (d_of cfg) (received ends) v
+each_finds cfg [] w v h none accepted = tt
+each_finds cfg (at ∷ ends) w v h none accepted = (
+  finds cfg at w v h accepted.0,
+  each_finds cfg ends (after w (happens cfg w (receipt at))) (links.happens (c_of cfg) (d_of cfg) (at_end at line.Deliver) v) (receipt_alike cfg at w v h none.0) none.1 accepted.1,
+)
+
+joined_alike : (cfg : Cfg) (w : World) (h : SessionsJoined both_down cfg Dte w) → Alike w h.links
+joined_alike cfg w h = record { near = h.near.link; far = h.far.link; out = h.out; back = h.back }
 
 -- ---- the laws
 
@@ -253,8 +271,7 @@ module _ (laws : SessionLaws) (keeps : ConnectKeeps) where
           arrive cfg fine begin is events octets end channel name
           (idle (link.is_idle (station_at end w).link) (waits_up_to (station_at end w).layer.circuits cfg.channels == 0) (at_rest end up stopped).idle (eq-eqb (waits_up_to (station_at end w).layer.circuits cfg.channels) 0 none)) here there
 
-  module _ (busy : SessionsHealBusy) (each : EachSessionRestsOrIsOut) (cfg : Cfg) (fine : IsConfigured cfg) (w : World) (h : SessionsJoined both_down cfg Dte w) (drained : IsDrained w)
-      (near_up : is_up w.near.link.phase ≡ true) (far_up : is_up w.far.link.phase ≡ true) (ends : List Role) where
+  module _ (law : SessionsHealUnlessBothBusy) (cfg : Cfg) (fine : IsConfigured cfg) (w : World) (h : SessionsJoined both_down cfg Dte w) (may : MayHeal w) (ends : List Role) where
     abbrev c : LinkSettings
     c = c_of cfg
 
@@ -264,28 +281,20 @@ module _ (laws : SessionLaws) (keeps : ConnectKeeps) where
     abbrev fired_then : List line.Event
     fired_then = line.Near line.T1 ∷ line.Far line.T1 ∷ received ends
 
-    first : Alike w h.links
-    first = record { near = h.near.link; far = h.far.link; out = h.out; back = h.back }
-
     -- the links behind
     abbrev gone : Sessions
     gone = links.run c d fired_then h.links
 
     last : NonePut cfg ends (run cfg (firing Dte ∷ firing Dce ∷ []) w) → Alike (run cfg (all_received ends) (run cfg (firing Dte ∷ firing Dce ∷ []) w)) gone
     last none =
-        all_alike cfg ends (run cfg (firing Dte ∷ firing Dce ∷ []) w) (links.run c d (line.Near line.T1 ∷ line.Far line.T1 ∷ []) h.links) (both_alike cfg w h.links first near_up far_up) none
-
-    near_on : is_up h.links.near.station.phase ≡ true
-    near_on = ap (λ (s : LinkStation). is_up s.phase) h.near.link ∙ near_up
-
-    far_on : is_up h.links.far.station.phase ≡ true
-    far_on = ap (λ (s : LinkStation). is_up s.phase) h.far.link ∙ far_up
+        all_alike cfg ends (run cfg (firing Dte ∷ firing Dce ∷ []) w) (links.run c d (line.Near line.T1 ∷ line.Far line.T1 ∷ []) h.links) (both_alike cfg w h.links (joined_alike cfg w h) may.near may.far) none
 
     timely : AreTimely c d fired_then h.links
     timely = (
-      up_timely c d h.links near_on,
+      off_timely c d h.links (ap (λ (s : LinkStation). awaits_ua s.phase) h.near.link ∙ may.near),
       (
-        up_timely d c (links.swapped (links.acts c line.T1 h.links)) (ap (λ (e : links.SessionEnd). is_up e.station.phase) (fires_alone c h.links) ∙ far_on),
+        off_timely d c (links.swapped (links.acts c line.T1 h.links))
+            (ap (λ (e : links.SessionEnd). awaits_ua e.station.phase) (fires_alone c h.links) ∙ ap (λ (s : LinkStation). awaits_ua s.phase) h.far.link ∙ may.far),
         deliveries_timely c d ends (links.run c d (line.Near line.T1 ∷ line.Far line.T1 ∷ []) h.links),
       ),
     )
@@ -305,53 +314,59 @@ module _ (laws : SessionLaws) (keeps : ConnectKeeps) where
       },
     )
 
-    abbrev HealsBusy : LinkSettings → LinkSettings → Sessions → Type 0
-    HealsBusy c d x =
-        x.out ≡ [] → x.back ≡ [] → SessionHasTries c x.near → SessionHasTries d x.far → OneIsFree x.near.station x.far.station
+    abbrev HealsOnce : LinkSettings → LinkSettings → Sessions → Type 0
+    HealsOnce c d x =
+        x.out ≡ [] → x.back ≡ [] → OneIsFree x.near.station x.far.station
         → (deliveries : List line.Event) → AreDeliveries deliveries
-        → (let v = links.run c d (line.Near line.T1 ∷ line.Far line.T1 ∷ deliveries) x in v.out ≡ [] → v.back ≡ [] → SessionsAreHealed x v)
+        → (let v = links.run c d (line.Near line.T1 ∷ line.Far line.T1 ∷ deliveries) x in v.out ≡ [] → v.back ≡ [] → EachSessionHeals c d x v)
 
-    abbrev EachRests : LinkSettings → LinkSettings → Sessions → Type 0
-    EachRests c d x =
-        x.out ≡ [] → x.back ≡ [] → IsFreeSessionIfUp x.near → IsFreeSessionIfUp x.far
-        → (deliveries : List line.Event) → AreDeliveries deliveries
-        → (let v = links.run c d (line.Near line.T1 ∷ line.Far line.T1 ∷ deliveries) x in v.out ≡ [] → v.back ≡ [] → AllSessionsHeal c d x v)
-
-    healed : (u : World) → Alike u gone → IsDrained u → OneIsFree w.near.link w.far.link → HasTries cfg w.near.link → HasTries cfg w.far.link → SessionsAreHealed h.links gone
-    healed u alike after_all free near_tries far_tries =
-        known_sessions HealsBusy busy cfg fine Dte h.links h.reach (none_of h.links.out (h.out ∙ drained.out)) (none_of h.links.back (h.back ∙ drained.back))
-        (record { up = near_on; tries = subst (HasTries cfg) (sym h.near.link) near_tries }) (record { up = far_on; tries = subst (HasTries cfg) (sym h.far.link) far_tries })
-        (subst (λ (s : LinkStation). OneIsFree s h.links.far.station) (sym h.near.link) (subst (λ (s : LinkStation). OneIsFree w.near.link s) (sym h.far.link) free))
+    each : (u : World) → Alike u gone → IsDrained u → EachSessionHeals c d h.links gone
+    each u alike after_all =
+        known_sessions HealsOnce law cfg fine Dte h.links h.reach (none_of h.links.out (h.out ∙ may.drained.out)) (none_of h.links.back (h.back ∙ may.drained.back))
+        (subst (λ (s : LinkStation). OneIsFree s h.links.far.station) (sym h.near.link) (subst (λ (s : LinkStation). OneIsFree w.near.link s) (sym h.far.link) may.free))
         (received ends) (are_deliveries ends) (none_of gone.out (alike.out ∙ after_all.out)) (none_of gone.back (alike.back ∙ after_all.back))
 
-    rested : (u : World) → Alike u gone → IsDrained u → is_busy w.near.link ≡ false → is_busy w.far.link ≡ false → AllSessionsHeal c d h.links gone
-    rested u alike after_all near_free far_free =
-        known_sessions EachRests each cfg fine Dte h.links h.reach (none_of h.links.out (h.out ∙ drained.out)) (none_of h.links.back (h.back ∙ drained.back))
-        (λ up. ap is_busy h.near.link ∙ near_free) (λ up. ap is_busy h.far.link ∙ far_free)
-        (received ends) (are_deliveries ends) (none_of gone.out (alike.out ∙ after_all.out)) (none_of gone.back (alike.back ∙ after_all.back))
+    near_may : is_up w.near.link.phase ≡ true → HasTries cfg w.near.link → SessionHasTries c h.links.near
+    near_may up tries = record { up = ap (λ (s : LinkStation). is_up s.phase) h.near.link ∙ up; tries = subst (HasTries cfg) (sym h.near.link) tries }
+
+    far_may : is_up w.far.link.phase ≡ true → HasTries cfg w.far.link → SessionHasTries d h.links.far
+    far_may up tries = record { up = ap (λ (s : LinkStation). is_up s.phase) h.far.link ∙ up; tries = subst (HasTries cfg) (sym h.far.link) tries }
 
     heals_at : (u : World) → Alike u gone → IsDrained u → Heals cfg w u
-    heals_at u alike after_all = record {
-      rests = λ near_free far_free.
-          let r = rested u alike after_all near_free far_free in
-          (subst RestsOrIsOut alike.near r.near, subst RestsOrIsOut alike.far r.far);
-      heals = λ free near_tries far_tries.
-          let r = healed u alike after_all free near_tries far_tries in
-          record {
-            dte = subst IsAtRest alike.near r.near_rest;
-            dce = subst IsAtRest alike.far r.far_rest;
-            before = h.links;
-            behind = gone;
-            before_are = links_are cfg w h;
-            behind_are = gone_are u alike;
-            healed = r;
-          };
-    }
+    heals_at u alike after_all =
+        let r = each u alike after_all in
+        record {
+          dte = subst RestsOrIsOut alike.near r.near;
+          dce = subst RestsOrIsOut alike.far r.far;
+          healed = λ near_up far_up near_tries far_tries.
+              let healed = r.healed (near_may near_up near_tries) (far_may far_up far_tries) in
+              record {
+                dte = subst IsAtRest alike.near healed.near_rest;
+                dce = subst IsAtRest alike.far healed.far_rest;
+                before = h.links;
+                behind = gone;
+                before_are = links_are cfg w h;
+                behind_are = gone_are u alike;
+                healed = healed;
+              };
+        }
 
-  pub heals_where : SessionsHealBusy → EachSessionRestsOrIsOut → Throughout HealsWhereNonePut
-  heals_where busy each cfg fine begin is events octets drained near_up far_up ends none after_all =
+  pub heals_where : SessionsHealUnlessBothBusy → Throughout HealsWhereNonePut
+  heals_where law cfg fine begin is events octets may ends none after_all =
       let w = run cfg events begin in
       let configured = is_configured cfg fine in
       let h : SessionsJoined both_down cfg Dte w = throughout_joined laws keeps cfg fine begin is events octets in
-      heals_at busy each cfg configured w h drained near_up far_up ends (run cfg (all_received ends) (run cfg (firing Dte ∷ firing Dce ∷ []) w))
-      (last busy each cfg configured w h drained near_up far_up ends none) after_all
+      heals_at law cfg configured w h may ends (run cfg (all_received ends) (run cfg (firing Dte ∷ firing Dce ∷ []) w)) (last law cfg configured w h may ends none) after_all
+
+  -- ---- deliveries come to an end
+
+  pub drains_where : SessionsDrainEnd → Throughout DrainsWhereNonePut
+  drains_where law cfg fine begin is events octets =
+      let w = run cfg events begin in
+      let h : SessionsJoined both_down cfg Dte w = throughout_joined laws keeps cfg fine begin is events octets in
+      let bound = law (c_of cfg) (d_of cfg) (links_joined cfg (is_configured cfg fine)) from_nothing (inl refl) h.reach.events in (
+        bound.0,
+        λ ends none accepted.
+            subst (λ (n : ℕ). n ≤ bound.0) (received_length ends)
+            (bound.1 (received ends) (are_deliveries ends) (subst (λ (x : Sessions). EachFindsIn (c_of cfg) (d_of cfg) (received ends) x) (sym h.reach.run) (each_finds cfg ends w h.links (joined_alike cfg w h) none accepted))),
+      )

@@ -300,7 +300,7 @@ ends_so cfg w =
 
 pub heals_from : Throughout HealsWhereNonePut → (cfg : Cfg) → config_refusal cfg ≡ None → (from : World) → IsBeginning cfg from → (past : List Event) → AreInOctets past
     → (let w = run cfg past from in HealsFrom cfg w (run cfg (past ++ healing cfg w) from))
-heals_from law cfg fine from begins past octets drained near_up far_up none after_all =
+heals_from law cfg fine from begins past octets may none after_all =
     let w = run cfg past from in
     let v = drained_at cfg w in
     let fired = run cfg (firing Dte ∷ firing Dce ∷ []) v in
@@ -309,4 +309,4 @@ heals_from law cfg fine from begins past octets drained near_up far_up none afte
     let here : HealsWhereNonePut cfg v =
     subst (HealsWhereNonePut cfg) (run_append cfg past (deliveries cfg w) from)
     (law cfg fine from begins (past ++ deliveries cfg w) (octets_append past (deliveries cfg w) octets (received_octets (arrivals cfg most_deliveries w)))) in
-    subst (Heals cfg v) (sym same) (here drained near_up far_up ends none (subst IsDrained same after_all))
+    subst (Heals cfg v) (sym same) (here may ends none (subst IsDrained same after_all))

@@ -1,10 +1,10 @@
 -- Healing of two stations: once the line is good for a moment, what their links were handed down arrives. What is on the line arrives; timer T1
 -- runs out once at each end where it runs; and then all that is on the line arrives, while nothing is lost.
-use Rattle.std.specs.Prelude.{◌≡◌, ℕ, zero, suc, ◌+◌, ◌<◌, ◌⊎◌, true, false, List, [], ◌∷◌, ◌++◌, Option, Some, None}
+use Rattle.std.specs.Prelude.{◌≡◌, ℕ, zero, suc, ◌+◌, ◌<◌, ◌≤◌, length, ◌⊎◌, true, false, List, [], ◌∷◌, ◌++◌, Option, Some, None}
 use Rattle.x25_bits.specs.declared.role.Role.{Role}
 use Rattle.x25_bits.specs.declared.role.Role.TheVariants.{Dte, Dce}
 use Rattle.x25_link.specs.MustSend.{other}
-use Rattle.x25_link.specs.LinkStation.{LinkStation, is_up, is_busy}
+use Rattle.x25_link.specs.LinkStation.{LinkStation, is_up, awaits_ua}
 use Rattle.x25_link.specs.Steps.{timer_runs, take_step}
 use Rattle.x25_link.specs.laws.RestLaw.{IsAtRest}
 use Rattle.x25_line.specs.Sessions.{Sessions}
@@ -18,7 +18,7 @@ use Rattle.x25_station.specs.Settings.{Settings, settings_from, link_settings, l
 use Rattle.x25_station.specs.Station.{Station, view_of}
 use Rattle.x25_station.specs.Steps.{abandons, layer_at}
 use Rattle.x25_station.specs.Told.{stretch}
-use Rattle.x25_world.specs.World.{World, WorldOutcome, Happened, Declined, Act, Event, Receives, Fires, happens, after, run}
+use Rattle.x25_world.specs.World.{World, WorldOutcome, Happened, Declined, Act, Event, Receives, Fires, happens, after, run, AreAccepted}
 use Rattle.x25_world.specs.laws.Claims.{link_of, station_at}
 use Rattle.x25_world.specs.SessionWindow.{IsRunOfSessions}
 use Rattle.x25_world.specs.Sessions.{last_session, handed_in}
@@ -158,22 +158,34 @@ pub record IsHealed (cfg : Cfg) (w u : World) : Type 0 where
   pub behind_are : AreLinksOf cfg u behind
   pub healed : SessionsAreHealed before behind
 
--- Nothing is on the line, and both links are up. Timer T1 runs out at each end where it runs, and then all that is on the line comes, in any order of the
--- two directions, while the layers put nothing. Where no end is busy, each is at rest then, or its link isn't up; and where at most one is busy, and both
--- have tries left, both are at rest, and all has arrived.
+-- Each link is at rest, or not up. If both were up, and timer T1 had run out fewer than N2 times where it ran, both are at rest, and all has arrived.
 pub record Heals (cfg : Cfg) (w u : World) : Type 0 where
-  pub rests : is_busy w.near.link ≡ false → is_busy w.far.link ≡ false → RestsOrIsOut u.near.link × RestsOrIsOut u.far.link
-  pub heals : OneIsFree w.near.link w.far.link → HasTries cfg w.near.link → HasTries cfg w.far.link → IsHealed cfg w u
+  pub dte : RestsOrIsOut u.near.link
+  pub dce : RestsOrIsOut u.far.link
+  pub healed : is_up w.near.link.phase ≡ true → is_up w.far.link.phase ≡ true → HasTries cfg w.near.link → HasTries cfg w.far.link → IsHealed cfg w u
 
+-- a moment in which nothing is on the line, no link is being set up, and not both ends are busy
+pub record MayHeal (w : World) : Type 0 where
+  pub drained : IsDrained w
+  pub near : awaits_ua w.near.link.phase ≡ false
+  pub far : awaits_ua w.far.link.phase ≡ false
+  pub free : OneIsFree w.near.link w.far.link
+
+-- From such a moment timer T1 runs out at each end where it runs, and then all that is on the line comes, in any order of the two directions, while the
+-- layers put nothing.
 abbrev pub HealsWhereNonePut : Cfg → World → Type 0
 HealsWhereNonePut cfg w =
-    IsDrained w → is_up w.near.link.phase ≡ true → is_up w.far.link.phase ≡ true → (ends : List Role)
+    MayHeal w → (ends : List Role)
     → (let fired = run cfg (firing Dte ∷ firing Dce ∷ []) w in NonePut cfg ends fired → (let u = run cfg (all_received ends) fired in IsDrained u → Heals cfg w u))
 
--- Of the schedule from a world: once all that was on the line has come, and both links are up, it heals, where the layers put nothing behind the firings,
--- and all has come.
+-- The world bounds how many deliveries follow one another, whatever their order, while the layers put nothing.
+abbrev pub DrainsWhereNonePut : Cfg → World → Type 0
+DrainsWhereNonePut cfg w = (most : ℕ) × ((ends : List Role) → NonePut cfg ends w → AreAccepted cfg (all_received ends) w → length ends ≤ most)
+
+-- Of the schedule from a world: from the moment in which all that was on the line has come, it heals, where the layers put nothing behind the firings, and
+-- all has come.
 abbrev pub HealsFrom : Cfg → World → World → Type 0
 HealsFrom cfg w u =
     let v = run cfg (deliveries cfg w) w in
     let fired = run cfg (firing Dte ∷ firing Dce ∷ []) v in
-    IsDrained v → is_up v.near.link.phase ≡ true → is_up v.far.link.phase ≡ true → NonePut cfg (arrivals cfg most_deliveries fired) fired → IsDrained u → Heals cfg v u
+    MayHeal v → NonePut cfg (arrivals cfg most_deliveries fired) fired → IsDrained u → Heals cfg v u

@@ -6,14 +6,14 @@ ghost use Rattle.x25_world.specs.World as definition;
 ghost use Rattle.x25_world.specs.code.FitsWorld.{Gone, FitsWorld};
 ghost use Rattle.x25_world.specs.code.FitsHealing.{GoesBy, GoesPartly, HoldsHealed};
 ghost use Rattle.x25_world.specs.laws.SessionClaims.{Throughout, SessionsKeepOrder};
-ghost use Rattle.x25_world.specs.Healing.{RestShows, HealsWhereNonePut, HealsFrom, next_end, arrivals, most_deliveries, deliveries, if_accepted, firing, healing, received_in};
+ghost use Rattle.x25_world.specs.Healing.{RestShows, HealsWhereNonePut, DrainsWhereNonePut, HealsFrom, next_end, arrivals, most_deliveries, deliveries, if_accepted, firing, healing, received_in};
 
 use crate::error::WorldError;
 use crate::event::Event;
 use crate::law::{laws_below, stations_meet_in_sessions};
 use crate::world::World;
 use x25_bits::Role;
-use x25_line::{Direction, one_busy_heals, rest_shows, two_firings_heal};
+use x25_line::{Direction, drains_end, one_busy_heals, rest_shows};
 
 /// How many deliveries follow one another at most.
 const MOST_DELIVERIES: u32 = 4_294_967_295;
@@ -23,20 +23,22 @@ const MOST_DELIVERIES: u32 = 4_294_967_295;
 /// - `rest`: an end whose link is up and whose timer T1 doesn't run is at rest, whatever is on the line, and all that its link was handed down in its
 ///   session has been handed up at the other end. Where no message waits in a circuit of it, all that was sent on a stretch that is open at both ends has
 ///   arrived.
-/// - `heals`: from a moment in which nothing is on the line and both links are up, timer T1 runs out at each end where it runs, and then all that is on
-///   the line comes, in any order of the two directions, while the layers put nothing. Where no end is busy, each is at rest then, or its link isn't up.
-///   Where one is busy at most, and both have tries left, both are at rest, and all that their links were handed down has been handed up.
+/// - `heals`: from a moment in which nothing is on the line, no link is being set up and not both ends are busy, timer T1 runs out at each end where it
+///   runs, and then all that is on the line comes, in any order of the two directions, while the layers put nothing. Each link is at rest then, or isn't up;
+///   and if both were up, with tries left where T1 ran, both are at rest, and all that they were handed down has been handed up.
+/// - `drains`: the world bounds how many deliveries follow one another, while the layers put nothing.
 ///
 /// Premises: k is 1 to 7, N2 1 to 255, channels 1 to 16, and the users hand down octets.
 pub fn stations_heal()
     ensures rest { Throughout RestShows }
     ensures heals { Throughout HealsWhereNonePut }
+    ensures drains { Throughout DrainsWhereNonePut }
 {
     laws_below();
     stations_meet_in_sessions();
     rest_shows();
-    two_firings_heal();
     one_busy_heals();
+    drains_end();
 }
 
 impl World {
