@@ -1,5 +1,5 @@
 -- Where both links are idle, and a pull at the one end changes nothing, what waits in an open stretch there waits for the user at the other end.
-use Rattle.std.proofs.Common.{◌≡◌, ℕ, ◌+◌, ◌<◌, ◌≤◌, inl, inr, List, [], ◌++◌, length, Bool, true, false, Option, Some, None, if◌then◌else◌, ◌==◌, ◌&&◌, refl, sym, ap, subst, ◌∙◌, arith, length-append}
+use Rattle.std.proofs.Common.{◌≡◌, ℕ, ◌+◌, ◌<◌, ◌≤◌, inl, inr, List, [], ◌∷◌, ◌++◌, length, Bool, true, false, Option, Some, None, if◌then◌else◌, ◌==◌, ◌&&◌, refl, sym, ap, subst, ◌∙◌, arith, length-append}
 use Rattle.std.proofs.lemmas.List.{length-map}
 use Rattle.std.proofs.lemmas.Bool.{eqb-true}
 use Rattle.x25_bits.specs.declared.role.Role.{Role}
@@ -53,7 +53,7 @@ idle_has_room s idle =
     let none = eqb-true (outgoing.waits s.outgoing) 0 (both_true (outgoing.waits s.outgoing == 0) (s.outgoing.acked == s.outgoing.sent) (both_true (is_up s.phase) (outgoing.waits s.outgoing == 0 && s.outgoing.acked == s.outgoing.sent) idle).1).0 in
     omega (arith, none)
 
-layer_after : Layer → WorldOutcome → Layer
+abbrev layer_after : Layer → WorldOutcome → Layer
 layer_after l (Happened w) = w.near.layer
 layer_after l (Declined e) = l
 
