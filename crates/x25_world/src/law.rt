@@ -17,8 +17,8 @@ use x25_line::{each_session_event_hands_one, links_keep_order, sessions_keep_ord
 use x25_link::{notes_what_changes, sets_up_by_rows};
 use x25_station::{Cmd, puts_are_readable, steps_are_joined, steps_keep_bounds};
 
-// What the laws of the links, the layers and the stations say, which the next two laws rest on.
-fn laws_below()
+/// What the laws of the links, the layers and the stations say, which the laws of a world rest on.
+pub(crate) fn laws_below()
     ensures { SessionLaws }
 {
     sessions_keep_order();

@@ -141,7 +141,7 @@ module _ (laws : SessionLaws) (waits_law : LayersWait) (still_law : StillPullsNo
       let order = met_in_order cfg end h.trace h.links.met n m h.pairs stands.has_met in
       let none = had_nothing still_law (settings_from end cfg) w idle still in
       let what = own_waits laws waits_law cfg end n m h.trace order at.out at_there.out (as_many taker.taken giver.given all) (as_many giver.taken taker.given all_back)
-          (subst (λ (l : Layer). PullsNone (layer_of cfg end) l) (sym at.layer) none) k shown.channel in
+      (subst (λ (l : Layer). PullsNone (layer_of cfg end) l) (sym at.layer) none) k shown.channel in
       shows at.layer at_there.layer shown.channel shown.opened shown.named what near_session.entries far_session.entries
     where
       n : ℕ
