@@ -24,17 +24,17 @@ use Rattle.x25_handshakes.proofs.ClaimLemmas.{open_stretch}
 use Rattle.x25_handshakes.proofs.TextLemmas.{joining-append}
 
 -- an end of which the stretch x is open on channel k
-record Opened (s : Side (At Channels)) (k : ℕ) (x : Stretch) : Type 0 where
-  restarts : ℕ
-  channels : Channels
-  clears : ℕ
-  resets : ℕ
-  sends : Terms
-  takes : Terms
-  made : List CallRequest
-  indicated : List CallRequest
-  end : s ≡ Live (ready restarts channels)
-  circuit : channels k ≡ live clears (record { phase = Talking sends takes (d1 resets x); made = made; indicated = indicated })
+pub record Opened (s : Side (At Channels)) (k : ℕ) (x : Stretch) : Type 0 where
+  pub restarts : ℕ
+  pub channels : Channels
+  pub clears : ℕ
+  pub resets : ℕ
+  pub sends : Terms
+  pub takes : Terms
+  pub made : List CallRequest
+  pub indicated : List CallRequest
+  pub end : s ≡ Live (ready restarts channels)
+  pub circuit : channels k ≡ live clears (record { phase = Talking sends takes (d1 resets x); made = made; indicated = indicated })
 
 in_transfer : (at : At Stretch) (x : Stretch) → open_in at.side ≡ Some x → at ≡ d1 at.epoch x
 in_transfer at x is = ap (λ (s : Side Stretch). record { epoch = at.epoch; side = s }) (side at.side is)
@@ -56,7 +56,7 @@ in_phase (Waiting p) x is = absurd (none-some x is)
 in_phase (Offered p) x is = absurd (none-some x is)
 in_phase (Crossed p) x is = absurd (none-some x is)
 
-opened : (s : Side (At Channels)) (k : ℕ) (x : Stretch) → open_at s k ≡ Some x → Opened s k x
+pub opened : (s : Side (At Channels)) (k : ℕ) (x : Stretch) → open_at s k ≡ Some x → Opened s k x
 opened (Left z) k x is = absurd (none-some x is)
 opened (Live z) k x is = ends z.epoch z.side is
   where
@@ -83,7 +83,7 @@ opened (Live z) k x is = ends z.epoch z.side is
     ends e (Left y) is_open = absurd (none-some x is_open)
 
 -- its name
-name_opened : (s : Side (At Channels)) (k : ℕ) (x : Stretch) (o : Opened s k x) → name_at messages (state_of s) k ≡ record { restarts = o.restarts; clears = o.clears; resets = o.resets }
+pub name_opened : (s : Side (At Channels)) (k : ℕ) (x : Stretch) (o : Opened s k x) → name_at messages (state_of s) k ≡ record { restarts = o.restarts; clears = o.clears; resets = o.resets }
 name_opened s k x o =
     ap (λ (z : Side (At Channels)). name_at messages (state_of z) k) o.end
     ∙ ap (λ (c : At Connection). record { restarts = o.restarts; clears = c.epoch; resets = messages.resets (state_of c.side) }) o.circuit

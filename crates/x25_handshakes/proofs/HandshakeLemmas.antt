@@ -58,7 +58,7 @@ past_confirm : {P : Type 0} (mark : P → Mark) (c : P) → mark c ≡ Confirm �
 past_confirm {P} mark c is [] ends = subst (λ (m : Mark). kept_past {P = P} m [] [] ≡ []) (sym is) refl
 past_confirm mark c is (p ∷ L) ends = past_step (mark p) L (L ++ c ∷ []) (Ends mark false L) (past mark (L ++ c ∷ [])) ends (λ e. past_confirm mark c is L e)
 
-cons≢nil : {P : Type 0} (p : P) (K : List P) → p ∷ K ≡ [] → ⊥
+pub cons≢nil : {P : Type 0} (p : P) (K : List P) → p ∷ K ≡ [] → ⊥
 cons≢nil p K e = subst (λ (l : List _). elim l as (λ _. Type 0) [ [] ↦ ⊥ | q ∷ r ↦ Unit {0} ]) e tt
 
 -- the front of a line is a request: its sender has left, and nothing is behind

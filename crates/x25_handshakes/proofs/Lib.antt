@@ -9,6 +9,7 @@ pub mod LayersRelation
 pub mod TextLemmas
 pub mod LineLemmas
 pub mod PartLemmas
+pub mod ToldLemmas
 pub mod StretchLemmas
 pub mod TransferLemmas
 pub mod CallLemmas
@@ -22,4 +23,5 @@ pub mod StretchKindLemmas
 pub mod CallKindLemmas
 pub mod LawLemmas
 pub mod ArrivalLemmas
+pub mod DrainedLemmas
 mod CallRun

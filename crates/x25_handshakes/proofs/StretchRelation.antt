@@ -114,9 +114,36 @@ pub record Direction (t : Terms) (x : Stretch) (u v : List Packet) (y : Stretch)
   pub up : y.up ≡ carried y.taken
   pub kinds : AllInFlowControl u
 
+pub record DirectionsRelated (t b : Terms) (x : Stretch) (u v : List Packet) (y : Stretch) : Type 0 where
+  pub there : Direction t x u v y
+  pub back : Direction b y v u x
+
+-- a step that is no error, and keeps both directions
+pub record GoodDirections (t b : Terms) (s : StretchStep) (u v : List Packet) (y : Stretch) : Type 0 where
+  pub quiet : s.error ≡ None
+  pub kept : DirectionsRelated t b s.next (u ++ s.out) v y
+
+-- whether the other end is ready, once this packet has come
+abbrev pub readied : Bool → Packet → Bool
+readied b (Rr r) = true
+readied b (Rnr r) = false
+readied b other = b
+
+-- .. and once all of the line has
+abbrev pub all_readied : Bool → List Packet → Bool
+all_readied b [] = b
+all_readied b (p ∷ v) = all_readied (readied b p) v
+
+-- Once all of v has come, x knows how far y has taken, and whether y is ready: each is told as soon as it changes.
+pub record Told (x : Stretch) (v : List Packet) (y : Stretch) : Type 0 where
+  pub acks : heard x.acked v ≡ length y.taken
+  pub ready : all_readied x.peer_ready v ≡ y.own_ready
+
 pub record StretchesRelated (t b : Terms) (x : Stretch) (u v : List Packet) (y : Stretch) : Type 0 where
   pub there : Direction t x u v y
   pub back : Direction b y v u x
+  pub told : Told x v y
+  pub told_back : Told y u x
 
 -- a step that is no error, and keeps the relation
 pub record GoodStretch (t b : Terms) (s : StretchStep) (u v : List Packet) (y : Stretch) : Type 0 where

@@ -12,13 +12,14 @@ pub record Laws : Type 0 where
   pub answer : AnswerIsAllowed
   pub terms : TermsAreAllowed
 
--- of one direction: at most seven packets unacknowledged, and at least one octet in a packet
+-- of one direction: one to seven packets unacknowledged, and at least one octet in a packet
 pub record IsSound (t : Terms) : Type 0 where
+  pub least : 1 ≤ t.window
   pub window : t.window ≤ 7
   pub size : 1 ≤ t.size
 
 sound : (t : Terms) → AreTerms t → IsSound t
-sound t h = record { window = h.window_most; size = let least = h.size_least in omega arith }
+sound t h = record { least = h.window_least; window = h.window_most; size = let least = h.size_least in omega arith }
 
 -- of what each end sends
 pub record AreSound (q : Params) : Type 0 where

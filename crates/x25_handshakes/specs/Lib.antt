@@ -7,3 +7,4 @@ pub mod Layers
 pub mod Names
 pub mod Histories
 pub mod Arrivals
+pub mod Drained

@@ -2,6 +2,7 @@ ghost use Rattle.std.specs.Prelude.{◌≡◌, List, None};
 ghost use Rattle.x25_handshakes.specs.Layers.{Event, pair_run, pair_start};
 ghost use Rattle.x25_handshakes.specs.Histories.{messages, interrupts, calls, AreInOrder};
 ghost use Rattle.x25_handshakes.specs.Arrivals.{AllArrives};
+ghost use Rattle.x25_handshakes.specs.Drained.{AllIsKnown};
 
 /// Two packet layers over lines that keep order, each end out at any moment, and any calls of their users, with the packet sizes
 /// and windows that each call proposes and its acceptance answers (ITU-T X.25 (10/96), section 6.12):
@@ -14,6 +15,15 @@ pub fn keeps_order()
     ensures interrupts { AreInOrder interrupts }
     ensures calls { AreInOrder calls }
     ensures arrived { AllArrives }
+{
+    x25_circuit::values_are_agreed();
+}
+
+/// The same two layers, where nothing is on the way between them and both links are up: a stretch that is open at one end is open at
+/// the other, all data packets that were sent in it are acknowledged, and each end knows whether the user of the other is ready (ITU-T
+/// X.25 (10/96), section 4.4.1.5). So where a pull sends no data packet, none waits or that user isn't ready.
+pub fn drained_ends_know()
+    ensures known { AllIsKnown }
 {
     x25_circuit::values_are_agreed();
 }

@@ -5,4 +5,4 @@
 
 mod law;
 
-pub use law::keeps_order;
+pub use law::{drained_ends_know, keeps_order};

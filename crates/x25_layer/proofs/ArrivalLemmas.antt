@@ -62,15 +62,15 @@ open_circuit a x is = side x.epoch x.side is
     side e (Left c) opened = absurd (false_true opened)
 
 -- .. of an end
-record OpenEnd (e : End) (s : Side (At Channels)) (k : ℕ) : Type 0 where
-  stretch : Stretch
-  opened : open_at s k ≡ Some stretch
-  no_more : waits (e.layer.circuits k) ≡ wholes stretch.rest
-  named : name_of e.layer k ≡ name_at messages (state_of s) k
-  messages_held : held_at messages (state_of s) k ≡ record { down = stretch.down; up = stretch.up }
-  interrupts_held : held_at interrupts (state_of s) k ≡ record { down = stretch.int_down; up = stretch.int_up }
+pub record OpenEnd (e : End) (s : Side (At Channels)) (k : ℕ) : Type 0 where
+  pub stretch : Stretch
+  pub opened : open_at s k ≡ Some stretch
+  pub no_more : waits (e.layer.circuits k) ≡ wholes stretch.rest
+  pub named : name_of e.layer k ≡ name_at messages (state_of s) k
+  pub messages_held : held_at messages (state_of s) k ≡ record { down = stretch.down; up = stretch.up }
+  pub interrupts_held : held_at interrupts (state_of s) k ≡ record { down = stretch.int_down; up = stretch.int_up }
 
-open_end : (e : End) (s : Side (At Channels)) (k : ℕ) → SeesEnd e s → is_open (e.layer.circuits k) ≡ true → OpenEnd e s k
+pub open_end : (e : End) (s : Side (At Channels)) (k : ℕ) → SeesEnd e s → is_open (e.layer.circuits k) ≡ true → OpenEnd e s k
 open_end e (Left z) k sees opened = absurd (false_true (sym (ap (λ (l : Layer). is_open (l.circuits k)) sees.1) ∙ opened))
 open_end e (Live z) k sees opened = ready z.epoch z.side sees.1.restarts sees.1.circuits
   where

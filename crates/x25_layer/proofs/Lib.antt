@@ -24,3 +24,5 @@ pub mod NameLemmas
 pub mod CountLemmas
 pub mod ApartLemmas
 pub mod FirstLemmas
+pub mod WaitLemmas
+pub mod LeftLemmas

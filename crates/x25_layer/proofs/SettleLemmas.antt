@@ -92,13 +92,13 @@ backlog_put f h y (suc n) low high = test (λ small. backlog_put f h y n low sma
 
 -- ---- a step gives nothing, or leaves fewer to be sent
 
-abbrev left : LayerSettings → Putting → ℕ
+abbrev pub left : LayerSettings → Putting → ℕ
 left c s = backlog s.layer.circuits c.channels
 
-abbrev Lessens : LayerSettings → Putting → Putting → Type 0
+abbrev pub Lessens : LayerSettings → Putting → Putting → Type 0
 Lessens c s s₂ = (s₂ ≡ s) ⊎ (left c s₂ < left c s)
 
-one_lessens : (link : LinkView) (c : LayerSettings) (h : ℕ) → 1 ≤ h → h ≤ c.channels → (s : Putting) → Lessens c s (pull_one link c h s)
+pub one_lessens : (link : LinkView) (c : LayerSettings) (h : ℕ) → 1 ≤ h → h ≤ c.channels → (s : Putting) → Lessens c s (pull_one link c h s)
 one_lessens link c h low high s = room (nat_lt (link.waits s.put) 8)
   where
     y : Circuit
@@ -115,13 +115,13 @@ one_lessens link c h low high s = room (nat_lt (link.waits s.put) 8)
     room true = given (pulled c.circuit (s.layer.circuits h)).packet refl
     room false = inl refl
 
-lessens_then : (c : LayerSettings) (s s₂ s₃ : Putting) → Lessens c s s₂ → Lessens c s₂ s₃ → Lessens c s s₃
+pub lessens_then : (c : LayerSettings) (s s₂ s₃ : Putting) → Lessens c s s₂ → Lessens c s₂ s₃ → Lessens c s s₃
 lessens_then c s s₂ s₃ (inl p) (inl q) = inl (q ∙ p)
 lessens_then c s s₂ s₃ (inl p) (inr q) = inr (let l = ap (λ (t : Putting). left c t) p in omega (arith, q, l))
 lessens_then c s s₂ s₃ (inr p) (inl q) = inr (let l = ap (λ (t : Putting). left c t) q in omega (arith, p, l))
 lessens_then c s s₂ s₃ (inr p) (inr q) = inr (omega (arith, p, q))
 
-round_lessens : (link : LinkView) (c : LayerSettings) (n : ℕ) → n ≤ c.channels → (s : Putting) → Lessens c s (round link c n s)
+pub round_lessens : (link : LinkView) (c : LayerSettings) (n : ℕ) → n ≤ c.channels → (s : Putting) → Lessens c s (round link c n s)
 round_lessens link c zero low s = inl refl
 round_lessens link c (suc n) low s =
     lessens_then c s (round link c n s) (round link c (suc n) s) (round_lessens link c n (let e : n ≤ c.channels = omega (arith, low) in e) s)

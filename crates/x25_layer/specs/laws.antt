@@ -3,3 +3,4 @@ pub mod Law
 pub mod RoundLaw
 pub mod NameLaw
 pub mod ApartLaw
+pub mod WaitLaw

@@ -14,13 +14,13 @@ use Rattle.x25_link.specs.laws.BusyLaw.{BusyLaws}
 use Rattle.x25_link.proofs.EndLemmas.{busy_is}
 use Rattle.x25_line.specs.Stations.{StationEnd, Stations, Act, Put, Deliver, T1, Connect, Disconnect, Abandon, Lose, Damage, Event, Near, Far, acts, swapped, happens, run, start}
 use Rattle.x25_line.specs.laws.StationClaims.{AreJoined, IsSetUpOnce}
-use Rattle.x25_line.specs.Healing.{IsDrained, IsDeliver, AreDeliveries, IsHealed, HasTries, OneIsFree, OneBusyHeals, SomeBusyHeal}
+use Rattle.x25_line.specs.Healing.{IsDrained, IsDeliver, AreDeliveries, IsHealed, HasTries, OneIsFree, OneBusyHeals, SomeBusyHeal, HealsUnlessBothBusy}
 use Rattle.x25_line.proofs.StationSteps.{not_both}
 use Rattle.x25_line.proofs.StationRuns.{joined_swapped}
 use Rattle.x25_line.proofs.HealingLines.{Reads, reads_none, Reports}
 use Rattle.x25_line.proofs.HealingSteps.{HealingLaws, Sound, sound_swapped, near_up, counted}
 use Rattle.x25_line.proofs.HealingRuns.{reached_sound, arrives, shows_at_rest, refused, SentPoll, sends_poll}
-use Rattle.x25_line.proofs.HealingEnds.{after_firings}
+use Rattle.x25_line.proofs.HealingEnds.{after_firings, quiet_ends}
 use Rattle.x25_line.proofs.DrainRuns.{some_drain}
 use Rattle.x25_line.proofs.BusyLines.{Onward, AtMostAsks, hears_busy, Told}
 use Rattle.x25_line.proofs.BusyPhases.{Pair, pair_swapped, Heals, near_heals, far_heals}
@@ -312,3 +312,11 @@ module _ (reads : ReadsSpelled) (laws : HealingLaws) (busy_laws : BusyLaws) wher
       let after : IsDrained (run c d some.0 v) = subst (λ (z : Stations). IsDrained (run c d some.0 z)) same some.2 in
       let healed = one_busy_heals c d joined events quiet near_may far_may free some.0 some.1 after in
       (some.0, some.1, (after, healed.0, healed.1))
+
+  -- whatever the ends are
+  pub heals_unless_both_busy : HealsUnlessBothBusy
+  heals_unless_both_busy c d joined events quiet free es are after =
+      let w : Stations = run c d events start in
+      let heal = λ (near : HasTries c w.near). λ (far : HasTries d w.far). one_busy_heals c d joined events quiet near far free es are after in
+      let each = quiet_ends reads laws c d joined events quiet es are after (λ near far. (inl (heal near far).0.rest, inl (heal near far).1.rest)) in
+      record { near = each.0; far = each.1; healed = heal }

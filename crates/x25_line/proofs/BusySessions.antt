@@ -4,9 +4,11 @@ use Rattle.x25_frame.specs.laws.ReadingLaw.{ReadsSpelled}
 use Rattle.x25_link.specs.LinkStation.{LinkStation, is_up, is_busy}
 use Rattle.x25_link.specs.Steps.{timer_runs}
 use Rattle.x25_link.specs.laws.BusyLaw.{BusyLaws}
-use Rattle.x25_line.specs.Healing.{HasTries, OneIsFree, SessionsHealBusy}
+use Rattle.x25_line.specs.Sessions.{Sessions, run}
+use Rattle.x25_line.specs.Healing.{HasTries, SessionHasTries, OneIsFree, SessionsHealBusy, SessionsHealUnlessBothBusy}
 use Rattle.x25_line.proofs.HealingSteps.{HealingLaws}
 use Rattle.x25_line.proofs.HealingStands.{sessions_rest}
+use Rattle.x25_line.proofs.HealingSessionEnds.{session_ends}
 use Rattle.x25_line.proofs.BusyRuns.{settled}
 
 module _ (reads : ReadsSpelled) (laws : HealingLaws) (busy_laws : BusyLaws) where
@@ -24,3 +26,11 @@ module _ (reads : ReadsSpelled) (laws : HealingLaws) (busy_laws : BusyLaws) wher
       let one : OneIsFree v.near.station v.far.station = elim free [ inl f ↦ inl (ap is_busy near ∙ f) | inr f ↦ inr (ap is_busy far ∙ f) ] in
       let rest = settled reads laws busy_laws c d joined v sound drained near_tries far_tries one es are after in
       record { near = rest.near.rest; far = rest.far.rest; once = rest.once })
+
+  -- whatever the ends are
+  pub sessions_heal_unless_both_busy : SessionsHealUnlessBothBusy
+  sessions_heal_unless_both_busy c d joined begin is events timely no_out no_back free es are out_after back_after =
+      let w : Sessions = run c d events begin in
+      let heal = λ (near : SessionHasTries c w.near). λ (far : SessionHasTries d w.far). sessions_heal_busy c d joined begin is events timely no_out no_back near far free es are out_after back_after in
+      let each = session_ends reads laws c d joined begin is events timely no_out no_back es are out_after back_after heal in
+      record { near = each.0; far = each.1; healed = heal }

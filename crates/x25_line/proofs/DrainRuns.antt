@@ -143,7 +143,7 @@ heap back c d w =
 abbrev to_change : Settings → Settings → Stations → ℕ
 to_change c d w = changes w.near.station + changes w.far.station + 2 * asks_on (other d.role) d.longest w.out + 2 * asks_on (other c.role) c.longest w.back
 
-abbrev at_most : ℕ → Settings → Settings → Stations → ℕ
+abbrev pub at_most : ℕ → Settings → Settings → Stations → ℕ
 at_most back c d w = most back (to_change c d w) (heap back c d w)
 
 most_swapped : (back : ℕ) (c d : Settings) (w : Stations) → at_most back d c (swapped w) ≡ at_most back c d w
@@ -381,7 +381,7 @@ module _ (laws : HealingLaws) (c d : Settings) (joined : AreJoined c d) where
     far_within = within_act d c (joined_swapped c d joined) a (swapped w) fit.far_place fit.far_within;
   }
 
-  fit_run : (es : List Event) (w : Stations) → BothSaid laws c d w → Fit c d w → Fit c d (run c d es w)
+  pub fit_run : (es : List Event) (w : Stations) → BothSaid laws c d w → Fit c d w → Fit c d (run c d es w)
   fit_run [] w said fit = fit
   fit_run (e ∷ es) w said fit =
       let more = said_run laws c d joined (e ∷ []) w said in
@@ -393,10 +393,10 @@ module _ (laws : HealingLaws) (c d : Settings) (joined : AreJoined c d) where
 
 -- ---- the laws
 
-abbrev back_of : Stations → ℕ
+abbrev pub back_of : Stations → ℕ
 back_of w = 4 * (length w.near.station.outgoing.given + length w.far.station.outgoing.given) + 2
 
-enough_for : (w : Stations) → Enough (back_of w) w
+pub enough_for : (w : Stations) → Enough (back_of w) w
 enough_for w = record { near = omega arith; far = omega arith }
 
 pub drains_end : ReadsSpelled → HealingLaws → DrainsEnd

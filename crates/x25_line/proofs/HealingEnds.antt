@@ -3,7 +3,7 @@ use Rattle.std.proofs.Common.{◌≡◌, List, [], ◌∷◌, ◌++◌, ◌⊎�
 use Rattle.std.specs.Prelude.{nat_lt}
 use Rattle.std.proofs.lemmas.Bool.{ltb-true}
 use Rattle.x25_bits.specs.declared.role.Role.{Role}
-use Rattle.x25_frame.specs.PlainFrame.{PlainFrame, rr, sabm}
+use Rattle.x25_frame.specs.PlainFrame.{PlainFrame, sabm}
 use Rattle.x25_frame.specs.Spelling.{spelling_of}
 use Rattle.x25_frame.specs.laws.ReadingLaw.{ReadsSpelled}
 use Rattle.x25_link.specs.declared.phase.Phase.{Phase}
@@ -18,17 +18,17 @@ use Rattle.x25_link.specs.laws.WindowLaw.{IsSound, Follows, IsOut}
 use Rattle.x25_link.specs.laws.RestLaw.{HasSaidAll, IsAtRest}
 use Rattle.x25_link.specs.laws.AnswerLaw.{says}
 use Rattle.x25_line.specs.Stations.{StationEnd, Stations, T1, Event, after_step, acts, swapped, run, start}
-use Rattle.x25_line.specs.laws.StationClaims.{AreJoined}
-use Rattle.x25_line.specs.Healing.{IsDrained, AreDeliveries, MayHeal, IsFreeIfUp, IsAtRestOrOut, EachRestsOrIsOut, Heals}
+use Rattle.x25_line.specs.laws.StationClaims.{AreJoined, IsWhole}
+use Rattle.x25_line.specs.Healing.{IsDrained, AreDeliveries, IsQuietMoment, MayHeal, HasTries, IsAtRestOrOut, EachRestsOrIsOut, Heals}
 use Rattle.x25_line.proofs.StationSteps.{not_both}
 use Rattle.x25_line.proofs.StationRuns.{joined_swapped}
-use Rattle.x25_line.proofs.HealingLines.{Reads}
+use Rattle.x25_line.proofs.HealingLines.{Reads, reads_more}
 use Rattle.x25_line.proofs.HealingSteps.{HealingLaws, near_up, far_up}
 use Rattle.x25_line.proofs.HealingPhases.{up_is}
 use Rattle.x25_line.proofs.HealingRuns.{reached_sound, refused, fires_is, idle_run, flip, flip_all, flip_run}
 use Rattle.x25_line.proofs.HealingBoth.{both_firings_heal}
 use Rattle.x25_line.proofs.HealingGone.{Polls, Leaves, all_go, is_gone, has_left}
-use Rattle.x25_line.proofs.HealingSetUp.{reads_more_set_up, SetsUp, set_up_settles, set_up_run}
+use Rattle.x25_line.proofs.HealingSetUp.{reads_more_set_up, SetsUp, calm_sets_up, set_up_settles, set_up_run}
 
 -- what a firing on an empty line makes of its end: a poll or SABM goes; or nothing goes, and the end is at rest or out
 pub record Silent (w x : Stations) : Type 0 where
@@ -63,6 +63,10 @@ out_not_up Waiting h = absurd h
 out_not_up Up h = absurd h
 out_not_up Closed h = refl
 
+poll_whole : (n1 : ℕ) (busy : Bool) (n : ℕ) → n < 8 → IsWhole n1 [] (says busy true n true)
+poll_whole n1 true n small = record { in_range = small; carries = refl; within = tt; packet = tt }
+poll_whole n1 false n small = record { in_range = small; carries = refl; within = tt; packet = tt }
+
 -- an end that is Up has numbers in order, and has said all that it may
 pub record IsInOrderIfUp (c : Settings) (e : StationEnd) : Type 0 where
   pub sound : is_up e.station.phase ≡ true → IsSound c.window e.station.outgoing
@@ -72,27 +76,28 @@ module _ (c d : Settings) (joined : AreJoined c d) (reads : ReadsSpelled) (laws 
   -- a poll goes on the empty line
   record Polled (w x : Stations) : Type 0 where
     pub up : is_up x.near.station.phase ≡ true
+    pub busy : Bool
     pub number : ℕ
     pub is : number ≡ length x.near.station.taken % 8
-    pub out : Reads (other d.role) d.longest x.out (rr true number true ∷ [])
+    pub out : Reads (other d.role) d.longest x.out (says busy true number true ∷ [])
     pub back : x.back ≡ w.back
     pub far : x.far ≡ w.far
 
-  polls : (w : Stations) → w.out ≡ [] → is_up w.near.station.phase ≡ true → is_busy w.near.station ≡ false → timer_runs w.near.station.phase w.near.station ≡ true → w.near.station.tries < c.retries
-      → Polled w (acts c T1 w)
-  polls w empty up free running few =
+  polls : (w : Stations) → w.out ≡ [] → is_up w.near.station.phase ≡ true → timer_runs w.near.station.phase w.near.station ≡ true → w.near.station.tries < c.retries → Polled w (acts c T1 w)
+  polls w empty up running few =
       let s = w.near.station in
       let step : Step = timer_step c s in
       let v : Stations = after_step c w w.back [] step in
       let asks = laws.answers.timer c s (up_is s.phase up) few in
-      let poll : step.side.out ≡ rr true (wanted s) true ∷ [] = asks.out ∙ ap (λ (busy : Bool). says busy true (wanted s) true ∷ []) free in
+      let poll = says (is_busy s) true (wanted s) true in
       let none : Reads (other d.role) d.longest w.out [] = subst (λ (os : List (List ℕ)). Reads (other d.role) d.longest os []) (sym empty) tt in
-      let out : Reads (other d.role) d.longest v.out (rr true (wanted s) true ∷ []) =
-      subst (λ (fs : List PlainFrame). Reads (other d.role) d.longest (w.out ++ map (spelling_of c.role) fs) (rr true (wanted s) true ∷ [])) (sym poll)
-      (subst (λ (from : Role). Reads (other d.role) d.longest (w.out ++ map (spelling_of from) (rr true (wanted s) true ∷ [])) (rr true (wanted s) true ∷ [])) joined.near_role
-      (reads_more_set_up reads (other d.role) d.longest w.out [] (rr true (wanted s) true ∷ []) none (below_eight (wanted s) (length s.taken) refl, tt))) in
+      let out : Reads (other d.role) d.longest v.out (poll ∷ []) =
+      subst (λ (fs : List PlainFrame). Reads (other d.role) d.longest (w.out ++ map (spelling_of c.role) fs) (poll ∷ [])) (sym asks.out)
+      (subst (λ (from : Role). Reads (other d.role) d.longest (w.out ++ map (spelling_of from) (poll ∷ [])) (poll ∷ [])) joined.near_role
+      (reads_more reads (other d.role) d.longest [] w.out [] (poll ∷ []) none (poll_whole d.longest (is_busy s) (wanted s) (below_eight (wanted s) (length s.taken) refl), tt))) in
       subst (Polled w) (sym (fires_is c d joined reads laws w running)) (record {
         up = ap (λ (z : LinkStation). is_up z.phase) asks.near ∙ up;
+        busy = is_busy s;
         number = wanted s;
         is = ap (λ (z : LinkStation). length z.taken % 8) (sym asks.near);
         out = out;
@@ -108,7 +113,7 @@ module _ (c d : Settings) (joined : AreJoined c d) (reads : ReadsSpelled) (laws 
     pub far : x.far ≡ w.far
 
   abbrev Kind : Stations → Stations → Type 0
-  Kind w x = (MayHeal c w.near × Polled w x) ⊎ ((MayHeal c w.near × IsAtRest x.near.station × Silent w x) ⊎ ((IsOut x.near.station.phase × Silent w x) ⊎ AsksSetUp w x))
+  Kind w x = (HasTries c w.near × Polled w x) ⊎ ((HasTries c w.near × IsAtRest x.near.station × Silent w x) ⊎ ((IsOut x.near.station.phase × Silent w x) ⊎ AsksSetUp w x))
 
   -- an end that awaits UA fires
   waits : (w : Stations) → w.out ≡ [] → w.near.station.phase ≡ Waiting → Kind w (acts c T1 w)
@@ -148,8 +153,8 @@ module _ (c d : Settings) (joined : AreJoined c d) (reads : ReadsSpelled) (laws 
   silent : (w x : Stations) → w.out ≡ [] → x ≡ w → Silent w x
   silent w x empty same = subst (λ (z : Stations). Silent w z) (sym same) (record { out = empty; back = refl; far = refl })
 
-  kind_of : (w : Stations) → IsInOrderIfUp c w.near → w.out ≡ [] → IsFreeIfUp w.near → Kind w (acts c T1 w)
-  kind_of w h empty may = by (is_up w.near.station.phase) refl
+  kind_of : (w : Stations) → IsInOrderIfUp c w.near → w.out ≡ [] → Kind w (acts c T1 w)
+  kind_of w h empty = by (is_up w.near.station.phase) refl
     where
       s : LinkStation
       s = w.near.station
@@ -169,7 +174,7 @@ module _ (c d : Settings) (joined : AreJoined c d) (reads : ReadsSpelled) (laws 
       tried : is_up s.phase ≡ true → timer_runs s.phase s ≡ true → (b : Bool) → nat_lt s.tries c.retries ≡ b → Kind w (acts c T1 w)
       tried up running true few =
           let left = ltb-true _ _ few in
-          inl (record { up = up; free = may up; tries = λ _. left }, polls w empty up (may up) running left)
+          inl (record { up = up; tries = λ _. left }, polls w empty up running left)
       tried up running false none = over up running none
 
       runs : is_up s.phase ≡ true → (b : Bool) → timer_runs s.phase s ≡ b → Kind w (acts c T1 w)
@@ -177,8 +182,8 @@ module _ (c d : Settings) (joined : AreJoined c d) (reads : ReadsSpelled) (laws 
       runs up false stopped =
           let same = refused c d joined reads laws w stopped in
           let rest : IsAtRest s = record { idle = laws.rest.no_timer c.window s joined.near_low (h.sound up) (h.said up) up stopped; no_timer = stopped } in
-          let heals : MayHeal c w.near = record { up = up; free = may up; tries = λ running. not_both (timer_runs s.phase s) running stopped } in
-          inr (inl (heals, subst (λ (z : Stations). IsAtRest z.near.station) (sym same) rest, silent w (acts c T1 w) empty same))
+          let has : HasTries c w.near = record { up = up; tries = λ running. not_both (timer_runs s.phase s) running stopped } in
+          inr (inl (has, subst (λ (z : Stations). IsAtRest z.near.station) (sym same) rest, silent w (acts c T1 w) empty same))
 
       off : is_up s.phase ≡ false → (b : Bool) → awaits_ua s.phase ≡ b → Kind w (acts c T1 w)
       off not_up true awaits = waits w empty (waiting_is s.phase awaits)
@@ -222,10 +227,10 @@ module _ (reads : ReadsSpelled) (laws : HealingLaws) where
       let there = subst (λ (z : Stations). IsAtRestOrOut z.near × IsAtRestOrOut z.far) (sym same) ended in
       (there.1, there.0)
 
-  -- from any two ends, where two that may heal come to rest
-  pub rest_or_out : (c d : Settings) → AreJoined c d → (w : Stations) → IsInOrderIfUp c w.near → IsInOrderIfUp d w.far → IsDrained w → IsFreeIfUp w.near → IsFreeIfUp w.far → (es : List Event) → AreDeliveries es
-      → IsDrained (run c d es (after_firings c d w)) → (MayHeal c w.near → MayHeal d w.far → RestOrOut c d es (after_firings c d w)) → RestOrOut c d es (after_firings c d w)
-  rest_or_out c d joined w near_in far_in was near_may far_may es are after heals = by (kind_of c d joined reads laws w near_in was.out near_may)
+  -- from any two ends, where two that are Up and have tries left come to rest
+  pub rest_or_out : (c d : Settings) → AreJoined c d → (w : Stations) → IsInOrderIfUp c w.near → IsInOrderIfUp d w.far → IsDrained w → (es : List Event) → AreDeliveries es
+      → IsDrained (run c d es (after_firings c d w)) → (HasTries c w.near → HasTries d w.far → RestOrOut c d es (after_firings c d w)) → RestOrOut c d es (after_firings c d w)
+  rest_or_out c d joined w near_in far_in was es are after heals = by (kind_of c d joined reads laws w near_in was.out)
     where
       twisted : AreJoined d c
       twisted = joined_swapped c d joined
@@ -242,11 +247,8 @@ module _ (reads : ReadsSpelled) (laws : HealingLaws) where
       back_is : x.back ≡ w.back → x.back ≡ []
       back_is same = same ∙ was.back
 
-      far_may_at : x.far ≡ w.far → IsFreeIfUp x.far
-      far_may_at same = subst IsFreeIfUp (sym same) far_may
-
-      far_was : x.far ≡ w.far → MayHeal d x.far → MayHeal d w.far
-      far_was same may = subst (MayHeal d) same may
+      far_was : x.far ≡ w.far → HasTries d x.far → HasTries d w.far
+      far_was same has = subst (HasTries d) same has
 
       nothing_on : (from : Role) (n1 : ℕ) (os : List (List ℕ)) → os ≡ [] → Reads from n1 os []
       nothing_on from n1 os none = subst (λ (z : List (List ℕ)). Reads from n1 z []) (sym none) tt
@@ -254,25 +256,32 @@ module _ (reads : ReadsSpelled) (laws : HealingLaws) where
       sets : SetsUp c d (swapped y) → Ends
       sets h = set_up_settles c d joined reads laws (run c d es (swapped y)) (set_up_run c d joined reads laws es (swapped y) are h) after
 
-      fired : MayHeal c w.near → Polled c d joined reads laws w x → Kind d c twisted reads laws (swapped x) y → Ends
+      fired : HasTries c w.near → Polled c d joined reads laws w x → Kind d c twisted reads laws (swapped x) y → Ends
       fired may f (inl g) = heals may (far_was f.far g.0)
       fired may f (inr (inl g)) = heals may (far_was f.far g.0)
       fired may f (inr (inr (inr g))) =
           sets (inr (inl (record {
             near = g.near;
             far = subst (λ (e : StationEnd). is_up e.station.phase ≡ true) (sym g.far) f.up;
-            behind = rr true f.number true ∷ [];
+            behind = says f.busy true f.number true ∷ [];
             out = g.out;
-            back = subst (λ (os : List (List ℕ)). Reads (other d.role) d.longest os (rr true f.number true ∷ [])) (sym g.back) f.out;
-            polls = below_eight f.number (length x.near.station.taken) f.is;
+            back = subst (λ (os : List (List ℕ)). Reads (other d.role) d.longest os (says f.busy true f.number true ∷ [])) (sym g.back) f.out;
+            polls = inr (f.busy, f.number, below_eight f.number (length x.near.station.taken) f.is, refl);
           })))
       fired may f (inr (inr (inl g))) =
           let near : y.far ≡ x.near = g.1.far in
           let polls : Polls c d (swapped y) =
-          record { number = f.number; up = subst (λ (e : StationEnd). is_up e.station.phase ≡ true) (sym near) f.up; gone = g.0; out = subst (λ (os : List (List ℕ)). Reads (other d.role) d.longest os (rr true f.number true ∷ [])) (sym g.1.back) f.out; back = g.1.out } in
+          record {
+            busy = f.busy;
+            number = f.number;
+            up = subst (λ (e : StationEnd). is_up e.station.phase ≡ true) (sym near) f.up;
+            gone = g.0;
+            out = subst (λ (os : List (List ℕ)). Reads (other d.role) d.longest os (says f.busy true f.number true ∷ [])) (sym g.1.back) f.out;
+            back = g.1.out;
+          } in
           polls_left c d joined reads laws (swapped y) (inl polls) es are after
 
-      rested : MayHeal c w.near → IsAtRest x.near.station → Silent w x → Kind d c twisted reads laws (swapped x) y → Ends
+      rested : HasTries c w.near → IsAtRest x.near.station → Silent w x → Kind d c twisted reads laws (swapped x) y → Ends
       rested may rest k (inl g) = heals may (far_was k.far g.0)
       rested may rest k (inr (inl g)) = heals may (far_was k.far g.0)
       rested may rest k (inr (inr (inr g))) =
@@ -282,7 +291,7 @@ module _ (reads : ReadsSpelled) (laws : HealingLaws) where
             behind = [];
             out = g.out;
             back = nothing_on (other d.role) d.longest y.back (g.back ∙ k.out);
-            polls = tt;
+            polls = inl refl;
           })))
       rested may rest k (inr (inr (inl g))) =
           both_quiet c d joined reads laws (swapped y) (g.1.back ∙ k.out) g.1.out (inl (subst (λ (e : StationEnd). IsAtRest e.station) (sym g.1.far) rest)) (inr (out_not_up y.near.station.phase g.0)) es are
@@ -291,12 +300,12 @@ module _ (reads : ReadsSpelled) (laws : HealingLaws) where
       gone out k (inl g) =
           let f = g.1 in
           let polls : Polls d c y =
-          record { number = f.number; up = f.up; gone = subst (λ (e : StationEnd). IsOut e.station.phase) (sym f.far) out; out = f.out; back = f.back ∙ k.out } in
+          record { busy = f.busy; number = f.number; up = f.up; gone = subst (λ (e : StationEnd). IsOut e.station.phase) (sym f.far) out; out = f.out; back = f.back ∙ k.out } in
           far_left c d joined (swapped y) (inl polls) es are after
       gone out k (inr (inl g)) =
           both_quiet c d joined reads laws (swapped y) (g.2.back ∙ k.out) g.2.out (inr (ap (λ (e : StationEnd). is_up e.station.phase) g.2.far ∙ out_not_up x.near.station.phase out)) (inl g.1) es are
       gone out k (inr (inr (inr g))) =
-          sets (inr (inr (record {
+          sets (calm_sets_up c d (swapped y) (record {
             near = inr (ap (λ (e : StationEnd). is_up e.station.phase) g.far ∙ out_not_up x.near.station.phase out);
             far = inr (ap is_up g.near);
             there = [];
@@ -305,7 +314,7 @@ module _ (reads : ReadsSpelled) (laws : HealingLaws) where
             back = g.out;
             there_are = tt;
             behind_are = (tt, tt);
-          })))
+          }))
       gone out k (inr (inr (inl g))) =
           both_quiet c d joined reads laws (swapped y) (g.1.back ∙ k.out) g.1.out (inr (ap (λ (e : StationEnd). is_up e.station.phase) g.1.far ∙ out_not_up x.near.station.phase out)) (inr (out_not_up y.near.station.phase g.0)) es are
 
@@ -316,10 +325,10 @@ module _ (reads : ReadsSpelled) (laws : HealingLaws) where
           sets (inl (record {
             near = ap (λ (e : StationEnd). e.station.phase) f.far ∙ k.near;
             far = f.up;
-            behind = rr true f.number true ∷ [];
+            behind = says f.busy true f.number true ∷ [];
             out = subst (λ (os : List (List ℕ)). Reads (other d.role) d.longest os (sabm true ∷ [])) (sym f.back) k.out;
             back = f.out;
-            polls = below_eight f.number (length y.near.station.taken) f.is;
+            polls = inr (f.busy, f.number, below_eight f.number (length y.near.station.taken) f.is, refl);
           }))
       asking k (inr (inl g)) =
           sets (inl (record {
@@ -328,10 +337,10 @@ module _ (reads : ReadsSpelled) (laws : HealingLaws) where
             behind = [];
             out = subst (λ (os : List (List ℕ)). Reads (other d.role) d.longest os (sabm true ∷ [])) (sym g.2.back) k.out;
             back = nothing_on (other c.role) c.longest y.out g.2.out;
-            polls = tt;
+            polls = inl refl;
           }))
       asking k (inr (inr (inl g))) =
-          sets (inr (inr (record {
+          sets (calm_sets_up c d (swapped y) (record {
             near = inr (ap (λ (e : StationEnd). is_up e.station.phase) g.1.far ∙ ap is_up k.near);
             far = inr (out_not_up y.near.station.phase g.0);
             there = sabm true ∷ [];
@@ -340,9 +349,9 @@ module _ (reads : ReadsSpelled) (laws : HealingLaws) where
             back = nothing_on (other c.role) c.longest y.out g.1.out;
             there_are = (tt, tt);
             behind_are = tt;
-          })))
+          }))
       asking k (inr (inr (inr g))) =
-          sets (inr (inr (record {
+          sets (calm_sets_up c d (swapped y) (record {
             near = inr (ap (λ (e : StationEnd). is_up e.station.phase) g.far ∙ ap is_up k.near);
             far = inr (ap is_up g.near);
             there = sabm true ∷ [];
@@ -351,10 +360,10 @@ module _ (reads : ReadsSpelled) (laws : HealingLaws) where
             back = g.out;
             there_are = (tt, tt);
             behind_are = (tt, tt);
-          })))
+          }))
 
       far_kind : x.back ≡ w.back → x.far ≡ w.far → Kind d c twisted reads laws (swapped x) y
-      far_kind back far = kind_of d c twisted reads laws (swapped x) (subst (IsInOrderIfUp d) (sym far) far_in) (back_is back) (far_may_at far)
+      far_kind back far = kind_of d c twisted reads laws (swapped x) (subst (IsInOrderIfUp d) (sym far) far_in) (back_is back)
 
       by : Kind c d joined reads laws w x → Ends
       by (inl k) = fired k.0 k.1 (far_kind k.1.back k.1.far)
@@ -362,14 +371,23 @@ module _ (reads : ReadsSpelled) (laws : HealingLaws) where
       by (inr (inr (inl k))) = gone k.0 k.1 (far_kind k.1.back k.1.far)
       by (inr (inr (inr k))) = asking k (far_kind k.back k.far)
 
-  pub each_rests_or_is_out : EachRestsOrIsOut
-  each_rests_or_is_out c d joined events quiet near_may far_may es are after =
+  -- the same of each world to which events lead
+  pub quiet_ends : (c d : Settings) → AreJoined c d → (events : List Event) → IsQuietMoment c d events → (es : List Event) → AreDeliveries es
+      → (let w = run c d events start in IsDrained (run c d es (after_firings c d w)) → (HasTries c w.near → HasTries d w.far → RestOrOut c d es (after_firings c d w)) → RestOrOut c d es (after_firings c d w))
+  quiet_ends c d joined events quiet es are after heals =
       let w : Stations = run c d events start in
       let sound = reached_sound laws reads c d joined events quiet.once in
       let near_in : IsInOrderIfUp c w.near = record { sound = λ up. (near_up c d w sound up).sound; said = λ _. sound.near_said } in
       let far_in : IsInOrderIfUp d w.far = record { sound = λ up. (far_up c d w sound up).sound; said = λ _. sound.far_said } in
-      rest_or_out c d joined w near_in far_in quiet.drained near_may far_may es are after (λ near far.
-      let both = both_firings_heal reads laws c d joined events quiet near far es are after in
+      rest_or_out c d joined w near_in far_in quiet.drained es are after heals
+
+  pub each_rests_or_is_out : EachRestsOrIsOut
+  each_rests_or_is_out c d joined events quiet near_free far_free es are after =
+      quiet_ends c d joined events quiet es are after (λ near far.
+      let w : Stations = run c d events start in
+      let near_may : MayHeal c w.near = record { up = near.up; free = near_free near.up; tries = near.tries } in
+      let far_may : MayHeal d w.far = record { up = far.up; free = far_free far.up; tries = far.tries } in
+      let both = both_firings_heal reads laws c d joined events quiet near_may far_may es are after in
       (inl both.0.rest, inl both.1.rest))
 
   pub heals : Heals

@@ -1,13 +1,14 @@
 -- An end whose peer has left Up: its poll is answered by DM, and it leaves too.
-use Rattle.std.proofs.Common.{◌≡◌, ℕ, List, [], ◌∷◌, ◌++◌, ◌⊎◌, inl, inr, length, map, true, false, refl, sym, ap, ◌∙◌, subst, arith}
+use Rattle.std.proofs.Common.{◌≡◌, ℕ, List, [], ◌∷◌, ◌++◌, ◌⊎◌, inl, inr, length, map, Bool, true, false, refl, sym, ap, ◌∙◌, subst, arith}
 use Rattle.x25_bits.specs.declared.role.Role.{Role}
-use Rattle.x25_frame.specs.PlainFrame.{PlainFrame, rr, dm}
+use Rattle.x25_frame.specs.PlainFrame.{PlainFrame, dm}
 use Rattle.x25_frame.specs.Spelling.{spelling_of}
 use Rattle.x25_frame.specs.laws.ReadingLaw.{ReadsSpelled}
 use Rattle.x25_link.specs.LinkStation.{Settings, LinkStation, is_up}
 use Rattle.x25_link.specs.MustSend.{Step, other}
 use Rattle.x25_link.specs.Steps.{take_step}
 use Rattle.x25_link.specs.laws.WindowLaw.{IsOut}
+use Rattle.x25_link.specs.laws.AnswerLaw.{says, asks}
 use Rattle.x25_line.specs.Stations.{StationEnd, Stations, Act, Put, Deliver, T1, Connect, Disconnect, Abandon, Lose, Damage, Event, Near, Far, after_step, delivered, acts, swapped, run, start}
 use Rattle.x25_line.specs.laws.StationClaims.{AreJoined}
 use Rattle.x25_line.specs.Healing.{IsDrained, IsDeliver, AreDeliveries, GoneEnds}
@@ -18,10 +19,11 @@ use Rattle.x25_line.proofs.HealingRuns.{reached_sound, fires}
 
 -- the poll is on the line to an end that is out; or DM is on the line back; or the near end has left
 pub record Polls (c d : Settings) (w : Stations) : Type 0 where
+  pub busy : Bool
   pub number : ℕ
   pub up : is_up w.near.station.phase ≡ true
   pub gone : IsOut w.far.station.phase
-  pub out : Reads (other d.role) d.longest w.out (rr true number true ∷ [])
+  pub out : Reads (other d.role) d.longest w.out (says busy true number true ∷ [])
   pub back : w.back ≡ []
 
 pub record Declined (c d : Settings) (w : Stations) : Type 0 where
@@ -39,15 +41,19 @@ pub record Left (w : Stations) : Type 0 where
 abbrev pub Leaves : Settings → Settings → Stations → Type 0
 Leaves c d w = Polls c d w ⊎ (Declined c d w ⊎ Left w)
 
+asks_poll : (busy : Bool) (n : ℕ) → asks (says busy true n true) ≡ true
+asks_poll true n = refl
+asks_poll false n = refl
+
 module _ (c d : Settings) (joined : AreJoined c d) (reads : ReadsSpelled) (laws : HealingLaws) where
   -- the poll comes
   declines : (w : Stations) → Polls c d w → Leaves c d (swapped (acts d Deliver (swapped w)))
   declines w h =
       let s = w.far.station in
-      let frame = rr true h.number true in
+      let frame = says h.busy true h.number true in
       let r = front_reads (other d.role) d.longest w.out frame [] h.out in
       let step : Step = take_step d r.octets s in
-      let a = laws.answers.out d r.octets s h.gone frame r.reads refl in
+      let a = laws.answers.out d r.octets s h.gone frame r.reads (asks_poll h.busy h.number) in
       let v : Stations = swapped (after_step d (swapped w) r.others [] step) in
       let same : swapped (acts d Deliver (swapped w)) ≡ v = ap (λ (os : List (List ℕ)). swapped (delivered d os (swapped w))) r.is in
       let dm_reads : Reads (other c.role) c.longest (w.back ++ map (spelling_of (other c.role)) (dm true ∷ [])) (dm true ∷ []) =
@@ -124,7 +130,7 @@ module _ (c d : Settings) (joined : AreJoined c d) (reads : ReadsSpelled) (laws 
   is_gone v (inr (inr h)) = h.gone
 
   pub has_left : (v : Stations) → IsDrained v → Leaves c d v → is_up v.near.station.phase ≡ false
-  has_left v drained (inl h) = one_frame _ (reads_none (other d.role) d.longest v.out (rr true h.number true ∷ []) h.out drained.out)
+  has_left v drained (inl h) = one_frame _ (reads_none (other d.role) d.longest v.out (says h.busy true h.number true ∷ []) h.out drained.out)
   has_left v drained (inr (inl h)) = one_frame _ (reads_none (other c.role) c.longest v.back (dm true ∷ []) h.back drained.back)
   has_left v drained (inr (inr h)) = h.off
 
@@ -134,5 +140,5 @@ gone_ends reads laws c d joined events quiet may running gone es are after =
     let v : Stations = acts c T1 w in
     let drained = quiet.drained in
     let f = fires c d joined reads laws w (reached_sound laws reads c d joined events quiet.once) drained.out may.up may.free running (may.tries running) in
-    let begun : Leaves c d v = inl (record { number = f.number; up = f.up; gone = subst (λ (e : StationEnd). IsOut e.station.phase) (sym f.far) gone; out = f.out; back = f.back ∙ drained.back }) in
+    let begun : Leaves c d v = inl (record { busy = false; number = f.number; up = f.up; gone = subst (λ (e : StationEnd). IsOut e.station.phase) (sym f.far) gone; out = f.out; back = f.back ∙ drained.back }) in
     has_left c d joined reads laws (run c d es v) after (all_go c d joined reads laws es v are begun)

@@ -1,14 +1,15 @@
 -- Over set-up and re-set-up, whatever the two ends are on a drained line: once both have fired and all has come, each is at rest or not Up.
-use Rattle.std.proofs.Common.{◌≡◌, [], ◌∷◌, ◌⊎◌, inl, false, refl, sym, ap, ◌∙◌, subst}
+use Rattle.std.proofs.Common.{◌≡◌, List, [], ◌∷◌, ◌⊎◌, inl, false, refl, sym, ap, ◌∙◌, subst}
 use Rattle.x25_frame.specs.laws.ReadingLaw.{ReadsSpelled}
 use Rattle.x25_link.specs.LinkStation.{Settings, LinkStation, is_up}
 use Rattle.x25_link.specs.laws.RestLaw.{HasSaidAll, IsAtRest}
 use Rattle.x25_line.specs.Stations.{StationEnd, Stations, T1, Event, Near, Far}
 use Rattle.x25_line.specs.Stations as one
-use Rattle.x25_line.specs.Sessions.{SessionEnd, Sessions, acts, swapped, run}
+use Rattle.x25_line.specs.Sessions.{SessionEnd, Sessions, from_nothing, from_set_up, AreTimely, acts, swapped, run}
+use Rattle.x25_line.specs.laws.StationClaims.{AreJoined}
 use Rattle.x25_line.specs.SessionNumbers.{Standing}
 use Rattle.x25_line.specs.laws.SessionClaims.{octets_of}
-use Rattle.x25_line.specs.Healing.{IsDrained, MayHeal, SessionMayHeal, SessionsAreHealed, EachSessionRestsOrIsOut}
+use Rattle.x25_line.specs.Healing.{IsDrained, AreDeliveries, HasTries, SessionMayHeal, SessionHasTries, SessionsAreHealed, IsSessionAtRestOrOut, EachSessionRestsOrIsOut}
 use Rattle.x25_line.proofs.sessions.SessionActs.{in_session}
 use Rattle.x25_line.proofs.sessions.SessionHeld.{Held}
 use Rattle.x25_line.proofs.sessions.SessionRuns.{SessionLaws, throughout, held_swapped}
@@ -27,13 +28,15 @@ RestsOrOut s = IsAtRest s ⊎ (is_up s.phase ≡ false)
 in_order : {stand : Standing} (c d : Settings) (w : Sessions) → Held stand c d w → HasSaidAll c.window w.near.station → IsInOrderIfUp c (end_of w.near)
 in_order c d w held said = record { sound = λ up. (in_session c d w held up).running.sound; said = λ _. said }
 
-may_heal : (c : Settings) (e : SessionEnd) → MayHeal c (end_of e) → SessionMayHeal c e
-may_heal c e h = record { up = h.up; free = h.free; tries = h.tries }
+has_tries : (c : Settings) (e : SessionEnd) → HasTries c (end_of e) → SessionHasTries c e
+has_tries c e h = record { up = h.up; tries = h.tries }
 
 module _ (reads : ReadsSpelled) (laws : HealingLaws) where
-  pub each_session_rests_or_is_out : EachSessionRestsOrIsOut
-  each_session_rests_or_is_out c d joined begin is events timely no_out no_back near_free far_free es are out_after back_after =
-      record { near = subst RestsOrOut alike.near ended.0; far = subst RestsOrOut alike.far ended.1; healed = heals }
+  -- where the sessions of two ends that are Up and have tries left heal
+  pub session_ends : (c d : Settings) → AreJoined c d → (begin : Sessions) → (begin ≡ from_nothing) ⊎ (begin ≡ from_set_up) → (events : List Event) → AreTimely c d events begin
+      → (let w = run c d events begin in w.out ≡ [] → w.back ≡ [] → (es : List Event) → AreDeliveries es
+      → (let u = run c d (Near T1 ∷ Far T1 ∷ es) w in u.out ≡ [] → u.back ≡ [] → (SessionHasTries c w.near → SessionHasTries d w.far → SessionsAreHealed w u) → IsSessionAtRestOrOut u.near × IsSessionAtRestOrOut u.far))
+  session_ends c d joined begin is events timely no_out no_back es are out_after back_after heals = (subst RestsOrOut alike.near ended.0, subst RestsOrOut alike.far ended.1)
     where
       w : Sessions
       w = run c d events begin
@@ -72,12 +75,17 @@ module _ (reads : ReadsSpelled) (laws : HealingLaws) where
       drained : IsDrained v
       drained = record { out = alike.out ∙ ap octets_of out_after; back = alike.back ∙ ap octets_of back_after }
 
-      heals : SessionMayHeal c w.near → SessionMayHeal d w.far → SessionsAreHealed w u
-      heals near_may far_may = sessions_heal reads laws c d joined begin is events timely no_out no_back near_may far_may es are out_after back_after
-
       ended : RestOrOut c d es (after_firings c d v0)
       ended =
           let far_in = in_order d c (swapped w) (held_swapped c d joined w held) said.1 in
-          rest_or_out reads laws c d joined v0 (in_order c d w held said.0) far_in (record { out = refl; back = refl }) near_free far_free es are drained (λ near_may far_may.
-          let healed = heals (may_heal c w.near near_may) (may_heal d w.far far_may) in
+          rest_or_out reads laws c d joined v0 (in_order c d w held said.0) far_in (record { out = refl; back = refl }) es are drained (λ near_has far_has.
+          let healed = heals (has_tries c w.near near_has) (has_tries d w.far far_has) in
           (inl (subst IsAtRest (sym alike.near) healed.near_rest), inl (subst IsAtRest (sym alike.far) healed.far_rest)))
+
+  pub each_session_rests_or_is_out : EachSessionRestsOrIsOut
+  each_session_rests_or_is_out c d joined begin is events timely no_out no_back near_free far_free es are out_after back_after =
+      let w : Sessions = run c d events begin in
+      let heal = λ (near_may : SessionMayHeal c w.near). λ (far_may : SessionMayHeal d w.far). sessions_heal reads laws c d joined begin is events timely no_out no_back near_may far_may es are out_after back_after in
+      let each = session_ends c d joined begin is events timely no_out no_back es are out_after back_after (λ near far.
+      heal (record { up = near.up; free = near_free near.up; tries = near.tries }) (record { up = far.up; free = far_free far.up; tries = far.tries })) in
+      record { near = each.0; far = each.1; healed = heal }

@@ -25,15 +25,15 @@ use Rattle.x25_line.proofs.HealingRuns.{BothSaid, said_run, fresh_said}
 abbrev down_end : StationEnd
 down_end = record { station = with_nothing Down 0; down = []; up = []; reasons = []; came_up = false }
 
-abbrev both_down : Stations
+abbrev pub both_down : Stations
 both_down = record { near = down_end; far = down_end; out = []; back = []; sent = [] }
 
-nothing_alike : AreStationsOf from_nothing both_down
+pub nothing_alike : AreStationsOf from_nothing both_down
 nothing_alike =
     let e : IsEndOf from_nothing.near down_end = record { station = refl; down = refl; up = refl; later_down = λ n less. refl; later_up = λ n less. refl } in
     record { near = e; far = e; out = refl; back = refl; sent = refl }
 
-down_said : (k : ℕ) → HasSaidAll k (with_nothing Down 0)
+pub down_said : (k : ℕ) → HasSaidAll k (with_nothing Down 0)
 down_said k = record { low = omega arith; settled = refl; calm = refl }
 
 module _ (laws : HealingLaws) where

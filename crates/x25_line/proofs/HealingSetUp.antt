@@ -14,14 +14,16 @@ use Rattle.x25_link.specs.Outgoing.{waits}
 use Rattle.x25_link.specs.LinkStation.{Settings, LinkStation, Side, is_up, is_busy, wanted, fresh, sends, ready, may_send, owes_ready, finished, ended}
 use Rattle.x25_link.specs.MustSend.{Step, quiet, other, is_valid, acknowledged, peer_is, polls, rejects, row_of_frame}
 use Rattle.x25_link.specs.Steps.{alone, hears, declines, when_down, when_waiting, take_step, timer_runs}
+use Rattle.x25_link.specs.SetUp.{Is, waiting_after, waiting_sends, reset_from}
 use Rattle.x25_link.specs.laws.RestLaw.{IsAtRest}
+use Rattle.x25_link.specs.laws.AnswerLaw.{says}
 use Rattle.x25_link.proofs.EndLemmas.{none_open, not_open, pumped_stays}
 use Rattle.x25_line.specs.Stations.{StationEnd, Stations, Act, Put, Deliver, T1, Connect, Disconnect, Abandon, Lose, Damage, Event, Near, Far, after_step, delivered, acts, swapped, run}
 use Rattle.x25_line.specs.laws.StationClaims.{AreJoined}
 use Rattle.x25_line.specs.Healing.{IsDrained, IsDeliver, AreDeliveries, IsAtRestOrOut}
 use Rattle.x25_line.proofs.StationSteps.{not_both}
 use Rattle.x25_line.proofs.StationRuns.{joined_swapped}
-use Rattle.x25_line.proofs.HealingLines.{Reads, front_reads, none_reads, reads_none}
+use Rattle.x25_line.proofs.HealingLines.{Reads, FrontReads, front_reads, none_reads, reads_none}
 use Rattle.x25_line.proofs.HealingSteps.{HealingLaws}
 use Rattle.x25_line.proofs.StationAway.{up_takes_part}
 
@@ -231,24 +233,7 @@ calm_swapped c d w h = record { near = h.far; far = h.near; there = h.behind; be
 
 -- nothing, or one poll
 abbrev pub IsPollOrNothing : List PlainFrame → Type 0
-IsPollOrNothing [] = Unit {0}
-IsPollOrNothing (rr true nr true ∷ []) = nr < 8
-IsPollOrNothing fs = ⊥
-
-polls_of_set_up : (fs : List PlainFrame) → IsPollOrNothing fs → AreOfSetUp fs
-polls_of_set_up [] polls = tt
-polls_of_set_up (rr true nr true ∷ []) polls = (polls, tt)
-polls_of_set_up (rr true nr true ∷ f ∷ fs) polls = absurd polls
-polls_of_set_up (rr true nr false ∷ fs) polls = absurd polls
-polls_of_set_up (rr false nr pf ∷ fs) polls = absurd polls
-polls_of_set_up (info ns nr p x ∷ fs) polls = absurd polls
-polls_of_set_up (rnr command nr pf ∷ fs) polls = absurd polls
-polls_of_set_up (rej command nr pf ∷ fs) polls = absurd polls
-polls_of_set_up (sabm p ∷ fs) polls = absurd polls
-polls_of_set_up (disc p ∷ fs) polls = absurd polls
-polls_of_set_up (ua p ∷ fs) polls = absurd polls
-polls_of_set_up (dm p ∷ fs) polls = absurd polls
-polls_of_set_up (frmr p why ∷ fs) polls = absurd polls
+IsPollOrNothing fs = (fs ≡ []) ⊎ ((busy : Bool) × (number : ℕ) × (number < 8) × (fs ≡ says busy true number true ∷ []))
 
 -- the near end awaits UA, and its SABM is on the way to an end that is Up
 pub record Asking (c d : Settings) (w : Stations) : Type 0 where
@@ -259,48 +244,91 @@ pub record Asking (c d : Settings) (w : Stations) : Type 0 where
   pub back : Reads (other c.role) c.longest w.back behind
   pub polls : IsPollOrNothing behind
 
+-- the SABM has come to an end that was busy: its UA follows its RNR, which an end that awaits UA passes over
+pub record Granted (c d : Settings) (w : Stations) : Type 0 where
+  pub near : IsBlank w.near.station
+  pub far : w.far.station.phase ≡ Waiting
+  pub number : ℕ
+  pub out : Reads (other d.role) d.longest w.out (rnr true number true ∷ ua true ∷ [])
+  pub back : w.back ≡ []
+
 abbrev pub SetsUp : Settings → Settings → Stations → Type 0
-SetsUp c d w = Asking c d w ⊎ (Asking d c (swapped w) ⊎ Calm c d w)
+SetsUp c d w = Asking c d w ⊎ (Asking d c (swapped w) ⊎ (Granted c d w ⊎ (Granted d c (swapped w) ⊎ Calm c d w)))
+
+pub calm_sets_up : (c d : Settings) (w : Stations) → Calm c d w → SetsUp c d w
+calm_sets_up c d w h = inr (inr (inr (inr h)))
 
 turned : (c d : Settings) (w : Stations) → SetsUp c d w → SetsUp d c (swapped w)
 turned c d w (inl h) = inr (inl h)
 turned c d w (inr (inl h)) = inl h
-turned c d w (inr (inr h)) = inr (inr (calm_swapped c d w h))
+turned c d w (inr (inr (inl h))) = inr (inr (inr (inl h)))
+turned c d w (inr (inr (inr (inl h)))) = inr (inr (inl h))
+turned c d w (inr (inr (inr (inr h)))) = calm_sets_up d c (swapped w) (calm_swapped c d w h)
+
+-- an end that awaits UA passes a poll over
+poll_passed : (busy : Bool) (n : ℕ) (s : LinkStation) → waiting_after (Ok (says busy true n true)) s ≡ s
+poll_passed true n s = refl
+poll_passed false n s = refl
+
+poll_unanswered : (busy : Bool) (n : ℕ) → waiting_sends (Ok (says busy true n true)) ≡ []
+poll_unanswered true n = refl
+poll_unanswered false n = refl
 
 module _ (c d : Settings) (joined : AreJoined c d) (reads : ReadsSpelled) (laws : HealingLaws) where
   near_none : (w : Stations) → w.back ≡ [] → SetsUp c d w → SetsUp c d (acts c Deliver w)
   near_none w none h = subst (λ (os : List (List ℕ)). SetsUp c d (delivered c os w)) (sym none) h
 
-  -- the poll of an end that is Up does nothing to one that awaits UA
-  asking_hears : (w : Stations) → Asking c d w → (behind : List PlainFrame) → Reads (other c.role) c.longest w.back behind → IsPollOrNothing behind → SetsUp c d (acts c Deliver w)
-  asking_hears w h [] back polls = near_none w (none_reads (other c.role) c.longest w.back back) (inl h)
-  asking_hears w h (rr true nr true ∷ []) back polls =
+  -- a poll comes to the near end, which awaits UA
+  record PassedOver (w v : Stations) (gs : List PlainFrame) : Type 0 where
+    pub near : v.near.station ≡ w.near.station
+    pub far : v.far ≡ w.far
+    pub out : v.out ≡ w.out
+    pub back : Reads (other c.role) c.longest v.back gs
+
+  passes_over : (w : Stations) → w.near.station.phase ≡ Waiting → (busy : Bool) (n : ℕ) (gs : List PlainFrame) → Reads (other c.role) c.longest w.back (says busy true n true ∷ gs) → PassedOver w (acts c Deliver w) gs
+  passes_over w waits busy n gs back =
       let s = w.near.station in
-      let r = front_reads (other c.role) c.longest w.back (rr true nr true) [] back in
+      let poll = says busy true n true in
+      let r = front_reads (other c.role) c.longest w.back poll gs back in
       let step : Step = take_step c r.octets s in
-      let a = laws.laws.set_up.waits c r.octets s h.near (Ok (rr true nr true)) (sym r.reads) in
+      let a = laws.laws.set_up.waits c r.octets s waits (Ok poll) (sym r.reads) in
       let v : Stations = after_step c w r.others [] step in
       let same : acts c Deliver w ≡ v = ap (λ (os : List (List ℕ)). delivered c os w) r.is in
-      let out : v.out ≡ w.out = ap (λ (fs : List PlainFrame). w.out ++ map (spelling_of c.role) fs) a.out ∙ append-nil w.out in
-      subst (SetsUp c d) (sym same) (inl (record {
-        near = ap (λ (z : LinkStation). z.phase) a.near ∙ h.near;
-        far = h.far;
-        behind = [];
-        out = subst (λ (os : List (List ℕ)). Reads (other d.role) d.longest os (sabm true ∷ [])) (sym out) h.out;
+      let silent : step.side.out ≡ [] = a.out ∙ poll_unanswered busy n in
+      subst (λ (z : Stations). PassedOver w z gs) (sym same) (record {
+        near = a.near ∙ poll_passed busy n s;
+        far = refl;
+        out = ap (λ (fs : List PlainFrame). w.out ++ map (spelling_of c.role) fs) silent ∙ append-nil w.out;
         back = r.rest;
-        polls = tt;
-      }))
-  asking_hears w h (rr true nr true ∷ f ∷ fs) back polls = absurd polls
-  asking_hears w h (rr true nr false ∷ fs) back polls = absurd polls
-  asking_hears w h (rr false nr pf ∷ fs) back polls = absurd polls
-  asking_hears w h (info ns nr p x ∷ fs) back polls = absurd polls
-  asking_hears w h (rnr command nr pf ∷ fs) back polls = absurd polls
-  asking_hears w h (rej command nr pf ∷ fs) back polls = absurd polls
-  asking_hears w h (sabm p ∷ fs) back polls = absurd polls
-  asking_hears w h (disc p ∷ fs) back polls = absurd polls
-  asking_hears w h (ua p ∷ fs) back polls = absurd polls
-  asking_hears w h (dm p ∷ fs) back polls = absurd polls
-  asking_hears w h (frmr p why ∷ fs) back polls = absurd polls
+      })
+
+  asking_hears : (w : Stations) (h : Asking c d w) → IsPollOrNothing h.behind → SetsUp c d (acts c Deliver w)
+  asking_hears w h (inl none) = near_none w (none_reads (other c.role) c.longest w.back (subst (Reads (other c.role) c.longest w.back) none h.back)) (inl h)
+  asking_hears w h (inr (busy, n, small, is)) =
+      let p = passes_over w h.near busy n [] (subst (Reads (other c.role) c.longest w.back) is h.back) in
+      inl (record {
+        near = ap (λ (z : LinkStation). z.phase) p.near ∙ h.near;
+        far = subst (λ (e : StationEnd). is_up e.station.phase ≡ true) (sym p.far) h.far;
+        behind = [];
+        out = subst (λ (os : List (List ℕ)). Reads (other d.role) d.longest os (sabm true ∷ [])) (sym p.out) h.out;
+        back = p.back;
+        polls = inl refl;
+      })
+
+  -- the RNR before UA
+  granted_hears : (w : Stations) → Granted d c (swapped w) → SetsUp c d (acts c Deliver w)
+  granted_hears w h =
+      let p = passes_over w h.far true h.number (ua true ∷ []) h.out in
+      calm_sets_up c d (acts c Deliver w) (record {
+        near = inr (ap (λ (z : LinkStation). is_up z.phase) p.near ∙ ap is_up h.far);
+        far = subst (λ (e : StationEnd). IsBlankOrOff e.station) (sym p.far) (inl h.near);
+        there = [];
+        behind = ua true ∷ [];
+        out = subst (λ (os : List (List ℕ)). Reads (other d.role) d.longest os []) (sym (p.out ∙ h.back)) tt;
+        back = p.back;
+        there_are = tt;
+        behind_are = (tt, tt);
+      })
 
   -- what is put stands behind
   puts_behind : (w : Stations) (fs es : List PlainFrame) → Reads (other d.role) d.longest w.out fs → AreOfSetUp es → Reads (other d.role) d.longest (w.out ++ map (spelling_of c.role) es) (fs ++ es)
@@ -309,26 +337,55 @@ module _ (c d : Settings) (joined : AreJoined c d) (reads : ReadsSpelled) (laws 
 
   -- the SABM of the far end comes
   asked : (w : Stations) → Asking d c (swapped w) → SetsUp c d (acts c Deliver w)
-  asked w h =
-      let s = w.near.station in
-      let r = front_reads (other c.role) c.longest w.back (sabm true) [] h.out in
-      let step : Step = take_step c r.octets s in
-      let a = laws.laws.set_up.sets_up c r.octets s (up_takes_part s.phase h.far) true r.reads in
-      let v : Stations = after_step c w r.others [] step in
-      let same : acts c Deliver w ≡ v = ap (λ (os : List (List ℕ)). delivered c os w) r.is in
-      subst (SetsUp c d) (sym same) (inr (inr (record {
-        near = subst IsBlankOrOff (sym a.near) (inl fresh_blank);
+  asked w h = subst (SetsUp c d) (sym same) (by h.polls)
+    where
+      s : LinkStation
+      s = w.near.station
+
+      r : FrontReads (other c.role) c.longest w.back (sabm true) []
+      r = front_reads (other c.role) c.longest w.back (sabm true) [] h.out
+
+      step : Step
+      step = take_step c r.octets s
+
+      v : Stations
+      v = after_step c w r.others [] step
+
+      same : acts c Deliver w ≡ v
+      same = ap (λ (os : List (List ℕ)). delivered c os w) r.is
+
+      a : Is fresh (ua true ∷ []) (reset_from s.phase) true step
+      a = laws.laws.set_up.sets_up c r.octets s (up_takes_part s.phase h.far) true r.reads
+
+      blank : IsBlank step.side.near
+      blank = subst IsBlank (sym a.near) fresh_blank
+
+      -- UA goes behind the poll, if there is one
+      ua_behind : (fs : List PlainFrame) → h.behind ≡ fs → Reads (other d.role) d.longest v.out (fs ++ ua true ∷ [])
+      ua_behind fs is =
+          subst (λ (es : List PlainFrame). Reads (other d.role) d.longest (w.out ++ map (spelling_of c.role) es) (fs ++ ua true ∷ [])) (sym a.out)
+          (puts_behind w fs (ua true ∷ []) (subst (Reads (other d.role) d.longest w.out) is h.back) (tt, tt))
+
+      calm : (fs : List PlainFrame) → AreOfSetUp fs → h.behind ≡ fs → SetsUp c d v
+      calm fs are is = calm_sets_up c d v (record {
+        near = inl blank;
         far = inr (ap is_up h.near);
-        there = h.behind ++ ua true ∷ [];
+        there = fs ++ ua true ∷ [];
         behind = [];
-        out = subst (λ (es : List PlainFrame). Reads (other d.role) d.longest (w.out ++ map (spelling_of c.role) es) (h.behind ++ ua true ∷ [])) (sym a.out) (puts_behind w h.behind (ua true ∷ []) h.back (tt, tt));
+        out = ua_behind fs is;
         back = r.rest;
-        there_are = set_up_more h.behind (ua true ∷ []) (polls_of_set_up h.behind h.polls) (tt, tt);
+        there_are = set_up_more fs (ua true ∷ []) are (tt, tt);
         behind_are = tt;
-      })))
+      })
+
+      by : IsPollOrNothing h.behind → SetsUp c d v
+      by (inl none) = calm [] tt none
+      by (inr (false, n, small, is)) = calm (rr true n true ∷ []) (small, tt) is
+      by (inr (true, n, small, is)) =
+          inr (inr (inl (record { near = blank; far = h.near; number = n; out = ua_behind (rnr true n true ∷ []) is; back = none_reads (other c.role) c.longest r.others r.rest })))
 
   calm_hears_more : (w : Stations) → Calm c d w → (behind : List PlainFrame) → Reads (other c.role) c.longest w.back behind → AreOfSetUp behind → SetsUp c d (acts c Deliver w)
-  calm_hears_more w h [] back are = near_none w (none_reads (other c.role) c.longest w.back back) (inr (inr h))
+  calm_hears_more w h [] back are = near_none w (none_reads (other c.role) c.longest w.back back) (calm_sets_up c d w h)
   calm_hears_more w h (f ∷ gs) back are =
       let s = w.near.station in
       let r = front_reads (other c.role) c.longest w.back f gs back in
@@ -336,7 +393,7 @@ module _ (c d : Settings) (joined : AreJoined c d) (reads : ReadsSpelled) (laws 
       let t = calm_takes c r.octets f s r.reads are.0 h.near in
       let v : Stations = after_step c w r.others [] step in
       let same : acts c Deliver w ≡ v = ap (λ (os : List (List ℕ)). delivered c os w) r.is in
-      subst (SetsUp c d) (sym same) (inr (inr (record {
+      subst (SetsUp c d) (sym same) (calm_sets_up c d v (record {
         near = t.near;
         far = h.far;
         there = h.there ++ step.side.out;
@@ -345,12 +402,14 @@ module _ (c d : Settings) (joined : AreJoined c d) (reads : ReadsSpelled) (laws 
         back = r.rest;
         there_are = set_up_more h.there step.side.out h.there_are t.out;
         behind_are = are.1;
-      })))
+      }))
 
   near_delivery : (w : Stations) → SetsUp c d w → SetsUp c d (acts c Deliver w)
-  near_delivery w (inl h) = asking_hears w h h.behind h.back h.polls
+  near_delivery w (inl h) = asking_hears w h h.polls
   near_delivery w (inr (inl h)) = asked w h
-  near_delivery w (inr (inr h)) = calm_hears_more w h h.behind h.back h.behind_are
+  near_delivery w (inr (inr (inl h))) = near_none w h.back (inr (inr (inl h)))
+  near_delivery w (inr (inr (inr (inl h)))) = granted_hears w h
+  near_delivery w (inr (inr (inr (inr h)))) = calm_hears_more w h h.behind h.back h.behind_are
 
   near_set_up : (a : Act) (w : Stations) → IsDeliver a → SetsUp c d w → SetsUp c d (acts c a w)
   near_set_up (Put packet) w is h = absurd is
@@ -362,13 +421,15 @@ module _ (c d : Settings) (joined : AreJoined c d) (reads : ReadsSpelled) (laws 
   near_set_up (Lose i) w is h = absurd is
   near_set_up (Damage i octets) w is h = absurd is
 
-  one_frame : (f : PlainFrame) {A : Type 0} → f ∷ [] ≡ [] → A
-  one_frame f e = absurd (omega (arith, ap length e))
+  one_frame : (f : PlainFrame) (fs : List PlainFrame) {A : Type 0} → f ∷ fs ≡ [] → A
+  one_frame f fs e = absurd (omega (arith, ap length e))
 
   pub set_up_settles : (v : Stations) → SetsUp c d v → IsDrained v → IsAtRestOrOut v.near × IsAtRestOrOut v.far
-  set_up_settles v (inl h) drained = one_frame _ (reads_none (other d.role) d.longest v.out (sabm true ∷ []) h.out drained.out)
-  set_up_settles v (inr (inl h)) drained = one_frame _ (reads_none (other c.role) c.longest v.back (sabm true ∷ []) h.out drained.back)
-  set_up_settles v (inr (inr h)) drained = (rests_or_out v.near h.near, rests_or_out v.far h.far)
+  set_up_settles v (inl h) drained = one_frame _ _ (reads_none (other d.role) d.longest v.out (sabm true ∷ []) h.out drained.out)
+  set_up_settles v (inr (inl h)) drained = one_frame _ _ (reads_none (other c.role) c.longest v.back (sabm true ∷ []) h.out drained.back)
+  set_up_settles v (inr (inr (inl h))) drained = one_frame _ _ (reads_none (other d.role) d.longest v.out (rnr true h.number true ∷ ua true ∷ []) h.out drained.out)
+  set_up_settles v (inr (inr (inr (inl h)))) drained = one_frame _ _ (reads_none (other c.role) c.longest v.back (rnr true h.number true ∷ ua true ∷ []) h.out drained.back)
+  set_up_settles v (inr (inr (inr (inr h)))) drained = (rests_or_out v.near h.near, rests_or_out v.far h.far)
 
 module _ (c d : Settings) (joined : AreJoined c d) (reads : ReadsSpelled) (laws : HealingLaws) where
   far_set_up : (a : Act) (w : Stations) → IsDeliver a → SetsUp c d w → SetsUp c d (swapped (acts d a (swapped w)))

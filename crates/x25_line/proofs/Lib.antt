@@ -27,8 +27,10 @@ pub mod HealingSessionEnds
 pub mod DrainWeights
 pub mod DrainSteps
 pub mod DrainRuns
+pub mod DrainSessions
 pub mod BusyLines
 pub mod BusyPhases
 pub mod BusyRuns
 pub mod BusySessions
+pub mod BusyBoth
 pub mod sessions

@@ -12,7 +12,7 @@ use Rattle.x25_link.specs.laws.WindowLaw.{IsOut}
 use Rattle.x25_link.specs.laws.RestLaw.{IsAtRest}
 use Rattle.x25_line.specs.Stations.{StationEnd, Stations, Act, Put, Deliver, T1, Lose, Event, Near, Far, swapped, happens, run, start}
 use Rattle.x25_line.specs.laws.StationClaims.{AreJoined, IsSetUpOnce}
-use Rattle.x25_line.specs.Sessions.{SessionEnd, Sessions, Meeting, from_nothing, from_set_up, AreTimely, run as run_sessions}
+use Rattle.x25_line.specs.Sessions.{SessionEnd, Sessions, Meeting, from_nothing, from_set_up, AreTimely, happens as happens_in_sessions, run as run_sessions}
 use Rattle.x25_line.specs.laws.SessionClaims.{SomeMet}
 use Rattle.x25_line.specs.rows.StationRows.{dte, dce}
 
@@ -189,6 +189,26 @@ DrainsEnd =
 abbrev pub SomeDrain : Type 0
 SomeDrain = (c d : Settings) → AreJoined c d → (events : List Event) → (deliveries : List Event) × AreDeliveries deliveries × IsDrained (run c d deliveries (run c d events start))
 
+-- the same over set-up and re-set-up, from nothing too, whenever timer T1 runs out
+
+abbrev pub FindsIn : Event → Sessions → Type 0
+FindsIn (Near act) w = w.back ≡ [] → ⊥
+FindsIn (Far act) w = w.out ≡ [] → ⊥
+
+abbrev pub EachFindsIn : Settings → Settings → List Event → Sessions → Type 0
+EachFindsIn c d [] w = Unit {0}
+EachFindsIn c d (e ∷ es) w = FindsIn e w × EachFindsIn c d es (happens_in_sessions c d e w)
+
+abbrev pub SessionsDrainEnd : Type 0
+SessionsDrainEnd =
+    (c d : Settings) → AreJoined c d → (begin : Sessions) → (begin ≡ from_nothing) ⊎ (begin ≡ from_set_up) → (events : List Event)
+    → (let w = run_sessions c d events begin in (most : ℕ) × ((deliveries : List Event) → AreDeliveries deliveries → EachFindsIn c d deliveries w → length deliveries ≤ most))
+
+abbrev pub SomeSessionsDrain : Type 0
+SomeSessionsDrain =
+    (c d : Settings) → AreJoined c d → (begin : Sessions) → (begin ≡ from_nothing) ⊎ (begin ≡ from_set_up) → (events : List Event)
+    → (deliveries : List Event) × AreDeliveries deliveries × (let v = run_sessions c d deliveries (run_sessions c d events begin) in (v.out ≡ []) × (v.back ≡ []))
+
 -- ---- an end whose peer is gone
 
 -- The far end is Down or Closed: it answers the poll by DM, and the near end leaves Up too.
@@ -318,6 +338,36 @@ SessionsHealBusy =
     → (let w = run_sessions c d events begin in w.out ≡ [] → w.back ≡ [] → SessionHasTries c w.near → SessionHasTries d w.far → OneIsFree w.near.station w.far.station
     → (deliveries : List Event) → AreDeliveries deliveries
     → (let v = run_sessions c d (Near T1 ∷ Far T1 ∷ deliveries) w in v.out ≡ [] → v.back ≡ [] → SessionsAreHealed w v))
+
+-- ---- not both ends busy, whatever they are
+
+-- Each end is at rest or not Up; and if both were Up, with tries left where T1 ran, both are at rest, and everything has arrived.
+pub record EachHeals (c d : Settings) (w v : Stations) : Type 0 where
+  pub near : IsAtRestOrOut v.near
+  pub far : IsAtRestOrOut v.far
+  pub healed : HasTries c w.near → HasTries d w.far → IsHealed v.near v.far × IsHealed v.far v.near
+
+-- Nothing is on the line, and not both ends are busy, whatever the phases and the tries are: both fire where their T1 runs, and then all that is on
+-- the line comes, in any order of the two directions.
+abbrev pub HealsUnlessBothBusy : Type 0
+HealsUnlessBothBusy =
+    (c d : Settings) → AreJoined c d → (events : List Event) → IsQuietMoment c d events
+    → (let w = run c d events start in OneIsFree w.near.station w.far.station
+    → (deliveries : List Event) → AreDeliveries deliveries → (let v = run c d (Near T1 ∷ Far T1 ∷ deliveries) w in IsDrained v → EachHeals c d w v))
+
+-- Each end is at rest or not Up; and if both were Up, with tries left where T1 ran, both are at rest in their sessions, and everything has arrived.
+pub record EachSessionHeals (c d : Settings) (w v : Sessions) : Type 0 where
+  pub near : IsSessionAtRestOrOut v.near
+  pub far : IsSessionAtRestOrOut v.far
+  pub healed : SessionHasTries c w.near → SessionHasTries d w.far → SessionsAreHealed w v
+
+-- the same over set-up and re-set-up
+abbrev pub SessionsHealUnlessBothBusy : Type 0
+SessionsHealUnlessBothBusy =
+    (c d : Settings) → AreJoined c d → (begin : Sessions) → (begin ≡ from_nothing) ⊎ (begin ≡ from_set_up) → (events : List Event) → AreTimely c d events begin
+    → (let w = run_sessions c d events begin in w.out ≡ [] → w.back ≡ [] → OneIsFree w.near.station w.far.station
+    → (deliveries : List Event) → AreDeliveries deliveries
+    → (let v = run_sessions c d (Near T1 ∷ Far T1 ∷ deliveries) w in v.out ≡ [] → v.back ≡ [] → EachSessionHeals c d w v))
 
 -- ---- a worked moment
 

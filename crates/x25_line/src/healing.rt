@@ -2,8 +2,8 @@
 //! function that does nothing.
 ghost use Rattle.x25_line.specs.Healing.{RestShows, EachRestShows, OneFiringHeals, FarFiringHeals, OneFiringEnds, GoneEnds};
 ghost use Rattle.x25_line.specs.Healing.{BothFiringsHeal, TwoFiringsHeal, EachRestsOrIsOut, Heals, SessionsHeal, EachSessionRestsOrIsOut, DeliveriesEnd, SomeHeal, BothLostMayHeal};
-ghost use Rattle.x25_line.specs.Healing.{DrainsEnd, SomeDrain, OneBusyHeals, SomeBusyHeal, SessionsHealBusy};
-ghost use Rattle.x25_line.specs.rows.HealingRows.{NoFiringIsTooFew, OneFiringIsTooFew, NoTriesAreLeft, FiringsAloneEnd};
+ghost use Rattle.x25_line.specs.Healing.{DrainsEnd, SomeDrain, SessionsDrainEnd, SomeSessionsDrain, OneBusyHeals, SomeBusyHeal, SessionsHealBusy, HealsUnlessBothBusy, SessionsHealUnlessBothBusy};
+ghost use Rattle.x25_line.specs.rows.HealingRows.{NoFiringIsTooFew, OneFiringIsTooFew, NoTriesAreLeft, FiringsAloneEnd, BothBusyStay, BothBusyIsReached, OneBusyIsReached};
 ghost use Rattle.x25_line.specs.laws.SessionClaims.{Throughout};
 
 use x25_frame::reads_what_is_spelled;
@@ -70,10 +70,17 @@ pub fn two_firings_heal()
 /// The same with one busy end: from a moment in which nothing is on the line, both ends are Up, with tries left where timer T1 runs, and not
 /// both are busy. Both fire, and all that is on the line comes, in any order of the two directions: everything sent has arrived, and both ends
 /// are at rest (`at_once`). There are such deliveries (`some`). Over set-up and re-set-up their sessions heal so (`sessions`).
+///
+/// Whatever the phases of the ends and their tries are, as long as not both are busy, each is at rest or not Up then, and the two together are said of
+/// every such moment (`whatever`), and so over set-up and re-set-up (`each_session`). These two say the most of a link that heals. Worked moments
+/// with one busy end: the other has left Up, or asks for set-up, or the busy end's only try is made (`reached`).
 pub fn one_busy_heals()
     ensures at_once { OneBusyHeals }
     ensures some { SomeBusyHeal }
+    ensures whatever { HealsUnlessBothBusy }
     ensures sessions { SessionsHealBusy }
+    ensures each_session { SessionsHealUnlessBothBusy }
+    ensures reached { OneBusyIsReached }
 {
     follows_the_window();
     sets_up_by_rows();
@@ -100,12 +107,15 @@ pub fn deliveries_end()
     reads_what_is_spelled();
 }
 
-/// Each line drains: from every world that events lead to, over set-up and re-set-up, in whichever phases and busy or not, deliveries
-/// alone come to an end, as the world bounds how many find octets, in whichever order (`end`). So there are deliveries after which
-/// nothing is on the line (`some`).
+/// Each line drains: from every world that events lead to, over set-up and re-set-up, in whichever phases and busy or not, with any frame
+/// lost or damaged, deliveries alone come to an end, as the world bounds how many find octets, in whichever order (`end`). So there are
+/// deliveries after which nothing is on the line (`some`). The same of sessions, from nothing as well as from a link just set up (`sessions`,
+/// `some_sessions`), whenever timer T1 runs out.
 pub fn drains_end()
     ensures end { DrainsEnd }
     ensures some { SomeDrain }
+    ensures sessions { SessionsDrainEnd }
+    ensures some_sessions { SomeSessionsDrain }
 {
     follows_the_window();
     sets_up_by_rows();
@@ -117,12 +127,15 @@ pub fn drains_end()
 
 /// What isn't so, each with its shortest script. Where a packet of each end was lost, nothing arrives without a firing (`none`), and by one
 /// firing in all that of one end alone (`one`). With no tries left the firing ends the link (`last`), and so do N2 + 1 firings with no
-/// delivery between them, though nothing was lost (`alone`).
+/// delivery between them, though nothing was lost (`alone`). Where both ends are busy, nothing is ever handed up, however often both fire
+/// and all comes (`busy`); and there is such a moment (`busy_reached`).
 pub fn healing_takes_firings()
     ensures none { NoFiringIsTooFew }
     ensures one { OneFiringIsTooFew }
     ensures last { NoTriesAreLeft }
     ensures alone { FiringsAloneEnd }
+    ensures busy { BothBusyStay }
+    ensures busy_reached { BothBusyIsReached }
 {
     reads_what_is_spelled();
 }

@@ -4,6 +4,8 @@ pub mod Growing
 pub mod Established
 pub mod Headline
 pub mod sessions
+pub mod HealingLemmas
+pub mod HealingSchedule
 pub mod FrameOctets
 pub mod SetUpOnce
 pub mod WindowRuns

@@ -4,6 +4,7 @@ pub mod World
 pub mod Sessions
 pub mod WindowGoes
 pub mod SessionWindow
+pub mod Healing
 pub mod TapOctets
 pub mod OnLine
 pub mod BitDamage

@@ -3,3 +3,4 @@ pub mod PlainTold
 pub mod ShownLine
 pub mod ShownWorld
 pub mod FitsWorld
+pub mod FitsHealing

@@ -2,3 +2,4 @@
 pub mod Claims
 pub mod SessionClaims
 pub mod LawsBelow
+pub mod WaitClaims

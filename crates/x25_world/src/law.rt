@@ -3,6 +3,7 @@ ghost use Rattle.x25_station.specs.laws.ReadLaw.{AreOctets};
 ghost use Rattle.x25_world.specs.World.{event_of};
 ghost use Rattle.x25_world.specs.rows.WorldRows.{SetsUp, MessageArrives, LostArrives, DamagedArrives, DisconnectEndsBoth, ConnectSetsUp, ConnectGoesAgain, SecondMeetsFirst, SecondMeet, TimerWaits, IsRefused};
 ghost use Rattle.x25_world.specs.laws.SessionClaims.{Throughout, ThroughoutAlong, MeetInStep, AreLawfulWhereMet, AreNamedInSessions, AllArrive, UnmetAreToldNothing, OpenStretchesMeet};
+ghost use Rattle.x25_world.specs.laws.WaitClaims.{MessagesWaitForUsers};
 ghost use Rattle.x25_world.specs.laws.LawsBelow.{SessionLaws};
 ghost use Rattle.x25_world.specs.laws.Claims.{ActsInOctets, Always, UntilSecondUp, IsSetUp, IsLawful, IsNamed, ArrivesAll, HasNoProcedureError, UpOnceUnlessConnected};
 ghost use Rattle.x25_world.specs.WindowGoes.{StaysInWindow};
@@ -16,8 +17,8 @@ use x25_line::{each_session_event_hands_one, links_keep_order, sessions_keep_ord
 use x25_link::{notes_what_changes, sets_up_by_rows};
 use x25_station::{Cmd, puts_are_readable, steps_are_joined, steps_keep_bounds};
 
-// What the laws of the links, the layers and the stations say, which the next two laws rest on.
-fn laws_below()
+/// What the laws of the links, the layers and the stations say, which the laws of a world rest on.
+pub(crate) fn laws_below()
     ensures { SessionLaws }
 {
     sessions_keep_order();
@@ -101,6 +102,18 @@ pub fn stations_meet_in_sessions()
     ensures window { ThroughoutAlong SessionsStayInWindow }
 {
     laws_below();
+}
+
+/// Two stations joined by such a line, over set-up and re-set-up at any moment, after each list of events as above: where both links are
+/// idle and a pull at an end changes nothing, each stretch that is open there is open at the other end too, and either no message of it waits
+/// and all of its messages and interrupts arrived, or the user at the other end isn't ready.
+///
+/// Premises: k is 1 to 7, N2 1 to 255, channels 1 to 16, and the users hand down octets.
+pub fn messages_wait_for_users()
+    ensures waits { Throughout MessagesWaitForUsers }
+{
+    laws_below();
+    x25_layer::messages_wait_for_users();
 }
 
 /// Worked rows: the octets of set-up; a message that arrives, also where its frame is lost or damaged and goes again; `disconnect`,

@@ -5,6 +5,7 @@ mod acting;
 mod bit_damage;
 mod error;
 mod event;
+mod healing;
 mod law;
 mod line;
 mod on_line;
@@ -14,8 +15,10 @@ mod world;
 
 pub use error::{WorldError, WorldRefused};
 pub use event::Event;
+pub use healing::stations_heal;
 pub use law::{
-    hands_down_octets, stations_meet_in_sessions, two_stations_keep_order, two_stations_move,
+    hands_down_octets, messages_wait_for_users, stations_meet_in_sessions, two_stations_keep_order,
+    two_stations_move,
 };
 pub use told::{Entered, Tapped};
 pub use world::World;

@@ -8,13 +8,13 @@ use Rattle.x25_circuit.specs.declared.state.State.TheVariants.{Calling, Open}
 use Rattle.x25_circuit.specs.declared.params.Params.{Params}
 use Rattle.x25_circuit.specs.Params.{default_params}
 use Rattle.x25_circuit.specs.Messages.{Last}
-use Rattle.x25_circuit.specs.Circuit.{Circuit, begun, entered}
+use Rattle.x25_circuit.specs.Circuit.{Circuit, begun, entered, waits}
 use Rattle.x25_circuit.specs.Notices.{CallRequest, incoming, connected, collided, cleared, clear_done, was_reset, delivered}
-use Rattle.x25_circuit.specs.Calls.{Request, Calls, Accepts, Clears, Sends, Resets}
+use Rattle.x25_circuit.specs.Calls.{Request, Calls, Accepts, Clears, Sends, Resets, SaysReady, SaysNotReady}
 use Rattle.x25_handshakes.specs.Names.{Name}
 use Rattle.x25_layer.specs.declared.error.LayerError.TheVariants as error
 use Rattle.x25_layer.specs.Layer.{LayerSettings, Layer, on_channel, restarted, is_ready, layer_answers}
-use Rattle.x25_layer.specs.Calls.{Asks, Dials, Restarts, PullsAll}
+use Rattle.x25_layer.specs.Calls.{Asks, Dials, Restarts, PullsAll, layer_pulled}
 use Rattle.x25_layer.specs.Rounds.{LinkView, Went, Refuses, calls, rounds, begin}
 use Rattle.x25_layer.specs.Transcript.{Entry, Said, Asked, Told}
 use Rattle.x25_layer.specs.TwoLayers.{TwoLayers, Move, Requests, Pulls, HandsUp, Event, settings_of, run, start}
@@ -203,3 +203,16 @@ row_pull_restarting = refl
 
 row_pull : calls (record { is_up = true; waits = λ put. 0 }) two (is_ready 1 (λ k. with_two)) PullsAll ≡ Went (rounds (record { is_up = true; waits = λ put. 0 }) two (begin (is_ready 1 (λ k. with_two)) None))
 row_pull = refl
+
+-- the user of the DCE isn't ready: with nothing in flight a message waits at the DTE, and a pull gives none; once that user is ready, it goes
+abbrev not_ready : List Event
+not_ready = connects ++ by_dce (asks SaysNotReady) ∷ by_dte HandsUp ∷ by_dte (asks (Sends false (104 ∷ []))) ∷ []
+
+row_waits : (waits ((after not_ready).near.layer.circuits 1) ≡ 1) × ((after not_ready).out ≡ []) × ((after not_ready).back ≡ []) × (((after not_ready).far.layer.circuits 1).talk.own_ready ≡ false)
+    × ((layer_pulled (settings_of Dte false 2) (after not_ready).near.layer 1).packet ≡ None)
+unfolding facilities_of
+row_waits = (refl, refl, refl, refl, refl)
+
+row_ready : (after (not_ready ++ by_dce (asks SaysReady) ∷ by_dte HandsUp ∷ by_dte (Pulls 1) ∷ [])).out ≡ user_data 1 false false 0 0 (104 ∷ []) ∷ []
+unfolding facilities_of
+row_ready = refl

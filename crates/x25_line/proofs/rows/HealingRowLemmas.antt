@@ -6,7 +6,7 @@ use Rattle.x25_link.specs.Steps.{timer_runs}
 use Rattle.x25_line.specs.Stations.{Stations, T1, Near, swapped, happens, run, start}
 use Rattle.x25_line.specs.Healing.{IsDrained, both_lost, BothLostMayHeal}
 use Rattle.x25_line.specs.rows.StationRows.{dte, dce}
-use Rattle.x25_line.specs.rows.HealingRows.{NoFiringIsTooFew, OneFiringIsTooFew, NoTriesAreLeft, FiringsAloneEnd}
+use Rattle.x25_line.specs.rows.HealingRows.{NoFiringIsTooFew, OneFiringIsTooFew, NoTriesAreLeft, FiringsAloneEnd, BothBusyIsReached, OneBusyIsReached}
 use Rattle.x25_line.proofs.rows.StationRowLemmas.{told, polling, answering, packet_frame, poll_brings}
 
 pub both_lost_may_heal : BothLostMayHeal
@@ -46,3 +46,15 @@ no_tries_are_left = (record { out = refl; back = refl }, refl, refl, (refl, refl
 pub firings_alone_end : FiringsAloneEnd
 unfolding pumped
 firings_alone_end = refl
+
+pub both_busy_is_reached : BothBusyIsReached
+unfolding pumped
+both_busy_is_reached = (record { out = refl; back = refl }, record { up = refl; busy = refl }, record { up = refl; busy = refl }, refl, refl)
+
+pub one_busy_is_reached : OneBusyIsReached
+unfolding pumped
+one_busy_is_reached = (
+  (record { once = record { near = refl; far = refl }; drained = record { out = refl; back = refl } }, record { up = refl; busy = refl }, refl),
+  (record { once = record { near = refl; far = refl }; drained = record { out = refl; back = refl } }, record { up = refl; busy = refl }, refl),
+  (record { once = record { near = refl; far = refl }; drained = record { out = refl; back = refl } }, record { up = refl; busy = refl }, refl, refl),
+)

@@ -1,10 +1,11 @@
--- What isn't so of healing, each with its shortest script.
-use Rattle.std.specs.Prelude.{◌≡◌, true, [], ◌∷◌}
-use Rattle.x25_link.specs.declared.phase.Phase.TheVariants.{Down}
-use Rattle.x25_link.specs.LinkStation.{Settings, is_up}
+-- What isn't so of healing, each with its shortest script, and of two busy ends by every one; and moments with one busy end.
+use Rattle.std.specs.Prelude.{◌≡◌, ℕ, zero, suc, true, List, [], ◌∷◌, ◌++◌}
+use Rattle.x25_link.specs.declared.phase.Phase.TheVariants.{Down, Waiting, Up}
+use Rattle.x25_link.specs.LinkStation.{Settings, is_up, is_busy}
 use Rattle.x25_link.specs.Steps.{timer_runs}
-use Rattle.x25_line.specs.Stations.{Stations, Put, Deliver, T1, Lose, Near, Far, run, start}
-use Rattle.x25_line.specs.Healing.{IsDrained, both_lost}
+use Rattle.x25_line.specs.Stations.{StationEnd, Stations, Act, Put, Deliver, T1, Connect, Abandon, Lose, Event, Near, Far, run, start}
+use Rattle.x25_line.specs.laws.StationClaims.{AreJoined}
+use Rattle.x25_line.specs.Healing.{IsDrained, IsQuietMoment, both_lost}
 use Rattle.x25_line.specs.rows.StationRows.{dte, dce}
 
 -- The packet of each end was lost. Without a firing nothing arrives, as nothing is on the line.
@@ -35,3 +36,69 @@ NoTriesAreLeft =
 -- N2 + 1 firings without a delivery end the link, though nothing was lost.
 abbrev pub FiringsAloneEnd : Type 0
 FiringsAloneEnd = (run hasty dce (Near (Put (5 ∷ [])) ∷ Near T1 ∷ Near T1 ∷ []) start).near.station.phase ≡ Down
+
+-- ---- two busy ends
+
+abbrev pub IsFiringOrDelivery : Act → Type 0
+IsFiringOrDelivery T1 = Unit {0}
+IsFiringOrDelivery Deliver = Unit {0}
+IsFiringOrDelivery act = ⊥
+
+-- timer T1 runs out or the front octets come, at either end, in any order
+abbrev pub AreFiringsAndDeliveries : List Event → Type 0
+AreFiringsAndDeliveries [] = Unit {0}
+AreFiringsAndDeliveries (Near act ∷ es) = IsFiringOrDelivery act × AreFiringsAndDeliveries es
+AreFiringsAndDeliveries (Far act ∷ es) = IsFiringOrDelivery act × AreFiringsAndDeliveries es
+
+pub record IsUpAndBusy (e : StationEnd) : Type 0 where
+  pub up : is_up e.station.phase ≡ true
+  pub busy : is_busy e.station ≡ true
+
+-- nothing more was handed up, and an end that is Up is busy
+pub record HandNothingUp (w v : Stations) : Type 0 where
+  pub near : v.near.up ≡ w.near.up
+  pub far : v.far.up ≡ w.far.up
+  pub near_busy : is_up v.near.station.phase ≡ true → is_busy v.near.station ≡ true
+  pub far_busy : is_up v.far.station.phase ≡ true → is_busy v.far.station ≡ true
+
+-- Nothing is on the line, and both ends are Up and busy: however often both fire and all comes, neither hands anything up.
+abbrev pub BothBusyStay : Type 0
+BothBusyStay =
+    (c d : Settings) → AreJoined c d → (w : Stations) → IsDrained w → IsUpAndBusy w.near → IsUpAndBusy w.far
+    → (events : List Event) → AreFiringsAndDeliveries events → HandNothingUp w (run c d events w)
+
+-- There is such a moment: the window is one frame, 256 packets are handed down at each end, and the frame that each sends is lost.
+abbrev pub narrow_dte : Settings
+narrow_dte = record dte { window = 1 }
+
+abbrev pub narrow_dce : Settings
+narrow_dce = record dce { window = 1 }
+
+abbrev pub many : (Act → Event) → ℕ → List Event
+many at zero = []
+many at (suc n) = at (Put (5 ∷ [])) ∷ many at n
+
+abbrev pub BothBusyIsReached : Type 0
+BothBusyIsReached =
+    let w = run narrow_dte narrow_dce (many Near 256 ++ many Far 256 ++ Far (Lose 0) ∷ Near (Lose 0) ∷ []) start in
+    IsDrained w × IsUpAndBusy w.near × IsUpAndBusy w.far × (w.near.up ≡ []) × (w.far.up ≡ [])
+
+-- ---- one busy end
+
+-- the near end has 255 packets that wait, and the one that it sent was lost
+abbrev pub busy_near : List Event
+busy_near = many Near 256 ++ Far (Lose 0) ∷ []
+
+-- The other end has left Up; or has left and asks for set-up, and its SABM was lost; or it is Up, and the busy end has made its only try.
+abbrev pub OneBusyIsReached : Type 0
+OneBusyIsReached =
+    (let events = busy_near ++ Far Abandon ∷ [] in
+    let w = run narrow_dte narrow_dce events start in
+    IsQuietMoment narrow_dte narrow_dce events × IsUpAndBusy w.near × (w.far.station.phase ≡ Down))
+    × (let events = busy_near ++ Far Abandon ∷ Far Connect ∷ Near (Lose 0) ∷ [] in
+    let w = run narrow_dte narrow_dce events start in
+    IsQuietMoment narrow_dte narrow_dce events × IsUpAndBusy w.near × (w.far.station.phase ≡ Waiting))
+    × (let c : Settings = record narrow_dte { retries = 1 } in
+    let events = busy_near ++ Near T1 ∷ Far (Lose 0) ∷ [] in
+    let w = run c narrow_dce events start in
+    IsQuietMoment c narrow_dce events × IsUpAndBusy w.near × (w.near.station.tries ≡ 1) × (w.far.station.phase ≡ Up))

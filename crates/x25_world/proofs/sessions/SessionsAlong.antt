@@ -160,11 +160,11 @@ all_timely_same c d (e ∷ es) v x h timely =
 
 -- ---- a run, and more behind it
 
-links_append : (c d : LinkSettings) (xs ys : List line.Event) (v : Sessions) → links.run c d (xs ++ ys) v ≡ links.run c d ys (links.run c d xs v)
+pub links_append : (c d : LinkSettings) (xs ys : List line.Event) (v : Sessions) → links.run c d (xs ++ ys) v ≡ links.run c d ys (links.run c d xs v)
 links_append c d [] ys v = refl
 links_append c d (x ∷ xs) ys v = links_append c d xs ys (links.happens c d x v)
 
-timely_append : (c d : LinkSettings) (xs ys : List line.Event) (v : Sessions) → AreTimely c d xs v → AreTimely c d ys (links.run c d xs v) → AreTimely c d (xs ++ ys) v
+pub timely_append : (c d : LinkSettings) (xs ys : List line.Event) (v : Sessions) → AreTimely c d xs v → AreTimely c d ys (links.run c d xs v) → AreTimely c d (xs ++ ys) v
 timely_append c d [] ys v f g = g
 timely_append c d (x ∷ xs) ys v f g = (f.0, timely_append c d xs ys (links.happens c d x v) f.1 g)
 

@@ -3,6 +3,7 @@ pub mod SessionMeets
 pub mod SessionLawful
 pub mod SessionNamed
 pub mod SessionArrives
+pub mod SessionWaits
 pub mod SessionQuiet
 pub mod SessionOctets
 pub mod SessionHeadline

@@ -1,5 +1,6 @@
 use Rattle.x25_line.proofs.HealingSteps.{HealingLaws}
 use Rattle.x25_line.proofs.DrainRuns.{drains_end, some_drain}
+use Rattle.x25_line.proofs.DrainSessions.{sessions_drain_end, some_sessions_drain}
 use Rattle.x25_line.proofs.healing.drains_end.Goals as goal
 
 pub returns : goal.returns
@@ -23,4 +24,4 @@ returns c =
       rest = record { take = rest.take; put = rest.put; timer = rest.timer; connect = rest.connect; disconnect = rest.disconnect; abandon = rest.abandon; no_timer = rest.no_timer; all_heard = rest.all_heard; only_then = rest.only_then };
       answers = record { timer = answer.timer; poll = answer.poll; recovery = answer.recovery; ready = answer.ready; rej = answer.rej; wanted = answer.wanted; other = answer.other; out = answer.out; dm = answer.dm };
     } in
-    record { end = drains_end reads laws; some = some_drain reads laws }
+    record { end = drains_end reads laws; some = some_drain reads laws; sessions = sessions_drain_end reads laws; some_sessions = some_sessions_drain reads laws }

@@ -1,7 +1,8 @@
 use Rattle.x25_line.proofs.HealingSteps.{HealingLaws}
 use Rattle.x25_link.specs.laws.BusyLaw.{BusyLaws}
-use Rattle.x25_line.proofs.BusyRuns.{one_busy_heals, some_busy_heal}
-use Rattle.x25_line.proofs.BusySessions.{sessions_heal_busy}
+use Rattle.x25_line.proofs.BusyRuns.{one_busy_heals, some_busy_heal, heals_unless_both_busy}
+use Rattle.x25_line.proofs.BusySessions.{sessions_heal_busy, sessions_heal_unless_both_busy}
+use Rattle.x25_line.proofs.rows.HealingRowLemmas.{one_busy_is_reached}
 use Rattle.x25_line.proofs.healing.one_busy_heals.Goals as goal
 
 pub returns : goal.returns
@@ -27,4 +28,11 @@ returns c =
     } in
     let busy = c.tells_whether_busy.ensures in
     let busy_laws : BusyLaws = record { take = busy.take; put = busy.put; timer = busy.timer } in
-    record { at_once = one_busy_heals reads laws busy_laws; some = some_busy_heal reads laws busy_laws; sessions = sessions_heal_busy reads laws busy_laws }
+    record {
+      at_once = one_busy_heals reads laws busy_laws;
+      some = some_busy_heal reads laws busy_laws;
+      whatever = heals_unless_both_busy reads laws busy_laws;
+      sessions = sessions_heal_busy reads laws busy_laws;
+      each_session = sessions_heal_unless_both_busy reads laws busy_laws;
+      reached = one_busy_is_reached;
+    }

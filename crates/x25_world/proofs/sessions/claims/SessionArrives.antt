@@ -37,18 +37,18 @@ use Rattle.std.proofs.lemmas.List.{length-map}
 
 -- ---- a stretch that is open
 
-record IsStretch (channels : ℕ) (l : Layer) (k : ℕ) (name : Name) : Type 0 where
+pub record IsStretch (channels : ℕ) (l : Layer) (k : ℕ) (name : Name) : Type 0 where
   pub channel : is_channel channels k ≡ true
   pub opened : is_open (l.circuits k) ≡ true
   pub named : name_of l k ≡ name
 
-abbrev name_if : Bool → Name → Option Name
+abbrev pub name_if : Bool → Name → Option Name
 name_if b name = if b then Some name else None
 
-abbrev open_if : Bool → Bool → Bool
+abbrev pub open_if : Bool → Bool → Bool
 open_if b o = if b then o else false
 
-stretch_of : (channels : ℕ) (l : Layer) (k : ℕ) (name : Name) → name_if (open_if (is_channel channels k) (is_open (l.circuits k))) (name_of l k) ≡ Some name → IsStretch channels l k name
+pub stretch_of : (channels : ℕ) (l : Layer) (k : ℕ) (name : Name) → name_if (open_if (is_channel channels k) (is_open (l.circuits k))) (name_of l k) ≡ Some name → IsStretch channels l k name
 stretch_of channels l k name is = by (is_channel channels k) (is_open (l.circuits k)) refl refl is
   where
     some_is : (m n : Name) → Some m ≡ Some n → m ≡ n
@@ -108,7 +108,7 @@ not_both Open free opened = absurd (cc)
 not_both s free opened = absurd (cc)
 
 -- the link is up
-up_where_open : (s : Station) (k : ℕ) → IsKept s → is_open (s.layer.circuits k) ≡ true → is_up s.link.phase ≡ true
+pub up_where_open : (s : Station) (k : ℕ) → IsKept s → is_open (s.layer.circuits k) ≡ true → is_up s.link.phase ≡ true
 up_where_open s k kept opened = by (is_up s.link.phase) refl
   where
     rested_not : is_open ((rested s.layer).circuits k) ≡ true → ⊥
@@ -135,7 +135,7 @@ module _ (laws : SessionLaws) (cfg : Cfg) where
       (subst (λ (f : layer.End). ArrivesFrom (pair_world laws cfg end n m trace).near f) (world_there laws cfg end n m trace) (arrives_here end n m trace order))
 
 -- the sessions of both ends that stand meet each other, as the near end sees it
-record StandingMeet {since : Beginning} (cfg : Cfg) (end : Role) (w : World) (h : SessionsJoined since cfg end w) : Type 0 where
+pub record StandingMeet {since : Beginning} (cfg : Cfg) (end : Role) (w : World) (h : SessionsJoined since cfg end w) : Type 0 where
   pub up : is_up w.near.link.phase ≡ true
   pub told : meets end h.links.near.begun w.transcript ≡ Some h.links.far.begun
   pub has_met : HasMet h.links.near.begun h.links.far.begun h.links.met
@@ -144,7 +144,7 @@ record StandingMeet {since : Beginning} (cfg : Cfg) (end : Role) (w : World) (h 
 module _ (laws : SessionLaws) (cfg : Cfg) (fine : IsConfigured cfg) where
   -- ---- the sessions that stand
 
-  meet_from : {since : Beginning} (end : Role) (w : World) (h : SessionsJoined since cfg end w) (k : ℕ) (name : Name) → stretch (settings_from end cfg) w.near k ≡ Some name → StandingMeet cfg end w h
+  pub meet_from : {since : Beginning} (end : Role) (w : World) (h : SessionsJoined since cfg end w) (k : ℕ) (name : Name) → stretch (settings_from end cfg) w.near k ≡ Some name → StandingMeet cfg end w h
   meet_from end w h k name here = elim (h.near_hears n) [ inl none ↦ absurd (not_silent none.0) | inr one ↦ standing one.session (is_latest one.session one.has_met) one.told one.has_met one.begun.1 ]
     where
       n : ℕ
@@ -177,10 +177,10 @@ module _ (laws : SessionLaws) (cfg : Cfg) (fine : IsConfigured cfg) where
         begun = (h.near.first up, subst (λ (x : ℕ). 1 ≤ x) same low);
       }
 
-  latest_near : {since : Beginning} (end : Role) (w : World) (h : SessionsJoined since cfg end w) → h.links.near.begun ≡ last_session end w
+  pub latest_near : {since : Beginning} (end : Role) (w : World) (h : SessionsJoined since cfg end w) → h.links.near.begun ≡ last_session end w
   latest_near end w h = sym (ap (λ (p : Progress). p.begun) h.near.progress)
 
-  latest_far : {since : Beginning} (end : Role) (w : World) (h : SessionsJoined since cfg end w) → h.links.far.begun ≡ last_session (other end) w
+  pub latest_far : {since : Beginning} (end : Role) (w : World) (h : SessionsJoined since cfg end w) → h.links.far.begun ≡ last_session (other end) w
   latest_far end w h = sym (ap (λ (p : Progress). p.begun) h.far.progress)
 
   latest_meet : {since : Beginning} (end : Role) (w : World) (h : SessionsJoined since cfg end w) (k : ℕ) (name : Name) → stretch (settings_from end cfg) w.near k ≡ Some name

@@ -1,0 +1,34 @@
+use Rattle.std.proofs.Common.{ℕ, Bool}
+use Rattle.x25_layer.specs.laws.Law.{Always}
+use Rattle.x25_layer.specs.laws.WaitLaw.{WaitForUsersAlone}
+use Rattle.x25_layer.proofs.RunLemmas.{Premises}
+use Rattle.x25_layer.proofs.LeftLemmas.{rounds_leave_none, still_pulls_none}
+use Rattle.x25_layer.proofs.WaitLemmas.{always_waits}
+use Rattle.x25_layer.proofs.ApartLemmas.{always_apart}
+use Rattle.x25_layer.proofs.law.messages_wait_for_users.Goals as goal
+
+-- the nested handshakes, and packet sizes and windows, by their contracts
+known : goal.After-apart_layers_keep_order → Premises
+known c = record {
+  quiet = c.keeps_order.ensures.quiet;
+  messages = c.keeps_order.ensures.messages;
+  interrupts = c.keeps_order.ensures.interrupts;
+  calls = c.keeps_order.ensures.calls;
+  arrived = c.keeps_order.ensures.arrived;
+  params = record { said = c.values_are_agreed.ensures.said; field = c.values_are_agreed.ensures.field; allowed = c.values_are_agreed.ensures.allowed; answered = c.values_are_agreed.ensures.answer };
+}
+
+wait : goal.After-apart_layers_keep_order → (long_data : Bool) (channels : ℕ) → Always (WaitForUsersAlone long_data channels) long_data channels
+wait c = always_waits (known c) c.drained_ends_know.ensures.known
+
+pub returns-clause-left : goal.returns-clause-left
+returns-clause-left c = rounds_leave_none
+
+pub returns-clause-still : goal.returns-clause-still
+returns-clause-still c = still_pulls_none
+
+pub returns-clause-waits : goal.returns-clause-waits
+returns-clause-waits c = wait c
+
+pub returns-clause-apart : goal.returns-clause-apart
+returns-clause-apart c = λ long_data channels. always_apart (WaitForUsersAlone long_data channels) long_data channels (c.apart_layers_keep_order.ensures.runs long_data channels) (wait c long_data channels)

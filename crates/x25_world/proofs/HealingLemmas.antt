@@ -1,0 +1,372 @@
+-- What rest shows at a world of two stations; and how its two links heal, while the layers put nothing.
+use Rattle.std.proofs.Common.{◌≡◌, ℕ, ◌+◌, List, [], ◌∷◌, ◌++◌, map, Bool, true, false, ◌&&◌, if◌then◌else◌, Option, Some, None, refl, sym, ap, ◌∙◌, subst, nat_lt, suc, length, ◌≤◌, inl}
+use Rattle.std.specs.Prelude.{◌==◌}
+use Rattle.std.proofs.lemmas.Bool.{eq-eqb}
+use Rattle.x25_bits.specs.declared.role.Role.{Role}
+use Rattle.x25_bits.specs.declared.role.Role.TheVariants.{Dte, Dce}
+use Rattle.x25_frame.specs.Spelling.{spelling_of}
+use Rattle.x25_packet.specs.PlainPacket.{PlainPacket}
+use Rattle.x25_link.specs.declared.error.LinkError.{LinkError}
+use Rattle.x25_link.specs.declared.phase.Reason.{Reason}
+use Rattle.x25_link.specs.declared.phase.Reason.TheVariants.{Retries}
+use Rattle.x25_link.specs.LinkStation.{Settings as LinkSettings, LinkStation, with_near, is_up, awaits_ua}
+use Rattle.x25_link.specs.MustSend.{Step as LinkStep, other, quiet, leaves}
+use Rattle.x25_link.specs.Steps.{alone, closed_by, asks_again, take_step, timer_step, timer_refusal, timer_runs, abandon_step}
+use Rattle.x25_link.specs.Steps as link
+use Rattle.x25_link.specs.laws.RestLaw.{IsAtRest}
+use Rattle.x25_line.specs.Stations as line
+use Rattle.x25_line.specs.Sessions as links
+use Rattle.x25_line.specs.Sessions.{Meeting, Sessions, from_nothing, sent_in, begun_by, IsTimely, AreTimely}
+use Rattle.x25_line.specs.SessionNumbers.{standing_run, standing_at}
+use Rattle.x25_line.specs.laws.SessionClaims as claims
+use Rattle.x25_line.specs.laws.SessionClaims.{octets_of}
+use Rattle.x25_line.specs.Healing.{AreDeliveries, EachRestShows, SessionHasTries, OneIsFree, EachSessionHeals, SessionsHealUnlessBothBusy, FindsIn, EachFindsIn, SessionsDrainEnd}
+use Rattle.x25_layer.specs.Layer.{LayerSettings, Layer}
+use Rattle.x25_layer.specs.Rounds.{LinkView}
+use Rattle.x25_layer.specs.code.FitsLayer.{waits_up_to}
+use Rattle.x25_layer.specs.laws.Law.{HasAllOf}
+use Rattle.x25_handshakes.specs.Names.{Name}
+use Rattle.x25_station.specs.declared.config.Cfg.{Cfg}
+use Rattle.x25_station.specs.Settings.{Settings, settings_from, link_settings, layer_settings}
+use Rattle.x25_station.specs.Station.{all_put, view_of}
+use Rattle.x25_station.specs.Steps.{follows, layer_at, unless, fires}
+use Rattle.x25_station.specs.laws.KeepLaw.{ConnectKeeps}
+use Rattle.x25_station.specs.Told.{stretch}
+use Rattle.x25_world.specs.World.{World, swapped, WorldOutcome, Happened, Declined, swapped_back, Receives, acts, delivered, fired, of_station, is_on_line, after, after_step, happens, refusal_of, run, AreAccepted}
+use Rattle.x25_world.specs.declared.error.WorldError.TheVariants as error
+use Rattle.x25_world.specs.laws.Claims.{link_of, station_at}
+use Rattle.x25_world.specs.laws.LawsBelow.{SessionLaws}
+use Rattle.x25_world.specs.laws.SessionClaims.{Throughout, AllArrive}
+use Rattle.x25_world.specs.WindowGoes.{at_end}
+use Rattle.x25_world.specs.Sessions.{last_session, handed_in}
+use Rattle.x25_world.specs.Healing.{IsDrained, receipt, all_received, firing, AreLinksOf, StopsAtRest, RestShows, PutsNothing, PutsNothingAt, NonePut, HasTries, RestsOrIsOut, Heals, MayHeal, HealsWhereNonePut, DrainsWhereNonePut}
+use Rattle.x25_world.proofs.Known.{IsConfigured, is_configured, links_joined}
+use Rattle.x25_world.proofs.OneLink.{octets_append, octets_sent}
+use Rattle.x25_world.proofs.WorldLemmas.{refusal-swapped}
+use Rattle.x25_world.proofs.sessions.SessionReaches.{both_down, known_sessions}
+use Rattle.x25_world.proofs.sessions.SessionJoined.{SessionsJoined}
+use Rattle.x25_world.proofs.sessions.SessionRuns.{throughout_joined}
+use Rattle.x25_world.proofs.sessions.SessionsAlong.{links_append, timely_append}
+
+-- ---- links that have the links and the lines of a world
+
+record Alike (w : World) (v : Sessions) : Type 0 where
+  pub near : v.near.station ≡ w.near.link
+  pub far : v.far.station ≡ w.far.link
+  pub out : octets_of v.out ≡ w.out
+  pub back : octets_of v.back ≡ w.back
+
+turned : (w : World) (v : Sessions) → Alike w v → Alike (swapped w) (links.swapped v)
+turned w v h = record { near = h.far; far = h.near; out = h.back; back = h.out }
+
+back_after : (w : World) (o : WorldOutcome) → after w (swapped_back o) ≡ swapped (after (swapped w) o)
+back_after w (Happened next) = refl
+back_after w (Declined e) = refl
+
+-- ---- timer T1 hands nothing up and notes no LinkUp, so the layer puts nothing
+
+timer_packet : (c : LinkSettings) (s : LinkStation) → (timer_step c s).packet ≡ None
+timer_packet c s = by (nat_lt s.tries c.retries)
+  where
+    by : (b : Bool)
+        → (closed_by c.window (if b then quiet (asks_again s.phase (with_near (alone s) (record s { tries = s.tries + 1 }))) else leaves Retries (alone s))).packet ≡ None
+    by true = refl
+    by false = refl
+
+timer_up : (c : LinkSettings) (s : LinkStation) → (timer_step c s).notes.up ≡ false
+timer_up c s = by (nat_lt s.tries c.retries)
+  where
+    by : (b : Bool)
+        → (closed_by c.window (if b then quiet (asks_again s.phase (with_near (alone s) (record s { tries = s.tries + 1 }))) else leaves Retries (alone s))).notes.up ≡ false
+    by true = refl
+    by false = refl
+
+silent : (view : LinkView) (c : LayerSettings) (l : Layer) (packet : Option (List ℕ)) (down : Option Reason) (up : Bool) → packet ≡ None → up ≡ false → (layer_at view c l packet down up).put ≡ []
+silent view c l packet down up none not_up =
+    subst (λ (p : Option (List ℕ)). (layer_at view c l p down up).put ≡ []) (sym none) (subst (λ (b : Bool). (layer_at view c l None down b).put ≡ []) (sym not_up) (by down))
+  where
+    by : (o : Option Reason) → (layer_at view c l None o false).put ≡ []
+    by None = refl
+    by (Some reason) = refl
+
+module _ (c : Settings) (w : World) (v : Sessions) (h : Alike w v) where
+  -- a step of the near link behind which its layer puts nothing
+  step_alike : (rest : List links.Entry) (left : List (List ℕ)) (met : List Meeting) (k : LinkStep) → octets_of rest ≡ left
+      → (layer_at (view_of (link_settings c) k.side.near) (layer_settings c) w.near.layer k.packet k.notes.down k.notes.up).put ≡ []
+      → Alike (after_step c w left (follows c w.near.layer k)) (links.after_step (link_settings c) v rest met [] k)
+  step_alike rest left met k is none =
+      let session = begun_by k.notes.up v.near.begun in
+      record {
+        near = ap (λ (ps : List PlainPacket). (all_put (link_settings c) ps k.side).near) (sym none);
+        far = h.far;
+        out = octets_append v.out (sent_in session c.role k.side.out)
+            ∙ ap (λ (os : List (List ℕ)). octets_of v.out ++ os) (octets_sent session c.role k.side.out)
+            ∙ ap (λ (os : List (List ℕ)). os ++ map (spelling_of c.role) k.side.out) h.out
+            ∙ ap (λ (ps : List PlainPacket). w.out ++ map (spelling_of c.role) (all_put (link_settings c) ps k.side).out) (sym none);
+        back = is;
+      }
+
+  -- the front octets come
+  received_alike : PutsNothing c w.near w.back → Alike (after w (delivered c w w.back)) (links.acts (link_settings c) line.Deliver v)
+  received_alike none = subst (λ (os : List (List ℕ)). Alike (after w (delivered c w os)) (links.acts (link_settings c) line.Deliver v)) h.back (by v.back (subst (PutsNothing c w.near) (sym h.back) none))
+    where
+      by : (es : List links.Entry) → PutsNothing c w.near (octets_of es) → Alike (after w (delivered c w (octets_of es))) (links.delivered (link_settings c) es v)
+      by [] none = h
+      by (e ∷ es) none =
+          let lc = link_settings c in
+          let k = take_step lc e.octets w.near.link in
+          subst (λ (b : Bool). Alike (after_step c w (octets_of es) (follows c w.near.layer (if b then abandon_step lc w.near.link else k))) (links.delivered lc (e ∷ es) v)) (sym none.0)
+          (subst (λ (s : LinkStation). Alike (after_step c w (octets_of es) (follows c w.near.layer k)) (links.after_step lc v es (links.delivered lc (e ∷ es) v).met [] (take_step lc e.octets s))) (sym h.near)
+          (step_alike es (octets_of es) (links.delivered lc (e ∷ es) v).met k refl none.1))
+
+  -- timer T1 runs out, which isn't refused while UA isn't awaited but as the link's
+  fired_alike : awaits_ua w.near.link.phase ≡ false → Alike (after w (fired c w)) (links.acts (link_settings c) line.T1 v)
+  fired_alike not_awaited =
+      subst (λ (b : Bool). Alike (after w (if b && is_on_line c w then Declined error.OnLine else of_station c w (fires c w.near))) (links.acts (link_settings c) line.T1 v)) (sym not_awaited)
+      (subst (λ (s : LinkStation). Alike (after w (of_station c w (fires c w.near))) (links.unless (timer_refusal s) v (links.after_step (link_settings c) v v.back v.met [] (timer_step (link_settings c) s)))) (sym h.near)
+      (by (timer_refusal w.near.link)))
+    where
+      k : LinkStep
+      k = timer_step (link_settings c) w.near.link
+
+      by : (o : Option LinkError) → Alike (after w (of_station c w (unless o (follows c w.near.layer k)))) (links.unless o v (links.after_step (link_settings c) v v.back v.met [] k))
+      by (Some e) = h
+      by None = step_alike v.back w.back v.met k h.back
+          (silent (view_of (link_settings c) k.side.near) (layer_settings c) w.near.layer k.packet k.notes.down k.notes.up (timer_packet (link_settings c) w.near.link) (timer_up (link_settings c) w.near.link))
+
+-- ---- events
+
+abbrev c_of : Cfg → LinkSettings
+c_of cfg = link_of cfg Dte
+
+abbrev d_of : Cfg → LinkSettings
+d_of cfg = link_of cfg Dce
+
+abbrev received : List Role → List line.Event
+received [] = []
+received (at ∷ ends) = at_end at line.Deliver ∷ received ends
+
+receipt_alike : (cfg : Cfg) (at : Role) (w : World) (v : Sessions) → Alike w v → PutsNothingAt cfg at w → Alike (after w (happens cfg w (receipt at))) (links.happens (c_of cfg) (d_of cfg) (at_end at line.Deliver) v)
+receipt_alike cfg Dte w v h none = received_alike (settings_from Dte cfg) w v h none
+receipt_alike cfg Dce w v h none =
+    let o = acts (settings_from Dce cfg) (swapped w) Receives in
+    let x = links.acts (d_of cfg) line.Deliver (links.swapped v) in
+    subst (λ (z : World). Alike z (links.swapped x)) (sym (back_after w o)) (turned (after (swapped w) o) x (received_alike (settings_from Dce cfg) (swapped w) (links.swapped v) (turned w v h) none))
+
+all_alike : (cfg : Cfg) (ends : List Role) (w : World) (v : Sessions) → Alike w v → NonePut cfg ends w → Alike (run cfg (all_received ends) w) (links.run (c_of cfg) (d_of cfg) (received ends) v)
+all_alike cfg [] w v h none = h
+all_alike cfg (at ∷ ends) w v h none = all_alike cfg ends (after w (happens cfg w (receipt at))) (links.happens (c_of cfg) (d_of cfg) (at_end at line.Deliver) v) (receipt_alike cfg at w v h none.0) none.1
+
+are_deliveries : (ends : List Role) → AreDeliveries (received ends)
+are_deliveries [] = tt
+are_deliveries (Dte ∷ ends) = (tt, are_deliveries ends)
+are_deliveries (Dce ∷ ends) = (tt, are_deliveries ends)
+
+deliveries_timely : (c d : LinkSettings) (ends : List Role) (v : Sessions) → AreTimely c d (received ends) v
+deliveries_timely c d [] v = tt
+deliveries_timely c d (Dte ∷ ends) v = (tt, deliveries_timely c d ends (links.happens c d (line.Near line.Deliver) v))
+deliveries_timely c d (Dce ∷ ends) v = (tt, deliveries_timely c d ends (links.happens c d (line.Far line.Deliver) v))
+
+off_timely : (c d : LinkSettings) (v : Sessions) → awaits_ua v.near.station.phase ≡ false → IsTimely c d line.T1 v
+off_timely c d v off = λ waiting. absurd (never (sym (ap awaits_ua waiting) ∙ off))
+  where
+    never : true ≡ false → ⊥
+    never e = cc
+
+-- its firing changes nothing of the other end
+fires_alone : (c : LinkSettings) (v : Sessions) → (links.acts c line.T1 v).far ≡ v.far
+fires_alone c v = by (timer_refusal v.near.station)
+  where
+    by : (o : Option LinkError) → (links.unless o v (links.after_step c v v.back v.met [] (timer_step c v.near.station))).far ≡ v.far
+    by (Some e) = refl
+    by None = refl
+
+-- both fire
+both_alike : (cfg : Cfg) (w : World) (v : Sessions) → Alike w v → awaits_ua w.near.link.phase ≡ false → awaits_ua w.far.link.phase ≡ false
+    → Alike (run cfg (firing Dte ∷ firing Dce ∷ []) w) (links.run (c_of cfg) (d_of cfg) (line.Near line.T1 ∷ line.Far line.T1 ∷ []) v)
+both_alike cfg w v h near_off far_off =
+    let v1 = links.acts (c_of cfg) line.T1 v in
+    let w1 = after w (fired (settings_from Dte cfg) w) in
+    let h1 : Alike w1 v1 = fired_alike (settings_from Dte cfg) w v h near_off in
+    let same : w1.far.link ≡ w.far.link = sym h1.far ∙ ap (λ (e : links.SessionEnd). e.station) (fires_alone (c_of cfg) v) ∙ h.far in
+    let o = fired (settings_from Dce cfg) (swapped w1) in
+    let x = links.acts (d_of cfg) line.T1 (links.swapped v1) in
+    subst (λ (z : World). Alike z (links.swapped x)) (sym (back_after w1 o))
+    (turned (after (swapped w1) o) x (fired_alike (settings_from Dce cfg) (swapped w1) (links.swapped v1) (turned w1 v1 h1) (ap (λ (s : LinkStation). awaits_ua s.phase) same ∙ far_off)))
+
+none_of : (es : List links.Entry) → octets_of es ≡ [] → es ≡ []
+none_of [] is = refl
+none_of (e ∷ es) is = absurd (never is)
+  where
+    never : e.octets ∷ octets_of es ≡ [] → ⊥
+    never k = cc
+
+received_length : (ends : List Role) → length (received ends) ≡ length ends
+received_length [] = refl
+received_length (at ∷ ends) = ap suc (received_length ends)
+
+-- where a delivery is accepted it finds octets
+
+some_there : (c : Settings) (w : World) (back : List (List ℕ)) → refusal_of (delivered c w back) ≡ None → back ≡ [] → ⊥
+some_there c w [] accepted none = cc
+some_there c w (octets ∷ back) accepted none = cc
+
+finds : (cfg : Cfg) (at : Role) (w : World) (v : Sessions) → Alike w v → refusal_of (happens cfg w (receipt at)) ≡ None → FindsIn (at_end at line.Deliver) v
+finds cfg Dte w v h accepted = λ none. some_there (settings_from Dte cfg) w w.back accepted (sym h.back ∙ ap octets_of none)
+finds cfg Dce w v h accepted = λ none.
+    some_there (settings_from Dce cfg) (swapped w) w.out (sym (refusal-swapped (acts (settings_from Dce cfg) (swapped w) Receives)) ∙ accepted) (sym h.out ∙ ap octets_of none)
+
+each_finds : (cfg : Cfg) (ends : List Role) (w : World) (v : Sessions) → Alike w v → NonePut cfg ends w → AreAccepted cfg (all_received ends) w → EachFindsIn (c_of cfg) (d_of cfg) (received ends) v
+each_finds cfg [] w v h none accepted = tt
+each_finds cfg (at ∷ ends) w v h none accepted = (
+  finds cfg at w v h accepted.0,
+  each_finds cfg ends (after w (happens cfg w (receipt at))) (links.happens (c_of cfg) (d_of cfg) (at_end at line.Deliver) v) (receipt_alike cfg at w v h none.0) none.1 accepted.1,
+)
+
+joined_alike : (cfg : Cfg) (w : World) (h : SessionsJoined both_down cfg Dte w) → Alike w h.links
+joined_alike cfg w h = record { near = h.near.link; far = h.far.link; out = h.out; back = h.back }
+
+-- ---- the laws
+
+module _ (laws : SessionLaws) (keeps : ConnectKeeps) where
+  links_are : (cfg : Cfg) (w : World) (h : SessionsJoined both_down cfg Dte w) → AreLinksOf cfg w h.links
+  links_are cfg w h = (
+    standing_run (c_of cfg) (d_of cfg) h.reach.events from_nothing (standing_at (c_of cfg) (d_of cfg) from_nothing),
+    record { events = h.reach.events; timely = h.reach.timely; run = h.reach.run; standing = refl; near = h.near.link; far = h.far.link; out = h.out; back = h.back },
+  )
+
+  pub rest_shows : claims.Throughout EachRestShows → Throughout AllArrive → Throughout RestShows
+  rest_shows law arrive cfg fine begin is events octets =
+      record { at_rest = at_rest; links = h.links; are = links_are cfg w h; arrived = shown; messages = messages }
+    where
+      w : World
+      w = run cfg events begin
+
+      h : SessionsJoined both_down cfg Dte w
+      h = throughout_joined laws keeps cfg fine begin is events octets
+
+      shown : EachRestShows (c_of cfg) (d_of cfg) h.links
+      shown = known_sessions EachRestShows law cfg (is_configured cfg fine) Dte h.links h.reach
+
+      near_rests : (s : LinkStation) → s ≡ h.links.near.station → is_up s.phase ≡ true → timer_runs s.phase s ≡ false → IsAtRest s
+      near_rests s same up stopped = subst IsAtRest (sym same) (shown.near (subst (λ (x : LinkStation). is_up x.phase ≡ true) same up) (subst (λ (x : LinkStation). timer_runs x.phase x ≡ false) same stopped)).0
+
+      far_rests : (s : LinkStation) → s ≡ h.links.far.station → is_up s.phase ≡ true → timer_runs s.phase s ≡ false → IsAtRest s
+      far_rests s same up stopped = subst IsAtRest (sym same) (shown.far (subst (λ (x : LinkStation). is_up x.phase ≡ true) same up) (subst (λ (x : LinkStation). timer_runs x.phase x ≡ false) same stopped)).0
+
+      at_rest : (end : Role) → StopsAtRest (station_at end w)
+      at_rest Dte up stopped = near_rests w.near.link (sym h.near.link) up stopped
+      at_rest Dce up stopped = far_rests w.far.link (sym h.far.link) up stopped
+
+      idle : (a b : Bool) → a ≡ true → b ≡ true → (a && b) ≡ true
+      idle true true is too = refl
+      idle true false is too = too
+      idle false b is too = is
+
+      messages : (end : Role) (channel : ℕ) (name : Name) → is_up (station_at end w).link.phase ≡ true → timer_runs (station_at end w).link.phase (station_at end w).link ≡ false
+          → waits_up_to (station_at end w).layer.circuits cfg.channels ≡ 0 → stretch (settings_from end cfg) (station_at end w) channel ≡ Some name
+          → stretch (settings_from (other end) cfg) (station_at (other end) w) channel ≡ Some name
+          → HasAllOf channel name (handed_in end (last_session end w) w) (handed_in (other end) (last_session (other end) w) w)
+      messages end channel name up stopped none here there =
+          arrive cfg fine begin is events octets end channel name
+          (idle (link.is_idle (station_at end w).link) (waits_up_to (station_at end w).layer.circuits cfg.channels == 0) (at_rest end up stopped).idle (eq-eqb (waits_up_to (station_at end w).layer.circuits cfg.channels) 0 none)) here there
+
+  module _ (law : SessionsHealUnlessBothBusy) (cfg : Cfg) (fine : IsConfigured cfg) (w : World) (h : SessionsJoined both_down cfg Dte w) (may : MayHeal w) (ends : List Role) where
+    abbrev c : LinkSettings
+    c = c_of cfg
+
+    abbrev d : LinkSettings
+    d = d_of cfg
+
+    abbrev fired_then : List line.Event
+    fired_then = line.Near line.T1 ∷ line.Far line.T1 ∷ received ends
+
+    -- the links behind
+    abbrev gone : Sessions
+    gone = links.run c d fired_then h.links
+
+    last : NonePut cfg ends (run cfg (firing Dte ∷ firing Dce ∷ []) w) → Alike (run cfg (all_received ends) (run cfg (firing Dte ∷ firing Dce ∷ []) w)) gone
+    last none =
+        all_alike cfg ends (run cfg (firing Dte ∷ firing Dce ∷ []) w) (links.run c d (line.Near line.T1 ∷ line.Far line.T1 ∷ []) h.links) (both_alike cfg w h.links (joined_alike cfg w h) may.near may.far) none
+
+    timely : AreTimely c d fired_then h.links
+    timely = (
+      off_timely c d h.links (ap (λ (s : LinkStation). awaits_ua s.phase) h.near.link ∙ may.near),
+      (
+        off_timely d c (links.swapped (links.acts c line.T1 h.links))
+            (ap (λ (e : links.SessionEnd). awaits_ua e.station.phase) (fires_alone c h.links) ∙ ap (λ (s : LinkStation). awaits_ua s.phase) h.far.link ∙ may.far),
+        deliveries_timely c d ends (links.run c d (line.Near line.T1 ∷ line.Far line.T1 ∷ []) h.links),
+      ),
+    )
+
+    gone_are : (u : World) → Alike u gone → AreLinksOf cfg u gone
+    gone_are u alike = (
+      standing_run c d (h.reach.events ++ fired_then) from_nothing (standing_at c d from_nothing),
+      record {
+        events = h.reach.events ++ fired_then;
+        timely = timely_append c d h.reach.events fired_then from_nothing h.reach.timely (subst (λ (x : Sessions). AreTimely c d fired_then x) (sym h.reach.run) timely);
+        run = links_append c d h.reach.events fired_then from_nothing ∙ ap (links.run c d fired_then) h.reach.run;
+        standing = refl;
+        near = alike.near;
+        far = alike.far;
+        out = alike.out;
+        back = alike.back;
+      },
+    )
+
+    abbrev HealsOnce : LinkSettings → LinkSettings → Sessions → Type 0
+    HealsOnce c d x =
+        x.out ≡ [] → x.back ≡ [] → OneIsFree x.near.station x.far.station
+        → (deliveries : List line.Event) → AreDeliveries deliveries
+        → (let v = links.run c d (line.Near line.T1 ∷ line.Far line.T1 ∷ deliveries) x in v.out ≡ [] → v.back ≡ [] → EachSessionHeals c d x v)
+
+    each : (u : World) → Alike u gone → IsDrained u → EachSessionHeals c d h.links gone
+    each u alike after_all =
+        known_sessions HealsOnce law cfg fine Dte h.links h.reach (none_of h.links.out (h.out ∙ may.drained.out)) (none_of h.links.back (h.back ∙ may.drained.back))
+        (subst (λ (s : LinkStation). OneIsFree s h.links.far.station) (sym h.near.link) (subst (λ (s : LinkStation). OneIsFree w.near.link s) (sym h.far.link) may.free))
+        (received ends) (are_deliveries ends) (none_of gone.out (alike.out ∙ after_all.out)) (none_of gone.back (alike.back ∙ after_all.back))
+
+    near_may : is_up w.near.link.phase ≡ true → HasTries cfg w.near.link → SessionHasTries c h.links.near
+    near_may up tries = record { up = ap (λ (s : LinkStation). is_up s.phase) h.near.link ∙ up; tries = subst (HasTries cfg) (sym h.near.link) tries }
+
+    far_may : is_up w.far.link.phase ≡ true → HasTries cfg w.far.link → SessionHasTries d h.links.far
+    far_may up tries = record { up = ap (λ (s : LinkStation). is_up s.phase) h.far.link ∙ up; tries = subst (HasTries cfg) (sym h.far.link) tries }
+
+    heals_at : (u : World) → Alike u gone → IsDrained u → Heals cfg w u
+    heals_at u alike after_all =
+        let r = each u alike after_all in
+        record {
+          dte = subst RestsOrIsOut alike.near r.near;
+          dce = subst RestsOrIsOut alike.far r.far;
+          healed = λ near_up far_up near_tries far_tries.
+              let healed = r.healed (near_may near_up near_tries) (far_may far_up far_tries) in
+              record {
+                dte = subst IsAtRest alike.near healed.near_rest;
+                dce = subst IsAtRest alike.far healed.far_rest;
+                before = h.links;
+                behind = gone;
+                before_are = links_are cfg w h;
+                behind_are = gone_are u alike;
+                healed = healed;
+              };
+        }
+
+  pub heals_where : SessionsHealUnlessBothBusy → Throughout HealsWhereNonePut
+  heals_where law cfg fine begin is events octets may ends none after_all =
+      let w = run cfg events begin in
+      let configured = is_configured cfg fine in
+      let h : SessionsJoined both_down cfg Dte w = throughout_joined laws keeps cfg fine begin is events octets in
+      heals_at law cfg configured w h may ends (run cfg (all_received ends) (run cfg (firing Dte ∷ firing Dce ∷ []) w)) (last law cfg configured w h may ends none) after_all
+
+  -- ---- deliveries come to an end
+
+  pub drains_where : SessionsDrainEnd → Throughout DrainsWhereNonePut
+  drains_where law cfg fine begin is events octets =
+      let w = run cfg events begin in
+      let h : SessionsJoined both_down cfg Dte w = throughout_joined laws keeps cfg fine begin is events octets in
+      let bound = law (c_of cfg) (d_of cfg) (links_joined cfg (is_configured cfg fine)) from_nothing (inl refl) h.reach.events in (
+        bound.0,
+        λ ends none accepted.
+            subst (λ (n : ℕ). n ≤ bound.0) (received_length ends)
+            (bound.1 (received ends) (are_deliveries ends) (subst (λ (x : Sessions). EachFindsIn (c_of cfg) (d_of cfg) (received ends) x) (sym h.reach.run) (each_finds cfg ends w h.links (joined_alike cfg w h) none accepted))),
+      )

@@ -1,0 +1,312 @@
+-- The schedule of healing, event by event.
+use Rattle.std.proofs.Common.{◌≡◌, ℕ, zero, suc, ◌+◌, ◌-◌, ◌≤◌, ◌<◌, ◌⊎◌, inl, inr, ◌≢◌, List, [], ◌∷◌, ◌++◌, length, Option, Some, None, Result, Ok, Err, OnOk, IfErr, refl, sym, ap, ap₂, ◌∙◌, subst, arith, append_assoc, append-nil, length-append}
+use Rattle.x25_bits.specs.declared.role.Role.{Role}
+use Rattle.x25_bits.specs.declared.role.Role.TheVariants.{Dte, Dce}
+use Rattle.x25_station.specs.declared.config.Cfg.{Cfg}
+use Rattle.x25_station.specs.Settings.{settings_from, config_refusal}
+use Rattle.x25_world.specs.World.{World, swapped, WorldOutcome, Happened, Declined, swapped_back, delivered, Event, Act, happens, refusal_of, after, run, AreAccepted}
+use Rattle.x25_world.specs.declared.error.WorldError.{WorldError}
+use Rattle.x25_world.specs.declared.error.WorldError.TheVariants as error
+use Rattle.x25_world.specs.laws.Claims.{AreInOctets, IsBeginning}
+use Rattle.x25_world.specs.laws.SessionClaims.{Throughout}
+use Rattle.x25_world.specs.Healing.{receipt, all_received, firing, next_end, arrivals_from, arrivals, most_deliveries, deliveries, one_if, if_accepted, behind, dce_fires, both_fire, healing, received_in, IsDrained, Heals, HealsWhereNonePut, HealsFrom}
+use Rattle.x25_world.specs.code.ShownWorld.{ShownWorld}
+use Rattle.x25_world.specs.code.FitsWorld.{Gone, FitsWorld, FitsRun, Leaves, IsRefusal}
+use Rattle.x25_world.specs.code.FitsHealing.{GoesBy, GoesPartly}
+use Rattle.x25_world.proofs.WorldLemmas.{run-push, AreAccepted-push, leaves}
+
+-- ---- lists of events
+
+pub run_append : (cfg : Cfg) (xs ys : List Event) (w : World) → run cfg (xs ++ ys) w ≡ run cfg ys (run cfg xs w)
+run_append cfg [] ys w = refl
+run_append cfg (x ∷ xs) ys w = run_append cfg xs ys (after w (happens cfg w x))
+
+accepted_append : (cfg : Cfg) (xs ys : List Event) (w : World) → AreAccepted cfg xs w → AreAccepted cfg ys (run cfg xs w) → AreAccepted cfg (xs ++ ys) w
+accepted_append cfg [] ys w f g = g
+accepted_append cfg (x ∷ xs) ys w f g = (f.0, accepted_append cfg xs ys (after w (happens cfg w x)) f.1 g)
+
+-- one list, and then another
+pub goes_behind : (cfg : Cfg) (xs ys : List Event) (w : World) (u v : ShownWorld) (gone : Gone) → GoesBy cfg xs w u gone → GoesBy cfg ys (run cfg xs w) v gone → GoesBy cfg (xs ++ ys) w v gone
+goes_behind cfg xs ys w u v gone f g = record {
+  accepted = accepted_append cfg xs ys w f.accepted g.accepted;
+  fits = subst (λ (x : World). FitsWorld cfg v x gone) (sym (run_append cfg xs ys w)) g.fits;
+}
+
+pub stops_first : (cfg : Cfg) (xs ys : List Event) (w : World) (v : ShownWorld) (gone : Gone) (e : WorldError) → GoesPartly cfg xs w v gone e → GoesPartly cfg (xs ++ ys) w v gone e
+stops_first cfg xs ys w v gone e h = record {
+  memory = h.memory;
+  done = h.done;
+  left = h.left ++ ys;
+  all = ap (λ (es : List Event). es ++ ys) h.all ∙ append_assoc h.done h.left ys;
+  goes = h.goes;
+}
+
+pub stops_behind : (cfg : Cfg) (xs ys : List Event) (w : World) (u v : ShownWorld) (gone : Gone) (e : WorldError) → GoesBy cfg xs w u gone → GoesPartly cfg ys (run cfg xs w) v gone e → GoesPartly cfg (xs ++ ys) w v gone e
+stops_behind cfg xs ys w u v gone e f h = record {
+  memory = h.memory;
+  done = xs ++ h.done;
+  left = h.left;
+  all = ap (λ (es : List Event). xs ++ es) h.all ∙ sym (append_assoc xs h.done h.left);
+  goes = goes_behind cfg xs h.done w u v gone f h.goes;
+}
+
+-- ---- an event that is accepted or not
+
+pub accepts_one : (cfg : Cfg) (e : Event) (w : World) (v : ShownWorld) (gone : Gone) → FitsWorld cfg v (after w (happens cfg w e)) gone → refusal_of (happens cfg w e) ≡ None → GoesBy cfg (if_accepted cfg e w) w v gone
+accepts_one cfg e w v gone fits accepted = by (happens cfg w e) refl fits accepted
+  where
+    by : (o : WorldOutcome) → happens cfg w e ≡ o → FitsWorld cfg v (after w o) gone → refusal_of o ≡ None → GoesBy cfg (one_if e o) w v gone
+    by (Happened next) is fits accepted = record {
+      accepted = (ap refusal_of is, tt);
+      fits = subst (λ (x : WorldOutcome). FitsWorld cfg v (after w x) gone) (sym is) fits;
+    }
+    by (Declined x) is fits accepted = absurd (cc)
+
+pub leaves_out : (cfg : Cfg) (e : Event) (w : World) (v : ShownWorld) (gone : Gone) (x : WorldError) (r : Result (Unit {0}) WorldError) → OnOk r (x ≢ error.NoMemory) → IsRefusal cfg w e x → FitsWorld cfg v w gone
+    → OnOk r (GoesBy cfg (if_accepted cfg e w) w v gone)
+leaves_out cfg e w v gone x (Err y) other refused fits = tt
+leaves_out cfg e w v gone x (Ok done) other refused fits = elim refused [ inl ground ↦ declined (happens cfg w e) ground | inr memory ↦ absurd (other memory) ]
+  where
+    declined : (o : WorldOutcome) → refusal_of o ≡ Some x → GoesBy cfg (one_if e o) w v gone
+    declined (Happened next) is = absurd (cc)
+    declined (Declined y) is = record { accepted = tt; fits = fits }
+
+pub stops_now : (cfg : Cfg) (events : List Event) (w : World) (v : ShownWorld) (gone : Gone) (r : Result (Unit {0}) WorldError) → IfErr r (λ x. x ≡ error.NoMemory) → FitsWorld cfg v w gone → IfErr r (GoesPartly cfg events w v gone)
+stops_now cfg events w v gone (Ok done) memory fits = tt
+stops_now cfg events w v gone (Err x) memory fits = record { memory = memory; done = []; left = events; all = refl; goes = record { accepted = tt; fits = fits } }
+
+-- what is refused changes nothing
+tried_is : (cfg : Cfg) (e : Event) (w : World) → run cfg (if_accepted cfg e w) w ≡ after w (happens cfg w e)
+tried_is cfg e w = by (happens cfg w e) refl
+  where
+    by : (o : WorldOutcome) → happens cfg w e ≡ o → run cfg (one_if e o) w ≡ after w o
+    by (Happened next) is = ap (after w) is
+    by (Declined x) is = refl
+
+-- ---- deliveries
+
+-- what the world tells of its line
+pub line_is : (cfg : Cfg) (v : ShownWorld) (w : World) (gone : Gone) → FitsWorld cfg v w gone → next_end v.to_dce v.to_dte ≡ next_end w.out w.back
+line_is cfg v w gone f = ap (λ front. next_end front v.to_dte) f.to_dce ∙ ap (next_end w.out) f.to_dte
+
+none : (back : List (List ℕ)) → next_end [] back ≡ Some Dce → ⊥
+none [] is = cc
+none (o ∷ os) is = cc
+
+-- a delivery to an end to which a frame is on the line is accepted
+pub found : (cfg : Cfg) (w : World) (at : Role) → next_end w.out w.back ≡ Some at → refusal_of (happens cfg w (receipt at)) ≡ None
+found cfg w Dce is = by w.out is
+  where
+    by : (out : List (List ℕ)) → next_end out w.back ≡ Some Dce → refusal_of (swapped_back (delivered (settings_from Dce cfg) (swapped w) out)) ≡ None
+    by [] is = absurd (none w.back is)
+    by (o ∷ os) is = refl
+found cfg w Dte is = by w.out w.back is
+  where
+    by : (out back : List (List ℕ)) → next_end out back ≡ Some Dte → refusal_of (delivered (settings_from Dte cfg) w back) ≡ None
+    by (o ∷ os) back is = absurd (cc)
+    by [] [] is = absurd (cc)
+    by [] (o ∷ os) is = refl
+
+pub none_left : (cfg : Cfg) (n : ℕ) (w : World) → next_end w.out w.back ≡ None → arrivals cfg n w ≡ []
+unfolding arrivals
+none_left cfg zero w is = refl
+none_left cfg (suc n) w is = ap (arrivals_from cfg (arrivals cfg n) w) is
+
+one_more : (cfg : Cfg) (n : ℕ) (w : World) (at : Role) → next_end w.out w.back ≡ Some at → arrivals cfg (suc n) w ≡ at ∷ arrivals cfg n (after w (happens cfg w (receipt at)))
+unfolding arrivals
+one_more cfg n w at is = ap (arrivals_from cfg (arrivals cfg n) w) is
+
+no_more : (cfg : Cfg) (n : ℕ) (w : World) → n ≡ 0 → arrivals cfg n w ≡ []
+unfolding arrivals
+no_more cfg n w is = ap (λ (m : ℕ). arrivals cfg m w) is
+
+received_append : (xs ys : List Role) → all_received (xs ++ ys) ≡ all_received xs ++ all_received ys
+received_append [] ys = refl
+received_append (x ∷ xs) ys = ap (λ (es : List Event). receipt x ∷ es) (received_append xs ys)
+
+-- so many of the deliveries have happened, and the others are those from here
+pub record Delivered (cfg : Cfg) (w : World) (v : ShownWorld) (gone : Gone) (count : ℕ) : Type 0 where
+  pub done : List Role
+  pub goes : GoesBy cfg (all_received done) w v gone
+  pub counted : length done ≡ count
+  pub all : arrivals cfg most_deliveries w ≡ done ++ arrivals cfg (most_deliveries - count) (run cfg (all_received done) w)
+
+pub none_delivered : (cfg : Cfg) (w : World) (v : ShownWorld) (gone : Gone) → FitsWorld cfg v w gone → Delivered cfg w v gone 0
+none_delivered cfg w v gone fits = record { done = []; goes = record { accepted = tt; fits = fits }; counted = refl; all = refl }
+
+pub one_delivered : (cfg : Cfg) (w : World) (u v : ShownWorld) (gone : Gone) (count : ℕ) (at : Role) → count < most_deliveries → (h : Delivered cfg w u gone count) → next_end u.to_dce u.to_dte ≡ Some at
+    → (let x = run cfg (all_received h.done) w in FitsWorld cfg v (after x (happens cfg x (receipt at))) gone) → Delivered cfg w v gone (count + 1)
+one_delivered cfg w u v gone count at low h is fits =
+    let x = run cfg (all_received h.done) w in
+    let here : next_end x.out x.back ≡ Some at = sym (line_is cfg u x gone h.goes.fits) ∙ is in
+    let events : all_received (h.done ++ at ∷ []) ≡ all_received h.done ++ receipt at ∷ [] = received_append h.done (at ∷ []) in
+    let next : run cfg (all_received (h.done ++ at ∷ [])) w ≡ after x (happens cfg x (receipt at)) = ap (λ (es : List Event). run cfg es w) events ∙ run-push cfg (all_received h.done) (receipt at) w in
+    let fewer : most_deliveries - count ≡ suc (most_deliveries - (count + 1)) = omega (arith, low) in
+    record {
+      done = h.done ++ at ∷ [];
+      goes = record {
+        accepted = subst (λ (es : List Event). AreAccepted cfg es w) (sym events) (AreAccepted-push cfg (all_received h.done) (receipt at) w h.goes.accepted (found cfg x at here));
+        fits = subst (λ (z : World). FitsWorld cfg v z gone) (sym next) fits;
+      };
+      counted = length-append h.done (at ∷ []) ∙ ap (λ (n : ℕ). n + 1) h.counted;
+      all = h.all
+          ∙ ap (λ (n : ℕ). h.done ++ arrivals cfg n x) fewer
+          ∙ ap (λ (l : List Role). h.done ++ l) (one_more cfg (most_deliveries - (count + 1)) x at here)
+          ∙ sym (append_assoc h.done (at ∷ []) (arrivals cfg (most_deliveries - (count + 1)) (after x (happens cfg x (receipt at)))))
+          ∙ ap (λ (z : World). (h.done ++ at ∷ []) ++ arrivals cfg (most_deliveries - (count + 1)) z) (sym next);
+    }
+
+-- all of them have happened
+ended : (cfg : Cfg) (w : World) (v : ShownWorld) (gone : Gone) (count : ℕ) (h : Delivered cfg w v gone count) → arrivals cfg (most_deliveries - count) (run cfg (all_received h.done) w) ≡ []
+    → arrivals cfg most_deliveries w ≡ h.done
+ended cfg w v gone count h none = h.all ∙ ap (λ (l : List Role). h.done ++ l) none ∙ append-nil h.done
+
+pub record AllDelivered (cfg : Cfg) (w : World) (v : ShownWorld) (gone : Gone) (count : ℕ) : Type 0 where
+  pub goes : GoesBy cfg (deliveries cfg w) w v gone
+  pub counted : count ≡ length (arrivals cfg most_deliveries w)
+
+all_of_them : (cfg : Cfg) (w : World) (v : ShownWorld) (gone : Gone) (count : ℕ) (h : Delivered cfg w v gone count) → arrivals cfg most_deliveries w ≡ h.done → AllDelivered cfg w v gone count
+all_of_them cfg w v gone count h is = record {
+  goes = subst (λ (l : List Role). GoesBy cfg (all_received l) w v gone) (sym is) h.goes;
+  counted = sym h.counted ∙ ap length (sym is);
+}
+
+pub ends_drained : (cfg : Cfg) (w : World) (v : ShownWorld) (gone : Gone) (count : ℕ) → Delivered cfg w v gone count → next_end v.to_dce v.to_dte ≡ None → AllDelivered cfg w v gone count
+ends_drained cfg w v gone count h is =
+    let x = run cfg (all_received h.done) w in
+    all_of_them cfg w v gone count h (ended cfg w v gone count h (none_left cfg (most_deliveries - count) x (sym (line_is cfg v x gone h.goes.fits) ∙ is)))
+
+pub ends_counted : (cfg : Cfg) (w : World) (v : ShownWorld) (gone : Gone) (count : ℕ) → Delivered cfg w v gone count → most_deliveries ≤ count → AllDelivered cfg w v gone count
+ends_counted cfg w v gone count h most =
+    let x = run cfg (all_received h.done) w in
+    all_of_them cfg w v gone count h (ended cfg w v gone count h (no_more cfg (most_deliveries - count) x (omega (arith, most))))
+
+-- .. or memory was refused at the next
+pub stops_there : (cfg : Cfg) (w : World) (u v : ShownWorld) (gone : Gone) (count : ℕ) (at : Role) (e : WorldError) (h : Delivered cfg w u gone count) → next_end u.to_dce u.to_dte ≡ Some at
+    → (let x = run cfg (all_received h.done) w in FitsWorld cfg v x gone × IsRefusal cfg x (receipt at) e) → GoesPartly cfg (deliveries cfg w) w v gone e
+stops_there cfg w u v gone count at e h is f =
+    let x = run cfg (all_received h.done) w in
+    let here : next_end x.out x.back ≡ Some at = sym (line_is cfg u x gone h.goes.fits) ∙ is in
+    let left = arrivals cfg (most_deliveries - count) x in
+    record {
+      memory = by (happens cfg x (receipt at)) (found cfg x at here) f.1;
+      done = all_received h.done;
+      left = all_received left;
+      all = ap all_received h.all ∙ received_append h.done left;
+      goes = record { accepted = h.goes.accepted; fits = f.0 };
+    }
+  where
+    by : (o : WorldOutcome) → refusal_of o ≡ None → (refusal_of o ≡ Some e) ⊎ (e ≡ error.NoMemory) → e ≡ error.NoMemory
+    by o accepted refused = elim refused [ inl is ↦ cc | inr memory ↦ memory ]
+
+-- ---- how many arrive
+
+count_append : (xs ys : List Event) → received_in (xs ++ ys) ≡ received_in xs + received_in ys
+count_append [] ys = omega arith
+count_append (x ∷ xs) ys = let rest = count_append xs ys in omega (arith, rest)
+
+count_received : (ends : List Role) → received_in (all_received ends) ≡ length ends
+count_received [] = refl
+count_received (at ∷ ends) = let rest = count_received ends in omega (arith, rest)
+
+count_fired : (cfg : Cfg) (at : Role) (w : World) → received_in (if_accepted cfg (firing at) w) ≡ 0
+count_fired cfg at w = by (happens cfg w (firing at))
+  where
+    by : (o : WorldOutcome) → received_in (one_if (firing at) o) ≡ 0
+    by (Happened next) = refl
+    by (Declined e) = refl
+
+-- the worlds of the schedule
+abbrev pub drained_at : Cfg → World → World
+drained_at cfg w = run cfg (deliveries cfg w) w
+
+abbrev pub dte_fired : Cfg → World → World
+dte_fired cfg w = run cfg (if_accepted cfg (firing Dte) w) w
+
+abbrev pub dce_fired : Cfg → World → World
+dce_fired cfg w = run cfg (if_accepted cfg (firing Dce) w) w
+
+counts : (cfg : Cfg) (w : World) → (let x = dce_fired cfg (dte_fired cfg (drained_at cfg w)) in
+    received_in (healing cfg w) ≡ length (arrivals cfg most_deliveries w) + length (arrivals cfg most_deliveries x))
+counts cfg w =
+    let v = drained_at cfg w in
+    let y = dte_fired cfg v in
+    let x = dce_fired cfg y in
+    count_append (deliveries cfg w) (both_fire cfg v)
+    ∙ ap₂ (λ (n m : ℕ). n + m) (count_received (arrivals cfg most_deliveries w))
+    (count_append (if_accepted cfg (firing Dte) v) (dce_fires cfg y)
+    ∙ ap₂ (λ (n m : ℕ). n + m) (count_fired cfg Dte v)
+    (count_append (if_accepted cfg (firing Dce) y) (deliveries cfg x) ∙ ap₂ (λ (n m : ℕ). n + m) (count_fired cfg Dce y) (count_received (arrivals cfg most_deliveries x)) ∙ none_more (length (arrivals cfg most_deliveries x)))
+    ∙ none_more (length (arrivals cfg most_deliveries x)))
+  where
+    none_more : (n : ℕ) → 0 + n ≡ n
+    none_more n = omega arith
+
+pub counts_both : (cfg : Cfg) (w : World) (before behind a b : ℕ) → before ≡ length (arrivals cfg most_deliveries w)
+    → behind ≡ length (arrivals cfg most_deliveries (dce_fired cfg (dte_fired cfg (drained_at cfg w)))) → a ≡ before → b ≡ behind → a + b ≡ received_in (healing cfg w)
+counts_both cfg w before behind a b first second same too = ap₂ (λ (n m : ℕ). n + m) (same ∙ first) (too ∙ second) ∙ sym (counts cfg w)
+
+-- ---- the whole
+
+octets_append : (xs ys : List Event) → AreInOctets xs → AreInOctets ys → AreInOctets (xs ++ ys)
+octets_append [] ys f g = g
+octets_append (x ∷ xs) ys f g = (f.0, octets_append xs ys f.1 g)
+
+received_octets : (ends : List Role) → AreInOctets (all_received ends)
+received_octets [] = tt
+received_octets (at ∷ ends) = (tt, received_octets ends)
+
+fired_octets : (cfg : Cfg) (at : Role) (w : World) → AreInOctets (if_accepted cfg (firing at) w)
+fired_octets cfg at w = by (happens cfg w (firing at))
+  where
+    by : (o : WorldOutcome) → AreInOctets (one_if (firing at) o)
+    by (Happened next) = (tt, tt)
+    by (Declined e) = tt
+
+healing_octets : (cfg : Cfg) (w : World) → AreInOctets (healing cfg w)
+healing_octets cfg w =
+    let v = drained_at cfg w in
+    let y = dte_fired cfg v in
+    let x = dce_fired cfg y in
+    octets_append (deliveries cfg w) (both_fire cfg v) (received_octets (arrivals cfg most_deliveries w))
+    (octets_append (if_accepted cfg (firing Dte) v) (dce_fires cfg y) (fired_octets cfg Dte v)
+    (octets_append (if_accepted cfg (firing Dce) y) (deliveries cfg x) (fired_octets cfg Dce y) (received_octets (arrivals cfg most_deliveries x))))
+
+pub holds_healed : (Holds : Cfg → World → World → Type 0) {T : Type 0} (r : Result T WorldError) (old new : ShownWorld) (cfg : Cfg) (from : World) (past : List Event) (gone : Gone) → FitsRun cfg from old past gone
+    → (let w = run cfg past from in OnOk r (GoesBy cfg (healing cfg w) w new gone)
+    → (AreInOctets (past ++ healing cfg w) → Holds cfg w (run cfg (past ++ healing cfg w) from))
+    → OnOk r (Leaves (λ (c : Cfg) (u : World). Holds c w u) cfg from new (past ++ healing cfg w) gone))
+holds_healed Holds (Err e) old new cfg from past gone h goes law = tt
+holds_healed Holds (Ok x) old new cfg from past gone h goes law =
+    let w = run cfg past from in
+    let octets = octets_append past (healing cfg w) h.octets (healing_octets cfg w) in
+    leaves (λ (c : Cfg) (u : World). Holds c w u) new cfg from (past ++ healing cfg w) gone (record {
+      settings = h.settings;
+      octets = octets;
+      accepted = accepted_append cfg past (healing cfg w) from h.accepted goes.accepted;
+      fits = subst (λ (z : World). FitsWorld cfg new z gone) (sym (run_append cfg past (healing cfg w) from)) goes.fits;
+    }) (law octets)
+
+-- both firings, accepted or not, and then what is on the line comes
+ends_so : (cfg : Cfg) (w : World) → (let fired = run cfg (firing Dte ∷ firing Dce ∷ []) (drained_at cfg w) in run cfg (healing cfg w) w ≡ run cfg (deliveries cfg fired) fired)
+ends_so cfg w =
+    let v = drained_at cfg w in
+    let y = dte_fired cfg v in
+    let x = dce_fired cfg y in
+    run_append cfg (deliveries cfg w) (both_fire cfg v) w
+    ∙ run_append cfg (if_accepted cfg (firing Dte) v) (dce_fires cfg y) v
+    ∙ run_append cfg (if_accepted cfg (firing Dce) y) (deliveries cfg x) y
+    ∙ ap (λ (z : World). run cfg (deliveries cfg z) z) (tried_is cfg (firing Dce) y ∙ ap (λ (z : World). after z (happens cfg z (firing Dce))) (tried_is cfg (firing Dte) v))
+
+pub heals_from : Throughout HealsWhereNonePut → (cfg : Cfg) → config_refusal cfg ≡ None → (from : World) → IsBeginning cfg from → (past : List Event) → AreInOctets past
+    → (let w = run cfg past from in HealsFrom cfg w (run cfg (past ++ healing cfg w) from))
+heals_from law cfg fine from begins past octets may none after_all =
+    let w = run cfg past from in
+    let v = drained_at cfg w in
+    let fired = run cfg (firing Dte ∷ firing Dce ∷ []) v in
+    let ends = arrivals cfg most_deliveries fired in
+    let same : run cfg (past ++ healing cfg w) from ≡ run cfg (all_received ends) fired = run_append cfg past (healing cfg w) from ∙ ends_so cfg w in
+    let here : HealsWhereNonePut cfg v =
+    subst (HealsWhereNonePut cfg) (run_append cfg past (deliveries cfg w) from)
+    (law cfg fine from begins (past ++ deliveries cfg w) (octets_append past (deliveries cfg w) octets (received_octets (arrivals cfg most_deliveries w)))) in
+    subst (Heals cfg v) (sym same) (here may ends none (subst IsDrained same after_all))

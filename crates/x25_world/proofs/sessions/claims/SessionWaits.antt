@@ -1,0 +1,195 @@
+-- Where both links are idle, and a pull at the one end changes nothing, what waits in an open stretch there waits for the user at the other end.
+use Rattle.std.proofs.Common.{◌≡◌, ℕ, ◌+◌, ◌<◌, ◌≤◌, inl, inr, List, [], ◌∷◌, ◌++◌, length, Bool, true, false, Option, Some, None, if◌then◌else◌, ◌==◌, ◌&&◌, refl, sym, ap, subst, ◌∙◌, arith, length-append}
+use Rattle.std.proofs.lemmas.List.{length-map}
+use Rattle.std.proofs.lemmas.Bool.{eqb-true}
+use Rattle.x25_bits.specs.declared.role.Role.{Role}
+use Rattle.x25_bits.specs.declared.role.Role.TheVariants.{Dte, Dce}
+use Rattle.x25_packet.specs.PlainPacket.{PlainPacket}
+use Rattle.x25_packet.specs.Spelling as packet
+use Rattle.x25_link.specs.MustSend.{other}
+use Rattle.x25_link.specs.Outgoing as outgoing
+use Rattle.x25_link.specs.Steps as link
+use Rattle.x25_link.specs.Steps.{alone}
+use Rattle.x25_link.specs.LinkStation.{LinkStation, is_up}
+use Rattle.x25_line.specs.Sessions.{Meeting}
+use Rattle.x25_line.specs.laws.SessionClaims.{IdleHasArrived}
+use Rattle.x25_circuit.specs.Circuit.{is_open, waits}
+use Rattle.x25_handshakes.specs.Names.{Name}
+use Rattle.x25_layer.specs.Layer.{LayerSettings, Layer, is_channel}
+use Rattle.x25_layer.specs.Calls.{LayerRequest, PullsAll}
+use Rattle.x25_layer.specs.Rounds.{Putting, Answered, Went, Refuses, calls}
+use Rattle.x25_layer.specs.Apart.{AlwaysApart, as_world}
+use Rattle.x25_layer.specs.Transcript.{Entry, name_of}
+use Rattle.x25_layer.specs.TwoLayers as layer
+use Rattle.x25_layer.specs.laws.Law.{HasAllOf, KeepsOrder}
+use Rattle.x25_layer.specs.laws.WaitLaw as wait
+use Rattle.x25_layer.specs.laws.WaitLaw.{PullsNone, StillPullsNone, IsDrained, IsOpenAtBoth, WaitForUsersAlone}
+use Rattle.x25_station.specs.declared.config.Cfg.{Cfg}
+use Rattle.x25_station.specs.Settings.{Settings, settings_from, link_settings, layer_settings}
+use Rattle.x25_station.specs.Entries.{StationEntry}
+use Rattle.x25_station.specs.Station.{Station, view_of}
+use Rattle.x25_station.specs.Steps.{did, requests}
+use Rattle.x25_station.specs.Told.{stretch}
+use Rattle.x25_station.specs.laws.KeepLaw.{ConnectKeeps}
+use Rattle.x25_world.specs.World.{World, swapped, WorldOutcome, Happened, Declined, of_station, swapped_back, happens, run}
+use Rattle.x25_world.specs.Sessions.{last_session, handed_in}
+use Rattle.x25_world.specs.laws.SessionClaims.{Throughout}
+use Rattle.x25_world.specs.laws.WaitClaims.{pull_at, WaitsForUser, Arrived, NotReady, MessagesWaitForUsers}
+use Rattle.x25_world.specs.laws.LawsBelow.{SessionLaws}
+use Rattle.x25_world.proofs.Known.{IsConfigured, is_configured, both_true, true_false}
+use Rattle.x25_world.proofs.Growing.{spelled}
+use Rattle.x25_world.proofs.sessions.SessionTrace.{layer_of, Done, own, pair_in}
+use Rattle.x25_world.proofs.sessions.SessionReaches.{Beginning, known_sessions}
+use Rattle.x25_world.proofs.sessions.SessionJoined.{HasMet, PairIsInOrder, SessionsJoined, sessions_swapped}
+use Rattle.x25_world.proofs.sessions.SessionKnown.{some_map, met_in_order, pair_ends, pair_world, world_here, world_there}
+use Rattle.x25_world.proofs.sessions.SessionRuns.{throughout_joined}
+use Rattle.x25_world.proofs.sessions.claims.SessionArrives.{stretch_of, name_if, open_if, up_where_open, StandingMeet, meet_from, latest_near, latest_far}
+
+-- ---- a pull that changes nothing
+
+-- a link that is idle has room
+idle_has_room : (s : LinkStation) → link.is_idle s ≡ true → outgoing.waits s.outgoing < 8
+idle_has_room s idle =
+    let none = eqb-true (outgoing.waits s.outgoing) 0 (both_true (outgoing.waits s.outgoing == 0) (s.outgoing.acked == s.outgoing.sent) (both_true (is_up s.phase) (outgoing.waits s.outgoing == 0 && s.outgoing.acked == s.outgoing.sent) idle).1).0 in
+    omega (arith, none)
+
+abbrev layer_after : Layer → WorldOutcome → Layer
+layer_after l (Happened w) = w.near.layer
+layer_after l (Declined e) = l
+
+had_nothing : StillPullsNone → (c : Settings) (w : World) → link.is_idle w.near.link ≡ true → of_station c w (requests c w.near PullsAll) ≡ Happened w → PullsNone (layer_settings c) w.near.layer
+had_nothing law c w idle still = by _ (calls (view_of (link_settings c) w.near.link) (layer_settings c) w.near.layer PullsAll) refl still
+  where
+    by : (entries : List StationEntry) (a : Answered) → calls (view_of (link_settings c) w.near.link) (layer_settings c) w.near.layer PullsAll ≡ a → of_station c w (did c (alone w.near.link) entries a) ≡ Happened w
+        → PullsNone (layer_settings c) w.near.layer
+    by entries (Went s) is same = law (view_of (link_settings c) w.near.link) (layer_settings c) w.near.layer s is (ap (λ (o : WorldOutcome). layer_after w.near.layer o) same) (idle_has_room w.near.link idle)
+    by entries (Refuses e) is same = absurd (cc)
+
+-- ---- of two layers in order
+
+no_length : (l : List PlainPacket) → length l ≡ 0 → l ≡ []
+no_length [] e = refl
+no_length (p ∷ l) e = absurd (omega (arith, e))
+
+none_left : (given taken out : List PlainPacket) → given ≡ taken ++ out → length taken ≡ length given → out ≡ []
+none_left given taken out order all =
+    let l : length given ≡ length taken + length out = ap length order ∙ length-append taken out in
+    no_length out (let e : length out ≡ 0 = omega (arith, l, all) in e)
+
+as_many : (taken given : List PlainPacket) → spelled taken ≡ spelled given → length taken ≡ length given
+as_many taken given all = sym (length-map taken packet.spelling_of) ∙ ap (λ (l : List (List ℕ)). length l) all ∙ length-map given packet.spelling_of
+
+drained_turned : (w : layer.TwoLayers) → IsDrained (layer.turned w) → IsDrained w
+drained_turned w d = record { near_up = d.far_up; far_up = d.near_up; out = d.back; back = d.out }
+
+abbrev pub LayersWait : Type 0
+LayersWait = (long_data : Bool) (channels : ℕ) → AlwaysApart (WaitForUsersAlone long_data channels) long_data channels
+
+module _ (laws : SessionLaws) (waits_law : LayersWait) (cfg : Cfg) where
+  order_here : (end : Role) (n m : ℕ) (trace : List Done) → PairIsInOrder cfg end trace n m → KeepsOrder (pair_world laws cfg end n m trace)
+  order_here Dte n m trace order = laws.layers_order cfg.long_data cfg.channels (pair_in n m trace) order
+  order_here Dce n m trace order =
+      let k = laws.layers_order cfg.long_data cfg.channels (pair_in m n trace) order in
+      record { near = k.far; far = k.near }
+
+  waits_here : (end : Role) (n m : ℕ) (trace : List Done) → PairIsInOrder cfg end trace n m → IsDrained (pair_world laws cfg end n m trace) → PullsNone (layer_of cfg end) (pair_world laws cfg end n m trace).near.layer
+      → (k : ℕ) → is_channel cfg.channels k ≡ true → wait.WaitsForUser k (pair_world laws cfg end n m trace).near (pair_world laws cfg end n m trace).far
+  waits_here Dte n m trace order drained none k is = (waits_law cfg.long_data cfg.channels (pair_in n m trace) order).near drained none k is
+  waits_here Dce n m trace order drained none k is = (waits_law cfg.long_data cfg.channels (pair_in m n trace) order).far (drained_turned (as_world (pair_ends cfg Dce n m trace)) drained) none k is
+
+  -- of any two ends
+  abbrev WaitsFrom : Role → layer.End → layer.End → Type 0
+  WaitsFrom end giver taker = giver.is_out ≡ false → taker.is_out ≡ false → length taker.taken ≡ length giver.given → length giver.taken ≡ length taker.given → PullsNone (layer_of cfg end) giver.layer
+      → (k : ℕ) → is_channel cfg.channels k ≡ true → wait.WaitsForUser k giver taker
+
+  waits_in_pair : (end : Role) (n m : ℕ) (trace : List Done) → PairIsInOrder cfg end trace n m → WaitsFrom end (pair_world laws cfg end n m trace).near (pair_world laws cfg end n m trace).far
+  waits_in_pair end n m trace order up up_there all all_back none k is =
+      let p = pair_world laws cfg end n m trace in
+      let keeps = order_here end n m trace order in
+      waits_here end n m trace order (record { near_up = up; far_up = up_there; out = none_left p.near.given p.far.taken p.out keeps.near all; back = none_left p.far.given p.near.taken p.back keeps.far all_back }) none k is
+
+  own_waits : (end : Role) (n m : ℕ) (trace : List Done) → PairIsInOrder cfg end trace n m → WaitsFrom end (own cfg end n trace) (own cfg (other end) m trace)
+  own_waits end n m trace order = subst (λ (e : layer.End). WaitsFrom end e (own cfg (other end) m trace)) (world_here laws cfg end n m trace)
+      (subst (λ (f : layer.End). WaitsFrom end (pair_world laws cfg end n m trace).near f) (world_there laws cfg end n m trace) (waits_in_pair end n m trace order))
+
+-- ---- of a world
+
+-- a stretch that is open, as the station shows it
+stretch_is : (c : Settings) (s : Station) (k : ℕ) (name : Name) → is_channel c.channels k ≡ true → is_open (s.layer.circuits k) ≡ true → name_of s.layer k ≡ name → stretch c s k ≡ Some name
+stretch_is c s k name channel opened named =
+    ap (λ (b : Bool). name_if (open_if b (is_open (s.layer.circuits k))) (name_of s.layer k)) channel ∙ ap (λ (b : Bool). name_if b (name_of s.layer k)) opened ∙ ap (λ (n : Name). Some n) named
+
+module _ (laws : SessionLaws) (waits_law : LayersWait) (still_law : StillPullsNone) (cfg : Cfg) (fine : IsConfigured cfg) where
+  waits_from : {since : Beginning} (end : Role) (w : World) → SessionsJoined since cfg end w → (k : ℕ) (name : Name) → link.is_idle w.near.link ≡ true → link.is_idle w.far.link ≡ true
+      → of_station (settings_from end cfg) w (requests (settings_from end cfg) w.near PullsAll) ≡ Happened w → stretch (settings_from end cfg) w.near k ≡ Some name
+      → (stretch (settings_from (other end) cfg) w.far k ≡ Some name) × WaitsForUser k name w.near w.far (handed_in end (last_session end w) w) (handed_in (other end) (last_session (other end) w) w)
+  waits_from end w h k name idle idle_there still here =
+      let stands = meet_from laws cfg fine end w h k name here in
+      let shown = stretch_of cfg.channels w.near.layer k name here in
+      let at = h.near.now stands.up in
+      let up_there = (both_true (is_up w.far.link.phase) (outgoing.waits w.far.link.outgoing == 0 && w.far.link.outgoing.acked == w.far.link.outgoing.sent) idle_there).0 in
+      let at_there = h.far.now up_there in
+      let near_session = h.near.sessions n stands.begun.0 (omega arith) in
+      let far_session = h.far.sessions m stands.begun.1 (omega arith) in
+      let met = some_map (λ (p : Meeting). (p.near ≡ n) × (p.far ≡ m)) (λ (p : Meeting). p.near ≡ n) (λ (p : Meeting) is. is.0) h.links.met stands.has_met in
+      let met_there = some_map (λ (p : Meeting). (p.near ≡ n) × (p.far ≡ m)) (λ (p : Meeting). p.far ≡ m) (λ (p : Meeting) is. is.1) h.links.met stands.has_met in
+      let has = known_sessions IdleHasArrived laws.idle cfg fine end h.links h.reach in
+      let arrived = has.near (ap (λ (x : LinkStation). link.is_idle x) h.near.link ∙ idle) (inr met) in
+      let arrived_back = has.far (ap (λ (x : LinkStation). link.is_idle x) h.far.link ∙ idle_there) (inr met_there) in
+      let all : spelled taker.taken ≡ spelled giver.given = sym far_session.up ∙ arrived ∙ near_session.down in
+      let all_back : spelled giver.taken ≡ spelled taker.given = sym near_session.up ∙ arrived_back ∙ far_session.down in
+      let order = met_in_order cfg end h.trace h.links.met n m h.pairs stands.has_met in
+      let none = had_nothing still_law (settings_from end cfg) w idle still in
+      let what = own_waits laws waits_law cfg end n m h.trace order at.out at_there.out (as_many taker.taken giver.given all) (as_many giver.taken taker.given all_back)
+      (subst (λ (l : Layer). PullsNone (layer_of cfg end) l) (sym at.layer) none) k shown.channel in
+      shows at.layer at_there.layer shown.channel shown.opened shown.named what near_session.entries far_session.entries
+    where
+      n : ℕ
+      n = h.links.near.begun
+
+      m : ℕ
+      m = h.links.far.begun
+
+      giver : layer.End
+      giver = own cfg end n h.trace
+
+      taker : layer.End
+      taker = own cfg (other end) m h.trace
+
+      Claimed : Type 0
+      Claimed = (stretch (settings_from (other end) cfg) w.far k ≡ Some name) × WaitsForUser k name w.near w.far (handed_in end (last_session end w) w) (handed_in (other end) (last_session (other end) w) w)
+
+      there_too : giver.layer ≡ w.near.layer → taker.layer ≡ w.far.layer → is_channel cfg.channels k ≡ true → name_of w.near.layer k ≡ name → IsOpenAtBoth k giver taker → stretch (settings_from (other end) cfg) w.far k ≡ Some name
+      there_too of_giver of_taker channel named both =
+          stretch_is (settings_from (other end) cfg) w.far k name channel (ap (λ (l : Layer). is_open (l.circuits k)) (sym of_taker) ∙ both.opened_there)
+          (ap (λ (l : Layer). name_of l k) (sym of_taker) ∙ sym both.same_name ∙ ap (λ (l : Layer). name_of l k) of_giver ∙ named)
+
+      has_all : giver.layer ≡ w.near.layer → name_of w.near.layer k ≡ name → giver.entries ≡ handed_in end n w → taker.entries ≡ handed_in (other end) m w → HasAllOf k (name_of giver.layer k) giver.entries taker.entries
+          → HasAllOf k name (handed_in end (last_session end w) w) (handed_in (other end) (last_session (other end) w) w)
+      has_all of_giver named down up all =
+          subst (λ (x : ℕ). HasAllOf k name (handed_in end x w) (handed_in (other end) (last_session (other end) w) w)) (latest_near laws cfg fine end w h)
+          (subst (λ (x : ℕ). HasAllOf k name (handed_in end n w) (handed_in (other end) x w)) (latest_far laws cfg fine end w h)
+          (subst (λ (x : Name). HasAllOf k x (handed_in end n w) (handed_in (other end) m w)) (ap (λ (l : Layer). name_of l k) of_giver ∙ named)
+          (subst (λ (es : List Entry). HasAllOf k (name_of giver.layer k) es (handed_in (other end) m w)) down
+          (subst (λ (es : List Entry). HasAllOf k (name_of giver.layer k) giver.entries es) up all))))
+
+      shows : giver.layer ≡ w.near.layer → taker.layer ≡ w.far.layer → is_channel cfg.channels k ≡ true → is_open (w.near.layer.circuits k) ≡ true → name_of w.near.layer k ≡ name → wait.WaitsForUser k giver taker
+          → giver.entries ≡ handed_in end n w → taker.entries ≡ handed_in (other end) m w → Claimed
+      shows of_giver of_taker channel opened named (wait.NotOpen closed none) down up = absurd (true_false (sym (ap (λ (l : Layer). is_open (l.circuits k)) of_giver ∙ opened) ∙ closed))
+      shows of_giver of_taker channel opened named (wait.Arrived both none all) down up =
+          (there_too of_giver of_taker channel named both, Arrived (ap (λ (l : Layer). waits (l.circuits k)) (sym of_giver) ∙ none) (has_all of_giver named down up all))
+      shows of_giver of_taker channel opened named (wait.NotReady both not) down up =
+          (there_too of_giver of_taker channel named both, NotReady (ap (λ (l : Layer). (l.circuits k).talk.own_ready) (sym of_taker) ∙ not))
+
+  swapped_is : (o : WorldOutcome) (w : World) → swapped_back o ≡ Happened w → o ≡ Happened (swapped w)
+  swapped_is (Happened v) w is = ap (λ (u : WorldOutcome). swapped_back u) is
+  swapped_is (Declined e) w is = absurd (cc)
+
+  pub messages_wait : {since : Beginning} (w : World) → SessionsJoined since cfg Dte w → MessagesWaitForUsers cfg w
+  messages_wait w h Dte k name idle idle_there still here = waits_from Dte w h k name idle idle_there still here
+  messages_wait w h Dce k name idle idle_there still here =
+      waits_from Dce (swapped w) (sessions_swapped cfg Dte w h) k name idle idle_there (swapped_is (of_station (settings_from Dce cfg) (swapped w) (requests (settings_from Dce cfg) w.far PullsAll)) w still) here
+
+pub throughout_wait : SessionLaws → LayersWait → StillPullsNone → ConnectKeeps → Throughout MessagesWaitForUsers
+throughout_wait laws waits_law still_law keeps cfg fine begin which events octets =
+    messages_wait laws waits_law still_law cfg (is_configured cfg fine) (run cfg events begin) (throughout_joined laws keeps cfg fine begin which events octets)

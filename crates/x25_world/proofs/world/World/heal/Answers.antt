@@ -1,0 +1,25 @@
+use Rattle.x25_world.specs.World.{run}
+use Rattle.x25_world.specs.Healing.{healing, RestShows, HealsFrom}
+use Rattle.x25_world.specs.laws.SessionClaims.{SessionsKeepOrder}
+use Rattle.x25_world.proofs.WorldLemmas.{all_of_sessions}
+use Rattle.x25_world.proofs.HealingSchedule.{holds_healed, heals_from}
+use Rattle.x25_world.proofs.world.World.heal.Goals as goal
+
+pub returns-clause-sessions : goal.returns-clause-sessions
+returns-clause-sessions c = λ cfg from past gone begins h.
+    let law = c.stations_meet_in_sessions.ensures in
+    let w = run cfg past from in
+    holds_healed (λ c' w u. SessionsKeepOrder c' u) c.go_on.result c.args.self.now c.go_on.new.self cfg from past gone h (c.go_on.ensures.goes cfg w gone h.fits)
+    (λ octets. all_of_sessions law.step law.lawful law.named law.arrives law.unmet law.stand law.quiet law.window cfg h.settings from begins _ octets)
+
+pub returns-clause-rest : goal.returns-clause-rest
+returns-clause-rest c = λ cfg from past gone begins h.
+    let w = run cfg past from in
+    holds_healed (λ c' w u. RestShows c' u) c.go_on.result c.args.self.now c.go_on.new.self cfg from past gone h (c.go_on.ensures.goes cfg w gone h.fits)
+    (λ octets. c.stations_heal.ensures.rest cfg h.settings from begins _ octets)
+
+pub returns-clause-heals : goal.returns-clause-heals
+returns-clause-heals c = λ cfg from past gone begins h.
+    let w = run cfg past from in
+    holds_healed HealsFrom c.go_on.result c.args.self.now c.go_on.new.self cfg from past gone h (c.go_on.ensures.goes cfg w gone h.fits)
+    (λ octets. heals_from c.stations_heal.ensures.heals cfg h.settings from begins past h.octets)

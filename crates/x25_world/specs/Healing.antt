@@ -1,0 +1,191 @@
+-- Healing of two stations: once the line is good for a moment, what their links were handed down arrives. What is on the line arrives; timer T1
+-- runs out once at each end where it runs; and then all that is on the line arrives, while nothing is lost.
+use Rattle.std.specs.Prelude.{◌≡◌, ℕ, zero, suc, ◌+◌, ◌<◌, ◌≤◌, length, ◌⊎◌, true, false, List, [], ◌∷◌, ◌++◌, Option, Some, None}
+use Rattle.x25_bits.specs.declared.role.Role.{Role}
+use Rattle.x25_bits.specs.declared.role.Role.TheVariants.{Dte, Dce}
+use Rattle.x25_link.specs.MustSend.{other}
+use Rattle.x25_link.specs.LinkStation.{LinkStation, is_up, awaits_ua}
+use Rattle.x25_link.specs.Steps.{timer_runs, take_step}
+use Rattle.x25_link.specs.laws.RestLaw.{IsAtRest}
+use Rattle.x25_line.specs.Sessions.{Sessions}
+use Rattle.x25_line.specs.SessionNumbers.{Standing}
+use Rattle.x25_line.specs.Healing.{EachRestShows, SessionsAreHealed, OneIsFree}
+use Rattle.x25_layer.specs.laws.Law.{HasAllOf}
+use Rattle.x25_layer.specs.code.FitsLayer.{waits_up_to}
+use Rattle.x25_handshakes.specs.Names.{Name}
+use Rattle.x25_station.specs.declared.config.Cfg.{Cfg}
+use Rattle.x25_station.specs.Settings.{Settings, settings_from, link_settings, layer_settings}
+use Rattle.x25_station.specs.Station.{Station, view_of}
+use Rattle.x25_station.specs.Steps.{abandons, layer_at}
+use Rattle.x25_station.specs.Told.{stretch}
+use Rattle.x25_world.specs.World.{World, WorldOutcome, Happened, Declined, Act, Event, Receives, Fires, happens, after, run, AreAccepted}
+use Rattle.x25_world.specs.laws.Claims.{link_of, station_at}
+use Rattle.x25_world.specs.SessionWindow.{IsRunOfSessions}
+use Rattle.x25_world.specs.Sessions.{last_session, handed_in}
+
+-- nothing is on the line
+pub record IsDrained (w : World) : Type 0 where
+  pub out : w.out ≡ []
+  pub back : w.back ≡ []
+
+-- ---- the schedule
+
+-- the front octets come to an end
+abbrev pub receipt : Role → Event
+receipt at = record { at = at; act = Receives }
+
+abbrev pub all_received : List Role → List Event
+all_received [] = []
+all_received (at ∷ ends) = receipt at ∷ all_received ends
+
+-- timer T1 runs out at an end
+abbrev pub firing : Role → Event
+firing at = record { at = at; act = Fires }
+
+-- the end to which the next frame comes: the DCE where one is on the line to it, else the DTE
+abbrev pub next_end : List (List ℕ) → List (List ℕ) → Option Role
+next_end (octets ∷ to_dce) to_dte = Some Dce
+next_end [] (octets ∷ to_dte) = Some Dte
+next_end [] [] = None
+
+-- the ends to which what is on the line comes, frame by frame, at most so many of them
+abbrev pub arrivals_from : Cfg → (World → List Role) → World → Option Role → List Role
+arrivals_from cfg rest w None = []
+arrivals_from cfg rest w (Some at) = at ∷ rest (after w (happens cfg w (receipt at)))
+
+unfoldable pub arrivals : Cfg → ℕ → World → List Role
+arrivals cfg zero w = []
+arrivals cfg (suc n) w = arrivals_from cfg (arrivals cfg n) w (next_end w.out w.back)
+
+-- how many deliveries follow one another at most
+abbrev pub most_deliveries : ℕ
+most_deliveries = 4294967295
+
+abbrev pub deliveries : Cfg → World → List Event
+deliveries cfg w = all_received (arrivals cfg most_deliveries w)
+
+-- an event that is accepted
+abbrev pub one_if : Event → WorldOutcome → List Event
+one_if e (Happened next) = e ∷ []
+one_if e (Declined error) = []
+
+abbrev pub if_accepted : Cfg → Event → World → List Event
+if_accepted cfg e w = one_if e (happens cfg w e)
+
+-- one list of events behind another, as each comes from where it begins
+abbrev pub behind : Cfg → (World → List Event) → (World → List Event) → World → List Event
+behind cfg first rest w = first w ++ rest (run cfg (first w) w)
+
+-- timer T1 runs out at each end where it runs, the DTE first, and then what is on the line comes
+abbrev pub dce_fires : Cfg → World → List Event
+dce_fires cfg w = behind cfg (if_accepted cfg (firing Dce)) (deliveries cfg) w
+
+abbrev pub both_fire : Cfg → World → List Event
+both_fire cfg w = behind cfg (if_accepted cfg (firing Dte)) (dce_fires cfg) w
+
+-- deliver, fire, deliver
+abbrev pub healing : Cfg → World → List Event
+healing cfg w = behind cfg (deliveries cfg) (both_fire cfg) w
+
+-- how many deliveries are among events
+abbrev pub received_by : Act → ℕ
+received_by Receives = 1
+received_by act = 0
+
+abbrev pub received_in : List Event → ℕ
+received_in [] = 0
+received_in (e ∷ events) = received_by e.act + received_in events
+
+-- ---- two links behind a world
+
+-- a run of two links in sessions, from both down, that has the links and the lines of this world
+abbrev pub AreLinksOf : Cfg → World → Sessions → Type 0
+AreLinksOf cfg w v = (s : Standing) × IsRunOfSessions cfg w v s
+
+-- ---- what rest shows
+
+-- An end whose link is up and whose timer T1 doesn't run is at rest.
+abbrev pub StopsAtRest : Station → Type 0
+StopsAtRest s = is_up s.link.phase ≡ true → timer_runs s.link.phase s.link ≡ false → IsAtRest s.link
+
+-- Then all that its link was handed down in its session was handed up at the other end, where that is up or met its session. So where no message waits
+-- in a circuit either, all that was sent on a stretch that is open at both ends has arrived.
+pub record RestShows (cfg : Cfg) (w : World) : Type 0 where
+  pub at_rest : (end : Role) → StopsAtRest (station_at end w)
+  pub links : Sessions
+  pub are : AreLinksOf cfg w links
+  pub arrived : EachRestShows (link_of cfg Dte) (link_of cfg Dce) links
+  pub messages : (end : Role) (channel : ℕ) (name : Name) → is_up (station_at end w).link.phase ≡ true → timer_runs (station_at end w).link.phase (station_at end w).link ≡ false
+      → waits_up_to (station_at end w).layer.circuits cfg.channels ≡ 0 → stretch (settings_from end cfg) (station_at end w) channel ≡ Some name
+      → stretch (settings_from (other end) cfg) (station_at (other end) w) channel ≡ Some name
+      → HasAllOf channel name (handed_in end (last_session end w) w) (handed_in (other end) (last_session (other end) w) w)
+
+-- ---- where the layers put nothing
+
+-- as the front octets come, the layer puts nothing, and no count of it is at its most
+abbrev pub PutsNothing : Settings → Station → List (List ℕ) → Type 0
+PutsNothing c s [] = Unit {0}
+PutsNothing c s (octets ∷ back) =
+    let k = take_step (link_settings c) octets s.link in
+    (abandons c s ≡ false) × ((layer_at (view_of (link_settings c) k.side.near) (layer_settings c) s.layer k.packet k.notes.down k.notes.up).put ≡ [])
+
+abbrev pub PutsNothingAt : Cfg → Role → World → Type 0
+PutsNothingAt cfg Dte w = PutsNothing (settings_from Dte cfg) w.near w.back
+PutsNothingAt cfg Dce w = PutsNothing (settings_from Dce cfg) w.far w.out
+
+-- .. at each of these deliveries
+abbrev pub NonePut : Cfg → List Role → World → Type 0
+NonePut cfg [] w = Unit {0}
+NonePut cfg (at ∷ ends) w = PutsNothingAt cfg at w × NonePut cfg ends (after w (happens cfg w (receipt at)))
+
+-- ---- healing
+
+-- timer T1 of the end has run out fewer than N2 times where it runs
+abbrev pub HasTries : Cfg → LinkStation → Type 0
+HasTries cfg s = timer_runs s.phase s ≡ true → s.tries < cfg.n2
+
+abbrev pub RestsOrIsOut : LinkStation → Type 0
+RestsOrIsOut s = IsAtRest s ⊎ (is_up s.phase ≡ false)
+
+-- Both links are at rest, and all that they were handed down in their sessions has been handed up at the other end: two links behind the first world
+-- have gone on to two behind the second.
+pub record IsHealed (cfg : Cfg) (w u : World) : Type 0 where
+  pub dte : IsAtRest u.near.link
+  pub dce : IsAtRest u.far.link
+  pub before : Sessions
+  pub behind : Sessions
+  pub before_are : AreLinksOf cfg w before
+  pub behind_are : AreLinksOf cfg u behind
+  pub healed : SessionsAreHealed before behind
+
+-- Each link is at rest, or not up. If both were up, and timer T1 had run out fewer than N2 times where it ran, both are at rest, and all has arrived.
+pub record Heals (cfg : Cfg) (w u : World) : Type 0 where
+  pub dte : RestsOrIsOut u.near.link
+  pub dce : RestsOrIsOut u.far.link
+  pub healed : is_up w.near.link.phase ≡ true → is_up w.far.link.phase ≡ true → HasTries cfg w.near.link → HasTries cfg w.far.link → IsHealed cfg w u
+
+-- a moment in which nothing is on the line, no link is being set up, and not both ends are busy
+pub record MayHeal (w : World) : Type 0 where
+  pub drained : IsDrained w
+  pub near : awaits_ua w.near.link.phase ≡ false
+  pub far : awaits_ua w.far.link.phase ≡ false
+  pub free : OneIsFree w.near.link w.far.link
+
+-- From such a moment timer T1 runs out at each end where it runs, and then all that is on the line comes, in any order of the two directions, while the
+-- layers put nothing.
+abbrev pub HealsWhereNonePut : Cfg → World → Type 0
+HealsWhereNonePut cfg w =
+    MayHeal w → (ends : List Role)
+    → (let fired = run cfg (firing Dte ∷ firing Dce ∷ []) w in NonePut cfg ends fired → (let u = run cfg (all_received ends) fired in IsDrained u → Heals cfg w u))
+
+-- The world bounds how many deliveries follow one another, whatever their order, while the layers put nothing.
+abbrev pub DrainsWhereNonePut : Cfg → World → Type 0
+DrainsWhereNonePut cfg w = (most : ℕ) × ((ends : List Role) → NonePut cfg ends w → AreAccepted cfg (all_received ends) w → length ends ≤ most)
+
+-- Of the schedule from a world: from the moment in which all that was on the line has come, it heals, where the layers put nothing behind the firings, and
+-- all has come.
+abbrev pub HealsFrom : Cfg → World → World → Type 0
+HealsFrom cfg w u =
+    let v = run cfg (deliveries cfg w) w in
+    let fired = run cfg (firing Dte ∷ firing Dce ∷ []) v in
+    MayHeal v → NonePut cfg (arrivals cfg most_deliveries fired) fired → IsDrained u → Heals cfg v u

@@ -1,0 +1,37 @@
+-- What still waits in the circuits of two stations where both links are idle and a pull changes nothing.
+use Rattle.std.specs.Prelude.{◌≡◌, ℕ, List, true, false, Some}
+use Rattle.x25_bits.specs.declared.role.Role.{Role}
+use Rattle.x25_link.specs.MustSend.{other}
+use Rattle.x25_link.specs.Steps as link
+use Rattle.x25_circuit.specs.Circuit.{waits}
+use Rattle.x25_handshakes.specs.Names.{Name}
+use Rattle.x25_layer.specs.Calls.{PullsAll}
+use Rattle.x25_layer.specs.Transcript.{Entry}
+use Rattle.x25_layer.specs.laws.Law.{HasAllOf}
+use Rattle.x25_station.specs.declared.config.Cfg.{Cfg}
+use Rattle.x25_station.specs.Settings.{settings_from}
+use Rattle.x25_station.specs.Command.{Requests}
+use Rattle.x25_station.specs.Station.{Station}
+use Rattle.x25_station.specs.Told.{stretch}
+use Rattle.x25_world.specs.World.{World, Event, Commands, WorldOutcome, Happened, happens}
+use Rattle.x25_world.specs.Sessions.{last_session, handed_in}
+use Rattle.x25_world.specs.laws.Claims.{station_at}
+
+-- the data packets that wait at an end are pulled
+abbrev pub pull_at : Role → Event
+pull_at end = record { at = end; act = Commands (Requests PullsAll) }
+
+-- Of a stretch of channel k that is open at both ends: no message of it waits and all messages and interrupts that the giver was handed down in
+-- it were handed up, or the user at the other end isn't ready (section 4.4.1.5).
+pub data WaitsForUser (k : ℕ) (name : Name) (giver taker : Station) (down up : List Entry) : Type 0 where
+  Arrived : waits (giver.layer.circuits k) ≡ 0 → HasAllOf k name down up → WaitsForUser k name giver taker down up
+  NotReady : (taker.layer.circuits k).talk.own_ready ≡ false → WaitsForUser k name giver taker down up
+
+-- Where both links are idle and a pull at an end changes nothing, each stretch that is open there is open at the other end too, and what waits
+-- in it waits for that end's user.
+abbrev pub MessagesWaitForUsers : Cfg → World → Type 0
+MessagesWaitForUsers cfg w =
+    (end : Role) (channel : ℕ) (name : Name) → link.is_idle (station_at end w).link ≡ true → link.is_idle (station_at (other end) w).link ≡ true → happens cfg w (pull_at end) ≡ Happened w
+    → stretch (settings_from end cfg) (station_at end w) channel ≡ Some name
+    → (stretch (settings_from (other end) cfg) (station_at (other end) w) channel ≡ Some name)
+    × WaitsForUser channel name (station_at end w) (station_at (other end) w) (handed_in end (last_session end w) w) (handed_in (other end) (last_session (other end) w) w)

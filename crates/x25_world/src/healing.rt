@@ -1,0 +1,136 @@
+//! Healing: once the line is good for a moment, what the links were handed down arrives.
+ghost use Rattle.std.specs.Prelude.{◌≡◌, ◌≢◌, ◌↔◌, ◌<◌, length, option_map, None, IfOk, IfErr, OnOk, IsTrue};
+ghost use Rattle.x25_bits.specs.Role.{end_of};
+ghost use Rattle.x25_station.specs.declared.config.Cfg.{Cfg};
+ghost use Rattle.x25_world.specs.World as definition;
+ghost use Rattle.x25_world.specs.code.FitsWorld.{Gone, FitsWorld};
+ghost use Rattle.x25_world.specs.code.FitsHealing.{GoesBy, GoesPartly, HoldsHealed};
+ghost use Rattle.x25_world.specs.laws.SessionClaims.{Throughout, SessionsKeepOrder};
+ghost use Rattle.x25_world.specs.Healing.{RestShows, HealsWhereNonePut, DrainsWhereNonePut, HealsFrom, next_end, arrivals, most_deliveries, deliveries, if_accepted, firing, healing, received_in};
+
+use crate::error::WorldError;
+use crate::event::Event;
+use crate::law::{laws_below, stations_meet_in_sessions};
+use crate::world::World;
+use x25_bits::Role;
+use x25_line::{Direction, drains_end, one_busy_heals, rest_shows};
+
+/// How many deliveries follow one another at most.
+const MOST_DELIVERIES: u32 = 4_294_967_295;
+
+/// Two stations over such a line, after each list of events, over set-up and re-set-up at any moment.
+///
+/// - `rest`: an end whose link is up and whose timer T1 doesn't run is at rest, whatever is on the line, and all that its link was handed down in its
+///   session has been handed up at the other end. Where no message waits in a circuit of it, all that was sent on a stretch that is open at both ends has
+///   arrived.
+/// - `heals`: from a moment in which nothing is on the line, no link is being set up and not both ends are busy, timer T1 runs out at each end where it
+///   runs, and then all that is on the line comes, in any order of the two directions, while the layers put nothing. Each link is at rest then, or isn't up;
+///   and if both were up, with tries left where T1 ran, both are at rest, and all that they were handed down has been handed up.
+/// - `drains`: the world bounds how many deliveries follow one another, while the layers put nothing.
+///
+/// Premises: k is 1 to 7, N2 1 to 255, channels 1 to 16, and the users hand down octets.
+pub fn stations_heal()
+    ensures rest { Throughout RestShows }
+    ensures heals { Throughout HealsWhereNonePut }
+    ensures drains { Throughout DrainsWhereNonePut }
+{
+    laws_below();
+    stations_meet_in_sessions();
+    rest_shows();
+    one_busy_heals();
+    drains_end();
+}
+
+impl World {
+    /// The line is good for a moment: what is on it arrives, then timer T1 runs out at each end where it runs, and then what is on the line arrives, each
+    /// time at most 4,294,967,295 frames. It answers how many frames arrived.
+    ///
+    /// Refused with 70 alone. What happened before stands.
+    pub fn heal(&mut self) -> Result<u64, WorldError>
+        ensures goes { (cfg : Cfg) (w : definition.World) (gone : Gone) → FitsWorld cfg self.old w gone → OnOk result (GoesBy cfg (healing cfg w) w self.new gone) }
+        ensures counted { (cfg : Cfg) (w : definition.World) (gone : Gone) → FitsWorld cfg self.old w gone → IfOk result (λ count. count ≡ received_in (healing cfg w)) }
+        ensures drained { IfOk result (λ count. count < most_deliveries → next_end self.new.to_dce self.new.to_dte ≡ None) }
+        ensures stopped { (cfg : Cfg) (w : definition.World) (gone : Gone) → FitsWorld cfg self.old w gone → IfErr result (GoesPartly cfg (healing cfg w) w self.new gone) }
+
+        // After each run that leads to the world before, this is proved of the one that is left.
+        ensures sessions { HoldsHealed (λ c w u. SessionsKeepOrder c u) self.old self.new result }
+        ensures rest { HoldsHealed (λ c w u. RestShows c u) self.old self.new result }
+        ensures heals { HoldsHealed HealsFrom self.old self.new result }
+    {
+        stations_meet_in_sessions();
+        stations_heal();
+        self.go_on()
+    }
+
+    // The schedule of `heal`, without the laws of runs.
+    fn go_on(&mut self) -> Result<u64, WorldError>
+        ensures goes { (cfg : Cfg) (w : definition.World) (gone : Gone) → FitsWorld cfg self.old w gone → OnOk result (GoesBy cfg (healing cfg w) w self.new gone) }
+        ensures counted { (cfg : Cfg) (w : definition.World) (gone : Gone) → FitsWorld cfg self.old w gone → IfOk result (λ count. count ≡ received_in (healing cfg w)) }
+        ensures drained { IfOk result (λ count. count < most_deliveries → next_end self.new.to_dce self.new.to_dte ≡ None) }
+        ensures stopped { (cfg : Cfg) (w : definition.World) (gone : Gone) → FitsWorld cfg self.old w gone → IfErr result (GoesPartly cfg (healing cfg w) w self.new gone) }
+    {
+        let before = self.deliver_all()?;
+        self.fire(Role::Dte)?;
+        self.fire(Role::Dce)?;
+        let behind = self.deliver_all()?;
+        Ok(u64::from(before) + u64::from(behind))
+    }
+
+    // What is on the line arrives, to the DCE first. It answers how many frames.
+    fn deliver_all(&mut self) -> Result<u32, WorldError>
+        ensures goes { (cfg : Cfg) (w : definition.World) (gone : Gone) → FitsWorld cfg self.old w gone → OnOk result (GoesBy cfg (deliveries cfg w) w self.new gone) }
+        ensures counted { (cfg : Cfg) (w : definition.World) (gone : Gone) → FitsWorld cfg self.old w gone → IfOk result (λ count. count ≡ length (arrivals cfg most_deliveries w)) }
+        ensures drained { IfOk result (λ count. count < most_deliveries → next_end self.new.to_dce self.new.to_dte ≡ None) }
+        ensures stopped { (cfg : Cfg) (w : definition.World) (gone : Gone) → FitsWorld cfg self.old w gone → IfErr result (GoesPartly cfg (deliveries cfg w) w self.new gone) }
+    {
+        for count in 0..MOST_DELIVERIES {
+            let Some(direction) = self.next_direction() else {
+                return Ok(count);
+            };
+            self.apply(Event::Deliver(direction))?;
+        }
+        Ok(MOST_DELIVERIES)
+    }
+
+    // Where the next frame arrives: at the DCE where one is on the line to it, else at the DTE.
+    fn next_direction(&self) -> Option<Direction>
+        ensures { option_map end_of result ≡ next_end self.now.to_dce self.now.to_dte }
+    {
+        if self.on_line(Direction::ToDce) > 0 {
+            Some(Direction::ToDce)
+        } else if self.on_line(Direction::ToDte) > 0 {
+            Some(Direction::ToDte)
+        } else {
+            None
+        }
+    }
+
+    // Timer T1 of the end runs out, where that isn't refused.
+    fn fire(&mut self, at: Role) -> Result<(), WorldError>
+        ensures goes { (cfg : Cfg) (w : definition.World) (gone : Gone) → FitsWorld cfg self.old w gone → OnOk result (GoesBy cfg (if_accepted cfg (firing at) w) w self.new gone) }
+        ensures stopped { (cfg : Cfg) (w : definition.World) (gone : Gone) → FitsWorld cfg self.old w gone → IfErr result (GoesPartly cfg (if_accepted cfg (firing at) w) w self.new gone) }
+    {
+        if let Err(error) = self.apply(Event::T1(at)) {
+            return unless_memory(error);
+        }
+        Ok(())
+    }
+}
+
+// Whether memory was refused.
+fn is_memory(error: WorldError) -> bool
+    ensures { IsTrue result ↔ (error ≡ WorldError.NoMemory) }
+{
+    matches!(error, WorldError::NoMemory)
+}
+
+// Nothing, where an event was refused; want of memory is told.
+fn unless_memory(error: WorldError) -> Result<(), WorldError>
+    ensures other { OnOk result (error ≢ WorldError.NoMemory) }
+    ensures memory { IfErr result (λ e. e ≡ WorldError.NoMemory) }
+{
+    if is_memory(error) {
+        return Err(WorldError::NoMemory);
+    }
+    Ok(())
+}
