@@ -38,7 +38,7 @@ module _ (c d : Settings) (joined : AreJoined c d) (reads : ReadsSpelled) (laws 
       → (n m : ℕ) → Reads (other d.role) d.longest v.out (rr true n true ∷ []) → Reads (other c.role) c.longest v.back (rr true m true ∷ []) → Heals c d v.far.station.tries ⊥ v
   asked_at v sound up free far_on far_free recovery n m out back = (
     record { sound = sound; near_on = up; far_on = far_on; near_free = free; far_free = far_free; far_tries = omega arith; far_rest = λ never. absurd never },
-    inl (record { number = n; rest = []; before = rr true m true ∷ []; recovery = recovery; out = out; mild = tt; back = back; polls = tt }),
+    inl (record { number = n; rest = []; before = rr true m true ∷ []; recovery = recovery; out = out; mild = tt; back = back; heard = (refl, tt) }),
   )
 
   pub both_fire : (w : Stations) → Sound c d w → IsDrained w → MayHeal c w.near → MayHeal d w.far → timer_runs w.near.station.phase w.near.station ≡ true → timer_runs w.far.station.phase w.far.station ≡ true
@@ -64,7 +64,7 @@ module _ (c d : Settings) (joined : AreJoined c d) (reads : ReadsSpelled) (laws 
           → (n m : ℕ) → Reads (other c.role) c.longest u.out (rr true n true ∷ []) → Reads (other d.role) d.longest u.back (rr true m true ∷ []) → Heals d c u.far.station.tries ⊥ u
       asked_swapped u sound up free far_on far_free recovery n m out back = (
         record { sound = sound; near_on = up; far_on = far_on; near_free = free; far_free = far_free; far_tries = omega arith; far_rest = λ never. absurd never },
-        inl (record { number = n; rest = []; before = rr true m true ∷ []; recovery = recovery; out = out; mild = tt; back = back; polls = tt }),
+        inl (record { number = n; rest = []; before = rr true m true ∷ []; recovery = recovery; out = out; mild = tt; back = back; heard = (refl, tt) }),
       )
 
   -- what a poll, or nothing, tells
@@ -194,7 +194,7 @@ module _ (reads : ReadsSpelled) (laws : HealingLaws) where
       let rest = (shows_at_rest d c twisted reads laws (swapped x) sound far_on stops).0 in
       let near : Heals c d x.far.station.tries ⊥ x = (
         record { sound = f.sound; near_on = f.up; far_on = far_on; near_free = f.free; far_free = far_free; far_tries = omega arith; far_rest = λ never. absurd never },
-        inl (record { number = f.number; rest = []; before = []; recovery = f.recovery; out = f.out; mild = tt; back = subst (λ (os : List (List ℕ)). Reads (other c.role) c.longest os []) (sym none) tt; polls = tt }),
+        inl (record { number = f.number; rest = []; before = []; recovery = f.recovery; out = f.out; mild = tt; back = subst (λ (os : List (List ℕ)). Reads (other c.role) c.longest os []) (sym none) tt; heard = tt }),
       ) in
       record { most = _; least = _; heals = (near, at_rest_heals d c twisted reads laws (swapped x) sound far_on far_free f.up f.free rest none (rr true f.number true ∷ []) f.out f.is) }
 

@@ -151,11 +151,32 @@ held_mild r n (ua p ∷ fs) m h le = absurd h
 held_mild r n (dm p ∷ fs) m h le = absurd h
 held_mild r n (frmr p why ∷ fs) m h le = absurd h
 
--- nothing, or one poll
-abbrev pub AtMostPoll : List PlainFrame → Type 0
-AtMostPoll [] = Unit {0}
-AtMostPoll (rr true nr true ∷ []) = Unit {0}
-AtMostPoll fs = ⊥
+-- I frames and RR, none with F=1
+abbrev pub IsNoFinal : PlainFrame → Type 0
+IsNoFinal (info ns n p x) = p ≡ false
+IsNoFinal (rr command n pf) = (not command && pf) ≡ false
+IsNoFinal f = ⊥
+
+abbrev pub NoFinal : List PlainFrame → Type 0
+NoFinal [] = Unit {0}
+NoFinal (f ∷ fs) = IsNoFinal f × NoFinal fs
+
+pub no_final_more : (fs es : List PlainFrame) → NoFinal fs → NoFinal es → NoFinal (fs ++ es)
+no_final_more [] es h g = g
+no_final_more (f ∷ fs) es h g = (h.0, no_final_more fs es h.1 g)
+
+-- what the sending rule sends is of this kind
+pub next_no_final : (r n : ℕ) (fs : List PlainFrame) (m : ℕ) → AreNext r n fs m → NoFinal fs
+next_no_final r n [] m h = tt
+next_no_final r n (info ns nr p x ∷ fs) m h = (h.2, next_no_final r (n + 1) fs m h.3)
+next_no_final r n (rr command nr pf ∷ fs) m h = (and_right (not command) pf h.2, next_no_final r n fs m h.3)
+next_no_final r n (rej command nr pf ∷ fs) m h = absurd h
+next_no_final r n (rnr command nr pf ∷ fs) m h = absurd h
+next_no_final r n (sabm p ∷ fs) m h = absurd h
+next_no_final r n (disc p ∷ fs) m h = absurd h
+next_no_final r n (ua p ∷ fs) m h = absurd h
+next_no_final r n (dm p ∷ fs) m h = absurd h
+next_no_final r n (frmr p why ∷ fs) m h = absurd h
 
 -- ---- frames back: I frames and RR, none with F=1, the last of which has the number r, where `nr` came before them
 

@@ -18,7 +18,7 @@ use Rattle.x25_line.specs.laws.StationClaims.{AreJoined}
 use Rattle.x25_line.proofs.Kept.{resolved_is}
 use Rattle.x25_line.proofs.StationSteps.{not_both}
 use Rattle.x25_line.proofs.StationRuns.{joined_swapped}
-use Rattle.x25_line.proofs.HealingLines.{Reads, front_reads, none_reads, Ahead, ahead_low, ahead_more, next_ahead, Mild, mild_ahead, mild_more, held_mild, AtMostPoll, LastTells, Reports, next_tells, tells_behind, reports_more, reports_new, reports_heard}
+use Rattle.x25_line.proofs.HealingLines.{Reads, front_reads, none_reads, Ahead, ahead_low, ahead_more, next_ahead, Mild, mild_ahead, mild_more, held_mild, IsNoFinal, NoFinal, LastTells, Reports, next_tells, tells_behind, reports_more, reports_new, reports_heard}
 use Rattle.x25_line.proofs.HealingSteps.{HealingLaws, Sound, sound_swapped, near_up, far_up, counted, HearsWell, hears_well, Delivered, delivers}
 
 -- both ends are Up and not busy; the far end has at most so many tries, and is at rest where it was
@@ -31,7 +31,7 @@ pub record Both (c d : Settings) (most : ℕ) (Was : Type 0) (w : Stations) : Ty
   pub far_tries : w.far.station.tries ≤ most
   pub far_rest : Was → IsAtRest w.far.station
 
--- A poll is at the front, and behind it no I frame; the other end has asked too, or nothing comes back.
+-- A poll is at the front, and behind it no I frame; what comes back neither is F=1 nor goes behind it.
 pub record Asked (c d : Settings) (w : Stations) : Type 0 where
   pub number : ℕ
   pub rest : List PlainFrame
@@ -40,7 +40,7 @@ pub record Asked (c d : Settings) (w : Stations) : Type 0 where
   pub out : Reads (other d.role) d.longest w.out (rr true number true ∷ rest)
   pub mild : Mild rest
   pub back : Reads (other c.role) c.longest w.back before
-  pub polls : AtMostPoll before
+  pub heard : NoFinal before
 
 -- F=1 is on the line back, with the number that the far end wants, and other frames with this number behind it
 pub record Answered (c d : Settings) (w : Stations) : Type 0 where
@@ -53,7 +53,7 @@ pub record Answered (c d : Settings) (w : Stations) : Type 0 where
   pub out : Reads (other d.role) d.longest w.out there
   pub mild : Mild there
   pub back : Reads (other c.role) c.longest w.back (before ++ rr false number true ∷ behind)
-  pub polls : AtMostPoll before
+  pub heard : NoFinal before
   pub tells : LastTells (length w.far.station.taken) number behind
 
 -- what isn't acknowledged goes again, in order; the far end's last frame on the line, if any, tells what that has taken
@@ -91,6 +91,17 @@ passed_ahead n s free = rw free (by s.rejecting)
     by : (b : Bool) → Ahead n (if not b then rej false (wanted s) false ∷ [] else if false then rr false (wanted s) true ∷ [] else []) n
     by true = refl
     by false = (refl, refl)
+
+passed_mild : (s : LinkStation) → is_busy s ≡ false → Mild (passed_over false s)
+passed_mild s free = rw free (by s.rejecting)
+  where
+    by : (b : Bool) → Mild (if not b then rej false (wanted s) false ∷ [] else if false then rr false (wanted s) true ∷ [] else [])
+    by true = tt
+    by false = (refl, tt)
+
+confirms_mild : (r : ℕ) (goes : Bool) → Mild (confirms goes false r)
+confirms_mild r true = tt
+confirms_mild r false = (refl, tt)
 
 confirms_ahead : (n r : ℕ) (goes : Bool) → Ahead n (confirms goes false r) n
 confirms_ahead n r true = refl
@@ -246,7 +257,7 @@ module _ (c d : Settings) (joined : AreJoined c d) (reads : ReadsSpelled) (laws 
         inr (inr (near_resends w there behind number n o r.octets b v refl refl refl (mild_ahead n there mild) (sym (all_heard w b number is)) tells)),
       )
 
-  -- the other end's poll comes in recovery: F=1 goes, and no I frame
+  -- a frame comes in recovery that isn't F=1: no I frame goes
   pub record Replied (w v : Stations) (there behind : List PlainFrame) : Type 0 where
     pub both : Both c d most Was v
     pub more : List PlainFrame
@@ -256,8 +267,22 @@ module _ (c d : Settings) (joined : AreJoined c d) (reads : ReadsSpelled) (laws 
     pub back : Reads (other c.role) c.longest v.back behind
     pub far : v.far ≡ w.far
 
-  near_polled : (w : Stations) → Both c d most Was w → w.near.station.recovery ≡ true → (number : ℕ) (there behind : List PlainFrame) → Reads (other d.role) d.longest w.out there
-      → Reads (other c.role) c.longest w.back (rr true number true ∷ behind) → Replied w (acts c Deliver w) there behind
+  replied : (w : Stations) (there behind : List PlainFrame) (o : Outcome) (octets : List ℕ) → Both c d most Was w → Delivered c d w (acts c Deliver w) there behind o octets → o.recovery ≡ true → Mild o.first
+      → Replied w (acts c Deliver w) there behind
+  replied w there behind o octets b v recovery first = record {
+    both = near_both w there behind o octets b v;
+    more = o.first ++ v.next;
+    recovery = v.recovery ∙ recovery;
+    out = v.out;
+    mild = mild_more o.first v.next first (held_mild (length o.taken) o.place v.next (acts c Deliver w).near.station.outgoing.place v.sends (omega (arith, v.held recovery)));
+    back = v.back;
+    far = v.far;
+  }
+
+  abbrev Replies : Stations → PlainFrame → List PlainFrame → List PlainFrame → Type 0
+  Replies w f there behind = Reads (other d.role) d.longest w.out there → Reads (other c.role) c.longest w.back (f ∷ behind) → Replied w (acts c Deliver w) there behind
+
+  near_polled : (w : Stations) → Both c d most Was w → w.near.station.recovery ≡ true → (number : ℕ) (there behind : List PlainFrame) → Replies w (rr true number true) there behind
   near_polled w b recovery number there behind out back =
       let s = w.near.station in
       let frame = rr true number true in
@@ -266,70 +291,86 @@ module _ (c d : Settings) (joined : AreJoined c d) (reads : ReadsSpelled) (laws 
       let o : Outcome = record (goes_on_from number s) { peer_busy = false; said_busy = is_busy s; first = says (is_busy s) false (wanted s) true ∷ [] } in
       let a = laws.answers.poll false number c r.octets s (up_is s.phase b.near_on) r.reads well.valid in
       let v = delivers c d joined reads laws w there behind frame o b.sound out r a in
-      let u : Stations = acts c Deliver w in
-      record {
-        both = near_both w there behind o r.octets b v;
-        more = rr false (wanted s) true ∷ v.next;
-        recovery = v.recovery ∙ recovery;
-        out = subst (λ (busy : Bool). Reads (other d.role) d.longest u.out (there ++ (says busy false (wanted s) true ∷ v.next))) b.near_free v.out;
-        mild = (refl, held_mild (length s.taken) o.place v.next u.near.station.outgoing.place v.sends (omega (arith, v.held recovery)));
-        back = v.back;
-        far = v.far;
-      }
+      replied w there behind o r.octets b v recovery (subst (λ (busy : Bool). Mild (says busy false (wanted s) true ∷ [])) (sym b.near_free) (refl, tt))
 
-  near_asked : (w : Stations) → Both c d most Was w → (h : Asked c d w) (before : List PlainFrame) → Reads (other c.role) c.longest w.back before → AtMostPoll before → Heals c d most Was (acts c Deliver w)
-  near_asked w b h [] back polls = subst (λ (bs : List (List ℕ)). Heals c d most Was (delivered c bs w)) (sym (none_reads (other c.role) c.longest w.back back)) (b, inl h)
-  near_asked w b h (rr true nr true ∷ []) back polls =
-      let p = near_polled w b h.recovery nr (rr true h.number true ∷ h.rest) [] h.out back in
-      (p.both, inl (record { number = h.number; rest = h.rest ++ p.more; before = []; recovery = p.recovery; out = p.out; mild = mild_more h.rest p.more h.mild p.mild; back = p.back; polls = tt }))
-  near_asked w b h (rr true nr true ∷ f ∷ fs) back polls = absurd polls
-  near_asked w b h (rr true nr false ∷ fs) back polls = absurd polls
-  near_asked w b h (rr false nr pf ∷ fs) back polls = absurd polls
-  near_asked w b h (info ns nr p x ∷ fs) back polls = absurd polls
-  near_asked w b h (rnr command nr pf ∷ fs) back polls = absurd polls
-  near_asked w b h (rej command nr pf ∷ fs) back polls = absurd polls
-  near_asked w b h (sabm p ∷ fs) back polls = absurd polls
-  near_asked w b h (disc p ∷ fs) back polls = absurd polls
-  near_asked w b h (ua p ∷ fs) back polls = absurd polls
-  near_asked w b h (dm p ∷ fs) back polls = absurd polls
-  near_asked w b h (frmr p why ∷ fs) back polls = absurd polls
+  near_readied : (w : Stations) → Both c d most Was w → w.near.station.recovery ≡ true → (command : Bool) (number : ℕ) (there behind : List PlainFrame) → Replies w (rr command number false) there behind
+  near_readied w b recovery command number there behind out back =
+      let s = w.near.station in
+      let frame = rr command number false in
+      let r = front_reads (other c.role) c.longest w.back frame behind back in
+      let well = hears_well c d w b.sound b.near_on b.far_on frame behind tt r in
+      let o : Outcome = record (goes_on_from number s) { peer_busy = false } in
+      let a = laws.answers.ready false command number c r.octets s (up_is s.phase b.near_on) r.reads well.valid in
+      let v = delivers c d joined reads laws w there behind frame o b.sound out r a in
+      replied w there behind o r.octets b v recovery tt
 
-  near_told : (w : Stations) → Both c d most Was w → (h : Answered c d w) (before : List PlainFrame) → Reads (other c.role) c.longest w.back (before ++ rr false h.number true ∷ h.behind) → AtMostPoll before
+  -- an I frame is taken or passed over, and RR or REJ goes, as no I frame does in recovery
+  near_carried : (w : Stations) → Both c d most Was w → w.near.station.recovery ≡ true → (ns number : ℕ) (x : List ℕ) (there behind : List PlainFrame) (taken : Bool) → is_taken ns w.near.station ≡ taken
+      → Replies w (info ns number false x) there behind
+  near_carried w b recovery ns number x there behind true is out back =
+      let s = w.near.station in
+      let frame = info ns number false x in
+      let r = front_reads (other c.role) c.longest w.back frame behind back in
+      let well = hears_well c d w b.sound b.near_on b.far_on frame behind tt r in
+      let a = laws.answers.wanted ns number false x c r.octets s (up_is s.phase b.near_on) r.reads well.valid is in
+      let o = once_taken a.0 number false x s in
+      let v = delivers c d joined reads laws w there behind frame o b.sound out r a.1.answers in
+      replied w there behind o r.octets b v recovery (confirms_mild (length o.taken) a.0)
+  near_carried w b recovery ns number x there behind false is out back =
+      let s = w.near.station in
+      let frame = info ns number false x in
+      let r = front_reads (other c.role) c.longest w.back frame behind back in
+      let well = hears_well c d w b.sound b.near_on b.far_on frame behind tt r in
+      let o : Outcome = record (goes_on_from number s) { said_busy = busy_after false s; first = passed_over false s } in
+      let a = laws.answers.other ns number false x c r.octets s (up_is s.phase b.near_on) r.reads well.valid is in
+      let v = delivers c d joined reads laws w there behind frame o b.sound out r a in
+      replied w there behind o r.octets b v recovery (passed_mild s b.near_free)
+
+  near_replies : (w : Stations) → Both c d most Was w → w.near.station.recovery ≡ true → (f : PlainFrame) (there behind : List PlainFrame) → IsNoFinal f → Replies w f there behind
+  near_replies w b recovery (info ns nr true x) there behind is = not_both true refl is
+  near_replies w b recovery (info ns nr false x) there behind is = near_carried w b recovery ns nr x there behind (is_taken ns w.near.station) refl
+  near_replies w b recovery (rr true nr true) there behind is = near_polled w b recovery nr there behind
+  near_replies w b recovery (rr false nr true) there behind is = not_both true refl is
+  near_replies w b recovery (rr command nr false) there behind is = near_readied w b recovery command nr there behind
+  near_replies w b recovery (rnr command nr pf) there behind is = absurd is
+  near_replies w b recovery (rej command nr pf) there behind is = absurd is
+  near_replies w b recovery (sabm p) there behind is = absurd is
+  near_replies w b recovery (disc p) there behind is = absurd is
+  near_replies w b recovery (ua p) there behind is = absurd is
+  near_replies w b recovery (dm p) there behind is = absurd is
+  near_replies w b recovery (frmr p why) there behind is = absurd is
+
+  near_asked : (w : Stations) → Both c d most Was w → (h : Asked c d w) (before : List PlainFrame) → Reads (other c.role) c.longest w.back before → NoFinal before → Heals c d most Was (acts c Deliver w)
+  near_asked w b h [] back heard = subst (λ (bs : List (List ℕ)). Heals c d most Was (delivered c bs w)) (sym (none_reads (other c.role) c.longest w.back back)) (b, inl h)
+  near_asked w b h (f ∷ fs) back heard =
+      let p = near_replies w b h.recovery f (rr true h.number true ∷ h.rest) fs heard.0 h.out back in
+      (p.both, inl (record { number = h.number; rest = h.rest ++ p.more; before = fs; recovery = p.recovery; out = p.out; mild = mild_more h.rest p.more h.mild p.mild; back = p.back; heard = heard.1 }))
+
+  near_told : (w : Stations) → Both c d most Was w → (h : Answered c d w) (before : List PlainFrame) → Reads (other c.role) c.longest w.back (before ++ rr false h.number true ∷ h.behind) → NoFinal before
       → Heals c d most Was (acts c Deliver w)
-  near_told w b h [] back polls = near_answered w b h.number h.there h.behind h.is h.out h.mild back h.tells
-  near_told w b h (rr true nr true ∷ []) back polls =
-      let p = near_polled w b h.recovery nr h.there (rr false h.number true ∷ h.behind) h.out back in
+  near_told w b h [] back heard = near_answered w b h.number h.there h.behind h.is h.out h.mild back h.tells
+  near_told w b h (f ∷ fs) back heard =
+      let p = near_replies w b h.recovery f h.there (fs ++ rr false h.number true ∷ h.behind) heard.0 h.out back in
       let same = ap (λ (e : StationEnd). length e.station.taken) (sym p.far) in (
         p.both,
         inr (inl (record {
           number = h.number;
           there = h.there ++ p.more;
-          before = [];
+          before = fs;
           behind = h.behind;
           is = h.is ∙ ap (λ (n : ℕ). n % 8) same;
           recovery = p.recovery;
           out = p.out;
           mild = mild_more h.there p.more h.mild p.mild;
           back = p.back;
-          polls = tt;
+          heard = heard.1;
           tells = subst (λ (n : ℕ). LastTells n h.number h.behind) same h.tells;
         })),
       )
-  near_told w b h (rr true nr true ∷ f ∷ fs) back polls = absurd polls
-  near_told w b h (rr true nr false ∷ fs) back polls = absurd polls
-  near_told w b h (rr false nr pf ∷ fs) back polls = absurd polls
-  near_told w b h (info ns nr p x ∷ fs) back polls = absurd polls
-  near_told w b h (rnr command nr pf ∷ fs) back polls = absurd polls
-  near_told w b h (rej command nr pf ∷ fs) back polls = absurd polls
-  near_told w b h (sabm p ∷ fs) back polls = absurd polls
-  near_told w b h (disc p ∷ fs) back polls = absurd polls
-  near_told w b h (ua p ∷ fs) back polls = absurd polls
-  near_told w b h (dm p ∷ fs) back polls = absurd polls
-  near_told w b h (frmr p why ∷ fs) back polls = absurd polls
 
   pub near_heals : (w : Stations) → Heals c d most Was w → Heals c d most Was (acts c Deliver w)
-  near_heals w (b, inl h) = near_asked w b h h.before h.back h.polls
-  near_heals w (b, inr (inl h)) = near_told w b h h.before h.back h.polls
+  near_heals w (b, inl h) = near_asked w b h h.before h.back h.heard
+  near_heals w (b, inr (inl h)) = near_told w b h h.before h.back h.heard
   near_heals w (b, inr (inr h)) = near_resent w b h h.behind h.back h.reports
 
   -- ---- the far end hears
@@ -504,7 +545,7 @@ module _ (c d : Settings) (joined : AreJoined c d) (reads : ReadsSpelled) (laws 
           out = v.back;
           mild = h.mild;
           back = subst (λ (busy : Bool). Reads (other c.role) c.longest u.out (h.before ++ (says busy false (wanted s) true ∷ v.next))) b.far_free v.out;
-          polls = h.polls;
+          heard = h.heard;
           tells = next_tells (length u.near.station.taken) (wanted s) o.place u.near.station.outgoing.place v.next number next;
         })),
       )
@@ -529,7 +570,7 @@ module _ (c d : Settings) (joined : AreJoined c d) (reads : ReadsSpelled) (laws 
         mild = mild;
         back = subst (Reads (other c.role) c.longest u.out) (append_assoc h.before (frame ∷ h.behind) v.next)
             (subst (λ (xs : List PlainFrame). Reads (other c.role) c.longest u.out ((h.before ++ frame ∷ h.behind) ++ (xs ++ v.next))) first v.out);
-        polls = h.polls;
+        heard = h.heard;
         tells = subst (λ (n : ℕ). LastTells n h.number (h.behind ++ v.next)) (sym same)
             (tells_behind r r h.number h.behind v.next h.tells (λ k is. next_tells r k o.place u.near.station.outgoing.place v.next is next));
       }

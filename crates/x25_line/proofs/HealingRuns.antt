@@ -246,7 +246,7 @@ module _ (c d : Settings) (joined : AreJoined c d) (reads : ReadsSpelled) (laws 
           out = f.out;
           mild = tt;
           back = subst (λ (os : List (List ℕ)). Reads (other c.role) c.longest os []) (sym (f.back ∙ drained.back)) tt;
-          polls = tt;
+          heard = tt;
         }),
       )
 

@@ -17,6 +17,7 @@ pub mod HealingSteps
 pub mod HealingPhases
 pub mod HealingRuns
 pub mod HealingBoth
+pub mod HealingPuts
 pub mod HealingLoad
 pub mod HealingGone
 pub mod HealingSetUp

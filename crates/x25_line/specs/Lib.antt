@@ -2,6 +2,7 @@ pub mod Line
 pub mod Stations
 pub mod WholeNumbers
 pub mod Healing
+pub mod HealingPuts
 pub mod Sessions
 pub mod SessionNumbers
 pub mod SessionEvents

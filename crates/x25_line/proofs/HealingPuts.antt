@@ -1,0 +1,415 @@
+-- Packets are put while an end heals: in recovery they wait, and behind it each goes in order, as one I frame more at the end of the line.
+use Rattle.std.proofs.Common.{◌≡◌, ℕ, ◌+◌, ◌-◌, ◌%◌, ◌≤◌, List, [], ◌∷◌, ◌++◌, ◌⊎◌, inl, inr, length, map, Bool, true, false, if◌then◌else◌, Option, Some, None, refl, sym, ap, ◌∙◌, subst, arith, length-append, append_assoc}
+use Rattle.std.specs.Prelude.{nat_le, nat_lt}
+use Rattle.std.proofs.lemmas.Bool.{lt-ltb, le-ltb, ltb-false}
+use Rattle.x25_bits.specs.declared.role.Role.{Role}
+use Rattle.x25_frame.specs.PlainFrame.{PlainFrame, info, rr}
+use Rattle.x25_frame.specs.Spelling.{spelling_of}
+use Rattle.x25_frame.specs.laws.ReadingLaw.{ReadsSpelled}
+use Rattle.x25_link.specs.declared.error.LinkError.{LinkError}
+use Rattle.x25_link.specs.Outgoing.{waits, is_open}
+use Rattle.x25_link.specs.LinkStation.{Settings, LinkStation, Side, is_up, is_busy, wanted, may_send, owes_ready, send_next, pumped_once}
+use Rattle.x25_link.specs.MustSend.{Step, other}
+use Rattle.x25_link.specs.Steps.{put_step, put_refusal}
+use Rattle.x25_link.specs.laws.RestLaw.{HasSaidAll}
+use Rattle.x25_link.specs.laws.AnswerLaw.{AreNext}
+use Rattle.x25_link.proofs.EndLemmas.{open_is, closed_is, with_packet, put_once}
+use Rattle.x25_line.specs.Stations.{StationEnd, Stations, Act, Put, Deliver, T1, Connect, Disconnect, Abandon, Lose, Damage, Event, Near, Far, after_step, unless, acts, swapped, run, start}
+use Rattle.x25_line.specs.laws.StationClaims.{AreJoined, AreWhole}
+use Rattle.x25_line.specs.WholeNumbers.{machine_acts}
+use Rattle.x25_line.specs.Healing.{IsDrained, IsHealed}
+use Rattle.x25_line.specs.HealingPuts.{IsDeliverOrPut, AreDeliveriesAndPuts, AreFree, FreeThroughout, PutsHeal}
+use Rattle.x25_line.proofs.StationSteps.{not_both}
+use Rattle.x25_line.proofs.StationRuns.{machine_joint, joined_swapped}
+use Rattle.x25_line.proofs.StationEvents.{each_hands_one}
+use Rattle.x25_line.proofs.HealingLines.{Reads, reads_more, whole_behind, Ahead, ahead_more, next_ahead, Mild, mild_more, held_mild, NoFinal, no_final_more, next_no_final, LastTells, next_tells, tells_behind, Reports, reports_more}
+use Rattle.x25_line.proofs.HealingSteps.{HealingLaws, Sound, sound_swapped, near_up}
+use Rattle.x25_line.proofs.HealingPhases.{Both, Asked, Answered, Resent, Heals}
+use Rattle.x25_line.proofs.HealingRuns.{reached_sound, said_act}
+use Rattle.x25_line.proofs.HealingBoth.{HealsBoth, both_near, both_far, both_settle, fired_both}
+
+-- ---- a station to which a packet is put
+
+-- it waits, or goes at once as the next I frame
+pub record TakesDown (packet : List ℕ) (s : LinkStation) (t : Side) : Type 0 where
+  pub phase : t.near.phase ≡ s.phase
+  pub recovery : t.near.recovery ≡ s.recovery
+  pub peer_busy : t.near.peer_busy ≡ s.peer_busy
+  pub tries : t.near.tries ≡ s.tries
+  pub taken : t.near.taken ≡ s.taken
+  pub acked : t.near.outgoing.acked ≡ s.outgoing.acked
+  pub sends : AreNext (length s.taken) s.outgoing.place t.out t.near.outgoing.place
+  pub held : s.recovery ≡ true → t.near.outgoing.place ≡ s.outgoing.place
+  pub grows : waits s.outgoing ≤ waits t.near.outgoing
+
+-- nothing waited where the window is open now
+all_were_sent : (k : ℕ) (packet : List ℕ) (s : LinkStation) → may_send k s ≡ false → may_send k (with_packet packet s).near ≡ true → length s.outgoing.given ≤ s.outgoing.place
+all_were_sent k packet s settled may =
+    let o = open_is k (with_packet packet s).near may in
+    let shut : is_open k s.outgoing ≡ false = sym (closed_is k s o.up o.recovery o.peer_busy) ∙ settled in
+    let test = rw (lt-ltb s.outgoing.place (s.outgoing.acked + k) o.room) at shut in
+    ltb-false _ _ test
+
+takes_by : (b : Bool) (k : ℕ) (packet : List ℕ) (s : LinkStation) → s.outgoing.place ≤ s.outgoing.sent → s.outgoing.sent ≤ length s.outgoing.given → may_send k s ≡ false → may_send k (with_packet packet s).near ≡ b
+    → TakesDown packet s (if b then send_next (with_packet packet s) else with_packet packet s)
+takes_by true k packet s low high settled may =
+    let o = open_is k (with_packet packet s).near may in
+    let more = length-append s.outgoing.given (packet ∷ []) in
+    record {
+      phase = refl;
+      recovery = refl;
+      peer_busy = refl;
+      tries = refl;
+      taken = refl;
+      acked = refl;
+      sends = (refl, refl, refl, refl);
+      held = λ recovers. not_both s.recovery recovers o.recovery;
+      grows = omega (arith, more, all_were_sent k packet s settled may, low, high);
+    }
+takes_by false k packet s low high settled may = record {
+  phase = refl;
+  recovery = refl;
+  peer_busy = refl;
+  tries = refl;
+  taken = refl;
+  acked = refl;
+  sends = refl;
+  held = λ recovers. refl;
+  grows = omega (arith, length-append s.outgoing.given (packet ∷ []));
+}
+
+pub takes_down : (c : Settings) (packet : List ℕ) (s : LinkStation) → s.outgoing.place ≤ s.outgoing.sent → s.outgoing.sent ≤ length s.outgoing.given → may_send c.window s ≡ false → owes_ready s ≡ false
+    → TakesDown packet s (put_step c packet s).side
+takes_down c packet s low high settled calm =
+    subst (TakesDown packet s) (sym (put_once c.window s packet low settled calm)) (takes_by (may_send c.window (with_packet packet s).near) c.window packet s low high settled refl)
+
+module _ (c d : Settings) (joined : AreJoined c d) (reads : ReadsSpelled) (laws : HealingLaws) where
+  -- what a packet that is put makes of the world
+  pub record WasPut (w v : Stations) : Type 0 where
+    pub sound : Sound c d v
+    pub up : is_up v.near.station.phase ≡ true
+    pub recovery : v.near.station.recovery ≡ w.near.station.recovery
+    pub peer_busy : v.near.station.peer_busy ≡ w.near.station.peer_busy
+    pub acked : v.near.station.outgoing.acked ≡ w.near.station.outgoing.acked
+    pub taken : v.near.station.taken ≡ w.near.station.taken
+    pub tries : v.near.station.tries ≡ w.near.station.tries
+    pub next : List PlainFrame
+    pub out : (fs : List PlainFrame) → Reads (other d.role) d.longest w.out fs → Reads (other d.role) d.longest v.out (fs ++ next)
+    pub sends : AreNext (length w.near.station.taken) w.near.station.outgoing.place next v.near.station.outgoing.place
+    pub held : w.near.station.recovery ≡ true → v.near.station.outgoing.place ≡ w.near.station.outgoing.place
+    pub back : v.back ≡ w.back
+    pub far : v.far ≡ w.far
+    pub grows : waits w.near.station.outgoing ≤ waits v.near.station.outgoing
+
+  append_none : (fs : List PlainFrame) → fs ++ [] ≡ fs
+  append_none [] = refl
+  append_none (f ∷ fs) = ap (λ (gs : List PlainFrame). f ∷ gs) (append_none fs)
+
+  -- it is refused
+  not_put : (w : Stations) → Sound c d w → is_up w.near.station.phase ≡ true → WasPut w w
+  not_put w h up = record {
+    sound = h;
+    up = up;
+    recovery = refl;
+    peer_busy = refl;
+    acked = refl;
+    taken = refl;
+    tries = refl;
+    next = [];
+    out = λ fs read. subst (Reads (other d.role) d.longest w.out) (sym (append_none fs)) read;
+    sends = refl;
+    held = λ recovers. refl;
+    back = refl;
+    far = refl;
+    grows = omega arith;
+  }
+
+  pub puts : (packet : List ℕ) (w : Stations) → Sound c d w → is_up w.near.station.phase ≡ true → WasPut w (acts c (Put packet) w)
+  puts packet w h up = by_length (nat_le (length packet) c.longest) refl
+    where
+      s : LinkStation
+      s = w.near.station
+
+      step : Step
+      step = put_step c packet s
+
+      v : Stations
+      v = after_step c w w.back (packet ∷ []) step
+
+      put_sound : Sound c d (acts c (Put packet) w)
+      put_sound =
+          let one = each_hands_one c d (Near (Put packet)) w in
+          record {
+            line = machine_acts c (Put packet) w h.line;
+            joint = machine_joint (Unit {0}) c d joined reads laws.laws (Put packet) w h.line (λ _. one.came_up ∙ h.joint.near_notes.once) (λ _. tt) h.joint;
+            near_said = said_act laws c joined.near_high (Put packet) w h.near_said;
+            far_said = subst (λ (e : StationEnd). HasSaidAll d.window e.station) (sym one.far) h.far_said;
+          }
+
+      read_out : Sound c d v → (fs : List PlainFrame) → Reads (other d.role) d.longest w.out fs → Reads (other d.role) d.longest (w.out ++ map (spelling_of c.role) step.side.out) (fs ++ step.side.out)
+      read_out sound fs read =
+          let given = (w.near.down ++ packet ∷ []) ++ w.far.down in
+          let whole : AreWhole d.longest given step.side.out = whole_behind d.longest given w.sent step.side.out sound.joint.whole in
+          subst (λ (from : Role). Reads (other d.role) d.longest (w.out ++ map (spelling_of from) step.side.out) (fs ++ step.side.out)) joined.near_role
+          (reads_more reads (other d.role) d.longest given w.out fs step.side.out read whole)
+
+      done : acts c (Put packet) w ≡ v → WasPut w (acts c (Put packet) w)
+      done is =
+          let u = near_up c d w h up in
+          let t = takes_down c packet s u.sound.place_high u.sound.sent_high h.near_said.settled h.near_said.calm in
+          let sound : Sound c d v = subst (Sound c d) is put_sound in
+          subst (WasPut w) (sym is) (record {
+            sound = sound;
+            up = ap is_up t.phase ∙ up;
+            recovery = t.recovery;
+            peer_busy = t.peer_busy;
+            acked = t.acked;
+            taken = t.taken;
+            tries = t.tries;
+            next = step.side.out;
+            out = read_out sound;
+            sends = t.sends;
+            held = t.held;
+            back = refl;
+            far = refl;
+            grows = t.grows;
+          })
+
+      by_refusal : nat_le (length packet) c.longest ≡ true → (o : Option LinkError) → put_refusal s ≡ o → WasPut w (acts c (Put packet) w)
+      by_refusal short (Some e) is = subst (WasPut w) (sym (refused short e is)) (not_put w h up)
+        where
+          refused : nat_le (length packet) c.longest ≡ true → (e : LinkError) → put_refusal s ≡ Some e → acts c (Put packet) w ≡ w
+          refused short e is = rw (short, is) refl
+      by_refusal short None is = done (rw (short, is) refl)
+
+      by_length : (b : Bool) → nat_le (length packet) c.longest ≡ b → WasPut w (acts c (Put packet) w)
+      by_length true short = by_refusal short (put_refusal s) refl
+      by_length false long = subst (WasPut w) (sym (too_long long)) (not_put w h up)
+        where
+          too_long : nat_le (length packet) c.longest ≡ false → acts c (Put packet) w ≡ w
+          too_long long = rw long refl
+
+  -- ---- the near end of the two puts
+
+  near_puts_both : (most : ℕ) (w v : Stations) → Both c d most ⊥ w → WasPut w v → is_busy v.near.station ≡ false → Both c d most ⊥ v
+  near_puts_both most w v b p free = record {
+    sound = p.sound;
+    near_on = p.up;
+    far_on = subst (λ (e : StationEnd). is_up e.station.phase ≡ true) (sym p.far) b.far_on;
+    near_free = free;
+    far_free = subst (λ (e : StationEnd). is_busy e.station ≡ false) (sym p.far) b.far_free;
+    far_tries = subst (λ (e : StationEnd). e.station.tries ≤ most) (sym p.far) b.far_tries;
+    far_rest = λ never. absurd never;
+  }
+
+  -- in recovery no I frame goes
+  held_back : (w v : Stations) → w.near.station.recovery ≡ true → (p : WasPut w v) → Mild p.next
+  held_back w v recovers p = held_mild (length w.near.station.taken) w.near.station.outgoing.place p.next v.near.station.outgoing.place p.sends (omega (arith, p.held recovers))
+
+  near_puts : (most : ℕ) (w v : Stations) → Heals c d most ⊥ w → WasPut w v → is_busy v.near.station ≡ false → Heals c d most ⊥ v
+  near_puts most w v (b, inl h) p free = (
+    near_puts_both most w v b p free,
+    inl (record {
+      number = h.number;
+      rest = h.rest ++ p.next;
+      before = h.before;
+      recovery = p.recovery ∙ h.recovery;
+      out = p.out (rr true h.number true ∷ h.rest) h.out;
+      mild = mild_more h.rest p.next h.mild (held_back w v h.recovery p);
+      back = subst (λ (os : List (List ℕ)). Reads (other c.role) c.longest os h.before) (sym p.back) h.back;
+      heard = h.heard;
+    }),
+  )
+  near_puts most w v (b, inr (inl h)) p free =
+      let same = ap (λ (e : StationEnd). length e.station.taken) (sym p.far) in (
+        near_puts_both most w v b p free,
+        inr (inl (record {
+          number = h.number;
+          there = h.there ++ p.next;
+          before = h.before;
+          behind = h.behind;
+          is = h.is ∙ ap (λ (n : ℕ). n % 8) same;
+          recovery = p.recovery ∙ h.recovery;
+          out = p.out h.there h.out;
+          mild = mild_more h.there p.next h.mild (held_back w v h.recovery p);
+          back = subst (λ (os : List (List ℕ)). Reads (other c.role) c.longest os (h.before ++ rr false h.number true ∷ h.behind)) (sym p.back) h.back;
+          heard = h.heard;
+          tells = subst (λ (n : ℕ). LastTells n h.number h.behind) same h.tells;
+        })),
+      )
+  near_puts most w v (b, inr (inr h)) p free =
+      let r = length w.far.station.taken in
+      let same = ap (λ (e : StationEnd). length e.station.taken) (sym p.far) in
+      let s = w.near.station in (
+        near_puts_both most w v b p free,
+        inr (inr (record {
+          there = h.there ++ p.next;
+          behind = h.behind;
+          out = p.out h.there h.out;
+          back = subst (λ (os : List (List ℕ)). Reads (other c.role) c.longest os h.behind) (sym p.back) h.back;
+          recovery = p.recovery ∙ h.recovery;
+          peer_busy = p.peer_busy ∙ h.peer_busy;
+          ahead = subst (λ (n : ℕ). Ahead n (h.there ++ p.next) v.near.station.outgoing.place) same
+              (ahead_more r s.outgoing.place v.near.station.outgoing.place h.there p.next h.ahead (next_ahead (length s.taken) s.outgoing.place p.next v.near.station.outgoing.place p.sends));
+          reports = subst (λ (n : ℕ). Reports n v.near.station.outgoing.acked h.behind) same (subst (λ (a : ℕ). Reports r a h.behind) (sym p.acked) h.reports);
+        })),
+      )
+
+  pub near_put : (most : ℕ) (packet : List ℕ) (w : Stations) → Heals c d most ⊥ w → is_busy (acts c (Put packet) w).near.station ≡ false → Heals c d most ⊥ (acts c (Put packet) w)
+  near_put most packet w h free = near_puts most w (acts c (Put packet) w) h (puts packet w h.0.sound h.0.near_on) free
+
+module _ (c d : Settings) (joined : AreJoined c d) (reads : ReadsSpelled) (laws : HealingLaws) where
+  twisted : AreJoined d c
+  twisted = joined_swapped c d joined
+
+  -- ---- the far end puts
+
+  far_puts_both : (most : ℕ) (w u : Stations) → Both c d most ⊥ w → WasPut d c twisted reads laws (swapped w) u → is_busy u.near.station ≡ false → Both c d most ⊥ (swapped u)
+  far_puts_both most w u b p free = record {
+    sound = sound_swapped d c twisted u p.sound;
+    near_on = subst (λ (e : StationEnd). is_up e.station.phase ≡ true) (sym p.far) b.near_on;
+    far_on = p.up;
+    near_free = subst (λ (e : StationEnd). is_busy e.station ≡ false) (sym p.far) b.near_free;
+    far_free = free;
+    far_tries = omega (arith, p.tries, b.far_tries);
+    far_rest = λ never. absurd never;
+  }
+
+  far_puts : (most : ℕ) (w u : Stations) → Heals c d most ⊥ w → WasPut d c twisted reads laws (swapped w) u → is_busy u.near.station ≡ false → Heals c d most ⊥ (swapped u)
+  far_puts most w u (b, inl h) p free = (
+    far_puts_both most w u b p free,
+    inl (record {
+      number = h.number;
+      rest = h.rest;
+      before = h.before ++ p.next;
+      recovery = subst (λ (e : StationEnd). e.station.recovery ≡ true) (sym p.far) h.recovery;
+      out = subst (λ (os : List (List ℕ)). Reads (other d.role) d.longest os (rr true h.number true ∷ h.rest)) (sym p.back) h.out;
+      mild = h.mild;
+      back = p.out h.before h.back;
+      heard = no_final_more h.before p.next h.heard (next_no_final (length w.far.station.taken) w.far.station.outgoing.place p.next u.near.station.outgoing.place p.sends);
+    }),
+  )
+  far_puts most w u (b, inr (inl h)) p free =
+      let r = length w.far.station.taken in
+      let same : length u.near.station.taken ≡ r = ap length p.taken in
+      let frame = rr false h.number true in (
+        far_puts_both most w u b p free,
+        inr (inl (record {
+          number = h.number;
+          there = h.there;
+          before = h.before;
+          behind = h.behind ++ p.next;
+          is = h.is ∙ ap (λ (n : ℕ). n % 8) (sym same);
+          recovery = subst (λ (e : StationEnd). e.station.recovery ≡ true) (sym p.far) h.recovery;
+          out = subst (λ (os : List (List ℕ)). Reads (other d.role) d.longest os h.there) (sym p.back) h.out;
+          mild = h.mild;
+          back = subst (Reads (other c.role) c.longest u.out) (append_assoc h.before (frame ∷ h.behind) p.next) (p.out (h.before ++ frame ∷ h.behind) h.back);
+          heard = h.heard;
+          tells = subst (λ (n : ℕ). LastTells n h.number (h.behind ++ p.next)) (sym same)
+              (tells_behind r r h.number h.behind p.next h.tells (λ k is. next_tells r k w.far.station.outgoing.place u.near.station.outgoing.place p.next is p.sends));
+        })),
+      )
+  far_puts most w u (b, inr (inr h)) p free =
+      let r = length w.far.station.taken in
+      let same : length u.near.station.taken ≡ r = ap length p.taken in (
+        far_puts_both most w u b p free,
+        inr (inr (record {
+          there = h.there;
+          behind = h.behind ++ p.next;
+          out = subst (λ (os : List (List ℕ)). Reads (other d.role) d.longest os h.there) (sym p.back) h.out;
+          back = p.out h.behind h.back;
+          recovery = subst (λ (e : StationEnd). e.station.recovery ≡ false) (sym p.far) h.recovery;
+          peer_busy = subst (λ (e : StationEnd). e.station.peer_busy ≡ false) (sym p.far) h.peer_busy;
+          ahead = subst (λ (e : StationEnd). Ahead (length u.near.station.taken) h.there e.station.outgoing.place) (sym p.far)
+              (subst (λ (n : ℕ). Ahead n h.there w.near.station.outgoing.place) (sym same) h.ahead);
+          reports = subst (λ (e : StationEnd). Reports (length u.near.station.taken) e.station.outgoing.acked (h.behind ++ p.next)) (sym p.far)
+              (subst (λ (n : ℕ). Reports n w.near.station.outgoing.acked (h.behind ++ p.next)) (sym same)
+              (reports_more r w.near.station.outgoing.acked w.far.station.outgoing.place u.near.station.outgoing.place h.behind p.next h.reports p.sends));
+        })),
+      )
+
+  pub far_put : (most : ℕ) (packet : List ℕ) (w : Stations) → Heals c d most ⊥ w → is_busy (acts d (Put packet) (swapped w)).near.station ≡ false → Heals c d most ⊥ (swapped (acts d (Put packet) (swapped w)))
+  far_put most packet w h free =
+      far_puts most w (acts d (Put packet) (swapped w)) h (puts d c twisted reads laws packet (swapped w) (sound_swapped c d joined w h.0.sound) h.0.far_on) free
+
+-- ---- both ends, packet by packet
+
+-- an end is no less busy for a packet that is put
+free_before : (s u : LinkStation) → waits s.outgoing ≤ waits u.outgoing → is_busy u ≡ false → is_busy s ≡ false
+free_before s u grows free = (let few = ltb-false _ _ free in le-ltb _ _ (omega (arith, few, grows)))
+
+module _ (c d : Settings) (joined : AreJoined c d) (reads : ReadsSpelled) (laws : HealingLaws) where
+  turned : AreJoined d c
+  turned = joined_swapped c d joined
+
+  -- so none is busy at any moment before one in which none is, as long as nothing comes between
+  free_now : (es : List Event) (w : Stations) → AreDeliveriesAndPuts es → Sound c d w → is_up w.near.station.phase ≡ true → is_up w.far.station.phase ≡ true → FreeThroughout c d es w → AreFree w.near.station w.far.station
+  free_now [] w are h up far_up free = free
+  free_now (Near (Put packet) ∷ es) w are h up far_up free =
+      let v : Stations = acts c (Put packet) w in
+      let p = puts c d joined reads laws packet w h up in
+      let later = free_now es v are.1 p.sound p.up (subst (λ (e : StationEnd). is_up e.station.phase ≡ true) (sym p.far) far_up) free.1 in
+      (free_before w.near.station v.near.station p.grows later.0, subst (λ (e : StationEnd). is_busy e.station ≡ false) p.far later.1)
+  free_now (Far (Put packet) ∷ es) w are h up far_up free =
+      let v : Stations = acts d (Put packet) (swapped w) in
+      let p = puts d c turned reads laws packet (swapped w) (sound_swapped c d joined w h) far_up in
+      let later = free_now es (swapped v) are.1 (sound_swapped d c turned v p.sound) (subst (λ (e : StationEnd). is_up e.station.phase ≡ true) (sym p.far) up) p.up free.1 in
+      (subst (λ (e : StationEnd). is_busy e.station ≡ false) p.far later.0, free_before w.far.station v.near.station p.grows later.1)
+  free_now (Near Deliver ∷ es) w are h up far_up free = free.0
+  free_now (Far Deliver ∷ es) w are h up far_up free = free.0
+  free_now (Near T1 ∷ es) w are h up far_up free = absurd are.0
+  free_now (Near Connect ∷ es) w are h up far_up free = absurd are.0
+  free_now (Near Disconnect ∷ es) w are h up far_up free = absurd are.0
+  free_now (Near Abandon ∷ es) w are h up far_up free = absurd are.0
+  free_now (Near (Lose i) ∷ es) w are h up far_up free = absurd are.0
+  free_now (Near (Damage i octets) ∷ es) w are h up far_up free = absurd are.0
+  free_now (Far T1 ∷ es) w are h up far_up free = absurd are.0
+  free_now (Far Connect ∷ es) w are h up far_up free = absurd are.0
+  free_now (Far Disconnect ∷ es) w are h up far_up free = absurd are.0
+  free_now (Far Abandon ∷ es) w are h up far_up free = absurd are.0
+  free_now (Far (Lose i) ∷ es) w are h up far_up free = absurd are.0
+  free_now (Far (Damage i octets) ∷ es) w are h up far_up free = absurd are.0
+
+  abbrev BothHeal : ℕ → ℕ → Stations → Type 0
+  BothHeal m n w = HealsBoth c d joined reads laws m n w
+
+  near_packet : (m n : ℕ) (packet : List ℕ) (es : List Event) (w : Stations) → AreDeliveriesAndPuts es → BothHeal m n w → FreeThroughout c d es (acts c (Put packet) w) → BothHeal m n (acts c (Put packet) w)
+  near_packet m n packet es w are h free =
+      let v : Stations = acts c (Put packet) w in
+      let p = puts c d joined reads laws packet w h.0.0.sound h.0.0.near_on in
+      let now = free_now es v are p.sound p.up (subst (λ (e : StationEnd). is_up e.station.phase ≡ true) (sym p.far) h.0.0.far_on) free in
+      (near_put c d joined reads laws m packet w h.0 now.0, far_put d c turned reads laws n packet (swapped w) h.1 now.0)
+
+  far_packet : (m n : ℕ) (packet : List ℕ) (es : List Event) (w : Stations) → AreDeliveriesAndPuts es → BothHeal m n w → FreeThroughout c d es (swapped (acts d (Put packet) (swapped w)))
+      → BothHeal m n (swapped (acts d (Put packet) (swapped w)))
+  far_packet m n packet es w are h free =
+      let v : Stations = acts d (Put packet) (swapped w) in
+      let p = puts d c turned reads laws packet (swapped w) h.1.0.sound h.1.0.near_on in
+      let now = free_now es (swapped v) are (sound_swapped d c turned v p.sound) (subst (λ (e : StationEnd). is_up e.station.phase ≡ true) (sym p.far) h.0.0.near_on) p.up free in
+      (far_put c d joined reads laws m packet w h.0 now.1, near_put d c turned reads laws n packet (swapped w) h.1 now.1)
+
+  pub puts_run : (m n : ℕ) (es : List Event) (w : Stations) → AreDeliveriesAndPuts es → BothHeal m n w → FreeThroughout c d es w → BothHeal m n (run c d es w)
+  puts_run m n [] w are h free = h
+  puts_run m n (Near (Put packet) ∷ es) w are h free = puts_run m n es (acts c (Put packet) w) are.1 (near_packet m n packet es w are.1 h free.1) free.1
+  puts_run m n (Far (Put packet) ∷ es) w are h free = puts_run m n es (swapped (acts d (Put packet) (swapped w))) are.1 (far_packet m n packet es w are.1 h free.1) free.1
+  puts_run m n (Near Deliver ∷ es) w are h free = puts_run m n es (acts c Deliver w) are.1 (both_near c d joined reads laws m n Deliver w tt h) free.1
+  puts_run m n (Far Deliver ∷ es) w are h free = puts_run m n es (swapped (acts d Deliver (swapped w))) are.1 (both_far c d joined reads laws m n Deliver w tt h) free.1
+  puts_run m n (Near T1 ∷ es) w are h free = absurd are.0
+  puts_run m n (Near Connect ∷ es) w are h free = absurd are.0
+  puts_run m n (Near Disconnect ∷ es) w are h free = absurd are.0
+  puts_run m n (Near Abandon ∷ es) w are h free = absurd are.0
+  puts_run m n (Near (Lose i) ∷ es) w are h free = absurd are.0
+  puts_run m n (Near (Damage i octets) ∷ es) w are h free = absurd are.0
+  puts_run m n (Far T1 ∷ es) w are h free = absurd are.0
+  puts_run m n (Far Connect ∷ es) w are h free = absurd are.0
+  puts_run m n (Far Disconnect ∷ es) w are h free = absurd are.0
+  puts_run m n (Far Abandon ∷ es) w are h free = absurd are.0
+  puts_run m n (Far (Lose i) ∷ es) w are h free = absurd are.0
+  puts_run m n (Far (Damage i octets) ∷ es) w are h free = absurd are.0
+
+pub puts_heal : ReadsSpelled → HealingLaws → PutsHeal
+puts_heal reads laws c d joined events quiet near_may far_may es are free after =
+    let w : Stations = run c d events start in
+    let begun = fired_both reads laws c d joined w (reached_sound laws reads c d joined events quiet.once) quiet.drained near_may far_may in
+    let v : Stations = swapped (acts d T1 (swapped (acts c T1 w))) in
+    both_settle c d joined reads laws begun.most begun.least (run c d es v) (puts_run c d joined reads laws begun.most begun.least es v are begun.heals free) after
