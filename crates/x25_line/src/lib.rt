@@ -10,8 +10,7 @@ mod raw_frame;
 mod raw_world;
 
 pub use healing::{
-    deliveries_end, drains_end, healing_takes_firings, one_busy_heals, one_firing_heals,
-    puts_heal,
+    deliveries_end, drains_end, healing_takes_firings, one_busy_heals, one_firing_heals, puts_heal,
     rest_shows, two_firings_heal,
 };
 pub use law::{
