@@ -6,8 +6,6 @@ mod bit_damage;
 #[cfg(test)]
 mod handed;
 #[cfg(test)]
-mod healing;
-#[cfg(test)]
 mod lists;
 #[cfg(test)]
 mod play;

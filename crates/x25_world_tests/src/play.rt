@@ -28,8 +28,6 @@ pub enum Act {
     Do(Event<'static>),
     /// Deliveries, first those to the DCE, until nothing is on the line.
     Drain,
-    /// The line is good for a moment. Behind what is told comes how many frames arrived.
-    Heal,
 }
 
 /// What a run shows, its settings, what is played, and the lines that are told from the beginning.
@@ -99,21 +97,12 @@ impl Play {
         Ok(())
     }
 
-    fn heal(&mut self) -> Result<(), Fail> {
-        let count = self.world.heal()?;
-        self.tell()?;
-        let line = format!(in self.alloc; "= {count}\n")?;
-        self.text.extend_from_slice(line.as_bytes())?;
-        Ok(())
-    }
-
     fn does(&mut self, acts: &[Act]) -> Result<(), Fail> {
         self.tell()?;
         for act in acts {
             match *act {
                 Act::Do(event) => self.apply(event)?,
                 Act::Drain => self.drain()?,
-                Act::Heal => self.heal()?,
             }
         }
         Ok(())
