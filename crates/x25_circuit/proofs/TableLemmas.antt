@@ -1,22 +1,21 @@
 -- The rows of the table for the states that a packet has in common.
 use Rattle.std.proofs.Common.{◌≡◌, ◌≢◌, ℕ, [], ◌∷◌, List, length, Option, Some, None, refl, sym, ap, ◌∙◌, Bool, true, false, ◌<◌, ◌≤◌, ◌++◌}
-use Rattle.std.proofs.lemmas.Bool.{le-leb, lt-ltb, and_from}
+use Rattle.std.proofs.lemmas.Bool.{le-leb, lt-ltb}
 use Rattle.x25_bits.specs.declared.role.Role.{Role}
 use Rattle.x25_bits.specs.declared.role.Role.TheVariants.{Dte, Dce}
 use Rattle.x25_packet.specs.declared.error.PacketError.{PacketError}
 use Rattle.x25_packet.specs.PacketError.{diagnostic_of}
 use Rattle.x25_packet.specs.PlainPacket.{PlainPacket, accept, clear, clear_conf}
-use Rattle.x25_packet.specs.Spelling.{longest_user}
 use Rattle.x25_circuit.specs.declared.state.State.{State}
 use Rattle.x25_circuit.specs.declared.state.State.TheVariants.{Free, Calling, Arriving, Collision, Open, Resetting, Clearing}
 use Rattle.x25_circuit.specs.declared.params.Params.{Params}
-use Rattle.x25_circuit.specs.Params.{default_params, may_propose, may_answer, field_for, said_in}
+use Rattle.x25_circuit.specs.Params.{default_params, may_answer, field_for, said_in}
 use Rattle.x25_circuit.specs.Circuit.{Settings, Circuit, outgoing, waits}
 use Rattle.x25_circuit.specs.code.Changes.{with_rest}
 use Rattle.x25_circuit.specs.Messages.{cut}
 use Rattle.x25_circuit.specs.declared.error.CircuitError.TheVariants as error
 use Rattle.x25_circuit.specs.Notices.{CallRequest, cleared, collided, connected, incoming}
-use Rattle.x25_circuit.specs.Calls.{Refused, keeps_on, does, call_in, accept_in, accept_with, clear_in, is_address_text, may_call, ready_in, ready_open, send_in, send_open, interrupt_in, interrupt_open}
+use Rattle.x25_circuit.specs.Calls.{Refused, keeps_on, does, call_in, accept_in, accept_with, clear_in, ready_in, ready_open, send_in, send_open}
 use Rattle.x25_circuit.specs.Table.{goes, collides, connects, clears_for, clears_to, unexpected, cause_of, row_call, row_accept, row_clear, row_clear_conf, row_reset, row_reset_conf, row_data, row_undecoded}
 
 pub collides_at_dte : (r : Role) (x : Circuit) (request : CallRequest) → r ≡ Dte → collides r x request ≡ goes x Collision x.params true None []
@@ -46,9 +45,6 @@ answer_out_of_range c x known answered field e f g =
 
 pub answer_accepts : (x : Circuit) (answer : Params) → may_answer x.params answer ≡ true → accept_with x (Some answer) ≡ does x Open answer false (accept 1 (field_for x.params answer))
 answer_accepts x answer e = rw e refl
-
-pub answer_is_refused : (x : Circuit) (answer : Params) → may_answer x.params answer ≡ false → accept_with x (Some answer) ≡ Refused error.BadParameter
-answer_is_refused x answer e = rw e refl
 
 pub call_strays : (c : Settings) (x : Circuit) (s : State) (request : CallRequest) → s ≢ Free → s ≢ Calling → s ≢ Clearing → row_call c x s request ≡ unexpected c x s
 call_strays c x Free request f g h = absurd (f refl)
@@ -131,10 +127,6 @@ clear_done x Open f g = refl
 clear_done x Resetting f g = refl
 clear_done x Clearing f g = absurd (g refl)
 
-pub calls_with : (long_data : Bool) (called calling user : List ℕ) (params : Params) → is_address_text called ≡ true → is_address_text calling ≡ true → length user ≤ longest_user long_data → may_propose params ≡ true
-    → may_call long_data called calling user params ≡ true
-calls_with long_data called calling user params e f h g = rw (e, f) (and_from _ _ (le-leb _ _ h) g)
-
 pub ready_at : (x : Circuit) (s : State) (b : Bool) → s ≡ Open → ready_in x s b ≡ ready_open x x.talk b
 ready_at x s b e = ap (λ (r : State). ready_in x r b) e
 
@@ -147,15 +139,9 @@ call_at c x s called calling user params e = ap (λ (r : State). call_in c x r c
 pub accept_at : (x : Circuit) (s : State) (answer : Option Params) → s ≡ Arriving → accept_in x s answer ≡ accept_with x answer
 accept_at x s answer e = ap (λ (r : State). accept_in x r answer) e
 
-pub interrupt_at : (x : Circuit) (s : State) (user : List ℕ) → s ≡ Open → interrupt_in x s user ≡ interrupt_open x x.talk user
-interrupt_at x s user e = ap (λ (r : State). interrupt_in x r user) e
-
 pub send_full : (c : Settings) (x : Circuit) (q : Bool) (user : List ℕ) → length user ≤ 65535 → waits x ≡ 8 → send_open c x x.talk q user ≡ Refused error.Full
 send_full c x q user short e = rw (le-leb _ _ short, e) refl
 
 pub send_waits : (c : Settings) (x : Circuit) (q : Bool) (user : List ℕ) → length user ≤ 65535 → waits x < 8
     → send_open c x x.talk q user ≡ keeps_on x (with_rest (x.talk.rest ++ cut (outgoing x).size q user) x.talk) None
 send_waits c x q user short e = rw (le-leb _ _ short, lt-ltb _ _ e) refl
-
-pub clear_at : (x : Circuit) (s r : State) (cause diagnostic : ℕ) → s ≡ r → row_clear x s cause diagnostic ≡ row_clear x r cause diagnostic
-clear_at x s r cause diagnostic e = ap (λ (t : State). row_clear x t cause diagnostic) e

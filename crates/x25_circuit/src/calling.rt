@@ -1,13 +1,15 @@
 //! The user's calls that set up and clear. ITU-T X.25 (10/96), sections 4.1.2, 4.1.4 and 4.1.7.
-ghost use Rattle.std.specs.Prelude.{◌≡◌, ◌≤◌, OnErr, IfSome, IfNone, Some, None, true, false, IfOk};
+ghost use Rattle.std.specs.Prelude.{◌≡◌, ◌≤◌, OnErr, IfSome, IfNone, Some, None, true, false, IfOk, IfErr, length, unwrap_or};
+ghost use Rattle.std.specs.Result.{result_err};
 ghost use Rattle.x25_packet.specs.PlainPacket.{plain};
 ghost use Rattle.x25_packet.specs.Spelling.{IsInRange};
 ghost use Rattle.x25_packet.specs.Digits.{IsAddress, digits_of_text};
-ghost use Rattle.x25_circuit.specs.declared.state.State.TheVariants.{Free};
+ghost use Rattle.x25_circuit.specs.declared.state.State.{State};
 ghost use Rattle.x25_circuit.specs.Circuit.{Settings};
 ghost use Rattle.x25_circuit.specs.Circuit.{Circuit as Channel};
-ghost use Rattle.x25_circuit.specs.Params.{default_params, field_for};
-ghost use Rattle.x25_circuit.specs.Calls.{outcome, Calls, Accepts, Clears, call_in, accept_with, is_address_text};
+ghost use Rattle.x25_circuit.specs.Params.{default_params, field_for, may_answer};
+ghost use Rattle.x25_circuit.specs.Calls.{outcome, Refused, Calls, Accepts, Clears, may_call, call_in, accept_in, is_address_text};
+ghost use Rattle.x25_circuit.specs.Requests.{plain_answer, refusal_of};
 ghost use Rattle.x25_circuit.specs.code.FitsCircuit.{FitsCircuit, Sends, room_of};
 
 use crate::circuit::Circuit;
@@ -28,6 +30,44 @@ fn address<'a>(text: &'a str) -> Option<Digits<'a>>
     Digits::of(text)
 }
 
+/// What a call says that may be made.
+#[derive(Drop)]
+pub(crate) struct CallFields<'a> {
+    called: Digits<'a>,
+    calling: Digits<'a>,
+    flow: FlowControl,
+}
+
+// What a call of these says, where it may be made.
+fn fields_of<'a>(
+    long_data: bool,
+    called: &'a str,
+    calling: &'a str,
+    user: &[u8],
+    params: Params,
+) -> Option<CallFields<'a>>
+    ensures may_call { IfSome result (λ fields. may_call long_data called.now calling.now user.now params ≡ true) }
+    ensures called { IfSome result (λ fields. fields.called ≡ digits_of_text called.now) }
+    ensures calling { IfSome result (λ fields. fields.calling ≡ digits_of_text calling.now) }
+    ensures called_address { IfSome result (λ fields. IsAddress fields.called) }
+    ensures calling_address { IfSome result (λ fields. IsAddress fields.calling) }
+    ensures short { IfSome result (λ fields. length user.now ≤ 128) }
+    ensures flow { IfSome result (λ fields. fields.flow.params ≡ params) }
+    ensures none { IfNone result (may_call long_data called.now calling.now user.now params ≡ false) }
+{
+    let called = address(called)?;
+    let calling = address(calling)?;
+    if user.len() > longest_user(long_data) {
+        return None;
+    }
+    let flow = FlowControl::of(params)?;
+    Some(CallFields {
+        called,
+        calling,
+        flow,
+    })
+}
+
 impl Circuit {
     /// Calls the other end, with addresses of 0 to 15 digits and at most 16 octets of user data (128 where it may be long),
     /// and proposes the default packet sizes and windows. It answers CALL.
@@ -44,10 +84,7 @@ impl Circuit {
         ensures room { room_of self.old ≤ room_of self.new }
         ensures unchanged { OnErr result (self.new ≡ self.old) }
     {
-        match self.state {
-            State::Free => self.call_out(called, calling, user, Params::default(), &[]),
-            _ => Err(CircuitError::WrongState),
-        }
+        self.call_out(called, calling, user, Params::default(), &[])
     }
 
     /// Calls as `call`, and proposes these packet sizes and windows: sizes of 4 to 12, and windows of 1 to 7. What isn't the
@@ -66,19 +103,16 @@ impl Circuit {
         ensures room { room_of self.old ≤ room_of self.new }
         ensures unchanged { OnErr result (self.new ≡ self.old) }
     {
-        match self.state {
-            State::Free => self.call_out(
-                called,
-                calling,
-                user,
-                proposal.params(),
-                proposal.field_for(Params::default()),
-            ),
-            _ => Err(CircuitError::WrongState),
-        }
+        self.call_out(
+            called,
+            calling,
+            user,
+            proposal.params(),
+            proposal.field_for(Params::default()),
+        )
     }
 
-    // Calls, in p1, with the facility field that says what is proposed.
+    // Calls, with the facility field that says what is proposed.
     fn call_out<'a>(
         &mut self,
         called: &'a str,
@@ -88,31 +122,48 @@ impl Circuit {
         facilities: &'a [u8],
     ) -> Result<Packet<'a>, CircuitError>
         requires { facilities.now ≡ field_for default_params params }
-        ensures outcome { (c : Settings) (x : Channel) → FitsCircuit c self.old x → Sends c self.new result (call_in c x Free called.now calling.now user.now params) }
+        ensures outcome { (c : Settings) (x : Channel) → FitsCircuit c self.old x → Sends c self.new result (call_in c x x.state called.now calling.now user.now params) }
         ensures range { IfOk result (λ packet. IsInRange 128 (plain packet)) }
         ensures room { room_of self.old ≤ room_of self.new }
         ensures unchanged { OnErr result (self.new ≡ self.old) }
     {
-        let Some(called) = address(called) else {
-            return Err(CircuitError::BadParameter);
-        };
-        let Some(calling) = address(calling) else {
-            return Err(CircuitError::BadParameter);
-        };
-        if user.len() > longest_user(self.long_data) {
-            return Err(CircuitError::BadParameter);
-        }
-        let Some(flow) = FlowControl::of(params) else {
-            return Err(CircuitError::BadParameter);
-        };
-        self.enter(State::Calling, flow, true);
+        let fields = self.call_fields(called, calling, user, params)?;
+        self.enter(State::Calling, fields.flow, true);
         Ok(Packet::Call {
             channel: 1,
-            called,
-            calling,
+            called: fields.called,
+            calling: fields.calling,
             facilities,
             user,
         })
+    }
+
+    // What a call says, where it may be made now.
+    pub(crate) fn call_fields<'a>(
+        &self,
+        called: &'a str,
+        calling: &'a str,
+        user: &[u8],
+        params: Params,
+    ) -> Result<CallFields<'a>, CircuitError>
+        ensures free { IfOk result (λ fields. self.now.state ≡ State.Free) }
+        ensures may_call { IfOk result (λ fields. may_call self.now.long_data called.now calling.now user.now params ≡ true) }
+        ensures called { IfOk result (λ fields. fields.called ≡ digits_of_text called.now) }
+        ensures calling { IfOk result (λ fields. fields.calling ≡ digits_of_text calling.now) }
+        ensures called_address { IfOk result (λ fields. IsAddress fields.called) }
+        ensures calling_address { IfOk result (λ fields. IsAddress fields.calling) }
+        ensures short { IfOk result (λ fields. length user.now ≤ 128) }
+        ensures flow { IfOk result (λ fields. fields.flow.params ≡ params) }
+        ensures refused { (c : Settings) (x : Channel) → FitsCircuit c self.now x → IfErr result (λ e. call_in c x x.state called.now calling.now user.now params ≡ Refused e) }
+        ensures refusal { (c : Settings) (x : Channel) → FitsCircuit c self.now x → result_err result ≡ refusal_of (call_in c x x.state called.now calling.now user.now params) }
+    {
+        if self.state != State::Free {
+            return Err(CircuitError::WrongState);
+        }
+        let Some(fields) = fields_of(self.long_data, called, calling, user, params) else {
+            return Err(CircuitError::BadParameter);
+        };
+        Ok(fields)
     }
 
     /// Accepts the call of the other end, with the packet sizes and windows that it proposes. It answers CALL ACCEPTED.
@@ -124,16 +175,12 @@ impl Circuit {
         ensures room { room_of self.old ≤ room_of self.new }
         ensures unchanged { OnErr result (self.new ≡ self.old) }
     {
-        match self.state {
-            State::Arriving => {
-                self.enter(State::Open, self.flow, false);
-                Ok(Packet::Accept {
-                    channel: 1,
-                    facilities: &[],
-                })
-            }
-            _ => Err(CircuitError::WrongState),
-        }
+        let proposed = self.accepted(None)?;
+        self.enter(State::Open, proposed, false);
+        Ok(Packet::Accept {
+            channel: 1,
+            facilities: &[],
+        })
     }
 
     /// Accepts the call of the other end, with these packet sizes and windows, each from the proposed value to the default. What
@@ -146,28 +193,35 @@ impl Circuit {
         ensures room { room_of self.old ≤ room_of self.new }
         ensures unchanged { OnErr result (self.new ≡ self.old) }
     {
-        match self.state {
-            State::Arriving => self.answer(answer),
-            _ => Err(CircuitError::WrongState),
-        }
-    }
-
-    // Accepts the call that came.
-    fn answer<'a>(&mut self, answer: &'a Proposal) -> Result<Packet<'a>, CircuitError>
-        ensures outcome { (c : Settings) (x : Channel) → FitsCircuit c self.old x → Sends c self.new result (accept_with x (Some answer.now)) }
-        ensures range { IfOk result (λ packet. IsInRange 128 (plain packet)) }
-        ensures room { room_of self.old ≤ room_of self.new }
-        ensures unchanged { OnErr result (self.new ≡ self.old) }
-    {
         let proposed = self.flow.params;
-        let Some(flow) = self.flow.answered(answer.params()) else {
-            return Err(CircuitError::BadParameter);
-        };
+        let flow = self.accepted(Some(answer))?;
         self.enter(State::Open, flow, false);
         Ok(Packet::Accept {
             channel: 1,
             facilities: answer.field_for(proposed),
         })
+    }
+
+    // Packet sizes and windows in force once the call is accepted with this answer, where it may be now.
+    pub(crate) fn accepted(&self, answer: Option<&Proposal>) -> Result<FlowControl, CircuitError>
+        ensures arriving { IfOk result (λ flow. self.now.state ≡ State.Arriving) }
+        ensures may_answer { IfOk result (λ flow. IfSome (plain_answer answer.entry) (λ said. may_answer self.now.flow.params said ≡ true)) }
+        ensures flow { IfOk result (λ flow. flow.params ≡ unwrap_or (plain_answer answer.entry) self.now.flow.params) }
+        ensures refused { (c : Settings) (x : Channel) → FitsCircuit c self.now x → IfErr result (λ e. accept_in x x.state (plain_answer answer.entry) ≡ Refused e) }
+        ensures refusal { (c : Settings) (x : Channel) → FitsCircuit c self.now x → result_err result ≡ refusal_of (accept_in x x.state (plain_answer answer.entry)) }
+    {
+        if self.state != State::Arriving {
+            return Err(CircuitError::WrongState);
+        }
+        match answer {
+            Some(answer) => {
+                let Some(flow) = self.flow.answered(answer.params()) else {
+                    return Err(CircuitError::BadParameter);
+                };
+                Ok(flow)
+            }
+            None => Ok(self.flow),
+        }
     }
 
     /// Clears the call, and drops everything. It answers CLEAR with cause and diagnostic 0.
@@ -179,16 +233,14 @@ impl Circuit {
         ensures room { room_of self.old ≤ room_of self.new }
         ensures unchanged { OnErr result (self.new ≡ self.old) }
     {
-        match self.state {
-            State::Free | State::Clearing => Err(CircuitError::WrongState),
-            _ => {
-                self.end_call(State::Clearing);
-                Ok(Packet::Clear {
-                    channel: 1,
-                    cause: ASKED_FOR,
-                    diagnostic: NO_DIAGNOSTIC,
-                })
-            }
+        if let Some(error) = self.clear_refusal() {
+            return Err(error);
         }
+        self.end_call(State::Clearing);
+        Ok(Packet::Clear {
+            channel: 1,
+            cause: ASKED_FOR,
+            diagnostic: NO_DIAGNOSTIC,
+        })
     }
 }

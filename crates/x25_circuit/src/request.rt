@@ -1,10 +1,10 @@
 //! What the user of a circuit asks for, as one type.
-ghost use Rattle.std.specs.Prelude.{◌≡◌, ◌≤◌, ◌<◌, Bool, false, OnErr, IfOk, IfSome, IfNone, Some, None, length};
+ghost use Rattle.std.specs.Prelude.{◌≡◌, ◌≢◌, ◌≤◌, ◌<◌, Bool, false, OnErr, IfOk, IfSome, IfNone, Some, None, length};
 ghost use Rattle.x25_packet.specs.PlainPacket.{plain};
 ghost use Rattle.x25_packet.specs.Spelling.{IsInRange};
 ghost use Rattle.x25_circuit.specs.Circuit.{Settings};
 ghost use Rattle.x25_circuit.specs.Circuit.{Circuit as Channel};
-ghost use Rattle.x25_circuit.specs.Calls.{outcome, Refused, Accepts, is_address_text, may_call, call_in, accept_in, accept_with, clear_in, send_in, interrupt_in, reset_in, ready_in};
+ghost use Rattle.x25_circuit.specs.Calls.{outcome, Refused, Accepts, clear_in, send_in, interrupt_in, reset_in, ready_in};
 ghost use Rattle.x25_circuit.specs.code.FitsCircuit.{FitsCircuit, Sends, room_of};
 ghost use Rattle.x25_circuit.specs.Queue.{waiting};
 ghost use Rattle.x25_circuit.specs.Requests.{plain_answer, plain_request, refusal_of, with_packet, AnswersRequest, MayPut};
@@ -13,12 +13,11 @@ ghost use Rattle.x25_circuit.specs.code.Replies.{IsSendable, plain_owed};
 use crate::circuit::Circuit;
 use crate::error::CircuitError;
 use crate::octets::LONGEST_MESSAGE;
-use crate::params::Params;
 use crate::proposal::Proposal;
 use crate::queue::PLACES;
 use crate::state::State;
 use crate::talking::INTERRUPT_OCTETS;
-use x25_packet::{Digits, Packet, longest_user};
+use x25_packet::Packet;
 
 /// A call of the user of a circuit. Addresses and user data are borrowed; the octets of a message are handed over.
 #[derive(Debug, Drop)]
@@ -53,22 +52,6 @@ fn with_packet<'a>(
     ensures { result ≡ with_packet answer.entry }
 {
     Ok(Some(answer?))
-}
-
-fn is_address(text: &str) -> bool
-    ensures { result ≡ is_address_text text.now }
-{
-    Digits::of(text).is_some()
-}
-
-// Whether a call may be made of these.
-fn may_call(long_data: bool, called: &str, calling: &str, user: &[u8], params: Params) -> bool
-    ensures { result ≡ may_call long_data called.now calling.now user.now params }
-{
-    is_address(called)
-        && is_address(calling)
-        && user.len() <= longest_user(long_data)
-        && params.may_be_proposed()
 }
 
 impl Circuit {
@@ -125,8 +108,10 @@ impl Circuit {
                 calling,
                 user,
                 proposal,
-            } => self.call_refusal(called, calling, user, proposal.params()),
-            Request::Accept { answer } => self.accept_refusal(*answer),
+            } => self
+                .call_fields(called, calling, user, proposal.params())
+                .err(),
+            Request::Accept { answer } => self.accepted(*answer).err(),
             Request::Clear => self.clear_refusal(),
             Request::Send { q, user } => self.send_refusal(*q, user),
             Request::Interrupt { user } => self.interrupt_refusal(user),
@@ -134,48 +119,11 @@ impl Circuit {
         }
     }
 
-    fn call_refusal(
-        &self,
-        called: &str,
-        calling: &str,
-        user: &[u8],
-        params: Params,
-    ) -> Option<CircuitError>
-        ensures { (c : Settings) (x : Channel) → FitsCircuit c self.now x → result ≡ refusal_of (call_in c x x.state called.now calling.now user.now params) }
-    {
-        if self.state != State::Free {
-            return Some(CircuitError::WrongState);
-        }
-        if !may_call(self.long_data, called, calling, user, params) {
-            return Some(CircuitError::BadParameter);
-        }
-        None
-    }
-
-    fn accept_refusal(&self, answer: Option<&Proposal>) -> Option<CircuitError>
-        ensures { (c : Settings) (x : Channel) → FitsCircuit c self.now x → result ≡ refusal_of (accept_in x x.state (plain_answer answer.entry)) }
-    {
-        match self.state {
-            State::Arriving => match answer {
-                Some(answer) => self.answer_refusal(answer.params()),
-                None => None,
-            },
-            _ => Some(CircuitError::WrongState),
-        }
-    }
-
-    // Where a call came.
-    fn answer_refusal(&self, answer: Params) -> Option<CircuitError>
-        ensures { (c : Settings) (x : Channel) → FitsCircuit c self.now x → result ≡ refusal_of (accept_with x (Some answer)) }
-    {
-        if !answer.may_answer(self.flow.params) {
-            return Some(CircuitError::BadParameter);
-        }
-        None
-    }
-
-    fn clear_refusal(&self) -> Option<CircuitError>
-        ensures { (c : Settings) (x : Channel) → FitsCircuit c self.now x → result ≡ refusal_of (clear_in x x.state) }
+    pub(crate) fn clear_refusal(&self) -> Option<CircuitError>
+        ensures refusal { (c : Settings) (x : Channel) → FitsCircuit c self.now x → result ≡ refusal_of (clear_in x x.state) }
+        ensures refused { (c : Settings) (x : Channel) → FitsCircuit c self.now x → IfSome result (λ e. clear_in x x.state ≡ Refused e) }
+        ensures not_free { IfNone result (self.now.state ≢ State.Free) }
+        ensures not_clearing { IfNone result (self.now.state ≢ State.Clearing) }
     {
         match self.state {
             State::Free | State::Clearing => Some(CircuitError::WrongState),

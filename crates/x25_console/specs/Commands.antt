@@ -1,21 +1,15 @@
 -- What a line of a script asks of a station (profile).
-use Rattle.std.specs.Prelude.{ℕ, List, [], option_map, unwrap_or}
-use Rattle.x25_circuit.specs.declared.params.Params.{Params}
+use Rattle.std.specs.Prelude.{ℕ, List, [], unwrap_or}
 use Rattle.x25_circuit.specs.Params.{default_params}
 use Rattle.x25_circuit.specs.Calls.{Accepts, Clears, Sends, Interrupts, Resets, SaysReady, SaysNotReady}
 use Rattle.x25_layer.specs.Calls.{Asks, Dials, Restarts, PullsAll}
 use Rattle.x25_station.specs.Command.{Command, Requests, Connects, Disconnects}
-use Rattle.x25_script.specs.declared.params.Params.{Params as Numbers}
 use Rattle.x25_script.specs.PlainLine.{PlainCommand, call, accept, clear, send, interrupt, reset, ready, not_ready, restart, pull, connect, disconnect}
 
--- packet sizes and windows, from the four numbers of a line
-abbrev pub params_of : Numbers → Params
-params_of p = record { size_called = p.size_called; size_calling = p.size_calling; win_called = p.win_called; win_calling = p.win_calling }
-
--- A call without the four numbers proposes the default, and an acceptance without them accepts what was proposed.
+-- A call without packet sizes and windows proposes the default, and an acceptance without them accepts what was proposed.
 abbrev pub command_asked : PlainCommand → Command
-command_asked (call called calling user params) = Requests (Dials called calling user (unwrap_or (option_map params_of params) default_params))
-command_asked (accept channel params) = Requests (Asks channel (Accepts (option_map params_of params)))
+command_asked (call called calling user params) = Requests (Dials called calling user (unwrap_or params default_params))
+command_asked (accept channel params) = Requests (Asks channel (Accepts params))
 command_asked (clear channel) = Requests (Asks channel Clears)
 command_asked (send channel q user) = Requests (Asks channel (Sends q user))
 command_asked (interrupt channel user) = Requests (Asks channel (Interrupts user))

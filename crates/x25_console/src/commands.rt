@@ -2,10 +2,9 @@
 ghost use Rattle.std.specs.Prelude.{◌≡◌, OnOk, OnErr};
 ghost use Rattle.x25_script.specs.PlainLine.{plain_command};
 ghost use Rattle.x25_station.specs.Command.{command_of};
-ghost use Rattle.x25_console.specs.Commands.{command_asked, params_of, user_in};
+ghost use Rattle.x25_console.specs.Commands.{command_asked, user_in};
 
 use std::alloc::AllocError;
-use x25_circuit::Params;
 use x25_script::{Command, HexDigits};
 use x25_station::Cmd;
 
@@ -37,18 +36,6 @@ pub fn read_user(command: &Command, octets: &mut Vec<u8>) -> Result<(), AllocErr
     }
 }
 
-/// Packet sizes and windows, from the four numbers of a line.
-fn params_of(numbers: &x25_script::Params) -> Params
-    ensures { result ≡ params_of numbers.now }
-{
-    Params {
-        size_called: numbers.size_called,
-        size_calling: numbers.size_calling,
-        win_called: numbers.win_called,
-        win_calling: numbers.win_calling,
-    }
-}
-
 /// The command with its octets of user data.
 pub fn station_command<'a>(command: &Command<'a>, user: &'a [u8]) -> Cmd<'a>
     requires { user.now ≡ user_in (plain_command command.now) }
@@ -68,13 +55,13 @@ pub fn station_command<'a>(command: &Command<'a>, user: &'a [u8]) -> Cmd<'a>
         Command::Call {
             called,
             calling,
-            params: Some(numbers),
+            params: Some(proposed),
             ..
         } => Cmd::CallWith {
             called,
             calling,
             user,
-            params: params_of(numbers),
+            params: *proposed,
         },
         Command::Accept {
             channel,
@@ -82,10 +69,10 @@ pub fn station_command<'a>(command: &Command<'a>, user: &'a [u8]) -> Cmd<'a>
         } => Cmd::Accept { channel: *channel },
         Command::Accept {
             channel,
-            params: Some(numbers),
+            params: Some(answer),
         } => Cmd::AcceptWith {
             channel: *channel,
-            params: params_of(numbers),
+            params: *answer,
         },
         Command::Clear { channel } => Cmd::Clear { channel: *channel },
         Command::Send { channel, q, .. } => Cmd::Send {

@@ -19,7 +19,7 @@ use Rattle.x25_layer.specs.Calls.{layer_pulled}
 use Rattle.x25_layer.specs.Transcript.{name_of}
 use Rattle.x25_layer.specs.TwoLayers.{End, TwoLayers, settings_of, run, start}
 use Rattle.x25_layer.specs.laws.Law.{Always, HasAllOf, IsIdleTo}
-use Rattle.x25_layer.specs.laws.WaitLaw.{IsOpenAtBoth, WaitsForUser, NotOpen, Arrived, NotReady, WaitForUsersAlone}
+use Rattle.x25_layer.specs.laws.WaitLaw.{ClosedKeepNone, IsOpenAtBoth, WaitsForUser, NotOpen, Arrived, NotReady, WaitForUsersAlone}
 use Rattle.x25_layer.proofs.Sees.{Agreed, view}
 use Rattle.x25_layer.proofs.LayerSees.{bare_layers, ShowsAt}
 use Rattle.x25_layer.proofs.LayerLemmas.{layer_pulls}
@@ -54,6 +54,13 @@ closed_end e (Live z) k sees closed = at z.side (sees.1.circuits k)
     at : (y : Side Channels) → ShowsAt y k (e.layer.circuits k) → waits (e.layer.circuits k) ≡ 0
     at (Left x) shows = ap waits shows
     at (Live x) shows = ap waits shows.is ∙ closed_view shows.agreed (x k) (sym (ap is_open shows.is) ∙ closed)
+
+pub always_closed : Premises → (long_data : Bool) (channels : ℕ) → Always ClosedKeepNone long_data channels
+always_closed p long_data channels es =
+    let w : TwoLayers = run long_data channels es (start long_data channels) in
+    let h : InRun channels w = in_run p long_data channels es in
+    let j : Pair = pair_run h.events pair_start in
+    record { near = λ k closed. closed_end w.near j.near k h.sees.near closed; far = λ k closed. closed_end w.far j.far k h.sees.far closed }
 
 -- ---- a stretch that is open, as the circuit shows it
 

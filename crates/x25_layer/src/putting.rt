@@ -23,6 +23,7 @@ impl Layer {
     /// Sets memory aside, here and in the link, for so many packets.
     ///
     /// 70 alone, and only where memory is set aside for fewer.
+    #[inline(always)]
     pub(crate) fn set_aside<L: OrderedLink>(
         &mut self,
         link: &mut L,
@@ -53,6 +54,7 @@ impl Layer {
     }
 
     /// Puts a packet of at most `most` octets into the link, in memory that was set aside.
+    #[inline(always)]
     pub(crate) fn put<L: OrderedLink>(&mut self, link: &mut L, packet: &Packet, most: usize)
         requires range { IsInRange 128 (plain packet.now) }
         requires short { length (spelling_of (plain packet.now)) ≤ most }
@@ -76,6 +78,7 @@ impl Layer {
 }
 
 /// Puts a packet of at most `most` octets into the link, in memory that was set aside.
+#[inline(always)]
 pub(crate) fn put<L: OrderedLink>(
     memory: &mut PacketMemory,
     link: &mut L,

@@ -24,6 +24,7 @@ use x25_link::OrderedLink;
 const FEW: usize = 8;
 
 // Whether fewer than 8 packets wait in the link. Memory that was set aside for 15 packets lasts as long as that.
+#[inline(always)]
 fn may_pull<L: OrderedLink>(link: &L, memory: &PacketMemory) -> bool
     ensures few { result ≡ true → L.waits link.now < 8 }
     ensures memory { result ≡ true → 0 < memory.now }
@@ -34,6 +35,7 @@ fn may_pull<L: OrderedLink>(link: &L, memory: &PacketMemory) -> bool
 }
 
 // Puts the next data packet of a circuit, where it may send one and fewer than 8 packets wait in the link: whether it did.
+#[inline(always)]
 fn pull_one<L: OrderedLink>(
     circuit: &mut Circuit,
     channel: u16,
@@ -67,6 +69,7 @@ fn pull_one<L: OrderedLink>(
 }
 
 // One round: whether a packet was put.
+#[inline(always)]
 fn round<L: OrderedLink>(
     circuits: &mut Vec<Circuit>,
     link: &mut L,

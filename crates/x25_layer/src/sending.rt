@@ -49,6 +49,7 @@ pub(crate) fn most_octets(packet: &Packet) -> usize
 
 impl Layer {
     /// Puts a circuit's packet, where there is one, on its channel into the link, in memory that was set aside.
+    #[inline(always)]
     pub(crate) fn put_owed<L: OrderedLink>(
         &mut self,
         link: &mut L,

@@ -75,6 +75,16 @@ unfolding pumped
 pumped_stays zero k t h = refl
 pumped_stays (suc n) k t h = ap (pumped_once k) (pumped_stays n k t h) ∙ (rw h refl)
 
+-- the first step apart from those behind it
+pub pumped_first : (n k : ℕ) (t : Side) → pumped (suc n) k t ≡ pumped n k (pumped_once k t)
+unfolding pumped
+pumped_first zero k t = refl
+pumped_first (suc n) k t = ap (pumped_once k) (pumped_first n k t)
+
+pub pumped_none : (n k : ℕ) (t : Side) → may_send k t.near ≡ false → pumped (suc n) k t ≡ pumped_once k t
+unfolding pumped
+pumped_none n k t h = ap (pumped_once k) (pumped_stays n k t h)
+
 -- ---- the RR that ends an RNR
 
 pub ready_sends : (k : ℕ) (b : Bool) (command pf : Bool) (t : Side) → is_busy t.near ≡ b → may_send k (ready command pf t).near ≡ may_send k t.near

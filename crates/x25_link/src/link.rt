@@ -256,6 +256,9 @@ impl Link {
     pub fn give_back_list(&mut self, mut frames: Vec<Vec<u8>>)
         ensures { self.new ≡ self.old }
     {
+        if frames.capacity() == 0 {
+            return;
+        }
         while let Some(octets) = frames.pop() {
             self.give_back(octets);
         }

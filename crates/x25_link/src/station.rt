@@ -90,10 +90,30 @@ impl LinkStation {
         requires short { 0 < out.old.short }
         ensures { (c : Settings) (before : List (List ℕ)) (t : Side) → FitsSide c self.old before out.old.made t → FitsSide c self.new before out.new.made (ended c.window t) }
     {
-        for _frame in 0..FRAMES {
+        self.pump(out);
+        self.finish(out);
+    }
+
+    // The sending rule, for the frames of a window: where it sends no first one, it sends none.
+    fn pump(&mut self, out: &mut Outbox)
+        requires long { window_of self.old.outgoing ≤ out.old.long + before_in self.old.outgoing }
+        ensures step { (c : Settings) (before : List (List ℕ)) (t : Side) → FitsSide c self.old before out.old.made t → FitsSide c self.new before out.new.made (pumped 7 c.window t) }
+        ensures short { out.new.short ≡ out.old.short }
+    {
+        if self.pump_once(out) {
+            self.pump_on(out);
+        }
+    }
+
+    // .. and for those behind the first one.
+    fn pump_on(&mut self, out: &mut Outbox)
+        requires long { window_of self.old.outgoing ≤ out.old.long + before_in self.old.outgoing }
+        ensures step { (c : Settings) (before : List (List ℕ)) (t : Side) → FitsSide c self.old before out.old.made t → FitsSide c self.new before out.new.made (pumped 6 c.window t) }
+        ensures short { out.new.short ≡ out.old.short }
+    {
+        for _frame in 0..FRAMES - 1 {
             self.pump_once(out);
         }
-        self.finish(out);
     }
 
     /// The sending rule, once. It says whether a frame was sent.

@@ -1,7 +1,9 @@
 //! A client of any link that keeps order, as a packet layer is one.
 ghost use Rattle.std.specs.Prelude.{◌≡◌, ◌<◌, ◌≤◌, nat_lt, true, if◌then◌else◌, vec_len, IfErr, OnOk, OnErr};
 
+use crate::calls::link;
 use std::alloc::Global;
+use std::process::Abort;
 use std::test::Fail;
 use x25_bits::Role;
 use x25_link::{Link, LinkError, OrderedLink, PlainLink};
@@ -51,9 +53,13 @@ fn pulls_while_few_wait(rt: HostRuntime) -> Result<(), Fail> {
     Ok(())
 }
 
+fn takes_nothing(rt: &impl Abort, alloc: Global, link: &mut Link) {
+    assert_eq!(rt; waiting_after(link, alloc), Err(LinkError::NotUp));
+}
+
 #[test]
 fn a_link_that_is_down_takes_nothing(rt: HostRuntime) -> Result<(), Fail> {
-    let mut link = Link::new(rt.alloc(), Role::Dte, 7, 4099, 10)?;
-    assert_eq!(rt; waiting_after(&mut link, rt.alloc()), Err(LinkError::NotUp));
+    let mut link = link(rt.alloc(), Role::Dte, 7, 10)?;
+    takes_nothing(&rt, rt.alloc(), &mut link);
     Ok(())
 }

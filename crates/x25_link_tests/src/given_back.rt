@@ -1,48 +1,71 @@
 //! Memory that is given back to a link, and what it sends in it.
 
+use crate::calls::{connect, link};
+use std::alloc::Global;
+use std::process::Abort;
 use std::test::Fail;
 use x25_bits::Role;
-use x25_link::Link;
+use x25_link::{Link, Step};
 
 /// SABM with P=1 of the DTE.
 static SABM: [u8; 4] = [0x01, 0x3f, 0xeb, 0xdf];
 
-#[test]
-fn a_frame_is_sent_in_memory_that_was_given_back(rt: HostRuntime) -> Result<(), Fail> {
-    let mut link = Link::new(rt.alloc(), Role::Dte, 7, 4099, 10)?;
-    link.give_back(vec![in rt.alloc(); 9u8; 40]?);
-    assert_eq!(rt; link.returned(), 1);
-    let step = link.connect()?;
-    assert_eq!(rt; link.returned(), 0);
+// Memory of so many octets is given back.
+fn gives(alloc: Global, link: &mut Link, count: usize) -> Result<(), Fail> {
+    link.give_back(vec![in alloc; 9u8; count]?);
+    Ok(())
+}
+
+// A step's first frame is SABM. Answers for how many octets it has memory.
+fn memory_of_sabm(rt: &impl Abort, step: &Step) -> Result<usize, Fail> {
     let frame = step.frames.get(0).ok_or("SABM goes")?;
     assert_eq!(rt; frame.as_slice(), SABM.as_slice());
-    assert_eq!(rt; frame.capacity(), 40);
+    Ok(frame.capacity())
+}
+
+fn sends_in_forty(rt: &impl Abort, alloc: Global, link: &mut Link) -> Result<(), Fail> {
+    gives(alloc, link, 40)?;
+    assert_eq!(rt; link.returned(), 1);
+    let step = connect(link)?;
+    assert_eq!(rt; link.returned(), 0);
+    assert_eq!(rt; memory_of_sabm(rt, &step)?, 40);
     link.give_back_list(step.frames);
     assert_eq!(rt; link.returned(), 1);
     Ok(())
 }
 
 #[test]
-fn what_is_too_small_is_let_go_of(rt: HostRuntime) -> Result<(), Fail> {
-    let mut link = Link::new(rt.alloc(), Role::Dte, 7, 4099, 10)?;
-    link.give_back(vec![in rt.alloc(); 9u8; 3]?);
-    let step = link.connect()?;
+fn a_frame_is_sent_in_memory_that_was_given_back(rt: HostRuntime) -> Result<(), Fail> {
+    let mut link = link(rt.alloc(), Role::Dte, 7, 10)?;
+    sends_in_forty(&rt, rt.alloc(), &mut link)
+}
+
+fn lets_go_of_three(rt: &impl Abort, alloc: Global, link: &mut Link) -> Result<(), Fail> {
+    gives(alloc, link, 3)?;
+    let step = connect(link)?;
     assert_eq!(rt; link.returned(), 0);
-    assert_eq!(rt;
-        step.frames.get(0).ok_or("SABM goes")?.as_slice(),
-        SABM.as_slice()
-    );
+    memory_of_sabm(rt, &step)?;
+    Ok(())
+}
+
+#[test]
+fn what_is_too_small_is_let_go_of(rt: HostRuntime) -> Result<(), Fail> {
+    let mut link = link(rt.alloc(), Role::Dte, 7, 10)?;
+    lets_go_of_three(&rt, rt.alloc(), &mut link)
+}
+
+fn keeps_thirty_two(rt: &impl Abort, alloc: Global, link: &mut Link) -> Result<(), Fail> {
+    gives(alloc, link, 4104)?;
+    assert_eq!(rt; link.returned(), 0);
+    for _ in 0..40u8 {
+        gives(alloc, link, 7)?;
+    }
+    assert_eq!(rt; link.returned(), 32);
     Ok(())
 }
 
 #[test]
 fn no_more_than_thirty_two_are_kept(rt: HostRuntime) -> Result<(), Fail> {
-    let mut link = Link::new(rt.alloc(), Role::Dte, 7, 4099, 10)?;
-    link.give_back(vec![in rt.alloc(); 9u8; 4104]?);
-    assert_eq!(rt; link.returned(), 0);
-    for _ in 0..40u8 {
-        link.give_back(vec![in rt.alloc(); 9u8; 7]?);
-    }
-    assert_eq!(rt; link.returned(), 32);
-    Ok(())
+    let mut link = link(rt.alloc(), Role::Dte, 7, 10)?;
+    keeps_thirty_two(&rt, rt.alloc(), &mut link)
 }

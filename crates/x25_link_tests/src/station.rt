@@ -1,5 +1,6 @@
 //! A station, what happens at it, and the line to it.
 
+use crate::calls::{connect, disconnect, fire, link, take};
 use crate::texts::{frame_text, hex_text, step_text};
 use std::alloc::Global;
 use std::test::Fail;
@@ -95,7 +96,7 @@ fn take_and_put<'a>(
     octets: &'a [u8],
     octet: u8,
 ) -> Result<Step<'a>, LinkError> {
-    let mut step = link.take(octets)?;
+    let mut step = take(link, octets)?;
     for octets in put_and_sent(link, alloc, octet)? {
         step.frames.push(octets)?;
     }
@@ -131,7 +132,7 @@ fn silent(alloc: Global, text: String) -> Result<Shown, Fail> {
 
 impl End {
     pub fn new(alloc: Global, role: Role, k: u8, n2: u8) -> Result<End, LinkError> {
-        let link = Link::new(alloc, role, k, 4099, n2)?;
+        let link = link(alloc, role, k, n2)?;
         Ok(End {
             role,
             link,
@@ -142,13 +143,13 @@ impl End {
     pub fn happens(&mut self, alloc: Global, event: Event) -> Result<Shown, Fail> {
         let link = &mut self.link;
         match event {
-            Connect => shown(alloc, self.role, link.connect()),
-            Disconnect => shown(alloc, self.role, link.disconnect()),
+            Connect => shown(alloc, self.role, connect(link)),
+            Disconnect => shown(alloc, self.role, disconnect(link)),
             Abandon => shown(alloc, self.role, abandon(link)),
-            T1 => shown(alloc, self.role, link.t1()),
+            T1 => shown(alloc, self.role, fire(link)),
             Put(octet) => shown(alloc, self.role, put(link, alloc, octet)),
             PutMany(count) => self.put_many(alloc, count),
-            Take(octets) => shown(alloc, self.role, link.take(octets)),
+            Take(octets) => shown(alloc, self.role, take(link, octets)),
             HearSabm(p) => self.hear(alloc, &Frame::Sabm { p }),
             HearDisc(p) => self.hear(alloc, &Frame::Disc { p }),
             HearRej(nr, f) => self.hear(
@@ -189,7 +190,7 @@ impl End {
     fn hear(&mut self, alloc: Global, frame: &Frame) -> Result<Shown, Fail> {
         let mut octets = Vec::new(alloc);
         encode(other(self.role), frame, &mut octets)?;
-        shown(alloc, self.role, self.link.take(octets.as_slice()))
+        shown(alloc, self.role, take(&mut self.link, octets.as_slice()))
     }
 
     fn hear_long(&mut self, alloc: Global, length: usize) -> Result<Shown, Fail> {
@@ -220,7 +221,7 @@ impl End {
 
     fn deliver(&mut self, alloc: Global) -> Result<Shown, Fail> {
         let octets = self.arriving()?;
-        shown(alloc, self.role, self.link.take(octets.as_slice()))
+        shown(alloc, self.role, take(&mut self.link, octets.as_slice()))
     }
 
     fn reply(&mut self, alloc: Global, octet: u8) -> Result<Shown, Fail> {

@@ -50,9 +50,7 @@ fn with_frames(mut step: Step, more: Vec<Vec<u8>>) -> Result<Step, Fault>
     ensures entries { IfOk result (λ both. both.entries ≡ step.entries) }
     ensures memory { IfErr result (λ fault. fault ≡ Fault.NoMemory) }
 {
-    if step.frames.reserve(more.len()).is_err() {
-        return Err(Fault::NoMemory);
-    }
+    step.frames.reserve(more.len())?;
     append(&mut step.frames, more);
     Ok(step)
 }
@@ -101,12 +99,8 @@ impl Pipe {
         ensures is_refused { IfOk result (λ p. p.is_refused ≡ false) }
         ensures memory { IfErr result (λ fault. fault ≡ Fault.NoMemory) }
     {
-        let Ok(output) = Output::new(alloc) else {
-            return Err(Fault::NoMemory);
-        };
-        let Ok(line) = Line::new(alloc) else {
-            return Err(Fault::NoMemory);
-        };
+        let output = Output::new(alloc)?;
+        let line = Line::new(alloc)?;
         let Ok(station) = Station::new(alloc, end, cfg) else {
             return Err(Fault::NoMemory);
         };
@@ -322,9 +316,7 @@ impl Pipe {
         ensures memory { IsErrOf result Fault.NoMemory → W.is_marked writer.new ≡ W.is_marked writer.old }
         ensures read { IsErrOf result Fault.Read → ⊥ }
     {
-        let Ok(()) = read_user(&command, &mut self.user) else {
-            return Err(Fault::NoMemory);
-        };
+        read_user(&command, &mut self.user)?;
         let before = Watch::of(&self.station);
         match self
             .station

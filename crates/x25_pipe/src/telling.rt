@@ -29,9 +29,7 @@ fn tell_entry<W: Sink>(
     ensures memory { IsErrOf result Fault.NoMemory → W.is_marked writer.new ≡ W.is_marked writer.old }
     ensures read { IsErrOf result Fault.Read → ⊥ }
 {
-    let Ok(()) = write_entry(end, entry, line) else {
-        return Err(Fault::NoMemory);
-    };
+    write_entry(end, entry, line)?;
     tell(line.as_slice(), output, writer)
 }
 
@@ -51,9 +49,7 @@ fn tell_frame<W: Sink>(
     ensures memory { IsErrOf result Fault.NoMemory → W.is_marked writer.new ≡ W.is_marked writer.old }
     ensures read { IsErrOf result Fault.Read → ⊥ }
 {
-    let Ok(()) = write_frame(end, frame.as_slice(), line) else {
-        return Err(Fault::NoMemory);
-    };
+    write_frame(end, frame.as_slice(), line)?;
     tell(line.as_slice(), output, writer)
 }
 
@@ -114,9 +110,7 @@ pub(crate) fn tell_refusal<W: Sink>(
     ensures memory { IsErrOf result Fault.NoMemory → W.is_marked writer.new ≡ W.is_marked writer.old }
     ensures read { IsErrOf result Fault.Read → ⊥ }
 {
-    let Ok(()) = write_refusal(error.number(), line) else {
-        return Err(Fault::NoMemory);
-    };
+    write_refusal(error.number(), line)?;
     tell(line.as_slice(), output, writer)
 }
 

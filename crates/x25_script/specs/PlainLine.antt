@@ -1,7 +1,7 @@
 -- A line of a script as a value alone, without where its characters lie (profile).
 use Rattle.std.specs.Prelude.{ℕ, Bool, List, Option}
 use Rattle.x25_bits.specs.declared.role.Role.{Role}
-use Rattle.x25_script.specs.declared.params.Params.{Params}
+use Rattle.x25_circuit.specs.declared.params.Params.{Params}
 use Rattle.x25_script.specs.declared.script_line.Command.{Command}
 use Rattle.x25_script.specs.declared.script_line.Command.TheVariants as command_code
 use Rattle.x25_script.specs.declared.script_line.ScriptLine.{ScriptLine}

@@ -14,7 +14,6 @@ mod words;
 
 pub use hex_digits::HexDigits;
 pub use law::{lines_are_in_octets, reading_is_the_grammar};
-pub use params::Params;
 pub use reading::read_line;
 pub use script_line::{Command, ScriptLine};
 pub use x25_bits::Role;

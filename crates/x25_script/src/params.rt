@@ -1,20 +1,9 @@
-//! The four numbers that may follow a call or its acceptance.
+//! The packet sizes and windows that may follow a call or its acceptance: four numbers.
 ghost use Rattle.std.specs.Prelude.{◌≡◌};
 ghost use Rattle.x25_script.specs.Reading.{params_in, with_params_in, GivesWithParams};
 
 use crate::fields::{small_number, split_blank};
-
-/// The packet sizes and windows of a line: for each end the code of the packet size (ITU-T X.25 (10/96), 7.2.2.1), and the window
-/// in packets, of the data that it sends.
-///
-/// Each is any number of 8 bits; whether a call may propose them, or its acceptance answer by them, is judged by the call. Profile.
-#[derive(Clone, Copy, Debug)]
-pub struct Params {
-    pub size_called: u8,
-    pub size_calling: u8,
-    pub win_called: u8,
-    pub win_calling: u8,
-}
+use x25_circuit::Params;
 
 #[tactic(auto, unfolding(crate::specs::Reading::params_in))]
 fn read_params(text: &[u8]) -> Option<Params>

@@ -1,12 +1,13 @@
 use crate::hex_digits::HexDigits;
-use crate::params::Params;
 use x25_bits::Role;
+use x25_circuit::Params;
 
 /// What the user of an end asks for.
 ///
 /// Addresses are digits `0` to `9`, any number of them; whether a call may have them is judged by the call. `user` is user
 /// data as octets. `channel` is any number of 16 bits; whether there is such a channel is judged by the call. `params` are the
-/// packet sizes and windows that are proposed, or answered, where the line has them.
+/// packet sizes and windows that are proposed, or answered, where the line has them: any numbers of 8 bits; whether a call may propose
+/// them, or its acceptance answer them, is judged by the call.
 #[derive(Debug, Drop)]
 pub enum Command<'a> {
     Call {

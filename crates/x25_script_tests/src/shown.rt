@@ -1,6 +1,7 @@
 //! What a line reads as, in words of the tests' own.
 use std::alloc::{AllocError, Global};
-use x25_script::{Command, HexDigits, Params, Role, ScriptLine};
+use x25_circuit::Params;
+use x25_script::{Command, HexDigits, Role, ScriptLine};
 
 fn end_name(end: Role) -> &'static str {
     match end {

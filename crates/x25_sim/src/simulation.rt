@@ -34,12 +34,8 @@ impl Simulation {
         ensures ready { IfOk result (IsReady cfg down tap) }
         ensures memory { IfErr result (λ fault. fault ≡ Fault.NoMemory) }
     {
-        let Ok(piece) = vec![in alloc; 0u8; PIECE] else {
-            return Err(Fault::NoMemory);
-        };
-        let Ok(held) = HeldLine::new(alloc) else {
-            return Err(Fault::NoMemory);
-        };
+        let piece = vec![in alloc; 0u8; PIECE]?;
+        let held = HeldLine::new(alloc)?;
         let stage = Stage::new(alloc, down, cfg, tap)?;
         Ok(Simulation {
             down,

@@ -86,12 +86,8 @@ impl Stage {
         ensures is_refused { IfOk result (λ s. s.is_refused ≡ false) }
         ensures memory { IfErr result (λ fault. fault ≡ Fault.NoMemory) }
     {
-        let Ok(output) = Output::new(alloc) else {
-            return Err(Fault::NoMemory);
-        };
-        let Ok(line) = Line::new(alloc) else {
-            return Err(Fault::NoMemory);
-        };
+        let output = Output::new(alloc)?;
+        let line = Line::new(alloc)?;
         let Ok(world) = first_world(alloc, down, cfg) else {
             return Err(Fault::NoMemory);
         };
@@ -359,9 +355,7 @@ impl Stage {
         ensures memory { IsErrOf result Fault.NoMemory → W.is_marked writer.new ≡ W.is_marked writer.old }
         ensures read { IsErrOf result Fault.Read → ⊥ }
     {
-        let Ok(()) = read_user(&command, octets) else {
-            return Err(Fault::NoMemory);
-        };
+        read_user(&command, octets)?;
         let command = station_command(&command, octets.as_slice());
         self.happen(Event::Command(end, command), writer)
     }
@@ -393,9 +387,7 @@ impl Stage {
                 place,
                 octets: digits,
             } => {
-                let Ok(()) = read_octets(&digits, octets) else {
-                    return Err(Fault::NoMemory);
-                };
+                read_octets(&digits, octets)?;
                 let damage = Event::Damage(away_from(from), usize::from(place), octets.as_slice());
                 self.happen(damage, writer)
             }

@@ -35,9 +35,7 @@ fn tell_entry<W: Sink>(
     ensures memory { IsErrOf result Fault.NoMemory → W.is_marked writer.new ≡ W.is_marked writer.old }
     ensures read { IsErrOf result Fault.Read → ⊥ }
 {
-    let Ok(()) = write_entry(entered.at, &entered.entry, line) else {
-        return Err(Fault::NoMemory);
-    };
+    write_entry(entered.at, &entered.entry, line)?;
     tell(line.as_slice(), output, writer)
 }
 
@@ -56,9 +54,7 @@ fn tell_frame<W: Sink>(
     ensures memory { IsErrOf result Fault.NoMemory → W.is_marked writer.new ≡ W.is_marked writer.old }
     ensures read { IsErrOf result Fault.Read → ⊥ }
 {
-    let Ok(()) = write_frame(frame.from, frame.octets.as_slice(), line) else {
-        return Err(Fault::NoMemory);
-    };
+    write_frame(frame.from, frame.octets.as_slice(), line)?;
     tell(line.as_slice(), output, writer)
 }
 
@@ -117,8 +113,6 @@ pub(crate) fn tell_refusal<W: Sink>(
     ensures memory { IsErrOf result Fault.NoMemory → W.is_marked writer.new ≡ W.is_marked writer.old }
     ensures read { IsErrOf result Fault.Read → ⊥ }
 {
-    let Ok(()) = write_refusal(refusal_number(error), line) else {
-        return Err(Fault::NoMemory);
-    };
+    write_refusal(refusal_number(error), line)?;
     tell(line.as_slice(), output, writer)
 }

@@ -26,6 +26,7 @@ pub(crate) const MOST_TEXTS: usize = 3;
 pub(crate) type TextMemory = Blanks<LONGEST_TEXT, MOST_TEXTS>;
 
 /// Enters what was said on a configured channel, under the name of its stretch, behind the other entries.
+#[inline(always)]
 pub(crate) fn enter(layer: &Layer, entries: &mut Vec<Entry>, channel: u16, said: Said)
     requires { vec_len entries.old < vec_capacity entries.old }
     ensures length { vec_len entries.new ≤ vec_len entries.old + 1 }

@@ -20,6 +20,7 @@ pub(crate) struct Lists {
 }
 
 // An empty list with room for so many: the one that is kept, or a new one where that has less.
+#[inline(always)]
 fn emptied<T: Drop>(kept: &mut Vec<T>, alloc: Global, room: usize) -> Result<Vec<T>, AllocError>
     ensures items { IfOk result (λ list. list.items ≡ []) }
     ensures len { IfOk result (λ list. vec_len list ≡ 0) }
@@ -44,6 +45,7 @@ impl Lists {
     }
 
     /// A list with room for the frames that a call answers.
+    #[inline(always)]
     pub(crate) fn frames(&mut self) -> Result<Vec<Vec<u8>>, AllocError>
         ensures items { IfOk result (λ list. list.items ≡ []) }
         ensures len { IfOk result (λ list. vec_len list ≡ 0) }
@@ -53,6 +55,7 @@ impl Lists {
     }
 
     /// A list with room for the entries that a call makes.
+    #[inline(always)]
     pub(crate) fn entries(&mut self) -> Result<Vec<Entry>, AllocError>
         ensures items { IfOk result (λ list. list.items ≡ []) }
         ensures len { IfOk result (λ list. vec_len list ≡ 0) }
@@ -62,6 +65,7 @@ impl Lists {
     }
 
     /// Takes a list of entries back, where it has more room than the one that is kept.
+    #[inline(always)]
     pub(crate) fn give_back_entries(&mut self, entries: Vec<Entry>) {
         let mut entries = entries;
         if self.entries.capacity() < entries.capacity() && entries.capacity() <= MOST_PLACES {
@@ -72,6 +76,7 @@ impl Lists {
 
     /// Takes the lists of a step back, those that have more room than the ones that are kept. It answers the list of frames that isn't
     /// kept.
+    #[inline(always)]
     pub(crate) fn give_back(&mut self, step: Step) -> Vec<Vec<u8>> {
         let Step { frames, entries } = step;
         self.give_back_entries(entries);

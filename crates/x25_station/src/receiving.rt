@@ -28,6 +28,7 @@ use x25_link::{Link, Notes, OrderedLink, holds_few, notes_what_changes};
 use x25_packet::reading_is_the_grammar;
 
 // Puts frames behind others, in memory that was set aside, and leaves their list empty.
+#[inline(always)]
 fn append(frames: &mut Vec<Vec<u8>>, more: &mut Vec<Vec<u8>>)
     requires { vec_len frames.old + vec_len more.old ≤ vec_capacity frames.old }
     ensures items { frames.new.items ≡ frames.old.items ++ more.old.items }

@@ -4,6 +4,8 @@
 #[cfg(test)]
 mod agreeing;
 #[cfg(test)]
+mod calls;
+#[cfg(test)]
 mod commands;
 #[cfg(test)]
 mod errors;

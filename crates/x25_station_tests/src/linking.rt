@@ -1,11 +1,12 @@
 //! Set-up, timer T1, disconnection, and settings.
 
+use crate::calls::station;
 use crate::peer::{Act, Row, Table, play};
 use crate::rows::{CALL, READY_DTE, SEND, UA};
 use Act::{Ask, Connect, HearRr, Idle, Stretch, T1, Take, Timer};
 use std::alloc::Global;
 use std::test::Fail;
-use x25_station::{Cfg, Cmd, Role, Station, StationError};
+use x25_station::{Cfg, Cmd, Role, StationError};
 
 // Why a station of these settings is refused: k, N2 and channels.
 fn refusal(alloc: Global, role: Role, (k, n2, channels): (u8, u8, u8)) -> Option<StationError> {
@@ -15,7 +16,7 @@ fn refusal(alloc: Global, role: Role, (k, n2, channels): (u8, u8, u8)) -> Option
         channels,
         long_data: false,
     };
-    Station::new(alloc, role, cfg).err()
+    station(alloc, role, cfg).err()
 }
 
 #[test]

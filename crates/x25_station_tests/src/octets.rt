@@ -1,10 +1,13 @@
 //! Octets that no table chose: 10,000 strings, made from stored numbers, at a station whose user accepts each call.
 
+use crate::calls::{ask, receive, station};
+use crate::peer::settings;
 use std::alloc::Global;
+use std::process::Abort;
 use std::test::Fail;
 use x25_bits::{Seq, seal};
 use x25_frame::{Frame, decode, encode};
-use x25_station::{Cfg, Cmd, Role, Station, Step};
+use x25_station::{Cmd, Role, Station, StationError, Step};
 
 static SABM: [u8; 4] = [0x01, 0x3f, 0xeb, 0xdf];
 
@@ -43,18 +46,16 @@ fn following(number: u64) -> u64 {
     second ^ (second << 17)
 }
 
-/// The other end of the link of a DCE: the numbers of its next I frame, and how many entries the DCE made.
-#[derive(Drop)]
-struct Peer {
-    alloc: Global,
-    station: Station,
+/// What the other end of the link of a DCE goes by: the numbers of its next I frame, and how many entries the DCE made.
+#[derive(Clone, Copy)]
+struct Seen {
     ns: Seq,
     nr: Seq,
     told: usize,
 }
 
-impl Peer {
-    fn sees(&mut self, frame: &Frame) {
+impl Seen {
+    fn frame(&mut self, frame: &Frame) {
         match frame {
             Frame::I {
                 ns,
@@ -83,34 +84,82 @@ impl Peer {
         }
     }
 
-    fn sees_all(&mut self, step: &Step) {
+    fn octets(&mut self, octets: &[u8]) {
+        if let Ok(frame) = decode(Role::Dce, 4099, octets) {
+            self.frame(&frame);
+        }
+    }
+
+    fn step(&mut self, step: &Step) {
         self.told = self.told.saturating_add(step.entries.len());
         for octets in &step.frames {
-            if let Ok(frame) = decode(Role::Dce, 4099, octets.as_slice()) {
-                self.sees(&frame);
-            }
+            self.octets(octets.as_slice());
+        }
+    }
+}
+
+// The octets of an I frame with this packet.
+fn information(alloc: Global, ns: Seq, nr: Seq, info: &[u8]) -> Result<Vec<u8>, Fail> {
+    let frame = Frame::I {
+        ns,
+        nr,
+        p: false,
+        info,
+    };
+    let mut octets = Vec::new(alloc);
+    encode(Role::Dte, &frame, &mut octets)?;
+    Ok(octets)
+}
+
+// A few octets, with a frame check sequence behind them that is right but for one string of eight.
+fn few_octets(alloc: Global, number: u64) -> Result<Vec<u8>, Fail> {
+    let bytes = number.to_le_bytes();
+    let mut octets = Vec::from_slice(alloc, &bytes[..(number % 9) as usize])?;
+    if number % 8 > 0 {
+        seal(&mut octets)?;
+    }
+    Ok(octets)
+}
+
+/// A DCE, and what the other end of its link goes by.
+#[derive(Drop)]
+struct Peer {
+    alloc: Global,
+    station: Station,
+    seen: Seen,
+}
+
+impl Peer {
+    fn new(alloc: Global) -> Result<Peer, StationError> {
+        let station = station(alloc, Role::Dce, settings(1, false))?;
+        let seen = Seen {
+            ns: Seq::ZERO,
+            nr: Seq::ZERO,
+            told: 0,
+        };
+        Ok(Peer {
+            alloc,
+            station,
+            seen,
+        })
+    }
+
+    fn accepts(&mut self) {
+        if let Ok(step) = ask(&mut self.station, Cmd::Accept { channel: 1 }) {
+            self.seen.step(&step);
         }
     }
 
     fn sends(&mut self, octets: &[u8]) -> Result<(), Fail> {
-        let step = self.station.receive(octets)?;
-        self.sees_all(&step);
-        if let Ok(step) = self.station.command(Cmd::Accept { channel: 1 }) {
-            self.sees_all(&step);
-        }
+        let step = receive(&mut self.station, octets)?;
+        self.seen.step(&step);
+        self.accepts();
         Ok(())
     }
 
     /// The next I frame, with this packet.
     fn hands(&mut self, packet: &[u8]) -> Result<(), Fail> {
-        let frame = Frame::I {
-            ns: self.ns,
-            nr: self.nr,
-            p: false,
-            info: packet,
-        };
-        let mut octets = Vec::new(self.alloc);
-        encode(Role::Dte, &frame, &mut octets)?;
+        let octets = information(self.alloc, self.seen.ns, self.seen.nr, packet)?;
         self.sends(octets.as_slice())
     }
 
@@ -120,6 +169,11 @@ impl Peer {
         let [d, e, f, _, _, _, _, g] = number.to_le_bytes();
         let packet = [a, b, c, d & 0x11, e & 1, f];
         self.hands(&packet[..3 + (g % 4) as usize])
+    }
+
+    fn frame(&mut self, number: u64) -> Result<(), Fail> {
+        let octets = few_octets(self.alloc, number)?;
+        self.sends(octets.as_slice())
     }
 
     // What comes as this string, made from this number.
@@ -141,34 +195,16 @@ impl Peer {
         }
         Ok(())
     }
+}
 
-    /// A few octets, with a frame check sequence behind them that is right but for one string of eight.
-    fn frame(&mut self, number: u64) -> Result<(), Fail> {
-        let bytes = number.to_le_bytes();
-        let mut octets = Vec::from_slice(self.alloc, &bytes[..(number % 9) as usize])?;
-        if number % 8 > 0 {
-            seal(&mut octets)?;
-        }
-        self.sends(octets.as_slice())
-    }
+fn takes_all(rt: &impl Abort, peer: &mut Peer) -> Result<(), Fail> {
+    peer.strings()?;
+    assert!(rt; peer.seen.told > 2_000, "{}", peer.seen.told);
+    Ok(())
 }
 
 #[test]
 fn all_octets_are_taken(rt: HostRuntime) -> Result<(), Fail> {
-    let cfg = Cfg {
-        k: 7,
-        n2: 1,
-        channels: 1,
-        long_data: false,
-    };
-    let mut peer = Peer {
-        alloc: rt.alloc(),
-        station: Station::new(rt.alloc(), Role::Dce, cfg)?,
-        ns: Seq::ZERO,
-        nr: Seq::ZERO,
-        told: 0,
-    };
-    peer.strings()?;
-    assert!(rt; peer.told > 2_000, "{}", peer.told);
-    Ok(())
+    let mut peer = Peer::new(rt.alloc())?;
+    takes_all(&rt, &mut peer)
 }

@@ -1,5 +1,6 @@
 //! A station, and tables of what happens at it: the other end's frames come from the table.
 
+use crate::calls::{ask, connect, fire, receive, station};
 use crate::texts::{lines, refusal_line, step_lines, stretch_line};
 use std::alloc::Global;
 use std::process::Abort;
@@ -62,7 +63,7 @@ struct End {
 
 impl End {
     fn new(alloc: Global, role: Role, cfg: Cfg) -> Result<End, StationError> {
-        let station = Station::new(alloc, role, cfg)?;
+        let station = station(alloc, role, cfg)?;
         Ok(End {
             alloc,
             role,
@@ -80,11 +81,11 @@ impl End {
     fn happens(&mut self, act: Act) -> Result<Line, Fail> {
         match act {
             Act::Connect => {
-                let answer = self.station.connect();
+                let answer = connect(&mut self.station);
                 self.shown(answer)
             }
             Act::T1 => {
-                let answer = self.station.t1();
+                let answer = fire(&mut self.station);
                 self.shown(answer)
             }
             Act::Ask(command) => self.asks(1, command),
@@ -135,9 +136,9 @@ impl End {
 
     fn asks(&mut self, count: u16, command: Cmd<'_>) -> Result<Line, Fail> {
         for _ in 1..count {
-            let _lost = self.station.command(command)?;
+            let _lost = ask(&mut self.station, command)?;
         }
-        let answer = self.station.command(command);
+        let answer = ask(&mut self.station, command);
         self.shown(answer)
     }
 
@@ -155,7 +156,7 @@ impl End {
 
     fn takes(&mut self, octets: &str) -> Result<Line, Fail> {
         let octets = hex::decode(self.alloc, octets)?;
-        let answer = self.station.receive(octets.as_slice());
+        let answer = receive(&mut self.station, octets.as_slice());
         self.shown(answer)
     }
 
@@ -164,9 +165,8 @@ impl End {
             Role::Dte => Role::Dce,
             Role::Dce => Role::Dte,
         };
-        let mut octets = Vec::new(self.alloc);
-        encode(from, frame, &mut octets)?;
-        let answer = self.station.receive(octets.as_slice());
+        let octets = octets_of(self.alloc, from, frame)?;
+        let answer = receive(&mut self.station, octets.as_slice());
         self.shown(answer)
     }
 
@@ -193,6 +193,12 @@ impl End {
         }
         Ok(())
     }
+}
+
+fn octets_of(alloc: Global, from: Role, frame: &Frame) -> Result<Vec<u8>, Fail> {
+    let mut octets = Vec::new(alloc);
+    encode(from, frame, &mut octets)?;
+    Ok(octets)
 }
 
 fn information(ns: Seq, nr: u8, info: &[u8]) -> Frame<'_> {

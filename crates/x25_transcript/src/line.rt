@@ -48,7 +48,7 @@ fn make_room(buffer: &mut Vec<u8>, count: usize, more: usize) -> Result<(), Allo
 }
 
 /// Puts characters behind the first `count`, and answers how many there are then.
-#[inline]
+#[inline(always)]
 fn put(buffer: &mut [u8], count: usize, characters: &[u8]) -> usize
     requires room { count + length characters.now ≤ length buffer.old }
     ensures text { take result buffer.new ≡ take count buffer.old ++ characters.now }
@@ -97,6 +97,7 @@ impl Line {
     }
 
     /// Appends the characters. Err: no memory; the line is as it was then.
+    #[inline(always)]
     pub fn push(&mut self, characters: &[u8]) -> Result<(), AllocError>
         ensures text { OnOk result (self.new ≡ self.old ++ characters.now) }
         ensures unchanged { OnErr result (self.new ≡ self.old) }
@@ -107,6 +108,7 @@ impl Line {
     }
 
     // Appends a label and then other characters, in memory that is set aside for both first.
+    #[inline(always)]
     fn push_both(&mut self, label: &[u8], rest: &[u8]) -> Result<(), AllocError>
         ensures text { OnOk result (self.new ≡ self.old ++ (label.now ++ rest.now)) }
         ensures unchanged { OnErr result (self.new ≡ self.old) }
@@ -119,6 +121,7 @@ impl Line {
     }
 
     /// Appends a label and then a number in decimal. Err: no memory; the line is as it was then.
+    #[inline(always)]
     pub fn push_number(&mut self, label: &[u8], number: u64) -> Result<(), AllocError>
         ensures text { OnOk result (self.new ≡ self.old ++ (label.now ++ decimal number)) }
         ensures unchanged { OnErr result (self.new ≡ self.old) }

@@ -3,7 +3,7 @@ ghost use Rattle.x25_station.specs.laws.ReadLaw.{AreOctets};
 ghost use Rattle.x25_world.specs.World.{event_of};
 ghost use Rattle.x25_world.specs.rows.WorldRows.{SetsUp, MessageArrives, LostArrives, DamagedArrives, DisconnectEndsBoth, ConnectSetsUp, ConnectGoesAgain, SecondMeetsFirst, SecondMeet, TimerWaits, IsRefused};
 ghost use Rattle.x25_world.specs.laws.SessionClaims.{Throughout, ThroughoutAlong, MeetInStep, AreLawfulWhereMet, AreNamedInSessions, AllArrive, UnmetAreToldNothing, OpenStretchesMeet};
-ghost use Rattle.x25_world.specs.laws.WaitClaims.{MessagesWaitForUsers};
+ghost use Rattle.x25_world.specs.laws.WaitClaims.{ClosedKeepNone, MessagesWaitForUsers};
 ghost use Rattle.x25_world.specs.laws.LawsBelow.{SessionLaws};
 ghost use Rattle.x25_world.specs.laws.Claims.{ActsInOctets, Always, UntilSecondUp, IsSetUp, IsLawful, IsNamed, ArrivesAll, HasNoProcedureError, UpOnceUnlessConnected};
 ghost use Rattle.x25_world.specs.WindowGoes.{StaysInWindow};
@@ -106,10 +106,11 @@ pub fn stations_meet_in_sessions()
 
 /// Two stations joined by such a line, over set-up and re-set-up at any moment, after each list of events as above: where both links are
 /// idle and a pull at an end changes nothing, each stretch that is open there is open at the other end too, and either no message of it waits
-/// and all of its messages and interrupts arrived, or the user at the other end isn't ready.
+/// and all of its messages and interrupts arrived, or the user at the other end isn't ready. A circuit that isn't open keeps none at any time.
 ///
 /// Premises: k is 1 to 7, N2 1 to 255, channels 1 to 16, and the users hand down octets.
 pub fn messages_wait_for_users()
+    ensures closed { Throughout ClosedKeepNone }
     ensures waits { Throughout MessagesWaitForUsers }
 {
     laws_below();

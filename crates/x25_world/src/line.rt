@@ -190,6 +190,7 @@ fn share(queue: &mut VecDeque<OnLine>, tap: &mut Vec<Tapped>, from: Role, octets
     tap.push_reserved(Tapped { from, octets });
 }
 
+#[inline(always)]
 fn take_off(queue: &mut VecDeque<OnLine>, place: usize) -> Option<Vec<u8>>
     requires { place < length queue.old.items }
     ensures items { queue.new.items ≡ remove queue.old.items place }
@@ -202,6 +203,7 @@ fn take_off(queue: &mut VecDeque<OnLine>, place: usize) -> Option<Vec<u8>>
     }
 }
 
+#[inline(always)]
 fn put_in(queue: &mut VecDeque<OnLine>, place: usize, octets: Vec<u8>)
     requires { place < length queue.old.items }
     ensures items { queue.new.items ≡ slice_set queue.old.items place (OnLine.Own octets) }
@@ -213,6 +215,7 @@ fn put_in(queue: &mut VecDeque<OnLine>, place: usize, octets: Vec<u8>)
 
 // The frames on the line take the octets that they share with the tap, and leave none there. A frame that was put before all that the
 // tap holds has octets of its own.
+#[inline(always)]
 fn own_all(queue: &mut VecDeque<OnLine>, tap: &mut Vec<Tapped>, alloc: Global)
     requires once { (i : ℕ) → shares i queue.old.items ≤ 1 }
     requires there { (i : ℕ) → length tap.old.items ≤ i → shares i queue.old.items ≡ 0 }
@@ -231,6 +234,7 @@ fn own_all(queue: &mut VecDeque<OnLine>, tap: &mut Vec<Tapped>, alloc: Global)
     }
 }
 
+#[inline(always)]
 fn own_one(queue: &mut VecDeque<OnLine>, tap: &mut Vec<Tapped>, place: usize, alloc: Global)
     requires place { place < length queue.old.items }
     requires once { (i : ℕ) → shares i queue.old.items ≤ 1 }

@@ -21,6 +21,14 @@ RoundsLeaveNone = (link : LinkView) (c : LayerSettings) (s : Putting) → link.w
 abbrev pub StillPullsNone : Type 0
 StillPullsNone = (link : LinkView) (c : LayerSettings) (l : Layer) (s : Putting) → calls link c l PullsAll ≡ Went s → s.layer ≡ l → link.waits [] < 8 → PullsNone c l
 
+-- a circuit that isn't open keeps no message
+abbrev pub KeepsNoneClosed : End → Type 0
+KeepsNoneClosed e = (k : ℕ) → is_open (e.layer.circuits k) ≡ false → waits (e.layer.circuits k) ≡ 0
+
+pub record ClosedKeepNone (w : TwoLayers) : Type 0 where
+  pub near : KeepsNoneClosed w.near
+  pub far : KeepsNoneClosed w.far
+
 -- both links are up, and nothing is in flight
 pub record IsDrained (w : TwoLayers) : Type 0 where
   pub near_up : w.near.is_out ≡ false

@@ -3,7 +3,7 @@ use Rattle.std.specs.Prelude.{◌≡◌, ℕ, List, true, false, Some}
 use Rattle.x25_bits.specs.declared.role.Role.{Role}
 use Rattle.x25_link.specs.MustSend.{other}
 use Rattle.x25_link.specs.Steps as link
-use Rattle.x25_circuit.specs.Circuit.{waits}
+use Rattle.x25_circuit.specs.Circuit.{is_open, waits}
 use Rattle.x25_handshakes.specs.Names.{Name}
 use Rattle.x25_layer.specs.Calls.{PullsAll}
 use Rattle.x25_layer.specs.Transcript.{Entry}
@@ -35,3 +35,7 @@ MessagesWaitForUsers cfg w =
     → stretch (settings_from end cfg) (station_at end w) channel ≡ Some name
     → (stretch (settings_from (other end) cfg) (station_at (other end) w) channel ≡ Some name)
     × WaitsForUser channel name (station_at end w) (station_at (other end) w) (handed_in end (last_session end w) w) (handed_in (other end) (last_session (other end) w) w)
+
+-- a circuit that isn't open keeps no message
+abbrev pub ClosedKeepNone : Cfg → World → Type 0
+ClosedKeepNone cfg w = (end : Role) (channel : ℕ) → is_open ((station_at end w).layer.circuits channel) ≡ false → waits ((station_at end w).layer.circuits channel) ≡ 0

@@ -23,7 +23,7 @@ use Rattle.x25_layer.specs.Transcript.{Entry, name_of}
 use Rattle.x25_layer.specs.TwoLayers as layer
 use Rattle.x25_layer.specs.laws.Law.{HasAllOf, KeepsOrder}
 use Rattle.x25_layer.specs.laws.WaitLaw as wait
-use Rattle.x25_layer.specs.laws.WaitLaw.{PullsNone, StillPullsNone, IsDrained, IsOpenAtBoth, WaitForUsersAlone}
+use Rattle.x25_layer.specs.laws.WaitLaw.{PullsNone, StillPullsNone, KeepsNoneClosed, IsDrained, IsOpenAtBoth, WaitForUsersAlone}
 use Rattle.x25_station.specs.declared.config.Cfg.{Cfg}
 use Rattle.x25_station.specs.Settings.{Settings, settings_from, link_settings, layer_settings}
 use Rattle.x25_station.specs.Entries.{StationEntry}
@@ -34,7 +34,7 @@ use Rattle.x25_station.specs.laws.KeepLaw.{ConnectKeeps}
 use Rattle.x25_world.specs.World.{World, swapped, WorldOutcome, Happened, Declined, of_station, swapped_back, happens, run}
 use Rattle.x25_world.specs.Sessions.{last_session, handed_in}
 use Rattle.x25_world.specs.laws.SessionClaims.{Throughout}
-use Rattle.x25_world.specs.laws.WaitClaims.{pull_at, WaitsForUser, Arrived, NotReady, MessagesWaitForUsers}
+use Rattle.x25_world.specs.laws.WaitClaims.{pull_at, WaitsForUser, Arrived, NotReady, MessagesWaitForUsers, ClosedKeepNone}
 use Rattle.x25_world.specs.laws.LawsBelow.{SessionLaws}
 use Rattle.x25_world.proofs.Known.{IsConfigured, is_configured, both_true, true_false}
 use Rattle.x25_world.proofs.Growing.{spelled}
@@ -43,6 +43,7 @@ use Rattle.x25_world.proofs.sessions.SessionReaches.{Beginning, known_sessions}
 use Rattle.x25_world.proofs.sessions.SessionJoined.{HasMet, PairIsInOrder, SessionsJoined, sessions_swapped}
 use Rattle.x25_world.proofs.sessions.SessionKnown.{some_map, met_in_order, pair_ends, pair_world, world_here, world_there}
 use Rattle.x25_world.proofs.sessions.SessionRuns.{throughout_joined}
+use Rattle.x25_world.proofs.sessions.acts.SessionRequests.{session_pair}
 use Rattle.x25_world.proofs.sessions.claims.SessionArrives.{stretch_of, name_if, open_if, up_where_open, StandingMeet, meet_from, latest_near, latest_far}
 
 -- ---- a pull that changes nothing
@@ -189,6 +190,37 @@ module _ (laws : SessionLaws) (waits_law : LayersWait) (still_law : StillPullsNo
   messages_wait w h Dte k name idle idle_there still here = waits_from Dte w h k name idle idle_there still here
   messages_wait w h Dce k name idle idle_there still here =
       waits_from Dce (swapped w) (sessions_swapped cfg Dte w h) k name idle idle_there (swapped_is (of_station (settings_from Dce cfg) (swapped w) (requests (settings_from Dce cfg) w.far PullsAll)) w still) here
+
+-- ---- a circuit that isn't open
+
+abbrev pub LayersKeepNone : Type 0
+LayersKeepNone = (long_data : Bool) (channels : ℕ) → AlwaysApart wait.ClosedKeepNone long_data channels
+
+module _ (laws : SessionLaws) (closed_law : LayersKeepNone) (cfg : Cfg) (fine : IsConfigured cfg) where
+  closed_here : (end : Role) (n m : ℕ) (trace : List Done) → PairIsInOrder cfg end trace n m → KeepsNoneClosed (pair_world laws cfg end n m trace).near
+  closed_here Dte n m trace order = (closed_law cfg.long_data cfg.channels (pair_in n m trace) order).near
+  closed_here Dce n m trace order = (closed_law cfg.long_data cfg.channels (pair_in m n trace) order).far
+
+  own_closed : (end : Role) (n m : ℕ) (trace : List Done) → PairIsInOrder cfg end trace n m → KeepsNoneClosed (own cfg end n trace)
+  own_closed end n m trace order = subst (λ (e : layer.End). KeepsNoneClosed e) (world_here laws cfg end n m trace) (closed_here end n m trace order)
+
+  closed_from : {since : Beginning} (end : Role) (w : World) → SessionsJoined since cfg end w → (k : ℕ) → is_open (w.near.layer.circuits k) ≡ false → waits (w.near.layer.circuits k) ≡ 0
+  closed_from end w h k closed = by (is_up w.near.link.phase) refl
+    where
+      by : (b : Bool) → is_up w.near.link.phase ≡ b → waits (w.near.layer.circuits k) ≡ 0
+      by true up =
+          let pair = session_pair laws cfg fine end w h h.links.near.begun in
+          let same = (h.near.now up).layer in
+          ap (λ (l : Layer). waits (l.circuits k)) (sym same) ∙ own_closed end h.links.near.begun pair.0 h.trace pair.1 k (ap (λ (l : Layer). is_open (l.circuits k)) same ∙ closed)
+      by false down = ap (λ (l : Layer). waits (l.circuits k)) (h.near.kept.rests down)
+
+  pub closed_keep : {since : Beginning} (w : World) → SessionsJoined since cfg Dte w → ClosedKeepNone cfg w
+  closed_keep w h Dte k closed = closed_from Dte w h k closed
+  closed_keep w h Dce k closed = closed_from Dce (swapped w) (sessions_swapped cfg Dte w h) k closed
+
+pub throughout_closed : SessionLaws → LayersKeepNone → ConnectKeeps → Throughout ClosedKeepNone
+throughout_closed laws closed_law keeps cfg fine begin which events octets =
+    closed_keep laws closed_law cfg (is_configured cfg fine) (run cfg events begin) (throughout_joined laws keeps cfg fine begin which events octets)
 
 pub throughout_wait : SessionLaws → LayersWait → StillPullsNone → ConnectKeeps → Throughout MessagesWaitForUsers
 throughout_wait laws waits_law still_law keeps cfg fine begin which events octets =

@@ -1,14 +1,11 @@
 use Rattle.std.proofs.Common.{inl, inr, true, false}
 use Rattle.x25_circuit.proofs.circuit.Circuit.refusal.Goals as goal
 
-pub returns-in-Call : goal.returns-in-Call
-returns-in-Call c = λ d x fits. rw (c.in-Call.is, ← c.params.ensures) (c.call_refusal.ensures d x fits)
-
 pub returns-in-Accept : goal.returns-in-Accept
-returns-in-Accept c = λ d x fits. rw (c.in-Accept.is) (c.accept_refusal.ensures d x fits)
+returns-in-Accept c = λ d x fits. rw (c.in-Accept.is, c.err-in-Accept.ensures.value) (c.accepted.ensures.refusal d x fits)
 
 pub returns-in-Clear : goal.returns-in-Clear
-returns-in-Clear c = λ d x fits. rw c.in-Clear.is (c.clear_refusal.ensures d x fits)
+returns-in-Clear c = λ d x fits. rw c.in-Clear.is (c.clear_refusal.ensures.refusal d x fits)
 
 pub returns-in-Interrupt : goal.returns-in-Interrupt
 returns-in-Interrupt c = λ d x fits. rw c.in-Interrupt.is (c.interrupt_refusal.ensures.refusal d x fits)

@@ -1,4 +1,5 @@
 use Rattle.std.proofs.Common.{refl, subst}
+use Rattle.std.proofs.lemmas.Result.{err_from_is_err_and}
 use Rattle.x25_station.specs.Command.{command_of}
 use Rattle.x25_station.specs.laws.TimerLaw.{Asks, outcome}
 use Rattle.x25_io.proofs.ToldLemmas.{told_more}
@@ -6,13 +7,15 @@ use Rattle.x25_pipe.specs.Piped.{event_turn}
 use Rattle.x25_pipe.specs.code.Stands.{Stood}
 use Rattle.x25_pipe.proofs.pipe.Pipe.command.Goals as goal
 
-pub returns-in_default-clause-turns : goal.returns-in_default-clause-turns
-returns-in_default-clause-turns g c = λ k old s told refused h. told_more _ _ _ told _ h.tells
+pub returns-in_err-read_user-clause-turns : goal.returns-in_err-read_user-clause-turns
+returns-in_err-read_user-clause-turns g c = λ k old s told refused h.
+    let p = err_from_is_err_and c.from_residual.result c.from_residual.ensures.1 in
+    rw p.1 (told_more _ _ _ told _ h.tells)
 
-pub returns-in-Ok-command-clause-turns : goal.returns-in-Ok-command-clause-turns
+pub returns-in-Ok-clause-turns : goal.returns-in-Ok-clause-turns
 unfolding event_turn
-returns-in-Ok-command-clause-turns g c = λ k old s told refused h.
-    let came = c.in-Ok-command.ensures in
+returns-in-Ok-clause-turns g c = λ k old s told refused h.
+    let came = c.in-Ok.ensures in
     let event = Asks (command_of c.station_command.result) in
     subst (λ asked. Stood k old (g.W.Sink.contents c.follow_up.new.writer) c.follow_up.new.self told refused c.follow_up.result (event_turn k s (Asks asked))) c.station_command.ensures
     (c.follow_up.ensures.stood k old s event (outcome k s event) told refused (c.of-before.ensures k s h.fits) refl

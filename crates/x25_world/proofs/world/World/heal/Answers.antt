@@ -1,5 +1,5 @@
 use Rattle.x25_world.specs.World.{run}
-use Rattle.x25_world.specs.Healing.{healing, RestShows, HealsFrom}
+use Rattle.x25_world.specs.Healing.{RestShows, HealsFrom}
 use Rattle.x25_world.specs.laws.SessionClaims.{SessionsKeepOrder}
 use Rattle.x25_world.proofs.WorldLemmas.{all_of_sessions}
 use Rattle.x25_world.proofs.HealingSchedule.{holds_healed, heals_from}

@@ -1,0 +1,27 @@
+//! The calls of a link without their claims: a body that makes one of the link's own carries all that it promises.
+
+use std::alloc::Global;
+use x25_bits::Role;
+use x25_link::{Link, LinkError, Step};
+
+/// A link just made, for packets of at most 4,099 octets.
+pub fn link(alloc: Global, role: Role, k: u8, n2: u8) -> Result<Link, LinkError> {
+    Link::new(alloc, role, k, 4099, n2)
+}
+
+pub fn connect(link: &mut Link) -> Result<Step<'static>, LinkError> {
+    link.connect()
+}
+
+pub fn disconnect(link: &mut Link) -> Result<Step<'static>, LinkError> {
+    link.disconnect()
+}
+
+/// Timer T1 fires.
+pub fn fire(link: &mut Link) -> Result<Step<'static>, LinkError> {
+    link.t1()
+}
+
+pub fn take<'a>(link: &mut Link, octets: &'a [u8]) -> Result<Step<'a>, LinkError> {
+    link.take(octets)
+}

@@ -1,0 +1,26 @@
+//! The calls of a station without their claims: a body that makes one of the station's own carries all that it promises.
+
+use std::alloc::Global;
+use x25_station::{Cfg, Cmd, Role, Station, StationError, Step};
+
+/// A station just made.
+pub fn station(alloc: Global, role: Role, cfg: Cfg) -> Result<Station, StationError> {
+    Station::new(alloc, role, cfg)
+}
+
+pub fn connect(station: &mut Station) -> Result<Step, StationError> {
+    station.connect()
+}
+
+/// Timer T1 fires.
+pub fn fire(station: &mut Station) -> Result<Step, StationError> {
+    station.t1()
+}
+
+pub fn receive(station: &mut Station, octets: &[u8]) -> Result<Step, StationError> {
+    station.receive(octets)
+}
+
+pub fn ask(station: &mut Station, command: Cmd<'_>) -> Result<Step, StationError> {
+    station.command(command)
+}
