@@ -1,7 +1,7 @@
 //! Frames are lost, and then the line is good for a moment.
 
 use crate::calls::{establish, heal};
-use crate::play::Act::{Do, Drain, Heal, Repeat};
+use crate::play::Act::{Do, Drain, Heal, Repeat, Send};
 use crate::play::{Act, ONE_TRY, Play, Row, USUAL};
 use std::alloc::Global;
 use std::process::Abort;
@@ -19,39 +19,47 @@ const WINDOW_OF_ONE: Cfg = Cfg {
     long_data: false,
 };
 
+const FIVE_CHANNELS: Cfg = Cfg {
+    k: 7,
+    n2: 10,
+    channels: 5,
+    long_data: false,
+};
+
+const CALLS: Event = Command(
+    Dte,
+    Cmd::Call {
+        called: "1",
+        calling: "2",
+        user: b"",
+    },
+);
+
 /// The DTE calls, and the DCE accepts.
 static OPENING: [Act; 5] = [
     Drain,
-    Do(Command(
-        Dte,
-        Cmd::Call {
-            called: "1",
-            calling: "2",
-            user: b"",
-        },
-    )),
+    Do(CALLS),
     Drain,
     Do(Command(Dce, Cmd::Accept { channel: 1 })),
     Drain,
 ];
 
-const SENDS_A: Act = Do(Command(
-    Dte,
-    Cmd::Send {
-        channel: 1,
-        q: false,
-        user: b"a",
-    },
-));
+/// The same on five channels.
+static OPENING_FIVE: [Act; 9] = [
+    Drain,
+    Repeat(5, CALLS),
+    Drain,
+    Do(Command(Dce, Cmd::Accept { channel: 1 })),
+    Do(Command(Dce, Cmd::Accept { channel: 2 })),
+    Do(Command(Dce, Cmd::Accept { channel: 3 })),
+    Do(Command(Dce, Cmd::Accept { channel: 4 })),
+    Do(Command(Dce, Cmd::Accept { channel: 5 })),
+    Drain,
+];
 
-const DCE_SENDS_B: Act = Do(Command(
-    Dce,
-    Cmd::Send {
-        channel: 1,
-        q: false,
-        user: b"b",
-    },
-));
+const SENDS_A: Act = Send(Dte, 1, b"a");
+
+const DCE_SENDS_B: Act = Send(Dce, 1, b"b");
 
 const IS_READY: Event = Command(Dte, Cmd::Ready { channel: 1 });
 
@@ -167,26 +175,70 @@ static ROWS: [Row; 9] = [
     ),
 ];
 
+/// Played behind the opening of five channels: the DTE's packets of RR wait before its message, as its REJ and what comes again cross.
+static ROWS_OF_FIVE: [Row; 1] = [(
+    "a message waits behind what acknowledges ten, and is pulled",
+    FIVE_CHANNELS,
+    &[
+        Send(Dce, 1, b"b"),
+        Send(Dce, 2, b"b"),
+        Send(Dce, 3, b"b"),
+        Send(Dce, 4, b"b"),
+        Send(Dce, 5, b"b"),
+        Send(Dce, 1, b"b"),
+        Send(Dce, 2, b"b"),
+        Send(Dce, 3, b"b"),
+        Send(Dce, 4, b"b"),
+        Send(Dce, 5, b"b"),
+        Do(Deliver(ToDte)),
+        Do(T1(Dte)),
+        Repeat(6, Deliver(ToDte)),
+        Do(Lose(ToDce, 2)),
+        Repeat(8, Deliver(ToDce)),
+        Repeat(3, Deliver(ToDte)),
+        SENDS_A,
+        Drain,
+        Heal,
+        PULLS,
+        Heal,
+    ],
+    "dce send ch=1 at 1.0.0 q=0 data=62\n\
+     dce send ch=2 at 1.0.0 q=0 data=62\n\
+     dce send ch=3 at 1.0.0 q=0 data=62\n\
+     dce send ch=4 at 1.0.0 q=0 data=62\n\
+     dce send ch=5 at 1.0.0 q=0 data=62\n\
+     dce send ch=1 at 1.0.0 q=0 data=62\n\
+     dce send ch=2 at 1.0.0 q=0 data=62\n\
+     dce send ch=3 at 1.0.0 q=0 data=62\n\
+     dce send ch=4 at 1.0.0 q=0 data=62\n\
+     dce send ch=5 at 1.0.0 q=0 data=62\n\
+     dte message ch=1 at 1.0.0 q=0 data=62\n\
+     dte send ch=1 at 1.0.0 q=0 data=61\n\
+     dte message ch=5 at 1.0.0 q=0 data=62\n\
+     dce message ch=1 at 1.0.0 q=0 data=61\n",
+)];
+
 // What is played behind the opening tells its lines, and leaves nothing on the line and no timer that runs.
-fn tells(rt: &impl Abort, play: &mut Play, row: &Row) -> Result<(), Fail> {
-    play.opens(OPENING.as_slice())?;
+fn tells(rt: &impl Abort, play: &mut Play, opening: &[Act], row: &Row) -> Result<(), Fail> {
+    play.opens(opening)?;
     play.tells(rt, row)?;
     assert_eq!(rt; play.left(), ((0, 0), false, false), "{}", row.0);
     Ok(())
 }
 
-fn heals(rt: &impl Abort, alloc: Global, row: &Row, lets_go: bool) -> Result<(), Fail> {
+fn heals(rt: &impl Abort, alloc: Global, opening: &[Act], row: &Row) -> Result<(), Fail> {
     let (_, cfg, _, _) = *row;
     let world = establish(alloc, cfg)?;
-    tells(rt, &mut Play::begin(alloc, world, lets_go), row)
+    tells(rt, &mut Play::begin(alloc, world, false), opening, row)
 }
 
 #[test]
 fn what_was_lost_arrives(rt: HostRuntime) -> Result<(), Fail> {
-    for lets_go in [false, true] {
-        for row in &ROWS {
-            heals(&rt, rt.alloc(), row, lets_go)?;
-        }
+    for row in &ROWS {
+        heals(&rt, rt.alloc(), OPENING.as_slice(), row)?;
+    }
+    for row in &ROWS_OF_FIVE {
+        heals(&rt, rt.alloc(), OPENING_FIVE.as_slice(), row)?;
     }
     Ok(())
 }

@@ -5,7 +5,7 @@ use std::alloc::Global;
 use std::process::Abort;
 use std::str;
 use std::test::Fail;
-use x25_station::Cfg;
+use x25_station::{Cfg, Cmd};
 use x25_transcript::entry_line;
 use x25_world::{Direction, Event, Role, World};
 
@@ -27,6 +27,8 @@ pub const ONE_TRY: Cfg = Cfg {
 #[derive(Clone, Copy, Debug)]
 pub enum Act {
     Do(Event<'static>),
+    /// The user of this end sends this message on this channel.
+    Send(Role, u16, &'static [u8]),
     /// The event happens so often. What it tells isn't shown.
     Repeat(u16, Event<'static>),
     /// Deliveries, first those to the DCE, until nothing is on the line.
@@ -46,6 +48,11 @@ pub struct Play {
     alloc: Global,
     told: usize,
     lets_go: bool,
+}
+
+fn message(end: Role, channel: u16, user: &'static [u8]) -> Event<'static> {
+    let q = false;
+    Event::Command(end, Cmd::Send { channel, q, user })
 }
 
 impl Play {
@@ -134,6 +141,7 @@ impl Play {
         for act in acts {
             match *act {
                 Act::Do(event) => self.apply(event)?,
+                Act::Send(end, channel, user) => self.apply(message(end, channel, user))?,
                 Act::Repeat(count, event) => self.repeat(count, event)?,
                 Act::Drain => self.drain()?,
                 Act::Heal => self.heal()?,

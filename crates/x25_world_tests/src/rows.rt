@@ -1,7 +1,7 @@
 //! Worked runs: what is played after set-up, and the lines that are told from the beginning.
 
 use crate::calls::{apply, connecting, establish, on_line, run};
-use crate::play::Act::{Do, Drain};
+use crate::play::Act::{Do, Drain, Send};
 use crate::play::{Act, ONE_TRY, Row, USUAL, play_row};
 use std::alloc::Global;
 use std::process::Abort;
@@ -71,32 +71,11 @@ const CONNECTS: Act = Do(Command(Dte, Cmd::Connect));
 
 const DISCONNECTS: Act = Do(Command(Dte, Cmd::Disconnect));
 
-const SENDS_HI: Act = Do(Command(
-    Dte,
-    Cmd::Send {
-        channel: 1,
-        q: false,
-        user: b"hi",
-    },
-));
+const SENDS_HI: Act = Send(Dte, 1, b"hi");
 
-const SENDS_NOTHING: Act = Do(Command(
-    Dte,
-    Cmd::Send {
-        channel: 1,
-        q: false,
-        user: b"",
-    },
-));
+const SENDS_NOTHING: Act = Send(Dte, 1, b"");
 
-const SENDS_A: Act = Do(Command(
-    Dte,
-    Cmd::Send {
-        channel: 1,
-        q: false,
-        user: b"a",
-    },
-));
+const SENDS_A: Act = Send(Dte, 1, b"a");
 
 /// Played after set-up.
 static ROWS: [Row; 14] = [
