@@ -3,7 +3,7 @@
 ghost use Rattle.x25_line.specs.Healing.{RestShows, EachRestShows, OneFiringHeals, FarFiringHeals, OneFiringEnds, GoneEnds};
 ghost use Rattle.x25_line.specs.Healing.{BothFiringsHeal, TwoFiringsHeal, EachRestsOrIsOut, Heals, SessionsHeal, EachSessionRestsOrIsOut, DeliveriesEnd, SomeHeal, BothLostMayHeal};
 ghost use Rattle.x25_line.specs.Healing.{DrainsEnd, SomeDrain, SessionsDrainEnd, SomeSessionsDrain, OneBusyHeals, SomeBusyHeal, SessionsHealBusy, HealsUnlessBothBusy, SessionsHealUnlessBothBusy};
-ghost use Rattle.x25_line.specs.HealingPuts.{PutsHeal};
+ghost use Rattle.x25_line.specs.HealingPuts.{PutsHeal, PutsHealSessions};
 ghost use Rattle.x25_line.specs.rows.HealingRows.{NoFiringIsTooFew, OneFiringIsTooFew, NoTriesAreLeft, FiringsAloneEnd, BothBusyStay, BothBusyIsReached, OneBusyIsReached};
 ghost use Rattle.x25_line.specs.laws.SessionClaims.{Throughout};
 
@@ -95,9 +95,10 @@ pub fn one_busy_heals()
 /// The same while packets are handed down: from a moment in which nothing is on the line, both ends are Up, neither is busy, and tries are left where
 /// timer T1 runs. Both fire, and then all that is on the line comes, while packets are put at either end, in any order of these, where neither end is
 /// busy as octets come, nor at the end. Once nothing is on the line, both ends are at rest, and all that was ever handed down, these packets too, has
-/// been handed up at the other end.
+/// been handed up at the other end (`at_once`). Over set-up and re-set-up their sessions heal so, and no other begins (`sessions`).
 pub fn puts_heal()
     ensures at_once { PutsHeal }
+    ensures sessions { PutsHealSessions }
 {
     follows_the_window();
     sets_up_by_rows();
