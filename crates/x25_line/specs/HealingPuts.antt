@@ -2,10 +2,11 @@
 use Rattle.std.specs.Prelude.{◌≡◌, ◌⊎◌, false, List, [], ◌∷◌}
 use Rattle.x25_link.specs.LinkStation.{Settings, LinkStation, is_busy}
 use Rattle.x25_link.specs.laws.RestLaw.{IsAtRest}
-use Rattle.x25_line.specs.Stations.{Stations, Act, Put, Deliver, T1, Event, Near, Far, happens, run, start}
+use Rattle.x25_line.specs.Stations.{Stations, Act, Put, Deliver, T1, Lose, Event, Near, Far, happens, run, start}
 use Rattle.x25_line.specs.laws.StationClaims.{AreJoined}
 use Rattle.x25_line.specs.Sessions.{Sessions, from_nothing, from_set_up, AreTimely, happens as happens_in_sessions, run as run_sessions}
 use Rattle.x25_line.specs.Healing.{IsDrained, IsQuietMoment, MayHeal, IsHealed, SessionMayHeal}
+use Rattle.x25_line.specs.rows.StationRows.{dte, dce}
 
 -- ---- deliveries and puts
 
@@ -76,3 +77,21 @@ PutsHealSessions =
     → (more : List Event) → AreDeliveriesAndPuts more
     → (let fired = run_sessions c d (Near T1 ∷ Far T1 ∷ []) w in SessionsFreeThroughout c d more fired
     → (let v = run_sessions c d more fired in v.out ≡ [] → v.back ≡ [] → SessionsHaveArrived w v)))
+
+-- ---- a worked moment
+
+-- the near end's packet was lost
+abbrev pub near_lost : List Event
+near_lost = Near (Put (5 ∷ [])) ∷ Far (Lose 0) ∷ []
+
+-- one more is put, and waits; then the poll comes, its answer, both packets, and what acknowledges each
+abbrev pub one_put : List Event
+one_put = Near (Put (6 ∷ [])) ∷ Far Deliver ∷ Near Deliver ∷ Far Deliver ∷ Far Deliver ∷ Near Deliver ∷ Near Deliver ∷ []
+
+-- it is a quiet moment in which both may heal; no end is busy behind the firings, and both packets have arrived
+abbrev pub OnePutArrives : Type 0
+OnePutArrives =
+    IsQuietMoment dte dce near_lost
+    × (let w = run dte dce near_lost start in MayHeal dte w.near × MayHeal dce w.far × AreDeliveriesAndPuts one_put
+    × (let fired = run dte dce (Near T1 ∷ Far T1 ∷ []) w in FreeThroughout dte dce one_put fired
+    × (let v = run dte dce one_put fired in IsDrained v × (v.far.up ≡ (5 ∷ []) ∷ (6 ∷ []) ∷ []))))

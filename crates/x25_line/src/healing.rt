@@ -3,7 +3,7 @@
 ghost use Rattle.x25_line.specs.Healing.{RestShows, EachRestShows, OneFiringHeals, FarFiringHeals, OneFiringEnds, GoneEnds};
 ghost use Rattle.x25_line.specs.Healing.{BothFiringsHeal, TwoFiringsHeal, EachRestsOrIsOut, Heals, SessionsHeal, EachSessionRestsOrIsOut, DeliveriesEnd, SomeHeal, BothLostMayHeal};
 ghost use Rattle.x25_line.specs.Healing.{DrainsEnd, SomeDrain, SessionsDrainEnd, SomeSessionsDrain, OneBusyHeals, SomeBusyHeal, SessionsHealBusy, HealsUnlessBothBusy, SessionsHealUnlessBothBusy};
-ghost use Rattle.x25_line.specs.HealingPuts.{PutsHeal, PutsHealSessions};
+ghost use Rattle.x25_line.specs.HealingPuts.{PutsHeal, PutsHealSessions, OnePutArrives};
 ghost use Rattle.x25_line.specs.rows.HealingRows.{NoFiringIsTooFew, OneFiringIsTooFew, NoTriesAreLeft, FiringsAloneEnd, PutToGoneStays, BothBusyStay, BothBusyIsReached, OneBusyIsReached};
 ghost use Rattle.x25_line.specs.laws.SessionClaims.{Throughout};
 
@@ -96,9 +96,11 @@ pub fn one_busy_heals()
 /// timer T1 runs. Both fire, and then all that is on the line comes, while packets are put at either end, in any order of these, where neither end is
 /// busy as octets come, nor at the end. Once nothing is on the line, both ends are at rest, and all that was ever handed down, these packets too, has
 /// been handed up at the other end (`at_once`). Over set-up and re-set-up their sessions heal so, and no other begins (`sessions`).
+/// A worked moment: a packet was lost, and one more is put once its end has fired (`worked`).
 pub fn puts_heal()
     ensures at_once { PutsHeal }
     ensures sessions { PutsHealSessions }
+    ensures worked { OnePutArrives }
 {
     follows_the_window();
     sets_up_by_rows();
