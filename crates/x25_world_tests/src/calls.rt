@@ -12,19 +12,27 @@ pub fn number_of(error: WorldError) -> u8 {
     }
 }
 
+// A world in a place of its own: a body that holds the box lets go of it by one call, and not of each part of the world.
+fn boxed(alloc: Global, world: World) -> Result<Box<World>, WorldError> {
+    match Box::new(alloc, world) {
+        Ok(boxed) => Ok(boxed),
+        Err(_) => Err(WorldError::NoMemory),
+    }
+}
+
 /// A world whose links are down.
-pub fn start(alloc: Global, cfg: Cfg) -> Result<World, WorldError> {
-    World::start(alloc, cfg)
+pub fn start(alloc: Global, cfg: Cfg) -> Result<Box<World>, WorldError> {
+    boxed(alloc, World::start(alloc, cfg)?)
 }
 
 /// A world whose links are down, and the DTE has asked that the link be set up.
-pub fn connecting(alloc: Global, cfg: Cfg) -> Result<World, WorldError> {
-    World::connecting(alloc, cfg)
+pub fn connecting(alloc: Global, cfg: Cfg) -> Result<Box<World>, WorldError> {
+    boxed(alloc, World::connecting(alloc, cfg)?)
 }
 
 /// A world whose link was just set up.
-pub fn establish(alloc: Global, cfg: Cfg) -> Result<World, WorldError> {
-    World::establish(alloc, cfg)
+pub fn establish(alloc: Global, cfg: Cfg) -> Result<Box<World>, WorldError> {
+    boxed(alloc, World::establish(alloc, cfg)?)
 }
 
 pub fn apply(world: &mut World, event: Event) -> Result<(), WorldError> {

@@ -24,7 +24,7 @@ pub const ONE_TRY: Cfg = Cfg {
 };
 
 /// What is played.
-#[derive(Clone, Copy, Debug)]
+#[derive(Clone, Copy)]
 pub enum Act {
     Do(Event<'static>),
     /// The user of this end sends this message on this channel.
@@ -43,7 +43,7 @@ pub type Row = (&'static str, Cfg, &'static [Act], &'static str);
 /// A world, and the lines of its transcript and of its refusals.
 #[derive(Drop)]
 pub struct Play {
-    world: World,
+    world: Box<World>,
     text: Vec<u8>,
     alloc: Global,
     told: usize,
@@ -57,7 +57,7 @@ fn message(end: Role, channel: u16, user: &'static [u8]) -> Event<'static> {
 
 impl Play {
     /// What is played at this world. It lets go of what was told after each event, where `lets_go` says so.
-    pub fn begin(alloc: Global, world: World, lets_go: bool) -> Play {
+    pub fn begin(alloc: Global, world: Box<World>, lets_go: bool) -> Play {
         Play {
             world,
             text: Vec::new(alloc),
@@ -184,7 +184,7 @@ impl Play {
 pub fn play_row(
     rt: &impl Abort,
     alloc: Global,
-    world: World,
+    world: Box<World>,
     row: &Row,
     lets_go: bool,
 ) -> Result<(), Fail> {
