@@ -232,6 +232,7 @@ fn short_memory(
 }
 
 // The octets of a frame, in memory that was set aside.
+#[inline(always)]
 fn spelled(from: Role, frame: &Frame, mut octets: Vec<u8>) -> Vec<u8>
     requires empty { octets.items ≡ [] }
     requires room { length (information_of (plain frame.now)) + 4 ≤ vec_capacity octets }
