@@ -11,7 +11,8 @@ mod stage;
 mod telling;
 
 pub use law::{
-    heal_is_the_schedule, scripts_are_runs, scripts_keep_order, scripts_meet_in_sessions, scripts_move,
+    heal_is_the_schedule, scripts_are_runs, scripts_keep_order, scripts_meet_in_sessions,
+    scripts_move,
 };
 pub use running::sim;
 pub use simulation::Simulation;

@@ -1,16 +1,16 @@
 -- Healing as a whole: firings, and rounds of pulls.
-use Rattle.std.proofs.Common.{◌≡◌, ℕ, zero, suc, ◌+◌, ◌-◌, ◌*◌, ◌≤◌, ◌<◌, Bool, true, false, List, [], ◌∷◌, ◌++◌, length, Option, Some, None, Result, Ok, Err, OnOk, refl, sym, ap, ap₂, ◌∙◌, subst, arith}
+use Rattle.std.proofs.Common.{◌≡◌, ℕ, zero, suc, ◌+◌, ◌-◌, ◌*◌, ◌≤◌, ◌<◌, Bool, true, false, List, [], ◌∷◌, ◌++◌, length, Option, Some, None, Result, Ok, Err, OnOk, refl, sym, ap, subst, arith}
 use Rattle.std.specs.Prelude.{is_none, is_some, not, option_map}
 use Rattle.x25_bits.specs.declared.role.Role.{Role}
 use Rattle.x25_bits.specs.declared.role.Role.TheVariants.{Dte, Dce}
 use Rattle.x25_station.specs.declared.config.Cfg.{Cfg}
 use Rattle.x25_station.specs.Settings.{config_refusal}
-use Rattle.x25_world.specs.World.{World, WorldOutcome, Happened, Declined, Event, happens, after, run}
+use Rattle.x25_world.specs.World.{World, WorldOutcome, Happened, Declined, Event, happens, run}
 use Rattle.x25_world.specs.declared.error.WorldError.{WorldError}
 use Rattle.x25_world.specs.laws.Claims.{ActsInOctets, AreInOctets, IsBeginning}
 use Rattle.x25_world.specs.laws.SessionClaims.{Throughout}
 use Rattle.x25_world.specs.laws.WaitClaims.{pull_at}
-use Rattle.x25_world.specs.Healing.{receipt, all_received, firing, next_end, arrivals, most_deliveries, deliveries, one_if, if_accepted, behind, both_tried, pull_round, most_rounds, unless_empty, pull_rounds, fire_and_pull, healing, received_by, received_in, IsDrained, Heals, HealsWhereNonePut, HealsFrom}
+use Rattle.x25_world.specs.Healing.{all_received, firing, next_end, arrivals, most_deliveries, deliveries, one_if, if_accepted, behind, both_tried, pull_round, most_rounds, unless_empty, pull_rounds, fire_and_pull, healing, received_by, received_in, HealsWhereNonePut, HealsFrom}
 use Rattle.x25_world.specs.code.ShownWorld.{ShownWorld}
 use Rattle.x25_world.specs.code.FitsWorld.{Gone, FitsWorld, FitsRun, Leaves}
 use Rattle.x25_world.specs.code.FitsHealing.{GoesBy}

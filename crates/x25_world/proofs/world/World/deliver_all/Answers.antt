@@ -26,11 +26,14 @@ returns-in_err-apply-clause-stopped c = λ cfg w gone fits.
     (c.in_err-apply.ensures.stays cfg x gone l.goes.fits, c.in_err-apply.ensures.refused cfg x gone l.goes.fits))
 
 pub loop-count-preserved : goal.loop-count-preserved
-loop-count-preserved c = (λ none. absurd (omega (arith, none)), λ cfg w gone fits.
-    let l = c.loop-count.invariant.1 cfg w gone fits in
-    let x = run cfg (all_received l.done) w in
-    one_delivered cfg w c.loop-count.self c.apply.new.self gone c.loop-count.count (end_of c.in-Some.direction) (omega (arith, c.loop-count-test.true)) l (sym c.in-Some.ensures)
-    (c.in_ok-apply.ensures.step cfg x gone l.goes.fits))
+loop-count-preserved c = (
+  λ none. absurd (omega (arith, none)),
+  λ cfg w gone fits.
+      let l = c.loop-count.invariant.1 cfg w gone fits in
+      let x = run cfg (all_received l.done) w in
+      one_delivered cfg w c.loop-count.self c.apply.new.self gone c.loop-count.count (end_of c.in-Some.direction) (omega (arith, c.loop-count-test.true)) l (sym c.in-Some.ensures)
+      (c.in_ok-apply.ensures.step cfg x gone l.goes.fits),
+)
 
 pub returns-clause-goes : goal.returns-clause-goes
 returns-clause-goes c = λ cfg w gone fits.

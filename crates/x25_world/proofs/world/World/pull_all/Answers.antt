@@ -41,8 +41,7 @@ returns-then-is_line_empty-clause-counted c = λ cfg w gone fits.
 
 pub loop-preserved : goal.loop-preserved
 loop-preserved c =
-    let filled : is_none (next_end c.pull_round.new.self.to_dce c.pull_round.new.self.to_dte) ≡ false = sym c.is_line_empty.ensures ∙ c.if-is_line_empty.false in
-    (
+    let filled : is_none (next_end c.pull_round.new.self.to_dce c.pull_round.new.self.to_dte) ≡ false = sym c.is_line_empty.ensures ∙ c.if-is_line_empty.false in (
       few_more c.loop.count c.loop.counter c.from-count.result (omega (arith, c.from-count.ensures)) c.loop.invariant.0,
       rounds_more (next_end c.loop.self.to_dce c.loop.self.to_dte) c.loop.count c.loop.counter c.from-count.result c.loop.invariant.1 c.loop.invariant.2 (λ none. c.in_ok-more.ensures.none (sym c.from-count.ensures ∙ none)),
       λ some. filled,
