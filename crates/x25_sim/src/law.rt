@@ -4,7 +4,7 @@ ghost use Rattle.x25_world.specs.laws.Claims.{ArrivesAll, HasNoProcedureError, I
 ghost use Rattle.x25_world.specs.WindowGoes.{IsInWindow};
 ghost use Rattle.x25_world.specs.laws.SessionClaims.{AllArrive, AreLawfulWhereMet, AreNamedInSessions, MeetInStep, OpenStretchesMeet, UnmetAreToldNothing};
 ghost use Rattle.x25_world.specs.SessionWindow.{UpIsInWindow};
-ghost use Rattle.x25_sim.specs.laws.RunLaw.{OfAllScripts, OfScripts, OfScriptsSetUp, ScriptsAreRuns, ScriptsAreTapped, ScriptsAreTold, UpOnceUnlessAsked};
+ghost use Rattle.x25_sim.specs.laws.RunLaw.{HealIsTheSchedule, OfAllScripts, OfScripts, OfScriptsSetUp, ScriptsAreRuns, ScriptsAreTapped, ScriptsAreTold, UpOnceUnlessAsked};
 ghost use Rattle.x25_sim.specs.rows.ScriptRows.{BothEndsGoDown, BothEndsHeal, CallsCollide, DamageIsSeen, FramesAreWritten, LinkGoesDown, LinkIsSetUp, LinkIsSetUpAgain, LinksComeUp, LinksThatAreDownHeal, LostFrameArrives, LostUaComesAgain, MessagesArrive, OtherLinesAreRefused, ResetIsDone, RestartIsDone, WaitingMessageIsPulled};
 
 use x25_script::lines_are_in_octets;
@@ -56,6 +56,11 @@ pub fn scripts_meet_in_sessions()
     scripts_are_runs();
     stations_meet_in_sessions();
 }
+
+/// A line `heal`, wherever it stands, leads to where the schedule of `World::heal` leads, so that all that is proved of that holds of it too.
+pub fn heal_is_the_schedule()
+    ensures { HealIsTheSchedule }
+{}
 
 /// Worked scripts, with what is written and the status: set-up, and with its frames; a link that goes down by retries; damage and
 /// other refusals; two calls that collide; lines outside of the grammar; a call and its messages; `reset`, `restart` and `disconnect`;

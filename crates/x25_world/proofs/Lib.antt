@@ -6,6 +6,7 @@ pub mod Headline
 pub mod sessions
 pub mod HealingLemmas
 pub mod HealingSchedule
+pub mod HealingRounds
 pub mod FrameOctets
 pub mod SetUpOnce
 pub mod WindowRuns

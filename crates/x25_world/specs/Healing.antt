@@ -1,5 +1,6 @@
 -- Healing of two stations: once the line is good for a moment, what their links were handed down arrives. What is on the line arrives; timer T1
--- runs out once at each end where it runs; and then all that is on the line arrives, while nothing is lost.
+-- runs out once at each end where it runs; and then all that is on the line arrives, while nothing is lost. What still waits in circuits is pulled
+-- then, and arrives too.
 use Rattle.std.specs.Prelude.{◌≡◌, ℕ, zero, suc, ◌+◌, ◌<◌, ◌≤◌, length, ◌⊎◌, true, false, List, [], ◌∷◌, ◌++◌, Option, Some, None}
 use Rattle.x25_bits.specs.declared.role.Role.{Role}
 use Rattle.x25_bits.specs.declared.role.Role.TheVariants.{Dte, Dce}
@@ -22,6 +23,7 @@ use Rattle.x25_world.specs.World.{World, WorldOutcome, Happened, Declined, Act, 
 use Rattle.x25_world.specs.laws.Claims.{link_of, station_at}
 use Rattle.x25_world.specs.SessionWindow.{IsRunOfSessions}
 use Rattle.x25_world.specs.Sessions.{last_session, handed_in}
+use Rattle.x25_world.specs.laws.WaitClaims.{pull_at}
 
 -- nothing is on the line
 pub record IsDrained (w : World) : Type 0 where
@@ -76,16 +78,35 @@ if_accepted cfg e w = one_if e (happens cfg w e)
 abbrev pub behind : Cfg → (World → List Event) → (World → List Event) → World → List Event
 behind cfg first rest w = first w ++ rest (run cfg (first w) w)
 
--- timer T1 runs out at each end where it runs, the DTE first, and then what is on the line comes
-abbrev pub dce_fires : Cfg → World → List Event
-dce_fires cfg w = behind cfg (if_accepted cfg (firing Dce)) (deliveries cfg) w
+-- an event at the DTE and one at the DCE, each where it is accepted
+abbrev pub both_tried : Cfg → Event → Event → World → List Event
+both_tried cfg first second w = behind cfg (if_accepted cfg first) (if_accepted cfg second) w
 
-abbrev pub both_fire : Cfg → World → List Event
-both_fire cfg w = behind cfg (if_accepted cfg (firing Dte)) (dce_fires cfg) w
+-- what is on the line comes, and then each end pulls what waits in its circuits
+abbrev pub pull_round : Cfg → World → List Event
+pull_round cfg w = behind cfg (deliveries cfg) (both_tried cfg (pull_at Dte) (pull_at Dce)) w
 
--- deliver, fire, deliver
+-- how many rounds follow one another at most
+abbrev pub most_rounds : ℕ
+most_rounds = 4294967295
+
+-- the rest, where frames are on the line
+abbrev pub unless_empty : (World → List Event) → World → Option Role → List Event
+unless_empty rest w None = []
+unless_empty rest w (Some at) = rest w
+
+-- round after round, as long as the pulls put frames on the line, at most so many of them
+unfoldable pub pull_rounds : Cfg → ℕ → World → List Event
+pull_rounds cfg zero w = []
+pull_rounds cfg (suc n) w = behind cfg (pull_round cfg) (λ v. unless_empty (pull_rounds cfg n) v (next_end v.out v.back)) w
+
+-- timer T1 runs out at each end where it runs, and then come the rounds
+abbrev pub fire_and_pull : Cfg → World → List Event
+fire_and_pull cfg w = behind cfg (both_tried cfg (firing Dte) (firing Dce)) (pull_rounds cfg most_rounds) w
+
+-- deliver, fire, and then deliver and pull in rounds
 abbrev pub healing : Cfg → World → List Event
-healing cfg w = behind cfg (deliveries cfg) (both_fire cfg) w
+healing cfg w = behind cfg (deliveries cfg) (fire_and_pull cfg) w
 
 -- how many deliveries are among events
 abbrev pub received_by : Act → ℕ
@@ -182,10 +203,11 @@ HealsWhereNonePut cfg w =
 abbrev pub DrainsWhereNonePut : Cfg → World → Type 0
 DrainsWhereNonePut cfg w = (most : ℕ) × ((ends : List Role) → NonePut cfg ends w → AreAccepted cfg (all_received ends) w → length ends ≤ most)
 
--- Of the schedule from a world: from the moment in which all that was on the line has come, it heals, where the layers put nothing behind the firings, and
--- all has come.
-abbrev pub HealsFrom : Cfg → World → World → Type 0
-HealsFrom cfg w u =
+-- Of the schedule from a world: from the moment in which all that was on the line has come, it heals by the firings and what comes behind them, where the
+-- layers put nothing there, and all has come.
+abbrev pub HealsFrom : Cfg → World → Type 0
+HealsFrom cfg w =
     let v = run cfg (deliveries cfg w) w in
     let fired = run cfg (firing Dte ∷ firing Dce ∷ []) v in
+    let u = run cfg (deliveries cfg fired) fired in
     MayHeal v → NonePut cfg (arrivals cfg most_deliveries fired) fired → IsDrained u → Heals cfg v u

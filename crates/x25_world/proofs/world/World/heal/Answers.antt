@@ -2,7 +2,7 @@ use Rattle.x25_world.specs.World.{run}
 use Rattle.x25_world.specs.Healing.{RestShows, HealsFrom}
 use Rattle.x25_world.specs.laws.SessionClaims.{SessionsKeepOrder}
 use Rattle.x25_world.proofs.WorldLemmas.{all_of_sessions}
-use Rattle.x25_world.proofs.HealingSchedule.{holds_healed, heals_from}
+use Rattle.x25_world.proofs.HealingRounds.{holds_healed, heals_from}
 use Rattle.x25_world.proofs.world.World.heal.Goals as goal
 
 pub returns-clause-sessions : goal.returns-clause-sessions
@@ -21,5 +21,5 @@ returns-clause-rest c = λ cfg from past gone begins h.
 pub returns-clause-heals : goal.returns-clause-heals
 returns-clause-heals c = λ cfg from past gone begins h.
     let w = run cfg past from in
-    holds_healed HealsFrom c.go_on.result c.args.self.now c.go_on.new.self cfg from past gone h (c.go_on.ensures.goes cfg w gone h.fits)
+    holds_healed (λ c' w u. HealsFrom c' w) c.go_on.result c.args.self.now c.go_on.new.self cfg from past gone h (c.go_on.ensures.goes cfg w gone h.fits)
     (λ octets. heals_from c.stations_heal.ensures.heals cfg h.settings from begins past h.octets)
