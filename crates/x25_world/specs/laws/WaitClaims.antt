@@ -13,7 +13,7 @@ use Rattle.x25_station.specs.Settings.{settings_from}
 use Rattle.x25_station.specs.Command.{Requests}
 use Rattle.x25_station.specs.Station.{Station}
 use Rattle.x25_station.specs.Told.{stretch}
-use Rattle.x25_world.specs.World.{World, Event, Commands, WorldOutcome, Happened, happens}
+use Rattle.x25_world.specs.World.{World, Event, Commands, Happened, happens}
 use Rattle.x25_world.specs.Sessions.{last_session, handed_in}
 use Rattle.x25_world.specs.laws.Claims.{station_at}
 
