@@ -27,7 +27,7 @@ use Rattle.x25_world.specs.World.{World, WorldOutcome, Happened, Declined, Act, 
 use Rattle.x25_world.specs.laws.Claims.{AreInOctets, link_of, station_at}
 use Rattle.x25_world.specs.SessionWindow.{IsRunOfSessions}
 use Rattle.x25_world.specs.Sessions.{last_session, handed_in}
-use Rattle.x25_world.specs.laws.WaitClaims.{pull_at}
+use Rattle.x25_world.specs.laws.WaitClaims.{pull_at, AllWaitForUsers}
 
 -- nothing is on the line
 pub record IsDrained (w : World) : Type 0 where
@@ -281,3 +281,19 @@ HealsFrom cfg w =
     let fired = run cfg (firing Dte ∷ firing Dce ∷ []) v in
     let u = run cfg (deliveries cfg fired) fired in
     MayHeal v → NonePut cfg (arrivals cfg most_deliveries fired) fired → IsDrained u → Heals cfg v u
+
+-- .. and to the one behind it: all that the links were handed down has arrived, and what still waits in circuits waits for users who aren't ready
+pub record AllArrives (cfg : Cfg) (w u : World) : Type 0 where
+  pub links : HaveArrived cfg w u
+  pub waits : AllWaitForUsers cfg u
+
+-- .. where both links are up in that moment, neither is busy then nor as octets come behind the firings, no count is at its most there, and the rounds have
+-- left nothing on the line
+abbrev pub ArrivesByHealing : Cfg → World → World → Type 0
+ArrivesByHealing cfg w u =
+    let v = run cfg (deliveries cfg w) w in
+    let fired = run cfg (firing Dte ∷ firing Dce ∷ []) v in
+    BothMayHeal cfg v → FreeThroughout cfg (pull_rounds cfg most_rounds fired) fired → IsDrained u → AllArrives cfg v u
+
+abbrev pub HealingBringsAll : Cfg → World → Type 0
+HealingBringsAll cfg w = ArrivesByHealing cfg w (run cfg (healing cfg w) w)

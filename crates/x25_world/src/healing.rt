@@ -7,11 +7,11 @@ ghost use Rattle.x25_world.specs.World.{event_of};
 ghost use Rattle.x25_world.specs.code.FitsWorld.{Gone, FitsWorld};
 ghost use Rattle.x25_world.specs.code.FitsHealing.{GoesBy, GoesPartly, HoldsHealed};
 ghost use Rattle.x25_world.specs.laws.SessionClaims.{Throughout, SessionsKeepOrder};
-ghost use Rattle.x25_world.specs.Healing.{RestShows, HealsWhereNonePut, HealsWithPuts, DrainsWhereNonePut, HealsFrom, next_end, arrivals, most_deliveries, deliveries, if_accepted, both_tried, pull_round, most_rounds, pull_rounds, healing, received_in};
+ghost use Rattle.x25_world.specs.Healing.{RestShows, HealsWhereNonePut, HealsWithPuts, DrainsWhereNonePut, HealsFrom, ArrivesByHealing, HealingBringsAll, next_end, arrivals, most_deliveries, deliveries, if_accepted, both_tried, pull_round, most_rounds, pull_rounds, healing, received_in};
 
 use crate::error::WorldError;
 use crate::event::Event;
-use crate::law::{laws_below, stations_meet_in_sessions};
+use crate::law::{laws_below, messages_wait_for_users, stations_meet_in_sessions};
 use crate::world::World;
 use x25_bits::Role;
 use x25_line::{Direction, drains_end, one_busy_heals, puts_heal, rest_shows};
@@ -53,6 +53,20 @@ pub fn stations_heal()
     drains_end();
 }
 
+/// Two stations over such a line, after each list of events, by the schedule of `World::heal`: where, once all that was on the line has come, both links
+/// are up, neither is busy, and tries are left where timer T1 runs; where neither is busy as octets come behind the firings, and no count of that station is
+/// at its most; and where the rounds leave nothing on the line: both links are at rest, all that they were handed down in their sessions has been handed
+/// up, and each stretch that is open at an end is open at the other one too, where either all of its messages and interrupts arrived, or the user isn't
+/// ready.
+///
+/// Premises: k is 1 to 7, N2 1 to 255, channels 1 to 16, and the users hand down octets.
+pub fn healing_brings_all()
+    ensures { Throughout HealingBringsAll }
+{
+    stations_heal();
+    messages_wait_for_users();
+}
+
 impl World {
     /// The line is good for a moment: what is on it arrives, then timer T1 runs out at each end where it runs. What is on the line arrives, and then each
     /// end pulls what waits in its circuits, again and again, as long as that puts frames on the line: at most 4,294,967,295 times, and each time at most
@@ -69,9 +83,11 @@ impl World {
         ensures sessions { HoldsHealed (λ c w u. SessionsKeepOrder c u) self.old self.new result }
         ensures rest { HoldsHealed (λ c w u. RestShows c u) self.old self.new result }
         ensures heals { HoldsHealed (λ c w u. HealsFrom c w) self.old self.new result }
+        ensures arrives { HoldsHealed ArrivesByHealing self.old self.new result }
     {
         stations_meet_in_sessions();
         stations_heal();
+        healing_brings_all();
         self.go_on()
     }
 
