@@ -1,5 +1,5 @@
 -- Healing as a whole: firings, and rounds of pulls; all arrives.
-use Rattle.std.proofs.Common.{◌≡◌, ℕ, zero, suc, ◌+◌, ◌-◌, ◌*◌, ◌≤◌, ◌<◌, Bool, true, false, List, [], ◌∷◌, ◌++◌, length, Option, Some, None, Result, Ok, Err, OnOk, refl, sym, ap, ap₂, ◌∙◌, subst, arith}
+use Rattle.std.proofs.Common.{◌≡◌, ℕ, zero, suc, ◌+◌, ◌-◌, ◌*◌, ◌≤◌, ◌<◌, Bool, true, false, List, [], ◌∷◌, ◌++◌, length, Option, Some, None, Result, Ok, Err, OnOk, refl, sym, ap, ◌∙◌, subst, arith}
 use Rattle.std.specs.Prelude.{is_none, is_some, not, option_map}
 use Rattle.x25_bits.specs.declared.role.Role.{Role}
 use Rattle.x25_bits.specs.declared.role.Role.TheVariants.{Dte, Dce}
@@ -17,7 +17,7 @@ use Rattle.x25_world.specs.declared.error.WorldError.{WorldError}
 use Rattle.x25_world.specs.laws.Claims.{ActsInOctets, AreInOctets, IsBeginning}
 use Rattle.x25_world.specs.laws.SessionClaims.{Throughout}
 use Rattle.x25_world.specs.laws.WaitClaims.{pull_at, AllWaitForUsers, HasNoneToPull, PullsLeaveNone, UnpulledWaitForUsers}
-use Rattle.x25_world.specs.Healing.{receipt, all_received, firing, next_end, arrivals, most_deliveries, deliveries, one_if, if_accepted, behind, both_tried, pull_round, most_rounds, unless_empty, pull_rounds, fire_and_pull, healing, received_by, received_in, IsDrained, Heals, HealsWhereNonePut, HealsFrom, AreReceiptsAndRequests, FreeThroughout, BothMayHeal, HaveArrived, HealsWithPuts, AllArrives, HealingBringsAll}
+use Rattle.x25_world.specs.Healing.{all_received, firing, next_end, arrivals, most_deliveries, deliveries, one_if, if_accepted, behind, both_tried, pull_round, most_rounds, unless_empty, pull_rounds, fire_and_pull, healing, received_by, received_in, IsDrained, HealsWhereNonePut, HealsFrom, AreReceiptsAndRequests, FreeThroughout, BothMayHeal, HaveArrived, HealsWithPuts, AllArrives, HealingBringsAll}
 use Rattle.x25_world.specs.code.ShownWorld.{ShownWorld}
 use Rattle.x25_world.specs.code.FitsWorld.{Gone, FitsWorld, FitsRun, Leaves}
 use Rattle.x25_world.specs.code.FitsHealing.{GoesBy}
@@ -290,8 +290,7 @@ keeps_dte cfg w = by (commands (settings_from Dce cfg) w.far (Requests PullsAll)
 both_left : PullsLeaveNone → (cfg : Cfg) (w : World) → (let u = pulled_both cfg w in is_idle u.near.link ≡ true → is_idle u.far.link ≡ true → HasNoneToPull cfg u Dte × HasNoneToPull cfg u Dce)
 both_left law cfg w idle idle_there =
     let x = after w (happens cfg w (pull_at Dte)) in
-    let same : (pulled_both cfg w).near ≡ x.near = keeps_dte cfg x in
-    (
+    let same : (pulled_both cfg w).near ≡ x.near = keeps_dte cfg x in (
       subst (λ (s : Station). s.layer.restarting ≡ false → PullsNone (layer_settings (settings_from Dte cfg)) s.layer) (sym same) (law cfg w Dte (ap (λ (s : Station). is_idle s.link) (sym same) ∙ idle)),
       law cfg x Dce idle_there,
     )

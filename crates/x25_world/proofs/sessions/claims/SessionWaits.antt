@@ -1,5 +1,5 @@
 -- Where both links are idle, and a pull at the one end changes nothing, what waits in an open stretch there waits for the user at the other end.
-use Rattle.std.proofs.Common.{◌≡◌, ℕ, ◌+◌, ◌<◌, ◌≤◌, inl, inr, List, [], ◌∷◌, ◌++◌, length, Bool, true, false, Option, Some, None, if◌then◌else◌, ◌==◌, ◌&&◌, refl, sym, ap, subst, ◌∙◌, arith, length-append}
+use Rattle.std.proofs.Common.{◌≡◌, ℕ, ◌+◌, ◌<◌, inr, List, [], ◌∷◌, ◌++◌, length, Bool, true, false, Some, None, if◌then◌else◌, ◌==◌, ◌&&◌, refl, sym, ap, subst, ◌∙◌, arith, length-append}
 use Rattle.std.proofs.lemmas.List.{length-map}
 use Rattle.std.proofs.lemmas.Bool.{eqb-true}
 use Rattle.x25_bits.specs.declared.role.Role.{Role}
@@ -16,8 +16,8 @@ use Rattle.x25_line.specs.laws.SessionClaims.{IdleHasArrived}
 use Rattle.x25_circuit.specs.Circuit.{is_open, waits}
 use Rattle.x25_handshakes.specs.Names.{Name}
 use Rattle.x25_layer.specs.declared.error.LayerError.TheVariants as error
-use Rattle.x25_layer.specs.Layer.{LayerSettings, Layer, is_channel, is_ready}
-use Rattle.x25_layer.specs.Calls.{LayerRequest, PullsAll, outcome_in, layer_outcome}
+use Rattle.x25_layer.specs.Layer.{Layer, is_channel, is_ready}
+use Rattle.x25_layer.specs.Calls.{PullsAll, outcome_in, layer_outcome}
 use Rattle.x25_layer.specs.Rounds.{LinkView, Putting, begin, rounds, Answered, Went, Refuses, went, calls}
 use Rattle.x25_layer.specs.Apart.{AlwaysApart, as_world}
 use Rattle.x25_layer.specs.Transcript.{Entry, name_of}
@@ -32,20 +32,20 @@ use Rattle.x25_station.specs.Station.{Station, all_put, view_of}
 use Rattle.x25_station.specs.Steps.{did, requests}
 use Rattle.x25_station.specs.Told.{stretch}
 use Rattle.x25_station.specs.laws.KeepLaw.{ConnectKeeps}
-use Rattle.x25_world.specs.World.{World, swapped, WorldOutcome, Happened, Declined, of_station, swapped_back, happens, after, run}
+use Rattle.x25_world.specs.World.{World, swapped, WorldOutcome, Happened, Declined, of_station, swapped_back, after, run}
 use Rattle.x25_world.specs.Sessions.{last_session, handed_in}
 use Rattle.x25_world.specs.laws.SessionClaims.{Throughout}
-use Rattle.x25_world.specs.laws.WaitClaims.{pull_at, WaitsForUser, Arrived, NotReady, MessagesWaitForUsers, ClosedKeepNone, PullsLeaveNone, UnpulledWaitForUsers}
+use Rattle.x25_world.specs.laws.WaitClaims.{WaitsForUser, Arrived, NotReady, MessagesWaitForUsers, ClosedKeepNone, PullsLeaveNone, UnpulledWaitForUsers}
 use Rattle.x25_world.specs.laws.LawsBelow.{SessionLaws}
 use Rattle.x25_world.proofs.Known.{IsConfigured, is_configured, both_true, true_false}
 use Rattle.x25_world.proofs.Growing.{spelled}
 use Rattle.x25_world.proofs.sessions.SessionTrace.{layer_of, Done, own, pair_in}
 use Rattle.x25_world.proofs.sessions.SessionReaches.{Beginning, known_sessions}
-use Rattle.x25_world.proofs.sessions.SessionJoined.{HasMet, PairIsInOrder, SessionsJoined, sessions_swapped}
+use Rattle.x25_world.proofs.sessions.SessionJoined.{PairIsInOrder, SessionsJoined, sessions_swapped}
 use Rattle.x25_world.proofs.sessions.SessionKnown.{some_map, met_in_order, pair_ends, pair_world, world_here, world_there}
 use Rattle.x25_world.proofs.sessions.SessionRuns.{throughout_joined}
 use Rattle.x25_world.proofs.sessions.acts.SessionRequests.{session_pair}
-use Rattle.x25_world.proofs.sessions.claims.SessionArrives.{stretch_of, name_if, open_if, up_where_open, StandingMeet, meet_from, latest_near, latest_far}
+use Rattle.x25_world.proofs.sessions.claims.SessionArrives.{stretch_of, name_if, open_if, meet_from, latest_near, latest_far}
 
 -- ---- a pull that changes nothing
 
