@@ -1,5 +1,5 @@
 -- The line `heal` of a script does what the schedule of healing says.
-use Rattle.std.proofs.Common.{◌≡◌, ◌∙◌, ℕ, zero, suc, Bool, List, [], ◌∷◌, ◌++◌, Option, Some, None, ap, sym, refl}
+use Rattle.std.proofs.Common.{◌≡◌, ◌∙◌, ℕ, zero, suc, Bool, List, [], ◌∷◌, ◌++◌, Option, Some, None, ap, sym, subst, refl}
 use Rattle.x25_bits.specs.declared.role.Role.{Role}
 use Rattle.x25_bits.specs.declared.role.Role.TheVariants.{Dte, Dce}
 use Rattle.x25_station.specs.declared.config.Cfg.{Cfg}
@@ -7,10 +7,11 @@ use Rattle.x25_script.specs.PlainLine.{pull}
 use Rattle.x25_console.specs.Commands.{command_asked}
 use Rattle.x25_world.specs.World.{World, Act, Commands, Fires, Event, WorldOutcome, Happened, Declined, happens, after, run}
 use Rattle.x25_world.specs.Healing as schedule
-use Rattle.x25_world.specs.Healing.{next_end, receipt, all_received, arrivals_from, arrivals, deliveries, one_if, if_accepted, firing, pull_round, pull_rounds, most_rounds, fire_and_pull, healing}
+use Rattle.x25_world.specs.Healing.{next_end, receipt, all_received, arrivals_from, arrivals, deliveries, one_if, if_accepted, firing, pull_round, pull_rounds, most_rounds, fire_and_pull, healing, ArrivesByHealing, HealingBringsAll}
+use Rattle.x25_world.specs.laws.SessionClaims.{Throughout}
 use Rattle.x25_world.specs.laws.WaitClaims.{pull_at}
 use Rattle.x25_sim.specs.Simulated.{Turn, and_then, turn_of, event_turn, delivered_to, drained, tried_of, tried, both_tried, most_times, fired, pulled, unless_empty, emptied, healed, line_turn}
-use Rattle.x25_sim.specs.laws.RunLaw.{HealIsTheSchedule}
+use Rattle.x25_sim.specs.laws.RunLaw.{HealIsTheSchedule, HealBringsAll}
 
 module _ (cfg : Cfg) (tap : Bool) where
   run_append : (xs ys : List Event) (w : World) → run cfg (xs ++ ys) w ≡ run cfg ys (run cfg xs w)
@@ -85,3 +86,8 @@ module _ (cfg : Cfg) (tap : Bool) where
 pub heal_is_the_schedule : HealIsTheSchedule
 unfolding line_turn
 heal_is_the_schedule cfg tap w = healed_next cfg tap w
+
+pub heals_throughout : Throughout HealingBringsAll → Throughout HealBringsAll
+heals_throughout brings cfg fine begin which events octets tap =
+    let w = run cfg events begin in
+    subst (ArrivesByHealing cfg w) (sym (heal_is_the_schedule cfg tap w)) (brings cfg fine begin which events octets)

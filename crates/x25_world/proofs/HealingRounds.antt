@@ -1,21 +1,28 @@
--- Healing as a whole: firings, and rounds of pulls.
-use Rattle.std.proofs.Common.{◌≡◌, ℕ, zero, suc, ◌+◌, ◌-◌, ◌*◌, ◌≤◌, ◌<◌, Bool, true, false, List, [], ◌∷◌, ◌++◌, length, Option, Some, None, Result, Ok, Err, OnOk, refl, sym, ap, subst, arith}
+-- Healing as a whole: firings, and rounds of pulls; all arrives.
+use Rattle.std.proofs.Common.{◌≡◌, ℕ, zero, suc, ◌+◌, ◌-◌, ◌*◌, ◌≤◌, ◌<◌, Bool, true, false, List, [], ◌∷◌, ◌++◌, length, Option, Some, None, Result, Ok, Err, OnOk, refl, sym, ap, ◌∙◌, subst, arith}
 use Rattle.std.specs.Prelude.{is_none, is_some, not, option_map}
 use Rattle.x25_bits.specs.declared.role.Role.{Role}
 use Rattle.x25_bits.specs.declared.role.Role.TheVariants.{Dte, Dce}
 use Rattle.x25_station.specs.declared.config.Cfg.{Cfg}
-use Rattle.x25_station.specs.Settings.{config_refusal}
-use Rattle.x25_world.specs.World.{World, WorldOutcome, Happened, Declined, Event, happens, run}
+use Rattle.x25_link.specs.Steps.{is_idle}
+use Rattle.x25_link.specs.laws.RestLaw.{IsAtRest}
+use Rattle.x25_layer.specs.Calls.{PullsAll}
+use Rattle.x25_layer.specs.laws.WaitLaw.{PullsNone}
+use Rattle.x25_station.specs.Settings.{settings_from, layer_settings, config_refusal}
+use Rattle.x25_station.specs.Command.{Requests}
+use Rattle.x25_station.specs.Station.{Station}
+use Rattle.x25_station.specs.Steps.{Outcome, Did, Refused, commands}
+use Rattle.x25_world.specs.World.{World, swapped, WorldOutcome, Happened, Declined, of_station, swapped_back, Event, happens, after, run}
 use Rattle.x25_world.specs.declared.error.WorldError.{WorldError}
 use Rattle.x25_world.specs.laws.Claims.{ActsInOctets, AreInOctets, IsBeginning}
 use Rattle.x25_world.specs.laws.SessionClaims.{Throughout}
-use Rattle.x25_world.specs.laws.WaitClaims.{pull_at}
-use Rattle.x25_world.specs.Healing.{all_received, firing, next_end, arrivals, most_deliveries, deliveries, one_if, if_accepted, behind, both_tried, pull_round, most_rounds, unless_empty, pull_rounds, fire_and_pull, healing, received_by, received_in, HealsWhereNonePut, HealsFrom}
+use Rattle.x25_world.specs.laws.WaitClaims.{pull_at, AllWaitForUsers, HasNoneToPull, PullsLeaveNone, UnpulledWaitForUsers}
+use Rattle.x25_world.specs.Healing.{all_received, firing, next_end, arrivals, most_deliveries, deliveries, one_if, if_accepted, behind, both_tried, pull_round, most_rounds, unless_empty, pull_rounds, fire_and_pull, healing, received_by, received_in, IsDrained, HealsWhereNonePut, HealsFrom, AreReceiptsAndRequests, FreeThroughout, BothMayHeal, HaveArrived, HealsWithPuts, AllArrives, HealingBringsAll}
 use Rattle.x25_world.specs.code.ShownWorld.{ShownWorld}
 use Rattle.x25_world.specs.code.FitsWorld.{Gone, FitsWorld, FitsRun, Leaves}
 use Rattle.x25_world.specs.code.FitsHealing.{GoesBy}
 use Rattle.x25_world.proofs.WorldLemmas.{leaves}
-use Rattle.x25_world.proofs.HealingSchedule.{run_append, accepted_append, count_append, Begun, goes_on, rest_is}
+use Rattle.x25_world.proofs.HealingSchedule.{run_append, accepted_append, count_append, tried_is, Begun, goes_on, rest_is}
 
 -- ---- rounds
 
@@ -196,3 +203,137 @@ heals_from law cfg fine from begins past octets may none after_all =
     subst (HealsWhereNonePut cfg) (run_append cfg past (deliveries cfg w) from)
     (law cfg fine from begins (past ++ deliveries cfg w) (octets_append past (deliveries cfg w) octets (received_octets (arrivals cfg most_deliveries w)))) in
     here may (arrivals cfg most_deliveries fired) none after_all
+
+-- ---- all arrives
+
+-- a round is deliveries and requests
+requests_append : (xs ys : List Event) → AreReceiptsAndRequests xs → AreReceiptsAndRequests ys → AreReceiptsAndRequests (xs ++ ys)
+requests_append [] ys f g = g
+requests_append (x ∷ xs) ys f g = (f.0, requests_append xs ys f.1 g)
+
+received_requests : (ends : List Role) → AreReceiptsAndRequests (all_received ends)
+received_requests [] = tt
+received_requests (at ∷ ends) = (tt, received_requests ends)
+
+pulled_requests : (cfg : Cfg) (end : Role) (w : World) → AreReceiptsAndRequests (if_accepted cfg (pull_at end) w)
+pulled_requests cfg end w = by (happens cfg w (pull_at end))
+  where
+    by : (o : WorldOutcome) → AreReceiptsAndRequests (one_if (pull_at end) o)
+    by (Happened next) = (tt, tt)
+    by (Declined x) = tt
+
+round_requests : (cfg : Cfg) (w : World) → AreReceiptsAndRequests (pull_round cfg w)
+round_requests cfg w =
+    let x = run cfg (deliveries cfg w) w in
+    let y = run cfg (if_accepted cfg (pull_at Dte) x) x in
+    requests_append (deliveries cfg w) (both_tried cfg (pull_at Dte) (pull_at Dce) x) (received_requests (arrivals cfg most_deliveries w))
+    (requests_append (if_accepted cfg (pull_at Dte) x) (if_accepted cfg (pull_at Dce) y) (pulled_requests cfg Dte x) (pulled_requests cfg Dce y))
+
+unless_requests : (rest : World → List Event) → ((w : World) → AreReceiptsAndRequests (rest w)) → (w : World) (at : Option Role) → AreReceiptsAndRequests (unless_empty rest w at)
+unless_requests rest are w None = tt
+unless_requests rest are w (Some at) = are w
+
+rounds_requests : (cfg : Cfg) (n : ℕ) (w : World) → AreReceiptsAndRequests (pull_rounds cfg n w)
+unfolding pull_rounds
+rounds_requests cfg zero w = tt
+rounds_requests cfg (suc n) w =
+    let x = run cfg (pull_round cfg w) w in
+    requests_append (pull_round cfg w) (left_behind cfg n x) (round_requests cfg w) (unless_requests (pull_rounds cfg n) (rounds_requests cfg n) x (next_end x.out x.back))
+
+-- both pulls, accepted or not
+abbrev pulled_both : Cfg → World → World
+pulled_both cfg w =
+    let x = after w (happens cfg w (pull_at Dte)) in
+    after x (happens cfg x (pull_at Dce))
+
+both_are : (cfg : Cfg) (first second : Event) (w : World) → (let x = after w (happens cfg w first) in run cfg (both_tried cfg first second w) w ≡ after x (happens cfg x second))
+both_are cfg first second w =
+    let y = run cfg (if_accepted cfg first w) w in
+    run_append cfg (if_accepted cfg first w) (if_accepted cfg second y) w ∙ tried_is cfg second y ∙ ap (λ (x : World). after x (happens cfg x second)) (tried_is cfg first w)
+
+-- a world of which the last two events tried were the pulls
+record ArePulled (cfg : Cfg) (u : World) : Type 0 where
+  from : World
+  is : u ≡ pulled_both cfg from
+
+round_pulls : (cfg : Cfg) (w : World) → ArePulled cfg (run cfg (pull_round cfg w) w)
+round_pulls cfg w =
+    let x = run cfg (deliveries cfg w) w in
+    record { from = x; is = run_append cfg (deliveries cfg w) (both_tried cfg (pull_at Dte) (pull_at Dce) x) w ∙ both_are cfg (pull_at Dte) (pull_at Dce) x }
+
+unless_pulls : (cfg : Cfg) (rest : World → List Event) → ((w : World) → ArePulled cfg w → ArePulled cfg (run cfg (rest w) w)) → (w : World) (at : Option Role) → ArePulled cfg w → ArePulled cfg (run cfg (unless_empty rest w at) w)
+unless_pulls cfg rest pulls w None are = are
+unless_pulls cfg rest pulls w (Some at) are = pulls w are
+
+rounds_pull : (cfg : Cfg) (n : ℕ) (w : World) → ArePulled cfg w → ArePulled cfg (run cfg (pull_rounds cfg n w) w)
+unfolding pull_rounds
+rounds_pull cfg zero w are = are
+rounds_pull cfg (suc n) w are =
+    let x = run cfg (pull_round cfg w) w in
+    subst (ArePulled cfg) (sym (run_append cfg (pull_round cfg w) (left_behind cfg n x) w)) (unless_pulls cfg (pull_rounds cfg n) (rounds_pull cfg n) x (next_end x.out x.back) (round_pulls cfg w))
+
+all_pull : (cfg : Cfg) (n m : ℕ) (w : World) → n ≡ suc m → ArePulled cfg (run cfg (pull_rounds cfg n w) w)
+all_pull cfg n m w is =
+    let x = run cfg (pull_round cfg w) w in
+    subst (λ (es : List Event). ArePulled cfg (run cfg es w)) (sym (round_more cfg n m w is))
+    (subst (ArePulled cfg) (sym (run_append cfg (pull_round cfg w) (left_behind cfg m x) w)) (unless_pulls cfg (pull_rounds cfg m) (rounds_pull cfg m) x (next_end x.out x.back) (round_pulls cfg w)))
+
+-- the pull of the DCE leaves the DTE as it was
+keeps_dte : (cfg : Cfg) (w : World) → (after w (happens cfg w (pull_at Dce))).near ≡ w.near
+keeps_dte cfg w = by (commands (settings_from Dce cfg) w.far (Requests PullsAll))
+  where
+    by : (o : Outcome) → (after w (swapped_back (of_station (settings_from Dce cfg) (swapped w) o))).near ≡ w.near
+    by (Did step) = refl
+    by (Refused e) = refl
+
+-- behind both pulls, where both links are idle, a pull gives none at either end
+both_left : PullsLeaveNone → (cfg : Cfg) (w : World) → (let u = pulled_both cfg w in is_idle u.near.link ≡ true → is_idle u.far.link ≡ true → HasNoneToPull cfg u Dte × HasNoneToPull cfg u Dce)
+both_left law cfg w idle idle_there =
+    let x = after w (happens cfg w (pull_at Dte)) in
+    let same : (pulled_both cfg w).near ≡ x.near = keeps_dte cfg x in (
+      subst (λ (s : Station). s.layer.restarting ≡ false → PullsNone (layer_settings (settings_from Dte cfg)) s.layer) (sym same) (law cfg w Dte (ap (λ (s : Station). is_idle s.link) (sym same) ∙ idle)),
+      law cfg x Dce idle_there,
+    )
+
+pulled_left : PullsLeaveNone → (cfg : Cfg) (u : World) → ArePulled cfg u → is_idle u.near.link ≡ true → is_idle u.far.link ≡ true → HasNoneToPull cfg u Dte × HasNoneToPull cfg u Dce
+pulled_left law cfg u are =
+    subst (λ (v : World). is_idle v.near.link ≡ true → is_idle v.far.link ≡ true → HasNoneToPull cfg v Dte × HasNoneToPull cfg v Dce) (sym are.is) (both_left law cfg are.from)
+
+module _ (law : Throughout HealsWithPuts) (left : PullsLeaveNone) (unpulled : Throughout UnpulledWaitForUsers) (cfg : Cfg) (fine : config_refusal cfg ≡ None) (from : World) (begins : IsBeginning cfg from) (past : List Event) (octets : AreInOctets past) where
+  abbrev w : World
+  w = run cfg past from
+
+  abbrev v : World
+  v = run cfg (deliveries cfg w) w
+
+  abbrev fired : World
+  fired = run cfg (firing Dte ∷ firing Dce ∷ []) v
+
+  abbrev u : World
+  u = run cfg (pull_rounds cfg most_rounds fired) fired
+
+  ends_so : run cfg (healing cfg w) w ≡ u
+  ends_so =
+      let tried = both_tried cfg (firing Dte) (firing Dce) v in
+      run_append cfg (deliveries cfg w) (fire_and_pull cfg v) w ∙ run_append cfg tried (pull_rounds cfg most_rounds (run cfg tried v)) v
+      ∙ ap (λ (x : World). run cfg (pull_rounds cfg most_rounds x) x) (both_are cfg (firing Dte) (firing Dce) v)
+
+  have_arrived : BothMayHeal cfg v → FreeThroughout cfg (pull_rounds cfg most_rounds fired) fired → IsDrained u → HaveArrived cfg v u
+  have_arrived may free drained =
+      let here : HealsWithPuts cfg v =
+      subst (HealsWithPuts cfg) (run_append cfg past (deliveries cfg w) from)
+      (law cfg fine from begins (past ++ deliveries cfg w) (octets_append past (deliveries cfg w) octets (received_octets (arrivals cfg most_deliveries w)))) in
+      here may (pull_rounds cfg most_rounds fired) (rounds_requests cfg most_rounds fired) (rounds_octets cfg most_rounds fired) free drained
+
+  wait_alone : IsAtRest u.near.link → IsAtRest u.far.link → AllWaitForUsers cfg u
+  wait_alone dte dce =
+      let none = pulled_left left cfg u (all_pull cfg most_rounds (most_rounds - 1) fired (omega arith)) dte.idle dce.idle in
+      let here : UnpulledWaitForUsers cfg u =
+      subst (UnpulledWaitForUsers cfg) (run_append cfg past (healing cfg w) from ∙ ends_so)
+      (unpulled cfg fine from begins (past ++ healing cfg w) (octets_append past (healing cfg w) octets (healing_octets cfg w))) in
+      here dte.idle dce.idle none.0 none.1
+
+  pub brings_all : HealingBringsAll cfg (run cfg past from)
+  brings_all may free drained =
+      let links = have_arrived may free (subst IsDrained ends_so drained) in
+      subst (AllArrives cfg v) (sym ends_so) (record { links = links; waits = wait_alone links.dte links.dce })

@@ -5,6 +5,7 @@ pub mod Established
 pub mod Headline
 pub mod sessions
 pub mod HealingLemmas
+pub mod HealingPuts
 pub mod HealingSchedule
 pub mod HealingRounds
 pub mod FrameOctets

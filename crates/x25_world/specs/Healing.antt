@@ -5,25 +5,29 @@ use Rattle.std.specs.Prelude.{◌≡◌, ℕ, zero, suc, ◌+◌, ◌<◌, ◌�
 use Rattle.x25_bits.specs.declared.role.Role.{Role}
 use Rattle.x25_bits.specs.declared.role.Role.TheVariants.{Dte, Dce}
 use Rattle.x25_link.specs.MustSend.{other}
-use Rattle.x25_link.specs.LinkStation.{LinkStation, is_up, awaits_ua}
+use Rattle.x25_link.specs.LinkStation.{LinkStation, is_up, is_busy, awaits_ua}
 use Rattle.x25_link.specs.Steps.{timer_runs, take_step}
 use Rattle.x25_link.specs.laws.RestLaw.{IsAtRest}
+use Rattle.x25_line.specs.Stations as line
+use Rattle.x25_line.specs.Sessions as links
 use Rattle.x25_line.specs.Sessions.{Sessions}
 use Rattle.x25_line.specs.SessionNumbers.{Standing}
 use Rattle.x25_line.specs.Healing.{EachRestShows, SessionsAreHealed, OneIsFree}
+use Rattle.x25_line.specs.HealingPuts.{AreFree, AreDeliveriesAndPuts, SessionsHaveArrived}
 use Rattle.x25_layer.specs.laws.Law.{HasAllOf}
 use Rattle.x25_layer.specs.code.FitsLayer.{waits_up_to}
 use Rattle.x25_handshakes.specs.Names.{Name}
 use Rattle.x25_station.specs.declared.config.Cfg.{Cfg}
+use Rattle.x25_station.specs.Command.{Requests}
 use Rattle.x25_station.specs.Settings.{Settings, settings_from, link_settings, layer_settings}
 use Rattle.x25_station.specs.Station.{Station, view_of}
 use Rattle.x25_station.specs.Steps.{abandons, layer_at}
 use Rattle.x25_station.specs.Told.{stretch}
-use Rattle.x25_world.specs.World.{World, WorldOutcome, Happened, Declined, Act, Event, Receives, Fires, happens, after, run, AreAccepted}
-use Rattle.x25_world.specs.laws.Claims.{link_of, station_at}
+use Rattle.x25_world.specs.World.{World, WorldOutcome, Happened, Declined, Act, Commands, Receives, Fires, Event, happens, after, run, AreAccepted}
+use Rattle.x25_world.specs.laws.Claims.{AreInOctets, link_of, station_at}
 use Rattle.x25_world.specs.SessionWindow.{IsRunOfSessions}
 use Rattle.x25_world.specs.Sessions.{last_session, handed_in}
-use Rattle.x25_world.specs.laws.WaitClaims.{pull_at}
+use Rattle.x25_world.specs.laws.WaitClaims.{pull_at, AllWaitForUsers}
 
 -- nothing is on the line
 pub record IsDrained (w : World) : Type 0 where
@@ -199,6 +203,72 @@ HealsWhereNonePut cfg w =
     MayHeal w → (ends : List Role)
     → (let fired = run cfg (firing Dte ∷ firing Dce ∷ []) w in NonePut cfg ends fired → (let u = run cfg (all_received ends) fired in IsDrained u → Heals cfg w u))
 
+-- ---- healing while the layers put packets
+
+-- the front octets come, or a user asks something of the layer
+abbrev pub IsReceiptOrRequest : Act → Type 0
+IsReceiptOrRequest Receives = Unit {0}
+IsReceiptOrRequest (Commands (Requests request)) = Unit {0}
+IsReceiptOrRequest act = ⊥
+
+-- .. at either end, in any order
+abbrev pub AreReceiptsAndRequests : List Event → Type 0
+AreReceiptsAndRequests [] = Unit {0}
+AreReceiptsAndRequests (e ∷ events) = IsReceiptOrRequest e.act × AreReceiptsAndRequests events
+
+-- as octets come to a station, neither link is busy, and no count of the station is at its most
+abbrev pub ComeFreely : Settings → Station → LinkStation → List (List ℕ) → Type 0
+ComeFreely c s far [] = Unit {0}
+ComeFreely c s far (octets ∷ back) = (abandons c s ≡ false) × AreFree s.link far
+
+abbrev pub ActsFreely : Settings → Station → LinkStation → List (List ℕ) → Act → Type 0
+ActsFreely c s far back Receives = ComeFreely c s far back
+ActsFreely c s far back act = Unit {0}
+
+abbrev pub FreeAt : Cfg → Role → Act → World → Type 0
+FreeAt cfg Dte act w = ActsFreely (settings_from Dte cfg) w.near w.far.link w.back act
+FreeAt cfg Dce act w = ActsFreely (settings_from Dce cfg) w.far w.near.link w.out act
+
+-- at each delivery of a run, and neither link is busy at its end
+abbrev pub FreeThroughout : Cfg → List Event → World → Type 0
+FreeThroughout cfg [] w = AreFree w.near.link w.far.link
+FreeThroughout cfg (e ∷ events) w = FreeAt cfg e.at e.act w × FreeThroughout cfg events (after w (happens cfg w e))
+
+-- a link is up, and isn't busy. Where its timer T1 runs, it has tries left.
+pub record LinkMayHeal (cfg : Cfg) (s : LinkStation) : Type 0 where
+  pub up : is_up s.phase ≡ true
+  pub free : is_busy s ≡ false
+  pub tries : HasTries cfg s
+
+-- a moment in which nothing is on the line, and both links are so
+pub record BothMayHeal (cfg : Cfg) (w : World) : Type 0 where
+  pub drained : IsDrained w
+  pub near : LinkMayHeal cfg w.near.link
+  pub far : LinkMayHeal cfg w.far.link
+
+-- Both links are at rest, in the same sessions as before, and all that they were handed down in these, then and since, has been handed up at the other
+-- end: two links behind the first world have gone on to two behind the second.
+pub record HaveArrived (cfg : Cfg) (w u : World) : Type 0 where
+  pub dte : IsAtRest u.near.link
+  pub dce : IsAtRest u.far.link
+  pub before : Sessions
+  pub behind : Sessions
+  pub before_are : AreLinksOf cfg w before
+  pub behind_are : AreLinksOf cfg u behind
+  pub asked : List line.Event
+  pub are : AreDeliveriesAndPuts asked
+  pub goes : links.run (link_of cfg Dte) (link_of cfg Dce) (line.Near line.T1 ∷ line.Far line.T1 ∷ asked) before ≡ behind
+  pub arrived : SessionsHaveArrived before behind
+
+-- From such a moment timer T1 runs out at each end where it runs. Then what is on the line comes, and users ask of the layers, in any order, until
+-- nothing is on the line. What is refused changes nothing.
+abbrev pub HealsWithPuts : Cfg → World → Type 0
+HealsWithPuts cfg w =
+    BothMayHeal cfg w → (events : List Event) → AreReceiptsAndRequests events → AreInOctets events
+    → (let fired = run cfg (firing Dte ∷ firing Dce ∷ []) w in FreeThroughout cfg events fired → (let u = run cfg events fired in IsDrained u → HaveArrived cfg w u))
+
+-- ---- deliveries come to an end
+
 -- The world bounds how many deliveries follow one another, whatever their order, while the layers put nothing.
 abbrev pub DrainsWhereNonePut : Cfg → World → Type 0
 DrainsWhereNonePut cfg w = (most : ℕ) × ((ends : List Role) → NonePut cfg ends w → AreAccepted cfg (all_received ends) w → length ends ≤ most)
@@ -211,3 +281,19 @@ HealsFrom cfg w =
     let fired = run cfg (firing Dte ∷ firing Dce ∷ []) v in
     let u = run cfg (deliveries cfg fired) fired in
     MayHeal v → NonePut cfg (arrivals cfg most_deliveries fired) fired → IsDrained u → Heals cfg v u
+
+-- .. and to the one behind it: all that the links were handed down has arrived, and what still waits in circuits waits for users who aren't ready
+pub record AllArrives (cfg : Cfg) (w u : World) : Type 0 where
+  pub links : HaveArrived cfg w u
+  pub waits : AllWaitForUsers cfg u
+
+-- .. where both links are up in that moment, neither is busy then nor as octets come behind the firings, no count is at its most there, and the rounds have
+-- left nothing on the line
+abbrev pub ArrivesByHealing : Cfg → World → World → Type 0
+ArrivesByHealing cfg w u =
+    let v = run cfg (deliveries cfg w) w in
+    let fired = run cfg (firing Dte ∷ firing Dce ∷ []) v in
+    BothMayHeal cfg v → FreeThroughout cfg (pull_rounds cfg most_rounds fired) fired → IsDrained u → AllArrives cfg v u
+
+abbrev pub HealingBringsAll : Cfg → World → Type 0
+HealingBringsAll cfg w = ArrivesByHealing cfg w (run cfg (healing cfg w) w)

@@ -7,14 +7,14 @@ ghost use Rattle.x25_world.specs.World.{event_of};
 ghost use Rattle.x25_world.specs.code.FitsWorld.{Gone, FitsWorld};
 ghost use Rattle.x25_world.specs.code.FitsHealing.{GoesBy, GoesPartly, HoldsHealed};
 ghost use Rattle.x25_world.specs.laws.SessionClaims.{Throughout, SessionsKeepOrder};
-ghost use Rattle.x25_world.specs.Healing.{RestShows, HealsWhereNonePut, DrainsWhereNonePut, HealsFrom, next_end, arrivals, most_deliveries, deliveries, if_accepted, both_tried, pull_round, most_rounds, pull_rounds, healing, received_in};
+ghost use Rattle.x25_world.specs.Healing.{RestShows, HealsWhereNonePut, HealsWithPuts, DrainsWhereNonePut, HealsFrom, ArrivesByHealing, HealingBringsAll, next_end, arrivals, most_deliveries, deliveries, if_accepted, both_tried, pull_round, most_rounds, pull_rounds, healing, received_in};
 
 use crate::error::WorldError;
 use crate::event::Event;
-use crate::law::{laws_below, stations_meet_in_sessions};
+use crate::law::{laws_below, messages_wait_for_users, stations_meet_in_sessions};
 use crate::world::World;
 use x25_bits::Role;
-use x25_line::{Direction, drains_end, one_busy_heals, rest_shows};
+use x25_line::{Direction, drains_end, one_busy_heals, puts_heal, rest_shows};
 use x25_station::Cmd;
 
 /// How many deliveries follow one another at most.
@@ -31,19 +31,40 @@ const MOST_ROUNDS: u32 = 4_294_967_295;
 /// - `heals`: from a moment in which nothing is on the line, no link is being set up and not both ends are busy, timer T1 runs out at each end where it
 ///   runs, and then all that is on the line comes, in any order of the two directions, while the layers put nothing. Each link is at rest then, or isn't up;
 ///   and if both were up, with tries left where T1 ran, both are at rest, and all that they were handed down has been handed up.
+/// - `heals_with_puts`: from a moment in which nothing is on the line, both links are up, neither is busy, and tries are left where timer T1 runs, it runs
+///   out at each end where it runs. Then what is on the line comes, and users ask of the layers what they like, in any order, while the layers put what
+///   they put; where octets come neither link is busy and no count of that station is at its most, and neither is busy at the end. Once nothing is on the
+///   line both links are at rest, in the same sessions as before, and all that they were handed down in these, what was put since included, has been handed
+///   up.
 /// - `drains`: the world bounds how many deliveries follow one another, while the layers put nothing.
 ///
 /// Premises: k is 1 to 7, N2 1 to 255, channels 1 to 16, and the users hand down octets.
 pub fn stations_heal()
     ensures rest { Throughout RestShows }
     ensures heals { Throughout HealsWhereNonePut }
+    ensures heals_with_puts { Throughout HealsWithPuts }
     ensures drains { Throughout DrainsWhereNonePut }
 {
     laws_below();
     stations_meet_in_sessions();
     rest_shows();
     one_busy_heals();
+    puts_heal();
     drains_end();
+}
+
+/// Two stations over such a line, after each list of events, by the schedule of `World::heal`: where, once all that was on the line has come, both links
+/// are up, neither is busy, and tries are left where timer T1 runs; where neither is busy as octets come behind the firings, and no count of that station is
+/// at its most; and where the rounds leave nothing on the line: both links are at rest, all that they were handed down in their sessions has been handed
+/// up, and each stretch that is open at an end is open at the other one too, where either all of its messages and interrupts arrived, or the user isn't
+/// ready.
+///
+/// Premises: k is 1 to 7, N2 1 to 255, channels 1 to 16, and the users hand down octets.
+pub fn healing_brings_all()
+    ensures { Throughout HealingBringsAll }
+{
+    stations_heal();
+    messages_wait_for_users();
 }
 
 impl World {
@@ -62,9 +83,11 @@ impl World {
         ensures sessions { HoldsHealed (λ c w u. SessionsKeepOrder c u) self.old self.new result }
         ensures rest { HoldsHealed (λ c w u. RestShows c u) self.old self.new result }
         ensures heals { HoldsHealed (λ c w u. HealsFrom c w) self.old self.new result }
+        ensures arrives { HoldsHealed ArrivesByHealing self.old self.new result }
     {
         stations_meet_in_sessions();
         stations_heal();
+        healing_brings_all();
         self.go_on()
     }
 

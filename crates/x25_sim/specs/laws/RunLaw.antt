@@ -5,7 +5,7 @@ use Rattle.x25_station.specs.Settings.{config_refusal}
 use Rattle.x25_script.specs.PlainLine.{connect, PlainLine, command, heal}
 use Rattle.x25_io.specs.Lines.{lines_of}
 use Rattle.x25_world.specs.World.{World, OnTap, AtEnd, Event, AreAccepted, run, start, established}
-use Rattle.x25_world.specs.Healing.{healing}
+use Rattle.x25_world.specs.Healing.{healing, ArrivesByHealing}
 use Rattle.x25_world.specs.laws.Claims.{AreInOctets, IsUpOnce, IsUpAtMostOnce, NoneConnects}
 use Rattle.x25_sim.specs.Sayings.{Saying, enters, taps, reads_nothing, refuses}
 use Rattle.x25_sim.specs.Simulated.{asked_in, line_turn, simulated}
@@ -84,3 +84,7 @@ OfAllScripts Holds = (cfg : Cfg) → config_refusal cfg ≡ None → (down tap :
 -- a line `heal` leads to where the schedule of healing leads
 abbrev pub HealIsTheSchedule : Type 0
 HealIsTheSchedule = (cfg : Cfg) (tap : Bool) (w : World) → (line_turn cfg tap heal w).next ≡ run cfg (healing cfg w) w
+
+-- .. and brings about what that does
+abbrev pub HealBringsAll : Cfg → World → Type 0
+HealBringsAll cfg w = (tap : Bool) → ArrivesByHealing cfg w (line_turn cfg tap heal w).next
