@@ -74,9 +74,10 @@ impl Stage {
     ghost use Rattle.x25_station.specs.declared.config.Cfg.{Cfg as Settings};
     ghost use Rattle.x25_world.specs.World.{World as State, Commands, WorldOutcome, event_of, refusal_of};
     ghost use Rattle.x25_world.specs.code.FitsWorld.{all_of};
+    ghost use Rattle.x25_world.specs.Healing.{next_end};
     ghost use Rattle.x25_sim.specs.Sayings.{sayings_text};
     ghost use Rattle.x25_console.specs.Commands.{command_asked};
-    ghost use Rattle.x25_sim.specs.Simulated.{and_then, asked_turn, drained, emptied, event_turn, fired, healed, line_turn, most_times, next_end, opened, pulled, step_told, told_between, tried, turn_of};
+    ghost use Rattle.x25_sim.specs.Simulated.{and_then, asked_turn, drained, emptied, event_turn, fired, healed, line_turn, most_times, opened, pulled, step_told, told_between, tried, turn_of};
     ghost use Rattle.x25_sim.specs.code.Stands.{IsOpening, Stands, Stood, Turns};
 
     /// The first world, of which nothing was told.
