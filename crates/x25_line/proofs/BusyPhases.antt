@@ -15,11 +15,12 @@ use Rattle.x25_link.specs.laws.BusyLaw.{Says, BusyLaws}
 use Rattle.x25_line.specs.Stations.{StationEnd, Stations, Deliver, after_step, delivered, acts, swapped}
 use Rattle.x25_line.specs.laws.StationClaims.{AreJoined}
 use Rattle.x25_line.specs.Healing.{OneIsFree}
+use Rattle.x25_line.specs.laws.LawsBelow.{HealingLaws}
 use Rattle.x25_line.proofs.Kept.{resolved_is}
 use Rattle.x25_line.proofs.StationSteps.{not_both}
 use Rattle.x25_line.proofs.StationRuns.{joined_swapped}
 use Rattle.x25_line.proofs.HealingLines.{Reads, FrontReads, front_reads, none_reads, LastTells, Reports, next_tells, tells_behind, reports_more, reports_new, reports_heard}
-use Rattle.x25_line.proofs.HealingSteps.{HealingLaws, Sound, sound_swapped, counted, number_of, IsNumbered, HearsWell, hears_well, Delivered, delivers}
+use Rattle.x25_line.proofs.HealingSteps.{Sound, sound_swapped, counted, number_of, IsNumbered, HearsWell, hears_well, Delivered, delivers}
 use Rattle.x25_line.proofs.HealingPhases.{up_is, confirms_next}
 use Rattle.x25_line.proofs.BusyLines.{Onward, onward_low, onward_more, next_onward, Gentle, gentle_onward, gentle_more, held_gentle, silent_stays, none_behind, AtMostAsks, hears_busy, hears_more, tells_free, Told, told_on, told_first}
 

@@ -15,10 +15,11 @@ use Rattle.x25_link.proofs.EndLemmas.{busy_is}
 use Rattle.x25_line.specs.Stations.{StationEnd, Stations, Act, Put, Deliver, T1, Connect, Disconnect, Abandon, Lose, Damage, Event, Near, Far, acts, swapped, happens, run, start}
 use Rattle.x25_line.specs.laws.StationClaims.{AreJoined, IsSetUpOnce}
 use Rattle.x25_line.specs.Healing.{IsDrained, IsDeliver, AreDeliveries, IsHealed, HasTries, OneIsFree, OneBusyHeals, SomeBusyHeal, HealsUnlessBothBusy}
+use Rattle.x25_line.specs.laws.LawsBelow.{HealingLaws}
 use Rattle.x25_line.proofs.StationSteps.{not_both}
 use Rattle.x25_line.proofs.StationRuns.{joined_swapped}
 use Rattle.x25_line.proofs.HealingLines.{Reads, reads_none, Reports}
-use Rattle.x25_line.proofs.HealingSteps.{HealingLaws, Sound, sound_swapped, near_up, counted}
+use Rattle.x25_line.proofs.HealingSteps.{Sound, sound_swapped, near_up, counted}
 use Rattle.x25_line.proofs.HealingRuns.{reached_sound, arrives, shows_at_rest, refused, SentPoll, sends_poll}
 use Rattle.x25_line.proofs.HealingEnds.{after_firings, quiet_ends}
 use Rattle.x25_line.proofs.DrainRuns.{some_drain}

@@ -20,10 +20,10 @@ use Rattle.x25_link.specs.laws.LinkLaws.{ended_lists}
 use Rattle.x25_line.specs.Stations.{StationEnd, Stations, Act, Put, Deliver, T1, Connect, Disconnect, Abandon, Lose, Damage, Event, Near, Far, after_step, unless, delivered, is_visible, replaced, acts, swapped, happens, run, start}
 use Rattle.x25_line.specs.laws.StationClaims.{AreJoined}
 use Rattle.x25_line.specs.Healing.{IsDrained, IsDeliver, AreDeliveries, EachFinds, DrainsEnd, SomeDrain}
+use Rattle.x25_line.specs.laws.LawsBelow.{HealingLaws}
 use Rattle.x25_line.proofs.StationSends.{AllWithin, within_push}
 use Rattle.x25_line.proofs.StationRuns.{joined_swapped}
 use Rattle.x25_line.proofs.StationEvents.{each_hands_one}
-use Rattle.x25_line.proofs.HealingSteps.{HealingLaws}
 use Rattle.x25_line.proofs.HealingRuns.{BothSaid, said_run, fresh_said}
 use Rattle.x25_line.proofs.DrainWeights.{more_if, times, times_more, seven_times, read_weight, weights, to_take, station_weight, AreSpelled}
 use Rattle.x25_line.proofs.DrainSteps.{changes, asks_in, read_weight_some, GoesOn, Changes, Took, took}

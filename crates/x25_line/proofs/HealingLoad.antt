@@ -11,10 +11,11 @@ use Rattle.x25_link.specs.laws.AnswerLaw.{says, AreNext, weight_of, weight_if, O
 use Rattle.x25_line.specs.Stations.{Stations, Act, Put, Deliver, T1, Connect, Disconnect, Abandon, Lose, Damage, Event, Near, Far, acts, swapped, run, start}
 use Rattle.x25_line.specs.laws.StationClaims.{AreJoined}
 use Rattle.x25_line.specs.Healing.{IsDrained, IsDeliver, AreDeliveries, frame_load, line_load, to_send, load, EachFinds, DeliveriesEnd, SomeHeal}
+use Rattle.x25_line.specs.laws.LawsBelow.{HealingLaws}
 use Rattle.x25_line.proofs.StationSteps.{not_both}
 use Rattle.x25_line.proofs.StationRuns.{joined_swapped}
 use Rattle.x25_line.proofs.HealingLines.{Reads, front_reads, none_reads, Ahead, Mild}
-use Rattle.x25_line.proofs.HealingSteps.{HealingLaws, near_up, hears_well, Delivered, delivers}
+use Rattle.x25_line.proofs.HealingSteps.{near_up, hears_well, Delivered, delivers}
 use Rattle.x25_line.proofs.HealingPhases.{Both, Heals, up_is}
 use Rattle.x25_line.proofs.HealingRuns.{reached_sound}
 use Rattle.x25_line.proofs.HealingBoth.{HealsBoth, both_near, both_far, both_run, both_settle, fired_both}

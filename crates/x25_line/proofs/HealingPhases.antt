@@ -15,11 +15,12 @@ use Rattle.x25_link.specs.laws.RestLaw.{HasSaidAll, IsAtRest}
 use Rattle.x25_link.specs.laws.AnswerLaw.{says, AreNext, Outcome, heard, heard_tries, goes_on_from, confirms, once_taken, busy_after, passed_over}
 use Rattle.x25_line.specs.Stations.{StationEnd, Stations, Deliver, delivered, acts, swapped}
 use Rattle.x25_line.specs.laws.StationClaims.{AreJoined}
+use Rattle.x25_line.specs.laws.LawsBelow.{HealingLaws}
 use Rattle.x25_line.proofs.Kept.{resolved_is}
 use Rattle.x25_line.proofs.StationSteps.{not_both}
 use Rattle.x25_line.proofs.StationRuns.{joined_swapped}
 use Rattle.x25_line.proofs.HealingLines.{Reads, front_reads, none_reads, Ahead, ahead_low, ahead_more, next_ahead, Mild, mild_ahead, mild_more, held_mild, IsNoFinal, NoFinal, LastTells, Reports, next_tells, tells_behind, reports_more, reports_new, reports_heard}
-use Rattle.x25_line.proofs.HealingSteps.{HealingLaws, Sound, sound_swapped, near_up, far_up, counted, HearsWell, hears_well, Delivered, delivers}
+use Rattle.x25_line.proofs.HealingSteps.{Sound, sound_swapped, near_up, far_up, counted, HearsWell, hears_well, Delivered, delivers}
 
 -- both ends are Up and not busy; the far end has at most so many tries, and is at rest where it was
 pub record Both (c d : Settings) (most : ℕ) (Was : Type 0) (w : Stations) : Type 0 where

@@ -18,11 +18,12 @@ use Rattle.x25_line.specs.Stations.{StationEnd, Stations, Put, Deliver, T1, Conn
 use Rattle.x25_line.specs.laws.StationClaims.{AreJoined, AreWhole}
 use Rattle.x25_line.specs.WholeNumbers.{machine_acts}
 use Rattle.x25_line.specs.HealingPuts.{AreDeliveriesAndPuts, AreFree, FreeThroughout, PutsHeal}
+use Rattle.x25_line.specs.laws.LawsBelow.{HealingLaws}
 use Rattle.x25_line.proofs.StationSteps.{not_both}
 use Rattle.x25_line.proofs.StationRuns.{machine_joint, joined_swapped}
 use Rattle.x25_line.proofs.StationEvents.{each_hands_one}
 use Rattle.x25_line.proofs.HealingLines.{Reads, reads_more, whole_behind, Ahead, ahead_more, next_ahead, Mild, mild_more, held_mild, no_final_more, next_no_final, LastTells, next_tells, tells_behind, Reports, reports_more}
-use Rattle.x25_line.proofs.HealingSteps.{HealingLaws, Sound, sound_swapped, near_up}
+use Rattle.x25_line.proofs.HealingSteps.{Sound, sound_swapped, near_up}
 use Rattle.x25_line.proofs.HealingPhases.{Both, Heals}
 use Rattle.x25_line.proofs.HealingRuns.{reached_sound, said_act}
 use Rattle.x25_line.proofs.HealingBoth.{HealsBoth, both_near, both_far, both_settle, fired_both}
@@ -140,7 +141,7 @@ module _ (c d : Settings) (joined : AreJoined c d) (reads : ReadsSpelled) (laws 
           let one = each_hands_one c d (Near (Put packet)) w in
           record {
             line = machine_acts c (Put packet) w h.line;
-            joint = machine_joint (Unit {0}) c d joined reads laws.laws (Put packet) w h.line (λ _. one.came_up ∙ h.joint.near_notes.once) (λ _. tt) h.joint;
+            joint = machine_joint (Unit {0}) c d joined reads laws.sessions.laws (Put packet) w h.line (λ _. one.came_up ∙ h.joint.near_notes.once) (λ _. tt) h.joint;
             near_said = said_act laws c joined.near_high (Put packet) w h.near_said;
             far_said = subst (λ (e : StationEnd). HasSaidAll d.window e.station) (sym one.far) h.far_said;
           }

@@ -20,11 +20,12 @@ use Rattle.x25_line.specs.Stations.{StationEnd, Stations, Act, Put, Deliver, T1,
 use Rattle.x25_line.specs.laws.StationClaims.{AreJoined, IsSetUpOnce, AreWhole}
 use Rattle.x25_line.specs.WholeNumbers.{machine_acts, machine_run, machine_at_start}
 use Rattle.x25_line.specs.Healing.{IsDrained, IsDeliver, IsDelivery, AreDeliveries, HasArrived, ShowsAtRest, MayHeal, OneHeals}
+use Rattle.x25_line.specs.laws.LawsBelow.{HealingLaws}
 use Rattle.x25_line.proofs.StationRuns.{machine_joint, run_once, start_machine}
 use Rattle.x25_line.proofs.StationClaimLemmas.{holds_order, holds_lists}
 use Rattle.x25_line.proofs.StationEvents.{each_hands_one}
 use Rattle.x25_line.proofs.HealingLines.{Reads, reads_more, whole_behind, reads_none, Ahead, Reports}
-use Rattle.x25_line.proofs.HealingSteps.{HealingLaws, Sound, near_up}
+use Rattle.x25_line.proofs.HealingSteps.{Sound, near_up}
 use Rattle.x25_line.proofs.HealingPhases.{Heals, up_is, rest_has_all, near_heals, far_heals}
 
 -- ---- each end has said all that it may, after each event
@@ -86,7 +87,7 @@ module _ (laws : HealingLaws) where
       let said = said_run c d joined events start (fresh_said c.window, fresh_said d.window) in
       record {
         line = machine_run c d events start (machine_at_start c d);
-        joint = run_once c d joined reads laws.laws events start (machine_at_start c d) (start_machine (Unit {0}) c d joined) once;
+        joint = run_once c d joined reads laws.sessions.laws events start (machine_at_start c d) (start_machine (Unit {0}) c d joined) once;
         near_said = said.0;
         far_said = said.1;
       }
@@ -132,7 +133,7 @@ module _ (c d : Settings) (joined : AreJoined c d) (reads : ReadsSpelled) (laws 
       let one = each_hands_one c d (Near T1) w in
       record {
         line = machine_acts c T1 w h.line;
-        joint = machine_joint (Unit {0}) c d joined reads laws.laws T1 w h.line (λ _. one.came_up ∙ h.joint.near_notes.once) (λ _. tt) h.joint;
+        joint = machine_joint (Unit {0}) c d joined reads laws.sessions.laws T1 w h.line (λ _. one.came_up ∙ h.joint.near_notes.once) (λ _. tt) h.joint;
         near_said = said_act laws c joined.near_high T1 w h.near_said;
         far_said = subst (λ (e : StationEnd). HasSaidAll d.window e.station) (sym one.far) h.far_said;
       }
@@ -183,7 +184,7 @@ module _ (c d : Settings) (joined : AreJoined c d) (reads : ReadsSpelled) (laws 
       sound : Sound c d (after_step c w w.back [] step)
       sound = subst (Sound c d) is (record {
         line = machine_acts c T1 w h.line;
-        joint = machine_joint (Unit {0}) c d joined reads laws.laws T1 w h.line (λ _. once) (λ _. tt) h.joint;
+        joint = machine_joint (Unit {0}) c d joined reads laws.sessions.laws T1 w h.line (λ _. once) (λ _. tt) h.joint;
         near_said = subst (λ (z : Stations). HasSaidAll c.window z.near.station) (sym is) (laws.rest.timer c s joined.near_high h.near_said.low);
         far_said = subst (λ (z : Stations). HasSaidAll d.window z.far.station) (sym is) h.far_said;
       })
@@ -378,7 +379,7 @@ module _ (c d : Settings) (joined : AreJoined c d) (reads : ReadsSpelled) (laws 
       let step : Step = timer_step c s in
       let u = near_up c d w h up in
       let over : nat_lt s.tries c.retries ≡ false = le-ltb _ _ none in
-      let follows = subst (λ (b : Bool). Follows (if b then None else Some Retries) c.window nothing s step) over (laws.laws.window.timer c s (record { up = up; sound = u.sound })) in
+      let follows = subst (λ (b : Bool). Follows (if b then None else Some Retries) c.window nothing s step) over (laws.sessions.laws.window.timer c s (record { up = up; sound = u.sound })) in
       let v : Stations = after_step c w w.back [] step in
       let is : acts c T1 w ≡ v = fires_is w running in
       let out : v.out ≡ [] = ap (λ (fs : List PlainFrame). w.out ++ map (spelling_of c.role) fs) follows.frames ∙ ap (λ (os : List (List ℕ)). os ++ []) drained.out in

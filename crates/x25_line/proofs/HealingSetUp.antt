@@ -21,10 +21,10 @@ use Rattle.x25_link.proofs.EndLemmas.{none_open, not_open, pumped_stays}
 use Rattle.x25_line.specs.Stations.{StationEnd, Stations, Act, Put, Deliver, T1, Connect, Disconnect, Abandon, Lose, Damage, Event, Near, Far, after_step, delivered, acts, swapped, run}
 use Rattle.x25_line.specs.laws.StationClaims.{AreJoined}
 use Rattle.x25_line.specs.Healing.{IsDrained, IsDeliver, AreDeliveries, IsAtRestOrOut}
+use Rattle.x25_line.specs.laws.LawsBelow.{HealingLaws}
 use Rattle.x25_line.proofs.StationSteps.{not_both}
 use Rattle.x25_line.proofs.StationRuns.{joined_swapped}
 use Rattle.x25_line.proofs.HealingLines.{Reads, FrontReads, front_reads, none_reads, reads_none}
-use Rattle.x25_line.proofs.HealingSteps.{HealingLaws}
 use Rattle.x25_line.proofs.StationAway.{up_takes_part}
 
 -- ---- a station that has nothing to send
@@ -291,7 +291,7 @@ module _ (c d : Settings) (joined : AreJoined c d) (reads : ReadsSpelled) (laws 
       let poll = says busy true n true in
       let r = front_reads (other c.role) c.longest w.back poll gs back in
       let step : Step = take_step c r.octets s in
-      let a = laws.laws.set_up.waits c r.octets s waits (Ok poll) (sym r.reads) in
+      let a = laws.sessions.laws.set_up.waits c r.octets s waits (Ok poll) (sym r.reads) in
       let v : Stations = after_step c w r.others [] step in
       let same : acts c Deliver w ≡ v = ap (λ (os : List (List ℕ)). delivered c os w) r.is in
       let silent : step.side.out ≡ [] = a.out ∙ poll_unanswered busy n in
@@ -355,7 +355,7 @@ module _ (c d : Settings) (joined : AreJoined c d) (reads : ReadsSpelled) (laws 
       same = ap (λ (os : List (List ℕ)). delivered c os w) r.is
 
       a : Is fresh (ua true ∷ []) (reset_from s.phase) true step
-      a = laws.laws.set_up.sets_up c r.octets s (up_takes_part s.phase h.far) true r.reads
+      a = laws.sessions.laws.set_up.sets_up c r.octets s (up_takes_part s.phase h.far) true r.reads
 
       blank : IsBlank step.side.near
       blank = subst IsBlank (sym a.near) fresh_blank

@@ -24,13 +24,14 @@ use Rattle.x25_line.specs.SessionNumbers.{Standing}
 use Rattle.x25_line.specs.laws.SessionClaims.{octets_of, IdleHasArrived}
 use Rattle.x25_line.specs.Healing.{IsDrained, IsDeliver, AreDeliveries, MayHeal, SessionMayHeal, SessionsAreHealed, SessionsHeal}
 use Rattle.x25_line.specs.HealingPuts.{IsDeliverOrPut, IsDeliveryOrPut, AreDeliveriesAndPuts, FreeAt, FreeThroughout, SessionsFreeThroughout, SessionsHaveArrived}
+use Rattle.x25_line.specs.laws.LawsBelow.{HealingLaws}
 use Rattle.x25_line.proofs.StationSteps.{FitsEnd, MayBeAway, NotesOnce, Joint, not_both}
 use Rattle.x25_line.proofs.StationAway.{first_false, second_false}
 use Rattle.x25_line.proofs.sessions.SessionLines.{octets_append, octets_sent}
 use Rattle.x25_line.proofs.sessions.SessionHeld.{View, Live, Soon, Gone, IsView, IsHeard, Held}
-use Rattle.x25_line.proofs.sessions.SessionRuns.{SessionLaws, throughout}
+use Rattle.x25_line.proofs.sessions.SessionRuns.{throughout}
 use Rattle.x25_line.proofs.sessions.SessionLatest.{idle_has_arrived}
-use Rattle.x25_line.proofs.HealingSteps.{HealingLaws, Sound}
+use Rattle.x25_line.proofs.HealingSteps.{Sound}
 use Rattle.x25_line.proofs.HealingBoth.{HealsBoth, both_run, both_settle, fired_both}
 use Rattle.x25_line.proofs.HealingEnds.{after_firings}
 use Rattle.x25_line.proofs.HealingSessions.{said_from}
@@ -330,14 +331,11 @@ module _ (reads : ReadsSpelled) (laws : HealingLaws) where
       u : Sessions
       u = run c d es (fired c d w)
 
-      rests_on : SessionLaws
-      rests_on = record { laws = laws.laws; continues = laws.continues }
-
       stand : Standing
-      stand = (throughout reads rests_on c d joined begin is events timely).0
+      stand = (throughout reads laws.sessions c d joined begin is events timely).0
 
       held : Held stand c d w
-      held = (throughout reads rests_on c d joined begin is events timely).1
+      held = (throughout reads laws.sessions c d joined begin is events timely).1
 
       near_in : InIt (other c.role) c.longest w.near held.alone.near.station stand.near w.back held.alone.back
       near_in = in_it held.near_view (other c.role) c.longest w.near held.alone.near.station stand.near stand.far w.back held.alone.back held.near held.back near_on
@@ -395,7 +393,7 @@ module _ (reads : ReadsSpelled) (laws : HealingLaws) where
       arrived : IdleHasArrived c d u
       arrived =
           subst (IdleHasArrived c d) (run_append c d events more begin)
-          (idle_has_arrived reads rests_on c d joined begin is (events ++ more) (timely_append c d events more begin timely timely_more))
+          (idle_has_arrived reads laws.sessions c d joined begin is (events ++ more) (timely_append c d events more begin timely timely_more))
 
   -- where deliveries alone come behind the firings
   pub sessions_rest : (c d : Settings) → AreJoined c d → (begin : Sessions) → (begin ≡ from_nothing) ⊎ (begin ≡ from_set_up) → (events : List Event) → AreTimely c d events begin

@@ -10,31 +10,24 @@ use Rattle.x25_frame.specs.declared.error.FrameError.{FrameError}
 use Rattle.x25_window.specs.Modulo.{resolved}
 use Rattle.x25_window.specs.Window.{Frame}
 use Rattle.x25_link.specs.declared.phase.Notes.{Notes}
-use Rattle.x25_link.specs.laws.NoteLaw.{TakeContinues}
 use Rattle.x25_link.specs.LinkStation.{Settings, LinkStation, is_up, is_busy}
 use Rattle.x25_link.specs.MustSend.{Step, other, is_valid}
 use Rattle.x25_link.specs.Steps.{take_step}
 use Rattle.x25_link.specs.WindowMachine.{Window, Shows, ShowAll}
-use Rattle.x25_link.specs.laws.RestLaw.{HasSaidAll, RestLaws}
-use Rattle.x25_link.specs.laws.AnswerLaw.{AreNext, weight_of, weight_if, Outcome, Answers, AnswerLaws, heard}
+use Rattle.x25_link.specs.laws.RestLaw.{HasSaidAll}
+use Rattle.x25_link.specs.laws.AnswerLaw.{AreNext, weight_of, weight_if, Outcome, Answers, heard}
 use Rattle.x25_line.specs.Line.{Line, swapped as line_swapped}
 use Rattle.x25_line.specs.Stations.{Stations, Deliver, after_step, delivered, acts, swapped}
 use Rattle.x25_line.specs.laws.StationClaims.{AreJoined, number_in, numbered_on, AreWhole}
 use Rattle.x25_line.specs.WholeNumbers.{machine_acts}
+use Rattle.x25_line.specs.laws.LawsBelow.{HealingLaws}
 use Rattle.x25_line.proofs.Kept.{Way, hears_valid, Way-acked}
 use Rattle.x25_line.proofs.Frames.{Acks-le}
 use Rattle.x25_line.proofs.StationLines.{front_of, consed}
 use Rattle.x25_line.proofs.StationSteps.{AsUp, Joint}
-use Rattle.x25_line.proofs.StationRuns.{Laws, machine_joint, joint_swapped}
+use Rattle.x25_line.proofs.StationRuns.{machine_joint, joint_swapped}
 use Rattle.x25_line.proofs.StationClaimLemmas.{up_of}
 use Rattle.x25_line.proofs.HealingLines.{Reads, reads_more, whole_behind, FrontReads}
-
--- the laws of a station that healing rests on
-pub record HealingLaws : Type 0 where
-  pub laws : Laws
-  pub continues : TakeContinues
-  pub rest : RestLaws
-  pub answers : AnswerLaws
 
 -- the machine is behind, and both ends have said all that they may
 pub record Sound (c d : Settings) (w : Stations) : Type 0 where
@@ -170,7 +163,7 @@ module _ (c d : Settings) (joined : AreJoined c d) (reads : ReadsSpelled) (laws 
   sound_after w h once (o ∷ os) is =
       record {
         line = machine_acts c Deliver w h.line;
-        joint = machine_joint (Unit {0}) c d joined reads laws.laws Deliver w h.line (λ _. once) (λ _. tt) h.joint;
+        joint = machine_joint (Unit {0}) c d joined reads laws.sessions.laws Deliver w h.line (λ _. once) (λ _. tt) h.joint;
         near_said = subst (λ (bs : List (List ℕ)). HasSaidAll c.window (delivered c bs w).near.station) (sym is) (laws.rest.take c o w.near.station joined.near_high h.near_said.low);
         far_said = subst (λ (bs : List (List ℕ)). HasSaidAll d.window (delivered c bs w).far.station) (sym is) h.far_said;
       }
@@ -199,7 +192,7 @@ module _ (c d : Settings) (joined : AreJoined c d) (reads : ReadsSpelled) (laws 
         held = a.held;
         back = r.rest;
         far = refl;
-        free = λ free. (let few = ltb-false _ _ free in le-ltb _ _ (omega (arith, few, (laws.continues c r.octets w.near.station).waits a.quiet)));
+        free = λ free. (let few = ltb-false _ _ free in le-ltb _ _ (omega (arith, few, (laws.sessions.continues c r.octets w.near.station).waits a.quiet)));
       })
     where
       step : Step
