@@ -19,10 +19,10 @@ use Rattle.x25_line.specs.laws.LawsBelow.{HealingLaws}
 use Rattle.x25_line.proofs.Kept.{resolved_is}
 use Rattle.x25_line.proofs.StationSteps.{not_both}
 use Rattle.x25_line.proofs.StationRuns.{joined_swapped}
-use Rattle.x25_line.proofs.HealingLines.{Reads, FrontReads, front_reads, none_reads, LastTells, Reports, next_tells, tells_behind, reports_more, reports_new, reports_heard}
+use Rattle.x25_line.proofs.HealingLines.{Reads, FrontReads, front_reads, none_reads, LastTells, Reports, next_tells, tells_behind, reports_more, reports_new, reports_heard, Ahead, ahead_low, ahead_more, next_ahead, Mild, mild_ahead, mild_more, held_mild}
 use Rattle.x25_line.proofs.HealingSteps.{Sound, sound_swapped, counted, number_of, IsNumbered, HearsWell, hears_well, Delivered, delivers}
 use Rattle.x25_line.proofs.HealingPhases.{up_is, confirms_next}
-use Rattle.x25_line.proofs.BusyLines.{Onward, onward_low, onward_more, next_onward, Gentle, gentle_onward, gentle_more, held_gentle, silent_stays, none_behind, AtMostAsks, hears_busy, hears_more, tells_free, Told, told_on, told_first}
+use Rattle.x25_line.proofs.BusyLines.{silent_stays, none_behind, AtMostAsks, hears_busy, hears_more, tells_free, Told, told_on, told_first}
 
 -- both ends are Up, and one of them isn't busy
 pub record Pair (c d : Settings) (w : Stations) : Type 0 where
@@ -43,7 +43,7 @@ pub record Polling (c d : Settings) (w : Stations) : Type 0 where
   pub before : List PlainFrame
   pub recovery : w.near.station.recovery ≡ true
   pub out : Reads (other d.role) d.longest w.out (says busy true number true ∷ rest)
-  pub gentle : Gentle rest
+  pub mild : Mild (Unit {0}) rest
   pub back : Reads (other c.role) c.longest w.back before
   pub asks : AtMostAsks before
 
@@ -57,7 +57,7 @@ pub record Answered (c d : Settings) (w : Stations) : Type 0 where
   pub is : number ≡ length w.far.station.taken % 8
   pub recovery : w.near.station.recovery ≡ true
   pub out : Reads (other d.role) d.longest w.out there
-  pub gentle : Gentle there
+  pub mild : Mild (Unit {0}) there
   pub back : Reads (other c.role) c.longest w.back (before ++ says busy false number true ∷ behind)
   pub asks : AtMostAsks before
   pub tells : LastTells (length w.far.station.taken) number behind
@@ -71,7 +71,7 @@ pub record Resent (c d : Settings) (w : Stations) : Type 0 where
   pub back : Reads (other c.role) c.longest w.back behind
   pub recovery : w.near.station.recovery ≡ false
   pub peer_busy : w.near.station.peer_busy ≡ false
-  pub onward : Onward (length w.far.station.taken) there w.near.station.outgoing.place
+  pub ahead : Ahead (Unit {0}) (length w.far.station.taken) there w.near.station.outgoing.place
   pub reports : Reports (length w.far.station.taken) w.near.station.outgoing.acked behind
   pub free : is_busy w.far.station ≡ false
 
@@ -84,7 +84,7 @@ pub record Withheld (c d : Settings) (w : Stations) : Type 0 where
   pub back : Reads (other c.role) c.longest w.back behind
   pub recovery : w.near.station.recovery ≡ false
   pub peer_busy : w.near.station.peer_busy ≡ true
-  pub gentle : Gentle there
+  pub mild : Mild (Unit {0}) there
   pub place : w.near.station.outgoing.place ≡ length w.far.station.taken
   pub acked : w.near.station.outgoing.acked ≡ length w.far.station.taken
   pub tells : LastTells (length w.far.station.taken) number behind
@@ -117,21 +117,21 @@ says_number : (busy command pf : Bool) (nr : ℕ) → number_of (says busy comma
 says_number true command pf nr = refl
 says_number false command pf nr = refl
 
-passed_gentle : (s : LinkStation) → Gentle (passed_over false s)
-passed_gentle s = by (is_busy s) s.rejecting
+passed_mild : (s : LinkStation) → Mild (Unit {0}) (passed_over false s)
+passed_mild s = by (is_busy s) s.rejecting
   where
-    by : (busy rejecting : Bool) → Gentle (if busy then rnr false (wanted s) false ∷ [] else if not rejecting then rej false (wanted s) false ∷ [] else if false then rr false (wanted s) true ∷ [] else [])
-    by true rejecting = (refl, tt)
+    by : (busy rejecting : Bool) → Mild (Unit {0}) (if busy then rnr false (wanted s) false ∷ [] else if not rejecting then rej false (wanted s) false ∷ [] else if false then rr false (wanted s) true ∷ [] else [])
+    by true rejecting = (refl, tt, tt)
     by false true = tt
     by false false = (refl, tt)
 
-confirms_gentle : (r : ℕ) (goes : Bool) → Gentle (confirms goes false r)
-confirms_gentle r true = tt
-confirms_gentle r false = (refl, tt)
+confirms_mild : (r : ℕ) (goes : Bool) → Mild (Unit {0}) (confirms goes false r)
+confirms_mild r true = tt
+confirms_mild r false = (refl, tt)
 
-answer_gentle : (busy : Bool) (nr : ℕ) → Gentle (says busy false nr true ∷ [])
-answer_gentle true nr = (refl, tt)
-answer_gentle false nr = (refl, tt)
+answer_mild : (busy : Bool) (nr : ℕ) → Mild (Unit {0}) (says busy false nr true ∷ [])
+answer_mild true nr = (refl, tt, tt)
+answer_mild false nr = (refl, tt)
 
 -- ---- one frame comes to the near end
 
@@ -189,9 +189,9 @@ module _ (c d : Settings) (joined : AreJoined c d) (reads : ReadsSpelled) (laws 
       ap (resolved w.near.station.outgoing.acked) is ∙ resolved_is w.near.station.outgoing.acked (length w.far.station.taken) n.acked (omega (arith, small, n.taken, n.room))
 
   near_resends : {octets : List ℕ} (w : Stations) (fs gs : List PlainFrame) (nr n : ℕ) (o : Outcome) → Pair c d w → NearHeard w fs gs nr o octets
-      → o.recovery ≡ false → o.peer_busy ≡ false → o.acked ≡ heard nr w.near.station → Onward (length w.far.station.taken) fs n → Onward n o.first o.place → LastTells (length w.far.station.taken) nr gs
+      → o.recovery ≡ false → o.peer_busy ≡ false → o.acked ≡ heard nr w.near.station → Ahead (Unit {0}) (length w.far.station.taken) fs n → Ahead (Unit {0}) n o.first o.place → LastTells (length w.far.station.taken) nr gs
       → is_busy w.far.station ≡ false → Resent c d (acts c Deliver w)
-  near_resends {octets} w fs gs nr n o b k recovery peer_busy acked onward first tells free =
+  near_resends {octets} w fs gs nr n o b k recovery peer_busy acked ahead first tells free =
       let h = k.went in
       let r = length w.far.station.taken in
       let v : Stations = acts c Deliver w in
@@ -203,9 +203,9 @@ module _ (c d : Settings) (joined : AreJoined c d) (reads : ReadsSpelled) (laws 
         back = h.back;
         recovery = h.recovery ∙ recovery;
         peer_busy = h.peer_busy ∙ peer_busy;
-        onward = subst (λ (i : ℕ). Onward i (fs ++ (o.first ++ h.next)) v.near.station.outgoing.place) (sym same)
-            (onward_more r n v.near.station.outgoing.place fs (o.first ++ h.next) onward
-            (onward_more n o.place v.near.station.outgoing.place o.first h.next first (next_onward (length o.taken) o.place h.next v.near.station.outgoing.place h.sends)));
+        ahead = subst (λ (i : ℕ). Ahead (Unit {0}) i (fs ++ (o.first ++ h.next)) v.near.station.outgoing.place) (sym same)
+            (ahead_more (Unit {0}) r n v.near.station.outgoing.place fs (o.first ++ h.next) ahead
+            (ahead_more (Unit {0}) n o.place v.near.station.outgoing.place o.first h.next first (next_ahead (Unit {0}) (length o.taken) o.place h.next v.near.station.outgoing.place h.sends)));
         reports = subst (λ (i : ℕ). Reports i v.near.station.outgoing.acked gs) (sym same)
             (reports_heard r v.near.station.outgoing.acked nr gs tells (λ is. h.acked ∙ acked ∙ all_heard w b nr is));
         free = subst (λ (e : StationEnd). is_busy e.station ≡ false) (sym h.far) free;
@@ -213,14 +213,14 @@ module _ (c d : Settings) (joined : AreJoined c d) (reads : ReadsSpelled) (laws 
 
   -- nothing but what neither asks nor carries goes to a busy peer
   near_withholds : {octets : List ℕ} (w : Stations) (fs gs : List PlainFrame) (nr : ℕ) (o : Outcome) → Pair c d w → NearHeard w fs gs nr o octets
-      → o.recovery ≡ false → o.peer_busy ≡ true → o.acked ≡ heard nr w.near.station → heard nr w.near.station ≡ length w.far.station.taken → o.place ≡ length w.far.station.taken → Gentle fs → Gentle o.first
+      → o.recovery ≡ false → o.peer_busy ≡ true → o.acked ≡ heard nr w.near.station → heard nr w.near.station ≡ length w.far.station.taken → o.place ≡ length w.far.station.taken → Mild (Unit {0}) fs → Mild (Unit {0}) o.first
       → LastTells (length w.far.station.taken) nr gs → Told (hears_busy true gs) w.far.station → Withheld c d (acts c Deliver w)
-  near_withholds {octets} w fs gs nr o b k recovery peer_busy acked all place gentle first tells told =
+  near_withholds {octets} w fs gs nr o b k recovery peer_busy acked all place mild first tells told =
       let h = k.went in
       let v : Stations = acts c Deliver w in
       let busy : v.near.station.peer_busy ≡ true = h.peer_busy ∙ peer_busy in
       let stays = silent_stays (length o.taken) o.place h.next v.near.station.outgoing.place h.sends (none_behind o.first h.next (k.says_so.held busy)) in
-      let next = held_gentle (length o.taken) o.place h.next v.near.station.outgoing.place h.sends (omega (arith, stays)) in
+      let next = held_mild (Unit {0}) (length o.taken) o.place h.next v.near.station.outgoing.place h.sends (omega (arith, stays)) in
       let same : length w.far.station.taken ≡ length v.far.station.taken = ap (λ (e : StationEnd). length e.station.taken) (sym h.far) in
       record {
         number = nr;
@@ -230,7 +230,7 @@ module _ (c d : Settings) (joined : AreJoined c d) (reads : ReadsSpelled) (laws 
         back = h.back;
         recovery = h.recovery ∙ recovery;
         peer_busy = busy;
-        gentle = gentle_more fs (o.first ++ h.next) gentle (gentle_more o.first h.next first next);
+        mild = mild_more (Unit {0}) fs (o.first ++ h.next) mild (mild_more (Unit {0}) o.first h.next first next);
         place = stays ∙ place ∙ same;
         acked = h.acked ∙ acked ∙ all ∙ same;
         tells = subst (λ (i : ℕ). LastTells i nr gs) same tells;
@@ -238,10 +238,10 @@ module _ (c d : Settings) (joined : AreJoined c d) (reads : ReadsSpelled) (laws 
       }
 
   -- where it was in order before, V(S) stays
-  place_stays : (w : Stations) (fs : List PlainFrame) (nr : ℕ) → Onward (length w.far.station.taken) fs w.near.station.outgoing.place → HearsWell w.near.station w.far.station nr
+  place_stays : (w : Stations) (fs : List PlainFrame) (nr : ℕ) → Ahead (Unit {0}) (length w.far.station.taken) fs w.near.station.outgoing.place → HearsWell w.near.station w.far.station nr
       → max w.near.station.outgoing.place (heard nr w.near.station) ≡ w.near.station.outgoing.place
-  place_stays w fs nr onward well =
-      let low = onward_low (length w.far.station.taken) fs w.near.station.outgoing.place onward in
+  place_stays w fs nr ahead well =
+      let low = ahead_low (Unit {0}) (length w.far.station.taken) fs w.near.station.outgoing.place ahead in
       omega (arith, low, well.high)
 
   -- from the first that the far end wants on, what is on the line to it
@@ -249,7 +249,7 @@ module _ (c d : Settings) (joined : AreJoined c d) (reads : ReadsSpelled) (laws 
     pub there : List PlainFrame
     pub out : Reads (other d.role) d.longest w.out there
     pub recovery : w.near.station.recovery ≡ false
-    pub onward : Onward (length w.far.station.taken) there w.near.station.outgoing.place
+    pub ahead : Ahead (Unit {0}) (length w.far.station.taken) there w.near.station.outgoing.place
     pub free : is_busy w.far.station ≡ false
 
   near_ready : (w : Stations) → Pair c d w → Ready w → (command : Bool) (nr : ℕ) (gs : List PlainFrame) → Reads (other c.role) c.longest w.back (rr command nr false ∷ gs)
@@ -259,7 +259,7 @@ module _ (c d : Settings) (joined : AreJoined c d) (reads : ReadsSpelled) (laws 
       let o : Outcome = record (goes_on_from nr s) { peer_busy = false } in
       let k = (hears c d joined reads laws busy_laws w b h.there gs (rr command nr false) nr o tt refl h.out back
       (λ octets read valid. laws.answers.ready false command nr c octets s (up_is s.phase b.near_on) read valid)).1 in
-      (k.pair, inr (inr (inl (near_resends w h.there gs nr s.outgoing.place o b k h.recovery refl refl h.onward (sym (place_stays w h.there nr h.onward k.well)) tells h.free))))
+      (k.pair, inr (inr (inl (near_resends w h.there gs nr s.outgoing.place o b k h.recovery refl refl h.ahead (sym (place_stays w h.there nr h.ahead k.well)) tells h.free))))
 
   -- the other end's poll
   near_poll : (w : Stations) → Pair c d w → Ready w → (nr : ℕ) (gs : List PlainFrame) → Reads (other c.role) c.longest w.back (rr true nr true ∷ gs)
@@ -269,10 +269,10 @@ module _ (c d : Settings) (joined : AreJoined c d) (reads : ReadsSpelled) (laws 
       let o : Outcome = record (goes_on_from nr s) { peer_busy = false; said_busy = is_busy s; first = says (is_busy s) false (wanted s) true ∷ [] } in
       let k = (hears c d joined reads laws busy_laws w b h.there gs (rr true nr true) nr o tt refl h.out back
       (λ octets read valid. laws.answers.poll false nr c octets s (up_is s.phase b.near_on) read valid)).1 in
-      let first : Onward s.outgoing.place (says (is_busy s) false (wanted s) true ∷ []) s.outgoing.place = gentle_onward s.outgoing.place (says (is_busy s) false (wanted s) true ∷ []) (answer_gentle (is_busy s) (wanted s)) in (
+      let first : Ahead (Unit {0}) s.outgoing.place (says (is_busy s) false (wanted s) true ∷ []) s.outgoing.place = mild_ahead (Unit {0}) s.outgoing.place (says (is_busy s) false (wanted s) true ∷ []) (answer_mild (is_busy s) (wanted s)) in (
         k.pair,
-        inr (inr (inl (near_resends w h.there gs nr s.outgoing.place o b k h.recovery refl refl h.onward
-            (subst (λ (n : ℕ). Onward s.outgoing.place o.first n) (sym (place_stays w h.there nr h.onward k.well)) first) tells h.free))),
+        inr (inr (inl (near_resends w h.there gs nr s.outgoing.place o b k h.recovery refl refl h.ahead
+            (subst (λ (n : ℕ). Ahead (Unit {0}) s.outgoing.place o.first n) (sym (place_stays w h.there nr h.ahead k.well)) first) tells h.free))),
       )
 
   near_info : (w : Stations) → Pair c d w → (h : Resent c d w) (ns nr : ℕ) (x : List ℕ) (gs : List PlainFrame) → Reads (other c.role) c.longest w.back (info ns nr false x ∷ gs)
@@ -285,8 +285,8 @@ module _ (c d : Settings) (joined : AreJoined c d) (reads : ReadsSpelled) (laws 
       let o = once_taken a.0 nr false x s in
       let k = hears_at c d joined reads laws busy_laws w b h.there gs (info ns nr false x) nr o h.out r well a.1.answers in (
         k.pair,
-        inr (inr (inl (near_resends w h.there gs nr s.outgoing.place o b k h.recovery h.peer_busy refl h.onward
-            (subst (λ (n : ℕ). Onward s.outgoing.place o.first n) (sym (place_stays w h.there nr h.onward k.well)) (gentle_onward s.outgoing.place o.first (confirms_gentle (length o.taken) a.0))) tells h.free))),
+        inr (inr (inl (near_resends w h.there gs nr s.outgoing.place o b k h.recovery h.peer_busy refl h.ahead
+            (subst (λ (n : ℕ). Ahead (Unit {0}) s.outgoing.place o.first n) (sym (place_stays w h.there nr h.ahead k.well)) (mild_ahead (Unit {0}) s.outgoing.place o.first (confirms_mild (length o.taken) a.0))) tells h.free))),
       )
   near_info w b h ns nr x gs back tells false is =
       let s = w.near.station in
@@ -294,8 +294,8 @@ module _ (c d : Settings) (joined : AreJoined c d) (reads : ReadsSpelled) (laws 
       let k = (hears c d joined reads laws busy_laws w b h.there gs (info ns nr false x) nr o tt refl h.out back
       (λ octets read valid. laws.answers.other ns nr false x c octets s (up_is s.phase b.near_on) read valid is)).1 in (
         k.pair,
-        inr (inr (inl (near_resends w h.there gs nr s.outgoing.place o b k h.recovery h.peer_busy refl h.onward
-            (subst (λ (n : ℕ). Onward s.outgoing.place o.first n) (sym (place_stays w h.there nr h.onward k.well)) (gentle_onward s.outgoing.place o.first (passed_gentle s))) tells h.free))),
+        inr (inr (inl (near_resends w h.there gs nr s.outgoing.place o b k h.recovery h.peer_busy refl h.ahead
+            (subst (λ (n : ℕ). Ahead (Unit {0}) s.outgoing.place o.first n) (sym (place_stays w h.there nr h.ahead k.well)) (mild_ahead (Unit {0}) s.outgoing.place o.first (passed_mild s))) tells h.free))),
       )
 
   near_resent : (w : Stations) → Pair c d w → (h : Resent c d w) (gs : List PlainFrame) → Reads (other c.role) c.longest w.back gs → Reports (length w.far.station.taken) w.near.station.outgoing.acked gs
@@ -303,9 +303,9 @@ module _ (c d : Settings) (joined : AreJoined c d) (reads : ReadsSpelled) (laws 
   near_resent w b h [] back reports = subst (λ (bs : List (List ℕ)). Heals c d (delivered c bs w)) (sym (none_reads (other c.role) c.longest w.back back)) (b, inr (inr (inl h)))
   near_resent w b h (info ns nr true x ∷ gs) back reports = not_both true refl reports.0
   near_resent w b h (info ns nr false x ∷ gs) back reports = near_info w b h ns nr x gs back reports.1 (is_taken ns w.near.station) refl
-  near_resent w b h (rr true nr true ∷ gs) back reports = near_poll w b (record { there = h.there; out = h.out; recovery = h.recovery; onward = h.onward; free = h.free }) nr gs back reports.1
+  near_resent w b h (rr true nr true ∷ gs) back reports = near_poll w b (record { there = h.there; out = h.out; recovery = h.recovery; ahead = h.ahead; free = h.free }) nr gs back reports.1
   near_resent w b h (rr false nr true ∷ gs) back reports = not_both true refl reports.0
-  near_resent w b h (rr command nr false ∷ gs) back reports = near_ready w b (record { there = h.there; out = h.out; recovery = h.recovery; onward = h.onward; free = h.free }) command nr gs back reports.1
+  near_resent w b h (rr command nr false ∷ gs) back reports = near_ready w b (record { there = h.there; out = h.out; recovery = h.recovery; ahead = h.ahead; free = h.free }) command nr gs back reports.1
   near_resent w b h (rnr command nr pf ∷ gs) back reports = absurd reports
   near_resent w b h (rej command nr pf ∷ gs) back reports = absurd reports
   near_resent w b h (sabm p ∷ gs) back reports = absurd reports
@@ -327,7 +327,7 @@ module _ (c d : Settings) (joined : AreJoined c d) (reads : ReadsSpelled) (laws 
     there = h.there;
     out = h.out;
     recovery = h.recovery;
-    onward = subst (λ (n : ℕ). Onward (length w.far.station.taken) h.there n) (sym h.place) (gentle_onward (length w.far.station.taken) h.there h.gentle);
+    ahead = subst (λ (n : ℕ). Ahead (Unit {0}) (length w.far.station.taken) h.there n) (sym h.place) (mild_ahead (Unit {0}) (length w.far.station.taken) h.there h.mild);
     free = free;
   }
 
@@ -340,13 +340,13 @@ module _ (c d : Settings) (joined : AreJoined c d) (reads : ReadsSpelled) (laws 
       let a = laws.answers.wanted ns nr false x c r.octets s (up_is s.phase b.near_on) r.reads well.valid is in
       let o = once_taken a.0 nr false x s in
       let k = hears_at c d joined reads laws busy_laws w b h.there gs (info ns nr false x) nr o h.out r well a.1.answers in
-      (k.pair, inr (inr (inr (inl (near_withholds w h.there gs nr o b k h.recovery h.peer_busy refl (held_heard w nr h.acked well) (held_place w nr h.place well) h.gentle (confirms_gentle (length o.taken) a.0) tells told)))))
+      (k.pair, inr (inr (inr (inl (near_withholds w h.there gs nr o b k h.recovery h.peer_busy refl (held_heard w nr h.acked well) (held_place w nr h.place well) h.mild (confirms_mild (length o.taken) a.0) tells told)))))
   withheld_info w b h ns nr x gs back tells told false is =
       let s = w.near.station in
       let o : Outcome = record (goes_on_from nr s) { said_busy = busy_after false s; first = passed_over false s } in
       let k = (hears c d joined reads laws busy_laws w b h.there gs (info ns nr false x) nr o tt refl h.out back
       (λ octets read valid. laws.answers.other ns nr false x c octets s (up_is s.phase b.near_on) read valid is)).1 in
-      (k.pair, inr (inr (inr (inl (near_withholds w h.there gs nr o b k h.recovery h.peer_busy refl (held_heard w nr h.acked k.well) (held_place w nr h.place k.well) h.gentle (passed_gentle s) tells told)))))
+      (k.pair, inr (inr (inr (inl (near_withholds w h.there gs nr o b k h.recovery h.peer_busy refl (held_heard w nr h.acked k.well) (held_place w nr h.place k.well) h.mild (passed_mild s) tells told)))))
 
   near_withheld : (w : Stations) → Pair c d w → (h : Withheld c d w) (number : ℕ) (gs : List PlainFrame) → Reads (other c.role) c.longest w.back gs → LastTells (length w.far.station.taken) number gs
       → Told (hears_busy true gs) w.far.station → Heals c d (acts c Deliver w)
@@ -374,27 +374,27 @@ module _ (c d : Settings) (joined : AreJoined c d) (reads : ReadsSpelled) (laws 
       let none : Reads (other d.role) d.longest w.out [] = subst (λ (os : List (List ℕ)). Reads (other d.role) d.longest os []) (sym h.out) tt in
       let k = (hears c d joined reads laws busy_laws w b [] [] (rnr true h.number true) h.number o tt refl none h.back
       (λ octets read valid. laws.answers.poll true h.number c octets s (up_is s.phase b.near_on) read valid)).1 in
-      (k.pair, inr (inr (inr (inl (near_withholds w [] [] h.number o b k h.recovery refl refl (held_heard w h.number h.acked k.well) (held_place w h.number h.place k.well) tt (answer_gentle (is_busy s) (wanted s)) h.is h.told)))))
+      (k.pair, inr (inr (inr (inl (near_withholds w [] [] h.number o b k h.recovery refl refl (held_heard w h.number h.acked k.well) (held_place w h.number h.place k.well) tt (answer_mild (is_busy s) (wanted s)) h.is h.told)))))
 
   -- F=1 comes: what isn't acknowledged goes again, or the far end is busy
-  near_answered : (w : Stations) → Pair c d w → (busy : Bool) (number : ℕ) (there behind : List PlainFrame) → number ≡ length w.far.station.taken % 8 → Reads (other d.role) d.longest w.out there → Gentle there
+  near_answered : (w : Stations) → Pair c d w → (busy : Bool) (number : ℕ) (there behind : List PlainFrame) → number ≡ length w.far.station.taken % 8 → Reads (other d.role) d.longest w.out there → Mild (Unit {0}) there
       → Reads (other c.role) c.longest w.back (says busy false number true ∷ behind) → LastTells (length w.far.station.taken) number behind → Told (hears_busy busy behind) w.far.station → Heals c d (acts c Deliver w)
-  near_answered w b false number there behind is out gentle back tells told =
+  near_answered w b false number there behind is out mild back tells told =
       let s = w.near.station in
       let n = length w.far.station.taken in
       let o : Outcome = record (goes_on_from number s) { recovery = false; peer_busy = false; tries = 0; place = heard number s } in
       let k = (hears c d joined reads laws busy_laws w b there behind (rr false number true) number o tt refl out back
       (λ octets read valid. laws.answers.recovery false number c octets s (up_is s.phase b.near_on) read valid)).1 in (
         k.pair,
-        inr (inr (inl (near_resends w there behind number n o b k refl refl refl (gentle_onward n there gentle) (sym (all_heard w b number is)) tells
+        inr (inr (inl (near_resends w there behind number n o b k refl refl refl (mild_ahead (Unit {0}) n there mild) (sym (all_heard w b number is)) tells
             (subst (λ (z : Bool). Told z w.far.station) (tells_free n number behind tells) told)))),
       )
-  near_answered w b true number there behind is out gentle back tells told =
+  near_answered w b true number there behind is out mild back tells told =
       let s = w.near.station in
       let o : Outcome = record (goes_on_from number s) { recovery = false; peer_busy = true; tries = 0; place = heard number s } in
       let k = (hears c d joined reads laws busy_laws w b there behind (rnr false number true) number o tt refl out back
       (λ octets read valid. laws.answers.recovery true number c octets s (up_is s.phase b.near_on) read valid)).1 in
-      (k.pair, inr (inr (inr (inl (near_withholds w there behind number o b k refl refl refl (all_heard w b number is) (all_heard w b number is) gentle tt tells told)))))
+      (k.pair, inr (inr (inr (inl (near_withholds w there behind number o b k refl refl refl (all_heard w b number is) (all_heard w b number is) mild tt tells told)))))
 
   -- the other end's poll comes in recovery: F=1 goes, and no I frame
   record Replied (w v : Stations) (there behind : List PlainFrame) : Type 0 where
@@ -402,7 +402,7 @@ module _ (c d : Settings) (joined : AreJoined c d) (reads : ReadsSpelled) (laws 
     pub more : List PlainFrame
     pub recovery : v.near.station.recovery ≡ true
     pub out : Reads (other d.role) d.longest v.out (there ++ more)
-    pub gentle : Gentle more
+    pub mild : Mild (Unit {0}) more
     pub back : Reads (other c.role) c.longest v.back behind
     pub far : v.far ≡ w.far
 
@@ -420,8 +420,8 @@ module _ (c d : Settings) (joined : AreJoined c d) (reads : ReadsSpelled) (laws 
         more = says (is_busy s) false (wanted s) true ∷ v.next;
         recovery = v.recovery ∙ recovery;
         out = v.out;
-        gentle = gentle_more (says (is_busy s) false (wanted s) true ∷ []) v.next (answer_gentle (is_busy s) (wanted s))
-            (held_gentle (length s.taken) o.place v.next u.near.station.outgoing.place v.sends (omega (arith, v.held recovery)));
+        mild = mild_more (Unit {0}) (says (is_busy s) false (wanted s) true ∷ []) v.next (answer_mild (is_busy s) (wanted s))
+            (held_mild (Unit {0}) (length s.taken) o.place v.next u.near.station.outgoing.place v.sends (omega (arith, v.held recovery)));
         back = v.back;
         far = v.far;
       }
@@ -429,7 +429,7 @@ module _ (c d : Settings) (joined : AreJoined c d) (reads : ReadsSpelled) (laws 
   asks_once : (w : Stations) → Pair c d w → (h : Polling c d w) (busy : Bool) (nr : ℕ) → Reads (other c.role) c.longest w.back (says busy true nr true ∷ []) → Heals c d (acts c Deliver w)
   asks_once w b h busy nr back =
       let p = near_polled w b h.recovery busy nr (says h.busy true h.number true ∷ h.rest) [] h.out back in
-      (p.pair, inl (record { busy = h.busy; number = h.number; rest = h.rest ++ p.more; before = []; recovery = p.recovery; out = p.out; gentle = gentle_more h.rest p.more h.gentle p.gentle; back = p.back; asks = tt }))
+      (p.pair, inl (record { busy = h.busy; number = h.number; rest = h.rest ++ p.more; before = []; recovery = p.recovery; out = p.out; mild = mild_more (Unit {0}) h.rest p.more h.mild p.mild; back = p.back; asks = tt }))
 
   near_asked : (w : Stations) → Pair c d w → (h : Polling c d w) (before : List PlainFrame) → Reads (other c.role) c.longest w.back before → AtMostAsks before → Heals c d (acts c Deliver w)
   near_asked w b h [] back asks = subst (λ (bs : List (List ℕ)). Heals c d (delivered c bs w)) (sym (none_reads (other c.role) c.longest w.back back)) (b, inl h)
@@ -463,7 +463,7 @@ module _ (c d : Settings) (joined : AreJoined c d) (reads : ReadsSpelled) (laws 
           is = h.is ∙ ap (λ (n : ℕ). n % 8) same;
           recovery = p.recovery;
           out = p.out;
-          gentle = gentle_more h.there p.more h.gentle p.gentle;
+          mild = mild_more (Unit {0}) h.there p.more h.mild p.mild;
           back = p.back;
           asks = tt;
           tells = subst (λ (n : ℕ). LastTells n h.number h.behind) same h.tells;
@@ -473,7 +473,7 @@ module _ (c d : Settings) (joined : AreJoined c d) (reads : ReadsSpelled) (laws 
 
   near_told : (w : Stations) → Pair c d w → (h : Answered c d w) (before : List PlainFrame) → Reads (other c.role) c.longest w.back (before ++ says h.busy false h.number true ∷ h.behind) → AtMostAsks before
       → Heals c d (acts c Deliver w)
-  near_told w b h [] back asks = near_answered w b h.busy h.number h.there h.behind h.is h.out h.gentle back h.tells h.told
+  near_told w b h [] back asks = near_answered w b h.busy h.number h.there h.behind h.is h.out h.mild back h.tells h.told
   near_told w b h (rr true nr true ∷ []) back asks = told_once w b h false nr back
   near_told w b h (rnr true nr true ∷ []) back asks = told_once w b h true nr back
   near_told w b h (rr true nr true ∷ f ∷ fs) back asks = absurd asks
@@ -523,8 +523,8 @@ module _ (c d : Settings) (joined : AreJoined c d) (reads : ReadsSpelled) (laws 
 
   -- by an end to which what isn't acknowledged goes again
   resent_on : {octets : List ℕ} (w : Stations) → (h : Resent c d w) (fs : List PlainFrame) (nr : ℕ) (o : Outcome) → FarHeard w h.behind fs nr o octets → IsPlain w o
-      → Onward (length w.far.station.taken) fs w.near.station.outgoing.place → Heals c d (far_delivers w)
-  resent_on {octets} w h fs nr o k plain onward =
+      → Ahead (Unit {0}) (length w.far.station.taken) fs w.near.station.outgoing.place → Heals c d (far_delivers w)
+  resent_on {octets} w h fs nr o k plain ahead =
       let v = k.went in
       let gs = h.behind in
       let u : Stations = acts d Deliver (swapped w) in
@@ -540,8 +540,8 @@ module _ (c d : Settings) (joined : AreJoined c d) (reads : ReadsSpelled) (laws 
           back = subst (λ (xs : List PlainFrame). Reads (other c.role) c.longest u.out (gs ++ (xs ++ v.next))) plain.0 v.out;
           recovery = subst (λ (e : StationEnd). e.station.recovery ≡ false) (sym near) h.recovery;
           peer_busy = subst (λ (e : StationEnd). e.station.peer_busy ≡ false) (sym near) h.peer_busy;
-          onward = subst (λ (e : StationEnd). Onward (length u.near.station.taken) fs e.station.outgoing.place) (sym near)
-              (subst (λ (n : ℕ). Onward n fs w.near.station.outgoing.place) (sym same) onward);
+          ahead = subst (λ (e : StationEnd). Ahead (Unit {0}) (length u.near.station.taken) fs e.station.outgoing.place) (sym near)
+              (subst (λ (n : ℕ). Ahead (Unit {0}) n fs w.near.station.outgoing.place) (sym same) ahead);
           reports = subst (λ (e : StationEnd). Reports (length u.near.station.taken) e.station.outgoing.acked (gs ++ v.next)) (sym near)
               (subst (λ (n : ℕ). Reports n w.near.station.outgoing.acked (gs ++ v.next)) (sym same)
               (reports_more r w.near.station.outgoing.acked o.place u.near.station.outgoing.place gs v.next h.reports next));
@@ -550,8 +550,8 @@ module _ (c d : Settings) (joined : AreJoined c d) (reads : ReadsSpelled) (laws 
       )
 
   -- by an end that is heard to be busy
-  withheld_on : {octets : List ℕ} (w : Stations) → (h : Withheld c d w) (fs : List PlainFrame) (nr : ℕ) (o : Outcome) → FarHeard w h.behind fs nr o octets → IsPlain w o → Gentle fs → Heals c d (far_delivers w)
-  withheld_on {octets} w h fs nr o k plain gentle =
+  withheld_on : {octets : List ℕ} (w : Stations) → (h : Withheld c d w) (fs : List PlainFrame) (nr : ℕ) (o : Outcome) → FarHeard w h.behind fs nr o octets → IsPlain w o → Mild (Unit {0}) fs → Heals c d (far_delivers w)
+  withheld_on {octets} w h fs nr o k plain mild =
       let v = k.went in
       let gs = h.behind in
       let u : Stations = acts d Deliver (swapped w) in
@@ -569,7 +569,7 @@ module _ (c d : Settings) (joined : AreJoined c d) (reads : ReadsSpelled) (laws 
           back = subst (λ (xs : List PlainFrame). Reads (other c.role) c.longest u.out (gs ++ (xs ++ v.next))) plain.0 v.out;
           recovery = subst (λ (e : StationEnd). e.station.recovery ≡ false) (sym near) h.recovery;
           peer_busy = subst (λ (e : StationEnd). e.station.peer_busy ≡ true) (sym near) h.peer_busy;
-          gentle = gentle;
+          mild = mild;
           place = subst (λ (e : StationEnd). e.station.outgoing.place ≡ length u.near.station.taken) (sym near) (h.place ∙ same);
           acked = subst (λ (e : StationEnd). e.station.outgoing.acked ≡ length u.near.station.taken) (sym near) (h.acked ∙ same);
           tells = subst (λ (n : ℕ). LastTells n h.number (gs ++ v.next)) same
@@ -580,8 +580,8 @@ module _ (c d : Settings) (joined : AreJoined c d) (reads : ReadsSpelled) (laws 
 
   -- by an end whose F=1 is on the line: more goes behind it, with the same number
   answered_on : {octets : List ℕ} (w : Stations) → (h : Answered c d w) (fs : List PlainFrame) (nr : ℕ) (o : Outcome) → FarHeard w (h.before ++ says h.busy false h.number true ∷ h.behind) fs nr o octets → IsPlain w o
-      → Gentle fs → Heals c d (far_delivers w)
-  answered_on {octets} w h fs nr o k plain gentle =
+      → Mild (Unit {0}) fs → Heals c d (far_delivers w)
+  answered_on {octets} w h fs nr o k plain mild =
       let v = k.went in
       let frame = says h.busy false h.number true in
       let all = h.before ++ frame ∷ h.behind in
@@ -600,7 +600,7 @@ module _ (c d : Settings) (joined : AreJoined c d) (reads : ReadsSpelled) (laws 
           is = h.is ∙ ap (λ (n : ℕ). n % 8) same;
           recovery = ap (λ (e : StationEnd). e.station.recovery) v.far ∙ h.recovery;
           out = v.back;
-          gentle = gentle;
+          mild = mild;
           back = subst (Reads (other c.role) c.longest u.out) (append_assoc h.before (frame ∷ h.behind) v.next)
               (subst (λ (xs : List PlainFrame). Reads (other c.role) c.longest u.out (all ++ (xs ++ v.next))) plain.0 v.out);
           asks = h.asks;
@@ -612,8 +612,8 @@ module _ (c d : Settings) (joined : AreJoined c d) (reads : ReadsSpelled) (laws 
 
   -- the I frame that is wanted comes: it is taken, and its number is told
   far_info : (w : Stations) → Pair c d w → (h : Resent c d w) (ns nr : ℕ) (x : List ℕ) (fs : List PlainFrame) → Reads (other d.role) d.longest w.out (info ns nr false x ∷ fs)
-      → ns ≡ length w.far.station.taken % 8 → Onward (length w.far.station.taken + 1) fs w.near.station.outgoing.place → Heals c d (far_delivers w)
-  far_info w b h ns nr x fs out wants onward =
+      → ns ≡ length w.far.station.taken % 8 → Ahead (Unit {0}) (length w.far.station.taken + 1) fs w.near.station.outgoing.place → Heals c d (far_delivers w)
+  far_info w b h ns nr x fs out wants ahead =
       let s = w.far.station in
       let turned = pair_swapped c d joined w b in
       let r = front_reads (other d.role) d.longest w.out (info ns nr false x) fs out in
@@ -637,8 +637,8 @@ module _ (c d : Settings) (joined : AreJoined c d) (reads : ReadsSpelled) (laws 
           back = v.out;
           recovery = subst (λ (e : StationEnd). e.station.recovery ≡ false) (sym near) h.recovery;
           peer_busy = subst (λ (e : StationEnd). e.station.peer_busy ≡ false) (sym near) h.peer_busy;
-          onward = subst (λ (e : StationEnd). Onward (length u.near.station.taken) fs e.station.outgoing.place) (sym near)
-              (subst (λ (n : ℕ). Onward n fs w.near.station.outgoing.place) (sym more) onward);
+          ahead = subst (λ (e : StationEnd). Ahead (Unit {0}) (length u.near.station.taken) fs e.station.outgoing.place) (sym near)
+              (subst (λ (n : ℕ). Ahead (Unit {0}) n fs w.near.station.outgoing.place) (sym more) ahead);
           reports = subst (λ (e : StationEnd). Reports (length u.near.station.taken) e.station.outgoing.acked (h.behind ++ all)) (sym near)
               (reports_new (length s.taken) (length u.near.station.taken) w.near.station.outgoing.acked o.place u.near.station.outgoing.place h.behind all h.reports next (λ none. a.1.speaks (v.said ∙ none)));
           free = v.free h.free;
@@ -667,7 +667,7 @@ module _ (c d : Settings) (joined : AreJoined c d) (reads : ReadsSpelled) (laws 
           is = number;
           recovery = ap (λ (e : StationEnd). e.station.recovery) v.far ∙ h.recovery;
           out = v.back;
-          gentle = h.gentle;
+          mild = h.mild;
           back = v.out;
           asks = h.asks;
           tells = next_tells (length u.near.station.taken) (wanted s) o.place u.near.station.outgoing.place v.next number next;
@@ -714,39 +714,39 @@ module _ (c d : Settings) (joined : AreJoined c d) (reads : ReadsSpelled) (laws 
   plain_says w b gs fs back busy false true nr poll out go = plain_final w b gs fs back busy nr out go
   plain_says w b gs fs back busy command false nr poll out go = plain_ready w b gs fs back busy command nr out go
 
-  plain_hears : (w : Stations) → Pair c d w → Phases c d w → (gs fs : List PlainFrame) → Reads (other c.role) c.longest w.back gs → Reads (other d.role) d.longest w.out fs → Gentle fs
-      → ((rest : List PlainFrame) → Gentle rest → GoesOn w gs rest) → Heals c d (far_delivers w)
-  plain_hears w b h gs [] back out gentle go = subst (λ (os : List (List ℕ)). Heals c d (swapped (delivered d os (swapped w)))) (sym (none_reads (other d.role) d.longest w.out out)) (b, h)
-  plain_hears w b h gs (rr command nr pf ∷ fs) back out gentle go = plain_says w b gs fs back false command pf nr gentle.0 out (go fs gentle.1)
-  plain_hears w b h gs (rnr command nr pf ∷ fs) back out gentle go = plain_says w b gs fs back true command pf nr gentle.0 out (go fs gentle.1)
-  plain_hears w b h gs (rej command nr true ∷ fs) back out gentle go = not_both true refl gentle.0
-  plain_hears w b h gs (rej command nr false ∷ fs) back out gentle go = plain_rej w b gs fs back command nr out (go fs gentle.1)
-  plain_hears w b h gs (info ns nr p x ∷ fs) back out gentle go = absurd gentle
-  plain_hears w b h gs (sabm p ∷ fs) back out gentle go = absurd gentle
-  plain_hears w b h gs (disc p ∷ fs) back out gentle go = absurd gentle
-  plain_hears w b h gs (ua p ∷ fs) back out gentle go = absurd gentle
-  plain_hears w b h gs (dm p ∷ fs) back out gentle go = absurd gentle
-  plain_hears w b h gs (frmr p why ∷ fs) back out gentle go = absurd gentle
+  plain_hears : (w : Stations) → Pair c d w → Phases c d w → (gs fs : List PlainFrame) → Reads (other c.role) c.longest w.back gs → Reads (other d.role) d.longest w.out fs → Mild (Unit {0}) fs
+      → ((rest : List PlainFrame) → Mild (Unit {0}) rest → GoesOn w gs rest) → Heals c d (far_delivers w)
+  plain_hears w b h gs [] back out mild go = subst (λ (os : List (List ℕ)). Heals c d (swapped (delivered d os (swapped w)))) (sym (none_reads (other d.role) d.longest w.out out)) (b, h)
+  plain_hears w b h gs (rr command nr pf ∷ fs) back out mild go = plain_says w b gs fs back false command pf nr mild.0 out (go fs mild.1)
+  plain_hears w b h gs (rnr command nr pf ∷ fs) back out mild go = plain_says w b gs fs back true command pf nr mild.0 out (go fs mild.1)
+  plain_hears w b h gs (rej command nr true ∷ fs) back out mild go = not_both true refl mild.0
+  plain_hears w b h gs (rej command nr false ∷ fs) back out mild go = plain_rej w b gs fs back command nr out (go fs mild.1)
+  plain_hears w b h gs (info ns nr p x ∷ fs) back out mild go = absurd mild
+  plain_hears w b h gs (sabm p ∷ fs) back out mild go = absurd mild
+  plain_hears w b h gs (disc p ∷ fs) back out mild go = absurd mild
+  plain_hears w b h gs (ua p ∷ fs) back out mild go = absurd mild
+  plain_hears w b h gs (dm p ∷ fs) back out mild go = absurd mild
+  plain_hears w b h gs (frmr p why ∷ fs) back out mild go = absurd mild
 
-  far_resent : (w : Stations) → Pair c d w → (h : Resent c d w) (fs : List PlainFrame) → Reads (other d.role) d.longest w.out fs → Onward (length w.far.station.taken) fs w.near.station.outgoing.place
+  far_resent : (w : Stations) → Pair c d w → (h : Resent c d w) (fs : List PlainFrame) → Reads (other d.role) d.longest w.out fs → Ahead (Unit {0}) (length w.far.station.taken) fs w.near.station.outgoing.place
       → Heals c d (far_delivers w)
-  far_resent w b h [] out onward = subst (λ (os : List (List ℕ)). Heals c d (swapped (delivered d os (swapped w)))) (sym (none_reads (other d.role) d.longest w.out out)) (b, inr (inr (inl h)))
-  far_resent w b h (info ns nr true x ∷ fs) out onward = not_both true refl onward.1
-  far_resent w b h (info ns nr false x ∷ fs) out onward = far_info w b h ns nr x fs out onward.0 onward.2
-  far_resent w b h (rr command nr pf ∷ fs) out onward = plain_says w b h.behind fs h.back false command pf nr onward.0 out (λ octets nr o k plain. resent_on w h fs nr o k plain onward.1)
-  far_resent w b h (rnr command nr pf ∷ fs) out onward = plain_says w b h.behind fs h.back true command pf nr onward.0 out (λ octets nr o k plain. resent_on w h fs nr o k plain onward.1)
-  far_resent w b h (rej command nr true ∷ fs) out onward = not_both true refl onward.0
-  far_resent w b h (rej command nr false ∷ fs) out onward = plain_rej w b h.behind fs h.back command nr out (λ octets nr o k plain. resent_on w h fs nr o k plain onward.1)
-  far_resent w b h (sabm p ∷ fs) out onward = absurd onward
-  far_resent w b h (disc p ∷ fs) out onward = absurd onward
-  far_resent w b h (ua p ∷ fs) out onward = absurd onward
-  far_resent w b h (dm p ∷ fs) out onward = absurd onward
-  far_resent w b h (frmr p why ∷ fs) out onward = absurd onward
+  far_resent w b h [] out ahead = subst (λ (os : List (List ℕ)). Heals c d (swapped (delivered d os (swapped w)))) (sym (none_reads (other d.role) d.longest w.out out)) (b, inr (inr (inl h)))
+  far_resent w b h (info ns nr true x ∷ fs) out ahead = not_both true refl ahead.1
+  far_resent w b h (info ns nr false x ∷ fs) out ahead = far_info w b h ns nr x fs out ahead.0 ahead.2
+  far_resent w b h (rr command nr pf ∷ fs) out ahead = plain_says w b h.behind fs h.back false command pf nr ahead.0 out (λ octets nr o k plain. resent_on w h fs nr o k plain ahead.1)
+  far_resent w b h (rnr command nr pf ∷ fs) out ahead = plain_says w b h.behind fs h.back true command pf nr ahead.0 out (λ octets nr o k plain. resent_on w h fs nr o k plain ahead.1)
+  far_resent w b h (rej command nr true ∷ fs) out ahead = not_both true refl ahead.0
+  far_resent w b h (rej command nr false ∷ fs) out ahead = plain_rej w b h.behind fs h.back command nr out (λ octets nr o k plain. resent_on w h fs nr o k plain ahead.1)
+  far_resent w b h (sabm p ∷ fs) out ahead = absurd ahead
+  far_resent w b h (disc p ∷ fs) out ahead = absurd ahead
+  far_resent w b h (ua p ∷ fs) out ahead = absurd ahead
+  far_resent w b h (dm p ∷ fs) out ahead = absurd ahead
+  far_resent w b h (frmr p why ∷ fs) out ahead = absurd ahead
 
   pub far_heals : (w : Stations) → Heals c d w → Heals c d (far_delivers w)
   far_heals w (b, inl h) = far_asked w b h
   far_heals w (b, inr (inl h)) =
-      plain_hears w b (inr (inl h)) (h.before ++ says h.busy false h.number true ∷ h.behind) h.there h.back h.out h.gentle (λ rest gentle octets nr o k plain. answered_on w h rest nr o k plain gentle)
-  far_heals w (b, inr (inr (inl h))) = far_resent w b h h.there h.out h.onward
-  far_heals w (b, inr (inr (inr (inl h)))) = plain_hears w b (inr (inr (inr (inl h)))) h.behind h.there h.back h.out h.gentle (λ rest gentle octets nr o k plain. withheld_on w h rest nr o k plain gentle)
+      plain_hears w b (inr (inl h)) (h.before ++ says h.busy false h.number true ∷ h.behind) h.there h.back h.out h.mild (λ rest mild octets nr o k plain. answered_on w h rest nr o k plain mild)
+  far_heals w (b, inr (inr (inl h))) = far_resent w b h h.there h.out h.ahead
+  far_heals w (b, inr (inr (inr (inl h)))) = plain_hears w b (inr (inr (inr (inl h)))) h.behind h.there h.back h.out h.mild (λ rest mild octets nr o k plain. withheld_on w h rest nr o k plain mild)
   far_heals w (b, inr (inr (inr (inr h)))) = subst (λ (os : List (List ℕ)). Heals c d (swapped (delivered d os (swapped w)))) (sym h.out) (b, inr (inr (inr (inr h))))

@@ -18,12 +18,12 @@ use Rattle.x25_line.specs.Healing.{IsDrained, IsDeliver, AreDeliveries, IsHealed
 use Rattle.x25_line.specs.laws.LawsBelow.{HealingLaws}
 use Rattle.x25_line.proofs.StationSteps.{not_both}
 use Rattle.x25_line.proofs.StationRuns.{joined_swapped}
-use Rattle.x25_line.proofs.HealingLines.{Reads, reads_none, Reports}
+use Rattle.x25_line.proofs.HealingLines.{Reads, reads_none, Reports, Ahead}
 use Rattle.x25_line.proofs.HealingSteps.{Sound, sound_swapped, near_up, counted}
 use Rattle.x25_line.proofs.HealingRuns.{reached_sound, arrives, shows_at_rest, refused, SentPoll, sends_poll}
 use Rattle.x25_line.proofs.HealingEnds.{after_firings, quiet_ends}
 use Rattle.x25_line.proofs.DrainRuns.{some_drain}
-use Rattle.x25_line.proofs.BusyLines.{Onward, AtMostAsks, hears_busy, Told}
+use Rattle.x25_line.proofs.BusyLines.{AtMostAsks, hears_busy, Told}
 use Rattle.x25_line.proofs.BusyPhases.{Pair, pair_swapped, Heals, near_heals, far_heals}
 
 -- nothing waits at an end at rest, so it isn't busy
@@ -92,9 +92,9 @@ module _ (c d : Settings) (joined : AreJoined c d) (reads : ReadsSpelled) (laws 
       let o = v.near.station.outgoing in
       let none = reads_none (other d.role) d.longest v.out h.there h.out drained.out in
       let nothing_back = reads_none (other c.role) c.longest v.back h.behind h.back drained.back in
-      let onward : r ≡ o.place = subst (λ (fs : List PlainFrame). Onward r fs o.place) none h.onward in
+      let ahead : r ≡ o.place = subst (λ (fs : List PlainFrame). Ahead (Unit {0}) r fs o.place) none h.ahead in
       let reports : o.acked ≡ r = subst (λ (gs : List PlainFrame). Reports r o.acked gs) nothing_back h.reports in
-      inl (laws.rest.all_heard c.window v.near.station joined.near_low (near_up c d v b.sound b.near_on).sound b.sound.near_said b.near_on h.recovery h.peer_busy (omega (arith, onward, reports)))
+      inl (laws.rest.all_heard c.window v.near.station joined.near_low (near_up c d v b.sound b.near_on).sound b.sound.near_said b.near_on h.recovery h.peer_busy (omega (arith, ahead, reports)))
   settles v (b, inr (inr (inr (inl h)))) drained =
       let nothing_back = reads_none (other c.role) c.longest v.back h.behind h.back drained.back in
       let said : v.far.station.said_busy ≡ true = subst (λ (gs : List PlainFrame). Told (hears_busy true gs) v.far.station) nothing_back h.told in
@@ -105,7 +105,7 @@ module _ (c d : Settings) (joined : AreJoined c d) (reads : ReadsSpelled) (laws 
 
   asked_at : (v : Stations) → Pair c d v → v.near.station.recovery ≡ true → (busy : Bool) (n : ℕ) (before : List PlainFrame) → Reads (other d.role) d.longest v.out (says busy true n true ∷ [])
       → Reads (other c.role) c.longest v.back before → AtMostAsks before → Heals c d v
-  asked_at v b recovery busy n before out back asks = (b, inl (record { busy = busy; number = n; rest = []; before = before; recovery = recovery; out = out; gentle = tt; back = back; asks = asks }))
+  asked_at v b recovery busy n before out back asks = (b, inl (record { busy = busy; number = n; rest = []; before = before; recovery = recovery; out = out; mild = tt; back = back; asks = asks }))
 
   -- an end at rest has nothing to send
   record HasAll (v : Stations) : Type 0 where
@@ -138,7 +138,7 @@ module _ (c d : Settings) (joined : AreJoined c d) (reads : ReadsSpelled) (laws 
           back = back;
           recovery = a.recovery;
           peer_busy = a.peer_busy;
-          onward = a.place;
+          ahead = a.place;
           reports = reports;
           free = free;
         }))),

@@ -14,7 +14,7 @@ use Rattle.x25_line.specs.Healing.{IsDrained, IsDeliver, AreDeliveries, frame_lo
 use Rattle.x25_line.specs.laws.LawsBelow.{HealingLaws}
 use Rattle.x25_line.proofs.StationSteps.{not_both}
 use Rattle.x25_line.proofs.StationRuns.{joined_swapped}
-use Rattle.x25_line.proofs.HealingLines.{Reads, front_reads, none_reads, Ahead, Mild}
+use Rattle.x25_line.proofs.HealingLines.{Reads, front_reads, none_reads, Ahead, Mild, mild_ahead}
 use Rattle.x25_line.proofs.HealingSteps.{near_up, hears_well, Delivered, delivers}
 use Rattle.x25_line.proofs.HealingPhases.{Both, Heals, up_is}
 use Rattle.x25_line.proofs.HealingRuns.{reached_sound}
@@ -66,29 +66,20 @@ abbrev FrontUsual : ℕ → List PlainFrame → Type 0
 FrontUsual r [] = Unit {0}
 FrontUsual r (f ∷ fs) = Usual r f
 
-mild_usual : (r : ℕ) (fs : List PlainFrame) → Mild fs → FrontUsual r fs
-mild_usual r [] h = tt
-mild_usual r (rr command nr pf ∷ fs) h = tt
-mild_usual r (rej command nr pf ∷ fs) h = h.0
-mild_usual r (info ns nr p x ∷ fs) h = absurd h
-mild_usual r (rnr command nr pf ∷ fs) h = absurd h
-mild_usual r (sabm p ∷ fs) h = absurd h
-mild_usual r (disc p ∷ fs) h = absurd h
-mild_usual r (ua p ∷ fs) h = absurd h
-mild_usual r (dm p ∷ fs) h = absurd h
-mild_usual r (frmr p why ∷ fs) h = absurd h
-
-ahead_usual : (r : ℕ) (fs : List PlainFrame) (m : ℕ) → Ahead r fs m → FrontUsual r fs
+ahead_usual : (r : ℕ) (fs : List PlainFrame) (m : ℕ) → Ahead ⊥ r fs m → FrontUsual r fs
 ahead_usual r [] m h = tt
 ahead_usual r (info ns nr p x ∷ fs) m h = (h.0, h.1)
 ahead_usual r (rr command nr pf ∷ fs) m h = tt
 ahead_usual r (rej command nr pf ∷ fs) m h = h.0
-ahead_usual r (rnr command nr pf ∷ fs) m h = absurd h
+ahead_usual r (rnr command nr pf ∷ fs) m h = absurd h.2
 ahead_usual r (sabm p ∷ fs) m h = absurd h
 ahead_usual r (disc p ∷ fs) m h = absurd h
 ahead_usual r (ua p ∷ fs) m h = absurd h
 ahead_usual r (dm p ∷ fs) m h = absurd h
 ahead_usual r (frmr p why ∷ fs) m h = absurd h
+
+mild_usual : (r : ℕ) (fs : List PlainFrame) → Mild ⊥ fs → FrontUsual r fs
+mild_usual r fs h = ahead_usual r fs r (mild_ahead ⊥ r fs h)
 
 -- the line from an end that heals
 record Line (c d : Settings) (w : Stations) : Type 0 where

@@ -39,7 +39,7 @@ pub record Asked (c d : Settings) (w : Stations) : Type 0 where
   pub before : List PlainFrame
   pub recovery : w.near.station.recovery ≡ true
   pub out : Reads (other d.role) d.longest w.out (rr true number true ∷ rest)
-  pub mild : Mild rest
+  pub mild : Mild ⊥ rest
   pub back : Reads (other c.role) c.longest w.back before
   pub heard : NoFinal before
 
@@ -52,7 +52,7 @@ pub record Answered (c d : Settings) (w : Stations) : Type 0 where
   pub is : number ≡ length w.far.station.taken % 8
   pub recovery : w.near.station.recovery ≡ true
   pub out : Reads (other d.role) d.longest w.out there
-  pub mild : Mild there
+  pub mild : Mild ⊥ there
   pub back : Reads (other c.role) c.longest w.back (before ++ rr false number true ∷ behind)
   pub heard : NoFinal before
   pub tells : LastTells (length w.far.station.taken) number behind
@@ -65,7 +65,7 @@ pub record Resent (c d : Settings) (w : Stations) : Type 0 where
   pub back : Reads (other c.role) c.longest w.back behind
   pub recovery : w.near.station.recovery ≡ false
   pub peer_busy : w.near.station.peer_busy ≡ false
-  pub ahead : Ahead (length w.far.station.taken) there w.near.station.outgoing.place
+  pub ahead : Ahead ⊥ (length w.far.station.taken) there w.near.station.outgoing.place
   pub reports : Reports (length w.far.station.taken) w.near.station.outgoing.acked behind
 
 abbrev pub Heals : Settings → Settings → ℕ → Type 0 → Stations → Type 0
@@ -86,25 +86,25 @@ tries_low nr s = by (heard nr s == s.outgoing.acked)
     by true = omega arith
     by false = omega arith
 
-passed_ahead : (n : ℕ) (s : LinkStation) → is_busy s ≡ false → Ahead n (passed_over false s) n
+passed_ahead : (n : ℕ) (s : LinkStation) → is_busy s ≡ false → Ahead ⊥ n (passed_over false s) n
 passed_ahead n s free = rw free (by s.rejecting)
   where
-    by : (b : Bool) → Ahead n (if not b then rej false (wanted s) false ∷ [] else if false then rr false (wanted s) true ∷ [] else []) n
+    by : (b : Bool) → Ahead ⊥ n (if not b then rej false (wanted s) false ∷ [] else if false then rr false (wanted s) true ∷ [] else []) n
     by true = refl
     by false = (refl, refl)
 
-passed_mild : (s : LinkStation) → is_busy s ≡ false → Mild (passed_over false s)
+passed_mild : (s : LinkStation) → is_busy s ≡ false → Mild ⊥ (passed_over false s)
 passed_mild s free = rw free (by s.rejecting)
   where
-    by : (b : Bool) → Mild (if not b then rej false (wanted s) false ∷ [] else if false then rr false (wanted s) true ∷ [] else [])
+    by : (b : Bool) → Mild ⊥ (if not b then rej false (wanted s) false ∷ [] else if false then rr false (wanted s) true ∷ [] else [])
     by true = tt
     by false = (refl, tt)
 
-confirms_mild : (r : ℕ) (goes : Bool) → Mild (confirms goes false r)
+confirms_mild : (r : ℕ) (goes : Bool) → Mild ⊥ (confirms goes false r)
 confirms_mild r true = tt
 confirms_mild r false = (refl, tt)
 
-confirms_ahead : (n r : ℕ) (goes : Bool) → Ahead n (confirms goes false r) n
+confirms_ahead : (n r : ℕ) (goes : Bool) → Ahead ⊥ n (confirms goes false r) n
 confirms_ahead n r true = refl
 confirms_ahead n r false = (refl, refl)
 
@@ -145,7 +145,7 @@ module _ (c d : Settings) (joined : AreJoined c d) (reads : ReadsSpelled) (laws 
       ap (resolved w.near.station.outgoing.acked) is ∙ resolved_is w.near.station.outgoing.acked (length w.far.station.taken) n.acked (omega (arith, small, n.taken, n.room))
 
   near_resends : (w : Stations) (fs gs : List PlainFrame) (nr n : ℕ) (o : Outcome) (octets : List ℕ) → Both c d most Was w → Delivered c d w (acts c Deliver w) fs gs o octets
-      → o.recovery ≡ false → o.peer_busy ≡ false → o.acked ≡ heard nr w.near.station → Ahead (length w.far.station.taken) fs n → Ahead n o.first o.place → LastTells (length w.far.station.taken) nr gs
+      → o.recovery ≡ false → o.peer_busy ≡ false → o.acked ≡ heard nr w.near.station → Ahead ⊥ (length w.far.station.taken) fs n → Ahead ⊥ n o.first o.place → LastTells (length w.far.station.taken) nr gs
       → Resent c d (acts c Deliver w)
   near_resends w fs gs nr n o octets b h recovery peer_busy acked ahead first tells =
       let r = length w.far.station.taken in
@@ -158,18 +158,18 @@ module _ (c d : Settings) (joined : AreJoined c d) (reads : ReadsSpelled) (laws 
         back = h.back;
         recovery = h.recovery ∙ recovery;
         peer_busy = h.peer_busy ∙ peer_busy;
-        ahead = subst (λ (k : ℕ). Ahead k (fs ++ (o.first ++ h.next)) v.near.station.outgoing.place) (sym same)
-            (ahead_more r n v.near.station.outgoing.place fs (o.first ++ h.next) ahead
-            (ahead_more n o.place v.near.station.outgoing.place o.first h.next first (next_ahead (length o.taken) o.place h.next v.near.station.outgoing.place h.sends)));
+        ahead = subst (λ (k : ℕ). Ahead ⊥ k (fs ++ (o.first ++ h.next)) v.near.station.outgoing.place) (sym same)
+            (ahead_more ⊥ r n v.near.station.outgoing.place fs (o.first ++ h.next) ahead
+            (ahead_more ⊥ n o.place v.near.station.outgoing.place o.first h.next first (next_ahead ⊥ (length o.taken) o.place h.next v.near.station.outgoing.place h.sends)));
         reports = subst (λ (k : ℕ). Reports k v.near.station.outgoing.acked gs) (sym same)
             (reports_heard r v.near.station.outgoing.acked nr gs tells (λ is. h.acked ∙ acked ∙ all_heard w b nr is));
       }
 
   -- where it was in order before, V(S) stays
-  place_stays : (w : Stations) (fs : List PlainFrame) (nr : ℕ) → Ahead (length w.far.station.taken) fs w.near.station.outgoing.place → HearsWell w.near.station w.far.station nr
+  place_stays : (w : Stations) (fs : List PlainFrame) (nr : ℕ) → Ahead ⊥ (length w.far.station.taken) fs w.near.station.outgoing.place → HearsWell w.near.station w.far.station nr
       → max w.near.station.outgoing.place (heard nr w.near.station) ≡ w.near.station.outgoing.place
   place_stays w fs nr ahead well =
-      let low = ahead_low (length w.far.station.taken) fs w.near.station.outgoing.place ahead in
+      let low = ahead_low ⊥ (length w.far.station.taken) fs w.near.station.outgoing.place ahead in
       omega (arith, low, well.high)
 
   near_info : (w : Stations) (b : Both c d most Was w) (h : Resent c d w) (ns nr : ℕ) (x : List ℕ) (gs : List PlainFrame) → Reads (other c.role) c.longest w.back (info ns nr false x ∷ gs)
@@ -183,7 +183,7 @@ module _ (c d : Settings) (joined : AreJoined c d) (reads : ReadsSpelled) (laws 
       let v = delivers c d joined reads laws w h.there gs (info ns nr false x) o b.sound h.out r a.1.answers in (
         near_both w h.there gs o r.octets b v,
         inr (inr (near_resends w h.there gs nr s.outgoing.place o r.octets b v h.recovery h.peer_busy refl h.ahead
-            (subst (λ (n : ℕ). Ahead s.outgoing.place o.first n) (sym (place_stays w h.there nr h.ahead well)) (confirms_ahead s.outgoing.place (length o.taken) a.0)) tells)),
+            (subst (λ (n : ℕ). Ahead ⊥ s.outgoing.place o.first n) (sym (place_stays w h.there nr h.ahead well)) (confirms_ahead s.outgoing.place (length o.taken) a.0)) tells)),
       )
   near_info w b h ns nr x gs back tells false is =
       let s = w.near.station in
@@ -194,7 +194,7 @@ module _ (c d : Settings) (joined : AreJoined c d) (reads : ReadsSpelled) (laws 
       let v = delivers c d joined reads laws w h.there gs (info ns nr false x) o b.sound h.out r a in (
         near_both w h.there gs o r.octets b v,
         inr (inr (near_resends w h.there gs nr s.outgoing.place o r.octets b v h.recovery h.peer_busy refl h.ahead
-            (subst (λ (n : ℕ). Ahead s.outgoing.place (passed_over false s) n) (sym (place_stays w h.there nr h.ahead well)) (passed_ahead s.outgoing.place s b.near_free)) tells)),
+            (subst (λ (n : ℕ). Ahead ⊥ s.outgoing.place (passed_over false s) n) (sym (place_stays w h.there nr h.ahead well)) (passed_ahead s.outgoing.place s b.near_free)) tells)),
       )
 
   near_ready : (w : Stations) (b : Both c d most Was w) (h : Resent c d w) (command : Bool) (nr : ℕ) (gs : List PlainFrame) → Reads (other c.role) c.longest w.back (rr command nr false ∷ gs)
@@ -219,11 +219,11 @@ module _ (c d : Settings) (joined : AreJoined c d) (reads : ReadsSpelled) (laws 
       let o : Outcome = record (goes_on_from nr s) { peer_busy = false; said_busy = is_busy s; first = says (is_busy s) false (wanted s) true ∷ [] } in
       let a = laws.answers.poll false nr c r.octets s (up_is s.phase b.near_on) r.reads well.valid in
       let v = delivers c d joined reads laws w h.there gs frame o b.sound h.out r a in
-      let first : Ahead s.outgoing.place (says (is_busy s) false (wanted s) true ∷ []) s.outgoing.place =
-      subst (λ (busy : Bool). Ahead s.outgoing.place (says busy false (wanted s) true ∷ []) s.outgoing.place) (sym b.near_free) (refl, refl) in (
+      let first : Ahead ⊥ s.outgoing.place (says (is_busy s) false (wanted s) true ∷ []) s.outgoing.place =
+      subst (λ (busy : Bool). Ahead ⊥ s.outgoing.place (says busy false (wanted s) true ∷ []) s.outgoing.place) (sym b.near_free) (refl, refl) in (
         near_both w h.there gs o r.octets b v,
         inr (inr (near_resends w h.there gs nr s.outgoing.place o r.octets b v h.recovery refl refl h.ahead
-            (subst (λ (n : ℕ). Ahead s.outgoing.place o.first n) (sym (place_stays w h.there nr h.ahead well)) first) tells)),
+            (subst (λ (n : ℕ). Ahead ⊥ s.outgoing.place o.first n) (sym (place_stays w h.there nr h.ahead well)) first) tells)),
       )
 
   near_resent : (w : Stations) (b : Both c d most Was w) (h : Resent c d w) (gs : List PlainFrame) → Reads (other c.role) c.longest w.back gs → Reports (length w.far.station.taken) w.near.station.outgoing.acked gs
@@ -243,7 +243,7 @@ module _ (c d : Settings) (joined : AreJoined c d) (reads : ReadsSpelled) (laws 
   near_resent w b h (frmr p why ∷ gs) back reports = absurd reports
 
   -- F=1 comes: what isn't acknowledged goes again
-  near_answered : (w : Stations) → Both c d most Was w → (number : ℕ) (there behind : List PlainFrame) → number ≡ length w.far.station.taken % 8 → Reads (other d.role) d.longest w.out there → Mild there
+  near_answered : (w : Stations) → Both c d most Was w → (number : ℕ) (there behind : List PlainFrame) → number ≡ length w.far.station.taken % 8 → Reads (other d.role) d.longest w.out there → Mild ⊥ there
       → Reads (other c.role) c.longest w.back (rr false number true ∷ behind) → LastTells (length w.far.station.taken) number behind → Heals c d most Was (acts c Deliver w)
   near_answered w b number there behind is out mild back tells =
       let s = w.near.station in
@@ -255,7 +255,7 @@ module _ (c d : Settings) (joined : AreJoined c d) (reads : ReadsSpelled) (laws 
       let a = laws.answers.recovery false number c r.octets s (up_is s.phase b.near_on) r.reads well.valid in
       let v = delivers c d joined reads laws w there behind frame o b.sound out r a in (
         near_both w there behind o r.octets b v,
-        inr (inr (near_resends w there behind number n o r.octets b v refl refl refl (mild_ahead n there mild) (sym (all_heard w b number is)) tells)),
+        inr (inr (near_resends w there behind number n o r.octets b v refl refl refl (mild_ahead ⊥ n there mild) (sym (all_heard w b number is)) tells)),
       )
 
   -- a frame comes in recovery that isn't F=1: no I frame goes
@@ -264,18 +264,18 @@ module _ (c d : Settings) (joined : AreJoined c d) (reads : ReadsSpelled) (laws 
     pub more : List PlainFrame
     pub recovery : v.near.station.recovery ≡ true
     pub out : Reads (other d.role) d.longest v.out (there ++ more)
-    pub mild : Mild more
+    pub mild : Mild ⊥ more
     pub back : Reads (other c.role) c.longest v.back behind
     pub far : v.far ≡ w.far
 
-  replied : (w : Stations) (there behind : List PlainFrame) (o : Outcome) (octets : List ℕ) → Both c d most Was w → Delivered c d w (acts c Deliver w) there behind o octets → o.recovery ≡ true → Mild o.first
+  replied : (w : Stations) (there behind : List PlainFrame) (o : Outcome) (octets : List ℕ) → Both c d most Was w → Delivered c d w (acts c Deliver w) there behind o octets → o.recovery ≡ true → Mild ⊥ o.first
       → Replied w (acts c Deliver w) there behind
   replied w there behind o octets b v recovery first = record {
     both = near_both w there behind o octets b v;
     more = o.first ++ v.next;
     recovery = v.recovery ∙ recovery;
     out = v.out;
-    mild = mild_more o.first v.next first (held_mild (length o.taken) o.place v.next (acts c Deliver w).near.station.outgoing.place v.sends (omega (arith, v.held recovery)));
+    mild = mild_more ⊥ o.first v.next first (held_mild ⊥ (length o.taken) o.place v.next (acts c Deliver w).near.station.outgoing.place v.sends (omega (arith, v.held recovery)));
     back = v.back;
     far = v.far;
   }
@@ -292,7 +292,7 @@ module _ (c d : Settings) (joined : AreJoined c d) (reads : ReadsSpelled) (laws 
       let o : Outcome = record (goes_on_from number s) { peer_busy = false; said_busy = is_busy s; first = says (is_busy s) false (wanted s) true ∷ [] } in
       let a = laws.answers.poll false number c r.octets s (up_is s.phase b.near_on) r.reads well.valid in
       let v = delivers c d joined reads laws w there behind frame o b.sound out r a in
-      replied w there behind o r.octets b v recovery (subst (λ (busy : Bool). Mild (says busy false (wanted s) true ∷ [])) (sym b.near_free) (refl, tt))
+      replied w there behind o r.octets b v recovery (subst (λ (busy : Bool). Mild ⊥ (says busy false (wanted s) true ∷ [])) (sym b.near_free) (refl, tt))
 
   near_readied : (w : Stations) → Both c d most Was w → w.near.station.recovery ≡ true → (command : Bool) (number : ℕ) (there behind : List PlainFrame) → Replies w (rr command number false) there behind
   near_readied w b recovery command number there behind out back =
@@ -345,7 +345,7 @@ module _ (c d : Settings) (joined : AreJoined c d) (reads : ReadsSpelled) (laws 
   near_asked w b h [] back heard = subst (λ (bs : List (List ℕ)). Heals c d most Was (delivered c bs w)) (sym (none_reads (other c.role) c.longest w.back back)) (b, inl h)
   near_asked w b h (f ∷ fs) back heard =
       let p = near_replies w b h.recovery f (rr true h.number true ∷ h.rest) fs heard.0 h.out back in
-      (p.both, inl (record { number = h.number; rest = h.rest ++ p.more; before = fs; recovery = p.recovery; out = p.out; mild = mild_more h.rest p.more h.mild p.mild; back = p.back; heard = heard.1 }))
+      (p.both, inl (record { number = h.number; rest = h.rest ++ p.more; before = fs; recovery = p.recovery; out = p.out; mild = mild_more ⊥ h.rest p.more h.mild p.mild; back = p.back; heard = heard.1 }))
 
   near_told : (w : Stations) → Both c d most Was w → (h : Answered c d w) (before : List PlainFrame) → Reads (other c.role) c.longest w.back (before ++ rr false h.number true ∷ h.behind) → NoFinal before
       → Heals c d most Was (acts c Deliver w)
@@ -362,7 +362,7 @@ module _ (c d : Settings) (joined : AreJoined c d) (reads : ReadsSpelled) (laws 
           is = h.is ∙ ap (λ (n : ℕ). n % 8) same;
           recovery = p.recovery;
           out = p.out;
-          mild = mild_more h.there p.more h.mild p.mild;
+          mild = mild_more ⊥ h.there p.more h.mild p.mild;
           back = p.back;
           heard = heard.1;
           tells = subst (λ (n : ℕ). LastTells n h.number h.behind) same h.tells;
@@ -412,7 +412,7 @@ module _ (c d : Settings) (joined : AreJoined c d) (reads : ReadsSpelled) (laws 
 
   -- a frame comes that neither asks nor answers, and carries nothing
   far_told : (w : Stations) (fs gs : List PlainFrame) (o : Outcome) (octets : List ℕ) → Resent c d w → Delivered d c (swapped w) (acts d Deliver (swapped w)) gs fs o octets → o.first ≡ [] → o.taken ≡ w.far.station.taken
-      → Ahead (length w.far.station.taken) fs w.near.station.outgoing.place → Reports (length w.far.station.taken) w.near.station.outgoing.acked gs → Resent c d (far_delivers w)
+      → Ahead ⊥ (length w.far.station.taken) fs w.near.station.outgoing.place → Reports (length w.far.station.taken) w.near.station.outgoing.acked gs → Resent c d (far_delivers w)
   far_told w fs gs o octets h v first taken ahead reports =
       let u : Stations = acts d Deliver (swapped w) in
       let r = length w.far.station.taken in
@@ -426,15 +426,15 @@ module _ (c d : Settings) (joined : AreJoined c d) (reads : ReadsSpelled) (laws 
         back = subst (λ (xs : List PlainFrame). Reads (other c.role) c.longest u.out (gs ++ (xs ++ v.next))) first v.out;
         recovery = subst (λ (e : StationEnd). e.station.recovery ≡ false) (sym near) h.recovery;
         peer_busy = subst (λ (e : StationEnd). e.station.peer_busy ≡ false) (sym near) h.peer_busy;
-        ahead = subst (λ (e : StationEnd). Ahead (length u.near.station.taken) fs e.station.outgoing.place) (sym near)
-            (subst (λ (n : ℕ). Ahead n fs w.near.station.outgoing.place) (sym same) ahead);
+        ahead = subst (λ (e : StationEnd). Ahead ⊥ (length u.near.station.taken) fs e.station.outgoing.place) (sym near)
+            (subst (λ (n : ℕ). Ahead ⊥ n fs w.near.station.outgoing.place) (sym same) ahead);
         reports = subst (λ (e : StationEnd). Reports (length u.near.station.taken) e.station.outgoing.acked (gs ++ v.next)) (sym near)
             (subst (λ (n : ℕ). Reports n w.near.station.outgoing.acked (gs ++ v.next)) (sym same)
             (reports_more r w.near.station.outgoing.acked o.place u.near.station.outgoing.place gs v.next reports next));
       }
 
   far_ready : (w : Stations) (b : Both c d most Was w) (h : Resent c d w) (command : Bool) (nr : ℕ) (fs : List PlainFrame) → Reads (other d.role) d.longest w.out (rr command nr false ∷ fs)
-      → Ahead (length w.far.station.taken) fs w.near.station.outgoing.place → Heals c d most Was (far_delivers w)
+      → Ahead ⊥ (length w.far.station.taken) fs w.near.station.outgoing.place → Heals c d most Was (far_delivers w)
   far_ready w b h command nr fs out ahead =
       let s = w.far.station in
       let sound = sound_swapped c d joined w b.sound in
@@ -447,7 +447,7 @@ module _ (c d : Settings) (joined : AreJoined c d) (reads : ReadsSpelled) (laws 
 
   -- F=1 of the other end's own poll
   far_final : (w : Stations) (b : Both c d most Was w) (h : Resent c d w) (nr : ℕ) (fs : List PlainFrame) → Reads (other d.role) d.longest w.out (rr false nr true ∷ fs)
-      → Ahead (length w.far.station.taken) fs w.near.station.outgoing.place → Heals c d most Was (far_delivers w)
+      → Ahead ⊥ (length w.far.station.taken) fs w.near.station.outgoing.place → Heals c d most Was (far_delivers w)
   far_final w b h nr fs out ahead =
       let s = w.far.station in
       let sound = sound_swapped c d joined w b.sound in
@@ -459,7 +459,7 @@ module _ (c d : Settings) (joined : AreJoined c d) (reads : ReadsSpelled) (laws 
       (far_both w fs h.behind nr o r.octets b v well refl (λ _. refl) (λ _. refl) (omega arith), inr (inr (far_told w fs h.behind o r.octets h v refl refl ahead h.reports)))
 
   far_rej : (w : Stations) (b : Both c d most Was w) (h : Resent c d w) (command : Bool) (nr : ℕ) (fs : List PlainFrame) → Reads (other d.role) d.longest w.out (rej command nr false ∷ fs)
-      → Ahead (length w.far.station.taken) fs w.near.station.outgoing.place → Heals c d most Was (far_delivers w)
+      → Ahead ⊥ (length w.far.station.taken) fs w.near.station.outgoing.place → Heals c d most Was (far_delivers w)
   far_rej w b h command nr fs out ahead =
       let s = w.far.station in
       let sound = sound_swapped c d joined w b.sound in
@@ -472,7 +472,7 @@ module _ (c d : Settings) (joined : AreJoined c d) (reads : ReadsSpelled) (laws 
 
   -- the I frame that is wanted comes: it is taken, and its number is told
   far_info : (w : Stations) (b : Both c d most Was w) (h : Resent c d w) (ns nr : ℕ) (x : List ℕ) (fs : List PlainFrame) → Reads (other d.role) d.longest w.out (info ns nr false x ∷ fs)
-      → ns ≡ length w.far.station.taken % 8 → Ahead (length w.far.station.taken + 1) fs w.near.station.outgoing.place → Heals c d most Was (far_delivers w)
+      → ns ≡ length w.far.station.taken % 8 → Ahead ⊥ (length w.far.station.taken + 1) fs w.near.station.outgoing.place → Heals c d most Was (far_delivers w)
   far_info w b h ns nr x fs out wants ahead =
       let s = w.far.station in
       let sound = sound_swapped c d joined w b.sound in
@@ -496,14 +496,14 @@ module _ (c d : Settings) (joined : AreJoined c d) (reads : ReadsSpelled) (laws 
           back = v.out;
           recovery = subst (λ (e : StationEnd). e.station.recovery ≡ false) (sym near) h.recovery;
           peer_busy = subst (λ (e : StationEnd). e.station.peer_busy ≡ false) (sym near) h.peer_busy;
-          ahead = subst (λ (e : StationEnd). Ahead (length u.near.station.taken) fs e.station.outgoing.place) (sym near)
-              (subst (λ (n : ℕ). Ahead n fs w.near.station.outgoing.place) (sym more) ahead);
+          ahead = subst (λ (e : StationEnd). Ahead ⊥ (length u.near.station.taken) fs e.station.outgoing.place) (sym near)
+              (subst (λ (n : ℕ). Ahead ⊥ n fs w.near.station.outgoing.place) (sym more) ahead);
           reports = subst (λ (e : StationEnd). Reports (length u.near.station.taken) e.station.outgoing.acked (h.behind ++ all)) (sym near)
               (reports_new (length s.taken) (length u.near.station.taken) w.near.station.outgoing.acked o.place u.near.station.outgoing.place h.behind all h.reports next (λ none. a.1.speaks (v.said ∙ none)));
         })),
       )
 
-  far_resent : (w : Stations) (b : Both c d most Was w) (h : Resent c d w) (fs : List PlainFrame) → Reads (other d.role) d.longest w.out fs → Ahead (length w.far.station.taken) fs w.near.station.outgoing.place
+  far_resent : (w : Stations) (b : Both c d most Was w) (h : Resent c d w) (fs : List PlainFrame) → Reads (other d.role) d.longest w.out fs → Ahead ⊥ (length w.far.station.taken) fs w.near.station.outgoing.place
       → Heals c d most Was (far_delivers w)
   far_resent w b h [] out ahead = subst (λ (os : List (List ℕ)). Heals c d most Was (swapped (delivered d os (swapped w)))) (sym (none_reads (other d.role) d.longest w.out out)) (b, inr (inr h))
   far_resent w b h (info ns nr true x ∷ fs) out ahead = not_both true refl ahead.1
@@ -513,7 +513,7 @@ module _ (c d : Settings) (joined : AreJoined c d) (reads : ReadsSpelled) (laws 
   far_resent w b h (rr command nr false ∷ fs) out ahead = far_ready w b h command nr fs out ahead.1
   far_resent w b h (rej command nr true ∷ fs) out ahead = not_both true refl ahead.0
   far_resent w b h (rej command nr false ∷ fs) out ahead = far_rej w b h command nr fs out ahead.1
-  far_resent w b h (rnr command nr pf ∷ fs) out ahead = absurd ahead
+  far_resent w b h (rnr command nr pf ∷ fs) out ahead = absurd ahead.2
   far_resent w b h (sabm p ∷ fs) out ahead = absurd ahead
   far_resent w b h (disc p ∷ fs) out ahead = absurd ahead
   far_resent w b h (ua p ∷ fs) out ahead = absurd ahead
@@ -553,7 +553,7 @@ module _ (c d : Settings) (joined : AreJoined c d) (reads : ReadsSpelled) (laws 
 
   -- more goes behind F=1, with the same number
   far_goes_behind : (w : Stations) (fs : List PlainFrame) (o : Outcome) (octets : List ℕ) (h : Answered c d w)
-      → Delivered d c (swapped w) (acts d Deliver (swapped w)) (h.before ++ rr false h.number true ∷ h.behind) fs o octets → o.first ≡ [] → o.taken ≡ w.far.station.taken → Mild fs → Answered c d (far_delivers w)
+      → Delivered d c (swapped w) (acts d Deliver (swapped w)) (h.before ++ rr false h.number true ∷ h.behind) fs o octets → o.first ≡ [] → o.taken ≡ w.far.station.taken → Mild ⊥ fs → Answered c d (far_delivers w)
   far_goes_behind w fs o octets h v first taken mild =
       let u : Stations = acts d Deliver (swapped w) in
       let r = length w.far.station.taken in
@@ -576,7 +576,7 @@ module _ (c d : Settings) (joined : AreJoined c d) (reads : ReadsSpelled) (laws 
             (tells_behind r r h.number h.behind v.next h.tells (λ k is. next_tells r k o.place u.near.station.outgoing.place v.next is next));
       }
 
-  far_mild : (w : Stations) (b : Both c d most Was w) (h : Answered c d w) (fs : List PlainFrame) → Reads (other d.role) d.longest w.out fs → Mild fs → Heals c d most Was (far_delivers w)
+  far_mild : (w : Stations) (b : Both c d most Was w) (h : Answered c d w) (fs : List PlainFrame) → Reads (other d.role) d.longest w.out fs → Mild ⊥ fs → Heals c d most Was (far_delivers w)
   far_mild w b h [] out mild = subst (λ (os : List (List ℕ)). Heals c d most Was (swapped (delivered d os (swapped w)))) (sym (none_reads (other d.role) d.longest w.out out)) (b, inr (inl h))
   far_mild w b h (rr true nr true ∷ fs) out mild = not_both true refl mild.0
   far_mild w b h (rr false nr true ∷ fs) out mild =
@@ -611,7 +611,7 @@ module _ (c d : Settings) (joined : AreJoined c d) (reads : ReadsSpelled) (laws 
       let v = delivers d c far_joined reads laws (swapped w) all fs (rej command nr false) o sound h.back r a in
       (far_both w fs all nr o r.octets b v well refl (λ e. e) (λ _. refl) (tries_low nr s), inr (inl (far_goes_behind w fs o r.octets h v refl refl mild.1)))
   far_mild w b h (info ns nr p x ∷ fs) out mild = absurd mild
-  far_mild w b h (rnr command nr pf ∷ fs) out mild = absurd mild
+  far_mild w b h (rnr command nr pf ∷ fs) out mild = absurd mild.2
   far_mild w b h (sabm p ∷ fs) out mild = absurd mild
   far_mild w b h (disc p ∷ fs) out mild = absurd mild
   far_mild w b h (ua p ∷ fs) out mild = absurd mild

@@ -203,8 +203,8 @@ module _ (c d : Settings) (joined : AreJoined c d) (reads : ReadsSpelled) (laws 
   }
 
   -- in recovery no I frame goes
-  held_back : (w v : Stations) → w.near.station.recovery ≡ true → (p : WasPut w v) → Mild p.next
-  held_back w v recovers p = held_mild (length w.near.station.taken) w.near.station.outgoing.place p.next v.near.station.outgoing.place p.sends (omega (arith, p.held recovers))
+  held_back : (w v : Stations) → w.near.station.recovery ≡ true → (p : WasPut w v) → Mild ⊥ p.next
+  held_back w v recovers p = held_mild ⊥ (length w.near.station.taken) w.near.station.outgoing.place p.next v.near.station.outgoing.place p.sends (omega (arith, p.held recovers))
 
   near_puts : (most : ℕ) (w v : Stations) → Heals c d most ⊥ w → WasPut w v → is_busy v.near.station ≡ false → Heals c d most ⊥ v
   near_puts most w v (b, inl h) p free = (
@@ -215,7 +215,7 @@ module _ (c d : Settings) (joined : AreJoined c d) (reads : ReadsSpelled) (laws 
       before = h.before;
       recovery = p.recovery ∙ h.recovery;
       out = p.out (rr true h.number true ∷ h.rest) h.out;
-      mild = mild_more h.rest p.next h.mild (held_back w v h.recovery p);
+      mild = mild_more ⊥ h.rest p.next h.mild (held_back w v h.recovery p);
       back = subst (λ (os : List (List ℕ)). Reads (other c.role) c.longest os h.before) (sym p.back) h.back;
       heard = h.heard;
     }),
@@ -231,7 +231,7 @@ module _ (c d : Settings) (joined : AreJoined c d) (reads : ReadsSpelled) (laws 
           is = h.is ∙ ap (λ (n : ℕ). n % 8) same;
           recovery = p.recovery ∙ h.recovery;
           out = p.out h.there h.out;
-          mild = mild_more h.there p.next h.mild (held_back w v h.recovery p);
+          mild = mild_more ⊥ h.there p.next h.mild (held_back w v h.recovery p);
           back = subst (λ (os : List (List ℕ)). Reads (other c.role) c.longest os (h.before ++ rr false h.number true ∷ h.behind)) (sym p.back) h.back;
           heard = h.heard;
           tells = subst (λ (n : ℕ). LastTells n h.number h.behind) same h.tells;
@@ -249,8 +249,8 @@ module _ (c d : Settings) (joined : AreJoined c d) (reads : ReadsSpelled) (laws 
           back = subst (λ (os : List (List ℕ)). Reads (other c.role) c.longest os h.behind) (sym p.back) h.back;
           recovery = p.recovery ∙ h.recovery;
           peer_busy = p.peer_busy ∙ h.peer_busy;
-          ahead = subst (λ (n : ℕ). Ahead n (h.there ++ p.next) v.near.station.outgoing.place) same
-              (ahead_more r s.outgoing.place v.near.station.outgoing.place h.there p.next h.ahead (next_ahead (length s.taken) s.outgoing.place p.next v.near.station.outgoing.place p.sends));
+          ahead = subst (λ (n : ℕ). Ahead ⊥ n (h.there ++ p.next) v.near.station.outgoing.place) same
+              (ahead_more ⊥ r s.outgoing.place v.near.station.outgoing.place h.there p.next h.ahead (next_ahead ⊥ (length s.taken) s.outgoing.place p.next v.near.station.outgoing.place p.sends));
           reports = subst (λ (n : ℕ). Reports n v.near.station.outgoing.acked h.behind) same (subst (λ (a : ℕ). Reports r a h.behind) (sym p.acked) h.reports);
         })),
       )
@@ -320,8 +320,8 @@ module _ (c d : Settings) (joined : AreJoined c d) (reads : ReadsSpelled) (laws 
           back = p.out h.behind h.back;
           recovery = subst (λ (e : StationEnd). e.station.recovery ≡ false) (sym p.far) h.recovery;
           peer_busy = subst (λ (e : StationEnd). e.station.peer_busy ≡ false) (sym p.far) h.peer_busy;
-          ahead = subst (λ (e : StationEnd). Ahead (length u.near.station.taken) h.there e.station.outgoing.place) (sym p.far)
-              (subst (λ (n : ℕ). Ahead n h.there w.near.station.outgoing.place) (sym same) h.ahead);
+          ahead = subst (λ (e : StationEnd). Ahead ⊥ (length u.near.station.taken) h.there e.station.outgoing.place) (sym p.far)
+              (subst (λ (n : ℕ). Ahead ⊥ n h.there w.near.station.outgoing.place) (sym same) h.ahead);
           reports = subst (λ (e : StationEnd). Reports (length u.near.station.taken) e.station.outgoing.acked (h.behind ++ p.next)) (sym p.far)
               (subst (λ (n : ℕ). Reports n w.near.station.outgoing.acked (h.behind ++ p.next)) (sym same)
               (reports_more r w.near.station.outgoing.acked w.far.station.outgoing.place u.near.station.outgoing.place h.behind p.next h.reports p.sends));

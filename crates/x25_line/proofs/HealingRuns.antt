@@ -321,7 +321,7 @@ module _ (c d : Settings) (joined : AreJoined c d) (reads : ReadsSpelled) (laws 
       let o = v.near.station.outgoing in
       let none = reads_none (other d.role) d.longest v.out h.there h.out drained.out in
       let nothing_back = reads_none (other c.role) c.longest v.back h.behind h.back drained.back in
-      let ahead : r ≡ o.place = subst (λ (fs : List PlainFrame). Ahead r fs o.place) none h.ahead in
+      let ahead : r ≡ o.place = subst (λ (fs : List PlainFrame). Ahead ⊥ r fs o.place) none h.ahead in
       let reports : o.acked ≡ r = subst (λ (gs : List PlainFrame). Reports r o.acked gs) nothing_back h.reports in
       laws.rest.all_heard c.window v.near.station joined.near_low (near_up c d v b.sound b.near_on).sound b.sound.near_said b.near_on h.recovery h.peer_busy (omega (arith, ahead, reports))
 
