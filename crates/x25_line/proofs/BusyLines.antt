@@ -1,7 +1,5 @@
 -- The frames on a line where one of the two ends is busy: RNR may stand among them, and what is heard last tells whether the end is busy.
-use Rattle.std.proofs.Common.{◌≡◌, ℕ, ◌+◌, ◌%◌, ◌≤◌, List, [], ◌∷◌, ◌++◌, Bool, true, false, refl, sym, ◌∙◌, subst, arith}
-use Rattle.std.specs.Prelude.{◌&&◌}
-use Rattle.std.proofs.lemmas.Bool.{and_left}
+use Rattle.std.proofs.Common.{◌≡◌, ℕ, List, [], ◌∷◌, ◌++◌, ◌⊎◌, inl, inr, Bool, true, false, refl, sym, ◌∙◌}
 use Rattle.x25_frame.specs.PlainFrame.{PlainFrame, info, rr, rnr, rej, sabm, disc, ua, dm, frmr}
 use Rattle.x25_link.specs.LinkStation.{LinkStation, is_busy}
 use Rattle.x25_link.specs.laws.AnswerLaw.{says, AreNext}
@@ -40,6 +38,24 @@ AtMostAsks [] = Unit {0}
 AtMostAsks (rr true nr true ∷ []) = Unit {0}
 AtMostAsks (rnr true nr true ∷ []) = Unit {0}
 AtMostAsks fs = ⊥
+
+pub asks_or_not : (fs : List PlainFrame) → AtMostAsks fs → (fs ≡ []) ⊎ ((busy : Bool) × (nr : ℕ) × (fs ≡ says busy true nr true ∷ []))
+asks_or_not [] asks = inl refl
+asks_or_not (rr true nr true ∷ []) asks = inr (false, nr, refl)
+asks_or_not (rnr true nr true ∷ []) asks = inr (true, nr, refl)
+asks_or_not (rr true nr true ∷ f ∷ fs) asks = absurd asks
+asks_or_not (rr true nr false ∷ fs) asks = absurd asks
+asks_or_not (rr false nr pf ∷ fs) asks = absurd asks
+asks_or_not (rnr true nr true ∷ f ∷ fs) asks = absurd asks
+asks_or_not (rnr true nr false ∷ fs) asks = absurd asks
+asks_or_not (rnr false nr pf ∷ fs) asks = absurd asks
+asks_or_not (info ns nr p x ∷ fs) asks = absurd asks
+asks_or_not (rej command nr pf ∷ fs) asks = absurd asks
+asks_or_not (sabm p ∷ fs) asks = absurd asks
+asks_or_not (disc p ∷ fs) asks = absurd asks
+asks_or_not (ua p ∷ fs) asks = absurd asks
+asks_or_not (dm p ∷ fs) asks = absurd asks
+asks_or_not (frmr p why ∷ fs) asks = absurd asks
 
 -- ---- what an end will hear of whether the other is busy
 

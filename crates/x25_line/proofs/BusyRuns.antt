@@ -18,13 +18,14 @@ use Rattle.x25_line.specs.Healing.{IsDrained, IsDeliver, AreDeliveries, IsHealed
 use Rattle.x25_line.specs.laws.LawsBelow.{HealingLaws}
 use Rattle.x25_line.proofs.StationSteps.{not_both}
 use Rattle.x25_line.proofs.StationRuns.{joined_swapped}
-use Rattle.x25_line.proofs.HealingLines.{Reads, reads_none, Reports, Ahead}
+use Rattle.x25_line.proofs.HealingLines.{Reads, reads_none, Reports}
 use Rattle.x25_line.proofs.HealingSteps.{Sound, sound_swapped, near_up, counted}
+use Rattle.x25_line.proofs.HealingResent.{resent_rests}
 use Rattle.x25_line.proofs.HealingRuns.{reached_sound, arrives, shows_at_rest, refused, SentPoll, sends_poll}
 use Rattle.x25_line.proofs.HealingEnds.{after_firings, quiet_ends}
 use Rattle.x25_line.proofs.DrainRuns.{some_drain}
 use Rattle.x25_line.proofs.BusyLines.{AtMostAsks, hears_busy, Told}
-use Rattle.x25_line.proofs.BusyPhases.{Pair, pair_swapped, Heals, near_heals, far_heals}
+use Rattle.x25_line.proofs.BusyPhases.{Pair, pair_swapped, Heals, near_heals, far_heals, ups}
 
 -- nothing waits at an end at rest, so it isn't busy
 rest_free : (s : LinkStation) → IsAtRest s → is_busy s ≡ false
@@ -87,14 +88,7 @@ module _ (c d : Settings) (joined : AreJoined c d) (reads : ReadsSpelled) (laws 
   settles v (b, inl h) drained = one_frame _ _ (reads_none (other d.role) d.longest v.out (says h.busy true h.number true ∷ h.rest) h.out drained.out)
   settles v (b, inr (inl h)) drained =
       not_behind h.before (says h.busy false h.number true) h.behind (reads_none (other c.role) c.longest v.back (h.before ++ says h.busy false h.number true ∷ h.behind) h.back drained.back)
-  settles v (b, inr (inr (inl h))) drained =
-      let r = length v.far.station.taken in
-      let o = v.near.station.outgoing in
-      let none = reads_none (other d.role) d.longest v.out h.there h.out drained.out in
-      let nothing_back = reads_none (other c.role) c.longest v.back h.behind h.back drained.back in
-      let ahead : r ≡ o.place = subst (λ (fs : List PlainFrame). Ahead (Unit {0}) r fs o.place) none h.ahead in
-      let reports : o.acked ≡ r = subst (λ (gs : List PlainFrame). Reports r o.acked gs) nothing_back h.reports in
-      inl (laws.rest.all_heard c.window v.near.station joined.near_low (near_up c d v b.sound b.near_on).sound b.sound.near_said b.near_on h.recovery h.peer_busy (omega (arith, ahead, reports)))
+  settles v (b, inr (inr (inl (h, free)))) drained = inl (resent_rests (Unit {0}) c d joined reads laws v (ups v b) h drained)
   settles v (b, inr (inr (inr (inl h)))) drained =
       let nothing_back = reads_none (other c.role) c.longest v.back h.behind h.back drained.back in
       let said : v.far.station.said_busy ≡ true = subst (λ (gs : List PlainFrame). Told (hears_busy true gs) v.far.station) nothing_back h.told in
@@ -131,17 +125,19 @@ module _ (c d : Settings) (joined : AreJoined c d) (reads : ReadsSpelled) (laws 
   rests_alone v b rest free empty behind back reports =
       let a = has_all v b rest in (
         b,
-        inr (inr (inl (record {
-          there = [];
-          behind = behind;
-          out = subst (λ (os : List (List ℕ)). Reads (other d.role) d.longest os []) (sym empty) tt;
-          back = back;
-          recovery = a.recovery;
-          peer_busy = a.peer_busy;
-          ahead = a.place;
-          reports = reports;
-          free = free;
-        }))),
+        inr (inr (inl ((
+          record {
+            there = [];
+            behind = behind;
+            out = subst (λ (os : List (List ℕ)). Reads (other d.role) d.longest os []) (sym empty) tt;
+            back = back;
+            recovery = a.recovery;
+            peer_busy = a.peer_busy;
+            ahead = a.place;
+            reports = reports;
+          },
+          free,
+        )))),
       )
 
   rests_polled : (v : Stations) → Pair c d v → IsAtRest v.near.station → v.out ≡ [] → (busy : Bool) → is_busy v.far.station ≡ busy → v.far.station.said_busy ≡ busy → (n : ℕ) → n ≡ length v.far.station.taken % 8

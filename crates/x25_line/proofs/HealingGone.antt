@@ -14,7 +14,7 @@ use Rattle.x25_line.specs.laws.StationClaims.{AreJoined}
 use Rattle.x25_line.specs.Healing.{IsDrained, IsDeliver, AreDeliveries, GoneEnds}
 use Rattle.x25_line.specs.laws.LawsBelow.{HealingLaws}
 use Rattle.x25_line.proofs.HealingLines.{Reads, front_reads, none_reads, reads_none, reads_more}
-use Rattle.x25_line.proofs.HealingPhases.{up_is}
+use Rattle.x25_line.proofs.HealingSteps.{up_is}
 use Rattle.x25_line.proofs.HealingRuns.{reached_sound, fires}
 
 -- the poll is on the line to an end that is out; or DM is on the line back; or the near end has left

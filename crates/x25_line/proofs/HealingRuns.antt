@@ -24,9 +24,10 @@ use Rattle.x25_line.specs.laws.LawsBelow.{HealingLaws}
 use Rattle.x25_line.proofs.StationRuns.{machine_joint, run_once, start_machine}
 use Rattle.x25_line.proofs.StationClaimLemmas.{holds_order, holds_lists}
 use Rattle.x25_line.proofs.StationEvents.{each_hands_one}
-use Rattle.x25_line.proofs.HealingLines.{Reads, reads_more, whole_behind, reads_none, Ahead, Reports}
-use Rattle.x25_line.proofs.HealingSteps.{Sound, near_up}
-use Rattle.x25_line.proofs.HealingPhases.{Heals, up_is, rest_has_all, near_heals, far_heals}
+use Rattle.x25_line.proofs.HealingLines.{Reads, reads_more, whole_behind, reads_none}
+use Rattle.x25_line.proofs.HealingSteps.{Sound, near_up, up_is}
+use Rattle.x25_line.proofs.HealingResent.{resent_rests}
+use Rattle.x25_line.proofs.HealingPhases.{Heals, rest_has_all, near_heals, far_heals, ups}
 
 -- ---- each end has said all that it may, after each event
 
@@ -316,14 +317,7 @@ module _ (c d : Settings) (joined : AreJoined c d) (reads : ReadsSpelled) (laws 
   pub settles : (most : ℕ) (Was : Type 0) (v : Stations) → Heals c d most Was v → IsDrained v → IsAtRest v.near.station
   settles most Was v (b, inl h) drained = one_frame _ _ (reads_none (other d.role) d.longest v.out (rr true h.number true ∷ h.rest) h.out drained.out)
   settles most Was v (b, inr (inl h)) drained = not_behind h.before (rr false h.number true) h.behind (reads_none (other c.role) c.longest v.back (h.before ++ rr false h.number true ∷ h.behind) h.back drained.back)
-  settles most Was v (b, inr (inr h)) drained =
-      let r = length v.far.station.taken in
-      let o = v.near.station.outgoing in
-      let none = reads_none (other d.role) d.longest v.out h.there h.out drained.out in
-      let nothing_back = reads_none (other c.role) c.longest v.back h.behind h.back drained.back in
-      let ahead : r ≡ o.place = subst (λ (fs : List PlainFrame). Ahead ⊥ r fs o.place) none h.ahead in
-      let reports : o.acked ≡ r = subst (λ (gs : List PlainFrame). Reports r o.acked gs) nothing_back h.reports in
-      laws.rest.all_heard c.window v.near.station joined.near_low (near_up c d v b.sound b.near_on).sound b.sound.near_said b.near_on h.recovery h.peer_busy (omega (arith, ahead, reports))
+  settles most Was v (b, inr (inr h)) drained = resent_rests ⊥ c d joined reads laws v (ups v b) h drained
 
   healed : (w v : Stations) → Heals c d w.far.station.tries (IsAtRest w.far.station) v → IsDrained v → OneHeals w v
   healed w v h drained =
