@@ -12,14 +12,14 @@ use Rattle.x25_link.specs.laws.RestLaw.{IsAtRest}
 use Rattle.x25_link.specs.laws.AnswerLaw.{says}
 use Rattle.x25_link.specs.laws.BusyLaw.{BusyLaws}
 use Rattle.x25_link.proofs.EndLemmas.{busy_is}
-use Rattle.x25_line.specs.Stations.{StationEnd, Stations, Act, Put, Deliver, T1, Connect, Disconnect, Abandon, Lose, Damage, Event, Near, Far, acts, swapped, happens, run, start}
+use Rattle.x25_line.specs.Stations.{StationEnd, Stations, Act, T1, Event, Near, Far, acts, swapped, happens, run, start}
 use Rattle.x25_line.specs.laws.StationClaims.{AreJoined, IsSetUpOnce}
 use Rattle.x25_line.specs.Healing.{IsDrained, IsDeliver, AreDeliveries, IsHealed, HasTries, OneIsFree, OneBusyHeals, SomeBusyHeal, HealsUnlessBothBusy}
 use Rattle.x25_line.specs.laws.LawsBelow.{HealingLaws}
 use Rattle.x25_line.proofs.StationSteps.{not_both}
 use Rattle.x25_line.proofs.StationRuns.{joined_swapped}
-use Rattle.x25_line.proofs.HealingLines.{Reads, reads_none, Reports}
-use Rattle.x25_line.proofs.HealingSteps.{Sound, sound_swapped, near_up, counted}
+use Rattle.x25_line.proofs.HealingLines.{Reads, reads_none, Reports, one_frame, not_behind}
+use Rattle.x25_line.proofs.HealingSteps.{Sound, sound_swapped, near_up, counted, deliver_is}
 use Rattle.x25_line.proofs.HealingResent.{resent_rests}
 use Rattle.x25_line.proofs.HealingRuns.{reached_sound, arrives, shows_at_rest, refused, SentPoll, sends_poll}
 use Rattle.x25_line.proofs.HealingEnds.{after_firings, quiet_ends}
@@ -39,13 +39,6 @@ asks_at : (busy : Bool) (n : ℕ) → AtMostAsks (says busy true n true ∷ [])
 asks_at true n = tt
 asks_at false n = tt
 
-one_frame : (f : PlainFrame) (fs : List PlainFrame) {A : Type 0} → f ∷ fs ≡ [] → A
-one_frame f fs e = absurd (omega (arith, ap length e))
-
-not_behind : (before : List PlainFrame) (f : PlainFrame) (fs : List PlainFrame) {A : Type 0} → before ++ f ∷ fs ≡ [] → A
-not_behind [] f fs e = one_frame f fs e
-not_behind (g ∷ gs) f fs e = one_frame g (gs ++ f ∷ fs) e
-
 free_turned : (s t : LinkStation) → OneIsFree s t → OneIsFree t s
 free_turned s t h = elim h [ inl near ↦ inr near | inr far ↦ inl far ]
 
@@ -64,24 +57,10 @@ module _ (c d : Settings) (joined : AreJoined c d) (reads : ReadsSpelled) (laws 
   -- ---- deliveries
 
   near_event : (a : Act) (w : Stations) → IsDeliver a → Heals c d w → Heals c d (acts c a w)
-  near_event (Put packet) w is h = absurd is
-  near_event Deliver w is h = near_heals c d joined reads laws busy_laws w h
-  near_event T1 w is h = absurd is
-  near_event Connect w is h = absurd is
-  near_event Disconnect w is h = absurd is
-  near_event Abandon w is h = absurd is
-  near_event (Lose i) w is h = absurd is
-  near_event (Damage i octets) w is h = absurd is
+  near_event a w is h = subst (λ (act : Act). Heals c d (acts c act w)) (deliver_is a is) (near_heals c d joined reads laws busy_laws w h)
 
   far_event : (a : Act) (w : Stations) → IsDeliver a → Heals c d w → Heals c d (swapped (acts d a (swapped w)))
-  far_event (Put packet) w is h = absurd is
-  far_event Deliver w is h = far_heals c d joined reads laws busy_laws w h
-  far_event T1 w is h = absurd is
-  far_event Connect w is h = absurd is
-  far_event Disconnect w is h = absurd is
-  far_event Abandon w is h = absurd is
-  far_event (Lose i) w is h = absurd is
-  far_event (Damage i octets) w is h = absurd is
+  far_event a w is h = subst (λ (act : Act). Heals c d (swapped (acts d act (swapped w)))) (deliver_is a is) (far_heals c d joined reads laws busy_laws w h)
 
   -- once nothing is on the line any more
   settles : (v : Stations) → Heals c d v → IsDrained v → RestsUnlessBusy v

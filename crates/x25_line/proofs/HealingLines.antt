@@ -1,5 +1,5 @@
 -- The frames that stand on a line, and those among them that matter while an end heals.
-use Rattle.std.proofs.Common.{◌≡◌, ℕ, ◌+◌, ◌%◌, ◌≤◌, List, [], ◌∷◌, ◌++◌, map, false, Ok, refl, sym, subst, arith}
+use Rattle.std.proofs.Common.{◌≡◌, ℕ, ◌+◌, ◌%◌, ◌≤◌, List, [], ◌∷◌, ◌++◌, map, false, Ok, refl, sym, subst, arith, length, ap}
 use Rattle.std.specs.Prelude.{◌&&◌, not}
 use Rattle.std.proofs.lemmas.Bool.{and_left, and_right}
 use Rattle.x25_bits.specs.declared.role.Role.{Role}
@@ -59,6 +59,14 @@ reads_none from n1 (o ∷ os) (f ∷ fs) h e = absurd (not_nil e)
   where
     not_nil : o ∷ os ≡ [] → ⊥
     not_nil e = cc
+
+-- a frame is there
+pub one_frame : (f : PlainFrame) (fs : List PlainFrame) {A : Type 0} → f ∷ fs ≡ [] → A
+one_frame f fs e = absurd (omega (arith, ap length e))
+
+pub not_behind : (before : List PlainFrame) (f : PlainFrame) (fs : List PlainFrame) {A : Type 0} → before ++ f ∷ fs ≡ [] → A
+not_behind [] f fs e = one_frame f fs e
+not_behind (g ∷ gs) f fs e = one_frame g (gs ++ f ∷ fs) e
 
 -- ---- frames to the other end: the I frames that are awaited, one after another, and nothing that asks; and RNR where `Rnr`, as an end may be busy
 

@@ -1,5 +1,5 @@
 -- While both ends heal, each delivery makes the load of the world less, so that deliveries come to an end.
-use Rattle.std.proofs.Common.{◌≡◌, ℕ, suc, zero, ◌+◌, ◌-◌, ◌*◌, ◌%◌, ◌≤◌, List, [], ◌∷◌, ◌++◌, inl, inr, length, max, Bool, true, false, not, if◌then◌else◌, Ok, refl, sym, ap, ◌∙◌, arith}
+use Rattle.std.proofs.Common.{◌≡◌, ℕ, suc, zero, ◌+◌, ◌-◌, ◌*◌, ◌%◌, ◌≤◌, List, [], ◌∷◌, ◌++◌, inl, inr, length, max, Bool, true, false, not, if◌then◌else◌, Ok, refl, sym, ap, ◌∙◌, arith, subst}
 use Rattle.std.specs.Prelude.{◌&&◌}
 use Rattle.std.proofs.lemmas.Bool.{eq-eqb}
 use Rattle.x25_bits.specs.declared.role.Role.{Role}
@@ -8,14 +8,14 @@ use Rattle.x25_frame.specs.laws.ReadingLaw.{ReadsSpelled}
 use Rattle.x25_link.specs.LinkStation.{Settings, LinkStation, is_up, is_busy, wanted}
 use Rattle.x25_link.specs.MustSend.{other, is_taken}
 use Rattle.x25_link.specs.laws.AnswerLaw.{says, AreNext, weight_of, weight_if, Outcome, heard, confirms, once_taken}
-use Rattle.x25_line.specs.Stations.{Stations, Act, Put, Deliver, T1, Connect, Disconnect, Abandon, Lose, Damage, Event, Near, Far, acts, swapped, run, start}
+use Rattle.x25_line.specs.Stations.{Stations, Act, Deliver, T1, Event, Near, Far, acts, swapped, run, start}
 use Rattle.x25_line.specs.laws.StationClaims.{AreJoined}
 use Rattle.x25_line.specs.Healing.{IsDrained, IsDeliver, AreDeliveries, frame_load, line_load, to_send, load, EachFinds, DeliveriesEnd, SomeHeal}
 use Rattle.x25_line.specs.laws.LawsBelow.{HealingLaws}
 use Rattle.x25_line.proofs.StationSteps.{not_both}
 use Rattle.x25_line.proofs.StationRuns.{joined_swapped}
 use Rattle.x25_line.proofs.HealingLines.{Reads, none_reads, Ahead, Mild, mild_ahead}
-use Rattle.x25_line.proofs.HealingSteps.{near_up, readied, polled, finished, rejected, Delivered, hears_ready, hears_poll, hears_final, hears_rej, hears_taken}
+use Rattle.x25_line.proofs.HealingSteps.{near_up, readied, polled, finished, rejected, Delivered, hears_ready, hears_poll, hears_final, hears_rej, hears_taken, deliver_is}
 use Rattle.x25_line.proofs.HealingPhases.{Both, Heals, ups}
 use Rattle.x25_line.proofs.HealingRuns.{reached_sound}
 use Rattle.x25_line.proofs.HealingBoth.{HealsBoth, both_near, both_far, both_run, both_settle, fired_both}
@@ -220,24 +220,10 @@ module _ (c d : Settings) (joined : AreJoined c d) (reads : ReadsSpelled) (laws 
       omega (arith, less, load_swapped c d w, load_swapped d c v)
 
   near_counts : (m n : ℕ) (a : Act) (w : Stations) → IsDeliver a → HealsBoth c d joined reads laws m n w → (w.back ≡ [] → ⊥) → load c d (acts c a w) + 1 ≤ load c d w
-  near_counts m n (Put packet) w is h finds = absurd is
-  near_counts m n Deliver w is h finds = near_less c d joined reads laws m n w h finds
-  near_counts m n T1 w is h finds = absurd is
-  near_counts m n Connect w is h finds = absurd is
-  near_counts m n Disconnect w is h finds = absurd is
-  near_counts m n Abandon w is h finds = absurd is
-  near_counts m n (Lose i) w is h finds = absurd is
-  near_counts m n (Damage i octets) w is h finds = absurd is
+  near_counts m n a w is h finds = subst (λ (act : Act). load c d (acts c act w) + 1 ≤ load c d w) (deliver_is a is) (near_less c d joined reads laws m n w h finds)
 
   far_counts : (m n : ℕ) (a : Act) (w : Stations) → IsDeliver a → HealsBoth c d joined reads laws m n w → (w.out ≡ [] → ⊥) → load c d (swapped (acts d a (swapped w))) + 1 ≤ load c d w
-  far_counts m n (Put packet) w is h finds = absurd is
-  far_counts m n Deliver w is h finds = far_less m n w h finds
-  far_counts m n T1 w is h finds = absurd is
-  far_counts m n Connect w is h finds = absurd is
-  far_counts m n Disconnect w is h finds = absurd is
-  far_counts m n Abandon w is h finds = absurd is
-  far_counts m n (Lose i) w is h finds = absurd is
-  far_counts m n (Damage i octets) w is h finds = absurd is
+  far_counts m n a w is h finds = subst (λ (act : Act). load c d (swapped (acts d act (swapped w))) + 1 ≤ load c d w) (deliver_is a is) (far_less m n w h finds)
 
   count : (m n : ℕ) (es : List Event) (w : Stations) → AreDeliveries es → HealsBoth c d joined reads laws m n w → EachFinds c d es w → length es ≤ load c d w
   count m n [] w are h finds = omega arith

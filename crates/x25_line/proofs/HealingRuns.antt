@@ -24,8 +24,8 @@ use Rattle.x25_line.specs.laws.LawsBelow.{HealingLaws}
 use Rattle.x25_line.proofs.StationRuns.{machine_joint, run_once, start_machine}
 use Rattle.x25_line.proofs.StationClaimLemmas.{holds_order, holds_lists}
 use Rattle.x25_line.proofs.StationEvents.{each_hands_one}
-use Rattle.x25_line.proofs.HealingLines.{Reads, reads_more, whole_behind, reads_none}
-use Rattle.x25_line.proofs.HealingSteps.{Sound, near_up, up_is}
+use Rattle.x25_line.proofs.HealingLines.{Reads, reads_more, whole_behind, reads_none, one_frame, not_behind}
+use Rattle.x25_line.proofs.HealingSteps.{Sound, near_up, up_is, deliver_is}
 use Rattle.x25_line.proofs.HealingResent.{resent_rests}
 use Rattle.x25_line.proofs.HealingPhases.{Heals, rest_has_all, near_heals, far_heals, ups}
 
@@ -255,24 +255,10 @@ module _ (c d : Settings) (joined : AreJoined c d) (reads : ReadsSpelled) (laws 
   -- ---- deliveries
 
   pub near_event : (most : ℕ) (Was : Type 0) (a : Act) (w : Stations) → IsDeliver a → Heals c d most Was w → Heals c d most Was (acts c a w)
-  near_event most Was (Put packet) w is h = absurd is
-  near_event most Was Deliver w is h = near_heals c d joined reads laws most Was w h
-  near_event most Was T1 w is h = absurd is
-  near_event most Was Connect w is h = absurd is
-  near_event most Was Disconnect w is h = absurd is
-  near_event most Was Abandon w is h = absurd is
-  near_event most Was (Lose i) w is h = absurd is
-  near_event most Was (Damage i octets) w is h = absurd is
+  near_event most Was a w is h = subst (λ (act : Act). Heals c d most Was (acts c act w)) (deliver_is a is) (near_heals c d joined reads laws most Was w h)
 
   pub far_event : (most : ℕ) (Was : Type 0) (a : Act) (w : Stations) → IsDeliver a → Heals c d most Was w → Heals c d most Was (swapped (acts d a (swapped w)))
-  far_event most Was (Put packet) w is h = absurd is
-  far_event most Was Deliver w is h = far_heals c d joined reads laws most Was w h
-  far_event most Was T1 w is h = absurd is
-  far_event most Was Connect w is h = absurd is
-  far_event most Was Disconnect w is h = absurd is
-  far_event most Was Abandon w is h = absurd is
-  far_event most Was (Lose i) w is h = absurd is
-  far_event most Was (Damage i octets) w is h = absurd is
+  far_event most Was a w is h = subst (λ (act : Act). Heals c d most Was (swapped (acts d act (swapped w)))) (deliver_is a is) (far_heals c d joined reads laws most Was w h)
 
   heals_run : (most : ℕ) (Was : Type 0) (es : List Event) (w : Stations) → AreDeliveries es → Heals c d most Was w → Heals c d most Was (run c d es w)
   heals_run most Was [] w are h = h
@@ -280,24 +266,10 @@ module _ (c d : Settings) (joined : AreJoined c d) (reads : ReadsSpelled) (laws 
   heals_run most Was (Far a ∷ es) w are h = heals_run most Was es (swapped (acts d a (swapped w))) are.1 (far_event most Was a w are.0 h)
 
   idle_act : (a : Act) (w : Stations) → IsDeliver a → w.back ≡ [] → acts c a w ≡ w
-  idle_act (Put packet) w is none = absurd is
-  idle_act Deliver w is none = ap (λ (os : List (List ℕ)). delivered c os w) none
-  idle_act T1 w is none = absurd is
-  idle_act Connect w is none = absurd is
-  idle_act Disconnect w is none = absurd is
-  idle_act Abandon w is none = absurd is
-  idle_act (Lose i) w is none = absurd is
-  idle_act (Damage i octets) w is none = absurd is
+  idle_act a w is none = subst (λ (act : Act). acts c act w ≡ w) (deliver_is a is) (ap (λ (os : List (List ℕ)). delivered c os w) none)
 
   far_idle_act : (a : Act) (w : Stations) → IsDeliver a → w.out ≡ [] → swapped (acts d a (swapped w)) ≡ w
-  far_idle_act (Put packet) w is none = absurd is
-  far_idle_act Deliver w is none = ap (λ (os : List (List ℕ)). swapped (delivered d os (swapped w))) none
-  far_idle_act T1 w is none = absurd is
-  far_idle_act Connect w is none = absurd is
-  far_idle_act Disconnect w is none = absurd is
-  far_idle_act Abandon w is none = absurd is
-  far_idle_act (Lose i) w is none = absurd is
-  far_idle_act (Damage i octets) w is none = absurd is
+  far_idle_act a w is none = subst (λ (act : Act). swapped (acts d act (swapped w)) ≡ w) (deliver_is a is) (ap (λ (os : List (List ℕ)). swapped (delivered d os (swapped w))) none)
 
   pub idle_run : (es : List Event) (w : Stations) → AreDeliveries es → IsDrained w → run c d es w ≡ w
   idle_run [] w are drained = refl
@@ -305,13 +277,6 @@ module _ (c d : Settings) (joined : AreJoined c d) (reads : ReadsSpelled) (laws 
   idle_run (Far a ∷ es) w are drained = ap (run c d es) (far_idle_act a w are.0 drained.out) ∙ idle_run es w are.1 drained
 
   -- ---- the end
-
-  one_frame : (f : PlainFrame) (fs : List PlainFrame) {A : Type 0} → f ∷ fs ≡ [] → A
-  one_frame f fs e = absurd (omega (arith, ap length e))
-
-  not_behind : (before : List PlainFrame) (f : PlainFrame) (fs : List PlainFrame) {A : Type 0} → before ++ f ∷ fs ≡ [] → A
-  not_behind [] f fs e = one_frame f fs e
-  not_behind (g ∷ gs) f fs e = one_frame g (gs ++ f ∷ fs) e
 
   -- once nothing is on the line any more, the near end is at rest
   pub settles : (most : ℕ) (Was : Type 0) (v : Stations) → Heals c d most Was v → IsDrained v → IsAtRest v.near.station

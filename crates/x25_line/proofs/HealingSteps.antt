@@ -20,9 +20,10 @@ use Rattle.x25_link.specs.WindowMachine.{Window, Shows, ShowAll}
 use Rattle.x25_link.specs.laws.RestLaw.{HasSaidAll}
 use Rattle.x25_link.specs.laws.AnswerLaw.{says, AreNext, weight_of, weight_if, Outcome, Answers, heard, goes_on_from, once_taken, busy_after, passed_over}
 use Rattle.x25_line.specs.Line.{Line, swapped as line_swapped}
-use Rattle.x25_line.specs.Stations.{Stations, Deliver, after_step, delivered, acts, swapped}
+use Rattle.x25_line.specs.Stations.{Stations, Act, Put, Deliver, T1, Connect, Disconnect, Abandon, Lose, Damage, after_step, delivered, acts, swapped}
 use Rattle.x25_line.specs.laws.StationClaims.{AreJoined, number_in, numbered_on, AreWhole}
 use Rattle.x25_line.specs.WholeNumbers.{machine_acts}
+use Rattle.x25_line.specs.Healing.{IsDeliver}
 use Rattle.x25_line.specs.laws.LawsBelow.{HealingLaws}
 use Rattle.x25_line.proofs.Kept.{Way, hears_valid, Way-acked, resolved_is}
 use Rattle.x25_line.proofs.Frames.{Acks-le}
@@ -167,6 +168,16 @@ hears_well c d w h up other_up f gs is_numbered r =
     }
 
 -- ---- one delivery to the near end
+
+pub deliver_is : (a : Act) → IsDeliver a → Deliver ≡ a
+deliver_is Deliver is = refl
+deliver_is (Put packet) is = absurd is
+deliver_is T1 is = absurd is
+deliver_is Connect is = absurd is
+deliver_is Disconnect is = absurd is
+deliver_is Abandon is = absurd is
+deliver_is (Lose i) is = absurd is
+deliver_is (Damage i octets) is = absurd is
 
 -- what it makes of the world, where the step answers so
 pub record Delivered (c d : Settings) (w v : Stations) (fs gs : List PlainFrame) (o : Outcome) (octets : List ℕ) : Type 0 where
