@@ -16,7 +16,8 @@ use Rattle.x25_bit_line.specs.code.Frames.{FramesOn, Leads, WritesFrames}
 use Rattle.x25_bit_line.specs.declared.frame_sender.FrameSender.{FrameSender}
 use Rattle.x25_bit_line.specs.declared.framer.Framer.{Framer}
 use Rattle.x25_bit_line.specs.declared.line_bits.LineBits.{LineBits}
-use Rattle.x25_bit_line.proofs.FrameLineLemmas.{GoesOn, bits_on, line_ended, no_bits, none_wrong, open-append, text_ended, wrong_on}
+use Rattle.x25_io.proofs.LineLemmas.{ends_line, ends_text, open-append}
+use Rattle.x25_bit_line.proofs.FrameLineLemmas.{GoesOn, bits_on, no_bits, none_wrong, wrong_on}
 
 -- before anything is read
 pub start : (old : Option (List ℕ)) (f : Framer) (input : List ℕ) → HoldsLine [] f.held → f.sender.bits.bits ≡ [] → f.sender.output ≡ [] → f.sender.is_wrong ≡ false
@@ -68,20 +69,20 @@ module _ (old now next : Option (List ℕ)) (all : List Bool) (any : Bool) where
 
   pub line_done : (s u : Framer) (rest : List ℕ) (l : Leads old now s (10 ∷ rest) all any) → HoldsLine [] u.held
       → Sends old next u.sender.bits.bits u.sender.output (l.bits ++ line_bits l.begun) → u.sender.is_wrong ≡ (s.sender.is_wrong || is_wrong l.begun) → Leads old next u rest all any
-  line_done s u rest l = line_gone s u (10 ∷ rest) rest l (line_ended l.begun rest l.is_open)
+  line_done s u rest l = line_gone s u (10 ∷ rest) rest l (ends_line l.begun rest l.is_open)
 
   pub line_failed : (s : Framer) (rest : List ℕ) (l : Leads old now s (10 ∷ rest) all any)
       → ((behind : List Bool) → AppendsPrefix old next (octets_of (filled ((l.bits ++ line_bits l.begun) ++ behind)))) → AppendsPrefix old next (octets_of (filled all))
-  line_failed s rest l = line_lost s (10 ∷ rest) rest l (line_ended l.begun rest l.is_open)
+  line_failed s rest l = line_lost s (10 ∷ rest) rest l (ends_line l.begun rest l.is_open)
 
   -- the last line, without a line feed
   pub last_done : (s u : Framer) (l : Leads old now s [] all any) → (l.begun ≡ [] → ⊥) → HoldsLine [] u.held
       → Sends old next u.sender.bits.bits u.sender.output (l.bits ++ line_bits l.begun) → u.sender.is_wrong ≡ (s.sender.is_wrong || is_wrong l.begun) → Leads old next u [] all any
-  last_done s u l some = line_gone s u [] [] l (text_ended l.begun l.is_open some)
+  last_done s u l some = line_gone s u [] [] l (ends_text l.begun l.is_open some)
 
   pub last_failed : (s : Framer) (l : Leads old now s [] all any) → (l.begun ≡ [] → ⊥)
       → ((behind : List Bool) → AppendsPrefix old next (octets_of (filled ((l.bits ++ line_bits l.begun) ++ behind)))) → AppendsPrefix old next (octets_of (filled all))
-  last_failed s l some = line_lost s [] [] l (text_ended l.begun l.is_open some)
+  last_failed s l some = line_lost s [] [] l (ends_text l.begun l.is_open some)
 
   -- what waited is written
   pub leads_written : (s u : Framer) (rest : List ℕ) (l : Leads old now s rest all any) → u.held ≡ s.held → u.sender.bits ≡ s.sender.bits → u.sender.is_wrong ≡ s.sender.is_wrong

@@ -1,5 +1,6 @@
 //! Lines sent as frames as they come, with at most one line held.
 use crate::frame_sender::FrameSender;
+use x25_decode::long_lines_send_nothing;
 use x25_io::{Fault, HeldLine, Sink, TextTaker, split_line};
 
 /// The line that has begun, and what was sent.
@@ -42,6 +43,7 @@ impl Framer {
         match self.held.line() {
             Some(line) => self.sender.take(line, writer),
             None => {
+                long_lines_send_nothing();
                 self.sender.refuse();
                 Ok(())
             }

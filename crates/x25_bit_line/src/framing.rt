@@ -40,15 +40,9 @@ pub fn frame<R: Source, W: Sink>(alloc: Global, reader: &mut R, writer: &mut W) 
     // Nor did any where want of memory is answered.
     ensures memory { IsErrOf result Fault.NoMemory → (R.is_marked reader.new ≡ R.is_marked reader.old) × (W.is_marked writer.new ≡ W.is_marked writer.old) }
 {
-    let Ok(mut piece) = vec![in alloc; 0u8; PIECE] else {
-        return Err(Fault::NoMemory);
-    };
-    let Ok(held) = HeldLine::new(alloc) else {
-        return Err(Fault::NoMemory);
-    };
-    let Ok(sender) = FrameSender::new(alloc) else {
-        return Err(Fault::NoMemory);
-    };
+    let mut piece = vec![in alloc; 0u8; PIECE]?;
+    let held = HeldLine::new(alloc)?;
+    let sender = FrameSender::new(alloc)?;
     let framer = Framer::new(held, sender);
     take_text(framer, piece.as_mut_slice(), reader, writer)
 }

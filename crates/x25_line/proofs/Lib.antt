@@ -14,6 +14,7 @@ pub mod StationEvents
 pub mod rows
 pub mod HealingLines
 pub mod HealingSteps
+pub mod HealingResent
 pub mod HealingPhases
 pub mod HealingRuns
 pub mod HealingBoth
@@ -24,6 +25,7 @@ pub mod HealingSetUp
 pub mod HealingEnds
 pub mod HealingSessions
 pub mod HealingStands
+pub mod HealingPutsSessions
 pub mod HealingSessionEnds
 pub mod DrainWeights
 pub mod DrainSteps

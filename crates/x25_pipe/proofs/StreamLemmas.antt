@@ -1,10 +1,10 @@
 -- An input, a piece at a time.
-use Rattle.std.proofs.Common.{◌≡◌, ◌∙◌, ℕ, false, List, [], ◌∷◌, ◌++◌, Option, append_assoc, ap, sym, subst, refl, nat_eq}
+use Rattle.std.proofs.Common.{◌≡◌, ◌∙◌, ℕ, false, List, [], ◌∷◌, ◌++◌, Option, append_assoc, ap, sym, subst, refl}
 use Rattle.std.specs.Io.KnownBytes.{Appends}
-use Rattle.std.proofs.lemmas.Bool.{ne_eqb}
 use Rattle.std.proofs.lemmas.List.{append-nil}
 use Rattle.x25_io.specs.Lines.{IsOpen, lines_of}
 use Rattle.x25_io.specs.code.Written.{AppendsPrefix}
+use Rattle.x25_io.proofs.LineLemmas.{ends_line, ends_text, open-append}
 use Rattle.x25_station.specs.Settings.{Settings}
 use Rattle.x25_station.specs.Station.{Station}
 use Rattle.x25_pipe.specs.Piped.{Turn, quiet, and_then, turn, turns, sayings_text, has_refusal}
@@ -19,22 +19,6 @@ use Rattle.x25_pipe.proofs.StandLemmas.{StandsAt, BeginsAt}
 
 -- ---- lines
 
--- a line that ends
-ends_line : (begun rest : List ℕ) → IsOpen begun → lines_of (begun ++ 10 ∷ rest) ≡ begun ∷ lines_of rest
-unfolding lines_of
-ends_line [] rest none = refl
-ends_line (b ∷ begun) rest none = let test : nat_eq b 10 ≡ false = ne_eqb b 10 none.0 in rw (test, ends_line begun rest none.1) refl
-
--- the last line
-last_line : (b : ℕ) (begun : List ℕ) → IsOpen (b ∷ begun) → lines_of (b ∷ begun) ≡ (b ∷ begun) ∷ lines_of []
-unfolding lines_of
-last_line b [] none = let test : nat_eq b 10 ≡ false = ne_eqb b 10 none.0 in rw test refl
-last_line b (c ∷ begun) none = let test : nat_eq b 10 ≡ false = ne_eqb b 10 none.0 in rw (test, last_line c begun none.1) refl
-
-open-append : (xs ys : List ℕ) → IsOpen xs → IsOpen ys → IsOpen (xs ++ ys)
-open-append [] ys h k = k
-open-append (x ∷ xs) ys h k = (h.0, open-append xs ys h.1 k)
-
 module _ (c : Settings) where
   by_lines : (text : List ℕ) (line : List ℕ) (rest : List ℕ) (w : Station) → lines_of text ≡ line ∷ lines_of rest
       → turns c (lines_of text) w ≡ and_then (turns c (lines_of rest)) (turn c line w)
@@ -45,8 +29,7 @@ module _ (c : Settings) where
   turns_ended begun rest w none = by_lines (begun ++ 10 ∷ rest) begun rest w (ends_line begun rest none)
 
   turns_last : (begun : List ℕ) (w : Station) → IsOpen begun → (begun ≡ [] → ⊥) → turns c (lines_of (begun ++ [])) w ≡ and_then (turns c (lines_of [])) (turn c begun w)
-  turns_last [] w none some = absurd (some refl)
-  turns_last (b ∷ begun) w none some = by_lines ((b ∷ begun) ++ []) (b ∷ begun) [] w (ap lines_of (append-nil (b ∷ begun)) ∙ last_line b begun none)
+  turns_last begun w none some = by_lines (begun ++ []) begun [] w (ends_text begun none some)
 
   turns_none : (w : Station) → turns c (lines_of []) w ≡ quiet w
   unfolding turns lines_of

@@ -49,12 +49,8 @@ pub fn station<R: Source, W: Sink>(
     // Nor did any where want of memory is answered.
     ensures memory { IsErrOf result Fault.NoMemory → (R.is_marked reader.new ≡ R.is_marked reader.old) × (W.is_marked writer.new ≡ W.is_marked writer.old) }
 {
-    let Ok(mut piece) = vec![in alloc; 0u8; PIECE] else {
-        return Err(Fault::NoMemory);
-    };
-    let Ok(held) = HeldLine::new(alloc) else {
-        return Err(Fault::NoMemory);
-    };
+    let mut piece = vec![in alloc; 0u8; PIECE]?;
+    let held = HeldLine::new(alloc)?;
     let mut pipe = Pipe::new(alloc, end, cfg)?;
     pipe.mark_standing(writer)?;
     let answerer = Answerer::new(held, pipe);

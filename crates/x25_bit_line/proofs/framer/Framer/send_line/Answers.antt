@@ -4,7 +4,7 @@ use Rattle.std.proofs.Math.Bool.{or-true}
 use Rattle.x25_io.specs.HeldLine.{most_line}
 use Rattle.x25_bit_line.specs.Framed.{is_wrong, line_bits}
 use Rattle.x25_bit_line.specs.Sending.{SendsLine}
-use Rattle.x25_bit_line.proofs.FrameLineLemmas.{long_is_wrong, long_sends_none}
+use Rattle.x25_bit_line.proofs.FrameLineLemmas.{long_is_wrong, sends_none}
 use Rattle.x25_bit_line.proofs.SendingLemmas.{sends_nothing}
 use Rattle.x25_bit_line.proofs.framer.Framer.send_line.Goals as goal
 
@@ -21,8 +21,8 @@ returns-in-Some-clause-wrong g c = λ begun holds.
 
 pub returns-in-None-clause-sends : goal.returns-in-None-clause-sends
 returns-in-None-clause-sends g c = λ begun holds old bits h.
-    rw (c.refuse.ensures.bits, c.refuse.ensures.output) (sends_nothing old _ _ _ bits (line_bits begun) (long_sends_none begun (c.in-None.ensures begun holds)) h)
+    rw (c.refuse.ensures.bits, c.refuse.ensures.output) (sends_nothing old _ _ _ bits (line_bits begun) (sends_none begun (c.long_lines_send_nothing.ensures begun (c.in-None.ensures begun holds))) h)
 
 pub returns-in-None-clause-wrong : goal.returns-in-None-clause-wrong
 returns-in-None-clause-wrong g c = λ begun holds.
-    c.refuse.ensures.wrong ∙ sym (ap (λ b. c.args.self.now.sender.is_wrong || b) (long_is_wrong begun (c.in-None.ensures begun holds)) ∙ or-true c.args.self.now.sender.is_wrong)
+    c.refuse.ensures.wrong ∙ sym (ap (λ b. c.args.self.now.sender.is_wrong || b) (long_is_wrong begun (c.long_lines_send_nothing.ensures begun (c.in-None.ensures begun holds)) (c.in-None.ensures begun holds)) ∙ or-true c.args.self.now.sender.is_wrong)
