@@ -1,5 +1,5 @@
 //! A text that is taken line by line.
-ghost use Rattle.std.specs.Prelude.{◌≡◌, ◌≤◌, ◌<◌, ◌∷◌, [], ℕ, true, List, Option, OnOk, IsErrOf, MatchOption, MatchResult, length};
+ghost use Rattle.std.specs.Prelude.{◌≡◌, ◌≤◌, ◌<◌, ◌∷◌, [], ℕ, true, List, Option, IfOk, OnOk, IsErrOf, MatchOption, MatchResult, length};
 ghost use Rattle.std.specs.Io.KnownBytes.{Appends};
 ghost use Rattle.x25_io.specs.HeldLine.{most_line};
 ghost use Rattle.x25_io.specs.code.Written.{AppendsPrefix};
@@ -48,11 +48,16 @@ pub trait LineTaker: Drop {
         ensures memory { IsErrOf result Fault.NoMemory → ⊥ }
         ensures read { IsErrOf result Fault.Read → ⊥ };
 
-    /// The status, where no line is to come.
-    fn status(&self) -> u8
-        ensures zero_or_one { result ≤ 1 }
-        ensures all { (setting : Setting) (old now : Option (List ℕ)) (text : List ℕ) → stands setting self.now old now [] text → waiting self.now ≡ []
-            → Appends old now (text_of setting text) × (result ≡ status_of setting text) };
+    /// Writes what waits where no line is to come, and answers the status.
+    fn end<W: Sink>(&mut self, writer: &mut W) -> Result<u8, Fault>
+        ensures zero_or_one { IfOk result (λ status. status ≤ 1) }
+        ensures kept { OnOk result (W.is_marked writer.new ≡ W.is_marked writer.old) }
+        ensures all { (setting : Setting) (old : Option (List ℕ)) (text : List ℕ) → stands setting self.old old (W.contents writer.old) [] text
+            → MatchResult result (λ status. Appends old (W.contents writer.new) (text_of setting text) × (status ≡ status_of setting text))
+            (λ _. AppendsPrefix old (W.contents writer.new) (text_of setting text)) }
+        ensures write { IsErrOf result Fault.Write → W.is_marked writer.new ≡ true }
+        ensures memory { IsErrOf result Fault.NoMemory → may_want × (W.is_marked writer.new ≡ W.is_marked writer.old) }
+        ensures read { IsErrOf result Fault.Read → ⊥ };
 }
 
 /// Lines that are handed on as they end, with at most one line held.
@@ -108,25 +113,6 @@ impl<T: LineTaker> LineByLine<T> {
         self.held.hold(tail);
         self.end_line(writer)
     }
-
-    /// The last line has ended, where it has no line feed, and what waits is written.
-    fn finish<W: Sink>(&mut self, writer: &mut W) -> Result<(), Fault>
-        ensures kept { OnOk result (W.is_marked writer.new ≡ W.is_marked writer.old) }
-        ensures on { (setting : T.Setting) (old : Option (List ℕ)) (text : List ℕ)
-            → LinesLead (λ lines. T.stands setting self.old.taker old (W.contents writer.old) lines text) self.old.held []
-            → MatchResult result (λ _. T.stands setting self.new.taker old (W.contents writer.new) [] text)
-            (λ _. AppendsPrefix old (W.contents writer.new) (T.text_of setting text)) }
-        ensures written { OnOk result (T.waiting self.new.taker ≡ []) }
-        ensures write { IsErrOf result Fault.Write → W.is_marked writer.new ≡ true }
-        ensures memory { IsErrOf result Fault.NoMemory → T.may_want × (W.is_marked writer.new ≡ W.is_marked writer.old) }
-        ensures read { IsErrOf result Fault.Read → ⊥ }
-    {
-        if self.held.is_empty() {
-            return self.taker.flush(writer);
-        }
-        self.end_line(writer)?;
-        self.taker.flush(writer)
-    }
 }
 
 impl<T: LineTaker> TextTaker for LineByLine<T> {
@@ -157,8 +143,11 @@ impl<T: LineTaker> TextTaker for LineByLine<T> {
     }
 
     fn end<W: Sink>(mut self, writer: &mut W) -> Result<u8, Fault> {
-        self.finish(writer)?;
-        Ok(self.taker.status())
+        if self.held.is_empty() {
+            return self.taker.end(writer);
+        }
+        self.end_line(writer)?;
+        self.taker.end(writer)
     }
 
     fn give_up<W: Sink>(mut self, writer: &mut W) -> Fault {
