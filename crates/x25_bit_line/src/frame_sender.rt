@@ -53,7 +53,7 @@ impl FrameSender {
     }
 
     /// Writes what waits.
-    fn write_out<W: Sink>(&mut self, writer: &mut W) -> Result<(), Fault>
+    fn flush<W: Sink>(&mut self, writer: &mut W) -> Result<(), Fault>
         ensures kept { OnOk result (W.is_marked writer.new ≡ W.is_marked writer.old) }
         ensures tells { (old : Option (List ℕ)) (told : List ℕ) → Tells old (W.contents writer.old) self.old.output told
             → MatchResult result (λ _. Tells old (W.contents writer.new) self.new.output told) (λ _. AppendsPrefix old (W.contents writer.new) told) }
@@ -114,7 +114,7 @@ impl FrameSender {
         ensures read { IsErrOf result Fault.Read → ⊥ }
     {
         self.bits.send_rest(&mut self.output, writer)?;
-        self.write_out(writer)
+        self.flush(writer)
     }
 }
 
@@ -147,8 +147,8 @@ impl LineTaker for FrameSender {
         }
     }
 
-    fn flush<W: Sink>(&mut self, writer: &mut W) -> Result<(), Fault> {
-        self.write_out(writer)
+    fn write_out<W: Sink>(&mut self, writer: &mut W) -> Result<(), Fault> {
+        self.flush(writer)
     }
 
     fn end<W: Sink>(&mut self, writer: &mut W) -> Result<u8, Fault> {

@@ -36,7 +36,7 @@ pub trait LineTaker: Drop {
         ensures read { IsErrOf result Fault.Read → ⊥ };
 
     /// Writes what waits.
-    fn flush<W: Sink>(&mut self, writer: &mut W) -> Result<(), Fault>
+    fn write_out<W: Sink>(&mut self, writer: &mut W) -> Result<(), Fault>
         ensures written { OnOk result (waiting self.new ≡ []) }
         ensures kept { OnOk result (W.is_marked writer.new ≡ W.is_marked writer.old) }
         ensures on { (setting : Setting) (old : Option (List ℕ)) (lines : List (List ℕ)) (text : List ℕ)
@@ -139,7 +139,7 @@ impl<T: LineTaker> TextTaker for LineByLine<T> {
             left = after;
         }
         self.held.hold(left);
-        self.taker.flush(writer)
+        self.taker.write_out(writer)
     }
 
     fn end<W: Sink>(mut self, writer: &mut W) -> Result<u8, Fault> {
@@ -151,7 +151,7 @@ impl<T: LineTaker> TextTaker for LineByLine<T> {
     }
 
     fn give_up<W: Sink>(mut self, writer: &mut W) -> Fault {
-        match self.taker.flush(writer) {
+        match self.taker.write_out(writer) {
             Ok(()) => Fault::Read,
             Err(_) => Fault::Write,
         }

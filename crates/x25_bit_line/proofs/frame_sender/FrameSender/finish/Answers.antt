@@ -15,7 +15,7 @@ returns-in_err-send_rest-clause-text g c = λ old bits h.
 pub returns-clause-text : goal.returns-clause-text
 returns-clause-text g c = λ old bits h.
     let all = all_sent old _ _ _ bits h in
-    MatchResult-weaker c.write_out.result
-    (with_ok c.write_out.result _ _ _ (c.write_out.ensures.tells old _ (c.in_ok-send_rest.ensures.tells old h.told h.tells)) c.write_out.ensures.empty)
-    (λ _ t. subst (Appends old (g.W.Sink.contents c.write_out.new.writer)) all (told_all old _ _ _ t.0 t.1))
-    (λ _ b. subst (AppendsPrefix old (g.W.Sink.contents c.write_out.new.writer)) all b)
+    MatchResult-weaker c.flush.result
+    (with_ok c.flush.result _ _ _ (c.flush.ensures.tells old _ (c.in_ok-send_rest.ensures.tells old h.told h.tells)) c.flush.ensures.empty)
+    (λ _ t. subst (Appends old (g.W.Sink.contents c.flush.new.writer)) all (told_all old _ _ _ t.0 t.1))
+    (λ _ b. subst (AppendsPrefix old (g.W.Sink.contents c.flush.new.writer)) all b)

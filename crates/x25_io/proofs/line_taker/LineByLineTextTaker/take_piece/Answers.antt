@@ -24,6 +24,6 @@ pub returns-clause-on : goal.returns-clause-on
 returns-clause-on g c = λ setting old rest text l.
     let stands = λ (lines : List (List ℕ)). g.T.LineTaker.stands setting c.loop-tail.self.taker old (g.W.Sink.contents c.loop-tail.writer) lines text in
     let held = more stands c.loop-tail.self.held c.hold.new.self c.loop-tail.left.now rest (c.loop-tail.invariant.1 setting old rest text l) c.in_default.ensures.parts (λ begun. c.hold.ensures begun) in
-    MatchResult-weaker c.flush.result (c.flush.ensures.on setting old _ text held.stands)
-    (λ _ done. led stands (λ (lines : List (List ℕ)). g.T.LineTaker.stands setting c.flush.new.self old (g.W.Sink.contents c.flush.new.writer) lines text) c.hold.new.self rest held done.0)
+    MatchResult-weaker c.write_out.result (c.write_out.ensures.on setting old _ text held.stands)
+    (λ _ done. led stands (λ (lines : List (List ℕ)). g.T.LineTaker.stands setting c.write_out.new.self old (g.W.Sink.contents c.write_out.new.writer) lines text) c.hold.new.self rest held done.0)
     (λ _ begins. begins)
