@@ -1,30 +1,29 @@
 -- Packets are put while an end heals: in recovery they wait, and behind it each goes in order, as one I frame more at the end of the line.
-use Rattle.std.proofs.Common.{◌≡◌, ℕ, ◌+◌, ◌-◌, ◌%◌, ◌≤◌, List, [], ◌∷◌, ◌++◌, ◌⊎◌, inl, inr, length, map, Bool, true, false, if◌then◌else◌, Option, Some, None, refl, sym, ap, ◌∙◌, subst, arith, length-append, append_assoc}
-use Rattle.std.specs.Prelude.{nat_le, nat_lt}
+use Rattle.std.proofs.Common.{◌≡◌, ℕ, ◌+◌, ◌%◌, ◌≤◌, List, [], ◌∷◌, ◌++◌, inl, inr, length, map, Bool, true, false, if◌then◌else◌, Option, Some, None, refl, sym, ap, ◌∙◌, subst, arith, length-append, append_assoc}
+use Rattle.std.specs.Prelude.{nat_le}
 use Rattle.std.proofs.lemmas.Bool.{lt-ltb, le-ltb, ltb-false}
 use Rattle.x25_bits.specs.declared.role.Role.{Role}
-use Rattle.x25_frame.specs.PlainFrame.{PlainFrame, info, rr}
+use Rattle.x25_frame.specs.PlainFrame.{PlainFrame, rr}
 use Rattle.x25_frame.specs.Spelling.{spelling_of}
 use Rattle.x25_frame.specs.laws.ReadingLaw.{ReadsSpelled}
 use Rattle.x25_link.specs.declared.error.LinkError.{LinkError}
 use Rattle.x25_link.specs.Outgoing.{waits, is_open}
-use Rattle.x25_link.specs.LinkStation.{Settings, LinkStation, Side, is_up, is_busy, wanted, may_send, owes_ready, send_next, pumped_once}
+use Rattle.x25_link.specs.LinkStation.{Settings, LinkStation, Side, is_up, is_busy, may_send, owes_ready, send_next}
 use Rattle.x25_link.specs.MustSend.{Step, other}
 use Rattle.x25_link.specs.Steps.{put_step, put_refusal}
 use Rattle.x25_link.specs.laws.RestLaw.{HasSaidAll}
 use Rattle.x25_link.specs.laws.AnswerLaw.{AreNext}
 use Rattle.x25_link.proofs.EndLemmas.{open_is, closed_is, with_packet, put_once}
-use Rattle.x25_line.specs.Stations.{StationEnd, Stations, Act, Put, Deliver, T1, Connect, Disconnect, Abandon, Lose, Damage, Event, Near, Far, after_step, unless, acts, swapped, run, start}
+use Rattle.x25_line.specs.Stations.{StationEnd, Stations, Put, Deliver, T1, Connect, Disconnect, Abandon, Lose, Damage, Event, Near, Far, after_step, acts, swapped, run, start}
 use Rattle.x25_line.specs.laws.StationClaims.{AreJoined, AreWhole}
 use Rattle.x25_line.specs.WholeNumbers.{machine_acts}
-use Rattle.x25_line.specs.Healing.{IsDrained, IsHealed}
-use Rattle.x25_line.specs.HealingPuts.{IsDeliverOrPut, AreDeliveriesAndPuts, AreFree, FreeThroughout, PutsHeal}
+use Rattle.x25_line.specs.HealingPuts.{AreDeliveriesAndPuts, AreFree, FreeThroughout, PutsHeal}
 use Rattle.x25_line.proofs.StationSteps.{not_both}
 use Rattle.x25_line.proofs.StationRuns.{machine_joint, joined_swapped}
 use Rattle.x25_line.proofs.StationEvents.{each_hands_one}
-use Rattle.x25_line.proofs.HealingLines.{Reads, reads_more, whole_behind, Ahead, ahead_more, next_ahead, Mild, mild_more, held_mild, NoFinal, no_final_more, next_no_final, LastTells, next_tells, tells_behind, Reports, reports_more}
+use Rattle.x25_line.proofs.HealingLines.{Reads, reads_more, whole_behind, Ahead, ahead_more, next_ahead, Mild, mild_more, held_mild, no_final_more, next_no_final, LastTells, next_tells, tells_behind, Reports, reports_more}
 use Rattle.x25_line.proofs.HealingSteps.{HealingLaws, Sound, sound_swapped, near_up}
-use Rattle.x25_line.proofs.HealingPhases.{Both, Asked, Answered, Resent, Heals}
+use Rattle.x25_line.proofs.HealingPhases.{Both, Heals}
 use Rattle.x25_line.proofs.HealingRuns.{reached_sound, said_act}
 use Rattle.x25_line.proofs.HealingBoth.{HealsBoth, both_near, both_far, both_settle, fired_both}
 

@@ -5,7 +5,7 @@ use Rattle.x25_link.specs.LinkStation.{Settings, LinkStation, is_up}
 use Rattle.x25_link.specs.laws.RestLaw.{HasSaidAll, IsAtRest}
 use Rattle.x25_line.specs.Stations.{StationEnd, Stations, T1, Event, Near, Far}
 use Rattle.x25_line.specs.Stations as one
-use Rattle.x25_line.specs.Sessions.{SessionEnd, Sessions, from_nothing, from_set_up, AreTimely, acts, swapped, run}
+use Rattle.x25_line.specs.Sessions.{SessionEnd, Sessions, from_nothing, from_set_up, AreTimely, swapped, run}
 use Rattle.x25_line.specs.laws.StationClaims.{AreJoined}
 use Rattle.x25_line.specs.SessionNumbers.{Standing}
 use Rattle.x25_line.specs.laws.SessionClaims.{octets_of}
@@ -15,7 +15,7 @@ use Rattle.x25_line.proofs.sessions.SessionHeld.{Held}
 use Rattle.x25_line.proofs.sessions.SessionRuns.{SessionLaws, throughout, held_swapped}
 use Rattle.x25_line.proofs.HealingSteps.{HealingLaws}
 use Rattle.x25_line.proofs.HealingSessions.{said_from}
-use Rattle.x25_line.proofs.HealingStands.{Alike, fires_alike, far_fires_alike, deliveries_alike, sessions_heal}
+use Rattle.x25_line.proofs.HealingStands.{Alike, fired_alike, events_alike, deliveries_alone, sessions_heal}
 use Rattle.x25_line.proofs.HealingEnds.{IsInOrderIfUp, after_firings, RestOrOut, rest_or_out}
 
 -- an end as it stands, with no history
@@ -62,15 +62,14 @@ module _ (reads : ReadsSpelled) (laws : HealingLaws) where
       v : Stations
       v = one.run c d es (after_firings c d v0)
 
-      alike_first : Alike w.near.begun w.far.begun (w.near.down w.near.begun) (w.far.down w.far.begun) w v0
-      alike_first = record { near = refl; far = refl; out = sym (ap octets_of no_out); back = sym (ap octets_of no_back); begun = λ _. (refl, refl); far_begun = λ _. (refl, refl) }
+      alike_first : Alike w.near.begun w.far.begun w v0
+      alike_first = record { near = refl; far = refl; out = sym (ap octets_of no_out); back = sym (ap octets_of no_back); begun = λ _. refl; far_begun = λ _. refl }
 
-      alike : Alike w.near.begun w.far.begun (w.near.down w.near.begun) (w.far.down w.far.begun) u v
+      alike : Alike w.near.begun w.far.begun u v
       alike =
           let n = w.near.begun in
           let m = w.far.begun in
-          let one_fired = fires_alike n m (w.near.down n) (w.far.down m) c w v0 alike_first in
-          deliveries_alike c d n m (w.near.down n) (w.far.down m) es _ (after_firings c d v0) are (far_fires_alike c d n m (w.near.down n) (w.far.down m) (acts c T1 w) (one.acts c T1 v0) one_fired)
+          events_alike c d n m es (run c d (Near T1 ∷ Far T1 ∷ []) w) (after_firings c d v0) (deliveries_alone es are) (fired_alike c d n m w v0 alike_first)
 
       drained : IsDrained v
       drained = record { out = alike.out ∙ ap octets_of out_after; back = alike.back ∙ ap octets_of back_after }

@@ -1,6 +1,6 @@
 -- Healing over set-up and re-set-up: two sessions that stand on a drained line are, by themselves, two stations of a link set up once.
-use Rattle.std.proofs.Common.{◌≡◌, ◌<◌, ℕ, List, [], ◌∷◌, ◌++◌, ◌⊎◌, inl, inr, map, Bool, true, false, if◌then◌else◌, Option, Some, None, refl, sym, ap, ◌∙◌, subst, append-nil}
-use Rattle.std.specs.Prelude.{◌==◌}
+use Rattle.std.proofs.Common.{◌≡◌, ◌<◌, ℕ, List, [], ◌∷◌, ◌++◌, ◌⊎◌, inl, inr, length, map, Bool, true, false, if◌then◌else◌, Option, Some, None, refl, sym, ap, ◌∙◌, subst, append-nil}
+use Rattle.std.specs.Prelude.{◌==◌, nat_le}
 use Rattle.x25_bits.specs.declared.role.Role.{Role}
 use Rattle.x25_frame.specs.PlainFrame.{PlainFrame}
 use Rattle.x25_frame.specs.Spelling.{spelling_of}
@@ -11,7 +11,7 @@ use Rattle.x25_link.specs.declared.phase.Phase.{Phase}
 use Rattle.x25_link.specs.declared.phase.Phase.TheVariants.{Down, Waiting, Up, Closed}
 use Rattle.x25_link.specs.LinkStation.{Settings, LinkStation, is_up, is_busy}
 use Rattle.x25_link.specs.MustSend.{Step, other}
-use Rattle.x25_link.specs.Steps.{take_step, timer_step, timer_runs, timer_refusal}
+use Rattle.x25_link.specs.Steps.{take_step, put_step, put_refusal, timer_step, timer_runs, timer_refusal}
 use Rattle.x25_link.specs.WindowMachine.{ShowAll}
 use Rattle.x25_link.specs.laws.RestLaw.{HasSaidAll, IsAtRest}
 use Rattle.x25_line.specs.Line.{Line}
@@ -22,7 +22,8 @@ use Rattle.x25_line.specs.Sessions.{Entry, SessionEnd, Sessions, extended, begun
 use Rattle.x25_line.specs.Sessions.{Meeting}
 use Rattle.x25_line.specs.SessionNumbers.{Standing}
 use Rattle.x25_line.specs.laws.SessionClaims.{octets_of, IdleHasArrived}
-use Rattle.x25_line.specs.Healing.{IsDrained, IsDeliver, AreDeliveries, MayHeal, SessionsAreHealed, SessionsHeal}
+use Rattle.x25_line.specs.Healing.{IsDrained, IsDeliver, AreDeliveries, MayHeal, SessionMayHeal, SessionsAreHealed, SessionsHeal}
+use Rattle.x25_line.specs.HealingPuts.{IsDeliverOrPut, IsDeliveryOrPut, AreDeliveriesAndPuts, FreeAt, FreeThroughout, SessionsFreeThroughout, SessionsHaveArrived}
 use Rattle.x25_line.proofs.StationSteps.{FitsEnd, MayBeAway, NotesOnce, Joint, not_both}
 use Rattle.x25_line.proofs.StationAway.{first_false, second_false}
 use Rattle.x25_line.proofs.sessions.SessionLines.{octets_append, octets_sent}
@@ -30,7 +31,8 @@ use Rattle.x25_line.proofs.sessions.SessionHeld.{View, Live, Soon, Gone, IsView,
 use Rattle.x25_line.proofs.sessions.SessionRuns.{SessionLaws, throughout}
 use Rattle.x25_line.proofs.sessions.SessionLatest.{idle_has_arrived}
 use Rattle.x25_line.proofs.HealingSteps.{HealingLaws, Sound}
-use Rattle.x25_line.proofs.HealingBoth.{both_run, both_settle, fired_both}
+use Rattle.x25_line.proofs.HealingBoth.{HealsBoth, both_run, both_settle, fired_both}
+use Rattle.x25_line.proofs.HealingEnds.{after_firings}
 use Rattle.x25_line.proofs.HealingSessions.{said_from}
 
 -- ---- an end that is Up is in the session that stands
@@ -93,37 +95,28 @@ emptied_joint c d v l h out back = record {
 
 -- ---- the same events do the same to the stations, and begin no session where these note no LinkUp
 
-pub record Alike (n m : ℕ) (near_down far_down : List (List ℕ)) (w : Sessions) (v : Stations) : Type 0 where
+pub record Alike (n m : ℕ) (w : Sessions) (v : Stations) : Type 0 where
   pub near : v.near.station ≡ w.near.station
   pub far : v.far.station ≡ w.far.station
   pub out : v.out ≡ octets_of w.out
   pub back : v.back ≡ octets_of w.back
-  pub begun : v.near.came_up ≡ false → (w.near.begun ≡ n) × (w.near.down n ≡ near_down)
-  pub far_begun : v.far.came_up ≡ false → (w.far.begun ≡ m) × (w.far.down m ≡ far_down)
+  pub begun : v.near.came_up ≡ false → w.near.begun ≡ n
+  pub far_begun : v.far.came_up ≡ false → w.far.begun ≡ m
 
-nothing_more : (lists : ℕ → List (List ℕ)) (session n : ℕ) → extended lists session [] n ≡ lists n
-nothing_more lists session n = by (n == session)
-  where
-    by : (b : Bool) → (if b then lists n ++ [] else lists n) ≡ lists n
-    by true = append-nil (lists n)
-    by false = refl
-
-module _ (n m : ℕ) (near_down far_down : List (List ℕ)) where
+module _ (n m : ℕ) where
   abbrev A : Sessions → Stations → Type 0
-  A w v = Alike n m near_down far_down w v
+  A w v = Alike n m w v
 
-  step_alike : (c : Settings) (w : Sessions) (v : Stations) → A w v → (es : List Entry) (met : List Meeting) (step : Step) → A (after_step c w es met [] step) (one.after_step c v (octets_of es) [] step)
-  step_alike c w v h es met step = record {
+  step_alike : (c : Settings) (w : Sessions) (v : Stations) → A w v → (es : List Entry) (met : List Meeting) (down : List (List ℕ)) (step : Step)
+      → A (after_step c w es met down step) (one.after_step c v (octets_of es) down step)
+  step_alike c w v h es met down step = record {
     near = refl;
     far = h.far;
     out = ap (λ (os : List (List ℕ)). os ++ map (spelling_of c.role) step.side.out) h.out
         ∙ ap (λ (os : List (List ℕ)). octets_of w.out ++ os) (sym (octets_sent (begun_by step.notes.up w.near.begun) c.role step.side.out))
         ∙ sym (octets_append w.out _);
     back = refl;
-    begun = λ e.
-        let old = h.begun (first_false v.near.came_up step.notes.up e) in
-        let none : step.notes.up ≡ false = second_false v.near.came_up step.notes.up e in
-        (ap (λ (b : Bool). begun_by b w.near.begun) none ∙ old.0, nothing_more w.near.down (begun_by step.notes.up w.near.begun) n ∙ old.1);
+    begun = λ e. ap (λ (b : Bool). begun_by b w.near.begun) (second_false v.near.came_up step.notes.up e) ∙ h.begun (first_false v.near.came_up step.notes.up e);
     far_begun = h.far_begun;
   }
 
@@ -131,21 +124,30 @@ module _ (n m : ℕ) (near_down far_down : List (List ℕ)) where
   unless_alike (Some e) w y v z h k = h
   unless_alike None w y v z h k = k
 
-  pub fires_alike : (c : Settings) (w : Sessions) (v : Stations) → A w v → A (acts c T1 w) (one.acts c T1 v)
-  fires_alike c w v h =
-      let step : A (after_step c w w.back w.met [] (timer_step c w.near.station)) (one.after_step c v v.back [] (timer_step c w.near.station)) =
-      subst (λ (os : List (List ℕ)). A (after_step c w w.back w.met [] (timer_step c w.near.station)) (one.after_step c v os [] (timer_step c w.near.station))) (sym h.back)
-      (step_alike c w v h w.back w.met (timer_step c w.near.station)) in
-      subst (λ (s : LinkStation). A (unless (timer_refusal w.near.station) w (after_step c w w.back w.met [] (timer_step c w.near.station))) (one.unless (timer_refusal s) v (one.after_step c v v.back [] (timer_step c s))))
-      (sym h.near) (unless_alike (timer_refusal w.near.station) w _ v _ h step)
+  -- a step that takes nothing off the line, where it isn't refused
+  acts_alike : (c : Settings) (w : Sessions) (v : Stations) → A w v → (down : List (List ℕ)) (refusal : LinkStation → Option LinkError) (step : LinkStation → Step)
+      → A (unless (refusal w.near.station) w (after_step c w w.back w.met down (step w.near.station))) (one.unless (refusal v.near.station) v (one.after_step c v v.back down (step v.near.station)))
+  acts_alike c w v h down refusal step =
+      let s = w.near.station in
+      let next : Sessions = after_step c w w.back w.met down (step s) in
+      subst (λ (t : LinkStation). A (unless (refusal s) w next) (one.unless (refusal t) v (one.after_step c v v.back down (step t)))) (sym h.near)
+      (subst (λ (os : List (List ℕ)). A (unless (refusal s) w next) (one.unless (refusal s) v (one.after_step c v os down (step s)))) (sym h.back)
+      (unless_alike (refusal s) w next v _ h (step_alike c w v h w.back w.met down (step s))))
+
+  fires_alike : (c : Settings) (w : Sessions) (v : Stations) → A w v → A (acts c T1 w) (one.acts c T1 v)
+  fires_alike c w v h = acts_alike c w v h [] timer_refusal (timer_step c)
 
   delivered_alike : (c : Settings) (w : Sessions) (v : Stations) → A w v → (es : List Entry) → A (delivered c es w) (one.delivered c (octets_of es) v)
   delivered_alike c w v h [] = h
   delivered_alike c w v h (e ∷ es) =
-      subst (λ (s : LinkStation). A (delivered c (e ∷ es) w) (one.after_step c v (octets_of es) [] (take_step c e.octets s))) (sym h.near) (step_alike c w v h es _ (take_step c e.octets w.near.station))
+      subst (λ (s : LinkStation). A (delivered c (e ∷ es) w) (one.after_step c v (octets_of es) [] (take_step c e.octets s))) (sym h.near) (step_alike c w v h es _ [] (take_step c e.octets w.near.station))
 
-  act_alike : (c : Settings) (a : Act) (w : Sessions) (v : Stations) → IsDeliver a → A w v → A (acts c a w) (one.acts c a v)
-  act_alike c (Put packet) w v is h = absurd is
+  put_alike : (b : Bool) (w y : Sessions) (v z : Stations) → A w v → A y z → A (if b then y else w) (if b then z else v)
+  put_alike true w y v z h k = k
+  put_alike false w y v z h k = h
+
+  act_alike : (c : Settings) (a : Act) (w : Sessions) (v : Stations) → IsDeliverOrPut a → A w v → A (acts c a w) (one.acts c a v)
+  act_alike c (Put packet) w v is h = put_alike (nat_le (length packet) c.longest) w _ v _ h (acts_alike c w v h (packet ∷ []) put_refusal (put_step c packet))
   act_alike c Deliver w v is h = subst (λ (os : List (List ℕ)). A (delivered c w.back w) (one.delivered c os v)) (sym h.back) (delivered_alike c w v h w.back)
   act_alike c T1 w v is h = absurd is
   act_alike c Connect w v is h = absurd is
@@ -154,22 +156,103 @@ module _ (n m : ℕ) (near_down far_down : List (List ℕ)) where
   act_alike c (Lose i) w v is h = absurd is
   act_alike c (Damage i octets) w v is h = absurd is
 
-turned_alike : (n m : ℕ) (near_down far_down : List (List ℕ)) (w : Sessions) (v : Stations) → Alike n m near_down far_down w v → Alike m n far_down near_down (swapped w) (one.swapped v)
-turned_alike n m near_down far_down w v h = record { near = h.far; far = h.near; out = h.back; back = h.out; begun = h.far_begun; far_begun = h.begun }
+turned_alike : (n m : ℕ) (w : Sessions) (v : Stations) → Alike n m w v → Alike m n (swapped w) (one.swapped v)
+turned_alike n m w v h = record { near = h.far; far = h.near; out = h.back; back = h.out; begun = h.far_begun; far_begun = h.begun }
 
-module _ (c d : Settings) (n m : ℕ) (near_down far_down : List (List ℕ)) where
-  pub far_fires_alike : (w : Sessions) (v : Stations) → Alike n m near_down far_down w v → Alike n m near_down far_down (swapped (acts d T1 (swapped w))) (one.swapped (one.acts d T1 (one.swapped v)))
-  far_fires_alike w v h =
-      turned_alike m n far_down near_down (acts d T1 (swapped w)) (one.acts d T1 (one.swapped v))
-      (fires_alike m n far_down near_down d (swapped w) (one.swapped v) (turned_alike n m near_down far_down w v h))
+-- both ends fire
+abbrev pub fired : Settings → Settings → Sessions → Sessions
+fired c d w = run c d (Near T1 ∷ Far T1 ∷ []) w
 
-  pub deliveries_alike : (es : List Event) (w : Sessions) (v : Stations) → AreDeliveries es → Alike n m near_down far_down w v → Alike n m near_down far_down (run c d es w) (one.run c d es v)
-  deliveries_alike [] w v are h = h
-  deliveries_alike (Near a ∷ es) w v are h = deliveries_alike es (acts c a w) (one.acts c a v) are.1 (act_alike n m near_down far_down c a w v are.0 h)
-  deliveries_alike (Far a ∷ es) w v are h =
-      deliveries_alike es (swapped (acts d a (swapped w))) (one.swapped (one.acts d a (one.swapped v))) are.1
-      (turned_alike m n far_down near_down (acts d a (swapped w)) (one.acts d a (one.swapped v))
-      (act_alike m n far_down near_down d a (swapped w) (one.swapped v) are.0 (turned_alike n m near_down far_down w v h)))
+module _ (c d : Settings) (n m : ℕ) where
+  pub fired_alike : (w : Sessions) (v : Stations) → Alike n m w v → Alike n m (fired c d w) (after_firings c d v)
+  fired_alike w v h =
+      let w1 : Sessions = acts c T1 w in
+      let v1 : Stations = one.acts c T1 v in
+      turned_alike m n (acts d T1 (swapped w1)) (one.acts d T1 (one.swapped v1)) (fires_alike m n d (swapped w1) (one.swapped v1) (turned_alike n m w1 v1 (fires_alike n m c w v h)))
+
+  event_alike : (e : Event) (w : Sessions) (v : Stations) → IsDeliveryOrPut e → Alike n m w v → Alike n m (happens c d e w) (one.happens c d e v)
+  event_alike (Near a) w v is h = act_alike n m c a w v is h
+  event_alike (Far a) w v is h = turned_alike m n (acts d a (swapped w)) (one.acts d a (one.swapped v)) (act_alike m n d a (swapped w) (one.swapped v) is (turned_alike n m w v h))
+
+  pub events_alike : (es : List Event) (w : Sessions) (v : Stations) → AreDeliveriesAndPuts es → Alike n m w v → Alike n m (run c d es w) (one.run c d es v)
+  events_alike [] w v are h = h
+  events_alike (e ∷ es) w v are h = events_alike es (happens c d e w) (one.happens c d e v) are.1 (event_alike e w v are.0 h)
+
+  pub free_alike : (es : List Event) (w : Sessions) (v : Stations) → AreDeliveriesAndPuts es → Alike n m w v → SessionsFreeThroughout c d es w → FreeThroughout c d es v
+  free_alike [] w v are h free = (ap is_busy h.near ∙ free.0, ap is_busy h.far ∙ free.1)
+  free_alike (e ∷ es) w v are h free = (
+    subst (λ (s : LinkStation). FreeAt e s v.far.station) (sym h.near) (subst (FreeAt e w.near.station) (sym h.far) free.0),
+    free_alike es (happens c d e w) (one.happens c d e v) are.1 (event_alike e w v are.0 h) free.1,
+  )
+
+-- ---- firings and deliveries hand nothing down
+
+record HandNothingDown (w u : Sessions) : Type 0 where
+  near : (n : ℕ) → u.near.down n ≡ w.near.down n
+  far : (n : ℕ) → u.far.down n ≡ w.far.down n
+
+nothing_more : (lists : ℕ → List (List ℕ)) (session n : ℕ) → extended lists session [] n ≡ lists n
+nothing_more lists session n = by (n == session)
+  where
+    by : (b : Bool) → (if b then lists n ++ [] else lists n) ≡ lists n
+    by true = append-nil (lists n)
+    by false = refl
+
+step_hands : (c : Settings) (w : Sessions) (es : List Entry) (met : List Meeting) (step : Step) → HandNothingDown w (after_step c w es met [] step)
+step_hands c w es met step = record { near = nothing_more w.near.down (begun_by step.notes.up w.near.begun); far = λ _. refl }
+
+fire_hands : (c : Settings) (w : Sessions) → HandNothingDown w (acts c T1 w)
+fire_hands c w = by (timer_refusal w.near.station)
+  where
+    by : (o : Option LinkError) → HandNothingDown w (unless o w (after_step c w w.back w.met [] (timer_step c w.near.station)))
+    by (Some e) = record { near = λ _. refl; far = λ _. refl }
+    by None = step_hands c w w.back w.met (timer_step c w.near.station)
+
+act_hands : (c : Settings) (a : Act) (w : Sessions) → IsDeliver a → HandNothingDown w (acts c a w)
+act_hands c (Put packet) w is = absurd is
+act_hands c Deliver w is = by w.back
+  where
+    by : (es : List Entry) → HandNothingDown w (delivered c es w)
+    by [] = record { near = λ _. refl; far = λ _. refl }
+    by (e ∷ es) = step_hands c w es _ (take_step c e.octets w.near.station)
+act_hands c T1 w is = absurd is
+act_hands c Connect w is = absurd is
+act_hands c Disconnect w is = absurd is
+act_hands c Abandon w is = absurd is
+act_hands c (Lose i) w is = absurd is
+act_hands c (Damage i octets) w is = absurd is
+
+then_hand : (w u x : Sessions) → HandNothingDown w u → HandNothingDown u x → HandNothingDown w x
+then_hand w u x h k = record { near = λ n. k.near n ∙ h.near n; far = λ n. k.far n ∙ h.far n }
+
+run_hands : (c d : Settings) (es : List Event) (w : Sessions) → AreDeliveries es → HandNothingDown w (run c d es w)
+run_hands c d [] w are = record { near = λ _. refl; far = λ _. refl }
+run_hands c d (Near a ∷ es) w are = (let u : Sessions = acts c a w in then_hand w u (run c d es u) (act_hands c a w are.0) (run_hands c d es u are.1))
+run_hands c d (Far a ∷ es) w are =
+    let h = act_hands d a (swapped w) are.0 in
+    let u : Sessions = swapped (acts d a (swapped w)) in
+    then_hand w u (run c d es u) (record { near = h.far; far = h.near }) (run_hands c d es u are.1)
+
+fired_hand : (c d : Settings) (w : Sessions) → HandNothingDown w (fired c d w)
+fired_hand c d w =
+    let w1 : Sessions = acts c T1 w in
+    let h = fire_hands d (swapped w1) in
+    then_hand w w1 (fired c d w) (fire_hands c w) (record { near = h.far; far = h.near })
+
+deliver_or_put : (a : Act) → IsDeliver a → IsDeliverOrPut a
+deliver_or_put (Put packet) is = absurd is
+deliver_or_put Deliver is = tt
+deliver_or_put T1 is = absurd is
+deliver_or_put Connect is = absurd is
+deliver_or_put Disconnect is = absurd is
+deliver_or_put Abandon is = absurd is
+deliver_or_put (Lose i) is = absurd is
+deliver_or_put (Damage i octets) is = absurd is
+
+pub deliveries_alone : (es : List Event) → AreDeliveries es → AreDeliveriesAndPuts es
+deliveries_alone [] are = tt
+deliveries_alone (Near a ∷ es) are = (deliver_or_put a are.0, deliveries_alone es are.1)
+deliveries_alone (Far a ∷ es) are = (deliver_or_put a are.0, deliveries_alone es are.1)
 
 -- ---- timer T1 is timely where both are Up
 
@@ -181,20 +264,20 @@ timely_append : (c d : Settings) (es fs : List Event) (w : Sessions) → AreTime
 timely_append c d [] fs w h g = g
 timely_append c d (e ∷ es) fs w h g = (h.0, timely_append c d es fs (happens c d e w) h.1 g)
 
-timely_delivery : (c d : Settings) (a : Act) (w : Sessions) → IsDeliver a → IsTimely c d a w
-timely_delivery c d (Put packet) w is = absurd is
-timely_delivery c d Deliver w is = tt
-timely_delivery c d T1 w is = absurd is
-timely_delivery c d Connect w is = absurd is
-timely_delivery c d Disconnect w is = absurd is
-timely_delivery c d Abandon w is = absurd is
-timely_delivery c d (Lose i) w is = absurd is
-timely_delivery c d (Damage i octets) w is = absurd is
+timely_event : (c d : Settings) (a : Act) (w : Sessions) → IsDeliverOrPut a → IsTimely c d a w
+timely_event c d (Put packet) w is = tt
+timely_event c d Deliver w is = tt
+timely_event c d T1 w is = absurd is
+timely_event c d Connect w is = absurd is
+timely_event c d Disconnect w is = absurd is
+timely_event c d Abandon w is = absurd is
+timely_event c d (Lose i) w is = absurd is
+timely_event c d (Damage i octets) w is = absurd is
 
-timely_deliveries : (c d : Settings) (es : List Event) (w : Sessions) → AreDeliveries es → AreTimely c d es w
-timely_deliveries c d [] w are = tt
-timely_deliveries c d (Near a ∷ es) w are = (timely_delivery c d a w are.0, timely_deliveries c d es (acts c a w) are.1)
-timely_deliveries c d (Far a ∷ es) w are = (timely_delivery d c a (swapped w) are.0, timely_deliveries c d es (swapped (acts d a (swapped w))) are.1)
+timely_events : (c d : Settings) (es : List Event) (w : Sessions) → AreDeliveriesAndPuts es → AreTimely c d es w
+timely_events c d [] w are = tt
+timely_events c d (Near a ∷ es) w are = (timely_event c d a w are.0, timely_events c d es (acts c a w) are.1)
+timely_events c d (Far a ∷ es) w are = (timely_event d c a (swapped w) are.0, timely_events c d es (swapped (acts d a (swapped w))) are.1)
 
 timely_up : (c d : Settings) (w : Sessions) → is_up w.near.station.phase ≡ true → IsTimely c d T1 w
 timely_up c d w up = λ waits. not_both (is_up w.near.station.phase) up (ap is_up waits)
@@ -211,18 +294,21 @@ pub record HaveComeToRest (v : Stations) : Type 0 where
   pub far : IsAtRest v.far.station
   pub once : IsSetUpOnce v
 
--- both ends fire, and these deliveries come
-abbrev pub fired_run : Settings → Settings → List Event → Stations → Stations
-fired_run c d es v = one.run c d es (one.swapped (one.acts d T1 (one.swapped (one.acts c T1 v))))
+pub may_heal : (c : Settings) (e : SessionEnd) (f : StationEnd) → f.station ≡ e.station → SessionMayHeal c e → MayHeal c f
+may_heal c e f same may = record {
+  up = ap (λ (s : LinkStation). is_up s.phase) same ∙ may.up;
+  free = ap is_busy same ∙ may.free;
+  tries = subst (λ (s : LinkStation). timer_runs s.phase s ≡ true → s.tries < c.retries) (sym same) may.tries;
+}
 
 module _ (reads : ReadsSpelled) (laws : HealingLaws) where
-  -- Where the two stations by themselves come to rest, so do the sessions of both ends.
-  pub sessions_rest : (c d : Settings) → AreJoined c d → (begin : Sessions) → (begin ≡ from_nothing) ⊎ (begin ≡ from_set_up) → (events : List Event) → AreTimely c d events begin
-      → (let w = run c d events begin in w.out ≡ [] → w.back ≡ [] → is_up w.near.station.phase ≡ true → is_up w.far.station.phase ≡ true → (es : List Event) → AreDeliveries es
-      → (let u = run c d (Near T1 ∷ Far T1 ∷ es) w in u.out ≡ [] → u.back ≡ []
-      → ((v : Stations) → Sound c d v → IsDrained v → v.near.station ≡ w.near.station → v.far.station ≡ w.far.station → IsDrained (fired_run c d es v) → HaveComeToRest (fired_run c d es v)) → SessionsAreHealed w u))
-  sessions_rest c d joined begin is events timely no_out no_back near_on far_on es are out_after back_after rests =
-      let rest = rests v0 sound (record { out = refl; back = refl }) near_in.station far_in.station drained in
+  -- Where the two stations by themselves come to rest, so do the sessions of both ends, and all that was handed down has been handed up.
+  pub sessions_arrive : (c d : Settings) → AreJoined c d → (begin : Sessions) → (begin ≡ from_nothing) ⊎ (begin ≡ from_set_up) → (events : List Event) → AreTimely c d events begin
+      → (let w = run c d events begin in w.out ≡ [] → w.back ≡ [] → is_up w.near.station.phase ≡ true → is_up w.far.station.phase ≡ true → (es : List Event) → AreDeliveriesAndPuts es
+      → (let u = run c d es (fired c d w) in u.out ≡ [] → u.back ≡ []
+      → ((v : Stations) → Sound c d v → IsDrained v → Alike w.near.begun w.far.begun w v → (let x = one.run c d es (after_firings c d v) in IsDrained x → HaveComeToRest x)) → SessionsHaveArrived w u))
+  sessions_arrive c d joined begin is events timely no_out no_back near_on far_on es are out_after back_after rests =
+      let rest = rests v0 sound (record { out = refl; back = refl }) alike_first (record { out = alike.out ∙ ap octets_of out_after; back = alike.back ∙ ap octets_of back_after }) in
       let near = alike.begun rest.once.near in
       let far = alike.far_begun rest.once.far in
       let near_rest : IsAtRest u.near.station = subst IsAtRest alike.near rest.near in
@@ -232,20 +318,17 @@ module _ (reads : ReadsSpelled) (laws : HealingLaws) where
       record {
         near_rest = near_rest;
         far_rest = far_rest;
-        near_session = near.0;
-        far_session = far.0;
-        there = ap u.far.up (sym far.0) ∙ arrived.near near_rest.idle (inl far_up) ∙ ap u.near.down near.0 ∙ near.1;
-        back = ap u.near.up (sym near.0) ∙ arrived.far far_rest.idle (inl near_up) ∙ ap u.far.down far.0 ∙ far.1;
+        near_session = near;
+        far_session = far;
+        there = ap u.far.up (sym far) ∙ arrived.near near_rest.idle (inl far_up) ∙ ap u.near.down near;
+        back = ap u.near.up (sym near) ∙ arrived.far far_rest.idle (inl near_up) ∙ ap u.far.down far;
       }
     where
       w : Sessions
       w = run c d events begin
 
-      more : List Event
-      more = Near T1 ∷ Far T1 ∷ es
-
       u : Sessions
-      u = run c d more w
+      u = run c d es (fired c d w)
 
       rests_on : SessionLaws
       rests_on = record { laws = laws.laws; continues = laws.continues }
@@ -281,36 +364,32 @@ module _ (reads : ReadsSpelled) (laws : HealingLaws) where
             far_said = subst (HasSaidAll d.window) (sym far_in.station) said.1;
           }
 
-      v : Stations
-      v = fired_run c d es v0
-
-      alike_first : Alike w.near.begun w.far.begun (w.near.down w.near.begun) (w.far.down w.far.begun) w v0
+      alike_first : Alike w.near.begun w.far.begun w v0
       alike_first = record {
         near = near_in.station;
         far = far_in.station;
         out = sym (ap octets_of no_out);
         back = sym (ap octets_of no_back);
-        begun = λ _. (refl, refl);
-        far_begun = λ _. (refl, refl);
+        begun = λ _. refl;
+        far_begun = λ _. refl;
       }
 
-      alike : Alike w.near.begun w.far.begun (w.near.down w.near.begun) (w.far.down w.far.begun) u v
+      alike : Alike w.near.begun w.far.begun u (one.run c d es (after_firings c d v0))
       alike =
           let n = w.near.begun in
           let m = w.far.begun in
-          let one_fired = fires_alike n m (w.near.down n) (w.far.down m) c w v0 alike_first in
-          deliveries_alike c d n m (w.near.down n) (w.far.down m) es _ (one.swapped (one.acts d T1 (one.swapped (one.acts c T1 v0)))) are (far_fires_alike c d n m (w.near.down n) (w.far.down m) (acts c T1 w) (one.acts c T1 v0) one_fired)
-
-      drained : IsDrained v
-      drained = record { out = alike.out ∙ ap octets_of out_after; back = alike.back ∙ ap octets_of back_after }
+          events_alike c d n m es (fired c d w) (after_firings c d v0) are (fired_alike c d n m w v0 alike_first)
 
       far_after : (acts c T1 w).far ≡ w.far
       far_after = far_stays (timer_refusal w.near.station) w (after_step c w w.back w.met [] (timer_step c w.near.station)) refl
 
+      more : List Event
+      more = Near T1 ∷ Far T1 ∷ es
+
       timely_more : AreTimely c d more w
       timely_more = (
         timely_up c d w near_on,
-        (timely_up d c (swapped (acts c T1 w)) (ap (λ (e : SessionEnd). is_up e.station.phase) far_after ∙ far_on), timely_deliveries c d es (swapped (acts d T1 (swapped (acts c T1 w)))) are),
+        (timely_up d c (swapped (acts c T1 w)) (ap (λ (e : SessionEnd). is_up e.station.phase) far_after ∙ far_on), timely_events c d es (fired c d w) are),
       )
 
       arrived : IdleHasArrived c d u
@@ -318,20 +397,32 @@ module _ (reads : ReadsSpelled) (laws : HealingLaws) where
           subst (IdleHasArrived c d) (run_append c d events more begin)
           (idle_has_arrived reads rests_on c d joined begin is (events ++ more) (timely_append c d events more begin timely timely_more))
 
+  -- where deliveries alone come behind the firings
+  pub sessions_rest : (c d : Settings) → AreJoined c d → (begin : Sessions) → (begin ≡ from_nothing) ⊎ (begin ≡ from_set_up) → (events : List Event) → AreTimely c d events begin
+      → (let w = run c d events begin in w.out ≡ [] → w.back ≡ [] → is_up w.near.station.phase ≡ true → is_up w.far.station.phase ≡ true → (es : List Event) → AreDeliveries es
+      → (let u = run c d es (fired c d w) in u.out ≡ [] → u.back ≡ []
+      → ((v : Stations) → Sound c d v → IsDrained v → Alike w.near.begun w.far.begun w v → (let x = one.run c d es (after_firings c d v) in IsDrained x → HaveComeToRest x)) → SessionsAreHealed w u))
+  sessions_rest c d joined begin is events timely no_out no_back near_on far_on es are out_after back_after rests =
+      let w : Sessions = run c d events begin in
+      let h = sessions_arrive c d joined begin is events timely no_out no_back near_on far_on es (deliveries_alone es are) out_after back_after rests in
+      let same = then_hand w (fired c d w) (run c d es (fired c d w)) (fired_hand c d w) (run_hands c d es (fired c d w) are) in
+      record {
+        near_rest = h.near_rest;
+        far_rest = h.far_rest;
+        near_session = h.near_session;
+        far_session = h.far_session;
+        there = h.there ∙ same.near w.near.begun;
+        back = h.back ∙ same.far w.far.begun;
+      }
+
+  pub come_to_rest : (c d : Settings) (joined : AreJoined c d) (m n : ℕ) (v : Stations) → HealsBoth c d joined reads laws m n v → IsDrained v → HaveComeToRest v
+  come_to_rest c d joined m n v heals drained =
+      let rest = both_settle c d joined reads laws m n v heals drained in
+      record { near = rest.0.rest; far = rest.1.rest; once = record { near = heals.0.0.sound.joint.near_notes.once; far = heals.0.0.sound.joint.far_notes.once } }
+
   pub sessions_heal : SessionsHeal
   sessions_heal c d joined begin is events timely no_out no_back near_may far_may es are out_after back_after =
-      sessions_rest c d joined begin is events timely no_out no_back near_may.up far_may.up es are out_after back_after (λ v sound drained near far after.
-      let may_near : MayHeal c v.near = record {
-        up = ap (λ (s : LinkStation). is_up s.phase) near ∙ near_may.up;
-        free = ap is_busy near ∙ near_may.free;
-        tries = subst (λ (s : LinkStation). timer_runs s.phase s ≡ true → s.tries < c.retries) (sym near) near_may.tries;
-      } in
-      let may_far : MayHeal d v.far = record {
-        up = ap (λ (s : LinkStation). is_up s.phase) far ∙ far_may.up;
-        free = ap is_busy far ∙ far_may.free;
-        tries = subst (λ (s : LinkStation). timer_runs s.phase s ≡ true → s.tries < d.retries) (sym far) far_may.tries;
-      } in
-      let begun = fired_both reads laws c d joined v sound drained may_near may_far in
-      let heals = both_run c d joined reads laws begun.most begun.least es (one.swapped (one.acts d T1 (one.swapped (one.acts c T1 v)))) are begun.heals in
-      let rest = both_settle c d joined reads laws begun.most begun.least (fired_run c d es v) heals after in
-      record { near = rest.0.rest; far = rest.1.rest; once = record { near = heals.0.0.sound.joint.near_notes.once; far = heals.0.0.sound.joint.far_notes.once } })
+      let w : Sessions = run c d events begin in
+      sessions_rest c d joined begin is events timely no_out no_back near_may.up far_may.up es are out_after back_after (λ v sound drained alike after.
+      let begun = fired_both reads laws c d joined v sound drained (may_heal c w.near v.near alike.near near_may) (may_heal d w.far v.far alike.far far_may) in
+      come_to_rest c d joined begun.most begun.least (one.run c d es (after_firings c d v)) (both_run c d joined reads laws begun.most begun.least es (after_firings c d v) are begun.heals) after)

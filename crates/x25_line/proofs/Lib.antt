@@ -24,6 +24,7 @@ pub mod HealingSetUp
 pub mod HealingEnds
 pub mod HealingSessions
 pub mod HealingStands
+pub mod HealingPutsSessions
 pub mod HealingSessionEnds
 pub mod DrainWeights
 pub mod DrainSteps

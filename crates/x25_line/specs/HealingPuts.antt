@@ -1,9 +1,12 @@
 -- Healing while packets are handed down: both ends fire, and then what is on the line comes and packets are put, in any order, while nothing is lost.
-use Rattle.std.specs.Prelude.{◌≡◌, false, List, [], ◌∷◌}
+use Rattle.std.specs.Prelude.{◌≡◌, ◌⊎◌, false, List, [], ◌∷◌}
 use Rattle.x25_link.specs.LinkStation.{Settings, LinkStation, is_busy}
-use Rattle.x25_line.specs.Stations.{Stations, Act, Put, Deliver, T1, Event, Near, Far, happens, run, start}
+use Rattle.x25_link.specs.laws.RestLaw.{IsAtRest}
+use Rattle.x25_line.specs.Stations.{Stations, Act, Put, Deliver, T1, Lose, Event, Near, Far, happens, run, start}
 use Rattle.x25_line.specs.laws.StationClaims.{AreJoined}
-use Rattle.x25_line.specs.Healing.{IsDrained, IsQuietMoment, MayHeal, IsHealed}
+use Rattle.x25_line.specs.Sessions.{Sessions, from_nothing, from_set_up, AreTimely, happens as happens_in_sessions, run as run_sessions}
+use Rattle.x25_line.specs.Healing.{IsDrained, IsQuietMoment, MayHeal, IsHealed, SessionMayHeal}
+use Rattle.x25_line.specs.rows.StationRows.{dte, dce}
 
 -- ---- deliveries and puts
 
@@ -40,6 +43,10 @@ abbrev pub FreeThroughout : Settings → Settings → List Event → Stations �
 FreeThroughout c d [] w = AreFree w.near.station w.far.station
 FreeThroughout c d (e ∷ es) w = FreeAt e w.near.station w.far.station × FreeThroughout c d es (happens c d e w)
 
+abbrev pub SessionsFreeThroughout : Settings → Settings → List Event → Sessions → Type 0
+SessionsFreeThroughout c d [] w = AreFree w.near.station w.far.station
+SessionsFreeThroughout c d (e ∷ es) w = FreeAt e w.near.station w.far.station × SessionsFreeThroughout c d es (happens_in_sessions c d e w)
+
 -- ---- healing
 
 -- From a quiet moment with both ends Up, neither busy, and tries left where T1 runs: both fire, and then all that is on the line comes, while packets
@@ -51,3 +58,40 @@ PutsHeal =
     → (let w = run c d events start in MayHeal c w.near → MayHeal d w.far
     → (more : List Event) → AreDeliveriesAndPuts more
     → (let fired = run c d (Near T1 ∷ Far T1 ∷ []) w in FreeThroughout c d more fired → (let v = run c d more fired in IsDrained v → IsHealed v.near v.far × IsHealed v.far v.near)))
+
+-- ---- over set-up and re-set-up
+
+-- Both ends are at rest, in the same sessions as before, and all that was handed down in these, then and since, has been handed up at the other end.
+pub record SessionsHaveArrived (w v : Sessions) : Type 0 where
+  pub near_rest : IsAtRest v.near.station
+  pub far_rest : IsAtRest v.far.station
+  pub near_session : v.near.begun ≡ w.near.begun
+  pub far_session : v.far.begun ≡ w.far.begun
+  pub there : v.far.up w.far.begun ≡ v.near.down w.near.begun
+  pub back : v.near.up w.near.begun ≡ v.far.down w.far.begun
+
+abbrev pub PutsHealSessions : Type 0
+PutsHealSessions =
+    (c d : Settings) → AreJoined c d → (begin : Sessions) → (begin ≡ from_nothing) ⊎ (begin ≡ from_set_up) → (events : List Event) → AreTimely c d events begin
+    → (let w = run_sessions c d events begin in w.out ≡ [] → w.back ≡ [] → SessionMayHeal c w.near → SessionMayHeal d w.far
+    → (more : List Event) → AreDeliveriesAndPuts more
+    → (let fired = run_sessions c d (Near T1 ∷ Far T1 ∷ []) w in SessionsFreeThroughout c d more fired
+    → (let v = run_sessions c d more fired in v.out ≡ [] → v.back ≡ [] → SessionsHaveArrived w v)))
+
+-- ---- a worked moment
+
+-- the near end's packet was lost
+abbrev pub near_lost : List Event
+near_lost = Near (Put (5 ∷ [])) ∷ Far (Lose 0) ∷ []
+
+-- one more is put, and waits; then the poll comes, its answer, both packets, and what acknowledges each
+abbrev pub one_put : List Event
+one_put = Near (Put (6 ∷ [])) ∷ Far Deliver ∷ Near Deliver ∷ Far Deliver ∷ Far Deliver ∷ Near Deliver ∷ Near Deliver ∷ []
+
+-- it is a quiet moment in which both may heal; no end is busy behind the firings, and both packets have arrived
+abbrev pub OnePutArrives : Type 0
+OnePutArrives =
+    IsQuietMoment dte dce near_lost
+    × (let w = run dte dce near_lost start in MayHeal dte w.near × MayHeal dce w.far × AreDeliveriesAndPuts one_put
+    × (let fired = run dte dce (Near T1 ∷ Far T1 ∷ []) w in FreeThroughout dte dce one_put fired
+    × (let v = run dte dce one_put fired in IsDrained v × (v.far.up ≡ (5 ∷ []) ∷ (6 ∷ []) ∷ []))))

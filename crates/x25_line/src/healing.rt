@@ -3,8 +3,8 @@
 ghost use Rattle.x25_line.specs.Healing.{RestShows, EachRestShows, OneFiringHeals, FarFiringHeals, OneFiringEnds, GoneEnds};
 ghost use Rattle.x25_line.specs.Healing.{BothFiringsHeal, TwoFiringsHeal, EachRestsOrIsOut, Heals, SessionsHeal, EachSessionRestsOrIsOut, DeliveriesEnd, SomeHeal, BothLostMayHeal};
 ghost use Rattle.x25_line.specs.Healing.{DrainsEnd, SomeDrain, SessionsDrainEnd, SomeSessionsDrain, OneBusyHeals, SomeBusyHeal, SessionsHealBusy, HealsUnlessBothBusy, SessionsHealUnlessBothBusy};
-ghost use Rattle.x25_line.specs.HealingPuts.{PutsHeal};
-ghost use Rattle.x25_line.specs.rows.HealingRows.{NoFiringIsTooFew, OneFiringIsTooFew, NoTriesAreLeft, FiringsAloneEnd, BothBusyStay, BothBusyIsReached, OneBusyIsReached};
+ghost use Rattle.x25_line.specs.HealingPuts.{PutsHeal, PutsHealSessions, OnePutArrives};
+ghost use Rattle.x25_line.specs.rows.HealingRows.{NoFiringIsTooFew, OneFiringIsTooFew, NoTriesAreLeft, FiringsAloneEnd, PutToGoneStays, BothBusyStay, BothBusyIsReached, OneBusyIsReached};
 ghost use Rattle.x25_line.specs.laws.SessionClaims.{Throughout};
 
 use x25_frame::reads_what_is_spelled;
@@ -95,9 +95,12 @@ pub fn one_busy_heals()
 /// The same while packets are handed down: from a moment in which nothing is on the line, both ends are Up, neither is busy, and tries are left where
 /// timer T1 runs. Both fire, and then all that is on the line comes, while packets are put at either end, in any order of these, where neither end is
 /// busy as octets come, nor at the end. Once nothing is on the line, both ends are at rest, and all that was ever handed down, these packets too, has
-/// been handed up at the other end.
+/// been handed up at the other end (`at_once`). Over set-up and re-set-up their sessions heal so, and no other begins (`sessions`).
+/// A worked moment: a packet was lost, and one more is put once its end has fired (`worked`).
 pub fn puts_heal()
     ensures at_once { PutsHeal }
+    ensures sessions { PutsHealSessions }
+    ensures worked { OnePutArrives }
 {
     follows_the_window();
     sets_up_by_rows();
@@ -143,13 +146,15 @@ pub fn drains_end()
 
 /// What isn't so, each with its shortest script. Where a packet of each end was lost, nothing arrives without a firing (`none`), and by one
 /// firing in all that of one end alone (`one`). With no tries left the firing ends the link (`last`), and so do N2 + 1 firings with no
-/// delivery between them, though nothing was lost (`alone`). Where both ends are busy, nothing is ever handed up, however often both fire
-/// and all comes (`busy`); and there is such a moment (`busy_reached`).
+/// delivery between them, though nothing was lost (`alone`). Where the other end is gone, by `abandon` or by a DISC that was lost, a packet
+/// that is put behind the firings leaves an end Up, with timer T1 running and nothing on the line (`gone`). Where both ends are busy, nothing
+/// is ever handed up, however often both fire and all comes (`busy`); and there is such a moment (`busy_reached`).
 pub fn healing_takes_firings()
     ensures none { NoFiringIsTooFew }
     ensures one { OneFiringIsTooFew }
     ensures last { NoTriesAreLeft }
     ensures alone { FiringsAloneEnd }
+    ensures gone { PutToGoneStays }
     ensures busy { BothBusyStay }
     ensures busy_reached { BothBusyIsReached }
 {

@@ -20,7 +20,7 @@ use Rattle.x25_line.specs.rows.StationRows.{dte, dce, IsAcrossFive, PacketGoes, 
 abbrev pub taken_as : Settings → Result PlainFrame FrameError → List ℕ → List (List ℕ) → Stations → Stations
 taken_as c r octets back w = after_step c w back [] (closed_by c.window (hears c octets r w.near.station.phase (alone w.near.station)))
 
-comes : (c : Settings) (r : Result PlainFrame FrameError) (octets : List ℕ) (back : List (List ℕ)) (w : Stations) → frame_of (other c.role) c.longest octets ≡ r → w.back ≡ octets ∷ back
+pub comes : (c : Settings) (r : Result PlainFrame FrameError) (octets : List ℕ) (back : List (List ℕ)) (w : Stations) → frame_of (other c.role) c.longest octets ≡ r → w.back ≡ octets ∷ back
     → acts c Deliver w ≡ taken_as c r octets back w
 comes c r octets back w reads is = ap (λ (os : List (List ℕ)). delivered c os w) is ∙ ap (λ (z : Result PlainFrame FrameError). taken_as c z octets back w) reads
 
@@ -46,7 +46,7 @@ abbrev crossing_frame : PlainFrame
 crossing_frame = info 0 0 false (7 ∷ [])
 
 -- RR with N(R)=1; RR with P=1 of the end whose timer ran out, and the answer to it with F=1
-abbrev acknowledging : PlainFrame
+abbrev pub acknowledging : PlainFrame
 acknowledging = rr false 1 false
 
 abbrev pub polling : PlainFrame
@@ -60,11 +60,14 @@ unfolding frame_of
 short_reads = refl
 
 module _ (reads : ReadsSpelled) where
-  packet_reads : frame_of Dte 128 (spelling_of Dte packet_frame) ≡ Ok packet_frame
+  pub packet_reads : frame_of Dte 128 (spelling_of Dte packet_frame) ≡ Ok packet_frame
   packet_reads = reads Dte 128 packet_frame _ (record { in_range = (omega arith, omega arith); carries = tt; within = omega arith; spelling = refl })
 
   crossing_reads : frame_of Dce 128 (spelling_of Dce crossing_frame) ≡ Ok crossing_frame
   crossing_reads = reads Dce 128 crossing_frame _ (record { in_range = (omega arith, omega arith); carries = tt; within = omega arith; spelling = refl })
+
+  pub packet_comes : (w : Stations) → w.out ≡ spelling_of Dte packet_frame ∷ [] → happens dte dce (Far Deliver) w ≡ swapped (told dce packet_frame (swapped w))
+  packet_comes w is = ap swapped (comes dce (Ok packet_frame) (spelling_of Dte packet_frame) [] (swapped w) packet_reads is)
 
   disc_reads : frame_of Dte 128 (spelling_of Dte (disc true)) ≡ Ok (disc true)
   disc_reads = reads Dte 128 (disc true) _ (record { in_range = tt; carries = refl; within = tt; spelling = refl })
@@ -81,7 +84,7 @@ module _ (reads : ReadsSpelled) where
   dm_reads : frame_of Dce 128 (spelling_of Dce (dm true)) ≡ Ok (dm true)
   dm_reads = reads Dce 128 (dm true) _ (record { in_range = tt; carries = refl; within = tt; spelling = refl })
 
-  ready_reads : (from : Role) (command : Bool) (nr : ℕ) (pf : Bool) → nr < 8 → frame_of from 128 (spelling_of from (rr command nr pf)) ≡ Ok (rr command nr pf)
+  pub ready_reads : (from : Role) (command : Bool) (nr : ℕ) (pf : Bool) → nr < 8 → frame_of from 128 (spelling_of from (rr command nr pf)) ≡ Ok (rr command nr pf)
   ready_reads from command nr pf low = reads from 128 (rr command nr pf) _ (record { in_range = low; carries = refl; within = tt; spelling = refl })
 
   pub packet_goes : PacketGoes

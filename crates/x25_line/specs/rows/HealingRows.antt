@@ -1,11 +1,13 @@
 -- What isn't so of healing, each with its shortest script, and of two busy ends by every one; and moments with one busy end.
 use Rattle.std.specs.Prelude.{◌≡◌, ℕ, zero, suc, true, List, [], ◌∷◌, ◌++◌}
-use Rattle.x25_link.specs.declared.phase.Phase.TheVariants.{Down, Waiting, Up}
+use Rattle.x25_link.specs.declared.phase.Phase.{Phase}
+use Rattle.x25_link.specs.declared.phase.Phase.TheVariants.{Down, Waiting, Up, Closed}
 use Rattle.x25_link.specs.LinkStation.{Settings, is_up, is_busy}
 use Rattle.x25_link.specs.Steps.{timer_runs}
-use Rattle.x25_line.specs.Stations.{StationEnd, Stations, Act, Put, Deliver, T1, Connect, Abandon, Lose, Event, Near, Far, run, start}
+use Rattle.x25_line.specs.Stations.{StationEnd, Stations, Act, Put, Deliver, T1, Connect, Disconnect, Abandon, Lose, Event, Near, Far, run, start}
 use Rattle.x25_line.specs.laws.StationClaims.{AreJoined}
-use Rattle.x25_line.specs.Healing.{IsDrained, IsQuietMoment, both_lost}
+use Rattle.x25_line.specs.Healing.{IsDrained, IsQuietMoment, MayHeal, IsAtRestOrOut, both_lost}
+use Rattle.x25_line.specs.HealingPuts.{FreeThroughout}
 use Rattle.x25_line.specs.rows.StationRows.{dte, dce}
 
 -- The packet of each end was lost. Without a firing nothing arrives, as nothing is on the line.
@@ -36,6 +38,29 @@ NoTriesAreLeft =
 -- N2 + 1 firings without a delivery end the link, though nothing was lost.
 abbrev pub FiringsAloneEnd : Type 0
 FiringsAloneEnd = (run hasty dce (Near (Put (5 ∷ [])) ∷ Near T1 ∷ Near T1 ∷ []) start).near.station.phase ≡ Down
+
+-- ---- a packet is put to an end that is gone
+
+-- both fire where their T1 runs
+abbrev pub fired_after : List Event → Stations
+fired_after gone = run dte dce (Near T1 ∷ Far T1 ∷ []) (run dte dce gone start)
+
+abbrev pub put_and_comes : List Event
+put_and_comes = Near (Put (5 ∷ [])) ∷ Far Deliver ∷ []
+
+-- From a quiet moment both fire, and then a packet is put at the near end, which is Up with tries left, and comes to the other, which is gone. No end is
+-- busy, nothing is on the line, and the near end is neither at rest nor out of Up.
+pub record PutStays (gone : List Event) (phase : Phase) : Type 0 where
+  pub quiet : IsQuietMoment dte dce gone
+  pub near : MayHeal dte (run dte dce gone start).near
+  pub far : (run dte dce gone start).far.station.phase ≡ phase
+  pub free : FreeThroughout dte dce put_and_comes (fired_after gone)
+  pub drained : IsDrained (run dte dce put_and_comes (fired_after gone))
+  pub stays : IsAtRestOrOut (run dte dce put_and_comes (fired_after gone)).near → ⊥
+
+-- the other end left without a frame; or its DISC was lost
+abbrev pub PutToGoneStays : Type 0
+PutToGoneStays = PutStays (Far Abandon ∷ []) Down × PutStays (Far Disconnect ∷ Near (Lose 0) ∷ []) Closed
 
 -- ---- two busy ends
 

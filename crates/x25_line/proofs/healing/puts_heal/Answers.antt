@@ -1,5 +1,7 @@
 use Rattle.x25_line.proofs.HealingSteps.{HealingLaws}
 use Rattle.x25_line.proofs.HealingPuts.{puts_heal}
+use Rattle.x25_line.proofs.HealingPutsSessions.{puts_heal_sessions}
+use Rattle.x25_line.proofs.rows.HealingRowLemmas.{one_put_arrives}
 use Rattle.x25_line.proofs.healing.puts_heal.Goals as goal
 
 pub returns : goal.returns
@@ -23,4 +25,4 @@ returns c =
       rest = record { take = rest.take; put = rest.put; timer = rest.timer; connect = rest.connect; disconnect = rest.disconnect; abandon = rest.abandon; no_timer = rest.no_timer; all_heard = rest.all_heard; only_then = rest.only_then };
       answers = record { timer = answer.timer; poll = answer.poll; recovery = answer.recovery; ready = answer.ready; rej = answer.rej; wanted = answer.wanted; other = answer.other; out = answer.out; dm = answer.dm };
     } in
-    record { at_once = puts_heal reads laws }
+    record { at_once = puts_heal reads laws; sessions = puts_heal_sessions reads laws; worked = one_put_arrives reads }

@@ -1,5 +1,5 @@
 use Rattle.std.proofs.Common.{◌≡◌, length}
-use Rattle.x25_link.proofs.link.Link.give_back_list.Given as goal
+use Rattle.x25_link.proofs.link.Link.take_list_back.Given as goal
 
 -- the link is as before
 abbrev pub invariant-loop-octets : goal.invariant-loop-octets

@@ -1,0 +1,21 @@
+-- Packets are put while two ends heal, over set-up and re-set-up.
+use Rattle.x25_frame.specs.laws.ReadingLaw.{ReadsSpelled}
+use Rattle.x25_line.specs.Stations.{Stations}
+use Rattle.x25_line.specs.Stations as one
+use Rattle.x25_line.specs.Sessions.{Sessions, run}
+use Rattle.x25_line.specs.HealingPuts.{PutsHealSessions}
+use Rattle.x25_line.proofs.HealingSteps.{HealingLaws}
+use Rattle.x25_line.proofs.HealingBoth.{fired_both}
+use Rattle.x25_line.proofs.HealingPuts.{puts_run}
+use Rattle.x25_line.proofs.HealingEnds.{after_firings}
+use Rattle.x25_line.proofs.HealingStands.{fired, fired_alike, free_alike, may_heal, sessions_arrive, come_to_rest}
+
+module _ (reads : ReadsSpelled) (laws : HealingLaws) where
+  pub puts_heal_sessions : PutsHealSessions
+  puts_heal_sessions c d joined begin is events timely no_out no_back near_may far_may es are free out_after back_after =
+      let w : Sessions = run c d events begin in
+      sessions_arrive reads laws c d joined begin is events timely no_out no_back near_may.up far_may.up es are out_after back_after (λ v sound drained alike after.
+      let begun = fired_both reads laws c d joined v sound drained (may_heal c w.near v.near alike.near near_may) (may_heal d w.far v.far alike.far far_may) in
+      let v1 : Stations = after_firings c d v in
+      let stays = free_alike c d w.near.begun w.far.begun es (fired c d w) v1 are (fired_alike c d w.near.begun w.far.begun w v alike) free in
+      come_to_rest reads laws c d joined begun.most begun.least (one.run c d es v1) (puts_run c d joined reads laws begun.most begun.least es v1 are begun.heals stays) after)
