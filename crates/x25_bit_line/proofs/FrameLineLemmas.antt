@@ -1,7 +1,7 @@
 -- Lines of a trace, one after another.
 use Rattle.std.proofs.Common.{◌≡◌, ◌∙◌, ◌<◌, ◌≤◌, ◌||◌, ℕ, Bool, true, false, not, List, [], ◌∷◌, ◌++◌, length, Some, None, Result, Ok, Err, ap, sym, refl, arith, nat_le, le-leb}
 use Rattle.std.specs.Prelude.{OnOk}
-use Rattle.std.specs.List.{flat_map, list_any}
+use Rattle.std.specs.List.{flat_map}
 use Rattle.std.proofs.lemmas.Bool.Decides.{nat_tests}
 use Rattle.std.proofs.Math.Bool.{and-true, or-false}
 use Rattle.x25_bits.specs.Stuffing.{framed}
@@ -9,7 +9,7 @@ use Rattle.x25_bits.specs.declared.role.Role.{Role}
 use Rattle.x25_io.specs.HeldLine.{most_line}
 use Rattle.x25_io.specs.Lines.{lines_of}
 use Rattle.x25_decode.specs.Decoded.{is_refused, sent_in}
-use Rattle.x25_bit_line.specs.Framed.{begins_by_mark, framed_bits, has_wrong, is_wrong, line_bits, sent_bits}
+use Rattle.x25_bit_line.specs.Framed.{begins_by_mark, framed_bits, is_wrong, line_bits, sent_bits}
 
 -- ---- one line
 
@@ -48,20 +48,9 @@ long_is_wrong line none big =
 
 -- ---- lines of a text
 
--- the text goes on behind a line
-abbrev pub GoesOn : List ℕ → List ℕ → List ℕ → Type 0
-GoesOn text line rest = lines_of text ≡ line ∷ lines_of rest
-
-pub bits_on : (text line rest : List ℕ) → GoesOn text line rest → framed_bits text ≡ line_bits line ++ framed_bits rest
+pub bits_on : (text line rest : List ℕ) → lines_of text ≡ line ∷ lines_of rest → framed_bits text ≡ line_bits line ++ framed_bits rest
 bits_on text line rest e = ap (flat_map line_bits) e
-
-pub wrong_on : (text line rest : List ℕ) → GoesOn text line rest → has_wrong text ≡ (is_wrong line || has_wrong rest)
-wrong_on text line rest e = ap (list_any is_wrong) e
 
 pub no_bits : framed_bits [] ≡ []
 unfolding lines_of
 no_bits = refl
-
-pub none_wrong : has_wrong [] ≡ false
-unfolding lines_of
-none_wrong = refl

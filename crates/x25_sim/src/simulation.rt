@@ -9,7 +9,7 @@ ghost use Rattle.x25_sim.specs.code.Stream.{WritesEnded};
 use crate::simulator::Simulator;
 use crate::stage::Stage;
 use std::alloc::Global;
-use x25_io::{Fault, HeldLine, PIECE, Sink, Source, take_text};
+use x25_io::{Fault, HeldLine, LineByLine, PIECE, Sink, Source, take_text};
 use x25_station::Cfg;
 
 /// Two stations and a line between them, before the first line of a script, with all buffers that a script needs.
@@ -63,7 +63,8 @@ impl Simulation {
         ensures memory { IsErrOf result Fault.NoMemory → (R.is_marked reader.new ≡ R.is_marked reader.old) × (W.is_marked writer.new ≡ W.is_marked writer.old) }
     {
         self.stage.open(writer)?;
-        let simulator = Simulator::new(self.held, self.octets, self.stage);
-        take_text(simulator, self.piece.as_mut_slice(), reader, writer)
+        let simulator = Simulator::new(self.octets, self.stage);
+        let lines = LineByLine::new(self.held, simulator);
+        take_text(lines, self.piece.as_mut_slice(), reader, writer)
     }
 }

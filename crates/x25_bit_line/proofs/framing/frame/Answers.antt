@@ -1,8 +1,7 @@
-use Rattle.std.proofs.Common.{◌∙◌, ◌<◌, ◌-◌, ◌^◌, [], ap, length, sym, subst}
+use Rattle.std.proofs.Common.{◌<◌, ◌-◌, ◌^◌, length}
 use Rattle.std.proofs.lemmas.Result.{err_from_is_err_and}
-use Rattle.x25_io.specs.HeldLine.{HoldsLine}
 use Rattle.x25_bit_line.specs.Framed.{framed_octets}
-use Rattle.x25_bit_line.proofs.FramesLemmas.{start}
+use Rattle.x25_bit_line.proofs.FramesLemmas.{begins}
 use Rattle.x25_bit_line.proofs.TellingLemmas.{nothing_written}
 use Rattle.x25_bit_line.proofs.framing.frame.Goals as goal
 
@@ -19,35 +18,27 @@ returns-in_err-sender-clause-fault g c =
 pub returns-clause-text : goal.returns-clause-text
 returns-clause-text g c =
     let written = g.W.Sink.contents c.args.writer.now in
-    let made = c.new-framer.ensures in
     let sender = c.in_ok-sender.ensures in
     c.take_text.ensures.text tt written
-    (λ input. start written c.new-framer.result input (subst (HoldsLine []) (sym made.held) c.in_ok-held.ensures) (ap (λ s. s.bits.bits) made.sender ∙ sender.bits)
-    (ap (λ s. s.output) made.sender ∙ sender.empty) (ap (λ s. s.is_wrong) made.sender ∙ sender.right))
+    (begins written c.new-lines.result.held _ c.new-lines.result.taker _ c.new-lines.ensures.held c.new-lines.ensures.taker c.in_ok-held.ensures sender.bits sender.empty sender.right)
 
 pub returns-clause-status : goal.returns-clause-status
 returns-clause-status g c =
     let written = g.W.Sink.contents c.args.writer.now in
-    let made = c.new-framer.ensures in
     let sender = c.in_ok-sender.ensures in
     c.take_text.ensures.status tt written
-    (λ input. start written c.new-framer.result input (subst (HoldsLine []) (sym made.held) c.in_ok-held.ensures) (ap (λ s. s.bits.bits) made.sender ∙ sender.bits)
-    (ap (λ s. s.output) made.sender ∙ sender.empty) (ap (λ s. s.is_wrong) made.sender ∙ sender.right))
+    (begins written c.new-lines.result.held _ c.new-lines.result.taker _ c.new-lines.ensures.held c.new-lines.ensures.taker c.in_ok-held.ensures sender.bits sender.empty sender.right)
 
 pub returns-clause-fault : goal.returns-clause-fault
 returns-clause-fault g c =
     let written = g.W.Sink.contents c.args.writer.now in
-    let made = c.new-framer.ensures in
     let sender = c.in_ok-sender.ensures in
     c.take_text.ensures.fault tt written
-    (λ input. start written c.new-framer.result input (subst (HoldsLine []) (sym made.held) c.in_ok-held.ensures) (ap (λ s. s.bits.bits) made.sender ∙ sender.bits)
-    (ap (λ s. s.output) made.sender ∙ sender.empty) (ap (λ s. s.is_wrong) made.sender ∙ sender.right))
+    (begins written c.new-lines.result.held _ c.new-lines.result.taker _ c.new-lines.ensures.held c.new-lines.ensures.taker c.in_ok-held.ensures sender.bits sender.empty sender.right)
 
 pub returns-clause-ended : goal.returns-clause-ended
 returns-clause-ended g c =
     let written = g.W.Sink.contents c.args.writer.now in
-    let made = c.new-framer.ensures in
     let sender = c.in_ok-sender.ensures in
     c.take_text.ensures.ended tt written
-    (λ input. start written c.new-framer.result input (subst (HoldsLine []) (sym made.held) c.in_ok-held.ensures) (ap (λ s. s.bits.bits) made.sender ∙ sender.bits)
-    (ap (λ s. s.output) made.sender ∙ sender.empty) (ap (λ s. s.is_wrong) made.sender ∙ sender.right))
+    (begins written c.new-lines.result.held _ c.new-lines.result.taker _ c.new-lines.ensures.held c.new-lines.ensures.taker c.in_ok-held.ensures sender.bits sender.empty sender.right)

@@ -38,8 +38,8 @@ returns-clause-text g c =
     let written = g.W.Sink.contents c.args.writer.now in
     let first = c.in_ok-pipe.ensures in
     c.take_text.ensures.text k written
-    (λ input. input_begins k written (g.W.Sink.contents c.mark_standing.new.writer) c.mark_standing.new.self input c.new-answerer.result c.in_ok-held.held
-    c.new-answerer.ensures.held c.new-answerer.ensures.pipe c.in_ok-held.ensures
+    (λ input. input_begins k written (g.W.Sink.contents c.mark_standing.new.writer) c.mark_standing.new.self input c.new-lines.result.taker c.new-lines.result.held c.in_ok-held.held
+    c.new-lines.ensures.held c.new-lines.ensures.taker c.in_ok-held.ensures
     (c.in_ok-mark_standing.ensures.turns k written new_station [] false (stands_first k written c.in_ok-pipe.pipe first.fits first.role first.empty first.is_refused)))
 
 pub returns-clause-status : goal.returns-clause-status
@@ -48,8 +48,8 @@ returns-clause-status g c =
     let written = g.W.Sink.contents c.args.writer.now in
     let first = c.in_ok-pipe.ensures in
     c.take_text.ensures.status k written
-    (λ input. input_begins k written (g.W.Sink.contents c.mark_standing.new.writer) c.mark_standing.new.self input c.new-answerer.result c.in_ok-held.held
-    c.new-answerer.ensures.held c.new-answerer.ensures.pipe c.in_ok-held.ensures
+    (λ input. input_begins k written (g.W.Sink.contents c.mark_standing.new.writer) c.mark_standing.new.self input c.new-lines.result.taker c.new-lines.result.held c.in_ok-held.held
+    c.new-lines.ensures.held c.new-lines.ensures.taker c.in_ok-held.ensures
     (c.in_ok-mark_standing.ensures.turns k written new_station [] false (stands_first k written c.in_ok-pipe.pipe first.fits first.role first.empty first.is_refused)))
 
 pub returns-clause-fault : goal.returns-clause-fault
@@ -58,8 +58,8 @@ returns-clause-fault g c =
     let written = g.W.Sink.contents c.args.writer.now in
     let first = c.in_ok-pipe.ensures in
     c.take_text.ensures.fault k written
-    (λ input. input_begins k written (g.W.Sink.contents c.mark_standing.new.writer) c.mark_standing.new.self input c.new-answerer.result c.in_ok-held.held
-    c.new-answerer.ensures.held c.new-answerer.ensures.pipe c.in_ok-held.ensures
+    (λ input. input_begins k written (g.W.Sink.contents c.mark_standing.new.writer) c.mark_standing.new.self input c.new-lines.result.taker c.new-lines.result.held c.in_ok-held.held
+    c.new-lines.ensures.held c.new-lines.ensures.taker c.in_ok-held.ensures
     (c.in_ok-mark_standing.ensures.turns k written new_station [] false (stands_first k written c.in_ok-pipe.pipe first.fits first.role first.empty first.is_refused)))
 
 pub returns-clause-ended : goal.returns-clause-ended
@@ -68,6 +68,6 @@ returns-clause-ended g c =
     let written = g.W.Sink.contents c.args.writer.now in
     let first = c.in_ok-pipe.ensures in
     c.take_text.ensures.ended k written
-    (λ input. input_begins k written (g.W.Sink.contents c.mark_standing.new.writer) c.mark_standing.new.self input c.new-answerer.result c.in_ok-held.held
-    c.new-answerer.ensures.held c.new-answerer.ensures.pipe c.in_ok-held.ensures
+    (λ input. input_begins k written (g.W.Sink.contents c.mark_standing.new.writer) c.mark_standing.new.self input c.new-lines.result.taker c.new-lines.result.held c.in_ok-held.held
+    c.new-lines.ensures.held c.new-lines.ensures.taker c.in_ok-held.ensures
     (c.in_ok-mark_standing.ensures.turns k written new_station [] false (stands_first k written c.in_ok-pipe.pipe first.fits first.role first.empty first.is_refused)))

@@ -3,8 +3,8 @@ use Rattle.std.proofs.lemmas.Result.{err_from_is_err_and, on_ok_weaker}
 use Rattle.x25_station.specs.declared.config.Cfg.{Cfg}
 use Rattle.x25_io.proofs.ToldLemmas.{none_told}
 use Rattle.x25_sim.specs.code.Ready.{IsReady}
-use Rattle.x25_sim.specs.Simulated.{simulated}
-use Rattle.x25_sim.specs.code.Stream.{Leads}
+use Rattle.x25_sim.specs.code.Stream.{Simulates}
+use Rattle.x25_io.specs.code.LinesLead.{LinesLead}
 use Rattle.x25_sim.proofs.SimLemmas.{if_some, opening_failed, script_begins}
 use Rattle.x25_sim.proofs.simulation.Simulation.play.Given as given
 use Rattle.x25_sim.proofs.simulation.Simulation.play.Goals as goal
@@ -24,12 +24,13 @@ returns-clause-clean g c = on_ok_weaker c.take_text.result (λ clean. (clean.0, 
 
 -- the script is still to come
 begins : (g : given.Over) (c : goal.After-drop-self-2 g) (cfg : Cfg) (down tap : Bool) → IsReady cfg down tap c.args.self → (script : List ℕ)
-    → Leads cfg tap (g.W.Sink.contents c.args.writer.now) (g.W.Sink.contents c.open.new.writer) c.new-simulator.result script (simulated cfg down tap script)
+    → LinesLead (λ lines. Simulates (record { cfg = cfg; down = down; tap = tap }) c.new-lines.result.taker (g.W.Sink.contents c.args.writer.now) (g.W.Sink.contents c.open.new.writer) lines script)
+    c.new-lines.result.held script
 begins g c cfg down tap ready script =
     let s = c.args.self in
     let written = g.W.Sink.contents c.args.writer.now in
-    script_begins cfg down tap s.stage.tap ready.tapped written (g.W.Sink.contents c.open.new.writer) c.open.new.self script c.new-simulator.result s.held
-    c.new-simulator.ensures.held c.new-simulator.ensures.stage ready.held
+    script_begins cfg down tap s.stage.tap ready.tapped written (g.W.Sink.contents c.open.new.writer) c.open.new.self script c.new-lines.result.taker c.new-simulator.result c.new-lines.result.held s.held
+    c.new-lines.ensures.held c.new-lines.ensures.taker c.new-simulator.ensures ready.held
     (c.in_ok-open.ensures.stood cfg down written ready.opening ready.unrefused (none_told written s.stage.output ready.empty))
 
 pub returns-clause-text : goal.returns-clause-text
