@@ -20,7 +20,8 @@ use Rattle.x25_text.specs.OctetText.{octet_text}
 use Rattle.x25_bit_line.specs.Deframed.{class_lines, deframed, trace_line}
 use Rattle.x25_bit_line.specs.Framed.{framed_bits, framed_octets, line_bits}
 use Rattle.x25_bit_line.specs.Trace.{AreContents, trace_text}
-use Rattle.x25_bit_line.proofs.FrameLineLemmas.{bits_on, line_ended, no_bits, open-append, sends_frame}
+use Rattle.x25_io.proofs.LineLemmas.{ends_line, open-append}
+use Rattle.x25_bit_line.proofs.FrameLineLemmas.{bits_on, no_bits, sends_frame}
 
 -- ---- digits
 
@@ -108,7 +109,7 @@ bits_again from (octets ∷ frames) contents =
     let split : trace_line from octets ++ rest ≡ line ++ 10 ∷ rest = append_assoc line (10 ∷ []) rest in
     let is_open : IsOpen line = open-append (mark_of from) (flat_map octet_text octets) (open_mark from) (open_digits octets small) in
     let sent : line_bits line ≡ framed octets = sends_frame line from octets (sent_again from octets (octets_again octets small contents.0.most)) in
-    ap framed_bits split ∙ bits_on (line ++ 10 ∷ rest) line rest (line_ended line rest is_open)
+    ap framed_bits split ∙ bits_on (line ++ 10 ∷ rest) line rest (ends_line line rest is_open)
     ∙ ap (λ l. l ++ framed_bits rest) sent ∙ ap (λ l. framed octets ++ l) (bits_again from frames contents.1)
 
 -- ---- octets and bits

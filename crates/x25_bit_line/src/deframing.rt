@@ -43,15 +43,9 @@ pub fn deframe<R: Source, W: Sink>(
     ensures read { IsErrOf result Fault.Read → R.is_marked reader.new ≡ true }
     ensures write { IsErrOf result Fault.Write → W.is_marked writer.new ≡ true }
 {
-    let Ok(mut piece) = vec![in alloc; 0u8; PIECE] else {
-        return Err(Fault::NoMemory);
-    };
-    let Ok(deframer) = Deframer::with_buffer(alloc) else {
-        return Err(Fault::NoMemory);
-    };
-    let Ok(lines) = SpanLines::new(alloc, from) else {
-        return Err(Fault::NoMemory);
-    };
+    let mut piece = vec![in alloc; 0u8; PIECE]?;
+    let deframer = Deframer::with_buffer(alloc)?;
+    let lines = SpanLines::new(alloc, from)?;
     let finder = Finder::new(deframer, lines);
     take_text(finder, piece.as_mut_slice(), reader, writer)
 }

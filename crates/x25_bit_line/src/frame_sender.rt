@@ -4,8 +4,8 @@ ghost use Rattle.x25_bit_line.specs.Framed.{begins_by_mark};
 
 use crate::line_bits::LineBits;
 use std::alloc::{AllocError, Global};
-use x25_decode::read_sent;
-use x25_io::{Fault, Output, Sink};
+use x25_decode::{long_lines_send_nothing, read_sent};
+use x25_io::{Fault, LineTaker, Output, Sink};
 use x25_text::MOST_OCTETS;
 
 /// Whether a line begins with `#`.
@@ -53,7 +53,7 @@ impl FrameSender {
     }
 
     /// Writes what waits.
-    pub(crate) fn flush<W: Sink>(&mut self, writer: &mut W) -> Result<(), Fault>
+    fn flush<W: Sink>(&mut self, writer: &mut W) -> Result<(), Fault>
         ensures kept { OnOk result (W.is_marked writer.new ≡ W.is_marked writer.old) }
         ensures tells { (old : Option (List ℕ)) (told : List ℕ) → Tells old (W.contents writer.old) self.old.output told
             → MatchResult result (λ _. Tells old (W.contents writer.new) self.new.output told) (λ _. AppendsPrefix old (W.contents writer.new) told) }
@@ -70,15 +70,6 @@ impl FrameSender {
         }
     }
 
-    /// A line is neither of a trace nor a comment.
-    pub(crate) fn refuse(&mut self)
-        ensures bits { self.new.bits ≡ self.old.bits }
-        ensures output { self.new.output ≡ self.old.output }
-        ensures wrong { self.new.is_wrong ≡ true }
-    {
-        self.is_wrong = true;
-    }
-
     /// Passes over a line that is none of a trace: where it is no comment, it is refused.
     fn pass_over(&mut self, line: &[u8])
         ensures bits { self.new.bits ≡ self.old.bits }
@@ -92,7 +83,7 @@ impl FrameSender {
     }
 
     /// Sends the frame of a line of a trace, and nothing for another line.
-    pub(crate) fn take<W: Sink>(&mut self, line: &[u8], writer: &mut W) -> Result<(), Fault>
+    fn take<W: Sink>(&mut self, line: &[u8], writer: &mut W) -> Result<(), Fault>
         ensures kept { OnOk result (W.is_marked writer.new ≡ W.is_marked writer.old) }
         ensures sends { SendsLine result (W.contents writer.old) (W.contents writer.new) self.old.bits.bits self.new.bits.bits self.old.output self.new.output (line_bits line.now) }
         ensures wrong { length line.now ≤ most_line → OnOk result (self.new.is_wrong ≡ (self.old.is_wrong || is_wrong line.now)) }
@@ -113,7 +104,7 @@ impl FrameSender {
     }
 
     /// Sends the bits that are left, and writes what waits.
-    pub(crate) fn finish<W: Sink>(&mut self, writer: &mut W) -> Result<(), Fault>
+    fn finish<W: Sink>(&mut self, writer: &mut W) -> Result<(), Fault>
         ensures kept { OnOk result (W.is_marked writer.new ≡ W.is_marked writer.old) }
         ensures text { (old : Option (List ℕ)) (before : List Bool) → Sends old (W.contents writer.old) self.old.bits.bits self.old.output before
             → MatchResult result (λ _. Appends old (W.contents writer.new) (octets_of (filled before))) (λ _. AppendsPrefix old (W.contents writer.new) (octets_of (filled before))) }
@@ -125,11 +116,43 @@ impl FrameSender {
         self.bits.send_rest(&mut self.output, writer)?;
         self.flush(writer)
     }
+}
 
-    /// Whether a line was refused.
-    pub(crate) fn is_wrong(&self) -> bool
-        ensures { result ≡ self.now.is_wrong }
-    {
-        self.is_wrong
+impl LineTaker for FrameSender {
+    ghost use Rattle.x25_bit_line.specs.Framed.{frame_status, framed_octets};
+    ghost use Rattle.x25_bit_line.specs.code.Frames.{FramesOn, WritesLines};
+
+    ghost Setting = { Unit {0} };
+
+    ghost text_of = { λ _. framed_octets };
+
+    ghost status_of = { λ _. frame_status };
+
+    ghost waiting = { λ s. s.output };
+
+    ghost may_want = { Unit {0} };
+
+    ghost stands = { λ _. FramesOn };
+
+    ghost ended = { λ _. WritesLines };
+
+    fn take_line<W: Sink>(&mut self, line: Option<&[u8]>, writer: &mut W) -> Result<(), Fault> {
+        match line {
+            Some(line) => self.take(line, writer),
+            None => {
+                long_lines_send_nothing();
+                self.is_wrong = true;
+                Ok(())
+            }
+        }
+    }
+
+    fn write_out<W: Sink>(&mut self, writer: &mut W) -> Result<(), Fault> {
+        self.flush(writer)
+    }
+
+    fn end<W: Sink>(&mut self, writer: &mut W) -> Result<u8, Fault> {
+        self.finish(writer)?;
+        Ok(u8::from(self.is_wrong))
     }
 }

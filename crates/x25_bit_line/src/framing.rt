@@ -6,9 +6,8 @@ ghost use Rattle.x25_bit_line.specs.Framed.{frame_status, framed_octets};
 ghost use Rattle.x25_bit_line.specs.code.Frames.{WritesFrames};
 
 use crate::frame_sender::FrameSender;
-use crate::framer::Framer;
 use std::alloc::Global;
-use x25_io::{Fault, HeldLine, PIECE, Sink, Source, take_text};
+use x25_io::{Fault, HeldLine, LineByLine, PIECE, Sink, Source, take_text};
 
 /// Reads lines of a trace, and writes the octets of a synchronous line, each lowest bit first, that carries their frames in
 /// order, whichever end sent them: of each a flag, its octets' stuffed bits and a flag, without bits between them, and 1 bits
@@ -40,15 +39,9 @@ pub fn frame<R: Source, W: Sink>(alloc: Global, reader: &mut R, writer: &mut W) 
     // Nor did any where want of memory is answered.
     ensures memory { IsErrOf result Fault.NoMemory → (R.is_marked reader.new ≡ R.is_marked reader.old) × (W.is_marked writer.new ≡ W.is_marked writer.old) }
 {
-    let Ok(mut piece) = vec![in alloc; 0u8; PIECE] else {
-        return Err(Fault::NoMemory);
-    };
-    let Ok(held) = HeldLine::new(alloc) else {
-        return Err(Fault::NoMemory);
-    };
-    let Ok(sender) = FrameSender::new(alloc) else {
-        return Err(Fault::NoMemory);
-    };
-    let framer = Framer::new(held, sender);
-    take_text(framer, piece.as_mut_slice(), reader, writer)
+    let mut piece = vec![in alloc; 0u8; PIECE]?;
+    let held = HeldLine::new(alloc)?;
+    let sender = FrameSender::new(alloc)?;
+    let lines = LineByLine::new(held, sender);
+    take_text(lines, piece.as_mut_slice(), reader, writer)
 }

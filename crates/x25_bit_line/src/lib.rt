@@ -7,7 +7,6 @@
 mod deframing;
 mod finder;
 mod frame_sender;
-mod framer;
 mod framing;
 mod law;
 mod line_bits;

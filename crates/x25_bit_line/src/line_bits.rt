@@ -91,10 +91,7 @@ impl LineBits {
     {
         self.tell_octets(output, writer)?;
         let whole = self.bits.len() / 8;
-        let Ok(rest) = bits_from(self.alloc, &self.bits, 8 * whole) else {
-            return Err(Fault::NoMemory);
-        };
-        self.bits = rest;
+        self.bits = bits_from(self.alloc, &self.bits, 8 * whole)?;
         Ok(())
     }
 
@@ -112,9 +109,7 @@ impl LineBits {
         ensures memory { IsErrOf result Fault.NoMemory → W.is_marked writer.new ≡ W.is_marked writer.old }
         ensures read { IsErrOf result Fault.Read → ⊥ }
     {
-        if let Err(_) = put(octets, &mut self.bits) {
-            return Err(Fault::NoMemory);
-        }
+        put(octets, &mut self.bits)?;
         self.send(output, writer)
     }
 
@@ -141,9 +136,7 @@ impl LineBits {
         ensures memory { IsErrOf result Fault.NoMemory → W.is_marked writer.new ≡ W.is_marked writer.old }
         ensures read { IsErrOf result Fault.Read → ⊥ }
     {
-        if let Err(_) = self.fill() {
-            return Err(Fault::NoMemory);
-        }
+        self.fill()?;
         self.tell_octets(output, writer)
     }
 }

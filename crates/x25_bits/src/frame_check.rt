@@ -1,5 +1,5 @@
 //! The frame check sequence (FCS) of a frame, ITU-T X.25 (10/96), section 2.2.7.
-ghost use Rattle.std.specs.Prelude.{◌≡◌, ◌+◌, ◌/◌, ◌^◌, ◌<◌, ◌≤◌, ◌++◌, ◌↔◌, false, length, replicate, take, IsTrue, IsOk, OnOk, OnErr, vec_len, vec_capacity};
+ghost use Rattle.std.specs.Prelude.{◌≡◌, ◌+◌, ◌*◌, ◌/◌, ◌^◌, ◌<◌, ◌≤◌, ◌++◌, ◌↔◌, false, length, replicate, take, IsTrue, IsOk, OnOk, OnErr, vec_len, vec_capacity};
 ghost use Rattle.std.specs.Vec.{VecUnchanged};
 ghost use Rattle.byteorder.specs.Endian.{little_number};
 ghost use Rattle.x25_bits.specs.Fcs.{bits_of, fcs_of, low_bits};
@@ -29,9 +29,31 @@ fn highest(word: u64) -> u16
     (word >> 48) as u16
 }
 
-/// The register that eight octets leave, by the divisor's square x^32 + x^24 + x^10 + 1 and then by the divisor itself.
+/// The register that eight octets leave of which the first six are 0, and the last two these.
+#[inline]
+fn reduced_two(octets: u64) -> u16
+    requires { octets < 2 ^ 16 }
+    ensures { low_bits 16 result ≡ fed (low_bits 16 0) (low_bits 64 (octets * 2 ^ 48)) }
+{
+    let held = octets << 48;
+    let last = held ^ (held << 4) ^ (held << 8) ^ (held << 11) ^ (held << 12);
+    highest(last ^ (last >> 5) ^ (last >> 12))
+}
+
+/// The register that eight octets leave. Of a short frame only the last two may differ from 0.
 #[inline]
 fn reduced(held: u64) -> u16
+    ensures { low_bits 16 result ≡ fed (low_bits 16 0) (low_bits 64 held) }
+{
+    if held << 16 == 0 {
+        return reduced_two(held >> 48);
+    }
+    reduced_eight(held)
+}
+
+/// .. whatever they are, by the divisor's square x^32 + x^24 + x^10 + 1 and then by the divisor itself.
+#[inline]
+fn reduced_eight(held: u64) -> u16
     ensures { low_bits 16 result ≡ fed (low_bits 16 0) (low_bits 64 held) }
 {
     let first = held << 32;

@@ -10,7 +10,7 @@ use Rattle.x25_circuit.specs.declared.request.Request.TheVariants as code
 use Rattle.x25_circuit.specs.Circuit.{Settings}
 use Rattle.x25_circuit.specs.Calls.{Outcome, Done, Refused, Request, Calls, Accepts, Clears, Sends, Interrupts, Resets, SaysReady, SaysNotReady}
 use Rattle.x25_circuit.specs.code.FitsCircuit.{FitsCircuit}
-use Rattle.x25_circuit.specs.code.Replies.{plain_owed}
+use Rattle.x25_circuit.specs.code.Replies.{plain_sent}
 
 -- where there is one
 abbrev pub plain_answer : Option (Bor Params) → Option Params
@@ -39,7 +39,7 @@ with_packet (Err e) = Err e
 
 -- a call that may have a packet to send
 abbrev pub AnswersRequest : Settings → circuit_code.Circuit → Result (Option Packet) CircuitError → Outcome → Type 0
-AnswersRequest c v result (Done next packet) = IsOkAnd result (λ p. FitsCircuit c v next × (plain_owed p ≡ packet))
+AnswersRequest c v result (Done next packet) = IsOkAnd result (λ p. FitsCircuit c v next × (plain_sent p ≡ packet))
 AnswersRequest c v result (Refused e) = result ≡ Err e
 
 -- a message waits, and there is no packet at once

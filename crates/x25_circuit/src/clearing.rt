@@ -14,9 +14,10 @@ use crate::codes::{
     NO_DIAGNOSTIC, NOT_IN_D1, NOT_IN_P1, NOT_IN_P2, NOT_IN_P3, NOT_IN_P4, NOT_IN_P5,
 };
 use crate::notice::{Notice, Reply};
+use crate::owed::Owed;
 use crate::state::State;
 use x25_bits::Role;
-use x25_packet::{Packet, PacketError};
+use x25_packet::PacketError;
 
 /// A DTE sends 128 in place of each cause of a DCE (profile).
 fn cause_at(role: Role, cause: u8) -> u8
@@ -72,8 +73,7 @@ impl Circuit {
     {
         self.end_call(State::Clearing);
         Reply::both(
-            Packet::Clear {
-                channel: 1,
+            Owed::Clear {
                 cause: cause_at(self.role, cause),
                 diagnostic,
             },
@@ -90,8 +90,7 @@ impl Circuit {
     {
         self.begin_stretch(State::Resetting);
         Reply::both(
-            Packet::Reset {
-                channel: 1,
+            Owed::Reset {
                 cause: cause_at(self.role, LOCAL_PROCEDURE_ERROR),
                 diagnostic,
             },
@@ -156,11 +155,8 @@ impl Circuit {
         self.be_cleared();
         match state {
             State::Clearing => Reply::tells(Notice::ClearDone),
-            State::Free => Reply::owes(Packet::ClearConf { channel: 1 }),
-            _ => Reply::both(
-                Packet::ClearConf { channel: 1 },
-                Notice::Cleared { cause, diagnostic },
-            ),
+            State::Free => Reply::owes(Owed::ClearConf),
+            _ => Reply::both(Owed::ClearConf, Notice::Cleared { cause, diagnostic }),
         }
     }
 
@@ -190,10 +186,7 @@ impl Circuit {
         match self.state {
             State::Open => {
                 self.be_reset();
-                Reply::both(
-                    Packet::ResetConf { channel: 1 },
-                    Notice::WasReset { cause, diagnostic },
-                )
+                Reply::both(Owed::ResetConf, Notice::WasReset { cause, diagnostic })
             }
             State::Resetting => self.end_reset(),
             State::Clearing => Reply::nothing(),

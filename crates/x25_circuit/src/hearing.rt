@@ -9,13 +9,14 @@ ghost use Rattle.x25_circuit.specs.Notices.{deliveries};
 ghost use Rattle.x25_circuit.specs.code.Fits.{first_ground};
 ghost use Rattle.x25_circuit.specs.Table.{resets_for, unless, number_ground, hears_status, confirms, takes, status, row_open, row_data, answers};
 ghost use Rattle.x25_circuit.specs.code.FitsCircuit.{FitsCircuit, room_of, user_octets, clears_of, resets_of};
-ghost use Rattle.x25_circuit.specs.code.Replies.{Says, IsSendable, plain_owed, plain_notices};
+ghost use Rattle.x25_circuit.specs.code.Replies.{Says, IsSendable, packet_owed, plain_owed, plain_notices};
 
 use crate::circuit::Circuit;
 use crate::codes::{INVALID_PR, NO_INTERRUPT};
 use crate::error::CircuitError;
 use crate::message::Message;
 use crate::notice::{Notice, Reply};
+use crate::owed::Owed;
 use crate::state::State;
 use x25_packet::{Packet, Seq};
 
@@ -30,15 +31,15 @@ fn delivered<'a>(message: Option<Message>) -> Option<Notice<'a>>
 
 impl Circuit {
     /// RR, or RNR where this end isn't ready, with P(R).
-    pub(crate) fn status<'a>(&self) -> Packet<'a>
-        ensures value { (c : Settings) (x : Channel) → FitsCircuit c self.now x → plain result ≡ status x.talk.own_ready (length x.talk.taken) }
-        ensures range { IsInRange 128 (plain result) }
+    pub(crate) fn status(&self) -> Owed
+        ensures value { (c : Settings) (x : Channel) → FitsCircuit c self.now x → packet_owed 1 result ≡ status x.talk.own_ready (length x.talk.taken) }
+        ensures range { IsInRange 128 (packet_owed 1 result) }
     {
         let pr = self.transfer.receiver.wanted();
         if self.transfer.own_ready {
-            Packet::Rr { channel: 1, pr }
+            Owed::Rr { pr }
         } else {
-            Packet::Rnr { channel: 1, pr }
+            Owed::Rnr { pr }
         }
     }
 
@@ -162,7 +163,7 @@ impl Circuit {
             Packet::Rr { pr, .. } => Ok(self.hear_status(*pr, true)),
             Packet::Rnr { pr, .. } => Ok(self.hear_status(*pr, false)),
             Packet::Interrupt { user, .. } => Ok(Reply::both(
-                Packet::InterruptConf { channel: 1 },
+                Owed::InterruptConf,
                 Notice::Interrupted { user },
             )),
             Packet::InterruptConf { .. } => Ok(self.hear_interrupt_conf()),

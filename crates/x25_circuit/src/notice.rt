@@ -1,10 +1,10 @@
 ghost use Rattle.std.specs.Prelude.{◌≡◌, [], ◌∷◌, None, Some};
-ghost use Rattle.x25_packet.specs.PlainPacket.{plain};
 ghost use Rattle.x25_packet.specs.Spelling.{IsInRange};
 
 use crate::message::Message;
+use crate::owed::Owed;
 use crate::params::Params;
-use x25_packet::{Digits, Packet};
+use x25_packet::Digits;
 
 /// What a packet brought the user. Addresses and user data are borrowed from the packet; a message is handed over whole.
 #[derive(Debug, Drop)]
@@ -52,14 +52,14 @@ pub enum Notice<'a> {
 /// What a circuit answers to a packet: the packet to send, and what is reported to the user.
 #[derive(Debug, Drop)]
 pub struct Reply<'a> {
-    pub packet: Option<Packet<'a>>,
+    pub packet: Option<Owed>,
     /// This end's own call was dropped for the one of the notice.
     pub collided: bool,
     pub notice: Option<Notice<'a>>,
 }
 
 impl<'a> Reply<'a> {
-    ghost use Rattle.x25_circuit.specs.code.Replies.{Says, IsSendable, plain_notice, plain_owed};
+    ghost use Rattle.x25_circuit.specs.code.Replies.{Says, IsSendable, packet_owed, plain_notice, plain_owed};
 
     /// Nothing is sent or reported.
     pub(crate) fn nothing() -> Reply<'a>
@@ -86,9 +86,9 @@ impl<'a> Reply<'a> {
     }
 
     /// Nothing is reported.
-    pub(crate) fn owes(packet: Packet<'a>) -> Reply<'a>
-        ensures says { Says result (Some (plain packet.entry)) [] }
-        ensures range { IsInRange 128 (plain packet.entry) → IsSendable (plain_owed result.packet) }
+    pub(crate) fn owes(packet: Owed) -> Reply<'a>
+        ensures says { Says result (Some (packet_owed 1 packet)) [] }
+        ensures range { IsInRange 128 (packet_owed 1 packet) → IsSendable (plain_owed result.packet) }
     {
         Reply {
             packet: Some(packet),
@@ -98,9 +98,9 @@ impl<'a> Reply<'a> {
     }
 
     /// A packet is sent, and something is reported to the user.
-    pub(crate) fn both(packet: Packet<'a>, notice: Notice<'a>) -> Reply<'a>
-        ensures says { Says result (Some (plain packet.entry)) (plain_notice notice.entry ∷ []) }
-        ensures range { IsInRange 128 (plain packet.entry) → IsSendable (plain_owed result.packet) }
+    pub(crate) fn both(packet: Owed, notice: Notice<'a>) -> Reply<'a>
+        ensures says { Says result (Some (packet_owed 1 packet)) (plain_notice notice.entry ∷ []) }
+        ensures range { IsInRange 128 (packet_owed 1 packet) → IsSendable (plain_owed result.packet) }
     {
         Reply {
             packet: Some(packet),

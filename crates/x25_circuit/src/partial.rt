@@ -1,4 +1,4 @@
-ghost use Rattle.std.specs.Prelude.{◌≡◌, ℕ, ◌+◌, ◌<◌, ◌≤◌, ◌++◌, length, min, max, replicate, vec_len, vec_capacity, IfOk, IfNone, Option, IsOk, OnOk, OnErr, option_to_list};
+ghost use Rattle.std.specs.Prelude.{◌≡◌, ℕ, ◌+◌, ◌<◌, ◌≤◌, ◌++◌, length, min, max, replicate, vec_len, vec_capacity, IfOk, IfNone, IfSome, Option, IsOk, OnOk, OnErr, option_to_list};
 
 use crate::codes::{MIXED_QUALIFIERS, PACKET_TOO_LONG};
 use crate::message::Message;
@@ -100,6 +100,7 @@ impl PartialMessage {
 
     /// Sets memory aside for at least so many octets, but for no more than those of the longest data packet. Err: no memory; all is as it was
     /// then.
+    #[inline(always)]
     pub fn reserve(&mut self, count: usize) -> Result<(), AllocError>
         ensures part { self.new.part ≡ self.old.part }
         ensures ok { OnOk result (min count 4096 ≤ self.new.room) }
@@ -112,6 +113,19 @@ impl PartialMessage {
         if count <= self.places.len() - self.filled {
             return Ok(());
         }
+        self.grow(count)
+    }
+
+    // .. for so many octets, for which there are too few places.
+    fn grow(&mut self, count: usize) -> Result<(), AllocError>
+        requires few { count ≤ 4096 }
+        requires missing { self.old.room < count }
+        ensures part { self.new.part ≡ self.old.part }
+        ensures ok { OnOk result (count ≤ self.new.room) }
+        ensures grows { self.old.room ≤ self.new.room }
+        ensures most { self.new.room ≤ max self.old.room 4096 }
+        ensures err { OnErr result (self.new ≡ self.old) }
+    {
         // It doubles, up to steps of the longest packet, so that a message of short packets isn't copied for each of them.
         let step = count.max(self.filled.min(LONGEST_DATA));
         self.places = with_places(self.alloc, &self.places[..self.filled], step)?;
@@ -145,19 +159,44 @@ impl PartialMessage {
         self.filled = end;
     }
 
-    // The message of all octets that have come. Its memory goes with it.
+    // The message of all octets that have come. The memory of a short one stays for the next.
     fn finish(&mut self, q: bool) -> Message
         ensures message { result ≡ record { q = q; user = self.old.part.user } }
         ensures part { self.new.part ≡ no_part }
     {
-        let mut user = mem::replace(&mut self.places, Vec::new(self.alloc));
-        user.truncate(self.filled);
+        let user = match self.copied() {
+            Some(octets) => octets,
+            None => self.handed_over(),
+        };
         self.begun = None;
         self.filled = 0;
         Message {
             q,
             user: Octets::of(user),
         }
+    }
+
+    // The octets that have come, in memory of their own: where no more are kept than those of the longest packet, and memory isn't refused.
+    fn copied(&self) -> Option<Vec<u8>>
+        ensures { IfSome result (λ octets. octets.items ≡ self.now.part.user) }
+    {
+        if self.places.len() > LONGEST_DATA {
+            return None;
+        }
+        match Vec::from_slice(self.alloc, &self.places[..self.filled]) {
+            Ok(octets) => Some(octets),
+            Err(AllocError) => None,
+        }
+    }
+
+    // The octets that have come, with all memory that is kept.
+    fn handed_over(&mut self) -> Vec<u8>
+        ensures { result.items ≡ self.old.part.user }
+    {
+        let mut octets = mem::replace(&mut self.places, Vec::new(self.alloc));
+        octets.truncate(self.filled);
+        self.filled = 0;
+        octets
     }
 
     /// Drops it. Memory that was set aside is kept.

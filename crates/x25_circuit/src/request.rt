@@ -8,7 +8,7 @@ ghost use Rattle.x25_circuit.specs.Calls.{outcome, Refused, Accepts, clear_in, s
 ghost use Rattle.x25_circuit.specs.code.FitsCircuit.{FitsCircuit, Sends, room_of};
 ghost use Rattle.x25_circuit.specs.Queue.{waiting};
 ghost use Rattle.x25_circuit.specs.Requests.{plain_answer, plain_request, refusal_of, with_packet, AnswersRequest, MayPut};
-ghost use Rattle.x25_circuit.specs.code.Replies.{IsSendable, plain_owed};
+ghost use Rattle.x25_circuit.specs.code.Replies.{IsSendable, plain_sent};
 
 use crate::circuit::Circuit;
 use crate::error::CircuitError;
@@ -60,7 +60,7 @@ impl Circuit {
     /// Refused as that call, by 30, 31, 32, 33 or 34, and then the circuit is as before.
     pub fn ask<'a>(&mut self, request: Request<'a>) -> Result<Option<Packet<'a>>, CircuitError>
         ensures outcome { (c : Settings) (x : Channel) → FitsCircuit c self.old x → AnswersRequest c self.new result (outcome c x (plain_request request.entry)) }
-        ensures range { IfOk result (λ packet. IsSendable (plain_owed packet)) }
+        ensures range { IfOk result (λ packet. IsSendable (plain_sent packet)) }
         ensures at_once { IfOk result (λ packet. MayPut (plain_request request.entry) packet) }
         ensures room { room_of self.old ≤ room_of self.new }
         ensures unchanged { OnErr result (self.new ≡ self.old) }

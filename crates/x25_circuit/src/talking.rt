@@ -106,6 +106,6 @@ impl Circuit {
             return Err(error);
         }
         self.transfer.own_ready = is_ready;
-        Ok(self.status())
+        Ok(self.status().packet(1))
     }
 }

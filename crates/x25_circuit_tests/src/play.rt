@@ -187,7 +187,7 @@ fn reply_text(alloc: Global, reply: &Reply) -> Result<String, AllocError> {
         append(&mut text, notice_text(alloc, notice)?.as_str())?;
     }
     if let Some(packet) = &reply.packet {
-        append(&mut text, packet_text(alloc, packet)?.as_str())?;
+        append(&mut text, packet_text(alloc, &packet.packet(1))?.as_str())?;
     }
     Ok(text)
 }

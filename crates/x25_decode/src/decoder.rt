@@ -1,33 +1,29 @@
 //! Lines answered as they come, with at most one line held.
-ghost use Rattle.std.specs.Prelude.{◌≤◌, length};
+ghost use Rattle.x25_text.specs.declared.text.TheConstants.{ROOM};
 
 use crate::answer::{MOST_ANSWER, answer, answer_front};
 use std::alloc::{AllocError, Global};
-use x25_io::{Failed, Fault, Sink, TextTaker, split_line, write_all};
-use x25_text::{MOST_OCTETS, ROOM, Text};
+use x25_io::{Failed, Fault, HeldLine, Output, Sink, TextTaker, split_line};
+use x25_text::MOST_OCTETS;
 
-/// The most characters of a line that is held, without its line feed: a mark, a space and 8,206 digits.
-const MOST_LINE: usize = 8_208;
-
-/// The line that is open, as far as it is held, and the text that waits to be written.
+/// The line that has begun, and the answers that wait to be written.
 ///
 /// Its buffers are made by `new`; no other call takes memory.
 #[derive(Drop)]
 pub struct Decoder {
-    line: Text,
-    is_long: bool,
+    held: HeldLine,
     octets: [u8; MOST_OCTETS],
-    text: Text,
+    output: Output,
     is_refused: bool,
     long_data: bool,
-    ghost fits: { length line ≤ 8208 },
 }
 
 impl Decoder {
-    ghost use Rattle.std.specs.Prelude.{◌≡◌, ◌≤◌, ◌<◌, ◌+◌, ◌++◌, ◌∷◌, [], ℕ, Bool, true, false, List, Option, ◌||◌, IfOk, OnOk, OnErr, MatchOption, MatchResult, length};
+    ghost use Rattle.std.specs.Prelude.{◌≡◌, ◌≤◌, ◌<◌, ◌+◌, ◌++◌, ◌∷◌, [], ℕ, Bool, true, List, Option, ◌||◌, IfOk, OnOk, OnErr, MatchOption, MatchResult, length};
     ghost use Rattle.std.specs.Io.KnownBytes.{Appends};
     ghost use Rattle.x25_decode.specs.Decoded.{answer_to, is_refused};
-    ghost use Rattle.x25_decode.specs.code.Stream.{DecodesOn, HoldsLine, LeadsFrom};
+    ghost use Rattle.x25_decode.specs.code.Stream.{DecodesOn, LeadsFrom};
+    ghost use Rattle.x25_io.specs.HeldLine.{HoldsLine};
     ghost use Rattle.x25_io.specs.Lines.{IsOpen};
     ghost use Rattle.x25_io.specs.code.Written.{AppendsPrefix};
 
@@ -37,141 +33,78 @@ impl Decoder {
     pub fn new(alloc: Global, long_data: bool) -> Result<Decoder, AllocError>
         ensures { IfOk result (λ d. (old : Option (List ℕ)) (input : List ℕ) → DecodesOn long_data d old old input input) }
     {
-        let line = Text::new(alloc)?;
-        let text = Text::new(alloc)?;
+        let held = HeldLine::new(alloc)?;
+        let output = Output::new(alloc)?;
         Ok(Decoder {
-            line,
-            is_long: false,
+            held,
             octets: [0; MOST_OCTETS],
-            text,
+            output,
             is_refused: false,
             long_data,
         })
     }
 
-    /// Writes the text that waits.
-    fn flush<W: Sink>(&mut self, writer: &mut W) -> Result<(), Failed>
-        ensures kept { OnOk result (W.is_marked writer.new ≡ W.is_marked writer.old) }
-        ensures ok { OnOk result (Appends (W.contents writer.old) (W.contents writer.new) self.old.text) }
-        ensures empty { OnOk result (self.new.text ≡ []) }
-        ensures err { OnErr result (AppendsPrefix (W.contents writer.old) (W.contents writer.new) self.old.text) }
-        ensures marked { OnErr result (W.is_marked writer.new ≡ true) }
-        ensures line { self.new.line ≡ self.old.line }
-        ensures is_long { self.new.is_long ≡ self.old.is_long }
+    /// Answers the line that is held, and says whether it is refused.
+    fn answer_held(&mut self) -> bool
+        requires room { length self.old.output + MOST_ANSWER ≤ ROOM }
+        ensures text { (begun : List ℕ) → HoldsLine begun self.old.held → self.new.output ≡ self.old.output ++ answer_to self.old.long_data begun }
+        ensures refused { (begun : List ℕ) → HoldsLine begun self.old.held → result ≡ is_refused begun }
+        ensures held { self.new.held ≡ self.old.held }
         ensures is_refused { self.new.is_refused ≡ self.old.is_refused }
         ensures long_data { self.new.long_data ≡ self.old.long_data }
     {
-        write_all(writer, self.text.as_slice())?;
-        self.text.clear();
-        Ok(())
-    }
-
-    /// Holds more of the open line, as far as there is room for a line.
-    fn hold(&mut self, part: &[u8])
-        ensures line { (begun : List ℕ) → HoldsLine begun self.old.line self.old.is_long
-            → HoldsLine (begun ++ part.now) self.new.line self.new.is_long }
-        ensures text { self.new.text ≡ self.old.text }
-        ensures is_refused { self.new.is_refused ≡ self.old.is_refused }
-        ensures long_data { self.new.long_data ≡ self.old.long_data }
-    {
-        let room = MOST_LINE - self.line.len();
-        if part.len() > room {
-            self.line.push(&part[..room]);
-            self.is_long = true;
-        } else {
-            self.line.push(part);
+        match self.held.line() {
+            Some(line) => answer(self.long_data, line, &mut self.octets, self.output.text()),
+            None => {
+                self.output.text().push(b"? 60\n");
+                true
+            }
         }
     }
 
-    /// Answers the held line.
-    fn answer_held(&mut self)
-        requires room { length self.old.text + MOST_ANSWER ≤ ROOM }
-        ensures text { (begun : List ℕ) → HoldsLine begun self.old.line self.old.is_long
-            → self.new.text ≡ self.old.text ++ answer_to self.old.long_data begun }
-        ensures refused { (begun : List ℕ) → HoldsLine begun self.old.line self.old.is_long
-            → self.new.is_refused ≡ (self.old.is_refused || is_refused begun) }
-        ensures line { self.new.line ≡ [] }
-        ensures is_long { self.new.is_long ≡ false }
+    /// The line that is held has ended.
+    fn end_line(&mut self)
+        requires room { length self.old.output + MOST_ANSWER ≤ ROOM }
+        ensures text { (begun : List ℕ) → HoldsLine begun self.old.held → self.new.output ≡ self.old.output ++ answer_to self.old.long_data begun }
+        ensures refused { (begun : List ℕ) → HoldsLine begun self.old.held → self.new.is_refused ≡ (self.old.is_refused || is_refused begun) }
+        ensures cleared { HoldsLine [] self.new.held }
         ensures long_data { self.new.long_data ≡ self.old.long_data }
     {
-        if self.is_long {
-            self.text.push(b"? 60\n");
-            self.is_refused = true;
-            self.line.clear();
-            self.is_long = false;
-        } else {
-            let refused = answer(
-                self.long_data,
-                self.line.as_slice(),
-                &mut self.octets,
-                &mut self.text,
-            );
+        let refused = self.answer_held();
+        self.is_refused |= refused;
+        self.held.clear();
+    }
+
+    /// The line that has begun ends behind `tail`.
+    fn close(&mut self, tail: &[u8])
+        requires open { IsOpen tail.now }
+        requires room { length self.old.output + MOST_ANSWER ≤ ROOM }
+        ensures leads { (old now : Option (List ℕ)) (rest all : List ℕ) (any : Bool) → LeadsFrom old now self.old (tail.now ++ 10 ∷ rest) all any
+            → LeadsFrom old now self.new rest all any }
+        ensures long_data { self.new.long_data ≡ self.old.long_data }
+    {
+        if self.held.is_empty() {
+            let refused = answer(self.long_data, tail, &mut self.octets, self.output.text());
             self.is_refused |= refused;
-            self.line.clear();
+            return;
         }
-    }
-
-    /// Makes room for an answer.
-    fn make_room<W: Sink>(&mut self, writer: &mut W) -> Result<(), Failed>
-        ensures kept { OnOk result (W.is_marked writer.new ≡ W.is_marked writer.old) }
-        ensures room { OnOk result (length self.new.text + MOST_ANSWER ≤ ROOM) }
-        ensures leads { (old : Option (List ℕ)) (rest all : List ℕ) (any : Bool)
-            → LeadsFrom old (W.contents writer.old) self.old rest all any
-            → MatchResult result (λ _. LeadsFrom old (W.contents writer.new) self.new rest all any)
-            (λ _. AppendsPrefix old (W.contents writer.new) all) }
-        ensures marked { OnErr result (W.is_marked writer.new ≡ true) }
-        ensures line { self.new.line ≡ self.old.line }
-        ensures long_data { self.new.long_data ≡ self.old.long_data }
-    {
-        if self.text.len() > ROOM - MOST_ANSWER {
-            return self.flush(writer);
-        }
-        Ok(())
-    }
-
-    /// Takes the rest of a line, without its line feed.
-    fn close<W: Sink>(&mut self, tail: &[u8], writer: &mut W) -> Result<(), Failed>
-        requires { IsOpen tail.now }
-        ensures kept { OnOk result (W.is_marked writer.new ≡ W.is_marked writer.old) }
-        ensures leads { (old : Option (List ℕ)) (rest all : List ℕ) (any : Bool)
-            → LeadsFrom old (W.contents writer.old) self.old (tail.now ++ 10 ∷ rest) all any
-            → MatchResult result (λ _. LeadsFrom old (W.contents writer.new) self.new rest all any)
-            (λ _. AppendsPrefix old (W.contents writer.new) all) }
-        ensures marked { OnErr result (W.is_marked writer.new ≡ true) }
-        ensures long_data { self.new.long_data ≡ self.old.long_data }
-    {
-        self.make_room(writer)?;
-        if self.line.is_empty() {
-            let refused = answer(self.long_data, tail, &mut self.octets, &mut self.text);
-            self.is_refused |= refused;
-            return Ok(());
-        }
-        self.hold(tail);
-        self.answer_held();
-        Ok(())
+        self.held.hold(tail);
+        self.end_line();
     }
 
     /// Takes the line at the front of a text, where it ends there, and answers what stands behind it. Its end is searched for.
-    fn take_found_line<'a, W: Sink>(
-        &mut self,
-        left: &'a [u8],
-        writer: &mut W,
-    ) -> Result<Option<&'a [u8]>, Failed>
-        ensures kept { OnOk result (W.is_marked writer.new ≡ W.is_marked writer.old) }
-        ensures leads { (old : Option (List ℕ)) (rest all : List ℕ) (any : Bool)
-            → LeadsFrom old (W.contents writer.old) self.old (left.now ++ rest) all any
-            → MatchResult result (λ after. MatchOption after (LeadsFrom old (W.contents writer.new) self.new (left.now ++ rest) all any)
-            (λ more. LeadsFrom old (W.contents writer.new) self.new (more.now ++ rest) all any))
-            (λ _. AppendsPrefix old (W.contents writer.new) all) }
-        ensures line { IfOk result (λ after. MatchOption after (IsOpen left.now) (λ more. length more.now < length left.now)) }
-        ensures marked { OnErr result (W.is_marked writer.new ≡ true) }
+    fn take_found_line<'a>(&mut self, left: &'a [u8]) -> Option<&'a [u8]>
+        requires room { length self.old.output + MOST_ANSWER ≤ ROOM }
+        ensures leads { (old now : Option (List ℕ)) (rest all : List ℕ) (any : Bool) → LeadsFrom old now self.old (left.now ++ rest) all any
+            → MatchOption result (LeadsFrom old now self.new (left.now ++ rest) all any) (λ more. LeadsFrom old now self.new (more.now ++ rest) all any) }
+        ensures line { MatchOption result (IsOpen left.now) (λ more. length more.now < length left.now) }
         ensures long_data { self.new.long_data ≡ self.old.long_data }
     {
         let Some((tail, after)) = split_line(left) else {
-            return Ok(None);
+            return None;
         };
-        self.close(tail, writer)?;
-        Ok(Some(after))
+        self.close(tail);
+        Some(after)
     }
 
     /// Takes the line at the front of a text, where it ends there, and answers what stands behind it.
@@ -190,13 +123,13 @@ impl Decoder {
         ensures marked { OnErr result (W.is_marked writer.new ≡ true) }
         ensures long_data { self.new.long_data ≡ self.old.long_data }
     {
-        self.make_room(writer)?;
-        if !self.line.is_empty() {
-            return self.take_found_line(left, writer);
+        self.output.make_room(MOST_ANSWER, writer)?;
+        if !self.held.is_empty() {
+            return Ok(self.take_found_line(left));
         }
-        match answer_front(self.long_data, left, &mut self.octets, &mut self.text) {
+        match answer_front(self.long_data, left, &mut self.octets, self.output.text()) {
             Some(count) => Ok(Some(&left[count + 1..])),
-            None => self.take_found_line(left, writer),
+            None => Ok(self.take_found_line(left)),
         }
     }
 
@@ -231,12 +164,12 @@ impl Decoder {
             (λ _. AppendsPrefix old (W.contents writer.new) all) }
         ensures marked { OnErr result (W.is_marked writer.new ≡ true) }
     {
-        if self.line.is_empty() {
-            return self.flush(writer);
+        if self.held.is_empty() {
+            return self.output.flush(writer);
         }
-        self.make_room(writer)?;
-        self.answer_held();
-        self.flush(writer)
+        self.output.make_room(MOST_ANSWER, writer)?;
+        self.end_line();
+        self.output.flush(writer)
     }
 }
 
@@ -256,7 +189,7 @@ impl TextTaker for Decoder {
 
     ghost ended = { λ long old now rest input. WritesEnded long old now rest (output_of long input) };
 
-    ghost waiting = { λ d. d.text };
+    ghost waiting = { λ d. d.output };
 
     ghost may_want = { ⊥ };
 
@@ -264,8 +197,8 @@ impl TextTaker for Decoder {
         let Ok(left) = self.take_lines(piece, writer) else {
             return Err(Fault::Write);
         };
-        self.hold(left);
-        match self.flush(writer) {
+        self.held.hold(left);
+        match self.output.flush(writer) {
             Ok(()) => Ok(()),
             Err(_) => Err(Fault::Write),
         }
@@ -279,7 +212,7 @@ impl TextTaker for Decoder {
     }
 
     fn give_up<W: Sink>(mut self, writer: &mut W) -> Fault {
-        if let Err(_) = self.flush(writer) {
+        if let Err(_) = self.output.flush(writer) {
             return Fault::Write;
         }
         Fault::Read

@@ -12,7 +12,7 @@ use x25_io::{Fault, PIECE, Sink, Source, take_text};
 /// Answers each line that the reader gives by a line to the writer, and answers the status: 1 where a line was refused,
 /// else 0.
 ///
-/// With `long` the user data of a CALL has at most 128 octets, else at most 16. At most one line of 8,208 characters is
+/// With `long` the user data of a CALL has at most 128 octets, else at most 16. At most one line of 131,200 characters is
 /// held, and after each read the answers to the lines that have ended are written. The buffers are made first: `NoMemory`
 /// comes with nothing read and nothing written. A reader is called at most 2^64 - 1 times; the clauses on the text speak
 /// of inputs of fewer octets than that. Profile.
@@ -43,11 +43,7 @@ pub fn decode_lines<R: Source, W: Sink>(
     ensures read { IsErrOf result Fault.Read → R.is_marked reader.new ≡ true }
     ensures write { IsErrOf result Fault.Write → W.is_marked writer.new ≡ true }
 {
-    let Ok(mut piece) = vec![in alloc; 0u8; PIECE] else {
-        return Err(Fault::NoMemory);
-    };
-    let Ok(decoder) = Decoder::new(alloc, long) else {
-        return Err(Fault::NoMemory);
-    };
+    let mut piece = vec![in alloc; 0u8; PIECE]?;
+    let decoder = Decoder::new(alloc, long)?;
     take_text(decoder, piece.as_mut_slice(), reader, writer)
 }

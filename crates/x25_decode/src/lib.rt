@@ -6,8 +6,10 @@
 mod answer;
 mod decoder;
 mod decoding;
+mod law;
 mod test_vectors;
 
 pub use answer::read_sent;
 pub use decoding::decode_lines;
+pub use law::long_lines_send_nothing;
 pub use test_vectors::{vectors, vectors_hold};

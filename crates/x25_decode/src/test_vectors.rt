@@ -176,9 +176,7 @@ pub fn vectors<W: Sink>(alloc: Global, writer: &mut W) -> Result<u8, Fault>
     ensures read { IsErrOf result Fault.Read → ⊥ }
     ensures write { IsErrOf result Fault.Write → W.is_marked writer.new ≡ true }
 {
-    let Ok(mut text) = Text::new(alloc) else {
-        return Err(Fault::NoMemory);
-    };
+    let mut text = Text::new(alloc)?;
     match write_verdicts(&mut text, writer) {
         Ok(all_right) => Ok(u8::from(!all_right)),
         Err(_) => Err(Fault::Write),

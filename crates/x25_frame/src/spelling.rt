@@ -47,6 +47,7 @@ fn information<'a>(frame: &'a Frame<'a>) -> &'a [u8]
 ///
 /// Each frame has this one spelling. The information of an I frame isn't bounded here. It takes no memory where the
 /// capacity has room for the information and four octets more. ITU-T X.25 (10/96), sections 2.2 and 2.3.
+#[inline(always)]
 pub fn encode(from: Role, frame: &Frame, octets: &mut Vec<u8>) -> Result<(), NoMemory>
     ensures ok { OnOk result (octets.new.items ≡ octets.old.items ++ spelling_of from (plain frame.now)) }
     ensures err { OnErr result (VecUnchanged octets.old octets.new) }

@@ -1,3 +1,4 @@
 pub mod LineLemmas
 pub mod ReadLemmas
+pub mod TakerLemmas
 pub mod ToldLemmas

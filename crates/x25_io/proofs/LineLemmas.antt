@@ -1,8 +1,9 @@
--- The place of the first line feed.
-use Rattle.std.proofs.Common.{◌≡◌, ◌≢◌, ◌<◌, ◌-◌, ℕ, zero, suc, List, [], ◌∷◌, ◌++◌, length, take, drop, Some, None, ap, arith, get_or, eq-eqb, eqb-true, add-one, ◌∙◌, sym, ◌+◌}
-use Rattle.std.proofs.lemmas.List.{take_rest}
+-- The lines of a text, and the place of the first line feed.
+use Rattle.std.proofs.Common.{◌≡◌, ◌≢◌, ◌<◌, ◌-◌, ℕ, zero, suc, false, List, [], ◌∷◌, ◌++◌, length, take, drop, Some, None, ap, arith, get_or, eq-eqb, eqb-true, add-one, ◌∙◌, sym, ◌+◌, nat_eq, refl}
+use Rattle.std.proofs.lemmas.Bool.{ne_eqb}
+use Rattle.std.proofs.lemmas.List.{append-nil, take_rest}
 use Rattle.memchr.specs.Find.{IsFirstByte, is_byte}
-use Rattle.x25_io.specs.Lines.{IsOpen}
+use Rattle.x25_io.specs.Lines.{IsOpen, lines_of}
 
 cut_at : (at : ℕ) (left : List ℕ) → at < length left → ((k : ℕ) → k < at → get_or left k 0 ≢ 10) → get_or left at 0 ≡ 10
     → (left ≡ take at left ++ 10 ∷ drop (suc at) left) × IsOpen (take at left)
@@ -26,3 +27,25 @@ cut_line at left h =
 
 pub no_line : (left : List ℕ) → IsFirstByte (is_byte 10) left None → IsOpen left
 no_line left h = open_all left (λ k lt e. h k (omega arith) lt (eq-eqb (get_or left k 0) 10 e))
+
+-- ---- the lines of a text
+
+pub open-append : (xs ys : List ℕ) → IsOpen xs → IsOpen ys → IsOpen (xs ++ ys)
+open-append [] ys h k = k
+open-append (x ∷ xs) ys h k = (h.0, open-append xs ys h.1 k)
+
+-- a line that ends
+pub ends_line : (begun rest : List ℕ) → IsOpen begun → lines_of (begun ++ 10 ∷ rest) ≡ begun ∷ lines_of rest
+unfolding lines_of
+ends_line [] rest none = refl
+ends_line (b ∷ begun) rest none = let test : nat_eq b 10 ≡ false = ne_eqb b 10 none.0 in rw (test, ends_line begun rest none.1) refl
+
+last_line : (b : ℕ) (begun : List ℕ) → IsOpen (b ∷ begun) → lines_of (b ∷ begun) ≡ (b ∷ begun) ∷ lines_of []
+unfolding lines_of
+last_line b [] none = let test : nat_eq b 10 ≡ false = ne_eqb b 10 none.0 in rw test refl
+last_line b (c ∷ begun) none = let test : nat_eq b 10 ≡ false = ne_eqb b 10 none.0 in rw (test, last_line c begun none.1) refl
+
+-- the last line, where one has begun and lacks its line feed
+pub ends_text : (begun : List ℕ) → IsOpen begun → (begun ≡ [] → ⊥) → lines_of (begun ++ []) ≡ begun ∷ lines_of []
+ends_text [] none some = absurd (some refl)
+ends_text (b ∷ begun) none some = ap lines_of (append-nil (b ∷ begun)) ∙ last_line b begun none

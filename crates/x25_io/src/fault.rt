@@ -40,3 +40,11 @@ impl From<AllocError> for Fault {
         Fault::NoMemory
     }
 }
+
+impl From<x25_bits::NoMemory> for Fault {
+    ghost from_gives = { λ _ fault. fault ≡ NoMemory };
+
+    fn from(_error: x25_bits::NoMemory) -> Fault {
+        Fault::NoMemory
+    }
+}

@@ -5,6 +5,7 @@
 mod device;
 mod fault;
 mod held_line;
+mod line_taker;
 mod lines;
 mod output;
 mod pieces;
@@ -13,6 +14,7 @@ mod status;
 pub use device::{Device, Failed, Sink, Source, write_all};
 pub use fault::Fault;
 pub use held_line::HeldLine;
+pub use line_taker::{LineByLine, LineTaker};
 pub use lines::split_line;
 pub use output::Output;
 pub use pieces::{PIECE, TextTaker, take_text};

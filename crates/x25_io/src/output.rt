@@ -21,6 +21,9 @@ impl Model for Output {
 }
 
 impl Output {
+    ghost use Rattle.std.specs.Borrow.{sem};
+    ghost use Rattle.x25_io.specs.code.OutputLends.{LendsText};
+
     /// Nothing waits. Err: no memory.
     pub fn new(alloc: Global) -> Result<Output, AllocError>
         ensures { IfOk result (λ output. output ≡ []) }
@@ -42,8 +45,9 @@ impl Output {
         Ok(())
     }
 
-    /// Writes what waits, where else so many characters have no room behind it.
-    fn make_room<W: Sink>(&mut self, count: usize, writer: &mut W) -> Result<(), Failed>
+    /// Writes what waits, where else so many characters have no room behind it. Err: a call of the writer failed, and the writer is marked.
+    #[inline]
+    pub fn make_room<W: Sink>(&mut self, count: usize, writer: &mut W) -> Result<(), Failed>
         requires few { count ≤ ROOM }
         ensures kept { OnOk result (W.is_marked writer.new ≡ W.is_marked writer.old) }
         ensures tells { (old : Option (List ℕ)) (told : List ℕ) → Tells old (W.contents writer.old) self.old told
@@ -82,5 +86,14 @@ impl Output {
         self.make_room(line.len(), writer)?;
         self.text.push(line);
         Ok(())
+    }
+
+    /// What waits, to be appended to.
+    #[inline]
+    pub fn text(&mut self) -> &mut Text
+        ensures* lends { sem 𝓛 (LendsText self.entry result) }
+        ensures value { result.now ≡ self.old }
+    {
+        &mut self.text
     }
 }

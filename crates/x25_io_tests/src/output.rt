@@ -24,3 +24,13 @@ fn writes_what_was_told_in_order(rt: HostRuntime) -> Result<(), Fail> {
     assert!(rt; writer.into_inner().as_slice() == told.as_slice());
     Ok(())
 }
+
+#[test]
+fn makes_room_behind_what_waits(rt: HostRuntime) -> Result<(), Fail> {
+    let mut writer = Device::new(Vec::new(rt.alloc()));
+    let mut output = Output::new(rt.alloc())?;
+    output.text().push(b"ab");
+    assert!(rt; output.make_room(65_536, &mut writer).is_ok());
+    assert!(rt; writer.into_inner().as_slice() == b"ab".as_slice());
+    Ok(())
+}

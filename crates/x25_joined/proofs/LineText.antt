@@ -1,19 +1,14 @@
 -- A line behind others, and what a program says when it reads one more.
-use Rattle.std.proofs.Common.{◌≡◌, ◌∙◌, ℕ, false, List, [], ◌∷◌, ◌++◌, length, drop, append_assoc, append-nil, ap, sym, refl, nat_eq}
-use Rattle.std.proofs.lemmas.Bool.{ne_eqb}
+use Rattle.std.proofs.Common.{◌≡◌, ◌∙◌, ℕ, false, List, [], ◌∷◌, ◌++◌, length, drop, append_assoc, append-nil, ap, sym, refl}
 use Rattle.std.proofs.Math.Seq.{drop-append_seam}
 use Rattle.x25_io.specs.Lines.{IsOpen, lines_of}
+use Rattle.x25_io.proofs.LineLemmas.{ends_line}
 use Rattle.x25_station.specs.Settings.{Settings}
 use Rattle.x25_station.specs.Station.{Station, new_station}
 use Rattle.x25_pipe.specs.Piped.{Saying, Turn, and_then, standing_turn, turn, turns, piped}
 use Rattle.x25_joined.specs.Joined.{written, written_more}
 
 -- ---- lines
-
-ends_line : (line rest : List ℕ) → IsOpen line → lines_of (line ++ 10 ∷ rest) ≡ line ∷ lines_of rest
-unfolding lines_of
-ends_line [] rest none = refl
-ends_line (o ∷ line) rest none = let test : nat_eq o 10 ≡ false = ne_eqb o 10 none.0 in rw (test, ends_line line rest none.1) refl
 
 no_line : lines_of [] ≡ []
 unfolding lines_of

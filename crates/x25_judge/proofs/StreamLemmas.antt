@@ -9,11 +9,12 @@ use Rattle.x25_io.specs.HeldLine.{HoldsLine}
 use Rattle.x25_io.specs.Lines.{IsOpen, lines_of}
 use Rattle.x25_io.specs.code.Written.{AppendsPrefix, Tells}
 use Rattle.x25_io.specs.declared.held_line.HeldLine.{HeldLine}
+use Rattle.x25_io.proofs.LineLemmas.{open-append}
 use Rattle.x25_io.proofs.ToldLemmas.{prefix_more, none_told, part_of_all}
 use Rattle.x25_judge.specs.Judged.{answer_to, output_of, text_of, has_fault}
 use Rattle.x25_judge.specs.code.Stream.{Leads, WritesEnded}
 use Rattle.x25_judge.specs.declared.judge.Judge.{Judge}
-use Rattle.x25_judge.proofs.LineLemmas.{open-append, text_ended, fault_ended, text_last, fault_last, no_text, no_fault, none_held}
+use Rattle.x25_judge.proofs.LineLemmas.{text_ended, fault_ended, text_last, fault_last, no_text, no_fault, none_held}
 
 -- before anything is read
 start : (old : Option (List ℕ)) (held : HeldLine) (output : List ℕ) (j : Judge) (input : List ℕ) → HoldsLine [] held → output ≡ []

@@ -3,6 +3,7 @@ ghost use Rattle.std.specs.Prelude.{length};
 
 use crate::judge::{Judge, MOST_ANSWER};
 use std::alloc::{AllocError, Global};
+use x25_decode::long_lines_send_nothing;
 use x25_io::{Failed, Fault, HeldLine, Output, Sink, TextTaker, split_line};
 use x25_text::{MOST_OCTETS, ROOM, Text};
 
@@ -59,6 +60,7 @@ impl Answerer {
         match self.held.line() {
             Some(line) => self.judge.answer(line, &mut self.octets, &mut self.answer),
             None => {
+                long_lines_send_nothing();
                 self.answer.push(b"? 60\n");
                 true
             }

@@ -9,7 +9,7 @@ use Rattle.x25_circuit.specs.declared.error.CircuitError.{CircuitError}
 use Rattle.x25_circuit.specs.Circuit.{Circuit}
 use Rattle.x25_circuit.specs.declared.params.Params.{Params}
 use Rattle.x25_circuit.specs.Calls.{Outcome, Done, Refused, Calls, outcome}
-use Rattle.x25_circuit.specs.code.Replies.{plain_owed}
+use Rattle.x25_circuit.specs.code.Replies.{plain_sent}
 use Rattle.x25_circuit.specs.Requests.{refusal_of, AnswersRequest}
 use Rattle.x25_circuit.specs.code.FitsCircuit.{FitsCircuit}
 use Rattle.x25_layer.specs.declared.layer.Layer as code
@@ -85,7 +85,7 @@ asks_err c v l h y e (Refused f) a = cc
 pub record IsAccepted (c : LayerSettings) (v : code.Layer) (l : Layer) (h : ℕ) (packet : Option Packet) (o : Outcome) : Type 0 where
   pub next : Layer
   pub fits : FitsLayer c v next
-  pub accepted : outcome_on l.restarts l.circuits h o ≡ Accepted next (packet_on h (plain_owed packet))
+  pub accepted : outcome_on l.restarts l.circuits h o ≡ Accepted next (packet_on h (plain_sent packet))
 
 pub is_accepted : (c : LayerSettings) (v : code.Layer) (l : Layer) (h : ℕ) (packet : Option Packet) (o : Outcome) → l.restarting ≡ false → AsksCircuit c v (Ok packet) l h o → IsAccepted c v l h packet o
 is_accepted c v l h packet (Done next p) ready a = record {

@@ -7,7 +7,7 @@ use Rattle.x25_packet.specs.PlainPacket.{PlainPacket}
 use Rattle.x25_circuit.specs.Messages.{wholes}
 use Rattle.x25_circuit.specs.Params.{Terms}
 use Rattle.x25_circuit.specs.Circuit.{Circuit, is_open, waits}
-use Rattle.x25_handshakes.specs.Handshake.{Side, Live, Left, At, state_of}
+use Rattle.x25_handshakes.specs.Handshake.{Side, Live, Left, has_left, At, state_of}
 use Rattle.x25_handshakes.specs.Stretch.{Stretch}
 use Rattle.x25_handshakes.specs.Calls.{Phase, Unused, Waiting, Offered, Crossed, Talking, Connection}
 use Rattle.x25_handshakes.specs.Layers.{Channels, Pair, pair_run, pair_start}
@@ -19,7 +19,7 @@ use Rattle.x25_layer.specs.Calls.{layer_pulled}
 use Rattle.x25_layer.specs.Transcript.{name_of}
 use Rattle.x25_layer.specs.TwoLayers.{End, TwoLayers, settings_of, run, start}
 use Rattle.x25_layer.specs.laws.Law.{Always, HasAllOf, IsIdleTo}
-use Rattle.x25_layer.specs.laws.WaitLaw.{ClosedKeepNone, IsOpenAtBoth, WaitsForUser, NotOpen, Arrived, NotReady, WaitForUsersAlone}
+use Rattle.x25_layer.specs.laws.WaitLaw.{ClosedKeepNone, NoneOpenInRestart, IsOpenAtBoth, WaitsForUser, NotOpen, Arrived, NotReady, WaitForUsersAlone}
 use Rattle.x25_layer.proofs.Sees.{Agreed, view}
 use Rattle.x25_layer.proofs.LayerSees.{bare_layers, ShowsAt}
 use Rattle.x25_layer.proofs.LayerLemmas.{layer_pulls}
@@ -61,6 +61,21 @@ always_closed p long_data channels es =
     let h : InRun channels w = in_run p long_data channels es in
     let j : Pair = pair_run h.events pair_start in
     record { near = λ k closed. closed_end w.near j.near k h.sees.near closed; far = λ k closed. closed_end w.far j.far k h.sees.far closed }
+
+restarting_end : (e : End) (s : Side (At Channels)) → SeesEnd e s → e.layer.restarting ≡ true → (k : ℕ) → is_open (e.layer.circuits k) ≡ false
+restarting_end e (Left z) sees restarts k = absurd (true≢false (sym restarts ∙ ap (λ (l : Layer). l.restarting) sees.1))
+restarting_end e (Live z) sees restarts k = at z.side sees.1.restarting (sees.1.circuits k)
+  where
+    at : (y : Side Channels) → e.layer.restarting ≡ has_left y → ShowsAt y k (e.layer.circuits k) → is_open (e.layer.circuits k) ≡ false
+    at (Left x) same shows = ap is_open shows
+    at (Live x) same shows = absurd (true≢false (sym restarts ∙ same))
+
+pub always_shut : Premises → (long_data : Bool) (channels : ℕ) → Always NoneOpenInRestart long_data channels
+always_shut p long_data channels es =
+    let w : TwoLayers = run long_data channels es (start long_data channels) in
+    let h : InRun channels w = in_run p long_data channels es in
+    let j : Pair = pair_run h.events pair_start in
+    record { near = restarting_end w.near j.near h.sees.near; far = restarting_end w.far j.far h.sees.far }
 
 -- ---- a stretch that is open, as the circuit shows it
 

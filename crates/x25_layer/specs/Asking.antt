@@ -3,7 +3,7 @@ use Rattle.std.specs.Prelude.{◌≡◌, ℕ, Option, Result, Err, IsOkAnd}
 use Rattle.x25_packet.specs.declared.packet.Packet.{Packet}
 use Rattle.x25_circuit.specs.Circuit.{Circuit}
 use Rattle.x25_circuit.specs.Calls.{Outcome, Done, Refused}
-use Rattle.x25_circuit.specs.code.Replies.{plain_owed}
+use Rattle.x25_circuit.specs.code.Replies.{plain_sent}
 use Rattle.x25_layer.specs.declared.error.LayerError.{LayerError}
 use Rattle.x25_layer.specs.declared.error.LayerError.TheVariants as error
 use Rattle.x25_layer.specs.declared.layer.Layer as code
@@ -16,7 +16,7 @@ with_circuit l h x = record { restarting = l.restarting; restarts = l.restarts; 
 
 -- the circuit has done what was asked and answers this packet, or it refused
 abbrev pub AsksCircuit : LayerSettings → code.Layer → Result (Option Packet) LayerError → Layer → ℕ → Outcome → Type 0
-AsksCircuit c v result l h (Done next packet) = IsOkAnd result (λ p. FitsLayer c v (with_circuit l h next) × (plain_owed p ≡ packet))
+AsksCircuit c v result l h (Done next packet) = IsOkAnd result (λ p. FitsLayer c v (with_circuit l h next) × (plain_sent p ≡ packet))
 AsksCircuit c v result l h (Refused e) = result ≡ Err (error.Circuit e)
 
 -- where memory is missing: a refusal of the circuit goes before 70

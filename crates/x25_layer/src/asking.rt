@@ -1,7 +1,7 @@
 //! What the user asks of the circuit of a channel: the steps that all calls with a channel share.
 ghost use Rattle.std.specs.Prelude.{◌≡◌, ◌≢◌, ℕ, ◌<◌, ◌≤◌, ◌&&◌, ◌==◌, length, max, true, false, IfErr, IfOk, OnOk, OnErr, IsErrOf};
 ghost use Rattle.x25_circuit.specs.Calls.{outcome};
-ghost use Rattle.x25_circuit.specs.code.Replies.{IsSendable, plain_owed};
+ghost use Rattle.x25_circuit.specs.code.Replies.{IsSendable, plain_sent};
 ghost use Rattle.x25_circuit.specs.Requests.{plain_request, MayPut};
 ghost use Rattle.x25_layer.specs.Layer.{LayerSettings, is_channel};
 ghost use Rattle.x25_layer.specs.Layer.{Layer as State};
@@ -35,7 +35,7 @@ impl Layer {
     ) -> Result<Option<Packet<'a>>, LayerError>
         requires { is_channel (length self.old.circuits.items) channel ≡ true }
         ensures outcome { (c : LayerSettings) (l : State) → FitsLayer c self.old l → AsksCircuit c self.new result l channel (outcome c.circuit (l.circuits channel) (plain_request request.entry)) }
-        ensures range { IfOk result (λ packet. IsSendable (plain_owed packet)) }
+        ensures range { IfOk result (λ packet. IsSendable (plain_sent packet)) }
         ensures at_once { IfOk result (λ packet. MayPut (plain_request request.entry) packet) }
         ensures memory { self.new.memory ≡ self.old.memory }
         ensures room { (len : ℕ) → HaveRoom len self.old.circuits.items → HaveRoom len self.new.circuits.items }
@@ -92,7 +92,7 @@ impl Layer {
             return Err(self.without_memory(channel, &request));
         }
         let packet = self.ask_circuit(channel, request)?;
-        self.put_owed(link, channel, packet);
+        self.put_sent(link, channel, packet);
         self.pull_all(link);
         Ok(())
     }

@@ -4,7 +4,7 @@ ghost use Rattle.x25_layer.specs.laws.NameLaw.{NamesAreCounted, NoClearComesInP1
 ghost use Rattle.x25_layer.specs.Apart.{AlwaysApart};
 ghost use Rattle.x25_layer.specs.laws.ApartLaw.{IsOverLinks, RestartsFirst, BeginsAlone, OwnMovesDecide, StaysDown, EventsRunOn};
 ghost use Rattle.x25_layer.specs.laws.RoundLaw.{CallsRun, HearsRun, RoundsSettle, ComesUpAlone};
-ghost use Rattle.x25_layer.specs.laws.WaitLaw.{RoundsLeaveNone, StillPullsNone, ClosedKeepNone, WaitForUsersAlone};
+ghost use Rattle.x25_layer.specs.laws.WaitLaw.{RoundsLeaveNone, StillPullsNone, ClosedKeepNone, NoneOpenInRestart, WaitForUsersAlone};
 
 /// Two layers over links that keep order, whatever their users ask and whenever a link goes down: after every event,
 ///
@@ -71,7 +71,8 @@ pub fn calls_are_runs()
 {}
 
 /// What a pull leaves. Behind the rounds, where fewer than 8 packets wait in the link, no channel has a packet that may be sent; and none
-/// has one where a pull of all leaves the layer as it was. A circuit that isn't open keeps no message, whatever happened.
+/// has one where a pull of all leaves the layer as it was. A circuit that isn't open keeps no message, whatever happened, and none is open while a
+/// restart is under way.
 /// And of two layers over links that keep order, whatever their users ask, where both links are up with nothing in flight and a pull of
 /// an end gives no packet: on each channel no message waits there, as its circuit isn't open, or as all that was handed down in
 /// the stretch was handed up at the other end; or that stretch is open at both ends and the user of the other one isn't ready.
@@ -79,6 +80,7 @@ pub fn messages_wait_for_users()
     ensures left { RoundsLeaveNone }
     ensures still { StillPullsNone }
     ensures closed { (long_data : Bool) (channels : ℕ) → AlwaysApart ClosedKeepNone long_data channels }
+    ensures restarting { (long_data : Bool) (channels : ℕ) → AlwaysApart NoneOpenInRestart long_data channels }
     ensures waits { (long_data : Bool) (channels : ℕ) → Always (WaitForUsersAlone long_data channels) long_data channels }
     ensures apart { (long_data : Bool) (channels : ℕ) → AlwaysApart (WaitForUsersAlone long_data channels) long_data channels }
 {

@@ -2,13 +2,14 @@
 ghost use Rattle.std.specs.Prelude.{◌≡◌, ℕ, ◌+◌, ◌<◌, ◌≤◌, length, true, option_to_list, IfSome};
 ghost use Rattle.x25_packet.specs.PlainPacket.{plain};
 ghost use Rattle.x25_packet.specs.Spelling.{IsChannel, IsInRange, moved_to, spelling_of};
-ghost use Rattle.x25_circuit.specs.code.Replies.{IsSendable, plain_owed};
+ghost use Rattle.x25_circuit.specs.code.Replies.{IsSendable, plain_owed, plain_sent};
 ghost use Rattle.x25_layer.specs.Layer.{LayerSettings, packet_on};
 ghost use Rattle.x25_layer.specs.Layer.{Layer as State};
 ghost use Rattle.x25_layer.specs.code.FitsLayer.{FitsLayer};
 ghost use Rattle.x25_layer.specs.OverLink.{after_all};
 
 use crate::layer::Layer;
+use x25_circuit::Owed;
 use x25_link::OrderedLink;
 use x25_packet::Packet;
 
@@ -48,16 +49,16 @@ pub(crate) fn most_octets(packet: &Packet) -> usize
 }
 
 impl Layer {
-    /// Puts a circuit's packet, where there is one, on its channel into the link, in memory that was set aside.
+    /// Puts the packet that a circuit sends for its user, where there is one, on its channel into the link, in memory that was set aside.
     #[inline(always)]
-    pub(crate) fn put_owed<L: OrderedLink>(
+    pub(crate) fn put_sent<L: OrderedLink>(
         &mut self,
         link: &mut L,
         channel: u16,
         packet: Option<Packet<'_>>,
     )
         requires channel { IsChannel channel }
-        requires range { IsSendable (plain_owed packet) }
+        requires range { IsSendable (plain_sent packet) }
         requires memory { 0 < self.old.memory }
         requires spares { 0 < L.spares link.old }
         requires up { L.up link.old ≡ true }
@@ -68,7 +69,7 @@ impl Layer {
         ensures memory { self.old.memory ≤ self.new.memory + 1 }
         ensures used { self.old.memory + L.spares link.new ≡ self.new.memory + L.spares link.old }
         ensures no_more { self.new.memory ≤ self.old.memory }
-        ensures link { (x : L.State) → L.fits link.old x → L.fits link.new (after_all L.after_put x (option_to_list (packet_on channel (plain_owed packet.entry)))) }
+        ensures link { (x : L.State) → L.fits link.old x → L.fits link.new (after_all L.after_put x (option_to_list (packet_on channel (plain_sent packet.entry)))) }
         ensures spares { L.spares link.old ≤ L.spares link.new + 1 }
         ensures longest { L.longest link.new ≡ L.longest link.old }
         ensures up { L.up link.new ≡ L.up link.old }
@@ -78,6 +79,40 @@ impl Layer {
             return;
         };
         let packet = on_channel(packet, channel);
+        let most = most_octets(&packet);
+        self.put(link, &packet, most);
+    }
+
+    /// Puts the packet that a circuit owes for one that came, where there is one, on its channel into the link, in memory that was set aside.
+    #[inline(always)]
+    pub(crate) fn put_owed<L: OrderedLink>(
+        &mut self,
+        link: &mut L,
+        channel: u16,
+        owed: Option<Owed>,
+    )
+        requires channel { IsChannel channel }
+        requires range { IsSendable (plain_owed owed) }
+        requires memory { 0 < self.old.memory }
+        requires spares { 0 < L.spares link.old }
+        requires up { L.up link.old ≡ true }
+        requires free { IfSome owed (λ _. L.waits link.old < 256) }
+        requires longest { 4099 ≤ L.longest link.old }
+        ensures fits { (c : LayerSettings) (l : State) → FitsLayer c self.old l → FitsLayer c self.new l }
+        ensures circuits { self.new.circuits ≡ self.old.circuits }
+        ensures memory { self.old.memory ≤ self.new.memory + 1 }
+        ensures used { self.old.memory + L.spares link.new ≡ self.new.memory + L.spares link.old }
+        ensures no_more { self.new.memory ≤ self.old.memory }
+        ensures link { (x : L.State) → L.fits link.old x → L.fits link.new (after_all L.after_put x (option_to_list (packet_on channel (plain_owed owed)))) }
+        ensures spares { L.spares link.old ≤ L.spares link.new + 1 }
+        ensures longest { L.longest link.new ≡ L.longest link.old }
+        ensures up { L.up link.new ≡ L.up link.old }
+        ensures put { IfSome owed (λ _. L.spares link.new + 1 ≡ L.spares link.old) }
+    {
+        let Some(owed) = owed else {
+            return;
+        };
+        let packet = owed.packet(channel);
         let most = most_octets(&packet);
         self.put(link, &packet, most);
     }

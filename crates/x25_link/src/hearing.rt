@@ -47,6 +47,7 @@ impl LinkStation {
     }
 
     // RR, or RNR where the peer is busy.
+    #[inline(always)]
     fn hear_ready<'a>(
         &mut self,
         octets: &[u8],

@@ -186,6 +186,7 @@ impl Link {
     }
 
     /// Hands out the frames of `put`, in order. No memory is set aside for further calls of `put` after it.
+    #[inline(always)]
     pub fn sent(&mut self) -> Vec<Vec<u8>>
         ensures frames { map (λ f. f.items) result.items ≡ self.old.outbox.made }
         ensures outbox { self.new.outbox ≡ record { made = []; long = 0; short = 0 } }
@@ -253,12 +254,20 @@ impl Link {
     }
 
     /// Takes a list of frames back, for the frames of a later call, with the memory of those that are still in it. The link is as before.
-    pub fn give_back_list(&mut self, mut frames: Vec<Vec<u8>>)
+    #[inline(always)]
+    pub fn give_back_list(&mut self, frames: Vec<Vec<u8>>)
         ensures { self.new ≡ self.old }
     {
         if frames.capacity() == 0 {
             return;
         }
+        self.take_list_back(frames);
+    }
+
+    // .. a list with room.
+    fn take_list_back(&mut self, mut frames: Vec<Vec<u8>>)
+        ensures { self.new ≡ self.old }
+    {
         while let Some(octets) = frames.pop() {
             self.give_back(octets);
         }

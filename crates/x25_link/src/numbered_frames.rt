@@ -12,6 +12,7 @@ use x25_frame::Frame;
 
 impl LinkStation {
     /// Takes a received N(R), and says whether it is valid. All frames below it are acknowledged.
+    #[inline(always)]
     pub fn acknowledge(&mut self, nr: Seq) -> bool
         ensures valid { (c : Settings) (s : StationState) → FitsStation c self.old s → result ≡ is_valid nr.number s }
         ensures step { (c : Settings) (before made : List (List ℕ)) (t : Side) → FitsSide c self.old before made t → result ≡ true → FitsSide c self.new before made (acknowledged nr.number t) }

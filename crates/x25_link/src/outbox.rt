@@ -89,7 +89,22 @@ impl Outbox {
 
     /// Sets memory aside for at least so many I frames and other frames. Err: no memory for more than was set aside; as much is set aside as
     /// before.
+    #[inline(always)]
     pub fn reserve(&mut self, long: usize, short: usize) -> Result<(), AllocError>
+        ensures made { self.new.made ≡ self.old.made }
+        ensures long { OnOk result (self.new.long ≡ max self.old.long long) }
+        ensures short { OnOk result (self.new.short ≡ max self.old.short short) }
+        ensures missing { OnErr result ((self.old.long < long) ⊎ (self.old.short < short)) }
+        ensures err { OnErr result (self.new ≡ self.old) }
+    {
+        if long <= self.long.promised() && short <= self.short.promised() {
+            return Ok(());
+        }
+        self.reserve_more(long, short)
+    }
+
+    // .. where it may be that less is set aside.
+    fn reserve_more(&mut self, long: usize, short: usize) -> Result<(), AllocError>
         ensures made { self.new.made ≡ self.old.made }
         ensures long { OnOk result (self.new.long ≡ max self.old.long long) }
         ensures short { OnOk result (self.new.short ≡ max self.old.short short) }
@@ -144,6 +159,7 @@ impl Outbox {
     }
 
     /// What a call answers: the frames that were made, and what it heard.
+    #[inline(always)]
     pub fn answered<'a>(&mut self, heard: Heard<'a>) -> Step<'a>
         ensures frames { map (λ v. v.items) result.frames.items ≡ self.old.made }
         ensures packet { result.packet ≡ heard.entry.packet }
@@ -158,6 +174,7 @@ impl Outbox {
     }
 
     /// Hands out the frames that were made. No memory is promised for further ones.
+    #[inline(always)]
     pub fn drain(&mut self) -> Vec<Vec<u8>>
         ensures made { map (λ v. v.items) result.items ≡ self.old.made }
         ensures empty { self.new ≡ record { made = []; long = 0; short = 0 } }
@@ -215,6 +232,7 @@ fn short_memory(
 }
 
 // The octets of a frame, in memory that was set aside.
+#[inline(always)]
 fn spelled(from: Role, frame: &Frame, mut octets: Vec<u8>) -> Vec<u8>
     requires empty { octets.items ≡ [] }
     requires room { length (information_of (plain frame.now)) + 4 ≤ vec_capacity octets }

@@ -7,12 +7,13 @@ use Rattle.x25_station.specs.Settings.{Settings}
 use Rattle.x25_station.specs.Station.{new_station}
 use Rattle.x25_io.specs.HeldLine.{HoldsLine}
 use Rattle.x25_io.specs.declared.held_line.HeldLine.{HeldLine}
+use Rattle.x25_io.specs.code.LinesLead.{LinesLead}
+use Rattle.x25_io.proofs.TakerLemmas.{between}
 use Rattle.x25_io.proofs.ToldLemmas.{none_told, told_more}
 use Rattle.x25_station.specs.code.FitsStation.{FitsStation}
 use Rattle.x25_pipe.specs.Piped.{sayings_text, has_refusal, turns, standing_turn, piped, text_of}
 use Rattle.x25_pipe.specs.code.Stands.{Stands}
-use Rattle.x25_pipe.specs.code.Stream.{Leads}
-use Rattle.x25_pipe.specs.declared.answerer.Answerer.{Answerer}
+use Rattle.x25_pipe.specs.code.Stream.{Answers}
 use Rattle.x25_pipe.specs.declared.pipe.Pipe.{Pipe}
 use Rattle.x25_pipe.proofs.SayingLemmas.{parts_text, parts_refused}
 use Rattle.x25_pipe.proofs.StandLemmas.{StandsAt, BeginsAt, begins_before}
@@ -37,24 +38,20 @@ module _ (c : Settings) (old now : Option (List ℕ)) (p : Pipe) (input : List �
   mark_failed b = begins_before c old now [] false (turns c (lines_of input)) (standing_turn c new_station) b
 
   -- the input is still to come
-  begins_input : (a : Answerer) → HoldsLine [] a.held → StandsAt c old now a.pipe [] false (standing_turn c new_station) → Leads c old now a input (piped c input)
+  leads_input : (q : Pipe) → StandsAt c old now q [] false (standing_turn c new_station) → Answers c q old now (lines_of input) input
   unfolding piped
-  begins_input a empty h = record {
-    begun = [];
-    is_open = tt;
-    holds = empty;
-    leaves = record {
-      at = new_station;
-      text = sayings_text c.role (standing_turn c new_station).sayings;
-      status = has_refusal (standing_turn c new_station).sayings;
-      stands = h;
-      next = refl;
-      same = parts_text c.role [] (standing_turn c new_station).sayings (turns c (lines_of input) new_station).sayings;
-      any = parts_refused false (standing_turn c new_station).sayings (turns c (lines_of input) new_station).sayings;
-    };
+  leads_input q h = record {
+    at = new_station;
+    text = sayings_text c.role (standing_turn c new_station).sayings;
+    status = has_refusal (standing_turn c new_station).sayings;
+    stands = h;
+    next = refl;
+    same = parts_text c.role [] (standing_turn c new_station).sayings (turns c (lines_of input) new_station).sayings;
+    any = parts_refused false (standing_turn c new_station).sayings (turns c (lines_of input) new_station).sayings;
   }
 
-  pub input_begins : (a : Answerer) (held : HeldLine) → a.held ≡ held → a.pipe ≡ p → HoldsLine [] held → StandsAt c old now p [] false (standing_turn c new_station)
-      → Leads c old now a input (piped c input)
-  input_begins a held is_held is_pipe empty h =
-      begins_input a (subst (HoldsLine []) (sym is_held) empty) (subst (λ u. StandsAt c old now u [] false (standing_turn c new_station)) (sym is_pipe) h)
+  pub input_begins : (q : Pipe) (held first : HeldLine) → held ≡ first → q ≡ p → HoldsLine [] first → StandsAt c old now p [] false (standing_turn c new_station)
+      → LinesLead (λ lines. Answers c q old now lines input) held input
+  input_begins q held first is_held is_pipe empty h =
+      between (λ (lines : List (List ℕ)). Answers c q old now lines input) held input (subst (HoldsLine []) (sym is_held) empty)
+      (leads_input q (subst (λ u. StandsAt c old now u [] false (standing_turn c new_station)) (sym is_pipe) h))

@@ -1,103 +1,35 @@
--- An input, a piece at a time.
-use Rattle.std.proofs.Common.{◌≡◌, ◌∙◌, ℕ, false, List, [], ◌∷◌, ◌++◌, Option, append_assoc, ap, sym, subst, refl, nat_eq}
+-- An input, line by line.
+use Rattle.std.proofs.Common.{◌≡◌, ◌∙◌, ℕ, false, List, [], ◌∷◌, ◌++◌, Option, append_assoc, ap, sym, subst, refl}
 use Rattle.std.specs.Io.KnownBytes.{Appends}
-use Rattle.std.proofs.lemmas.Bool.{ne_eqb}
 use Rattle.std.proofs.lemmas.List.{append-nil}
-use Rattle.x25_io.specs.Lines.{IsOpen, lines_of}
 use Rattle.x25_io.specs.code.Written.{AppendsPrefix}
 use Rattle.x25_station.specs.Settings.{Settings}
 use Rattle.x25_station.specs.Station.{Station}
 use Rattle.x25_pipe.specs.Piped.{Turn, quiet, and_then, turn, turns, sayings_text, has_refusal}
-use Rattle.x25_io.specs.HeldLine.{HoldsLine}
 use Rattle.x25_pipe.specs.code.Stands.{Stands}
 use Rattle.x25_pipe.specs.code.Leaves.{Leaves}
-use Rattle.x25_pipe.specs.code.Stream.{Leads, WritesEnded}
-use Rattle.x25_pipe.specs.declared.answerer.Answerer.{Answerer}
+use Rattle.x25_pipe.specs.code.Stream.{WritesLines}
 use Rattle.x25_pipe.specs.declared.pipe.Pipe.{Pipe}
 use Rattle.x25_pipe.proofs.LeaveLemmas.{none_left, part_done, part_failed}
 use Rattle.x25_pipe.proofs.StandLemmas.{StandsAt, BeginsAt}
 
--- ---- lines
+turns_more : (c : Settings) (line : List ℕ) (lines : List (List ℕ)) (w : Station) → turns c (line ∷ lines) w ≡ and_then (turns c lines) (turn c line w)
+unfolding turns
+turns_more c line lines w = refl
 
--- a line that ends
-ends_line : (begun rest : List ℕ) → IsOpen begun → lines_of (begun ++ 10 ∷ rest) ≡ begun ∷ lines_of rest
-unfolding lines_of
-ends_line [] rest none = refl
-ends_line (b ∷ begun) rest none = let test : nat_eq b 10 ≡ false = ne_eqb b 10 none.0 in rw (test, ends_line begun rest none.1) refl
-
--- the last line
-last_line : (b : ℕ) (begun : List ℕ) → IsOpen (b ∷ begun) → lines_of (b ∷ begun) ≡ (b ∷ begun) ∷ lines_of []
-unfolding lines_of
-last_line b [] none = let test : nat_eq b 10 ≡ false = ne_eqb b 10 none.0 in rw test refl
-last_line b (c ∷ begun) none = let test : nat_eq b 10 ≡ false = ne_eqb b 10 none.0 in rw (test, last_line c begun none.1) refl
-
-open-append : (xs ys : List ℕ) → IsOpen xs → IsOpen ys → IsOpen (xs ++ ys)
-open-append [] ys h k = k
-open-append (x ∷ xs) ys h k = (h.0, open-append xs ys h.1 k)
-
-module _ (c : Settings) where
-  by_lines : (text : List ℕ) (line : List ℕ) (rest : List ℕ) (w : Station) → lines_of text ≡ line ∷ lines_of rest
-      → turns c (lines_of text) w ≡ and_then (turns c (lines_of rest)) (turn c line w)
-  unfolding turns
-  by_lines text line rest w e = ap (λ lines. turns c lines w) e
-
-  turns_ended : (begun rest : List ℕ) (w : Station) → IsOpen begun → turns c (lines_of (begun ++ 10 ∷ rest)) w ≡ and_then (turns c (lines_of rest)) (turn c begun w)
-  turns_ended begun rest w none = by_lines (begun ++ 10 ∷ rest) begun rest w (ends_line begun rest none)
-
-  turns_last : (begun : List ℕ) (w : Station) → IsOpen begun → (begun ≡ [] → ⊥) → turns c (lines_of (begun ++ [])) w ≡ and_then (turns c (lines_of [])) (turn c begun w)
-  turns_last [] w none some = absurd (some refl)
-  turns_last (b ∷ begun) w none some = by_lines ((b ∷ begun) ++ []) (b ∷ begun) [] w (ap lines_of (append-nil (b ∷ begun)) ∙ last_line b begun none)
-
-  turns_none : (w : Station) → turns c (lines_of []) w ≡ quiet w
-  unfolding turns lines_of
-  turns_none w = refl
-
--- ---- an input on its way
+turns_none : (c : Settings) (w : Station) → turns c [] w ≡ quiet w
+unfolding turns
+turns_none c w = refl
 
 module _ (c : Settings) (old now next : Option (List ℕ)) (whole : Turn) where
-  -- more of the line that has begun
-  pub held_more : (s u : Answerer) (tail rest : List ℕ) → Leads c old now s (tail ++ rest) whole → IsOpen tail → u.pipe ≡ s.pipe
-      → ((begun : List ℕ) → HoldsLine begun s.held → HoldsLine (begun ++ tail) u.held) → Leads c old now u rest whole
-  held_more s u tail rest l none same holds = record {
-    begun = l.begun ++ tail;
-    is_open = open-append l.begun tail l.is_open none;
-    holds = holds l.begun l.holds;
-    leaves = subst (λ pipe. Leaves c old now pipe (turns c (lines_of ((l.begun ++ tail) ++ rest))) [] false whole) (sym same)
-        (subst (λ text. Leaves c old now s.pipe (turns c (lines_of text)) [] false whole) (sym (append_assoc l.begun tail rest)) l.leaves);
-  }
+  -- a line was taken
+  pub line_done : (s u : Pipe) (line : List ℕ) (lines : List (List ℕ)) (l : Leaves c old now s (turns c (line ∷ lines)) [] false whole)
+      → StandsAt c old next u l.text l.status (turn c line l.at) → Leaves c old next u (turns c lines) [] false whole
+  line_done s u line lines l h = part_done c old now next s u [] false whole (turns c (line ∷ lines)) (turn c line) (turns c lines) l (turns_more c line lines l.at) h
 
-  -- the line that has begun ends
-  pub line_done : (s u : Answerer) (rest : List ℕ) (l : Leads c old now s (10 ∷ rest) whole) → HoldsLine [] u.held
-      → StandsAt c old next u.pipe l.leaves.text l.leaves.status (turn c l.begun l.leaves.at) → Leads c old next u rest whole
-  line_done s u rest l empty h = record {
-    begun = [];
-    is_open = tt;
-    holds = empty;
-    leaves = part_done c old now next s.pipe u.pipe [] false whole (turns c (lines_of (l.begun ++ 10 ∷ rest))) (turn c l.begun) (turns c (lines_of rest)) l.leaves
-        (turns_ended c l.begun rest l.leaves.at l.is_open) h;
-  }
-
-  pub line_failed : (s : Answerer) (rest : List ℕ) (l : Leads c old now s (10 ∷ rest) whole)
-      → BeginsAt c old next l.leaves.text (turn c l.begun l.leaves.at) → AppendsPrefix old next (sayings_text c.role whole.sayings)
-  line_failed s rest l b =
-      part_failed c old now next s.pipe s.pipe [] false whole (turns c (lines_of (l.begun ++ 10 ∷ rest))) (turn c l.begun) (turns c (lines_of rest)) l.leaves
-      (turns_ended c l.begun rest l.leaves.at l.is_open) b
-
-  -- the last line, without a line feed
-  pub last_done : (s : Answerer) (u : Pipe) (l : Leads c old now s [] whole) → (l.begun ≡ [] → ⊥)
-      → StandsAt c old next u l.leaves.text l.leaves.status (turn c l.begun l.leaves.at) → Leaves c old next u (turns c (lines_of [])) [] false whole
-  last_done s u l some h =
-      part_done c old now next s.pipe u [] false whole (turns c (lines_of (l.begun ++ []))) (turn c l.begun) (turns c (lines_of [])) l.leaves
-      (turns_last c l.begun l.leaves.at l.is_open some) h
-
-  pub last_failed : (s : Answerer) (l : Leads c old now s [] whole) → (l.begun ≡ [] → ⊥)
-      → BeginsAt c old next l.leaves.text (turn c l.begun l.leaves.at) → AppendsPrefix old next (sayings_text c.role whole.sayings)
-  last_failed s l some b =
-      part_failed c old now next s.pipe s.pipe [] false whole (turns c (lines_of (l.begun ++ []))) (turn c l.begun) (turns c (lines_of [])) l.leaves
-      (turns_last c l.begun l.leaves.at l.is_open some) b
-
-  pub none_begun : (s : Answerer) (l : Leads c old now s [] whole) → l.begun ≡ [] → Leaves c old now s.pipe (turns c (lines_of [])) [] false whole
-  none_begun s l none = subst (λ begun. Leaves c old now s.pipe (turns c (lines_of (begun ++ []))) [] false whole) none l.leaves
+  pub line_failed : (s : Pipe) (line : List ℕ) (lines : List (List ℕ)) (l : Leaves c old now s (turns c (line ∷ lines)) [] false whole)
+      → BeginsAt c old next l.text (turn c line l.at) → AppendsPrefix old next (sayings_text c.role whole.sayings)
+  line_failed s line lines l b = part_failed c old now next s s [] false whole (turns c (line ∷ lines)) (turn c line) (turns c lines) l (turns_more c line lines l.at) b
 
   -- ---- what waited is written
 
@@ -108,31 +40,19 @@ module _ (c : Settings) (old now next : Option (List ℕ)) (whole : Turn) where
   pub left_begun : (s : Pipe) (rest : Station → Turn) (l : Leaves c old now s rest [] false whole) → AppendsPrefix old next l.text → AppendsPrefix old next (sayings_text c.role whole.sayings)
   left_begun s rest l b = subst (AppendsPrefix old next) l.same (b.0, b.1 ++ sayings_text c.role (rest l.at).sayings, ap (λ t. t ++ sayings_text c.role (rest l.at).sayings) b.2 ∙ append_assoc b.0 b.1 (sayings_text c.role (rest l.at).sayings), b.3)
 
-  pub leads_written : (s u : Answerer) (rest : List ℕ) (l : Leads c old now s rest whole) → u.held ≡ s.held → Stands c old next u.pipe l.leaves.at l.leaves.text l.leaves.status
-      → Leads c old next u rest whole
-  leads_written s u rest l same h = record {
-    begun = l.begun;
-    is_open = l.is_open;
-    holds = subst (HoldsLine l.begun) (sym same) l.holds;
-    leaves = left_written s.pipe u.pipe (turns c (lines_of (l.begun ++ rest))) l.leaves h;
-  }
-
-  pub ended_written : (s : Answerer) (u : Pipe) (rest : List ℕ) (l : Leads c old now s rest whole) → u.output ≡ [] → Stands c old next u l.leaves.at l.leaves.text l.leaves.status
-      → WritesEnded c old next rest whole
-  ended_written s u rest l empty h = record {
-    begun = l.begun;
-    is_open = l.is_open;
-    at = l.leaves.at;
+  pub ended_written : (s u : Pipe) (lines : List (List ℕ)) (l : Leaves c old now s (turns c lines) [] false whole) → u.output ≡ [] → Stands c old next u l.at l.text l.status
+      → WritesLines c old next lines whole
+  ended_written s u lines l empty h = record {
+    at = l.at;
     part = h.tells.written;
     appends = h.tells.appends;
-    same = ap (λ t. t ++ sayings_text c.role (turns c (lines_of (l.begun ++ rest)) l.leaves.at).sayings)
-        (sym (append-nil h.tells.written) ∙ ap (λ t. h.tells.written ++ t) (sym empty) ∙ h.tells.same) ∙ l.leaves.same;
+    same = ap (λ t. t ++ sayings_text c.role (turns c lines l.at).sayings) (sym (append-nil h.tells.written) ∙ ap (λ t. h.tells.written ++ t) (sym empty) ∙ h.tells.same) ∙ l.same;
   }
 
 -- all is told, and nothing waits
-pub whole_told : (c : Settings) (old now : Option (List ℕ)) (s : Pipe) (whole : Turn) → Leaves c old now s (turns c (lines_of [])) [] false whole → s.output ≡ []
+pub whole_told : (c : Settings) (old now : Option (List ℕ)) (s : Pipe) (whole : Turn) → Leaves c old now s (turns c []) [] false whole → s.output ≡ []
     → Appends old now (sayings_text c.role whole.sayings) × (s.is_refused ≡ has_refusal whole.sayings)
 whole_told c old now s whole l empty =
-    let h = none_left c old now old s s [] false whole (turns c (lines_of [])) l (turns_none c l.at) in
+    let h = none_left c old now old s s [] false whole (turns c []) l (turns_none c l.at) in
     let text : h.tells.written ≡ sayings_text c.role whole.sayings = sym (append-nil h.tells.written) ∙ ap (λ t. h.tells.written ++ t) (sym empty) ∙ h.tells.same in
     (subst (Appends old now) text h.tells.appends, h.status)

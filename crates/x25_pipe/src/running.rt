@@ -6,10 +6,9 @@ ghost use Rattle.x25_station.specs.Settings.{config_refusal, settings_from};
 ghost use Rattle.x25_pipe.specs.Piped.{piped, station_status, station_text};
 ghost use Rattle.x25_pipe.specs.code.Stream.{WritesEnded};
 
-use crate::answerer::Answerer;
 use crate::pipe::Pipe;
 use std::alloc::Global;
-use x25_io::{Fault, HeldLine, PIECE, Sink, Source, take_text};
+use x25_io::{Fault, HeldLine, LineByLine, PIECE, Sink, Source, take_text};
 use x25_station::{Cfg, Role};
 
 /// Writes the first mark, has the station at an end do what each line that the reader gives asks for, and answers each line by what
@@ -49,14 +48,10 @@ pub fn station<R: Source, W: Sink>(
     // Nor did any where want of memory is answered.
     ensures memory { IsErrOf result Fault.NoMemory → (R.is_marked reader.new ≡ R.is_marked reader.old) × (W.is_marked writer.new ≡ W.is_marked writer.old) }
 {
-    let Ok(mut piece) = vec![in alloc; 0u8; PIECE] else {
-        return Err(Fault::NoMemory);
-    };
-    let Ok(held) = HeldLine::new(alloc) else {
-        return Err(Fault::NoMemory);
-    };
+    let mut piece = vec![in alloc; 0u8; PIECE]?;
+    let held = HeldLine::new(alloc)?;
     let mut pipe = Pipe::new(alloc, end, cfg)?;
     pipe.mark_standing(writer)?;
-    let answerer = Answerer::new(held, pipe);
-    take_text(answerer, piece.as_mut_slice(), reader, writer)
+    let lines = LineByLine::new(held, pipe);
+    take_text(lines, piece.as_mut_slice(), reader, writer)
 }

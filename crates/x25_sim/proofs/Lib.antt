@@ -5,6 +5,7 @@ pub mod StandLemmas
 pub mod LeaveLemmas
 pub mod DrainLemmas
 pub mod HealLemmas
+pub mod ScheduleLemmas
 pub mod StreamLemmas
 pub mod SimLemmas
 pub mod RunLemmas

@@ -21,7 +21,8 @@ use Rattle.x25_world.specs.laws.SessionClaims.{Throughout, ThroughoutAlong}
 use Rattle.x25_sim.specs.Sayings.{Saying, enters, taps, reads_nothing, refuses}
 use Rattle.x25_console.specs.Commands.{command_asked}
 use Rattle.x25_io.specs.HeldLine.{most_line}
-use Rattle.x25_sim.specs.Simulated.{Turn, and_then, step_told, told_between, turn_of, event_turn, next_end, delivered_to, drained, tried_of, tried, both_tried, most_times, fired, pulled, unless_empty, emptied, healed, line_turn, asked_in, asked_turn, turn, turns, connecting, set_up, opened, simulated}
+use Rattle.x25_world.specs.Healing.{next_end}
+use Rattle.x25_sim.specs.Simulated.{Turn, and_then, step_told, told_between, turn_of, event_turn, delivered_to, drained, tried_of, tried, both_tried, most_times, fired, pulled, unless_empty, emptied, healed, line_turn, asked_in, asked_turn, turn, turns, connecting, set_up, opened, simulated}
 use Rattle.x25_sim.specs.laws.RunLaw.{entries_in, frames_in, begins, IsNoConnectLine, NoneAsks, IsRun, ScriptsAreRuns, OfScripts, OfScriptsSetUp, OfAllScripts, UpOnceUnlessAsked, ScriptsAreTold, ScriptsAreTapped}
 
 -- ---- a world only grows

@@ -1,5 +1,5 @@
 -- A whole script.
-use Rattle.std.proofs.Common.{◌≡◌, ℕ, Bool, false, List, [], Option, Some, None, refl, sym, subst}
+use Rattle.std.proofs.Common.{◌≡◌, ◌∙◌, ℕ, Bool, false, List, [], Option, Some, None, ap, refl, sym, subst}
 use Rattle.std.specs.Prelude.{IfSome}
 use Rattle.x25_io.specs.Lines.{lines_of}
 use Rattle.x25_io.specs.code.Written.{AppendsPrefix}
@@ -7,10 +7,12 @@ use Rattle.x25_station.specs.declared.config.Cfg.{Cfg}
 use Rattle.x25_sim.specs.Sayings.{sayings_text, has_refusal}
 use Rattle.x25_sim.specs.Simulated.{turns, opened, simulated, sim_text}
 use Rattle.x25_io.specs.HeldLine.{HoldsLine}
-use Rattle.x25_sim.specs.code.Stream.{Leads}
+use Rattle.x25_sim.specs.code.Stream.{Simulates}
 use Rattle.x25_io.specs.declared.held_line.HeldLine.{HeldLine}
 use Rattle.x25_sim.specs.declared.simulator.Simulator.{Simulator}
 use Rattle.x25_sim.specs.declared.stage.Stage.{Stage}
+use Rattle.x25_io.specs.code.LinesLead.{LinesLead}
+use Rattle.x25_io.proofs.TakerLemmas.{between}
 use Rattle.x25_io.proofs.ToldLemmas.{none_told, told_more}
 use Rattle.x25_sim.proofs.StandLemmas.{StandsAt, BeginsAt, begins_before, parts_text, parts_refused}
 
@@ -31,25 +33,21 @@ module _ (cfg : Cfg) (down tap asked : Bool) (same : asked ≡ tap) (old now : O
       (begins_before cfg asked old now stage [] false (turns cfg asked (lines_of script)) (opened cfg down asked) b)
 
   -- the script is still to come
-  begins_script : (s : Simulator) → HoldsLine [] s.held → StandsAt cfg tap old now s.stage [] false (opened cfg down tap) → Leads cfg tap old now s script (simulated cfg down tap script)
+  leads_script : (s : Simulator) → StandsAt cfg tap old now s.stage [] false (opened cfg down tap) → Simulates (record { cfg = cfg; down = down; tap = tap }) s old now (lines_of script) script
   unfolding simulated
-  begins_script s empty h = record {
-    begun = [];
-    is_open = tt;
-    holds = empty;
-    leaves = record {
-      at = (opened cfg down tap).next;
-      text = sayings_text (opened cfg down tap).sayings;
-      status = has_refusal (opened cfg down tap).sayings;
-      stands = h;
-      next = refl;
-      same = parts_text [] (opened cfg down tap).sayings (turns cfg tap (lines_of script) (opened cfg down tap).next).sayings;
-      any = parts_refused false (opened cfg down tap).sayings (turns cfg tap (lines_of script) (opened cfg down tap).next).sayings;
-    };
+  leads_script s h = record {
+    at = (opened cfg down tap).next;
+    text = sayings_text (opened cfg down tap).sayings;
+    status = has_refusal (opened cfg down tap).sayings;
+    stands = h;
+    next = refl;
+    same = parts_text [] (opened cfg down tap).sayings (turns cfg tap (lines_of script) (opened cfg down tap).next).sayings;
+    any = parts_refused false (opened cfg down tap).sayings (turns cfg tap (lines_of script) (opened cfg down tap).next).sayings;
   }
 
-  pub script_begins : (s : Simulator) (held : HeldLine) → s.held ≡ held → s.stage ≡ stage → HoldsLine [] held → StandsAt cfg asked old now stage [] false (opened cfg down asked)
-      → Leads cfg tap old now s script (simulated cfg down tap script)
-  script_begins s held is_held is_stage empty h =
-      begins_script s (subst (HoldsLine []) (sym is_held) empty)
-      (subst (λ u. StandsAt cfg tap old now u [] false (opened cfg down tap)) (sym is_stage) (subst (λ a. StandsAt cfg a old now stage [] false (opened cfg down a)) same h))
+  pub script_begins : (s t : Simulator) (held first : HeldLine) → held ≡ first → s ≡ t → t.stage ≡ stage → HoldsLine [] first → StandsAt cfg asked old now stage [] false (opened cfg down asked)
+      → LinesLead (λ lines. Simulates (record { cfg = cfg; down = down; tap = tap }) s old now lines script) held script
+  script_begins s t held first is_held is_simulator is_stage empty h =
+      between (λ (lines : List (List ℕ)). Simulates (record { cfg = cfg; down = down; tap = tap }) s old now lines script) held script (subst (HoldsLine []) (sym is_held) empty)
+      (leads_script s (subst (λ u. StandsAt cfg tap old now u [] false (opened cfg down tap)) (sym (ap (λ (s : Simulator). s.stage) is_simulator ∙ is_stage))
+      (subst (λ a. StandsAt cfg a old now stage [] false (opened cfg down a)) same h)))

@@ -5,13 +5,14 @@ use Rattle.std.proofs.lemmas.List.{append-nil}
 use Rattle.std.proofs.lemmas.List.Folds.{list_any-append}
 use Rattle.std.proofs.Math.Bool.{or_assoc, or-false, or-true}
 use Rattle.x25_io.specs.code.Written.{AppendsPrefix, Tells}
+use Rattle.x25_bits.specs.declared.role.Role.TheVariants.{Dte, Dce}
 use Rattle.x25_station.specs.declared.config.Cfg.{Cfg}
-use Rattle.x25_world.specs.World.{World, WorldOutcome, refusal_of, after, start, connected}
-use Rattle.x25_world.specs.code.FitsWorld.{FitsWorld, all_of, nothing_gone}
+use Rattle.x25_world.specs.World.{World, WorldOutcome, Event, Receives, Happened, Declined, AreAccepted, happens, refusal_of, after, start, connected}
+use Rattle.x25_world.specs.code.FitsWorld.{FitsWorld, all_of}
 use Rattle.x25_world.specs.declared.error.WorldError.{WorldError}
 use Rattle.x25_sim.specs.declared.stage.Stage.{Stage}
 use Rattle.x25_sim.specs.Sayings.{Saying, refuses, reads_nothing, sayings_text, saying_line, refusal_number, is_refusal, has_refusal}
-use Rattle.x25_sim.specs.Simulated.{Turn, quiet, and_then, turn_of, tried_of, told_between, asked_turn, connecting, opened}
+use Rattle.x25_sim.specs.Simulated.{Turn, quiet, and_then, turn_of, tried_of, tried, event_turn, told_between, asked_turn, connecting, set_up, opened}
 use Rattle.x25_sim.specs.code.Stands.{Stands, opening}
 use Rattle.x25_console.specs.Lines.{refusal_line}
 use Rattle.x25_io.proofs.ToldLemmas.{prefix_more}
@@ -133,13 +134,50 @@ module _ (cfg : Cfg) (tap : Bool) (old next : Option (List ℕ)) (u : Stage) (to
   begins_before b =
       subst (AppendsPrefix old next) (parts_text told t.sayings (rest t.next).sayings) (prefix_more old next (told ++ sayings_text t.sayings) (sayings_text (rest t.next).sayings) b)
 
--- the DTE has asked that the link be set up
-pub stands_connecting : (cfg : Cfg) (tap : Bool) (old next : Option (List ℕ)) (u : Stage) → FitsWorld cfg u.world (connected cfg) (all_of (connected cfg)) → u.tap ≡ tap → u.is_refused ≡ false
-    → Tells old next u.output (sayings_text (told_between tap start (connected cfg))) → StandsAt cfg tap old next u [] false (connecting cfg tap)
-stands_connecting cfg tap old next u fits asked status tells = record { fits = fits; asked = asked; tells = tells; status = status ∙ sym (step_accepts tap start (connected cfg)) }
+-- ---- before the script
 
--- both links are down, and nothing is said
-pub stands_down : (cfg : Cfg) (down tap : Bool) (old now : Option (List ℕ)) (u : Stage) → down ≡ true → FitsWorld cfg u.world (opening cfg down) nothing_gone → u.tap ≡ tap → u.is_refused ≡ false
-    → Tells old now u.output [] → StandsAt cfg tap old now u [] false (opened cfg down tap)
-stands_down cfg true tap old now u e fits asked status tells = record { fits = fits; asked = asked; tells = tells; status = status }
-stands_down cfg false tap old now u e fits asked status tells = absurd (cc)
+-- the first world, and what is said of it
+abbrev pub first_turn : Cfg → Bool → Bool → Turn
+first_turn cfg down tap = record { next = opening cfg down; sayings = told_between tap start (opening cfg down) }
+
+pub stands_first : (cfg : Cfg) (down tap : Bool) (old next : Option (List ℕ)) (u : Stage) → FitsWorld cfg u.world (opening cfg down) (all_of (opening cfg down)) → u.tap ≡ tap
+    → u.is_refused ≡ false → Tells old next u.output (sayings_text (told_between tap start (opening cfg down))) → StandsAt cfg tap old next u [] false (first_turn cfg down tap)
+stands_first cfg down tap old next u fits asked status tells =
+    record { fits = fits; asked = asked; tells = tells; status = status ∙ sym (step_accepts tap start (opening cfg down)) }
+
+abbrev sabm_arrives : Event
+sabm_arrives = record { at = Dce; act = Receives }
+
+abbrev ua_arrives : Event
+ua_arrives = record { at = Dte; act = Receives }
+
+-- both deliveries, each where it isn't refused
+abbrev pub deliveries : Cfg → Bool → World → Turn
+deliveries cfg tap w = and_then (tried cfg tap ua_arrives) (tried cfg tap sabm_arrives w)
+
+accepted_turn : (cfg : Cfg) (tap : Bool) (e : Event) (w : World) → refusal_of (happens cfg w e) ≡ None → tried cfg tap e w ≡ event_turn cfg tap e w
+unfolding tried event_turn
+accepted_turn cfg tap e w accepted = happened_tried tap w (happens cfg w e) accepted
+
+turned_at : (cfg : Cfg) (tap : Bool) (e : Event) (w : World) → (event_turn cfg tap e w).next ≡ after w (happens cfg w e)
+unfolding event_turn
+turned_at cfg tap e w = go (happens cfg w e)
+  where
+    go : (o : WorldOutcome) → (turn_of tap w o).next ≡ after w o
+    go (Happened next) = refl
+    go (Declined error) = refl
+
+-- SABM and UA are there where the DTE has asked, and nothing is on the line where both links are down
+pub opens : (cfg : Cfg) (down tap : Bool) → AreAccepted cfg (sabm_arrives ∷ ua_arrives ∷ []) (connected cfg) → and_then (deliveries cfg tap) (first_turn cfg down tap) ≡ opened cfg down tap
+unfolding tried set_up
+opens cfg true true accepted = refl
+opens cfg true false accepted = refl
+opens cfg false tap accepted =
+    let w = connected cfg in
+    let said = told_between tap start w in
+    let sabm = event_turn cfg tap sabm_arrives w in
+    let ua = event_turn cfg tap ua_arrives sabm.next in
+    let there = subst (λ v. refusal_of (happens cfg v ua_arrives) ≡ None) (sym (turned_at cfg tap sabm_arrives w)) accepted.1.0 in
+    ap (λ (t : Turn). and_then (λ v. and_then (tried cfg tap ua_arrives) t) (connecting cfg tap)) (accepted_turn cfg tap sabm_arrives w accepted.0)
+    ∙ ap (λ (t : Turn). record { next = t.next; sayings = said ++ (sabm.sayings ++ t.sayings) }) (accepted_turn cfg tap ua_arrives sabm.next there)
+    ∙ ap (λ says. record { next = ua.next; sayings = says }) (sym (append_assoc said sabm.sayings ua.sayings))

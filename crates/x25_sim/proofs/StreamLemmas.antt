@@ -1,104 +1,44 @@
--- A script, a piece at a time.
-use Rattle.std.proofs.Common.{◌≡◌, ◌∙◌, ℕ, Bool, false, List, [], ◌∷◌, ◌++◌, Option, append_assoc, ap, sym, subst, refl, nat_eq}
+-- A script, line by line.
+use Rattle.std.proofs.Common.{◌≡◌, ◌∙◌, ◌<◌, ℕ, Bool, false, List, [], ◌∷◌, ◌++◌, length, Option, None, append_assoc, ap, sym, subst, refl, if◌then◌else◌}
 use Rattle.std.specs.Io.KnownBytes.{Appends}
-use Rattle.std.proofs.lemmas.Bool.{ne_eqb}
+use Rattle.std.proofs.lemmas.Bool.{lt-leb}
 use Rattle.std.proofs.lemmas.List.{append-nil}
-use Rattle.x25_io.specs.Lines.{IsOpen, lines_of}
+use Rattle.x25_io.specs.HeldLine.{most_line}
 use Rattle.x25_io.specs.code.Written.{AppendsPrefix}
+use Rattle.x25_script.specs.Reading.{line_in}
 use Rattle.x25_station.specs.declared.config.Cfg.{Cfg}
 use Rattle.x25_world.specs.World.{World}
 use Rattle.x25_sim.specs.Sayings.{sayings_text, has_refusal}
-use Rattle.x25_sim.specs.Simulated.{Turn, quiet, and_then, turn, turns}
-use Rattle.x25_io.specs.HeldLine.{HoldsLine}
+use Rattle.x25_sim.specs.Simulated.{Turn, quiet, and_then, asked_in, turn, turns}
 use Rattle.x25_sim.specs.code.Stands.{Stands}
 use Rattle.x25_sim.specs.code.Leaves.{Leaves}
-use Rattle.x25_sim.specs.code.Stream.{Leads, WritesEnded}
-use Rattle.x25_sim.specs.declared.simulator.Simulator.{Simulator}
+use Rattle.x25_sim.specs.code.Stream.{WritesLines}
 use Rattle.x25_sim.specs.declared.stage.Stage.{Stage}
 use Rattle.x25_sim.proofs.LeaveLemmas.{none_left, part_done, part_failed}
 use Rattle.x25_sim.proofs.StandLemmas.{StandsAt, BeginsAt}
 
--- ---- lines
+-- a line that is too long
+pub asks_nothing : (line : List ℕ) → most_line < length line → asked_in line ≡ None
+unfolding asked_in
+asks_nothing line long = ap (λ b. if b then line_in line else None) (lt-leb (length line) most_line long)
 
--- a line that ends
-ends_line : (begun rest : List ℕ) → IsOpen begun → lines_of (begun ++ 10 ∷ rest) ≡ begun ∷ lines_of rest
-unfolding lines_of
-ends_line [] rest none = refl
-ends_line (b ∷ begun) rest none = let test : nat_eq b 10 ≡ false = ne_eqb b 10 none.0 in rw (test, ends_line begun rest none.1) refl
+turns_more : (cfg : Cfg) (tap : Bool) (line : List ℕ) (lines : List (List ℕ)) (w : World) → turns cfg tap (line ∷ lines) w ≡ and_then (turns cfg tap lines) (turn cfg tap line w)
+unfolding turns
+turns_more cfg tap line lines w = refl
 
--- the last line
-last_line : (b : ℕ) (begun : List ℕ) → IsOpen (b ∷ begun) → lines_of (b ∷ begun) ≡ (b ∷ begun) ∷ lines_of []
-unfolding lines_of
-last_line b [] none = let test : nat_eq b 10 ≡ false = ne_eqb b 10 none.0 in rw test refl
-last_line b (c ∷ begun) none = let test : nat_eq b 10 ≡ false = ne_eqb b 10 none.0 in rw (test, last_line c begun none.1) refl
-
-open-append : (xs ys : List ℕ) → IsOpen xs → IsOpen ys → IsOpen (xs ++ ys)
-open-append [] ys h k = k
-open-append (x ∷ xs) ys h k = (h.0, open-append xs ys h.1 k)
-
-module _ (cfg : Cfg) (tap : Bool) where
-  by_lines : (text : List ℕ) (line : List ℕ) (rest : List ℕ) (w : World) → lines_of text ≡ line ∷ lines_of rest
-      → turns cfg tap (lines_of text) w ≡ and_then (turns cfg tap (lines_of rest)) (turn cfg tap line w)
-  unfolding turns
-  by_lines text line rest w e = ap (λ lines. turns cfg tap lines w) e
-
-  turns_ended : (begun rest : List ℕ) (w : World) → IsOpen begun → turns cfg tap (lines_of (begun ++ 10 ∷ rest)) w ≡ and_then (turns cfg tap (lines_of rest)) (turn cfg tap begun w)
-  turns_ended begun rest w none = by_lines (begun ++ 10 ∷ rest) begun rest w (ends_line begun rest none)
-
-  turns_last : (begun : List ℕ) (w : World) → IsOpen begun → (begun ≡ [] → ⊥) → turns cfg tap (lines_of (begun ++ [])) w ≡ and_then (turns cfg tap (lines_of [])) (turn cfg tap begun w)
-  turns_last [] w none some = absurd (some refl)
-  turns_last (b ∷ begun) w none some = by_lines ((b ∷ begun) ++ []) (b ∷ begun) [] w (ap lines_of (append-nil (b ∷ begun)) ∙ last_line b begun none)
-
-  turns_none : (w : World) → turns cfg tap (lines_of []) w ≡ quiet w
-  unfolding turns lines_of
-  turns_none w = refl
-
--- ---- a script on its way
+turns_none : (cfg : Cfg) (tap : Bool) (w : World) → turns cfg tap [] w ≡ quiet w
+unfolding turns
+turns_none cfg tap w = refl
 
 module _ (cfg : Cfg) (tap : Bool) (old now next : Option (List ℕ)) (whole : Turn) where
-  -- more of the line that has begun
-  pub held_more : (s u : Simulator) (tail rest : List ℕ) → Leads cfg tap old now s (tail ++ rest) whole → IsOpen tail → u.stage ≡ s.stage
-      → ((begun : List ℕ) → HoldsLine begun s.held → HoldsLine (begun ++ tail) u.held) → Leads cfg tap old now u rest whole
-  held_more s u tail rest l none same holds = record {
-    begun = l.begun ++ tail;
-    is_open = open-append l.begun tail l.is_open none;
-    holds = holds l.begun l.holds;
-    leaves = subst (λ stage. Leaves cfg tap old now stage (turns cfg tap (lines_of ((l.begun ++ tail) ++ rest))) [] false whole) (sym same)
-        (subst (λ text. Leaves cfg tap old now s.stage (turns cfg tap (lines_of text)) [] false whole) (sym (append_assoc l.begun tail rest)) l.leaves);
-  }
+  -- a line was taken
+  pub line_done : (s u : Stage) (line : List ℕ) (lines : List (List ℕ)) (l : Leaves cfg tap old now s (turns cfg tap (line ∷ lines)) [] false whole)
+      → StandsAt cfg tap old next u l.text l.status (turn cfg tap line l.at) → Leaves cfg tap old next u (turns cfg tap lines) [] false whole
+  line_done s u line lines l h = part_done cfg tap old now next s u [] false whole (turns cfg tap (line ∷ lines)) (turn cfg tap line) (turns cfg tap lines) l (turns_more cfg tap line lines l.at) h
 
-  -- the line that has begun ends
-  pub line_done : (s u : Simulator) (rest : List ℕ) (l : Leads cfg tap old now s (10 ∷ rest) whole) → HoldsLine [] u.held
-      → StandsAt cfg tap old next u.stage l.leaves.text l.leaves.status (turn cfg tap l.begun l.leaves.at) → Leads cfg tap old next u rest whole
-  line_done s u rest l empty h = record {
-    begun = [];
-    is_open = tt;
-    holds = empty;
-    leaves = part_done cfg tap old now next s.stage u.stage [] false whole (turns cfg tap (lines_of (l.begun ++ 10 ∷ rest))) (turn cfg tap l.begun) (turns cfg tap (lines_of rest)) l.leaves
-        (turns_ended cfg tap l.begun rest l.leaves.at l.is_open) h;
-  }
-
-  pub line_failed : (s : Simulator) (rest : List ℕ) (l : Leads cfg tap old now s (10 ∷ rest) whole)
-      → BeginsAt old next l.leaves.text (turn cfg tap l.begun l.leaves.at) → AppendsPrefix old next (sayings_text whole.sayings)
-  line_failed s rest l b =
-      part_failed cfg tap old now next s.stage s.stage [] false whole (turns cfg tap (lines_of (l.begun ++ 10 ∷ rest))) (turn cfg tap l.begun) (turns cfg tap (lines_of rest)) l.leaves
-      (turns_ended cfg tap l.begun rest l.leaves.at l.is_open) b
-
-  -- the last line, without a line feed
-  pub last_done : (s : Simulator) (u : Stage) (l : Leads cfg tap old now s [] whole) → (l.begun ≡ [] → ⊥)
-      → StandsAt cfg tap old next u l.leaves.text l.leaves.status (turn cfg tap l.begun l.leaves.at) → Leaves cfg tap old next u (turns cfg tap (lines_of [])) [] false whole
-  last_done s u l some h =
-      part_done cfg tap old now next s.stage u [] false whole (turns cfg tap (lines_of (l.begun ++ []))) (turn cfg tap l.begun) (turns cfg tap (lines_of [])) l.leaves
-      (turns_last cfg tap l.begun l.leaves.at l.is_open some) h
-
-  pub last_failed : (s : Simulator) (l : Leads cfg tap old now s [] whole) → (l.begun ≡ [] → ⊥)
-      → BeginsAt old next l.leaves.text (turn cfg tap l.begun l.leaves.at) → AppendsPrefix old next (sayings_text whole.sayings)
-  last_failed s l some b =
-      part_failed cfg tap old now next s.stage s.stage [] false whole (turns cfg tap (lines_of (l.begun ++ []))) (turn cfg tap l.begun) (turns cfg tap (lines_of [])) l.leaves
-      (turns_last cfg tap l.begun l.leaves.at l.is_open some) b
-
-  pub none_begun : (s : Simulator) (l : Leads cfg tap old now s [] whole) → l.begun ≡ [] → Leaves cfg tap old now s.stage (turns cfg tap (lines_of [])) [] false whole
-  none_begun s l none = subst (λ begun. Leaves cfg tap old now s.stage (turns cfg tap (lines_of (begun ++ []))) [] false whole) none l.leaves
+  pub line_failed : (s : Stage) (line : List ℕ) (lines : List (List ℕ)) (l : Leaves cfg tap old now s (turns cfg tap (line ∷ lines)) [] false whole)
+      → BeginsAt old next l.text (turn cfg tap line l.at) → AppendsPrefix old next (sayings_text whole.sayings)
+  line_failed s line lines l b = part_failed cfg tap old now next s s [] false whole (turns cfg tap (line ∷ lines)) (turn cfg tap line) (turns cfg tap lines) l (turns_more cfg tap line lines l.at) b
 
   -- ---- what waited is written
 
@@ -109,31 +49,19 @@ module _ (cfg : Cfg) (tap : Bool) (old now next : Option (List ℕ)) (whole : Tu
   pub left_begun : (s : Stage) (rest : World → Turn) (l : Leaves cfg tap old now s rest [] false whole) → AppendsPrefix old next l.text → AppendsPrefix old next (sayings_text whole.sayings)
   left_begun s rest l b = subst (AppendsPrefix old next) l.same (b.0, b.1 ++ sayings_text (rest l.at).sayings, ap (λ t. t ++ sayings_text (rest l.at).sayings) b.2 ∙ append_assoc b.0 b.1 (sayings_text (rest l.at).sayings), b.3)
 
-  pub leads_written : (s u : Simulator) (rest : List ℕ) (l : Leads cfg tap old now s rest whole) → u.held ≡ s.held → Stands cfg tap old next u.stage l.leaves.at l.leaves.text l.leaves.status
-      → Leads cfg tap old next u rest whole
-  leads_written s u rest l same h = record {
-    begun = l.begun;
-    is_open = l.is_open;
-    holds = subst (HoldsLine l.begun) (sym same) l.holds;
-    leaves = left_written s.stage u.stage (turns cfg tap (lines_of (l.begun ++ rest))) l.leaves h;
-  }
-
-  pub ended_written : (s : Simulator) (u : Stage) (rest : List ℕ) (l : Leads cfg tap old now s rest whole) → u.output ≡ [] → Stands cfg tap old next u l.leaves.at l.leaves.text l.leaves.status
-      → WritesEnded cfg tap old next rest whole
-  ended_written s u rest l empty h = record {
-    begun = l.begun;
-    is_open = l.is_open;
-    at = l.leaves.at;
+  pub ended_written : (s u : Stage) (lines : List (List ℕ)) (l : Leaves cfg tap old now s (turns cfg tap lines) [] false whole) → u.output ≡ [] → Stands cfg tap old next u l.at l.text l.status
+      → WritesLines cfg tap old next lines whole
+  ended_written s u lines l empty h = record {
+    at = l.at;
     part = h.tells.written;
     appends = h.tells.appends;
-    same = ap (λ t. t ++ sayings_text (turns cfg tap (lines_of (l.begun ++ rest)) l.leaves.at).sayings)
-        (sym (append-nil h.tells.written) ∙ ap (λ t. h.tells.written ++ t) (sym empty) ∙ h.tells.same) ∙ l.leaves.same;
+    same = ap (λ t. t ++ sayings_text (turns cfg tap lines l.at).sayings) (sym (append-nil h.tells.written) ∙ ap (λ t. h.tells.written ++ t) (sym empty) ∙ h.tells.same) ∙ l.same;
   }
 
 -- all is told, and nothing waits
-pub whole_told : (cfg : Cfg) (tap : Bool) (old now : Option (List ℕ)) (s : Stage) (whole : Turn) → Leaves cfg tap old now s (turns cfg tap (lines_of [])) [] false whole → s.output ≡ []
+pub whole_told : (cfg : Cfg) (tap : Bool) (old now : Option (List ℕ)) (s : Stage) (whole : Turn) → Leaves cfg tap old now s (turns cfg tap []) [] false whole → s.output ≡ []
     → Appends old now (sayings_text whole.sayings) × (s.is_refused ≡ has_refusal whole.sayings)
 whole_told cfg tap old now s whole l empty =
-    let h = none_left cfg tap old now old s s [] false whole (turns cfg tap (lines_of [])) l (turns_none cfg tap l.at) in
+    let h = none_left cfg tap old now old s s [] false whole (turns cfg tap []) l (turns_none cfg tap l.at) in
     let text : h.tells.written ≡ sayings_text whole.sayings = sym (append-nil h.tells.written) ∙ ap (λ t. h.tells.written ++ t) (sym empty) ∙ h.tells.same in
     (subst (Appends old now) text h.tells.appends, h.status)

@@ -11,6 +11,7 @@ use Rattle.x25_io.specs.Lines.{lines_of}
 use Rattle.x25_console.specs.Commands.{command_asked}
 use Rattle.x25_io.specs.HeldLine.{most_line}
 use Rattle.x25_world.specs.World.{World, OnTap, AtEnd, Event, Act, Commands, Receives, Fires, Loses, Damages, WorldOutcome, Happened, Declined, happens, start, connected}
+use Rattle.x25_world.specs.Healing.{next_end}
 use Rattle.x25_sim.specs.Sayings.{Saying, enters, taps, reads_nothing, refuses, sayings_text, has_refusal}
 
 -- ---- turns
@@ -49,12 +50,6 @@ unfoldable pub event_turn : Cfg → Bool → Event → World → Turn
 event_turn cfg tap e w = turn_of tap w (happens cfg w e)
 
 -- ---- deliveries
-
--- the end to which the next frame of a drain is delivered: the DCE where one is on the line to it, else the DTE
-abbrev pub next_end : List (List ℕ) → List (List ℕ) → Option Role
-next_end (octets ∷ to_dce) to_dte = Some Dce
-next_end [] (octets ∷ to_dte) = Some Dte
-next_end [] [] = None
 
 abbrev pub delivered_to : Cfg → Bool → (World → Turn) → World → Option Role → Turn
 delivered_to cfg tap rest w None = quiet w

@@ -4,11 +4,11 @@ ghost use Rattle.x25_world.specs.laws.Claims.{ArrivesAll, HasNoProcedureError, I
 ghost use Rattle.x25_world.specs.WindowGoes.{IsInWindow};
 ghost use Rattle.x25_world.specs.laws.SessionClaims.{AllArrive, AreLawfulWhereMet, AreNamedInSessions, MeetInStep, OpenStretchesMeet, UnmetAreToldNothing};
 ghost use Rattle.x25_world.specs.SessionWindow.{UpIsInWindow};
-ghost use Rattle.x25_sim.specs.laws.RunLaw.{OfAllScripts, OfScripts, OfScriptsSetUp, ScriptsAreRuns, ScriptsAreTapped, ScriptsAreTold, UpOnceUnlessAsked};
+ghost use Rattle.x25_sim.specs.laws.RunLaw.{HealBringsAll, HealIsTheSchedule, OfAllScripts, OfScripts, OfScriptsSetUp, ScriptsAreRuns, ScriptsAreTapped, ScriptsAreTold, UpOnceUnlessAsked};
 ghost use Rattle.x25_sim.specs.rows.ScriptRows.{BothEndsGoDown, BothEndsHeal, CallsCollide, DamageIsSeen, FramesAreWritten, LinkGoesDown, LinkIsSetUp, LinkIsSetUpAgain, LinksComeUp, LinksThatAreDownHeal, LostFrameArrives, LostUaComesAgain, MessagesArrive, OtherLinesAreRefused, ResetIsDone, RestartIsDone, WaitingMessageIsPulled};
 
 use x25_script::lines_are_in_octets;
-use x25_world::{stations_meet_in_sessions, two_stations_keep_order};
+use x25_world::{healing_brings_all, stations_meet_in_sessions, two_stations_keep_order};
 
 /// For every script: events that are each accepted, and whose users hand down octets, lead from two stations with both links up, or with
 /// `down` from both links down, to where the script leads; the entries among what is said are the transcript of that run, and the
@@ -55,6 +55,18 @@ pub fn scripts_meet_in_sessions()
 {
     scripts_are_runs();
     stations_meet_in_sessions();
+}
+
+/// A line `heal`, wherever it stands, leads to where the schedule of `World::heal` leads; so behind every script, with `down` or without, it brings about
+/// what `healing_brings_all` says.
+///
+/// Premises: k is 1 to 7, N2 1 to 255, channels 1 to 16.
+pub fn heal_is_the_schedule()
+    ensures schedule { HealIsTheSchedule }
+    ensures arrives { OfAllScripts HealBringsAll }
+{
+    scripts_are_runs();
+    healing_brings_all();
 }
 
 /// Worked scripts, with what is written and the status: set-up, and with its frames; a link that goes down by retries; damage and

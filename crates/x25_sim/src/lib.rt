@@ -10,7 +10,10 @@ mod simulator;
 mod stage;
 mod telling;
 
-pub use law::{scripts_are_runs, scripts_keep_order, scripts_meet_in_sessions, scripts_move};
+pub use law::{
+    heal_is_the_schedule, scripts_are_runs, scripts_keep_order, scripts_meet_in_sessions,
+    scripts_move,
+};
 pub use running::sim;
 pub use simulation::Simulation;
 pub use x25_io::{Device, Failed, Fault, Sink, Source};

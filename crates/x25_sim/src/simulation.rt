@@ -9,13 +9,12 @@ ghost use Rattle.x25_sim.specs.code.Stream.{WritesEnded};
 use crate::simulator::Simulator;
 use crate::stage::Stage;
 use std::alloc::Global;
-use x25_io::{Fault, HeldLine, PIECE, Sink, Source, take_text};
+use x25_io::{Fault, HeldLine, LineByLine, PIECE, Sink, Source, take_text};
 use x25_station::Cfg;
 
 /// Two stations and a line between them, before the first line of a script, with all buffers that a script needs.
 #[derive(Drop)]
 pub struct Simulation {
-    down: bool,
     piece: Vec<u8>,
     ghost some: { 0 < vec_len piece },
     held: HeldLine,
@@ -38,7 +37,6 @@ impl Simulation {
         let held = HeldLine::new(alloc)?;
         let stage = Stage::new(alloc, down, cfg, tap)?;
         Ok(Simulation {
-            down,
             piece,
             held,
             octets: Vec::new(alloc),
@@ -64,9 +62,9 @@ impl Simulation {
         ensures write { IsErrOf result Fault.Write → W.is_marked writer.new ≡ true }
         ensures memory { IsErrOf result Fault.NoMemory → (R.is_marked reader.new ≡ R.is_marked reader.old) × (W.is_marked writer.new ≡ W.is_marked writer.old) }
     {
-        let down = self.down;
-        self.stage.open(down, writer)?;
-        let simulator = Simulator::new(self.held, self.octets, self.stage);
-        take_text(simulator, self.piece.as_mut_slice(), reader, writer)
+        self.stage.open(writer)?;
+        let simulator = Simulator::new(self.octets, self.stage);
+        let lines = LineByLine::new(self.held, simulator);
+        take_text(lines, self.piece.as_mut_slice(), reader, writer)
     }
 }

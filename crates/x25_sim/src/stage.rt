@@ -11,7 +11,9 @@ use x25_io::{Fault, Output, Sink};
 use x25_script::{Command, ScriptLine};
 use x25_station::{Cfg, Cmd};
 use x25_transcript::Line;
-use x25_world::{Direction, Event, Role, World, WorldError};
+use x25_world::{
+    Direction, Event, Role, SABM_ARRIVES, UA_ARRIVES, World, WorldError, two_stations_keep_order,
+};
 
 /// A world whose transcript and frames were told and let go of, the line that tells, and what waits to be written.
 #[derive(Drop)]
@@ -72,9 +74,10 @@ impl Stage {
     ghost use Rattle.x25_station.specs.declared.config.Cfg.{Cfg as Settings};
     ghost use Rattle.x25_world.specs.World.{World as State, Commands, WorldOutcome, event_of, refusal_of};
     ghost use Rattle.x25_world.specs.code.FitsWorld.{all_of};
+    ghost use Rattle.x25_world.specs.Healing.{next_end};
     ghost use Rattle.x25_sim.specs.Sayings.{sayings_text};
     ghost use Rattle.x25_console.specs.Commands.{command_asked};
-    ghost use Rattle.x25_sim.specs.Simulated.{and_then, asked_turn, drained, emptied, event_turn, fired, healed, line_turn, most_times, next_end, opened, pulled, set_up, step_told, told_between, tried, turn_of};
+    ghost use Rattle.x25_sim.specs.Simulated.{and_then, asked_turn, drained, emptied, event_turn, fired, healed, line_turn, most_times, opened, pulled, step_told, told_between, tried, turn_of};
     ghost use Rattle.x25_sim.specs.code.Stands.{IsOpening, Stands, Stood, Turns};
 
     /// The first world, of which nothing was told.
@@ -420,34 +423,19 @@ impl Stage {
         }
     }
 
-    /// The link is set up, and that is told: the step of the DTE, the delivery of its SABM, and that of the UA.
-    fn set_up<W: Sink>(&mut self, writer: &mut W) -> Result<(), Fault>
+    /// What the first world holds is told, and where the DTE has asked that the link be set up, its SABM and the UA are delivered, and that is
+    /// told.
+    pub(crate) fn open<W: Sink>(&mut self, writer: &mut W) -> Result<(), Fault>
         ensures kept { OnOk result (W.is_marked writer.new ≡ W.is_marked writer.old) }
-        ensures stood { (cfg : Settings) (old : Option (List ℕ)) → IsOpening cfg false self.old
-            → self.old.is_refused ≡ false → Tells old (W.contents writer.old) self.old.output []
-            → Stood cfg self.old.tap old (W.contents writer.new) self.new [] false result (set_up cfg self.old.tap) }
-        ensures write { IsErrOf result Fault.Write → W.is_marked writer.new ≡ true }
-        ensures memory { IsErrOf result Fault.NoMemory → W.is_marked writer.new ≡ W.is_marked writer.old }
-        ensures read { IsErrOf result Fault.Read → ⊥ }
-    {
-        self.end_step(writer)?;
-        self.happen(Event::Deliver(Direction::ToDce), writer)?;
-        self.happen(Event::Deliver(Direction::ToDte), writer)
-    }
-
-    /// The link is set up, and that is told; with `down` both links stay down, and nothing is told.
-    pub(crate) fn open<W: Sink>(&mut self, down: bool, writer: &mut W) -> Result<(), Fault>
-        ensures kept { OnOk result (W.is_marked writer.new ≡ W.is_marked writer.old) }
-        ensures stood { (cfg : Settings) (old : Option (List ℕ)) → IsOpening cfg down self.old
+        ensures stood { (cfg : Settings) (down : Bool) (old : Option (List ℕ)) → IsOpening cfg down self.old
             → self.old.is_refused ≡ false → Tells old (W.contents writer.old) self.old.output []
             → Stood cfg self.old.tap old (W.contents writer.new) self.new [] false result (opened cfg down self.old.tap) }
         ensures write { IsErrOf result Fault.Write → W.is_marked writer.new ≡ true }
         ensures memory { IsErrOf result Fault.NoMemory → W.is_marked writer.new ≡ W.is_marked writer.old }
         ensures read { IsErrOf result Fault.Read → ⊥ }
     {
-        if down {
-            return Ok(());
-        }
-        self.set_up(writer)
+        two_stations_keep_order();
+        self.end_step(writer)?;
+        self.attempt_both(SABM_ARRIVES, UA_ARRIVES, writer)
     }
 }

@@ -31,7 +31,9 @@ fn emptied<T: Drop>(kept: &mut Vec<T>, alloc: Global, room: usize) -> Result<Vec
     if list.capacity() < room {
         return Vec::with_capacity(alloc, room);
     }
-    list.clear();
+    if !list.is_empty() {
+        list.clear();
+    }
     Ok(list)
 }
 
@@ -69,7 +71,9 @@ impl Lists {
     pub(crate) fn give_back_entries(&mut self, entries: Vec<Entry>) {
         let mut entries = entries;
         if self.entries.capacity() < entries.capacity() && entries.capacity() <= MOST_PLACES {
-            entries.clear();
+            if !entries.is_empty() {
+                entries.clear();
+            }
             self.entries = entries;
         }
     }

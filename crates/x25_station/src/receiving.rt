@@ -34,6 +34,12 @@ fn append(frames: &mut Vec<Vec<u8>>, more: &mut Vec<Vec<u8>>)
     ensures items { frames.new.items ≡ frames.old.items ++ more.old.items }
     ensures capacity { vec_capacity frames.old ≤ vec_capacity frames.new }
 {
+    if more.len() == 1 {
+        if let Some(frame) = more.pop() {
+            frames.push_reserved(frame);
+        }
+        return;
+    }
     frames.append(more).unwrap();
 }
 
@@ -139,13 +145,23 @@ impl Station {
         ensures few_frames { IfOk result (λ answer. vec_len answer.frames ≤ 17) }
         ensures few_entries { IfOk result (λ answer. vec_len answer.entries ≤ 3) }
     {
-        if !self.link.is_up() {
-            return self.take(octets);
-        }
-        if self.layer.full() {
+        if self.is_full() {
             return self.abandon(octets);
         }
         self.take(octets)
+    }
+
+    // Whether the link is up and a count is at its most.
+    #[inline(always)]
+    fn is_full(&self) -> bool
+        ensures value { (c : Settings) (s : State) → FitsStation c self.now s → result ≡ abandons c s }
+        ensures up { result ≡ true → up_of self.now.link ≡ true }
+        ensures left { result ≡ false → up_of self.now.link ≡ true → IsNotFull self.now.layer }
+    {
+        if !self.link.is_up() {
+            return false;
+        }
+        self.layer.full()
     }
 
     // A count is at its most: the octets are dropped, and the link goes down.

@@ -7,7 +7,6 @@ use Rattle.x25_bits.specs.declared.role.Role.TheVariants.{Dte, Dce}
 use Rattle.x25_frame.specs.Spelling.{spelling_of}
 use Rattle.x25_packet.specs.PlainPacket.{PlainPacket}
 use Rattle.x25_link.specs.declared.error.LinkError.{LinkError}
-use Rattle.x25_link.specs.declared.phase.Reason.{Reason}
 use Rattle.x25_link.specs.declared.phase.Reason.TheVariants.{Retries}
 use Rattle.x25_link.specs.LinkStation.{Settings as LinkSettings, LinkStation, with_near, is_up, awaits_ua}
 use Rattle.x25_link.specs.MustSend.{Step as LinkStep, other, quiet, leaves}
@@ -21,8 +20,6 @@ use Rattle.x25_line.specs.SessionNumbers.{standing_run, standing_at}
 use Rattle.x25_line.specs.laws.SessionClaims as claims
 use Rattle.x25_line.specs.laws.SessionClaims.{octets_of}
 use Rattle.x25_line.specs.Healing.{AreDeliveries, EachRestShows, SessionHasTries, OneIsFree, EachSessionHeals, SessionsHealUnlessBothBusy, FindsIn, EachFindsIn, SessionsDrainEnd}
-use Rattle.x25_layer.specs.Layer.{LayerSettings, Layer}
-use Rattle.x25_layer.specs.Rounds.{LinkView}
 use Rattle.x25_layer.specs.code.FitsLayer.{waits_up_to}
 use Rattle.x25_layer.specs.laws.Law.{HasAllOf}
 use Rattle.x25_handshakes.specs.Names.{Name}
@@ -45,21 +42,22 @@ use Rattle.x25_world.proofs.OneLink.{octets_append, octets_sent}
 use Rattle.x25_world.proofs.WorldLemmas.{refusal-swapped}
 use Rattle.x25_world.proofs.sessions.SessionReaches.{both_down, known_sessions}
 use Rattle.x25_world.proofs.sessions.SessionJoined.{SessionsJoined}
+use Rattle.x25_world.proofs.sessions.SessionFollows.{silent}
 use Rattle.x25_world.proofs.sessions.SessionRuns.{throughout_joined}
 use Rattle.x25_world.proofs.sessions.SessionsAlong.{links_append, timely_append}
 
 -- ---- links that have the links and the lines of a world
 
-record Alike (w : World) (v : Sessions) : Type 0 where
+pub record Alike (w : World) (v : Sessions) : Type 0 where
   pub near : v.near.station ≡ w.near.link
   pub far : v.far.station ≡ w.far.link
   pub out : octets_of v.out ≡ w.out
   pub back : octets_of v.back ≡ w.back
 
-turned : (w : World) (v : Sessions) → Alike w v → Alike (swapped w) (links.swapped v)
+pub turned : (w : World) (v : Sessions) → Alike w v → Alike (swapped w) (links.swapped v)
 turned w v h = record { near = h.far; far = h.near; out = h.back; back = h.out }
 
-back_after : (w : World) (o : WorldOutcome) → after w (swapped_back o) ≡ swapped (after (swapped w) o)
+pub back_after : (w : World) (o : WorldOutcome) → after w (swapped_back o) ≡ swapped (after (swapped w) o)
 back_after w (Happened next) = refl
 back_after w (Declined e) = refl
 
@@ -80,14 +78,6 @@ timer_up c s = by (nat_lt s.tries c.retries)
         → (closed_by c.window (if b then quiet (asks_again s.phase (with_near (alone s) (record s { tries = s.tries + 1 }))) else leaves Retries (alone s))).notes.up ≡ false
     by true = refl
     by false = refl
-
-silent : (view : LinkView) (c : LayerSettings) (l : Layer) (packet : Option (List ℕ)) (down : Option Reason) (up : Bool) → packet ≡ None → up ≡ false → (layer_at view c l packet down up).put ≡ []
-silent view c l packet down up none not_up =
-    subst (λ (p : Option (List ℕ)). (layer_at view c l p down up).put ≡ []) (sym none) (subst (λ (b : Bool). (layer_at view c l None down b).put ≡ []) (sym not_up) (by down))
-  where
-    by : (o : Option Reason) → (layer_at view c l None o false).put ≡ []
-    by None = refl
-    by (Some reason) = refl
 
 module _ (c : Settings) (w : World) (v : Sessions) (h : Alike w v) where
   -- a step of the near link behind which its layer puts nothing
@@ -136,10 +126,10 @@ module _ (c : Settings) (w : World) (v : Sessions) (h : Alike w v) where
 
 -- ---- events
 
-abbrev c_of : Cfg → LinkSettings
+abbrev pub c_of : Cfg → LinkSettings
 c_of cfg = link_of cfg Dte
 
-abbrev d_of : Cfg → LinkSettings
+abbrev pub d_of : Cfg → LinkSettings
 d_of cfg = link_of cfg Dce
 
 abbrev received : List Role → List line.Event
@@ -182,7 +172,7 @@ fires_alone c v = by (timer_refusal v.near.station)
     by None = refl
 
 -- both fire
-both_alike : (cfg : Cfg) (w : World) (v : Sessions) → Alike w v → awaits_ua w.near.link.phase ≡ false → awaits_ua w.far.link.phase ≡ false
+pub both_alike : (cfg : Cfg) (w : World) (v : Sessions) → Alike w v → awaits_ua w.near.link.phase ≡ false → awaits_ua w.far.link.phase ≡ false
     → Alike (run cfg (firing Dte ∷ firing Dce ∷ []) w) (links.run (c_of cfg) (d_of cfg) (line.Near line.T1 ∷ line.Far line.T1 ∷ []) v)
 both_alike cfg w v h near_off far_off =
     let v1 = links.acts (c_of cfg) line.T1 v in
@@ -194,7 +184,7 @@ both_alike cfg w v h near_off far_off =
     subst (λ (z : World). Alike z (links.swapped x)) (sym (back_after w1 o))
     (turned (after (swapped w1) o) x (fired_alike (settings_from Dce cfg) (swapped w1) (links.swapped v1) (turned w1 v1 h1) (ap (λ (s : LinkStation). awaits_ua s.phase) same ∙ far_off)))
 
-none_of : (es : List links.Entry) → octets_of es ≡ [] → es ≡ []
+pub none_of : (es : List links.Entry) → octets_of es ≡ [] → es ≡ []
 none_of [] is = refl
 none_of (e ∷ es) is = absurd (never is)
   where
@@ -223,18 +213,53 @@ each_finds cfg (at ∷ ends) w v h none accepted = (
   each_finds cfg ends (after w (happens cfg w (receipt at))) (links.happens (c_of cfg) (d_of cfg) (at_end at line.Deliver) v) (receipt_alike cfg at w v h none.0) none.1 accepted.1,
 )
 
-joined_alike : (cfg : Cfg) (w : World) (h : SessionsJoined both_down cfg Dte w) → Alike w h.links
+pub joined_alike : (cfg : Cfg) (w : World) (h : SessionsJoined both_down cfg Dte w) → Alike w h.links
 joined_alike cfg w h = record { near = h.near.link; far = h.far.link; out = h.out; back = h.back }
+
+pub links_are : (cfg : Cfg) (w : World) (h : SessionsJoined both_down cfg Dte w) → AreLinksOf cfg w h.links
+links_are cfg w h = (
+  standing_run (c_of cfg) (d_of cfg) h.reach.events from_nothing (standing_at (c_of cfg) (d_of cfg) from_nothing),
+  record { events = h.reach.events; timely = h.reach.timely; run = h.reach.run; standing = refl; near = h.near.link; far = h.far.link; out = h.out; back = h.back },
+)
+
+-- ---- both fire, and then the links go on
+
+abbrev pub fired_then : List line.Event → List line.Event
+fired_then more = line.Near line.T1 ∷ line.Far line.T1 ∷ more
+
+module _ (cfg : Cfg) (w : World) (h : SessionsJoined both_down cfg Dte w) (near_off : awaits_ua w.near.link.phase ≡ false) (far_off : awaits_ua w.far.link.phase ≡ false)
+    (more : List line.Event) (on_time : AreTimely (c_of cfg) (d_of cfg) more (links.run (c_of cfg) (d_of cfg) (fired_then []) h.links)) where
+  abbrev here_then : Sessions
+  here_then = links.run (c_of cfg) (d_of cfg) (fired_then more) h.links
+
+  timely : AreTimely (c_of cfg) (d_of cfg) (fired_then more) h.links
+  timely = (
+    off_timely (c_of cfg) (d_of cfg) h.links (ap (λ (s : LinkStation). awaits_ua s.phase) h.near.link ∙ near_off),
+    (
+      off_timely (d_of cfg) (c_of cfg) (links.swapped (links.acts (c_of cfg) line.T1 h.links))
+          (ap (λ (e : links.SessionEnd). awaits_ua e.station.phase) (fires_alone (c_of cfg) h.links) ∙ ap (λ (s : LinkStation). awaits_ua s.phase) h.far.link ∙ far_off),
+      on_time,
+    ),
+  )
+
+  pub gone_are : (u : World) → Alike u here_then → AreLinksOf cfg u here_then
+  gone_are u alike = (
+    standing_run (c_of cfg) (d_of cfg) (h.reach.events ++ fired_then more) from_nothing (standing_at (c_of cfg) (d_of cfg) from_nothing),
+    record {
+      events = h.reach.events ++ fired_then more;
+      timely = timely_append (c_of cfg) (d_of cfg) h.reach.events (fired_then more) from_nothing h.reach.timely (subst (λ (x : Sessions). AreTimely (c_of cfg) (d_of cfg) (fired_then more) x) (sym h.reach.run) timely);
+      run = links_append (c_of cfg) (d_of cfg) h.reach.events (fired_then more) from_nothing ∙ ap (links.run (c_of cfg) (d_of cfg) (fired_then more)) h.reach.run;
+      standing = refl;
+      near = alike.near;
+      far = alike.far;
+      out = alike.out;
+      back = alike.back;
+    },
+  )
 
 -- ---- the laws
 
 module _ (laws : SessionLaws) (keeps : ConnectKeeps) where
-  links_are : (cfg : Cfg) (w : World) (h : SessionsJoined both_down cfg Dte w) → AreLinksOf cfg w h.links
-  links_are cfg w h = (
-    standing_run (c_of cfg) (d_of cfg) h.reach.events from_nothing (standing_at (c_of cfg) (d_of cfg) from_nothing),
-    record { events = h.reach.events; timely = h.reach.timely; run = h.reach.run; standing = refl; near = h.near.link; far = h.far.link; out = h.out; back = h.back },
-  )
-
   pub rest_shows : claims.Throughout EachRestShows → Throughout AllArrive → Throughout RestShows
   rest_shows law arrive cfg fine begin is events octets =
       record { at_rest = at_rest; links = h.links; are = links_are cfg w h; arrived = shown; messages = messages }
@@ -278,41 +303,13 @@ module _ (laws : SessionLaws) (keeps : ConnectKeeps) where
     abbrev d : LinkSettings
     d = d_of cfg
 
-    abbrev fired_then : List line.Event
-    fired_then = line.Near line.T1 ∷ line.Far line.T1 ∷ received ends
-
     -- the links behind
     abbrev gone : Sessions
-    gone = links.run c d fired_then h.links
+    gone = links.run c d (fired_then (received ends)) h.links
 
     last : NonePut cfg ends (run cfg (firing Dte ∷ firing Dce ∷ []) w) → Alike (run cfg (all_received ends) (run cfg (firing Dte ∷ firing Dce ∷ []) w)) gone
     last none =
         all_alike cfg ends (run cfg (firing Dte ∷ firing Dce ∷ []) w) (links.run c d (line.Near line.T1 ∷ line.Far line.T1 ∷ []) h.links) (both_alike cfg w h.links (joined_alike cfg w h) may.near may.far) none
-
-    timely : AreTimely c d fired_then h.links
-    timely = (
-      off_timely c d h.links (ap (λ (s : LinkStation). awaits_ua s.phase) h.near.link ∙ may.near),
-      (
-        off_timely d c (links.swapped (links.acts c line.T1 h.links))
-            (ap (λ (e : links.SessionEnd). awaits_ua e.station.phase) (fires_alone c h.links) ∙ ap (λ (s : LinkStation). awaits_ua s.phase) h.far.link ∙ may.far),
-        deliveries_timely c d ends (links.run c d (line.Near line.T1 ∷ line.Far line.T1 ∷ []) h.links),
-      ),
-    )
-
-    gone_are : (u : World) → Alike u gone → AreLinksOf cfg u gone
-    gone_are u alike = (
-      standing_run c d (h.reach.events ++ fired_then) from_nothing (standing_at c d from_nothing),
-      record {
-        events = h.reach.events ++ fired_then;
-        timely = timely_append c d h.reach.events fired_then from_nothing h.reach.timely (subst (λ (x : Sessions). AreTimely c d fired_then x) (sym h.reach.run) timely);
-        run = links_append c d h.reach.events fired_then from_nothing ∙ ap (links.run c d fired_then) h.reach.run;
-        standing = refl;
-        near = alike.near;
-        far = alike.far;
-        out = alike.out;
-        back = alike.back;
-      },
-    )
 
     abbrev HealsOnce : LinkSettings → LinkSettings → Sessions → Type 0
     HealsOnce c d x =
@@ -346,7 +343,7 @@ module _ (laws : SessionLaws) (keeps : ConnectKeeps) where
                 before = h.links;
                 behind = gone;
                 before_are = links_are cfg w h;
-                behind_are = gone_are u alike;
+                behind_are = gone_are cfg w h may.near may.far (received ends) (deliveries_timely c d ends (links.run c d (fired_then []) h.links)) u alike;
                 healed = healed;
               };
         }

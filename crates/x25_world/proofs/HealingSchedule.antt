@@ -1,19 +1,17 @@
--- The schedule of healing, event by event.
+-- The schedule of healing, event by event: lists that go on, an event that may be refused, deliveries.
 use Rattle.std.proofs.Common.{◌≡◌, ℕ, zero, suc, ◌+◌, ◌-◌, ◌≤◌, ◌<◌, ◌⊎◌, inl, inr, ◌≢◌, List, [], ◌∷◌, ◌++◌, length, Some, None, Result, Ok, Err, OnOk, IfErr, refl, sym, ap, ap₂, ◌∙◌, subst, arith, append_assoc, append-nil, length-append}
 use Rattle.x25_bits.specs.declared.role.Role.{Role}
 use Rattle.x25_bits.specs.declared.role.Role.TheVariants.{Dte, Dce}
 use Rattle.x25_station.specs.declared.config.Cfg.{Cfg}
-use Rattle.x25_station.specs.Settings.{settings_from, config_refusal}
+use Rattle.x25_station.specs.Settings.{settings_from}
 use Rattle.x25_world.specs.World.{World, swapped, WorldOutcome, Happened, Declined, swapped_back, delivered, Event, happens, refusal_of, after, run, AreAccepted}
 use Rattle.x25_world.specs.declared.error.WorldError.{WorldError}
 use Rattle.x25_world.specs.declared.error.WorldError.TheVariants as error
-use Rattle.x25_world.specs.laws.Claims.{AreInOctets, IsBeginning}
-use Rattle.x25_world.specs.laws.SessionClaims.{Throughout}
-use Rattle.x25_world.specs.Healing.{receipt, all_received, firing, next_end, arrivals_from, arrivals, most_deliveries, deliveries, one_if, if_accepted, behind, dce_fires, both_fire, healing, received_in, IsDrained, Heals, HealsWhereNonePut, HealsFrom}
+use Rattle.x25_world.specs.Healing.{receipt, all_received, next_end, arrivals_from, arrivals, most_deliveries, deliveries, one_if, if_accepted, behind, received_in}
 use Rattle.x25_world.specs.code.ShownWorld.{ShownWorld}
-use Rattle.x25_world.specs.code.FitsWorld.{Gone, FitsWorld, FitsRun, Leaves, IsRefusal}
+use Rattle.x25_world.specs.code.FitsWorld.{Gone, FitsWorld, IsRefusal}
 use Rattle.x25_world.specs.code.FitsHealing.{GoesBy, GoesPartly}
-use Rattle.x25_world.proofs.WorldLemmas.{run-push, AreAccepted-push, leaves}
+use Rattle.x25_world.proofs.WorldLemmas.{run-push, AreAccepted-push}
 
 -- ---- lists of events
 
@@ -21,7 +19,7 @@ pub run_append : (cfg : Cfg) (xs ys : List Event) (w : World) → run cfg (xs ++
 run_append cfg [] ys w = refl
 run_append cfg (x ∷ xs) ys w = run_append cfg xs ys (after w (happens cfg w x))
 
-accepted_append : (cfg : Cfg) (xs ys : List Event) (w : World) → AreAccepted cfg xs w → AreAccepted cfg ys (run cfg xs w) → AreAccepted cfg (xs ++ ys) w
+pub accepted_append : (cfg : Cfg) (xs ys : List Event) (w : World) → AreAccepted cfg xs w → AreAccepted cfg ys (run cfg xs w) → AreAccepted cfg (xs ++ ys) w
 accepted_append cfg [] ys w f g = g
 accepted_append cfg (x ∷ xs) ys w f g = (f.0, accepted_append cfg xs ys (after w (happens cfg w x)) f.1 g)
 
@@ -50,6 +48,52 @@ stops_behind cfg xs ys w u v gone e f h = record {
   goes = goes_behind cfg xs h.done w u v gone f h.goes;
 }
 
+-- ---- a list that has begun
+
+-- some of the events have happened, so many deliveries among them, and the others are the rest from here
+pub record Begun (cfg : Cfg) (events : List Event) (w : World) (v : ShownWorld) (gone : Gone) (rest : World → List Event) (count : ℕ) : Type 0 where
+  pub done : List Event
+  pub goes : GoesBy cfg done w v gone
+  pub counted : received_in done ≡ count
+  pub all : events ≡ done ++ rest (run cfg done w)
+
+pub count_append : (xs ys : List Event) → received_in (xs ++ ys) ≡ received_in xs + received_in ys
+count_append [] ys = omega arith
+count_append (x ∷ xs) ys = let rest = count_append xs ys in omega (arith, rest)
+
+pub begun : (cfg : Cfg) (rest : World → List Event) (w : World) (v : ShownWorld) (gone : Gone) → FitsWorld cfg v w gone → Begun cfg (rest w) w v gone rest 0
+begun cfg rest w v gone fits = record { done = []; goes = record { accepted = tt; fits = fits }; counted = refl; all = refl }
+
+module _ (cfg : Cfg) (events : List Event) (w : World) (u v : ShownWorld) (gone : Gone) (first rest : World → List Event) (count : ℕ) (h : Begun cfg events w u gone (behind cfg first rest) count) where
+  pub goes_on : (more : ℕ) → (let x = run cfg h.done w in GoesBy cfg (first x) x v gone → more ≡ received_in (first x) → Begun cfg events w v gone rest (count + more))
+  goes_on more goes counted =
+      let x = run cfg h.done w in
+      record {
+        done = h.done ++ first x;
+        goes = goes_behind cfg h.done (first x) w u v gone h.goes goes;
+        counted = count_append h.done (first x) ∙ ap₂ (λ (n m : ℕ). n + m) h.counted (sym counted);
+        all = h.all ∙ sym (append_assoc h.done (first x) (rest (run cfg (first x) x))) ∙ ap (λ (z : World). (h.done ++ first x) ++ rest z) (sym (run_append cfg h.done (first x) w));
+      }
+
+  pub stops_in : (e : WorldError) → (let x = run cfg h.done w in GoesPartly cfg (first x) x v gone e → GoesPartly cfg events w v gone e)
+  stops_in e partly =
+      let x = run cfg h.done w in
+      subst (λ (es : List Event). GoesPartly cfg es w v gone e) (sym h.all)
+      (stops_behind cfg h.done (behind cfg first rest x) w u v gone e h.goes (stops_first cfg (first x) (rest (run cfg (first x) x)) x v gone e partly))
+
+module _ (cfg : Cfg) (events : List Event) (w : World) (v : ShownWorld) (gone : Gone) (rest : World → List Event) (count : ℕ) (h : Begun cfg events w v gone rest count) where
+  abbrev pub rest_is : (other : World → List Event) → (let x = run cfg h.done w in rest x ≡ other x → Begun cfg events w v gone other count)
+  rest_is other same = record { done = h.done; goes = h.goes; counted = h.counted; all = h.all ∙ ap (λ (es : List Event). h.done ++ es) same }
+
+  all_done : rest (run cfg h.done w) ≡ [] → events ≡ h.done
+  all_done none = h.all ∙ ap (λ (es : List Event). h.done ++ es) none ∙ append-nil h.done
+
+  pub went_all : rest (run cfg h.done w) ≡ [] → GoesBy cfg events w v gone
+  went_all none = subst (λ (es : List Event). GoesBy cfg es w v gone) (sym (all_done none)) h.goes
+
+  pub counted_all : rest (run cfg h.done w) ≡ [] → count ≡ received_in events
+  counted_all none = sym h.counted ∙ ap received_in (sym (all_done none))
+
 -- ---- an event that is accepted or not
 
 pub accepts_one : (cfg : Cfg) (e : Event) (w : World) (v : ShownWorld) (gone : Gone) → FitsWorld cfg v (after w (happens cfg w e)) gone → refusal_of (happens cfg w e) ≡ None → GoesBy cfg (if_accepted cfg e w) w v gone
@@ -76,7 +120,7 @@ stops_now cfg events w v gone (Ok done) memory fits = tt
 stops_now cfg events w v gone (Err x) memory fits = record { memory = memory; done = []; left = events; all = refl; goes = record { accepted = tt; fits = fits } }
 
 -- what is refused changes nothing
-tried_is : (cfg : Cfg) (e : Event) (w : World) → run cfg (if_accepted cfg e w) w ≡ after w (happens cfg w e)
+pub tried_is : (cfg : Cfg) (e : Event) (w : World) → run cfg (if_accepted cfg e w) w ≡ after w (happens cfg w e)
 tried_is cfg e w = by (happens cfg w e) refl
   where
     by : (o : WorldOutcome) → happens cfg w e ≡ o → run cfg (one_if e o) w ≡ after w o
@@ -198,115 +242,3 @@ stops_there cfg w u v gone count at e h is f =
   where
     by : (o : WorldOutcome) → refusal_of o ≡ None → (refusal_of o ≡ Some e) ⊎ (e ≡ error.NoMemory) → e ≡ error.NoMemory
     by o accepted refused = elim refused [ inl is ↦ cc | inr memory ↦ memory ]
-
--- ---- how many arrive
-
-count_append : (xs ys : List Event) → received_in (xs ++ ys) ≡ received_in xs + received_in ys
-count_append [] ys = omega arith
-count_append (x ∷ xs) ys = let rest = count_append xs ys in omega (arith, rest)
-
-count_received : (ends : List Role) → received_in (all_received ends) ≡ length ends
-count_received [] = refl
-count_received (at ∷ ends) = let rest = count_received ends in omega (arith, rest)
-
-count_fired : (cfg : Cfg) (at : Role) (w : World) → received_in (if_accepted cfg (firing at) w) ≡ 0
-count_fired cfg at w = by (happens cfg w (firing at))
-  where
-    by : (o : WorldOutcome) → received_in (one_if (firing at) o) ≡ 0
-    by (Happened next) = refl
-    by (Declined e) = refl
-
--- the worlds of the schedule
-abbrev pub drained_at : Cfg → World → World
-drained_at cfg w = run cfg (deliveries cfg w) w
-
-abbrev pub dte_fired : Cfg → World → World
-dte_fired cfg w = run cfg (if_accepted cfg (firing Dte) w) w
-
-abbrev pub dce_fired : Cfg → World → World
-dce_fired cfg w = run cfg (if_accepted cfg (firing Dce) w) w
-
-counts : (cfg : Cfg) (w : World) → (let x = dce_fired cfg (dte_fired cfg (drained_at cfg w)) in
-    received_in (healing cfg w) ≡ length (arrivals cfg most_deliveries w) + length (arrivals cfg most_deliveries x))
-counts cfg w =
-    let v = drained_at cfg w in
-    let y = dte_fired cfg v in
-    let x = dce_fired cfg y in
-    count_append (deliveries cfg w) (both_fire cfg v)
-    ∙ ap₂ (λ (n m : ℕ). n + m) (count_received (arrivals cfg most_deliveries w))
-    (count_append (if_accepted cfg (firing Dte) v) (dce_fires cfg y)
-    ∙ ap₂ (λ (n m : ℕ). n + m) (count_fired cfg Dte v)
-    (count_append (if_accepted cfg (firing Dce) y) (deliveries cfg x) ∙ ap₂ (λ (n m : ℕ). n + m) (count_fired cfg Dce y) (count_received (arrivals cfg most_deliveries x)) ∙ none_more (length (arrivals cfg most_deliveries x)))
-    ∙ none_more (length (arrivals cfg most_deliveries x)))
-  where
-    none_more : (n : ℕ) → 0 + n ≡ n
-    none_more n = omega arith
-
-pub counts_both : (cfg : Cfg) (w : World) (before behind a b : ℕ) → before ≡ length (arrivals cfg most_deliveries w)
-    → behind ≡ length (arrivals cfg most_deliveries (dce_fired cfg (dte_fired cfg (drained_at cfg w)))) → a ≡ before → b ≡ behind → a + b ≡ received_in (healing cfg w)
-counts_both cfg w before behind a b first second same too = ap₂ (λ (n m : ℕ). n + m) (same ∙ first) (too ∙ second) ∙ sym (counts cfg w)
-
--- ---- the whole
-
-octets_append : (xs ys : List Event) → AreInOctets xs → AreInOctets ys → AreInOctets (xs ++ ys)
-octets_append [] ys f g = g
-octets_append (x ∷ xs) ys f g = (f.0, octets_append xs ys f.1 g)
-
-received_octets : (ends : List Role) → AreInOctets (all_received ends)
-received_octets [] = tt
-received_octets (at ∷ ends) = (tt, received_octets ends)
-
-fired_octets : (cfg : Cfg) (at : Role) (w : World) → AreInOctets (if_accepted cfg (firing at) w)
-fired_octets cfg at w = by (happens cfg w (firing at))
-  where
-    by : (o : WorldOutcome) → AreInOctets (one_if (firing at) o)
-    by (Happened next) = (tt, tt)
-    by (Declined e) = tt
-
-healing_octets : (cfg : Cfg) (w : World) → AreInOctets (healing cfg w)
-healing_octets cfg w =
-    let v = drained_at cfg w in
-    let y = dte_fired cfg v in
-    let x = dce_fired cfg y in
-    octets_append (deliveries cfg w) (both_fire cfg v) (received_octets (arrivals cfg most_deliveries w))
-    (octets_append (if_accepted cfg (firing Dte) v) (dce_fires cfg y) (fired_octets cfg Dte v)
-    (octets_append (if_accepted cfg (firing Dce) y) (deliveries cfg x) (fired_octets cfg Dce y) (received_octets (arrivals cfg most_deliveries x))))
-
-pub holds_healed : (Holds : Cfg → World → World → Type 0) {T : Type 0} (r : Result T WorldError) (old new : ShownWorld) (cfg : Cfg) (from : World) (past : List Event) (gone : Gone) → FitsRun cfg from old past gone
-    → (let w = run cfg past from in OnOk r (GoesBy cfg (healing cfg w) w new gone)
-    → (AreInOctets (past ++ healing cfg w) → Holds cfg w (run cfg (past ++ healing cfg w) from))
-    → OnOk r (Leaves (λ (c : Cfg) (u : World). Holds c w u) cfg from new (past ++ healing cfg w) gone))
-holds_healed Holds (Err e) old new cfg from past gone h goes law = tt
-holds_healed Holds (Ok x) old new cfg from past gone h goes law =
-    let w = run cfg past from in
-    let octets = octets_append past (healing cfg w) h.octets (healing_octets cfg w) in
-    leaves (λ (c : Cfg) (u : World). Holds c w u) new cfg from (past ++ healing cfg w) gone (record {
-      settings = h.settings;
-      octets = octets;
-      accepted = accepted_append cfg past (healing cfg w) from h.accepted goes.accepted;
-      fits = subst (λ (z : World). FitsWorld cfg new z gone) (sym (run_append cfg past (healing cfg w) from)) goes.fits;
-    }) (law octets)
-
--- both firings, accepted or not, and then what is on the line comes
-ends_so : (cfg : Cfg) (w : World) → (let fired = run cfg (firing Dte ∷ firing Dce ∷ []) (drained_at cfg w) in run cfg (healing cfg w) w ≡ run cfg (deliveries cfg fired) fired)
-ends_so cfg w =
-    let v = drained_at cfg w in
-    let y = dte_fired cfg v in
-    let x = dce_fired cfg y in
-    run_append cfg (deliveries cfg w) (both_fire cfg v) w
-    ∙ run_append cfg (if_accepted cfg (firing Dte) v) (dce_fires cfg y) v
-    ∙ run_append cfg (if_accepted cfg (firing Dce) y) (deliveries cfg x) y
-    ∙ ap (λ (z : World). run cfg (deliveries cfg z) z) (tried_is cfg (firing Dce) y ∙ ap (λ (z : World). after z (happens cfg z (firing Dce))) (tried_is cfg (firing Dte) v))
-
-pub heals_from : Throughout HealsWhereNonePut → (cfg : Cfg) → config_refusal cfg ≡ None → (from : World) → IsBeginning cfg from → (past : List Event) → AreInOctets past
-    → (let w = run cfg past from in HealsFrom cfg w (run cfg (past ++ healing cfg w) from))
-heals_from law cfg fine from begins past octets may none after_all =
-    let w = run cfg past from in
-    let v = drained_at cfg w in
-    let fired = run cfg (firing Dte ∷ firing Dce ∷ []) v in
-    let ends = arrivals cfg most_deliveries fired in
-    let same : run cfg (past ++ healing cfg w) from ≡ run cfg (all_received ends) fired = run_append cfg past (healing cfg w) from ∙ ends_so cfg w in
-    let here : HealsWhereNonePut cfg v =
-    subst (HealsWhereNonePut cfg) (run_append cfg past (deliveries cfg w) from)
-    (law cfg fine from begins (past ++ deliveries cfg w) (octets_append past (deliveries cfg w) octets (received_octets (arrivals cfg most_deliveries w)))) in
-    subst (Heals cfg v) (sym same) (here may ends none (subst IsDrained same after_all))

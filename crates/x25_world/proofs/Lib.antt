@@ -5,7 +5,9 @@ pub mod Established
 pub mod Headline
 pub mod sessions
 pub mod HealingLemmas
+pub mod HealingPuts
 pub mod HealingSchedule
+pub mod HealingRounds
 pub mod FrameOctets
 pub mod SetUpOnce
 pub mod WindowRuns

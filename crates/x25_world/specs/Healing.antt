@@ -1,27 +1,33 @@
 -- Healing of two stations: once the line is good for a moment, what their links were handed down arrives. What is on the line arrives; timer T1
--- runs out once at each end where it runs; and then all that is on the line arrives, while nothing is lost.
+-- runs out once at each end where it runs; and then all that is on the line arrives, while nothing is lost. What still waits in circuits is pulled
+-- then, and arrives too.
 use Rattle.std.specs.Prelude.{◌≡◌, ℕ, zero, suc, ◌+◌, ◌<◌, ◌≤◌, length, ◌⊎◌, true, false, List, [], ◌∷◌, ◌++◌, Option, Some, None}
 use Rattle.x25_bits.specs.declared.role.Role.{Role}
 use Rattle.x25_bits.specs.declared.role.Role.TheVariants.{Dte, Dce}
 use Rattle.x25_link.specs.MustSend.{other}
-use Rattle.x25_link.specs.LinkStation.{LinkStation, is_up, awaits_ua}
+use Rattle.x25_link.specs.LinkStation.{LinkStation, is_up, is_busy, awaits_ua}
 use Rattle.x25_link.specs.Steps.{timer_runs, take_step}
 use Rattle.x25_link.specs.laws.RestLaw.{IsAtRest}
+use Rattle.x25_line.specs.Stations as line
+use Rattle.x25_line.specs.Sessions as links
 use Rattle.x25_line.specs.Sessions.{Sessions}
 use Rattle.x25_line.specs.SessionNumbers.{Standing}
 use Rattle.x25_line.specs.Healing.{EachRestShows, SessionsAreHealed, OneIsFree}
+use Rattle.x25_line.specs.HealingPuts.{AreFree, AreDeliveriesAndPuts, SessionsHaveArrived}
 use Rattle.x25_layer.specs.laws.Law.{HasAllOf}
 use Rattle.x25_layer.specs.code.FitsLayer.{waits_up_to}
 use Rattle.x25_handshakes.specs.Names.{Name}
 use Rattle.x25_station.specs.declared.config.Cfg.{Cfg}
+use Rattle.x25_station.specs.Command.{Requests}
 use Rattle.x25_station.specs.Settings.{Settings, settings_from, link_settings, layer_settings}
 use Rattle.x25_station.specs.Station.{Station, view_of}
 use Rattle.x25_station.specs.Steps.{abandons, layer_at}
 use Rattle.x25_station.specs.Told.{stretch}
-use Rattle.x25_world.specs.World.{World, WorldOutcome, Happened, Declined, Act, Event, Receives, Fires, happens, after, run, AreAccepted}
-use Rattle.x25_world.specs.laws.Claims.{link_of, station_at}
+use Rattle.x25_world.specs.World.{World, WorldOutcome, Happened, Declined, Act, Commands, Receives, Fires, Event, happens, after, run, AreAccepted}
+use Rattle.x25_world.specs.laws.Claims.{AreInOctets, link_of, station_at}
 use Rattle.x25_world.specs.SessionWindow.{IsRunOfSessions}
 use Rattle.x25_world.specs.Sessions.{last_session, handed_in}
+use Rattle.x25_world.specs.laws.WaitClaims.{pull_at, AllWaitForUsers}
 
 -- nothing is on the line
 pub record IsDrained (w : World) : Type 0 where
@@ -76,16 +82,35 @@ if_accepted cfg e w = one_if e (happens cfg w e)
 abbrev pub behind : Cfg → (World → List Event) → (World → List Event) → World → List Event
 behind cfg first rest w = first w ++ rest (run cfg (first w) w)
 
--- timer T1 runs out at each end where it runs, the DTE first, and then what is on the line comes
-abbrev pub dce_fires : Cfg → World → List Event
-dce_fires cfg w = behind cfg (if_accepted cfg (firing Dce)) (deliveries cfg) w
+-- an event at the DTE and one at the DCE, each where it is accepted
+abbrev pub both_tried : Cfg → Event → Event → World → List Event
+both_tried cfg first second w = behind cfg (if_accepted cfg first) (if_accepted cfg second) w
 
-abbrev pub both_fire : Cfg → World → List Event
-both_fire cfg w = behind cfg (if_accepted cfg (firing Dte)) (dce_fires cfg) w
+-- what is on the line comes, and then each end pulls what waits in its circuits
+abbrev pub pull_round : Cfg → World → List Event
+pull_round cfg w = behind cfg (deliveries cfg) (both_tried cfg (pull_at Dte) (pull_at Dce)) w
 
--- deliver, fire, deliver
+-- how many rounds follow one another at most
+abbrev pub most_rounds : ℕ
+most_rounds = 4294967295
+
+-- the rest, where frames are on the line
+abbrev pub unless_empty : (World → List Event) → World → Option Role → List Event
+unless_empty rest w None = []
+unless_empty rest w (Some at) = rest w
+
+-- round after round, as long as the pulls put frames on the line, at most so many of them
+unfoldable pub pull_rounds : Cfg → ℕ → World → List Event
+pull_rounds cfg zero w = []
+pull_rounds cfg (suc n) w = behind cfg (pull_round cfg) (λ v. unless_empty (pull_rounds cfg n) v (next_end v.out v.back)) w
+
+-- timer T1 runs out at each end where it runs, and then come the rounds
+abbrev pub fire_and_pull : Cfg → World → List Event
+fire_and_pull cfg w = behind cfg (both_tried cfg (firing Dte) (firing Dce)) (pull_rounds cfg most_rounds) w
+
+-- deliver, fire, and then deliver and pull in rounds
 abbrev pub healing : Cfg → World → List Event
-healing cfg w = behind cfg (deliveries cfg) (both_fire cfg) w
+healing cfg w = behind cfg (deliveries cfg) (fire_and_pull cfg) w
 
 -- how many deliveries are among events
 abbrev pub received_by : Act → ℕ
@@ -178,14 +203,97 @@ HealsWhereNonePut cfg w =
     MayHeal w → (ends : List Role)
     → (let fired = run cfg (firing Dte ∷ firing Dce ∷ []) w in NonePut cfg ends fired → (let u = run cfg (all_received ends) fired in IsDrained u → Heals cfg w u))
 
+-- ---- healing while the layers put packets
+
+-- the front octets come, or a user asks something of the layer
+abbrev pub IsReceiptOrRequest : Act → Type 0
+IsReceiptOrRequest Receives = Unit {0}
+IsReceiptOrRequest (Commands (Requests request)) = Unit {0}
+IsReceiptOrRequest act = ⊥
+
+-- .. at either end, in any order
+abbrev pub AreReceiptsAndRequests : List Event → Type 0
+AreReceiptsAndRequests [] = Unit {0}
+AreReceiptsAndRequests (e ∷ events) = IsReceiptOrRequest e.act × AreReceiptsAndRequests events
+
+-- as octets come to a station, neither link is busy, and no count of the station is at its most
+abbrev pub ComeFreely : Settings → Station → LinkStation → List (List ℕ) → Type 0
+ComeFreely c s far [] = Unit {0}
+ComeFreely c s far (octets ∷ back) = (abandons c s ≡ false) × AreFree s.link far
+
+abbrev pub ActsFreely : Settings → Station → LinkStation → List (List ℕ) → Act → Type 0
+ActsFreely c s far back Receives = ComeFreely c s far back
+ActsFreely c s far back act = Unit {0}
+
+abbrev pub FreeAt : Cfg → Role → Act → World → Type 0
+FreeAt cfg Dte act w = ActsFreely (settings_from Dte cfg) w.near w.far.link w.back act
+FreeAt cfg Dce act w = ActsFreely (settings_from Dce cfg) w.far w.near.link w.out act
+
+-- at each delivery of a run, and neither link is busy at its end
+abbrev pub FreeThroughout : Cfg → List Event → World → Type 0
+FreeThroughout cfg [] w = AreFree w.near.link w.far.link
+FreeThroughout cfg (e ∷ events) w = FreeAt cfg e.at e.act w × FreeThroughout cfg events (after w (happens cfg w e))
+
+-- a link is up, and isn't busy. Where its timer T1 runs, it has tries left.
+pub record LinkMayHeal (cfg : Cfg) (s : LinkStation) : Type 0 where
+  pub up : is_up s.phase ≡ true
+  pub free : is_busy s ≡ false
+  pub tries : HasTries cfg s
+
+-- a moment in which nothing is on the line, and both links are so
+pub record BothMayHeal (cfg : Cfg) (w : World) : Type 0 where
+  pub drained : IsDrained w
+  pub near : LinkMayHeal cfg w.near.link
+  pub far : LinkMayHeal cfg w.far.link
+
+-- Both links are at rest, in the same sessions as before, and all that they were handed down in these, then and since, has been handed up at the other
+-- end: two links behind the first world have gone on to two behind the second.
+pub record HaveArrived (cfg : Cfg) (w u : World) : Type 0 where
+  pub dte : IsAtRest u.near.link
+  pub dce : IsAtRest u.far.link
+  pub before : Sessions
+  pub behind : Sessions
+  pub before_are : AreLinksOf cfg w before
+  pub behind_are : AreLinksOf cfg u behind
+  pub asked : List line.Event
+  pub are : AreDeliveriesAndPuts asked
+  pub goes : links.run (link_of cfg Dte) (link_of cfg Dce) (line.Near line.T1 ∷ line.Far line.T1 ∷ asked) before ≡ behind
+  pub arrived : SessionsHaveArrived before behind
+
+-- From such a moment timer T1 runs out at each end where it runs. Then what is on the line comes, and users ask of the layers, in any order, until
+-- nothing is on the line. What is refused changes nothing.
+abbrev pub HealsWithPuts : Cfg → World → Type 0
+HealsWithPuts cfg w =
+    BothMayHeal cfg w → (events : List Event) → AreReceiptsAndRequests events → AreInOctets events
+    → (let fired = run cfg (firing Dte ∷ firing Dce ∷ []) w in FreeThroughout cfg events fired → (let u = run cfg events fired in IsDrained u → HaveArrived cfg w u))
+
+-- ---- deliveries come to an end
+
 -- The world bounds how many deliveries follow one another, whatever their order, while the layers put nothing.
 abbrev pub DrainsWhereNonePut : Cfg → World → Type 0
 DrainsWhereNonePut cfg w = (most : ℕ) × ((ends : List Role) → NonePut cfg ends w → AreAccepted cfg (all_received ends) w → length ends ≤ most)
 
--- Of the schedule from a world: from the moment in which all that was on the line has come, it heals, where the layers put nothing behind the firings, and
--- all has come.
-abbrev pub HealsFrom : Cfg → World → World → Type 0
-HealsFrom cfg w u =
+-- Of the schedule from a world: from the moment in which all that was on the line has come, it heals by the firings and what comes behind them, where the
+-- layers put nothing there, and all has come.
+abbrev pub HealsFrom : Cfg → World → Type 0
+HealsFrom cfg w =
     let v = run cfg (deliveries cfg w) w in
     let fired = run cfg (firing Dte ∷ firing Dce ∷ []) v in
+    let u = run cfg (deliveries cfg fired) fired in
     MayHeal v → NonePut cfg (arrivals cfg most_deliveries fired) fired → IsDrained u → Heals cfg v u
+
+-- .. and to the one behind it: all that the links were handed down has arrived, and what still waits in circuits waits for users who aren't ready
+pub record AllArrives (cfg : Cfg) (w u : World) : Type 0 where
+  pub links : HaveArrived cfg w u
+  pub waits : AllWaitForUsers cfg u
+
+-- .. where both links are up in that moment, neither is busy then nor as octets come behind the firings, no count is at its most there, and the rounds have
+-- left nothing on the line
+abbrev pub ArrivesByHealing : Cfg → World → World → Type 0
+ArrivesByHealing cfg w u =
+    let v = run cfg (deliveries cfg w) w in
+    let fired = run cfg (firing Dte ∷ firing Dce ∷ []) v in
+    BothMayHeal cfg v → FreeThroughout cfg (pull_rounds cfg most_rounds fired) fired → IsDrained u → AllArrives cfg v u
+
+abbrev pub HealingBringsAll : Cfg → World → Type 0
+HealingBringsAll cfg w = ArrivesByHealing cfg w (run cfg (healing cfg w) w)

@@ -19,6 +19,12 @@ pub enum Event<'a> {
     T1(Role),
 }
 
+/// The SABM of the DTE arrives.
+pub const SABM_ARRIVES: Event = Event::Deliver(Direction::ToDce);
+
+/// The UA that answers it arrives.
+pub const UA_ARRIVES: Event = Event::Deliver(Direction::ToDte);
+
 impl<'a> Event<'a> {
     ghost use Rattle.x25_world.specs.World.{event_of};
 

@@ -1,22 +1,28 @@
 //! Healing: once the line is good for a moment, what the links were handed down arrives.
-ghost use Rattle.std.specs.Prelude.{◌≡◌, ◌≢◌, ◌↔◌, ◌<◌, length, option_map, None, IfOk, IfErr, OnOk, IsTrue};
+ghost use Rattle.std.specs.Prelude.{◌≡◌, ◌≢◌, ◌↔◌, ◌+◌, ◌*◌, ◌<◌, ◌≤◌, length, option_map, is_none, None, IfOk, IfErr, OnOk, IsTrue};
 ghost use Rattle.x25_bits.specs.Role.{end_of};
 ghost use Rattle.x25_station.specs.declared.config.Cfg.{Cfg};
 ghost use Rattle.x25_world.specs.World as definition;
+ghost use Rattle.x25_world.specs.World.{event_of};
 ghost use Rattle.x25_world.specs.code.FitsWorld.{Gone, FitsWorld};
 ghost use Rattle.x25_world.specs.code.FitsHealing.{GoesBy, GoesPartly, HoldsHealed};
 ghost use Rattle.x25_world.specs.laws.SessionClaims.{Throughout, SessionsKeepOrder};
-ghost use Rattle.x25_world.specs.Healing.{RestShows, HealsWhereNonePut, DrainsWhereNonePut, HealsFrom, next_end, arrivals, most_deliveries, deliveries, if_accepted, firing, healing, received_in};
+ghost use Rattle.x25_world.specs.rows.WorldRows.{MoreArrives};
+ghost use Rattle.x25_world.specs.Healing.{RestShows, HealsWhereNonePut, HealsWithPuts, DrainsWhereNonePut, HealsFrom, ArrivesByHealing, HealingBringsAll, next_end, arrivals, most_deliveries, deliveries, if_accepted, both_tried, pull_round, most_rounds, pull_rounds, healing, received_in};
 
 use crate::error::WorldError;
 use crate::event::Event;
-use crate::law::{laws_below, stations_meet_in_sessions};
+use crate::law::{laws_below, messages_wait_for_users, stations_meet_in_sessions};
 use crate::world::World;
 use x25_bits::Role;
-use x25_line::{Direction, drains_end, one_busy_heals, rest_shows};
+use x25_line::{Direction, drains_end, one_busy_heals, puts_heal, rest_shows};
+use x25_station::Cmd;
 
 /// How many deliveries follow one another at most.
 const MOST_DELIVERIES: u32 = 4_294_967_295;
+
+/// How many rounds of deliveries and pulls follow one another at most.
+const MOST_ROUNDS: u32 = 4_294_967_295;
 
 /// Two stations over such a line, after each list of events, over set-up and re-set-up at any moment.
 ///
@@ -26,39 +32,64 @@ const MOST_DELIVERIES: u32 = 4_294_967_295;
 /// - `heals`: from a moment in which nothing is on the line, no link is being set up and not both ends are busy, timer T1 runs out at each end where it
 ///   runs, and then all that is on the line comes, in any order of the two directions, while the layers put nothing. Each link is at rest then, or isn't up;
 ///   and if both were up, with tries left where T1 ran, both are at rest, and all that they were handed down has been handed up.
+/// - `heals_with_puts`: from a moment in which nothing is on the line, both links are up, neither is busy, and tries are left where timer T1 runs, it runs
+///   out at each end where it runs. Then what is on the line comes, and users ask of the layers what they like, in any order, while the layers put what
+///   they put; where octets come neither link is busy and no count of that station is at its most, and neither is busy at the end. Once nothing is on the
+///   line both links are at rest, in the same sessions as before, and all that they were handed down in these, what was put since included, has been handed
+///   up. `worked` is such a moment: a message was lost, and one more is sent once T1 has run out.
 /// - `drains`: the world bounds how many deliveries follow one another, while the layers put nothing.
 ///
 /// Premises: k is 1 to 7, N2 1 to 255, channels 1 to 16, and the users hand down octets.
 pub fn stations_heal()
     ensures rest { Throughout RestShows }
     ensures heals { Throughout HealsWhereNonePut }
+    ensures heals_with_puts { Throughout HealsWithPuts }
+    ensures worked { MoreArrives }
     ensures drains { Throughout DrainsWhereNonePut }
 {
     laws_below();
     stations_meet_in_sessions();
     rest_shows();
     one_busy_heals();
+    puts_heal();
     drains_end();
 }
 
+/// Two stations over such a line, after each list of events, by the schedule of `World::heal`: where, once all that was on the line has come, both links
+/// are up, neither is busy, and tries are left where timer T1 runs; where neither is busy as octets come behind the firings, and no count of that station is
+/// at its most; and where the rounds leave nothing on the line: both links are at rest, all that they were handed down in their sessions has been handed
+/// up, and each stretch that is open at an end is open at the other one too, where either all of its messages and interrupts arrived, or the user isn't
+/// ready.
+///
+/// Premises: k is 1 to 7, N2 1 to 255, channels 1 to 16, and the users hand down octets.
+pub fn healing_brings_all()
+    ensures { Throughout HealingBringsAll }
+{
+    stations_heal();
+    messages_wait_for_users();
+}
+
 impl World {
-    /// The line is good for a moment: what is on it arrives, then timer T1 runs out at each end where it runs, and then what is on the line arrives, each
-    /// time at most 4,294,967,295 frames. It answers how many frames arrived.
+    /// The line is good for a moment: what is on it arrives, then timer T1 runs out at each end where it runs. What is on the line arrives, and then each
+    /// end pulls what waits in its circuits, again and again, as long as that puts frames on the line: at most 4,294,967,295 times, and each time at most
+    /// as many frames arrive. It answers how many frames arrived.
     ///
     /// Refused with 70 alone. What happened before stands.
     pub fn heal(&mut self) -> Result<u64, WorldError>
         ensures goes { (cfg : Cfg) (w : definition.World) (gone : Gone) → FitsWorld cfg self.old w gone → OnOk result (GoesBy cfg (healing cfg w) w self.new gone) }
         ensures counted { (cfg : Cfg) (w : definition.World) (gone : Gone) → FitsWorld cfg self.old w gone → IfOk result (λ count. count ≡ received_in (healing cfg w)) }
-        ensures drained { IfOk result (λ count. count < most_deliveries → next_end self.new.to_dce self.new.to_dte ≡ None) }
+        ensures drained { IfOk result (λ count. count + 1 < most_rounds → next_end self.new.to_dce self.new.to_dte ≡ None) }
         ensures stopped { (cfg : Cfg) (w : definition.World) (gone : Gone) → FitsWorld cfg self.old w gone → IfErr result (GoesPartly cfg (healing cfg w) w self.new gone) }
 
         // After each run that leads to the world before, this is proved of the one that is left.
         ensures sessions { HoldsHealed (λ c w u. SessionsKeepOrder c u) self.old self.new result }
         ensures rest { HoldsHealed (λ c w u. RestShows c u) self.old self.new result }
-        ensures heals { HoldsHealed HealsFrom self.old self.new result }
+        ensures heals { HoldsHealed (λ c w u. HealsFrom c w) self.old self.new result }
+        ensures arrives { HoldsHealed ArrivesByHealing self.old self.new result }
     {
         stations_meet_in_sessions();
         stations_heal();
+        healing_brings_all();
         self.go_on()
     }
 
@@ -66,21 +97,55 @@ impl World {
     fn go_on(&mut self) -> Result<u64, WorldError>
         ensures goes { (cfg : Cfg) (w : definition.World) (gone : Gone) → FitsWorld cfg self.old w gone → OnOk result (GoesBy cfg (healing cfg w) w self.new gone) }
         ensures counted { (cfg : Cfg) (w : definition.World) (gone : Gone) → FitsWorld cfg self.old w gone → IfOk result (λ count. count ≡ received_in (healing cfg w)) }
-        ensures drained { IfOk result (λ count. count < most_deliveries → next_end self.new.to_dce self.new.to_dte ≡ None) }
+        ensures drained { IfOk result (λ count. count + 1 < most_rounds → next_end self.new.to_dce self.new.to_dte ≡ None) }
         ensures stopped { (cfg : Cfg) (w : definition.World) (gone : Gone) → FitsWorld cfg self.old w gone → IfErr result (GoesPartly cfg (healing cfg w) w self.new gone) }
     {
         let before = self.deliver_all()?;
-        self.fire(Role::Dte)?;
-        self.fire(Role::Dce)?;
-        let behind = self.deliver_all()?;
-        Ok(u64::from(before) + u64::from(behind))
+        self.attempt_both(Event::T1(Role::Dte), Event::T1(Role::Dce))?;
+        let behind = self.pull_all()?;
+        Ok(u64::from(before) + behind)
+    }
+
+    // What is on the line arrives, and then each end pulls what waits in its circuits, as long as that puts frames on the line. It answers how many frames
+    // arrived.
+    fn pull_all(&mut self) -> Result<u64, WorldError>
+        ensures goes { (cfg : Cfg) (w : definition.World) (gone : Gone) → FitsWorld cfg self.old w gone → OnOk result (GoesBy cfg (pull_rounds cfg most_rounds w) w self.new gone) }
+        ensures counted { (cfg : Cfg) (w : definition.World) (gone : Gone) → FitsWorld cfg self.old w gone → IfOk result (λ count. count ≡ received_in (pull_rounds cfg most_rounds w)) }
+        ensures drained { IfOk result (λ count. count + 1 < most_rounds → next_end self.new.to_dce self.new.to_dte ≡ None) }
+        ensures stopped { (cfg : Cfg) (w : definition.World) (gone : Gone) → FitsWorld cfg self.old w gone → IfErr result (GoesPartly cfg (pull_rounds cfg most_rounds w) w self.new gone) }
+        ensures bounded { IfOk result (λ count. count ≤ most_rounds * most_deliveries) }
+    {
+        let mut count = 0u64;
+        for _ in 0..MOST_ROUNDS {
+            let more = self.pull_round()?;
+            count += u64::from(more);
+            if self.is_line_empty() {
+                return Ok(count);
+            }
+        }
+        Ok(count)
+    }
+
+    // What is on the line arrives, and then each end pulls what waits in its circuits. It answers how many frames arrived.
+    fn pull_round(&mut self) -> Result<u32, WorldError>
+        ensures goes { (cfg : Cfg) (w : definition.World) (gone : Gone) → FitsWorld cfg self.old w gone → OnOk result (GoesBy cfg (pull_round cfg w) w self.new gone) }
+        ensures counted { (cfg : Cfg) (w : definition.World) (gone : Gone) → FitsWorld cfg self.old w gone → IfOk result (λ count. count ≡ received_in (pull_round cfg w)) }
+        ensures none { IfOk result (λ count. count ≡ 0 → next_end self.old.to_dce self.old.to_dte ≡ None) }
+        ensures stopped { (cfg : Cfg) (w : definition.World) (gone : Gone) → FitsWorld cfg self.old w gone → IfErr result (GoesPartly cfg (pull_round cfg w) w self.new gone) }
+    {
+        let count = self.deliver_all()?;
+        self.attempt_both(
+            Event::Command(Role::Dte, Cmd::Pull),
+            Event::Command(Role::Dce, Cmd::Pull),
+        )?;
+        Ok(count)
     }
 
     // What is on the line arrives, to the DCE first. It answers how many frames.
     fn deliver_all(&mut self) -> Result<u32, WorldError>
         ensures goes { (cfg : Cfg) (w : definition.World) (gone : Gone) → FitsWorld cfg self.old w gone → OnOk result (GoesBy cfg (deliveries cfg w) w self.new gone) }
         ensures counted { (cfg : Cfg) (w : definition.World) (gone : Gone) → FitsWorld cfg self.old w gone → IfOk result (λ count. count ≡ length (arrivals cfg most_deliveries w)) }
-        ensures drained { IfOk result (λ count. count < most_deliveries → next_end self.new.to_dce self.new.to_dte ≡ None) }
+        ensures none { IfOk result (λ count. count ≡ 0 → next_end self.old.to_dce self.old.to_dte ≡ None) }
         ensures stopped { (cfg : Cfg) (w : definition.World) (gone : Gone) → FitsWorld cfg self.old w gone → IfErr result (GoesPartly cfg (deliveries cfg w) w self.new gone) }
     {
         for count in 0..MOST_DELIVERIES {
@@ -105,15 +170,31 @@ impl World {
         }
     }
 
-    // Timer T1 of the end runs out, where that isn't refused.
-    fn fire(&mut self, at: Role) -> Result<(), WorldError>
-        ensures goes { (cfg : Cfg) (w : definition.World) (gone : Gone) → FitsWorld cfg self.old w gone → OnOk result (GoesBy cfg (if_accepted cfg (firing at) w) w self.new gone) }
-        ensures stopped { (cfg : Cfg) (w : definition.World) (gone : Gone) → FitsWorld cfg self.old w gone → IfErr result (GoesPartly cfg (if_accepted cfg (firing at) w) w self.new gone) }
+    // Whether nothing is on the line.
+    fn is_line_empty(&self) -> bool
+        ensures { result ≡ is_none (next_end self.now.to_dce self.now.to_dte) }
     {
-        if let Err(error) = self.apply(Event::T1(at)) {
+        self.next_direction().is_none()
+    }
+
+    // An event happens, where it isn't refused.
+    fn attempt(&mut self, event: Event) -> Result<(), WorldError>
+        ensures goes { (cfg : Cfg) (w : definition.World) (gone : Gone) → FitsWorld cfg self.old w gone → OnOk result (GoesBy cfg (if_accepted cfg (event_of event.entry) w) w self.new gone) }
+        ensures stopped { (cfg : Cfg) (w : definition.World) (gone : Gone) → FitsWorld cfg self.old w gone → IfErr result (GoesPartly cfg (if_accepted cfg (event_of event.entry) w) w self.new gone) }
+    {
+        if let Err(error) = self.apply(event) {
             return unless_memory(error);
         }
         Ok(())
+    }
+
+    // Two events happen, each where it isn't refused.
+    fn attempt_both(&mut self, first: Event, second: Event) -> Result<(), WorldError>
+        ensures goes { (cfg : Cfg) (w : definition.World) (gone : Gone) → FitsWorld cfg self.old w gone → OnOk result (GoesBy cfg (both_tried cfg (event_of first.entry) (event_of second.entry) w) w self.new gone) }
+        ensures stopped { (cfg : Cfg) (w : definition.World) (gone : Gone) → FitsWorld cfg self.old w gone → IfErr result (GoesPartly cfg (both_tried cfg (event_of first.entry) (event_of second.entry) w) w self.new gone) }
+    {
+        self.attempt(first)?;
+        self.attempt(second)
     }
 }
 

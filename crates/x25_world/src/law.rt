@@ -3,7 +3,7 @@ ghost use Rattle.x25_station.specs.laws.ReadLaw.{AreOctets};
 ghost use Rattle.x25_world.specs.World.{event_of};
 ghost use Rattle.x25_world.specs.rows.WorldRows.{SetsUp, MessageArrives, LostArrives, DamagedArrives, DisconnectEndsBoth, ConnectSetsUp, ConnectGoesAgain, SecondMeetsFirst, SecondMeet, TimerWaits, IsRefused};
 ghost use Rattle.x25_world.specs.laws.SessionClaims.{Throughout, ThroughoutAlong, MeetInStep, AreLawfulWhereMet, AreNamedInSessions, AllArrive, UnmetAreToldNothing, OpenStretchesMeet};
-ghost use Rattle.x25_world.specs.laws.WaitClaims.{ClosedKeepNone, MessagesWaitForUsers};
+ghost use Rattle.x25_world.specs.laws.WaitClaims.{PullsLeaveNone, UnpulledWaitForUsers, ClosedKeepNone, MessagesWaitForUsers};
 ghost use Rattle.x25_world.specs.laws.LawsBelow.{SessionLaws};
 ghost use Rattle.x25_world.specs.laws.Claims.{ActsInOctets, Always, UntilSecondUp, IsSetUp, IsLawful, IsNamed, ArrivesAll, HasNoProcedureError, UpOnceUnlessConnected};
 ghost use Rattle.x25_world.specs.WindowGoes.{StaysInWindow};
@@ -112,6 +112,8 @@ pub fn stations_meet_in_sessions()
 pub fn messages_wait_for_users()
     ensures closed { Throughout ClosedKeepNone }
     ensures waits { Throughout MessagesWaitForUsers }
+    ensures left { PullsLeaveNone }
+    ensures unpulled { Throughout UnpulledWaitForUsers }
 {
     laws_below();
     x25_layer::messages_wait_for_users();

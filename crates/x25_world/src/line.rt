@@ -130,6 +130,7 @@ impl Line {
 
     /// The frame at this place on the line to this end, 0 at the front, is taken off it. It answers the frame's octets, where the tap
     /// doesn't hold them.
+    #[inline(always)]
     pub fn remove(&mut self, to: Role, place: usize) -> Option<Vec<u8>>
         requires { place < length (line_to self.old to) }
         ensures { self.new ≡ with_line_to self.old to (remove (line_to self.old to) place) }
@@ -158,6 +159,9 @@ impl Line {
     pub fn let_go(&mut self)
         ensures { self.new ≡ record self.old { tap = [] } }
     {
+        if self.tap.is_empty() {
+            return;
+        }
         own_all(&mut self.to_dce, &mut self.tap, self.alloc);
         own_all(&mut self.to_dte, &mut self.tap, self.alloc);
         self.tap.clear();
@@ -190,6 +194,20 @@ fn share(queue: &mut VecDeque<OnLine>, tap: &mut Vec<Tapped>, from: Role, octets
     tap.push_reserved(Tapped { from, octets });
 }
 
+// The frame at this place is taken out, with no move of others where it is the first.
+#[inline(always)]
+fn taken_at(queue: &mut VecDeque<OnLine>, place: usize) -> Option<OnLine>
+    requires { place < length queue.old.items }
+    ensures items { queue.new.items ≡ remove queue.old.items place }
+    ensures len { deque_len queue.new ≤ deque_len queue.old }
+    ensures capacity { deque_capacity queue.new ≡ deque_capacity queue.old }
+{
+    if place == 0 {
+        return queue.pop_front();
+    }
+    queue.remove(place)
+}
+
 #[inline(always)]
 fn take_off(queue: &mut VecDeque<OnLine>, place: usize) -> Option<Vec<u8>>
     requires { place < length queue.old.items }
@@ -197,7 +215,7 @@ fn take_off(queue: &mut VecDeque<OnLine>, place: usize) -> Option<Vec<u8>>
     ensures len { deque_len queue.new ≤ deque_len queue.old }
     ensures capacity { deque_capacity queue.new ≡ deque_capacity queue.old }
 {
-    match queue.remove(place) {
+    match taken_at(queue, place) {
         Some(OnLine::Own(octets)) => Some(octets),
         _ => None,
     }

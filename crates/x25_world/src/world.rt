@@ -18,7 +18,7 @@ ghost use Rattle.x25_world.specs.World.{event_of, happens, after, refusal_of, ru
 use crate::acting::{act, connect};
 use crate::bit_damage::octets_of_damage;
 use crate::error::{WorldError, WorldRefused};
-use crate::event::Event;
+use crate::event::{Event, SABM_ARRIVES, UA_ARRIVES};
 use crate::law::{hands_down_octets, stations_meet_in_sessions, two_stations_keep_order};
 use crate::line::Line;
 use crate::told::{Entered, Tapped};
@@ -138,8 +138,8 @@ impl World {
         ensures refused { (cfg : Cfg) → FitsWorld cfg self.old (connected cfg) nothing_gone → IfErr result (λ e. e ≡ WorldError.NoMemory) }
     {
         two_stations_keep_order();
-        self.apply(Event::Deliver(Direction::ToDce))?;
-        self.apply(Event::Deliver(Direction::ToDte))
+        self.apply(SABM_ARRIVES)?;
+        self.apply(UA_ARRIVES)
     }
 
     /// Lets the event happen.

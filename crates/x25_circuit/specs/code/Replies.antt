@@ -1,11 +1,13 @@
 -- What a reply says, as values alone, and that it is the answer of the table.
-use Rattle.std.specs.Prelude.{◌≡◌, Bool, true, false, List, [], ◌∷◌, Option, Some, None}
+use Rattle.std.specs.Prelude.{◌≡◌, ℕ, Bool, true, false, List, [], ◌∷◌, Option, Some, None}
 use Rattle.x25_packet.specs.declared.packet.Packet.{Packet}
-use Rattle.x25_packet.specs.PlainPacket.{PlainPacket, plain}
+use Rattle.x25_packet.specs.PlainPacket.{PlainPacket, plain, clear, clear_conf, rr, rnr, interrupt_conf, reset, reset_conf}
 use Rattle.x25_packet.specs.Spelling.{IsInRange}
 use Rattle.x25_circuit.specs.declared.notice.Notice.{Notice}
 use Rattle.x25_circuit.specs.declared.notice.Notice.TheVariants as code
 use Rattle.x25_circuit.specs.declared.notice.Reply.{Reply}
+use Rattle.x25_circuit.specs.declared.owed.Owed.{Owed}
+use Rattle.x25_circuit.specs.declared.owed.Owed.TheVariants as owing
 use Rattle.x25_circuit.specs.Notices.{PlainNotice, incoming, connected, collided, cleared, clear_done, was_reset, reset_done, delivered, interrupted, interrupt_done, fault}
 
 abbrev pub plain_notice : Notice → PlainNotice
@@ -29,9 +31,25 @@ abbrev pub notices_of : Bool → Option Notice → List PlainNotice
 notices_of true notice = collided ∷ plain_notices notice
 notices_of false notice = plain_notices notice
 
-abbrev pub plain_owed : Option Packet → Option PlainPacket
+-- what the user's own calls send
+abbrev pub plain_sent : Option Packet → Option PlainPacket
+plain_sent None = None
+plain_sent (Some packet) = Some (plain packet)
+
+-- what is owed for a packet that came, on this channel
+abbrev pub packet_owed : ℕ → Owed → PlainPacket
+packet_owed channel (owing.Clear cause diagnostic) = clear channel cause diagnostic
+packet_owed channel owing.ClearConf = clear_conf channel
+packet_owed channel (owing.Rr pr) = rr channel pr.number
+packet_owed channel (owing.Rnr pr) = rnr channel pr.number
+packet_owed channel owing.InterruptConf = interrupt_conf channel
+packet_owed channel (owing.Reset cause diagnostic) = reset channel cause diagnostic
+packet_owed channel owing.ResetConf = reset_conf channel
+
+-- .. on channel 1
+abbrev pub plain_owed : Option Owed → Option PlainPacket
 plain_owed None = None
-plain_owed (Some packet) = Some (plain packet)
+plain_owed (Some owed) = Some (packet_owed 1 owed)
 
 -- the packet, where there is one, can be spelled
 abbrev pub IsSendable : Option PlainPacket → Type 0

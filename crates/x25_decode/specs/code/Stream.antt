@@ -1,31 +1,26 @@
 -- What a decoder holds in the midst of a text.
-use Rattle.std.specs.Prelude.{◌≡◌, ℕ, Bool, ◌||◌, List, ◌++◌, length, take, nat_lt, Option}
+use Rattle.std.specs.Prelude.{◌≡◌, ℕ, Bool, ◌||◌, List, ◌++◌, Option}
 use Rattle.std.specs.Io.KnownBytes.{Appends}
+use Rattle.x25_io.specs.HeldLine.{HoldsLine}
+use Rattle.x25_io.specs.declared.held_line.HeldLine.{HeldLine}
 use Rattle.x25_io.specs.Lines.{IsOpen}
+use Rattle.x25_io.specs.code.Written.{Tells}
 use Rattle.x25_decode.specs.Decoded.{output_of, has_refused}
 use Rattle.x25_decode.specs.declared.decoder.Decoder.{Decoder}
 
--- the most characters of a line that can be in the grammar, without its line feed
-abbrev pub most_line : ℕ
-most_line = 8208
-
--- what is held of a line that has begun: its front, and whether it is longer
-abbrev pub HoldsLine : List ℕ → List ℕ → Bool → Type 0
-HoldsLine begun line is_long = (line ≡ take most_line begun) × (is_long ≡ nat_lt most_line (length begun))
-
--- The writer held `old` at first and holds `now`. `text` waits to be written, `line` is what is held of the open line, and
--- with `rest` to come the writer gets `all` in the end; `any` then says whether a line was refused.
-pub record Leads (long_data : Bool) (old now : Option (List ℕ)) (line : List ℕ) (is_long : Bool) (text : List ℕ) (refused : Bool) (rest all : List ℕ) (any : Bool) : Type 0 where
+-- The writer held `old` at first and holds `now`, and `text` waits. `held` is what is held of the line that has begun. With `rest` to come
+-- the writer gets `all` in the end; `any` then says whether a line was refused.
+pub record Leads (long_data : Bool) (old now : Option (List ℕ)) (held : HeldLine) (text : List ℕ) (refused : Bool) (rest all : List ℕ) (any : Bool) : Type 0 where
   pub begun : List ℕ
   pub is_open : IsOpen begun
-  pub holds : HoldsLine begun line is_long
-  pub written : List ℕ
-  pub appends : Appends old now written
-  pub same : written ++ text ++ output_of long_data (begun ++ rest) ≡ all
+  pub holds : HoldsLine begun held
+  pub told : List ℕ
+  pub tells : Tells old now text told
+  pub same : told ++ output_of long_data (begun ++ rest) ≡ all
   pub status : (refused || has_refused (begun ++ rest)) ≡ any
 
 abbrev pub LeadsFrom : Option (List ℕ) → Option (List ℕ) → Decoder → List ℕ → List ℕ → Bool → Type 0
-LeadsFrom old now d rest all any = Leads d.long_data old now d.line d.is_long d.text d.is_refused rest all any
+LeadsFrom old now d rest all any = Leads d.long_data old now d.held d.output d.is_refused rest all any
 
 -- .. of an input, by whether user data may be long
 abbrev pub DecodesOn : Bool → Decoder → Option (List ℕ) → Option (List ℕ) → List ℕ → List ℕ → Type 0

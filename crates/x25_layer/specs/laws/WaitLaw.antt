@@ -29,6 +29,14 @@ pub record ClosedKeepNone (w : TwoLayers) : Type 0 where
   pub near : KeepsNoneClosed w.near
   pub far : KeepsNoneClosed w.far
 
+-- while a restart is under way no circuit is open
+abbrev pub OpensNoneInRestart : End → Type 0
+OpensNoneInRestart e = e.layer.restarting ≡ true → (k : ℕ) → is_open (e.layer.circuits k) ≡ false
+
+pub record NoneOpenInRestart (w : TwoLayers) : Type 0 where
+  pub near : OpensNoneInRestart w.near
+  pub far : OpensNoneInRestart w.far
+
 -- both links are up, and nothing is in flight
 pub record IsDrained (w : TwoLayers) : Type 0 where
   pub near_up : w.near.is_out ≡ false

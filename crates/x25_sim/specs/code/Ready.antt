@@ -7,7 +7,6 @@ use Rattle.x25_sim.specs.declared.simulation.Simulation.{Simulation}
 
 -- It stands for the first world, of which nothing was told or refused, and no line has begun.
 pub record IsReady (cfg : Cfg) (down tap : Bool) (s : Simulation) : Type 0 where
-  pub asked : s.down ≡ down
   pub opening : IsOpening cfg down s.stage
   pub tapped : s.stage.tap ≡ tap
   pub empty : s.stage.output ≡ []

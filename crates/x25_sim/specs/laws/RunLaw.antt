@@ -2,12 +2,13 @@
 use Rattle.std.specs.Prelude.{◌≡◌, ℕ, Bool, true, false, List, [], ◌∷◌, Option, Some, None}
 use Rattle.x25_station.specs.declared.config.Cfg.{Cfg}
 use Rattle.x25_station.specs.Settings.{config_refusal}
-use Rattle.x25_script.specs.PlainLine.{connect, PlainLine, command}
+use Rattle.x25_script.specs.PlainLine.{connect, PlainLine, command, heal}
 use Rattle.x25_io.specs.Lines.{lines_of}
 use Rattle.x25_world.specs.World.{World, OnTap, AtEnd, Event, AreAccepted, run, start, established}
+use Rattle.x25_world.specs.Healing.{healing, ArrivesByHealing}
 use Rattle.x25_world.specs.laws.Claims.{AreInOctets, IsUpOnce, IsUpAtMostOnce, NoneConnects}
 use Rattle.x25_sim.specs.Sayings.{Saying, enters, taps, reads_nothing, refuses}
-use Rattle.x25_sim.specs.Simulated.{asked_in, simulated}
+use Rattle.x25_sim.specs.Simulated.{asked_in, line_turn, simulated}
 
 -- the entries among what is said
 abbrev pub entries_in : List Saying → List AtEnd
@@ -79,3 +80,11 @@ ScriptsAreTapped = (cfg : Cfg) (down : Bool) (script : List ℕ) → frames_in (
 -- what holds of each world to which a script leads, over set-up and re-set-up at any moment
 abbrev pub OfAllScripts : (Cfg → World → Type 0) → Type 0
 OfAllScripts Holds = (cfg : Cfg) → config_refusal cfg ≡ None → (down tap : Bool) (script : List ℕ) → Holds cfg (simulated cfg down tap script).next
+
+-- a line `heal` leads to where the schedule of healing leads
+abbrev pub HealIsTheSchedule : Type 0
+HealIsTheSchedule = (cfg : Cfg) (tap : Bool) (w : World) → (line_turn cfg tap heal w).next ≡ run cfg (healing cfg w) w
+
+-- .. and brings about what that does
+abbrev pub HealBringsAll : Cfg → World → Type 0
+HealBringsAll cfg w = (tap : Bool) → ArrivesByHealing cfg w (line_turn cfg tap heal w).next

@@ -12,14 +12,16 @@ use Rattle.x25_link.specs.laws.NoteLaw.{IsQuiet, Tells}
 use Rattle.x25_line.specs.Stations as line
 use Rattle.x25_line.specs.Sessions.{Sessions}
 use Rattle.x25_line.specs.laws.SessionClaims.{octets_of, OnlyBegunHaveLists}
-use Rattle.x25_layer.specs.Layer.{rested, restart_cause, goes_up}
+use Rattle.x25_layer.specs.Layer.{LayerSettings, Layer, rested, restart_cause, goes_up}
+use Rattle.x25_layer.specs.Rounds.{LinkView}
 use Rattle.x25_layer.specs.TwoLayers as layer
 use Rattle.x25_layer.specs.TwoLayers.{started}
 use Rattle.x25_layer.specs.Apart.{OwnMove, own_run}
 use Rattle.x25_station.specs.declared.config.Cfg.{Cfg}
-use Rattle.x25_station.specs.Settings.{settings_from}
+use Rattle.x25_station.specs.Settings.{settings_from, link_settings, layer_settings}
 use Rattle.x25_station.specs.Entries.{StationEntry, connect_asked, disconnect_asked, link_up, link_down, entries_noted, layer_entries, layer_notices}
-use Rattle.x25_station.specs.Steps.{Step, follows, led_by}
+use Rattle.x25_station.specs.Station.{all_put, view_of}
+use Rattle.x25_station.specs.Steps.{Step, layer_at, follows, led_by}
 use Rattle.x25_station.specs.laws.KeepLaw.{IsKept}
 use Rattle.x25_station.specs.laws.JoinLaw.{station_with}
 use Rattle.x25_station.specs.laws.ReadLaw.{AreReadable}
@@ -32,7 +34,7 @@ use Rattle.x25_world.proofs.sessions.SessionReaches.{Beginning, MayAsk, Sessions
 use Rattle.x25_world.proofs.sessions.SessionJoined.{HasMet, PairsAreInOrder, SessionsJoined}
 use Rattle.x25_world.specs.laws.LawsBelow.{SessionLaws}
 use Rattle.x25_world.proofs.sessions.SessionKnown.{nothing_in_order, own_readable}
-use Rattle.x25_world.proofs.sessions.SessionLinks.{SessionGoes, puts_go, puts_up}
+use Rattle.x25_world.proofs.sessions.SessionLinks.{SessionGoes, puts_go, PutsRead, puts_up}
 use Rattle.x25_world.proofs.sessions.SessionGoes.{IsSilent, IsPrefix, not_in, rests, begins_session}
 
 -- the command that a step is of, if it is one of the link
@@ -119,6 +121,49 @@ up_begins p (Some reason) = record {
   others = λ m differs. asked_elsewhere m (record { begun = suc p.begun; stands = true }) link_up differs;
 }
 
+-- ---- what is put
+
+-- nothing where the link hands nothing up and notes no LinkUp
+pub silent : (view : LinkView) (c : LayerSettings) (l : Layer) (packet : Option (List ℕ)) (down : Option Reason) (up : Bool) → packet ≡ None → up ≡ false → (layer_at view c l packet down up).put ≡ []
+silent view c l packet down up none not_up =
+    subst (λ (p : Option (List ℕ)). (layer_at view c l p down up).put ≡ []) (sym none) (subst (λ (b : Bool). (layer_at view c l None down b).put ≡ []) (sym not_up) (by down))
+  where
+    by : (o : Option Reason) → (layer_at view c l None o false).put ≡ []
+    by None = refl
+    by (Some reason) = refl
+
+pub silent_puts : (cfg : Cfg) (end : Role) (l : Layer) (k : LinkStep) → k.packet ≡ None → k.notes.up ≡ false → PutsRead cfg end k.side (follows (settings_from end cfg) l k)
+silent_puts cfg end l k none not_up =
+    let c = settings_from end cfg in
+    let nothing = silent (view_of (link_settings c) k.side.near) (layer_settings c) l k.packet k.notes.down k.notes.up none not_up in
+    record {
+      packets = [];
+      link = record { accepted = tt; link = ap (λ (ps : List PlainPacket). (all_put (link_settings c) ps k.side).near) nothing; out = ap (λ (ps : List PlainPacket). (all_put (link_settings c) ps k.side).out) nothing };
+      readable = tt;
+    }
+
+-- RESTART where a session begins
+
+module _ {since : Beginning} (laws : SessionLaws) (cfg : Cfg) (fine : IsConfigured cfg) (end : Role) (w : World) (h : SessionsJoined since cfg end w) where
+  -- the layer's end in a session that isn't begun
+  not_begun : own cfg end (suc h.links.near.begun) h.trace ≡ started (goes_up (layer_of cfg end))
+  not_begun = ap (λ (l : List OwnMove). own_run (layer_of cfg end) l (started (goes_up (layer_of cfg end)))) (h.near.later (suc h.links.near.begun) (omega arith)).moves
+
+  restart_readable : AreReadable cfg.long_data (restart (restart_cause end) 0 ∷ [])
+  restart_readable =
+      let n = suc h.links.near.begun in
+      let m = suc h.links.far.begun in
+      subst (λ (e : layer.End). AreReadable cfg.long_data e.given) not_begun
+      (own_readable laws cfg fine end n m h.trace
+      (nothing_in_order cfg end h.trace n m (subst TakeNothing (sym (h.near.later n (omega arith)).moves) tt) (subst TakeNothing (sym (h.far.later m (omega arith)).moves) tt)) h.octets)
+
+  pub up_puts : (k : LinkStep) → Tells w.near.link k → k.notes.up ≡ true → PutsRead cfg end k.side (follows (settings_from end cfg) w.near.layer k)
+  up_puts k tells up = record {
+    packets = restart (restart_cause end) 0 ∷ [];
+    link = (laws.stations.up (settings_from end cfg) w.near.layer k up (tells.fresh_up up)).link;
+    readable = restart_readable;
+  }
+
 -- ---- the link's step, at `v`, and the layer's
 
 module _ {since : Beginning} (laws : SessionLaws) (cfg : Cfg) (fine : IsConfigured cfg) (end : Role) (w : World) (h : SessionsJoined since cfg end w) (lead : Lead) (back : List (List ℕ)) (k : LinkStep) (v : Sessions)
@@ -159,20 +204,6 @@ module _ {since : Beginning} (laws : SessionLaws) (cfg : Cfg) (fine : IsConfigur
       by None is = quiet_step g none kept (ap₂ (λ (d : Option Reason) (u : Bool). record { down = d; up = u }) is not_up)
       by (Some reason) is = down_step g kept reason (ap₂ (λ (d : Option Reason) (u : Bool). record { down = d; up = u }) is not_up)
 
-  -- ---- a session begins
-
-  -- the layer's end in a session that isn't begun
-  not_begun : own cfg end (suc h.links.near.begun) h.trace ≡ started (goes_up (layer_of cfg end))
-  not_begun = ap (λ (l : List OwnMove). own_run (layer_of cfg end) l (started (goes_up (layer_of cfg end)))) (h.near.later (suc h.links.near.begun) (omega arith)).moves
-
-  restart_readable : AreReadable cfg.long_data (restart (restart_cause end) 0 ∷ [])
-  restart_readable =
-      let n = suc h.links.near.begun in
-      let m = suc h.links.far.begun in
-      subst (λ (e : layer.End). AreReadable cfg.long_data e.given) not_begun
-      (own_readable laws cfg fine end n m h.trace
-      (nothing_in_order cfg end h.trace n m (subst TakeNothing (sym (h.near.later n (omega arith)).moves) tt) (subst TakeNothing (sym (h.far.later m (omega arith)).moves) tt)) h.octets)
-
   pub follows_up : ((octets : List ℕ) → MayAsk since end (line.Put octets)) → k.notes.up ≡ true → GoesTo (suc h.links.near.begun) → IsKept (follows (settings_from end cfg) w.near.layer k).near
       → SessionsJoined since cfg end (after_step (settings_from end cfg) w back (follows (settings_from end cfg) w.near.layer k))
   follows_up asks up g kept =
@@ -180,7 +211,7 @@ module _ {since : Beginning} (laws : SessionLaws) (cfg : Cfg) (fine : IsConfigur
       let step : Step = follows (settings_from end cfg) w.near.layer k in
       let u = laws.stations.up (settings_from end cfg) w.near.layer k up (tells.fresh_up up) in
       let packets : List PlainPacket = restart (restart_cause end) 0 ∷ [] in
-      let r = puts_go cfg end h.links v (suc h.links.near.begun) packets k.side [] [] back v.met asks reach g u.link.accepted restart_readable in
+      let r = puts_go cfg end h.links v (suc h.links.near.begun) packets k.side [] [] back v.met asks reach g u.link.accepted (restart_readable laws cfg fine end w h) in
       let still : is_up step.near.link.phase ≡ true = ap (λ (s : LinkStation). is_up s.phase) u.link.link ∙ puts_up laws.stations.put_tells c packets k.side (ap (λ (s : LinkStation). is_up s.phase) (tells.fresh_up up)) in
       let begins : IsPrefix h.links.near.begun standing step.entries =
       subst (λ (es : List StationEntry). IsPrefix h.links.near.begun standing es) (sym (u.entries ∙ ap (λ (b : Bool). entries_noted (record { down = k.notes.down; up = b })) up)) (up_begins standing k.notes.down) in

@@ -15,8 +15,10 @@ use Rattle.x25_line.specs.Sessions as links
 use Rattle.x25_line.specs.Sessions.{SessionEnd, Meeting, Sessions, sent_in, extended, begun_by}
 use Rattle.x25_line.specs.laws.SessionClaims.{octets_of}
 use Rattle.x25_station.specs.declared.config.Cfg.{Cfg}
+use Rattle.x25_station.specs.Settings.{settings_from}
 use Rattle.x25_station.specs.Station.{put_on, all_put}
-use Rattle.x25_station.specs.laws.JoinLaw.{AreAccepted}
+use Rattle.x25_station.specs.Steps.{Step}
+use Rattle.x25_station.specs.laws.JoinLaw.{AreAccepted, PutsBehind}
 use Rattle.x25_station.specs.laws.ReadLaw.{AreReadable}
 use Rattle.x25_world.specs.laws.Claims.{link_of}
 use Rattle.x25_world.proofs.Growing.{spelled}
@@ -55,13 +57,40 @@ own_step c v rest met k =
       met = refl;
     }
 
+-- octets on the line are those of an entry
+pub record FrontEntry (front : List ℕ) (behind : List (List ℕ)) (es : List links.Entry) : Type 0 where
+  pub entry : links.Entry
+  pub others : List links.Entry
+  pub is : es ≡ entry ∷ others
+  pub octets : entry.octets ≡ front
+  pub left : octets_of others ≡ behind
+
+abbrev front_octets : List (List ℕ) → List ℕ
+front_octets [] = []
+front_octets (x ∷ xs) = x
+
+abbrev behind_front : List (List ℕ) → List (List ℕ)
+behind_front [] = []
+behind_front (x ∷ xs) = xs
+
+pub front_entry : (octets : List ℕ) (back : List (List ℕ)) (es : List links.Entry) → octets_of es ≡ octets ∷ back → FrontEntry octets back es
+front_entry octets back [] same = absurd (cc)
+front_entry octets back (e ∷ es) same = record { entry = e; others = es; is = refl; octets = ap front_octets same; left = ap behind_front same }
+
 -- the front octets are taken
-pub deliver_goes : (c : LinkSettings) (v : Sessions) (e : links.Entry) (rest : List links.Entry) → v.back ≡ e ∷ rest → (let k = take_step c e.octets v.near.station in
-    SessionGoes c v (links.acts c line.Deliver v) (begun_by k.notes.up v.near.begun) k.side.near k.side.out [] (option_to_list k.packet) (octets_of rest) (links.acts c line.Deliver v).met)
-deliver_goes c v e rest is =
-    let k = take_step c e.octets v.near.station in
-    subst (λ (es : List links.Entry). SessionGoes c v (links.delivered c es v) (begun_by k.notes.up v.near.begun) k.side.near k.side.out [] (option_to_list k.packet) (octets_of rest) (links.delivered c es v).met)
-    (sym is) (own_step c v rest _ k)
+pub deliver_goes : (c : LinkSettings) (v : Sessions) (s : LinkStation) (octets : List ℕ) (back : List (List ℕ)) → v.near.station ≡ s → octets_of v.back ≡ octets ∷ back → (let k = take_step c octets s in
+    SessionGoes c v (links.acts c line.Deliver v) (begun_by k.notes.up v.near.begun) k.side.near k.side.out [] (option_to_list k.packet) back (links.acts c line.Deliver v).met)
+deliver_goes c v s octets back station line_is =
+    let f = front_entry octets back v.back line_is in
+    let after : Sessions = links.acts c line.Deliver v in
+    let GoesTo : List ℕ → LinkStation → List (List ℕ) → Type 0 = λ os x left. (let k = take_step c os x in
+    SessionGoes c v after (begun_by k.notes.up v.near.begun) k.side.near k.side.out [] (option_to_list k.packet) left after.met) in
+    let k = take_step c f.entry.octets v.near.station in
+    subst (GoesTo octets s) f.left
+    (subst (λ (x : LinkStation). GoesTo octets x (octets_of f.others)) station
+    (subst (λ (os : List ℕ). GoesTo os v.near.station (octets_of f.others)) f.octets
+    (subst (λ (es : List links.Entry). SessionGoes c v (links.delivered c es v) (begun_by k.notes.up v.near.begun) k.side.near k.side.out [] (option_to_list k.packet) (octets_of f.others) (links.delivered c es v).met)
+    (sym f.is) (own_step c v f.others _ k))))
 
 -- ---- a packet is accepted
 
@@ -86,6 +115,20 @@ extended_none lists session n = by (n == session)
     by true = append-nil (lists n)
     by false = refl
 
+-- nothing was asked of the link yet
+pub stays_goes : (c : LinkSettings) (v : Sessions) (s : LinkStation) (back : List (List ℕ)) → v.near.station ≡ s → octets_of v.back ≡ back → SessionGoes c v v v.near.begun s [] [] [] back v.met
+stays_goes c v s back station line_is = record {
+  station = station;
+  begun = refl;
+  down = λ n. sym (extended_none v.near.down v.near.begun n);
+  up = λ n. sym (extended_none v.near.up v.near.begun n);
+  far = refl;
+  out = sym (append-nil (octets_of v.out));
+  back = line_is;
+  sent = sym (append-nil v.sent);
+  met = refl;
+}
+
 put_goes : (c : LinkSettings) (v v₁ : Sessions) (session : ℕ) (t : Side) (down up back : List (List ℕ)) (met : List Meeting) (p : PlainPacket)
     → length (packet.spelling_of p) ≤ c.longest → put_refusal t.near ≡ None → SessionGoes c v v₁ session t.near t.out down up back met
     → SessionGoes c v (links.acts c (line.Put (packet.spelling_of p)) v₁) session (put_on c p t).near (put_on c p t).out (down ++ packet.spelling_of p ∷ []) up back met
@@ -109,7 +152,35 @@ put_goes c v v₁ session t down up back met p short none g =
       met = g.met;
     })
 
--- one after another
+-- ---- packets one after another
+
+abbrev pub puts_of : List PlainPacket → List line.Act
+puts_of [] = []
+puts_of (p ∷ packets) = line.Put (packet.spelling_of p) ∷ puts_of packets
+
+abbrev pub all_act : LinkSettings → List line.Act → Sessions → Sessions
+all_act c [] v = v
+all_act c (act ∷ acts) v = all_act c acts (links.acts c act v)
+
+pub all_puts_go : (cfg : Cfg) (end : Role) (v v₁ : Sessions) (session : ℕ) (packets : List PlainPacket) (t : Side) (down up back : List (List ℕ)) (met : List Meeting) → (let c = link_of cfg end in SessionGoes c v v₁ session t.near t.out down up back met
+    → AreAccepted c packets t → AreReadable cfg.long_data packets
+    → SessionGoes c v (all_act c (puts_of packets) v₁) session (all_put c packets t).near (all_put c packets t).out (down ++ spelled packets) up back met)
+all_puts_go cfg end v v₁ session [] t down up back met g ok readable =
+    subst (λ (d : List (List ℕ)). SessionGoes (link_of cfg end) v v₁ session t.near t.out d up back met) (sym (append-nil down)) g
+all_puts_go cfg end v v₁ session (p ∷ packets) t down up back met g ok readable =
+    let c : LinkSettings = link_of cfg end in
+    let o : List ℕ = packet.spelling_of p in
+    let u : Side = all_put c packets (put_on c p t) in
+    subst (λ (d : List (List ℕ)). SessionGoes c v (all_act c (puts_of packets) (links.acts c (line.Put o) v₁)) session u.near u.out d up back met) (append_assoc down (o ∷ []) (spelled packets))
+    (all_puts_go cfg end v (links.acts c (line.Put o) v₁) session packets (put_on c p t) (down ++ o ∷ []) up back met (put_goes c v v₁ session t down up back met p readable.0.short ok.0 g) ok.1 readable.1)
+
+all_puts_reach : {since : Beginning} (cfg : Cfg) (end : Role) (v : Sessions) (packets : List PlainPacket) → ((octets : List ℕ) → MayAsk since end (line.Put octets)) → SessionsReach since cfg end v
+    → SessionsReach since cfg end (all_act (link_of cfg end) (puts_of packets) v)
+all_puts_reach cfg end v [] asks reach = reach
+all_puts_reach cfg end v (p ∷ packets) asks reach =
+    let o : List ℕ = packet.spelling_of p in
+    all_puts_reach cfg end (links.acts (link_of cfg end) (line.Put o) v) packets asks (sessions_act cfg end (line.Put o) v tt (λ off s same. tt) (asks o) reach)
+
 pub record PutsGo (since : Beginning) (cfg : Cfg) (end : Role) (v : Sessions) (session : ℕ) (packets : List PlainPacket) (t : Side) (handed lifted left : List (List ℕ)) (met : List Meeting) : Type 0 where
   pub links : Sessions
   pub reach : SessionsReach since cfg end links
@@ -118,21 +189,17 @@ pub record PutsGo (since : Beginning) (cfg : Cfg) (end : Role) (v : Sessions) (s
 pub puts_go : {since : Beginning} (cfg : Cfg) (end : Role) (v v₁ : Sessions) (session : ℕ) (packets : List PlainPacket) (t : Side) (down up back : List (List ℕ)) (met : List Meeting)
     → ((octets : List ℕ) → MayAsk since end (line.Put octets)) → SessionsReach since cfg end v₁ → SessionGoes (link_of cfg end) v v₁ session t.near t.out down up back met → AreAccepted (link_of cfg end) packets t → AreReadable cfg.long_data packets
     → PutsGo since cfg end v session packets t (down ++ spelled packets) up back met
-puts_go cfg end v v₁ session [] t down up back met asks reach g ok readable = record {
-  links = v₁;
-  reach = reach;
-  goes = subst (λ (d : List (List ℕ)). SessionGoes (link_of cfg end) v v₁ session t.near t.out d up back met) (sym (append-nil down)) g;
+puts_go cfg end v v₁ session packets t down up back met asks reach g ok readable = record {
+  links = all_act (link_of cfg end) (puts_of packets) v₁;
+  reach = all_puts_reach cfg end v₁ packets asks reach;
+  goes = all_puts_go cfg end v v₁ session packets t down up back met g ok readable;
 }
-puts_go {since} cfg end v v₁ session (p ∷ packets) t down up back met asks reach g ok readable =
-    let c : LinkSettings = link_of cfg end in
-    let o : List ℕ = packet.spelling_of p in
-    subst (λ (d : List (List ℕ)). PutsGo since cfg end v session (p ∷ packets) t d up back met) (append_assoc down (o ∷ []) (spelled packets))
-    (more (puts_go cfg end v (links.acts c (line.Put o) v₁) session packets (put_on c p t) (down ++ o ∷ []) up back met asks (sessions_act cfg end (line.Put o) v₁ tt (λ off s same. tt) (asks o) reach)
-    (put_goes c v v₁ session t down up back met p readable.0.short ok.0 g) ok.1 readable.1))
-  where
-    more : PutsGo since cfg end v session packets (put_on (link_of cfg end) p t) ((down ++ packet.spelling_of p ∷ []) ++ spelled packets) up back met
-        → PutsGo since cfg end v session (p ∷ packets) t ((down ++ packet.spelling_of p ∷ []) ++ spelled packets) up back met
-    more r = record { links = r.links; reach = r.reach; goes = r.goes }
+
+-- Behind the link's own step to this side packets are put. The link accepts them, and the other end reads them.
+pub record PutsRead (cfg : Cfg) (end : Role) (t : Side) (step : Step) : Type 0 where
+  pub packets : List PlainPacket
+  pub link : PutsBehind (settings_from end cfg) t packets step
+  pub readable : AreReadable cfg.long_data packets
 
 -- a link that accepts packets stays up
 pub puts_up : PutTells → (c : LinkSettings) (packets : List PlainPacket) (t : Side) → is_up t.near.phase ≡ true → is_up (all_put c packets t).near.phase ≡ true

@@ -1,6 +1,7 @@
 -- What still waits in the circuits of two stations where both links are idle and a pull changes nothing.
 use Rattle.std.specs.Prelude.{◌≡◌, ℕ, List, true, false, Some}
 use Rattle.x25_bits.specs.declared.role.Role.{Role}
+use Rattle.x25_bits.specs.declared.role.Role.TheVariants.{Dte, Dce}
 use Rattle.x25_link.specs.MustSend.{other}
 use Rattle.x25_link.specs.Steps as link
 use Rattle.x25_circuit.specs.Circuit.{is_open, waits}
@@ -8,12 +9,13 @@ use Rattle.x25_handshakes.specs.Names.{Name}
 use Rattle.x25_layer.specs.Calls.{PullsAll}
 use Rattle.x25_layer.specs.Transcript.{Entry}
 use Rattle.x25_layer.specs.laws.Law.{HasAllOf}
+use Rattle.x25_layer.specs.laws.WaitLaw.{PullsNone}
 use Rattle.x25_station.specs.declared.config.Cfg.{Cfg}
-use Rattle.x25_station.specs.Settings.{settings_from}
+use Rattle.x25_station.specs.Settings.{settings_from, layer_settings}
 use Rattle.x25_station.specs.Command.{Requests}
 use Rattle.x25_station.specs.Station.{Station}
 use Rattle.x25_station.specs.Told.{stretch}
-use Rattle.x25_world.specs.World.{World, Event, Commands, WorldOutcome, Happened, happens}
+use Rattle.x25_world.specs.World.{World, Event, Commands, Happened, happens, after}
 use Rattle.x25_world.specs.Sessions.{last_session, handed_in}
 use Rattle.x25_world.specs.laws.Claims.{station_at}
 
@@ -27,14 +29,34 @@ pub data WaitsForUser (k : ℕ) (name : Name) (giver taker : Station) (down up :
   Arrived : waits (giver.layer.circuits k) ≡ 0 → HasAllOf k name down up → WaitsForUser k name giver taker down up
   NotReady : (taker.layer.circuits k).talk.own_ready ≡ false → WaitsForUser k name giver taker down up
 
--- Where both links are idle and a pull at an end changes nothing, each stretch that is open there is open at the other end too, and what waits
--- in it waits for that end's user.
+-- A stretch that is open at an end is open at the other end too, and what waits in it waits for that end's user.
+abbrev pub WaitsAlone : Cfg → World → Role → ℕ → Name → Type 0
+WaitsAlone cfg w end channel name =
+    (stretch (settings_from (other end) cfg) (station_at (other end) w) channel ≡ Some name)
+    × WaitsForUser channel name (station_at end w) (station_at (other end) w) (handed_in end (last_session end w) w) (handed_in (other end) (last_session (other end) w) w)
+
+-- .. each that is open
+abbrev pub AllWaitForUsers : Cfg → World → Type 0
+AllWaitForUsers cfg w = (end : Role) (channel : ℕ) (name : Name) → stretch (settings_from end cfg) (station_at end w) channel ≡ Some name → WaitsAlone cfg w end channel name
+
+-- Where both links are idle and a pull at an end changes nothing, each stretch that is open there is so.
 abbrev pub MessagesWaitForUsers : Cfg → World → Type 0
 MessagesWaitForUsers cfg w =
     (end : Role) (channel : ℕ) (name : Name) → link.is_idle (station_at end w).link ≡ true → link.is_idle (station_at (other end) w).link ≡ true → happens cfg w (pull_at end) ≡ Happened w
-    → stretch (settings_from end cfg) (station_at end w) channel ≡ Some name
-    → (stretch (settings_from (other end) cfg) (station_at (other end) w) channel ≡ Some name)
-    × WaitsForUser channel name (station_at end w) (station_at (other end) w) (handed_in end (last_session end w) w) (handed_in (other end) (last_session (other end) w) w)
+    → stretch (settings_from end cfg) (station_at end w) channel ≡ Some name → WaitsAlone cfg w end channel name
+
+-- a pull of any channel of an end gives no packet, where no restart is under way there
+abbrev pub HasNoneToPull : Cfg → World → Role → Type 0
+HasNoneToPull cfg w end = (station_at end w).layer.restarting ≡ false → PullsNone (layer_settings (settings_from end cfg)) (station_at end w).layer
+
+-- Behind a pull at an end, accepted or not, that is so where its link is idle.
+abbrev pub PullsLeaveNone : Type 0
+PullsLeaveNone = (cfg : Cfg) (w : World) (end : Role) → (let v = after w (happens cfg w (pull_at end)) in link.is_idle (station_at end v).link ≡ true → HasNoneToPull cfg v end)
+
+-- Where both links are idle and that is so of both ends, what waits in any stretch waits for a user.
+abbrev pub UnpulledWaitForUsers : Cfg → World → Type 0
+UnpulledWaitForUsers cfg w =
+    link.is_idle (station_at Dte w).link ≡ true → link.is_idle (station_at Dce w).link ≡ true → HasNoneToPull cfg w Dte → HasNoneToPull cfg w Dce → AllWaitForUsers cfg w
 
 -- a circuit that isn't open keeps no message
 abbrev pub ClosedKeepNone : Cfg → World → Type 0

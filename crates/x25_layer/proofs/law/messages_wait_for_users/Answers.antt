@@ -1,9 +1,9 @@
 use Rattle.std.proofs.Common.{ℕ, Bool}
 use Rattle.x25_layer.specs.laws.Law.{Always}
-use Rattle.x25_layer.specs.laws.WaitLaw.{ClosedKeepNone, WaitForUsersAlone}
+use Rattle.x25_layer.specs.laws.WaitLaw.{ClosedKeepNone, NoneOpenInRestart, WaitForUsersAlone}
 use Rattle.x25_layer.proofs.RunLemmas.{Premises}
 use Rattle.x25_layer.proofs.LeftLemmas.{rounds_leave_none, still_pulls_none}
-use Rattle.x25_layer.proofs.WaitLemmas.{always_closed, always_waits}
+use Rattle.x25_layer.proofs.WaitLemmas.{always_closed, always_shut, always_waits}
 use Rattle.x25_layer.proofs.ApartLemmas.{always_apart}
 use Rattle.x25_layer.proofs.law.messages_wait_for_users.Goals as goal
 
@@ -29,6 +29,9 @@ returns-clause-still c = still_pulls_none
 
 pub returns-clause-closed : goal.returns-clause-closed
 returns-clause-closed c = λ long_data channels. always_apart ClosedKeepNone long_data channels (c.apart_layers_keep_order.ensures.runs long_data channels) (always_closed (known c) long_data channels)
+
+pub returns-clause-restarting : goal.returns-clause-restarting
+returns-clause-restarting c = λ long_data channels. always_apart NoneOpenInRestart long_data channels (c.apart_layers_keep_order.ensures.runs long_data channels) (always_shut (known c) long_data channels)
 
 pub returns-clause-waits : goal.returns-clause-waits
 returns-clause-waits c = wait c

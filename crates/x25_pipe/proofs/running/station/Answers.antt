@@ -6,13 +6,15 @@ use Rattle.x25_pipe.specs.Piped.{station_text}
 use Rattle.x25_pipe.proofs.PipeLemmas.{if_some, input_begins, mark_failed, nothing_written, stands_first}
 use Rattle.x25_pipe.proofs.running.station.Goals as goal
 
-pub returns-in_default-new-clause-fault : goal.returns-in_default-new-clause-fault
-returns-in_default-new-clause-fault g c = if_some (g.R.Source.remaining c.args.reader.now) _
-    (λ input is few. nothing_written (g.W.Sink.contents c.args.writer.now) (station_text c.args.end c.args.cfg input))
+pub returns-in_err-held-clause-fault : goal.returns-in_err-held-clause-fault
+returns-in_err-held-clause-fault g c =
+    let p = err_from_is_err_and c.from_residual-in_err-held.result c.from_residual-in_err-held.ensures.1 in
+    rw p.1 (if_some (g.R.Source.remaining c.args.reader.now) _
+    (λ input is few. nothing_written (g.W.Sink.contents c.args.writer.now) (station_text c.args.end c.args.cfg input)))
 
 pub returns-in_err-pipe-clause-fault : goal.returns-in_err-pipe-clause-fault
 returns-in_err-pipe-clause-fault g c =
-    let p = err_from_is_err_and c.from_residual.result c.from_residual.ensures.1 in
+    let p = err_from_is_err_and c.from_residual-in_err-pipe.result c.from_residual-in_err-pipe.ensures.1 in
     rw p.1 (if_some (g.R.Source.remaining c.args.reader.now) _
     (λ input is few. nothing_written (g.W.Sink.contents c.args.writer.now) (station_text c.args.end c.args.cfg input)))
 
@@ -36,8 +38,8 @@ returns-clause-text g c =
     let written = g.W.Sink.contents c.args.writer.now in
     let first = c.in_ok-pipe.ensures in
     c.take_text.ensures.text k written
-    (λ input. input_begins k written (g.W.Sink.contents c.mark_standing.new.writer) c.mark_standing.new.self input c.new-answerer.result c.in-Ok-new.held
-    c.new-answerer.ensures.held c.new-answerer.ensures.pipe c.in-Ok-new.ensures
+    (λ input. input_begins k written (g.W.Sink.contents c.mark_standing.new.writer) c.mark_standing.new.self input c.new-lines.result.taker c.new-lines.result.held c.in_ok-held.held
+    c.new-lines.ensures.held c.new-lines.ensures.taker c.in_ok-held.ensures
     (c.in_ok-mark_standing.ensures.turns k written new_station [] false (stands_first k written c.in_ok-pipe.pipe first.fits first.role first.empty first.is_refused)))
 
 pub returns-clause-status : goal.returns-clause-status
@@ -46,8 +48,8 @@ returns-clause-status g c =
     let written = g.W.Sink.contents c.args.writer.now in
     let first = c.in_ok-pipe.ensures in
     c.take_text.ensures.status k written
-    (λ input. input_begins k written (g.W.Sink.contents c.mark_standing.new.writer) c.mark_standing.new.self input c.new-answerer.result c.in-Ok-new.held
-    c.new-answerer.ensures.held c.new-answerer.ensures.pipe c.in-Ok-new.ensures
+    (λ input. input_begins k written (g.W.Sink.contents c.mark_standing.new.writer) c.mark_standing.new.self input c.new-lines.result.taker c.new-lines.result.held c.in_ok-held.held
+    c.new-lines.ensures.held c.new-lines.ensures.taker c.in_ok-held.ensures
     (c.in_ok-mark_standing.ensures.turns k written new_station [] false (stands_first k written c.in_ok-pipe.pipe first.fits first.role first.empty first.is_refused)))
 
 pub returns-clause-fault : goal.returns-clause-fault
@@ -56,8 +58,8 @@ returns-clause-fault g c =
     let written = g.W.Sink.contents c.args.writer.now in
     let first = c.in_ok-pipe.ensures in
     c.take_text.ensures.fault k written
-    (λ input. input_begins k written (g.W.Sink.contents c.mark_standing.new.writer) c.mark_standing.new.self input c.new-answerer.result c.in-Ok-new.held
-    c.new-answerer.ensures.held c.new-answerer.ensures.pipe c.in-Ok-new.ensures
+    (λ input. input_begins k written (g.W.Sink.contents c.mark_standing.new.writer) c.mark_standing.new.self input c.new-lines.result.taker c.new-lines.result.held c.in_ok-held.held
+    c.new-lines.ensures.held c.new-lines.ensures.taker c.in_ok-held.ensures
     (c.in_ok-mark_standing.ensures.turns k written new_station [] false (stands_first k written c.in_ok-pipe.pipe first.fits first.role first.empty first.is_refused)))
 
 pub returns-clause-ended : goal.returns-clause-ended
@@ -66,6 +68,6 @@ returns-clause-ended g c =
     let written = g.W.Sink.contents c.args.writer.now in
     let first = c.in_ok-pipe.ensures in
     c.take_text.ensures.ended k written
-    (λ input. input_begins k written (g.W.Sink.contents c.mark_standing.new.writer) c.mark_standing.new.self input c.new-answerer.result c.in-Ok-new.held
-    c.new-answerer.ensures.held c.new-answerer.ensures.pipe c.in-Ok-new.ensures
+    (λ input. input_begins k written (g.W.Sink.contents c.mark_standing.new.writer) c.mark_standing.new.self input c.new-lines.result.taker c.new-lines.result.held c.in_ok-held.held
+    c.new-lines.ensures.held c.new-lines.ensures.taker c.in_ok-held.ensures
     (c.in_ok-mark_standing.ensures.turns k written new_station [] false (stands_first k written c.in_ok-pipe.pipe first.fits first.role first.empty first.is_refused)))

@@ -44,11 +44,11 @@ use Rattle.x25_world.proofs.sessions.SessionJoined.{HasMet, PairIsInOrder, Pairs
 use Rattle.x25_world.specs.laws.LawsBelow.{SessionLaws}
 use Rattle.x25_world.proofs.sessions.SessionKnown.{all_no_earlier, met_in_order, pair_ends, here_in, here_is, there_is, pair_world, own_order, own_first, own_readable, nothing_in_order}
 use Rattle.x25_world.proofs.sessions.SessionEntries.{heard_plain}
-use Rattle.x25_world.proofs.sessions.SessionLinks.{SessionGoes, own_step, deliver_goes}
+use Rattle.x25_world.proofs.sessions.SessionLinks.{SessionGoes, own_step, front_entry, deliver_goes, PutsRead}
 use Rattle.x25_world.proofs.sessions.SessionGoes.{here_extended}
-use Rattle.x25_world.proofs.sessions.SessionFollows.{no_command, follows_silent, follows_up}
+use Rattle.x25_world.proofs.sessions.SessionFollows.{no_command, up_puts, silent_puts, follows_silent, follows_up}
 use Rattle.x25_world.proofs.sessions.SessionMoves.{own_pulls, pulls_take_nothing, pulls_bring_octets, near_pulls, take_takes}
-use Rattle.x25_world.proofs.sessions.acts.SessionRequests.{readable_behind, pair_goes, pair_stays, joins}
+use Rattle.x25_world.proofs.sessions.acts.SessionRequests.{readable_behind, pair_goes, pair_stays, puts_readable, joins}
 use Rattle.x25_world.proofs.sessions.acts.SessionTimers.{not_begun_by}
 
 -- the packet in front of those in flight, by its octets
@@ -65,24 +65,6 @@ first_of none (x ∷ xs) = x
 front_of : (octets : List ℕ) (rest : List (List ℕ)) (flight : List PlainPacket) → octets ∷ rest ≡ spelled flight → Front octets flight
 front_of octets rest [] is = absurd (cc)
 front_of octets rest (p ∷ flight) is = record { packet = p; others = flight; is = refl; spells = ap (first_of []) is }
-
--- ---- the line
-
--- octets on the line are those of an entry
-record FrontEntry (front : List ℕ) (behind : List (List ℕ)) (es : List links.Entry) : Type 0 where
-  pub entry : links.Entry
-  pub others : List links.Entry
-  pub is : es ≡ entry ∷ others
-  pub octets : entry.octets ≡ front
-  pub left : octets_of others ≡ behind
-
-abbrev front_octets : List (List ℕ) → List ℕ
-front_octets [] = []
-front_octets (x ∷ xs) = x
-
-abbrev behind_front : List (List ℕ) → List (List ℕ)
-behind_front [] = []
-behind_front (x ∷ xs) = xs
 
 -- ---- meetings
 
@@ -156,14 +138,8 @@ module _ {since : Beginning} (laws : SessionLaws) (cfg : Cfg) (fine : IsConfigur
   ]
 
   module _ (octets : List ℕ) (back : List (List ℕ)) (front : w.back ≡ octets ∷ back) where
-    front_entry : FrontEntry octets back h.links.back
-    front_entry = by h.links.back refl
-      where
-        by : (es : List links.Entry) → h.links.back ≡ es → FrontEntry octets back h.links.back
-        by [] is = absurd (cc)
-        by (e ∷ es) is =
-            let same : e.octets ∷ octets_of es ≡ octets ∷ back = ap octets_of (sym is) ∙ h.back ∙ front in
-            record { entry = e; others = es; is = is; octets = ap front_octets same; left = ap behind_front same }
+    line_is : octets_of h.links.back ≡ octets ∷ back
+    line_is = h.back ∙ front
 
     -- ---- where a count is full
 
@@ -183,7 +159,7 @@ module _ {since : Beginning} (laws : SessionLaws) (cfg : Cfg) (fine : IsConfigur
         let same : gone ≡ record (left w.near.link) { back = remove h.links.back 0 } = ap (λ (x : Sessions). record x { back = remove x.back 0 }) was in
         let not_up : k.notes.up ≡ false = not_begun_by k.notes.up here (sym (ap (λ (x : Sessions). x.near.begun) was) ∙ (laws.hands c c (line.Near line.Abandon) h.links).0.begun) in
         let g = own_step c h.links (remove h.links.back 0) h.links.met k in
-        let f = front_entry in
+        let f = front_entry octets back h.links.back line_is in
         let goes : SessionGoes c h.links (record (left w.near.link) { back = remove h.links.back 0 }) here k.side.near k.side.out [] [] back h.links.met =
         subst (λ (b : Bool). SessionGoes c h.links (record (left w.near.link) { back = remove h.links.back 0 }) (begun_by b here) k.side.near k.side.out [] [] back h.links.met) not_up
         (subst (λ (os : List (List ℕ)). SessionGoes c h.links (record (left w.near.link) { back = remove h.links.back 0 }) (begun_by k.notes.up here) k.side.near k.side.out [] [] os h.links.met)
@@ -206,15 +182,7 @@ module _ {since : Beginning} (laws : SessionLaws) (cfg : Cfg) (fine : IsConfigur
     reach_taken = sessions_act cfg end line.Deliver h.links tt (λ off s same. tt) (may_ask end Receives line.Deliver is_at tt) h.reach
 
     goes_taken : SessionGoes (link_of cfg end) h.links after_taken (begun_by taken.notes.up here) taken.side.near taken.side.out [] (option_to_list taken.packet) back after_taken.met
-    goes_taken =
-        let c = link_of cfg end in
-        let f = front_entry in
-        subst (λ (os : List (List ℕ)). SessionGoes c h.links after_taken (begun_by taken.notes.up here) taken.side.near taken.side.out [] (option_to_list taken.packet) os after_taken.met) f.left
-        (subst (λ (s : LinkStation). (let k = take_step c octets s in
-        SessionGoes c h.links after_taken (begun_by k.notes.up here) k.side.near k.side.out [] (option_to_list k.packet) (octets_of f.others) after_taken.met)) h.near.link
-        (subst (λ (o : List ℕ). (let k = take_step c o h.links.near.station in
-        SessionGoes c h.links after_taken (begun_by k.notes.up here) k.side.near k.side.out [] (option_to_list k.packet) (octets_of f.others) after_taken.met)) f.octets
-        (deliver_goes c h.links f.entry f.others f.is)))
+    goes_taken = deliver_goes (link_of cfg end) h.links w.near.link octets back h.near.link line_is
 
     goes_in : (up : Bool) (packet : Option (List ℕ)) → taken.notes.up ≡ up → taken.packet ≡ packet
         → SessionGoes (link_of cfg end) h.links after_taken (begun_by up here) taken.side.near taken.side.out [] (option_to_list packet) back after_taken.met
@@ -343,45 +311,81 @@ module _ {since : Beginning} (laws : SessionLaws) (cfg : Cfg) (fine : IsConfigur
             subst (λ (ns : List LayerNotice). IsToldFirst (in_front.packet ∷ []) ns) (told_on ∙ ap (λ (ns : List LayerNotice). ns ++ told) before)
             (subst (λ (ps : List PlainPacket). IsToldFirst ps (own cfg end here trace_on).told) (taken_on ∙ ap (λ (ps : List PlainPacket). ps ++ in_front.packet ∷ []) none) (own_first laws cfg end here there trace_on pair_on))
 
-      handed : abandons (settings_from end cfg) w.near ≡ false → IsKept (follows (settings_from end cfg) w.near.layer taken).near
-          → SessionsJoined since cfg end (after_step (settings_from end cfg) w back (follows (settings_from end cfg) w.near.layer taken))
-      handed none kept =
-          let c : Settings = settings_from end cfg in
-          let step : Step = follows c w.near.layer taken in
-          let hands = laws.stations.take_hands_up (link_of cfg end) octets w.near.link in
-          let quiet : IsQuiet taken = hands.quiet packet_octets some in
-          let up_after : is_up taken.side.near.phase ≡ true = (laws.stations.take_tells (link_of cfg end) octets w.near.link).stays quiet ∙ up in
-          let now = h.near.now up in
+      abbrev step : Step
+      step = follows (settings_from end cfg) w.near.layer taken
+
+      abbrev begin : layer.TwoLayers
+      begin = apart.alone own_here (in_front.packet ∷ [])
+
+      abbrev world_on : List ℕ → layer.TwoLayers
+      world_on channels = moves_all (layer_of cfg end) begin (HandsUp ∷ pulls_of channels)
+
+      near_on : (channels : List ℕ) → (world_on channels).near ≡ own_run (layer_of cfg end) (moves channels) own_here
+      near_on channels = near_pulls (layer_of cfg end) (layer.moves (layer_of cfg end) begin HandsUp) channels
+
+      reads : packet_of (longest_user cfg.long_data) packet_octets ≡ Ok in_front.packet
+      reads =
           let f = in_front in
           let far : AreReadable cfg.long_data (own_here.taken ++ (f.packet ∷ f.others)) =
           subst (AreReadable cfg.long_data) (given_is ∙ ap (λ (l : List PlainPacket). own_here.taken ++ l) f.is)
           (own_readable laws cfg fine (other end) there here h.trace
           (subst (λ (es : List apart.ApartEvent). AreInOrder cfg.long_data cfg.channels es (apart.apart_start cfg.long_data cfg.channels)) (sym (pair_turned end here there h.trace)) paired) h.octets) in
           let readable : IsReadable cfg.long_data f.packet = (readable_behind cfg.long_data own_here.taken (f.packet ∷ f.others) far).0 in
-          let reads : packet_of (longest_user cfg.long_data) packet_octets ≡ Ok f.packet = ap (λ (o : List ℕ). packet_of (longest_user cfg.long_data) o) f.spells ∙ readable.reads in
-          let begin : layer.TwoLayers = apart.alone own_here (f.packet ∷ []) in
-          let j = laws.stations.receive c w.near.link begin octets packet_octets f.packet [] now.out refl
+          ap (λ (o : List ℕ). packet_of (longest_user cfg.long_data) o) f.spells ∙ readable.reads
+
+      -- the layer takes it, and pulls at these channels
+      joined_on : abandons (settings_from end cfg) w.near ≡ false → (channels : List ℕ) × IsJoined (settings_from end cfg) begin (world_on channels) taken.side [] step
+      joined_on none =
+          let c : Settings = settings_from end cfg in
+          let now = h.near.now up in
+          let j = laws.stations.receive c w.near.link begin octets packet_octets in_front.packet [] now.out refl
           (ap (λ (l : Layer). abandons c (station_with w.near.link l)) now.layer ∙ none) some reads in
-          let u : layer.TwoLayers = moves_all (layer_of cfg end) begin (HandsUp ∷ pulls_of j.0) in
           let is : receives c (station_with w.near.link own_here.layer) octets ≡ step =
           ap (λ (l : Layer). receives c (station_with w.near.link l) octets) now.layer
           ∙ ap (λ (b : Bool). follows c w.near.layer (if b then abandon_step (link_of cfg end) w.near.link else taken)) none in
-          let joined : IsJoined c begin u taken.side [] step = subst (λ (s : Step). IsJoined c begin u taken.side [] s) is j.2 in
-          let near : u.near ≡ own_run (layer_of cfg end) (moves j.0) own_here = near_pulls (layer_of cfg end) (layer.moves (layer_of cfg end) begin HandsUp) j.0 in
-          let takes = take_takes (layer_of cfg end) own_here f.packet j.0 now.out in
+          (j.0, subst (λ (s : Step). IsJoined c begin (world_on j.0) taken.side [] s) is j.2)
+
+      handed_puts : abandons (settings_from end cfg) w.near ≡ false → PutsRead cfg end taken.side step
+      handed_puts none =
+          let j = joined_on none in
+          record {
+            packets = j.1.packets;
+            link = j.1.link;
+            readable = puts_readable laws cfg fine end w h (moves j.0) j.1.packets (ap (λ (e : layer.End). e.given) (sym (near_on j.0)) ∙ j.1.layer.given) (tt, pulls_bring_octets end here j.0) (there, pair_on j.0);
+          }
+
+      handed : abandons (settings_from end cfg) w.near ≡ false → IsKept step.near → SessionsJoined since cfg end (after_step (settings_from end cfg) w back step)
+      handed none kept =
+          let hands = laws.stations.take_hands_up (link_of cfg end) octets w.near.link in
+          let quiet : IsQuiet taken = hands.quiet packet_octets some in
+          let up_after : is_up taken.side.near.phase ≡ true = (laws.stations.take_tells (link_of cfg end) octets w.near.link).stays quiet ∙ up in
+          let f = in_front in
+          let j = joined_on none in
+          let near = near_on j.0 in
+          let takes = take_takes (layer_of cfg end) own_here f.packet j.0 (h.near.now up).out in
           let all = own_goes cfg end here h.trace (moves j.0) in
-          joins laws cfg fine end w h step after_taken taken.side u (moves j.0) (f.packet ∷ []) [] (f.packet ∷ []) back
+          joins laws cfg fine end w h step after_taken taken.side (world_on j.0) (moves j.0) (f.packet ∷ []) [] (f.packet ∷ []) back
           (subst (λ (o : List ℕ). SessionGoes (link_of cfg end) h.links after_taken here taken.side.near taken.side.out [] (o ∷ []) back after_taken.met) f.spells goes_up_one)
-          up up_after joined near takes (heard_plain c w.near.layer taken packet_octets some quiet) kept (tt, pulls_bring_octets end here j.0) (there, pair_on j.0)
+          up up_after j.1 near takes (heard_plain (settings_from end cfg) w.near.layer taken packet_octets some quiet) kept (tt, pulls_bring_octets end here j.0) (there, pair_on j.0)
           (λ o. may_ask end Receives (line.Put o) is_at tt) reach_taken (λ nothing. absurd (not_empty f.packet nothing)) (pairs_on j.0) met_taken.more
           (λ first. inr (record {
             has_met = subst (λ (ms : List Meeting). HasMet here there ms) (sym met_now) (inl (refl, refl));
-            restarts = restarts j.0 (layer_notices step.entries) (ap (λ (e : layer.End). e.taken) all ∙ takes) (ap (λ (e : layer.End). e.told) all ∙ ap (λ (e : layer.End). e.told) (sym near) ∙ joined.layer.told) first;
+            restarts = restarts j.0 (layer_notices step.entries) (ap (λ (e : layer.End). e.taken) all ∙ takes) (ap (λ (e : layer.End). e.told) all ∙ ap (λ (e : layer.End). e.told) (sym near) ∙ j.1.layer.told) first;
             begun = there_begun;
           }))
         where
           not_empty : (p : PlainPacket) → p ∷ [] ≡ [] → ⊥
           not_empty p e = cc
+
+    -- ---- what the layer puts
+
+    pub taken_puts : abandons (settings_from end cfg) w.near ≡ false → PutsRead cfg end taken.side (follows (settings_from end cfg) w.near.layer taken)
+    taken_puts none = by taken.notes.up taken.packet refl refl
+      where
+        by : (up : Bool) (o : Option (List ℕ)) → taken.notes.up ≡ up → taken.packet ≡ o → PutsRead cfg end taken.side (follows (settings_from end cfg) w.near.layer taken)
+        by true o up is = up_puts laws cfg fine end w h taken (laws.stations.take_tells (link_of cfg end) octets w.near.link) up
+        by false None up is = silent_puts cfg end w.near.layer taken is up
+        by false (Some packet_octets) up is = handed_puts up packet_octets is none
 
     -- ---- all that may come
 

@@ -37,7 +37,7 @@ use Rattle.x25_world.proofs.sessions.SessionJoined.{HasMet, PairIsInOrder, Pairs
 use Rattle.x25_world.specs.laws.LawsBelow.{SessionLaws}
 use Rattle.x25_world.proofs.sessions.SessionKnown.{met_in_order, all_map, pair_ends, own_quiet, own_readable, nothing_in_order}
 use Rattle.x25_world.proofs.sessions.SessionEntries.{ArePlain, outcome_plain}
-use Rattle.x25_world.proofs.sessions.SessionLinks.{puts_up, SessionGoes, puts_go, extended_none}
+use Rattle.x25_world.proofs.sessions.SessionLinks.{puts_up, SessionGoes, puts_go, stays_goes, PutsRead}
 use Rattle.x25_world.proofs.sessions.SessionGoes.{same_or_not, IsNews, goes_on}
 use Rattle.x25_world.proofs.sessions.SessionMoves.{own_pulls, pulls_take_nothing, pulls_bring_octets, near_pulls, request_leaves}
 use Rattle.x25_station.specs.declared.error.StationError.{StationError}
@@ -121,6 +121,14 @@ module _ {since : Beginning} (laws : SessionLaws) (cfg : Cfg) (fine : IsConfigur
     | inr one ↦ (one.session, met_in_order cfg end h.trace h.links.met n one.session h.pairs one.has_met)
   ]
 
+  -- what is put as the layer moves on in the session that stands is read again
+  pub puts_readable : (moves : List OwnMove) (packets : List PlainPacket) → (own_run (layer_of cfg end) moves own_now).given ≡ own_now.given ++ packets → BringOctets (moved end session moves)
+      → (m : ℕ) × PairIsInOrder cfg end (h.trace ++ moved end session moves) session m → AreReadable cfg.long_data packets
+  puts_readable moves packets given octets paired =
+      readable_behind cfg.long_data own_now.given packets
+      (subst (AreReadable cfg.long_data) (ap (λ (e : layer.End). e.given) (own_goes cfg end session h.trace moves) ∙ given)
+      (own_readable laws cfg fine end session paired.0 (h.trace ++ moved end session moves) paired.1 (octets_append h.trace (moved end session moves) h.octets octets)))
+
   -- the link's own step is at `v`, with the side `t`; behind it go the packets that the layer puts
   module _ (step : Step) (v : Sessions) (t : Side) (u : layer.TwoLayers) (moves : List OwnMove) (lifted behind coming : List PlainPacket) (back : List (List ℕ))
       (g : SessionGoes (link_of cfg end) h.links v session t.near t.out [] (spelled lifted) back v.met) (up : is_up w.near.link.phase ≡ true) (up_after : is_up t.near.phase ≡ true)
@@ -136,17 +144,11 @@ module _ {since : Beginning} (laws : SessionLaws) (cfg : Cfg) (fine : IsConfigur
     told_then : own_then.told ≡ own_now.told ++ layer_notices step.entries
     told_then = ap (λ (e : layer.End). e.told) (sym near) ∙ j.layer.told
 
-    puts_readable : AreReadable cfg.long_data j.packets
-    puts_readable =
-        readable_behind cfg.long_data own_now.given j.packets
-        (subst (AreReadable cfg.long_data) (ap (λ (e : layer.End). e.given) (own_goes cfg end session h.trace moves) ∙ given_then)
-        (own_readable laws cfg fine end session paired.0 (h.trace ++ moved end session moves) paired.1 (octets_append h.trace (moved end session moves) h.octets octets)))
-
     pub joins : ((octets : List ℕ) → MayAsk since end (line.Put octets)) → SessionsReach since cfg end v → (lifted ≡ [] → TakeNothing moves) → PairsAreInOrder cfg end (h.trace ++ moved end session moves) v.met → ((n m : ℕ) → HasMet n m h.links.met → HasMet n m v.met)
         → (own_now.taken ≡ [] → ((lifted ≡ []) × (layer_notices step.entries ≡ [])) ⊎ IsNews session h.links.far.begun v.met (layer_notices step.entries))
         → SessionsJoined since cfg end (after_step (settings_from end cfg) w back step)
     joins asks reach alone pairs more news =
-        let r = puts_go cfg end h.links v session j.packets t [] (spelled lifted) back v.met asks reach g j.link.accepted puts_readable in
+        let r = puts_go cfg end h.links v session j.packets t [] (spelled lifted) back v.met asks reach g j.link.accepted (puts_readable moves j.packets given_then octets paired) in
         let still : is_up step.near.link.phase ≡ true = ap (λ (s : LinkStation). is_up s.phase) j.link.link ∙ puts_up laws.stations.put_tells (link_of cfg end) j.packets t up_after in
         goes_on cfg end w h step back r.links v.met moves j.packets lifted
         (record {
@@ -175,44 +177,62 @@ module _ {since : Beginning} (laws : SessionLaws) (cfg : Cfg) (fine : IsConfigur
 
   -- ---- a command
 
-  accepted_joined : (request : LayerRequest) → IsAt since end (Commands (command.Requests request)) → RequestsOctets request → (step : Step) → requests (settings_from end cfg) w.near request ≡ Did step
-      → SessionsJoined since cfg end (after_step (settings_from end cfg) w w.back step)
-  accepted_joined request is_at octets step is =
-      let c : Settings = settings_from end cfg in
-      let up = did_up c w.near request step is in
-      let now = h.near.now up in
-      let same : requests c (station_with w.near.link own_now.layer) request ≡ Did step = ap (λ (l : Layer). requests c (station_with w.near.link l) request) now.layer ∙ is in
-      let full : Bool = waits w.near.link.outgoing == 256 in
-      let begin : layer.TwoLayers = apart.alone own_now [] in
-      let j = laws.stations.request c w.near.link begin request step now.out h.near.kept.few same in
-      let moves : List OwnMove = Requests full request ∷ own_pulls j.0 in
-      let u : layer.TwoLayers = moves_all (layer_of cfg end) begin (Requested full request ∷ pulls_of j.0) in
-      let nothing : TakeNothing moves = (tt, pulls_take_nothing j.0) in
-      let near : u.near ≡ own_run (layer_of cfg end) moves own_now = near_pulls (layer_of cfg end) (layer.moves (layer_of cfg end) begin (Requested full request)) j.0 in
-      let leaves = request_leaves (layer_of cfg end) own_now full request j.0 in
-      let pair = session_pair session in
-      let untold : layer_notices step.entries ≡ [] =
-      append_cancel_left own_now.told (layer_notices step.entries) [] (sym j.2.layer.told ∙ ap (λ (e : layer.End). e.told) near ∙ leaves.told ∙ sym (append-nil own_now.told)) in
-      joins step h.links (alone w.near.link) u moves [] [] [] w.back
-      (record {
-        station = h.near.link;
-        begun = refl;
-        down = λ n. sym (extended_none h.links.near.down session n);
-        up = λ n. sym (extended_none h.links.near.up session n);
-        far = refl;
-        out = sym (append-nil (octets_of h.links.out));
-        back = h.back;
-        sent = sym (append-nil h.links.sent);
-        met = refl;
-      })
-      up up j.2 near (leaves.taken ∙ sym (append-nil own_now.taken))
-      (subst ArePlain (sym (did_entries c (alone w.near.link) _ _ step is)) (outcome_plain (layer_settings c) w.near.layer request _))
-      (subst KeptBy is (laws.stations.command_keeps c w.near (command.Requests request) h.near.kept)) (octets, pulls_bring_octets end session j.0) (pair.0, pair_goes_quietly laws cfg end h.trace session moves nothing session pair.0 pair.1)
-      (λ o. may_ask end (Commands (command.Requests request)) (line.Put o) is_at tt) h.reach (λ none. nothing) (pairs_go_quietly laws cfg end h.trace session moves nothing h.links.met h.pairs) (λ n m has. has) (λ none. inl (refl, untold))
+  module _ (request : LayerRequest) (octets : RequestsOctets request) (step : Step) (is : requests (settings_from end cfg) w.near request ≡ Did step) where
+    abbrev full : Bool
+    full = waits w.near.link.outgoing == 256
+
+    abbrev begin : layer.TwoLayers
+    begin = apart.alone own_now []
+
+    abbrev moves : List ℕ → List OwnMove
+    moves channels = Requests full request ∷ own_pulls channels
+
+    abbrev world_on : List ℕ → layer.TwoLayers
+    world_on channels = moves_all (layer_of cfg end) begin (Requested full request ∷ pulls_of channels)
+
+    up : is_up w.near.link.phase ≡ true
+    up = did_up (settings_from end cfg) w.near request step is
+
+    -- the layer does so, and pulls at these channels
+    joined_on : (channels : List ℕ) × IsJoined (settings_from end cfg) begin (world_on channels) (alone w.near.link) [] step
+    joined_on =
+        let c : Settings = settings_from end cfg in
+        let now = h.near.now up in
+        let j = laws.stations.request c w.near.link begin request step now.out h.near.kept.few (ap (λ (l : Layer). requests c (station_with w.near.link l) request) now.layer ∙ is) in
+        (j.0, j.2)
+
+    near_on : (channels : List ℕ) → (world_on channels).near ≡ own_run (layer_of cfg end) (moves channels) own_now
+    near_on channels = near_pulls (layer_of cfg end) (layer.moves (layer_of cfg end) begin (Requested full request)) channels
+
+    pair_on : (channels : List ℕ) → (m : ℕ) × PairIsInOrder cfg end (h.trace ++ moved end session (moves channels)) session m
+    pair_on channels = (let pair = session_pair session in (pair.0, pair_goes_quietly laws cfg end h.trace session (moves channels) (tt, pulls_take_nothing channels) session pair.0 pair.1))
+
+    pub request_puts : PutsRead cfg end (alone w.near.link) step
+    request_puts =
+        let j = joined_on in
+        record {
+          packets = j.1.packets;
+          link = j.1.link;
+          readable = puts_readable (moves j.0) j.1.packets (ap (λ (e : layer.End). e.given) (sym (near_on j.0)) ∙ j.1.layer.given) (octets, pulls_bring_octets end session j.0) (pair_on j.0);
+        }
+
+    accepted_joined : IsAt since end (Commands (command.Requests request)) → SessionsJoined since cfg end (after_step (settings_from end cfg) w w.back step)
+    accepted_joined is_at =
+        let c : Settings = settings_from end cfg in
+        let j = joined_on in
+        let nothing : TakeNothing (moves j.0) = (tt, pulls_take_nothing j.0) in
+        let near = near_on j.0 in
+        let leaves = request_leaves (layer_of cfg end) own_now full request j.0 in
+        let untold : layer_notices step.entries ≡ [] =
+        append_cancel_left own_now.told (layer_notices step.entries) [] (sym j.1.layer.told ∙ ap (λ (e : layer.End). e.told) near ∙ leaves.told ∙ sym (append-nil own_now.told)) in
+        joins step h.links (alone w.near.link) (world_on j.0) (moves j.0) [] [] [] w.back (stays_goes (link_of cfg end) h.links w.near.link w.back h.near.link h.back) up up j.1 near (leaves.taken ∙ sym (append-nil own_now.taken))
+        (subst ArePlain (sym (did_entries c (alone w.near.link) _ _ step is)) (outcome_plain (layer_settings c) w.near.layer request _))
+        (subst KeptBy is (laws.stations.command_keeps c w.near (command.Requests request) h.near.kept)) (octets, pulls_bring_octets end session j.0) (pair_on j.0)
+        (λ o. may_ask end (Commands (command.Requests request)) (line.Put o) is_at tt) h.reach (λ none. nothing) (pairs_go_quietly laws cfg end h.trace session (moves j.0) nothing h.links.met h.pairs) (λ n m has. has) (λ none. inl (refl, untold))
 
   pub requests_joined : (request : LayerRequest) → IsAt since end (Commands (command.Requests request)) → RequestsOctets request → SessionsJoined since cfg end (after w (of_station (settings_from end cfg) w (requests (settings_from end cfg) w.near request)))
   requests_joined request is_at octets = by (requests (settings_from end cfg) w.near request) refl
     where
       by : (o : Outcome) → requests (settings_from end cfg) w.near request ≡ o → SessionsJoined since cfg end (after w (of_station (settings_from end cfg) w o))
-      by (Did step) is = accepted_joined request is_at octets step is
+      by (Did step) is = accepted_joined request octets step is is_at
       by (Refused e) is = h

@@ -1,5 +1,5 @@
 -- Where both links are idle, and a pull at the one end changes nothing, what waits in an open stretch there waits for the user at the other end.
-use Rattle.std.proofs.Common.{◌≡◌, ℕ, ◌+◌, ◌<◌, ◌≤◌, inl, inr, List, [], ◌∷◌, ◌++◌, length, Bool, true, false, Option, Some, None, if◌then◌else◌, ◌==◌, ◌&&◌, refl, sym, ap, subst, ◌∙◌, arith, length-append}
+use Rattle.std.proofs.Common.{◌≡◌, ℕ, ◌+◌, ◌<◌, inr, List, [], ◌∷◌, ◌++◌, length, Bool, true, false, Some, None, if◌then◌else◌, ◌==◌, ◌&&◌, refl, sym, ap, subst, ◌∙◌, arith, length-append}
 use Rattle.std.proofs.lemmas.List.{length-map}
 use Rattle.std.proofs.lemmas.Bool.{eqb-true}
 use Rattle.x25_bits.specs.declared.role.Role.{Role}
@@ -15,36 +15,37 @@ use Rattle.x25_line.specs.Sessions.{Meeting}
 use Rattle.x25_line.specs.laws.SessionClaims.{IdleHasArrived}
 use Rattle.x25_circuit.specs.Circuit.{is_open, waits}
 use Rattle.x25_handshakes.specs.Names.{Name}
-use Rattle.x25_layer.specs.Layer.{LayerSettings, Layer, is_channel}
-use Rattle.x25_layer.specs.Calls.{LayerRequest, PullsAll}
-use Rattle.x25_layer.specs.Rounds.{Putting, Answered, Went, Refuses, calls}
+use Rattle.x25_layer.specs.declared.error.LayerError.TheVariants as error
+use Rattle.x25_layer.specs.Layer.{Layer, is_channel, is_ready}
+use Rattle.x25_layer.specs.Calls.{PullsAll, outcome_in, layer_outcome}
+use Rattle.x25_layer.specs.Rounds.{LinkView, Putting, begin, rounds, Answered, Went, Refuses, went, calls}
 use Rattle.x25_layer.specs.Apart.{AlwaysApart, as_world}
 use Rattle.x25_layer.specs.Transcript.{Entry, name_of}
 use Rattle.x25_layer.specs.TwoLayers as layer
 use Rattle.x25_layer.specs.laws.Law.{HasAllOf, KeepsOrder}
 use Rattle.x25_layer.specs.laws.WaitLaw as wait
-use Rattle.x25_layer.specs.laws.WaitLaw.{PullsNone, StillPullsNone, KeepsNoneClosed, IsDrained, IsOpenAtBoth, WaitForUsersAlone}
+use Rattle.x25_layer.specs.laws.WaitLaw.{PullsNone, RoundsLeaveNone, StillPullsNone, KeepsNoneClosed, OpensNoneInRestart, IsDrained, IsOpenAtBoth, WaitForUsersAlone}
 use Rattle.x25_station.specs.declared.config.Cfg.{Cfg}
 use Rattle.x25_station.specs.Settings.{Settings, settings_from, link_settings, layer_settings}
 use Rattle.x25_station.specs.Entries.{StationEntry}
-use Rattle.x25_station.specs.Station.{Station, view_of}
+use Rattle.x25_station.specs.Station.{Station, all_put, view_of}
 use Rattle.x25_station.specs.Steps.{did, requests}
 use Rattle.x25_station.specs.Told.{stretch}
 use Rattle.x25_station.specs.laws.KeepLaw.{ConnectKeeps}
-use Rattle.x25_world.specs.World.{World, swapped, WorldOutcome, Happened, Declined, of_station, swapped_back, happens, run}
+use Rattle.x25_world.specs.World.{World, swapped, WorldOutcome, Happened, Declined, of_station, swapped_back, after, run}
 use Rattle.x25_world.specs.Sessions.{last_session, handed_in}
 use Rattle.x25_world.specs.laws.SessionClaims.{Throughout}
-use Rattle.x25_world.specs.laws.WaitClaims.{pull_at, WaitsForUser, Arrived, NotReady, MessagesWaitForUsers, ClosedKeepNone}
+use Rattle.x25_world.specs.laws.WaitClaims.{WaitsForUser, Arrived, NotReady, MessagesWaitForUsers, ClosedKeepNone, PullsLeaveNone, UnpulledWaitForUsers}
 use Rattle.x25_world.specs.laws.LawsBelow.{SessionLaws}
 use Rattle.x25_world.proofs.Known.{IsConfigured, is_configured, both_true, true_false}
 use Rattle.x25_world.proofs.Growing.{spelled}
 use Rattle.x25_world.proofs.sessions.SessionTrace.{layer_of, Done, own, pair_in}
 use Rattle.x25_world.proofs.sessions.SessionReaches.{Beginning, known_sessions}
-use Rattle.x25_world.proofs.sessions.SessionJoined.{HasMet, PairIsInOrder, SessionsJoined, sessions_swapped}
+use Rattle.x25_world.proofs.sessions.SessionJoined.{PairIsInOrder, SessionsJoined, sessions_swapped}
 use Rattle.x25_world.proofs.sessions.SessionKnown.{some_map, met_in_order, pair_ends, pair_world, world_here, world_there}
 use Rattle.x25_world.proofs.sessions.SessionRuns.{throughout_joined}
 use Rattle.x25_world.proofs.sessions.acts.SessionRequests.{session_pair}
-use Rattle.x25_world.proofs.sessions.claims.SessionArrives.{stretch_of, name_if, open_if, up_where_open, StandingMeet, meet_from, latest_near, latest_far}
+use Rattle.x25_world.proofs.sessions.claims.SessionArrives.{stretch_of, name_if, open_if, meet_from, latest_near, latest_far}
 
 -- ---- a pull that changes nothing
 
@@ -120,11 +121,11 @@ stretch_is : (c : Settings) (s : Station) (k : ℕ) (name : Name) → is_channel
 stretch_is c s k name channel opened named =
     ap (λ (b : Bool). name_if (open_if b (is_open (s.layer.circuits k))) (name_of s.layer k)) channel ∙ ap (λ (b : Bool). name_if b (name_of s.layer k)) opened ∙ ap (λ (n : Name). Some n) named
 
-module _ (laws : SessionLaws) (waits_law : LayersWait) (still_law : StillPullsNone) (cfg : Cfg) (fine : IsConfigured cfg) where
+module _ (laws : SessionLaws) (waits_law : LayersWait) (cfg : Cfg) (fine : IsConfigured cfg) where
   waits_from : {since : Beginning} (end : Role) (w : World) → SessionsJoined since cfg end w → (k : ℕ) (name : Name) → link.is_idle w.near.link ≡ true → link.is_idle w.far.link ≡ true
-      → of_station (settings_from end cfg) w (requests (settings_from end cfg) w.near PullsAll) ≡ Happened w → stretch (settings_from end cfg) w.near k ≡ Some name
+      → PullsNone (layer_of cfg end) w.near.layer → stretch (settings_from end cfg) w.near k ≡ Some name
       → (stretch (settings_from (other end) cfg) w.far k ≡ Some name) × WaitsForUser k name w.near w.far (handed_in end (last_session end w) w) (handed_in (other end) (last_session (other end) w) w)
-  waits_from end w h k name idle idle_there still here =
+  waits_from end w h k name idle idle_there none here =
       let stands = meet_from laws cfg fine end w h k name here in
       let shown = stretch_of cfg.channels w.near.layer k name here in
       let at = h.near.now stands.up in
@@ -140,7 +141,6 @@ module _ (laws : SessionLaws) (waits_law : LayersWait) (still_law : StillPullsNo
       let all : spelled taker.taken ≡ spelled giver.given = sym far_session.up ∙ arrived ∙ near_session.down in
       let all_back : spelled giver.taken ≡ spelled taker.given = sym near_session.up ∙ arrived_back ∙ far_session.down in
       let order = met_in_order cfg end h.trace h.links.met n m h.pairs stands.has_met in
-      let none = had_nothing still_law (settings_from end cfg) w idle still in
       let what = own_waits laws waits_law cfg end n m h.trace order at.out at_there.out (as_many taker.taken giver.given all) (as_many giver.taken taker.given all_back)
       (subst (λ (l : Layer). PullsNone (layer_of cfg end) l) (sym at.layer) none) k shown.channel in
       shows at.layer at_there.layer shown.channel shown.opened shown.named what near_session.entries far_session.entries
@@ -182,14 +182,17 @@ module _ (laws : SessionLaws) (waits_law : LayersWait) (still_law : StillPullsNo
       shows of_giver of_taker channel opened named (wait.NotReady both not) down up =
           (there_too of_giver of_taker channel named both, NotReady (ap (λ (l : Layer). (l.circuits k).talk.own_ready) (sym of_taker) ∙ not))
 
-  swapped_is : (o : WorldOutcome) (w : World) → swapped_back o ≡ Happened w → o ≡ Happened (swapped w)
-  swapped_is (Happened v) w is = ap (λ (u : WorldOutcome). swapped_back u) is
-  swapped_is (Declined e) w is = absurd (cc)
+swapped_is : (o : WorldOutcome) (w : World) → swapped_back o ≡ Happened w → o ≡ Happened (swapped w)
+swapped_is (Happened v) w is = ap (λ (u : WorldOutcome). swapped_back u) is
+swapped_is (Declined e) w is = absurd (cc)
 
+module _ (laws : SessionLaws) (waits_law : LayersWait) (still_law : StillPullsNone) (cfg : Cfg) (fine : IsConfigured cfg) where
   pub messages_wait : {since : Beginning} (w : World) → SessionsJoined since cfg Dte w → MessagesWaitForUsers cfg w
-  messages_wait w h Dte k name idle idle_there still here = waits_from Dte w h k name idle idle_there still here
+  messages_wait w h Dte k name idle idle_there still here =
+      waits_from laws waits_law cfg fine Dte w h k name idle idle_there (had_nothing still_law (settings_from Dte cfg) w idle still) here
   messages_wait w h Dce k name idle idle_there still here =
-      waits_from Dce (swapped w) (sessions_swapped cfg Dte w h) k name idle idle_there (swapped_is (of_station (settings_from Dce cfg) (swapped w) (requests (settings_from Dce cfg) w.far PullsAll)) w still) here
+      let same = swapped_is (of_station (settings_from Dce cfg) (swapped w) (requests (settings_from Dce cfg) w.far PullsAll)) w still in
+      waits_from laws waits_law cfg fine Dce (swapped w) (sessions_swapped cfg Dte w h) k name idle idle_there (had_nothing still_law (settings_from Dce cfg) (swapped w) idle same) here
 
 -- ---- a circuit that isn't open
 
@@ -218,6 +221,77 @@ module _ (laws : SessionLaws) (closed_law : LayersKeepNone) (cfg : Cfg) (fine : 
   closed_keep w h Dte k closed = closed_from Dte w h k closed
   closed_keep w h Dce k closed = closed_from Dce (swapped w) (sessions_swapped cfg Dte w h) k closed
 
+-- ---- behind a pull
+
+abbrev pub LayersOpenNone : Type 0
+LayersOpenNone = (long_data : Bool) (channels : ℕ) → AlwaysApart wait.NoneOpenInRestart long_data channels
+
+-- while a restart is under way no circuit is open
+module _ (laws : SessionLaws) (shut_law : LayersOpenNone) (cfg : Cfg) (fine : IsConfigured cfg) where
+  shut_here : (end : Role) (n m : ℕ) (trace : List Done) → PairIsInOrder cfg end trace n m → OpensNoneInRestart (pair_world laws cfg end n m trace).near
+  shut_here Dte n m trace order = (shut_law cfg.long_data cfg.channels (pair_in n m trace) order).near
+  shut_here Dce n m trace order = (shut_law cfg.long_data cfg.channels (pair_in m n trace) order).far
+
+  own_shut : (end : Role) (n m : ℕ) (trace : List Done) → PairIsInOrder cfg end trace n m → OpensNoneInRestart (own cfg end n trace)
+  own_shut end n m trace order = subst (λ (e : layer.End). OpensNoneInRestart e) (world_here laws cfg end n m trace) (shut_here end n m trace order)
+
+  shut_from : {since : Beginning} (end : Role) (w : World) → SessionsJoined since cfg end w → w.near.layer.restarting ≡ true → (k : ℕ) → is_open (w.near.layer.circuits k) ≡ false
+  shut_from end w h restarts k = by (is_up w.near.link.phase) refl
+    where
+      by : (b : Bool) → is_up w.near.link.phase ≡ b → is_open (w.near.layer.circuits k) ≡ false
+      by true up =
+          let pair = session_pair laws cfg fine end w h h.links.near.begun in
+          let same = (h.near.now up).layer in
+          ap (λ (l : Layer). is_open (l.circuits k)) (sym same) ∙ own_shut end h.links.near.begun pair.0 h.trace pair.1 (ap (λ (l : Layer). l.restarting) same ∙ restarts) k
+      by false down = absurd (true_false (sym restarts ∙ ap (λ (l : Layer). l.restarting) (h.near.kept.rests down)))
+
+module _ (laws : SessionLaws) (waits_law : LayersWait) (shut_law : LayersOpenNone) (cfg : Cfg) (fine : IsConfigured cfg) where
+  unpulled_from : {since : Beginning} (end : Role) (w : World) → SessionsJoined since cfg end w → (k : ℕ) (name : Name) → link.is_idle w.near.link ≡ true → link.is_idle w.far.link ≡ true
+      → (w.near.layer.restarting ≡ false → PullsNone (layer_of cfg end) w.near.layer) → stretch (settings_from end cfg) w.near k ≡ Some name
+      → (stretch (settings_from (other end) cfg) w.far k ≡ Some name) × WaitsForUser k name w.near w.far (handed_in end (last_session end w) w) (handed_in (other end) (last_session (other end) w) w)
+  unpulled_from end w h k name idle idle_there none here = waits_from laws waits_law cfg fine end w h k name idle idle_there (none (by w.near.layer.restarting refl)) here
+    where
+      by : (b : Bool) → w.near.layer.restarting ≡ b → w.near.layer.restarting ≡ false
+      by false is = is
+      by true is = absurd (true_false (sym (stretch_of cfg.channels w.near.layer k name here).opened ∙ shut_from laws shut_law cfg fine end w h is k))
+
+  pub unpulled_wait : {since : Beginning} (w : World) → SessionsJoined since cfg Dte w → UnpulledWaitForUsers cfg w
+  unpulled_wait w h idle idle_there none none_there Dte k name here = unpulled_from Dte w h k name idle idle_there none here
+  unpulled_wait w h idle idle_there none none_there Dce k name here = unpulled_from Dce (swapped w) (sessions_swapped cfg Dte w h) k name idle_there idle none_there here
+
+-- what the layer's pull leaves, where the link is idle once it is put
+near_left : RoundsLeaveNone → (c : Settings) (w : World) → (let v = after w (of_station c w (requests c w.near PullsAll)) in link.is_idle v.near.link ≡ true → v.near.layer.restarting ≡ false → PullsNone (layer_settings c) v.near.layer)
+near_left law c w idle ready = by_up _ (is_up w.near.link.phase) refl idle ready
+  where
+    view : LinkView
+    view = view_of (link_settings c) w.near.link
+
+    Left : List StationEntry → Answered → Type 0
+    Left entries a = let v = after w (of_station c w (did c (alone w.near.link) entries a)) in link.is_idle v.near.link ≡ true → v.near.layer.restarting ≡ false → PullsNone (layer_settings c) v.near.layer
+
+    gone : (entries : List StationEntry) (begun : Putting) → Left entries (Went (rounds view (layer_settings c) begun))
+    gone entries begun idle ready = law view (layer_settings c) begun (idle_has_room (all_put (link_settings c) (rounds view (layer_settings c) begun).put (alone w.near.link)).near idle)
+
+    by_ready : (entries : List StationEntry) (b : Bool) → w.near.layer.restarting ≡ b
+        → Left entries (went view (layer_settings c) (outcome_in (layer_settings c) (view.waits [] == 256) b w.near.layer.restarts w.near.layer.circuits PullsAll))
+    by_ready entries true restarts idle ready = absurd (true_false (sym restarts ∙ ready))
+    by_ready entries false is idle ready = gone entries (begin (is_ready w.near.layer.restarts w.near.layer.circuits) None) idle ready
+
+    by_up : (entries : List StationEntry) (b : Bool) → is_up w.near.link.phase ≡ b
+        → Left entries (if b then went view (layer_settings c) (layer_outcome (layer_settings c) (view.waits [] == 256) w.near.layer PullsAll) else Refuses error.NotUp)
+    by_up entries true up = by_ready entries w.near.layer.restarting refl
+    by_up entries false down = λ idle ready.
+        absurd (true_false (sym (both_true (is_up w.near.link.phase) (outgoing.waits w.near.link.outgoing == 0 && w.near.link.outgoing.acked == w.near.link.outgoing.sent) idle).0 ∙ down))
+
+pub pulls_leave_none : RoundsLeaveNone → PullsLeaveNone
+pulls_leave_none law cfg w Dte idle ready = near_left law (settings_from Dte cfg) w idle ready
+pulls_leave_none law cfg w Dce idle ready = by (of_station (settings_from Dce cfg) (swapped w) (requests (settings_from Dce cfg) w.far PullsAll)) (near_left law (settings_from Dce cfg) (swapped w)) idle ready
+  where
+    by : (o : WorldOutcome) → (link.is_idle (after (swapped w) o).near.link ≡ true → (after (swapped w) o).near.layer.restarting ≡ false → PullsNone (layer_of cfg Dce) (after (swapped w) o).near.layer)
+        → link.is_idle (after w (swapped_back o)).far.link ≡ true → (after w (swapped_back o)).far.layer.restarting ≡ false → PullsNone (layer_of cfg Dce) (after w (swapped_back o)).far.layer
+    by (Happened v) left = left
+    by (Declined e) left = left
+
 pub throughout_closed : SessionLaws → LayersKeepNone → ConnectKeeps → Throughout ClosedKeepNone
 throughout_closed laws closed_law keeps cfg fine begin which events octets =
     closed_keep laws closed_law cfg (is_configured cfg fine) (run cfg events begin) (throughout_joined laws keeps cfg fine begin which events octets)
@@ -225,3 +299,7 @@ throughout_closed laws closed_law keeps cfg fine begin which events octets =
 pub throughout_wait : SessionLaws → LayersWait → StillPullsNone → ConnectKeeps → Throughout MessagesWaitForUsers
 throughout_wait laws waits_law still_law keeps cfg fine begin which events octets =
     messages_wait laws waits_law still_law cfg (is_configured cfg fine) (run cfg events begin) (throughout_joined laws keeps cfg fine begin which events octets)
+
+pub throughout_unpulled : SessionLaws → LayersWait → LayersOpenNone → ConnectKeeps → Throughout UnpulledWaitForUsers
+throughout_unpulled laws waits_law shut_law keeps cfg fine begin which events octets =
+    unpulled_wait laws waits_law shut_law cfg (is_configured cfg fine) (run cfg events begin) (throughout_joined laws keeps cfg fine begin which events octets)

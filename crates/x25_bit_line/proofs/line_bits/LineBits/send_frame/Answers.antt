@@ -1,5 +1,8 @@
+use Rattle.std.proofs.lemmas.Result.{err_from_is_err_and}
 use Rattle.x25_io.proofs.ToldLemmas.{told_more}
 use Rattle.x25_bit_line.proofs.line_bits.LineBits.send_frame.Goals as goal
 
-pub returns-in-Err-clause-tells : goal.returns-in-Err-clause-tells
-returns-in-Err-clause-tells g c = λ old told h. told_more old _ _ told _ h
+pub returns-in_err-put-clause-tells : goal.returns-in_err-put-clause-tells
+returns-in_err-put-clause-tells g c = λ old told h.
+    let p = err_from_is_err_and c.from_residual.result c.from_residual.ensures.1 in
+    rw p.1 (told_more old _ _ told _ h)

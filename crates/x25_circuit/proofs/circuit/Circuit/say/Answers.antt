@@ -10,4 +10,4 @@ returns-in-Some-clause-outcome c = λ d x fits. rw (c.in-Some.ensures.no_ready d
 pub returns-clause-outcome : goal.returns-clause-outcome
 returns-clause-outcome c = λ d x fits.
     let now = with_transfer d c.args.self.now x _ _ fits (own_fits (outgoing x).size c.args.self.now.transfer x.talk c.args.is_ready fits.talk) in
-    rw (ready_at x x.state c.args.is_ready (sym fits.state ∙ c.in_default.ensures.open)) ((now, ap Some (sym (c.status.ensures.value d _ now))))
+    rw (ready_at x x.state c.args.is_ready (sym fits.state ∙ c.in_default.ensures.open)) ((now, ap Some (sym (c.packet.ensures.value ∙ c.status.ensures.value d _ now))))

@@ -6,7 +6,7 @@ use Rattle.x25_layer.specs.Rounds.{LinkView, Answered, begin, went}
 use Rattle.x25_layer.specs.declared.layer.Layer as code
 use Rattle.x25_layer.specs.Layer.{packet_on}
 use Rattle.x25_layer.specs.Room.{HaveRoom}
-use Rattle.x25_circuit.specs.code.Replies.{plain_owed}
+use Rattle.x25_circuit.specs.code.Replies.{plain_sent}
 use Rattle.x25_layer.proofs.FitLemmas.{on_err}
 use Rattle.x25_layer.proofs.CallLemmas.{IsAccepted, is_accepted, declined_layer, declined_link, short_layer, short_link}
 use Rattle.x25_layer.proofs.layer.Layer.ask_ready.Goals as goal
@@ -38,7 +38,7 @@ returns-clause-layer g c = λ s l x fits link.
     let o : Outcome = outcome s.circuit (l.circuits c.args.channel) (plain_request c.args.request) in
     let a : IsAccepted s c.ask_circuit.new.self l c.args.channel c.in_ok-packet.packet o = is_accepted s c.ask_circuit.new.self l c.args.channel c.in_ok-packet.packet o (sym fits.restarting ∙ c.requires.ready) (c.in_ok-packet.ensures.outcome s l (c.set_aside.ensures.fits s l fits)) in
     subst (λ (r : Answered). LayerGives s c.pull_all.new.self (Ok tt) r) (sym (ap (went view s) a.accepted))
-    (c.pull_all.ensures.layer s (begin a.next (packet_on c.args.channel (plain_owed c.in_ok-packet.packet))) x (c.put_owed.ensures.fits s a.next a.fits) (c.put_owed.ensures.link x (c.set_aside.ensures.link x link)))
+    (c.pull_all.ensures.layer s (begin a.next (packet_on c.args.channel (plain_sent c.in_ok-packet.packet))) x (c.put_sent.ensures.fits s a.next a.fits) (c.put_sent.ensures.link x (c.set_aside.ensures.link x link)))
 
 pub returns-clause-link : goal.returns-clause-link
 returns-clause-link g c = λ s l x fits link.
@@ -46,7 +46,7 @@ returns-clause-link g c = λ s l x fits link.
     let o : Outcome = outcome s.circuit (l.circuits c.args.channel) (plain_request c.args.request) in
     let a : IsAccepted s c.ask_circuit.new.self l c.args.channel c.in_ok-packet.packet o = is_accepted s c.ask_circuit.new.self l c.args.channel c.in_ok-packet.packet o (sym fits.restarting ∙ c.requires.ready) (c.in_ok-packet.ensures.outcome s l (c.set_aside.ensures.fits s l fits)) in
     subst (λ (r : Answered). LinkGives (g.L.OrderedLink.fits c.pull_all.new.link) g.L.OrderedLink.after_put x (Ok tt) r) (sym (ap (went view s) a.accepted))
-    (c.pull_all.ensures.link s (begin a.next (packet_on c.args.channel (plain_owed c.in_ok-packet.packet))) x (c.put_owed.ensures.fits s a.next a.fits) (c.put_owed.ensures.link x (c.set_aside.ensures.link x link)))
+    (c.pull_all.ensures.link s (begin a.next (packet_on c.args.channel (plain_sent c.in_ok-packet.packet))) x (c.put_sent.ensures.fits s a.next a.fits) (c.put_sent.ensures.link x (c.set_aside.ensures.link x link)))
 
 -- memory that is set aside leaves the circuits as they are
 
@@ -69,13 +69,13 @@ returns-clause-room g c = λ len has still.
     let more = c.set_aside.ensures.no_fewer in
     let more_spares = c.set_aside.ensures.no_fewer_spares in
     let most_spares = c.set_aside.ensures.most_spares in
-    let owed = c.put_owed.ensures.used in
+    let owed = c.put_sent.ensures.used in
     let pulled = c.pull_all.ensures.used in
     let memory = has.memory in
     let spares = has.spares in
     record {
       memory = omega (arith, same, more, more_spares, most_spares, owed, pulled, memory, spares, still);
       spares = omega (arith, spares, still);
-      circuits = c.pull_all.ensures.room len (subst (λ v. HaveRoom len v.items) (sym c.put_owed.ensures.circuits)
+      circuits = c.pull_all.ensures.room len (subst (λ v. HaveRoom len v.items) (sym c.put_sent.ensures.circuits)
           (c.ask_circuit.ensures.room len (subst (λ (v : code.Layer). HaveRoom len v.circuits.items) (sym c.set_aside.ensures.layer) has.circuits)));
     }

@@ -1,13 +1,10 @@
-use Rattle.std.proofs.Common.{◌∙◌, ◌≡◌, ◌<◌, ◌-◌, ◌^◌, ℕ, Bool, List, Some, length, OnOk, OnErr, IfOk, IfSome, IsErrOf, sym, subst}
-use Rattle.std.specs.Io.KnownBytes.{Appends}
+use Rattle.std.proofs.Common.{◌∙◌, ℕ, Bool, List}
 use Rattle.std.proofs.lemmas.Result.{err_from_is_err_and, on_ok_weaker}
-use Rattle.x25_io.specs.code.Written.{AppendsPrefix}
-use Rattle.x25_io.specs.declared.fault.Fault.TheVariants as fault
 use Rattle.x25_station.specs.declared.config.Cfg.{Cfg}
 use Rattle.x25_io.proofs.ToldLemmas.{none_told}
 use Rattle.x25_sim.specs.code.Ready.{IsReady}
-use Rattle.x25_sim.specs.Simulated.{simulated, sim_status, sim_text}
-use Rattle.x25_sim.specs.code.Stream.{Leads, WritesEnded}
+use Rattle.x25_sim.specs.code.Stream.{Simulates}
+use Rattle.x25_io.specs.code.LinesLead.{LinesLead}
 use Rattle.x25_sim.proofs.SimLemmas.{if_some, opening_failed, script_begins}
 use Rattle.x25_sim.proofs.simulation.Simulation.play.Given as given
 use Rattle.x25_sim.proofs.simulation.Simulation.play.Goals as goal
@@ -15,54 +12,39 @@ use Rattle.x25_sim.proofs.simulation.Simulation.play.Goals as goal
 pub returns-in_err-open-clause-fault : goal.returns-in_err-open-clause-fault
 returns-in_err-open-clause-fault g c = λ cfg down tap ready.
     let s = c.args.self in
-    let here : IsReady cfg s.down tap s = subst (λ d. IsReady cfg d tap s) (sym ready.asked) ready in
     let p = err_from_is_err_and c.from_residual.result c.from_residual.ensures.1 in
     rw p.1 (if_some (g.R.Source.remaining c.args.reader.now) _
     (λ script is few.
     let written = g.W.Sink.contents c.args.writer.now in
-    subst (λ d. AppendsPrefix written (g.W.Sink.contents c.open.new.writer) (sim_text cfg d tap script)) ready.asked
-    (opening_failed cfg s.down tap s.stage.tap ready.tapped written (g.W.Sink.contents c.open.new.writer) c.open.new.self script
-    (c.in_err-open.ensures.stood cfg written here.opening ready.unrefused (none_told written s.stage.output ready.empty)))))
+    opening_failed cfg down tap s.stage.tap ready.tapped written (g.W.Sink.contents c.open.new.writer) c.open.new.self script
+    (c.in_err-open.ensures.stood cfg down written ready.opening ready.unrefused (none_told written s.stage.output ready.empty))))
 
 pub returns-clause-clean : goal.returns-clause-clean
 returns-clause-clean g c = on_ok_weaker c.take_text.result (λ clean. (clean.0, clean.1 ∙ c.in_ok-open.ensures.kept)) c.take_text.ensures.clean
 
 -- the script is still to come
 begins : (g : given.Over) (c : goal.After-drop-self-2 g) (cfg : Cfg) (down tap : Bool) → IsReady cfg down tap c.args.self → (script : List ℕ)
-    → Leads cfg tap (g.W.Sink.contents c.args.writer.now) (g.W.Sink.contents c.open.new.writer) c.new-simulator.result script (simulated cfg c.args.self.down tap script)
+    → LinesLead (λ lines. Simulates (record { cfg = cfg; down = down; tap = tap }) c.new-lines.result.taker (g.W.Sink.contents c.args.writer.now) (g.W.Sink.contents c.open.new.writer) lines script)
+    c.new-lines.result.held script
 begins g c cfg down tap ready script =
     let s = c.args.self in
-    let here : IsReady cfg s.down tap s = subst (λ d. IsReady cfg d tap s) (sym ready.asked) ready in
     let written = g.W.Sink.contents c.args.writer.now in
-    script_begins cfg s.down tap s.stage.tap ready.tapped written (g.W.Sink.contents c.open.new.writer) c.open.new.self script c.new-simulator.result s.held
-    c.new-simulator.ensures.held c.new-simulator.ensures.stage ready.held
-    (c.in_ok-open.ensures.stood cfg written here.opening ready.unrefused (none_told written s.stage.output ready.empty))
+    script_begins cfg down tap s.stage.tap ready.tapped written (g.W.Sink.contents c.open.new.writer) c.open.new.self script c.new-lines.result.taker c.new-simulator.result c.new-lines.result.held s.held
+    c.new-lines.ensures.held c.new-lines.ensures.taker c.new-simulator.ensures ready.held
+    (c.in_ok-open.ensures.stood cfg down written ready.opening ready.unrefused (none_told written s.stage.output ready.empty))
 
 pub returns-clause-text : goal.returns-clause-text
 returns-clause-text g c = λ cfg down tap ready.
-    let written = g.W.Sink.contents c.args.writer.now in
-    subst (λ d. OnOk c.take_text.result (IfSome (g.R.Source.remaining c.args.reader.now) (λ script. length script < 2 ^ 64 - 1
-    → Appends written (g.W.Sink.contents c.take_text.new.writer) (sim_text cfg d tap script)))) ready.asked
-    (c.take_text.ensures.text (record { cfg = cfg; down = c.args.self.down; tap = tap }) written (begins g c cfg down tap ready))
+    c.take_text.ensures.text (record { cfg = cfg; down = down; tap = tap }) (g.W.Sink.contents c.args.writer.now) (begins g c cfg down tap ready)
 
 pub returns-clause-status : goal.returns-clause-status
 returns-clause-status g c = λ cfg down tap ready.
-    let written = g.W.Sink.contents c.args.writer.now in
-    subst (λ d. IfOk c.take_text.result (λ status. IfSome (g.R.Source.remaining c.args.reader.now) (λ script. length script < 2 ^ 64 - 1
-    → status ≡ sim_status cfg d tap script))) ready.asked
-    (c.take_text.ensures.status (record { cfg = cfg; down = c.args.self.down; tap = tap }) written (begins g c cfg down tap ready))
+    c.take_text.ensures.status (record { cfg = cfg; down = down; tap = tap }) (g.W.Sink.contents c.args.writer.now) (begins g c cfg down tap ready)
 
 pub returns-clause-fault : goal.returns-clause-fault
 returns-clause-fault g c = λ cfg down tap ready.
-    let written = g.W.Sink.contents c.args.writer.now in
-    subst (λ d. OnErr c.take_text.result (IfSome (g.R.Source.remaining c.args.reader.now) (λ script. length script < 2 ^ 64 - 1
-    → AppendsPrefix written (g.W.Sink.contents c.take_text.new.writer) (sim_text cfg d tap script)))) ready.asked
-    (c.take_text.ensures.fault (record { cfg = cfg; down = c.args.self.down; tap = tap }) written (begins g c cfg down tap ready))
+    c.take_text.ensures.fault (record { cfg = cfg; down = down; tap = tap }) (g.W.Sink.contents c.args.writer.now) (begins g c cfg down tap ready)
 
 pub returns-clause-ended : goal.returns-clause-ended
 returns-clause-ended g c = λ cfg down tap ready.
-    let written = g.W.Sink.contents c.args.writer.now in
-    subst (λ d. IsErrOf c.take_text.result fault.Read → IfSome (g.R.Source.remaining c.args.reader.now) (λ script.
-    (rest : List ℕ) × (g.R.Source.remaining c.take_text.new.reader ≡ Some rest)
-    × WritesEnded cfg tap written (g.W.Sink.contents c.take_text.new.writer) rest (simulated cfg d tap script))) ready.asked
-    (c.take_text.ensures.ended (record { cfg = cfg; down = c.args.self.down; tap = tap }) written (begins g c cfg down tap ready))
+    c.take_text.ensures.ended (record { cfg = cfg; down = down; tap = tap }) (g.W.Sink.contents c.args.writer.now) (begins g c cfg down tap ready)

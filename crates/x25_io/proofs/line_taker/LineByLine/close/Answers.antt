@@ -1,0 +1,15 @@
+use Rattle.std.proofs.Common.{◌∷◌, List, ℕ}
+use Rattle.std.proofs.lemmas.Result.{MatchResult-weaker}
+use Rattle.x25_io.specs.Lines.{lines_of}
+use Rattle.x25_io.proofs.ToldLemmas.{with_ok}
+use Rattle.x25_io.proofs.TakerLemmas.{between, ends, more}
+use Rattle.x25_io.proofs.line_taker.LineByLine.close.Goals as goal
+
+pub returns-clause-on : goal.returns-clause-on
+returns-clause-on g c = λ setting old rest text l.
+    let stands = λ (lines : List (List ℕ)). g.T.LineTaker.stands setting c.args.self.now.taker old (g.W.Sink.contents c.args.writer.now) lines text in
+    let held = more stands c.args.self.now.held c.hold.new.self c.args.tail.now (10 ∷ rest) l c.requires (λ begun. c.hold.ensures begun) in
+    MatchResult-weaker c.end_line.result
+    (with_ok c.end_line.result _ _ _ (c.end_line.ensures.on setting old held.begun (lines_of rest) text held.holds (ends stands c.hold.new.self rest held)) c.end_line.ensures.cleared)
+    (λ _ done. between (λ (lines : List (List ℕ)). g.T.LineTaker.stands setting c.end_line.new.self.taker old (g.W.Sink.contents c.end_line.new.writer) lines text) c.end_line.new.self.held rest done.1 done.0)
+    (λ _ begins. begins)

@@ -1,0 +1,93 @@
+-- The line `heal` of a script does what the schedule of healing says.
+use Rattle.std.proofs.Common.{◌≡◌, ◌∙◌, ℕ, zero, suc, Bool, List, [], ◌∷◌, ◌++◌, Option, Some, None, ap, sym, subst, refl}
+use Rattle.x25_bits.specs.declared.role.Role.{Role}
+use Rattle.x25_bits.specs.declared.role.Role.TheVariants.{Dte, Dce}
+use Rattle.x25_station.specs.declared.config.Cfg.{Cfg}
+use Rattle.x25_script.specs.PlainLine.{pull}
+use Rattle.x25_console.specs.Commands.{command_asked}
+use Rattle.x25_world.specs.World.{World, Act, Commands, Fires, Event, WorldOutcome, Happened, Declined, happens, after, run}
+use Rattle.x25_world.specs.Healing as schedule
+use Rattle.x25_world.specs.Healing.{next_end, receipt, all_received, arrivals_from, arrivals, deliveries, one_if, if_accepted, firing, pull_round, pull_rounds, most_rounds, fire_and_pull, healing, ArrivesByHealing, HealingBringsAll}
+use Rattle.x25_world.specs.laws.SessionClaims.{Throughout}
+use Rattle.x25_world.specs.laws.WaitClaims.{pull_at}
+use Rattle.x25_sim.specs.Simulated.{Turn, and_then, turn_of, event_turn, delivered_to, drained, tried_of, tried, both_tried, most_times, fired, pulled, unless_empty, emptied, healed, line_turn}
+use Rattle.x25_sim.specs.laws.RunLaw.{HealIsTheSchedule, HealBringsAll}
+
+module _ (cfg : Cfg) (tap : Bool) where
+  run_append : (xs ys : List Event) (w : World) → run cfg (xs ++ ys) w ≡ run cfg ys (run cfg xs w)
+  run_append [] ys w = refl
+  run_append (x ∷ xs) ys w = run_append xs ys (after w (happens cfg w x))
+
+  -- a turn that goes by these events, and then one that goes by more
+  behind_next : (w : World) (t : Turn) (rest : World → Turn) (xs : List Event) (more : World → List Event) → t.next ≡ run cfg xs w → ((v : World) → (rest v).next ≡ run cfg (more v) v)
+      → (and_then rest t).next ≡ run cfg (xs ++ more (run cfg xs w)) w
+  behind_next w t rest xs more here there = ap (λ (v : World). (rest v).next) here ∙ there (run cfg xs w) ∙ sym (run_append xs (more (run cfg xs w)) w)
+
+  event_next : (e : Event) (w : World) → (event_turn cfg tap e w).next ≡ after w (happens cfg w e)
+  unfolding event_turn
+  event_next e w = by (happens cfg w e)
+    where
+      by : (o : WorldOutcome) → (turn_of tap w o).next ≡ after w o
+      by (Happened next) = refl
+      by (Declined x) = refl
+
+  delivered_next : (rest : World → Turn) (more : World → List Role) → ((v : World) → (rest v).next ≡ run cfg (all_received (more v)) v) → (w : World) (at : Option Role)
+      → (delivered_to cfg tap rest w at).next ≡ run cfg (all_received (arrivals_from cfg more w at)) w
+  delivered_next rest more there w None = refl
+  delivered_next rest more there w (Some at) = ap (λ (v : World). (rest v).next) (event_next (receipt at) w) ∙ there (after w (happens cfg w (receipt at)))
+
+  drained_next : (n : ℕ) (w : World) → (drained cfg tap n w).next ≡ run cfg (all_received (arrivals cfg n w)) w
+  unfolding drained arrivals
+  drained_next zero w = refl
+  drained_next (suc n) w = delivered_next (drained cfg tap n) (arrivals cfg n) (drained_next n) w (next_end w.out w.back)
+
+  tried_next : (e : Event) (w : World) → (tried cfg tap e w).next ≡ run cfg (if_accepted cfg e w) w
+  unfolding tried
+  tried_next e w = by (happens cfg w e) refl
+    where
+      by : (o : WorldOutcome) → happens cfg w e ≡ o → (tried_of tap w o).next ≡ run cfg (one_if e o) w
+      by (Happened next) is = sym (ap (after w) is)
+      by (Declined x) is = refl
+
+  both_next : (act : Act) (w : World) → (both_tried cfg tap act w).next ≡ run cfg (schedule.both_tried cfg (record { at = Dte; act = act }) (record { at = Dce; act = act }) w) w
+  unfolding both_tried
+  both_next act w =
+      let e : Event = record { at = Dte; act = act } in
+      let f : Event = record { at = Dce; act = act } in
+      behind_next w (tried cfg tap e w) (tried cfg tap f) (if_accepted cfg e w) (if_accepted cfg f) (tried_next e w) (tried_next f)
+
+  pulled_next : (w : World) → (pulled cfg tap w).next ≡ run cfg (pull_round cfg w) w
+  unfolding pulled
+  pulled_next w =
+      behind_next w (drained cfg tap most_times w) (both_tried cfg tap (Commands (command_asked pull))) (deliveries cfg w) (schedule.both_tried cfg (pull_at Dte) (pull_at Dce)) (drained_next most_times w)
+      (both_next (Commands (command_asked pull)))
+
+  unless_next : (rest : World → Turn) (more : World → List Event) → ((v : World) → (rest v).next ≡ run cfg (more v) v) → (w : World) (at : Option Role)
+      → (unless_empty rest w at).next ≡ run cfg (schedule.unless_empty more w at) w
+  unless_next rest more there w None = refl
+  unless_next rest more there w (Some at) = there w
+
+  emptied_next : (n : ℕ) (w : World) → (emptied cfg tap n w).next ≡ run cfg (pull_rounds cfg n w) w
+  unfolding emptied pull_rounds
+  emptied_next zero w = refl
+  emptied_next (suc n) w =
+      behind_next w (pulled cfg tap w) (λ v. unless_empty (emptied cfg tap n) v (next_end v.out v.back)) (pull_round cfg w) (λ v. schedule.unless_empty (pull_rounds cfg n) v (next_end v.out v.back)) (pulled_next w)
+      (λ v. unless_next (emptied cfg tap n) (pull_rounds cfg n) (emptied_next n) v (next_end v.out v.back))
+
+  healed_next : (w : World) → (healed cfg tap w).next ≡ run cfg (healing cfg w) w
+  unfolding healed fired
+  healed_next w =
+      let v = run cfg (deliveries cfg w) w in
+      let both = schedule.both_tried cfg (firing Dte) (firing Dce) v in
+      ap (λ (x : World). (emptied cfg tap most_times (both_tried cfg tap Fires x).next).next) (drained_next most_times w)
+      ∙ behind_next v (both_tried cfg tap Fires v) (emptied cfg tap most_times) both (pull_rounds cfg most_rounds) (both_next Fires v) (emptied_next most_times)
+      ∙ sym (run_append (deliveries cfg w) (fire_and_pull cfg v) w)
+
+pub heal_is_the_schedule : HealIsTheSchedule
+unfolding line_turn
+heal_is_the_schedule cfg tap w = healed_next cfg tap w
+
+pub heals_throughout : Throughout HealingBringsAll → Throughout HealBringsAll
+heals_throughout brings cfg fine begin which events octets tap =
+    let w = run cfg events begin in
+    subst (ArrivesByHealing cfg w) (sym (heal_is_the_schedule cfg tap w)) (brings cfg fine begin which events octets)

@@ -1,0 +1,302 @@
+-- How the two links of a world heal while the layers put packets: each event of the world is a delivery to a link, where octets come, and then packets
+-- that are handed down to it.
+use Rattle.std.proofs.Common.{◌≡◌, ℕ, List, [], ◌∷◌, ◌++◌, map, Bool, true, false, if◌then◌else◌, option_to_list, refl, sym, ap, ap₂, ◌∙◌, subst}
+use Rattle.x25_bits.specs.declared.role.Role.{Role}
+use Rattle.x25_bits.specs.declared.role.Role.TheVariants.{Dte, Dce}
+use Rattle.x25_frame.specs.PlainFrame.{PlainFrame}
+use Rattle.x25_frame.specs.Spelling.{spelling_of}
+use Rattle.x25_packet.specs.PlainPacket.{PlainPacket}
+use Rattle.x25_link.specs.declared.phase.Phase.{Phase}
+use Rattle.x25_link.specs.declared.phase.Phase.TheVariants.{Down, Waiting, Up, Closed}
+use Rattle.x25_link.specs.LinkStation.{Settings as LinkSettings, LinkStation, Side, is_up, is_busy, awaits_ua}
+use Rattle.x25_link.specs.Steps.{alone, take_step, abandon_step}
+use Rattle.x25_link.specs.laws.RestLaw.{IsAtRest}
+use Rattle.x25_line.specs.Stations as line
+use Rattle.x25_line.specs.Sessions as links
+use Rattle.x25_line.specs.Sessions.{SessionEnd, Meeting, Sessions, begun_by, IsTimely, AreTimely}
+use Rattle.x25_line.specs.Healing.{SessionMayHeal}
+use Rattle.x25_line.specs.HealingPuts.{AreFree, IsDeliverOrPut, AreDeliveriesAndPuts, SessionsFreeThroughout, SessionsHaveArrived, PutsHealSessions}
+use Rattle.x25_layer.specs.Calls.{LayerRequest}
+use Rattle.x25_station.specs.declared.config.Cfg.{Cfg}
+use Rattle.x25_station.specs.Command as command
+use Rattle.x25_station.specs.Settings.{Settings, settings_from}
+use Rattle.x25_station.specs.Steps.{Step, Outcome, Did, Refused, follows, requests}
+use Rattle.x25_station.specs.laws.KeepLaw.{ConnectKeeps}
+use Rattle.x25_station.specs.laws.ReadLaw.{RequestsOctets}
+use Rattle.x25_world.specs.World.{World, swapped, Act, Commands, Receives, Fires, Loses, Damages, Event, acts, delivered, of_station, happens, after, after_step, run}
+use Rattle.x25_world.specs.laws.Claims.{ActsInOctets, AreInOctets, link_of}
+use Rattle.x25_world.specs.laws.LawsBelow.{SessionLaws}
+use Rattle.x25_world.specs.laws.SessionClaims.{Throughout}
+use Rattle.x25_world.specs.WindowGoes.{all_at}
+use Rattle.x25_world.specs.Healing.{firing, HasTries, IsReceiptOrRequest, AreReceiptsAndRequests, ComeFreely, ActsFreely, FreeAt, FreeThroughout, LinkMayHeal, HealsWithPuts}
+use Rattle.x25_world.proofs.Known.{IsConfigured, is_configured, true_false}
+use Rattle.x25_world.proofs.sessions.SessionReaches.{both_down, twice, known_sessions}
+use Rattle.x25_world.proofs.sessions.SessionJoined.{SessionsJoined, sessions_swapped}
+use Rattle.x25_world.proofs.sessions.SessionLinks.{SessionGoes, stays_goes, deliver_goes, puts_of, all_act, all_puts_go, PutsRead}
+use Rattle.x25_world.proofs.sessions.SessionRuns.{event_joined, throughout_joined, down_at_none, not_set_up}
+use Rattle.x25_world.proofs.sessions.SessionsAlong.{links_append}
+use Rattle.x25_world.proofs.sessions.acts.SessionRequests.{request_puts}
+use Rattle.x25_world.proofs.sessions.acts.SessionReceives.{taken_puts}
+use Rattle.x25_world.proofs.HealingLemmas.{Alike, turned, back_after, c_of, d_of, both_alike, none_of, joined_alike, links_are, fired_then, gone_are}
+
+-- ---- what a link is asked in an event
+
+-- what comes is taken, where it does, and then packets are put
+abbrev asked_of : Bool → List PlainPacket → List line.Act
+asked_of true packets = line.Deliver ∷ puts_of packets
+asked_of false packets = puts_of packets
+
+free_turned : (s t : LinkStation) → AreFree s t → AreFree t s
+free_turned s t h = (h.1, h.0)
+
+-- .. of the near end, so that the links have those of the world behind it; as octets are taken neither is busy
+record Asked (cfg : Cfg) (end : Role) (w u : World) (v : Sessions) : Type 0 where
+  pub comes : Bool
+  pub packets : List PlainPacket
+  pub free : comes ≡ true → AreFree w.near.link w.far.link
+  pub alike : Alike u (all_act (link_of cfg end) (asked_of comes packets) v)
+
+module _ (laws : SessionLaws) (cfg : Cfg) (fine : IsConfigured cfg) (end : Role) (w : World) (h : SessionsJoined both_down cfg end w) (v : Sessions) (like : Alike w v) where
+  abbrev c : Settings
+  c = settings_from end cfg
+
+  none_asked : Asked cfg end w w v
+  none_asked = record { comes = false; packets = []; free = λ is. true_false (sym is); alike = like }
+
+  puts_alike : (v₁ : Sessions) (session : ℕ) (t : Side) (lifted left : List (List ℕ)) (met : List Meeting) (step : Step) → SessionGoes (link_of cfg end) v v₁ session t.near t.out [] lifted left met → (p : PutsRead cfg end t step)
+      → Alike (after_step c w left step) (all_act (link_of cfg end) (puts_of p.packets) v₁)
+  puts_alike v₁ session t lifted left met step g p =
+      let r = all_puts_go cfg end v v₁ session p.packets t [] lifted left met g p.link.accepted p.readable in
+      record {
+        near = r.station ∙ sym p.link.link;
+        far = ap (λ (e : SessionEnd). e.station) r.far ∙ like.far;
+        out = r.out ∙ ap₂ (λ (os : List (List ℕ)) (fs : List PlainFrame). os ++ map (spelling_of end) fs) like.out (sym p.link.out);
+        back = r.back;
+      }
+
+  came_asked : ComeFreely c w.near w.far.link w.back → Asked cfg end w (after w (delivered c w w.back)) v
+  came_asked free = by w.back refl free
+    where
+      by : (back : List (List ℕ)) → w.back ≡ back → ComeFreely c w.near w.far.link back → Asked cfg end w (after w (delivered c w back)) v
+      by [] is free = none_asked
+      by (octets ∷ back) is free =
+          let k = take_step (link_of cfg end) octets w.near.link in
+          let v₁ : Sessions = links.acts (link_of cfg end) line.Deliver v in
+          let p = taken_puts laws cfg fine end w h (λ before e same. absurd (down_at_none before e same)) octets back is free.0 in
+          subst (λ (b : Bool). Asked cfg end w (after_step c w back (follows c w.near.layer (if b then abandon_step (link_of cfg end) w.near.link else k))) v) (sym free.0)
+          (record {
+            comes = true;
+            packets = p.packets;
+            free = λ same. free.1;
+            alike = puts_alike v₁ (begun_by k.notes.up v.near.begun) k.side (option_to_list k.packet) back v₁.met (follows c w.near.layer k)
+                (deliver_goes (link_of cfg end) v w.near.link octets back like.near (like.back ∙ is)) p;
+          })
+
+  request_asked : (request : LayerRequest) → RequestsOctets request → Asked cfg end w (after w (of_station c w (requests c w.near request))) v
+  request_asked request octets = by (requests c w.near request) refl
+    where
+      by : (o : Outcome) → requests c w.near request ≡ o → Asked cfg end w (after w (of_station c w o)) v
+      by (Refused e) is = none_asked
+      by (Did step) is =
+          let p = request_puts laws cfg fine end w h request octets step is in
+          record {
+            comes = false;
+            packets = p.packets;
+            free = λ same. true_false (sym same);
+            alike = puts_alike v v.near.begun (alone w.near.link) [] w.back v.met step (stays_goes (link_of cfg end) v w.near.link w.back like.near like.back) p;
+          }
+
+  near_asked : (act : Act) → IsReceiptOrRequest act → ActsInOctets act → ActsFreely c w.near w.far.link w.back act → Asked cfg end w (after w (acts c w act)) v
+  near_asked Receives are octets free = came_asked free
+  near_asked (Commands (command.Requests request)) are octets free = request_asked request octets
+  near_asked (Commands command.Connects) are octets free = absurd are
+  near_asked (Commands command.Disconnects) are octets free = absurd are
+  near_asked Fires are octets free = absurd are
+  near_asked (Loses place) are octets free = absurd are
+  near_asked (Damages place others) are octets free = absurd are
+
+-- ---- at either end
+
+near_run : (c d : LinkSettings) (asked : List line.Act) (v : Sessions) → links.run c d (all_at Dte asked) v ≡ all_act c asked v
+near_run c d [] v = refl
+near_run c d (act ∷ asked) v = near_run c d asked (links.acts c act v)
+
+far_run : (c d : LinkSettings) (asked : List line.Act) (v : Sessions) → links.run c d (all_at Dce asked) v ≡ links.swapped (all_act d asked (links.swapped v))
+far_run c d [] v = sym (twice v)
+far_run c d (act ∷ asked) v =
+    let x = links.acts d act (links.swapped v) in
+    far_run c d asked (links.swapped x) ∙ ap (λ (z : Sessions). links.swapped (all_act d asked z)) (twice x)
+
+record EventAsked (cfg : Cfg) (at : Role) (w u : World) (v : Sessions) : Type 0 where
+  pub comes : Bool
+  pub packets : List PlainPacket
+  pub free : comes ≡ true → AreFree w.near.link w.far.link
+  pub alike : Alike u (links.run (c_of cfg) (d_of cfg) (all_at at (asked_of comes packets)) v)
+
+event_asked : (laws : SessionLaws) (cfg : Cfg) → IsConfigured cfg → (at : Role) (act : Act) (w : World) → SessionsJoined both_down cfg Dte w → (v : Sessions) → Alike w v → IsReceiptOrRequest act → ActsInOctets act → FreeAt cfg at act w
+    → EventAsked cfg at w (after w (happens cfg w (record { at = at; act = act }))) v
+event_asked laws cfg fine Dte act w h v like are octets free =
+    let a = near_asked laws cfg fine Dte w h v like act are octets free in
+    record {
+      comes = a.comes;
+      packets = a.packets;
+      free = a.free;
+      alike = subst (Alike (after w (happens cfg w (record { at = Dte; act = act })))) (sym (near_run (c_of cfg) (d_of cfg) (asked_of a.comes a.packets) v)) a.alike;
+    }
+event_asked laws cfg fine Dce act w h v like are octets free =
+    let a = near_asked laws cfg fine Dce (swapped w) (sessions_swapped cfg Dte w h) (links.swapped v) (turned w v like) act are octets free in
+    let o = acts (settings_from Dce cfg) (swapped w) act in
+    let x = all_act (d_of cfg) (asked_of a.comes a.packets) (links.swapped v) in
+    record {
+      comes = a.comes;
+      packets = a.packets;
+      free = λ is. free_turned w.far.link w.near.link (a.free is);
+      alike = subst (λ (u : World). Alike u (links.run (c_of cfg) (d_of cfg) (all_at Dce (asked_of a.comes a.packets)) v)) (sym (back_after w o))
+          (subst (Alike (swapped (after (swapped w) o))) (sym (far_run (c_of cfg) (d_of cfg) (asked_of a.comes a.packets) v)) (turned (after (swapped w) o) x a.alike));
+    }
+
+-- ---- events are deliveries and packets that are put
+
+puts_are : (at : Role) (packets : List PlainPacket) (rest : List line.Event) → AreDeliveriesAndPuts rest → AreDeliveriesAndPuts (all_at at (puts_of packets) ++ rest)
+puts_are at [] rest h = h
+puts_are Dte (p ∷ packets) rest h = (tt, puts_are Dte packets rest h)
+puts_are Dce (p ∷ packets) rest h = (tt, puts_are Dce packets rest h)
+
+asked_are : (at : Role) (comes : Bool) (packets : List PlainPacket) (rest : List line.Event) → AreDeliveriesAndPuts rest → AreDeliveriesAndPuts (all_at at (asked_of comes packets) ++ rest)
+asked_are at false packets rest h = puts_are at packets rest h
+asked_are Dte true packets rest h = (tt, puts_are Dte packets rest h)
+asked_are Dce true packets rest h = (tt, puts_are Dce packets rest h)
+
+-- packets are put whatever waits
+
+puts_free : (c d : LinkSettings) (at : Role) (packets : List PlainPacket) (rest : List line.Event) (v : Sessions) → SessionsFreeThroughout c d rest (links.run c d (all_at at (puts_of packets)) v)
+    → SessionsFreeThroughout c d (all_at at (puts_of packets) ++ rest) v
+puts_free c d at [] rest v h = h
+puts_free c d Dte (p ∷ packets) rest v h = (tt, puts_free c d Dte packets rest _ h)
+puts_free c d Dce (p ∷ packets) rest v h = (tt, puts_free c d Dce packets rest _ h)
+
+asked_free : (c d : LinkSettings) (at : Role) (comes : Bool) (packets : List PlainPacket) (rest : List line.Event) (v : Sessions) → (comes ≡ true → AreFree v.near.station v.far.station)
+    → SessionsFreeThroughout c d rest (links.run c d (all_at at (asked_of comes packets)) v) → SessionsFreeThroughout c d (all_at at (asked_of comes packets) ++ rest) v
+asked_free c d at false packets rest v free h = puts_free c d at packets rest v h
+asked_free c d Dte true packets rest v free h = (free refl, puts_free c d Dte packets rest _ h)
+asked_free c d Dce true packets rest v free h = (free refl, puts_free c d Dce packets rest _ h)
+
+free_alike : (w : World) (v : Sessions) → Alike w v → AreFree w.near.link w.far.link → AreFree v.near.station v.far.station
+free_alike w v like free = (ap is_busy like.near ∙ free.0, ap is_busy like.far ∙ free.1)
+
+-- the links go by such events where the world goes by these
+record AllAsked (cfg : Cfg) (u : World) (v : Sessions) : Type 0 where
+  pub asked : List line.Event
+  pub are : AreDeliveriesAndPuts asked
+  pub free : SessionsFreeThroughout (c_of cfg) (d_of cfg) asked v
+  pub alike : Alike u (links.run (c_of cfg) (d_of cfg) asked v)
+
+all_asked : (laws : SessionLaws) (cfg : Cfg) → IsConfigured cfg → (events : List Event) (w : World) → SessionsJoined both_down cfg Dte w → (v : Sessions) → Alike w v → AreReceiptsAndRequests events → AreInOctets events → FreeThroughout cfg events w
+    → AllAsked cfg (run cfg events w) v
+all_asked laws cfg fine [] w h v like are octets free = record { asked = []; are = tt; free = free_alike w v like free; alike = like }
+all_asked laws cfg fine (e ∷ events) w h v like are octets free =
+    let c = c_of cfg in
+    let d = d_of cfg in
+    let next = after w (happens cfg w e) in
+    let a = event_asked laws cfg fine e.at e.act w h v like are.0 octets.0 free.0 in
+    let first = all_at e.at (asked_of a.comes a.packets) in
+    let joined = event_joined laws cfg fine e.at e.act w (λ before x is. absurd (down_at_none before x is)) octets.0 (λ off. not_set_up false off) h in
+    let r = all_asked laws cfg fine events next joined (links.run c d first v) a.alike are.1 octets.1 free.1 in
+    record {
+      asked = first ++ r.asked;
+      are = asked_are e.at a.comes a.packets r.asked r.are;
+      free = asked_free c d e.at a.comes a.packets r.asked v (λ comes. free_alike w v like (a.free comes)) r.free;
+      alike = subst (Alike (run cfg events next)) (sym (links_append c d first r.asked v)) r.alike;
+    }
+
+-- ---- the law
+
+up_off : (p : Phase) → is_up p ≡ true → awaits_ua p ≡ false
+up_off Down up = refl
+up_off Waiting up = true_false (sym up)
+up_off Up up = refl
+up_off Closed up = refl
+
+timely_act : (c d : LinkSettings) (act : line.Act) (v : Sessions) → IsDeliverOrPut act → IsTimely c d act v
+timely_act c d line.Deliver v is = tt
+timely_act c d (line.Put packet) v is = tt
+timely_act c d line.T1 v is = absurd is
+timely_act c d line.Connect v is = absurd is
+timely_act c d line.Disconnect v is = absurd is
+timely_act c d line.Abandon v is = absurd is
+timely_act c d (line.Lose place) v is = absurd is
+timely_act c d (line.Damage place octets) v is = absurd is
+
+asked_timely : (c d : LinkSettings) (es : List line.Event) (v : Sessions) → AreDeliveriesAndPuts es → AreTimely c d es v
+asked_timely c d [] v are = tt
+asked_timely c d (line.Near act ∷ es) v are = (timely_act c d act v are.0, asked_timely c d es (links.acts c act v) are.1)
+asked_timely c d (line.Far act ∷ es) v are = (timely_act d c act (links.swapped v) are.0, asked_timely c d es (links.happens c d (line.Far act) v) are.1)
+
+-- the links behind a link that may heal may heal
+may_heal : (cfg : Cfg) (end : Role) (s : LinkStation) (k : SessionEnd) → k.station ≡ s → LinkMayHeal cfg s → SessionMayHeal (link_of cfg end) k
+may_heal cfg end s k is may = record {
+  up = ap (λ (x : LinkStation). is_up x.phase) is ∙ may.up;
+  free = ap is_busy is ∙ may.free;
+  tries = subst (HasTries cfg) (sym is) may.tries;
+}
+
+abbrev HealsOnce : LinkSettings → LinkSettings → Sessions → Type 0
+HealsOnce c d x =
+    x.out ≡ [] → x.back ≡ [] → SessionMayHeal c x.near → SessionMayHeal d x.far → (more : List line.Event) → AreDeliveriesAndPuts more
+    → (let fired = links.run c d (line.Near line.T1 ∷ line.Far line.T1 ∷ []) x in SessionsFreeThroughout c d more fired → (let v = links.run c d more fired in v.out ≡ [] → v.back ≡ [] → SessionsHaveArrived x v))
+
+module _ (laws : SessionLaws) (keeps : ConnectKeeps) where
+  pub heals_with_puts : PutsHealSessions → Throughout HealsWithPuts
+  heals_with_puts law cfg fine begin is events octets may more are more_octets free after_all =
+      record {
+        dte = subst IsAtRest all.alike.near arrived.near_rest;
+        dce = subst IsAtRest all.alike.far arrived.far_rest;
+        before = h.links;
+        behind = gone;
+        before_are = links_are cfg w h;
+        behind_are = gone_are cfg w h near_off far_off all.asked (asked_timely (c_of cfg) (d_of cfg) all.asked fired all.are) u all.alike;
+        asked = all.asked;
+        are = all.are;
+        goes = refl;
+        arrived = arrived;
+      }
+    where
+      w : World
+      w = run cfg events begin
+
+      configured : IsConfigured cfg
+      configured = is_configured cfg fine
+
+      h : SessionsJoined both_down cfg Dte w
+      h = throughout_joined laws keeps cfg fine begin is events octets
+
+      near_off : awaits_ua w.near.link.phase ≡ false
+      near_off = up_off w.near.link.phase may.near.up
+
+      far_off : awaits_ua w.far.link.phase ≡ false
+      far_off = up_off w.far.link.phase may.far.up
+
+      -- both fire
+      fire : (at : Role) (x : World) → SessionsJoined both_down cfg Dte x → SessionsJoined both_down cfg Dte (after x (happens cfg x (firing at)))
+      fire at x joined = event_joined laws cfg configured at Fires x (λ before e same. absurd (down_at_none before e same)) tt (λ off. not_set_up false off) joined
+
+      both : World
+      both = run cfg (firing Dte ∷ firing Dce ∷ []) w
+
+      fired : Sessions
+      fired = links.run (c_of cfg) (d_of cfg) (fired_then []) h.links
+
+      all : AllAsked cfg (run cfg more both) fired
+      all = all_asked laws cfg configured more both (fire Dce (after w (happens cfg w (firing Dte))) (fire Dte w h)) fired (both_alike cfg w h.links (joined_alike cfg w h) near_off far_off) are more_octets free
+
+      u : World
+      u = run cfg more both
+
+      gone : Sessions
+      gone = links.run (c_of cfg) (d_of cfg) all.asked fired
+
+      arrived : SessionsHaveArrived h.links gone
+      arrived =
+          known_sessions HealsOnce law cfg configured Dte h.links h.reach (none_of h.links.out (h.out ∙ may.drained.out)) (none_of h.links.back (h.back ∙ may.drained.back))
+          (may_heal cfg Dte w.near.link h.links.near h.near.link may.near) (may_heal cfg Dce w.far.link h.links.far h.far.link may.far) all.asked all.are all.free
+          (none_of gone.out (all.alike.out ∙ after_all.out)) (none_of gone.back (all.alike.back ∙ after_all.back))

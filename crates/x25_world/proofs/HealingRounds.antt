@@ -1,0 +1,339 @@
+-- Healing as a whole: firings, and rounds of pulls; all arrives.
+use Rattle.std.proofs.Common.{◌≡◌, ℕ, zero, suc, ◌+◌, ◌-◌, ◌*◌, ◌≤◌, ◌<◌, Bool, true, false, List, [], ◌∷◌, ◌++◌, length, Option, Some, None, Result, Ok, Err, OnOk, refl, sym, ap, ◌∙◌, subst, arith}
+use Rattle.std.specs.Prelude.{is_none, is_some, not, option_map}
+use Rattle.x25_bits.specs.declared.role.Role.{Role}
+use Rattle.x25_bits.specs.declared.role.Role.TheVariants.{Dte, Dce}
+use Rattle.x25_station.specs.declared.config.Cfg.{Cfg}
+use Rattle.x25_link.specs.Steps.{is_idle}
+use Rattle.x25_link.specs.laws.RestLaw.{IsAtRest}
+use Rattle.x25_layer.specs.Calls.{PullsAll}
+use Rattle.x25_layer.specs.laws.WaitLaw.{PullsNone}
+use Rattle.x25_station.specs.Settings.{settings_from, layer_settings, config_refusal}
+use Rattle.x25_station.specs.Command.{Requests}
+use Rattle.x25_station.specs.Station.{Station}
+use Rattle.x25_station.specs.Steps.{Outcome, Did, Refused, commands}
+use Rattle.x25_world.specs.World.{World, swapped, WorldOutcome, Happened, Declined, of_station, swapped_back, Event, happens, after, run}
+use Rattle.x25_world.specs.declared.error.WorldError.{WorldError}
+use Rattle.x25_world.specs.laws.Claims.{ActsInOctets, AreInOctets, IsBeginning}
+use Rattle.x25_world.specs.laws.SessionClaims.{Throughout}
+use Rattle.x25_world.specs.laws.WaitClaims.{pull_at, AllWaitForUsers, HasNoneToPull, PullsLeaveNone, UnpulledWaitForUsers}
+use Rattle.x25_world.specs.Healing.{all_received, firing, next_end, arrivals, most_deliveries, deliveries, one_if, if_accepted, behind, both_tried, pull_round, most_rounds, unless_empty, pull_rounds, fire_and_pull, healing, received_by, received_in, IsDrained, HealsWhereNonePut, HealsFrom, AreReceiptsAndRequests, FreeThroughout, BothMayHeal, HaveArrived, HealsWithPuts, AllArrives, HealingBringsAll}
+use Rattle.x25_world.specs.code.ShownWorld.{ShownWorld}
+use Rattle.x25_world.specs.code.FitsWorld.{Gone, FitsWorld, FitsRun, Leaves}
+use Rattle.x25_world.specs.code.FitsHealing.{GoesBy}
+use Rattle.x25_world.proofs.WorldLemmas.{leaves}
+use Rattle.x25_world.proofs.HealingSchedule.{run_append, accepted_append, count_append, tried_is, Begun, goes_on, rest_is}
+
+-- ---- rounds
+
+-- what is left behind a round
+abbrev pub left_behind : Cfg → ℕ → World → List Event
+left_behind cfg n w = unless_empty (pull_rounds cfg n) w (next_end w.out w.back)
+
+-- whether there is none, by whether there is some
+pub none_by_some : {A B : Type 0} (f : A → B) (o : Option A) (b : Bool) → is_some o ≡ not b → b ≡ is_none (option_map f o)
+none_by_some f None true e = refl
+none_by_some f None false e = absurd (cc)
+none_by_some f (Some x) true e = absurd (cc)
+none_by_some f (Some x) false e = refl
+
+pub is_none_true : {A : Type 0} (o : Option A) → is_none o ≡ true → o ≡ None
+is_none_true None e = refl
+is_none_true (Some x) e = absurd (cc)
+
+module _ (cfg : Cfg) where
+  pub no_rounds : (n : ℕ) (w : World) → n ≡ 0 → pull_rounds cfg n w ≡ []
+  unfolding pull_rounds
+  no_rounds n w e = ap (λ (m : ℕ). pull_rounds cfg m w) e
+
+  pub round_more : (n m : ℕ) (w : World) → n ≡ suc m → pull_rounds cfg n w ≡ pull_round cfg w ++ left_behind cfg m (run cfg (pull_round cfg w) w)
+  unfolding pull_rounds
+  round_more n m w e = ap (λ (k : ℕ). pull_rounds cfg k w) e
+
+  by_line : (rest : World → List Event) (w : World) (at : Option Role) → at ≡ None → unless_empty rest w at ≡ []
+  by_line rest w None e = refl
+  by_line rest w (Some at) e = absurd (cc)
+
+  pub line_empty : (n : ℕ) (w : World) → next_end w.out w.back ≡ None → left_behind cfg n w ≡ []
+  line_empty n w e = by_line (pull_rounds cfg n) w (next_end w.out w.back) e
+
+  by_frames : (rest : World → List Event) (w : World) (at : Option Role) → is_none at ≡ false → unless_empty rest w at ≡ rest w
+  by_frames rest w None e = absurd (cc)
+  by_frames rest w (Some at) e = refl
+
+  pub line_filled : (n : ℕ) (w : World) → is_none (next_end w.out w.back) ≡ false → left_behind cfg n w ≡ pull_rounds cfg n w
+  line_filled n w e = by_frames (pull_rounds cfg n) w (next_end w.out w.back) e
+
+module _ (cfg : Cfg) (events : List Event) (w : World) (gone : Gone) (all done count : ℕ) where
+  abbrev pub next_round : (v : ShownWorld) → done < all → Begun cfg events w v gone (pull_rounds cfg (all - done)) count → Begun cfg events w v gone (behind cfg (pull_round cfg) (left_behind cfg (all - (done + 1)))) count
+  next_round v low h =
+      rest_is cfg events w v gone (pull_rounds cfg (all - done)) count h (behind cfg (pull_round cfg) (left_behind cfg (all - (done + 1))))
+      (round_more cfg (all - done) (all - (done + 1)) (run cfg h.done w) (omega (arith, low)))
+
+  pub round_done : (u v : ShownWorld) (more : ℕ) (low : done < all) (h : Begun cfg events w u gone (pull_rounds cfg (all - done)) count)
+      → (let x = run cfg h.done w in GoesBy cfg (pull_round cfg x) x v gone → more ≡ received_in (pull_round cfg x) → Begun cfg events w v gone (left_behind cfg (all - (done + 1))) (count + more))
+  round_done u v more low h goes counted = goes_on cfg events w u v gone (pull_round cfg) (left_behind cfg (all - (done + 1))) count (next_round u low h) more goes counted
+
+-- ---- how many arrive
+
+pub count_received : (ends : List Role) → received_in (all_received ends) ≡ length ends
+count_received [] = refl
+count_received (at ∷ ends) = let rest = count_received ends in omega (arith, rest)
+
+count_tried : (cfg : Cfg) (e : Event) (w : World) → received_by e.act ≡ 0 → received_in (if_accepted cfg e w) ≡ 0
+count_tried cfg e w none = by (happens cfg w e)
+  where
+    by : (o : WorldOutcome) → received_in (one_if e o) ≡ 0
+    by (Happened next) = omega (arith, none)
+    by (Declined x) = refl
+
+pub count_both : (cfg : Cfg) (first second : Event) (w : World) → received_by first.act ≡ 0 → received_by second.act ≡ 0 → received_in (both_tried cfg first second w) ≡ 0
+count_both cfg first second w none none_there =
+    let x = run cfg (if_accepted cfg first w) w in
+    let both = count_append (if_accepted cfg first w) (if_accepted cfg second x) in
+    let one = count_tried cfg first w none in
+    let two = count_tried cfg second x none_there in
+    omega (arith, both, one, two)
+
+pub count_round : (cfg : Cfg) (w : World) (count : ℕ) → count ≡ length (arrivals cfg most_deliveries w) → count ≡ received_in (pull_round cfg w)
+count_round cfg w count counted =
+    let x = run cfg (deliveries cfg w) w in
+    let both = count_append (deliveries cfg w) (both_tried cfg (pull_at Dte) (pull_at Dce) x) in
+    let one = count_received (arrivals cfg most_deliveries w) in
+    let two = count_both cfg (pull_at Dte) (pull_at Dce) x refl refl in
+    omega (arith, counted, both, one, two)
+
+-- both firings have been tried
+abbrev pub fired_at : Cfg → World → World
+fired_at cfg v = run cfg (both_tried cfg (firing Dte) (firing Dce) v) v
+
+pub counts_both : (cfg : Cfg) (w : World) (before behind same : ℕ) → before ≡ length (arrivals cfg most_deliveries w)
+    → behind ≡ received_in (pull_rounds cfg most_rounds (fired_at cfg (run cfg (deliveries cfg w) w))) → same ≡ before → same + behind ≡ received_in (healing cfg w)
+counts_both cfg w before behind same first second kept =
+    let v = run cfg (deliveries cfg w) w in
+    let fired = both_tried cfg (firing Dte) (firing Dce) v in
+    let x = fired_at cfg v in
+    let whole = count_append (deliveries cfg w) (fire_and_pull cfg v) in
+    let one = count_received (arrivals cfg most_deliveries w) in
+    let rest = count_append fired (pull_rounds cfg most_rounds x) in
+    let two = count_both cfg (firing Dte) (firing Dce) v refl refl in
+    omega (arith, first, second, kept, whole, one, rest, two)
+
+-- a round more has brought at most so many more
+pub few_more : (count rounds more : ℕ) → more ≤ most_deliveries → count ≤ rounds * most_deliveries → count + more ≤ (rounds + 1) * most_deliveries
+few_more count rounds more few h = omega (arith, few, h)
+
+-- .. and at least one, where a frame was on the line
+pub rounds_more : (at : Option Role) (count rounds more : ℕ) → rounds ≤ count + 1 → (1 ≤ rounds → is_none at ≡ false) → (more ≡ 0 → at ≡ None) → rounds + 1 ≤ count + more + 1
+rounds_more at count zero more low filled none = omega arith
+rounds_more at count (suc n) zero low filled none = absurd (some at (filled (omega arith)) (none refl))
+  where
+    some : (at : Option Role) → is_none at ≡ false → at ≡ None → ⊥
+    some None e is = cc
+    some (Some x) e is = cc
+rounds_more at count (suc n) (suc m) low filled none = omega (arith, low)
+
+-- ---- the whole
+
+octets_append : (xs ys : List Event) → AreInOctets xs → AreInOctets ys → AreInOctets (xs ++ ys)
+octets_append [] ys f g = g
+octets_append (x ∷ xs) ys f g = (f.0, octets_append xs ys f.1 g)
+
+received_octets : (ends : List Role) → AreInOctets (all_received ends)
+received_octets [] = tt
+received_octets (at ∷ ends) = (tt, received_octets ends)
+
+tried_octets : (cfg : Cfg) (e : Event) (w : World) → ActsInOctets e.act → AreInOctets (if_accepted cfg e w)
+tried_octets cfg e w octets = by (happens cfg w e)
+  where
+    by : (o : WorldOutcome) → AreInOctets (one_if e o)
+    by (Happened next) = (octets, tt)
+    by (Declined x) = tt
+
+both_octets : (cfg : Cfg) (first second : Event) (w : World) → ActsInOctets first.act → ActsInOctets second.act → AreInOctets (both_tried cfg first second w)
+both_octets cfg first second w octets octets_there =
+    let x = run cfg (if_accepted cfg first w) w in
+    octets_append (if_accepted cfg first w) (if_accepted cfg second x) (tried_octets cfg first w octets) (tried_octets cfg second x octets_there)
+
+round_octets : (cfg : Cfg) (w : World) → AreInOctets (pull_round cfg w)
+round_octets cfg w =
+    let x = run cfg (deliveries cfg w) w in
+    octets_append (deliveries cfg w) (both_tried cfg (pull_at Dte) (pull_at Dce) x) (received_octets (arrivals cfg most_deliveries w)) (both_octets cfg (pull_at Dte) (pull_at Dce) x tt tt)
+
+unless_octets : (rest : World → List Event) → ((w : World) → AreInOctets (rest w)) → (w : World) (at : Option Role) → AreInOctets (unless_empty rest w at)
+unless_octets rest octets w None = tt
+unless_octets rest octets w (Some at) = octets w
+
+rounds_octets : (cfg : Cfg) (n : ℕ) (w : World) → AreInOctets (pull_rounds cfg n w)
+unfolding pull_rounds
+rounds_octets cfg zero w = tt
+rounds_octets cfg (suc n) w =
+    let x = run cfg (pull_round cfg w) w in
+    octets_append (pull_round cfg w) (left_behind cfg n x) (round_octets cfg w) (unless_octets (pull_rounds cfg n) (rounds_octets cfg n) x (next_end x.out x.back))
+
+healing_octets : (cfg : Cfg) (w : World) → AreInOctets (healing cfg w)
+healing_octets cfg w =
+    let v = run cfg (deliveries cfg w) w in
+    let fired = both_tried cfg (firing Dte) (firing Dce) v in
+    let x = run cfg fired v in
+    octets_append (deliveries cfg w) (fire_and_pull cfg v) (received_octets (arrivals cfg most_deliveries w))
+    (octets_append fired (pull_rounds cfg most_rounds x) (both_octets cfg (firing Dte) (firing Dce) v tt tt) (rounds_octets cfg most_rounds x))
+
+pub holds_healed : (Holds : Cfg → World → World → Type 0) {T : Type 0} (r : Result T WorldError) (old new : ShownWorld) (cfg : Cfg) (from : World) (past : List Event) (gone : Gone) → FitsRun cfg from old past gone
+    → (let w = run cfg past from in OnOk r (GoesBy cfg (healing cfg w) w new gone)
+    → (AreInOctets (past ++ healing cfg w) → Holds cfg w (run cfg (past ++ healing cfg w) from))
+    → OnOk r (Leaves (λ (c : Cfg) (u : World). Holds c w u) cfg from new (past ++ healing cfg w) gone))
+holds_healed Holds (Err e) old new cfg from past gone h goes law = tt
+holds_healed Holds (Ok x) old new cfg from past gone h goes law =
+    let w = run cfg past from in
+    let octets = octets_append past (healing cfg w) h.octets (healing_octets cfg w) in
+    leaves (λ (c : Cfg) (u : World). Holds c w u) new cfg from (past ++ healing cfg w) gone (record {
+      settings = h.settings;
+      octets = octets;
+      accepted = accepted_append cfg past (healing cfg w) from h.accepted goes.accepted;
+      fits = subst (λ (z : World). FitsWorld cfg new z gone) (sym (run_append cfg past (healing cfg w) from)) goes.fits;
+    }) (law octets)
+
+pub heals_from : Throughout HealsWhereNonePut → (cfg : Cfg) → config_refusal cfg ≡ None → (from : World) → IsBeginning cfg from → (past : List Event) → AreInOctets past → HealsFrom cfg (run cfg past from)
+heals_from law cfg fine from begins past octets may none after_all =
+    let w = run cfg past from in
+    let v = run cfg (deliveries cfg w) w in
+    let fired = run cfg (firing Dte ∷ firing Dce ∷ []) v in
+    let here : HealsWhereNonePut cfg v =
+    subst (HealsWhereNonePut cfg) (run_append cfg past (deliveries cfg w) from)
+    (law cfg fine from begins (past ++ deliveries cfg w) (octets_append past (deliveries cfg w) octets (received_octets (arrivals cfg most_deliveries w)))) in
+    here may (arrivals cfg most_deliveries fired) none after_all
+
+-- ---- all arrives
+
+-- a round is deliveries and requests
+requests_append : (xs ys : List Event) → AreReceiptsAndRequests xs → AreReceiptsAndRequests ys → AreReceiptsAndRequests (xs ++ ys)
+requests_append [] ys f g = g
+requests_append (x ∷ xs) ys f g = (f.0, requests_append xs ys f.1 g)
+
+received_requests : (ends : List Role) → AreReceiptsAndRequests (all_received ends)
+received_requests [] = tt
+received_requests (at ∷ ends) = (tt, received_requests ends)
+
+pulled_requests : (cfg : Cfg) (end : Role) (w : World) → AreReceiptsAndRequests (if_accepted cfg (pull_at end) w)
+pulled_requests cfg end w = by (happens cfg w (pull_at end))
+  where
+    by : (o : WorldOutcome) → AreReceiptsAndRequests (one_if (pull_at end) o)
+    by (Happened next) = (tt, tt)
+    by (Declined x) = tt
+
+round_requests : (cfg : Cfg) (w : World) → AreReceiptsAndRequests (pull_round cfg w)
+round_requests cfg w =
+    let x = run cfg (deliveries cfg w) w in
+    let y = run cfg (if_accepted cfg (pull_at Dte) x) x in
+    requests_append (deliveries cfg w) (both_tried cfg (pull_at Dte) (pull_at Dce) x) (received_requests (arrivals cfg most_deliveries w))
+    (requests_append (if_accepted cfg (pull_at Dte) x) (if_accepted cfg (pull_at Dce) y) (pulled_requests cfg Dte x) (pulled_requests cfg Dce y))
+
+unless_requests : (rest : World → List Event) → ((w : World) → AreReceiptsAndRequests (rest w)) → (w : World) (at : Option Role) → AreReceiptsAndRequests (unless_empty rest w at)
+unless_requests rest are w None = tt
+unless_requests rest are w (Some at) = are w
+
+rounds_requests : (cfg : Cfg) (n : ℕ) (w : World) → AreReceiptsAndRequests (pull_rounds cfg n w)
+unfolding pull_rounds
+rounds_requests cfg zero w = tt
+rounds_requests cfg (suc n) w =
+    let x = run cfg (pull_round cfg w) w in
+    requests_append (pull_round cfg w) (left_behind cfg n x) (round_requests cfg w) (unless_requests (pull_rounds cfg n) (rounds_requests cfg n) x (next_end x.out x.back))
+
+-- both pulls, accepted or not
+abbrev pulled_both : Cfg → World → World
+pulled_both cfg w =
+    let x = after w (happens cfg w (pull_at Dte)) in
+    after x (happens cfg x (pull_at Dce))
+
+both_are : (cfg : Cfg) (first second : Event) (w : World) → (let x = after w (happens cfg w first) in run cfg (both_tried cfg first second w) w ≡ after x (happens cfg x second))
+both_are cfg first second w =
+    let y = run cfg (if_accepted cfg first w) w in
+    run_append cfg (if_accepted cfg first w) (if_accepted cfg second y) w ∙ tried_is cfg second y ∙ ap (λ (x : World). after x (happens cfg x second)) (tried_is cfg first w)
+
+-- a world of which the last two events tried were the pulls
+record ArePulled (cfg : Cfg) (u : World) : Type 0 where
+  from : World
+  is : u ≡ pulled_both cfg from
+
+round_pulls : (cfg : Cfg) (w : World) → ArePulled cfg (run cfg (pull_round cfg w) w)
+round_pulls cfg w =
+    let x = run cfg (deliveries cfg w) w in
+    record { from = x; is = run_append cfg (deliveries cfg w) (both_tried cfg (pull_at Dte) (pull_at Dce) x) w ∙ both_are cfg (pull_at Dte) (pull_at Dce) x }
+
+unless_pulls : (cfg : Cfg) (rest : World → List Event) → ((w : World) → ArePulled cfg w → ArePulled cfg (run cfg (rest w) w)) → (w : World) (at : Option Role) → ArePulled cfg w → ArePulled cfg (run cfg (unless_empty rest w at) w)
+unless_pulls cfg rest pulls w None are = are
+unless_pulls cfg rest pulls w (Some at) are = pulls w are
+
+rounds_pull : (cfg : Cfg) (n : ℕ) (w : World) → ArePulled cfg w → ArePulled cfg (run cfg (pull_rounds cfg n w) w)
+unfolding pull_rounds
+rounds_pull cfg zero w are = are
+rounds_pull cfg (suc n) w are =
+    let x = run cfg (pull_round cfg w) w in
+    subst (ArePulled cfg) (sym (run_append cfg (pull_round cfg w) (left_behind cfg n x) w)) (unless_pulls cfg (pull_rounds cfg n) (rounds_pull cfg n) x (next_end x.out x.back) (round_pulls cfg w))
+
+all_pull : (cfg : Cfg) (n m : ℕ) (w : World) → n ≡ suc m → ArePulled cfg (run cfg (pull_rounds cfg n w) w)
+all_pull cfg n m w is =
+    let x = run cfg (pull_round cfg w) w in
+    subst (λ (es : List Event). ArePulled cfg (run cfg es w)) (sym (round_more cfg n m w is))
+    (subst (ArePulled cfg) (sym (run_append cfg (pull_round cfg w) (left_behind cfg m x) w)) (unless_pulls cfg (pull_rounds cfg m) (rounds_pull cfg m) x (next_end x.out x.back) (round_pulls cfg w)))
+
+-- the pull of the DCE leaves the DTE as it was
+keeps_dte : (cfg : Cfg) (w : World) → (after w (happens cfg w (pull_at Dce))).near ≡ w.near
+keeps_dte cfg w = by (commands (settings_from Dce cfg) w.far (Requests PullsAll))
+  where
+    by : (o : Outcome) → (after w (swapped_back (of_station (settings_from Dce cfg) (swapped w) o))).near ≡ w.near
+    by (Did step) = refl
+    by (Refused e) = refl
+
+-- behind both pulls, where both links are idle, a pull gives none at either end
+both_left : PullsLeaveNone → (cfg : Cfg) (w : World) → (let u = pulled_both cfg w in is_idle u.near.link ≡ true → is_idle u.far.link ≡ true → HasNoneToPull cfg u Dte × HasNoneToPull cfg u Dce)
+both_left law cfg w idle idle_there =
+    let x = after w (happens cfg w (pull_at Dte)) in
+    let same : (pulled_both cfg w).near ≡ x.near = keeps_dte cfg x in (
+      subst (λ (s : Station). s.layer.restarting ≡ false → PullsNone (layer_settings (settings_from Dte cfg)) s.layer) (sym same) (law cfg w Dte (ap (λ (s : Station). is_idle s.link) (sym same) ∙ idle)),
+      law cfg x Dce idle_there,
+    )
+
+pulled_left : PullsLeaveNone → (cfg : Cfg) (u : World) → ArePulled cfg u → is_idle u.near.link ≡ true → is_idle u.far.link ≡ true → HasNoneToPull cfg u Dte × HasNoneToPull cfg u Dce
+pulled_left law cfg u are =
+    subst (λ (v : World). is_idle v.near.link ≡ true → is_idle v.far.link ≡ true → HasNoneToPull cfg v Dte × HasNoneToPull cfg v Dce) (sym are.is) (both_left law cfg are.from)
+
+module _ (law : Throughout HealsWithPuts) (left : PullsLeaveNone) (unpulled : Throughout UnpulledWaitForUsers) (cfg : Cfg) (fine : config_refusal cfg ≡ None) (from : World) (begins : IsBeginning cfg from) (past : List Event) (octets : AreInOctets past) where
+  abbrev w : World
+  w = run cfg past from
+
+  abbrev v : World
+  v = run cfg (deliveries cfg w) w
+
+  abbrev fired : World
+  fired = run cfg (firing Dte ∷ firing Dce ∷ []) v
+
+  abbrev u : World
+  u = run cfg (pull_rounds cfg most_rounds fired) fired
+
+  ends_so : run cfg (healing cfg w) w ≡ u
+  ends_so =
+      let tried = both_tried cfg (firing Dte) (firing Dce) v in
+      run_append cfg (deliveries cfg w) (fire_and_pull cfg v) w ∙ run_append cfg tried (pull_rounds cfg most_rounds (run cfg tried v)) v
+      ∙ ap (λ (x : World). run cfg (pull_rounds cfg most_rounds x) x) (both_are cfg (firing Dte) (firing Dce) v)
+
+  have_arrived : BothMayHeal cfg v → FreeThroughout cfg (pull_rounds cfg most_rounds fired) fired → IsDrained u → HaveArrived cfg v u
+  have_arrived may free drained =
+      let here : HealsWithPuts cfg v =
+      subst (HealsWithPuts cfg) (run_append cfg past (deliveries cfg w) from)
+      (law cfg fine from begins (past ++ deliveries cfg w) (octets_append past (deliveries cfg w) octets (received_octets (arrivals cfg most_deliveries w)))) in
+      here may (pull_rounds cfg most_rounds fired) (rounds_requests cfg most_rounds fired) (rounds_octets cfg most_rounds fired) free drained
+
+  wait_alone : IsAtRest u.near.link → IsAtRest u.far.link → AllWaitForUsers cfg u
+  wait_alone dte dce =
+      let none = pulled_left left cfg u (all_pull cfg most_rounds (most_rounds - 1) fired (omega arith)) dte.idle dce.idle in
+      let here : UnpulledWaitForUsers cfg u =
+      subst (UnpulledWaitForUsers cfg) (run_append cfg past (healing cfg w) from ∙ ends_so)
+      (unpulled cfg fine from begins (past ++ healing cfg w) (octets_append past (healing cfg w) octets (healing_octets cfg w))) in
+      here dte.idle dce.idle none.0 none.1
+
+  pub brings_all : HealingBringsAll cfg (run cfg past from)
+  brings_all may free drained =
+      let links = have_arrived may free (subst IsDrained ends_so drained) in
+      subst (AllArrives cfg v) (sym ends_so) (record { links = links; waits = wait_alone links.dte links.dce })
