@@ -1,106 +1,11 @@
 -- The frames on a line where one of the two ends is busy: RNR may stand among them, and what is heard last tells whether the end is busy.
-use Rattle.std.proofs.Common.{◌≡◌, ℕ, ◌+◌, ◌%◌, ◌≤◌, List, [], ◌∷◌, ◌++◌, Bool, true, false, refl, sym, ◌∙◌, subst, arith}
-use Rattle.std.specs.Prelude.{◌&&◌}
-use Rattle.std.proofs.lemmas.Bool.{and_left}
+use Rattle.std.proofs.Common.{◌≡◌, ℕ, List, [], ◌∷◌, ◌++◌, ◌⊎◌, inl, inr, Bool, true, false, refl, sym, ◌∙◌}
 use Rattle.x25_frame.specs.PlainFrame.{PlainFrame, info, rr, rnr, rej, sabm, disc, ua, dm, frmr}
 use Rattle.x25_link.specs.LinkStation.{LinkStation, is_busy}
 use Rattle.x25_link.specs.laws.AnswerLaw.{says, AreNext}
 use Rattle.x25_link.specs.laws.BusyLaw.{said_last, says_free, NoInfo, Says}
 use Rattle.x25_line.proofs.StationSteps.{not_both}
-use Rattle.x25_line.proofs.HealingLines.{LastTells, next_ahead, ahead_low}
-
--- ---- frames to the other end: the I frames that are awaited, one after another, and nothing that asks
-
-abbrev pub Onward : ℕ → List PlainFrame → ℕ → Type 0
-Onward n [] m = n ≡ m
-Onward n (info ns nr p x ∷ fs) m = (ns ≡ n % 8) × (p ≡ false) × Onward (n + 1) fs m
-Onward n (rr command nr pf ∷ fs) m = ((command && pf) ≡ false) × Onward n fs m
-Onward n (rnr command nr pf ∷ fs) m = ((command && pf) ≡ false) × Onward n fs m
-Onward n (rej command nr pf ∷ fs) m = (pf ≡ false) × Onward n fs m
-Onward n (f ∷ fs) m = ⊥
-
-pub onward_low : (n : ℕ) (fs : List PlainFrame) (m : ℕ) → Onward n fs m → n ≤ m
-onward_low n [] m h = omega (arith, h)
-onward_low n (info ns nr p x ∷ fs) m h = omega (arith, onward_low (n + 1) fs m h.2)
-onward_low n (rr command nr pf ∷ fs) m h = onward_low n fs m h.1
-onward_low n (rnr command nr pf ∷ fs) m h = onward_low n fs m h.1
-onward_low n (rej command nr pf ∷ fs) m h = onward_low n fs m h.1
-onward_low n (sabm p ∷ fs) m h = absurd h
-onward_low n (disc p ∷ fs) m h = absurd h
-onward_low n (ua p ∷ fs) m h = absurd h
-onward_low n (dm p ∷ fs) m h = absurd h
-onward_low n (frmr p why ∷ fs) m h = absurd h
-
-pub onward_more : (n m k : ℕ) (fs es : List PlainFrame) → Onward n fs m → Onward m es k → Onward n (fs ++ es) k
-onward_more n m k [] es h g = subst (λ (z : ℕ). Onward z es k) (sym h) g
-onward_more n m k (info ns nr p x ∷ fs) es h g = (h.0, h.1, onward_more (n + 1) m k fs es h.2 g)
-onward_more n m k (rr command nr pf ∷ fs) es h g = (h.0, onward_more n m k fs es h.1 g)
-onward_more n m k (rnr command nr pf ∷ fs) es h g = (h.0, onward_more n m k fs es h.1 g)
-onward_more n m k (rej command nr pf ∷ fs) es h g = (h.0, onward_more n m k fs es h.1 g)
-onward_more n m k (sabm p ∷ fs) es h g = absurd h
-onward_more n m k (disc p ∷ fs) es h g = absurd h
-onward_more n m k (ua p ∷ fs) es h g = absurd h
-onward_more n m k (dm p ∷ fs) es h g = absurd h
-onward_more n m k (frmr p why ∷ fs) es h g = absurd h
-
--- what the sending rule sends is of this kind
-pub next_onward : (r n : ℕ) (fs : List PlainFrame) (m : ℕ) → AreNext r n fs m → Onward n fs m
-next_onward r n [] m h = h
-next_onward r n (info ns nr p x ∷ fs) m h = (h.0, h.2, next_onward r (n + 1) fs m h.3)
-next_onward r n (rr command nr pf ∷ fs) m h = (and_left command pf h.0, next_onward r n fs m h.3)
-next_onward r n (rnr command nr pf ∷ fs) m h = absurd h
-next_onward r n (rej command nr pf ∷ fs) m h = absurd h
-next_onward r n (sabm p ∷ fs) m h = absurd h
-next_onward r n (disc p ∷ fs) m h = absurd h
-next_onward r n (ua p ∷ fs) m h = absurd h
-next_onward r n (dm p ∷ fs) m h = absurd h
-next_onward r n (frmr p why ∷ fs) m h = absurd h
-
--- ---- the same without I frames, as in recovery, or while the peer is busy
-
-abbrev pub Gentle : List PlainFrame → Type 0
-Gentle [] = Unit {0}
-Gentle (rr command nr pf ∷ fs) = ((command && pf) ≡ false) × Gentle fs
-Gentle (rnr command nr pf ∷ fs) = ((command && pf) ≡ false) × Gentle fs
-Gentle (rej command nr pf ∷ fs) = (pf ≡ false) × Gentle fs
-Gentle (f ∷ fs) = ⊥
-
-pub gentle_onward : (n : ℕ) (fs : List PlainFrame) → Gentle fs → Onward n fs n
-gentle_onward n [] h = refl
-gentle_onward n (rr command nr pf ∷ fs) h = (h.0, gentle_onward n fs h.1)
-gentle_onward n (rnr command nr pf ∷ fs) h = (h.0, gentle_onward n fs h.1)
-gentle_onward n (rej command nr pf ∷ fs) h = (h.0, gentle_onward n fs h.1)
-gentle_onward n (info ns nr p x ∷ fs) h = absurd h
-gentle_onward n (sabm p ∷ fs) h = absurd h
-gentle_onward n (disc p ∷ fs) h = absurd h
-gentle_onward n (ua p ∷ fs) h = absurd h
-gentle_onward n (dm p ∷ fs) h = absurd h
-gentle_onward n (frmr p why ∷ fs) h = absurd h
-
-pub gentle_more : (fs es : List PlainFrame) → Gentle fs → Gentle es → Gentle (fs ++ es)
-gentle_more [] es h g = g
-gentle_more (rr command nr pf ∷ fs) es h g = (h.0, gentle_more fs es h.1 g)
-gentle_more (rnr command nr pf ∷ fs) es h g = (h.0, gentle_more fs es h.1 g)
-gentle_more (rej command nr pf ∷ fs) es h g = (h.0, gentle_more fs es h.1 g)
-gentle_more (info ns nr p x ∷ fs) es h g = absurd h
-gentle_more (sabm p ∷ fs) es h g = absurd h
-gentle_more (disc p ∷ fs) es h g = absurd h
-gentle_more (ua p ∷ fs) es h g = absurd h
-gentle_more (dm p ∷ fs) es h g = absurd h
-gentle_more (frmr p why ∷ fs) es h g = absurd h
-
--- where V(S) stays, no I frame went
-pub held_gentle : (r n : ℕ) (fs : List PlainFrame) (m : ℕ) → AreNext r n fs m → m ≤ n → Gentle fs
-held_gentle r n [] m h le = tt
-held_gentle r n (rr command nr pf ∷ fs) m h le = (and_left command pf h.0, held_gentle r n fs m h.3 le)
-held_gentle r n (info ns nr p x ∷ fs) m h le = absurd (omega (arith, le, ahead_low (n + 1) fs m (next_ahead r (n + 1) fs m h.3)))
-held_gentle r n (rej command nr pf ∷ fs) m h le = absurd h
-held_gentle r n (rnr command nr pf ∷ fs) m h le = absurd h
-held_gentle r n (sabm p ∷ fs) m h le = absurd h
-held_gentle r n (disc p ∷ fs) m h le = absurd h
-held_gentle r n (ua p ∷ fs) m h le = absurd h
-held_gentle r n (dm p ∷ fs) m h le = absurd h
-held_gentle r n (frmr p why ∷ fs) m h le = absurd h
+use Rattle.x25_line.proofs.HealingLines.{LastTells}
 
 -- where no I frame went, V(S) stays
 pub silent_stays : (r n : ℕ) (fs : List PlainFrame) (m : ℕ) → AreNext r n fs m → NoInfo fs → m ≡ n
@@ -133,6 +38,24 @@ AtMostAsks [] = Unit {0}
 AtMostAsks (rr true nr true ∷ []) = Unit {0}
 AtMostAsks (rnr true nr true ∷ []) = Unit {0}
 AtMostAsks fs = ⊥
+
+pub asks_or_not : (fs : List PlainFrame) → AtMostAsks fs → (fs ≡ []) ⊎ ((busy : Bool) × (nr : ℕ) × (fs ≡ says busy true nr true ∷ []))
+asks_or_not [] asks = inl refl
+asks_or_not (rr true nr true ∷ []) asks = inr (false, nr, refl)
+asks_or_not (rnr true nr true ∷ []) asks = inr (true, nr, refl)
+asks_or_not (rr true nr true ∷ f ∷ fs) asks = absurd asks
+asks_or_not (rr true nr false ∷ fs) asks = absurd asks
+asks_or_not (rr false nr pf ∷ fs) asks = absurd asks
+asks_or_not (rnr true nr true ∷ f ∷ fs) asks = absurd asks
+asks_or_not (rnr true nr false ∷ fs) asks = absurd asks
+asks_or_not (rnr false nr pf ∷ fs) asks = absurd asks
+asks_or_not (info ns nr p x ∷ fs) asks = absurd asks
+asks_or_not (rej command nr pf ∷ fs) asks = absurd asks
+asks_or_not (sabm p ∷ fs) asks = absurd asks
+asks_or_not (disc p ∷ fs) asks = absurd asks
+asks_or_not (ua p ∷ fs) asks = absurd asks
+asks_or_not (dm p ∷ fs) asks = absurd asks
+asks_or_not (frmr p why ∷ fs) asks = absurd asks
 
 -- ---- what an end will hear of whether the other is busy
 

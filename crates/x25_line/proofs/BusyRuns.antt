@@ -12,18 +12,20 @@ use Rattle.x25_link.specs.laws.RestLaw.{IsAtRest}
 use Rattle.x25_link.specs.laws.AnswerLaw.{says}
 use Rattle.x25_link.specs.laws.BusyLaw.{BusyLaws}
 use Rattle.x25_link.proofs.EndLemmas.{busy_is}
-use Rattle.x25_line.specs.Stations.{StationEnd, Stations, Act, Put, Deliver, T1, Connect, Disconnect, Abandon, Lose, Damage, Event, Near, Far, acts, swapped, happens, run, start}
+use Rattle.x25_line.specs.Stations.{StationEnd, Stations, Act, T1, Event, Near, Far, acts, swapped, happens, run, start}
 use Rattle.x25_line.specs.laws.StationClaims.{AreJoined, IsSetUpOnce}
 use Rattle.x25_line.specs.Healing.{IsDrained, IsDeliver, AreDeliveries, IsHealed, HasTries, OneIsFree, OneBusyHeals, SomeBusyHeal, HealsUnlessBothBusy}
+use Rattle.x25_line.specs.laws.LawsBelow.{HealingLaws}
 use Rattle.x25_line.proofs.StationSteps.{not_both}
 use Rattle.x25_line.proofs.StationRuns.{joined_swapped}
-use Rattle.x25_line.proofs.HealingLines.{Reads, reads_none, Reports}
-use Rattle.x25_line.proofs.HealingSteps.{HealingLaws, Sound, sound_swapped, near_up, counted}
+use Rattle.x25_line.proofs.HealingLines.{Reads, reads_none, Reports, one_frame, not_behind}
+use Rattle.x25_line.proofs.HealingSteps.{Sound, sound_swapped, near_up, counted, deliver_is}
+use Rattle.x25_line.proofs.HealingResent.{resent_rests}
 use Rattle.x25_line.proofs.HealingRuns.{reached_sound, arrives, shows_at_rest, refused, SentPoll, sends_poll}
 use Rattle.x25_line.proofs.HealingEnds.{after_firings, quiet_ends}
 use Rattle.x25_line.proofs.DrainRuns.{some_drain}
-use Rattle.x25_line.proofs.BusyLines.{Onward, AtMostAsks, hears_busy, Told}
-use Rattle.x25_line.proofs.BusyPhases.{Pair, pair_swapped, Heals, near_heals, far_heals}
+use Rattle.x25_line.proofs.BusyLines.{AtMostAsks, hears_busy, Told}
+use Rattle.x25_line.proofs.BusyPhases.{Pair, pair_swapped, Heals, near_heals, far_heals, ups}
 
 -- nothing waits at an end at rest, so it isn't busy
 rest_free : (s : LinkStation) → IsAtRest s → is_busy s ≡ false
@@ -36,13 +38,6 @@ rest_free s rest =
 asks_at : (busy : Bool) (n : ℕ) → AtMostAsks (says busy true n true ∷ [])
 asks_at true n = tt
 asks_at false n = tt
-
-one_frame : (f : PlainFrame) (fs : List PlainFrame) {A : Type 0} → f ∷ fs ≡ [] → A
-one_frame f fs e = absurd (omega (arith, ap length e))
-
-not_behind : (before : List PlainFrame) (f : PlainFrame) (fs : List PlainFrame) {A : Type 0} → before ++ f ∷ fs ≡ [] → A
-not_behind [] f fs e = one_frame f fs e
-not_behind (g ∷ gs) f fs e = one_frame g (gs ++ f ∷ fs) e
 
 free_turned : (s t : LinkStation) → OneIsFree s t → OneIsFree t s
 free_turned s t h = elim h [ inl near ↦ inr near | inr far ↦ inl far ]
@@ -62,38 +57,17 @@ module _ (c d : Settings) (joined : AreJoined c d) (reads : ReadsSpelled) (laws 
   -- ---- deliveries
 
   near_event : (a : Act) (w : Stations) → IsDeliver a → Heals c d w → Heals c d (acts c a w)
-  near_event (Put packet) w is h = absurd is
-  near_event Deliver w is h = near_heals c d joined reads laws busy_laws w h
-  near_event T1 w is h = absurd is
-  near_event Connect w is h = absurd is
-  near_event Disconnect w is h = absurd is
-  near_event Abandon w is h = absurd is
-  near_event (Lose i) w is h = absurd is
-  near_event (Damage i octets) w is h = absurd is
+  near_event a w is h = subst (λ (act : Act). Heals c d (acts c act w)) (deliver_is a is) (near_heals c d joined reads laws busy_laws w h)
 
   far_event : (a : Act) (w : Stations) → IsDeliver a → Heals c d w → Heals c d (swapped (acts d a (swapped w)))
-  far_event (Put packet) w is h = absurd is
-  far_event Deliver w is h = far_heals c d joined reads laws busy_laws w h
-  far_event T1 w is h = absurd is
-  far_event Connect w is h = absurd is
-  far_event Disconnect w is h = absurd is
-  far_event Abandon w is h = absurd is
-  far_event (Lose i) w is h = absurd is
-  far_event (Damage i octets) w is h = absurd is
+  far_event a w is h = subst (λ (act : Act). Heals c d (swapped (acts d act (swapped w)))) (deliver_is a is) (far_heals c d joined reads laws busy_laws w h)
 
   -- once nothing is on the line any more
   settles : (v : Stations) → Heals c d v → IsDrained v → RestsUnlessBusy v
   settles v (b, inl h) drained = one_frame _ _ (reads_none (other d.role) d.longest v.out (says h.busy true h.number true ∷ h.rest) h.out drained.out)
   settles v (b, inr (inl h)) drained =
       not_behind h.before (says h.busy false h.number true) h.behind (reads_none (other c.role) c.longest v.back (h.before ++ says h.busy false h.number true ∷ h.behind) h.back drained.back)
-  settles v (b, inr (inr (inl h))) drained =
-      let r = length v.far.station.taken in
-      let o = v.near.station.outgoing in
-      let none = reads_none (other d.role) d.longest v.out h.there h.out drained.out in
-      let nothing_back = reads_none (other c.role) c.longest v.back h.behind h.back drained.back in
-      let onward : r ≡ o.place = subst (λ (fs : List PlainFrame). Onward r fs o.place) none h.onward in
-      let reports : o.acked ≡ r = subst (λ (gs : List PlainFrame). Reports r o.acked gs) nothing_back h.reports in
-      inl (laws.rest.all_heard c.window v.near.station joined.near_low (near_up c d v b.sound b.near_on).sound b.sound.near_said b.near_on h.recovery h.peer_busy (omega (arith, onward, reports)))
+  settles v (b, inr (inr (inl (h, free)))) drained = inl (resent_rests (Unit {0}) c d joined reads laws v (ups v b) h drained)
   settles v (b, inr (inr (inr (inl h)))) drained =
       let nothing_back = reads_none (other c.role) c.longest v.back h.behind h.back drained.back in
       let said : v.far.station.said_busy ≡ true = subst (λ (gs : List PlainFrame). Told (hears_busy true gs) v.far.station) nothing_back h.told in
@@ -104,7 +78,7 @@ module _ (c d : Settings) (joined : AreJoined c d) (reads : ReadsSpelled) (laws 
 
   asked_at : (v : Stations) → Pair c d v → v.near.station.recovery ≡ true → (busy : Bool) (n : ℕ) (before : List PlainFrame) → Reads (other d.role) d.longest v.out (says busy true n true ∷ [])
       → Reads (other c.role) c.longest v.back before → AtMostAsks before → Heals c d v
-  asked_at v b recovery busy n before out back asks = (b, inl (record { busy = busy; number = n; rest = []; before = before; recovery = recovery; out = out; gentle = tt; back = back; asks = asks }))
+  asked_at v b recovery busy n before out back asks = (b, inl (record { busy = busy; number = n; rest = []; before = before; recovery = recovery; out = out; mild = tt; back = back; asks = asks }))
 
   -- an end at rest has nothing to send
   record HasAll (v : Stations) : Type 0 where
@@ -130,17 +104,19 @@ module _ (c d : Settings) (joined : AreJoined c d) (reads : ReadsSpelled) (laws 
   rests_alone v b rest free empty behind back reports =
       let a = has_all v b rest in (
         b,
-        inr (inr (inl (record {
-          there = [];
-          behind = behind;
-          out = subst (λ (os : List (List ℕ)). Reads (other d.role) d.longest os []) (sym empty) tt;
-          back = back;
-          recovery = a.recovery;
-          peer_busy = a.peer_busy;
-          onward = a.place;
-          reports = reports;
-          free = free;
-        }))),
+        inr (inr (inl ((
+          record {
+            there = [];
+            behind = behind;
+            out = subst (λ (os : List (List ℕ)). Reads (other d.role) d.longest os []) (sym empty) tt;
+            back = back;
+            recovery = a.recovery;
+            peer_busy = a.peer_busy;
+            ahead = a.place;
+            reports = reports;
+          },
+          free,
+        )))),
       )
 
   rests_polled : (v : Stations) → Pair c d v → IsAtRest v.near.station → v.out ≡ [] → (busy : Bool) → is_busy v.far.station ≡ busy → v.far.station.said_busy ≡ busy → (n : ℕ) → n ≡ length v.far.station.taken % 8

@@ -6,7 +6,7 @@ use Rattle.x25_link.specs.Steps.{timer_runs}
 use Rattle.x25_link.specs.laws.BusyLaw.{BusyLaws}
 use Rattle.x25_line.specs.Sessions.{Sessions, run}
 use Rattle.x25_line.specs.Healing.{HasTries, SessionHasTries, OneIsFree, SessionsHealBusy, SessionsHealUnlessBothBusy}
-use Rattle.x25_line.proofs.HealingSteps.{HealingLaws}
+use Rattle.x25_line.specs.laws.LawsBelow.{HealingLaws}
 use Rattle.x25_line.proofs.HealingStands.{sessions_rest}
 use Rattle.x25_line.proofs.HealingSessionEnds.{session_ends}
 use Rattle.x25_line.proofs.BusyRuns.{settled}

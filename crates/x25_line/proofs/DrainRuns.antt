@@ -20,11 +20,12 @@ use Rattle.x25_link.specs.laws.LinkLaws.{ended_lists}
 use Rattle.x25_line.specs.Stations.{StationEnd, Stations, Act, Put, Deliver, T1, Connect, Disconnect, Abandon, Lose, Damage, Event, Near, Far, after_step, unless, delivered, is_visible, replaced, acts, swapped, happens, run, start}
 use Rattle.x25_line.specs.laws.StationClaims.{AreJoined}
 use Rattle.x25_line.specs.Healing.{IsDrained, IsDeliver, AreDeliveries, EachFinds, DrainsEnd, SomeDrain}
+use Rattle.x25_line.specs.laws.LawsBelow.{HealingLaws}
 use Rattle.x25_line.proofs.StationSends.{AllWithin, within_push}
 use Rattle.x25_line.proofs.StationRuns.{joined_swapped}
 use Rattle.x25_line.proofs.StationEvents.{each_hands_one}
-use Rattle.x25_line.proofs.HealingSteps.{HealingLaws}
 use Rattle.x25_line.proofs.HealingRuns.{BothSaid, said_run, fresh_said}
+use Rattle.x25_line.proofs.HealingSteps.{deliver_is}
 use Rattle.x25_line.proofs.DrainWeights.{more_if, times, times_more, seven_times, read_weight, weights, to_take, station_weight, AreSpelled}
 use Rattle.x25_line.proofs.DrainSteps.{changes, asks_in, read_weight_some, GoesOn, Changes, Took, took}
 
@@ -247,24 +248,10 @@ module _ (reads : ReadsSpelled) (c d : Settings) (joined : AreJoined c d) (back 
       }
 
   near_act_falls : (a : Act) (w : Stations) → IsDeliver a → Fit c d w → Enough back w → (w.back ≡ [] → ⊥) → Falls back c d w (acts c a w)
-  near_act_falls (Put packet) w is fit enough finds = absurd is
-  near_act_falls Deliver w is fit enough finds = near_falls reads c d joined back w fit enough finds
-  near_act_falls T1 w is fit enough finds = absurd is
-  near_act_falls Connect w is fit enough finds = absurd is
-  near_act_falls Disconnect w is fit enough finds = absurd is
-  near_act_falls Abandon w is fit enough finds = absurd is
-  near_act_falls (Lose i) w is fit enough finds = absurd is
-  near_act_falls (Damage i octets) w is fit enough finds = absurd is
+  near_act_falls a w is fit enough finds = subst (λ (act : Act). Falls back c d w (acts c act w)) (deliver_is a is) (near_falls reads c d joined back w fit enough finds)
 
   far_act_falls : (a : Act) (w : Stations) → IsDeliver a → Fit c d w → Enough back w → (w.out ≡ [] → ⊥) → Falls back c d w (swapped (acts d a (swapped w)))
-  far_act_falls (Put packet) w is fit enough finds = absurd is
-  far_act_falls Deliver w is fit enough finds = far_falls w fit enough finds
-  far_act_falls T1 w is fit enough finds = absurd is
-  far_act_falls Connect w is fit enough finds = absurd is
-  far_act_falls Disconnect w is fit enough finds = absurd is
-  far_act_falls Abandon w is fit enough finds = absurd is
-  far_act_falls (Lose i) w is fit enough finds = absurd is
-  far_act_falls (Damage i octets) w is fit enough finds = absurd is
+  far_act_falls a w is fit enough finds = subst (λ (act : Act). Falls back c d w (swapped (acts d act (swapped w)))) (deliver_is a is) (far_falls w fit enough finds)
 
   pub count : (es : List Event) (w : Stations) → AreDeliveries es → Fit c d w → Enough back w → EachFinds c d es w → length es ≤ at_most back c d w
   count [] w are fit enough finds = omega arith

@@ -8,8 +8,8 @@ use Rattle.x25_line.specs.Sessions.{Entry, Sessions, from_nothing, from_set_up, 
 use Rattle.x25_line.specs.laws.StationClaims.{AreJoined}
 use Rattle.x25_line.specs.laws.SessionClaims.{octets_of, AreStationsOf}
 use Rattle.x25_line.specs.Healing.{EachFinds, EachFindsIn, SessionsDrainEnd, SomeSessionsDrain}
+use Rattle.x25_line.specs.laws.LawsBelow.{HealingLaws}
 use Rattle.x25_line.proofs.sessions.SessionsForgotten.{sessions_are_links, set_up_is_the_start}
-use Rattle.x25_line.proofs.HealingSteps.{HealingLaws}
 use Rattle.x25_line.proofs.HealingRuns.{BothSaid, fresh_said}
 use Rattle.x25_line.proofs.HealingSessions.{both_down, nothing_alike, down_said}
 use Rattle.x25_line.proofs.DrainRuns.{Fit, fit_run, at_most, back_of, enough_for, count, drains}

@@ -9,10 +9,11 @@ use Rattle.x25_link.specs.laws.RestLaw.{IsAtRest}
 use Rattle.x25_line.specs.Stations.{StationEnd, Stations, Act, T1, Event, Near, Far, acts, swapped, run, start}
 use Rattle.x25_line.specs.laws.StationClaims.{AreJoined}
 use Rattle.x25_line.specs.Healing.{IsDrained, IsDeliver, AreDeliveries, RestShows, MayHeal, IsHealed, OneHeals, OneFiringHeals, FarFiringHeals, OneFiringEnds, TwoFiringsHeal, BothFiringsHeal}
+use Rattle.x25_line.specs.laws.LawsBelow.{HealingLaws}
 use Rattle.x25_line.proofs.StationSteps.{not_both}
 use Rattle.x25_line.proofs.StationRuns.{joined_swapped}
 use Rattle.x25_line.proofs.HealingLines.{Reads, Reports}
-use Rattle.x25_line.proofs.HealingSteps.{HealingLaws, Sound, sound_swapped, near_up, counted}
+use Rattle.x25_line.proofs.HealingSteps.{Sound, sound_swapped, near_up, counted}
 use Rattle.x25_line.proofs.HealingRuns.{reached_sound, arrives, shows_at_rest, refused, Fired, fires, near_event, far_event, settles, Round, one_round, ends, flip, flip_all, flip_run}
 use Rattle.x25_line.proofs.HealingPhases.{Heals}
 

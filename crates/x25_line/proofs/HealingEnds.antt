@@ -20,11 +20,11 @@ use Rattle.x25_link.specs.laws.AnswerLaw.{says}
 use Rattle.x25_line.specs.Stations.{StationEnd, Stations, T1, Event, after_step, acts, swapped, run, start}
 use Rattle.x25_line.specs.laws.StationClaims.{AreJoined, IsWhole}
 use Rattle.x25_line.specs.Healing.{IsDrained, AreDeliveries, IsQuietMoment, MayHeal, HasTries, IsAtRestOrOut, EachRestsOrIsOut, Heals}
+use Rattle.x25_line.specs.laws.LawsBelow.{HealingLaws}
 use Rattle.x25_line.proofs.StationSteps.{not_both}
 use Rattle.x25_line.proofs.StationRuns.{joined_swapped}
 use Rattle.x25_line.proofs.HealingLines.{Reads, reads_more}
-use Rattle.x25_line.proofs.HealingSteps.{HealingLaws, near_up, far_up}
-use Rattle.x25_line.proofs.HealingPhases.{up_is}
+use Rattle.x25_line.proofs.HealingSteps.{near_up, far_up, up_is}
 use Rattle.x25_line.proofs.HealingRuns.{reached_sound, refused, fires_is, idle_run, flip, flip_all, flip_run}
 use Rattle.x25_line.proofs.HealingBoth.{both_firings_heal}
 use Rattle.x25_line.proofs.HealingGone.{Polls, Leaves, all_go, is_gone, has_left}
@@ -134,7 +134,7 @@ module _ (c d : Settings) (joined : AreJoined c d) (reads : ReadsSpelled) (laws 
       asks : (b : Bool) → nat_lt s.tries c.retries ≡ b
           → Is (if b then record s { tries = suc s.tries } else with_nothing Down s.tries) (if b then sabm true ∷ [] else []) (if b then None else Some Retries) false step
       asks b few =
-          subst (λ (b : Bool). Is (if b then record s { tries = suc s.tries } else with_nothing Down s.tries) (if b then sabm true ∷ [] else []) (if b then None else Some Retries) false step) few (laws.laws.set_up.timer c s is)
+          subst (λ (b : Bool). Is (if b then record s { tries = suc s.tries } else with_nothing Down s.tries) (if b then sabm true ∷ [] else []) (if b then None else Some Retries) false step) few (laws.sessions.laws.set_up.timer c s is)
 
       by : (b : Bool) → nat_lt s.tries c.retries ≡ b → Kind w (acts c T1 w)
       by true few =
@@ -167,7 +167,7 @@ module _ (c d : Settings) (joined : AreJoined c d) (reads : ReadsSpelled) (laws 
       over up running none =
           let step : Step = timer_step c s in
           let v : Stations = after_step c w w.back [] step in
-          let follows = subst (λ (b : Bool). Follows (if b then None else Some Retries) c.window nothing s step) none (laws.laws.window.timer c s (record { up = up; sound = h.sound up })) in
+          let follows = subst (λ (b : Bool). Follows (if b then None else Some Retries) c.window nothing s step) none (laws.sessions.laws.window.timer c s (record { up = up; sound = h.sound up })) in
           let out : v.out ≡ [] = ap (λ (fs : List PlainFrame). w.out ++ map (spelling_of c.role) fs) follows.frames ∙ ap (λ (os : List (List ℕ)). os ++ []) empty in
           subst (λ (z : Stations). Kind w z) (sym (fires_is c d joined reads laws w running)) (inr (inr (inl (subst IsOut (sym follows.phase) tt, record { out = out; back = refl; far = refl }))))
 

@@ -1,5 +1,5 @@
 -- An end whose peer has left Up: its poll is answered by DM, and it leaves too.
-use Rattle.std.proofs.Common.{◌≡◌, ℕ, List, [], ◌∷◌, ◌++◌, ◌⊎◌, inl, inr, length, map, Bool, true, false, refl, sym, ap, ◌∙◌, subst, arith}
+use Rattle.std.proofs.Common.{◌≡◌, ℕ, List, [], ◌∷◌, ◌++◌, ◌⊎◌, inl, inr, map, Bool, true, false, refl, sym, ap, ◌∙◌, subst}
 use Rattle.x25_bits.specs.declared.role.Role.{Role}
 use Rattle.x25_frame.specs.PlainFrame.{PlainFrame, dm}
 use Rattle.x25_frame.specs.Spelling.{spelling_of}
@@ -9,12 +9,12 @@ use Rattle.x25_link.specs.MustSend.{Step, other}
 use Rattle.x25_link.specs.Steps.{take_step}
 use Rattle.x25_link.specs.laws.WindowLaw.{IsOut}
 use Rattle.x25_link.specs.laws.AnswerLaw.{says, asks}
-use Rattle.x25_line.specs.Stations.{StationEnd, Stations, Act, Put, Deliver, T1, Connect, Disconnect, Abandon, Lose, Damage, Event, Near, Far, after_step, delivered, acts, swapped, run, start}
+use Rattle.x25_line.specs.Stations.{StationEnd, Stations, Act, Deliver, T1, Event, Near, Far, after_step, delivered, acts, swapped, run, start}
 use Rattle.x25_line.specs.laws.StationClaims.{AreJoined}
 use Rattle.x25_line.specs.Healing.{IsDrained, IsDeliver, AreDeliveries, GoneEnds}
-use Rattle.x25_line.proofs.HealingLines.{Reads, front_reads, none_reads, reads_none, reads_more}
-use Rattle.x25_line.proofs.HealingSteps.{HealingLaws}
-use Rattle.x25_line.proofs.HealingPhases.{up_is}
+use Rattle.x25_line.specs.laws.LawsBelow.{HealingLaws}
+use Rattle.x25_line.proofs.HealingLines.{Reads, front_reads, none_reads, reads_none, reads_more, one_frame}
+use Rattle.x25_line.proofs.HealingSteps.{up_is, deliver_is}
 use Rattle.x25_line.proofs.HealingRuns.{reached_sound, fires}
 
 -- the poll is on the line to an end that is out; or DM is on the line back; or the near end has left
@@ -97,32 +97,15 @@ module _ (c d : Settings) (joined : AreJoined c d) (reads : ReadsSpelled) (laws 
   far_goes w (inr (inr h)) = far_none w h.out (inr (inr h))
 
   near_act : (a : Act) (w : Stations) → IsDeliver a → Leaves c d w → Leaves c d (acts c a w)
-  near_act (Put packet) w is h = absurd is
-  near_act Deliver w is h = near_goes w h
-  near_act T1 w is h = absurd is
-  near_act Connect w is h = absurd is
-  near_act Disconnect w is h = absurd is
-  near_act Abandon w is h = absurd is
-  near_act (Lose i) w is h = absurd is
-  near_act (Damage i octets) w is h = absurd is
+  near_act a w is h = subst (λ (act : Act). Leaves c d (acts c act w)) (deliver_is a is) (near_goes w h)
 
   far_act : (a : Act) (w : Stations) → IsDeliver a → Leaves c d w → Leaves c d (swapped (acts d a (swapped w)))
-  far_act (Put packet) w is h = absurd is
-  far_act Deliver w is h = far_goes w h
-  far_act T1 w is h = absurd is
-  far_act Connect w is h = absurd is
-  far_act Disconnect w is h = absurd is
-  far_act Abandon w is h = absurd is
-  far_act (Lose i) w is h = absurd is
-  far_act (Damage i octets) w is h = absurd is
+  far_act a w is h = subst (λ (act : Act). Leaves c d (swapped (acts d act (swapped w)))) (deliver_is a is) (far_goes w h)
 
   pub all_go : (es : List Event) (w : Stations) → AreDeliveries es → Leaves c d w → Leaves c d (run c d es w)
   all_go [] w are h = h
   all_go (Near a ∷ es) w are h = all_go es (acts c a w) are.1 (near_act a w are.0 h)
   all_go (Far a ∷ es) w are h = all_go es (swapped (acts d a (swapped w))) are.1 (far_act a w are.0 h)
-
-  one_frame : (f : PlainFrame) {A : Type 0} → f ∷ [] ≡ [] → A
-  one_frame f e = absurd (omega (arith, ap length e))
 
   pub is_gone : (v : Stations) → Leaves c d v → IsOut v.far.station.phase
   is_gone v (inl h) = h.gone
@@ -130,8 +113,8 @@ module _ (c d : Settings) (joined : AreJoined c d) (reads : ReadsSpelled) (laws 
   is_gone v (inr (inr h)) = h.gone
 
   pub has_left : (v : Stations) → IsDrained v → Leaves c d v → is_up v.near.station.phase ≡ false
-  has_left v drained (inl h) = one_frame _ (reads_none (other d.role) d.longest v.out (says h.busy true h.number true ∷ []) h.out drained.out)
-  has_left v drained (inr (inl h)) = one_frame _ (reads_none (other c.role) c.longest v.back (dm true ∷ []) h.back drained.back)
+  has_left v drained (inl h) = one_frame _ [] (reads_none (other d.role) d.longest v.out (says h.busy true h.number true ∷ []) h.out drained.out)
+  has_left v drained (inr (inl h)) = one_frame _ [] (reads_none (other c.role) c.longest v.back (dm true ∷ []) h.back drained.back)
   has_left v drained (inr (inr h)) = h.off
 
 pub gone_ends : ReadsSpelled → HealingLaws → GoneEnds

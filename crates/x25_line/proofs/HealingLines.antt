@@ -1,5 +1,5 @@
 -- The frames that stand on a line, and those among them that matter while an end heals.
-use Rattle.std.proofs.Common.{◌≡◌, ℕ, ◌+◌, ◌%◌, ◌≤◌, List, [], ◌∷◌, ◌++◌, map, false, Ok, refl, sym, subst, arith}
+use Rattle.std.proofs.Common.{◌≡◌, ℕ, ◌+◌, ◌%◌, ◌≤◌, List, [], ◌∷◌, ◌++◌, map, false, Ok, refl, sym, subst, arith, length, ap}
 use Rattle.std.specs.Prelude.{◌&&◌, not}
 use Rattle.std.proofs.lemmas.Bool.{and_left, and_right}
 use Rattle.x25_bits.specs.declared.role.Role.{Role}
@@ -60,96 +60,106 @@ reads_none from n1 (o ∷ os) (f ∷ fs) h e = absurd (not_nil e)
     not_nil : o ∷ os ≡ [] → ⊥
     not_nil e = cc
 
--- ---- frames to the other end: the I frames that are awaited, one after another, and nothing that asks
+-- a frame is there
+pub one_frame : (f : PlainFrame) (fs : List PlainFrame) {A : Type 0} → f ∷ fs ≡ [] → A
+one_frame f fs e = absurd (omega (arith, ap length e))
 
-abbrev pub Ahead : ℕ → List PlainFrame → ℕ → Type 0
-Ahead n [] m = n ≡ m
-Ahead n (info ns nr p x ∷ fs) m = (ns ≡ n % 8) × (p ≡ false) × Ahead (n + 1) fs m
-Ahead n (rr command nr pf ∷ fs) m = ((command && pf) ≡ false) × Ahead n fs m
-Ahead n (rej command nr pf ∷ fs) m = (pf ≡ false) × Ahead n fs m
-Ahead n (f ∷ fs) m = ⊥
+pub not_behind : (before : List PlainFrame) (f : PlainFrame) (fs : List PlainFrame) {A : Type 0} → before ++ f ∷ fs ≡ [] → A
+not_behind [] f fs e = one_frame f fs e
+not_behind (g ∷ gs) f fs e = one_frame g (gs ++ f ∷ fs) e
 
-pub ahead_low : (n : ℕ) (fs : List PlainFrame) (m : ℕ) → Ahead n fs m → n ≤ m
-ahead_low n [] m h = omega (arith, h)
-ahead_low n (info ns nr p x ∷ fs) m h = omega (arith, ahead_low (n + 1) fs m h.2)
-ahead_low n (rr command nr pf ∷ fs) m h = ahead_low n fs m h.1
-ahead_low n (rej command nr pf ∷ fs) m h = ahead_low n fs m h.1
-ahead_low n (rnr command nr pf ∷ fs) m h = absurd h
-ahead_low n (sabm p ∷ fs) m h = absurd h
-ahead_low n (disc p ∷ fs) m h = absurd h
-ahead_low n (ua p ∷ fs) m h = absurd h
-ahead_low n (dm p ∷ fs) m h = absurd h
-ahead_low n (frmr p why ∷ fs) m h = absurd h
+-- ---- frames to the other end: the I frames that are awaited, one after another, and nothing that asks; and RNR where `Rnr`, as an end may be busy
 
-pub ahead_more : (n m k : ℕ) (fs es : List PlainFrame) → Ahead n fs m → Ahead m es k → Ahead n (fs ++ es) k
-ahead_more n m k [] es h g = subst (λ (z : ℕ). Ahead z es k) (sym h) g
-ahead_more n m k (info ns nr p x ∷ fs) es h g = (h.0, h.1, ahead_more (n + 1) m k fs es h.2 g)
-ahead_more n m k (rr command nr pf ∷ fs) es h g = (h.0, ahead_more n m k fs es h.1 g)
-ahead_more n m k (rej command nr pf ∷ fs) es h g = (h.0, ahead_more n m k fs es h.1 g)
-ahead_more n m k (rnr command nr pf ∷ fs) es h g = absurd h
-ahead_more n m k (sabm p ∷ fs) es h g = absurd h
-ahead_more n m k (disc p ∷ fs) es h g = absurd h
-ahead_more n m k (ua p ∷ fs) es h g = absurd h
-ahead_more n m k (dm p ∷ fs) es h g = absurd h
-ahead_more n m k (frmr p why ∷ fs) es h g = absurd h
+abbrev pub Ahead : Type 0 → ℕ → List PlainFrame → ℕ → Type 0
+Ahead Rnr n [] m = n ≡ m
+Ahead Rnr n (info ns nr p x ∷ fs) m = (ns ≡ n % 8) × (p ≡ false) × Ahead Rnr (n + 1) fs m
+Ahead Rnr n (rr command nr pf ∷ fs) m = ((command && pf) ≡ false) × Ahead Rnr n fs m
+Ahead Rnr n (rnr command nr pf ∷ fs) m = ((command && pf) ≡ false) × Ahead Rnr n fs m × Rnr
+Ahead Rnr n (rej command nr pf ∷ fs) m = (pf ≡ false) × Ahead Rnr n fs m
+Ahead Rnr n (f ∷ fs) m = ⊥
+
+pub ahead_low : (Rnr : Type 0) (n : ℕ) (fs : List PlainFrame) (m : ℕ) → Ahead Rnr n fs m → n ≤ m
+ahead_low Rnr n [] m h = omega (arith, h)
+ahead_low Rnr n (info ns nr p x ∷ fs) m h = omega (arith, ahead_low Rnr (n + 1) fs m h.2)
+ahead_low Rnr n (rr command nr pf ∷ fs) m h = ahead_low Rnr n fs m h.1
+ahead_low Rnr n (rej command nr pf ∷ fs) m h = ahead_low Rnr n fs m h.1
+ahead_low Rnr n (rnr command nr pf ∷ fs) m h = ahead_low Rnr n fs m h.1
+ahead_low Rnr n (sabm p ∷ fs) m h = absurd h
+ahead_low Rnr n (disc p ∷ fs) m h = absurd h
+ahead_low Rnr n (ua p ∷ fs) m h = absurd h
+ahead_low Rnr n (dm p ∷ fs) m h = absurd h
+ahead_low Rnr n (frmr p why ∷ fs) m h = absurd h
+
+pub ahead_more : (Rnr : Type 0) (n m k : ℕ) (fs es : List PlainFrame) → Ahead Rnr n fs m → Ahead Rnr m es k → Ahead Rnr n (fs ++ es) k
+ahead_more Rnr n m k [] es h g = subst (λ (z : ℕ). Ahead Rnr z es k) (sym h) g
+ahead_more Rnr n m k (info ns nr p x ∷ fs) es h g = (h.0, h.1, ahead_more Rnr (n + 1) m k fs es h.2 g)
+ahead_more Rnr n m k (rr command nr pf ∷ fs) es h g = (h.0, ahead_more Rnr n m k fs es h.1 g)
+ahead_more Rnr n m k (rej command nr pf ∷ fs) es h g = (h.0, ahead_more Rnr n m k fs es h.1 g)
+ahead_more Rnr n m k (rnr command nr pf ∷ fs) es h g = (h.0, ahead_more Rnr n m k fs es h.1 g, h.2)
+ahead_more Rnr n m k (sabm p ∷ fs) es h g = absurd h
+ahead_more Rnr n m k (disc p ∷ fs) es h g = absurd h
+ahead_more Rnr n m k (ua p ∷ fs) es h g = absurd h
+ahead_more Rnr n m k (dm p ∷ fs) es h g = absurd h
+ahead_more Rnr n m k (frmr p why ∷ fs) es h g = absurd h
 
 -- what the sending rule sends is of this kind
-pub next_ahead : (r n : ℕ) (fs : List PlainFrame) (m : ℕ) → AreNext r n fs m → Ahead n fs m
-next_ahead r n [] m h = h
-next_ahead r n (info ns nr p x ∷ fs) m h = (h.0, h.2, next_ahead r (n + 1) fs m h.3)
-next_ahead r n (rr command nr pf ∷ fs) m h = (and_left command pf h.0, next_ahead r n fs m h.3)
-next_ahead r n (rej command nr pf ∷ fs) m h = absurd h
-next_ahead r n (rnr command nr pf ∷ fs) m h = absurd h
-next_ahead r n (sabm p ∷ fs) m h = absurd h
-next_ahead r n (disc p ∷ fs) m h = absurd h
-next_ahead r n (ua p ∷ fs) m h = absurd h
-next_ahead r n (dm p ∷ fs) m h = absurd h
-next_ahead r n (frmr p why ∷ fs) m h = absurd h
+pub next_ahead : (Rnr : Type 0) (r n : ℕ) (fs : List PlainFrame) (m : ℕ) → AreNext r n fs m → Ahead Rnr n fs m
+next_ahead Rnr r n [] m h = h
+next_ahead Rnr r n (info ns nr p x ∷ fs) m h = (h.0, h.2, next_ahead Rnr r (n + 1) fs m h.3)
+next_ahead Rnr r n (rr command nr pf ∷ fs) m h = (and_left command pf h.0, next_ahead Rnr r n fs m h.3)
+next_ahead Rnr r n (rej command nr pf ∷ fs) m h = absurd h
+next_ahead Rnr r n (rnr command nr pf ∷ fs) m h = absurd h
+next_ahead Rnr r n (sabm p ∷ fs) m h = absurd h
+next_ahead Rnr r n (disc p ∷ fs) m h = absurd h
+next_ahead Rnr r n (ua p ∷ fs) m h = absurd h
+next_ahead Rnr r n (dm p ∷ fs) m h = absurd h
+next_ahead Rnr r n (frmr p why ∷ fs) m h = absurd h
 
--- ---- the same without I frames, as in recovery
+-- ---- the same without I frames, as in recovery, or while the peer is busy
 
-abbrev pub Mild : List PlainFrame → Type 0
-Mild [] = Unit {0}
-Mild (rr command nr pf ∷ fs) = ((command && pf) ≡ false) × Mild fs
-Mild (rej command nr pf ∷ fs) = (pf ≡ false) × Mild fs
-Mild (f ∷ fs) = ⊥
+abbrev pub Mild : Type 0 → List PlainFrame → Type 0
+Mild Rnr [] = Unit {0}
+Mild Rnr (rr command nr pf ∷ fs) = ((command && pf) ≡ false) × Mild Rnr fs
+Mild Rnr (rnr command nr pf ∷ fs) = ((command && pf) ≡ false) × Mild Rnr fs × Rnr
+Mild Rnr (rej command nr pf ∷ fs) = (pf ≡ false) × Mild Rnr fs
+Mild Rnr (f ∷ fs) = ⊥
 
-pub mild_ahead : (n : ℕ) (fs : List PlainFrame) → Mild fs → Ahead n fs n
-mild_ahead n [] h = refl
-mild_ahead n (rr command nr pf ∷ fs) h = (h.0, mild_ahead n fs h.1)
-mild_ahead n (rej command nr pf ∷ fs) h = (h.0, mild_ahead n fs h.1)
-mild_ahead n (info ns nr p x ∷ fs) h = absurd h
-mild_ahead n (rnr command nr pf ∷ fs) h = absurd h
-mild_ahead n (sabm p ∷ fs) h = absurd h
-mild_ahead n (disc p ∷ fs) h = absurd h
-mild_ahead n (ua p ∷ fs) h = absurd h
-mild_ahead n (dm p ∷ fs) h = absurd h
-mild_ahead n (frmr p why ∷ fs) h = absurd h
+pub mild_ahead : (Rnr : Type 0) (n : ℕ) (fs : List PlainFrame) → Mild Rnr fs → Ahead Rnr n fs n
+mild_ahead Rnr n [] h = refl
+mild_ahead Rnr n (rr command nr pf ∷ fs) h = (h.0, mild_ahead Rnr n fs h.1)
+mild_ahead Rnr n (rej command nr pf ∷ fs) h = (h.0, mild_ahead Rnr n fs h.1)
+mild_ahead Rnr n (info ns nr p x ∷ fs) h = absurd h
+mild_ahead Rnr n (rnr command nr pf ∷ fs) h = (h.0, mild_ahead Rnr n fs h.1, h.2)
+mild_ahead Rnr n (sabm p ∷ fs) h = absurd h
+mild_ahead Rnr n (disc p ∷ fs) h = absurd h
+mild_ahead Rnr n (ua p ∷ fs) h = absurd h
+mild_ahead Rnr n (dm p ∷ fs) h = absurd h
+mild_ahead Rnr n (frmr p why ∷ fs) h = absurd h
 
-pub mild_more : (fs es : List PlainFrame) → Mild fs → Mild es → Mild (fs ++ es)
-mild_more [] es h g = g
-mild_more (rr command nr pf ∷ fs) es h g = (h.0, mild_more fs es h.1 g)
-mild_more (rej command nr pf ∷ fs) es h g = (h.0, mild_more fs es h.1 g)
-mild_more (info ns nr p x ∷ fs) es h g = absurd h
-mild_more (rnr command nr pf ∷ fs) es h g = absurd h
-mild_more (sabm p ∷ fs) es h g = absurd h
-mild_more (disc p ∷ fs) es h g = absurd h
-mild_more (ua p ∷ fs) es h g = absurd h
-mild_more (dm p ∷ fs) es h g = absurd h
-mild_more (frmr p why ∷ fs) es h g = absurd h
+pub mild_more : (Rnr : Type 0) (fs es : List PlainFrame) → Mild Rnr fs → Mild Rnr es → Mild Rnr (fs ++ es)
+mild_more Rnr [] es h g = g
+mild_more Rnr (rr command nr pf ∷ fs) es h g = (h.0, mild_more Rnr fs es h.1 g)
+mild_more Rnr (rej command nr pf ∷ fs) es h g = (h.0, mild_more Rnr fs es h.1 g)
+mild_more Rnr (info ns nr p x ∷ fs) es h g = absurd h
+mild_more Rnr (rnr command nr pf ∷ fs) es h g = (h.0, mild_more Rnr fs es h.1 g, h.2)
+mild_more Rnr (sabm p ∷ fs) es h g = absurd h
+mild_more Rnr (disc p ∷ fs) es h g = absurd h
+mild_more Rnr (ua p ∷ fs) es h g = absurd h
+mild_more Rnr (dm p ∷ fs) es h g = absurd h
+mild_more Rnr (frmr p why ∷ fs) es h g = absurd h
 
 -- where V(S) stays, no I frame went
-pub held_mild : (r n : ℕ) (fs : List PlainFrame) (m : ℕ) → AreNext r n fs m → m ≤ n → Mild fs
-held_mild r n [] m h le = tt
-held_mild r n (rr command nr pf ∷ fs) m h le = (and_left command pf h.0, held_mild r n fs m h.3 le)
-held_mild r n (info ns nr p x ∷ fs) m h le = absurd (omega (arith, le, ahead_low (n + 1) fs m (next_ahead r (n + 1) fs m h.3)))
-held_mild r n (rej command nr pf ∷ fs) m h le = absurd h
-held_mild r n (rnr command nr pf ∷ fs) m h le = absurd h
-held_mild r n (sabm p ∷ fs) m h le = absurd h
-held_mild r n (disc p ∷ fs) m h le = absurd h
-held_mild r n (ua p ∷ fs) m h le = absurd h
-held_mild r n (dm p ∷ fs) m h le = absurd h
-held_mild r n (frmr p why ∷ fs) m h le = absurd h
+pub held_mild : (Rnr : Type 0) (r n : ℕ) (fs : List PlainFrame) (m : ℕ) → AreNext r n fs m → m ≤ n → Mild Rnr fs
+held_mild Rnr r n [] m h le = tt
+held_mild Rnr r n (rr command nr pf ∷ fs) m h le = (and_left command pf h.0, held_mild Rnr r n fs m h.3 le)
+held_mild Rnr r n (info ns nr p x ∷ fs) m h le = absurd (omega (arith, le, ahead_low Rnr (n + 1) fs m (next_ahead Rnr r (n + 1) fs m h.3)))
+held_mild Rnr r n (rej command nr pf ∷ fs) m h le = absurd h
+held_mild Rnr r n (rnr command nr pf ∷ fs) m h le = absurd h
+held_mild Rnr r n (sabm p ∷ fs) m h le = absurd h
+held_mild Rnr r n (disc p ∷ fs) m h le = absurd h
+held_mild Rnr r n (ua p ∷ fs) m h le = absurd h
+held_mild Rnr r n (dm p ∷ fs) m h le = absurd h
+held_mild Rnr r n (frmr p why ∷ fs) m h le = absurd h
 
 -- I frames and RR, none with F=1
 abbrev pub IsNoFinal : PlainFrame → Type 0

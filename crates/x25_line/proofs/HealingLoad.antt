@@ -1,5 +1,5 @@
 -- While both ends heal, each delivery makes the load of the world less, so that deliveries come to an end.
-use Rattle.std.proofs.Common.{◌≡◌, ℕ, suc, zero, ◌+◌, ◌-◌, ◌*◌, ◌%◌, ◌≤◌, List, [], ◌∷◌, ◌++◌, inl, inr, length, max, Bool, true, false, not, if◌then◌else◌, Ok, refl, sym, ap, ◌∙◌, arith}
+use Rattle.std.proofs.Common.{◌≡◌, ℕ, suc, zero, ◌+◌, ◌-◌, ◌*◌, ◌%◌, ◌≤◌, List, [], ◌∷◌, ◌++◌, inl, inr, length, max, Bool, true, false, not, if◌then◌else◌, Ok, refl, sym, ap, ◌∙◌, arith, subst}
 use Rattle.std.specs.Prelude.{◌&&◌}
 use Rattle.std.proofs.lemmas.Bool.{eq-eqb}
 use Rattle.x25_bits.specs.declared.role.Role.{Role}
@@ -7,15 +7,16 @@ use Rattle.x25_frame.specs.PlainFrame.{PlainFrame, info, rr, rnr, rej, sabm, dis
 use Rattle.x25_frame.specs.laws.ReadingLaw.{ReadsSpelled}
 use Rattle.x25_link.specs.LinkStation.{Settings, LinkStation, is_up, is_busy, wanted}
 use Rattle.x25_link.specs.MustSend.{other, is_taken}
-use Rattle.x25_link.specs.laws.AnswerLaw.{says, AreNext, weight_of, weight_if, Outcome, heard, goes_on_from, confirms, once_taken}
-use Rattle.x25_line.specs.Stations.{Stations, Act, Put, Deliver, T1, Connect, Disconnect, Abandon, Lose, Damage, Event, Near, Far, acts, swapped, run, start}
+use Rattle.x25_link.specs.laws.AnswerLaw.{says, AreNext, weight_of, weight_if, Outcome, heard, confirms, once_taken}
+use Rattle.x25_line.specs.Stations.{Stations, Act, Deliver, T1, Event, Near, Far, acts, swapped, run, start}
 use Rattle.x25_line.specs.laws.StationClaims.{AreJoined}
 use Rattle.x25_line.specs.Healing.{IsDrained, IsDeliver, AreDeliveries, frame_load, line_load, to_send, load, EachFinds, DeliveriesEnd, SomeHeal}
+use Rattle.x25_line.specs.laws.LawsBelow.{HealingLaws}
 use Rattle.x25_line.proofs.StationSteps.{not_both}
 use Rattle.x25_line.proofs.StationRuns.{joined_swapped}
-use Rattle.x25_line.proofs.HealingLines.{Reads, front_reads, none_reads, Ahead, Mild}
-use Rattle.x25_line.proofs.HealingSteps.{HealingLaws, near_up, hears_well, Delivered, delivers}
-use Rattle.x25_line.proofs.HealingPhases.{Both, Heals, up_is}
+use Rattle.x25_line.proofs.HealingLines.{Reads, none_reads, Ahead, Mild, mild_ahead}
+use Rattle.x25_line.proofs.HealingSteps.{near_up, readied, polled, finished, rejected, Delivered, hears_ready, hears_poll, hears_final, hears_rej, hears_taken, deliver_is}
+use Rattle.x25_line.proofs.HealingPhases.{Both, Heals, ups}
 use Rattle.x25_line.proofs.HealingRuns.{reached_sound}
 use Rattle.x25_line.proofs.HealingBoth.{HealsBoth, both_near, both_far, both_run, both_settle, fired_both}
 
@@ -65,29 +66,20 @@ abbrev FrontUsual : ℕ → List PlainFrame → Type 0
 FrontUsual r [] = Unit {0}
 FrontUsual r (f ∷ fs) = Usual r f
 
-mild_usual : (r : ℕ) (fs : List PlainFrame) → Mild fs → FrontUsual r fs
-mild_usual r [] h = tt
-mild_usual r (rr command nr pf ∷ fs) h = tt
-mild_usual r (rej command nr pf ∷ fs) h = h.0
-mild_usual r (info ns nr p x ∷ fs) h = absurd h
-mild_usual r (rnr command nr pf ∷ fs) h = absurd h
-mild_usual r (sabm p ∷ fs) h = absurd h
-mild_usual r (disc p ∷ fs) h = absurd h
-mild_usual r (ua p ∷ fs) h = absurd h
-mild_usual r (dm p ∷ fs) h = absurd h
-mild_usual r (frmr p why ∷ fs) h = absurd h
-
-ahead_usual : (r : ℕ) (fs : List PlainFrame) (m : ℕ) → Ahead r fs m → FrontUsual r fs
+ahead_usual : (r : ℕ) (fs : List PlainFrame) (m : ℕ) → Ahead ⊥ r fs m → FrontUsual r fs
 ahead_usual r [] m h = tt
 ahead_usual r (info ns nr p x ∷ fs) m h = (h.0, h.1)
 ahead_usual r (rr command nr pf ∷ fs) m h = tt
 ahead_usual r (rej command nr pf ∷ fs) m h = h.0
-ahead_usual r (rnr command nr pf ∷ fs) m h = absurd h
+ahead_usual r (rnr command nr pf ∷ fs) m h = absurd h.2
 ahead_usual r (sabm p ∷ fs) m h = absurd h
 ahead_usual r (disc p ∷ fs) m h = absurd h
 ahead_usual r (ua p ∷ fs) m h = absurd h
 ahead_usual r (dm p ∷ fs) m h = absurd h
 ahead_usual r (frmr p why ∷ fs) m h = absurd h
+
+mild_usual : (r : ℕ) (fs : List PlainFrame) → Mild ⊥ fs → FrontUsual r fs
+mild_usual r fs h = ahead_usual r fs r (mild_ahead ⊥ r fs h)
 
 -- the line from an end that heals
 record Line (c d : Settings) (w : Stations) : Type 0 where
@@ -171,12 +163,8 @@ module _ (c d : Settings) (joined : AreJoined c d) (reads : ReadsSpelled) (laws 
 
       ready : (command : Bool) (nr : ℕ) → Reads (other c.role) c.longest w.back (rr command nr false ∷ gs) → load c d (acts c Deliver w) + 1 ≤ load c d w
       ready command nr back =
-          let r = front_reads (other c.role) c.longest w.back (rr command nr false) gs back in
-          let well = hears_well c d w b.sound b.near_on b.far_on (rr command nr false) gs tt r in
-          let o : Outcome = record (goes_on_from nr s) { peer_busy = false } in
-          let a = laws.answers.ready false command nr c r.octets s (up_is s.phase b.near_on) r.reads well.valid in
-          let v = delivers c d joined reads laws w fs gs (rr command nr false) o b.sound out r a in
-          falls w fs gs (rr command nr false) o r.octets v out back (ready_cost command nr)
+          let k = hears_ready c d joined reads laws w (ups w b) fs gs false command nr out back in
+          falls w fs gs (rr command nr false) (readied false nr s) k.octets k.went out back (ready_cost command nr)
         where
           ready_cost : (command : Bool) (nr : ℕ) → 0 + 4 * (g - max s.outgoing.place (heard nr s)) + weight_if s.said_busy + 1 ≤ of_frame (rr command nr false) + 4 * (g - s.outgoing.place)
           ready_cost true nr = omega (arith, silent)
@@ -185,37 +173,21 @@ module _ (c d : Settings) (joined : AreJoined c d) (reads : ReadsSpelled) (laws 
       by : (f : PlainFrame) → Reads (other c.role) c.longest w.back (f ∷ gs) → Usual (length s.taken) f → load c d (acts c Deliver w) + 1 ≤ load c d w
       by (info ns nr true x) back usual = not_both true refl usual.1
       by (info ns nr false x) back usual =
-          let r = front_reads (other c.role) c.longest w.back (info ns nr false x) gs back in
-          let well = hears_well c d w b.sound b.near_on b.far_on (info ns nr false x) gs tt r in
           let is : is_taken ns s ≡ true = rw (b.near_free, eq-eqb ns (length s.taken % 8) usual.0) refl in
-          let a = laws.answers.wanted ns nr false x c r.octets s (up_is s.phase b.near_on) r.reads well.valid is in
-          let o = once_taken a.0 nr false x s in
-          let v = delivers c d joined reads laws w fs gs (info ns nr false x) o b.sound out r a.1.answers in
-          falls w fs gs (info ns nr false x) o r.octets v out back (taken_cost nr x a.0)
+          let t = hears_taken c d joined reads laws w (ups w b) fs gs ns nr x out back is in
+          falls w fs gs (info ns nr false x) (once_taken t.goes nr false x s) t.hears.octets t.hears.went out back (taken_cost nr x t.goes)
       by (rr true nr true) back usual =
-          let r = front_reads (other c.role) c.longest w.back (rr true nr true) gs back in
-          let well = hears_well c d w b.sound b.near_on b.far_on (rr true nr true) gs tt r in
-          let o : Outcome = record (goes_on_from nr s) { peer_busy = false; said_busy = is_busy s; first = says (is_busy s) false (wanted s) true ∷ [] } in
-          let a = laws.answers.poll false nr c r.octets s (up_is s.phase b.near_on) r.reads well.valid in
-          let v = delivers c d joined reads laws w fs gs (rr true nr true) o b.sound out r a in
-          falls w fs gs (rr true nr true) o r.octets v out back (poll_cost nr)
+          let k = hears_poll c d joined reads laws w (ups w b) fs gs false nr out back in
+          falls w fs gs (rr true nr true) (polled false nr s) k.octets k.went out back (poll_cost nr)
       by (rr false nr true) back usual =
-          let r = front_reads (other c.role) c.longest w.back (rr false nr true) gs back in
-          let well = hears_well c d w b.sound b.near_on b.far_on (rr false nr true) gs tt r in
-          let o : Outcome = record (goes_on_from nr s) { recovery = false; peer_busy = false; tries = 0; place = heard nr s } in
-          let a = laws.answers.recovery false nr c r.octets s (up_is s.phase b.near_on) r.reads well.valid in
-          let v = delivers c d joined reads laws w fs gs (rr false nr true) o b.sound out r a in
-          falls w fs gs (rr false nr true) o r.octets v out back (back_cost nr well.low)
+          let k = hears_final c d joined reads laws w (ups w b) fs gs false nr out back in
+          falls w fs gs (rr false nr true) (finished false nr s) k.octets k.went out back (back_cost nr k.well.low)
       by (rr true nr false) back usual = ready true nr back
       by (rr false nr false) back usual = ready false nr back
       by (rej command nr true) back usual = not_both true refl usual
       by (rej command nr false) back usual =
-          let r = front_reads (other c.role) c.longest w.back (rej command nr false) gs back in
-          let well = hears_well c d w b.sound b.near_on b.far_on (rej command nr false) gs tt r in
-          let o : Outcome = record (goes_on_from nr s) { peer_busy = false; place = heard nr s } in
-          let a = laws.answers.rej command nr c r.octets s (up_is s.phase b.near_on) r.reads well.valid in
-          let v = delivers c d joined reads laws w fs gs (rej command nr false) o b.sound out r a in
-          falls w fs gs (rej command nr false) o r.octets v out back (back_cost nr well.low)
+          let k = hears_rej c d joined reads laws w (ups w b) fs gs command nr out back in
+          falls w fs gs (rej command nr false) (rejected nr s) k.octets k.went out back (back_cost nr k.well.low)
       by (rnr command nr pf) back usual = absurd usual
       by (sabm p) back usual = absurd usual
       by (disc p) back usual = absurd usual
@@ -248,24 +220,10 @@ module _ (c d : Settings) (joined : AreJoined c d) (reads : ReadsSpelled) (laws 
       omega (arith, less, load_swapped c d w, load_swapped d c v)
 
   near_counts : (m n : ℕ) (a : Act) (w : Stations) → IsDeliver a → HealsBoth c d joined reads laws m n w → (w.back ≡ [] → ⊥) → load c d (acts c a w) + 1 ≤ load c d w
-  near_counts m n (Put packet) w is h finds = absurd is
-  near_counts m n Deliver w is h finds = near_less c d joined reads laws m n w h finds
-  near_counts m n T1 w is h finds = absurd is
-  near_counts m n Connect w is h finds = absurd is
-  near_counts m n Disconnect w is h finds = absurd is
-  near_counts m n Abandon w is h finds = absurd is
-  near_counts m n (Lose i) w is h finds = absurd is
-  near_counts m n (Damage i octets) w is h finds = absurd is
+  near_counts m n a w is h finds = subst (λ (act : Act). load c d (acts c act w) + 1 ≤ load c d w) (deliver_is a is) (near_less c d joined reads laws m n w h finds)
 
   far_counts : (m n : ℕ) (a : Act) (w : Stations) → IsDeliver a → HealsBoth c d joined reads laws m n w → (w.out ≡ [] → ⊥) → load c d (swapped (acts d a (swapped w))) + 1 ≤ load c d w
-  far_counts m n (Put packet) w is h finds = absurd is
-  far_counts m n Deliver w is h finds = far_less m n w h finds
-  far_counts m n T1 w is h finds = absurd is
-  far_counts m n Connect w is h finds = absurd is
-  far_counts m n Disconnect w is h finds = absurd is
-  far_counts m n Abandon w is h finds = absurd is
-  far_counts m n (Lose i) w is h finds = absurd is
-  far_counts m n (Damage i octets) w is h finds = absurd is
+  far_counts m n a w is h finds = subst (λ (act : Act). load c d (swapped (acts d act (swapped w))) + 1 ≤ load c d w) (deliver_is a is) (far_less m n w h finds)
 
   count : (m n : ℕ) (es : List Event) (w : Stations) → AreDeliveries es → HealsBoth c d joined reads laws m n w → EachFinds c d es w → length es ≤ load c d w
   count m n [] w are h finds = omega arith

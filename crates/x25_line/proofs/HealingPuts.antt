@@ -18,11 +18,12 @@ use Rattle.x25_line.specs.Stations.{StationEnd, Stations, Put, Deliver, T1, Conn
 use Rattle.x25_line.specs.laws.StationClaims.{AreJoined, AreWhole}
 use Rattle.x25_line.specs.WholeNumbers.{machine_acts}
 use Rattle.x25_line.specs.HealingPuts.{AreDeliveriesAndPuts, AreFree, FreeThroughout, PutsHeal}
+use Rattle.x25_line.specs.laws.LawsBelow.{HealingLaws}
 use Rattle.x25_line.proofs.StationSteps.{not_both}
 use Rattle.x25_line.proofs.StationRuns.{machine_joint, joined_swapped}
 use Rattle.x25_line.proofs.StationEvents.{each_hands_one}
 use Rattle.x25_line.proofs.HealingLines.{Reads, reads_more, whole_behind, Ahead, ahead_more, next_ahead, Mild, mild_more, held_mild, no_final_more, next_no_final, LastTells, next_tells, tells_behind, Reports, reports_more}
-use Rattle.x25_line.proofs.HealingSteps.{HealingLaws, Sound, sound_swapped, near_up}
+use Rattle.x25_line.proofs.HealingSteps.{Sound, sound_swapped, near_up}
 use Rattle.x25_line.proofs.HealingPhases.{Both, Heals}
 use Rattle.x25_line.proofs.HealingRuns.{reached_sound, said_act}
 use Rattle.x25_line.proofs.HealingBoth.{HealsBoth, both_near, both_far, both_settle, fired_both}
@@ -140,7 +141,7 @@ module _ (c d : Settings) (joined : AreJoined c d) (reads : ReadsSpelled) (laws 
           let one = each_hands_one c d (Near (Put packet)) w in
           record {
             line = machine_acts c (Put packet) w h.line;
-            joint = machine_joint (Unit {0}) c d joined reads laws.laws (Put packet) w h.line (λ _. one.came_up ∙ h.joint.near_notes.once) (λ _. tt) h.joint;
+            joint = machine_joint (Unit {0}) c d joined reads laws.sessions.laws (Put packet) w h.line (λ _. one.came_up ∙ h.joint.near_notes.once) (λ _. tt) h.joint;
             near_said = said_act laws c joined.near_high (Put packet) w h.near_said;
             far_said = subst (λ (e : StationEnd). HasSaidAll d.window e.station) (sym one.far) h.far_said;
           }
@@ -202,8 +203,8 @@ module _ (c d : Settings) (joined : AreJoined c d) (reads : ReadsSpelled) (laws 
   }
 
   -- in recovery no I frame goes
-  held_back : (w v : Stations) → w.near.station.recovery ≡ true → (p : WasPut w v) → Mild p.next
-  held_back w v recovers p = held_mild (length w.near.station.taken) w.near.station.outgoing.place p.next v.near.station.outgoing.place p.sends (omega (arith, p.held recovers))
+  held_back : (w v : Stations) → w.near.station.recovery ≡ true → (p : WasPut w v) → Mild ⊥ p.next
+  held_back w v recovers p = held_mild ⊥ (length w.near.station.taken) w.near.station.outgoing.place p.next v.near.station.outgoing.place p.sends (omega (arith, p.held recovers))
 
   near_puts : (most : ℕ) (w v : Stations) → Heals c d most ⊥ w → WasPut w v → is_busy v.near.station ≡ false → Heals c d most ⊥ v
   near_puts most w v (b, inl h) p free = (
@@ -214,7 +215,7 @@ module _ (c d : Settings) (joined : AreJoined c d) (reads : ReadsSpelled) (laws 
       before = h.before;
       recovery = p.recovery ∙ h.recovery;
       out = p.out (rr true h.number true ∷ h.rest) h.out;
-      mild = mild_more h.rest p.next h.mild (held_back w v h.recovery p);
+      mild = mild_more ⊥ h.rest p.next h.mild (held_back w v h.recovery p);
       back = subst (λ (os : List (List ℕ)). Reads (other c.role) c.longest os h.before) (sym p.back) h.back;
       heard = h.heard;
     }),
@@ -230,7 +231,7 @@ module _ (c d : Settings) (joined : AreJoined c d) (reads : ReadsSpelled) (laws 
           is = h.is ∙ ap (λ (n : ℕ). n % 8) same;
           recovery = p.recovery ∙ h.recovery;
           out = p.out h.there h.out;
-          mild = mild_more h.there p.next h.mild (held_back w v h.recovery p);
+          mild = mild_more ⊥ h.there p.next h.mild (held_back w v h.recovery p);
           back = subst (λ (os : List (List ℕ)). Reads (other c.role) c.longest os (h.before ++ rr false h.number true ∷ h.behind)) (sym p.back) h.back;
           heard = h.heard;
           tells = subst (λ (n : ℕ). LastTells n h.number h.behind) same h.tells;
@@ -248,8 +249,8 @@ module _ (c d : Settings) (joined : AreJoined c d) (reads : ReadsSpelled) (laws 
           back = subst (λ (os : List (List ℕ)). Reads (other c.role) c.longest os h.behind) (sym p.back) h.back;
           recovery = p.recovery ∙ h.recovery;
           peer_busy = p.peer_busy ∙ h.peer_busy;
-          ahead = subst (λ (n : ℕ). Ahead n (h.there ++ p.next) v.near.station.outgoing.place) same
-              (ahead_more r s.outgoing.place v.near.station.outgoing.place h.there p.next h.ahead (next_ahead (length s.taken) s.outgoing.place p.next v.near.station.outgoing.place p.sends));
+          ahead = subst (λ (n : ℕ). Ahead ⊥ n (h.there ++ p.next) v.near.station.outgoing.place) same
+              (ahead_more ⊥ r s.outgoing.place v.near.station.outgoing.place h.there p.next h.ahead (next_ahead ⊥ (length s.taken) s.outgoing.place p.next v.near.station.outgoing.place p.sends));
           reports = subst (λ (n : ℕ). Reports n v.near.station.outgoing.acked h.behind) same (subst (λ (a : ℕ). Reports r a h.behind) (sym p.acked) h.reports);
         })),
       )
@@ -319,8 +320,8 @@ module _ (c d : Settings) (joined : AreJoined c d) (reads : ReadsSpelled) (laws 
           back = p.out h.behind h.back;
           recovery = subst (λ (e : StationEnd). e.station.recovery ≡ false) (sym p.far) h.recovery;
           peer_busy = subst (λ (e : StationEnd). e.station.peer_busy ≡ false) (sym p.far) h.peer_busy;
-          ahead = subst (λ (e : StationEnd). Ahead (length u.near.station.taken) h.there e.station.outgoing.place) (sym p.far)
-              (subst (λ (n : ℕ). Ahead n h.there w.near.station.outgoing.place) (sym same) h.ahead);
+          ahead = subst (λ (e : StationEnd). Ahead ⊥ (length u.near.station.taken) h.there e.station.outgoing.place) (sym p.far)
+              (subst (λ (n : ℕ). Ahead ⊥ n h.there w.near.station.outgoing.place) (sym same) h.ahead);
           reports = subst (λ (e : StationEnd). Reports (length u.near.station.taken) e.station.outgoing.acked (h.behind ++ p.next)) (sym p.far)
               (subst (λ (n : ℕ). Reports n w.near.station.outgoing.acked (h.behind ++ p.next)) (sym same)
               (reports_more r w.near.station.outgoing.acked w.far.station.outgoing.place u.near.station.outgoing.place h.behind p.next h.reports p.sends));

@@ -4,7 +4,7 @@ use Rattle.x25_line.specs.Stations.{Stations}
 use Rattle.x25_line.specs.Stations as one
 use Rattle.x25_line.specs.Sessions.{Sessions, run}
 use Rattle.x25_line.specs.HealingPuts.{PutsHealSessions}
-use Rattle.x25_line.proofs.HealingSteps.{HealingLaws}
+use Rattle.x25_line.specs.laws.LawsBelow.{HealingLaws}
 use Rattle.x25_line.proofs.HealingBoth.{fired_both}
 use Rattle.x25_line.proofs.HealingPuts.{puts_run}
 use Rattle.x25_line.proofs.HealingEnds.{after_firings}

@@ -20,12 +20,14 @@ use Rattle.x25_line.specs.Stations.{StationEnd, Stations, Act, Put, Deliver, T1,
 use Rattle.x25_line.specs.laws.StationClaims.{AreJoined, IsSetUpOnce, AreWhole}
 use Rattle.x25_line.specs.WholeNumbers.{machine_acts, machine_run, machine_at_start}
 use Rattle.x25_line.specs.Healing.{IsDrained, IsDeliver, IsDelivery, AreDeliveries, HasArrived, ShowsAtRest, MayHeal, OneHeals}
+use Rattle.x25_line.specs.laws.LawsBelow.{HealingLaws}
 use Rattle.x25_line.proofs.StationRuns.{machine_joint, run_once, start_machine}
 use Rattle.x25_line.proofs.StationClaimLemmas.{holds_order, holds_lists}
 use Rattle.x25_line.proofs.StationEvents.{each_hands_one}
-use Rattle.x25_line.proofs.HealingLines.{Reads, reads_more, whole_behind, reads_none, Ahead, Reports}
-use Rattle.x25_line.proofs.HealingSteps.{HealingLaws, Sound, near_up}
-use Rattle.x25_line.proofs.HealingPhases.{Heals, up_is, rest_has_all, near_heals, far_heals}
+use Rattle.x25_line.proofs.HealingLines.{Reads, reads_more, whole_behind, reads_none, one_frame, not_behind}
+use Rattle.x25_line.proofs.HealingSteps.{Sound, near_up, up_is, deliver_is}
+use Rattle.x25_line.proofs.HealingResent.{resent_rests}
+use Rattle.x25_line.proofs.HealingPhases.{Heals, rest_has_all, near_heals, far_heals, ups}
 
 -- ---- each end has said all that it may, after each event
 
@@ -86,7 +88,7 @@ module _ (laws : HealingLaws) where
       let said = said_run c d joined events start (fresh_said c.window, fresh_said d.window) in
       record {
         line = machine_run c d events start (machine_at_start c d);
-        joint = run_once c d joined reads laws.laws events start (machine_at_start c d) (start_machine (Unit {0}) c d joined) once;
+        joint = run_once c d joined reads laws.sessions.laws events start (machine_at_start c d) (start_machine (Unit {0}) c d joined) once;
         near_said = said.0;
         far_said = said.1;
       }
@@ -132,7 +134,7 @@ module _ (c d : Settings) (joined : AreJoined c d) (reads : ReadsSpelled) (laws 
       let one = each_hands_one c d (Near T1) w in
       record {
         line = machine_acts c T1 w h.line;
-        joint = machine_joint (Unit {0}) c d joined reads laws.laws T1 w h.line (λ _. one.came_up ∙ h.joint.near_notes.once) (λ _. tt) h.joint;
+        joint = machine_joint (Unit {0}) c d joined reads laws.sessions.laws T1 w h.line (λ _. one.came_up ∙ h.joint.near_notes.once) (λ _. tt) h.joint;
         near_said = said_act laws c joined.near_high T1 w h.near_said;
         far_said = subst (λ (e : StationEnd). HasSaidAll d.window e.station) (sym one.far) h.far_said;
       }
@@ -183,7 +185,7 @@ module _ (c d : Settings) (joined : AreJoined c d) (reads : ReadsSpelled) (laws 
       sound : Sound c d (after_step c w w.back [] step)
       sound = subst (Sound c d) is (record {
         line = machine_acts c T1 w h.line;
-        joint = machine_joint (Unit {0}) c d joined reads laws.laws T1 w h.line (λ _. once) (λ _. tt) h.joint;
+        joint = machine_joint (Unit {0}) c d joined reads laws.sessions.laws T1 w h.line (λ _. once) (λ _. tt) h.joint;
         near_said = subst (λ (z : Stations). HasSaidAll c.window z.near.station) (sym is) (laws.rest.timer c s joined.near_high h.near_said.low);
         far_said = subst (λ (z : Stations). HasSaidAll d.window z.far.station) (sym is) h.far_said;
       })
@@ -253,24 +255,10 @@ module _ (c d : Settings) (joined : AreJoined c d) (reads : ReadsSpelled) (laws 
   -- ---- deliveries
 
   pub near_event : (most : ℕ) (Was : Type 0) (a : Act) (w : Stations) → IsDeliver a → Heals c d most Was w → Heals c d most Was (acts c a w)
-  near_event most Was (Put packet) w is h = absurd is
-  near_event most Was Deliver w is h = near_heals c d joined reads laws most Was w h
-  near_event most Was T1 w is h = absurd is
-  near_event most Was Connect w is h = absurd is
-  near_event most Was Disconnect w is h = absurd is
-  near_event most Was Abandon w is h = absurd is
-  near_event most Was (Lose i) w is h = absurd is
-  near_event most Was (Damage i octets) w is h = absurd is
+  near_event most Was a w is h = subst (λ (act : Act). Heals c d most Was (acts c act w)) (deliver_is a is) (near_heals c d joined reads laws most Was w h)
 
   pub far_event : (most : ℕ) (Was : Type 0) (a : Act) (w : Stations) → IsDeliver a → Heals c d most Was w → Heals c d most Was (swapped (acts d a (swapped w)))
-  far_event most Was (Put packet) w is h = absurd is
-  far_event most Was Deliver w is h = far_heals c d joined reads laws most Was w h
-  far_event most Was T1 w is h = absurd is
-  far_event most Was Connect w is h = absurd is
-  far_event most Was Disconnect w is h = absurd is
-  far_event most Was Abandon w is h = absurd is
-  far_event most Was (Lose i) w is h = absurd is
-  far_event most Was (Damage i octets) w is h = absurd is
+  far_event most Was a w is h = subst (λ (act : Act). Heals c d most Was (swapped (acts d act (swapped w)))) (deliver_is a is) (far_heals c d joined reads laws most Was w h)
 
   heals_run : (most : ℕ) (Was : Type 0) (es : List Event) (w : Stations) → AreDeliveries es → Heals c d most Was w → Heals c d most Was (run c d es w)
   heals_run most Was [] w are h = h
@@ -278,24 +266,10 @@ module _ (c d : Settings) (joined : AreJoined c d) (reads : ReadsSpelled) (laws 
   heals_run most Was (Far a ∷ es) w are h = heals_run most Was es (swapped (acts d a (swapped w))) are.1 (far_event most Was a w are.0 h)
 
   idle_act : (a : Act) (w : Stations) → IsDeliver a → w.back ≡ [] → acts c a w ≡ w
-  idle_act (Put packet) w is none = absurd is
-  idle_act Deliver w is none = ap (λ (os : List (List ℕ)). delivered c os w) none
-  idle_act T1 w is none = absurd is
-  idle_act Connect w is none = absurd is
-  idle_act Disconnect w is none = absurd is
-  idle_act Abandon w is none = absurd is
-  idle_act (Lose i) w is none = absurd is
-  idle_act (Damage i octets) w is none = absurd is
+  idle_act a w is none = subst (λ (act : Act). acts c act w ≡ w) (deliver_is a is) (ap (λ (os : List (List ℕ)). delivered c os w) none)
 
   far_idle_act : (a : Act) (w : Stations) → IsDeliver a → w.out ≡ [] → swapped (acts d a (swapped w)) ≡ w
-  far_idle_act (Put packet) w is none = absurd is
-  far_idle_act Deliver w is none = ap (λ (os : List (List ℕ)). swapped (delivered d os (swapped w))) none
-  far_idle_act T1 w is none = absurd is
-  far_idle_act Connect w is none = absurd is
-  far_idle_act Disconnect w is none = absurd is
-  far_idle_act Abandon w is none = absurd is
-  far_idle_act (Lose i) w is none = absurd is
-  far_idle_act (Damage i octets) w is none = absurd is
+  far_idle_act a w is none = subst (λ (act : Act). swapped (acts d act (swapped w)) ≡ w) (deliver_is a is) (ap (λ (os : List (List ℕ)). swapped (delivered d os (swapped w))) none)
 
   pub idle_run : (es : List Event) (w : Stations) → AreDeliveries es → IsDrained w → run c d es w ≡ w
   idle_run [] w are drained = refl
@@ -304,25 +278,11 @@ module _ (c d : Settings) (joined : AreJoined c d) (reads : ReadsSpelled) (laws 
 
   -- ---- the end
 
-  one_frame : (f : PlainFrame) (fs : List PlainFrame) {A : Type 0} → f ∷ fs ≡ [] → A
-  one_frame f fs e = absurd (omega (arith, ap length e))
-
-  not_behind : (before : List PlainFrame) (f : PlainFrame) (fs : List PlainFrame) {A : Type 0} → before ++ f ∷ fs ≡ [] → A
-  not_behind [] f fs e = one_frame f fs e
-  not_behind (g ∷ gs) f fs e = one_frame g (gs ++ f ∷ fs) e
-
   -- once nothing is on the line any more, the near end is at rest
   pub settles : (most : ℕ) (Was : Type 0) (v : Stations) → Heals c d most Was v → IsDrained v → IsAtRest v.near.station
   settles most Was v (b, inl h) drained = one_frame _ _ (reads_none (other d.role) d.longest v.out (rr true h.number true ∷ h.rest) h.out drained.out)
   settles most Was v (b, inr (inl h)) drained = not_behind h.before (rr false h.number true) h.behind (reads_none (other c.role) c.longest v.back (h.before ++ rr false h.number true ∷ h.behind) h.back drained.back)
-  settles most Was v (b, inr (inr h)) drained =
-      let r = length v.far.station.taken in
-      let o = v.near.station.outgoing in
-      let none = reads_none (other d.role) d.longest v.out h.there h.out drained.out in
-      let nothing_back = reads_none (other c.role) c.longest v.back h.behind h.back drained.back in
-      let ahead : r ≡ o.place = subst (λ (fs : List PlainFrame). Ahead r fs o.place) none h.ahead in
-      let reports : o.acked ≡ r = subst (λ (gs : List PlainFrame). Reports r o.acked gs) nothing_back h.reports in
-      laws.rest.all_heard c.window v.near.station joined.near_low (near_up c d v b.sound b.near_on).sound b.sound.near_said b.near_on h.recovery h.peer_busy (omega (arith, ahead, reports))
+  settles most Was v (b, inr (inr h)) drained = resent_rests ⊥ c d joined reads laws v (ups v b) h drained
 
   healed : (w v : Stations) → Heals c d w.far.station.tries (IsAtRest w.far.station) v → IsDrained v → OneHeals w v
   healed w v h drained =
@@ -378,7 +338,7 @@ module _ (c d : Settings) (joined : AreJoined c d) (reads : ReadsSpelled) (laws 
       let step : Step = timer_step c s in
       let u = near_up c d w h up in
       let over : nat_lt s.tries c.retries ≡ false = le-ltb _ _ none in
-      let follows = subst (λ (b : Bool). Follows (if b then None else Some Retries) c.window nothing s step) over (laws.laws.window.timer c s (record { up = up; sound = u.sound })) in
+      let follows = subst (λ (b : Bool). Follows (if b then None else Some Retries) c.window nothing s step) over (laws.sessions.laws.window.timer c s (record { up = up; sound = u.sound })) in
       let v : Stations = after_step c w w.back [] step in
       let is : acts c T1 w ≡ v = fires_is w running in
       let out : v.out ≡ [] = ap (λ (fs : List PlainFrame). w.out ++ map (spelling_of c.role) fs) follows.frames ∙ ap (λ (os : List (List ℕ)). os ++ []) drained.out in

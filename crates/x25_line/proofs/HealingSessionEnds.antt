@@ -10,10 +10,10 @@ use Rattle.x25_line.specs.laws.StationClaims.{AreJoined}
 use Rattle.x25_line.specs.SessionNumbers.{Standing}
 use Rattle.x25_line.specs.laws.SessionClaims.{octets_of}
 use Rattle.x25_line.specs.Healing.{IsDrained, AreDeliveries, HasTries, SessionMayHeal, SessionHasTries, SessionsAreHealed, IsSessionAtRestOrOut, EachSessionRestsOrIsOut}
+use Rattle.x25_line.specs.laws.LawsBelow.{HealingLaws}
 use Rattle.x25_line.proofs.sessions.SessionActs.{in_session}
 use Rattle.x25_line.proofs.sessions.SessionHeld.{Held}
-use Rattle.x25_line.proofs.sessions.SessionRuns.{SessionLaws, throughout, held_swapped}
-use Rattle.x25_line.proofs.HealingSteps.{HealingLaws}
+use Rattle.x25_line.proofs.sessions.SessionRuns.{throughout, held_swapped}
 use Rattle.x25_line.proofs.HealingSessions.{said_from}
 use Rattle.x25_line.proofs.HealingStands.{Alike, fired_alike, events_alike, deliveries_alone, sessions_heal}
 use Rattle.x25_line.proofs.HealingEnds.{IsInOrderIfUp, after_firings, RestOrOut, rest_or_out}
@@ -44,14 +44,11 @@ module _ (reads : ReadsSpelled) (laws : HealingLaws) where
       u : Sessions
       u = run c d (Near T1 ∷ Far T1 ∷ es) w
 
-      rests_on : SessionLaws
-      rests_on = record { laws = laws.laws; continues = laws.continues }
-
       stand : Standing
-      stand = (throughout reads rests_on c d joined begin is events timely).0
+      stand = (throughout reads laws.sessions c d joined begin is events timely).0
 
       held : Held stand c d w
-      held = (throughout reads rests_on c d joined begin is events timely).1
+      held = (throughout reads laws.sessions c d joined begin is events timely).1
 
       said : HasSaidAll c.window w.near.station × HasSaidAll d.window w.far.station
       said = said_from laws c d joined begin is events

@@ -11,13 +11,13 @@ use Rattle.x25_line.specs.Sessions.{Sessions, run, from_nothing, from_set_up, sw
 use Rattle.x25_line.specs.SessionNumbers.{Standing}
 use Rattle.x25_line.specs.laws.SessionClaims.{Throughout, IsEndOf, AreStationsOf}
 use Rattle.x25_line.specs.Healing.{EachRestShows}
+use Rattle.x25_line.specs.laws.LawsBelow.{HealingLaws}
 use Rattle.x25_line.proofs.StationRuns.{joined_swapped}
 use Rattle.x25_line.proofs.sessions.SessionActs.{in_session}
 use Rattle.x25_line.proofs.sessions.SessionHeld.{Held}
-use Rattle.x25_line.proofs.sessions.SessionRuns.{SessionLaws, throughout, held_swapped}
+use Rattle.x25_line.proofs.sessions.SessionRuns.{throughout, held_swapped}
 use Rattle.x25_line.proofs.sessions.SessionLatest.{idle_has_arrived}
 use Rattle.x25_line.proofs.sessions.SessionsForgotten.{sessions_are_links, set_up_is_the_start}
-use Rattle.x25_line.proofs.HealingSteps.{HealingLaws}
 use Rattle.x25_line.proofs.HealingRuns.{BothSaid, said_run, fresh_said}
 
 -- ---- each end has said all that it may
@@ -63,10 +63,9 @@ module _ (reads : ReadsSpelled) (laws : HealingLaws) where
   pub each_rest_shows : Throughout EachRestShows
   each_rest_shows c d joined begin is events timely =
       let w = run c d events begin in
-      let rests : SessionLaws = record { laws = laws.laws; continues = laws.continues } in
-      let h = (throughout reads rests c d joined begin is events timely).1 in
+      let h = (throughout reads laws.sessions c d joined begin is events timely).1 in
       let said = said_from laws c d joined begin is events in
-      let arrived = idle_has_arrived reads rests c d joined begin is events timely in
+      let arrived = idle_has_arrived reads laws.sessions c d joined begin is events timely in
       record {
         near = λ up stopped. (let rest = rests_near laws c d joined w h said.0 up stopped in (rest, arrived.near rest.idle));
         far = λ up stopped. (let rest = rests_near laws d c (joined_swapped c d joined) (swapped w) (held_swapped c d joined w h) said.1 up stopped in (rest, arrived.far rest.idle));

@@ -18,13 +18,14 @@ use Rattle.x25_link.specs.SetUp.{Is, waiting_after, waiting_sends, reset_from}
 use Rattle.x25_link.specs.laws.RestLaw.{IsAtRest}
 use Rattle.x25_link.specs.laws.AnswerLaw.{says}
 use Rattle.x25_link.proofs.EndLemmas.{none_open, not_open, pumped_stays}
-use Rattle.x25_line.specs.Stations.{StationEnd, Stations, Act, Put, Deliver, T1, Connect, Disconnect, Abandon, Lose, Damage, Event, Near, Far, after_step, delivered, acts, swapped, run}
+use Rattle.x25_line.specs.Stations.{StationEnd, Stations, Act, Deliver, Event, Near, Far, after_step, delivered, acts, swapped, run}
 use Rattle.x25_line.specs.laws.StationClaims.{AreJoined}
 use Rattle.x25_line.specs.Healing.{IsDrained, IsDeliver, AreDeliveries, IsAtRestOrOut}
+use Rattle.x25_line.specs.laws.LawsBelow.{HealingLaws}
 use Rattle.x25_line.proofs.StationSteps.{not_both}
 use Rattle.x25_line.proofs.StationRuns.{joined_swapped}
-use Rattle.x25_line.proofs.HealingLines.{Reads, FrontReads, front_reads, none_reads, reads_none}
-use Rattle.x25_line.proofs.HealingSteps.{HealingLaws}
+use Rattle.x25_line.proofs.HealingLines.{Reads, FrontReads, front_reads, none_reads, reads_none, one_frame}
+use Rattle.x25_line.proofs.HealingSteps.{deliver_is}
 use Rattle.x25_line.proofs.StationAway.{up_takes_part}
 
 -- ---- a station that has nothing to send
@@ -291,7 +292,7 @@ module _ (c d : Settings) (joined : AreJoined c d) (reads : ReadsSpelled) (laws 
       let poll = says busy true n true in
       let r = front_reads (other c.role) c.longest w.back poll gs back in
       let step : Step = take_step c r.octets s in
-      let a = laws.laws.set_up.waits c r.octets s waits (Ok poll) (sym r.reads) in
+      let a = laws.sessions.laws.set_up.waits c r.octets s waits (Ok poll) (sym r.reads) in
       let v : Stations = after_step c w r.others [] step in
       let same : acts c Deliver w ≡ v = ap (λ (os : List (List ℕ)). delivered c os w) r.is in
       let silent : step.side.out ≡ [] = a.out ∙ poll_unanswered busy n in
@@ -355,7 +356,7 @@ module _ (c d : Settings) (joined : AreJoined c d) (reads : ReadsSpelled) (laws 
       same = ap (λ (os : List (List ℕ)). delivered c os w) r.is
 
       a : Is fresh (ua true ∷ []) (reset_from s.phase) true step
-      a = laws.laws.set_up.sets_up c r.octets s (up_takes_part s.phase h.far) true r.reads
+      a = laws.sessions.laws.set_up.sets_up c r.octets s (up_takes_part s.phase h.far) true r.reads
 
       blank : IsBlank step.side.near
       blank = subst IsBlank (sym a.near) fresh_blank
@@ -412,17 +413,7 @@ module _ (c d : Settings) (joined : AreJoined c d) (reads : ReadsSpelled) (laws 
   near_delivery w (inr (inr (inr (inr h)))) = calm_hears_more w h h.behind h.back h.behind_are
 
   near_set_up : (a : Act) (w : Stations) → IsDeliver a → SetsUp c d w → SetsUp c d (acts c a w)
-  near_set_up (Put packet) w is h = absurd is
-  near_set_up Deliver w is h = near_delivery w h
-  near_set_up T1 w is h = absurd is
-  near_set_up Connect w is h = absurd is
-  near_set_up Disconnect w is h = absurd is
-  near_set_up Abandon w is h = absurd is
-  near_set_up (Lose i) w is h = absurd is
-  near_set_up (Damage i octets) w is h = absurd is
-
-  one_frame : (f : PlainFrame) (fs : List PlainFrame) {A : Type 0} → f ∷ fs ≡ [] → A
-  one_frame f fs e = absurd (omega (arith, ap length e))
+  near_set_up a w is h = subst (λ (act : Act). SetsUp c d (acts c act w)) (deliver_is a is) (near_delivery w h)
 
   pub set_up_settles : (v : Stations) → SetsUp c d v → IsDrained v → IsAtRestOrOut v.near × IsAtRestOrOut v.far
   set_up_settles v (inl h) drained = one_frame _ _ (reads_none (other d.role) d.longest v.out (sabm true ∷ []) h.out drained.out)

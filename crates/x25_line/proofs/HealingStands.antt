@@ -24,13 +24,14 @@ use Rattle.x25_line.specs.SessionNumbers.{Standing}
 use Rattle.x25_line.specs.laws.SessionClaims.{octets_of, IdleHasArrived}
 use Rattle.x25_line.specs.Healing.{IsDrained, IsDeliver, AreDeliveries, MayHeal, SessionMayHeal, SessionsAreHealed, SessionsHeal}
 use Rattle.x25_line.specs.HealingPuts.{IsDeliverOrPut, IsDeliveryOrPut, AreDeliveriesAndPuts, FreeAt, FreeThroughout, SessionsFreeThroughout, SessionsHaveArrived}
+use Rattle.x25_line.specs.laws.LawsBelow.{HealingLaws}
 use Rattle.x25_line.proofs.StationSteps.{FitsEnd, MayBeAway, NotesOnce, Joint, not_both}
 use Rattle.x25_line.proofs.StationAway.{first_false, second_false}
 use Rattle.x25_line.proofs.sessions.SessionLines.{octets_append, octets_sent}
 use Rattle.x25_line.proofs.sessions.SessionHeld.{View, Live, Soon, Gone, IsView, IsHeard, Held}
-use Rattle.x25_line.proofs.sessions.SessionRuns.{SessionLaws, throughout}
+use Rattle.x25_line.proofs.sessions.SessionRuns.{throughout}
 use Rattle.x25_line.proofs.sessions.SessionLatest.{idle_has_arrived}
-use Rattle.x25_line.proofs.HealingSteps.{HealingLaws, Sound}
+use Rattle.x25_line.proofs.HealingSteps.{Sound, deliver_is}
 use Rattle.x25_line.proofs.HealingBoth.{HealsBoth, both_run, both_settle, fired_both}
 use Rattle.x25_line.proofs.HealingEnds.{after_firings}
 use Rattle.x25_line.proofs.HealingSessions.{said_from}
@@ -209,18 +210,11 @@ fire_hands c w = by (timer_refusal w.near.station)
     by None = step_hands c w w.back w.met (timer_step c w.near.station)
 
 act_hands : (c : Settings) (a : Act) (w : Sessions) → IsDeliver a → HandNothingDown w (acts c a w)
-act_hands c (Put packet) w is = absurd is
-act_hands c Deliver w is = by w.back
+act_hands c a w is = subst (λ (act : Act). HandNothingDown w (acts c act w)) (deliver_is a is) (by w.back)
   where
     by : (es : List Entry) → HandNothingDown w (delivered c es w)
     by [] = record { near = λ _. refl; far = λ _. refl }
     by (e ∷ es) = step_hands c w es _ (take_step c e.octets w.near.station)
-act_hands c T1 w is = absurd is
-act_hands c Connect w is = absurd is
-act_hands c Disconnect w is = absurd is
-act_hands c Abandon w is = absurd is
-act_hands c (Lose i) w is = absurd is
-act_hands c (Damage i octets) w is = absurd is
 
 then_hand : (w u x : Sessions) → HandNothingDown w u → HandNothingDown u x → HandNothingDown w x
 then_hand w u x h k = record { near = λ n. k.near n ∙ h.near n; far = λ n. k.far n ∙ h.far n }
@@ -240,14 +234,7 @@ fired_hand c d w =
     then_hand w w1 (fired c d w) (fire_hands c w) (record { near = h.far; far = h.near })
 
 deliver_or_put : (a : Act) → IsDeliver a → IsDeliverOrPut a
-deliver_or_put (Put packet) is = absurd is
-deliver_or_put Deliver is = tt
-deliver_or_put T1 is = absurd is
-deliver_or_put Connect is = absurd is
-deliver_or_put Disconnect is = absurd is
-deliver_or_put Abandon is = absurd is
-deliver_or_put (Lose i) is = absurd is
-deliver_or_put (Damage i octets) is = absurd is
+deliver_or_put a is = subst IsDeliverOrPut (deliver_is a is) tt
 
 pub deliveries_alone : (es : List Event) → AreDeliveries es → AreDeliveriesAndPuts es
 deliveries_alone [] are = tt
@@ -330,14 +317,11 @@ module _ (reads : ReadsSpelled) (laws : HealingLaws) where
       u : Sessions
       u = run c d es (fired c d w)
 
-      rests_on : SessionLaws
-      rests_on = record { laws = laws.laws; continues = laws.continues }
-
       stand : Standing
-      stand = (throughout reads rests_on c d joined begin is events timely).0
+      stand = (throughout reads laws.sessions c d joined begin is events timely).0
 
       held : Held stand c d w
-      held = (throughout reads rests_on c d joined begin is events timely).1
+      held = (throughout reads laws.sessions c d joined begin is events timely).1
 
       near_in : InIt (other c.role) c.longest w.near held.alone.near.station stand.near w.back held.alone.back
       near_in = in_it held.near_view (other c.role) c.longest w.near held.alone.near.station stand.near stand.far w.back held.alone.back held.near held.back near_on
@@ -395,7 +379,7 @@ module _ (reads : ReadsSpelled) (laws : HealingLaws) where
       arrived : IdleHasArrived c d u
       arrived =
           subst (IdleHasArrived c d) (run_append c d events more begin)
-          (idle_has_arrived reads rests_on c d joined begin is (events ++ more) (timely_append c d events more begin timely timely_more))
+          (idle_has_arrived reads laws.sessions c d joined begin is (events ++ more) (timely_append c d events more begin timely timely_more))
 
   -- where deliveries alone come behind the firings
   pub sessions_rest : (c d : Settings) → AreJoined c d → (begin : Sessions) → (begin ≡ from_nothing) ⊎ (begin ≡ from_set_up) → (events : List Event) → AreTimely c d events begin

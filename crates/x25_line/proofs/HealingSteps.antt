@@ -1,40 +1,37 @@
 -- What holds of two stations that both are Up while all that is on the line comes, and what one delivery makes of it.
-use Rattle.std.proofs.Common.{◌≡◌, ℕ, ◌+◌, ◌-◌, ◌*◌, ◌%◌, ◌≤◌, List, [], ◌∷◌, ◌++◌, length, map, Bool, true, false, Option, Some, Result, Ok, refl, sym, ap, ◌∙◌, subst, arith}
+use Rattle.std.proofs.Common.{◌≡◌, ℕ, ◌+◌, ◌-◌, ◌*◌, ◌%◌, ◌≤◌, List, [], ◌∷◌, ◌++◌, length, map, Bool, true, false, Option, Some, None, Result, Ok, refl, sym, ap, ◌∙◌, subst, arith}
 use Rattle.std.specs.Prelude.{◌||◌}
 use Rattle.std.proofs.lemmas.Bool.{ltb-false, le-ltb, le-leb}
 use Rattle.x25_bits.specs.declared.role.Role.{Role}
 use Rattle.x25_frame.specs.PlainFrame.{PlainFrame, info, rr, rnr, rej, sabm, disc, ua, dm, frmr}
 use Rattle.x25_frame.specs.Spelling.{spelling_of}
+use Rattle.x25_frame.specs.Reading.{frame_of}
 use Rattle.x25_frame.specs.laws.ReadingLaw.{ReadsSpelled}
 use Rattle.x25_frame.specs.declared.error.FrameError.{FrameError}
 use Rattle.x25_window.specs.Modulo.{resolved}
 use Rattle.x25_window.specs.Window.{Frame}
 use Rattle.x25_link.specs.declared.phase.Notes.{Notes}
-use Rattle.x25_link.specs.laws.NoteLaw.{TakeContinues}
-use Rattle.x25_link.specs.LinkStation.{Settings, LinkStation, is_up, is_busy}
-use Rattle.x25_link.specs.MustSend.{Step, other, is_valid}
+use Rattle.x25_link.specs.declared.phase.Phase.{Phase}
+use Rattle.x25_link.specs.declared.phase.Phase.TheVariants.{Down, Waiting, Up, Closed}
+use Rattle.x25_link.specs.LinkStation.{Settings, LinkStation, is_up, is_busy, wanted}
+use Rattle.x25_link.specs.MustSend.{Step, other, is_valid, is_taken}
 use Rattle.x25_link.specs.Steps.{take_step}
 use Rattle.x25_link.specs.WindowMachine.{Window, Shows, ShowAll}
-use Rattle.x25_link.specs.laws.RestLaw.{HasSaidAll, RestLaws}
-use Rattle.x25_link.specs.laws.AnswerLaw.{AreNext, weight_of, weight_if, Outcome, Answers, AnswerLaws, heard}
+use Rattle.x25_link.specs.laws.RestLaw.{HasSaidAll}
+use Rattle.x25_link.specs.laws.AnswerLaw.{says, AreNext, weight_of, weight_if, Outcome, Answers, heard, goes_on_from, once_taken, busy_after, passed_over}
 use Rattle.x25_line.specs.Line.{Line, swapped as line_swapped}
-use Rattle.x25_line.specs.Stations.{Stations, Deliver, after_step, delivered, acts, swapped}
+use Rattle.x25_line.specs.Stations.{Stations, Act, Put, Deliver, T1, Connect, Disconnect, Abandon, Lose, Damage, after_step, delivered, acts, swapped}
 use Rattle.x25_line.specs.laws.StationClaims.{AreJoined, number_in, numbered_on, AreWhole}
 use Rattle.x25_line.specs.WholeNumbers.{machine_acts}
-use Rattle.x25_line.proofs.Kept.{Way, hears_valid, Way-acked}
+use Rattle.x25_line.specs.Healing.{IsDeliver}
+use Rattle.x25_line.specs.laws.LawsBelow.{HealingLaws}
+use Rattle.x25_line.proofs.Kept.{Way, hears_valid, Way-acked, resolved_is}
 use Rattle.x25_line.proofs.Frames.{Acks-le}
 use Rattle.x25_line.proofs.StationLines.{front_of, consed}
-use Rattle.x25_line.proofs.StationSteps.{AsUp, Joint}
-use Rattle.x25_line.proofs.StationRuns.{Laws, machine_joint, joint_swapped}
+use Rattle.x25_line.proofs.StationSteps.{AsUp, Joint, not_both}
+use Rattle.x25_line.proofs.StationRuns.{machine_joint, joint_swapped}
 use Rattle.x25_line.proofs.StationClaimLemmas.{up_of}
-use Rattle.x25_line.proofs.HealingLines.{Reads, reads_more, whole_behind, FrontReads}
-
--- the laws of a station that healing rests on
-pub record HealingLaws : Type 0 where
-  pub laws : Laws
-  pub continues : TakeContinues
-  pub rest : RestLaws
-  pub answers : AnswerLaws
+use Rattle.x25_line.proofs.HealingLines.{Reads, reads_more, whole_behind, FrontReads, front_reads}
 
 -- the machine is behind, and both ends have said all that they may
 pub record Sound (c d : Settings) (w : Stations) : Type 0 where
@@ -51,6 +48,21 @@ near_up c d w h up = up_of (Unit {0}) c w.near.station h.line.near h.joint.near 
 
 pub far_up : (c d : Settings) (w : Stations) (h : Sound c d w) → is_up w.far.station.phase ≡ true → AsUp d w.far.station h.line.far
 far_up c d w h up = up_of (Unit {0}) d w.far.station h.line.far h.joint.far up
+
+-- .. and both are Up
+pub record BothUp (c d : Settings) (w : Stations) : Type 0 where
+  pub sound : Sound c d w
+  pub near_on : is_up w.near.station.phase ≡ true
+  pub far_on : is_up w.far.station.phase ≡ true
+
+pub both_up_swapped : (c d : Settings) → AreJoined c d → (w : Stations) → BothUp c d w → BothUp d c (swapped w)
+both_up_swapped c d joined w h = record { sound = sound_swapped c d joined w h.sound; near_on = h.far_on; far_on = h.near_on }
+
+pub up_is : (p : Phase) → is_up p ≡ true → p ≡ Up
+up_is Up e = refl
+up_is Down e = not_both false e refl
+up_is Waiting e = not_both false e refl
+up_is Closed e = not_both false e refl
 
 -- what the near end counts as acknowledged was taken by the far end, and what that took was sent
 pub record Counted (k : ℕ) (near far : LinkStation) : Type 0 where
@@ -69,6 +81,13 @@ counted c d w h up other_up =
     let taken = ap (λ (z : Window). length z.taken) v.same in
     record { acked = omega (arith, bounds.0, acked, taken); taken = omega (arith, bounds.1, sent, taken); room = u.sound.room }
 
+-- the number that stands for all that the far end has taken
+pub all_heard : (c d : Settings) → AreJoined c d → (w : Stations) → BothUp c d w → (nr : ℕ) → nr ≡ length w.far.station.taken % 8 → heard nr w.near.station ≡ length w.far.station.taken
+all_heard c d joined w b nr is =
+    let n = counted c d w b.sound b.near_on b.far_on in
+    let small = joined.near_high in
+    ap (resolved w.near.station.outgoing.acked) is ∙ resolved_is w.near.station.outgoing.acked (length w.far.station.taken) n.acked (omega (arith, small, n.taken, n.room))
+
 -- ---- the number of a frame
 
 abbrev pub number_of : PlainFrame → ℕ
@@ -84,6 +103,14 @@ IsNumbered (rr command nr pf) = Unit {0}
 IsNumbered (rnr command nr pf) = Unit {0}
 IsNumbered (rej command nr pf) = Unit {0}
 IsNumbered f = ⊥
+
+says_numbered : (busy command pf : Bool) (nr : ℕ) → IsNumbered (says busy command nr pf)
+says_numbered true command pf nr = tt
+says_numbered false command pf nr = tt
+
+says_number : (busy command pf : Bool) (nr : ℕ) → number_of (says busy command nr pf) ≡ nr
+says_number true command pf nr = refl
+says_number false command pf nr = refl
 
 has_number : (f : PlainFrame) → IsNumbered f → number_in (Ok f) ≡ Some f
 has_number (info ns nr p x) h = refl
@@ -142,6 +169,16 @@ hears_well c d w h up other_up f gs is_numbered r =
 
 -- ---- one delivery to the near end
 
+pub deliver_is : (a : Act) → IsDeliver a → Deliver ≡ a
+deliver_is Deliver is = refl
+deliver_is (Put packet) is = absurd is
+deliver_is T1 is = absurd is
+deliver_is Connect is = absurd is
+deliver_is Disconnect is = absurd is
+deliver_is Abandon is = absurd is
+deliver_is (Lose i) is = absurd is
+deliver_is (Damage i octets) is = absurd is
+
 -- what it makes of the world, where the step answers so
 pub record Delivered (c d : Settings) (w v : Stations) (fs gs : List PlainFrame) (o : Outcome) (octets : List ℕ) : Type 0 where
   pub sound : Sound c d v
@@ -162,6 +199,37 @@ pub record Delivered (c d : Settings) (w v : Stations) (fs gs : List PlainFrame)
   pub back : Reads (other c.role) c.longest v.back gs
   pub far : v.far ≡ w.far
   pub free : is_busy w.near.station ≡ false → is_busy v.near.station ≡ false
+  pub others : List (List ℕ)
+  pub after : v ≡ after_step c w others [] (take_step c octets w.near.station)
+  pub quiet : (take_step c octets w.near.station).notes ≡ record { down = None; up = false }
+
+-- what a station becomes by RR or RNR that neither asks nor answers, by a poll, by F=1, by REJ, and by an I frame that isn't taken
+abbrev pub readied : Bool → ℕ → LinkStation → Outcome
+readied busy nr s = record (goes_on_from nr s) { peer_busy = busy }
+
+abbrev pub polled : Bool → ℕ → LinkStation → Outcome
+polled busy nr s = record (goes_on_from nr s) { peer_busy = busy; said_busy = is_busy s; first = says (is_busy s) false (wanted s) true ∷ [] }
+
+abbrev pub finished : Bool → ℕ → LinkStation → Outcome
+finished busy nr s = record (goes_on_from nr s) { recovery = false; peer_busy = busy; tries = 0; place = heard nr s }
+
+abbrev pub rejected : ℕ → LinkStation → Outcome
+rejected nr s = record (goes_on_from nr s) { peer_busy = false; place = heard nr s }
+
+abbrev pub passed : ℕ → LinkStation → Outcome
+passed nr s = record (goes_on_from nr s) { said_busy = busy_after false s; first = passed_over false s }
+
+-- a numbered frame comes to the near end, and is answered so
+pub record Heard (c d : Settings) (w : Stations) (fs gs : List PlainFrame) (nr : ℕ) (o : Outcome) : Type 0 where
+  pub octets : List ℕ
+  pub well : HearsWell w.near.station w.far.station nr
+  pub went : Delivered c d w (acts c Deliver w) fs gs o octets
+
+-- .. and is an I frame that is taken
+pub record Taken (c d : Settings) (w : Stations) (fs gs : List PlainFrame) (nr : ℕ) (x : List ℕ) : Type 0 where
+  pub goes : Bool
+  pub hears : Heard c d w fs gs nr (once_taken goes nr false x w.near.station)
+  pub speaks : (take_step c hears.octets w.near.station).side.out ≡ [] → ⊥
 
 module _ (c d : Settings) (joined : AreJoined c d) (reads : ReadsSpelled) (laws : HealingLaws) where
   -- it stays so at any delivery by which LinkUp isn't noted
@@ -170,7 +238,7 @@ module _ (c d : Settings) (joined : AreJoined c d) (reads : ReadsSpelled) (laws 
   sound_after w h once (o ∷ os) is =
       record {
         line = machine_acts c Deliver w h.line;
-        joint = machine_joint (Unit {0}) c d joined reads laws.laws Deliver w h.line (λ _. once) (λ _. tt) h.joint;
+        joint = machine_joint (Unit {0}) c d joined reads laws.sessions.laws Deliver w h.line (λ _. once) (λ _. tt) h.joint;
         near_said = subst (λ (bs : List (List ℕ)). HasSaidAll c.window (delivered c bs w).near.station) (sym is) (laws.rest.take c o w.near.station joined.near_high h.near_said.low);
         far_said = subst (λ (bs : List (List ℕ)). HasSaidAll d.window (delivered c bs w).far.station) (sym is) h.far_said;
       }
@@ -199,7 +267,10 @@ module _ (c d : Settings) (joined : AreJoined c d) (reads : ReadsSpelled) (laws 
         held = a.held;
         back = r.rest;
         far = refl;
-        free = λ free. (let few = ltb-false _ _ free in le-ltb _ _ (omega (arith, few, (laws.continues c r.octets w.near.station).waits a.quiet)));
+        free = λ free. (let few = ltb-false _ _ free in le-ltb _ _ (omega (arith, few, (laws.sessions.continues c r.octets w.near.station).waits a.quiet)));
+        others = r.others;
+        after = refl;
+        quiet = a.quiet;
       })
     where
       step : Step
@@ -213,3 +284,46 @@ module _ (c d : Settings) (joined : AreJoined c d) (reads : ReadsSpelled) (laws 
           subst (λ (es : List PlainFrame). Reads (other d.role) d.longest (w.out ++ map (spelling_of c.role) step.side.out) (fs ++ es)) a.out
           (subst (λ (from : Role). Reads (other d.role) d.longest (w.out ++ map (spelling_of from) step.side.out) (fs ++ step.side.out)) joined.near_role
           (reads_more reads (other d.role) d.longest given w.out fs step.side.out reads_out whole))
+
+  hears : (w : Stations) → BothUp c d w → (fs gs : List PlainFrame) (f : PlainFrame) (nr : ℕ) (o : Outcome) → IsNumbered f → number_of f ≡ nr → Reads (other d.role) d.longest w.out fs
+      → Reads (other c.role) c.longest w.back (f ∷ gs)
+      → ((octets : List ℕ) → frame_of (other c.role) c.longest octets ≡ Ok f → is_valid nr w.near.station ≡ true → Answers w.near.station o (take_step c octets w.near.station)) → Heard c d w fs gs nr o
+  hears w b fs gs f nr o is_numbered is out back law =
+      let r = front_reads (other c.role) c.longest w.back f gs back in
+      let well = subst (HearsWell w.near.station w.far.station) is (hears_well c d w b.sound b.near_on b.far_on f gs is_numbered r) in
+      record { octets = r.octets; well = well; went = delivers w fs gs f o b.sound out r (law r.octets r.reads well.valid) }
+
+  pub hears_ready : (w : Stations) → BothUp c d w → (fs gs : List PlainFrame) (busy command : Bool) (nr : ℕ) → Reads (other d.role) d.longest w.out fs → Reads (other c.role) c.longest w.back (says busy command nr false ∷ gs)
+      → Heard c d w fs gs nr (readied busy nr w.near.station)
+  hears_ready w b fs gs busy command nr out back = hears w b fs gs (says busy command nr false) nr (readied busy nr w.near.station) (says_numbered busy command false nr) (says_number busy command false nr) out back
+      (λ octets read valid. laws.answers.ready busy command nr c octets w.near.station (up_is w.near.station.phase b.near_on) read valid)
+
+  pub hears_poll : (w : Stations) → BothUp c d w → (fs gs : List PlainFrame) (busy : Bool) (nr : ℕ) → Reads (other d.role) d.longest w.out fs → Reads (other c.role) c.longest w.back (says busy true nr true ∷ gs)
+      → Heard c d w fs gs nr (polled busy nr w.near.station)
+  hears_poll w b fs gs busy nr out back = hears w b fs gs (says busy true nr true) nr (polled busy nr w.near.station) (says_numbered busy true true nr) (says_number busy true true nr) out back
+      (λ octets read valid. laws.answers.poll busy nr c octets w.near.station (up_is w.near.station.phase b.near_on) read valid)
+
+  pub hears_final : (w : Stations) → BothUp c d w → (fs gs : List PlainFrame) (busy : Bool) (nr : ℕ) → Reads (other d.role) d.longest w.out fs → Reads (other c.role) c.longest w.back (says busy false nr true ∷ gs)
+      → Heard c d w fs gs nr (finished busy nr w.near.station)
+  hears_final w b fs gs busy nr out back = hears w b fs gs (says busy false nr true) nr (finished busy nr w.near.station) (says_numbered busy false true nr) (says_number busy false true nr) out back
+      (λ octets read valid. laws.answers.recovery busy nr c octets w.near.station (up_is w.near.station.phase b.near_on) read valid)
+
+  pub hears_rej : (w : Stations) → BothUp c d w → (fs gs : List PlainFrame) (command : Bool) (nr : ℕ) → Reads (other d.role) d.longest w.out fs → Reads (other c.role) c.longest w.back (rej command nr false ∷ gs)
+      → Heard c d w fs gs nr (rejected nr w.near.station)
+  hears_rej w b fs gs command nr out back = hears w b fs gs (rej command nr false) nr (rejected nr w.near.station) tt refl out back
+      (λ octets read valid. laws.answers.rej command nr c octets w.near.station (up_is w.near.station.phase b.near_on) read valid)
+
+  pub hears_passed : (w : Stations) → BothUp c d w → (fs gs : List PlainFrame) (ns nr : ℕ) (x : List ℕ) → Reads (other d.role) d.longest w.out fs → Reads (other c.role) c.longest w.back (info ns nr false x ∷ gs)
+      → is_taken ns w.near.station ≡ false → Heard c d w fs gs nr (passed nr w.near.station)
+  hears_passed w b fs gs ns nr x out back is = hears w b fs gs (info ns nr false x) nr (passed nr w.near.station) tt refl out back
+      (λ octets read valid. laws.answers.other ns nr false x c octets w.near.station (up_is w.near.station.phase b.near_on) read valid is)
+
+  pub hears_taken : (w : Stations) → BothUp c d w → (fs gs : List PlainFrame) (ns nr : ℕ) (x : List ℕ) → Reads (other d.role) d.longest w.out fs
+      → Reads (other c.role) c.longest w.back (info ns nr false x ∷ gs) → is_taken ns w.near.station ≡ true → Taken c d w fs gs nr x
+  hears_taken w b fs gs ns nr x out back is =
+      let s = w.near.station in
+      let f = info ns nr false x in
+      let r = front_reads (other c.role) c.longest w.back f gs back in
+      let well = hears_well c d w b.sound b.near_on b.far_on f gs tt r in
+      let a = laws.answers.wanted ns nr false x c r.octets s (up_is s.phase b.near_on) r.reads well.valid is in
+      record { goes = a.0; hears = record { octets = r.octets; well = well; went = delivers w fs gs f (once_taken a.0 nr false x s) b.sound out r a.1.answers }; speaks = a.1.speaks }

@@ -14,6 +14,7 @@ pub mod StationEvents
 pub mod rows
 pub mod HealingLines
 pub mod HealingSteps
+pub mod HealingResent
 pub mod HealingPhases
 pub mod HealingRuns
 pub mod HealingBoth

@@ -16,9 +16,10 @@ use Rattle.x25_line.specs.Line.{Line}
 use Rattle.x25_line.specs.Stations.{StationEnd, Stations, Event, run, start}
 use Rattle.x25_line.specs.WholeNumbers.{machine_run, machine_at_start, MachineGoesAlong}
 use Rattle.x25_line.specs.laws.StationClaims.{AreJoined, IsSetUpOnce, Always, InOrder, BothInOrder, HasItsLists, BothHaveTheirLists, NotesItsEnd, BothNoteTheirEnds, OneLinkUnlessConnected, IsBehind, AreInWindow, NoFrmrSent, AreWhole, AllSentAreWhole}
+use Rattle.x25_line.specs.laws.LawsBelow.{Laws}
 use Rattle.x25_line.proofs.Kept.{Way, Way-acked, InWindow-from_Kept}
 use Rattle.x25_line.proofs.StationSteps.{away_is_not_up, AsUp, FitsEnd, NotesOnce, Joint, Holds, not_both}
-use Rattle.x25_line.proofs.StationRuns.{Laws, run_once, run_unasked, start_machine}
+use Rattle.x25_line.proofs.StationRuns.{run_once, run_unasked, start_machine}
 
 -- beginnings of one list, the shorter is one of the longer
 take_of_take : (a r : ℕ) (xs : List (List ℕ)) → a ≤ r → take a (take r xs) ≡ take a xs

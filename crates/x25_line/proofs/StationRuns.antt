@@ -12,17 +12,18 @@ use Rattle.x25_link.specs.declared.phase.Phase.{Phase}
 use Rattle.x25_link.specs.declared.phase.Phase.TheVariants.{Down, Waiting, Up, Closed}
 use Rattle.x25_link.specs.declared.phase.Reason.TheVariants.{Retries, Local, Counts}
 use Rattle.x25_link.specs.declared.error.LinkError.{LinkError}
-use Rattle.x25_link.specs.laws.NoteLaw.{Tells, TakeTells, TimerTells, DisconnectTells, AbandonTells}
+use Rattle.x25_link.specs.laws.NoteLaw.{Tells}
 use Rattle.x25_link.specs.LinkStation.{Settings, LinkStation, is_up, with_nothing}
 use Rattle.x25_link.specs.MustSend.{Step, other}
 use Rattle.x25_link.specs.Steps.{take_step, put_step, put_refusal, timer_step, timer_refusal, timer_runs, connect_step, connect_refusal, disconnect_step, disconnect_refusal, abandon_step}
 use Rattle.x25_link.specs.WindowMachine.{Window, hands_down, nothing, ShowAll}
-use Rattle.x25_link.specs.SetUp.{Is, TakesPart, SetUpLaws}
-use Rattle.x25_link.specs.laws.WindowLaw.{Follows, IsOut, sets_up, StaysOut, StationLaws}
+use Rattle.x25_link.specs.SetUp.{Is, TakesPart}
+use Rattle.x25_link.specs.laws.WindowLaw.{Follows, IsOut, sets_up, StaysOut}
 use Rattle.x25_line.specs.Line.{Line, moved, swapped as line_swapped}
 use Rattle.x25_line.specs.Line.Move.{HandsDown, Loses}
 use Rattle.x25_line.specs.Stations.{StationEnd, Stations, Act, Put, Deliver, T1, Connect, Disconnect, Abandon, Lose, Damage, Event, Near, Far, after_step, unless, delivered, replaced, is_visible, acts, swapped, happens, run, fresh_station, start}
 use Rattle.x25_line.specs.WholeNumbers.{first_of, place_of, taken_out, left_at, place_taken, machine_acts, machine_happens, machine_run, machine_at_start}
+use Rattle.x25_line.specs.laws.LawsBelow.{Laws}
 use Rattle.x25_line.specs.laws.StationClaims.{AreJoined, IsSetUpOnce, AcceptsNoConnect, AcceptsNoConnectAt, NoneConnects, number_in, numbered_on, IsReached, at_start, near_moves, far_moves, AreWhole, NotesUp, HandsOne}
 use Rattle.x25_line.proofs.Kept.{Kept, Kept-moved, Kept-swapped}
 use Rattle.x25_line.proofs.StationLines.{IsOrderly, orderly_where, AreOrderly, AreParting, shows_lost, shows_damaged, orderly_lost, orderly_damaged, visible_reads, whole_more, either_way}
@@ -57,15 +58,6 @@ orderly_sets_up (Ok (ua f)) h = refl
 orderly_sets_up (Ok (dm f)) h = refl
 orderly_sets_up (Ok (frmr f why)) h = refl
 orderly_sets_up (Err e) h = refl
-
--- the laws of a station that a run rests on
-pub record Laws : Type 0 where
-  pub window : StationLaws
-  pub set_up : SetUpLaws
-  pub take_tells : TakeTells
-  pub timer_tells : TimerTells
-  pub disconnect_tells : DisconnectTells
-  pub abandon_tells : AbandonTells
 
 -- a Connect that is accepted
 abbrev Connects : Act → Stations → Type 0

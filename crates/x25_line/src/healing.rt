@@ -7,11 +7,8 @@ ghost use Rattle.x25_line.specs.HealingPuts.{PutsHeal, PutsHealSessions, OnePutA
 ghost use Rattle.x25_line.specs.rows.HealingRows.{NoFiringIsTooFew, OneFiringIsTooFew, NoTriesAreLeft, FiringsAloneEnd, PutToGoneStays, BothBusyStay, BothBusyIsReached, OneBusyIsReached};
 ghost use Rattle.x25_line.specs.laws.SessionClaims.{Throughout};
 
+use crate::law::laws_below;
 use x25_frame::reads_what_is_spelled;
-use x25_link::{
-    asks_and_answers, comes_to_rest, follows_the_window, notes_what_changes, sets_up_by_rows,
-    tells_whether_busy,
-};
 
 /// After each list of events, as long as the link isn't set up anew: an end that is Up and whose timer T1 doesn't run is at rest, and
 /// everything that it was handed down has been handed up at the other end. Whatever is on the line then changes nothing of this. Over
@@ -20,12 +17,7 @@ pub fn rest_shows()
     ensures once { RestShows }
     ensures sessions { Throughout EachRestShows }
 {
-    follows_the_window();
-    sets_up_by_rows();
-    notes_what_changes();
-    comes_to_rest();
-    asks_and_answers();
-    reads_what_is_spelled();
+    laws_below();
 }
 
 /// From a moment in which nothing is on the line, both ends are Up and neither is busy: timer T1 runs out once at one end, and then
@@ -39,12 +31,7 @@ pub fn one_firing_heals()
     ensures ends { OneFiringEnds }
     ensures gone { GoneEnds }
 {
-    follows_the_window();
-    sets_up_by_rows();
-    notes_what_changes();
-    comes_to_rest();
-    asks_and_answers();
-    reads_what_is_spelled();
+    laws_below();
 }
 
 /// Deliver, fire once at each end, deliver: everything sent has arrived, in order, once, and both ends are at rest. Both may fire before
@@ -60,12 +47,7 @@ pub fn two_firings_heal()
     ensures sessions { SessionsHeal }
     ensures each_session { EachSessionRestsOrIsOut }
 {
-    follows_the_window();
-    sets_up_by_rows();
-    notes_what_changes();
-    comes_to_rest();
-    asks_and_answers();
-    reads_what_is_spelled();
+    laws_below();
 }
 
 /// The same with one busy end: from a moment in which nothing is on the line, both ends are Up, with tries left where timer T1 runs, and not
@@ -83,13 +65,7 @@ pub fn one_busy_heals()
     ensures each_session { SessionsHealUnlessBothBusy }
     ensures reached { OneBusyIsReached }
 {
-    follows_the_window();
-    sets_up_by_rows();
-    notes_what_changes();
-    comes_to_rest();
-    asks_and_answers();
-    tells_whether_busy();
-    reads_what_is_spelled();
+    laws_below();
 }
 
 /// The same while packets are handed down: from a moment in which nothing is on the line, both ends are Up, neither is busy, and tries are left where
@@ -102,12 +78,7 @@ pub fn puts_heal()
     ensures sessions { PutsHealSessions }
     ensures worked { OnePutArrives }
 {
-    follows_the_window();
-    sets_up_by_rows();
-    notes_what_changes();
-    comes_to_rest();
-    asks_and_answers();
-    reads_what_is_spelled();
+    laws_below();
 }
 
 /// After both ends have fired, deliveries come to an end: the world bounds how many find octets on the line, in whichever order
@@ -118,12 +89,7 @@ pub fn deliveries_end()
     ensures some { SomeHeal }
     ensures worked { BothLostMayHeal }
 {
-    follows_the_window();
-    sets_up_by_rows();
-    notes_what_changes();
-    comes_to_rest();
-    asks_and_answers();
-    reads_what_is_spelled();
+    laws_below();
 }
 
 /// Each line drains: from every world that events lead to, over set-up and re-set-up, in whichever phases and busy or not, with any frame
@@ -136,12 +102,7 @@ pub fn drains_end()
     ensures sessions { SessionsDrainEnd }
     ensures some_sessions { SomeSessionsDrain }
 {
-    follows_the_window();
-    sets_up_by_rows();
-    notes_what_changes();
-    comes_to_rest();
-    asks_and_answers();
-    reads_what_is_spelled();
+    laws_below();
 }
 
 /// What isn't so, each with its shortest script. Where a packet of each end was lost, nothing arrives without a firing (`none`), and by one

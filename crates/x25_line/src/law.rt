@@ -1,4 +1,8 @@
 //! Two link stations over a line, as laws about their definition. Each is the contract of a function that does nothing.
+ghost use Rattle.x25_frame.specs.laws.ReadingLaw.{ReadsSpelled};
+ghost use Rattle.x25_link.specs.laws.NoteLaw.{TakeHandsUp};
+ghost use Rattle.x25_link.specs.laws.BusyLaw.{BusyLaws};
+ghost use Rattle.x25_line.specs.laws.LawsBelow.{HealingLaws};
 ghost use Rattle.x25_line.specs.laws.StationClaims.{Always, BothInOrder, BothHaveTheirLists, BothNoteTheirEnds, NoFrmrSent, AllSentAreWhole, OneLinkUnlessConnected, EachEventHandsOne};
 ghost use Rattle.x25_line.specs.WholeNumbers.{MachineGoesAlong, OnceStaysOnce};
 ghost use Rattle.x25_line.specs.laws.SessionClaims.{Throughout, MeetInStep, MetAreInOrder, UnmetHandNothingUp, OnlyBegunHaveLists, EachUpStands, EachHearsLatest, EachMeetsLatest, IdleHasArrived, NoSessionSendsFrmr, AllSessionsSendWhole, SessionsAreStations, SetUpIsTheStart};
@@ -8,7 +12,26 @@ ghost use Rattle.x25_line.specs.rows.SessionRows.{SetsUpFromNothing, SetsUpAgain
 ghost use Rattle.x25_line.specs.rows.StationRows.{PacketGoes, PacketsCross, LostComesAgain, DamagedComesAgain, DisconnectEnds, AbandonEnds, ConnectSetsUp, ConnectIsDeclined};
 
 use x25_frame::reads_what_is_spelled;
-use x25_link::{follows_the_window, notes_what_changes, sets_up_by_rows};
+use x25_link::{
+    asks_and_answers, comes_to_rest, follows_the_window, notes_what_changes, sets_up_by_rows,
+    tells_whether_busy,
+};
+
+/// What the laws of frames and of one link say, which the laws of two links rest on.
+pub(crate) fn laws_below()
+    ensures reads { ReadsSpelled }
+    ensures healing { HealingLaws }
+    ensures hands_up { TakeHandsUp }
+    ensures busy { BusyLaws }
+{
+    follows_the_window();
+    sets_up_by_rows();
+    notes_what_changes();
+    comes_to_rest();
+    asks_and_answers();
+    tells_whether_busy();
+    reads_what_is_spelled();
+}
 
 /// Two link stations, by the definition that a link meets call by call, joined by a line of octets that keeps order and may
 /// lose or visibly damage any frame, from a link just set up: what holds after each list of events at either end, Connect among
@@ -30,10 +53,7 @@ pub fn links_keep_order()
     ensures once { OneLinkUnlessConnected }
     ensures before { OnceStaysOnce }
 {
-    follows_the_window();
-    sets_up_by_rows();
-    notes_what_changes();
-    reads_what_is_spelled();
+    laws_below();
 }
 
 /// Two link stations and the line between them, from nothing or from a link just set up: what holds after each list of events at
@@ -66,10 +86,7 @@ pub fn sessions_keep_order()
     ensures no_frmr { Throughout NoSessionSendsFrmr }
     ensures whole { Throughout AllSessionsSendWhole }
 {
-    follows_the_window();
-    sets_up_by_rows();
-    notes_what_changes();
-    reads_what_is_spelled();
+    laws_below();
 }
 
 /// With the sessions forgotten, they are the two stations of `links_keep_order`: the same events do the same, and what is handed

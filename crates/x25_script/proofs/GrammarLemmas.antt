@@ -1,7 +1,6 @@
 -- A line is read exactly where it is spelled.
 use Rattle.std.proofs.Common.{ℕ, ◌==◌, ◌≤◌, ◌≡◌, ◌∙◌, inl, inr, List, ◌∷◌, ◌++◌, Option, Some, None, refl, ap, sym, subst, arith, append-nil}
-use Rattle.std.specs.Prelude.{cond, option_map, codes, decimal, nat_lt}
-use Rattle.std.specs.Str.{bytes_eq}
+use Rattle.std.specs.Prelude.{option_map, codes, decimal, nat_lt}
 use Rattle.std.proofs.lemmas.Bool.{eqb-false, ltb-true}
 use Rattle.std.proofs.lemmas.Option.{same_Some, none-some, cond_some}
 use Rattle.x25_bits.specs.declared.role.Role.{Role}
@@ -14,7 +13,7 @@ use Rattle.x25_script.specs.PlainLine.{PlainCommand, clear, reset, ready, not_re
 use Rattle.x25_script.specs.Spelling.{end_text, direction_text, q_text, address_text, IsNumber, AreParams, params_text, SpellsCommand, Spells}
 use Rattle.x25_script.specs.Reading.{parts_of, end_in, from_in, q_in, number_in, address_in, octets_in, verb_in, keyword_in, small_number_in, params_in, with_params_of, with_params_in, call_in, accept_in, send_in, interrupt_in, on_channel, with_fields, bare_command_in, command_of, command_in, lose_in, damage_in, drain_in, after, bare_line_in, line_of, line_in}
 use Rattle.x25_script.proofs.NumberLemmas.{number_found}
-use Rattle.x25_script.proofs.PartLemmas.{chosen, bind_found, bytes_same, parts_joined, end_found, from_found, q_found, address_found, octets_found}
+use Rattle.x25_script.proofs.PartLemmas.{chosen, bind_found, IsText, word_step, parts_joined, end_found, from_found, q_found, address_found, octets_found}
 
 -- ---- what is read is spelled so
 
@@ -38,31 +37,16 @@ keyword_text Lose = codes "lose"
 keyword_text Damage = codes "damage"
 keyword_text Drain = codes "drain"
 
--- this word, or what the other tests find
-verb_step : (text word : List ℕ) (this verb : Verb) (rest : Option Verb) → word ≡ verb_text this → cond (bytes_eq text word) (Some this) rest ≡ Some verb
-    → (rest ≡ Some verb → text ≡ verb_text verb) → text ≡ verb_text verb
-verb_step text word this verb rest is e others = elim (chosen (bytes_eq text word) _ _ _ e) [
-  | inl p ↦ bytes_same text word p.0 ∙ is ∙ ap verb_text (same_Some _ _ p.1)
-  | inr p ↦ others p.1
-]
-
 pub verb_found : (text : List ℕ) (verb : Verb) → verb_in text ≡ Some verb → text ≡ verb_text verb
 verb_found text verb e =
-    verb_step text (codes "call") Call verb _ refl e (λ e.
-    verb_step text (codes "accept") Accept verb _ refl e (λ e.
-    verb_step text (codes "clear") Clear verb _ refl e (λ e.
-    verb_step text (codes "send") Send verb _ refl e (λ e.
-    verb_step text (codes "int") Interrupt verb _ refl e (λ e.
-    verb_step text (codes "reset") Reset verb _ refl e (λ e.
-    verb_step text (codes "ready") Ready verb _ refl e (λ e.
-    verb_step text (codes "notready") NotReady verb _ refl e (λ e. absurd (none-some _ e)))))))))
-
-keyword_step : (text word : List ℕ) (this keyword : Keyword) (rest : Option Keyword) → word ≡ keyword_text this → cond (bytes_eq text word) (Some this) rest ≡ Some keyword
-    → (rest ≡ Some keyword → text ≡ keyword_text keyword) → text ≡ keyword_text keyword
-keyword_step text word this keyword rest is e others = elim (chosen (bytes_eq text word) _ _ _ e) [
-  | inl p ↦ bytes_same text word p.0 ∙ is ∙ ap keyword_text (same_Some _ _ p.1)
-  | inr p ↦ others p.1
-]
+    word_step (IsText verb_text) text (codes "call") Call verb _ refl e (λ e.
+    word_step (IsText verb_text) text (codes "accept") Accept verb _ refl e (λ e.
+    word_step (IsText verb_text) text (codes "clear") Clear verb _ refl e (λ e.
+    word_step (IsText verb_text) text (codes "send") Send verb _ refl e (λ e.
+    word_step (IsText verb_text) text (codes "int") Interrupt verb _ refl e (λ e.
+    word_step (IsText verb_text) text (codes "reset") Reset verb _ refl e (λ e.
+    word_step (IsText verb_text) text (codes "ready") Ready verb _ refl e (λ e.
+    word_step (IsText verb_text) text (codes "notready") NotReady verb _ refl e (λ e. absurd (none-some _ e)))))))))
 
 end_keyword : (text : List ℕ) (read : Option Role) (keyword : Keyword) → ((end : Role) → read ≡ Some end → text ≡ end_text end)
     → option_map (λ end. End end) read ≡ Some keyword → text ≡ keyword_text keyword
@@ -71,11 +55,11 @@ end_keyword text None keyword found e = absurd (none-some _ e)
 
 pub keyword_found : (text : List ℕ) (keyword : Keyword) → keyword_in text ≡ Some keyword → text ≡ keyword_text keyword
 keyword_found text keyword e =
-    keyword_step text (codes "t1") T1 keyword _ refl e (λ e.
-    keyword_step text (codes "deliver") Deliver keyword _ refl e (λ e.
-    keyword_step text (codes "lose") Lose keyword _ refl e (λ e.
-    keyword_step text (codes "damage") Damage keyword _ refl e (λ e.
-    keyword_step text (codes "drain") Drain keyword _ refl e (λ e.
+    word_step (IsText keyword_text) text (codes "t1") T1 keyword _ refl e (λ e.
+    word_step (IsText keyword_text) text (codes "deliver") Deliver keyword _ refl e (λ e.
+    word_step (IsText keyword_text) text (codes "lose") Lose keyword _ refl e (λ e.
+    word_step (IsText keyword_text) text (codes "damage") Damage keyword _ refl e (λ e.
+    word_step (IsText keyword_text) text (codes "drain") Drain keyword _ refl e (λ e.
     end_keyword text (end_in text) keyword (end_found text) e)))))
 
 -- a number that is read
@@ -83,8 +67,8 @@ pub number_spelled : (text : List ℕ) (n : ℕ) → number_in text ≡ Some n �
 number_spelled text n e = let found = number_found text n e in let small = found.0 in (omega (arith, small), found.1)
 
 -- two fields
-fields_two : (text a b c d : List ℕ) → text ≡ a ++ (32 ∷ b) → a ≡ c → b ≡ d → text ≡ c ++ (32 ∷ d)
-fields_two text a b c d e f g = e ∙ ap (λ x. x ++ (32 ∷ b)) f ∙ ap (λ x. c ++ (32 ∷ x)) g
+fields_two : (text first rest : List ℕ) (parts : List ℕ × List ℕ) → parts_of text ≡ Some parts → parts.0 ≡ first → parts.1 ≡ rest → text ≡ first ++ (32 ∷ rest)
+fields_two text first rest parts read one two = parts_joined text parts read ∙ ap (λ t. t ++ (32 ∷ parts.1)) one ∙ ap (λ t. first ++ (32 ∷ t)) two
 
 -- a number of 8 bits that is read
 small_spelled : (text : List ℕ) (n : ℕ) → small_number_in text ≡ Some n → (n ≤ 255) × (text ≡ decimal n)
@@ -109,9 +93,9 @@ params_found text p e =
     let two = small_spelled second.0.0 size_calling.0 size_calling.1 in
     let three = small_spelled third.0.0 win_called.0 win_called.1 in
     let four = small_spelled third.0.1 win_calling.0 win_calling.1 in
-    let windows = fields_two second.0.1 third.0.0 third.0.1 (decimal win_called.0) _ (parts_joined second.0.1 third.0 third.1) three.1 four.1 in
-    let rest = fields_two first.0.1 second.0.0 second.0.1 (decimal size_calling.0) _ (parts_joined first.0.1 second.0 second.1) two.1 windows in
-    let all = fields_two text first.0.0 first.0.1 (decimal size_called.0) _ (parts_joined text first.0 first.1) one.1 rest in
+    let windows = fields_two second.0.1 (decimal win_called.0) _ third.0 third.1 three.1 four.1 in
+    let rest = fields_two first.0.1 (decimal size_calling.0) _ second.0 second.1 two.1 windows in
+    let all = fields_two text (decimal size_called.0) _ first.0 first.1 one.1 rest in
     subst (λ (q : Params). AreParams (Some q) × (32 ∷ text ≡ params_text (Some q))) (same_Some _ _ win_calling.2)
     ((one.0, two.0, three.0, four.0), ap (λ t. 32 ∷ t) all)
 
@@ -141,8 +125,8 @@ call_found fields v e =
     let behind = with_params_found second.0.1 last.0 last.1 in
     let one = address_found first.0.0 called.0 called.1 in
     let two = address_found second.0.0 calling.0 calling.1 in
-    let rest = fields_two first.0.1 second.0.0 second.0.1 (address_text calling.0) _ (parts_joined first.0.1 second.0 second.1) two.1 behind.1 in
-    let all = fields_two fields first.0.0 first.0.1 (address_text called.0) _ (parts_joined fields first.0 first.1) one.1 rest in
+    let rest = fields_two first.0.1 (address_text calling.0) _ second.0 second.1 two.1 behind.1 in
+    let all = fields_two fields (address_text called.0) _ first.0 first.1 one.1 rest in
     subst (λ (w : PlainCommand). SpellsCommand w (codes "call " ++ fields)) (same_Some _ _ user.2)
     (one.0, two.0, behind.0, (last.0.0, octets_found last.0.0 user.0 user.1, ap (λ t. codes "call " ++ t) all))
 
@@ -167,8 +151,8 @@ send_found fields v e =
     let user = bind_found (octets_in second.0.1) _ v q.2 in
     let one = number_spelled first.0.0 channel.0 channel.1 in
     let two = q_found second.0.0 q.0 q.1 in
-    let rest = fields_two first.0.1 second.0.0 second.0.1 (q_text q.0) second.0.1 (parts_joined first.0.1 second.0 second.1) two refl in
-    let all = fields_two fields first.0.0 first.0.1 (decimal channel.0) _ (parts_joined fields first.0 first.1) one.1 rest in
+    let rest = fields_two first.0.1 (q_text q.0) second.0.1 second.0 second.1 two refl in
+    let all = fields_two fields (decimal channel.0) _ first.0 first.1 one.1 rest in
     subst (λ (w : PlainCommand). SpellsCommand w (codes "send " ++ fields)) (same_Some _ _ user.2)
     (one.0, (second.0.1, octets_found second.0.1 user.0 user.1, ap (λ t. codes "send " ++ t) all))
 
@@ -179,7 +163,7 @@ interrupt_found fields v e =
     let channel = bind_found (number_in parts.0.0) _ v parts.2 in
     let user = bind_found (octets_in parts.0.1) _ v channel.2 in
     let one = number_spelled parts.0.0 channel.0 channel.1 in
-    let all = fields_two fields parts.0.0 parts.0.1 (decimal channel.0) parts.0.1 (parts_joined fields parts.0 parts.1) one.1 refl in
+    let all = fields_two fields (decimal channel.0) parts.0.1 parts.0 parts.1 one.1 refl in
     subst (λ (w : PlainCommand). SpellsCommand w (codes "int " ++ fields)) (same_Some _ _ user.2)
     (one.0, (parts.0.1, octets_found parts.0.1 user.0 user.1, ap (λ t. codes "int " ++ t) all))
 
@@ -202,28 +186,19 @@ with_fields_found Reset fields v e = channel_found reset (codes "reset ") fields
 with_fields_found Ready fields v e = channel_found ready (codes "ready ") fields v e (λ n h. (h, refl))
 with_fields_found NotReady fields v e = channel_found not_ready (codes "notready ") fields v e (λ n h. (h, refl))
 
--- this word, or what the other tests find
-bare_step : (text word : List ℕ) (this v : PlainCommand) (rest : Option PlainCommand) → SpellsCommand this word → cond (bytes_eq text word) (Some this) rest ≡ Some v
-    → (rest ≡ Some v → SpellsCommand v text) → SpellsCommand v text
-bare_step text word this v rest spells e others = elim (chosen (bytes_eq text word) _ _ _ e) [
-  | inl p ↦ subst (λ (w : PlainCommand). SpellsCommand w text) (same_Some _ _ p.1)
-      (subst (λ (t : List ℕ). SpellsCommand this t) (sym (bytes_same text word p.0)) spells)
-  | inr p ↦ others p.1
-]
-
 bare_found : (text : List ℕ) (v : PlainCommand) → bare_command_in text ≡ Some v → SpellsCommand v text
 bare_found text v e =
-    bare_step text (codes "restart") restart v _ refl e (λ e.
-    bare_step text (codes "pull") pull v _ refl e (λ e.
-    bare_step text (codes "connect") connect v _ refl e (λ e.
-    bare_step text (codes "disconnect") disconnect v _ refl e (λ e. absurd (none-some _ e)))))
+    word_step SpellsCommand text (codes "restart") restart v _ refl e (λ e.
+    word_step SpellsCommand text (codes "pull") pull v _ refl e (λ e.
+    word_step SpellsCommand text (codes "connect") connect v _ refl e (λ e.
+    word_step SpellsCommand text (codes "disconnect") disconnect v _ refl e (λ e. absurd (none-some _ e)))))
 
 command_parts : (text : List ℕ) (parts : Option (List ℕ × List ℕ)) (v : PlainCommand) → parts_of text ≡ parts → command_of text parts ≡ Some v → SpellsCommand v text
 command_parts text None v same e = bare_found text v e
 command_parts text (Some parts) v same e =
     let verb = bind_found (verb_in parts.0) _ v e in
     let word = verb_found parts.0 verb.0 verb.1 in
-    subst (λ (t : List ℕ). SpellsCommand v t) (sym (fields_two text parts.0 parts.1 (verb_text verb.0) parts.1 (parts_joined text parts same) word refl))
+    subst (λ (t : List ℕ). SpellsCommand v t) (sym (fields_two text (verb_text verb.0) parts.1 parts same word refl))
     (with_fields_found verb.0 parts.1 v verb.2)
 
 pub command_found : (text : List ℕ) (v : PlainCommand) → command_in text ≡ Some v → SpellsCommand v text
@@ -237,7 +212,7 @@ lose_found fields v e =
     let from = bind_found (from_in parts.0.0) _ v parts.2 in
     let place = bind_found (number_in parts.0.1) _ v from.2 in
     let two = number_spelled parts.0.1 place.0 place.1 in
-    let all = fields_two fields parts.0.0 parts.0.1 (direction_text from.0) (decimal place.0) (parts_joined fields parts.0 parts.1) (from_found parts.0.0 from.0 from.1) two.1 in
+    let all = fields_two fields (direction_text from.0) (decimal place.0) parts.0 parts.1 (from_found parts.0.0 from.0 from.1) two.1 in
     subst (λ (w : PlainLine). Spells w (codes "lose " ++ fields)) (same_Some _ _ place.2) (two.0, ap (λ t. codes "lose " ++ t) all)
 
 damage_found : (fields : List ℕ) (v : PlainLine) → damage_in fields ≡ Some v → Spells v (codes "damage " ++ fields)
@@ -249,8 +224,8 @@ damage_found fields v e =
     let place = bind_found (number_in second.0.0) _ v from.2 in
     let octets = bind_found (octets_in second.0.1) _ v place.2 in
     let two = number_spelled second.0.0 place.0 place.1 in
-    let rest = fields_two first.0.1 second.0.0 second.0.1 (decimal place.0) second.0.1 (parts_joined first.0.1 second.0 second.1) two.1 refl in
-    let all = fields_two fields first.0.0 first.0.1 (direction_text from.0) _ (parts_joined fields first.0 first.1) (from_found first.0.0 from.0 from.1) rest in
+    let rest = fields_two first.0.1 (decimal place.0) second.0.1 second.0 second.1 two.1 refl in
+    let all = fields_two fields (direction_text from.0) _ first.0 first.1 (from_found first.0.0 from.0 from.1) rest in
     subst (λ (w : PlainLine). Spells w (codes "damage " ++ fields)) (same_Some _ _ octets.2)
     (two.0, (second.0.1, octets_found second.0.1 octets.0 octets.1, ap (λ t. codes "damage " ++ t) all))
 
@@ -282,16 +257,14 @@ after_found Damage fields v e = damage_found fields v e
 after_found Drain fields v e = drain_found fields v e
 
 bare_line_found : (text : List ℕ) (v : PlainLine) → bare_line_in text ≡ Some v → Spells v text
-bare_line_found text v e =
-    let test = cond_some (bytes_eq text (codes "heal")) heal v e in
-    subst (λ (w : PlainLine). Spells w text) test.1 (bytes_same text _ test.0)
+bare_line_found text v e = word_step Spells text (codes "heal") heal v _ refl e (λ e. absurd (none-some _ e))
 
 line_parts : (text : List ℕ) (parts : Option (List ℕ × List ℕ)) (v : PlainLine) → parts_of text ≡ parts → line_of text parts ≡ Some v → Spells v text
 line_parts text None v same e = bare_line_found text v e
 line_parts text (Some parts) v same e =
     let word = bind_found (keyword_in parts.0) _ v e in
     subst (λ (t : List ℕ). Spells v t)
-    (sym (fields_two text parts.0 parts.1 (keyword_text word.0) parts.1 (parts_joined text parts same) (keyword_found parts.0 word.0 word.1) refl))
+    (sym (fields_two text (keyword_text word.0) parts.1 parts same (keyword_found parts.0 word.0 word.1) refl))
     (after_found word.0 parts.1 v word.2)
 
 pub line_found : (text : List ℕ) (v : PlainLine) → line_in text ≡ Some v → Spells v text

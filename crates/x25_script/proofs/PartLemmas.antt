@@ -1,6 +1,6 @@
 -- Fields apart by a blank.
-use Rattle.std.proofs.Common.{ℕ, ◌==◌, ◌≡◌, ◌∙◌, ◌⊎◌, inl, inr, Bool, true, false, List, [], ◌∷◌, ◌++◌, length, Option, Some, None, Result, Ok, Err, refl, ap, sym, arith}
-use Rattle.std.specs.Prelude.{cond, not, option_map, option_and_then, ◌&&◌, codes, nat_eq}
+use Rattle.std.proofs.Common.{ℕ, ◌==◌, ◌≡◌, ◌∙◌, ◌⊎◌, inl, inr, Bool, true, false, List, [], ◌∷◌, ◌++◌, length, Option, Some, None, Result, Ok, Err, refl, ap, sym, subst, arith}
+use Rattle.std.specs.Prelude.{cond, not, option_map, option_and_then, ◌&&◌, if◌then◌else◌, codes, nat_eq}
 use Rattle.std.specs.Char.{is_ascii_digit, is_ascii_hexdigit}
 use Rattle.std.specs.List.{list_all}
 use Rattle.std.specs.Str.{bytes_eq}
@@ -35,6 +35,18 @@ map_found None f y e = absurd (none-some _ e)
 
 pub bytes_same : (a b : List ℕ) → bytes_eq a b ≡ true → a ≡ b
 bytes_same a b h = (bytes_eq-Decides a b).0 h
+
+-- what a text is read as, where each text has its own
+abbrev pub IsText : {A : Type 0} → (A → List ℕ) → A → List ℕ → Type 0
+IsText text_of read text = text ≡ text_of read
+
+-- this word, or what the other tests find
+pub word_step : {A : Type 0} (Spelled : A → List ℕ → Type 0) (text word : List ℕ) (this read : A) (rest : Option A) → Spelled this word → cond (bytes_eq text word) (Some this) rest ≡ Some read
+    → (rest ≡ Some read → Spelled read text) → Spelled read text
+word_step {A} Spelled text word this read rest spells e others = elim (chosen (bytes_eq text word) _ _ _ e) [
+  | inl p ↦ subst (λ (r : A). Spelled r text) (same_Some _ _ p.1) (subst (Spelled this) (sym (bytes_same text word p.0)) spells)
+  | inr p ↦ others p.1
+]
 
 -- ---- the first blank
 
@@ -73,27 +85,22 @@ whole_again (c ∷ text) h =
     ap (λ b. cond b (Some ([], text)) (option_map (onto_first c) (parts_of text))) (not_blank c parts.0)
     ∙ ap (option_map (onto_first c)) (whole_again text parts.1)
 
-digit_no_blank : (c : ℕ) → is_ascii_digit c ≡ true → no_blank c ≡ true
-digit_no_blank c h = grind (arith, nat_tests, h)
+-- a text of characters of a kind that holds no blank
+all_no_blank : (kind : ℕ → Bool) → ((c : ℕ) → kind c ≡ true → no_blank c ≡ true) → (text : List ℕ) → list_all kind text ≡ true → list_all no_blank text ≡ true
+all_no_blank kind each [] h = refl
+all_no_blank kind each (c ∷ text) h =
+    let parts = and_parts (kind c) (list_all kind text) h in
+    and_from _ _ (each c parts.0) (all_no_blank kind each text parts.1)
 
 pub digits_no_blank : (text : List ℕ) → list_all is_ascii_digit text ≡ true → list_all no_blank text ≡ true
-digits_no_blank [] h = refl
-digits_no_blank (c ∷ text) h =
-    let parts = and_parts (is_ascii_digit c) (list_all is_ascii_digit text) h in
-    and_from _ _ (digit_no_blank c parts.0) (digits_no_blank text parts.1)
+digits_no_blank text h = all_no_blank is_ascii_digit (λ c d. grind (arith, nat_tests, d)) text h
 
 pub address_no_blank : (digits : List ℕ) → IsAddress digits → list_all no_blank (address_text digits) ≡ true
 address_no_blank [] h = refl
 address_no_blank (c ∷ digits) h = digits_no_blank (c ∷ digits) h
 
-hex_no_blank : (c : ℕ) → is_ascii_hexdigit c ≡ true → no_blank c ≡ true
-hex_no_blank c h = grind (arith, nat_tests, h)
-
 hexes_no_blank : (text : List ℕ) → list_all is_ascii_hexdigit text ≡ true → list_all no_blank text ≡ true
-hexes_no_blank [] h = refl
-hexes_no_blank (c ∷ text) h =
-    let parts = and_parts (is_ascii_hexdigit c) (list_all is_ascii_hexdigit text) h in
-    and_from _ _ (hex_no_blank c parts.0) (hexes_no_blank text parts.1)
+hexes_no_blank text h = all_no_blank is_ascii_hexdigit (λ c d. grind (arith, nat_tests, d)) text h
 
 pub octets_no_blank : (text octets : List ℕ) → Writes text octets → list_all no_blank text ≡ true
 octets_no_blank text [] h = ap (list_all no_blank) h
@@ -102,43 +109,44 @@ octets_no_blank text (c ∷ octets) h = hexes_no_blank text (passes_digits text 
 -- ---- ends, directions, Q
 
 pub end_found : (text : List ℕ) (end : Role) → end_in text ≡ Some end → text ≡ end_text end
-end_found text end e = elim (chosen (bytes_eq text (codes "dte")) _ _ _ e) [
-  | inl p ↦ bytes_same text _ p.0 ∙ ap end_text (same_Some _ _ p.1)
-  | inr p ↦ elim (chosen (bytes_eq text (codes "dce")) _ _ _ p.1) [
-    | inl q ↦ bytes_same text _ q.0 ∙ ap end_text (same_Some _ _ q.1)
-    | inr q ↦ absurd (none-some _ q.1)
-  ]
-]
+end_found text end e =
+    word_step (IsText end_text) text (codes "dte") Dte end _ refl e (λ e.
+    word_step (IsText end_text) text (codes "dce") Dce end _ refl e (λ e. absurd (none-some _ e)))
 
 pub end_again : (end : Role) → end_in (end_text end) ≡ Some end
 end_again Dte = refl
 end_again Dce = refl
 
 pub from_found : (text : List ℕ) (from : Role) → from_in text ≡ Some from → text ≡ direction_text from
-from_found text from e = elim (chosen (bytes_eq text (codes ">")) _ _ _ e) [
-  | inl p ↦ bytes_same text _ p.0 ∙ ap direction_text (same_Some _ _ p.1)
-  | inr p ↦ elim (chosen (bytes_eq text (codes "<")) _ _ _ p.1) [
-    | inl q ↦ bytes_same text _ q.0 ∙ ap direction_text (same_Some _ _ q.1)
-    | inr q ↦ absurd (none-some _ q.1)
-  ]
-]
+from_found text from e =
+    word_step (IsText direction_text) text (codes ">") Dte from _ refl e (λ e.
+    word_step (IsText direction_text) text (codes "<") Dce from _ refl e (λ e. absurd (none-some _ e)))
 
 pub from_again : (from : Role) → from_in (direction_text from) ≡ Some from
 from_again Dte = refl
 from_again Dce = refl
 
 pub q_found : (text : List ℕ) (q : Bool) → q_in text ≡ Some q → text ≡ q_text q
-q_found text q e = elim (chosen (bytes_eq text (codes "0")) _ _ _ e) [
-  | inl p ↦ bytes_same text _ p.0 ∙ ap q_text (same_Some _ _ p.1)
-  | inr p ↦ elim (chosen (bytes_eq text (codes "1")) _ _ _ p.1) [
-    | inl r ↦ bytes_same text _ r.0 ∙ ap q_text (same_Some _ _ r.1)
-    | inr r ↦ absurd (none-some _ r.1)
-  ]
-]
+q_found text q e =
+    word_step (IsText q_text) text (codes "0") false q _ refl e (λ e.
+    word_step (IsText q_text) text (codes "1") true q _ refl e (λ e. absurd (none-some _ e)))
 
 pub q_again : (q : Bool) → q_in (q_text q) ≡ Some q
 q_again false = refl
 q_again true = refl
+
+-- ---- `-`, or something
+
+-- nothing is read of `-`, and of another text that isn't empty what the rest reads
+dash_or : (text read : List ℕ) (rest : Option (List ℕ)) → (if bytes_eq text (codes "-") then Some [] else if length text == 0 then None else rest) ≡ Some read
+    → ((text ≡ codes "-") × ([] ≡ read)) ⊎ (((length text == 0) ≡ false) × (rest ≡ Some read))
+dash_or text read rest e = elim (chosen (bytes_eq text (codes "-")) _ _ _ e) [
+  | inl p ↦ inl (bytes_same text _ p.0, same_Some _ _ p.1)
+  | inr p ↦ elim (chosen (length text == 0) _ _ _ p.1) [
+    | inl q ↦ absurd (none-some _ q.1)
+    | inr q ↦ inr q
+  ]
+]
 
 -- ---- addresses
 
@@ -147,14 +155,11 @@ some_digits [] h = absurd (cc)
 some_digits (c ∷ text) h = refl
 
 pub address_found : (text digits : List ℕ) → address_in text ≡ Some digits → IsAddress digits × (text ≡ address_text digits)
-address_found text digits e = elim (chosen (bytes_eq text (codes "-")) _ _ _ e) [
-  | inl p ↦ none text digits (bytes_same text _ p.0) (same_Some _ _ p.1)
-  | inr p ↦ elim (chosen (length text == 0) _ _ _ p.1) [
-    | inl q ↦ absurd (none-some _ q.1)
-    | inr q ↦ elim (chosen (list_all is_ascii_digit text) _ _ _ q.1) [
-      | inl r ↦ some text digits q.0 r.0 (same_Some _ _ r.1)
-      | inr r ↦ absurd (none-some _ r.1)
-    ]
+address_found text digits e = elim (dash_or text digits (digits_in text) e) [
+  | inl p ↦ none text digits p.0 p.1
+  | inr p ↦ elim (chosen (list_all is_ascii_digit text) _ _ _ p.1) [
+    | inl q ↦ some text digits p.0 q.0 (same_Some _ _ q.1)
+    | inr q ↦ absurd (none-some _ q.1)
   ]
 ]
   where
@@ -188,12 +193,9 @@ ok_of text octets e = go (decode_of text) e
     go (Err fault) e = absurd (none-some _ e)
 
 pub octets_found : (text octets : List ℕ) → octets_in text ≡ Some octets → Writes text octets
-octets_found text octets e = elim (chosen (bytes_eq text (codes "-")) _ _ _ e) [
-  | inl p ↦ none text octets (bytes_same text _ p.0) (same_Some _ _ p.1)
-  | inr p ↦ elim (chosen (length text == 0) _ _ _ p.1) [
-    | inl q ↦ absurd (none-some _ q.1)
-    | inr q ↦ some text octets (eqb-false (length text) 0 q.0) (ok_of text octets q.1)
-  ]
+octets_found text octets e = elim (dash_or text octets (octets_of text) e) [
+  | inl p ↦ none text octets p.0 p.1
+  | inr p ↦ some text octets (eqb-false (length text) 0 p.0) (ok_of text octets p.1)
 ]
   where
     none : (text octets : List ℕ) → text ≡ codes "-" → [] ≡ octets → Writes text octets

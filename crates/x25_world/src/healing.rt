@@ -7,6 +7,7 @@ ghost use Rattle.x25_world.specs.World.{event_of};
 ghost use Rattle.x25_world.specs.code.FitsWorld.{Gone, FitsWorld};
 ghost use Rattle.x25_world.specs.code.FitsHealing.{GoesBy, GoesPartly, HoldsHealed};
 ghost use Rattle.x25_world.specs.laws.SessionClaims.{Throughout, SessionsKeepOrder};
+ghost use Rattle.x25_world.specs.rows.WorldRows.{MoreArrives};
 ghost use Rattle.x25_world.specs.Healing.{RestShows, HealsWhereNonePut, HealsWithPuts, DrainsWhereNonePut, HealsFrom, ArrivesByHealing, HealingBringsAll, next_end, arrivals, most_deliveries, deliveries, if_accepted, both_tried, pull_round, most_rounds, pull_rounds, healing, received_in};
 
 use crate::error::WorldError;
@@ -35,7 +36,7 @@ const MOST_ROUNDS: u32 = 4_294_967_295;
 ///   out at each end where it runs. Then what is on the line comes, and users ask of the layers what they like, in any order, while the layers put what
 ///   they put; where octets come neither link is busy and no count of that station is at its most, and neither is busy at the end. Once nothing is on the
 ///   line both links are at rest, in the same sessions as before, and all that they were handed down in these, what was put since included, has been handed
-///   up.
+///   up. `worked` is such a moment: a message was lost, and one more is sent once T1 has run out.
 /// - `drains`: the world bounds how many deliveries follow one another, while the layers put nothing.
 ///
 /// Premises: k is 1 to 7, N2 1 to 255, channels 1 to 16, and the users hand down octets.
@@ -43,6 +44,7 @@ pub fn stations_heal()
     ensures rest { Throughout RestShows }
     ensures heals { Throughout HealsWhereNonePut }
     ensures heals_with_puts { Throughout HealsWithPuts }
+    ensures worked { MoreArrives }
     ensures drains { Throughout DrainsWhereNonePut }
 {
     laws_below();

@@ -20,9 +20,10 @@ use Rattle.x25_line.specs.Stations as one
 use Rattle.x25_line.specs.laws.StationClaims.{AreJoined}
 use Rattle.x25_line.specs.SessionNumbers.{Standing}
 use Rattle.x25_line.specs.Sessions.{Entry, Meeting, Sessions, sabm_in, ua_in, disc_in, how_many, begun_by, after_step}
+use Rattle.x25_line.specs.laws.LawsBelow.{Laws}
 use Rattle.x25_line.proofs.StationLines.{AreParting}
 use Rattle.x25_line.proofs.StationSteps.{AsUp, Leads, not_both, ends_joint}
-use Rattle.x25_line.proofs.StationRuns.{Laws, put_up, timer_by}
+use Rattle.x25_line.proofs.StationRuns.{put_up, timer_by}
 use Rattle.x25_line.proofs.StationClaimLemmas.{up_of}
 use Rattle.x25_line.proofs.sessions.SessionLines.{count}
 use Rattle.x25_line.proofs.sessions.SessionHeld.{OwesAfter, View, Live, Soon, Gone, IsView, IsHeard, Comes, Owes, Held, near_high}

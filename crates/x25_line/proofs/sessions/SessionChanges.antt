@@ -16,8 +16,9 @@ use Rattle.x25_line.specs.WholeNumbers.{given, behind, taken_out, counted}
 use Rattle.x25_line.specs.Sessions.{Entry, Sessions, ua_in, how_many, replaced}
 use Rattle.x25_line.specs.laws.SessionClaims.{octets_of}
 use Rattle.x25_line.specs.SessionNumbers.{Standing, by_answers, place_to_hear, standing_after}
+use Rattle.x25_line.specs.laws.LawsBelow.{Laws}
 use Rattle.x25_line.proofs.StationSteps.{Joint, Leads, counted_fits, nothing_put, stands_still, not_both}
-use Rattle.x25_line.proofs.StationRuns.{Laws, taken_off}
+use Rattle.x25_line.proofs.StationRuns.{taken_off}
 use Rattle.x25_line.proofs.sessions.SessionLines.{of_ua, numbers, carried, carried_numbers, carried_orderly, Change, nothing, lost, damaged, further, removes, replaces, change_many, change_of, change_place, place_removes, place_replaces, change_behind_ua, behind_removes, behind_replaces, change_shows}
 use Rattle.x25_line.proofs.sessions.SessionHeld.{View, Live, Soon, Gone, IsView, IsHeard, Comes, AfterUa, choose, Owes, line_changed, Held, counted_view, with_machine, standing_after_is}
 

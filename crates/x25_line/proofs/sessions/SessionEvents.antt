@@ -19,6 +19,7 @@ use Rattle.x25_line.specs.Sessions.{Entry, SessionEnd, Meeting, Sessions, turned
 use Rattle.x25_line.specs.SessionNumbers.{Standing}
 use Rattle.x25_line.specs.laws.SessionClaims.{Throughout, AllOf}
 use Rattle.x25_line.specs.SessionEvents.{NextBegins, GoesOn, HandsInSession, EachEventHandsInSession, latest, BeginsAfresh, MeetsNone, MeetsOne, EachEventMeetsLatest}
+use Rattle.x25_line.specs.laws.LawsBelow.{SessionLaws}
 use Rattle.x25_line.proofs.StationSteps.{not_both}
 use Rattle.x25_line.proofs.StationEvents.{timer_packet, timer_up}
 use Rattle.x25_line.proofs.sessions.SessionLines.{Read, none_is_some}
@@ -27,7 +28,7 @@ use Rattle.x25_line.proofs.sessions.SessionSteps.{end_after, nothing_handed}
 use Rattle.x25_line.proofs.sessions.SessionUp.{follows_no_packet}
 use Rattle.x25_line.proofs.sessions.SessionActs.{in_session}
 use Rattle.x25_line.proofs.sessions.SessionTakes.{heard_out, read_of}
-use Rattle.x25_line.proofs.sessions.SessionRuns.{SessionLaws, held_swapped, throughout}
+use Rattle.x25_line.proofs.sessions.SessionRuns.{held_swapped, throughout}
 use Rattle.x25_line.proofs.sessions.SessionLatest.{hears_latest}
 
 -- ---- a step

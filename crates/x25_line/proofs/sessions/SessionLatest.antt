@@ -10,12 +10,13 @@ use Rattle.x25_link.specs.Steps.{is_idle}
 use Rattle.x25_line.specs.Sessions.{Entry, SessionEnd, Meeting, Sessions, turned, swapped, run}
 use Rattle.x25_line.specs.SessionNumbers.{Standing}
 use Rattle.x25_line.specs.laws.SessionClaims.{Throughout, AllOf, AllMet, SomeMet, EachHearsLatest, EachMeetsLatest, IdleHasArrived}
+use Rattle.x25_line.specs.laws.LawsBelow.{SessionLaws}
 use Rattle.x25_line.proofs.StationSteps.{not_both}
 use Rattle.x25_line.proofs.StationClaimLemmas.{holds_order}
 use Rattle.x25_line.proofs.sessions.SessionLines.{AllBegun}
 use Rattle.x25_line.proofs.sessions.SessionHeld.{View, Live, Soon, Gone, IsView, IsPaired, IsBegun, Held, far_high}
 use Rattle.x25_line.proofs.sessions.SessionActs.{in_session}
-use Rattle.x25_line.proofs.sessions.SessionRuns.{SessionLaws, far_turned, held_swapped, throughout}
+use Rattle.x25_line.proofs.sessions.SessionRuns.{far_turned, held_swapped, throughout}
 
 -- ---- what an end hears
 

@@ -10,7 +10,6 @@ use Rattle.x25_link.specs.declared.error.LinkError.{LinkError}
 use Rattle.x25_link.specs.declared.error.LinkError.TheVariants as error
 use Rattle.x25_link.specs.declared.phase.Phase.{Phase}
 use Rattle.x25_link.specs.declared.phase.Phase.TheVariants.{Down, Waiting, Up, Closed}
-use Rattle.x25_link.specs.laws.NoteLaw.{TakeContinues}
 use Rattle.x25_link.specs.LinkStation.{Settings, LinkStation, is_up}
 use Rattle.x25_link.specs.MustSend.{Step, other}
 use Rattle.x25_link.specs.Steps.{take_step, put_step, put_refusal, timer_step, timer_refusal, timer_runs, connect_step, connect_refusal, disconnect_step, disconnect_refusal, abandon_step}
@@ -20,9 +19,10 @@ use Rattle.x25_line.specs.laws.StationClaims.{AreJoined, AreWhole, number_in}
 use Rattle.x25_line.specs.Sessions.{Entry, SessionEnd, Meeting, Sessions, turned, swapped, begun_by, sent_in, after_step, unless, heard, delivered, replaced, acts, happens, run, from_nothing, from_set_up, IsTimely, IsTimelyAt, AreTimely}
 use Rattle.x25_line.specs.SessionNumbers.{Standing, turned as other_way, is_set_up, front_sets_up, anew, place_to_hear, gone_at, standing_after, same_two, standing_acts, standing_happens, standing_run, standing_at, StandsWith, EachUpStandsWith, StandingGoesAlong}
 use Rattle.x25_line.specs.laws.SessionClaims.{Throughout, octets_of, AllOf, AllMet, SomeMet, IsAbove, InStep, IsInOrder, MeetInStep, MetAreInOrder, UnmetHandNothingUp, OnlyBegunHaveLists, IsSession, Stands, EachUpStands, NoSessionSendsFrmr, AllSessionsSendWhole}
+use Rattle.x25_line.specs.laws.LawsBelow.{SessionLaws}
 use Rattle.x25_line.proofs.StationSteps.{Holds}
 use Rattle.x25_line.proofs.StationAway.{connects_from}
-use Rattle.x25_line.proofs.StationRuns.{Laws, joined_swapped, joint_swapped, start_machine}
+use Rattle.x25_line.proofs.StationRuns.{joined_swapped, joint_swapped, start_machine}
 use Rattle.x25_line.proofs.StationClaimLemmas.{is_behind, holds_order, holds_lists, holds_window, holds_whole}
 use Rattle.x25_line.proofs.sessions.SessionLines.{octets_sent, removes, replaces}
 use Rattle.x25_line.proofs.sessions.SessionHeld.{Live, Gone, OnLine, IsPaired, IsBegun, Held, counted_view, stays_on, up_begun}
@@ -78,11 +78,6 @@ put_accepted s accepted = go (is_up s.phase) _ accepted
       where
         never : Some error.NotUp ≡ None → ⊥
         never k = cc
-
--- the laws of a station that a run rests on
-pub record SessionLaws : Type 0 where
-  pub laws : Laws
-  pub continues : TakeContinues
 
 module _ (c d : Settings) (joined : AreJoined c d) (reads : ReadsSpelled) (rests_on : SessionLaws) where
   -- what stands once the front is taken off the line

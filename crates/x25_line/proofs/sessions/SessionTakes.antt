@@ -19,10 +19,11 @@ use Rattle.x25_line.specs.WholeNumbers.{first_of, taken_out}
 use Rattle.x25_line.specs.laws.SessionClaims.{octets_of}
 use Rattle.x25_line.specs.SessionNumbers.{Standing, is_sabm, is_set_up, anew, place_to_hear}
 use Rattle.x25_line.specs.Sessions.{Entry, Meeting, Sessions, sabm_in, ua_in, disc_in, how_many, begun_by, after_step, heard}
+use Rattle.x25_line.specs.laws.LawsBelow.{Laws}
 use Rattle.x25_line.proofs.StationLines.{IsOrderly, orderly_where, consed, AreParting}
 use Rattle.x25_line.proofs.StationSteps.{Leads, not_both, read_joint, declining_parting}
 use Rattle.x25_line.proofs.StationAway.{closed_takes, waits_on, waiting_parting}
-use Rattle.x25_line.proofs.StationRuns.{Laws, orderly_sets_up}
+use Rattle.x25_line.proofs.StationRuns.{orderly_sets_up}
 use Rattle.x25_line.proofs.sessions.SessionLines.{Read, IsKind, of_sabm, of_ua, of_disc, none_is_some, dm_kind, count, numbers, quiet_of, carried, carried_numbers, carried_orderly, lost}
 use Rattle.x25_line.proofs.sessions.SessionHeld.{OwesAfter, View, Live, Soon, Gone, IsView, IsHeard, Comes, AfterUa, Owes, owes_less, owes_none, OnLine, line_changed, Held, near_high, front_answers, front_passes, after_quiet}
 use Rattle.x25_line.proofs.sessions.SessionSteps.{end_after, stepped, went_by, Answers, apart_held}

@@ -1,5 +1,5 @@
 -- The worked rows, by computing.
-use Rattle.std.proofs.Common.{refl}
+use Rattle.std.proofs.Common.{refl, arith}
 use Rattle.x25_bits.specs.Fcs.{fcs_of, number_of, low_bits, add, divisor, divided}
 use Rattle.x25_bits.specs.Sealed.{is_sealed}
 use Rattle.x25_frame.specs.Reading.{frame_of}
@@ -7,7 +7,7 @@ use Rattle.x25_link.specs.LinkStation.{pumped}
 use Rattle.x25_packet.specs.Digits.{packed, halves_of}
 use Rattle.x25_packet.specs.Facilities.{facilities_of}
 use Rattle.x25_packet.specs.Reading.{packet_of}
-use Rattle.x25_world.specs.rows.WorldRows.{SetsUp, MessageArrives, LostArrives, DamagedArrives, DisconnectEndsBoth, ConnectSetsUp, ConnectGoesAgain, SecondMeetsFirst, SecondMeet, TimerWaits, IsRefused}
+use Rattle.x25_world.specs.rows.WorldRows.{SetsUp, MessageArrives, LostArrives, DamagedArrives, MoreArrives, DisconnectEndsBoth, ConnectSetsUp, ConnectGoesAgain, SecondMeetsFirst, SecondMeet, TimerWaits, IsRefused}
 
 pub sets_up : SetsUp
 unfolding pumped frame_of packet_of is_sealed fcs_of number_of low_bits add divisor divided
@@ -24,6 +24,21 @@ lost_arrives = (refl, refl, refl, refl)
 pub damaged_arrives : DamagedArrives
 unfolding pumped frame_of packed halves_of facilities_of packet_of is_sealed fcs_of number_of low_bits add divisor divided
 damaged_arrives = (refl, refl, refl, refl)
+
+pub more_arrives : MoreArrives
+unfolding pumped frame_of packed halves_of facilities_of packet_of is_sealed fcs_of number_of low_bits add divisor divided
+more_arrives = (
+  record {
+    drained = record { out = refl; back = refl };
+    near = record { up = refl; free = refl; tries = λ _. omega arith };
+    far = record { up = refl; free = refl; tries = λ _. omega arith };
+  },
+  (tt, (tt, (tt, (tt, (tt, (tt, (tt, (tt, (tt, (tt, (tt, tt))))))))))),
+  (
+    (tt, ((refl, (refl, refl)), ((refl, (refl, refl)), ((refl, (refl, refl)), ((refl, (refl, refl)), ((refl, (refl, refl)), ((refl, (refl, refl)), ((refl, (refl, refl)), ((refl, (refl, refl)), ((refl, (refl, refl)), ((refl, (refl, refl)), (refl, refl)))))))))))),
+    (record { out = refl; back = refl }, refl),
+  ),
+)
 
 pub disconnect_ends_both : DisconnectEndsBoth
 unfolding pumped frame_of packed halves_of facilities_of packet_of is_sealed fcs_of number_of low_bits add divisor divided

@@ -18,6 +18,7 @@ use Rattle.x25_station.specs.Told.{is_idle, stretch}
 use Rattle.x25_world.specs.declared.error.WorldError.TheVariants as error
 use Rattle.x25_world.specs.World.{AtEnd, World, Act, Commands, Receives, Fires, Loses, Damages, Event, happens, refusal_of, run, start, established}
 use Rattle.x25_world.specs.laws.Claims.{handed_at}
+use Rattle.x25_world.specs.Healing.{IsDrained, firing, AreReceiptsAndRequests, FreeThroughout, BothMayHeal}
 use Rattle.x25_world.specs.Sessions.{session_at, meets}
 
 abbrev pub two_channels : Cfg
@@ -68,6 +69,21 @@ LostArrives = HasArrived (run two_channels (sends_hi ∷ event Dce (Loses 0) ∷
 
 abbrev pub DamagedArrives : Type 0
 DamagedArrives = HasArrived (run two_channels (sends_hi ∷ event Dce (Damages 0 (1 ∷ 2 ∷ 3 ∷ 4 ∷ [])) ∷ event Dte Fires ∷ delivers 4) called)
+
+-- Its frame is lost, and timer T1 runs out. One more is sent, which waits; then the poll comes, its answer, and both messages, behind each of which the
+-- layer of the DCE puts a packet.
+abbrev pub hi_lost : World
+hi_lost = run two_channels (sends_hi ∷ event Dce (Loses 0) ∷ []) called
+
+abbrev pub sends_more : List Event
+sends_more = asks Dte (Asks 2 (Sends false (codes "ho"))) ∷ delivers 4 ++ event Dte Receives ∷ event Dce Receives ∷ []
+
+-- it is a moment in which both may heal; no end is busy behind the firings, and both messages have been handed up
+abbrev pub MoreArrives : Type 0
+MoreArrives =
+    BothMayHeal two_channels hi_lost × AreReceiptsAndRequests sends_more
+    × (let fired = run two_channels (firing Dte ∷ firing Dce ∷ []) hi_lost in FreeThroughout two_channels sends_more fired
+    × (let u = run two_channels sends_more fired in IsDrained u × ((messages_in (under 2 first_stretch (handed_at Dce u))).up ≡ record { q = false; user = codes "hi" } ∷ record { q = false; user = codes "ho" } ∷ [])))
 
 -- ---- `disconnect`: the link goes down at both ends, at the DCE behind the RESTART that came before
 

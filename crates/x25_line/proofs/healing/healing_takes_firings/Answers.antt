@@ -5,4 +5,12 @@ use Rattle.x25_line.proofs.healing.healing_takes_firings.Goals as goal
 pub returns : goal.returns
 returns c =
     let reads = c.reads_what_is_spelled.ensures.reads in
-    record { none = no_firing_is_too_few; one = one_firing_is_too_few reads; last = no_tries_are_left; alone = firings_alone_end; gone = put_to_gone_stays reads; busy = both_busy_stay reads; busy_reached = both_busy_is_reached }
+    record {
+      none = no_firing_is_too_few;
+      one = one_firing_is_too_few reads;
+      last = no_tries_are_left;
+      alone = firings_alone_end;
+      gone = put_to_gone_stays reads;
+      busy = both_busy_stay reads;
+      busy_reached = both_busy_is_reached;
+    }

@@ -1,5 +1,3 @@
-use Rattle.x25_line.proofs.HealingSteps.{HealingLaws}
-use Rattle.x25_link.specs.laws.BusyLaw.{BusyLaws}
 use Rattle.x25_line.proofs.BusyRuns.{one_busy_heals, some_busy_heal, heals_unless_both_busy}
 use Rattle.x25_line.proofs.BusySessions.{sessions_heal_busy, sessions_heal_unless_both_busy}
 use Rattle.x25_line.proofs.rows.HealingRowLemmas.{one_busy_is_reached}
@@ -7,32 +5,12 @@ use Rattle.x25_line.proofs.healing.one_busy_heals.Goals as goal
 
 pub returns : goal.returns
 returns c =
-    let reads = c.reads_what_is_spelled.ensures.reads in
-    let law = c.follows_the_window.ensures in
-    let rows = c.sets_up_by_rows.ensures in
-    let notes = c.notes_what_changes.ensures in
-    let rest = c.comes_to_rest.ensures in
-    let answer = c.asks_and_answers.ensures in
-    let laws : HealingLaws = record {
-      laws = record {
-        window = record { take = law.take; put = law.put; timer = law.timer; disconnect = law.disconnect; abandon = law.abandon; take_out = law.take_out; disconnect_out = law.disconnect_out };
-        set_up = record { waits = rows.waits; sets_up = rows.sets_up; connects = rows.connects; timer = rows.timer; disconnects = rows.disconnects };
-        take_tells = notes.take;
-        timer_tells = notes.timer;
-        disconnect_tells = notes.disconnect;
-        abandon_tells = notes.abandon;
-      };
-      continues = notes.take_continues;
-      rest = record { take = rest.take; put = rest.put; timer = rest.timer; connect = rest.connect; disconnect = rest.disconnect; abandon = rest.abandon; no_timer = rest.no_timer; all_heard = rest.all_heard; only_then = rest.only_then };
-      answers = record { timer = answer.timer; poll = answer.poll; recovery = answer.recovery; ready = answer.ready; rej = answer.rej; wanted = answer.wanted; other = answer.other; out = answer.out; dm = answer.dm };
-    } in
-    let busy = c.tells_whether_busy.ensures in
-    let busy_laws : BusyLaws = record { take = busy.take; put = busy.put; timer = busy.timer } in
+    let below = c.laws_below.ensures in
     record {
-      at_once = one_busy_heals reads laws busy_laws;
-      some = some_busy_heal reads laws busy_laws;
-      whatever = heals_unless_both_busy reads laws busy_laws;
-      sessions = sessions_heal_busy reads laws busy_laws;
-      each_session = sessions_heal_unless_both_busy reads laws busy_laws;
+      at_once = one_busy_heals below.reads below.healing below.busy;
+      some = some_busy_heal below.reads below.healing below.busy;
+      whatever = heals_unless_both_busy below.reads below.healing below.busy;
+      sessions = sessions_heal_busy below.reads below.healing below.busy;
+      each_session = sessions_heal_unless_both_busy below.reads below.healing below.busy;
       reached = one_busy_is_reached;
     }
