@@ -7,7 +7,7 @@ ghost use Rattle.x25_judge.specs.code.Stream.{WritesEnded};
 
 use crate::answerer::Answerer;
 use std::alloc::Global;
-use x25_io::{Fault, PIECE, Sink, Source, take_text};
+use x25_io::{Fault, HeldLine, LineByLine, PIECE, Sink, Source, take_text};
 
 /// Answers each line of a trace that the reader gives by the line of `decode`, and behind it, where the frame breaks a rule of the link
 /// layer, or its packet one of the packet layer, by the end that sent it and the rule. It answers the status: 1 where a rule was broken
@@ -47,6 +47,8 @@ pub fn judge_lines<R: Source, W: Sink>(
     ensures write { IsErrOf result Fault.Write → W.is_marked writer.new ≡ true }
 {
     let mut piece = vec![in alloc; 0u8; PIECE]?;
+    let held = HeldLine::new(alloc)?;
     let answerer = Answerer::new(alloc, window, long)?;
-    take_text(answerer, piece.as_mut_slice(), reader, writer)
+    let lines = LineByLine::new(held, answerer);
+    take_text(lines, piece.as_mut_slice(), reader, writer)
 }
