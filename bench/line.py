@@ -9,36 +9,13 @@ given. The speeds are in processor time, of the content for `put_octets`, else o
 """
 import os
 import resource
-import shutil
 import subprocess
 import sys
 
-top = os.path.dirname(os.path.dirname(os.path.abspath(__file__)))
-source = os.path.abspath(sys.argv[1]) if len(sys.argv) > 1 else top
-folder = os.path.join(top, "build", "line-" + os.path.basename(source))
-program = os.path.join(folder, "crates", "line", "out", "line")
+from building import TOP, built
+
+source = os.path.abspath(sys.argv[1]) if len(sys.argv) > 1 else TOP
 CONTENT = 1_030_000
-
-
-def build():
-    """A repository of `x25_bits` and the program."""
-    with open(os.path.join(source, "crates.txt")) as lines:
-        kept = [line for line in lines if line.split(":")[0] == "x25_bits"]
-    os.makedirs(os.path.join(folder, "crates", "line", "src"), exist_ok=True)
-    subprocess.run(["git", "init", "-q", "."], cwd=folder, check=True)
-    with open(os.path.join(folder, "crates.txt"), "w") as out:
-        out.writelines(kept + ["line: x25_bits\n"])
-    shutil.copy(os.path.join(top, "HANDLES"), folder)
-    for part in ("src", "specs", "proofs", "out"):
-        here = os.path.join(source, "crates", "x25_bits", part)
-        there = os.path.join(folder, "crates", "x25_bits", part)
-        shutil.rmtree(there, ignore_errors=True)
-        if os.path.isdir(here):
-            shutil.copytree(here, there)
-    # Its name ends in .txt, since the gate refuses Rattle files outside of the crates.
-    main = os.path.join(top, "bench", "line.rt.txt")
-    shutil.copy(main, os.path.join(folder, "crates", "line", "src", "main.rt"))
-    subprocess.run(["rt", "run", "--", "next", "flags", "0", "0"], cwd=os.path.join(folder, "crates", "line"), check=True)
 
 
 def seconds(call, kind, number, rounds):
@@ -62,7 +39,7 @@ def speed(call, kind, number):
     return size * rounds / max(taken - started, 1e-9) / 1e6, (count - octets) // rounds
 
 
-build()
+program = built("line", "line.rt.txt", "x25_bits", ["next", "flags", "0", "0"], source)
 for kind, numbers in (("random", (4, 130, 1030)), ("text", (4, 130, 1030)), ("flags", range(8)), ("ones", (0,))):
     for number in numbers:
         what = {"flags": f"flags {number} bits on", "ones": "1 bits"}.get(kind, f"frames of {number} {kind} octets")

@@ -1,6 +1,7 @@
 """Runs a program and says what it used: processor time, time on the clock and peak memory; or how often it takes memory."""
 import os
 import re
+import shutil
 import subprocess
 import sys
 import time
@@ -39,3 +40,24 @@ def allocations(words, given=b"", statuses=(0,)):
     if done.returncode not in statuses:
         sys.exit(f"{words[0]} ended with status {done.returncode}")
     return int(re.search(rb"total heap usage: ([\d,]+) allocs", done.stderr).group(1).replace(b",", b""))
+
+
+def instructions(words):
+    """How many instructions a run of the words takes, by callgrind."""
+    done = subprocess.run(["valgrind", "--tool=callgrind", "--callgrind-out-file=/dev/null", *words],
+                          stdout=subprocess.DEVNULL, stderr=subprocess.PIPE, check=True)
+    return int(re.search(rb"Collected : (\d+)", done.stderr).group(1))
+
+
+def rates(program, thing, count):
+    """Runs a program that is given a count and a length, and says how many things go through in a second, and what each takes."""
+    for length in (3, 128, 1024):
+        start = time.perf_counter()
+        subprocess.run([program, str(count), str(length)], stdout=subprocess.DEVNULL, check=True)
+        seconds = time.perf_counter() - start
+        line = f"{thing}s of {length} octets: {count / seconds:,.0f} a second"
+        if shutil.which("valgrind"):
+            few, many = ([program, str(things), str(length)] for things in (1000, 2000))
+            line += f", {(allocations(many) - allocations(few)) / 1000:.1f} allocations"
+            line += f" and {(instructions(many) - instructions(few)) / 1000:,.0f} instructions a {thing}"
+        print(line)

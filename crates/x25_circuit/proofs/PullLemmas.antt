@@ -1,5 +1,5 @@
 -- The next data packet of a circuit.
-use Rattle.std.proofs.Common.{◌≡◌, ◌≢◌, ℕ, ◌+◌, ◌%◌, Bool, true, false, ◌&&◌, nat_lt, List, [], ◌∷◌, length, Option, Some, None, IfSome, IfNone, inl, inr, refl, sym, ap, subst, ◌∙◌}
+use Rattle.std.proofs.Common.{arith, ◌≡◌, ◌≢◌, ℕ, ◌+◌, ◌%◌, Bool, true, false, ◌&&◌, nat_lt, List, [], ◌∷◌, length, Option, Some, None, IfSome, IfNone, inl, inr, refl, sym, ap, subst, ◌∙◌}
 use Rattle.x25_packet.specs.PlainPacket.{user_data}
 use Rattle.x25_circuit.specs.declared.circuit.Circuit as code
 use Rattle.x25_circuit.specs.declared.state.State.{State}
@@ -7,7 +7,9 @@ use Rattle.x25_circuit.specs.declared.state.State.TheVariants.{Free, Calling, Ar
 use Rattle.x25_circuit.specs.declared.terms.Terms.{Terms}
 use Rattle.x25_circuit.specs.declared.transfer.Transfer.{Transfer}
 use Rattle.x25_circuit.specs.declared.transfer.Header.{Header}
-use Rattle.x25_circuit.specs.Messages.{Piece, piece_of}
+use Rattle.x25_circuit.specs.declared.message.Message.{Message}
+use Rattle.x25_circuit.specs.Messages.{Piece, piece_of, cut_all}
+use Rattle.x25_circuit.specs.Queue.{waiting}
 use Rattle.x25_circuit.specs.Circuit.{Settings, Circuit, outgoing}
 use Rattle.x25_circuit.specs.code.Changes.{with_sent}
 use Rattle.x25_circuit.specs.Calls.{Pulled, pulled, pull_in, pull_open, pulls_nothing, data_packet}
@@ -24,6 +26,23 @@ pulls_closed c x Collision h = refl
 pulls_closed c x Open h = absurd (h refl)
 pulls_closed c x Resetting h = refl
 pulls_closed c x Clearing h = refl
+
+-- where no message waits
+pulls_none : (c : Settings) (x : Circuit) (s : State) → x.talk.rest ≡ [] → pull_in c x s ≡ pulls_nothing x
+pulls_none c x Free e = refl
+pulls_none c x Calling e = refl
+pulls_none c x Arriving e = refl
+pulls_none c x Collision e = refl
+pulls_none c x Open e = ap (λ (ps : List Piece). pull_open c x x.talk ps) e
+pulls_none c x Resetting e = refl
+pulls_none c x Clearing e = refl
+
+nothing_waits : (messages : List Message) → length messages ≡ 0 → messages ≡ []
+nothing_waits [] e = refl
+nothing_waits (m ∷ messages) e = absurd (omega arith)
+
+pub pulls_empty : (c : Settings) (v : code.Circuit) (x : Circuit) → FitsCircuit c v x → length (waiting v.transfer.queue) ≡ 0 → pulled c x ≡ pulls_nothing x
+pulls_empty c v x fits none = pulls_none c x x.state (fits.talk.rest ∙ ap (cut_all (outgoing x).size) (nothing_waits _ none))
 
 -- the circuit after a packet was sent, and the packet
 abbrev sent_on : Circuit → Piece → List Piece → Pulled

@@ -60,6 +60,9 @@ impl Circuit {
         ensures short { IfSome result (λ header. length self.new.transfer.queue.cutter.lent ≤ 4096) }
         ensures room { room_of self.old ≤ room_of self.new }
     {
+        if self.transfer.queue.len() == 0 {
+            return None;
+        }
         match self.state {
             State::Open => {
                 let terms = self.outgoing();
