@@ -24,8 +24,9 @@ back. The bridge ends when the commands have, nothing is left to do, and no fram
 only when the line does.
 
 --lose and --damage try a line: each frame that goes or comes is lost, or damaged so that its frame check sequence shows it, with
-that probability; without frame check sequence a damaged frame can't be sent, and is lost. --short-accept reads a CALL ACCEPTED
-with both of its lengths, 0, as the same without them, which is all that `x25` takes; Linux writes it so.
+that probability; without frame check sequence a damaged frame can't be sent, and is lost. With --heal the line is good once no
+command is left: what was sent arrives then, as long as T1 has tries left, which --n2 gives. --short-accept reads a CALL ACCEPTED with
+both of its lengths, 0, as the same without them, which is all that `x25` takes; Linux writes it so.
 
 Exit status: 0; 1 where a command was refused, or the line ended before all was done; 2 for bad words, a line that asks for nothing
 that a station does, or anything else that stops the bridge, which standard error names.
@@ -225,7 +226,7 @@ class Bridge:
         """A frame came over the line."""
         self._last_frame = time.monotonic()
         self.counts["came"] += 1
-        octets = self._coming.happen(octets)
+        octets = self._befallen(octets, self._coming)
         if octets is None:
             return
         self._note(OTHER[self._direction], octets)
@@ -279,9 +280,13 @@ class Bridge:
         self._last_frame = time.monotonic()
         self.counts["sent"] += 1
         self._note(self._direction, octets)
-        octets = self._going.happen(octets)
+        octets = self._befallen(octets, self._going)
         if octets is not None and (self._wire.has_fcs or x25lines.is_sealed(octets)):
             self._wire.send(octets)
+
+    def _befallen(self, octets, mishaps):
+        """What comes of a frame; with --heal nothing happens to it any more once no command is left."""
+        return octets if self._options.heal and self._user.has_done() else mishaps.happen(octets)
 
     def _note(self, direction, octets):
         """Writes a frame to the trace: what the station sent, and what came over the line, before --short-accept."""
@@ -339,6 +344,7 @@ def add_line_words(parser):
     line.add_argument("--udp", type=ports, metavar="LOCAL:REMOTE", help="lapbether in datagrams between two ports")
     parser.add_argument("--lose", type=within(float, 0, 1), default=0, metavar="P", help="the probability that a frame is lost (0)")
     parser.add_argument("--damage", type=within(float, 0, 1), default=0, metavar="P", help="the probability that it is damaged (0)")
+    parser.add_argument("--heal", action="store_true", help="lose and damage nothing any more once no command is left")
     parser.add_argument("--seed", type=within(int, 0, 2**63), default=1, metavar="N", help="what these chances come from (1)")
     parser.add_argument("--short-accept", action="store_true", help="take a CALL ACCEPTED that has both lengths, 0")
 

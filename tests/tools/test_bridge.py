@@ -282,6 +282,15 @@ class Joined(ToolCase):
         self.assertEqual(self.end()[0], 0)
         self.assertEqual([event for _, event in self.asked()], ["dte connect"])
 
+    def test_losses_that_heal(self):
+        answers = f". off busy\n= dte connect\n{SABM}\n. start busy\n= t1 dte\n{SABM}\n. start busy\n= {UA}\ndte linkup\n. off idle\n"
+        self.begin(answers, "--lose", "1", "--heal", "--t1", "2", "--stats", user=b"dte connect\n")
+        self.assertEqual(self.gets(), SABM)
+        self.sends(UA)
+        said = "bridge.py: frames: 2 sent, 1 came; 1 + 0 lost, 0 + 0 damaged; T1 fired 1 times\n"
+        self.assertEqual(self.end(), (0, ["dte linkup"], said))
+        self.assertEqual([event for _, event in self.asked()], ["dte connect", "t1 dte", UA])
+
     def test_damage(self):
         self.begin(f". off busy\n= dte connect\n{SABM}\n. off busy\n", "--damage", "1", user=b"dte connect\n")
         octets = x25lines.frame_line(self.gets().encode()).octets

@@ -138,9 +138,9 @@ class Two(ToolCase):
         dce.stderr.close()
         dce.wait(SECONDS)
 
-    def thousand(self, *words):
-        """Joins two by TCP, and sends 1,000 messages each way; answers what both said at the end."""
-        sent = {end: [message(end, number) for number in range(1000)] for end in ("dte", "dce")}
+    def exchange(self, count, *words):
+        """Joins two by TCP, and sends so many messages each way; answers what both said at the end."""
+        sent = {end: [message(end, number) for number in range(count)] for end in ("dte", "dce")}
         sends = {end: "".join(f"{end} send 1 0 {octets}\n" for octets in sent[end]) for end in sent}
         # T1 has to be longer than the way there and back, also on a machine that does much else.
         same = ["--t1", "0.5", "--quiet", "8", "--n2", "200", "--stats", *words]
@@ -152,12 +152,16 @@ class Two(ToolCase):
         return said
 
     def test_a_thousand_messages_each_way(self):
-        self.assertIn("0 + 0 lost, 0 + 0 damaged", self.thousand()["dte"])
+        self.assertIn("0 + 0 lost, 0 + 0 damaged", self.exchange(1000)["dte"])
 
     def test_a_thousand_messages_each_way_over_losses(self):
-        for name, text in self.thousand("--lose", "0.03", "--damage", "0.02", "--seed", "7").items():
+        for name, text in self.exchange(1000, "--lose", "0.03", "--damage", "0.02", "--seed", "7").items():
             counts = [int(number) for number in re.search(r"(\d+) \+ (\d+) lost, (\d+) \+ (\d+) damaged", text).groups()]
             self.assertTrue(all(count > 10 for count in counts), (name, text))
+
+    def test_losses_that_heal(self):
+        for text in self.exchange(5, "--lose", "0.2", "--heal", "--t1", "0.2", "--quiet", "3").values():
+            self.assertNotIn("0 + 0 lost", text)
 
 
 if __name__ == "__main__":

@@ -5,9 +5,9 @@ use x25_station::Cmd;
 use x25_world::Event;
 
 /// How many kinds of call there are.
-const KINDS: usize = 20;
+const KINDS: usize = 21;
 
-/// A kind of call: two ends are made, or an event happens.
+/// A kind of call: two ends are made, an event happens, or the line is good for a moment.
 #[derive(Clone, Copy)]
 pub(crate) enum Kind {
     New,
@@ -30,6 +30,7 @@ pub(crate) enum Kind {
     Lose,
     Damage,
     T1,
+    Heal,
 }
 
 impl Kind {

@@ -29,14 +29,36 @@ pub(crate) struct Links {
     dce: End,
 }
 
+// The calls of a link without their claims: a body that makes one of the link's own carries all that it promises.
+
+fn made(alloc: Global, role: Role, cfg: Cfg) -> Result<Link, LinkError> {
+    Link::new(alloc, role, cfg.k, LONGEST_PACKET, cfg.n2)
+}
+
+fn connect(link: &mut Link) -> Result<Step<'static>, LinkError> {
+    link.connect()
+}
+
+fn disconnect(link: &mut Link) -> Result<Step<'static>, LinkError> {
+    link.disconnect()
+}
+
+fn fire(link: &mut Link) -> Result<Step<'static>, LinkError> {
+    link.t1()
+}
+
+fn take<'a>(link: &mut Link, octets: &'a [u8]) -> Result<Step<'a>, LinkError> {
+    link.take(octets)
+}
+
 fn link(alloc: Global, role: Role, cfg: Cfg, counts: &mut Counts) -> Result<Link, LinkError> {
     counts.called(Kind::New);
-    match Link::new(alloc, role, cfg.k, LONGEST_PACKET, cfg.n2) {
+    match made(alloc, role, cfg) {
         Err(LinkError::NoMemory) => {
             counts.refused(Kind::New);
-            Link::new(alloc, role, cfg.k, LONGEST_PACKET, cfg.n2)
+            made(alloc, role, cfg)
         }
-        made => made,
+        answer => answer,
     }
 }
 
@@ -166,8 +188,8 @@ impl End {
         shown: &mut Lines,
     ) -> Result<Outcome, Trouble> {
         match command {
-            Cmd::Connect => answered(self.role, self.link.connect(), to, shown),
-            Cmd::Disconnect => answered(self.role, self.link.disconnect(), to, shown),
+            Cmd::Connect => answered(self.role, connect(&mut self.link), to, shown),
+            Cmd::Disconnect => answered(self.role, disconnect(&mut self.link), to, shown),
             Cmd::Send { user, .. } => self.puts(user, to, shown),
             Cmd::Interrupt { user, .. } => self.puts_as_a_layer(user, to, shown),
             _ => Err(Trouble::NoSuchCall),
@@ -175,7 +197,7 @@ impl End {
     }
 
     fn fires(&mut self, to: &mut Wire, shown: &mut Lines) -> Result<Outcome, Trouble> {
-        answered(self.role, self.link.t1(), to, shown)
+        answered(self.role, fire(&mut self.link), to, shown)
     }
 
     /// The front frame arrives. It leaves the line where it is accepted.
@@ -183,7 +205,7 @@ impl End {
         let Some(octets) = self.wire.front() else {
             return Ok(Outcome::Refused(50));
         };
-        let answer = self.link.take(octets);
+        let answer = take(&mut self.link, octets);
         let outcome = answered(self.role, answer, to, shown)?;
         if matches!(outcome, Outcome::Accepted) {
             self.wire.take_off(0);

@@ -21,7 +21,7 @@ use ends::Trouble;
 use lines::Lines;
 use links::Links;
 use player::{Book, plays};
-use scripts::{OF_LINKS, OF_WORLDS_UP, SCRIPTS, Script};
+use scripts::{OF_LINKS, OF_WORLDS_HEALED, OF_WORLDS_UP, SCRIPTS, Script};
 use stations::Stations;
 use std::alloc::Global;
 use std::io::{self, Write};
@@ -63,7 +63,7 @@ static CALLS_OF_STATIONS: [(Kind, &str); 18] = [
 ];
 
 /// The calls of a world.
-static CALLS_OF_WORLDS: [(Kind, &str); 20] = [
+static CALLS_OF_WORLDS: [(Kind, &str); 21] = [
     (Kind::New, "World::start"),
     (Kind::Establish, "World::establish"),
     (Kind::Call, "World::apply(Call)"),
@@ -84,6 +84,7 @@ static CALLS_OF_WORLDS: [(Kind, &str); 20] = [
     (Kind::Lose, "World::apply(Lose)"),
     (Kind::Damage, "World::apply(Damage)"),
     (Kind::T1, "World::apply(T1)"),
+    (Kind::Heal, "World::heal"),
 ];
 
 fn titled(place: &str, script: &Script, shown: &mut Lines) -> Result<(), Trouble> {
@@ -122,6 +123,19 @@ fn play_world_up(alloc: Global, script: &Script, book: &mut Book) -> Result<(), 
 fn plays_up(ends: &mut Worlds, script: &Script, book: &mut Book) -> Result<(), Trouble> {
     ends.tells(&mut book.shown)?;
     plays(ends, script, book)
+}
+
+/// .. and behind the script the line is good for a moment.
+fn play_world_healed(alloc: Global, script: &Script, book: &mut Book) -> Result<(), Trouble> {
+    titled("a world: ", script, &mut book.shown)?;
+    let mut ends = Worlds::establish(alloc, script.cfg, &mut book.counts)?;
+    plays_healed(&mut ends, script, book)
+}
+
+fn plays_healed(ends: &mut Worlds, script: &Script, book: &mut Book) -> Result<(), Trouble> {
+    plays_up(ends, script, book)?;
+    ends.heals(&mut book.counts)?;
+    Ok(ends.tells(&mut book.shown)?)
 }
 
 /// Writes what is shown.
@@ -167,6 +181,10 @@ fn all_worlds<W: Write>(alloc: Global, book: &mut Book, writer: &mut W) -> Resul
     }
     for script in &OF_WORLDS_UP {
         play_world_up(alloc, script, book)?;
+        flushes(&mut book.shown, writer)?;
+    }
+    for script in &OF_WORLDS_HEALED {
+        play_world_healed(alloc, script, book)?;
         flushes(&mut book.shown, writer)?;
     }
     closes(book, CALLS_OF_WORLDS.as_slice(), writer)

@@ -305,6 +305,13 @@ pub(crate) static OF_WORLDS_UP: [Script; 1] = [Script {
     ],
 }];
 
+/// Played at a world from link set-up on; then the line is good for a moment.
+pub(crate) static OF_WORLDS_HEALED: [Script; 1] = [Script {
+    name: "an I frame is lost, and the line is good then",
+    cfg: USUAL,
+    acts: &[Drain, CALLS, Drain, ACCEPTS, Drain, Send(Dte, b"a"), LOSES],
+}];
+
 /// Played at two links.
 pub(crate) static OF_LINKS: [Script; 4] = [
     Script {

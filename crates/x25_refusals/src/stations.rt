@@ -22,6 +22,28 @@ pub(crate) struct Stations {
     dce: End,
 }
 
+// The calls of a station without their claims: a body that makes one of the station's own carries all that it promises.
+
+fn made(alloc: Global, role: Role, cfg: Cfg) -> Result<Station, StationError> {
+    Station::new(alloc, role, cfg)
+}
+
+fn connect(station: &mut Station) -> Result<Step, StationError> {
+    station.connect()
+}
+
+fn ask(station: &mut Station, command: Cmd<'_>) -> Result<Step, StationError> {
+    station.command(command)
+}
+
+fn fire(station: &mut Station) -> Result<Step, StationError> {
+    station.t1()
+}
+
+fn receive(station: &mut Station, octets: &[u8]) -> Result<Step, StationError> {
+    station.receive(octets)
+}
+
 fn station(
     alloc: Global,
     role: Role,
@@ -29,12 +51,12 @@ fn station(
     counts: &mut Counts,
 ) -> Result<Station, StationError> {
     counts.called(Kind::New);
-    match Station::new(alloc, role, cfg) {
+    match made(alloc, role, cfg) {
         Err(StationError::NoMemory) => {
             counts.refused(Kind::New);
-            Station::new(alloc, role, cfg)
+            made(alloc, role, cfg)
         }
-        made => made,
+        answer => answer,
     }
 }
 
@@ -84,14 +106,14 @@ impl End {
         shown: &mut Lines,
     ) -> Result<Outcome, Trouble> {
         let answer = match command {
-            Cmd::Connect => self.station.connect(),
-            _ => self.station.command(command),
+            Cmd::Connect => connect(&mut self.station),
+            _ => ask(&mut self.station, command),
         };
         answered(self.role, answer, to, shown)
     }
 
     fn fires(&mut self, to: &mut Wire, shown: &mut Lines) -> Result<Outcome, Trouble> {
-        answered(self.role, self.station.t1(), to, shown)
+        answered(self.role, fire(&mut self.station), to, shown)
     }
 
     /// The front frame arrives. It leaves the line where it is accepted.
@@ -99,7 +121,7 @@ impl End {
         let Some(octets) = self.wire.front() else {
             return Ok(Outcome::Refused(50));
         };
-        let answer = self.station.receive(octets);
+        let answer = receive(&mut self.station, octets);
         let outcome = answered(self.role, answer, to, shown)?;
         if matches!(outcome, Outcome::Accepted) {
             self.wire.take_off(0);

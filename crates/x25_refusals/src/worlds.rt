@@ -17,25 +17,43 @@ pub(crate) struct Worlds {
     tap: Lines,
 }
 
+// The calls of a world without their claims: a body that makes one of the world's own carries all that it promises.
+
+fn both_down(alloc: Global, cfg: Cfg) -> Result<World, WorldError> {
+    World::start(alloc, cfg)
+}
+
+fn set_up(alloc: Global, cfg: Cfg) -> Result<World, WorldError> {
+    World::establish(alloc, cfg)
+}
+
+fn apply(world: &mut World, event: Event<'static>) -> Result<(), WorldError> {
+    world.apply(event)
+}
+
+fn heal(world: &mut World) -> Result<u64, WorldError> {
+    world.heal()
+}
+
 fn started(alloc: Global, cfg: Cfg, counts: &mut Counts) -> Result<World, WorldError> {
     counts.called(Kind::New);
-    match World::start(alloc, cfg) {
+    match both_down(alloc, cfg) {
         Err(WorldError::NoMemory) => {
             counts.refused(Kind::New);
-            World::start(alloc, cfg)
+            both_down(alloc, cfg)
         }
-        made => made,
+        answer => answer,
     }
 }
 
 fn established(alloc: Global, cfg: Cfg, counts: &mut Counts) -> Result<World, WorldError> {
     counts.called(Kind::Establish);
-    match World::establish(alloc, cfg) {
+    match set_up(alloc, cfg) {
         Err(WorldError::NoMemory) => {
             counts.refused(Kind::Establish);
-            World::establish(alloc, cfg)
+            set_up(alloc, cfg)
         }
-        made => made,
+        answer => answer,
     }
 }
 
@@ -110,22 +128,49 @@ impl Worlds {
         Ok(())
     }
 
-    fn transcript_stands(&self) -> Result<bool, AllocError> {
+    fn transcript_begins(&self) -> Result<bool, AllocError> {
         let mut lines = Lines::new(self.alloc)?;
-        push_entries(self.world.transcript(), &mut lines)?;
+        let entries = self.world.transcript().get(..self.told).unwrap_or(&[]);
+        push_entries(entries, &mut lines)?;
         Ok(lines.as_slice() == self.transcript.as_slice())
     }
 
-    fn tap_stands(&self) -> Result<bool, AllocError> {
+    fn tap_begins(&self) -> Result<bool, AllocError> {
         let mut lines = Lines::new(self.alloc)?;
-        push_frames(self.world.tap(), &mut lines)?;
+        let frames = self.world.tap().get(..self.tapped).unwrap_or(&[]);
+        push_frames(frames, &mut lines)?;
         Ok(lines.as_slice() == self.tap.as_slice())
+    }
+
+    /// Whether all that was told and sent begins as it was shown.
+    fn begins(&self) -> Result<bool, AllocError> {
+        Ok(self.transcript_begins()? && self.tap_begins()?)
+    }
+
+    /// The line is good for a moment. Where memory is refused, what was shown stands, and the line is good again.
+    pub(crate) fn heals(&mut self, counts: &mut Counts) -> Result<(), Trouble> {
+        counts.called(Kind::Heal);
+        if heal(&mut self.world).is_ok() {
+            return Ok(());
+        }
+        counts.refused(Kind::Heal);
+        self.heals_again()
+    }
+
+    fn heals_again(&mut self) -> Result<(), Trouble> {
+        if !self.begins()? {
+            return Err(Trouble::Changed);
+        }
+        match heal(&mut self.world) {
+            Ok(_) => Ok(()),
+            Err(_) => Err(Trouble::NoMemory),
+        }
     }
 }
 
 impl Ends for Worlds {
     fn happens(&mut self, event: Event<'static>, shown: &mut Lines) -> Result<Outcome, Trouble> {
-        if let Err(error) = self.world.apply(event) {
+        if let Err(error) = apply(&mut self.world, event) {
             return Ok(Outcome::of_number(number_of(error)));
         }
         self.tells(shown)?;
@@ -142,6 +187,8 @@ impl Ends for Worlds {
     }
 
     fn stands(&self) -> Result<bool, AllocError> {
-        Ok(self.transcript_stands()? && self.tap_stands()?)
+        let told = self.world.transcript().len();
+        let tapped = self.world.tap().len();
+        Ok(told == self.told && tapped == self.tapped && self.begins()?)
     }
 }

@@ -1,6 +1,7 @@
 //! Bits that come in the place of those between the flags of a frame.
 
-use crate::play::{USUAL, number_of};
+use crate::calls::{apply, damage_bits, establish, number_of};
+use crate::play::USUAL;
 use std::alloc::Global;
 use std::process::Abort;
 use std::test::Fail;
@@ -35,7 +36,7 @@ fn bits_of(alloc: Global, text: &str) -> Result<Bits, Fail> {
 // The number of the refusal, where the damage is refused.
 fn refusal(alloc: Global, world: &mut World, place: usize, text: &str) -> Result<Option<u8>, Fail> {
     let bits = bits_of(alloc, text)?;
-    match world.damage_bits(ToDce, place, &bits) {
+    match damage_bits(world, ToDce, place, &bits) {
         Ok(()) => Ok(None),
         Err(error) => Ok(Some(number_of(error))),
     }
@@ -55,7 +56,7 @@ fn plays_row(
 // A delivery to the DCE tells nothing.
 fn tells_nothing(rt: &impl Abort, world: &mut World) {
     let told = world.transcript().len();
-    assert_eq!(rt; world.apply(Event::Deliver(ToDce)), Ok(()));
+    assert_eq!(rt; apply(world, Event::Deliver(ToDce)), Ok(()));
     assert_eq!(rt; world.transcript().len(), told);
 }
 
@@ -70,6 +71,6 @@ fn plays(rt: &impl Abort, alloc: Global, world: &mut World) -> Result<(), Fail> 
 /// The RESTART that is on the line to the DCE is damaged, so that its delivery tells nothing.
 #[test]
 fn bits_are_damaged(rt: HostRuntime) -> Result<(), Fail> {
-    let mut world = World::establish(rt.alloc(), USUAL)?;
+    let mut world = establish(rt.alloc(), USUAL)?;
     plays(&rt, rt.alloc(), &mut world)
 }

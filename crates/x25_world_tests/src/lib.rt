@@ -4,7 +4,11 @@
 #[cfg(test)]
 mod bit_damage;
 #[cfg(test)]
+mod calls;
+#[cfg(test)]
 mod handed;
+#[cfg(test)]
+mod healing;
 #[cfg(test)]
 mod lists;
 #[cfg(test)]

@@ -1,7 +1,7 @@
 //! Many lists of events: what is handed up is what was handed down.
 
+use crate::calls::{apply, establish, heal, number_of, on_line};
 use crate::handed::{Kind, Place, across, count, is_lawful};
-use crate::play::number_of;
 use std::alloc::Global;
 use std::process::Abort;
 use std::test::Fail;
@@ -183,7 +183,7 @@ fn event(numbers: &mut Numbers, channels: u8) -> (usize, Event<'static>) {
 
 // Whether it was accepted. Memory is never wanted.
 fn is_accepted(rt: &impl Abort, world: &mut World, event: Event) -> bool {
-    match world.apply(event) {
+    match apply(world, event) {
         Ok(()) => true,
         Err(error) => {
             assert!(rt; number_of(error) != 70, "{event:?}");
@@ -192,22 +192,13 @@ fn is_accepted(rt: &impl Abort, world: &mut World, event: Event) -> bool {
     }
 }
 
-// Deliveries and firings of timer T1 by turns.
-fn settle(rt: &impl Abort, world: &mut World) {
-    for round in 0..4u8 {
-        for _ in 0..100u8 {
-            let to_dce = is_accepted(rt, world, Event::Deliver(ToDce));
-            let to_dte = is_accepted(rt, world, Event::Deliver(ToDte));
-            if !to_dce && !to_dte {
-                break;
-            }
-        }
-        if round < 3 {
-            for role in [Dte, Dce] {
-                is_accepted(rt, world, Event::T1(role));
-            }
-        }
+// The line is good for a moment, three times.
+fn settle(rt: &impl Abort, world: &mut World) -> Result<(), WorldError> {
+    for _ in 0..3u8 {
+        heal(world)?;
+        assert_eq!(rt; on_line(world), (0, 0));
     }
+    Ok(())
 }
 
 // In how many stretches that are open at both ends, with the end that sends idle, all has come.
@@ -265,7 +256,57 @@ fn is_set_up_anew(world: &World) -> bool {
     ups > 2
 }
 
-// Plays a list of events at a world whose link was just set up, up to the event by which it is set up anew.
+impl Tally {
+    fn accepts(&mut self, kind: usize) {
+        if let Some(count) = self.accepted.get_mut(kind) {
+            *count = count.saturating_add(1);
+        }
+    }
+}
+
+// Plays the events of a list, up to the one by which the link is set up anew. It answers whether there is one.
+fn play_events(
+    rt: &impl Abort,
+    world: &mut World,
+    numbers: &mut Numbers,
+    channels: u8,
+    list: usize,
+    tally: &mut Tally,
+) -> bool {
+    for _ in 0..EVENTS {
+        let told = world.transcript().len();
+        let (kind, event) = event(numbers, channels);
+        if is_accepted(rt, world, event) {
+            tally.accepts(kind);
+        }
+        if is_set_up_anew(world) {
+            is_lawful(rt, world.transcript().get(..told).unwrap_or(&[]), list);
+            return true;
+        }
+    }
+    is_lawful(rt, world.transcript(), list);
+    false
+}
+
+// Settles a world in which a list was played, and answers whether the link is set up anew by that.
+fn play_end(
+    rt: &impl Abort,
+    world: &mut World,
+    channels: u8,
+    list: usize,
+    tally: &mut Tally,
+) -> Result<bool, WorldError> {
+    settle(rt, world)?;
+    if is_set_up_anew(world) {
+        return Ok(true);
+    }
+    is_lawful(rt, world.transcript(), list);
+    let open = all_came(rt, world, channels, list);
+    tally.open = tally.open.saturating_add(open);
+    Ok(false)
+}
+
+// Plays a list of events at a world whose link was just set up.
 fn play(
     rt: &impl Abort,
     world: &mut World,
@@ -273,28 +314,13 @@ fn play(
     channels: u8,
     list: usize,
     tally: &mut Tally,
-) {
-    for _ in 0..EVENTS {
-        let told = world.transcript().len();
-        let (kind, event) = event(numbers, channels);
-        if is_accepted(rt, world, event) && kind < KINDS {
-            tally.accepted[kind] = tally.accepted[kind].saturating_add(1);
-        }
-        if is_set_up_anew(world) {
-            is_lawful(rt, world.transcript().get(..told).unwrap_or(&[]), list);
-            tally.anew = tally.anew.saturating_add(1);
-            return;
-        }
-    }
-    is_lawful(rt, world.transcript(), list);
-    settle(rt, world);
-    if is_set_up_anew(world) {
+) -> Result<(), WorldError> {
+    if play_events(rt, world, numbers, channels, list, tally)
+        || play_end(rt, world, channels, list, tally)?
+    {
         tally.anew = tally.anew.saturating_add(1);
-        return;
     }
-    is_lawful(rt, world.transcript(), list);
-    let open = all_came(rt, world, channels, list);
-    tally.open = tally.open.saturating_add(open);
+    Ok(())
 }
 
 fn play_list(
@@ -305,9 +331,8 @@ fn play_list(
 ) -> Result<(), WorldError> {
     let mut numbers = Numbers::of_list(list);
     let cfg = settings(&mut numbers);
-    let mut world = World::establish(alloc, cfg)?;
-    play(rt, &mut world, &mut numbers, cfg.channels, list, tally);
-    Ok(())
+    let mut world = establish(alloc, cfg)?;
+    play(rt, &mut world, &mut numbers, cfg.channels, list, tally)
 }
 
 #[test]

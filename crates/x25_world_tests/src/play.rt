@@ -1,12 +1,13 @@
 //! Events that are played at a world, and the text of its transcript.
 
+use crate::calls::{apply, heal, number_of, on_line, timer_runs};
 use std::alloc::Global;
 use std::process::Abort;
 use std::str;
 use std::test::Fail;
-use x25_station::Cfg;
+use x25_station::{Cfg, Cmd};
 use x25_transcript::entry_line;
-use x25_world::{Direction, Event, World, WorldError};
+use x25_world::{Direction, Event, Role, World};
 
 pub const USUAL: Cfg = Cfg {
     k: 7,
@@ -23,11 +24,17 @@ pub const ONE_TRY: Cfg = Cfg {
 };
 
 /// What is played.
-#[derive(Clone, Copy, Debug)]
+#[derive(Clone, Copy)]
 pub enum Act {
     Do(Event<'static>),
+    /// The user of this end sends this message on this channel.
+    Send(Role, u16, &'static [u8]),
+    /// The event happens so often. What it tells isn't shown.
+    Repeat(u16, Event<'static>),
     /// Deliveries, first those to the DCE, until nothing is on the line.
     Drain,
+    /// The line is good for a moment.
+    Heal,
 }
 
 /// What a run shows, its settings, what is played, and the lines that are told from the beginning.
@@ -35,25 +42,22 @@ pub type Row = (&'static str, Cfg, &'static [Act], &'static str);
 
 /// A world, and the lines of its transcript and of its refusals.
 #[derive(Drop)]
-struct Play {
-    world: World,
+pub struct Play {
+    world: Box<World>,
     text: Vec<u8>,
     alloc: Global,
     told: usize,
     lets_go: bool,
 }
 
-/// The number of a refusal, that of the station where it refuses.
-pub fn number_of(error: WorldError) -> u8 {
-    match error {
-        WorldError::Station(error) => error.number(),
-        error => error.number(),
-    }
+fn message(end: Role, channel: u16, user: &'static [u8]) -> Event<'static> {
+    let q = false;
+    Event::Command(end, Cmd::Send { channel, q, user })
 }
 
 impl Play {
     /// What is played at this world. It lets go of what was told after each event, where `lets_go` says so.
-    fn begin(alloc: Global, world: World, lets_go: bool) -> Play {
+    pub fn begin(alloc: Global, world: Box<World>, lets_go: bool) -> Play {
         Play {
             world,
             text: Vec::new(alloc),
@@ -63,38 +67,73 @@ impl Play {
         }
     }
 
+    // What was told up to now isn't shown any more.
+    fn pass(&mut self) {
+        if self.lets_go {
+            self.world.let_go();
+        }
+        self.told = self.world.transcript().len();
+    }
+
     // Writes what was told since it was last called.
     fn tell(&mut self) -> Result<(), Fail> {
         for entered in self.world.transcript().iter().skip(self.told) {
             let line = entry_line(self.alloc, entered.at, &entered.entry)?;
             self.text.extend_from_slice(line.as_slice())?;
         }
-        if self.lets_go {
-            self.world.let_go();
-        }
-        self.told = self.world.transcript().len();
+        self.pass();
         Ok(())
     }
 
-    fn apply(&mut self, event: Event<'static>) -> Result<(), Fail> {
-        if let Err(error) = self.world.apply(event) {
-            let line = format!(in self.alloc; "! {}\n", number_of(error))?;
-            self.text.extend_from_slice(line.as_bytes())?;
+    // Writes the number of a refusal.
+    fn refuse(&mut self, number: u8) -> Result<(), Fail> {
+        let line = format!(in self.alloc; "! {number}\n")?;
+        self.text.extend_from_slice(line.as_bytes())?;
+        Ok(())
+    }
+
+    fn happen(&mut self, event: Event<'static>) -> Result<(), Fail> {
+        match apply(&mut self.world, event) {
+            Ok(()) => Ok(()),
+            Err(error) => self.refuse(number_of(error)),
         }
+    }
+
+    fn apply(&mut self, event: Event<'static>) -> Result<(), Fail> {
+        self.happen(event)?;
         self.tell()
+    }
+
+    fn repeat(&mut self, count: u16, event: Event<'static>) -> Result<(), Fail> {
+        for _ in 0..count {
+            self.happen(event)?;
+        }
+        self.pass();
+        Ok(())
+    }
+
+    // The direction of the next delivery of a drain.
+    fn next_direction(&self) -> Option<Direction> {
+        match on_line(&self.world) {
+            (0, 0) => None,
+            (0, _) => Some(Direction::ToDte),
+            _ => Some(Direction::ToDce),
+        }
     }
 
     fn drain(&mut self) -> Result<(), Fail> {
         for _ in 0..100u8 {
-            if self.world.on_line(Direction::ToDce) > 0 {
-                self.apply(Event::Deliver(Direction::ToDce))?;
-            } else if self.world.on_line(Direction::ToDte) > 0 {
-                self.apply(Event::Deliver(Direction::ToDte))?;
-            } else {
+            let Some(direction) = self.next_direction() else {
                 return Ok(());
-            }
+            };
+            self.apply(Event::Deliver(direction))?;
         }
         Ok(())
+    }
+
+    fn heal(&mut self) -> Result<(), Fail> {
+        heal(&mut self.world)?;
+        self.tell()
     }
 
     fn does(&mut self, acts: &[Act]) -> Result<(), Fail> {
@@ -102,24 +141,42 @@ impl Play {
         for act in acts {
             match *act {
                 Act::Do(event) => self.apply(event)?,
+                Act::Send(end, channel, user) => self.apply(message(end, channel, user))?,
+                Act::Repeat(count, event) => self.repeat(count, event)?,
                 Act::Drain => self.drain()?,
+                Act::Heal => self.heal()?,
             }
         }
         Ok(())
     }
 
-    /// The lines from the beginning to the last of these acts.
+    /// Plays these acts, whose lines aren't shown.
+    pub fn opens(&mut self, acts: &[Act]) -> Result<(), Fail> {
+        self.does(acts)?;
+        self.text.clear();
+        Ok(())
+    }
+
+    // The lines up to the last of these acts.
     fn lines(&mut self, acts: &[Act]) -> Result<&str, Fail> {
         self.does(acts)?;
         Ok(str::from_utf8(self.text.as_slice())?)
     }
-}
 
-// What is played tells its lines.
-fn tells(rt: &impl Abort, play: &mut Play, row: &Row) -> Result<(), Fail> {
-    let (name, _, acts, lines) = *row;
-    assert_eq!(rt; play.lines(acts)?, lines, "{name}");
-    Ok(())
+    /// What the row plays tells its lines.
+    pub fn tells(&mut self, rt: &impl Abort, row: &Row) -> Result<(), Fail> {
+        let (name, _, acts, lines) = *row;
+        assert_eq!(rt; self.lines(acts)?, lines, "{name}");
+        Ok(())
+    }
+
+    /// How many frames are on the line, and whether timer T1 runs at the DTE and at the DCE.
+    pub fn left(&self) -> ((usize, usize), bool, bool) {
+        let frames = on_line(&self.world);
+        let dte = timer_runs(&self.world, Role::Dte);
+        let dce = timer_runs(&self.world, Role::Dce);
+        (frames, dte, dce)
+    }
 }
 
 /// What is played at this world, which has the row's settings, tells the row's lines. What was told is let go of after each event, where
@@ -127,9 +184,9 @@ fn tells(rt: &impl Abort, play: &mut Play, row: &Row) -> Result<(), Fail> {
 pub fn play_row(
     rt: &impl Abort,
     alloc: Global,
-    world: World,
+    world: Box<World>,
     row: &Row,
     lets_go: bool,
 ) -> Result<(), Fail> {
-    tells(rt, &mut Play::begin(alloc, world, lets_go), row)
+    Play::begin(alloc, world, lets_go).tells(rt, row)
 }

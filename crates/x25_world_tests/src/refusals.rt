@@ -1,6 +1,7 @@
 //! Refusals: their numbers, settings, and where a list of events stops.
 
-use crate::play::{USUAL, number_of};
+use crate::calls::{establish, number_of, run, start};
+use crate::play::USUAL;
 use std::alloc::Global;
 use std::process::Abort;
 use std::test::Fail;
@@ -48,12 +49,12 @@ static SETTINGS: [(u8, u8, u8, bool); 9] = [
 ];
 
 fn establishes(alloc: Global, cfg: Cfg) -> Result<(), WorldError> {
-    World::establish(alloc, cfg)?;
+    establish(alloc, cfg)?;
     Ok(())
 }
 
 fn starts(alloc: Global, cfg: Cfg) -> Result<(), WorldError> {
-    World::start(alloc, cfg)?;
+    start(alloc, cfg)?;
     Ok(())
 }
 
@@ -105,7 +106,7 @@ static LISTS: [List; 7] = [
 // Each list goes on where the one before stopped.
 fn stops(rt: &impl Abort, world: &mut World) {
     for &(events, wanted) in &LISTS {
-        let stopped = match world.run(events) {
+        let stopped = match run(world, events) {
             Ok(()) => None,
             Err(WorldRefused { index, error }) => Some((index, number_of(error))),
         };
@@ -115,7 +116,7 @@ fn stops(rt: &impl Abort, world: &mut World) {
 
 #[test]
 fn lists_stop_at_the_first_refusal(rt: HostRuntime) -> Result<(), Fail> {
-    let mut world = World::establish(rt.alloc(), USUAL)?;
+    let mut world = establish(rt.alloc(), USUAL)?;
     stops(&rt, &mut world);
     Ok(())
 }

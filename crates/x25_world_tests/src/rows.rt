@@ -1,6 +1,7 @@
 //! Worked runs: what is played after set-up, and the lines that are told from the beginning.
 
-use crate::play::Act::{Do, Drain};
+use crate::calls::{apply, connecting, establish, on_line, run};
+use crate::play::Act::{Do, Drain, Send};
 use crate::play::{Act, ONE_TRY, Row, USUAL, play_row};
 use std::alloc::Global;
 use std::process::Abort;
@@ -70,32 +71,11 @@ const CONNECTS: Act = Do(Command(Dte, Cmd::Connect));
 
 const DISCONNECTS: Act = Do(Command(Dte, Cmd::Disconnect));
 
-const SENDS_HI: Act = Do(Command(
-    Dte,
-    Cmd::Send {
-        channel: 1,
-        q: false,
-        user: b"hi",
-    },
-));
+const SENDS_HI: Act = Send(Dte, 1, b"hi");
 
-const SENDS_NOTHING: Act = Do(Command(
-    Dte,
-    Cmd::Send {
-        channel: 1,
-        q: false,
-        user: b"",
-    },
-));
+const SENDS_NOTHING: Act = Send(Dte, 1, b"");
 
-const SENDS_A: Act = Do(Command(
-    Dte,
-    Cmd::Send {
-        channel: 1,
-        q: false,
-        user: b"a",
-    },
-));
+const SENDS_A: Act = Send(Dte, 1, b"a");
 
 /// Played after set-up.
 static ROWS: [Row; 14] = [
@@ -378,7 +358,7 @@ static ROWS: [Row; 14] = [
 
 fn play_up(rt: &impl Abort, alloc: Global, row: &Row, lets_go: bool) -> Result<(), Fail> {
     let (_, cfg, _, _) = *row;
-    play_row(rt, alloc, World::establish(alloc, cfg)?, row, lets_go)
+    play_row(rt, alloc, establish(alloc, cfg)?, row, lets_go)
 }
 
 #[test]
@@ -413,7 +393,7 @@ fn taps_set_up(rt: &impl Abort, world: &mut World, lets_go: bool) {
     let mut first = 0usize;
     for (direction, count) in [(None, 1), (Some(ToDce), 3), (Some(ToDte), 4)] {
         if let Some(direction) = direction {
-            assert_eq!(rt; world.apply(Deliver(direction)), Ok(()));
+            assert_eq!(rt; apply(world, Deliver(direction)), Ok(()));
         }
         taps(rt, world, first, count);
         if lets_go {
@@ -422,12 +402,12 @@ fn taps_set_up(rt: &impl Abort, world: &mut World, lets_go: bool) {
             first = count;
         }
     }
-    assert_eq!(rt; (world.on_line(ToDce), world.on_line(ToDte)), (1, 1));
-    assert_eq!(rt; world.run(&[Deliver(ToDte), Deliver(ToDce)]), Ok(()));
+    assert_eq!(rt; on_line(world), (1, 1));
+    assert_eq!(rt; run(world, &[Deliver(ToDte), Deliver(ToDce)]), Ok(()));
 }
 
 fn set_up(rt: &impl Abort, alloc: Global, lets_go: bool) -> Result<(), WorldError> {
-    let mut world = World::connecting(alloc, USUAL)?;
+    let mut world = connecting(alloc, USUAL)?;
     taps_set_up(rt, &mut world, lets_go);
     Ok(())
 }

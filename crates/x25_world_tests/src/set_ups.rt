@@ -1,5 +1,6 @@
 //! Worked runs in which an end asks that the link be set up, and the lines that are told.
 
+use crate::calls::start;
 use crate::play::Act::{Do, Drain};
 use crate::play::{Act, ONE_TRY, Row, USUAL, play_row};
 use std::alloc::Global;
@@ -9,7 +10,6 @@ use x25_station::Cmd;
 use x25_world::Direction::{ToDce, ToDte};
 use x25_world::Event::{Command, Damage, Deliver, Lose, T1};
 use x25_world::Role::{Dce, Dte};
-use x25_world::World;
 
 const CONNECTS: Act = Do(Command(Dte, Cmd::Connect));
 
@@ -131,7 +131,7 @@ static ROWS: [Row; 9] = [
 
 fn play_down(rt: &impl Abort, alloc: Global, row: &Row, lets_go: bool) -> Result<(), Fail> {
     let (_, cfg, _, _) = *row;
-    play_row(rt, alloc, World::start(alloc, cfg)?, row, lets_go)
+    play_row(rt, alloc, start(alloc, cfg)?, row, lets_go)
 }
 
 #[test]

@@ -1,0 +1,70 @@
+//! The calls of a world without their claims: a body that makes one of the world's own carries all that it promises.
+
+use std::alloc::Global;
+use x25_station::Cfg;
+use x25_world::{Bits, Direction, Event, Role, World, WorldError, WorldRefused};
+
+/// The number of a refusal, that of the station where it refuses.
+pub fn number_of(error: WorldError) -> u8 {
+    match error {
+        WorldError::Station(error) => error.number(),
+        error => error.number(),
+    }
+}
+
+// A world in a place of its own: a body that holds the box lets go of it by one call, and not of each part of the world.
+fn boxed(alloc: Global, world: World) -> Result<Box<World>, WorldError> {
+    match Box::new(alloc, world) {
+        Ok(boxed) => Ok(boxed),
+        Err(_) => Err(WorldError::NoMemory),
+    }
+}
+
+/// A world whose links are down.
+pub fn start(alloc: Global, cfg: Cfg) -> Result<Box<World>, WorldError> {
+    boxed(alloc, World::start(alloc, cfg)?)
+}
+
+/// A world whose links are down, and the DTE has asked that the link be set up.
+pub fn connecting(alloc: Global, cfg: Cfg) -> Result<Box<World>, WorldError> {
+    boxed(alloc, World::connecting(alloc, cfg)?)
+}
+
+/// A world whose link was just set up.
+pub fn establish(alloc: Global, cfg: Cfg) -> Result<Box<World>, WorldError> {
+    boxed(alloc, World::establish(alloc, cfg)?)
+}
+
+pub fn apply(world: &mut World, event: Event) -> Result<(), WorldError> {
+    world.apply(event)
+}
+
+pub fn run(world: &mut World, events: &[Event]) -> Result<(), WorldRefused> {
+    world.run(events)
+}
+
+pub fn damage_bits(
+    world: &mut World,
+    direction: Direction,
+    place: usize,
+    bits: &Bits,
+) -> Result<(), WorldError> {
+    world.damage_bits(direction, place, bits)
+}
+
+/// How many frames arrived.
+pub fn heal(world: &mut World) -> Result<u64, WorldError> {
+    world.heal()
+}
+
+/// How many frames are on the line, those to the DCE first.
+pub fn on_line(world: &World) -> (usize, usize) {
+    let to_dce = world.on_line(Direction::ToDce);
+    let to_dte = world.on_line(Direction::ToDte);
+    (to_dce, to_dte)
+}
+
+/// Whether timer T1 runs at this end.
+pub fn timer_runs(world: &World, role: Role) -> bool {
+    world.station(role).timer_runs()
+}
