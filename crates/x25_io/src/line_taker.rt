@@ -14,9 +14,13 @@ use crate::pieces::TextTaker;
 pub trait LineTaker: Drop {
     // As of a `TextTaker`.
     ghost Setting: { Type 0 };
+
     ghost text_of: { Setting → List ℕ → List ℕ };
+
     ghost status_of: { Setting → List ℕ → ℕ };
+
     ghost waiting: { Self → List ℕ };
+
     ghost may_want: { Type 0 };
     // `stands setting taker old now lines text`: the writer held `old` at first and holds `now`, and `lines` of the text are to come.
     ghost stands: { Setting → Self → Option (List ℕ) → Option (List ℕ) → List (List ℕ) → List ℕ → Type 0 };
@@ -26,7 +30,7 @@ pub trait LineTaker: Drop {
     /// Takes a line, `None` where it is longer than any that is held.
     fn take_line<W: Sink>(&mut self, line: Option<&[u8]>, writer: &mut W) -> Result<(), Fault>
         ensures kept { OnOk result (W.is_marked writer.new ≡ W.is_marked writer.old) }
-        ensures on { (setting : Setting) (old : Option (List ℕ)) (first : List ℕ) (lines : List (List ℕ)) (text : List ℕ) 
+        ensures on { (setting : Setting) (old : Option (List ℕ)) (first : List ℕ) (lines : List (List ℕ)) (text : List ℕ)
             → MatchOption line.entry (most_line < length first) (λ held. (held.now ≡ first) × (length first ≤ most_line))
             → stands setting self.old old (W.contents writer.old) (first ∷ lines) text
             → MatchResult result (λ _. stands setting self.new old (W.contents writer.new) lines text)
