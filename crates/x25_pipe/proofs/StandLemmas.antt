@@ -135,13 +135,6 @@ pub empty : {T : Type 0} (xs : List T) → length xs ≡ 0 → xs ≡ []
 empty [] none = refl
 empty (x ∷ xs) none = absurd (omega (arith, none))
 
-ok_err : {T U : Type 0} (u : T) (e : U) → (let x : Result T U = Ok u in x ≡ Err e) → ⊥
-ok_err u e is = cc
-
-pub exactly_accepted : (r : code_step.Step) (o : Outcome) → (let x : Result code_step.Step StationError = Ok r in fits.RefusesExactly x o) → (let x : Result code_step.Step StationError = Ok r in fits.Refuses x o)
-exactly_accepted r (Did step) h = tt
-exactly_accepted r (Refused e) h = absurd (ok_err r e h)
-
 module _ (c : Settings) (v u : code.Station) (step : code_step.Step) where
   -- frames of pulls behind those of a step
   step_pulls : (pulled both : code_step.Step) (plain : Step) (o : Outcome) → IsStep c v step (Did plain) → IsStep c u pulled o → pulled.entries.items ≡ []

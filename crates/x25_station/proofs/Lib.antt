@@ -26,3 +26,4 @@ pub mod OutcomeLemmas
 pub mod rows
 pub mod FewLemmas
 pub mod TimerLemmas
+pub mod DoesLemmas

@@ -10,7 +10,7 @@ ghost use Rattle.x25_layer.specs.Transcript.{name_of};
 ghost use Rattle.x25_layer.specs.TwoLayers.{shown};
 ghost use Rattle.x25_station.specs.Command.{command_of};
 ghost use Rattle.x25_station.specs.Entries.{of_channel};
-ghost use Rattle.x25_station.specs.code.FitsStation.{FitsStation, Leaves, Sends, Enters, Refuses, RefusesExactly};
+ghost use Rattle.x25_station.specs.code.FitsStation.{FitsStation, Does, RefusesExactly};
 ghost use Rattle.x25_station.specs.code.PlainEntry.{plain_entry, plain_asked, plain_said};
 ghost use Rattle.x25_station.specs.Settings.{Settings};
 ghost use Rattle.x25_station.specs.Station.{Station as State};
@@ -122,13 +122,7 @@ impl Station {
     /// channel is free; then, but for a message, with 10 where 256 packets wait; and then as the circuit refuses it, with 30 to 34.
     /// Else 70 alone, and 70 may come in place of each of these. The station is as before then.
     pub fn command(&mut self, command: Cmd<'_>) -> Result<Step, StationError>
-        ensures state { (c : Settings) (s : State) → FitsStation c self.old s → Leaves c self.new result (commands c s (command_of command.entry)) }
-        ensures frames { (c : Settings) (s : State) → FitsStation c self.old s → Sends c result (commands c s (command_of command.entry)) }
-        ensures entries { (c : Settings) (s : State) → FitsStation c self.old s → Enters result (commands c s (command_of command.entry)) }
-        ensures refused { (c : Settings) (s : State) → FitsStation c self.old s → Refuses result (commands c s (command_of command.entry)) }
-        ensures stays { (c : Settings) (s : State) → FitsStation c self.old s → OnErr result (FitsStation c self.new s) }
-        ensures few_frames { IfOk result (λ answer. vec_len answer.frames ≤ 17) }
-        ensures few_entries { IfOk result (λ answer. vec_len answer.entries ≤ 3) }
+        ensures { Does self.old self.new result (λ c s. commands c s (command_of command.entry)) }
     {
         match command {
             Cmd::Call {
@@ -166,12 +160,8 @@ impl Station {
     ///
     /// 9 where the link isn't up, 40 while a restart is under way, and else 70 alone. The station is as before then.
     pub fn pull(&mut self) -> Result<Step, StationError>
-        ensures state { (c : Settings) (s : State) → FitsStation c self.old s → Leaves c self.new result (requests c s PullsAll) }
-        ensures frames { (c : Settings) (s : State) → FitsStation c self.old s → Sends c result (requests c s PullsAll) }
-        ensures entries { (c : Settings) (s : State) → FitsStation c self.old s → Enters result (requests c s PullsAll) }
-        ensures refused { (c : Settings) (s : State) → FitsStation c self.old s → RefusesExactly result (requests c s PullsAll) }
-        ensures stays { (c : Settings) (s : State) → FitsStation c self.old s → OnErr result (FitsStation c self.new s) }
-        ensures few_frames { IfOk result (λ answer. vec_len answer.frames ≤ 17) }
+        ensures does { Does self.old self.new result (λ c s. requests c s PullsAll) }
+        ensures exactly { (c : Settings) (s : State) → FitsStation c self.old s → RefusesExactly result (requests c s PullsAll) }
         ensures no_entries { IfOk result (λ answer. vec_len answer.entries ≡ 0) }
     {
         steps_keep_bounds();
@@ -188,13 +178,7 @@ impl Station {
 
     // An acceptance, with packet sizes and windows of its own.
     fn accept_with(&mut self, channel: u16, params: Params) -> Result<Step, StationError>
-        ensures state { (c : Settings) (s : State) → FitsStation c self.old s → Leaves c self.new result (requests c s (Asks channel (Accepts (Some params)))) }
-        ensures frames { (c : Settings) (s : State) → FitsStation c self.old s → Sends c result (requests c s (Asks channel (Accepts (Some params)))) }
-        ensures entries { (c : Settings) (s : State) → FitsStation c self.old s → Enters result (requests c s (Asks channel (Accepts (Some params)))) }
-        ensures refused { (c : Settings) (s : State) → FitsStation c self.old s → Refuses result (requests c s (Asks channel (Accepts (Some params)))) }
-        ensures stays { (c : Settings) (s : State) → FitsStation c self.old s → OnErr result (FitsStation c self.new s) }
-        ensures few_frames { IfOk result (λ answer. vec_len answer.frames ≤ 17) }
-        ensures few_entries { IfOk result (λ answer. vec_len answer.entries ≤ 3) }
+        ensures { Does self.old self.new result (λ c s. requests c s (Asks channel (Accepts (Some params)))) }
     {
         let answer = Proposal::new(params);
         self.ask(
@@ -213,13 +197,7 @@ impl Station {
         user: &[u8],
         params: Params,
     ) -> Result<Step, StationError>
-        ensures state { (c : Settings) (s : State) → FitsStation c self.old s → Leaves c self.new result (requests c s (Dials called.now calling.now user.now params)) }
-        ensures frames { (c : Settings) (s : State) → FitsStation c self.old s → Sends c result (requests c s (Dials called.now calling.now user.now params)) }
-        ensures entries { (c : Settings) (s : State) → FitsStation c self.old s → Enters result (requests c s (Dials called.now calling.now user.now params)) }
-        ensures refused { (c : Settings) (s : State) → FitsStation c self.old s → Refuses result (requests c s (Dials called.now calling.now user.now params)) }
-        ensures stays { (c : Settings) (s : State) → FitsStation c self.old s → OnErr result (FitsStation c self.new s) }
-        ensures few_frames { IfOk result (λ answer. vec_len answer.frames ≤ 17) }
-        ensures few_entries { IfOk result (λ answer. vec_len answer.entries ≤ 3) }
+        ensures { Does self.old self.new result (λ c s. requests c s (Dials called.now calling.now user.now params)) }
     {
         steps_keep_bounds();
         holds_few();
@@ -242,13 +220,7 @@ impl Station {
 
     // A message, which is handed to the layer as a copy.
     fn send(&mut self, channel: u16, q: bool, user: &[u8]) -> Result<Step, StationError>
-        ensures state { (c : Settings) (s : State) → FitsStation c self.old s → Leaves c self.new result (requests c s (Asks channel (CircuitSends q user.now))) }
-        ensures frames { (c : Settings) (s : State) → FitsStation c self.old s → Sends c result (requests c s (Asks channel (CircuitSends q user.now))) }
-        ensures entries { (c : Settings) (s : State) → FitsStation c self.old s → Enters result (requests c s (Asks channel (CircuitSends q user.now))) }
-        ensures refused { (c : Settings) (s : State) → FitsStation c self.old s → Refuses result (requests c s (Asks channel (CircuitSends q user.now))) }
-        ensures stays { (c : Settings) (s : State) → FitsStation c self.old s → OnErr result (FitsStation c self.new s) }
-        ensures few_frames { IfOk result (λ answer. vec_len answer.frames ≤ 17) }
-        ensures few_entries { IfOk result (λ answer. vec_len answer.entries ≤ 3) }
+        ensures { Does self.old self.new result (λ c s. requests c s (Asks channel (CircuitSends q user.now))) }
     {
         let user = copied(self.alloc, user)?;
         self.ask(channel, Request::Send { q, user })
@@ -256,13 +228,7 @@ impl Station {
 
     // What is asked of the circuit of a channel.
     fn ask(&mut self, channel: u16, request: Request<'_>) -> Result<Step, StationError>
-        ensures state { (c : Settings) (s : State) → FitsStation c self.old s → Leaves c self.new result (requests c s (Asks channel (plain_request request.entry))) }
-        ensures frames { (c : Settings) (s : State) → FitsStation c self.old s → Sends c result (requests c s (Asks channel (plain_request request.entry))) }
-        ensures entries { (c : Settings) (s : State) → FitsStation c self.old s → Enters result (requests c s (Asks channel (plain_request request.entry))) }
-        ensures refused { (c : Settings) (s : State) → FitsStation c self.old s → Refuses result (requests c s (Asks channel (plain_request request.entry))) }
-        ensures stays { (c : Settings) (s : State) → FitsStation c self.old s → OnErr result (FitsStation c self.new s) }
-        ensures few_frames { IfOk result (λ answer. vec_len answer.frames ≤ 17) }
-        ensures few_entries { IfOk result (λ answer. vec_len answer.entries ≤ 3) }
+        ensures { Does self.old self.new result (λ c s. requests c s (Asks channel (plain_request request.entry))) }
     {
         steps_keep_bounds();
         holds_few();
@@ -286,13 +252,7 @@ impl Station {
 
     // A restart of the packet layer.
     fn restart(&mut self) -> Result<Step, StationError>
-        ensures state { (c : Settings) (s : State) → FitsStation c self.old s → Leaves c self.new result (requests c s Restarts) }
-        ensures frames { (c : Settings) (s : State) → FitsStation c self.old s → Sends c result (requests c s Restarts) }
-        ensures entries { (c : Settings) (s : State) → FitsStation c self.old s → Enters result (requests c s Restarts) }
-        ensures refused { (c : Settings) (s : State) → FitsStation c self.old s → Refuses result (requests c s Restarts) }
-        ensures stays { (c : Settings) (s : State) → FitsStation c self.old s → OnErr result (FitsStation c self.new s) }
-        ensures few_frames { IfOk result (λ answer. vec_len answer.frames ≤ 17) }
-        ensures few_entries { IfOk result (λ answer. vec_len answer.entries ≤ 3) }
+        ensures { Does self.old self.new result (λ c s. requests c s Restarts) }
     {
         steps_keep_bounds();
         holds_few();

@@ -4,7 +4,7 @@ ghost use Rattle.x25_layer.specs.Layer.{Layer as LayerState, LayerSettings};
 ghost use Rattle.x25_layer.specs.code.FitsLayer.{FitsLayer};
 ghost use Rattle.x25_layer.specs.Room.{HasRoom};
 ghost use Rattle.x25_station.specs.Entries.{entries_down};
-ghost use Rattle.x25_station.specs.code.FitsStation.{FitsStation, Leaves, Sends, Enters, Refuses, RefusesExactly};
+ghost use Rattle.x25_station.specs.code.FitsStation.{FitsStation, Does, RefusesExactly};
 ghost use Rattle.x25_station.specs.code.PlainEntry.{plain_entry};
 ghost use Rattle.x25_station.specs.Settings.{Settings};
 ghost use Rattle.x25_station.specs.Station.{Station as State};
@@ -23,13 +23,8 @@ impl Station {
     ///
     /// 12 where it is being set up, 13 where it is closed, 15 where it is up, and else 70 alone. The station is as before then.
     pub fn connect(&mut self) -> Result<Step, StationError>
-        ensures state { (c : Settings) (s : State) → FitsStation c self.old s → Leaves c self.new result (connects c s) }
-        ensures frames { (c : Settings) (s : State) → FitsStation c self.old s → Sends c result (connects c s) }
-        ensures entries { (c : Settings) (s : State) → FitsStation c self.old s → Enters result (connects c s) }
-        ensures refused { (c : Settings) (s : State) → FitsStation c self.old s → RefusesExactly result (connects c s) }
-        ensures stays { (c : Settings) (s : State) → FitsStation c self.old s → OnErr result (FitsStation c self.new s) }
-        ensures few_frames { IfOk result (λ answer. vec_len answer.frames ≤ 17) }
-        ensures few_entries { IfOk result (λ answer. vec_len answer.entries ≤ 3) }
+        ensures does { Does self.old self.new result connects }
+        ensures exactly { (c : Settings) (s : State) → FitsStation c self.old s → RefusesExactly result (connects c s) }
     {
         steps_keep_bounds();
         holds_few();
@@ -44,13 +39,7 @@ impl Station {
 
     /// Begins to set the link up, as a command, which has an entry.
     pub(crate) fn connect_asked(&mut self) -> Result<Step, StationError>
-        ensures state { (c : Settings) (s : State) → FitsStation c self.old s → Leaves c self.new result (connects_asked c s) }
-        ensures frames { (c : Settings) (s : State) → FitsStation c self.old s → Sends c result (connects_asked c s) }
-        ensures entries { (c : Settings) (s : State) → FitsStation c self.old s → Enters result (connects_asked c s) }
-        ensures refused { (c : Settings) (s : State) → FitsStation c self.old s → Refuses result (connects_asked c s) }
-        ensures stays { (c : Settings) (s : State) → FitsStation c self.old s → OnErr result (FitsStation c self.new s) }
-        ensures few_frames { IfOk result (λ answer. vec_len answer.frames ≤ 17) }
-        ensures few_entries { IfOk result (λ answer. vec_len answer.entries ≤ 3) }
+        ensures { Does self.old self.new result connects_asked }
     {
         let Ok(mut entries) = Vec::with_capacity(self.alloc, 1) else {
             return Err(StationError::NoMemory);
@@ -67,13 +56,7 @@ impl Station {
     ///
     /// 11 where the timer doesn't run, and else 70 alone; 70 may come in place of 11. The station is as before then.
     pub fn t1(&mut self) -> Result<Step, StationError>
-        ensures state { (c : Settings) (s : State) → FitsStation c self.old s → Leaves c self.new result (fires c s) }
-        ensures frames { (c : Settings) (s : State) → FitsStation c self.old s → Sends c result (fires c s) }
-        ensures entries { (c : Settings) (s : State) → FitsStation c self.old s → Enters result (fires c s) }
-        ensures refused { (c : Settings) (s : State) → FitsStation c self.old s → Refuses result (fires c s) }
-        ensures stays { (c : Settings) (s : State) → FitsStation c self.old s → OnErr result (FitsStation c self.new s) }
-        ensures few_frames { IfOk result (λ answer. vec_len answer.frames ≤ 17) }
-        ensures few_entries { IfOk result (λ answer. vec_len answer.entries ≤ 3) }
+        ensures { Does self.old self.new result fires }
     {
         steps_keep_bounds();
         holds_few();
@@ -94,13 +77,7 @@ impl Station {
 
     /// Disconnects the link, for good.
     pub(crate) fn disconnect(&mut self) -> Result<Step, StationError>
-        ensures state { (c : Settings) (s : State) → FitsStation c self.old s → Leaves c self.new result (disconnects c s) }
-        ensures frames { (c : Settings) (s : State) → FitsStation c self.old s → Sends c result (disconnects c s) }
-        ensures entries { (c : Settings) (s : State) → FitsStation c self.old s → Enters result (disconnects c s) }
-        ensures refused { (c : Settings) (s : State) → FitsStation c self.old s → Refuses result (disconnects c s) }
-        ensures stays { (c : Settings) (s : State) → FitsStation c self.old s → OnErr result (FitsStation c self.new s) }
-        ensures few_frames { IfOk result (λ answer. vec_len answer.frames ≤ 17) }
-        ensures few_entries { IfOk result (λ answer. vec_len answer.entries ≤ 3) }
+        ensures { Does self.old self.new result disconnects }
     {
         steps_keep_bounds();
         holds_few();

@@ -8,7 +8,7 @@ ghost use Rattle.x25_layer.specs.code.FitsLayer.{FitsLayer};
 ghost use Rattle.x25_layer.specs.Room.{HasRoom, HaveAtMost, IsNotFull};
 ghost use Rattle.x25_layer.specs.Rounds.{Putting, hears, comes_up};
 ghost use Rattle.x25_station.specs.Entries.{entries_up, entries_noted};
-ghost use Rattle.x25_station.specs.code.FitsStation.{FitsStation, Leaves, Sends, Enters};
+ghost use Rattle.x25_station.specs.code.FitsStation.{FitsStation, Does};
 ghost use Rattle.x25_station.specs.code.PlainEntry.{plain_entry};
 ghost use Rattle.x25_station.specs.Receiving.{kept_of, CanPut};
 ghost use Rattle.x25_station.specs.Settings.{Settings, link_settings, layer_settings};
@@ -137,13 +137,8 @@ impl Station {
     ///
     /// 70 alone. The octets aren't taken then, and the station is as before.
     pub fn receive(&mut self, octets: &[u8]) -> Result<Step, StationError>
-        ensures state { (c : Settings) (s : State) → FitsStation c self.old s → Leaves c self.new result (Did (receives c s octets.now)) }
-        ensures frames { (c : Settings) (s : State) → FitsStation c self.old s → Sends c result (Did (receives c s octets.now)) }
-        ensures entries { (c : Settings) (s : State) → FitsStation c self.old s → Enters result (Did (receives c s octets.now)) }
+        ensures does { Does self.old self.new result (λ c s. Did (receives c s octets.now)) }
         ensures refused { IfErr result (λ e. e ≡ StationError.NoMemory) }
-        ensures stays { (c : Settings) (s : State) → FitsStation c self.old s → OnErr result (FitsStation c self.new s) }
-        ensures few_frames { IfOk result (λ answer. vec_len answer.frames ≤ 17) }
-        ensures few_entries { IfOk result (λ answer. vec_len answer.entries ≤ 3) }
     {
         if self.is_full() {
             return self.abandon(octets);
@@ -168,13 +163,8 @@ impl Station {
     fn abandon(&mut self, octets: &[u8]) -> Result<Step, StationError>
         requires up { up_of self.old.link ≡ true }
         requires full { (c : Settings) (s : State) → FitsStation c self.old s → abandons c s ≡ true }
-        ensures state { (c : Settings) (s : State) → FitsStation c self.old s → Leaves c self.new result (Did (receives c s octets.now)) }
-        ensures frames { (c : Settings) (s : State) → FitsStation c self.old s → Sends c result (Did (receives c s octets.now)) }
-        ensures entries { (c : Settings) (s : State) → FitsStation c self.old s → Enters result (Did (receives c s octets.now)) }
+        ensures does { Does self.old self.new result (λ c s. Did (receives c s octets.now)) }
         ensures refused { IfErr result (λ e. e ≡ StationError.NoMemory) }
-        ensures stays { (c : Settings) (s : State) → FitsStation c self.old s → OnErr result (FitsStation c self.new s) }
-        ensures few_frames { IfOk result (λ answer. vec_len answer.frames ≤ 17) }
-        ensures few_entries { IfOk result (λ answer. vec_len answer.entries ≤ 3) }
     {
         steps_keep_bounds();
         holds_few();
@@ -225,13 +215,8 @@ impl Station {
     fn take(&mut self, octets: &[u8]) -> Result<Step, StationError>
         requires left { up_of self.old.link ≡ true → IsNotFull self.old.layer }
         requires goes_on { (c : Settings) (s : State) → FitsStation c self.old s → abandons c s ≡ false }
-        ensures state { (c : Settings) (s : State) → FitsStation c self.old s → Leaves c self.new result (Did (receives c s octets.now)) }
-        ensures frames { (c : Settings) (s : State) → FitsStation c self.old s → Sends c result (Did (receives c s octets.now)) }
-        ensures entries { (c : Settings) (s : State) → FitsStation c self.old s → Enters result (Did (receives c s octets.now)) }
+        ensures does { Does self.old self.new result (λ c s. Did (receives c s octets.now)) }
         ensures refused { IfErr result (λ e. e ≡ StationError.NoMemory) }
-        ensures stays { (c : Settings) (s : State) → FitsStation c self.old s → OnErr result (FitsStation c self.new s) }
-        ensures few_frames { IfOk result (λ answer. vec_len answer.frames ≤ 17) }
-        ensures few_entries { IfOk result (λ answer. vec_len answer.entries ≤ 3) }
     {
         steps_keep_bounds();
         notes_what_changes();

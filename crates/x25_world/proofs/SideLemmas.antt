@@ -12,7 +12,7 @@ use Rattle.x25_station.specs.declared.error.StationError.TheVariants as station
 use Rattle.x25_station.specs.declared.station.Station as code
 use Rattle.x25_station.specs.declared.step.Step as code_step
 use Rattle.x25_station.specs.Entries.{StationEntry}
-use Rattle.x25_station.specs.code.FitsStation.{FitsStation, Leaves, Sends, Enters, Refuses, RefusesExactly}
+use Rattle.x25_station.specs.code.FitsStation.{FitsStation, Leaves, Sends, Enters, Refuses}
 use Rattle.x25_station.specs.code.PlainEntry.{plain_entry}
 use Rattle.x25_station.specs.Settings.{Settings, settings_from}
 use Rattle.x25_station.specs.Station.{Station}
@@ -97,13 +97,6 @@ pub side_stays : (cfg : Cfg) (at : Role) (near new : code.Station) (line : Shown
     → FitsSide cfg at (record { near = new; line = record line { room = room }; transcript = transcript }) w gone
 side_stays cfg Dte near new line transcript w gone room side fits = record { near = fits; out = side.out; back = side.back; tap = side.tap; transcript = side.transcript }
 side_stays cfg Dce near new line transcript w gone room side fits = record { near = fits; out = side.out; back = side.back; tap = side.tap; transcript = side.transcript }
-
--- .. with its ground alone
-pub exactly_refuses : (r : Result code_step.Step StationError) (outcome : Outcome) → RefusesExactly r outcome → Refuses r outcome
-exactly_refuses (Ok x) (Did step) h = tt
-exactly_refuses (Ok x) (Refused e) h = cc
-exactly_refuses (Err x) (Did step) h = h
-exactly_refuses (Err x) (Refused e) h = inl (cc)
 
 -- ---- timer T1 runs out, or doesn't while UA can still come
 

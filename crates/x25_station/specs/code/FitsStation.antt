@@ -1,5 +1,5 @@
 -- Which states of the definition a station stands for, and what its calls answer.
-use Rattle.std.specs.Prelude.{◌≡◌, ◌⊎◌, map, Option, Some, None, Result, Err, OnOk, IfOk, IfErr, IsErrAnd}
+use Rattle.std.specs.Prelude.{◌≡◌, ◌≤◌, ◌⊎◌, map, vec_len, Option, Some, None, Result, Err, OnOk, OnErr, IfOk, IfErr, IsErrAnd}
 use Rattle.x25_frame.specs.Spelling.{spelling_of}
 use Rattle.x25_link.specs.code.Link.{ShownLink}
 use Rattle.x25_layer.specs.declared.layer.Layer as layer_code
@@ -45,6 +45,17 @@ Refuses result (Refused e) = IsErrAnd result (λ found. (found ≡ e) ⊎ (found
 abbrev pub RefusesExactly : {T : Type 0} → Result T StationError → Outcome → Type 0
 RefusesExactly result (Did step) = IfErr result (λ e. e ≡ error.NoMemory)
 RefusesExactly result (Refused e) = result ≡ Err e
+
+-- A call does what the definition says of it: of each state that the station stood for it leaves that step's, and answers its frames and
+-- entries; or it is refused, and the station is as before. It answers at most so many frames and entries, whatever they are.
+pub record Does (old new : code.Station) (result : Result code_step.Step StationError) (said : Settings → Station → Outcome) : Type 0 where
+  pub state : (c : Settings) (s : Station) → FitsStation c old s → Leaves c new result (said c s)
+  pub frames : (c : Settings) (s : Station) → FitsStation c old s → Sends c result (said c s)
+  pub entries : (c : Settings) (s : Station) → FitsStation c old s → Enters result (said c s)
+  pub refused : (c : Settings) (s : Station) → FitsStation c old s → Refuses result (said c s)
+  pub stays : (c : Settings) (s : Station) → FitsStation c old s → OnErr result (FitsStation c new s)
+  pub few_frames : IfOk result (λ answer. vec_len answer.frames ≤ 17)
+  pub few_entries : IfOk result (λ answer. vec_len answer.entries ≤ 3)
 
 -- a call that makes a station is refused with this, or else with 70 alone
 abbrev pub RefusesWith : {T : Type 0} → Result T StationError → Option StationError → Type 0

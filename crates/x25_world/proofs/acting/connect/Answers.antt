@@ -1,16 +1,16 @@
-use Rattle.std.proofs.Common.{Ok, Err, sym}
+use Rattle.std.proofs.Common.{Ok, sym}
 use Rattle.x25_station.specs.Settings.{settings_from}
-use Rattle.x25_world.proofs.SideLemmas.{leaves_on, shared_of, has_happened, is_refusal, exactly_refuses, side_stays}
+use Rattle.x25_world.proofs.SideLemmas.{leaves_on, shared_of, has_happened, is_refusal, side_stays}
 use Rattle.x25_world.proofs.acting.connect.Goals as goal
 
 pub returns-in-Ok : goal.returns-in-Ok
 returns-in-Ok c = λ cfg w gone side.
     let fits = side.near in
     let shared = rw (sym c.make_room.ensures.line) at (shared_of cfg c.args.at _ c.args.line.now _ w gone c.make_room.new.line.room side) in
-    let called = c.in-Ok.ensures in
+    let called = c.in-Ok.ensures.does in
     record {
       happened = rw (c.tell.ensures.line, c.tell.ensures.transcript, c.make_room.ensures.transcript)
-          (has_happened cfg c.args.at _ _ _ w gone _ c.in-Ok.step shared (leaves_on (settings_from c.args.at cfg) c.connect.new.self c.tell.new.near (Ok c.in-Ok.step) _ c.tell.ensures.near (called.state _ _ fits)) (called.frames _ _ fits) (called.entries _ _ fits) (exactly_refuses (Ok c.in-Ok.step) _ (called.refused _ _ fits)));
+          (has_happened cfg c.args.at _ _ _ w gone _ c.in-Ok.step shared (leaves_on (settings_from c.args.at cfg) c.connect.new.self c.tell.new.near (Ok c.in-Ok.step) _ c.tell.ensures.near (called.state _ _ fits)) (called.frames _ _ fits) (called.entries _ _ fits) (called.refused _ _ fits));
       refused = tt;
       stays = tt;
     }
@@ -18,9 +18,9 @@ returns-in-Ok c = λ cfg w gone side.
 pub returns-in-Err : goal.returns-in-Err
 returns-in-Err c = λ cfg w gone side.
     let fits = side.near in
-    let called = c.in-Err.ensures in
+    let called = c.in-Err.ensures.does in
     record {
       happened = tt;
-      refused = rw c.of_station.ensures (is_refusal cfg c.args.at w _ c.in-Err.error (exactly_refuses (Err c.in-Err.error) _ (called.refused _ _ fits)));
+      refused = rw c.of_station.ensures (is_refusal cfg c.args.at w _ c.in-Err.error (called.refused _ _ fits));
       stays = rw (c.make_room.ensures.line, c.make_room.ensures.transcript) (side_stays cfg c.args.at _ _ c.args.line.now _ w gone c.make_room.new.line.room side (called.stays _ _ fits));
     }

@@ -9,7 +9,7 @@ pub returns-in-Ok : goal.returns-in-Ok
 returns-in-Ok c = λ cfg w gone side.
     let fits = side.near in
     let shared = rw (sym c.make_room.ensures.line) at (shared_of cfg c.args.at _ c.args.line.now _ w gone c.make_room.new.line.room side) in
-    let called = c.in-Ok.ensures in
+    let called = c.in-Ok.ensures.does in
     let front : Some c.in-Some.octets.now ≡ slice_get w.back 0 = c.in-Some.ensures ∙ ap (λ l. slice_get l 0) shared.back in
     record {
       happened = rw (c.tell.ensures.line, c.tell.ensures.transcript, c.make_room.ensures.transcript, c.remove-octets.ensures)
@@ -25,5 +25,5 @@ returns-in-Err c = λ cfg w gone side.
     record {
       happened = tt;
       refused = inr (c.of_station.ensures ∙ ap error_of called.refused);
-      stays = rw (c.make_room.ensures.line, c.make_room.ensures.transcript) (side_stays cfg c.args.at _ _ c.args.line.now _ w gone c.make_room.new.line.room side (called.stays _ _ fits));
+      stays = rw (c.make_room.ensures.line, c.make_room.ensures.transcript) (side_stays cfg c.args.at _ _ c.args.line.now _ w gone c.make_room.new.line.room side (called.does.stays _ _ fits));
     }

@@ -6,7 +6,7 @@ use Rattle.x25_pipe.proofs.pipe.Pipe.receive.Goals as goal
 pub returns-in-Ok-clause-turns : goal.returns-in-Ok-clause-turns
 unfolding event_turn
 returns-in-Ok-clause-turns g c = λ k old s told refused h.
-    let came = c.in-Ok.ensures in
+    let came = c.in-Ok.ensures.does in
     let event = Comes (take c.args.count c.args.self.now.octets) in
     c.follow_up.ensures.stood k old s event (outcome k s event) told refused (c.of-before.ensures k s h.fits) refl
     (record { leaves = came.state k s h.fits; sends = came.frames k s h.fits; enters = came.entries k s h.fits; accepted = tt }) h.role h.tells h.status
@@ -16,4 +16,4 @@ unfolding event_turn
 returns-in-Err-clause-turns g c = λ k old s told refused h.
     let event = Comes (take c.args.count c.args.self.now.octets) in
     c.refuse.ensures.stood k old s event (outcome k s event) told refused
-    (record { fits = c.in-Err.ensures.stays k s h.fits; role = h.role; tells = h.tells; status = h.status }) c.in-Err.ensures.refused
+    (record { fits = c.in-Err.ensures.does.stays k s h.fits; role = h.role; tells = h.tells; status = h.status }) c.in-Err.ensures.refused

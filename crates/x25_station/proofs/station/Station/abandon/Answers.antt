@@ -1,4 +1,4 @@
-use Rattle.std.proofs.Common.{arith, ◌≤◌, length, [], ◌++◌, map, ap, ◌∙◌}
+use Rattle.std.proofs.Common.{rules, arith, ◌≤◌, length, [], ◌++◌, map, ap, ◌∙◌}
 use Rattle.x25_link.specs.MustSend.{Step as LinkStep}
 use Rattle.x25_link.specs.Steps.{abandon_step}
 use Rattle.x25_station.specs.Entries.{entries_down}
@@ -35,33 +35,31 @@ invariant_of-self c = record {
       record { packets = omega (arith, memory, low); spares = omega (arith, same, few); texts = before.texts };
 }
 
-pub returns-clause-state : goal.returns-clause-state
-returns-clause-state c = λ c' s fits.
-    let k : LinkStep = abandon_step (link_settings c') s.link in
-    let step : Step = receives c' s c.args.octets.now in
-    fits_down c' _ _ s.layer k step _ (ap (λ (x : Step). x.near) (gives_up c' s c.args.octets.now (c.requires.full c' s fits)))
-    (ap (λ n. n.down) (c.abandon-step.ensures.answer (link_settings c') s.link fits.link).notes)
-    (c.abandon-step.ensures.state (link_settings c') s.link fits.link)
-    (c.note_down.ensures.layer (layer_settings c') s.layer fits.layer)
-    (ap (λ o. o.made) c.abandon-step.ensures.outbox ∙ fits.sent)
-    (c.steps_keep_bounds.ensures.receive c' s c.args.octets.now fits.kept)
-
-pub returns-clause-frames : goal.returns-clause-frames
-returns-clause-frames c = λ c' s fits.
-    let k : LinkStep = abandon_step (link_settings c') s.link in
-    frames_down c' s.layer k _ (receives c' s c.args.octets.now) (gives_up c' s c.args.octets.now (c.requires.full c' s fits)) (c.abandon-step.ensures.answer (link_settings c') s.link fits.link).frames
-
-pub returns-clause-entries : goal.returns-clause-entries
-returns-clause-entries c = λ c' s fits.
-    let k : LinkStep = abandon_step (link_settings c') s.link in
-    let answer = c.abandon-step.ensures.answer (link_settings c') s.link fits.link in
-    entries_noted_down s.layer k [] _ _ (receives c' s c.args.octets.now) (gives_up c' s c.args.octets.now (c.requires.full c' s fits)) (ap (λ n. n.down) answer.notes)
-    (c.note_down.ensures.entries ∙ ap (λ es. map plain_entry es ++ entries_down c.abandon-step.result.notes.down) c.in-Ok.ensures.items)
-
-pub returns-clause-few_frames : goal.returns-clause-few_frames
-returns-clause-few_frames c =
-    let few : length c.abandon-step.result.frames.items ≤ 9 = least_by_meaning _ _ (length c.abandon-step.result.frames.items) 9 c.args.self.now.meant (λ c' s fits.
-    let lk = link_settings c' in
-    few_frames c'.role c.abandon-step.result.frames.items (λ frame. frame.items) (abandon_step lk s.link).side.out 9 (c.abandon-step.ensures.answer lk s.link fits.link).frames
-    (abandon_few lk s.link (c.holds_few.ensures.window lk c.args.self.now.link s.link fits.link))) in
-    grind (arith, few, c.abandon-step.result.frames.ok)
+pub returns-clause-does : goal.returns-clause-does
+returns-clause-does c = record {
+  state = λ c' s fits.
+      let k : LinkStep = abandon_step (link_settings c') s.link in
+      let step : Step = receives c' s c.args.octets.now in
+      fits_down c' _ _ s.layer k step _ (ap (λ (x : Step). x.near) (gives_up c' s c.args.octets.now (c.requires.full c' s fits)))
+      (ap (λ n. n.down) (c.abandon-step.ensures.answer (link_settings c') s.link fits.link).notes)
+      (c.abandon-step.ensures.state (link_settings c') s.link fits.link)
+      (c.note_down.ensures.layer (layer_settings c') s.layer fits.layer)
+      (ap (λ o. o.made) c.abandon-step.ensures.outbox ∙ fits.sent)
+      (c.steps_keep_bounds.ensures.receive c' s c.args.octets.now fits.kept);
+  frames = λ c' s fits.
+      let k : LinkStep = abandon_step (link_settings c') s.link in
+      frames_down c' s.layer k _ (receives c' s c.args.octets.now) (gives_up c' s c.args.octets.now (c.requires.full c' s fits)) (c.abandon-step.ensures.answer (link_settings c') s.link fits.link).frames;
+  entries = λ c' s fits.
+      let k : LinkStep = abandon_step (link_settings c') s.link in
+      let answer = c.abandon-step.ensures.answer (link_settings c') s.link fits.link in
+      entries_noted_down s.layer k [] _ _ (receives c' s c.args.octets.now) (gives_up c' s c.args.octets.now (c.requires.full c' s fits)) (ap (λ n. n.down) answer.notes)
+      (c.note_down.ensures.entries ∙ ap (λ es. map plain_entry es ++ entries_down c.abandon-step.result.notes.down) c.in-Ok.ensures.items);
+  refused = λ c' s fits. tt;
+  stays = λ c' s fits. tt;
+  few_frames = let few : length c.abandon-step.result.frames.items ≤ 9 = least_by_meaning _ _ (length c.abandon-step.result.frames.items) 9 c.args.self.now.meant (λ c' s fits.
+      let lk = link_settings c' in
+      few_frames c'.role c.abandon-step.result.frames.items (λ frame. frame.items) (abandon_step lk s.link).side.out 9 (c.abandon-step.ensures.answer lk s.link fits.link).frames
+      (abandon_few lk s.link (c.holds_few.ensures.window lk c.args.self.now.link s.link fits.link))) in
+      grind (arith, few, c.abandon-step.result.frames.ok);
+  few_entries = grind (arith, c.note_down.ensures.length, c.in-Ok.ensures.len);
+}

@@ -1,4 +1,4 @@
-use Rattle.std.proofs.Common.{arith, ◌≤◌, length, [], ◌∷◌, ◌++◌, ap, ◌∙◌, map, ◌≡◌}
+use Rattle.std.proofs.Common.{arith, rules, [], ◌∷◌, ◌++◌, ap, ◌∙◌, map, ◌≡◌}
 use Rattle.x25_layer.specs.Calls.{Dials}
 use Rattle.x25_layer.specs.Transcript.{Asked, name_of}
 use Rattle.x25_station.specs.declared.entry.Said.TheVariants as said
@@ -9,10 +9,9 @@ use Rattle.x25_station.specs.code.PlainEntry.{plain_entry, plain_said}
 use Rattle.x25_station.specs.Settings.{link_settings, layer_settings}
 use Rattle.x25_station.specs.Steps.{requests}
 use Rattle.x25_station.proofs.OutcomeLemmas.{leaves_some, still_meant}
-use Rattle.x25_station.proofs.AskLemmas.{answers, refuses, still_fits}
+use Rattle.x25_station.proofs.AskLemmas.{answers, still_fits}
+use Rattle.x25_station.proofs.DoesLemmas.{did_request, declines_request}
 use Rattle.x25_station.proofs.EnteredLemmas.{dialled_enters}
-use Rattle.x25_station.proofs.TakeLemmas.{least_by_meaning}
-use Rattle.x25_station.proofs.FewLemmas.{few_asked}
 use Rattle.x25_station.proofs.station.Station.call.Goals as goal
 
 pub invariant_of-self-in-Ok-call_with : goal.invariant_of-self-in-Ok-call_with
@@ -44,44 +43,19 @@ invariant_of-self-in-Err-call_with c = record {
       record { packets = omega (arith, packets, low); spares = omega (arith, spares, few); texts = before.texts };
 }
 
-pub returns-in-Ok-call_with-clause-state : goal.returns-in-Ok-call_with-clause-state
-returns-in-Ok-call_with-clause-state c = λ c' s fits.
+pub returns-in-Ok-call_with : goal.returns-in-Ok-call_with
+returns-in-Ok-call_with c =
     let request = Dials c.args.called.now c.args.calling.now c.args.user.now c.args.params in
-    (answers c.in-Ok-call_with.channel c' _ c.call_with.new.link c.sent-frames.new.self _ c.call_with.new.self (record { frames = c.sent-frames.result; entries = c.enter.new.entries }) s request fits
-    c.in-Ok-call_with.ensures.layer c.in-Ok-call_with.ensures.link c.sent-frames.ensures.station (ap (λ o. o.made) c.sent-frames.ensures.outbox) c.sent-frames.ensures.frames
-    (c.steps_keep_bounds.ensures.command c' s (Requests request) fits.kept)).state
-
-pub returns-in-Ok-call_with-clause-frames : goal.returns-in-Ok-call_with-clause-frames
-returns-in-Ok-call_with-clause-frames c = λ c' s fits.
-    let request = Dials c.args.called.now c.args.calling.now c.args.user.now c.args.params in
-    (answers c.in-Ok-call_with.channel c' _ c.call_with.new.link c.sent-frames.new.self _ c.call_with.new.self (record { frames = c.sent-frames.result; entries = c.enter.new.entries }) s request fits
-    c.in-Ok-call_with.ensures.layer c.in-Ok-call_with.ensures.link c.sent-frames.ensures.station (ap (λ o. o.made) c.sent-frames.ensures.outbox) c.sent-frames.ensures.frames
-    (c.steps_keep_bounds.ensures.command c' s (Requests request) fits.kept)).frames
-
-pub returns-in-Ok-call_with-clause-entries : goal.returns-in-Ok-call_with-clause-entries
-returns-in-Ok-call_with-clause-entries c = λ c' s fits.
+    let r : code_step.Step = record { frames = c.sent-frames.result; entries = c.enter.new.entries } in
+    did_request c.in-Ok-call_with.channel c.args.self.now _ c.call_with.new.link r request c.in-Ok-call_with.ensures.layer c.in-Ok-call_with.ensures.link c.sent-frames.ensures.station (ap (λ o. o.made) c.sent-frames.ensures.outbox) c.sent-frames.ensures.frames
+    c.steps_keep_bounds.ensures.command c.holds_few.ensures.window c.holds_few.ensures.stand
+    (λ c' s fits.
     let h = c.in-Ok-call_with.channel in
-    dialled_enters c' _ _ c.call_with.new.self s (record { frames = c.sent-frames.result; entries = c.enter.new.entries }) h c.args.called.now c.args.calling.now c.args.user.now c.args.params fits c.in-Ok-call_with.ensures.layer (c.in-Ok-call_with.ensures.channel (layer_settings c') s.layer fits.layer) (λ k after configured.
+    dialled_enters c' _ _ c.call_with.new.self s r h c.args.called.now c.args.calling.now c.args.user.now c.args.params fits c.in-Ok-call_with.ensures.layer (c.in-Ok-call_with.ensures.channel (layer_settings c') s.layer fits.layer) (λ k after configured.
     c.enter.ensures.entered (layer_settings c') k after configured
     ∙ ap (λ es. map plain_entry es ++ of_channel (record { channel = h; name = name_of k h; said = plain_said (said.Asked c.in_ok-asked.asked) }) ∷ []) c.in-Ok.ensures.items
-    ∙ ap (λ q. of_channel (record { channel = h; name = name_of k h; said = Asked q }) ∷ []) c.in_ok-asked.ensures.ok)
+    ∙ ap (λ q. of_channel (record { channel = h; name = name_of k h; said = Asked q }) ∷ []) c.in_ok-asked.ensures.ok))
+    (grind (arith, c.enter.ensures.length, c.in-Ok.ensures.len))
 
-pub returns-in-Ok-call_with-clause-refused : goal.returns-in-Ok-call_with-clause-refused
-returns-in-Ok-call_with-clause-refused c = λ c' s fits.
-    let request = Dials c.args.called.now c.args.calling.now c.args.user.now c.args.params in
-    (answers c.in-Ok-call_with.channel c' _ c.call_with.new.link c.sent-frames.new.self _ c.call_with.new.self (record { frames = c.sent-frames.result; entries = c.enter.new.entries }) s request fits
-    c.in-Ok-call_with.ensures.layer c.in-Ok-call_with.ensures.link c.sent-frames.ensures.station (ap (λ o. o.made) c.sent-frames.ensures.outbox) c.sent-frames.ensures.frames
-    (c.steps_keep_bounds.ensures.command c' s (Requests request) fits.kept)).refused
-
-pub returns-in-Err-clause-refused : goal.returns-in-Err-clause-refused
-returns-in-Err-clause-refused c = λ c' s fits. refuses _ code_step.Step c.in-Err.error _ c' _ _ c.call_with.new.self s (Dials c.args.called.now c.args.calling.now c.args.user.now c.args.params) fits c.of_layer.ensures c.in-Err.ensures.layer
-
-pub returns-in-Err-clause-stays : goal.returns-in-Err-clause-stays
-returns-in-Err-clause-stays c = λ c' s fits. still_fits c' c.args.self.now.link c.call_with.new.link _ c.call_with.new.self s fits (c.in-Err.ensures.layer_stays (layer_settings c') s.layer fits.layer) c.in-Err.ensures.link_stays
-
-pub returns-in-Ok-call_with-clause-few_frames : goal.returns-in-Ok-call_with-clause-few_frames
-returns-in-Ok-call_with-clause-few_frames c =
-    let few : length c.sent-frames.result.items ≤ 8 = least_by_meaning _ _ (length c.sent-frames.result.items) 8 c.args.self.now.meant (λ c' s fits.
-    few_asked c' s (Dials c.args.called.now c.args.calling.now c.args.user.now c.args.params) (record { frames = c.sent-frames.result; entries = c.enter.new.entries }) (c.holds_few.ensures.window (link_settings c') c.args.self.now.link s.link fits.link)
-    (c.holds_few.ensures.stand (link_settings c') c.args.self.now.link s.link fits.link).place_low ((returns-in-Ok-call_with-clause-frames c) c' s fits) ((returns-in-Ok-call_with-clause-refused c) c' s fits)) in
-    grind (arith, few, c.sent-frames.result.ok)
+pub returns-in-Err : goal.returns-in-Err
+returns-in-Err c = declines_request _ c.in-Err.error _ c.args.self.now _ (Dials c.args.called.now c.args.calling.now c.args.user.now c.args.params) c.of_layer.ensures c.in-Err.ensures.layer c.in-Err.ensures.layer_stays c.in-Err.ensures.link_stays

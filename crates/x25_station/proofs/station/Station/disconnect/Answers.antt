@@ -1,15 +1,16 @@
-use Rattle.std.proofs.Common.{arith, ◌≤◌, length, [], sym, subst, ◌∷◌, ap, ◌∙◌, ◌++◌, map}
+use Rattle.std.proofs.Common.{arith, rules, ◌≤◌, length, [], sym, subst, ◌∷◌, ap, ◌∙◌, ◌++◌, map}
 use Rattle.x25_link.specs.Steps.{disconnect_refusal, disconnect_step}
 use Rattle.x25_link.specs.declared.step.Step as link_step
 use Rattle.x25_station.specs.code.Aside.{IsFewAside}
-use Rattle.x25_station.specs.code.FitsParts.{AreMeant}
+use Rattle.x25_station.specs.code.FitsParts.{AreMeant, FitsParts}
 use Rattle.x25_station.specs.Settings.{link_settings, layer_settings}
 use Rattle.x25_station.specs.Command.{Disconnects}
 use Rattle.x25_station.specs.Entries.{entries_down, disconnect_asked}
 use Rattle.x25_station.specs.code.PlainEntry.{plain_entry}
 use Rattle.x25_station.specs.declared.entry.Entry.TheVariants.{DisconnectAsked}
 use Rattle.x25_station.specs.declared.step.Step as code_step
-use Rattle.x25_station.specs.Steps.{Step, unless, follows, led_by}
+use Rattle.x25_station.specs.Steps.{Step, unless, follows, led_by, disconnects}
+use Rattle.x25_station.proofs.DoesLemmas.{declines}
 use Rattle.x25_station.proofs.DownLemmas.{disconnect_down, leaves_down, frames_down, entries_noted_down}
 use Rattle.x25_station.proofs.OutcomeLemmas.{leaves_some, still_meant, sends_unless, enters_unless, goes, refused, disconnect_named}
 use Rattle.x25_station.proofs.TakeLemmas.{least_by_meaning, few_frames}
@@ -41,47 +42,43 @@ invariant_of-self c = record {
 pub invariant_of-self-in-Err-disconnect : goal.invariant_of-self-in-Err-disconnect
 invariant_of-self-in-Err-disconnect c = record { meant = subst (λ l. AreMeant l c.args.self.now.layer) (sym c.in-Err.ensures.err) c.args.self.now.meant; aside = subst (λ l. IsFewAside l c.args.self.now.layer c.args.self.now.texts) (sym c.in-Err.ensures.err) c.args.self.now.aside }
 
-pub returns-in-Ok-disconnect-clause-state : goal.returns-in-Ok-disconnect-clause-state
-returns-in-Ok-disconnect-clause-state c = λ c' s fits.
-    let k = disconnect_step (link_settings c') s.link in
-    let step : Step = led_by (disconnect_asked ∷ []) (follows c' s.layer k) in
-    leaves_down c' _ _ (record { frames = c.in-Ok-disconnect.step.frames; entries = c.note_down.new.entries }) (disconnect_refusal s.link.phase) s.layer k step _ (ap (λ (x : Step). x.near) (disconnect_down c' s.layer s.link))
-    (ap (λ n. n.down) (c.in-Ok-disconnect.ensures.answer (link_settings c') s.link fits.link).notes)
-    (c.in-Ok-disconnect.ensures.state (link_settings c') s.link fits.link)
-    (c.note_down.ensures.layer (layer_settings c') s.layer fits.layer)
-    (ap (λ o. o.made) c.in-Ok-disconnect.ensures.outbox ∙ fits.sent)
-    (c.steps_keep_bounds.ensures.command c' s Disconnects fits.kept)
+pub returns-in-Ok-disconnect : goal.returns-in-Ok-disconnect
+returns-in-Ok-disconnect c = record {
+  state = λ c' s fits.
+      let k = disconnect_step (link_settings c') s.link in
+      let step : Step = led_by (disconnect_asked ∷ []) (follows c' s.layer k) in
+      leaves_down c' _ _ (record { frames = c.in-Ok-disconnect.step.frames; entries = c.note_down.new.entries }) (disconnect_refusal s.link.phase) s.layer k step _ (ap (λ (x : Step). x.near) (disconnect_down c' s.layer s.link))
+      (ap (λ n. n.down) (c.in-Ok-disconnect.ensures.answer (link_settings c') s.link fits.link).notes)
+      (c.in-Ok-disconnect.ensures.state (link_settings c') s.link fits.link)
+      (c.note_down.ensures.layer (layer_settings c') s.layer fits.layer)
+      (ap (λ o. o.made) c.in-Ok-disconnect.ensures.outbox ∙ fits.sent)
+      (c.steps_keep_bounds.ensures.command c' s Disconnects fits.kept);
+  frames = λ c' s fits.
+      let k = disconnect_step (link_settings c') s.link in
+      let step : Step = led_by (disconnect_asked ∷ []) (follows c' s.layer k) in
+      sends_unless c' (record { frames = c.in-Ok-disconnect.step.frames; entries = c.note_down.new.entries }) (disconnect_refusal s.link.phase) step
+      (frames_down c' s.layer k _ (follows c' s.layer k) (disconnect_down c' s.layer s.link) (c.in-Ok-disconnect.ensures.answer (link_settings c') s.link fits.link).frames);
+  entries = λ c' s fits.
+      let k = disconnect_step (link_settings c') s.link in
+      let step : Step = led_by (disconnect_asked ∷ []) (follows c' s.layer k) in
+      enters_unless (record { frames = c.in-Ok-disconnect.step.frames; entries = c.note_down.new.entries }) (disconnect_refusal s.link.phase) step
+      (entries_noted_down s.layer k (disconnect_asked ∷ []) _ _ (follows c' s.layer k) (disconnect_down c' s.layer s.link) (ap (λ n. n.down) (c.in-Ok-disconnect.ensures.answer (link_settings c') s.link fits.link).notes)
+      (c.note_down.ensures.entries ∙ ap (λ es. map plain_entry es ++ entries_down c.in-Ok-disconnect.step.notes.down) (c.push_reserved.ensures.items ∙ ap (λ es. es ++ DisconnectAsked ∷ []) c.in-Ok.ensures.items)));
+  refused = λ c' s fits.
+      let step : Step = led_by (disconnect_asked ∷ []) (follows c' s.layer (disconnect_step (link_settings c') s.link)) in
+      goes _ (record { frames = c.in-Ok-disconnect.step.frames; entries = c.note_down.new.entries }) (disconnect_refusal s.link.phase) step (c.in-Ok-disconnect.ensures.refused (link_settings c') s.link fits.link);
+  stays = λ c' s fits. tt;
+  few_frames = let few : length c.in-Ok-disconnect.step.frames.items ≤ 9 = least_by_meaning _ _ (length c.in-Ok-disconnect.step.frames.items) 9 c.args.self.now.meant (λ c' s fits.
+      let lk = link_settings c' in
+      few_frames c'.role c.in-Ok-disconnect.step.frames.items (λ frame. frame.items) (disconnect_step lk s.link).side.out 9 (c.in-Ok-disconnect.ensures.answer lk s.link fits.link).frames
+      (disconnect_few lk s.link (c.holds_few.ensures.window lk c.args.self.now.link s.link fits.link))) in
+      grind (arith, few, c.in-Ok-disconnect.step.frames.ok);
+  few_entries = grind (arith, c.note_down.ensures.length, c.push_reserved.ensures.len, c.in-Ok.ensures.len);
+}
 
-pub returns-in-Ok-disconnect-clause-frames : goal.returns-in-Ok-disconnect-clause-frames
-returns-in-Ok-disconnect-clause-frames c = λ c' s fits.
-    let k = disconnect_step (link_settings c') s.link in
-    let step : Step = led_by (disconnect_asked ∷ []) (follows c' s.layer k) in
-    sends_unless c' (record { frames = c.in-Ok-disconnect.step.frames; entries = c.note_down.new.entries }) (disconnect_refusal s.link.phase) step
-    (frames_down c' s.layer k _ (follows c' s.layer k) (disconnect_down c' s.layer s.link) (c.in-Ok-disconnect.ensures.answer (link_settings c') s.link fits.link).frames)
-
-pub returns-in-Ok-disconnect-clause-entries : goal.returns-in-Ok-disconnect-clause-entries
-returns-in-Ok-disconnect-clause-entries c = λ c' s fits.
-    let k = disconnect_step (link_settings c') s.link in
-    let step : Step = led_by (disconnect_asked ∷ []) (follows c' s.layer k) in
-    enters_unless (record { frames = c.in-Ok-disconnect.step.frames; entries = c.note_down.new.entries }) (disconnect_refusal s.link.phase) step
-    (entries_noted_down s.layer k (disconnect_asked ∷ []) _ _ (follows c' s.layer k) (disconnect_down c' s.layer s.link) (ap (λ n. n.down) (c.in-Ok-disconnect.ensures.answer (link_settings c') s.link fits.link).notes)
-    (c.note_down.ensures.entries ∙ ap (λ es. map plain_entry es ++ entries_down c.in-Ok-disconnect.step.notes.down) (c.push_reserved.ensures.items ∙ ap (λ es. es ++ DisconnectAsked ∷ []) c.in-Ok.ensures.items)))
-
-pub returns-in-Ok-disconnect-clause-refused : goal.returns-in-Ok-disconnect-clause-refused
-returns-in-Ok-disconnect-clause-refused c = λ c' s fits.
-    let step : Step = led_by (disconnect_asked ∷ []) (follows c' s.layer (disconnect_step (link_settings c') s.link)) in
-    goes _ (record { frames = c.in-Ok-disconnect.step.frames; entries = c.note_down.new.entries }) (disconnect_refusal s.link.phase) step (c.in-Ok-disconnect.ensures.refused (link_settings c') s.link fits.link)
-
-pub returns-in-Err-clause-refused : goal.returns-in-Err-clause-refused
-returns-in-Err-clause-refused c = λ c' s fits.
+pub returns-in-Err : goal.returns-in-Err
+returns-in-Err c = declines c.args.self.now _ _ disconnects (λ c' s fits.
     let step : Step = led_by (disconnect_asked ∷ []) (follows c' s.layer (disconnect_step (link_settings c') s.link)) in
     refused link_step.Step code_step.Step c.in-Err.error _ (disconnect_refusal s.link.phase) step (disconnect_named s.link.phase) c.of_link.ensures
-    (c.in-Err.ensures.refused (link_settings c') s.link fits.link)
-
-pub returns-in-Ok-disconnect-clause-few_frames : goal.returns-in-Ok-disconnect-clause-few_frames
-returns-in-Ok-disconnect-clause-few_frames c =
-    let few : length c.in-Ok-disconnect.step.frames.items ≤ 9 = least_by_meaning _ _ (length c.in-Ok-disconnect.step.frames.items) 9 c.args.self.now.meant (λ c' s fits.
-    let lk = link_settings c' in
-    few_frames c'.role c.in-Ok-disconnect.step.frames.items (λ frame. frame.items) (disconnect_step lk s.link).side.out 9 (c.in-Ok-disconnect.ensures.answer lk s.link fits.link).frames
-    (disconnect_few lk s.link (c.holds_few.ensures.window lk c.args.self.now.link s.link fits.link))) in
-    grind (arith, few, c.in-Ok-disconnect.step.frames.ok)
+    (c.in-Err.ensures.refused (link_settings c') s.link fits.link))
+    (λ c' s fits. subst (λ l. FitsParts c' l c.args.self.now.layer s) (sym c.in-Err.ensures.err) fits)

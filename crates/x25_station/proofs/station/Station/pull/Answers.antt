@@ -1,4 +1,4 @@
-use Rattle.std.proofs.Common.{arith, ◌≤◌, length, ap, map, ◌≡◌}
+use Rattle.std.proofs.Common.{arith, rules, ap, map, ◌≡◌}
 use Rattle.x25_layer.specs.Calls.{PullsAll}
 use Rattle.x25_station.specs.declared.step.Step as code_step
 use Rattle.x25_station.specs.Command.{Requests}
@@ -6,10 +6,9 @@ use Rattle.x25_station.specs.code.PlainEntry.{plain_entry}
 use Rattle.x25_station.specs.Settings.{link_settings, layer_settings}
 use Rattle.x25_station.specs.Steps.{requests}
 use Rattle.x25_station.proofs.OutcomeLemmas.{leaves_some, still_meant}
-use Rattle.x25_station.proofs.AskLemmas.{answers, accepted_is, goes_exactly, refuses_exactly, still_fits}
+use Rattle.x25_station.proofs.AskLemmas.{answers, goes_exactly, refuses_exactly, still_fits}
+use Rattle.x25_station.proofs.DoesLemmas.{did_request, declines_request}
 use Rattle.x25_station.proofs.EnteredLemmas.{pull_enters}
-use Rattle.x25_station.proofs.TakeLemmas.{least_by_meaning}
-use Rattle.x25_station.proofs.FewLemmas.{few_asked}
 use Rattle.x25_station.proofs.station.Station.pull.Goals as goal
 
 pub invariant_of-self : goal.invariant_of-self
@@ -41,42 +40,22 @@ invariant_of-self-in-Err-1 c = record {
       record { packets = omega (arith, packets, low); spares = omega (arith, spares, few); texts = before.texts };
 }
 
-pub returns-in-Ok-clause-state : goal.returns-in-Ok-clause-state
-returns-in-Ok-clause-state c = λ c' s fits.
-    let request = PullsAll in
-    (answers c.in-Ok.field-0 c' _ c.pull.new.link c.sent-frames.new.self _ c.pull.new.self (record { frames = c.sent-frames.result; entries = c.new-entries.result }) s request fits
-    c.in-Ok.ensures.layer c.in-Ok.ensures.link c.sent-frames.ensures.station (ap (λ o. o.made) c.sent-frames.ensures.outbox) c.sent-frames.ensures.frames
-    (c.steps_keep_bounds.ensures.command c' s (Requests request) fits.kept)).state
-
-pub returns-in-Ok-clause-frames : goal.returns-in-Ok-clause-frames
-returns-in-Ok-clause-frames c = λ c' s fits.
-    let request = PullsAll in
-    (answers c.in-Ok.field-0 c' _ c.pull.new.link c.sent-frames.new.self _ c.pull.new.self (record { frames = c.sent-frames.result; entries = c.new-entries.result }) s request fits
-    c.in-Ok.ensures.layer c.in-Ok.ensures.link c.sent-frames.ensures.station (ap (λ o. o.made) c.sent-frames.ensures.outbox) c.sent-frames.ensures.frames
-    (c.steps_keep_bounds.ensures.command c' s (Requests request) fits.kept)).frames
-
-pub returns-in-Ok-clause-entries : goal.returns-in-Ok-clause-entries
-returns-in-Ok-clause-entries c = λ c' s fits.
-    pull_enters c' s (record { frames = c.sent-frames.result; entries = c.new-entries.result }) (ap (λ es. map plain_entry es) c.new-entries.ensures.items)
-
-pub returns-in-Ok-clause-refused : goal.returns-in-Ok-clause-refused
-returns-in-Ok-clause-refused c = λ c' s fits.
+pub returns-in-Ok-clause-does : goal.returns-in-Ok-clause-does
+returns-in-Ok-clause-does c =
     let request = PullsAll in
     let r : code_step.Step = record { frames = c.sent-frames.result; entries = c.new-entries.result } in
-    goes_exactly r (requests c' s request) (answers c.in-Ok.field-0 c' _ c.pull.new.link c.sent-frames.new.self _ c.pull.new.self r s request fits
-    c.in-Ok.ensures.layer c.in-Ok.ensures.link c.sent-frames.ensures.station (ap (λ o. o.made) c.sent-frames.ensures.outbox) c.sent-frames.ensures.frames
-    (c.steps_keep_bounds.ensures.command c' s (Requests request) fits.kept)).refused
+    did_request c.in-Ok.field-0 c.args.self.now _ c.pull.new.link r request c.in-Ok.ensures.layer c.in-Ok.ensures.link c.sent-frames.ensures.station (ap (λ o. o.made) c.sent-frames.ensures.outbox) c.sent-frames.ensures.frames
+    c.steps_keep_bounds.ensures.command c.holds_few.ensures.window c.holds_few.ensures.stand
+    (λ c' s fits.
+    pull_enters c' s r (ap (λ es. map plain_entry es) c.new-entries.ensures.items))
+    (grind (arith, c.new-entries.ensures.len))
 
-pub returns-in-Err-clause-refused : goal.returns-in-Err-clause-refused
-returns-in-Err-clause-refused c = λ c' s fits. refuses_exactly _ code_step.Step c.in-Err.error _ c' _ _ c.pull.new.self s PullsAll fits c.of_layer.ensures c.in-Err.ensures.layer
+pub returns-in-Err-clause-does : goal.returns-in-Err-clause-does
+returns-in-Err-clause-does c = declines_request _ c.in-Err.error _ c.args.self.now _ (PullsAll) c.of_layer.ensures c.in-Err.ensures.layer c.in-Err.ensures.layer_stays c.in-Err.ensures.link_stays
 
-pub returns-in-Err-clause-stays : goal.returns-in-Err-clause-stays
-returns-in-Err-clause-stays c = λ c' s fits. still_fits c' c.args.self.now.link c.pull.new.link _ c.pull.new.self s fits (c.in-Err.ensures.layer_stays (layer_settings c') s.layer fits.layer) c.in-Err.ensures.link_stays
+pub returns-in-Ok-clause-exactly : goal.returns-in-Ok-clause-exactly
+returns-in-Ok-clause-exactly c = λ c' s fits.
+    goes_exactly (record { frames = c.sent-frames.result; entries = c.new-entries.result }) (requests c' s PullsAll) ((returns-in-Ok-clause-does c).refused c' s fits)
 
-pub returns-in-Ok-clause-few_frames : goal.returns-in-Ok-clause-few_frames
-returns-in-Ok-clause-few_frames c =
-    let few : length c.sent-frames.result.items ≤ 8 = least_by_meaning _ _ (length c.sent-frames.result.items) 8 c.args.self.now.meant (λ c' s fits.
-    few_asked c' s (PullsAll) (record { frames = c.sent-frames.result; entries = c.new-entries.result }) (c.holds_few.ensures.window (link_settings c') c.args.self.now.link s.link fits.link)
-    (c.holds_few.ensures.stand (link_settings c') c.args.self.now.link s.link fits.link).place_low ((returns-in-Ok-clause-frames c) c' s fits)
-    (accepted_is (record { frames = c.sent-frames.result; entries = c.new-entries.result }) (requests c' s PullsAll) ((returns-in-Ok-clause-refused c) c' s fits))) in
-    grind (arith, few, c.sent-frames.result.ok)
+pub returns-in-Err-clause-exactly : goal.returns-in-Err-clause-exactly
+returns-in-Err-clause-exactly c = λ c' s fits. refuses_exactly _ code_step.Step c.in-Err.error _ c' _ _ c.pull.new.self s PullsAll fits c.of_layer.ensures c.in-Err.ensures.layer

@@ -1,4 +1,4 @@
-use Rattle.std.proofs.Common.{arith, ◌≤◌, length, [], ◌∷◌, ◌++◌, ap, ◌∙◌, map, ◌≡◌}
+use Rattle.std.proofs.Common.{arith, rules, [], ◌∷◌, ◌++◌, ap, ◌∙◌, map, ◌≡◌}
 use Rattle.x25_layer.specs.Calls.{Restarts}
 use Rattle.x25_station.specs.declared.entry.Entry.TheVariants.{RestartAsked}
 use Rattle.x25_station.specs.declared.step.Step as code_step
@@ -7,10 +7,9 @@ use Rattle.x25_station.specs.code.PlainEntry.{plain_entry}
 use Rattle.x25_station.specs.Settings.{link_settings, layer_settings}
 use Rattle.x25_station.specs.Steps.{requests}
 use Rattle.x25_station.proofs.OutcomeLemmas.{leaves_some, still_meant}
-use Rattle.x25_station.proofs.AskLemmas.{answers, refuses, still_fits}
+use Rattle.x25_station.proofs.AskLemmas.{answers, still_fits}
+use Rattle.x25_station.proofs.DoesLemmas.{did_request, declines_request}
 use Rattle.x25_station.proofs.EnteredLemmas.{restart_enters}
-use Rattle.x25_station.proofs.TakeLemmas.{least_by_meaning}
-use Rattle.x25_station.proofs.FewLemmas.{few_asked}
 use Rattle.x25_station.proofs.station.Station.restart.Goals as goal
 
 pub invariant_of-self-in-Ok-restart : goal.invariant_of-self-in-Ok-restart
@@ -42,41 +41,15 @@ invariant_of-self-in-Err-restart c = record {
       record { packets = omega (arith, packets, low); spares = omega (arith, spares, few); texts = before.texts };
 }
 
-pub returns-in-Ok-restart-clause-state : goal.returns-in-Ok-restart-clause-state
-returns-in-Ok-restart-clause-state c = λ c' s fits.
+pub returns-in-Ok-restart : goal.returns-in-Ok-restart
+returns-in-Ok-restart c =
     let request = Restarts in
-    (answers c.in-Ok-restart.field-0 c' _ c.restart.new.link c.sent-frames.new.self _ c.restart.new.self (record { frames = c.sent-frames.result; entries = c.push_reserved.new.self }) s request fits
-    c.in-Ok-restart.ensures.layer c.in-Ok-restart.ensures.link c.sent-frames.ensures.station (ap (λ o. o.made) c.sent-frames.ensures.outbox) c.sent-frames.ensures.frames
-    (c.steps_keep_bounds.ensures.command c' s (Requests request) fits.kept)).state
+    let r : code_step.Step = record { frames = c.sent-frames.result; entries = c.push_reserved.new.self } in
+    did_request c.in-Ok-restart.field-0 c.args.self.now _ c.restart.new.link r request c.in-Ok-restart.ensures.layer c.in-Ok-restart.ensures.link c.sent-frames.ensures.station (ap (λ o. o.made) c.sent-frames.ensures.outbox) c.sent-frames.ensures.frames
+    c.steps_keep_bounds.ensures.command c.holds_few.ensures.window c.holds_few.ensures.stand
+    (λ c' s fits.
+    restart_enters c' s r (ap (λ es. map plain_entry es) (c.push_reserved.ensures.items ∙ ap (λ es. es ++ RestartAsked ∷ []) c.in-Ok.ensures.items)))
+    (grind (arith, c.push_reserved.ensures.len, c.in-Ok.ensures.len))
 
-pub returns-in-Ok-restart-clause-frames : goal.returns-in-Ok-restart-clause-frames
-returns-in-Ok-restart-clause-frames c = λ c' s fits.
-    let request = Restarts in
-    (answers c.in-Ok-restart.field-0 c' _ c.restart.new.link c.sent-frames.new.self _ c.restart.new.self (record { frames = c.sent-frames.result; entries = c.push_reserved.new.self }) s request fits
-    c.in-Ok-restart.ensures.layer c.in-Ok-restart.ensures.link c.sent-frames.ensures.station (ap (λ o. o.made) c.sent-frames.ensures.outbox) c.sent-frames.ensures.frames
-    (c.steps_keep_bounds.ensures.command c' s (Requests request) fits.kept)).frames
-
-pub returns-in-Ok-restart-clause-entries : goal.returns-in-Ok-restart-clause-entries
-returns-in-Ok-restart-clause-entries c = λ c' s fits.
-    restart_enters c' s (record { frames = c.sent-frames.result; entries = c.push_reserved.new.self })
-    (ap (λ es. map plain_entry es) (c.push_reserved.ensures.items ∙ ap (λ es. es ++ RestartAsked ∷ []) c.in-Ok.ensures.items))
-
-pub returns-in-Ok-restart-clause-refused : goal.returns-in-Ok-restart-clause-refused
-returns-in-Ok-restart-clause-refused c = λ c' s fits.
-    let request = Restarts in
-    (answers c.in-Ok-restart.field-0 c' _ c.restart.new.link c.sent-frames.new.self _ c.restart.new.self (record { frames = c.sent-frames.result; entries = c.push_reserved.new.self }) s request fits
-    c.in-Ok-restart.ensures.layer c.in-Ok-restart.ensures.link c.sent-frames.ensures.station (ap (λ o. o.made) c.sent-frames.ensures.outbox) c.sent-frames.ensures.frames
-    (c.steps_keep_bounds.ensures.command c' s (Requests request) fits.kept)).refused
-
-pub returns-in-Err-clause-refused : goal.returns-in-Err-clause-refused
-returns-in-Err-clause-refused c = λ c' s fits. refuses _ code_step.Step c.in-Err.error _ c' _ _ c.restart.new.self s Restarts fits c.of_layer.ensures c.in-Err.ensures.layer
-
-pub returns-in-Err-clause-stays : goal.returns-in-Err-clause-stays
-returns-in-Err-clause-stays c = λ c' s fits. still_fits c' c.args.self.now.link c.restart.new.link _ c.restart.new.self s fits (c.in-Err.ensures.layer_stays (layer_settings c') s.layer fits.layer) c.in-Err.ensures.link_stays
-
-pub returns-in-Ok-restart-clause-few_frames : goal.returns-in-Ok-restart-clause-few_frames
-returns-in-Ok-restart-clause-few_frames c =
-    let few : length c.sent-frames.result.items ≤ 8 = least_by_meaning _ _ (length c.sent-frames.result.items) 8 c.args.self.now.meant (λ c' s fits.
-    few_asked c' s (Restarts) (record { frames = c.sent-frames.result; entries = c.push_reserved.new.self }) (c.holds_few.ensures.window (link_settings c') c.args.self.now.link s.link fits.link)
-    (c.holds_few.ensures.stand (link_settings c') c.args.self.now.link s.link fits.link).place_low ((returns-in-Ok-restart-clause-frames c) c' s fits) ((returns-in-Ok-restart-clause-refused c) c' s fits)) in
-    grind (arith, few, c.sent-frames.result.ok)
+pub returns-in-Err : goal.returns-in-Err
+returns-in-Err c = declines_request _ c.in-Err.error _ c.args.self.now _ (Restarts) c.of_layer.ensures c.in-Err.ensures.layer c.in-Err.ensures.layer_stays c.in-Err.ensures.link_stays

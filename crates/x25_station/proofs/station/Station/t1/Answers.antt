@@ -1,13 +1,14 @@
-use Rattle.std.proofs.Common.{arith, ◌≤◌, length, [], sym, subst, ap, ◌∙◌, ◌++◌, map}
+use Rattle.std.proofs.Common.{arith, rules, ◌≤◌, length, [], sym, subst, ap, ◌∙◌, ◌++◌, map}
 use Rattle.x25_link.specs.Steps.{timer_refusal, timer_step}
 use Rattle.x25_link.specs.declared.step.Step as link_step
 use Rattle.x25_station.specs.code.Aside.{IsFewAside}
-use Rattle.x25_station.specs.code.FitsParts.{AreMeant}
+use Rattle.x25_station.specs.code.FitsParts.{AreMeant, FitsParts}
 use Rattle.x25_station.specs.Settings.{link_settings, layer_settings}
 use Rattle.x25_station.specs.Entries.{entries_down}
 use Rattle.x25_station.specs.code.PlainEntry.{plain_entry}
 use Rattle.x25_station.specs.declared.step.Step as code_step
-use Rattle.x25_station.specs.Steps.{Step, unless, follows}
+use Rattle.x25_station.specs.Steps.{Step, unless, follows, fires}
+use Rattle.x25_station.proofs.DoesLemmas.{declines}
 use Rattle.x25_station.proofs.DownLemmas.{timer_down, leaves_down, frames_down, entries_noted_down}
 use Rattle.x25_station.proofs.OutcomeLemmas.{leaves_some, still_meant, sends_unless, enters_unless, goes, refused, timer_named}
 use Rattle.x25_station.proofs.TakeLemmas.{least_by_meaning, few_frames}
@@ -39,43 +40,39 @@ invariant_of-self-in-Ok-t1 c = record {
 pub invariant_of-self-in-Err-t1 : goal.invariant_of-self-in-Err-t1
 invariant_of-self-in-Err-t1 c = record { meant = subst (λ l. AreMeant l c.args.self.now.layer) (sym c.in-Err.ensures.err) c.args.self.now.meant; aside = subst (λ l. IsFewAside l c.args.self.now.layer c.args.self.now.texts) (sym c.in-Err.ensures.err) c.args.self.now.aside }
 
-pub returns-in-Ok-t1-clause-state : goal.returns-in-Ok-t1-clause-state
-returns-in-Ok-t1-clause-state c = λ c' s fits.
-    let k = timer_step (link_settings c') s.link in
-    let step : Step = follows c' s.layer k in
-    leaves_down c' _ _ (record { frames = c.in-Ok-t1.step.frames; entries = c.note_down.new.entries }) (timer_refusal s.link) s.layer k step _ (ap (λ (x : Step). x.near) (timer_down c' s.layer s.link))
-    (ap (λ n. n.down) (c.in-Ok-t1.ensures.answer (link_settings c') s.link fits.link).notes)
-    (c.in-Ok-t1.ensures.state (link_settings c') s.link fits.link)
-    (c.note_down.ensures.layer (layer_settings c') s.layer fits.layer)
-    (ap (λ o. o.made) c.in-Ok-t1.ensures.outbox ∙ fits.sent)
-    (c.steps_keep_bounds.ensures.timer c' s fits.kept)
+pub returns-in-Ok-t1 : goal.returns-in-Ok-t1
+returns-in-Ok-t1 c = record {
+  state = λ c' s fits.
+      let k = timer_step (link_settings c') s.link in
+      let step : Step = follows c' s.layer k in
+      leaves_down c' _ _ (record { frames = c.in-Ok-t1.step.frames; entries = c.note_down.new.entries }) (timer_refusal s.link) s.layer k step _ (ap (λ (x : Step). x.near) (timer_down c' s.layer s.link))
+      (ap (λ n. n.down) (c.in-Ok-t1.ensures.answer (link_settings c') s.link fits.link).notes)
+      (c.in-Ok-t1.ensures.state (link_settings c') s.link fits.link)
+      (c.note_down.ensures.layer (layer_settings c') s.layer fits.layer)
+      (ap (λ o. o.made) c.in-Ok-t1.ensures.outbox ∙ fits.sent)
+      (c.steps_keep_bounds.ensures.timer c' s fits.kept);
+  frames = λ c' s fits.
+      let k = timer_step (link_settings c') s.link in
+      sends_unless c' (record { frames = c.in-Ok-t1.step.frames; entries = c.note_down.new.entries }) (timer_refusal s.link) (follows c' s.layer k)
+      (frames_down c' s.layer k _ (follows c' s.layer k) (timer_down c' s.layer s.link) (c.in-Ok-t1.ensures.answer (link_settings c') s.link fits.link).frames);
+  entries = λ c' s fits.
+      let k = timer_step (link_settings c') s.link in
+      enters_unless (record { frames = c.in-Ok-t1.step.frames; entries = c.note_down.new.entries }) (timer_refusal s.link) (follows c' s.layer k)
+      (entries_noted_down s.layer k [] _ _ (follows c' s.layer k) (timer_down c' s.layer s.link) (ap (λ n. n.down) (c.in-Ok-t1.ensures.answer (link_settings c') s.link fits.link).notes)
+      (c.note_down.ensures.entries ∙ ap (λ es. map plain_entry es ++ entries_down c.in-Ok-t1.step.notes.down) c.in-Ok.ensures.items));
+  refused = λ c' s fits.
+      goes _ (record { frames = c.in-Ok-t1.step.frames; entries = c.note_down.new.entries }) (timer_refusal s.link) (follows c' s.layer (timer_step (link_settings c') s.link)) (c.in-Ok-t1.ensures.refused (link_settings c') s.link fits.link);
+  stays = λ c' s fits. tt;
+  few_frames = let few : length c.in-Ok-t1.step.frames.items ≤ 9 = least_by_meaning _ _ (length c.in-Ok-t1.step.frames.items) 9 c.args.self.now.meant (λ c' s fits.
+      let lk = link_settings c' in
+      few_frames c'.role c.in-Ok-t1.step.frames.items (λ frame. frame.items) (timer_step lk s.link).side.out 9 (c.in-Ok-t1.ensures.answer lk s.link fits.link).frames
+      (timer_few lk s.link (c.holds_few.ensures.window lk c.args.self.now.link s.link fits.link) (c.holds_few.ensures.stand lk c.args.self.now.link s.link fits.link).place_low)) in
+      grind (arith, few, c.in-Ok-t1.step.frames.ok);
+  few_entries = grind (arith, c.note_down.ensures.length, c.in-Ok.ensures.len);
+}
 
-pub returns-in-Ok-t1-clause-frames : goal.returns-in-Ok-t1-clause-frames
-returns-in-Ok-t1-clause-frames c = λ c' s fits.
-    let k = timer_step (link_settings c') s.link in
-    sends_unless c' (record { frames = c.in-Ok-t1.step.frames; entries = c.note_down.new.entries }) (timer_refusal s.link) (follows c' s.layer k)
-    (frames_down c' s.layer k _ (follows c' s.layer k) (timer_down c' s.layer s.link) (c.in-Ok-t1.ensures.answer (link_settings c') s.link fits.link).frames)
-
-pub returns-in-Ok-t1-clause-entries : goal.returns-in-Ok-t1-clause-entries
-returns-in-Ok-t1-clause-entries c = λ c' s fits.
-    let k = timer_step (link_settings c') s.link in
-    enters_unless (record { frames = c.in-Ok-t1.step.frames; entries = c.note_down.new.entries }) (timer_refusal s.link) (follows c' s.layer k)
-    (entries_noted_down s.layer k [] _ _ (follows c' s.layer k) (timer_down c' s.layer s.link) (ap (λ n. n.down) (c.in-Ok-t1.ensures.answer (link_settings c') s.link fits.link).notes)
-    (c.note_down.ensures.entries ∙ ap (λ es. map plain_entry es ++ entries_down c.in-Ok-t1.step.notes.down) c.in-Ok.ensures.items))
-
-pub returns-in-Ok-t1-clause-refused : goal.returns-in-Ok-t1-clause-refused
-returns-in-Ok-t1-clause-refused c = λ c' s fits.
-    goes _ (record { frames = c.in-Ok-t1.step.frames; entries = c.note_down.new.entries }) (timer_refusal s.link) (follows c' s.layer (timer_step (link_settings c') s.link)) (c.in-Ok-t1.ensures.refused (link_settings c') s.link fits.link)
-
-pub returns-in-Err-clause-refused : goal.returns-in-Err-clause-refused
-returns-in-Err-clause-refused c = λ c' s fits.
+pub returns-in-Err : goal.returns-in-Err
+returns-in-Err c = declines c.args.self.now _ _ fires (λ c' s fits.
     refused link_step.Step code_step.Step c.in-Err.error _ (timer_refusal s.link) (follows c' s.layer (timer_step (link_settings c') s.link)) (timer_named s.link) c.of_link.ensures
-    (c.in-Err.ensures.refused (link_settings c') s.link fits.link)
-
-pub returns-in-Ok-t1-clause-few_frames : goal.returns-in-Ok-t1-clause-few_frames
-returns-in-Ok-t1-clause-few_frames c =
-    let few : length c.in-Ok-t1.step.frames.items ≤ 9 = least_by_meaning _ _ (length c.in-Ok-t1.step.frames.items) 9 c.args.self.now.meant (λ c' s fits.
-    let lk = link_settings c' in
-    few_frames c'.role c.in-Ok-t1.step.frames.items (λ frame. frame.items) (timer_step lk s.link).side.out 9 (c.in-Ok-t1.ensures.answer lk s.link fits.link).frames
-    (timer_few lk s.link (c.holds_few.ensures.window lk c.args.self.now.link s.link fits.link) (c.holds_few.ensures.stand lk c.args.self.now.link s.link fits.link).place_low)) in
-    grind (arith, few, c.in-Ok-t1.step.frames.ok)
+    (c.in-Err.ensures.refused (link_settings c') s.link fits.link))
+    (λ c' s fits. subst (λ l. FitsParts c' l c.args.self.now.layer s) (sym c.in-Err.ensures.err) fits)

@@ -1,4 +1,4 @@
-use Rattle.std.proofs.Common.{◌≡◌, ◌+◌, length-append, ◌<◌, ◌≤◌, ◌++◌, length, map, All, option_copied, arith, ap, sym, subst, ◌∙◌}
+use Rattle.std.proofs.Common.{rules, ◌≡◌, ◌+◌, length-append, ◌<◌, ◌≤◌, ◌++◌, length, map, All, option_copied, arith, ap, sym, subst, ◌∙◌}
 use Rattle.std.proofs.lemmas.List.{map-append}
 use Rattle.std.proofs.lemmas.List.Elements.{All-from_get_or}
 use Rattle.x25_link.specs.declared.phase.Notes.{Notes}
@@ -104,60 +104,58 @@ invariant_of-self c = record {
 pub invariant_of-self-in-Err-1 : goal.invariant_of-self-in-Err-1
 invariant_of-self-in-Err-1 c = record { meant = subst (λ l. AreMeant l c.set_aside.new.self.layer) (sym c.in-Err.ensures.err) c.set_aside.new.self.meant; aside = subst (λ l. IsFewAside l c.set_aside.new.self.layer c.set_aside.new.self.texts) (sym c.in-Err.ensures.err) c.set_aside.new.self.aside }
 
-pub returns-in-Ok-clause-state : goal.returns-in-Ok-clause-state
-returns-in-Ok-clause-state c = λ c' s fits.
-    let lk = link_settings c' in
-    let k : LinkStep = take_step lk c.args.octets.now s.link in
-    let before = c.in_ok-frames.ensures.fits c' s fits in
-    let answer = c.in-Ok.ensures.answer lk s.link before.link in
-    let whole : FitsWhole c.take.new.self (kept_of lk (alone k.side.near)) = record { link = c.in-Ok.ensures.state lk s.link before.link; kept = ap (λ o. o.made) c.in-Ok.ensures.outbox ∙ before.sent } in
-    took_fits c' s c.args.octets.now (option_copied c.in-Ok.step.packet) c.in-Ok.step.notes c.follow.new.link c.give_back_list-in-Ok.new.self c.follow.new.layer (c.requires.goes_on c' s fits) (answer.packet, answer.notes)
-    (c.follow.ensures.link c' s.layer k.side before.layer whole) (c.follow.ensures.layer c' s.layer k.side before.layer whole) (ap (λ l. l.station) (c.give_back_list-in-Ok.ensures ∙ c.give_back_list.ensures) ∙ c.sent-kept.ensures.station) (ap (λ l. l.outbox.made) (c.give_back_list-in-Ok.ensures ∙ c.give_back_list.ensures) ∙ ap (λ o. o.made) c.sent-kept.ensures.outbox)
-    (c.steps_keep_bounds.ensures.receive c' s c.args.octets.now fits.kept)
-
-pub returns-in-Ok-clause-frames : goal.returns-in-Ok-clause-frames
-returns-in-Ok-clause-frames c = λ c' s fits.
-    let lk = link_settings c' in
-    let k : LinkStep = take_step lk c.args.octets.now s.link in
-    let before = c.in_ok-frames.ensures.fits c' s fits in
-    let answer = c.in-Ok.ensures.answer lk s.link before.link in
-    let whole : FitsWhole c.take.new.self (kept_of lk (alone k.side.near)) = record { link = c.in-Ok.ensures.state lk s.link before.link; kept = ap (λ o. o.made) c.in-Ok.ensures.outbox ∙ before.sent } in
-    let link = c.follow.ensures.link c' s.layer k.side before.layer whole in
-    let a = c.in-Ok.step.frames.items in
-    let b = c.sent-kept.result.items in
-    ap (λ frames. map (λ frame. frame.items) frames) (c.append-in-Ok.ensures.items ∙ ap (λ frames. frames ++ b) (c.append.ensures.items ∙ ap (λ frames. frames ++ a) c.in_ok-frames.ensures.frames))
-    ∙ map-append (λ frame. frame.items) a b
-    ∙ took_sends c' s c.args.octets.now (option_copied c.in-Ok.step.packet) c.in-Ok.step.notes _ _ (c.requires.goes_on c' s fits) (answer.packet, answer.notes) answer.frames (c.sent-kept.ensures.frames ∙ link.kept)
-
-pub returns-in-Ok-clause-entries : goal.returns-in-Ok-clause-entries
-returns-in-Ok-clause-entries c = λ c' s fits.
-    let lk = link_settings c' in
-    let k : LinkStep = take_step lk c.args.octets.now s.link in
-    let before = c.in_ok-frames.ensures.fits c' s fits in
-    let answer = c.in-Ok.ensures.answer lk s.link before.link in
-    let whole : FitsWhole c.take.new.self (kept_of lk (alone k.side.near)) = record { link = c.in-Ok.ensures.state lk s.link before.link; kept = ap (λ o. o.made) c.in-Ok.ensures.outbox ∙ before.sent } in
-    let noted = entries_noted c.in-Ok.step.notes ++ entries_heard (layer_settings c') s.layer (option_copied c.in-Ok.step.packet) c.in-Ok.step.notes.down c.in-Ok.step.notes.up in
-    took_enters c' s c.args.octets.now (option_copied c.in-Ok.step.packet) c.in-Ok.step.notes _ (c.requires.goes_on c' s fits) (answer.packet, answer.notes)
-    (c.follow.ensures.entries c' s.layer k.side before.layer whole ∙ ap (λ es. map plain_entry es ++ noted) c.in_ok-frames.ensures.entries)
-
-pub returns-in-Ok-clause-few_frames : goal.returns-in-Ok-clause-few_frames
-returns-in-Ok-clause-few_frames c =
-    let few : length c.in-Ok.step.frames.items ≤ 9 = least_by_meaning _ _ (length c.in-Ok.step.frames.items) 9 c.args.self.now.meant (λ c' s fits.
-    let lk = link_settings c' in
-    few_frames c'.role c.in-Ok.step.frames.items (λ frame. frame.items) (take_step lk c.args.octets.now s.link).side.out 9
-    (c.in-Ok.ensures.answer lk s.link (c.in_ok-frames.ensures.fits c' s fits).link).frames (c.holds_few.ensures.take lk c.args.octets.now s.link)) in
-    let more : length c.sent-kept.result.items ≤ 8 = least_by_meaning _ _ (length c.sent-kept.result.items) 8 c.args.self.now.meant (λ c' s fits.
-    let lk = link_settings c' in
-    let k : LinkStep = take_step lk c.args.octets.now s.link in
-    let before = c.in_ok-frames.ensures.fits c' s fits in
-    let answer = c.in-Ok.ensures.answer lk s.link before.link in
-    let whole : FitsWhole c.take.new.self (kept_of lk (alone k.side.near)) = record { link = c.in-Ok.ensures.state lk s.link before.link; kept = ap (λ o. o.made) c.in-Ok.ensures.outbox ∙ before.sent } in
-    let step = put_behind c' s k (option_copied c.in-Ok.step.packet) c.in-Ok.step.notes in
-    let link = c.follow.ensures.link c' s.layer k.side before.layer whole in
-    few_frames c'.role c.sent-kept.result.items (λ frame. frame.items) (all_put lk step.put (alone k.side.near)).out 8 (c.sent-kept.ensures.frames ∙ link.kept)
-    (few_put lk step.put k.side.near (c.holds_few.ensures.window lk c.take.new.self k.side.near whole.link) (c.holds_few.ensures.stand lk c.take.new.self k.side.near whole.link).place_low)) in
-    let none : length c.in_ok-frames.frames.items ≡ 0 = ap length c.in_ok-frames.ensures.frames in
-    let own : length c.append.new.frames.items ≡ length c.in_ok-frames.frames.items + length c.in-Ok.step.frames.items = ap length c.append.ensures.items ∙ length-append _ _ in
-    let all : length c.append-in-Ok.new.frames.items ≡ length c.append.new.frames.items + length c.sent-kept.result.items = ap length c.append-in-Ok.ensures.items ∙ length-append _ _ in
-    let held = c.append-in-Ok.new.frames.ok.0 in
-    omega (arith, few, more, none, own, all, held)
+pub returns-in-Ok-clause-does : goal.returns-in-Ok-clause-does
+returns-in-Ok-clause-does c = record {
+  state = λ c' s fits.
+      let lk = link_settings c' in
+      let k : LinkStep = take_step lk c.args.octets.now s.link in
+      let before = c.in_ok-frames.ensures.fits c' s fits in
+      let answer = c.in-Ok.ensures.answer lk s.link before.link in
+      let whole : FitsWhole c.take.new.self (kept_of lk (alone k.side.near)) = record { link = c.in-Ok.ensures.state lk s.link before.link; kept = ap (λ o. o.made) c.in-Ok.ensures.outbox ∙ before.sent } in
+      took_fits c' s c.args.octets.now (option_copied c.in-Ok.step.packet) c.in-Ok.step.notes c.follow.new.link c.give_back_list-in-Ok.new.self c.follow.new.layer (c.requires.goes_on c' s fits) (answer.packet, answer.notes)
+      (c.follow.ensures.link c' s.layer k.side before.layer whole) (c.follow.ensures.layer c' s.layer k.side before.layer whole) (ap (λ l. l.station) (c.give_back_list-in-Ok.ensures ∙ c.give_back_list.ensures) ∙ c.sent-kept.ensures.station) (ap (λ l. l.outbox.made) (c.give_back_list-in-Ok.ensures ∙ c.give_back_list.ensures) ∙ ap (λ o. o.made) c.sent-kept.ensures.outbox)
+      (c.steps_keep_bounds.ensures.receive c' s c.args.octets.now fits.kept);
+  frames = λ c' s fits.
+      let lk = link_settings c' in
+      let k : LinkStep = take_step lk c.args.octets.now s.link in
+      let before = c.in_ok-frames.ensures.fits c' s fits in
+      let answer = c.in-Ok.ensures.answer lk s.link before.link in
+      let whole : FitsWhole c.take.new.self (kept_of lk (alone k.side.near)) = record { link = c.in-Ok.ensures.state lk s.link before.link; kept = ap (λ o. o.made) c.in-Ok.ensures.outbox ∙ before.sent } in
+      let link = c.follow.ensures.link c' s.layer k.side before.layer whole in
+      let a = c.in-Ok.step.frames.items in
+      let b = c.sent-kept.result.items in
+      ap (λ frames. map (λ frame. frame.items) frames) (c.append-in-Ok.ensures.items ∙ ap (λ frames. frames ++ b) (c.append.ensures.items ∙ ap (λ frames. frames ++ a) c.in_ok-frames.ensures.frames))
+      ∙ map-append (λ frame. frame.items) a b
+      ∙ took_sends c' s c.args.octets.now (option_copied c.in-Ok.step.packet) c.in-Ok.step.notes _ _ (c.requires.goes_on c' s fits) (answer.packet, answer.notes) answer.frames (c.sent-kept.ensures.frames ∙ link.kept);
+  entries = λ c' s fits.
+      let lk = link_settings c' in
+      let k : LinkStep = take_step lk c.args.octets.now s.link in
+      let before = c.in_ok-frames.ensures.fits c' s fits in
+      let answer = c.in-Ok.ensures.answer lk s.link before.link in
+      let whole : FitsWhole c.take.new.self (kept_of lk (alone k.side.near)) = record { link = c.in-Ok.ensures.state lk s.link before.link; kept = ap (λ o. o.made) c.in-Ok.ensures.outbox ∙ before.sent } in
+      let noted = entries_noted c.in-Ok.step.notes ++ entries_heard (layer_settings c') s.layer (option_copied c.in-Ok.step.packet) c.in-Ok.step.notes.down c.in-Ok.step.notes.up in
+      took_enters c' s c.args.octets.now (option_copied c.in-Ok.step.packet) c.in-Ok.step.notes _ (c.requires.goes_on c' s fits) (answer.packet, answer.notes)
+      (c.follow.ensures.entries c' s.layer k.side before.layer whole ∙ ap (λ es. map plain_entry es ++ noted) c.in_ok-frames.ensures.entries);
+  refused = λ c' s fits. tt;
+  stays = λ c' s fits. tt;
+  few_frames = let few : length c.in-Ok.step.frames.items ≤ 9 = least_by_meaning _ _ (length c.in-Ok.step.frames.items) 9 c.args.self.now.meant (λ c' s fits.
+      let lk = link_settings c' in
+      few_frames c'.role c.in-Ok.step.frames.items (λ frame. frame.items) (take_step lk c.args.octets.now s.link).side.out 9
+      (c.in-Ok.ensures.answer lk s.link (c.in_ok-frames.ensures.fits c' s fits).link).frames (c.holds_few.ensures.take lk c.args.octets.now s.link)) in
+      let more : length c.sent-kept.result.items ≤ 8 = least_by_meaning _ _ (length c.sent-kept.result.items) 8 c.args.self.now.meant (λ c' s fits.
+      let lk = link_settings c' in
+      let k : LinkStep = take_step lk c.args.octets.now s.link in
+      let before = c.in_ok-frames.ensures.fits c' s fits in
+      let answer = c.in-Ok.ensures.answer lk s.link before.link in
+      let whole : FitsWhole c.take.new.self (kept_of lk (alone k.side.near)) = record { link = c.in-Ok.ensures.state lk s.link before.link; kept = ap (λ o. o.made) c.in-Ok.ensures.outbox ∙ before.sent } in
+      let step = put_behind c' s k (option_copied c.in-Ok.step.packet) c.in-Ok.step.notes in
+      let link = c.follow.ensures.link c' s.layer k.side before.layer whole in
+      few_frames c'.role c.sent-kept.result.items (λ frame. frame.items) (all_put lk step.put (alone k.side.near)).out 8 (c.sent-kept.ensures.frames ∙ link.kept)
+      (few_put lk step.put k.side.near (c.holds_few.ensures.window lk c.take.new.self k.side.near whole.link) (c.holds_few.ensures.stand lk c.take.new.self k.side.near whole.link).place_low)) in
+      let none : length c.in_ok-frames.frames.items ≡ 0 = ap length c.in_ok-frames.ensures.frames in
+      let own : length c.append.new.frames.items ≡ length c.in_ok-frames.frames.items + length c.in-Ok.step.frames.items = ap length c.append.ensures.items ∙ length-append _ _ in
+      let all : length c.append-in-Ok.new.frames.items ≡ length c.append.new.frames.items + length c.sent-kept.result.items = ap length c.append-in-Ok.ensures.items ∙ length-append _ _ in
+      let held = c.append-in-Ok.new.frames.ok.0 in
+      omega (arith, few, more, none, own, all, held);
+  few_entries = grind (arith, c.follow.ensures.length, c.in_ok-frames.ensures.entries, c.in_ok-frames.entries.ok);
+}

@@ -1,0 +1,87 @@
+-- A call does what the definition says of it, by what the calls of its link or of its layer did.
+use Rattle.std.proofs.Common.{◌≡◌, ◌≤◌, [], length, map, vec_len, Result, Ok, Err, inr, refl, arith}
+use Rattle.x25_link.specs.code.Link.{ShownLink, LinkState, FitsWhole}
+use Rattle.x25_link.specs.code.Bounds.{WindowIsSmall, FewStand}
+use Rattle.x25_layer.specs.Layer.{LayerSettings, Layer}
+use Rattle.x25_layer.specs.Calls.{LayerRequest}
+use Rattle.x25_layer.specs.declared.error.LayerError.{LayerError}
+use Rattle.x25_layer.specs.code.FitsLayer.{FitsLayer}
+use Rattle.x25_station.specs.declared.error.StationError.{StationError}
+use Rattle.x25_station.specs.declared.error.StationError.TheVariants as error
+use Rattle.x25_station.specs.declared.station.Station as code
+use Rattle.x25_station.specs.declared.step.Step as code_step
+use Rattle.x25_station.specs.StationError.{of_layer}
+use Rattle.x25_station.specs.Command.{Requests}
+use Rattle.x25_station.specs.Settings.{Settings, link_settings, layer_settings}
+use Rattle.x25_station.specs.Station.{Station}
+use Rattle.x25_station.specs.Steps.{Outcome, Did, Refused, requests}
+use Rattle.x25_station.specs.laws.KeepLaw.{CommandKeeps}
+use Rattle.x25_station.specs.code.FitsStation.{FitsStation, Does, Leaves, Sends, Enters, Refuses}
+use Rattle.x25_station.proofs.AskLemmas.{Layers, Links, Answers, answers, refuses, still_fits}
+use Rattle.x25_station.proofs.TakeLemmas.{least_by_meaning}
+use Rattle.x25_station.proofs.FewLemmas.{few_asked}
+
+-- ---- a refused call: nothing is left, sent or entered
+
+nothing_left : (c : Settings) (v : code.Station) (e : StationError) (o : Outcome) → (let r : Result code_step.Step StationError = Err e in Leaves c v r o)
+nothing_left c v e (Did step) = tt
+nothing_left c v e (Refused d) = tt
+
+nothing_sent : (c : Settings) (e : StationError) (o : Outcome) → Sends c (Err e) o
+nothing_sent c e (Did step) = tt
+nothing_sent c e (Refused d) = tt
+
+nothing_entered : (e : StationError) (o : Outcome) → Enters (Err e) o
+nothing_entered e (Did step) = tt
+nothing_entered e (Refused d) = tt
+
+pub declines : (old new : code.Station) (e : StationError) (said : Settings → Station → Outcome)
+    → ((c : Settings) (s : Station) → FitsStation c old s → (let r : Result code_step.Step StationError = Err e in Refuses r (said c s)))
+    → ((c : Settings) (s : Station) → FitsStation c old s → FitsStation c new s)
+    → Does old new (Err e) said
+declines old new e said refuses stays = record {
+  state = λ c s fits. nothing_left c new e (said c s);
+  frames = λ c s fits. nothing_sent c e (said c s);
+  entries = λ c s fits. nothing_entered e (said c s);
+  refused = refuses;
+  stays = stays;
+  few_frames = tt;
+  few_entries = tt;
+}
+
+-- .. for want of memory, before anything is done
+wants_memory : (o : Outcome) → (let r : Result code_step.Step StationError = Err error.NoMemory in Refuses r o)
+wants_memory (Did step) = refl
+wants_memory (Refused e) = inr refl
+
+pub lacks_memory : (v : code.Station) (said : Settings → Station → Outcome) → Does v v (Err error.NoMemory) said
+lacks_memory v said = declines v v error.NoMemory said (λ c s fits. wants_memory (said c s)) (λ c s fits. fits)
+
+-- ---- a command to the layer
+
+-- From the link and the layer of the old station its call led to the link m, from which the frames were taken, and to the layer of the new one.
+pub did_request : {T : Type 0} (u : T) (old new : code.Station) (m : ShownLink) (r : code_step.Step) (request : LayerRequest) → Layers old.link old.layer new.layer (Ok u) request → Links old.link m old.layer (Ok u) request
+    → new.link.station ≡ m.station → new.link.outbox.made ≡ [] → map (λ frame. frame.items) r.frames.items ≡ m.outbox.made → CommandKeeps → WindowIsSmall → FewStand
+    → ((c : Settings) (s : Station) → FitsStation c old s → Enters (Ok r) (requests c s request)) → vec_len r.entries ≤ 3 → Does old new (Ok r) (λ c s. requests c s request)
+did_request u old new m r request layers links same none made keeps small stand entered few =
+    let parts : (c : Settings) (s : Station) → FitsStation c old s → Answers c new.link new.layer r (requests c s request) =
+    λ c s fits. answers u c old.link m new.link old.layer new.layer r s request fits layers links same none made (keeps c s (Requests request) fits.kept) in
+    let short : length r.frames.items ≤ 8 = least_by_meaning old.link old.layer (length r.frames.items) 8 old.meant (λ c s fits.
+    few_asked c s request r (small (link_settings c) old.link s.link fits.link) (stand (link_settings c) old.link s.link fits.link).place_low (parts c s fits).frames (parts c s fits).refused) in
+    let few_out : vec_len r.frames ≤ 17 = grind (arith, short, r.frames.ok) in
+    record {
+      state = λ c s fits. (parts c s fits).state;
+      frames = λ c s fits. (parts c s fits).frames;
+      entries = entered;
+      refused = λ c s fits. (parts c s fits).refused;
+      stays = λ c s fits. tt;
+      few_frames = few_out;
+      few_entries = few;
+    }
+
+pub declines_request : (T : Type 0) (e : LayerError) (found : StationError) (old new : code.Station) (request : LayerRequest) → found ≡ of_layer e
+    → (let x : Result T LayerError = Err e in Layers old.link old.layer new.layer x request) → ((d : LayerSettings) (k : Layer) → FitsLayer d old.layer k → FitsLayer d new.layer k)
+    → ((x : LinkState) → FitsWhole old.link x → FitsWhole new.link x) → Does old new (Err found) (λ c s. requests c s request)
+declines_request T e found old new request is layers layer_stays link_stays =
+    declines old new found (λ c s. requests c s request) (λ c s fits. refuses T code_step.Step e found c old.link old.layer new.layer s request fits is layers)
+    (λ c s fits. still_fits c old.link new.link old.layer new.layer s fits (layer_stays (layer_settings c) s.layer fits.layer) link_stays)
