@@ -1,5 +1,5 @@
 //! What the user asks of the circuit of a channel: the steps that all calls with a channel share.
-ghost use Rattle.std.specs.Prelude.{◌≡◌, ◌≢◌, ℕ, ◌<◌, ◌≤◌, ◌&&◌, ◌==◌, length, max, true, false, IfErr, IfOk, OnOk, OnErr, IsErrOf};
+ghost use Rattle.std.specs.Prelude.{◌≡◌, ◌≢◌, ℕ, ◌<◌, ◌≤◌, ◌&&◌, ◌==◌, length, true, false, IfErr, IfOk, OnErr};
 ghost use Rattle.x25_circuit.specs.Calls.{outcome};
 ghost use Rattle.x25_circuit.specs.code.Replies.{IsSendable, plain_sent};
 ghost use Rattle.x25_circuit.specs.Requests.{plain_request, MayPut};
@@ -8,9 +8,9 @@ ghost use Rattle.x25_layer.specs.Layer.{Layer as State};
 ghost use Rattle.x25_layer.specs.Calls.{Asks, puts_at_once, outcome_on};
 ghost use Rattle.x25_layer.specs.Rounds.{calls, went};
 ghost use Rattle.x25_layer.specs.code.FitsLayer.{FitsLayer};
-ghost use Rattle.x25_layer.specs.OverLink.{view_of, LayerGives, LinkGives, LacksMemory};
+ghost use Rattle.x25_layer.specs.OverLink.{Answers, Does};
 ghost use Rattle.x25_layer.specs.Asking.{AsksCircuit, error_without_memory};
-ghost use Rattle.x25_layer.specs.Room.{HaveRoom, HasRoom, KeepsRoom};
+ghost use Rattle.x25_layer.specs.Room.{HaveRoom};
 
 use crate::error::LayerError;
 use crate::layer::Layer;
@@ -75,18 +75,7 @@ impl Layer {
         requires up { L.up link.old ≡ true }
         requires free { puts_at_once (plain_request request) ≡ true → L.waits link.old < 256 }
         requires longest { 4099 ≤ L.longest link.old }
-        ensures layer { (c : LayerSettings) (l : State) (x : L.State) → FitsLayer c self.old l → L.fits link.old x →
-            LayerGives c self.new result (went (view_of L.up_in L.waits_in L.after_put x) c (outcome_on l.restarts l.circuits channel (outcome c.circuit (l.circuits channel) (plain_request request.entry)))) }
-        ensures link { (c : LayerSettings) (l : State) (x : L.State) → FitsLayer c self.old l → L.fits link.old x →
-            LinkGives (L.fits link.new) L.after_put x result (went (view_of L.up_in L.waits_in L.after_put x) c (outcome_on l.restarts l.circuits channel (outcome c.circuit (l.circuits channel) (plain_request request.entry)))) }
-        ensures layer_stays { (c : LayerSettings) (l : State) → FitsLayer c self.old l → OnErr result (FitsLayer c self.new l) }
-        ensures link_stays { (x : L.State) → L.fits link.old x → OnErr result (L.fits link.new x) }
-        ensures longest { L.longest link.new ≡ L.longest link.old }
-        ensures missing { IsErrOf result LayerError.NoMemory → LacksMemory 16 self.old (L.spares link.old) }
-        ensures most_memory { self.new.memory ≤ max self.old.memory 16 }
-        ensures most_spares { L.spares link.new ≤ max (L.spares link.old) 16 }
-        ensures room { KeepsRoom self.old (L.spares link.old) self.new (L.spares link.new) }
-        ensures room_stays { (len : ℕ) → HasRoom len self.old (L.spares link.old) → OnErr result (HasRoom len self.new (L.spares link.new)) }
+        ensures { Does L.OrderedLink self.old link.old self.new link.new result 16 (λ view c l. went view c (outcome_on l.restarts l.circuits channel (outcome c.circuit (l.circuits channel) (plain_request request.entry)))) }
     {
         if self.set_aside(link, MOST_PUT).is_err() {
             return Err(self.without_memory(channel, &request));
@@ -107,16 +96,7 @@ impl Layer {
         request: Request<'_>,
     ) -> Result<(), LayerError>
         requires { 4099 ≤ L.longest link.old }
-        ensures layer { (c : LayerSettings) (l : State) (x : L.State) → FitsLayer c self.old l → L.fits link.old x → LayerGives c self.new result (calls (view_of L.up_in L.waits_in L.after_put x) c l (Asks channel (plain_request request.entry))) }
-        ensures link { (c : LayerSettings) (l : State) (x : L.State) → FitsLayer c self.old l → L.fits link.old x → LinkGives (L.fits link.new) L.after_put x result (calls (view_of L.up_in L.waits_in L.after_put x) c l (Asks channel (plain_request request.entry))) }
-        ensures layer_stays { (c : LayerSettings) (l : State) → FitsLayer c self.old l → OnErr result (FitsLayer c self.new l) }
-        ensures link_stays { (x : L.State) → L.fits link.old x → OnErr result (L.fits link.new x) }
-        ensures longest { L.longest link.new ≡ L.longest link.old }
-        ensures missing { IsErrOf result LayerError.NoMemory → LacksMemory 16 self.old (L.spares link.old) }
-        ensures most_memory { self.new.memory ≤ max self.old.memory 16 }
-        ensures most_spares { L.spares link.new ≤ max (L.spares link.old) 16 }
-        ensures room { KeepsRoom self.old (L.spares link.old) self.new (L.spares link.new) }
-        ensures room_stays { (len : ℕ) → HasRoom len self.old (L.spares link.old) → OnErr result (HasRoom len self.new (L.spares link.new)) }
+        ensures { Answers L.OrderedLink self.old link.old self.new link.new result 16 (Asks channel (plain_request request.entry)) }
     {
         if !link.is_up() {
             return Err(LayerError::NotUp);

@@ -7,16 +7,14 @@
 //!
 //! An accepted call puts its packet, and then the data packets of all channels in rounds, while fewer than 8 packets wait. The
 //! link takes packets of 4,099 octets.
-ghost use Rattle.std.specs.Prelude.{◌≡◌, ℕ, ◌≤◌, max, None, Some, IfOk, OnErr, IsErrOf};
+ghost use Rattle.std.specs.Prelude.{◌≡◌, ◌≤◌, None, Some, IfOk};
 ghost use Rattle.x25_circuit.specs.Params.{default_params};
 ghost use Rattle.x25_circuit.specs.Calls.{Accepts, Clears, Sends, Interrupts, Resets, SaysReady, SaysNotReady};
 ghost use Rattle.x25_layer.specs.Layer.{LayerSettings};
 ghost use Rattle.x25_layer.specs.Layer.{Layer as State};
 ghost use Rattle.x25_layer.specs.code.FitsLayer.{FitsLayer};
-ghost use Rattle.x25_layer.specs.OverLink.{view_of, LayerGives, LinkGives, LacksMemory};
-ghost use Rattle.x25_layer.specs.Room.{HasRoom, KeepsRoom};
+ghost use Rattle.x25_layer.specs.OverLink.{Answers};
 ghost use Rattle.x25_layer.specs.Calls.{Asks, Dials, free_channel};
-ghost use Rattle.x25_layer.specs.Rounds.{calls};
 
 use crate::error::LayerError;
 use crate::layer::Layer;
@@ -37,16 +35,7 @@ impl Layer {
         user: &[u8],
     ) -> Result<u16, LayerError>
         requires { 4099 ≤ L.longest link.old }
-        ensures layer { (c : LayerSettings) (l : State) (x : L.State) → FitsLayer c self.old l → L.fits link.old x → LayerGives c self.new result (calls (view_of L.up_in L.waits_in L.after_put x) c l (Dials called.now calling.now user.now default_params)) }
-        ensures link { (c : LayerSettings) (l : State) (x : L.State) → FitsLayer c self.old l → L.fits link.old x → LinkGives (L.fits link.new) L.after_put x result (calls (view_of L.up_in L.waits_in L.after_put x) c l (Dials called.now calling.now user.now default_params)) }
-        ensures layer_stays { (c : LayerSettings) (l : State) → FitsLayer c self.old l → OnErr result (FitsLayer c self.new l) }
-        ensures link_stays { (x : L.State) → L.fits link.old x → OnErr result (L.fits link.new x) }
-        ensures longest { L.longest link.new ≡ L.longest link.old }
-        ensures missing { IsErrOf result LayerError.NoMemory → LacksMemory 16 self.old (L.spares link.old) }
-        ensures most_memory { self.new.memory ≤ max self.old.memory 16 }
-        ensures most_spares { L.spares link.new ≤ max (L.spares link.old) 16 }
-        ensures room { KeepsRoom self.old (L.spares link.old) self.new (L.spares link.new) }
-        ensures room_stays { (len : ℕ) → HasRoom len self.old (L.spares link.old) → OnErr result (HasRoom len self.new (L.spares link.new)) }
+        ensures does { Answers L.OrderedLink self.old link.old self.new link.new result 16 (Dials called.now calling.now user.now default_params) }
         ensures channel { (c : LayerSettings) (l : State) → FitsLayer c self.old l → IfOk result (λ channel. free_channel c.circuit.role l.circuits c.channels ≡ Some channel) }
     {
         self.call_with(link, called, calling, user, Params::default())
@@ -66,16 +55,7 @@ impl Layer {
         params: Params,
     ) -> Result<u16, LayerError>
         requires { 4099 ≤ L.longest link.old }
-        ensures layer { (c : LayerSettings) (l : State) (x : L.State) → FitsLayer c self.old l → L.fits link.old x → LayerGives c self.new result (calls (view_of L.up_in L.waits_in L.after_put x) c l (Dials called.now calling.now user.now params)) }
-        ensures link { (c : LayerSettings) (l : State) (x : L.State) → FitsLayer c self.old l → L.fits link.old x → LinkGives (L.fits link.new) L.after_put x result (calls (view_of L.up_in L.waits_in L.after_put x) c l (Dials called.now calling.now user.now params)) }
-        ensures layer_stays { (c : LayerSettings) (l : State) → FitsLayer c self.old l → OnErr result (FitsLayer c self.new l) }
-        ensures link_stays { (x : L.State) → L.fits link.old x → OnErr result (L.fits link.new x) }
-        ensures longest { L.longest link.new ≡ L.longest link.old }
-        ensures missing { IsErrOf result LayerError.NoMemory → LacksMemory 16 self.old (L.spares link.old) }
-        ensures most_memory { self.new.memory ≤ max self.old.memory 16 }
-        ensures most_spares { L.spares link.new ≤ max (L.spares link.old) 16 }
-        ensures room { KeepsRoom self.old (L.spares link.old) self.new (L.spares link.new) }
-        ensures room_stays { (len : ℕ) → HasRoom len self.old (L.spares link.old) → OnErr result (HasRoom len self.new (L.spares link.new)) }
+        ensures does { Answers L.OrderedLink self.old link.old self.new link.new result 16 (Dials called.now calling.now user.now params) }
         ensures channel { (c : LayerSettings) (l : State) → FitsLayer c self.old l → IfOk result (λ channel. free_channel c.circuit.role l.circuits c.channels ≡ Some channel) }
     {
         if !link.is_up() {
@@ -107,16 +87,7 @@ impl Layer {
     /// alone.
     pub fn accept<L: OrderedLink>(&mut self, link: &mut L, channel: u16) -> Result<(), LayerError>
         requires { 4099 ≤ L.longest link.old }
-        ensures layer { (c : LayerSettings) (l : State) (x : L.State) → FitsLayer c self.old l → L.fits link.old x → LayerGives c self.new result (calls (view_of L.up_in L.waits_in L.after_put x) c l (Asks channel (Accepts None))) }
-        ensures link { (c : LayerSettings) (l : State) (x : L.State) → FitsLayer c self.old l → L.fits link.old x → LinkGives (L.fits link.new) L.after_put x result (calls (view_of L.up_in L.waits_in L.after_put x) c l (Asks channel (Accepts None))) }
-        ensures layer_stays { (c : LayerSettings) (l : State) → FitsLayer c self.old l → OnErr result (FitsLayer c self.new l) }
-        ensures link_stays { (x : L.State) → L.fits link.old x → OnErr result (L.fits link.new x) }
-        ensures longest { L.longest link.new ≡ L.longest link.old }
-        ensures missing { IsErrOf result LayerError.NoMemory → LacksMemory 16 self.old (L.spares link.old) }
-        ensures most_memory { self.new.memory ≤ max self.old.memory 16 }
-        ensures most_spares { L.spares link.new ≤ max (L.spares link.old) 16 }
-        ensures room { KeepsRoom self.old (L.spares link.old) self.new (L.spares link.new) }
-        ensures room_stays { (len : ℕ) → HasRoom len self.old (L.spares link.old) → OnErr result (HasRoom len self.new (L.spares link.new)) }
+        ensures { Answers L.OrderedLink self.old link.old self.new link.new result 16 (Asks channel (Accepts None)) }
     {
         self.ask(link, channel, Request::Accept { answer: None })
     }
@@ -133,16 +104,7 @@ impl Layer {
         params: Params,
     ) -> Result<(), LayerError>
         requires { 4099 ≤ L.longest link.old }
-        ensures layer { (c : LayerSettings) (l : State) (x : L.State) → FitsLayer c self.old l → L.fits link.old x → LayerGives c self.new result (calls (view_of L.up_in L.waits_in L.after_put x) c l (Asks channel (Accepts (Some params)))) }
-        ensures link { (c : LayerSettings) (l : State) (x : L.State) → FitsLayer c self.old l → L.fits link.old x → LinkGives (L.fits link.new) L.after_put x result (calls (view_of L.up_in L.waits_in L.after_put x) c l (Asks channel (Accepts (Some params)))) }
-        ensures layer_stays { (c : LayerSettings) (l : State) → FitsLayer c self.old l → OnErr result (FitsLayer c self.new l) }
-        ensures link_stays { (x : L.State) → L.fits link.old x → OnErr result (L.fits link.new x) }
-        ensures longest { L.longest link.new ≡ L.longest link.old }
-        ensures missing { IsErrOf result LayerError.NoMemory → LacksMemory 16 self.old (L.spares link.old) }
-        ensures most_memory { self.new.memory ≤ max self.old.memory 16 }
-        ensures most_spares { L.spares link.new ≤ max (L.spares link.old) 16 }
-        ensures room { KeepsRoom self.old (L.spares link.old) self.new (L.spares link.new) }
-        ensures room_stays { (len : ℕ) → HasRoom len self.old (L.spares link.old) → OnErr result (HasRoom len self.new (L.spares link.new)) }
+        ensures { Answers L.OrderedLink self.old link.old self.new link.new result 16 (Asks channel (Accepts (Some params))) }
     {
         let answer = Proposal::new(params);
         self.ask(
@@ -160,16 +122,7 @@ impl Layer {
     /// isn't confirmed yet, and else 70 alone.
     pub fn clear<L: OrderedLink>(&mut self, link: &mut L, channel: u16) -> Result<(), LayerError>
         requires { 4099 ≤ L.longest link.old }
-        ensures layer { (c : LayerSettings) (l : State) (x : L.State) → FitsLayer c self.old l → L.fits link.old x → LayerGives c self.new result (calls (view_of L.up_in L.waits_in L.after_put x) c l (Asks channel Clears)) }
-        ensures link { (c : LayerSettings) (l : State) (x : L.State) → FitsLayer c self.old l → L.fits link.old x → LinkGives (L.fits link.new) L.after_put x result (calls (view_of L.up_in L.waits_in L.after_put x) c l (Asks channel Clears)) }
-        ensures layer_stays { (c : LayerSettings) (l : State) → FitsLayer c self.old l → OnErr result (FitsLayer c self.new l) }
-        ensures link_stays { (x : L.State) → L.fits link.old x → OnErr result (L.fits link.new x) }
-        ensures longest { L.longest link.new ≡ L.longest link.old }
-        ensures missing { IsErrOf result LayerError.NoMemory → LacksMemory 16 self.old (L.spares link.old) }
-        ensures most_memory { self.new.memory ≤ max self.old.memory 16 }
-        ensures most_spares { L.spares link.new ≤ max (L.spares link.old) 16 }
-        ensures room { KeepsRoom self.old (L.spares link.old) self.new (L.spares link.new) }
-        ensures room_stays { (len : ℕ) → HasRoom len self.old (L.spares link.old) → OnErr result (HasRoom len self.new (L.spares link.new)) }
+        ensures { Answers L.OrderedLink self.old link.old self.new link.new result 16 (Asks channel Clears) }
     {
         self.ask(link, channel, Request::Clear)
     }
@@ -187,16 +140,7 @@ impl Layer {
         user: Vec<u8>,
     ) -> Result<(), LayerError>
         requires { 4099 ≤ L.longest link.old }
-        ensures layer { (c : LayerSettings) (l : State) (x : L.State) → FitsLayer c self.old l → L.fits link.old x → LayerGives c self.new result (calls (view_of L.up_in L.waits_in L.after_put x) c l (Asks channel (Sends q user.items))) }
-        ensures link { (c : LayerSettings) (l : State) (x : L.State) → FitsLayer c self.old l → L.fits link.old x → LinkGives (L.fits link.new) L.after_put x result (calls (view_of L.up_in L.waits_in L.after_put x) c l (Asks channel (Sends q user.items))) }
-        ensures layer_stays { (c : LayerSettings) (l : State) → FitsLayer c self.old l → OnErr result (FitsLayer c self.new l) }
-        ensures link_stays { (x : L.State) → L.fits link.old x → OnErr result (L.fits link.new x) }
-        ensures longest { L.longest link.new ≡ L.longest link.old }
-        ensures missing { IsErrOf result LayerError.NoMemory → LacksMemory 16 self.old (L.spares link.old) }
-        ensures most_memory { self.new.memory ≤ max self.old.memory 16 }
-        ensures most_spares { L.spares link.new ≤ max (L.spares link.old) 16 }
-        ensures room { KeepsRoom self.old (L.spares link.old) self.new (L.spares link.new) }
-        ensures room_stays { (len : ℕ) → HasRoom len self.old (L.spares link.old) → OnErr result (HasRoom len self.new (L.spares link.new)) }
+        ensures { Answers L.OrderedLink self.old link.old self.new link.new result 16 (Asks channel (Sends q user.items)) }
     {
         self.ask(link, channel, Request::Send { q, user })
     }
@@ -212,16 +156,7 @@ impl Layer {
         user: &[u8],
     ) -> Result<(), LayerError>
         requires { 4099 ≤ L.longest link.old }
-        ensures layer { (c : LayerSettings) (l : State) (x : L.State) → FitsLayer c self.old l → L.fits link.old x → LayerGives c self.new result (calls (view_of L.up_in L.waits_in L.after_put x) c l (Asks channel (Interrupts user.now))) }
-        ensures link { (c : LayerSettings) (l : State) (x : L.State) → FitsLayer c self.old l → L.fits link.old x → LinkGives (L.fits link.new) L.after_put x result (calls (view_of L.up_in L.waits_in L.after_put x) c l (Asks channel (Interrupts user.now))) }
-        ensures layer_stays { (c : LayerSettings) (l : State) → FitsLayer c self.old l → OnErr result (FitsLayer c self.new l) }
-        ensures link_stays { (x : L.State) → L.fits link.old x → OnErr result (L.fits link.new x) }
-        ensures longest { L.longest link.new ≡ L.longest link.old }
-        ensures missing { IsErrOf result LayerError.NoMemory → LacksMemory 16 self.old (L.spares link.old) }
-        ensures most_memory { self.new.memory ≤ max self.old.memory 16 }
-        ensures most_spares { L.spares link.new ≤ max (L.spares link.old) 16 }
-        ensures room { KeepsRoom self.old (L.spares link.old) self.new (L.spares link.new) }
-        ensures room_stays { (len : ℕ) → HasRoom len self.old (L.spares link.old) → OnErr result (HasRoom len self.new (L.spares link.new)) }
+        ensures { Answers L.OrderedLink self.old link.old self.new link.new result 16 (Asks channel (Interrupts user.now)) }
     {
         self.ask(link, channel, Request::Interrupt { user })
     }
@@ -232,16 +167,7 @@ impl Layer {
     /// 70 alone.
     pub fn reset<L: OrderedLink>(&mut self, link: &mut L, channel: u16) -> Result<(), LayerError>
         requires { 4099 ≤ L.longest link.old }
-        ensures layer { (c : LayerSettings) (l : State) (x : L.State) → FitsLayer c self.old l → L.fits link.old x → LayerGives c self.new result (calls (view_of L.up_in L.waits_in L.after_put x) c l (Asks channel Resets)) }
-        ensures link { (c : LayerSettings) (l : State) (x : L.State) → FitsLayer c self.old l → L.fits link.old x → LinkGives (L.fits link.new) L.after_put x result (calls (view_of L.up_in L.waits_in L.after_put x) c l (Asks channel Resets)) }
-        ensures layer_stays { (c : LayerSettings) (l : State) → FitsLayer c self.old l → OnErr result (FitsLayer c self.new l) }
-        ensures link_stays { (x : L.State) → L.fits link.old x → OnErr result (L.fits link.new x) }
-        ensures longest { L.longest link.new ≡ L.longest link.old }
-        ensures missing { IsErrOf result LayerError.NoMemory → LacksMemory 16 self.old (L.spares link.old) }
-        ensures most_memory { self.new.memory ≤ max self.old.memory 16 }
-        ensures most_spares { L.spares link.new ≤ max (L.spares link.old) 16 }
-        ensures room { KeepsRoom self.old (L.spares link.old) self.new (L.spares link.new) }
-        ensures room_stays { (len : ℕ) → HasRoom len self.old (L.spares link.old) → OnErr result (HasRoom len self.new (L.spares link.new)) }
+        ensures { Answers L.OrderedLink self.old link.old self.new link.new result 16 (Asks channel Resets) }
     {
         self.ask(link, channel, Request::Reset)
     }
@@ -252,16 +178,7 @@ impl Layer {
     /// 70 alone.
     pub fn ready<L: OrderedLink>(&mut self, link: &mut L, channel: u16) -> Result<(), LayerError>
         requires { 4099 ≤ L.longest link.old }
-        ensures layer { (c : LayerSettings) (l : State) (x : L.State) → FitsLayer c self.old l → L.fits link.old x → LayerGives c self.new result (calls (view_of L.up_in L.waits_in L.after_put x) c l (Asks channel SaysReady)) }
-        ensures link { (c : LayerSettings) (l : State) (x : L.State) → FitsLayer c self.old l → L.fits link.old x → LinkGives (L.fits link.new) L.after_put x result (calls (view_of L.up_in L.waits_in L.after_put x) c l (Asks channel SaysReady)) }
-        ensures layer_stays { (c : LayerSettings) (l : State) → FitsLayer c self.old l → OnErr result (FitsLayer c self.new l) }
-        ensures link_stays { (x : L.State) → L.fits link.old x → OnErr result (L.fits link.new x) }
-        ensures longest { L.longest link.new ≡ L.longest link.old }
-        ensures missing { IsErrOf result LayerError.NoMemory → LacksMemory 16 self.old (L.spares link.old) }
-        ensures most_memory { self.new.memory ≤ max self.old.memory 16 }
-        ensures most_spares { L.spares link.new ≤ max (L.spares link.old) 16 }
-        ensures room { KeepsRoom self.old (L.spares link.old) self.new (L.spares link.new) }
-        ensures room_stays { (len : ℕ) → HasRoom len self.old (L.spares link.old) → OnErr result (HasRoom len self.new (L.spares link.new)) }
+        ensures { Answers L.OrderedLink self.old link.old self.new link.new result 16 (Asks channel SaysReady) }
     {
         self.ask(link, channel, Request::Ready)
     }
@@ -276,16 +193,7 @@ impl Layer {
         channel: u16,
     ) -> Result<(), LayerError>
         requires { 4099 ≤ L.longest link.old }
-        ensures layer { (c : LayerSettings) (l : State) (x : L.State) → FitsLayer c self.old l → L.fits link.old x → LayerGives c self.new result (calls (view_of L.up_in L.waits_in L.after_put x) c l (Asks channel SaysNotReady)) }
-        ensures link { (c : LayerSettings) (l : State) (x : L.State) → FitsLayer c self.old l → L.fits link.old x → LinkGives (L.fits link.new) L.after_put x result (calls (view_of L.up_in L.waits_in L.after_put x) c l (Asks channel SaysNotReady)) }
-        ensures layer_stays { (c : LayerSettings) (l : State) → FitsLayer c self.old l → OnErr result (FitsLayer c self.new l) }
-        ensures link_stays { (x : L.State) → L.fits link.old x → OnErr result (L.fits link.new x) }
-        ensures longest { L.longest link.new ≡ L.longest link.old }
-        ensures missing { IsErrOf result LayerError.NoMemory → LacksMemory 16 self.old (L.spares link.old) }
-        ensures most_memory { self.new.memory ≤ max self.old.memory 16 }
-        ensures most_spares { L.spares link.new ≤ max (L.spares link.old) 16 }
-        ensures room { KeepsRoom self.old (L.spares link.old) self.new (L.spares link.new) }
-        ensures room_stays { (len : ℕ) → HasRoom len self.old (L.spares link.old) → OnErr result (HasRoom len self.new (L.spares link.new)) }
+        ensures { Answers L.OrderedLink self.old link.old self.new link.new result 16 (Asks channel SaysNotReady) }
     {
         self.ask(link, channel, Request::NotReady)
     }

@@ -1,5 +1,5 @@
 //! Restart. ITU-T X.25 (10/96), section 3.3.
-ghost use Rattle.std.specs.Prelude.{◌≡◌, ℕ, suc, ◌+◌, ◌-◌, ◌^◌, ◌<◌, ◌≤◌, [], max, true, false, option_to_list, IfErr, OnOk, OnErr, IsOk, IsErrOf};
+ghost use Rattle.std.specs.Prelude.{◌≡◌, ℕ, suc, ◌+◌, ◌-◌, ◌^◌, ◌<◌, ◌≤◌, [], max, true, false, option_to_list, IfErr, OnOk, OnErr, IsOk};
 ghost use Rattle.x25_packet.specs.PlainPacket.{restart, restart_conf};
 ghost use Rattle.x25_packet.specs.Spelling.{spelling_of};
 ghost use Rattle.x25_circuit.specs.Circuit.{begun};
@@ -7,10 +7,10 @@ ghost use Rattle.x25_circuit.specs.Table.{cause_at};
 ghost use Rattle.x25_layer.specs.Layer.{LayerSettings, restart_cause, is_ready, restarting_from, layer_answers};
 ghost use Rattle.x25_layer.specs.Layer.{Layer as State};
 ghost use Rattle.x25_layer.specs.code.FitsLayer.{FitsLayer};
-ghost use Rattle.x25_layer.specs.OverLink.{view_of, after_all, LayerGives, LinkGives, LacksMemory};
+ghost use Rattle.x25_layer.specs.OverLink.{view_of, after_all, LacksMemory, Answers};
 ghost use Rattle.x25_layer.specs.Calls.{Restarts};
-ghost use Rattle.x25_layer.specs.Rounds.{calls, comes_up};
-ghost use Rattle.x25_layer.specs.Room.{HaveRoom, HasRoom, KeepsRoom};
+ghost use Rattle.x25_layer.specs.Rounds.{comes_up};
+ghost use Rattle.x25_layer.specs.Room.{HaveRoom, HasRoom};
 ghost use Rattle.x25_layer.specs.Told.{plain_told};
 
 use crate::circuits::{begin_all, forget_all};
@@ -87,16 +87,7 @@ impl Layer {
     /// for no packet is set aside. The layer and the link are as before then.
     pub fn restart<L: OrderedLink>(&mut self, link: &mut L) -> Result<(), LayerError>
         requires { 4099 ≤ L.longest link.old }
-        ensures layer { (c : LayerSettings) (l : State) (x : L.State) → FitsLayer c self.old l → L.fits link.old x → LayerGives c self.new result (calls (view_of L.up_in L.waits_in L.after_put x) c l Restarts) }
-        ensures link { (c : LayerSettings) (l : State) (x : L.State) → FitsLayer c self.old l → L.fits link.old x → LinkGives (L.fits link.new) L.after_put x result (calls (view_of L.up_in L.waits_in L.after_put x) c l Restarts) }
-        ensures longest { L.longest link.new ≡ L.longest link.old }
-        ensures missing { IsErrOf result LayerError.NoMemory → LacksMemory 1 self.old (L.spares link.old) }
-        ensures most_memory { self.new.memory ≤ max self.old.memory 16 }
-        ensures most_spares { L.spares link.new ≤ max (L.spares link.old) 16 }
-        ensures room { KeepsRoom self.old (L.spares link.old) self.new (L.spares link.new) }
-        ensures room_stays { (len : ℕ) → HasRoom len self.old (L.spares link.old) → OnErr result (HasRoom len self.new (L.spares link.new)) }
-        ensures layer_stays { (c : LayerSettings) (l : State) → FitsLayer c self.old l → OnErr result (FitsLayer c self.new l) }
-        ensures link_stays { (x : L.State) → L.fits link.old x → OnErr result (L.fits link.new x) }
+        ensures { Answers L.OrderedLink self.old link.old self.new link.new result 1 Restarts }
     {
         if !link.is_up() {
             return Err(LayerError::NotUp);

@@ -1,17 +1,16 @@
 //! Rounds of pulls of data packets (profile): channels in rising order, one packet each, until a round gives none.
-ghost use Rattle.std.specs.Prelude.{◌≡◌, ℕ, ◌+◌, ◌<◌, ◌≤◌, length, max, Bool, true, false, nat_lt, None, option_to_list, OnErr, IsErrOf};
+ghost use Rattle.std.specs.Prelude.{◌≡◌, ℕ, ◌+◌, ◌<◌, ◌≤◌, length, true, false, nat_lt, None, option_to_list};
 ghost use Rattle.x25_packet.specs.Spelling.{IsChannel};
 ghost use Rattle.x25_circuit.specs.Circuit.{Settings};
 ghost use Rattle.x25_circuit.specs.Circuit.{Circuit as Channel};
 ghost use Rattle.x25_circuit.specs.code.FitsCircuit.{FitsCircuit, room_of};
 ghost use Rattle.x25_layer.specs.Layer.{LayerSettings, packet_on};
-ghost use Rattle.x25_layer.specs.Layer.{Layer as State};
 ghost use Rattle.x25_layer.specs.code.FitsLayer.{FitsLayer};
-ghost use Rattle.x25_layer.specs.OverLink.{view_of, after_all, LayerGives, LinkGives, LacksMemory};
+ghost use Rattle.x25_layer.specs.OverLink.{view_of, after_all, Answers};
 ghost use Rattle.x25_layer.specs.Calls.{PullsAll};
-ghost use Rattle.x25_layer.specs.Rounds.{Putting, round, rounds, calls};
+ghost use Rattle.x25_layer.specs.Rounds.{Putting, round, rounds};
 ghost use Rattle.x25_layer.specs.Pulling.{IsEnough, pulled_where, Stands};
-ghost use Rattle.x25_layer.specs.Room.{HaveRoom, HasRoom, KeepsRoom};
+ghost use Rattle.x25_layer.specs.Room.{HaveRoom};
 
 use crate::error::LayerError;
 use crate::layer::Layer;
@@ -108,16 +107,7 @@ impl Layer {
     /// packets. The layer and the link are as before then.
     pub fn pull<L: OrderedLink>(&mut self, link: &mut L) -> Result<(), LayerError>
         requires { 4099 ≤ L.longest link.old }
-        ensures layer { (c : LayerSettings) (l : State) (x : L.State) → FitsLayer c self.old l → L.fits link.old x → LayerGives c self.new result (calls (view_of L.up_in L.waits_in L.after_put x) c l PullsAll) }
-        ensures link { (c : LayerSettings) (l : State) (x : L.State) → FitsLayer c self.old l → L.fits link.old x → LinkGives (L.fits link.new) L.after_put x result (calls (view_of L.up_in L.waits_in L.after_put x) c l PullsAll) }
-        ensures layer_stays { (c : LayerSettings) (l : State) → FitsLayer c self.old l → OnErr result (FitsLayer c self.new l) }
-        ensures link_stays { (x : L.State) → L.fits link.old x → OnErr result (L.fits link.new x) }
-        ensures longest { L.longest link.new ≡ L.longest link.old }
-        ensures missing { IsErrOf result LayerError.NoMemory → LacksMemory 16 self.old (L.spares link.old) }
-        ensures most_memory { self.new.memory ≤ max self.old.memory 16 }
-        ensures most_spares { L.spares link.new ≤ max (L.spares link.old) 16 }
-        ensures room { KeepsRoom self.old (L.spares link.old) self.new (L.spares link.new) }
-        ensures room_stays { (len : ℕ) → HasRoom len self.old (L.spares link.old) → OnErr result (HasRoom len self.new (L.spares link.new)) }
+        ensures { Answers L.OrderedLink self.old link.old self.new link.new result 16 PullsAll }
     {
         if !link.is_up() {
             return Err(LayerError::NotUp);

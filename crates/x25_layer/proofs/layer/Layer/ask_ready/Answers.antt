@@ -1,4 +1,4 @@
-use Rattle.std.proofs.Common.{ℕ, ◌∙◌, Ok, sym, subst, ap, arith}
+use Rattle.std.proofs.Common.{rules, ℕ, ◌∙◌, Ok, sym, subst, ap, arith}
 use Rattle.x25_circuit.specs.Calls.{Outcome, outcome}
 use Rattle.x25_circuit.specs.Requests.{plain_request}
 use Rattle.x25_layer.specs.OverLink.{view_of, LayerGives, LinkGives}
@@ -11,71 +11,94 @@ use Rattle.x25_layer.proofs.FitLemmas.{on_err}
 use Rattle.x25_layer.proofs.CallLemmas.{IsAccepted, is_accepted, declined_layer, declined_link, short_layer, short_link}
 use Rattle.x25_layer.proofs.layer.Layer.ask_ready.Goals as goal
 
-pub returns-then-is_err-clause-layer : goal.returns-then-is_err-clause-layer
-returns-then-is_err-clause-layer g c = λ s l x fits link.
-    short_layer (Unit {0}) s _ c.args.self.now l c.args.channel _ (outcome s.circuit (l.circuits c.args.channel) (plain_request c.args.request)) (c.without_memory.ensures s l (c.set_aside.ensures.fits s l fits))
+pub returns-then-is_err : goal.returns-then-is_err
+returns-then-is_err g c = record {
+  layer = λ s l x fits link.
+      short_layer (Unit {0}) s _ c.args.self.now l c.args.channel _ (outcome s.circuit (l.circuits c.args.channel) (plain_request c.args.request)) (c.without_memory.ensures s l (c.set_aside.ensures.fits s l fits));
+  link = λ s l x fits link.
+      short_link (Unit {0}) (g.L.OrderedLink.fits c.set_aside.new.link) g.L.OrderedLink.after_put x s _ l c.args.channel _ (outcome s.circuit (l.circuits c.args.channel) (plain_request c.args.request)) (c.without_memory.ensures s l (c.set_aside.ensures.fits s l fits));
+  layer_stays = search rules;
+  link_stays = search rules;
+  longest = search rules;
+  missing = search rules;
+  most_memory = search rules;
+  most_spares = search rules;
+  room = search rules;
+  room_stays = search rules;
+}
 
-pub returns-then-is_err-clause-link : goal.returns-then-is_err-clause-link
-returns-then-is_err-clause-link g c = λ s l x fits link.
-    short_link (Unit {0}) (g.L.OrderedLink.fits c.set_aside.new.link) g.L.OrderedLink.after_put x s _ l c.args.channel _ (outcome s.circuit (l.circuits c.args.channel) (plain_request c.args.request)) (c.without_memory.ensures s l (c.set_aside.ensures.fits s l fits))
+pub returns-in_err-packet : goal.returns-in_err-packet
+returns-in_err-packet g c = record {
+  layer = λ s l x fits link.
+      declined_layer c.from_residual.result s _ c.ask_circuit.new.self c.ask_circuit.new.self l c.args.channel c.in_err-packet.field-0.0 (outcome s.circuit (l.circuits c.args.channel) (plain_request c.args.request))
+      (c.in_err-packet.ensures.outcome s l (c.set_aside.ensures.fits s l fits)) c.from_residual.ensures.1;
+  link = λ s l x fits link.
+      declined_link c.from_residual.result (g.L.OrderedLink.fits c.set_aside.new.link) g.L.OrderedLink.after_put x s _ c.ask_circuit.new.self l c.args.channel c.in_err-packet.field-0.0 (outcome s.circuit (l.circuits c.args.channel) (plain_request c.args.request))
+      (c.in_err-packet.ensures.outcome s l (c.set_aside.ensures.fits s l fits)) c.from_residual.ensures.1;
+  layer_stays = λ s l fits. on_err c.from_residual.result (c.in_err-packet.ensures.fits s l (c.set_aside.ensures.fits s l fits));
+  link_stays = search rules;
+  longest = search rules;
+  missing = search rules;
+  most_memory = search rules;
+  most_spares = search rules;
+  room = λ len has still.
+      let same = c.ask_circuit.ensures.memory in
+      let more = c.set_aside.ensures.no_fewer in
+      let more_spares = c.set_aside.ensures.no_fewer_spares in
+      let memory = has.memory in
+      let spares = has.spares in
+      record {
+        memory = omega (arith, same, more, memory);
+        spares = omega (arith, more_spares, spares);
+        circuits = c.ask_circuit.ensures.room len (subst (λ (v : code.Layer). HaveRoom len v.circuits.items) (sym c.set_aside.ensures.layer) has.circuits);
+      };
+  room_stays = λ len has.
+      let same = c.ask_circuit.ensures.memory in
+      let more = c.set_aside.ensures.no_fewer in
+      let more_spares = c.set_aside.ensures.no_fewer_spares in
+      let memory = has.memory in
+      let spares = has.spares in
+      on_err c.from_residual.result (record {
+        memory = omega (arith, same, more, memory);
+        spares = omega (arith, more_spares, spares);
+        circuits = c.ask_circuit.ensures.room len (subst (λ (v : code.Layer). HaveRoom len v.circuits.items) (sym c.set_aside.ensures.layer) has.circuits);
+      });
+}
 
-pub returns-in_err-packet-clause-layer : goal.returns-in_err-packet-clause-layer
-returns-in_err-packet-clause-layer g c = λ s l x fits link.
-    declined_layer c.from_residual.result s _ c.ask_circuit.new.self c.ask_circuit.new.self l c.args.channel c.in_err-packet.field-0.0 (outcome s.circuit (l.circuits c.args.channel) (plain_request c.args.request))
-    (c.in_err-packet.ensures.outcome s l (c.set_aside.ensures.fits s l fits)) c.from_residual.ensures.1
-
-pub returns-in_err-packet-clause-link : goal.returns-in_err-packet-clause-link
-returns-in_err-packet-clause-link g c = λ s l x fits link.
-    declined_link c.from_residual.result (g.L.OrderedLink.fits c.set_aside.new.link) g.L.OrderedLink.after_put x s _ c.ask_circuit.new.self l c.args.channel c.in_err-packet.field-0.0 (outcome s.circuit (l.circuits c.args.channel) (plain_request c.args.request))
-    (c.in_err-packet.ensures.outcome s l (c.set_aside.ensures.fits s l fits)) c.from_residual.ensures.1
-
-pub returns-in_err-packet-clause-layer_stays : goal.returns-in_err-packet-clause-layer_stays
-returns-in_err-packet-clause-layer_stays g c = λ s l fits. on_err c.from_residual.result (c.in_err-packet.ensures.fits s l (c.set_aside.ensures.fits s l fits))
-
-pub returns-clause-layer : goal.returns-clause-layer
-returns-clause-layer g c = λ s l x fits link.
-    let view : LinkView = view_of g.L.OrderedLink.up_in g.L.OrderedLink.waits_in g.L.OrderedLink.after_put x in
-    let o : Outcome = outcome s.circuit (l.circuits c.args.channel) (plain_request c.args.request) in
-    let a : IsAccepted s c.ask_circuit.new.self l c.args.channel c.in_ok-packet.packet o = is_accepted s c.ask_circuit.new.self l c.args.channel c.in_ok-packet.packet o (sym fits.restarting ∙ c.requires.ready) (c.in_ok-packet.ensures.outcome s l (c.set_aside.ensures.fits s l fits)) in
-    subst (λ (r : Answered). LayerGives s c.pull_all.new.self (Ok tt) r) (sym (ap (went view s) a.accepted))
-    (c.pull_all.ensures.layer s (begin a.next (packet_on c.args.channel (plain_sent c.in_ok-packet.packet))) x (c.put_sent.ensures.fits s a.next a.fits) (c.put_sent.ensures.link x (c.set_aside.ensures.link x link)))
-
-pub returns-clause-link : goal.returns-clause-link
-returns-clause-link g c = λ s l x fits link.
-    let view : LinkView = view_of g.L.OrderedLink.up_in g.L.OrderedLink.waits_in g.L.OrderedLink.after_put x in
-    let o : Outcome = outcome s.circuit (l.circuits c.args.channel) (plain_request c.args.request) in
-    let a : IsAccepted s c.ask_circuit.new.self l c.args.channel c.in_ok-packet.packet o = is_accepted s c.ask_circuit.new.self l c.args.channel c.in_ok-packet.packet o (sym fits.restarting ∙ c.requires.ready) (c.in_ok-packet.ensures.outcome s l (c.set_aside.ensures.fits s l fits)) in
-    subst (λ (r : Answered). LinkGives (g.L.OrderedLink.fits c.pull_all.new.link) g.L.OrderedLink.after_put x (Ok tt) r) (sym (ap (went view s) a.accepted))
-    (c.pull_all.ensures.link s (begin a.next (packet_on c.args.channel (plain_sent c.in_ok-packet.packet))) x (c.put_sent.ensures.fits s a.next a.fits) (c.put_sent.ensures.link x (c.set_aside.ensures.link x link)))
-
--- memory that is set aside leaves the circuits as they are
-
-pub returns-in_err-packet-clause-room_stays : goal.returns-in_err-packet-clause-room_stays
-returns-in_err-packet-clause-room_stays g c = λ len has.
-    let same = c.ask_circuit.ensures.memory in
-    let more = c.set_aside.ensures.no_fewer in
-    let more_spares = c.set_aside.ensures.no_fewer_spares in
-    let memory = has.memory in
-    let spares = has.spares in
-    on_err c.from_residual.result (record {
-      memory = omega (arith, same, more, memory);
-      spares = omega (arith, more_spares, spares);
-      circuits = c.ask_circuit.ensures.room len (subst (λ (v : code.Layer). HaveRoom len v.circuits.items) (sym c.set_aside.ensures.layer) has.circuits);
-    })
-
-pub returns-clause-room : goal.returns-clause-room
-returns-clause-room g c = λ len has still.
-    let same = c.ask_circuit.ensures.memory in
-    let more = c.set_aside.ensures.no_fewer in
-    let more_spares = c.set_aside.ensures.no_fewer_spares in
-    let most_spares = c.set_aside.ensures.most_spares in
-    let owed = c.put_sent.ensures.used in
-    let pulled = c.pull_all.ensures.used in
-    let memory = has.memory in
-    let spares = has.spares in
-    record {
-      memory = omega (arith, same, more, more_spares, most_spares, owed, pulled, memory, spares, still);
-      spares = omega (arith, spares, still);
-      circuits = c.pull_all.ensures.room len (subst (λ v. HaveRoom len v.items) (sym c.put_sent.ensures.circuits)
-          (c.ask_circuit.ensures.room len (subst (λ (v : code.Layer). HaveRoom len v.circuits.items) (sym c.set_aside.ensures.layer) has.circuits)));
-    }
+pub returns : goal.returns
+returns g c = record {
+  layer = λ s l x fits link.
+      let view : LinkView = view_of g.L.OrderedLink.up_in g.L.OrderedLink.waits_in g.L.OrderedLink.after_put x in
+      let o : Outcome = outcome s.circuit (l.circuits c.args.channel) (plain_request c.args.request) in
+      let a : IsAccepted s c.ask_circuit.new.self l c.args.channel c.in_ok-packet.packet o = is_accepted s c.ask_circuit.new.self l c.args.channel c.in_ok-packet.packet o (sym fits.restarting ∙ c.requires.ready) (c.in_ok-packet.ensures.outcome s l (c.set_aside.ensures.fits s l fits)) in
+      subst (λ (r : Answered). LayerGives s c.pull_all.new.self (Ok tt) r) (sym (ap (went view s) a.accepted))
+      (c.pull_all.ensures.layer s (begin a.next (packet_on c.args.channel (plain_sent c.in_ok-packet.packet))) x (c.put_sent.ensures.fits s a.next a.fits) (c.put_sent.ensures.link x (c.set_aside.ensures.link x link)));
+  link = λ s l x fits link.
+      let view : LinkView = view_of g.L.OrderedLink.up_in g.L.OrderedLink.waits_in g.L.OrderedLink.after_put x in
+      let o : Outcome = outcome s.circuit (l.circuits c.args.channel) (plain_request c.args.request) in
+      let a : IsAccepted s c.ask_circuit.new.self l c.args.channel c.in_ok-packet.packet o = is_accepted s c.ask_circuit.new.self l c.args.channel c.in_ok-packet.packet o (sym fits.restarting ∙ c.requires.ready) (c.in_ok-packet.ensures.outcome s l (c.set_aside.ensures.fits s l fits)) in
+      subst (λ (r : Answered). LinkGives (g.L.OrderedLink.fits c.pull_all.new.link) g.L.OrderedLink.after_put x (Ok tt) r) (sym (ap (went view s) a.accepted))
+      (c.pull_all.ensures.link s (begin a.next (packet_on c.args.channel (plain_sent c.in_ok-packet.packet))) x (c.put_sent.ensures.fits s a.next a.fits) (c.put_sent.ensures.link x (c.set_aside.ensures.link x link)));
+  layer_stays = search rules;
+  link_stays = search rules;
+  longest = search rules;
+  missing = search rules;
+  most_memory = search rules;
+  most_spares = search rules;
+  room = λ len has still.
+      let same = c.ask_circuit.ensures.memory in
+      let more = c.set_aside.ensures.no_fewer in
+      let more_spares = c.set_aside.ensures.no_fewer_spares in
+      let most_spares = c.set_aside.ensures.most_spares in
+      let owed = c.put_sent.ensures.used in
+      let pulled = c.pull_all.ensures.used in
+      let memory = has.memory in
+      let spares = has.spares in
+      record {
+        memory = omega (arith, same, more, more_spares, most_spares, owed, pulled, memory, spares, still);
+        spares = omega (arith, spares, still);
+        circuits = c.pull_all.ensures.room len (subst (λ v. HaveRoom len v.items) (sym c.put_sent.ensures.circuits)
+            (c.ask_circuit.ensures.room len (subst (λ (v : code.Layer). HaveRoom len v.circuits.items) (sym c.set_aside.ensures.layer) has.circuits)));
+      };
+  room_stays = search rules;
+}

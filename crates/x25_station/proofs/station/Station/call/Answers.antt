@@ -19,12 +19,12 @@ invariant_of-self-in-Ok-call_with c = record {
   meant = still_meant _ _ _ _ c.args.self.now.meant (λ c' s fits.
       let request = Dials c.args.called.now c.args.calling.now c.args.user.now c.args.params in
       let a = answers c.in-Ok-call_with.channel c' _ c.call_with.new.link c.sent-frames.new.self _ c.call_with.new.self (record { frames = c.sent-frames.result; entries = c.enter.new.entries }) s request fits
-      c.in-Ok-call_with.ensures.layer c.in-Ok-call_with.ensures.link c.sent-frames.ensures.station (ap (λ o. o.made) c.sent-frames.ensures.outbox) c.sent-frames.ensures.frames
+      c.in-Ok-call_with.ensures.does.layer c.in-Ok-call_with.ensures.does.link c.sent-frames.ensures.station (ap (λ o. o.made) c.sent-frames.ensures.outbox) c.sent-frames.ensures.frames
       (c.steps_keep_bounds.ensures.command c' s (Requests request) fits.kept) in
       leaves_some c' _ _ (record { frames = c.sent-frames.result; entries = c.enter.new.entries }) (requests c' s request) a.state a.refused);
   aside =
       let before = c.args.self.now.aside in
-      let packets = c.in-Ok-call_with.ensures.most_memory in
+      let packets = c.in-Ok-call_with.ensures.does.most_memory in
       let low = before.packets in
       let spares : c.sent-frames.new.self.outbox.long ≡ 0 = ap (λ o. o.long) c.sent-frames.ensures.outbox in
       record { packets = omega (arith, packets, low); spares = omega (arith, spares); texts = before.texts };
@@ -33,11 +33,11 @@ invariant_of-self-in-Ok-call_with c = record {
 pub invariant_of-self-in-Err-call_with : goal.invariant_of-self-in-Err-call_with
 invariant_of-self-in-Err-call_with c = record {
   meant = still_meant _ _ _ _ c.args.self.now.meant (λ c' s fits.
-      (c', s, still_fits c' c.args.self.now.link c.call_with.new.link _ c.call_with.new.self s fits (c.in-Err.ensures.layer_stays (layer_settings c') s.layer fits.layer) c.in-Err.ensures.link_stays));
+      (c', s, still_fits c' c.args.self.now.link c.call_with.new.link _ c.call_with.new.self s fits (c.in-Err.ensures.does.layer_stays (layer_settings c') s.layer fits.layer) c.in-Err.ensures.does.link_stays));
   aside =
       let before = c.args.self.now.aside in
-      let packets = c.in-Err.ensures.most_memory in
-      let spares = c.in-Err.ensures.most_spares in
+      let packets = c.in-Err.ensures.does.most_memory in
+      let spares = c.in-Err.ensures.does.most_spares in
       let low = before.packets in
       let few = before.spares in
       record { packets = omega (arith, packets, low); spares = omega (arith, spares, few); texts = before.texts };
@@ -47,15 +47,15 @@ pub returns-in-Ok-call_with : goal.returns-in-Ok-call_with
 returns-in-Ok-call_with c =
     let request = Dials c.args.called.now c.args.calling.now c.args.user.now c.args.params in
     let r : code_step.Step = record { frames = c.sent-frames.result; entries = c.enter.new.entries } in
-    did_request c.in-Ok-call_with.channel c.args.self.now _ c.call_with.new.link r request c.in-Ok-call_with.ensures.layer c.in-Ok-call_with.ensures.link c.sent-frames.ensures.station (ap (λ o. o.made) c.sent-frames.ensures.outbox) c.sent-frames.ensures.frames
+    did_request c.in-Ok-call_with.channel c.args.self.now _ c.call_with.new.link r request c.in-Ok-call_with.ensures.does.layer c.in-Ok-call_with.ensures.does.link c.sent-frames.ensures.station (ap (λ o. o.made) c.sent-frames.ensures.outbox) c.sent-frames.ensures.frames
     c.steps_keep_bounds.ensures.command c.holds_few.ensures.window c.holds_few.ensures.stand
     (λ c' s fits.
     let h = c.in-Ok-call_with.channel in
-    dialled_enters c' _ _ c.call_with.new.self s r h c.args.called.now c.args.calling.now c.args.user.now c.args.params fits c.in-Ok-call_with.ensures.layer (c.in-Ok-call_with.ensures.channel (layer_settings c') s.layer fits.layer) (λ k after configured.
+    dialled_enters c' _ _ c.call_with.new.self s r h c.args.called.now c.args.calling.now c.args.user.now c.args.params fits c.in-Ok-call_with.ensures.does.layer (c.in-Ok-call_with.ensures.channel (layer_settings c') s.layer fits.layer) (λ k after configured.
     c.enter.ensures.entered (layer_settings c') k after configured
     ∙ ap (λ es. map plain_entry es ++ of_channel (record { channel = h; name = name_of k h; said = plain_said (said.Asked c.in_ok-asked.asked) }) ∷ []) c.in-Ok.ensures.items
     ∙ ap (λ q. of_channel (record { channel = h; name = name_of k h; said = Asked q }) ∷ []) c.in_ok-asked.ensures.ok))
     (grind (arith, c.enter.ensures.length, c.in-Ok.ensures.len))
 
 pub returns-in-Err : goal.returns-in-Err
-returns-in-Err c = declines_request _ c.in-Err.error _ c.args.self.now _ (Dials c.args.called.now c.args.calling.now c.args.user.now c.args.params) c.of_layer.ensures c.in-Err.ensures.layer c.in-Err.ensures.layer_stays c.in-Err.ensures.link_stays
+returns-in-Err c = declines_request _ c.in-Err.error _ c.args.self.now _ (Dials c.args.called.now c.args.calling.now c.args.user.now c.args.params) c.of_layer.ensures c.in-Err.ensures.does.layer c.in-Err.ensures.does.layer_stays c.in-Err.ensures.does.link_stays
