@@ -19,7 +19,7 @@ pub(crate) trait Timer {
     fn stop(&mut self);
 }
 
-/// Who is told what comes.
+/// To whom what comes is reported.
 pub(crate) trait User {
     /// Takes a notice.
     fn notice(&mut self, entry: &Entry) -> Result<(), AllocError>;
@@ -42,7 +42,7 @@ pub(crate) enum Trouble {
     /// The station refused the event.
     #[error("refused: {0}")]
     Refused(StationError),
-    /// No memory for what was to be sent or told.
+    /// No memory for what was to be sent or reported.
     #[error("no memory")]
     NoMemory,
 }

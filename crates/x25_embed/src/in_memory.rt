@@ -53,7 +53,7 @@ impl Timer for Flag {
     }
 }
 
-/// What the user of an end was told, as lines of a transcript.
+/// What was reported to the user of an end, as lines of a transcript.
 #[derive(Drop)]
 pub(crate) struct Told {
     alloc: Global,

@@ -9,7 +9,7 @@ ghost use Rattle.x25_layer.specs.laws.WaitLaw.{RoundsLeaveNone, StillPullsNone, 
 /// Two layers over links that keep order, whatever their users ask and whenever a link goes down: after every event,
 ///
 /// - what each link was given is what the other handed up, and then what is in flight;
-/// - no end told the other or its user of an error of procedure;
+/// - no end sent the other or reported to its user an error of procedure;
 /// - on each channel and under each name of a stretch, what an end handed up is a beginning of what the other handed down, of
 ///   messages, of interrupts and of calls;
 /// - and all of the messages and interrupts of a stretch that is open at both ends, where all that the giver handed down is
@@ -25,7 +25,7 @@ pub fn two_layers_keep_order()
 }
 
 /// The same two layers: where an end's link is up, the name of the stretch on each channel is the restarts, clears and resets that
-/// its user was told of. No CLEAR comes in p1, which would count and tell nothing.
+/// were reported to its user. No CLEAR comes in p1, which would count and report nothing.
 pub fn names_are_told()
     ensures names { (long_data : Bool) (channels : ℕ) → Always NamesAreCounted long_data channels }
     ensures clear { (long_data : Bool) (channels : ℕ) → Always NoClearComesInP1 long_data channels }
@@ -35,8 +35,8 @@ pub fn names_are_told()
 }
 
 /// Two layers, each end by itself, where each packet that an end's link hands up is the next of those that the other end gave:
-/// every list of such events leads where it leads two layers over links, of which all of the above holds. And an end's user is told
-/// nothing before the first packet, which is told as a restart by the other end.
+/// every list of such events leads where it leads two layers over links, of which all of the above holds. And nothing is
+/// reported to an end's user before the first packet, which is reported as a restart by the other end.
 pub fn apart_layers_keep_order()
     ensures runs { (long_data : Bool) (channels : ℕ) → IsOverLinks long_data channels }
     ensures order { (long_data : Bool) (channels : ℕ) → AlwaysApart KeepsOrder long_data channels }
@@ -52,7 +52,7 @@ pub fn apart_layers_keep_order()
 }
 
 /// One end by itself, whatever happens to it and whatever its link hands up: of two ends' events its own alone decide what it is;
-/// until a packet comes it gave its RESTART alone, no call of its user was accepted, and nothing was told; after its link went
+/// until a packet comes it gave its RESTART alone, no call of its user was accepted, and nothing was reported; after its link went
 /// down nothing changes. And events behind others run on from where those led, in order where both are.
 pub fn each_end_is_by_itself()
     ensures own { OwnMovesDecide }

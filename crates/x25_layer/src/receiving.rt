@@ -189,7 +189,7 @@ impl Layer {
     }
 
     /// Takes octets that the link handed up, puts the packet that is owed for them, and pulls data packets. It answers what
-    /// the users are told, `Told::Nothing` exactly where that is nothing; a stretch has its name after the call.
+    /// is reported to the users, `Told::Nothing` exactly where that is nothing; a stretch has its name after the call.
     ///
     /// No count is full, the link is up, fewer than 256 packets wait in it, and it takes packets of 4,099 octets. Octets that
     /// spell no packet go to the channel that the first two name. They are dropped where they name no configured channel, and,

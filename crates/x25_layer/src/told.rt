@@ -1,6 +1,6 @@
 use x25_circuit::Notice;
 
-/// What octets that were handed up told the users. Addresses and user data are borrowed from the octets; a message is handed
+/// What is reported to the users of octets that were handed up. Addresses and user data are borrowed from the octets; a message is handed
 /// over whole.
 #[derive(Debug, Drop)]
 pub enum Told<'a> {

@@ -1,4 +1,4 @@
-//! The lines of a script: what a user's simulator of a line between two stations is told to do.
+//! The lines of a script: what a user asks of the simulator of two stations and a line.
 //!
 //! docs/FORMATS.md has their forms. Profile.
 #![tactic(auto)]

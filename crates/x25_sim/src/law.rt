@@ -19,9 +19,9 @@ pub fn scripts_are_runs()
     lines_are_in_octets();
 }
 
-/// For every script, with `down` or without, as long as neither end is told of LinkUp a second time: what `two_stations_keep_order` says of two
-/// stations holds of those to which the script leads, `window` of a script that begins with both links up. By `up_once` each end of such a script
-/// is told of it once where no line is `connect`, so that it has no other premise than those below. For every script transcript and tap are the
+/// For every script, with `down` or without, as long as LinkUp is reported to neither end a second time: what `two_stations_keep_order` says of two
+/// stations holds of those to which the script leads, `window` of a script that begins with both links up. By `up_once` to each end of such a script
+/// it is reported once where no line is `connect`, so that it has no other premise than those below. For every script transcript and tap are the
 /// entries and the frames that are written.
 ///
 /// Premises: k is 1 to 7, N2 1 to 255, channels 1 to 16.

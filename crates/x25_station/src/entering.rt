@@ -132,7 +132,7 @@ fn enter_notices(
     }
 }
 
-/// Enters what the layer told.
+/// Enters what the layer reported.
 pub(crate) fn enter_told(
     layer: &Layer,
     texts: &mut TextMemory,

@@ -2,11 +2,11 @@ use x25_circuit::Message;
 use x25_layer::{Params, Stretch};
 use x25_link::Reason;
 
-/// An entry of the transcript of a station (profile): what its user asked, what the link noted, or what the packet layer told.
+/// An entry of the transcript of a station (profile): what its user asked, what the link noted, or what the packet layer reported.
 /// It owns what it says.
 #[derive(Debug, Drop)]
 pub enum Entry {
-    /// What the user of a channel asked or was told, under the name of the stretch that stood then.
+    /// What the user of a channel asked, or what was reported to that user, under the name of the stretch that stood then.
     OnChannel {
         channel: u16,
         name: Stretch,
@@ -78,7 +78,7 @@ pub enum Asked {
     NotReady,
 }
 
-/// What the user of a channel was told.
+/// What was reported to the user of a channel.
 #[derive(Debug, Drop)]
 pub enum Told {
     /// The other end calls, and proposes packet sizes and windows. Addresses are lists of 0 to 15 digits, each 0 to 9.

@@ -45,7 +45,7 @@ pub(crate) fn laws_below()
 /// - `named`: the name of the stretch on a channel, where the link is up, is the restarts, clears and resets that the transcript tells of.
 /// - `arrives`: what is handed up is all of the messages and interrupts of a stretch, where the end that gives is idle and both ends have that stretch
 ///   open.
-/// - `quiet`: no FRMR, no CLEAR, RESET or RESTART with a cause of an error was ever put on the line, and no user was told of a fault.
+/// - `quiet`: no FRMR, no CLEAR, RESET or RESTART with a cause of an error was ever put on the line, and no fault was reported to a user.
 /// - `window`: from a link just set up there are two links and one window machine behind them, which go on from event to event as the end of the event
 ///   asks, and are behind each world of the run: an I frame and an N(R) on the line keep the unbounded numbers that they were given as they were put, and
 ///   these are in the window.
@@ -82,7 +82,7 @@ pub fn two_stations_keep_order()
 ///   that gives is idle and both ends have that stretch open.
 /// - `unmet`: in a session that meets none the layer tells its user nothing: no message, no interrupt and no call.
 /// - `stand`: where a stretch is open at both ends, on whichever channels, the two sessions that stand meet each other.
-/// - `quiet`: no FRMR, no CLEAR, RESET or RESTART with a cause of an error was ever put on the line, and no user was told of a fault.
+/// - `quiet`: no FRMR, no CLEAR, RESET or RESTART with a cause of an error was ever put on the line, and no fault was reported to a user.
 /// - `octets`: all that was ever put on the line is octets, at most 4,103 at a time.
 /// - `window`: two links are behind the world where the run begins, with the window machine behind the sessions that stand. Whichever two are behind
 ///   a world of the run go on from there at each event as its end asks, with their machine, and are behind the world after it: an end whose link is
