@@ -1,4 +1,4 @@
-use Rattle.std.proofs.Common.{rules, ℕ, ◌∙◌, Ok, sym, subst, ap, arith}
+use Rattle.std.proofs.Common.{rules, ◌∙◌, Ok, sym, subst, ap, arith}
 use Rattle.x25_circuit.specs.Calls.{Outcome, outcome}
 use Rattle.x25_circuit.specs.Requests.{plain_request}
 use Rattle.x25_layer.specs.OverLink.{view_of, LayerGives, LinkGives}

@@ -1,4 +1,4 @@
-use Rattle.std.proofs.Common.{rules, arith, ◌≤◌, length, [], ◌++◌, map, ap, ◌∙◌}
+use Rattle.std.proofs.Common.{arith, ◌≤◌, length, [], ◌++◌, map, ap, ◌∙◌}
 use Rattle.x25_link.specs.MustSend.{Step as LinkStep}
 use Rattle.x25_link.specs.Steps.{abandon_step}
 use Rattle.x25_station.specs.Entries.{entries_down}

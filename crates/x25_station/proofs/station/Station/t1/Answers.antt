@@ -1,4 +1,4 @@
-use Rattle.std.proofs.Common.{arith, rules, ◌≤◌, length, [], sym, subst, ap, ◌∙◌, ◌++◌, map}
+use Rattle.std.proofs.Common.{arith, ◌≤◌, length, [], sym, subst, ap, ◌∙◌, ◌++◌, map}
 use Rattle.x25_link.specs.Steps.{timer_refusal, timer_step}
 use Rattle.x25_link.specs.declared.step.Step as link_step
 use Rattle.x25_station.specs.code.Aside.{IsFewAside}

@@ -1,4 +1,4 @@
-use Rattle.std.proofs.Common.{rules, ◌≡◌, ◌+◌, length-append, ◌<◌, ◌≤◌, ◌++◌, length, map, All, option_copied, arith, ap, sym, subst, ◌∙◌}
+use Rattle.std.proofs.Common.{◌≡◌, ◌+◌, length-append, ◌<◌, ◌≤◌, ◌++◌, length, map, All, option_copied, arith, ap, sym, subst, ◌∙◌}
 use Rattle.std.proofs.lemmas.List.{map-append}
 use Rattle.std.proofs.lemmas.List.Elements.{All-from_get_or}
 use Rattle.x25_link.specs.declared.phase.Notes.{Notes}
