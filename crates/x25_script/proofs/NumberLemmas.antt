@@ -1,6 +1,6 @@
 -- A number and its decimal text.
 use Rattle.std.proofs.Common.{ℕ, zero, suc, ◌+◌, ◌-◌, ◌*◌, ◌^◌, ◌<◌, ◌≤◌, ◌≡◌, ◌∙◌, Bool, true, false, List, [], ◌∷◌, length, get_or, drop, Option, Some, None, nat_lt, refl, ap, sym, subst, arith, rules, add-one}
-use Rattle.std.specs.Prelude.{cond, decimal, ◌&&◌, if◌then◌else◌}
+use Rattle.std.specs.Prelude.{cond, decimal, ◌==◌, ◌&&◌, if◌then◌else◌}
 use Rattle.std.specs.Char.{digit_value, is_ascii_digit}
 use Rattle.std.specs.List.{list_all}
 use Rattle.std.specs.Str.{bytes_eq}
@@ -62,27 +62,35 @@ no_number_of_others text h = none_written text (λ n small same.
     let digits = digits_decimal own n (omega arith) in
     let both : true ≡ false = sym digits ∙ ap (list_all is_ascii_digit) (sym same) ∙ h in absurd (cc))
 
-pub no_number_of_none : number_in [] ≡ None
-no_number_of_none = none_written [] (λ n small same.
-    let some = decimal_nonempty n (omega arith) in let none = ap length same in omega (arith, some, none))
+pub no_number_of_none : (text : List ℕ) → length text ≡ 0 → number_in text ≡ None
+no_number_of_none text none = none_written text (λ n small same.
+    let some = decimal_nonempty n (omega (arith, small)) in let size = ap length same in omega (arith, some, size, none))
 
 pub no_number_of_more : (text : List ℕ) → 5 < length text → number_in text ≡ None
 no_number_of_more text long = none_written text (λ n small same.
     let few = length-decimal-le 5 n (omega arith) (omega (arith, small)) (omega (arith, small)) in let size = ap length same in omega (arith, few, size, long))
 
+pub some_characters : (n : ℕ) → (n == 0) ≡ false → 0 < n
+some_characters zero h = absurd (cc)
+some_characters (suc n) h = omega arith
+
 -- digits, by their value
-pub number_valued : (text : List ℕ) (value : ℕ) → 0 < length text → length text ≤ 5 → (get_or text 0 0 ≡ 48 → length text ≤ 1)
-    → list_all is_ascii_digit text ≡ true → digits_value 10 text ≡ value → value < 2 ^ 64 → (if nat_lt value 65536 then Some value else None) ≡ number_in text
+pub number_valued : (text : List ℕ) (value : ℕ) → 0 < length text → (get_or text 0 0 ≡ 48 → length text ≤ 1) → list_all is_ascii_digit text ≡ true
+    → digits_value 10 text ≡ value → (if nat_lt value 65536 then Some value else None) ≡ number_in text
 unfolding number_in
-number_valued text value some few first digits is bound =
-    let written : decimal (digits_value 10 text) ≡ text =
-    decimal-digits_value own text digits some (λ e. let short = first e in omega (arith, some, short)) (subst (λ (n : ℕ). n < 2 ^ 64) (sym is) bound) in
-    let same : bytes_eq (decimal value) text ≡ true = (bytes_eq-Decides (decimal value) text).1 (ap decimal (sym is) ∙ written) in
-    sym (ap (λ n. cond (nat_lt n 65536 && bytes_eq (decimal n) text) (Some n) None) is ∙ ap (λ b. cond (nat_lt value 65536 && b) (Some value) None) same ∙ alone (nat_lt value 65536) value)
+number_valued text value some first digits is = go (nat_lt value 65536) refl
   where
-    alone : (b : Bool) (n : ℕ) → cond (b && true) (Some n) None ≡ cond b (Some n) None
-    alone true n = refl
-    alone false n = refl
+    go : (b : Bool) → nat_lt value 65536 ≡ b → (if nat_lt value 65536 then Some value else None) ≡ number_in text
+    go true e =
+        let small = ltb-true value 65536 e in
+        let written : decimal (digits_value 10 text) ≡ text =
+        decimal-digits_value own text digits some (λ f. let short = first f in omega (arith, some, short)) (omega (arith, small, is)) in
+        ap (λ b. cond b (Some value) None) e ∙ sym (number_read value text small is (ap decimal (sym is) ∙ written))
+    go false e =
+        let large : number_in text ≡ None =
+        ap (λ n. cond (nat_lt n 65536 && bytes_eq (decimal n) text) (Some n) None) is
+        ∙ ap (λ b. cond (b && bytes_eq (decimal value) text) (Some value) None) e in
+        ap (λ b. cond b (Some value) None) e ∙ sym large
 
 -- ---- digit by digit
 
@@ -112,7 +120,7 @@ pub leads_on : (i value : ℕ) (text : List ℕ) → Leads i value text → i < 
 leads_on i value text leads within digit =
     let c = get_or text i 0 in
     let high = to_nine c digit in
-    let more : 10 ^ (i + 1) ≡ 10 * 10 ^ i = ap (λ n. 10 ^ n) (add-one i) ∙ pow-suc 10 i in
+    let more : 10 ^ (i + 1) ≡ 10 ^ i * 10 = ap (λ n. 10 ^ n) (add-one i) ∙ pow-suc 10 i in
     let sum : value * 10 + (c - 48) ≡ 10 * value + (c - 48) = omega arith in
     record {
       small = omega (arith, leads.small, more, high);
