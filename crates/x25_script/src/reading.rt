@@ -164,6 +164,7 @@ fn read(line: &[u8]) -> Option<ScriptLine<'_>>
 ///
 /// A line is its fields, apart by one blank each. Nothing else stands between or around them: no carriage return, no tab,
 /// no sign and no leading zero.
+#[inline(always)]
 pub fn read_line(line: &[u8]) -> Option<ScriptLine<'_>>
     ensures exact { GivesLine result (line_in line.now) }
     // What is read is spelled so.

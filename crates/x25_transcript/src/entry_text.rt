@@ -46,6 +46,7 @@ fn push_short(channel: u16, name: &Stretch, line: &mut Line) -> Result<(), Alloc
     line.push(&characters)
 }
 
+#[inline(always)]
 fn push_stretch(channel: u16, name: &Stretch, line: &mut Line) -> Result<(), AllocError>
     ensures { OnOk result (line.new ≡ line.old ++ stretch_text channel (plain_name name.now)) }
 {
@@ -83,6 +84,7 @@ fn push_digits(label: &[u8], digits: &[u8], line: &mut Line) -> Result<(), Alloc
     Ok(())
 }
 
+#[inline(always)]
 fn push_user(user: &[u8], line: &mut Line) -> Result<(), AllocError>
     ensures { OnOk result (line.new ≡ line.old ++ user_text user.now) }
 {
@@ -133,6 +135,7 @@ fn push_agreed(word: &[u8], channel: u16, params: Params, line: &mut Line) -> Re
 }
 
 /// Appends a word, and then a channel and the name of its stretch.
+#[inline(always)]
 fn push_under(word: &[u8], channel: u16, name: &Stretch, line: &mut Line) -> Result<(), AllocError>
     ensures { OnOk result (line.new ≡ line.old ++ (word.now ++ stretch_text channel (plain_name name.now))) }
 {
