@@ -51,6 +51,14 @@ impl HeldLine {
         !self.is_long && self.characters.is_empty()
     }
 
+    /// Whether the part is a line by itself: none has begun, and the part isn't too long.
+    #[inline]
+    pub(crate) fn is_whole(&self, part: &[u8]) -> bool
+        ensures { (begun : List ℕ) → HoldsLine begun self.now → IsTrue result → (begun ≡ []) × (length part.now ≤ most_line) }
+    {
+        self.is_empty() && part.len() <= MOST_LINE
+    }
+
     /// The line, where it isn't too long.
     pub fn line(&self) -> Option<&[u8]>
         ensures { (begun : List ℕ) → HoldsLine begun self.now

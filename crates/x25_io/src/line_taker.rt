@@ -114,6 +114,10 @@ impl<T: LineTaker> LineByLine<T> {
         ensures memory { IsErrOf result Fault.NoMemory → T.may_want × (W.is_marked writer.new ≡ W.is_marked writer.old) }
         ensures read { IsErrOf result Fault.Read → ⊥ }
     {
+        // It isn't copied where it lies in the piece as a whole.
+        if self.held.is_whole(tail) {
+            return self.taker.take_line(Some(tail), writer);
+        }
         self.held.hold(tail);
         self.end_line(writer)
     }

@@ -1,5 +1,5 @@
 -- A line that is spelled is read.
-use Rattle.std.proofs.Common.{ℕ, ◌≤◌, ◌≡◌, ◌∙◌, Bool, true, false, List, ◌∷◌, ◌++◌, Option, Some, None, refl, ap, arith, append-nil}
+use Rattle.std.proofs.Common.{ℕ, ◌≤◌, ◌≡◌, ◌∙◌, Bool, true, false, List, ◌∷◌, ◌++◌, Option, Some, None, refl, ap, sym, arith, append-nil}
 use Rattle.std.specs.Prelude.{cond, option_and_then, decimal}
 use Rattle.std.specs.List.{list_all}
 use Rattle.std.proofs.lemmas.Bool.{lt-ltb, ne_eqb}
@@ -10,7 +10,7 @@ use Rattle.x25_circuit.specs.declared.params.Params.{Params}
 use Rattle.x25_script.specs.PlainLine.{PlainCommand, call, accept, clear, send, interrupt, reset, ready, not_ready, restart, pull, connect, disconnect, PlainLine, command, t1, deliver, lose, damage, drain, heal}
 use Rattle.x25_script.specs.Spelling.{end_text, direction_text, q_text, address_text, IsAddress, IsNumber, Writes, AreParams, params_text, SpellsCommand, Spells}
 use Rattle.x25_script.specs.Reading.{parts_of, number_in, small_number_in, params_in, with_params_of, with_params_in, call_in, accept_in, send_in, interrupt_in, on_channel, with_fields, command_in, lose_in, damage_in, drain_in, line_in}
-use Rattle.x25_script.proofs.NumberLemmas.{own, number_again}
+use Rattle.x25_script.proofs.NumberLemmas.{number_found, own, number_again}
 use Rattle.x25_script.proofs.PartLemmas.{parts_again, whole_again, no_blank, octets_no_blank, digits_no_blank, address_no_blank, end_again, from_again, q_again, address_again, octets_again}
 
 -- a step after one that reads
@@ -74,6 +74,12 @@ unfolding accept_in
 accept_again channel params h k =
     bind_again _ _ (decimal channel, params) _ (with_params_again (decimal channel) params (decimal_no_blank channel h) k)
     (bind_again _ _ channel _ (number_read channel h) refl)
+
+-- a channel alone
+pub accept_alone : (text : List ℕ) (channel : ℕ) → number_in text ≡ Some channel → accept_in text ≡ Some (accept channel None)
+accept_alone text channel e =
+    let found = number_found text channel e in
+    ap accept_in (found.1 ∙ sym (append-nil (decimal channel))) ∙ accept_again channel None (omega (arith, found.0)) tt
 
 send_again : (channel : ℕ) (q : Bool) (user digits : List ℕ) → IsNumber channel → Writes digits user
     → send_in (decimal channel ++ (32 ∷ (q_text q ++ (32 ∷ digits)))) ≡ Some (send channel q user)

@@ -1,15 +1,18 @@
 -- A number and its decimal text.
-use Rattle.std.proofs.Common.{ℕ, zero, suc, ◌^◌, ◌<◌, ◌≤◌, ◌≡◌, ◌∙◌, true, false, List, length, get_or, Option, Some, None, Result, Ok, Err, nat_lt, refl, ap, sym, subst, arith, rules}
-use Rattle.std.specs.Prelude.{cond, decimal, ◌&&◌}
-use Rattle.std.specs.Char.{is_ascii_digit}
+use Rattle.std.proofs.Common.{ℕ, zero, suc, ◌+◌, ◌-◌, ◌*◌, ◌^◌, ◌<◌, ◌≤◌, ◌≡◌, ◌∙◌, Bool, true, false, List, [], ◌∷◌, length, get_or, drop, Option, Some, None, nat_lt, refl, ap, sym, subst, arith, rules, add-one}
+use Rattle.std.specs.Prelude.{cond, decimal, ◌==◌, ◌&&◌, if◌then◌else◌}
+use Rattle.std.specs.Char.{digit_value, is_ascii_digit}
 use Rattle.std.specs.List.{list_all}
-use Rattle.std.specs.Result.{result_ok}
 use Rattle.std.specs.Str.{bytes_eq}
-use Rattle.std.specs.Str.Parse.{digits_value, ParsesUnsigned}
+use Rattle.std.specs.Str.Parse.{digits_value, digits_value_after}
+use Rattle.std.proofs.Math.Nat.{pow-suc}
+use Rattle.std.proofs.Math.Seq.{drop-cons}
 use Rattle.std.proofs.lemmas.Bool.{and_parts, and_from, ltb-true, lt-ltb}
-use Rattle.std.proofs.lemmas.Fmt.{decimal_digit, decimal_nonempty, first_decimal, digits_decimal, digits_value-decimal, decimal-digits_value}
+use Rattle.std.proofs.lemmas.Bool.Decides.{nat_tests}
+use Rattle.std.proofs.lemmas.List.{drop_all}
+use Rattle.std.proofs.lemmas.Fmt.{decimal_digit, decimal_nonempty, first_decimal, digits_decimal, digits_value-decimal, decimal-digits_value, length-decimal-le}
 use Rattle.std.proofs.lemmas.Slice.Eq.{bytes_eq-Decides}
-use Rattle.std.proofs.lemmas.Str.Parse.{IsNumeralModel, numerals_by_value, parse_digits}
+use Rattle.std.proofs.lemmas.Str.Parse.{IsNumeralModel, numerals_by_value}
 use Rattle.std.proofs.lemmas.Option.{cond_some}
 use Rattle.x25_script.specs.Reading.{number_in}
 
@@ -59,16 +62,88 @@ no_number_of_others text h = none_written text (λ n small same.
     let digits = digits_decimal own n (omega arith) in
     let both : true ≡ false = sym digits ∙ ap (list_all is_ascii_digit) (sym same) ∙ h in absurd (cc))
 
-pub number_parsed : {E : Type 0} (text : List ℕ) (r : Result ℕ E) → list_all is_ascii_digit text ≡ true → (get_or text 0 0 ≡ 48 → length text ≤ 1)
-    → ParsesUnsigned 16 10 text r → result_ok r ≡ number_in text
-number_parsed {E} text (Ok n) digits first h =
-    let parsed = parse_digits own {E = E} 16 text (Ok n) h digits in
-    let small : n < 65536 = omega (arith, parsed.0.1, parsed.1) in
-    sym (number_read n text small (sym parsed.1)
-    (ap decimal parsed.1 ∙ decimal-digits_value own text digits parsed.0.0 (λ e. let short = first e in omega (arith, parsed.0.0)) (omega (arith, parsed.0.1))))
-number_parsed {E} text (Err e) digits first h =
-    let refused = parse_digits own {E = E} 16 text (Err e) h digits in
-    sym (none_written text (λ n small same. refused (
-      subst (λ (t : List ℕ). 0 < length t) (sym same) (decimal_nonempty n (omega arith)),
-      subst (λ (t : List ℕ). digits_value 10 t < 2 ^ 16) (sym same) (let value = digits_value-decimal own n (omega arith) in omega arith),
-    )))
+pub no_number_of_none : (text : List ℕ) → length text ≡ 0 → number_in text ≡ None
+no_number_of_none text none = none_written text (λ n small same.
+    let some = decimal_nonempty n (omega (arith, small)) in let size = ap length same in omega (arith, some, size, none))
+
+pub no_number_of_more : (text : List ℕ) → 5 < length text → number_in text ≡ None
+no_number_of_more text long = none_written text (λ n small same.
+    let few = length-decimal-le 5 n (omega arith) (omega (arith, small)) (omega (arith, small)) in let size = ap length same in omega (arith, few, size, long))
+
+pub some_characters : (n : ℕ) → (n == 0) ≡ false → 0 < n
+some_characters zero h = absurd (cc)
+some_characters (suc n) h = omega arith
+
+-- digits, by their value
+pub number_valued : (text : List ℕ) (value : ℕ) → 0 < length text → (get_or text 0 0 ≡ 48 → length text ≤ 1) → list_all is_ascii_digit text ≡ true
+    → digits_value 10 text ≡ value → (if nat_lt value 65536 then Some value else None) ≡ number_in text
+unfolding number_in
+number_valued text value some first digits is = go (nat_lt value 65536) refl
+  where
+    go : (b : Bool) → nat_lt value 65536 ≡ b → (if nat_lt value 65536 then Some value else None) ≡ number_in text
+    go true e =
+        let small = ltb-true value 65536 e in
+        let written : decimal (digits_value 10 text) ≡ text =
+        decimal-digits_value own text digits some (λ f. let short = first f in omega (arith, some, short)) (omega (arith, small, is)) in
+        ap (λ b. cond b (Some value) None) e ∙ sym (number_read value text small is (ap decimal (sym is) ∙ written))
+    go false e =
+        let large : number_in text ≡ None =
+        ap (λ n. cond (nat_lt n 65536 && bytes_eq (decimal n) text) (Some n) None) is
+        ∙ ap (λ b. cond (b && bytes_eq (decimal value) text) (Some value) None) e in
+        ap (λ b. cond b (Some value) None) e ∙ sym large
+
+-- ---- digit by digit
+
+digit_value_is : (c : ℕ) → is_ascii_digit c ≡ true → digit_value c ≡ c - 48
+digit_value_is c h = grind (arith, nat_tests, h)
+
+pub from_zero : (c : ℕ) → is_ascii_digit c ≡ true → 48 ≤ c
+from_zero c h = grind (arith, nat_tests, h)
+
+pub to_nine : (c : ℕ) → is_ascii_digit c ≡ true → c ≤ 57
+to_nine c h = grind (arith, nat_tests, h)
+
+-- what is left leads to the same number
+pub record Leads (i value : ℕ) (text : List ℕ) : Type 0 where
+  pub small : value < 10 ^ i
+  pub digits : list_all is_ascii_digit text ≡ list_all is_ascii_digit (drop i text)
+  pub same : digits_value 10 text ≡ digits_value_after 10 value (drop i text)
+
+pub leads_none : (text : List ℕ) → Leads 0 0 text
+leads_none text = record { small = omega arith; digits = refl; same = refl }
+
+next_at : (i : ℕ) (text : List ℕ) → i < length text → drop i text ≡ get_or text i 0 ∷ drop (i + 1) text
+next_at i text within = drop-cons text i 0 within ∙ ap (λ n. get_or text i 0 ∷ drop n text) (sym (add-one i))
+
+pub leads_on : (i value : ℕ) (text : List ℕ) → Leads i value text → i < length text → is_ascii_digit (get_or text i 0) ≡ true
+    → Leads (i + 1) (10 * value + (get_or text i 0 - 48)) text
+leads_on i value text leads within digit =
+    let c = get_or text i 0 in
+    let high = to_nine c digit in
+    let more : 10 ^ (i + 1) ≡ 10 ^ i * 10 = ap (λ n. 10 ^ n) (add-one i) ∙ pow-suc 10 i in
+    let sum : value * 10 + (c - 48) ≡ 10 * value + (c - 48) = omega arith in
+    record {
+      small = omega (arith, leads.small, more, high);
+      digits = leads.digits ∙ ap (list_all is_ascii_digit) (next_at i text within) ∙ ap (λ b. b && list_all is_ascii_digit (drop (i + 1) text)) digit;
+      same =
+          leads.same ∙ ap (digits_value_after 10 value) (next_at i text within)
+          ∙ ap (λ n. digits_value_after 10 (value * 10 + n) (drop (i + 1) text)) (digit_value_is c digit)
+          ∙ ap (λ n. digits_value_after 10 n (drop (i + 1) text)) sum;
+    }
+
+pub leads_off : (i value : ℕ) (text : List ℕ) → Leads i value text → i < length text → is_ascii_digit (get_or text i 0) ≡ false → list_all is_ascii_digit text ≡ false
+leads_off i value text leads within other =
+    leads.digits ∙ ap (list_all is_ascii_digit) (next_at i text within) ∙ ap (λ b. b && list_all is_ascii_digit (drop (i + 1) text)) other
+
+pub leads_end : (i value : ℕ) (text : List ℕ) → Leads i value text → length text ≤ i → (list_all is_ascii_digit text ≡ true) × (digits_value 10 text ≡ value)
+leads_end i value text leads past =
+    (leads.digits ∙ ap (list_all is_ascii_digit) (drop_all i text past), leads.same ∙ ap (digits_value_after 10 value) (drop_all i text past))
+
+-- before the last of five digits
+pub leads_few : (i value : ℕ) → value < 10 ^ i → i < 5 → value < 10000
+leads_few zero value h k = omega (arith, h)
+leads_few (suc zero) value h k = omega (arith, h)
+leads_few (suc (suc zero)) value h k = omega (arith, h)
+leads_few (suc (suc (suc zero))) value h k = omega (arith, h)
+leads_few (suc (suc (suc (suc zero)))) value h k = omega (arith, h)
+leads_few (suc (suc (suc (suc (suc i))))) value h k = absurd (omega arith)

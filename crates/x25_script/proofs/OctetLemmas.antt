@@ -1,5 +1,5 @@
 -- Octets and the hexadecimal digits that write them.
-use Rattle.std.proofs.Common.{ℕ, Bool, ◌*◌, ◌%◌, ◌≡◌, ◌∙◌, true, false, List, [], ◌∷◌, length, Option, Some, None, Result, Ok, Err, if◌then◌else◌, refl, ap, sym, arith}
+use Rattle.std.proofs.Common.{ℕ, Bool, ◌*◌, ◌%◌, ◌≡◌, ◌∙◌, true, false, List, [], ◌∷◌, length, Option, Some, None, Result, Ok, Err, refl, ap, sym, arith}
 use Rattle.std.specs.Prelude.{◌&&◌, is_some, unwrap_or}
 use Rattle.std.specs.Char.{is_ascii_hexdigit}
 use Rattle.std.specs.List.{list_all, AllPass}
@@ -67,7 +67,5 @@ octets_of_none = refl
 pub length_written : (text : List ℕ) → AreWritten text → length text ≡ 2 * length (octets_written text)
 length_written text h = (decode_of-ok text (octets_written text) (written_decodes text h)).2
 
--- Where digits are read as far as they write octets, all of them are.
-pub all_read : (text new : List ℕ) (is_read : Bool) → AreWritten text → octets_of text ≡ (if is_read then Some new else None) → new ≡ octets_written text
-all_read text new true h read = ap (λ o. unwrap_or o []) (sym read)
-all_read text new false h read = let lost : Some (octets_written text) ≡ None = sym (written_is text h) ∙ read in absurd (cc)
+pub written_are_digits : (text : List ℕ) → AreWritten text → list_all is_ascii_hexdigit text ≡ true
+written_are_digits text h = passes_digits text (decode_of-ok text (octets_written text) (written_decodes text h)).1

@@ -1,4 +1,5 @@
 //! What the user of an end asks for.
+ghost use Rattle.std.specs.Prelude.{◌≡◌, IfSome};
 ghost use Rattle.x25_script.specs.Reading.{accept_in, bare_command_in, call_in, command_in, interrupt_in, send_in, with_fields, GivesCommand};
 
 use crate::fields::{address, is, number, octets, q, split_blank, verb};
@@ -21,8 +22,9 @@ fn call(text: &[u8]) -> Option<Command<'_>>
     })
 }
 
+#[inline(never)]
 #[tactic(auto, unfolding(crate::specs::Reading::accept_in))]
-fn accept(text: &[u8]) -> Option<Command<'_>>
+fn any_accept(text: &[u8]) -> Option<Command<'_>>
     ensures { GivesCommand result (accept_in text.now) }
 {
     let (channel, params) = with_params(text)?;
@@ -32,6 +34,22 @@ fn accept(text: &[u8]) -> Option<Command<'_>>
     })
 }
 
+/// An acceptance. Most have no more than their channel.
+#[inline(always)]
+fn accept(text: &[u8]) -> Option<Command<'_>>
+    ensures { GivesCommand result (accept_in text.now) }
+{
+    if let Some(channel) = number(text) {
+        return Some(Command::Accept {
+            channel,
+            params: None,
+        });
+    }
+    let other = any_accept(text);
+    other
+}
+
+#[inline(always)]
 #[tactic(auto, unfolding(crate::specs::Reading::send_in))]
 fn send(text: &[u8]) -> Option<Command<'_>>
     ensures { GivesCommand result (send_in text.now) }
@@ -102,13 +120,53 @@ fn bare_command(text: &[u8]) -> Option<Command<'_>>
     }
 }
 
-/// The command that follows the name of its end.
+/// A command of any word.
+#[inline(never)]
 #[tactic(auto, unfolding(crate::specs::Reading::command_in))]
-pub(crate) fn command(text: &[u8]) -> Option<Command<'_>>
+fn any_command(text: &[u8]) -> Option<Command<'_>>
     ensures { GivesCommand result (command_in text.now) }
 {
     match split_blank(text) {
         Some((word, fields)) => command_with(verb(word)?, fields),
         None => bare_command(text),
     }
+}
+
+/// What follows the word `send` and its blank.
+#[inline(always)]
+#[tactic(auto, unfolding(crate::specs::Reading::command_in, crate::specs::Reading::with_fields, crate::specs::Reading::parts_of))]
+fn behind_send(text: &[u8]) -> Option<&[u8]>
+    ensures { IfSome result (λ fields. command_in text.now ≡ send_in fields.now) }
+{
+    match text {
+        [b's', b'e', b'n', b'd', b' ', fields @ ..] => Some(fields),
+        _ => None,
+    }
+}
+
+/// What follows the word `accept` and its blank.
+#[inline(always)]
+#[tactic(auto, unfolding(crate::specs::Reading::command_in, crate::specs::Reading::with_fields, crate::specs::Reading::parts_of))]
+fn behind_accept(text: &[u8]) -> Option<&[u8]>
+    ensures { IfSome result (λ fields. command_in text.now ≡ accept_in fields.now) }
+{
+    match text {
+        [b'a', b'c', b'c', b'e', b'p', b't', b' ', fields @ ..] => Some(fields),
+        _ => None,
+    }
+}
+
+/// The command that follows the name of its end. The words that most commands have are tried first.
+#[inline(always)]
+pub(crate) fn command(text: &[u8]) -> Option<Command<'_>>
+    ensures { GivesCommand result (command_in text.now) }
+{
+    if let Some(fields) = behind_send(text) {
+        return send(fields);
+    }
+    if let Some(fields) = behind_accept(text) {
+        return accept(fields);
+    }
+    let other = any_command(text);
+    other
 }

@@ -1,8 +1,9 @@
 //! The fields of a line.
-ghost use Rattle.std.specs.Prelude.{◌≡◌, ◌==◌};
+ghost use Rattle.std.specs.Prelude.{◌≡◌, ◌==◌, ◌≤◌, true, false, nat_lt, if◌then◌else◌, length, Some, None, MatchOption};
 ghost use Rattle.std.specs.Char.{is_ascii_digit};
 ghost use Rattle.std.specs.List.{list_all, position};
 ghost use Rattle.std.specs.Str.{bytes_eq};
+ghost use Rattle.std.specs.Str.Parse.{digits_value};
 ghost use Rattle.x25_script.specs.Reading.{address_in, end_in, from_in, keyword_in, digits_in, number_in, octets_in, parts_of, q_in, small_number_in, verb_in, GivesParts, GivesText};
 
 use crate::hex_digits::HexDigits;
@@ -87,14 +88,51 @@ fn digits(text: &[u8]) -> Option<&str>
     }
 }
 
+/// The number that at most five digits write.
+#[inline(always)]
+fn value_of(text: &[u8]) -> Option<u32>
+    requires { length text.now ≤ 5 }
+    ensures { MatchOption result (list_all is_ascii_digit text.now ≡ false) (λ value. (list_all is_ascii_digit text.now ≡ true) × (digits_value 10 text.now ≡ value)) }
+{
+    let mut value = 0u32;
+    for character in text {
+        if !character.is_ascii_digit() {
+            return None;
+        }
+        value = 10 * value + u32::from(*character - b'0');
+    }
+    Some(value)
+}
+
+#[inline(always)]
+fn sixteen_bits(value: u32) -> Option<u16>
+    ensures { result ≡ (if nat_lt value 65536 then Some value else None) }
+{
+    if value < 65_536 {
+        Some(value as u16)
+    } else {
+        None
+    }
+}
+
 /// A number of 16 bits, without leading zeros.
+#[inline(always)]
 pub(crate) fn number(text: &[u8]) -> Option<u16>
     ensures { result ≡ number_in text.now }
 {
+    if text.is_empty() {
+        return None;
+    }
+    if text.len() > 5 {
+        return None;
+    }
     if text.len() > 1 && text[0] == b'0' {
         return None;
     }
-    digits(text)?.parse::<u16>().ok()
+    match value_of(text) {
+        Some(value) => sixteen_bits(value),
+        None => None,
+    }
 }
 
 /// A number of 8 bits, without leading zeros.

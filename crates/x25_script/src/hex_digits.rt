@@ -3,7 +3,7 @@ ghost use Rattle.std.specs.Prelude.{◌≡◌, ◌==◌, List, ℕ, length};
 ghost use Rattle.x25_script.specs.Octets.{octets_of, octets_written, AreWritten};
 
 use std::marker::Model;
-use x25_text::{is_hexadecimal, read_hexadecimal};
+use x25_text::{is_hexadecimal, read_digits};
 
 /// Octets as the hexadecimal digits of a line, two for each, of either case. Contracts see the list of octets.
 #[derive(Debug, Drop)]
@@ -49,7 +49,6 @@ impl<'a> HexDigits<'a> {
         requires { length octets.old ≡ length self.now }
         ensures { octets.new ≡ self.now }
     {
-        // They are digits, so all of them are read.
-        read_hexadecimal(self.digits, octets);
+        read_digits(self.digits, octets);
     }
 }

@@ -3,11 +3,13 @@ ghost use Rattle.std.specs.Prelude.{◌≡◌, IfSome, IsSomeAnd};
 ghost use Rattle.x25_script.specs.PlainLine.{PlainLine, plain};
 ghost use Rattle.x25_script.specs.Reading.{after, bare_line_in, damage_in, drain_in, line_in, lose_in, GivesLine};
 ghost use Rattle.x25_script.specs.Spelling.{Spells};
+ghost use Rattle.x25_script.specs.declared.words.Keyword.TheVariants.{Deliver, End};
 
 use crate::command::command;
 use crate::fields::{end, from, is, keyword, number, octets, split_blank};
 use crate::script_line::ScriptLine;
 use crate::words::Keyword;
+use x25_bits::Role;
 
 #[tactic(auto, unfolding(crate::specs::Reading::lose_in))]
 fn lose(fields: &[u8]) -> Option<ScriptLine<'_>>
@@ -33,6 +35,7 @@ fn damage(fields: &[u8]) -> Option<ScriptLine<'_>>
     })
 }
 
+#[inline(always)]
 #[tactic(auto, unfolding(crate::specs::Reading::drain_in))]
 fn drain(fields: &[u8]) -> Option<ScriptLine<'_>>
     ensures { GivesLine result (drain_in fields.now) }
@@ -44,23 +47,34 @@ fn drain(fields: &[u8]) -> Option<ScriptLine<'_>>
     Some(ScriptLine::Drain { count })
 }
 
+/// What an end is commanded.
+#[inline(always)]
+fn commanded(end: Role, text: &[u8]) -> Option<ScriptLine<'_>>
+    ensures { GivesLine result (after (End end) text.now) }
+{
+    let command = command(text)?;
+    Some(ScriptLine::Command { end, command })
+}
+
+#[inline(always)]
+fn delivered(direction: &[u8]) -> Option<ScriptLine<'_>>
+    ensures { GivesLine result (after Deliver direction.now) }
+{
+    let from = from(direction)?;
+    Some(ScriptLine::Deliver { from })
+}
+
 /// The line of this first word, with what follows it.
 fn line_with(word: Keyword, fields: &[u8]) -> Option<ScriptLine<'_>>
     ensures { GivesLine result (after word fields.now) }
 {
     match word {
-        Keyword::End(end) => {
-            let command = command(fields)?;
-            Some(ScriptLine::Command { end, command })
-        }
+        Keyword::End(end) => commanded(end, fields),
         Keyword::T1 => {
             let end = end(fields)?;
             Some(ScriptLine::T1 { end })
         }
-        Keyword::Deliver => {
-            let from = from(fields)?;
-            Some(ScriptLine::Deliver { from })
-        }
+        Keyword::Deliver => delivered(fields),
         Keyword::Lose => lose(fields),
         Keyword::Damage => damage(fields),
         Keyword::Drain => drain(fields),
@@ -78,8 +92,10 @@ fn bare_line(text: &[u8]) -> Option<ScriptLine<'_>>
     }
 }
 
+/// A line that begins with any word.
+#[inline(never)]
 #[tactic(auto, unfolding(crate::specs::Reading::line_in))]
-fn read(line: &[u8]) -> Option<ScriptLine<'_>>
+fn any_line(line: &[u8]) -> Option<ScriptLine<'_>>
     ensures { GivesLine result (line_in line.now) }
 {
     match split_blank(line) {
@@ -88,10 +104,67 @@ fn read(line: &[u8]) -> Option<ScriptLine<'_>>
     }
 }
 
+/// The end that a line begins with, and what follows its blank.
+#[inline(always)]
+#[tactic(auto, unfolding(crate::specs::Reading::line_in, crate::specs::Reading::parts_of))]
+fn commanded_end(line: &[u8]) -> Option<(Role, &[u8])>
+    ensures { IfSome result (λ parts. line_in line.now ≡ after (End parts.0) parts.1.now) }
+{
+    match line {
+        [b'd', b't', b'e', b' ', text @ ..] => Some((Role::Dte, text)),
+        [b'd', b'c', b'e', b' ', text @ ..] => Some((Role::Dce, text)),
+        _ => None,
+    }
+}
+
+/// What follows the word `deliver` and its blank.
+#[inline(always)]
+#[tactic(auto, unfolding(crate::specs::Reading::line_in, crate::specs::Reading::parts_of))]
+fn behind_deliver(line: &[u8]) -> Option<&[u8]>
+    ensures { IfSome result (λ fields. line_in line.now ≡ after Deliver fields.now) }
+{
+    match line {
+        [b'd', b'e', b'l', b'i', b'v', b'e', b'r', b' ', fields @ ..] => Some(fields),
+        _ => None,
+    }
+}
+
+/// What follows the word `drain` and its blank.
+#[inline(always)]
+#[tactic(auto, unfolding(crate::specs::Reading::line_in, crate::specs::Reading::parts_of))]
+fn behind_drain(line: &[u8]) -> Option<&[u8]>
+    ensures { IfSome result (λ fields. line_in line.now ≡ drain_in fields.now) }
+{
+    match line {
+        [b'd', b'r', b'a', b'i', b'n', b' ', fields @ ..] => Some(fields),
+        _ => None,
+    }
+}
+
+/// The words that most lines begin with are tried first.
+#[inline(always)]
+fn read(line: &[u8]) -> Option<ScriptLine<'_>>
+    ensures { GivesLine result (line_in line.now) }
+{
+    if let Some((end, text)) = commanded_end(line) {
+        return commanded(end, text);
+    }
+    if let Some(direction) = behind_deliver(line) {
+        return delivered(direction);
+    }
+    if let Some(count) = behind_drain(line) {
+        return drain(count);
+    }
+    // In a place of its own, so that the lines above needn't go through memory.
+    let other = any_line(line);
+    other
+}
+
 /// The line of a script that the characters spell, without a line feed, where they spell one. It takes no memory. Profile.
 ///
 /// A line is its fields, apart by one blank each. Nothing else stands between or around them: no carriage return, no tab,
 /// no sign and no leading zero.
+#[inline(always)]
 pub fn read_line(line: &[u8]) -> Option<ScriptLine<'_>>
     ensures exact { GivesLine result (line_in line.now) }
     // What is read is spelled so.

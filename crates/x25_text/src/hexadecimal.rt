@@ -120,6 +120,49 @@ pub fn read_hexadecimal(digits: &[u8], octets: &mut [u8]) -> bool
     read_eight(digits, octets, count - 8)
 }
 
+/// The values of sixteen characters, as far as these are digits.
+#[inline(always)]
+fn values_of_digits(characters: u8x16) -> u8x16
+    ensures { IsTrue (list_all is_ascii_hexdigit characters) → result ≡ map value_of characters }
+{
+    // Of `0` to `9` the first is less, and of the letters, of either case, the second.
+    let figures = characters - u8x16::splat(b'0');
+    let letters = (characters | u8x16::splat(0x20)) - u8x16::splat(b'a' - 10);
+    figures.simd_min(letters)
+}
+
+/// Reads eight octets from a place on, whose characters are digits.
+#[inline(always)]
+fn read_eight_digits(digits: &[u8], octets: &mut [u8], place: usize)
+    requires digits { IsTrue (list_all is_ascii_hexdigit digits.now) }
+    requires length { length digits.now ≡ 2 * length octets.old }
+    requires room { place + 8 ≤ length octets.old }
+    ensures octets { octets_of (take 16 (drop (2 * place) digits.now)) ≡ Some (take 8 (drop place octets.new)) }
+    ensures before { take place octets.new ≡ take place octets.old }
+{
+    let values = values_of_digits(u8x16::from_slice(&digits[2 * place..]));
+    joined(values).copy_to_slice(&mut octets[place..]);
+}
+
+/// Reads the octets that characters write that are known to be digits, two for each.
+///
+/// Eight octets at a time; the last eight may be read over some that were read before.
+pub fn read_digits(digits: &[u8], octets: &mut [u8])
+    requires digits { IsTrue (list_all is_ascii_hexdigit digits.now) }
+    requires length { length digits.now ≡ 2 * length octets.old }
+    ensures { result_ok (decode_of digits.now) ≡ Some octets.new }
+{
+    let count = octets.len();
+    if count < 8 {
+        read_pairs(digits, octets);
+        return;
+    }
+    for eight in 0..count / 8 {
+        read_eight_digits(digits, octets, 8 * eight);
+    }
+    read_eight_digits(digits, octets, count - 8);
+}
+
 /// The place of the lowest bit that is set, 16 where none is.
 #[inline]
 fn lowest_set(mask: u64) -> usize

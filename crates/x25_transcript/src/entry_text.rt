@@ -1,5 +1,5 @@
 //! Entries of a transcript as text.
-ghost use Rattle.std.specs.Prelude.{◌≡◌, ◌++◌, [], IfOk, OnOk, OnErr, codes, decimal, string_bytes};
+ghost use Rattle.std.specs.Prelude.{◌≡◌, ◌<◌, IsTrue, ◌++◌, [], IfOk, OnOk, OnErr, codes, decimal, string_bytes};
 ghost use Rattle.x25_transcript.specs.EntryText.{address_text, channel_text, digits_text, down_text, end_text, entry_line as line_of, entry_text, message_text, name_text, notice_text, params_text, request_text, said_text, stretch_text, user_text};
 ghost use Rattle.x25_station.specs.code.PlainEntry.{plain_asked, plain_entry, plain_name, plain_said, plain_told};
 ghost use Rattle.x25_text.specs.PacketText.{reason_text};
@@ -10,6 +10,7 @@ use x25_circuit::Message;
 use x25_layer::{Params, Stretch};
 use x25_link::Reason;
 use x25_station::{Asked, Entry, Role, Said, Told};
+use x25_text::digit;
 
 fn push_channel(channel: u16, line: &mut Line) -> Result<(), AllocError>
     ensures { OnOk result (line.new ≡ line.old ++ channel_text channel) }
@@ -17,9 +18,41 @@ fn push_channel(channel: u16, line: &mut Line) -> Result<(), AllocError>
     line.push_number(b" ch=", u64::from(channel))
 }
 
+/// Whether a channel and the numbers of its stretch have one digit each.
+#[inline(always)]
+fn is_short(channel: u16, name: &Stretch) -> bool
+    ensures channel { IsTrue result → channel < 10 }
+    ensures restarts { IsTrue result → name.now.restarts < 10 }
+    ensures clears { IsTrue result → name.now.clears < 10 }
+    ensures resets { IsTrue result → name.now.resets < 10 }
+{
+    channel < 10 && name.restarts < 10 && name.clears < 10 && name.resets < 10
+}
+
+/// Appends a channel and the name of its stretch, each number of one digit.
+#[inline(always)]
+fn push_short(channel: u16, name: &Stretch, line: &mut Line) -> Result<(), AllocError>
+    requires channel { channel < 10 }
+    requires restarts { name.now.restarts < 10 }
+    requires clears { name.now.clears < 10 }
+    requires resets { name.now.resets < 10 }
+    ensures { OnOk result (line.new ≡ line.old ++ stretch_text channel (plain_name name.now)) }
+{
+    let mut characters = *b" ch=_ at _._._";
+    characters[4] = digit(channel as u8);
+    characters[9] = digit(name.restarts as u8);
+    characters[11] = digit(name.clears as u8);
+    characters[13] = digit(name.resets as u8);
+    line.push(&characters)
+}
+
+#[inline(always)]
 fn push_stretch(channel: u16, name: &Stretch, line: &mut Line) -> Result<(), AllocError>
     ensures { OnOk result (line.new ≡ line.old ++ stretch_text channel (plain_name name.now)) }
 {
+    if is_short(channel, name) {
+        return push_short(channel, name, line);
+    }
     push_channel(channel, line)?;
     line.push_number(b" at ", name.restarts)?;
     line.push_number(b".", name.clears)?;
@@ -51,6 +84,7 @@ fn push_digits(label: &[u8], digits: &[u8], line: &mut Line) -> Result<(), Alloc
     Ok(())
 }
 
+#[inline(always)]
 fn push_user(user: &[u8], line: &mut Line) -> Result<(), AllocError>
     ensures { OnOk result (line.new ≡ line.old ++ user_text user.now) }
 {
@@ -101,6 +135,7 @@ fn push_agreed(word: &[u8], channel: u16, params: Params, line: &mut Line) -> Re
 }
 
 /// Appends a word, and then a channel and the name of its stretch.
+#[inline(always)]
 fn push_under(word: &[u8], channel: u16, name: &Stretch, line: &mut Line) -> Result<(), AllocError>
     ensures { OnOk result (line.new ≡ line.old ++ (word.now ++ stretch_text channel (plain_name name.now))) }
 {

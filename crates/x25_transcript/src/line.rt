@@ -142,6 +142,7 @@ impl Line {
     }
 
     // Appends a label and then octets as hexadecimal digits, in memory that is set aside for both first.
+    #[inline(always)]
     fn push_digits(&mut self, label: &[u8], octets: &[u8]) -> Result<(), AllocError>
         ensures text { OnOk result (self.new ≡ self.old ++ (label.now ++ flat_map octet_text octets.now)) }
         ensures unchanged { OnErr result (self.new ≡ self.old) }
@@ -165,6 +166,7 @@ impl Line {
     }
 
     /// Appends a label and then octets as hexadecimal digits, `-` where there are none. Err: no memory; the line is as it was then.
+    #[inline(always)]
     pub fn push_octets(&mut self, label: &[u8], octets: &[u8]) -> Result<(), AllocError>
         ensures text { OnOk result (self.new ≡ self.old ++ (label.now ++ octets_text octets.now)) }
         ensures unchanged { OnErr result (self.new ≡ self.old) }

@@ -1,15 +1,17 @@
-use Rattle.std.proofs.Common.{◌∙◌, ap, length, sym, arith}
-use Rattle.x25_script.proofs.OctetLemmas.{all_read, length_written}
+use Rattle.std.proofs.Common.{◌∙◌, [], ap, length, sym, arith}
+use Rattle.std.specs.Prelude.{unwrap_or}
+use Rattle.x25_script.proofs.OctetLemmas.{length_written, written_are_digits}
 use Rattle.x25_script.proofs.hex_digits.HexDigits.write_to.Goals as goal
 
-pub read_hexadecimal-requires : goal.read_hexadecimal-requires
-read_hexadecimal-requires c =
+pub read_digits-requires-clause-digits : goal.read_digits-requires-clause-digits
+read_digits-requires-clause-digits c = written_are_digits c.self.inside.digits.now c.self.invariant
+
+pub read_digits-requires-clause-length : goal.read_digits-requires-clause-length
+read_digits-requires-clause-length c =
     let text = c.self.inside.digits.now in
     let long = length_written text c.self.invariant in
     let room = c.requires ∙ ap length (sym c.self.view_is) in
     omega (arith, long, room)
 
 pub returns : goal.returns
-returns c =
-    let text = c.self.inside.digits.now in
-    all_read text c.read_hexadecimal.new.octets c.read_hexadecimal.result c.self.invariant c.read_hexadecimal.ensures ∙ c.self.view_is
+returns c = ap (λ o. unwrap_or o []) (sym c.read_digits.ensures) ∙ c.self.view_is

@@ -1,0 +1,17 @@
+use Rattle.std.proofs.Common.{ℕ, ◌≡◌, ◌∙◌, map, refl, replicate, sym}
+use Rattle.std.proofs.lemmas.Simd.{zip2_of_maps, splat_is_map}
+use Rattle.std.proofs.lemmas.List.{map-id}
+use Rattle.x25_text.specs.Hexadecimal.{value_of}
+use Rattle.x25_text.proofs.LaneLemmas.{fits_each, sel_of_maps, tops_of_map}
+use Rattle.x25_text.proofs.TestedLemmas.{same_at_digits}
+use Rattle.x25_text.proofs.hexadecimal.values_of_digits.Goals as goal
+
+pub returns : goal.returns
+returns c = λ digits.
+    let v = c.args.characters in
+    let itself : v ≡ map (λ x. x) v = sym (map-id v) in
+    let splat : (n : ℕ) → replicate 16 n ≡ map (λ _. n) v = λ n. splat_is_map v 16 n c.fits-characters.0 in
+    sel_of_maps _ _ _ v
+    (tops_of_map _ v (zip2_of_maps _ _ _ v (zip2_of_maps _ _ _ v itself (splat 48)) (zip2_of_maps _ _ _ v (zip2_of_maps _ _ _ v itself (splat 32)) (splat 87))))
+    (zip2_of_maps _ _ _ v itself (splat 48)) (zip2_of_maps _ _ _ v (zip2_of_maps _ _ _ v itself (splat 32)) (splat 87))
+    ∙ same_at_digits _ value_of v refl (fits_each v c.fits-characters.1) digits
