@@ -1,7 +1,7 @@
 -- Thirty-two octets at a time: what the four words of the code leave in the register.
-use Rattle.std.proofs.Common.{ℕ, ◌+◌, ◌-◌, ◌*◌, ◌/◌, ◌%◌, ◌^◌, ◌<◌, ◌≤◌, ◌≡◌, ◌∙◌, Bool, true, false, List, [], ◌∷◌, ◌++◌, length, refl, ap, sym, subst, arith, bit_xor, length-append}
+use Rattle.std.proofs.Common.{ℕ, ◌+◌, ◌*◌, ◌/◌, ◌%◌, ◌^◌, ◌<◌, ◌≤◌, ◌≡◌, ◌∙◌, Bool, true, false, List, ◌++◌, length, refl, ap, sym, subst, arith, bit_xor, length-append}
 use Rattle.std.specs.Prelude.{replicate, drop, slice_index}
-use Rattle.std.proofs.lemmas.Nat.{xor_mod, xor_shr}
+use Rattle.std.proofs.lemmas.Nat.{xor_mod}
 use Rattle.std.proofs.lemmas.List.{drop-drop}
 use Rattle.byteorder.specs.Endian.{little_number}
 use Rattle.x25_bits.specs.Fcs.{low_bits, bits_of, add, divisor}

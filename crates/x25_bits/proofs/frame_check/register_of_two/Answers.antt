@@ -1,6 +1,4 @@
-use Rattle.std.proofs.Common.{◌≡◌, ◌∙◌, ◌*◌, ◌^◌, ap, arith, bit_xor}
-use Rattle.x25_bits.specs.Fcs.{low_bits}
-use Rattle.x25_bits.specs.Register.{fed}
+use Rattle.std.proofs.Common.{◌∙◌, arith}
 use Rattle.x25_bits.proofs.FoldLemmas.{two_is}
 use Rattle.x25_bits.proofs.frame_check.register_of_two.Goals as goal
 

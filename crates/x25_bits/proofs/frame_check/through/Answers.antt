@@ -1,6 +1,5 @@
-use Rattle.std.proofs.Common.{◌∙◌, ◌++◌, ap, sym, take-append-drop}
-use Rattle.std.proofs.lemmas.Grind.{flat_map-append}
-use Rattle.x25_bits.specs.Fcs.{low_bits, bits_of}
+use Rattle.std.proofs.Common.{◌∙◌, ap}
+use Rattle.x25_bits.specs.Fcs.{bits_of}
 use Rattle.x25_bits.specs.Register.{fed}
 use Rattle.x25_bits.proofs.FoldLemmas.{fed_halves}
 use Rattle.x25_bits.proofs.frame_check.through.Goals as goal

@@ -1,4 +1,4 @@
-use Rattle.std.proofs.Common.{◌+◌, ◌*◌, ◌-◌, ◌∙◌, refl, arith, length, drop}
+use Rattle.std.proofs.Common.{◌*◌, ◌-◌, ◌∙◌, refl, arith, length, drop}
 use Rattle.std.proofs.lemmas.Nat.{xor_lt}
 use Rattle.byteorder.specs.Numbers.{little_from-take}
 use Rattle.x25_bits.proofs.FoldLemmas.{fed_next_word, fed_end}
