@@ -6,13 +6,14 @@ use Rattle.byteorder.specs.Endian.{little_from, little_number}
 use Rattle.byteorder.specs.Numbers.{little_from-cons, little_from-take}
 use Rattle.std.proofs.lemmas.List.{length-take-le, take-append-drop, get_or-take, get_or-drop, drop-drop, drop_all, take_all}
 use Rattle.std.proofs.lemmas.Grind.{flat_map-append}
+use Rattle.std.proofs.lemmas.Nat.{xor_comm, xor_lt}
 use Rattle.x25_bits.specs.Fcs.{low_bits, bits_of, add, divisor}
 use Rattle.x25_bits.specs.Register.{stepped, fed}
 use Rattle.x25_bits.proofs.FcsLemmas.{fed-append, length-fed, length-low_bits, low_bits-mod}
-use Rattle.x25_bits.proofs.LinearLemmas.{Linear, given, plus, left, right, additive_bits, additive_fed, additive_behind, agree, agree_to, same, none, length-none, fed_none, fed_apart, low_bits-left, low_bits-join}
+use Rattle.x25_bits.proofs.LinearLemmas.{Linear, linear_left, linear_same, given, plus, left, right, additive_bits, additive_fed, additive_behind, agree, agree_to, same, none, length-none, fed_none, fed_apart, low_bits-left, low_bits-join}
 
 abbrev taken : Linear
-taken = plus (plus (plus (plus given (left 16 given)) (left 32 given)) (left 44 given)) (left 48 given)
+taken = let near = plus given (left 16 given) in plus (plus near (left 32 near)) (left 44 given)
 
 abbrev pub folded : Linear
 folded = plus (plus taken (right 20 taken)) (right 48 taken)
@@ -34,13 +35,13 @@ abbrev cut : ℕ → Linear → Linear
 cut k l = left k (right k l)
 
 abbrev four : Linear
-four = let first = left 32 given in plus (plus (plus (plus first (left 8 first)) (left 16 first)) (left 22 first)) (left 24 first)
+four = let first = left 32 given in let near = plus first (left 8 first) in plus (plus near (left 16 near)) (left 22 first)
 
 abbrev next : Linear
 next = cut 32 (plus (plus (plus given four) (right 10 four)) (right 24 four))
 
 abbrev doubly : Linear → Linear
-doubly l = plus (plus (plus (plus l (left 4 l)) (left 8 l)) (left 11 l)) (left 12 l)
+doubly l = let near = plus l (left 4 l) in plus (plus near (left 8 near)) (left 11 l)
 
 abbrev two : Linear
 two = doubly (left 16 next)
@@ -181,15 +182,27 @@ fed_next_word held next word i rest h f e n =
     ∙ ap (fed register) (sym (word_bits rest (8 * i) word h f n))
 
 -- the first octets and the rest
+pub fed_halves : (r : List Bool) (n : ℕ) (first rest octets : List ℕ) → first ≡ take n octets → rest ≡ drop n octets → fed (fed r (bits_of first)) (bits_of rest) ≡ fed r (bits_of octets)
+fed_halves r n first rest octets front back =
+    sym (fed-append r (bits_of first) (bits_of rest))
+    ∙ ap (fed r) (sym (flat_map-append (low_bits 8) first rest) ∙ ap bits_of (ap (λ x. x ++ rest) front ∙ ap (λ x. take n octets ++ x) back ∙ take-append-drop n octets))
+
 pub fed_parts : (held n : ℕ) (first rest octets : List ℕ) → first ≡ take n octets → rest ≡ drop n octets
     → fed none (low_bits 64 held) ≡ fed ones (bits_of first) → fed (fed none (low_bits 64 held)) (bits_of rest) ≡ fed ones (bits_of octets)
-fed_parts held n first rest octets front back e =
-    ap (λ r. fed r (bits_of rest)) e ∙ sym (fed-append ones (bits_of first) (bits_of rest))
-    ∙ ap (fed ones) (sym (flat_map-append (low_bits 8) first rest) ∙ ap bits_of (ap (λ x. x ++ rest) front ∙ ap (λ x. take n octets ++ x) back ∙ take-append-drop n octets))
+fed_parts held n first rest octets front back e = ap (λ r. fed r (bits_of rest)) e ∙ fed_halves ones n first rest octets front back
 
 -- the end
-pub fed_end : (held register at : ℕ) (rest octets : List ℕ) → length rest ≤ at → low_bits 16 register ≡ fed none (low_bits 64 held)
-    → fed (fed none (low_bits 64 held)) (bits_of (drop at rest)) ≡ fed ones (bits_of octets) → fed ones (bits_of octets) ≡ low_bits 16 register
+pub fed_end : (r : List Bool) (at : ℕ) (octets : List ℕ) → length octets ≤ at → r ≡ fed r (bits_of (drop at octets))
 unfolding fed
-fed_end held register at rest octets h e same =
-    sym same ∙ ap (λ o. fed (fed none (low_bits 64 held)) (bits_of o)) (drop_all at rest h) ∙ sym e
+fed_end r at octets h = sym (ap (λ o. fed r (bits_of o)) (drop_all at octets h))
+
+-- two octets alone
+pub two_is : (octets : List ℕ) (word : ℕ) → length octets ≡ 2 → ((i : ℕ) → slice_index octets i < 256) → word < 2 ^ 16 → word ≡ little_number 2 octets
+    → fed none (low_bits 64 (bit_xor word 65535 * 2 ^ 48)) ≡ fed ones (bits_of octets)
+two_is octets word long small h e =
+    let few : bit_xor word 65535 < 2 ^ 16 = xor_lt 16 word 65535 h (omega arith) in
+    let whole : bit_xor word 65535 * 2 ^ 48 % 2 ^ 64 ≡ bit_xor word 65535 * 2 ^ 48 = omega (arith, few) in
+    let parts = linear_left 48 (λ x. x) linear_same word 65535 ∙ xor_comm (word * 2 ^ 48 % 2 ^ 64) (65535 * 2 ^ 48 % 2 ^ 64) in
+    ap (λ n. fed none (low_bits 64 n)) (sym whole ∙ parts)
+    ∙ begun_is octets 2 2 word (omega arith) (omega arith) (omega (arith, long)) small e
+    ∙ ap (λ o. fed ones (bits_of o)) (take_all 2 octets (omega (arith, long)))

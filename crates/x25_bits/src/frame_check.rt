@@ -1,9 +1,9 @@
 //! The frame check sequence (FCS) of a frame, ITU-T X.25 (10/96), section 2.2.7.
-ghost use Rattle.std.specs.Prelude.{◌≡◌, ◌+◌, ◌*◌, ◌/◌, ◌^◌, ◌<◌, ◌≤◌, ◌++◌, ◌↔◌, false, length, replicate, take, IsTrue, IsOk, OnOk, OnErr, vec_len, vec_capacity};
+ghost use Rattle.std.specs.Prelude.{◌≡◌, ◌+◌, ◌*◌, ◌/◌, ◌%◌, ◌^◌, ◌<◌, ◌≤◌, ◌++◌, ◌↔◌, false, length, replicate, take, drop, IsTrue, IsOk, OnOk, OnErr, vec_len, vec_capacity};
 ghost use Rattle.std.specs.Vec.{VecUnchanged};
 ghost use Rattle.byteorder.specs.Endian.{little_number};
 ghost use Rattle.x25_bits.specs.Fcs.{bits_of, fcs_of, low_bits};
-ghost use Rattle.x25_bits.specs.Register.{fed};
+ghost use Rattle.x25_bits.specs.Register.{fed, words_leave};
 ghost use Rattle.x25_bits.specs.Sealed.{seal_of, is_sealed, IsSealed};
 
 use crate::no_memory::NoMemory;
@@ -17,8 +17,66 @@ use byteorder::{ByteOrder, LittleEndian};
 fn folded(held: u64) -> u64
     ensures { fed (low_bits 16 0) (low_bits 64 result) ≡ fed (low_bits 16 0) (low_bits 64 held ++ replicate 64 false) }
 {
-    let taken = held ^ (held << 16) ^ (held << 32) ^ (held << 44) ^ (held << 48);
+    let near = held ^ (held << 16);
+    let taken = near ^ (near << 32) ^ (held << 44);
     taken ^ (taken >> 20) ^ (taken >> 48)
+}
+
+/// Thirty-two octets as four words, the first octets in the first, the low octet of each first.
+#[derive(Clone, Copy)]
+struct Block {
+    first: u64,
+    second: u64,
+    third: u64,
+    fourth: u64,
+}
+
+/// Thirty-two octets that leave what these leave with thirty-two octets of 0 behind them.
+///
+/// The divisor's sixteenth power is x^256 + x^192 + x^80 + 1, so that whole words are taken away, and words moved by sixteen places.
+#[inline(always)]
+fn folded_block(first: u64, second: u64, third: u64, fourth: u64) -> Block
+    ensures { words_leave result.first result.second result.third result.fourth ≡ fed (words_leave first second third fourth) (replicate 256 false) }
+{
+    let pair = second ^ first;
+    let run = third ^ pair;
+    let moved = run ^ (first << 48);
+    let all = fourth ^ run ^ ((second << 48) ^ (first >> 16));
+    Block {
+        first: first ^ all ^ ((pair >> 16) ^ (moved << 48)),
+        second: pair ^ ((moved >> 16) ^ (all << 48)),
+        third: moved ^ (all >> 16),
+        fourth: all,
+    }
+}
+
+/// Thirty-two octets that leave what the held ones and the next thirty-two leave.
+#[inline(always)]
+fn with_block(held: Block, octets: &[u8]) -> Block
+    requires { 32 ≤ length octets.now }
+    ensures { fed (words_leave result.first result.second result.third result.fourth) (bits_of (drop 32 octets.now)) ≡ fed (words_leave held.first held.second held.third held.fourth) (bits_of octets.now) }
+{
+    let first = LittleEndian::read_u64(octets);
+    let second = LittleEndian::read_u64(&octets[8..]);
+    let third = LittleEndian::read_u64(&octets[16..]);
+    let fourth = LittleEndian::read_u64(&octets[24..]);
+    let next = folded_block(held.first, held.second, held.third, held.fourth);
+    Block {
+        first: next.first ^ first,
+        second: next.second ^ second,
+        third: next.third ^ third,
+        fourth: next.fourth ^ fourth,
+    }
+}
+
+/// Eight octets that leave what these thirty-two leave.
+#[inline(always)]
+fn last_word(held: Block) -> u64
+    ensures { fed (low_bits 16 0) (low_bits 64 result) ≡ words_leave held.first held.second held.third held.fourth }
+{
+    let second = folded(held.first) ^ held.second;
+    let third = folded(second) ^ held.third;
+    folded(third) ^ held.fourth
 }
 
 /// The highest sixteen bits.
@@ -36,33 +94,26 @@ fn reduced_two(octets: u64) -> u16
     ensures { low_bits 16 result ≡ fed (low_bits 16 0) (low_bits 64 (octets * 2 ^ 48)) }
 {
     let held = octets << 48;
-    let last = held ^ (held << 4) ^ (held << 8) ^ (held << 11) ^ (held << 12);
+    let near = held ^ (held << 4);
+    let last = near ^ (near << 8) ^ (held << 11);
     highest(last ^ (last >> 5) ^ (last >> 12))
 }
 
-/// The register that eight octets leave. Of a short frame only the last two may differ from 0.
+/// The register that eight octets leave, by the divisor's square x^32 + x^24 + x^10 + 1 and then by the divisor itself.
 #[inline]
 fn reduced(held: u64) -> u16
     ensures { low_bits 16 result ≡ fed (low_bits 16 0) (low_bits 64 held) }
 {
-    if held << 16 == 0 {
-        return reduced_two(held >> 48);
-    }
-    reduced_eight(held)
-}
-
-/// .. whatever they are, by the divisor's square x^32 + x^24 + x^10 + 1 and then by the divisor itself.
-#[inline]
-fn reduced_eight(held: u64) -> u16
-    ensures { low_bits 16 result ≡ fed (low_bits 16 0) (low_bits 64 held) }
-{
     let first = held << 32;
-    let four = first ^ (first << 8) ^ (first << 16) ^ (first << 22) ^ (first << 24);
+    let near_first = first ^ (first << 8);
+    let four = near_first ^ (near_first << 16) ^ (first << 22);
     let next = (held ^ four ^ (four >> 10) ^ (four >> 24)) >> 32 << 32;
     let second = next << 16;
-    let two = second ^ (second << 4) ^ (second << 8) ^ (second << 11) ^ (second << 12);
+    let near_second = second ^ (second << 4);
+    let two = near_second ^ (near_second << 8) ^ (second << 11);
     let third = (next ^ two ^ (two >> 5) ^ (two >> 12)) >> 48 << 48;
-    let last = third ^ (third << 4) ^ (third << 8) ^ (third << 11) ^ (third << 12);
+    let near_third = third ^ (third << 4);
+    let last = near_third ^ (near_third << 8) ^ (third << 11);
     highest(last ^ (last >> 5) ^ (last >> 12))
 }
 
@@ -119,17 +170,81 @@ fn begun(octets: &[u8], count: usize) -> u64
     STARTS[count] ^ (word << (64 - 8 * count as u32))
 }
 
+/// Eight octets that leave what the held ones and those behind them leave, eight at a time.
+#[inline(always)]
+fn through_words(start: u64, octets: &[u8]) -> u64
+    requires { length octets.now % 8 ≡ 0 }
+    ensures { fed (low_bits 16 0) (low_bits 64 result) ≡ fed (fed (low_bits 16 0) (low_bits 64 start)) (bits_of octets.now) }
+{
+    let mut held = start;
+    for eight in 0..octets.len() / 8 {
+        held = folded(held) ^ LittleEndian::read_u64(&octets[8 * eight..]);
+    }
+    held
+}
+
+/// The same, thirty-two at a time.
+#[inline(always)]
+fn through_blocks(start: u64, octets: &[u8]) -> u64
+    requires { length octets.now % 32 ≡ 0 }
+    ensures { fed (low_bits 16 0) (low_bits 64 result) ≡ fed (fed (low_bits 16 0) (low_bits 64 start)) (bits_of octets.now) }
+{
+    let mut held = Block {
+        first: 0,
+        second: 0,
+        third: 0,
+        fourth: start,
+    };
+    for block in 0..octets.len() / 32 {
+        held = with_block(held, &octets[32 * block..]);
+    }
+    last_word(held)
+}
+
+/// The same: thirty-two at a time of sixty-four octets or more, of which eight at a time are taken first.
+#[inline(always)]
+fn through(start: u64, octets: &[u8]) -> u64
+    requires { length octets.now % 8 ≡ 0 }
+    ensures { fed (low_bits 16 0) (low_bits 64 result) ≡ fed (fed (low_bits 16 0) (low_bits 64 start)) (bits_of octets.now) }
+{
+    if octets.len() < 64 {
+        return through_words(start, octets);
+    }
+    let (words, blocks) = octets.split_at(octets.len() % 32);
+    let held = through_words(start, words);
+    through_blocks(held, blocks)
+}
+
+/// The register that two octets leave in one of ones.
+#[inline(always)]
+fn register_of_two(octets: &[u8]) -> u16
+    requires { length octets.now ≡ 2 }
+    ensures { low_bits 16 result ≡ fed (low_bits 16 65535) (bits_of octets.now) }
+{
+    let word = u64::from(LittleEndian::read_u16(octets));
+    reduced_two(word ^ 0xFFFF)
+}
+
+/// The register that the octets leave in one of ones.
+#[inline(always)]
+fn register(octets: &[u8]) -> u16
+    ensures { low_bits 16 result ≡ fed (low_bits 16 65535) (bits_of octets.now) }
+{
+    if octets.len() == 2 {
+        return register_of_two(octets);
+    }
+    let count = octets.len() % 8;
+    let held = begun(octets, count);
+    let (_, rest) = octets.split_at(count);
+    let last = through(held, rest);
+    reduced(last)
+}
+
 /// The frame check sequence of the octets.
 pub fn fcs(octets: &[u8]) -> u16
     ensures { result ≡ fcs_of octets.now }
 {
-    let count = octets.len() % 8;
-    let mut held = begun(octets, count);
-    let (_, rest) = octets.split_at(count);
-    for eight in 0..rest.len() / 8 {
-        held = folded(held) ^ LittleEndian::read_u64(&rest[8 * eight..]);
-    }
-    !reduced(held)
+    !register(octets)
 }
 
 /// Whether the last two octets are the frame check sequence of the octets before them, the low octet first.

@@ -1,4 +1,4 @@
-ghost use Rattle.std.specs.Prelude.{◌≡◌, ℕ, ◌+◌, ◌-◌, ◌<◌, ◌≤◌, [], max, min, vec_len, vec_capacity, IfOk, IfSome, OnOk, OnErr};
+ghost use Rattle.std.specs.Prelude.{◌≡◌, ℕ, ◌+◌, ◌-◌, ◌<◌, ◌≤◌, [], max, min, true, false, vec_len, vec_capacity, IfOk, IfSome, OnOk, OnErr};
 
 use std::alloc::{AllocError, Global};
 use std::marker::Model;
@@ -125,7 +125,34 @@ impl<const ROOM: usize, const MOST: usize> Blanks<ROOM, MOST> {
     }
 
     /// Promises memory for at least so many frames. Err: no memory for more than were promised; as many are promised as before.
+    #[inline(always)]
     pub fn reserve(&mut self, count: usize) -> Result<(), AllocError>
+        ensures ok { OnOk result (self.new ≡ max self.old count) }
+        ensures missing { OnErr result (self.old < count) }
+        ensures err { OnErr result (self.new ≡ self.old) }
+    {
+        if self.promises(count) {
+            return Ok(());
+        }
+        self.reserve_more(count)
+    }
+
+    /// Promises memory for at least so many frames, where blanks for them are kept. It says whether it did.
+    #[inline(always)]
+    pub fn promises(&mut self, count: usize) -> bool
+        ensures promised { result ≡ true → self.new ≡ max self.old count }
+        ensures same { result ≡ false → self.new ≡ self.old }
+    {
+        let is_kept = count <= self.blanks.len();
+        if is_kept {
+            self.promised = self.promised.max(count);
+        }
+        is_kept
+    }
+
+    // .. where it may be that more have to be made.
+    #[inline(never)]
+    fn reserve_more(&mut self, count: usize) -> Result<(), AllocError>
         ensures ok { OnOk result (self.new ≡ max self.old count) }
         ensures missing { OnErr result (self.old < count) }
         ensures err { OnErr result (self.new ≡ self.old) }

@@ -1,8 +1,9 @@
 //! From a frame to the octets that spell it.
-ghost use Rattle.std.specs.Prelude.{◌≡◌, ◌+◌, ◌*◌, ◌≤◌, ◌++◌, OnOk, OnErr, IsOk, length, vec_len, vec_capacity};
+ghost use Rattle.std.specs.Prelude.{◌≡◌, ◌+◌, ◌*◌, ◌≤◌, [], ◌∷◌, ◌++◌, OnOk, OnErr, IsOk, length, vec_len, vec_capacity};
 ghost use Rattle.std.specs.Vec.{VecUnchanged};
 ghost use Rattle.x25_frame.specs.PlainFrame.{plain};
 ghost use Rattle.x25_bits.specs.Bit.{bit};
+ghost use Rattle.x25_bits.specs.Sealed.{seal_of};
 ghost use Rattle.x25_frame.specs.Spelling.{spelling_of, body_of, control_of, information_of};
 
 use crate::address::address;
@@ -55,11 +56,25 @@ pub fn encode(from: Role, frame: &Frame, octets: &mut Vec<u8>) -> Result<(), NoM
 {
     let head = [address(from, frame.is_command()), control(frame)];
     let info = information(frame);
+    if info.is_empty() {
+        return encode_bare(head[0], head[1], octets);
+    }
     octets.reserve(info.len() + 4)?;
     let start = octets.len();
     octets.extend_from_slice(&head).unwrap();
     octets.extend_from_slice(info).unwrap();
     let sequence = fcs(&octets[start..]);
     octets.extend_from_slice(&sequence.to_le_bytes()).unwrap();
+    Ok(())
+}
+
+/// .. of a frame without information, which has this address and control.
+fn encode_bare(address: u8, control: u8, octets: &mut Vec<u8>) -> Result<(), NoMemory>
+    ensures ok { OnOk result (octets.new.items ≡ octets.old.items ++ (address ∷ control ∷ [] ++ seal_of (address ∷ control ∷ []))) }
+    ensures err { OnErr result (VecUnchanged octets.old octets.new) }
+    ensures room { vec_len octets.old + 4 ≤ vec_capacity octets.old → IsOk result }
+{
+    let sequence = fcs(&[address, control]).to_le_bytes();
+    octets.extend_from_slice(&[address, control, sequence[0], sequence[1]])?;
     Ok(())
 }

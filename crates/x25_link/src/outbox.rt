@@ -1,4 +1,4 @@
-ghost use Rattle.std.specs.Prelude.{◌≡◌, ℕ, ◌+◌, ◌-◌, ◌<◌, ◌≤◌, ◌⊎◌, List, [], ◌∷◌, ◌++◌, length, map, max, vec_len, vec_capacity, false, OnOk, OnErr};
+ghost use Rattle.std.specs.Prelude.{◌≡◌, ℕ, ◌+◌, ◌-◌, ◌<◌, ◌≤◌, ◌⊎◌, List, [], ◌∷◌, ◌++◌, length, map, max, vec_len, vec_capacity, true, false, OnOk, OnErr};
 ghost use Rattle.x25_frame.specs.PlainFrame.{plain, info};
 ghost use Rattle.x25_frame.specs.Spelling.{spelling_of, information_of};
 ghost use Rattle.x25_link.specs.code.Outbox.{ShownOutbox};
@@ -100,10 +100,41 @@ impl Outbox {
         if long <= self.long.promised() && short <= self.short.promised() {
             return Ok(());
         }
+        if self.promises(long, short) {
+            return Ok(());
+        }
         self.reserve_more(long, short)
     }
 
+    // Sets as much aside where no more has to be made for that. It says whether it did.
+    #[inline(always)]
+    fn promises(&mut self, long: usize, short: usize) -> bool
+        ensures made { self.new.made ≡ self.old.made }
+        ensures long { result ≡ true → self.new.long ≡ max self.old.long long }
+        ensures short { result ≡ true → self.new.short ≡ max self.old.short short }
+        ensures same { result ≡ false → self.new ≡ self.old }
+    {
+        let promised = self.short.promised();
+        let room = self.made.capacity() - self.made.len();
+        let long_count = self.long.promised().max(long);
+        if long_count > room {
+            return false;
+        }
+        if promised.max(short) > room - long_count {
+            return false;
+        }
+        if !self.short.promises(short) {
+            return false;
+        }
+        if !self.long.promises(long) {
+            self.short.limit(promised);
+            return false;
+        }
+        true
+    }
+
     // .. where it may be that less is set aside.
+    #[inline(never)]
     fn reserve_more(&mut self, long: usize, short: usize) -> Result<(), AllocError>
         ensures made { self.new.made ≡ self.old.made }
         ensures long { OnOk result (self.new.long ≡ max self.old.long long) }

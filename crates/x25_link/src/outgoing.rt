@@ -120,6 +120,7 @@ impl Outgoing {
     }
 
     /// Sends the next packet, again or new, where the window is open and there is one. It says whether it did.
+    #[inline(always)]
     pub fn send_next(&mut self, from: Role, nr: Seq, out: &mut Outbox) -> bool
         requires { before_in self.old < window_of self.old → 0 < out.old.long }
         ensures sent { (k : ℕ) (o : OutgoingState) → FitsOutgoing k self.old o → result ≡ is_open k o }

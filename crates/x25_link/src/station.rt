@@ -117,6 +117,7 @@ impl LinkStation {
     }
 
     /// The sending rule, once. It says whether a frame was sent.
+    #[inline(always)]
     pub fn pump_once(&mut self, out: &mut Outbox) -> bool
         requires { before_in self.old.outgoing < window_of self.old.outgoing → 0 < out.old.long }
         ensures sent { (c : Settings) (s : StationState) → FitsStation c self.old s → result ≡ may_send c.window s }

@@ -1,4 +1,4 @@
-use Rattle.std.proofs.Common.{◌≡◌, ◌≤◌, ◌<◌, ◌+◌, ◌-◌, ◌*◌, ◌++◌, ◌∙◌, get_or, length, take, refl, ap, sym, subst, arith}
+use Rattle.std.proofs.Common.{◌≡◌, ◌<◌, ◌+◌, ◌-◌, ◌*◌, ◌++◌, ◌∙◌, get_or, length, take, refl, sym, subst, arith}
 use Rattle.x25_bits.specs.Fcs.{bits_of, low_bits}
 use Rattle.x25_bits.specs.Passing.{PassesOn, kept_from}
 use Rattle.x25_bits.specs.code.Reading.{part}

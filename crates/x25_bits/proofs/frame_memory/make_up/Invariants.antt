@@ -1,4 +1,4 @@
-use Rattle.std.proofs.Common.{◌≡◌, ◌≤◌, ◌-◌, max, vec_len}
+use Rattle.std.proofs.Common.{◌≤◌, ◌-◌, max, vec_len}
 use Rattle.x25_bits.proofs.frame_memory.make_up.Given as goal
 
 abbrev pub invariant-loop-alloc : goal.invariant-loop-alloc

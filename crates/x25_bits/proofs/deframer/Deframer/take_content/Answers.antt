@@ -1,4 +1,4 @@
-use Rattle.std.proofs.Common.{◌*◌, ◌≤◌, ◌≡◌, length, sym, subst, arith}
+use Rattle.std.proofs.Common.{◌*◌, ◌≤◌, length, sym, subst, arith}
 use Rattle.x25_bits.specs.Fcs.{bits_of}
 use Rattle.x25_bits.specs.code.FitsSeen.{FitsSeen}
 use Rattle.x25_bits.specs.code.Reading.{part}
