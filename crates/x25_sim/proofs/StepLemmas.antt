@@ -37,22 +37,22 @@ told_by tap w next at entries told =
 
 pub told_alone : (tap : Bool) (told : List ℕ) (w next : World) (at : Role) (entries : List StationEntry) → tap ≡ false → next.transcript ≡ w.transcript ++ entered at entries
     → told ++ sayings_text (map (enters_at at) entries) ≡ told ++ sayings_text (told_between tap w next)
-told_alone true told w next at entries no is = cc
-told_alone false told w next at entries no is = ap (λ t. told ++ t) (sym (told_by false w next at entries is ∙ append-nil (sayings_text (map (enters_at at) entries))))
+told_alone true told w next at entries off is = cc
+told_alone false told w next at entries off is = ap (λ t. told ++ t) (sym (told_by false w next at entries is ∙ append-nil (sayings_text (map (enters_at at) entries))))
 
 pub told_with_frames : (cfg : Cfg) (tap : Bool) (told : List ℕ) (v : ShownWorld) (w next : World) (at : Role) (entries : List StationEntry) → tap ≡ true → FitsWorld cfg v next (gone_after tap w next)
     → next.transcript ≡ w.transcript ++ entered at entries
     → (told ++ sayings_text (map (enters_at at) entries)) ++ sayings_text (map taps v.tap) ≡ told ++ sayings_text (told_between tap w next)
-told_with_frames cfg true told v w next at entries yes f is =
+told_with_frames cfg true told v w next at entries on f is =
     let frames = ap (drop (length w.tap)) f.tap ∙ drop-append_seam w.tap v.tap in
     append_assoc told (sayings_text (map (enters_at at) entries)) (sayings_text (map taps v.tap))
     ∙ ap (λ t. told ++ t) (ap (λ fs. sayings_text (map (enters_at at) entries) ++ sayings_text (map taps fs)) (sym frames) ∙ sym (told_by true w next at entries is))
-told_with_frames cfg false told v w next at entries yes f is = cc
+told_with_frames cfg false told v w next at entries on f is = cc
 
 -- where frames aren't asked for none is held
 pub none_held : (cfg : Cfg) (tap : Bool) (v : ShownWorld) (w next : World) → tap ≡ false → FitsWorld cfg v next (gone_after tap w next) → FitsWorld cfg v next (all_of next)
-none_held cfg true v w next no f = cc
-none_held cfg false v w next no f = f
+none_held cfg true v w next off f = cc
+none_held cfg false v w next off f = f
 
 -- of the first world, of which no entry tells
 first_told : (cfg : Cfg) (down : Bool) → (opening cfg down).transcript ≡ []
@@ -61,12 +61,12 @@ first_told cfg false = connected_tells cfg
 
 pub first_frames : (cfg : Cfg) (tap down : Bool) (told : List ℕ) (v : ShownWorld) → tap ≡ true → FitsWorld cfg v (opening cfg down) nothing_gone
     → told ++ sayings_text (map taps v.tap) ≡ told ++ sayings_text (told_between tap start (opening cfg down))
-first_frames cfg true down told v yes f = ap (λ t. told ++ t) (sym (told_by true start (opening cfg down) Dte [] (first_told cfg down) ∙ ap (λ fs. sayings_text (map taps fs)) f.tap))
-first_frames cfg false down told v yes f = cc
+first_frames cfg true down told v on f = ap (λ t. told ++ t) (sym (told_by true start (opening cfg down) Dte [] (first_told cfg down) ∙ ap (λ fs. sayings_text (map taps fs)) f.tap))
+first_frames cfg false down told v on f = cc
 
 pub first_alone : (cfg : Cfg) (tap down : Bool) (told : List ℕ) → tap ≡ false → told ≡ told ++ sayings_text (told_between tap start (opening cfg down))
-first_alone cfg true down told no = cc
-first_alone cfg false down told no = sym (append-nil told) ∙ ap (λ t. told ++ t) (sym (told_by false start (opening cfg down) Dte [] (first_told cfg down)))
+first_alone cfg true down told off = cc
+first_alone cfg false down told off = sym (append-nil told) ∙ ap (λ t. told ++ t) (sym (told_by false start (opening cfg down) Dte [] (first_told cfg down)))
 
 -- ---- how it comes out
 

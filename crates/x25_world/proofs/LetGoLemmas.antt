@@ -74,5 +74,5 @@ late_own n xs y own none = λ i. let le = shares-take i (length (xs ++ y ∷ [])
 
 -- the tap is as empty as before, where no frame is put on it
 pub untapped_put : (taps : Bool) (v : ShownLine) (from : Role) (frames : List (List ℕ)) → (taps ≡ false → v.tap ≡ []) → taps ≡ false → (put_by taps v from frames).tap ≡ []
-untapped_put true v from frames empty no = cc
-untapped_put false v from frames empty no = empty refl
+untapped_put true v from frames empty off = cc
+untapped_put false v from frames empty off = empty refl

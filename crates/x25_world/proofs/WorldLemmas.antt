@@ -149,6 +149,11 @@ pub swapped_accepted : (o : WorldOutcome) (r : Result (Unit {0}) WorldError) →
 swapped_accepted o (Ok x) h = refusal-swapped o ∙ h
 swapped_accepted o (Err e) h = tt
 
+pub dte_refused : (cfg : Cfg) (w : World) (e : Event) (r : Result (Unit {0}) WorldError) → e.at ≡ Dte
+    → IfErr r (λ x. (refusal_of (acts (settings_from Dte cfg) w e.act) ≡ Some x) ⊎ (x ≡ error.NoMemory)) → IfErr r (IsRefusal cfg w e)
+dte_refused cfg w e (Ok x) at h = tt
+dte_refused cfg w e (Err x) at h = rw at h
+
 pub dce_refused : (cfg : Cfg) (w : World) (e : Event) (r : Result (Unit {0}) WorldError) → e.at ≡ Dce
     → IfErr r (λ x. (refusal_of (acts (settings_from Dce cfg) (swapped w) e.act) ≡ Some x) ⊎ (x ≡ error.NoMemory)) → IfErr r (IsRefusal cfg w e)
 dce_refused cfg w e (Ok x) at h = tt

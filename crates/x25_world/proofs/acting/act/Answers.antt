@@ -18,3 +18,12 @@ returns-in-Damage-clause-acted c = λ cfg w gone before side.
       refused = damages_or_not c.damage.result _ (called.refused w side.back);
       stays = line_stays cfg c.args.at c.args.taps _ _ _ before w gone c.damage.result side called.unchanged;
     })
+
+pub returns-in-Command-clause-acted : goal.returns-in-Command-clause-acted
+returns-in-Command-clause-acted c = λ cfg w gone before side. rw c.in-Command.is (c.command.ensures.acted cfg w gone before side)
+
+pub returns-in-Deliver-clause-acted : goal.returns-in-Deliver-clause-acted
+returns-in-Deliver-clause-acted c = λ cfg w gone before side. rw c.in-Deliver.is (c.deliver.ensures.acted cfg w gone before side)
+
+pub returns-in-T1-clause-acted : goal.returns-in-T1-clause-acted
+returns-in-T1-clause-acted c = λ cfg w gone before side. rw c.in-T1.is (c.fire.ensures.acted cfg w gone before side)

@@ -1,6 +1,6 @@
 use Rattle.std.proofs.Common.{◌∙◌, sym}
 use Rattle.x25_world.specs.World.{swapped}
-use Rattle.x25_world.proofs.WorldLemmas.{dte_step, dte_stays, dce_step, dce_stays, is_accepted, swapped_accepted, dce_refused}
+use Rattle.x25_world.proofs.WorldLemmas.{dte_step, dte_stays, dce_step, dce_stays, is_accepted, swapped_accepted, dte_refused, dce_refused}
 use Rattle.x25_world.proofs.acting.act_at_end.Goals as goal
 
 pub returns-in-Dte-clause-acted : goal.returns-in-Dte-clause-acted
@@ -10,7 +10,7 @@ returns-in-Dte-clause-acted c = λ cfg w gone before parts.
     record {
       happened = rw at (dte_step cfg c.args.taps _ _ w gone c.act.result _ parts.dce h.happened);
       accepted = rw at (is_accepted cfg _ c.args.taps _ _ gone c.act.result h.happened);
-      refused = rw at h.refused;
+      refused = dte_refused cfg w _ c.act.result at h.refused;
       stays = dte_stays cfg c.args.taps _ _ w gone c.act.result parts.dce h.stays;
     }
 

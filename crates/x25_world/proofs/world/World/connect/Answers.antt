@@ -1,4 +1,4 @@
-use Rattle.std.proofs.Common.{map, None, Err, Result, refl, sym, subst}
+use Rattle.std.proofs.Common.{map, None, Err, Result, true, refl, sym, subst}
 use Rattle.x25_bits.specs.declared.role.Role.TheVariants.{Dte}
 use Rattle.x25_station.specs.Settings.{settings_from}
 use Rattle.x25_station.specs.Station.{new_station}
