@@ -22,7 +22,6 @@ use Rattle.x25_world.specs.laws.Claims.{ActsInOctets, AreInOctets, entries_at, u
 use Rattle.x25_world.proofs.Established.{connected_tells}
 use Rattle.x25_world.specs.laws.SessionClaims.{Throughout, ThroughoutAlong, MeetInStep, AreLawfulWhereMet, AreNamedInSessions, AllArrive, UnmetAreToldNothing, OpenStretchesMeet, SessionsKeepOrder}
 use Rattle.x25_world.specs.SessionWindow.{SessionsStayInWindow}
-use Rattle.x25_world.specs.code.ShownLine.{ShownLine}
 use Rattle.x25_world.specs.code.ShownWorld.{ShownWorld, ShownSide, ShownParts}
 use Rattle.x25_world.specs.code.FitsWorld.{Gone, all_of, gone_after, nothing_gone, FitsWorld, FitsRun, Leaves, with_gone, and_then, FitsSide, FitsParts, HasHappened, IsRefusal, StopsAt, RefusesConfig}
 

@@ -253,7 +253,12 @@ impl World {
     ///
     /// Refused as by `apply`; only what was told is let go of then.
     #[inline(always)]
-    pub fn step(&mut self, event: Event, taps: bool, told: &mut Vec<Entry>) -> Result<(), WorldError>
+    pub fn step(
+        &mut self,
+        event: Event,
+        taps: bool,
+        told: &mut Vec<Entry>,
+    ) -> Result<(), WorldError>
         ensures step { (cfg : Cfg) (w : definition.World) (gone : Gone) → FitsWorld cfg self.old w gone →
             (let next = after w (happens cfg w (event_of event.entry)) in OnOk result (FitsWorld cfg self.new next (gone_after taps w next))) }
         ensures told { (cfg : Cfg) (w : definition.World) (gone : Gone) → FitsWorld cfg self.old w gone →
