@@ -3,35 +3,70 @@ use Rattle.std.proofs.Common.{◌≡◌, ◌∙◌, ℕ, Bool, true, false, List
 use Rattle.std.proofs.lemmas.List.{append-nil}
 use Rattle.std.proofs.Math.Seq.{drop-append_seam}
 use Rattle.std.proofs.lemmas.Option.{same_Some}
+use Rattle.x25_bits.specs.declared.role.Role.{Role}
+use Rattle.x25_bits.specs.declared.role.Role.TheVariants.{Dte}
 use Rattle.x25_station.specs.declared.config.Cfg.{Cfg}
-use Rattle.x25_world.specs.World.{World, OnTap, AtEnd, WorldOutcome, Happened, Declined, refusal_of, after}
+use Rattle.x25_station.specs.Entries.{StationEntry}
+use Rattle.x25_world.specs.World.{World, start, entered, OnTap, AtEnd, WorldOutcome, Happened, Declined, refusal_of, after}
 use Rattle.x25_world.specs.code.ShownWorld.{ShownWorld}
-use Rattle.x25_world.specs.code.FitsWorld.{FitsWorld, all_of}
+use Rattle.x25_world.specs.code.FitsWorld.{FitsWorld, all_of, gone_after, nothing_gone}
 use Rattle.x25_world.specs.declared.error.WorldError.{WorldError}
-use Rattle.x25_sim.specs.Sayings.{enters, taps, refuses, sayings_text, saying_line, refusal_number, has_refusal}
+use Rattle.x25_sim.specs.Sayings.{enters, enters_at, taps, refuses, sayings_text, saying_line, refusal_number, has_refusal}
 use Rattle.x25_console.specs.Lines.{refusal_line}
 use Rattle.x25_sim.specs.Simulated.{quiet, frames_told, step_told, told_between, turn_of, tried_of}
+use Rattle.x25_sim.specs.code.Stands.{opening}
+use Rattle.x25_world.proofs.Established.{connected_tells}
 use Rattle.x25_sim.proofs.SayingLemmas.{text-append}
 
-pub entries_first : (tap : Bool) (entries : List AtEnd) (frames : List OnTap)
+entries_first : (tap : Bool) (entries : List AtEnd) (frames : List OnTap)
     → sayings_text (step_told tap entries frames) ≡ sayings_text (map enters entries) ++ sayings_text (frames_told tap frames)
 entries_first tap entries frames = text-append (map enters entries) (frames_told tap frames)
 
-pub both_told : (told : List ℕ) (tap : Bool) (entries es : List AtEnd) (frames fs : List OnTap) → es ≡ entries → fs ≡ frames → tap ≡ true
-    → (told ++ sayings_text (map enters es)) ++ sayings_text (map taps fs) ≡ told ++ sayings_text (step_told tap entries frames)
-both_told told tap entries es frames fs same_entries same_frames is =
-    append_assoc told (sayings_text (map enters es)) (sayings_text (map taps fs))
-    ∙ ap (λ t. told ++ t)
-    (ap (λ t. t ++ sayings_text (map taps fs)) (ap (λ xs. sayings_text (map enters xs)) same_entries)
-    ∙ ap (λ t. sayings_text (map enters entries) ++ t) (ap (λ xs. sayings_text (map taps xs)) same_frames)
-    ∙ sym (entries_first true entries frames)
-    ∙ ap (λ b. sayings_text (step_told b entries frames)) (sym is))
+-- the entries of an end
+enters_all : (at : Role) (entries : List StationEntry) → map enters (entered at entries) ≡ map (enters_at at) entries
+enters_all at [] = refl
+enters_all at (e ∷ entries) = ap (λ l. enters_at at e ∷ l) (enters_all at entries)
 
--- what the world holds is what is new
-pub new_told : (cfg : Cfg) (tap : Bool) (v : ShownWorld) (w next : World) → FitsWorld cfg v next (all_of w) → told_between tap w next ≡ step_told tap v.transcript v.tap
-new_told cfg tap v w next f =
-    ap (λ entries. step_told tap entries (drop (length w.tap) next.tap)) (ap (drop (length w.transcript)) f.transcript ∙ drop-append_seam w.transcript v.transcript)
-    ∙ ap (step_told tap v.transcript) (ap (drop (length w.tap)) f.tap ∙ drop-append_seam w.tap v.tap)
+-- the entries that a step handed over, and behind them what is held of the tap
+pub told_by : (tap : Bool) (w next : World) (at : Role) (entries : List StationEntry) → next.transcript ≡ w.transcript ++ entered at entries
+    → sayings_text (told_between tap w next) ≡ sayings_text (map (enters_at at) entries) ++ sayings_text (frames_told tap (drop (length w.tap) next.tap))
+told_by tap w next at entries told =
+    let new = ap (drop (length w.transcript)) told ∙ drop-append_seam w.transcript (entered at entries) in
+    entries_first tap (drop (length w.transcript) next.transcript) (drop (length w.tap) next.tap)
+    ∙ ap (λ es. sayings_text es ++ sayings_text (frames_told tap (drop (length w.tap) next.tap))) (ap (map enters) new ∙ enters_all at entries)
+
+pub told_alone : (tap : Bool) (told : List ℕ) (w next : World) (at : Role) (entries : List StationEntry) → tap ≡ false → next.transcript ≡ w.transcript ++ entered at entries
+    → told ++ sayings_text (map (enters_at at) entries) ≡ told ++ sayings_text (told_between tap w next)
+told_alone true told w next at entries off is = cc
+told_alone false told w next at entries off is = ap (λ t. told ++ t) (sym (told_by false w next at entries is ∙ append-nil (sayings_text (map (enters_at at) entries))))
+
+pub told_with_frames : (cfg : Cfg) (tap : Bool) (told : List ℕ) (v : ShownWorld) (w next : World) (at : Role) (entries : List StationEntry) → tap ≡ true → FitsWorld cfg v next (gone_after tap w next)
+    → next.transcript ≡ w.transcript ++ entered at entries
+    → (told ++ sayings_text (map (enters_at at) entries)) ++ sayings_text (map taps v.tap) ≡ told ++ sayings_text (told_between tap w next)
+told_with_frames cfg true told v w next at entries on f is =
+    let frames = ap (drop (length w.tap)) f.tap ∙ drop-append_seam w.tap v.tap in
+    append_assoc told (sayings_text (map (enters_at at) entries)) (sayings_text (map taps v.tap))
+    ∙ ap (λ t. told ++ t) (ap (λ fs. sayings_text (map (enters_at at) entries) ++ sayings_text (map taps fs)) (sym frames) ∙ sym (told_by true w next at entries is))
+told_with_frames cfg false told v w next at entries on f is = cc
+
+-- where frames aren't asked for none is held
+pub none_held : (cfg : Cfg) (tap : Bool) (v : ShownWorld) (w next : World) → tap ≡ false → FitsWorld cfg v next (gone_after tap w next) → FitsWorld cfg v next (all_of next)
+none_held cfg true v w next off f = cc
+none_held cfg false v w next off f = f
+
+-- of the first world, of which no entry tells
+first_told : (cfg : Cfg) (down : Bool) → (opening cfg down).transcript ≡ []
+first_told cfg true = refl
+first_told cfg false = connected_tells cfg
+
+pub first_frames : (cfg : Cfg) (tap down : Bool) (told : List ℕ) (v : ShownWorld) → tap ≡ true → FitsWorld cfg v (opening cfg down) nothing_gone
+    → told ++ sayings_text (map taps v.tap) ≡ told ++ sayings_text (told_between tap start (opening cfg down))
+first_frames cfg true down told v on f = ap (λ t. told ++ t) (sym (told_by true start (opening cfg down) Dte [] (first_told cfg down) ∙ ap (λ fs. sayings_text (map taps fs)) f.tap))
+first_frames cfg false down told v on f = cc
+
+pub first_alone : (cfg : Cfg) (tap down : Bool) (told : List ℕ) → tap ≡ false → told ≡ told ++ sayings_text (told_between tap start (opening cfg down))
+first_alone cfg true down told off = cc
+first_alone cfg false down told off = sym (append-nil told) ∙ ap (λ t. told ++ t) (sym (told_by false start (opening cfg down) Dte [] (first_told cfg down)))
 
 -- ---- how it comes out
 

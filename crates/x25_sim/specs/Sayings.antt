@@ -1,6 +1,8 @@
 -- What the simulator says of a script, one line each, and the text of that (profile).
 use Rattle.std.specs.Prelude.{ℕ, Bool, true, false, List}
 use Rattle.std.specs.List.{flat_map, list_any}
+use Rattle.x25_bits.specs.declared.role.Role.{Role}
+use Rattle.x25_station.specs.Entries.{StationEntry}
 use Rattle.x25_station.specs.StationError as station
 use Rattle.x25_transcript.specs.EntryText.{entry_line}
 use Rattle.x25_console.specs.Lines.{frame_line, refusal_line, nothing_line}
@@ -15,6 +17,10 @@ pub data Saying : Type 0 where
   taps : (frame : OnTap) → Saying
   reads_nothing : Saying
   refuses : (error : WorldError) → Saying
+
+-- an entry of the transcript of an end
+abbrev pub enters_at : Role → StationEntry → Saying
+enters_at at entry = enters (record { at = at; entry = entry })
 
 -- the number of a refusal, which is the station's own where the station refuses
 abbrev pub refusal_number : WorldError → ℕ

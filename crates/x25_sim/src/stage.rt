@@ -1,7 +1,8 @@
 //! Two stations, a line between them, and what is told of them.
-ghost use Rattle.std.specs.Prelude.{◌≡◌, ◌≢◌, ◌↔◌, IfErr, IfOk, IsTrue, OnOk};
+ghost use Rattle.std.specs.Prelude.{◌≡◌, ◌≢◌, ◌↔◌, IfErr, IfOk, IsTrue, OnOk, map};
+ghost use Rattle.x25_station.specs.code.PlainEntry.{plain_entry};
 ghost use Rattle.x25_bits.specs.Role.{end_of, other};
-ghost use Rattle.x25_world.specs.code.FitsWorld.{FitsWorld, nothing_gone};
+ghost use Rattle.x25_world.specs.code.FitsWorld.{FitsWorld, gone_after, nothing_gone};
 ghost use Rattle.x25_sim.specs.code.Stands.{opening};
 
 use crate::telling::{tell_entries, tell_frames, tell_refusal};
@@ -9,7 +10,7 @@ use std::alloc::Global;
 use x25_console::{read_octets, read_user, station_command, tell_nothing};
 use x25_io::{Fault, Output, Sink};
 use x25_script::{Command, ScriptLine};
-use x25_station::{Cfg, Cmd};
+use x25_station::{Cfg, Cmd, Entry};
 use x25_transcript::Line;
 use x25_world::{
     Direction, Event, Role, SABM_ARRIVES, UA_ARRIVES, World, WorldError, two_stations_keep_order,
@@ -19,6 +20,7 @@ use x25_world::{
 #[derive(Drop)]
 pub(crate) struct Stage {
     world: World,
+    told: Vec<Entry>,
     tap: bool,
     line: Line,
     output: Output,
@@ -72,12 +74,12 @@ impl Stage {
     ghost use Rattle.x25_script.specs.PlainLine.{plain, plain_command};
     ghost use Rattle.x25_io.specs.code.Written.{AppendsPrefix, Tells};
     ghost use Rattle.x25_station.specs.declared.config.Cfg.{Cfg as Settings};
-    ghost use Rattle.x25_world.specs.World.{World as State, Commands, WorldOutcome, event_of, refusal_of};
-    ghost use Rattle.x25_world.specs.code.FitsWorld.{all_of};
+    ghost use Rattle.x25_world.specs.World.{World as State, start, entered, Commands, WorldOutcome, event_of, refusal_of};
+    ghost use Rattle.x25_world.specs.code.FitsWorld.{Gone, all_of};
     ghost use Rattle.x25_world.specs.Healing.{next_end};
-    ghost use Rattle.x25_sim.specs.Sayings.{sayings_text};
+    ghost use Rattle.x25_sim.specs.Sayings.{taps, sayings_text};
     ghost use Rattle.x25_console.specs.Commands.{command_asked};
-    ghost use Rattle.x25_sim.specs.Simulated.{and_then, asked_turn, drained, emptied, event_turn, fired, healed, line_turn, most_times, opened, pulled, step_told, told_between, tried, turn_of};
+    ghost use Rattle.x25_sim.specs.Simulated.{and_then, asked_turn, drained, emptied, event_turn, fired, healed, line_turn, most_times, opened, pulled, told_between, tried, turn_of};
     ghost use Rattle.x25_sim.specs.code.Stands.{IsOpening, Stands, Stood, Turns};
 
     /// The first world, of which nothing was told.
@@ -96,6 +98,7 @@ impl Stage {
         };
         Ok(Stage {
             world,
+            told: Vec::new(alloc),
             tap,
             line,
             output,
@@ -103,13 +106,32 @@ impl Stage {
         })
     }
 
-    /// Tells what the world holds of a step: its entries, and behind these its frames where they are asked for.
-    fn tell_step<W: Sink>(&mut self, writer: &mut W) -> Result<(), Fault>
+    /// Tells the frames that the world holds, and lets go of them.
+    fn end_frames<W: Sink>(&mut self, writer: &mut W) -> Result<(), Fault>
         ensures kept { OnOk result (W.is_marked writer.new ≡ W.is_marked writer.old) }
         ensures tells { (old : Option (List ℕ)) (told : List ℕ) → Tells old (W.contents writer.old) self.old.output told
-            → let sayings = step_told self.old.tap self.old.world.transcript self.old.world.tap in
+            → MatchResult result (λ _. Tells old (W.contents writer.new) self.new.output (told ++ sayings_text (map taps self.old.world.tap)))
+            (λ _. AppendsPrefix old (W.contents writer.new) (told ++ sayings_text (map taps self.old.world.tap))) }
+        ensures world { (cfg : Settings) (w : State) (gone : Gone) → FitsWorld cfg self.old.world w gone → OnOk result (FitsWorld cfg self.new.world w (all_of w)) }
+        ensures tap { self.new.tap ≡ self.old.tap }
+        ensures is_refused { self.new.is_refused ≡ self.old.is_refused }
+        ensures write { IsErrOf result Fault.Write → W.is_marked writer.new ≡ true }
+        ensures memory { IsErrOf result Fault.NoMemory → W.is_marked writer.new ≡ W.is_marked writer.old }
+        ensures read { IsErrOf result Fault.Read → ⊥ }
+    {
+        tell_frames(&mut self.line, self.world.tap(), &mut self.output, writer)?;
+        self.world.let_go();
+        Ok(())
+    }
+
+    /// Tells the step of an end: its entries, and behind these its frames where they are asked for, of which it lets go.
+    fn end_step<W: Sink>(&mut self, at: Role, writer: &mut W) -> Result<(), Fault>
+        ensures kept { OnOk result (W.is_marked writer.new ≡ W.is_marked writer.old) }
+        ensures tells { (cfg : Settings) (old : Option (List ℕ)) (told : List ℕ) (w next : State) → FitsWorld cfg self.old.world next (gone_after self.old.tap w next)
+            → next.transcript ≡ w.transcript ++ entered at (map plain_entry self.old.told.items)
+            → Tells old (W.contents writer.old) self.old.output told → let sayings = told_between self.old.tap w next in
             MatchResult result (λ _. Tells old (W.contents writer.new) self.new.output (told ++ sayings_text sayings)) (λ _. AppendsPrefix old (W.contents writer.new) (told ++ sayings_text sayings)) }
-        ensures world { self.new.world ≡ self.old.world }
+        ensures world { (cfg : Settings) (w next : State) → FitsWorld cfg self.old.world next (gone_after self.old.tap w next) → OnOk result (FitsWorld cfg self.new.world next (all_of next)) }
         ensures tap { self.new.tap ≡ self.old.tap }
         ensures is_refused { self.new.is_refused ≡ self.old.is_refused }
         ensures write { IsErrOf result Fault.Write → W.is_marked writer.new ≡ true }
@@ -118,32 +140,15 @@ impl Stage {
     {
         tell_entries(
             &mut self.line,
-            self.world.transcript(),
+            at,
+            self.told.as_slice(),
             &mut self.output,
             writer,
         )?;
         if !self.tap {
             return Ok(());
         }
-        tell_frames(&mut self.line, self.world.tap(), &mut self.output, writer)
-    }
-
-    /// Tells a step, and lets go of its entries and frames.
-    fn end_step<W: Sink>(&mut self, writer: &mut W) -> Result<(), Fault>
-        ensures kept { OnOk result (W.is_marked writer.new ≡ W.is_marked writer.old) }
-        ensures tells { (cfg : Settings) (old : Option (List ℕ)) (told : List ℕ) (w next : State) → FitsWorld cfg self.old.world next (all_of w)
-            → Tells old (W.contents writer.old) self.old.output told → let sayings = told_between self.old.tap w next in
-            MatchResult result (λ _. Tells old (W.contents writer.new) self.new.output (told ++ sayings_text sayings)) (λ _. AppendsPrefix old (W.contents writer.new) (told ++ sayings_text sayings)) }
-        ensures world { (cfg : Settings) (w next : State) → FitsWorld cfg self.old.world next (all_of w) → OnOk result (FitsWorld cfg self.new.world next (all_of next)) }
-        ensures tap { self.new.tap ≡ self.old.tap }
-        ensures is_refused { self.new.is_refused ≡ self.old.is_refused }
-        ensures write { IsErrOf result Fault.Write → W.is_marked writer.new ≡ true }
-        ensures memory { IsErrOf result Fault.NoMemory → W.is_marked writer.new ≡ W.is_marked writer.old }
-        ensures read { IsErrOf result Fault.Read → ⊥ }
-    {
-        self.tell_step(writer)?;
-        self.world.let_go();
-        Ok(())
+        self.end_frames(writer)
     }
 
     /// Tells that an event is refused; want of memory is a fault.
@@ -164,6 +169,7 @@ impl Stage {
     }
 
     /// An event happens, and is told, or it is told that it is refused.
+    #[inline(always)]
     pub(crate) fn happen<W: Sink>(&mut self, event: Event, writer: &mut W) -> Result<(), Fault>
         ensures kept { OnOk result (W.is_marked writer.new ≡ W.is_marked writer.old) }
         ensures turns { (cfg : Settings) (tap : Bool) (old : Option (List ℕ))
@@ -172,8 +178,8 @@ impl Stage {
         ensures memory { IsErrOf result Fault.NoMemory → W.is_marked writer.new ≡ W.is_marked writer.old }
         ensures read { IsErrOf result Fault.Read → ⊥ }
     {
-        match self.world.apply(event) {
-            Ok(()) => self.end_step(writer),
+        match self.world.step(event, self.tap, &mut self.told) {
+            Ok(()) => self.end_step(event.at(), writer),
             Err(error) => self.refuse(error, writer),
         }
     }
@@ -225,10 +231,10 @@ impl Stage {
         ensures memory { IsErrOf result Fault.NoMemory → W.is_marked writer.new ≡ W.is_marked writer.old }
         ensures read { IsErrOf result Fault.Read → ⊥ }
     {
-        if let Err(error) = self.world.apply(event) {
+        if let Err(error) = self.world.step(event, self.tap, &mut self.told) {
             return unless_memory(error);
         }
-        self.end_step(writer)
+        self.end_step(event.at(), writer)
     }
 
     /// Two events happen, each where it isn't refused.
@@ -423,6 +429,26 @@ impl Stage {
         }
     }
 
+    /// Tells the frames of the first world where they are asked for, and lets go of them.
+    fn begin<W: Sink>(&mut self, writer: &mut W) -> Result<(), Fault>
+        ensures kept { OnOk result (W.is_marked writer.new ≡ W.is_marked writer.old) }
+        ensures tells { (cfg : Settings) (down : Bool) (old : Option (List ℕ)) (told : List ℕ) → FitsWorld cfg self.old.world (opening cfg down) nothing_gone
+            → Tells old (W.contents writer.old) self.old.output told → let sayings = told_between self.old.tap start (opening cfg down) in
+            MatchResult result (λ _. Tells old (W.contents writer.new) self.new.output (told ++ sayings_text sayings)) (λ _. AppendsPrefix old (W.contents writer.new) (told ++ sayings_text sayings)) }
+        ensures world { (cfg : Settings) (w : State) (gone : Gone) → FitsWorld cfg self.old.world w gone → OnOk result (FitsWorld cfg self.new.world w (all_of w)) }
+        ensures tap { self.new.tap ≡ self.old.tap }
+        ensures is_refused { self.new.is_refused ≡ self.old.is_refused }
+        ensures write { IsErrOf result Fault.Write → W.is_marked writer.new ≡ true }
+        ensures memory { IsErrOf result Fault.NoMemory → W.is_marked writer.new ≡ W.is_marked writer.old }
+        ensures read { IsErrOf result Fault.Read → ⊥ }
+    {
+        if self.tap {
+            return self.end_frames(writer);
+        }
+        self.world.let_go();
+        Ok(())
+    }
+
     /// What the first world holds is told, and where the DTE has asked that the link be set up, its SABM and the UA are delivered, and that is
     /// told.
     pub(crate) fn open<W: Sink>(&mut self, writer: &mut W) -> Result<(), Fault>
@@ -435,7 +461,7 @@ impl Stage {
         ensures read { IsErrOf result Fault.Read → ⊥ }
     {
         two_stations_keep_order();
-        self.end_step(writer)?;
+        self.begin(writer)?;
         self.attempt_both(SABM_ARRIVES, UA_ARRIVES, writer)
     }
 }

@@ -1,14 +1,16 @@
 //! What is told of a step: a line for each entry, and for each frame where frames are asked for.
 ghost use Rattle.std.specs.Prelude.{◌≡◌, ◌++◌, true, ℕ, List, Option, OnOk, IsErrOf, MatchResult, map};
 ghost use Rattle.x25_io.specs.code.Written.{AppendsPrefix, Tells};
-ghost use Rattle.x25_world.specs.code.PlainTold.{plain_entered, plain_tapped};
+ghost use Rattle.x25_station.specs.code.PlainEntry.{plain_entry};
+ghost use Rattle.x25_world.specs.code.PlainTold.{plain_tapped};
 ghost use Rattle.x25_console.specs.Lines.{refusal_line as line_of_refusal};
-ghost use Rattle.x25_sim.specs.Sayings.{enters, taps, refusal_number as number_of_refusal, saying_line, sayings_text};
+ghost use Rattle.x25_sim.specs.Sayings.{enters_at, taps, refusal_number as number_of_refusal, saying_line, sayings_text};
 
 use x25_console::{tell, write_frame, write_refusal};
 use x25_io::{Fault, Output, Sink};
+use x25_station::Entry;
 use x25_transcript::{Line, write_entry};
-use x25_world::{Entered, Role, Tapped, WorldError};
+use x25_world::{Role, Tapped, WorldError};
 
 /// The number of a refusal, the station's own where the station refuses.
 fn refusal_number(error: WorldError) -> u8
@@ -23,19 +25,20 @@ fn refusal_number(error: WorldError) -> u8
 #[tactic(auto, unfolding(crate::specs::Sayings::saying_line))]
 fn tell_entry<W: Sink>(
     line: &mut Line,
-    entered: &Entered,
+    at: Role,
+    entry: &Entry,
     output: &mut Output,
     writer: &mut W,
 ) -> Result<(), Fault>
     ensures kept { OnOk result (W.is_marked writer.new ≡ W.is_marked writer.old) }
     ensures tells { (old : Option (List ℕ)) (told : List ℕ) → Tells old (W.contents writer.old) output.old told
-        → MatchResult result (λ _. Tells old (W.contents writer.new) output.new (told ++ saying_line (enters (plain_entered entered.now))))
-        (λ _. AppendsPrefix old (W.contents writer.new) (told ++ saying_line (enters (plain_entered entered.now)))) }
+        → MatchResult result (λ _. Tells old (W.contents writer.new) output.new (told ++ saying_line (enters_at at (plain_entry entry.now))))
+        (λ _. AppendsPrefix old (W.contents writer.new) (told ++ saying_line (enters_at at (plain_entry entry.now)))) }
     ensures write { IsErrOf result Fault.Write → W.is_marked writer.new ≡ true }
     ensures memory { IsErrOf result Fault.NoMemory → W.is_marked writer.new ≡ W.is_marked writer.old }
     ensures read { IsErrOf result Fault.Read → ⊥ }
 {
-    write_entry(entered.at, &entered.entry, line)?;
+    write_entry(at, entry, line)?;
     tell(line.as_slice(), output, writer)
 }
 
@@ -60,20 +63,21 @@ fn tell_frame<W: Sink>(
 
 pub(crate) fn tell_entries<W: Sink>(
     line: &mut Line,
-    entries: &[Entered],
+    at: Role,
+    entries: &[Entry],
     output: &mut Output,
     writer: &mut W,
 ) -> Result<(), Fault>
     ensures kept { OnOk result (W.is_marked writer.new ≡ W.is_marked writer.old) }
     ensures tells { (old : Option (List ℕ)) (told : List ℕ) → Tells old (W.contents writer.old) output.old told
-        → MatchResult result (λ _. Tells old (W.contents writer.new) output.new (told ++ sayings_text (map enters (map plain_entered entries.now))))
-        (λ _. AppendsPrefix old (W.contents writer.new) (told ++ sayings_text (map enters (map plain_entered entries.now)))) }
+        → MatchResult result (λ _. Tells old (W.contents writer.new) output.new (told ++ sayings_text (map (enters_at at) (map plain_entry entries.now))))
+        (λ _. AppendsPrefix old (W.contents writer.new) (told ++ sayings_text (map (enters_at at) (map plain_entry entries.now)))) }
     ensures write { IsErrOf result Fault.Write → W.is_marked writer.new ≡ true }
     ensures memory { IsErrOf result Fault.NoMemory → W.is_marked writer.new ≡ W.is_marked writer.old }
     ensures read { IsErrOf result Fault.Read → ⊥ }
 {
-    for entered in entries {
-        tell_entry(line, entered, output, writer)?;
+    for entry in entries {
+        tell_entry(line, at, entry, output, writer)?;
     }
     Ok(())
 }

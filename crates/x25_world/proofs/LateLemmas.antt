@@ -24,7 +24,7 @@ shares-take_more i (suc m) zero xs h = absurd (omega arith)
 shares-take_more i (suc m) (suc n) [] h = omega arith
 shares-take_more i (suc m) (suc n) (x ∷ xs) h = shares-both i x (take m xs) (take n xs) (shares-take_more i m n xs (omega arith))
 
-shares-take : (i m : ℕ) (xs : List OnLine) → shares i (take m xs) ≤ shares i xs
+pub shares-take : (i m : ℕ) (xs : List OnLine) → shares i (take m xs) ≤ shares i xs
 shares-take i zero xs = omega arith
 shares-take i (suc m) [] = omega arith
 shares-take i (suc m) (x ∷ xs) = shares-both i x (take m xs) xs (shares-take i m xs)

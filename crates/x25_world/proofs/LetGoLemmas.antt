@@ -1,13 +1,16 @@
 -- Frames on the line that take their octets with them from the tap.
-use Rattle.std.proofs.Common.{◌≡◌, ℕ, zero, suc, ◌<◌, ◌≤◌, List, [], ◌∷◌, ◌++◌, length, map, refl, ap, ◌∙◌, add-zero, arith}
+use Rattle.std.proofs.Common.{◌≡◌, ℕ, zero, suc, ◌-◌, ◌<◌, ◌≤◌, Bool, true, false, List, [], ◌∷◌, ◌++◌, length, map, refl, ap, ◌∙◌, add-zero, arith}
 use Rattle.std.proofs.Math.ListN.{set, get_or}
 use Rattle.x25_world.specs.World.{OnTap}
 use Rattle.x25_world.specs.code.PlainTold.{plain_tapped}
-use Rattle.x25_world.specs.OnLine.{octets_at, octets_of, IsOwn, shares}
+use Rattle.x25_bits.specs.declared.role.Role.{Role}
+use Rattle.x25_world.specs.code.ShownLine.{ShownLine, put_by}
+use Rattle.x25_world.specs.OnLine.{octets_at, octets_of, IsOwn, AreLate, shares}
 use Rattle.x25_world.specs.declared.told.Tapped.{Tapped}
 use Rattle.x25_world.specs.declared.on_line.OnLine.{OnLine}
 use Rattle.x25_world.specs.declared.on_line.OnLine.TheVariants as frame
 use Rattle.x25_world.proofs.OnLineLemmas.{shares-own, shares-tail, shares-append}
+use Rattle.x25_world.proofs.LateLemmas.{shares-take}
 
 -- the tap has other octets at one place
 pub elsewhere_on_tap : (tap : List Tapped) (at j : ℕ) (t : Tapped) → (j ≡ at → ⊥) → octets_at (map plain_tapped (set tap at t)) j ≡ octets_at (map plain_tapped tap) j
@@ -64,3 +67,12 @@ pub own_alike : (tap other : List OnTap) (frames : List OnLine) → ((i : ℕ) �
 own_alike tap other [] none = refl
 own_alike tap other (frame.Tapped j ∷ frames) none = let some = shares-own j frames in let e = none j in absurd (omega arith)
 own_alike tap other (frame.Own o ∷ frames) none = ap (λ (l : List (List ℕ)). o.items ∷ l) (own_alike tap other frames none)
+
+-- one more frame with octets of its own behind frames with octets of their own
+pub late_own : (n : ℕ) (xs : List OnLine) (y : OnLine) → IsOwn y → ((i : ℕ) → shares i xs ≡ 0) → AreLate n (xs ++ y ∷ [])
+late_own n xs y own none = λ i. let le = shares-take i (length (xs ++ y ∷ []) - n) (xs ++ y ∷ []) in let e = shares-push_own i xs y own in let z = none i in omega arith
+
+-- the tap is as empty as before, where no frame is put on it
+pub untapped_put : (taps : Bool) (v : ShownLine) (from : Role) (frames : List (List ℕ)) → (taps ≡ false → v.tap ≡ []) → taps ≡ false → (put_by taps v from frames).tap ≡ []
+untapped_put true v from frames empty off = cc
+untapped_put false v from frames empty off = empty refl

@@ -3,7 +3,7 @@ use Rattle.std.proofs.Common.{◌≡◌, ℕ, ◌+◌, ◌<◌, ◌≤◌, nat_l
 use Rattle.std.specs.List.{take-map}
 use Rattle.std.proofs.Math.ListN.{get_or}
 use Rattle.std.proofs.lemmas.Option.{slice_get-get_or}
-use Rattle.std.proofs.lemmas.List.{take_more, map-append, take_all, length-map, get_or-map}
+use Rattle.std.proofs.lemmas.List.{append-nil, take_more, map-append, take_all, length-map, get_or-map}
 use Rattle.x25_bits.specs.declared.role.Role.{Role}
 use Rattle.x25_bits.specs.declared.role.Role.TheVariants.{Dte, Dce}
 use Rattle.x25_link.specs.LinkStation.{awaits_ua}
@@ -22,8 +22,8 @@ use Rattle.x25_world.specs.laws.Claims.{ActsInOctets, AreInOctets, entries_at, u
 use Rattle.x25_world.proofs.Established.{connected_tells}
 use Rattle.x25_world.specs.laws.SessionClaims.{Throughout, ThroughoutAlong, MeetInStep, AreLawfulWhereMet, AreNamedInSessions, AllArrive, UnmetAreToldNothing, OpenStretchesMeet, SessionsKeepOrder}
 use Rattle.x25_world.specs.SessionWindow.{SessionsStayInWindow}
-use Rattle.x25_world.specs.code.ShownWorld.{ShownWorld, ShownSide}
-use Rattle.x25_world.specs.code.FitsWorld.{Gone, nothing_gone, FitsWorld, FitsRun, Leaves, with_gone, and_then, FitsSide, HasHappened, IsRefusal, StopsAt, RefusesConfig}
+use Rattle.x25_world.specs.code.ShownWorld.{ShownWorld, ShownSide, ShownParts}
+use Rattle.x25_world.specs.code.FitsWorld.{Gone, all_of, gone_after, nothing_gone, FitsWorld, FitsRun, Leaves, with_gone, and_then, FitsSide, FitsParts, HasHappened, IsRefusal, StopsAt, RefusesConfig}
 
 -- ---- the far end is as it was
 
@@ -50,55 +50,95 @@ acts_keep_far c w Fires = keeps_if w (awaits_ua w.near.link.phase && is_on_line 
 acts_keep_far c w (Loses place) = keeps_if w (nat_lt place (length w.back)) _ _ refl tt
 acts_keep_far c w (Damages place octets) = keeps_if w (nat_lt place (length w.back)) _ _ (keeps_if w (is_visible octets) _ _ refl tt) tt
 
+-- ---- the parts of a world
+
+abbrev pub world_with : ShownParts → ShownWorld
+world_with v = record { dte = v.dte; dce = v.dce; to_dce = v.line.to_dce; to_dte = v.line.to_dte; tap = v.line.tap; transcript = v.transcript }
+
+pub world_of : (cfg : Cfg) (v : ShownParts) (w : World) (gone : Gone) → FitsParts cfg true v w gone → FitsWorld cfg (world_with v) w gone
+world_of cfg v w gone f = record { dte = f.dte; dce = f.dce; to_dce = f.to_dce; to_dte = f.to_dte; tap = f.tap; transcript = f.transcript }
+
+-- where nothing is held of what was told before
+pub new_parts : (cfg : Cfg) (taps : Bool) (v : ShownParts) (w : World) → v.line.tap ≡ [] → FitsWorld cfg (world_with v) w (all_of w) → FitsParts cfg taps v w (all_of w)
+new_parts cfg true v w empty f = record { dte = f.dte; dce = f.dce; to_dce = f.to_dce; to_dte = f.to_dte; tap = f.tap; transcript = f.transcript }
+new_parts cfg false v w empty f = record { dte = f.dte; dce = f.dce; to_dce = f.to_dce; to_dte = f.to_dte; tap = empty; transcript = f.transcript }
+
+-- .. and what is told is handed over
+pub handed_over : (cfg : Cfg) (taps : Bool) (v : ShownParts) (before told : List AtEnd) (w next : World) → before ≡ [] → FitsParts cfg taps (record { dte = v.dte; dce = v.dce; line = v.line; transcript = before ++ told }) next (all_of w)
+    → FitsWorld cfg (world_with (record { dte = v.dte; dce = v.dce; line = v.line; transcript = before })) next (gone_after taps w next)
+handed_over cfg true v before told w next none f = record { dte = f.dte; dce = f.dce; to_dce = f.to_dce; to_dte = f.to_dte; tap = f.tap; transcript = rw none (sym (append-nil next.transcript)) }
+handed_over cfg false v before told w next none f = record { dte = f.dte; dce = f.dce; to_dce = f.to_dce; to_dte = f.to_dte; tap = rw f.tap (sym (append-nil next.tap)); transcript = rw none (sym (append-nil next.transcript)) }
+
+pub hands_over : (cfg : Cfg) (taps : Bool) (v : ShownParts) (before told : List AtEnd) (w next : World) (r : Result (Unit {0}) WorldError) → before ≡ []
+    → OnOk r (FitsParts cfg taps (record { dte = v.dte; dce = v.dce; line = v.line; transcript = before ++ told }) next (all_of w))
+    → OnOk r (FitsWorld cfg (world_with (record { dte = v.dte; dce = v.dce; line = v.line; transcript = before })) next (gone_after taps w next))
+hands_over cfg taps v before told w next (Ok x) none f = handed_over cfg taps v before told w next none f
+hands_over cfg taps v before told w next (Err e) none f = tt
+
+pub hands_told : (cfg : Cfg) (taps : Bool) (v : ShownParts) (before told : List AtEnd) (w next : World) (r : Result (Unit {0}) WorldError) → before ≡ []
+    → OnOk r (FitsParts cfg taps (record { dte = v.dte; dce = v.dce; line = v.line; transcript = before ++ told }) next (all_of w)) → OnOk r (next.transcript ≡ w.transcript ++ told)
+hands_told cfg taps v before told w next (Ok x) none f = f.transcript ∙ ap (λ l. w.transcript ++ (l ++ told)) none
+hands_told cfg taps v before told w next (Err e) none f = tt
+
+pub world_stays : (cfg : Cfg) (taps : Bool) (v : ShownParts) (w : World) (r : Result (Unit {0}) WorldError) → OnErr r (FitsParts cfg taps v w (all_of w)) → OnErr r (FitsWorld cfg (world_with v) w (all_of w))
+world_stays cfg taps v w (Ok x) f = tt
+world_stays cfg true v w (Err e) f = world_of cfg v w (all_of w) f
+world_stays cfg false v w (Err e) f = record { dte = f.dte; dce = f.dce; to_dce = f.to_dce; to_dte = f.to_dte; tap = rw f.tap (sym (append-nil w.tap)); transcript = f.transcript }
+
 -- ---- the DTE
 
 -- what the DTE's side holds, beside the DCE
-abbrev pub with_dte : ShownSide → code.Station → ShownWorld
-with_dte v dce = record { dte = v.near; dce = dce; to_dce = v.line.to_dce; to_dte = v.line.to_dte; tap = v.line.tap; transcript = v.transcript }
+abbrev pub with_dte : ShownSide → code.Station → ShownParts
+with_dte v dce = record { dte = v.near; dce = dce; line = v.line; transcript = v.transcript }
 
-dte_world : (cfg : Cfg) (v : ShownSide) (dce : code.Station) (w : World) (gone : Gone) (o : WorldOutcome) → KeepsFar w o → FitsStation (settings_from Dce cfg) dce w.far
-    → HasHappened cfg Dte v o gone → FitsWorld cfg (with_dte v dce) (after w o) gone
-dte_world cfg v dce w gone (Happened next) far fits h = record { dte = h.near; dce = rw far fits; to_dce = h.out; to_dte = h.back; tap = h.tap; transcript = h.transcript }
-dte_world cfg v dce w gone (Declined e) far fits h = absurd h
+pub dte_world : (cfg : Cfg) (taps : Bool) (v : ShownSide) (dce : code.Station) (w : World) (gone : Gone) (o : WorldOutcome) → KeepsFar w o → FitsStation (settings_from Dce cfg) dce w.far
+    → HasHappened cfg Dte taps v o gone → FitsParts cfg taps (with_dte v dce) (after w o) gone
+dte_world cfg taps v dce w gone (Happened next) far fits h = record { dte = h.near; dce = rw far fits; to_dce = h.out; to_dte = h.back; tap = h.tap; transcript = h.transcript }
+dte_world cfg taps v dce w gone (Declined e) far fits h = absurd h
 
-pub dte_happened : (cfg : Cfg) (new : ShownSide) (dce : code.Station) (w : World) (gone : Gone) (r : Result (Unit {0}) WorldError) (o : WorldOutcome) → KeepsFar w o
-    → FitsStation (settings_from Dce cfg) dce w.far → OnOk r (HasHappened cfg Dte new o gone) → OnOk r (FitsWorld cfg (with_dte new dce) (after w o) gone)
-dte_happened cfg new dce w gone (Ok x) o far fits h = dte_world cfg new dce w gone o far fits h
-dte_happened cfg new dce w gone (Err e) o far fits h = tt
+pub dte_happened : (cfg : Cfg) (taps : Bool) (new : ShownSide) (dce : code.Station) (w : World) (gone : Gone) (r : Result (Unit {0}) WorldError) (o : WorldOutcome) → KeepsFar w o
+    → FitsStation (settings_from Dce cfg) dce w.far → OnOk r (HasHappened cfg Dte taps new o gone) → OnOk r (FitsParts cfg taps (with_dte new dce) (after w o) gone)
+dte_happened cfg taps new dce w gone (Ok x) o far fits h = dte_world cfg taps new dce w gone o far fits h
+dte_happened cfg taps new dce w gone (Err e) o far fits h = tt
 
-pub dte_step : (cfg : Cfg) (new : ShownSide) (dce : code.Station) (w : World) (gone : Gone) (r : Result (Unit {0}) WorldError) (a : Act) → FitsStation (settings_from Dce cfg) dce w.far
-    → OnOk r (HasHappened cfg Dte new (acts (settings_from Dte cfg) w a) gone) → OnOk r (FitsWorld cfg (with_dte new dce) (after w (acts (settings_from Dte cfg) w a)) gone)
-dte_step cfg new dce w gone r a fits h = dte_happened cfg new dce w gone r (acts (settings_from Dte cfg) w a) (acts_keep_far (settings_from Dte cfg) w a) fits h
+pub dte_step : (cfg : Cfg) (taps : Bool) (new : ShownSide) (dce : code.Station) (w : World) (gone : Gone) (r : Result (Unit {0}) WorldError) (a : Act) → FitsStation (settings_from Dce cfg) dce w.far
+    → OnOk r (HasHappened cfg Dte taps new (acts (settings_from Dte cfg) w a) gone) → OnOk r (FitsParts cfg taps (with_dte new dce) (after w (acts (settings_from Dte cfg) w a)) gone)
+dte_step cfg taps new dce w gone r a fits h = dte_happened cfg taps new dce w gone r (acts (settings_from Dte cfg) w a) (acts_keep_far (settings_from Dte cfg) w a) fits h
+
+pub dte_stays : (cfg : Cfg) (taps : Bool) (new : ShownSide) (dce : code.Station) (w : World) (gone : Gone) (r : Result (Unit {0}) WorldError) → FitsStation (settings_from Dce cfg) dce w.far
+    → OnErr r (FitsSide cfg Dte taps new w gone) → OnErr r (FitsParts cfg taps (with_dte new dce) w gone)
+dte_stays cfg taps new dce w gone (Ok x) fits h = tt
+dte_stays cfg taps new dce w gone (Err e) fits h = record { dte = h.near; dce = fits; to_dce = h.out; to_dte = h.back; tap = h.tap; transcript = h.transcript }
 
 -- ---- the DCE
 
-abbrev pub with_dce : ShownSide → code.Station → ShownWorld
-with_dce v dte = record { dte = dte; dce = v.near; to_dce = v.line.to_dce; to_dte = v.line.to_dte; tap = v.line.tap; transcript = v.transcript }
+abbrev pub with_dce : ShownSide → code.Station → ShownParts
+with_dce v dte = record { dte = dte; dce = v.near; line = v.line; transcript = v.transcript }
 
-dce_world : (cfg : Cfg) (v : ShownSide) (dte : code.Station) (w : World) (gone : Gone) (o : WorldOutcome) → KeepsFar (swapped w) o → FitsStation (settings_from Dte cfg) dte w.near
-    → HasHappened cfg Dce v o gone → FitsWorld cfg (with_dce v dte) (after w (swapped_back o)) gone
-dce_world cfg v dte w gone (Happened next) far fits h = record { dte = rw far fits; dce = h.near; to_dce = h.back; to_dte = h.out; tap = h.tap; transcript = h.transcript }
-dce_world cfg v dte w gone (Declined e) far fits h = absurd h
+dce_world : (cfg : Cfg) (taps : Bool) (v : ShownSide) (dte : code.Station) (w : World) (gone : Gone) (o : WorldOutcome) → KeepsFar (swapped w) o → FitsStation (settings_from Dte cfg) dte w.near
+    → HasHappened cfg Dce taps v o gone → FitsParts cfg taps (with_dce v dte) (after w (swapped_back o)) gone
+dce_world cfg taps v dte w gone (Happened next) far fits h = record { dte = rw far fits; dce = h.near; to_dce = h.back; to_dte = h.out; tap = h.tap; transcript = h.transcript }
+dce_world cfg taps v dte w gone (Declined e) far fits h = absurd h
 
-pub dce_step : (cfg : Cfg) (new : ShownSide) (dte : code.Station) (w : World) (gone : Gone) (r : Result (Unit {0}) WorldError) (a : Act) → FitsStation (settings_from Dte cfg) dte w.near
-    → OnOk r (HasHappened cfg Dce new (acts (settings_from Dce cfg) (swapped w) a) gone) → OnOk r (FitsWorld cfg (with_dce new dte) (after w (swapped_back (acts (settings_from Dce cfg) (swapped w) a))) gone)
-dce_step cfg new dte w gone (Ok x) a fits h = dce_world cfg new dte w gone (acts (settings_from Dce cfg) (swapped w) a) (acts_keep_far (settings_from Dce cfg) (swapped w) a) fits h
-dce_step cfg new dte w gone (Err e) a fits h = tt
+pub dce_step : (cfg : Cfg) (taps : Bool) (new : ShownSide) (dte : code.Station) (w : World) (gone : Gone) (r : Result (Unit {0}) WorldError) (a : Act) → FitsStation (settings_from Dte cfg) dte w.near
+    → OnOk r (HasHappened cfg Dce taps new (acts (settings_from Dce cfg) (swapped w) a) gone) → OnOk r (FitsParts cfg taps (with_dce new dte) (after w (swapped_back (acts (settings_from Dce cfg) (swapped w) a))) gone)
+dce_step cfg taps new dte w gone (Ok x) a fits h = dce_world cfg taps new dte w gone (acts (settings_from Dce cfg) (swapped w) a) (acts_keep_far (settings_from Dce cfg) (swapped w) a) fits h
+dce_step cfg taps new dte w gone (Err e) a fits h = tt
 
-pub dce_stays : (cfg : Cfg) (new : ShownSide) (dte : code.Station) (w : World) (gone : Gone) (r : Result (Unit {0}) WorldError) → FitsStation (settings_from Dte cfg) dte w.near
-    → OnErr r (FitsSide cfg Dce new (swapped w) gone) → OnErr r (FitsWorld cfg (with_dce new dte) w gone)
-dce_stays cfg new dte w gone (Ok x) fits h = tt
-dce_stays cfg new dte w gone (Err e) fits h = record { dte = fits; dce = h.near; to_dce = h.back; to_dte = h.out; tap = h.tap; transcript = h.transcript }
+pub dce_stays : (cfg : Cfg) (taps : Bool) (new : ShownSide) (dte : code.Station) (w : World) (gone : Gone) (r : Result (Unit {0}) WorldError) → FitsStation (settings_from Dte cfg) dte w.near
+    → OnErr r (FitsSide cfg Dce taps new (swapped w) gone) → OnErr r (FitsParts cfg taps (with_dce new dte) w gone)
+dce_stays cfg taps new dte w gone (Ok x) fits h = tt
+dce_stays cfg taps new dte w gone (Err e) fits h = record { dte = fits; dce = h.near; to_dce = h.back; to_dte = h.out; tap = h.tap; transcript = h.transcript }
 
 -- ---- accepted and refused
 
-accepted_of : (cfg : Cfg) (at : Role) (v : ShownSide) (o : WorldOutcome) (gone : Gone) → HasHappened cfg at v o gone → refusal_of o ≡ None
-accepted_of cfg at v (Happened next) gone h = refl
-accepted_of cfg at v (Declined e) gone h = absurd h
+accepted_of : (cfg : Cfg) (at : Role) (taps : Bool) (v : ShownSide) (o : WorldOutcome) (gone : Gone) → HasHappened cfg at taps v o gone → refusal_of o ≡ None
+accepted_of cfg at taps v (Happened next) gone h = refl
+accepted_of cfg at taps v (Declined e) gone h = absurd h
 
-pub is_accepted : (cfg : Cfg) (at : Role) (v : ShownSide) (o : WorldOutcome) (gone : Gone) (r : Result (Unit {0}) WorldError) → OnOk r (HasHappened cfg at v o gone) → OnOk r (refusal_of o ≡ None)
-is_accepted cfg at v o gone (Ok x) h = accepted_of cfg at v o gone h
-is_accepted cfg at v o gone (Err e) h = tt
+pub is_accepted : (cfg : Cfg) (at : Role) (taps : Bool) (v : ShownSide) (o : WorldOutcome) (gone : Gone) (r : Result (Unit {0}) WorldError) → OnOk r (HasHappened cfg at taps v o gone) → OnOk r (refusal_of o ≡ None)
+is_accepted cfg at taps v o gone (Ok x) h = accepted_of cfg at taps v o gone h
+is_accepted cfg at taps v o gone (Err e) h = tt
 
 pub refusal-swapped : (o : WorldOutcome) → refusal_of (swapped_back o) ≡ refusal_of o
 refusal-swapped (Happened next) = refl
@@ -107,6 +147,11 @@ refusal-swapped (Declined e) = refl
 pub swapped_accepted : (o : WorldOutcome) (r : Result (Unit {0}) WorldError) → OnOk r (refusal_of o ≡ None) → OnOk r (refusal_of (swapped_back o) ≡ None)
 swapped_accepted o (Ok x) h = refusal-swapped o ∙ h
 swapped_accepted o (Err e) h = tt
+
+pub dte_refused : (cfg : Cfg) (w : World) (e : Event) (r : Result (Unit {0}) WorldError) → e.at ≡ Dte
+    → IfErr r (λ x. (refusal_of (acts (settings_from Dte cfg) w e.act) ≡ Some x) ⊎ (x ≡ error.NoMemory)) → IfErr r (IsRefusal cfg w e)
+dte_refused cfg w e (Ok x) at h = tt
+dte_refused cfg w e (Err x) at h = rw at h
 
 pub dce_refused : (cfg : Cfg) (w : World) (e : Event) (r : Result (Unit {0}) WorldError) → e.at ≡ Dce
     → IfErr r (λ x. (refusal_of (acts (settings_from Dce cfg) (swapped w) e.act) ≡ Some x) ⊎ (x ≡ error.NoMemory)) → IfErr r (IsRefusal cfg w e)

@@ -1,5 +1,5 @@
 //! What happens at one end, and on the line to it.
-ghost use Rattle.std.specs.Prelude.{◌≡◌, ◌&&◌, List, ◌+◌, ◌≤◌, ◌++◌, ◌⊎◌, length, map, vec_len, vec_capacity, IfErr, OnOk, OnErr, IsErrOf};
+ghost use Rattle.std.specs.Prelude.{◌≡◌, ◌&&◌, List, ◌+◌, ◌≤◌, ◌++◌, ◌⊎◌, Bool, false, [], length, map, vec_len, vec_capacity, IfErr, OnOk, OnErr, IsErrOf};
 ghost use Rattle.x25_link.specs.LinkStation.{awaits_ua};
 ghost use Rattle.x25_line.specs.Stations.{is_visible};
 ghost use Rattle.x25_station.specs.Command.{command_of};
@@ -13,36 +13,67 @@ ghost use Rattle.x25_world.specs.World as definition;
 ghost use Rattle.x25_world.specs.World.{AtEnd, Happened, Declined, of_station, delivered, is_on_line, fired, on_line, lost, damaged, acts, entered, event_of};
 ghost use Rattle.x25_world.specs.code.PlainTold.{plain_entered};
 ghost use Rattle.x25_world.specs.code.ShownLine.{put_by, line_to, with_line_to};
-ghost use Rattle.x25_world.specs.code.FitsWorld.{Gone, FitsSide, HasActed, TakesMemory};
+ghost use Rattle.x25_world.specs.code.FitsWorld.{Gone, FitsSide, FitsParts, HasActed, HasActedAt, TakesMemory, most_told};
 
 use crate::error::WorldError;
 use crate::event::Event;
 use crate::line::Line;
 use crate::set_up::is_on_line;
 use crate::told::Entered;
+use std::mem;
 use x25_bits::{Role, check};
-use x25_station::{Cmd, MOST_ENTRIES, MOST_FRAMES, Station, Step};
+use x25_station::{Cmd, Entry, MOST_ENTRIES, MOST_FRAMES, Station, Step};
 
-/// The event happens at the end, or on the line to it. Refused with the one ground that applies, 50, 51, 52, 53 or 54, or with 70; all is as
-/// before then.
-pub fn act(
+/// The event happens at its end, or on the line to it, and what it tells comes into the list, which is empty before. With `taps` its frames are put on
+/// the tap. Refused with the one ground that applies, 50, 51, 52, 53 or 54, or with 70; all is as before then.
+#[inline(always)]
+pub fn act_at_end(
+    dte: &mut Station,
+    dce: &mut Station,
+    line: &mut Line,
+    taps: bool,
+    told: &mut Vec<Entry>,
+    event: Event,
+) -> Result<(), WorldError>
+    requires empty { told.old.items ≡ [] }
+    requires untapped { taps ≡ false → line.old.tap ≡ [] }
+    ensures few { vec_len told.new ≤ most_told (event_of event.entry).act }
+    ensures memory { IsErrOf result WorldError.NoMemory → TakesMemory (event_of event.entry).act }
+    ensures acted { (cfg : Cfg) (w : definition.World) (gone : Gone) (before : List AtEnd) →
+        FitsParts cfg taps (record { dte = dte.old; dce = dce.old; line = line.old; transcript = before }) w gone →
+        HasActedAt cfg taps (record { dte = dte.new; dce = dce.new; line = line.new; transcript = before }) (entered (event_of event.entry).at (map plain_entry told.new.items)) result w gone (event_of event.entry) }
+{
+    match event.at() {
+        Role::Dte => act(Role::Dte, dte, line, taps, told, event),
+        Role::Dce => act(Role::Dce, dce, line, taps, told, event),
+    }
+}
+
+// The event happens at the end, or on the line to it. Refused with the one ground that applies, 50, 51, 52, 53 or 54, or with 70; all is as
+// before then.
+#[inline(always)]
+fn act(
     at: Role,
     near: &mut Station,
     line: &mut Line,
-    transcript: &mut Vec<Entered>,
+    taps: bool,
+    told: &mut Vec<Entry>,
     event: Event,
 ) -> Result<(), WorldError>
+    requires empty { told.old.items ≡ [] }
+    requires untapped { taps ≡ false → line.old.tap ≡ [] }
+    ensures few { vec_len told.new ≤ most_told (event_of event.entry).act }
     ensures memory { IsErrOf result WorldError.NoMemory → TakesMemory (event_of event.entry).act }
-    ensures acted { (cfg : Cfg) (w : definition.World) (gone : Gone) →
-        FitsSide cfg at (record { near = near.old; line = line.old; transcript = map plain_entered transcript.old.items }) w gone →
-        HasActed cfg at (record { near = near.new; line = line.new; transcript = map plain_entered transcript.new.items }) result w gone (acts (settings_from at cfg) w (event_of event.entry).act) }
+    ensures acted { (cfg : Cfg) (w : definition.World) (gone : Gone) (before : List AtEnd) →
+        FitsSide cfg at taps (record { near = near.old; line = line.old; transcript = before }) w gone →
+        HasActed cfg at taps (record { near = near.new; line = line.new; transcript = before }) (entered at (map plain_entry told.new.items)) result w gone (acts (settings_from at cfg) w (event_of event.entry).act) }
 {
     match event {
-        Event::Command(_, cmd) => command(at, near, line, transcript, cmd),
-        Event::Deliver(_) => deliver(at, near, line, transcript),
+        Event::Command(_, cmd) => command(at, near, line, taps, told, cmd),
+        Event::Deliver(_) => deliver(at, near, line, taps, told),
         Event::Lose(_, place) => lose(at, line, place),
         Event::Damage(_, place, octets) => damage(at, line, place, octets),
-        Event::T1(_) => fire(at, near, line, transcript),
+        Event::T1(_) => fire(at, near, line, taps, told),
     }
 }
 
@@ -51,17 +82,21 @@ fn command(
     at: Role,
     near: &mut Station,
     line: &mut Line,
-    transcript: &mut Vec<Entered>,
+    taps: bool,
+    told: &mut Vec<Entry>,
     cmd: Cmd,
 ) -> Result<(), WorldError>
-    ensures { (cfg : Cfg) (w : definition.World) (gone : Gone) →
-        FitsSide cfg at (record { near = near.old; line = line.old; transcript = map plain_entered transcript.old.items }) w gone →
-        HasActed cfg at (record { near = near.new; line = line.new; transcript = map plain_entered transcript.new.items }) result w gone (of_station (settings_from at cfg) w (commands (settings_from at cfg) w.near (command_of cmd.entry))) }
+    requires empty { told.old.items ≡ [] }
+    requires untapped { taps ≡ false → line.old.tap ≡ [] }
+    ensures few { vec_len told.new ≤ 3 }
+    ensures acted { (cfg : Cfg) (w : definition.World) (gone : Gone) (before : List AtEnd) →
+        FitsSide cfg at taps (record { near = near.old; line = line.old; transcript = before }) w gone →
+        HasActed cfg at taps (record { near = near.new; line = line.new; transcript = before }) (entered at (map plain_entry told.new.items)) result w gone (of_station (settings_from at cfg) w (commands (settings_from at cfg) w.near (command_of cmd.entry))) }
 {
-    make_room(line, transcript)?;
+    make_room(line)?;
     match near.command(cmd) {
         Ok(step) => {
-            tell(at, near, line, transcript, step);
+            tell(at, near, line, taps, told, step);
             Ok(())
         }
         Err(error) => Err(WorldError::of_station(error)),
@@ -73,13 +108,17 @@ fn deliver(
     at: Role,
     near: &mut Station,
     line: &mut Line,
-    transcript: &mut Vec<Entered>,
+    taps: bool,
+    told: &mut Vec<Entry>,
 ) -> Result<(), WorldError>
-    ensures { (cfg : Cfg) (w : definition.World) (gone : Gone) →
-        FitsSide cfg at (record { near = near.old; line = line.old; transcript = map plain_entered transcript.old.items }) w gone →
-        HasActed cfg at (record { near = near.new; line = line.new; transcript = map plain_entered transcript.new.items }) result w gone (delivered (settings_from at cfg) w w.back) }
+    requires empty { told.old.items ≡ [] }
+    requires untapped { taps ≡ false → line.old.tap ≡ [] }
+    ensures few { vec_len told.new ≤ 3 }
+    ensures acted { (cfg : Cfg) (w : definition.World) (gone : Gone) (before : List AtEnd) →
+        FitsSide cfg at taps (record { near = near.old; line = line.old; transcript = before }) w gone →
+        HasActed cfg at taps (record { near = near.new; line = line.new; transcript = before }) (entered at (map plain_entry told.new.items)) result w gone (delivered (settings_from at cfg) w w.back) }
 {
-    make_room(line, transcript)?;
+    make_room(line)?;
     let Some(octets) = line.get(at, 0) else {
         return Err(WorldError::Empty);
     };
@@ -87,7 +126,7 @@ fn deliver(
         Ok(step) => {
             let octets = line.remove(at, 0);
             give_back(near, octets);
-            tell(at, near, line, transcript, step);
+            tell(at, near, line, taps, told, step);
             Ok(())
         }
         Err(error) => Err(WorldError::of_station(error)),
@@ -95,6 +134,7 @@ fn deliver(
 }
 
 // The memory of a frame that came, where nothing else holds it, serves frames that the end sends later.
+#[inline(always)]
 fn give_back(near: &mut Station, octets: Option<Vec<u8>>)
     ensures { (c : Settings) (s : StationState) → FitsStation c near.old s → FitsStation c near.new s }
 {
@@ -108,19 +148,23 @@ fn fire(
     at: Role,
     near: &mut Station,
     line: &mut Line,
-    transcript: &mut Vec<Entered>,
+    taps: bool,
+    told: &mut Vec<Entry>,
 ) -> Result<(), WorldError>
-    ensures { (cfg : Cfg) (w : definition.World) (gone : Gone) →
-        FitsSide cfg at (record { near = near.old; line = line.old; transcript = map plain_entered transcript.old.items }) w gone →
-        HasActed cfg at (record { near = near.new; line = line.new; transcript = map plain_entered transcript.new.items }) result w gone (fired (settings_from at cfg) w) }
+    requires empty { told.old.items ≡ [] }
+    requires untapped { taps ≡ false → line.old.tap ≡ [] }
+    ensures few { vec_len told.new ≤ 3 }
+    ensures acted { (cfg : Cfg) (w : definition.World) (gone : Gone) (before : List AtEnd) →
+        FitsSide cfg at taps (record { near = near.old; line = line.old; transcript = before }) w gone →
+        HasActed cfg at taps (record { near = near.new; line = line.new; transcript = before }) (entered at (map plain_entry told.new.items)) result w gone (fired (settings_from at cfg) w) }
 {
     if awaits_frames(at, near, line) {
         return Err(WorldError::OnLine);
     }
-    make_room(line, transcript)?;
+    make_room(line)?;
     match near.t1() {
         Ok(step) => {
-            tell(at, near, line, transcript, step);
+            tell(at, near, line, taps, told, step);
             Ok(())
         }
         Err(error) => Err(WorldError::of_station(error)),
@@ -129,7 +173,7 @@ fn fire(
 
 // Whether UA is awaited, and can still come by frames that are on the line.
 fn awaits_frames(at: Role, near: &Station, line: &Line) -> bool
-    ensures { (cfg : Cfg) (w : definition.World) (transcript : List AtEnd) (gone : Gone) → FitsSide cfg at (record { near = near.now; line = line.now; transcript = transcript }) w gone →
+    ensures { (cfg : Cfg) (w : definition.World) (taps : Bool) (transcript : List AtEnd) (gone : Gone) → FitsSide cfg at taps (record { near = near.now; line = line.now; transcript = transcript }) w gone →
         result ≡ (awaits_ua w.near.link.phase && is_on_line (settings_from at cfg) w) }
 {
     near.awaits_ua() && is_on_line(at, line)
@@ -140,55 +184,83 @@ pub fn connect(
     at: Role,
     near: &mut Station,
     line: &mut Line,
-    transcript: &mut Vec<Entered>,
+    taps: bool,
+    told: &mut Vec<Entry>,
 ) -> Result<(), WorldError>
-    ensures { (cfg : Cfg) (w : definition.World) (gone : Gone) →
-        FitsSide cfg at (record { near = near.old; line = line.old; transcript = map plain_entered transcript.old.items }) w gone →
-        HasActed cfg at (record { near = near.new; line = line.new; transcript = map plain_entered transcript.new.items }) result w gone (of_station (settings_from at cfg) w (connects (settings_from at cfg) w.near)) }
+    requires empty { told.old.items ≡ [] }
+    requires untapped { taps ≡ false → line.old.tap ≡ [] }
+    ensures few { vec_len told.new ≤ 3 }
+    ensures acted { (cfg : Cfg) (w : definition.World) (gone : Gone) (before : List AtEnd) →
+        FitsSide cfg at taps (record { near = near.old; line = line.old; transcript = before }) w gone →
+        HasActed cfg at taps (record { near = near.new; line = line.new; transcript = before }) (entered at (map plain_entry told.new.items)) result w gone (of_station (settings_from at cfg) w (connects (settings_from at cfg) w.near)) }
 {
-    make_room(line, transcript)?;
+    make_room(line)?;
     match near.connect() {
         Ok(step) => {
-            tell(at, near, line, transcript, step);
+            tell(at, near, line, taps, told, step);
             Ok(())
         }
         Err(error) => Err(WorldError::of_station(error)),
     }
 }
 
-// Room for what a step of a station answers.
-fn make_room(line: &mut Line, transcript: &mut Vec<Entered>) -> Result<(), WorldError>
+// Room for the frames that a step of a station answers.
+fn make_room(line: &mut Line) -> Result<(), WorldError>
     ensures frames { OnOk result (17 ≤ line.new.room) }
-    ensures entries { OnOk result (vec_len transcript.new + 3 ≤ vec_capacity transcript.new) }
     ensures line { line.new ≡ record line.old { room = line.new.room } }
-    ensures transcript { transcript.new.items ≡ transcript.old.items }
     ensures refused { IfErr result (λ e. e ≡ WorldError.NoMemory) }
 {
-    if line.reserve(MOST_FRAMES).is_err() || transcript.reserve(MOST_ENTRIES).is_err() {
+    if line.reserve(MOST_FRAMES).is_err() {
         return Err(WorldError::NoMemory);
     }
     Ok(())
 }
 
-// What a step answers goes on the line and on the tap, and into the transcript, in room that there is. Its lists are given back.
+// What a step answers goes on the line, with `taps` on the tap too, in room that there is, and its entries into the list. Its lists are given back.
+#[inline(always)]
 fn tell(
     at: Role,
     near: &mut Station,
     line: &mut Line,
-    transcript: &mut Vec<Entered>,
+    taps: bool,
+    told: &mut Vec<Entry>,
     mut step: Step,
 )
     requires frames { vec_len step.frames ≤ line.old.room }
-    requires entries { vec_len transcript.old + vec_len step.entries ≤ vec_capacity transcript.old }
-    ensures line { line.new ≡ put_by line.old at (map (λ frame. frame.items) step.frames.items) }
-    ensures transcript { map plain_entered transcript.new.items ≡ map plain_entered transcript.old.items ++ entered at (map plain_entry step.entries.items) }
+    requires untapped { taps ≡ false → line.old.tap ≡ [] }
+    ensures line { line.new ≡ put_by taps line.old at (map (λ frame. frame.items) step.frames.items) }
+    ensures told { told.new ≡ step.entries }
     ensures near { (c : Settings) (s : StationState) → FitsStation c near.old s → FitsStation c near.new s }
 {
-    line.put(at, &mut step.frames);
-    for entry in step.entries.drain(..) {
+    line.put(at, taps, &mut step.frames);
+    mem::swap(told, &mut step.entries);
+    near.give_back(step);
+}
+
+/// Room for what an event tells, for which what is lost takes none.
+pub fn make_room_to_enter(transcript: &mut Vec<Entered>, event: Event) -> Result<(), WorldError>
+    ensures room { OnOk result (vec_len transcript.new + most_told (event_of event.entry).act ≤ vec_capacity transcript.new) }
+    ensures items { transcript.new.items ≡ transcript.old.items }
+    ensures refused { IfErr result (λ e. e ≡ WorldError.NoMemory) }
+    ensures memory { OnErr result (TakesMemory (event_of event.entry).act) }
+{
+    if !event.takes_memory() {
+        return Ok(());
+    }
+    if transcript.reserve(MOST_ENTRIES).is_err() {
+        return Err(WorldError::NoMemory);
+    }
+    Ok(())
+}
+
+/// What an end told comes into the transcript, in room that there is.
+pub fn enter(at: Role, told: &mut Vec<Entry>, transcript: &mut Vec<Entered>)
+    requires room { vec_len transcript.old + vec_len told.old ≤ vec_capacity transcript.old }
+    ensures { map plain_entered transcript.new.items ≡ map plain_entered transcript.old.items ++ entered at (map plain_entry told.old.items) }
+{
+    for entry in told.drain(..) {
         transcript.push_reserved(Entered { at, entry });
     }
-    near.give_back(step);
 }
 
 // The frame at this place on the line to the end is lost.

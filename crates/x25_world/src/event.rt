@@ -1,4 +1,4 @@
-ghost use Rattle.std.specs.Prelude.{◌≡◌};
+ghost use Rattle.std.specs.Prelude.{◌≡◌, false, IsTrue};
 
 use x25_bits::Role;
 use x25_line::Direction;
@@ -27,9 +27,11 @@ pub const UA_ARRIVES: Event = Event::Deliver(Direction::ToDte);
 
 impl<'a> Event<'a> {
     ghost use Rattle.x25_world.specs.World.{event_of};
+    ghost use Rattle.x25_world.specs.code.FitsWorld.{TakesMemory, most_told};
 
     /// The end at which it happens, or that its direction leads to.
-    pub(crate) fn at(self) -> Role
+    #[inline(always)]
+    pub fn at(self) -> Role
         ensures { result ≡ (event_of self.entry).at }
     {
         match self {
@@ -38,5 +40,13 @@ impl<'a> Event<'a> {
             | Event::Lose(direction, _)
             | Event::Damage(direction, _, _) => direction.end(),
         }
+    }
+
+    /// Whether it takes memory, which what is lost doesn't.
+    pub(crate) fn takes_memory(self) -> bool
+        ensures takes { IsTrue result → TakesMemory (event_of self.entry).act }
+        ensures tells { result ≡ false → most_told (event_of self.entry).act ≡ 0 }
+    {
+        !matches!(self, Event::Lose(_, _))
     }
 }

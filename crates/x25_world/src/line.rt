@@ -1,4 +1,4 @@
-ghost use Rattle.std.specs.Prelude.{◌≡◌, ℕ, ◌+◌, ◌<◌, ◌≤◌, ◌++◌, [], length, map, remove, OnOk, OnErr, List, ◌∷◌, All, option_copied, slice_get, slice_set, take, vec_len, vec_capacity};
+ghost use Rattle.std.specs.Prelude.{◌≡◌, ℕ, ◌+◌, ◌<◌, ◌≤◌, ◌++◌, [], length, map, remove, OnOk, OnErr, List, ◌∷◌, true, false, All, option_copied, slice_get, slice_set, take, vec_len, vec_capacity};
 ghost use Rattle.x25_line.specs.Stations.{replaced};
 ghost use Rattle.x25_world.specs.code.ShownLine.{ShownLine, line_to, with_line_to, put_by};
 ghost use Rattle.x25_world.specs.code.PlainTold.{plain_tapped};
@@ -87,24 +87,52 @@ impl Line {
         Ok(())
     }
 
-    /// An end puts frames on the line, in room that there is, and leaves their list empty.
-    pub fn put(&mut self, from: Role, frames: &mut Vec<Vec<u8>>)
+    /// An end puts frames on the line, with `taps` on the tap too, in room that there is, and leaves their list empty.
+    pub fn put(&mut self, from: Role, taps: bool, frames: &mut Vec<Vec<u8>>)
         requires room { vec_len frames.old ≤ self.old.room }
-        ensures { self.new ≡ put_by self.old from (map (λ frame. frame.items) frames.old.items) }
+        requires untapped { taps ≡ false → self.old.tap ≡ [] }
+        ensures { self.new ≡ put_by taps self.old from (map (λ frame. frame.items) frames.old.items) }
     {
         for octets in frames.drain(..) {
-            self.put_one(from, octets);
+            self.put_one(from, taps, octets);
         }
     }
 
-    fn put_one(&mut self, from: Role, octets: Vec<u8>)
+    #[inline(always)]
+    fn put_one(&mut self, from: Role, taps: bool, octets: Vec<u8>)
         requires room { 0 < self.old.room }
-        ensures { self.new ≡ put_by self.old from (octets.items ∷ []) }
+        requires untapped { taps ≡ false → self.old.tap ≡ [] }
+        ensures { self.new ≡ put_by taps self.old from (octets.items ∷ []) }
+    {
+        if taps {
+            self.put_tapped(from, octets);
+        } else {
+            self.put_untapped(from, octets);
+        }
+    }
+
+    fn put_tapped(&mut self, from: Role, octets: Vec<u8>)
+        requires room { 0 < self.old.room }
+        ensures { self.new ≡ put_by true self.old from (octets.items ∷ []) }
     {
         self.room -= 1;
         match from {
             Role::Dte => share(&mut self.to_dce, &mut self.tap, from, octets),
             Role::Dce => share(&mut self.to_dte, &mut self.tap, from, octets),
+        }
+    }
+
+    // The frame keeps octets of its own, since no tap holds them.
+    #[inline(always)]
+    fn put_untapped(&mut self, from: Role, octets: Vec<u8>)
+        requires room { 0 < self.old.room }
+        requires empty { self.old.tap ≡ [] }
+        ensures { self.new ≡ put_by false self.old from (octets.items ∷ []) }
+    {
+        self.room -= 1;
+        match from {
+            Role::Dte => self.to_dce.push_back_reserved(OnLine::Own(octets)),
+            Role::Dce => self.to_dte.push_back_reserved(OnLine::Own(octets)),
         }
     }
 
@@ -156,12 +184,18 @@ impl Line {
     }
 
     /// Lets go of all that the tap holds. What is on the line stays there.
+    #[inline(always)]
     pub fn let_go(&mut self)
         ensures { self.new ≡ record self.old { tap = [] } }
     {
-        if self.tap.is_empty() {
-            return;
+        if !self.tap.is_empty() {
+            self.let_go_of_frames();
         }
+    }
+
+    fn let_go_of_frames(&mut self)
+        ensures { self.new ≡ record self.old { tap = [] } }
+    {
         own_all(&mut self.to_dce, &mut self.tap, self.alloc);
         own_all(&mut self.to_dte, &mut self.tap, self.alloc);
         self.tap.clear();

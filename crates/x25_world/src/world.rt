@@ -1,21 +1,22 @@
-ghost use Rattle.std.specs.Prelude.{◌≡◌, List, [], length, map, slice_get, OnOk, OnErr, IfOk, IfErr, IfSome, IsErrOf};
+ghost use Rattle.std.specs.Prelude.{◌≡◌, List, [], ◌++◌, length, map, slice_get, OnOk, OnErr, IfOk, IfErr, IfSome, IsErrOf};
 ghost use Rattle.x25_station.specs.declared.config.Cfg.{Cfg};
 ghost use Rattle.x25_station.specs.code.FitsStation.{FitsStation};
+ghost use Rattle.x25_station.specs.code.PlainEntry.{plain_entry};
 ghost use Rattle.x25_station.specs.Settings.{settings_from, config_refusal};
 ghost use Rattle.x25_station.specs.Station as station;
 ghost use Rattle.x25_bits.specs.Harmless.{IsHarmless};
 ghost use Rattle.x25_world.specs.BitDamage.{bit_damage, RefusesBits};
 ghost use Rattle.x25_world.specs.code.PlainTold.{plain_tapped, plain_entered};
 ghost use Rattle.x25_world.specs.code.ShownWorld.{line_of, station_of};
-ghost use Rattle.x25_world.specs.code.FitsWorld.{Gone, all_of, nothing_gone, FitsWorld, FitsRun, Leaves, and_then, and_all, HoldsAfter, HoldsAfterSetUp, HoldsThroughout, GoesOnThroughout, UpOnceAfter, IsRefusal, TakesMemory, StopsAt, RefusesConfig};
+ghost use Rattle.x25_world.specs.code.FitsWorld.{Gone, all_of, gone_after, nothing_gone, FitsWorld, FitsRun, Leaves, and_then, and_all, HoldsAfter, HoldsAfterSetUp, HoldsThroughout, GoesOnThroughout, UpOnceAfter, IsRefusal, TakesMemory, StopsAt, RefusesConfig};
 ghost use Rattle.x25_world.specs.laws.Claims.{IsLawful, IsNamed, ArrivesAll, HasNoProcedureError, IsUpOnce};
 ghost use Rattle.x25_world.specs.WindowGoes.{StaysInWindow};
 ghost use Rattle.x25_world.specs.laws.SessionClaims.{SessionsKeepOrder};
 ghost use Rattle.x25_world.specs.SessionWindow.{SessionsStayInWindow};
 ghost use Rattle.x25_world.specs.World as definition;
-ghost use Rattle.x25_world.specs.World.{event_of, happens, after, refusal_of, run, AreAccepted, start, connected, established};
+ghost use Rattle.x25_world.specs.World.{entered, event_of, happens, after, refusal_of, run, AreAccepted, start, connected, established};
 
-use crate::acting::{act, connect};
+use crate::acting::{act_at_end, connect, enter, make_room_to_enter};
 use crate::bit_damage::octets_of_damage;
 use crate::error::{WorldError, WorldRefused};
 use crate::event::{Event, SABM_ARRIVES, UA_ARRIVES};
@@ -26,7 +27,7 @@ use std::alloc::Global;
 use std::marker::Model;
 use x25_bits::{Bits, Role};
 use x25_line::Direction;
-use x25_station::{Cfg, Station, StationError};
+use x25_station::{Cfg, Entry, MOST_ENTRIES, Station, StationError};
 
 /// Two stations, the line between them, its tap, and the transcript of both ends.
 ///
@@ -38,6 +39,8 @@ pub struct World {
     dce: Station,
     line: Line,
     transcript: Vec<Entered>,
+    // What the event that happens tells.
+    told: Vec<Entry>,
 }
 
 impl Model for World {
@@ -72,6 +75,7 @@ impl World {
             dce: new_station(alloc, Role::Dce, cfg)?,
             line: Line::new(alloc),
             transcript: Vec::new(alloc),
+            told: Vec::new(alloc),
         })
     }
 
@@ -101,12 +105,21 @@ impl World {
         ensures fits { (cfg : Cfg) → FitsWorld cfg self.old start nothing_gone → OnOk result (FitsWorld cfg self.new (connected cfg) nothing_gone) }
         ensures refused { (cfg : Cfg) → FitsWorld cfg self.old start nothing_gone → IfErr result (λ e. e ≡ WorldError.NoMemory) }
     {
-        connect(
+        if self.transcript.reserve(MOST_ENTRIES).is_err() {
+            return Err(WorldError::NoMemory);
+        }
+        self.told.clear();
+        if let Err(error) = connect(
             Role::Dte,
             &mut self.dte,
             &mut self.line,
-            &mut self.transcript,
-        )
+            true,
+            &mut self.told,
+        ) {
+            return Err(error);
+        }
+        enter(Role::Dte, &mut self.told, &mut self.transcript);
+        Ok(())
     }
 
     /// Two stations whose link was just set up: the DTE has asked, SABM and UA were delivered, and both RESTARTs are on the line.
@@ -219,22 +232,75 @@ impl World {
         ensures stays { (cfg : Cfg) (w : definition.World) (gone : Gone) → FitsWorld cfg self.old w gone → OnErr result (FitsWorld cfg self.new w gone) }
         ensures memory { IsErrOf result WorldError.NoMemory → TakesMemory (event_of event.entry).act }
     {
-        match event.at() {
-            Role::Dte => act(
-                Role::Dte,
-                &mut self.dte,
-                &mut self.line,
-                &mut self.transcript,
-                event,
-            ),
-            Role::Dce => act(
-                Role::Dce,
-                &mut self.dce,
-                &mut self.line,
-                &mut self.transcript,
-                event,
-            ),
+        make_room_to_enter(&mut self.transcript, event)?;
+        self.told.clear();
+        if let Err(error) = act_at_end(
+            &mut self.dte,
+            &mut self.dce,
+            &mut self.line,
+            true,
+            &mut self.told,
+            event,
+        ) {
+            return Err(error);
         }
+        enter(event.at(), &mut self.told, &mut self.transcript);
+        Ok(())
+    }
+
+    /// Lets go of what was told, as `let_go` does, and then lets the event happen, as `apply` does; but the entries that it tells come into the list, in
+    /// place of what was there and of the transcript, and its frames are held on the tap with `taps` alone.
+    ///
+    /// Refused as by `apply`; only what was told is let go of then.
+    #[inline(always)]
+    pub fn step(
+        &mut self,
+        event: Event,
+        taps: bool,
+        told: &mut Vec<Entry>,
+    ) -> Result<(), WorldError>
+        ensures step { (cfg : Cfg) (w : definition.World) (gone : Gone) → FitsWorld cfg self.old w gone →
+            (let next = after w (happens cfg w (event_of event.entry)) in OnOk result (FitsWorld cfg self.new next (gone_after taps w next))) }
+        ensures told { (cfg : Cfg) (w : definition.World) (gone : Gone) → FitsWorld cfg self.old w gone →
+            OnOk result ((after w (happens cfg w (event_of event.entry))).transcript ≡ w.transcript ++ entered (event_of event.entry).at (map plain_entry told.new.items)) }
+        ensures accepted { (cfg : Cfg) (w : definition.World) (gone : Gone) → FitsWorld cfg self.old w gone → OnOk result (refusal_of (happens cfg w (event_of event.entry)) ≡ None) }
+        ensures refused { (cfg : Cfg) (w : definition.World) (gone : Gone) → FitsWorld cfg self.old w gone → IfErr result (IsRefusal cfg w (event_of event.entry)) }
+        ensures stays { (cfg : Cfg) (w : definition.World) (gone : Gone) → FitsWorld cfg self.old w gone → OnErr result (FitsWorld cfg self.new w (all_of w)) }
+        ensures memory { IsErrOf result WorldError.NoMemory → TakesMemory (event_of event.entry).act }
+    {
+        self.let_go();
+        empty(told);
+        self.happen_untold(event, taps, told)
+    }
+
+    // The event happens where nothing is held of what was told before, and what it tells comes into the list, which is empty before.
+    #[inline(always)]
+    fn happen_untold(
+        &mut self,
+        event: Event,
+        taps: bool,
+        told: &mut Vec<Entry>,
+    ) -> Result<(), WorldError>
+        requires empty { told.old.items ≡ [] }
+        requires untapped { self.old.tap ≡ [] }
+        requires untold { self.old.transcript ≡ [] }
+        ensures step { (cfg : Cfg) (w : definition.World) → FitsWorld cfg self.old w (all_of w) →
+            (let next = after w (happens cfg w (event_of event.entry)) in OnOk result (FitsWorld cfg self.new next (gone_after taps w next))) }
+        ensures told { (cfg : Cfg) (w : definition.World) → FitsWorld cfg self.old w (all_of w) →
+            OnOk result ((after w (happens cfg w (event_of event.entry))).transcript ≡ w.transcript ++ entered (event_of event.entry).at (map plain_entry told.new.items)) }
+        ensures accepted { (cfg : Cfg) (w : definition.World) → FitsWorld cfg self.old w (all_of w) → OnOk result (refusal_of (happens cfg w (event_of event.entry)) ≡ None) }
+        ensures refused { (cfg : Cfg) (w : definition.World) → FitsWorld cfg self.old w (all_of w) → IfErr result (IsRefusal cfg w (event_of event.entry)) }
+        ensures stays { (cfg : Cfg) (w : definition.World) → FitsWorld cfg self.old w (all_of w) → OnErr result (FitsWorld cfg self.new w (all_of w)) }
+        ensures memory { IsErrOf result WorldError.NoMemory → TakesMemory (event_of event.entry).act }
+    {
+        act_at_end(
+            &mut self.dte,
+            &mut self.dce,
+            &mut self.line,
+            taps,
+            told,
+            event,
+        )
     }
 
     /// Lets the events happen in order, as by `apply`, up to the first that is refused. The events before it were accepted, and stand.
@@ -311,13 +377,26 @@ impl World {
     }
 
     /// Lets go of what was told: tap and transcript begin anew. The line and the stations are as before.
+    #[inline(always)]
     pub fn let_go(&mut self)
         ensures fits { (cfg : Cfg) (w : definition.World) (gone : Gone) → FitsWorld cfg self.old w gone → FitsWorld cfg self.new w (all_of w) }
         ensures run { (cfg : Cfg) (from : definition.World) (past : List definition.Event) (gone : Gone) → FitsRun cfg from self.old past gone → FitsRun cfg from self.new past (all_of (run cfg past from)) }
         ensures empty { self.new ≡ record self.old { tap = []; transcript = [] } }
     {
         self.line.let_go();
-        self.transcript.clear();
+        if !self.transcript.is_empty() {
+            self.transcript.clear();
+        }
+    }
+}
+
+// A list that is empty isn't cleared.
+#[inline(always)]
+fn empty(told: &mut Vec<Entry>)
+    ensures { told.new.items ≡ [] }
+{
+    if !told.is_empty() {
+        told.clear();
     }
 }
 

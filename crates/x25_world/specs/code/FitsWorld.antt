@@ -1,5 +1,5 @@
 -- The worlds of the definition that a world of the code stands for.
-use Rattle.std.specs.Prelude.{◌≡◌, List, [], ◌∷◌, ◌++◌, take, slice_get, Option, Some, None, ◌⊎◌, Result, Ok, Err, OnOk, IfErr, OnErr}
+use Rattle.std.specs.Prelude.{◌≡◌, ℕ, List, [], ◌∷◌, ◌++◌, take, slice_get, Bool, true, false, Option, Some, None, ◌⊎◌, Result, Ok, Err, OnOk, IfErr, OnErr}
 use Rattle.x25_bits.specs.Role.{other}
 use Rattle.x25_bits.specs.declared.role.Role.{Role}
 use Rattle.x25_bits.specs.declared.role.Role.TheVariants.{Dte, Dce}
@@ -7,10 +7,10 @@ use Rattle.x25_station.specs.declared.config.Cfg.{Cfg}
 use Rattle.x25_station.specs.declared.error.StationError.{StationError}
 use Rattle.x25_station.specs.Settings.{settings_from, config_refusal}
 use Rattle.x25_station.specs.code.FitsStation.{FitsStation}
-use Rattle.x25_world.specs.World.{OnTap, AtEnd, World, Event, Act, Loses, WorldOutcome, Happened, Declined, happens, refusal_of, run, AreAccepted, established}
+use Rattle.x25_world.specs.World.{OnTap, AtEnd, World, Event, Act, Loses, WorldOutcome, Happened, Declined, happens, refusal_of, after, run, AreAccepted, established}
 use Rattle.x25_world.specs.laws.Claims.{AreInOctets, IsUpOnce, IsUpAtMostOnce, SetsUpOnce, IsBeginning, NoneConnects}
 use Rattle.x25_world.specs.code.ShownLine.{line_to}
-use Rattle.x25_world.specs.code.ShownWorld.{ShownWorld, ShownSide}
+use Rattle.x25_world.specs.code.ShownWorld.{ShownWorld, ShownSide, ShownParts}
 use Rattle.x25_world.specs.declared.error.WorldError.{WorldError}
 use Rattle.x25_world.specs.declared.error.WorldError.TheVariants.{BadConfig, NoMemory}
 use Rattle.x25_world.specs.declared.error.WorldRefused.{WorldRefused}
@@ -43,6 +43,16 @@ IsRefusal cfg w e error = (refusal_of (happens cfg w e) ≡ Some error) ⊎ (err
 abbrev pub TakesMemory : Act → Type 0
 TakesMemory (Loses place) = ⊥
 TakesMemory act = Unit {0}
+
+-- how many entries it tells at most
+abbrev pub most_told : Act → ℕ
+most_told (Loses place) = 0
+most_told act = 3
+
+-- what was let go of behind a step whose entries were handed over, and whose frames are held with `taps` alone
+abbrev pub gone_after : Bool → World → World → Gone
+gone_after true w next = record { tap = w.tap; transcript = next.transcript }
+gone_after false w next = all_of next
 
 -- the events before the one that was refused were accepted and have happened
 pub record StopsAt (cfg : Cfg) (events : List Event) (w : World) (gone : Gone) (v : ShownWorld) (refused : WorldRefused) : Type 0 where
@@ -111,25 +121,47 @@ UpOnceAfter old new more = (cfg : Cfg) (past : List Event) (gone : Gone) → Fit
 
 -- ---- an end and what it shares with the other; the other end is as it was
 
+-- what is held of the tap is the rest of it, or nothing where no frame is put on it
+abbrev pub HoldsTap : Bool → List OnTap → Gone → List OnTap → Type 0
+HoldsTap true all gone tap = all ≡ gone.tap ++ tap
+HoldsTap false all gone tap = tap ≡ []
+
 -- the near end of the world is this one
-pub record FitsSide (cfg : Cfg) (at : Role) (v : ShownSide) (w : World) (gone : Gone) : Type 0 where
+pub record FitsSide (cfg : Cfg) (at : Role) (taps : Bool) (v : ShownSide) (w : World) (gone : Gone) : Type 0 where
   pub near : FitsStation (settings_from at cfg) v.near w.near
   pub out : line_to v.line (other at) ≡ w.out
   pub back : line_to v.line at ≡ w.back
-  pub tap : w.tap ≡ gone.tap ++ v.line.tap
+  pub tap : HoldsTap taps w.tap gone v.line.tap
   pub transcript : w.transcript ≡ gone.transcript ++ v.transcript
 
 -- the act happened
-abbrev pub HasHappened : Cfg → Role → ShownSide → WorldOutcome → Gone → Type 0
-HasHappened cfg at v (Happened next) gone = FitsSide cfg at v next gone
-HasHappened cfg at v (Declined e) gone = ⊥
+abbrev pub HasHappened : Cfg → Role → Bool → ShownSide → WorldOutcome → Gone → Type 0
+HasHappened cfg at taps v (Happened next) gone = FitsSide cfg at taps v next gone
+HasHappened cfg at taps v (Declined e) gone = ⊥
 
--- an act of an end that is accepted has happened, and one that is refused is refused by its ground, or for want of memory, and changes
--- nothing
-pub record HasActed (cfg : Cfg) (at : Role) (v : ShownSide) (result : Result (Unit {0}) WorldError) (w : World) (gone : Gone) (outcome : WorldOutcome) : Type 0 where
-  pub happened : OnOk result (HasHappened cfg at v outcome gone)
+-- an act of an end that is accepted has happened, and told this, and one that is refused is refused by its ground, or for want of memory, and
+-- changes nothing
+pub record HasActed (cfg : Cfg) (at : Role) (taps : Bool) (v : ShownSide) (told : List AtEnd) (result : Result (Unit {0}) WorldError) (w : World) (gone : Gone) (outcome : WorldOutcome) : Type 0 where
+  pub happened : OnOk result (HasHappened cfg at taps (record { near = v.near; line = v.line; transcript = v.transcript ++ told }) outcome gone)
   pub refused : IfErr result (λ e. (refusal_of outcome ≡ Some e) ⊎ (e ≡ NoMemory))
-  pub stays : OnErr result (FitsSide cfg at v w gone)
+  pub stays : OnErr result (FitsSide cfg at taps v w gone)
+
+-- ---- both ends
+
+pub record FitsParts (cfg : Cfg) (taps : Bool) (v : ShownParts) (w : World) (gone : Gone) : Type 0 where
+  pub dte : FitsStation (settings_from Dte cfg) v.dte w.near
+  pub dce : FitsStation (settings_from Dce cfg) v.dce w.far
+  pub to_dce : v.line.to_dce ≡ w.out
+  pub to_dte : v.line.to_dte ≡ w.back
+  pub tap : HoldsTap taps w.tap gone v.line.tap
+  pub transcript : w.transcript ≡ gone.transcript ++ v.transcript
+
+-- an event that is accepted has happened, and told this, and one that is refused changes nothing
+pub record HasActedAt (cfg : Cfg) (taps : Bool) (v : ShownParts) (told : List AtEnd) (result : Result (Unit {0}) WorldError) (w : World) (gone : Gone) (e : Event) : Type 0 where
+  pub happened : OnOk result (FitsParts cfg taps (record { dte = v.dte; dce = v.dce; line = v.line; transcript = v.transcript ++ told }) (after w (happens cfg w e)) gone)
+  pub accepted : OnOk result (refusal_of (happens cfg w e) ≡ None)
+  pub refused : IfErr result (IsRefusal cfg w e)
+  pub stays : OnErr result (FitsParts cfg taps v w gone)
 
 -- ---- a new world
 

@@ -30,3 +30,10 @@ pub record ShownSide : Type 0 where
   pub near : Station
   pub line : ShownLine
   pub transcript : List AtEnd
+
+-- both ends, and what they share
+pub record ShownParts : Type 0 where
+  pub dte : Station
+  pub dce : Station
+  pub line : ShownLine
+  pub transcript : List AtEnd

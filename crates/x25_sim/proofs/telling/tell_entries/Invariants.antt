@@ -1,10 +1,10 @@
 use Rattle.std.proofs.Common.{◌≡◌, ◌++◌, ℕ, List, Option, take, map}
-use Rattle.x25_world.specs.code.PlainTold.{plain_entered}
-use Rattle.x25_sim.specs.Sayings.{enters, sayings_text}
+use Rattle.x25_station.specs.code.PlainEntry.{plain_entry}
+use Rattle.x25_sim.specs.Sayings.{enters_at, sayings_text}
 use Rattle.x25_io.specs.code.Written.{Tells}
 use Rattle.x25_sim.proofs.telling.tell_entries.Given as goal
 
 -- the first ones are told
-abbrev pub invariant-loop-entered : goal.invariant-loop-entered
-invariant-loop-entered g l = (g.W.Sink.is_marked l.writer ≡ g.W.Sink.is_marked l.fn.writer) × ((old : Option (List ℕ)) (told : List ℕ) → Tells old (g.W.Sink.contents l.fn.writer) l.fn.output told
-    → Tells old (g.W.Sink.contents l.writer) l.output (told ++ sayings_text (map enters (map plain_entered (take l.entered-index l.entries)))))
+abbrev pub invariant-loop-entry : goal.invariant-loop-entry
+invariant-loop-entry g l = (g.W.Sink.is_marked l.writer ≡ g.W.Sink.is_marked l.fn.writer) × ((old : Option (List ℕ)) (told : List ℕ) → Tells old (g.W.Sink.contents l.fn.writer) l.fn.output told
+    → Tells old (g.W.Sink.contents l.writer) l.output (told ++ sayings_text (map (enters_at l.at) (map plain_entry (take l.entry-index l.entries)))))

@@ -3,24 +3,24 @@ use Rattle.x25_station.specs.Settings.{settings_from}
 use Rattle.x25_world.proofs.SideLemmas.{leaves_on, shared_of, has_happened, is_refusal, side_stays}
 use Rattle.x25_world.proofs.acting.connect.Goals as goal
 
-pub returns-in-Ok : goal.returns-in-Ok
-returns-in-Ok c = λ cfg w gone side.
+pub returns-in-Ok-clause-acted : goal.returns-in-Ok-clause-acted
+returns-in-Ok-clause-acted c = λ cfg w gone before side.
     let fits = side.near in
-    let shared = rw (sym c.make_room.ensures.line) at (shared_of cfg c.args.at _ c.args.line.now _ w gone c.make_room.new.line.room side) in
+    let shared = rw (sym c.make_room.ensures.line) at (shared_of cfg c.args.at c.args.taps _ c.args.line.now before w gone c.make_room.new.line.room side) in
     let called = c.in-Ok.ensures.does in
     record {
-      happened = rw (c.tell.ensures.line, c.tell.ensures.transcript, c.make_room.ensures.transcript)
-          (has_happened cfg c.args.at _ _ _ w gone _ c.in-Ok.step shared (leaves_on (settings_from c.args.at cfg) c.connect.new.self c.tell.new.near (Ok c.in-Ok.step) _ c.tell.ensures.near (called.state _ _ fits)) (called.frames _ _ fits) (called.entries _ _ fits) (called.refused _ _ fits));
+      happened = rw (c.tell.ensures.line, c.tell.ensures.told)
+          (has_happened cfg c.args.at c.args.taps _ _ before w gone _ c.in-Ok.step shared (leaves_on (settings_from c.args.at cfg) c.connect.new.self c.tell.new.near (Ok c.in-Ok.step) _ c.tell.ensures.near (called.state _ _ fits)) (called.frames _ _ fits) (called.entries _ _ fits) (called.refused _ _ fits));
       refused = tt;
       stays = tt;
     }
 
-pub returns-in-Err : goal.returns-in-Err
-returns-in-Err c = λ cfg w gone side.
+pub returns-in-Err-clause-acted : goal.returns-in-Err-clause-acted
+returns-in-Err-clause-acted c = λ cfg w gone before side.
     let fits = side.near in
     let called = c.in-Err.ensures.does in
     record {
       happened = tt;
       refused = rw c.of_station.ensures (is_refusal cfg c.args.at w _ c.in-Err.error (called.refused _ _ fits));
-      stays = rw (c.make_room.ensures.line, c.make_room.ensures.transcript) (side_stays cfg c.args.at _ _ c.args.line.now _ w gone c.make_room.new.line.room side (called.stays _ _ fits));
+      stays = rw c.make_room.ensures.line (side_stays cfg c.args.at c.args.taps _ _ c.args.line.now before w gone c.make_room.new.line.room side (called.stays _ _ fits));
     }

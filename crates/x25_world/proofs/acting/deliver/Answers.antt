@@ -5,25 +5,25 @@ use Rattle.x25_station.specs.Steps.{Did, receives}
 use Rattle.x25_world.proofs.SideLemmas.{leaves_on, shared_of, has_arrived, side_stays}
 use Rattle.x25_world.proofs.acting.deliver.Goals as goal
 
-pub returns-in-Ok : goal.returns-in-Ok
-returns-in-Ok c = λ cfg w gone side.
+pub returns-in-Ok-clause-acted : goal.returns-in-Ok-clause-acted
+returns-in-Ok-clause-acted c = λ cfg w gone before side.
     let fits = side.near in
-    let shared = rw (sym c.make_room.ensures.line) at (shared_of cfg c.args.at _ c.args.line.now _ w gone c.make_room.new.line.room side) in
+    let shared = rw (sym c.make_room.ensures.line) at (shared_of cfg c.args.at c.args.taps _ c.args.line.now before w gone c.make_room.new.line.room side) in
     let called = c.in-Ok.ensures.does in
     let front : Some c.in-Some.octets.now ≡ slice_get w.back 0 = c.in-Some.ensures ∙ ap (λ l. slice_get l 0) shared.back in
     record {
-      happened = rw (c.tell.ensures.line, c.tell.ensures.transcript, c.make_room.ensures.transcript, c.remove-octets.ensures)
-          (has_arrived cfg c.args.at _ c.make_room.new.line _ w w.back gone c.in-Some.octets.now c.in-Ok.step shared front (leaves_on (settings_from c.args.at cfg) c.receive.new.self c.tell.new.near (Ok c.in-Ok.step) (Did (receives (settings_from c.args.at cfg) w.near c.in-Some.octets.now)) (λ k s f. c.tell.ensures.near k s (c.give_back.ensures k s f)) (called.state _ _ fits)) (called.frames _ _ fits) (called.entries _ _ fits));
+      happened = rw (c.tell.ensures.line, c.tell.ensures.told, c.remove-octets.ensures)
+          (has_arrived cfg c.args.at c.args.taps _ c.make_room.new.line before w w.back gone c.in-Some.octets.now c.in-Ok.step shared front (leaves_on (settings_from c.args.at cfg) c.receive.new.self c.tell.new.near (Ok c.in-Ok.step) (Did (receives (settings_from c.args.at cfg) w.near c.in-Some.octets.now)) (λ k s f. c.tell.ensures.near k s (c.give_back.ensures k s f)) (called.state _ _ fits)) (called.frames _ _ fits) (called.entries _ _ fits));
       refused = tt;
       stays = tt;
     }
 
-pub returns-in-Err : goal.returns-in-Err
-returns-in-Err c = λ cfg w gone side.
+pub returns-in-Err-clause-acted : goal.returns-in-Err-clause-acted
+returns-in-Err-clause-acted c = λ cfg w gone before side.
     let fits = side.near in
     let called = c.in-Err.ensures in
     record {
       happened = tt;
       refused = inr (c.of_station.ensures ∙ ap error_of called.refused);
-      stays = rw (c.make_room.ensures.line, c.make_room.ensures.transcript) (side_stays cfg c.args.at _ _ c.args.line.now _ w gone c.make_room.new.line.room side (called.does.stays _ _ fits));
+      stays = rw c.make_room.ensures.line (side_stays cfg c.args.at c.args.taps _ _ c.args.line.now before w gone c.make_room.new.line.room side (called.does.stays _ _ fits));
     }

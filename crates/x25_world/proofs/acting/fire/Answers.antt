@@ -4,31 +4,31 @@ use Rattle.x25_world.specs.World.{refusal_of}
 use Rattle.x25_world.proofs.SideLemmas.{leaves_on, shared_of, has_happened, is_refusal, side_stays, holds_back, lets_fire}
 use Rattle.x25_world.proofs.acting.fire.Goals as goal
 
-pub returns-then-awaits_frames : goal.returns-then-awaits_frames
-returns-then-awaits_frames c = λ cfg w gone side.
-    let held = holds_back (settings_from c.args.at cfg) w (sym (c.awaits_frames.ensures cfg w _ gone side) ∙ c.if-awaits_frames.true) in
+pub returns-then-awaits_frames-clause-acted : goal.returns-then-awaits_frames-clause-acted
+returns-then-awaits_frames-clause-acted c = λ cfg w gone before side.
+    let held = holds_back (settings_from c.args.at cfg) w (sym (c.awaits_frames.ensures cfg w _ _ gone side) ∙ c.if-awaits_frames.true) in
     record { happened = tt; refused = inl (ap refusal_of held); stays = side }
 
-pub returns-in-Ok : goal.returns-in-Ok
-returns-in-Ok c = λ cfg w gone side.
-    let fires = lets_fire (settings_from c.args.at cfg) w (sym (c.awaits_frames.ensures cfg w _ gone side) ∙ c.if-awaits_frames.false) in
+pub returns-in-Ok-clause-acted : goal.returns-in-Ok-clause-acted
+returns-in-Ok-clause-acted c = λ cfg w gone before side.
+    let fires = lets_fire (settings_from c.args.at cfg) w (sym (c.awaits_frames.ensures cfg w _ _ gone side) ∙ c.if-awaits_frames.false) in
     let fits = side.near in
-    let shared = rw (sym c.make_room.ensures.line) at (shared_of cfg c.args.at _ c.args.line.now _ w gone c.make_room.new.line.room side) in
+    let shared = rw (sym c.make_room.ensures.line) at (shared_of cfg c.args.at c.args.taps _ c.args.line.now before w gone c.make_room.new.line.room side) in
     let called = c.in-Ok.ensures in
     record {
-      happened = rw (fires, c.tell.ensures.line, c.tell.ensures.transcript, c.make_room.ensures.transcript)
-          (has_happened cfg c.args.at _ _ _ w gone _ c.in-Ok.step shared (leaves_on (settings_from c.args.at cfg) c.t1.new.self c.tell.new.near (Ok c.in-Ok.step) _ c.tell.ensures.near (called.state _ _ fits)) (called.frames _ _ fits) (called.entries _ _ fits) (called.refused _ _ fits));
+      happened = rw (fires, c.tell.ensures.line, c.tell.ensures.told)
+          (has_happened cfg c.args.at c.args.taps _ _ before w gone _ c.in-Ok.step shared (leaves_on (settings_from c.args.at cfg) c.t1.new.self c.tell.new.near (Ok c.in-Ok.step) _ c.tell.ensures.near (called.state _ _ fits)) (called.frames _ _ fits) (called.entries _ _ fits) (called.refused _ _ fits));
       refused = tt;
       stays = tt;
     }
 
-pub returns-in-Err : goal.returns-in-Err
-returns-in-Err c = λ cfg w gone side.
-    let fires = lets_fire (settings_from c.args.at cfg) w (sym (c.awaits_frames.ensures cfg w _ gone side) ∙ c.if-awaits_frames.false) in
+pub returns-in-Err-clause-acted : goal.returns-in-Err-clause-acted
+returns-in-Err-clause-acted c = λ cfg w gone before side.
+    let fires = lets_fire (settings_from c.args.at cfg) w (sym (c.awaits_frames.ensures cfg w _ _ gone side) ∙ c.if-awaits_frames.false) in
     let fits = side.near in
     let called = c.in-Err.ensures in
     record {
       happened = tt;
       refused = rw (fires, c.of_station.ensures) (is_refusal cfg c.args.at w _ c.in-Err.error (called.refused _ _ fits));
-      stays = rw (c.make_room.ensures.line, c.make_room.ensures.transcript) (side_stays cfg c.args.at _ _ c.args.line.now _ w gone c.make_room.new.line.room side (called.stays _ _ fits));
+      stays = rw c.make_room.ensures.line (side_stays cfg c.args.at c.args.taps _ _ c.args.line.now before w gone c.make_room.new.line.room side (called.stays _ _ fits));
     }

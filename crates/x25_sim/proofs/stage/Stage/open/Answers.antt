@@ -5,13 +5,13 @@ use Rattle.x25_sim.specs.code.Stands.{IsOpening, opening}
 use Rattle.x25_sim.proofs.StandLemmas.{StandsAt, BeginsAt, begins_before, begins_behind, deliveries, first_turn, opens, stands_behind, stands_first}
 use Rattle.x25_sim.proofs.stage.Stage.open.Goals as goal
 
-pub returns-in_err-end_step-clause-stood : goal.returns-in_err-end_step-clause-stood
+pub returns-in_err-begin-clause-stood : goal.returns-in_err-begin-clause-stood
 unfolding IsOpening
-returns-in_err-end_step-clause-stood g c = λ cfg down old fits status tells.
+returns-in_err-begin-clause-stood g c = λ cfg down old fits status tells.
     let p = err_from_is_err_and c.from_residual.result c.from_residual.ensures.1 in
     let tap = c.args.self.now.tap in
-    rw p.1 (subst (BeginsAt old (g.W.Sink.contents c.end_step.new.writer) []) (opens cfg down tap (c.two_stations_keep_order.ensures.set_up cfg))
-    (begins_before cfg tap old _ c.end_step.new.self [] false (deliveries cfg tap) (first_turn cfg down tap) (c.in_err-end_step.ensures.tells cfg old [] start (opening cfg down) fits tells)))
+    rw p.1 (subst (BeginsAt old (g.W.Sink.contents c.begin.new.writer) []) (opens cfg down tap (c.two_stations_keep_order.ensures.set_up cfg))
+    (begins_before cfg tap old _ c.begin.new.self [] false (deliveries cfg tap) (first_turn cfg down tap) (c.in_err-begin.ensures.tells cfg down old [] fits tells)))
 
 pub returns-clause-stood : goal.returns-clause-stood
 unfolding IsOpening
@@ -20,8 +20,8 @@ returns-clause-stood g c = λ cfg down old fits status tells.
     let stage = c.attempt_both.new.self in
     let next = g.W.Sink.contents c.attempt_both.new.writer in
     let all = opens cfg down tap (c.two_stations_keep_order.ensures.set_up cfg) in
-    let first = stands_first cfg down tap old _ c.end_step.new.self (c.in_ok-end_step.ensures.world cfg start (opening cfg down) fits) c.in_ok-end_step.ensures.tap (c.in_ok-end_step.ensures.is_refused ∙ status)
-    (c.in_ok-end_step.ensures.tells cfg old [] start (opening cfg down) fits tells) in
+    let first = stands_first cfg down tap old _ c.begin.new.self (c.in_ok-begin.ensures.world cfg (opening cfg down) _ fits) c.in_ok-begin.ensures.tap (c.in_ok-begin.ensures.is_refused ∙ status)
+    (c.in_ok-begin.ensures.tells cfg down old [] fits tells) in
     MatchResult-weaker c.attempt_both.result (c.attempt_both.ensures.turns cfg tap old _ _ _ first)
     (λ _ stands. subst (StandsAt cfg tap old next stage [] false) all (stands_behind cfg tap old next stage [] false (deliveries cfg tap) (first_turn cfg down tap) stands))
     (λ _ begins. subst (BeginsAt old next []) all (begins_behind cfg tap old next stage [] false (deliveries cfg tap) (first_turn cfg down tap) begins))

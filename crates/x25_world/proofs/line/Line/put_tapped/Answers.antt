@@ -2,7 +2,7 @@ use Rattle.std.proofs.Common.{arith}
 use Rattle.std.proofs.lemmas.List.{length_push}
 use Rattle.x25_world.proofs.OnLineLemmas.{apart_to_dce, apart_to_dte, shown_to_dce, shown_to_dte}
 use Rattle.x25_world.proofs.LateLemmas.{late_here, late_there}
-use Rattle.x25_world.proofs.line.Line.put_one.Goals as goal
+use Rattle.x25_world.proofs.line.Line.put_tapped.Goals as goal
 
 pub invariant_of-self : goal.invariant_of-self
 invariant_of-self c = (

@@ -1,7 +1,7 @@
 use Rattle.std.proofs.Common.{[], ◌∙◌, map, refl}
 use Rattle.x25_world.specs.code.PlainTold.{plain_tapped}
 use Rattle.x25_world.proofs.LetGoLemmas.{own_alike}
-use Rattle.x25_world.proofs.line.Line.let_go.Goals as goal
+use Rattle.x25_world.proofs.line.Line.let_go_of_frames.Goals as goal
 
 pub returns : goal.returns
 returns c =
