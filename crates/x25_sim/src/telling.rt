@@ -1,6 +1,7 @@
 //! What is told of a step: a line for each entry, and for each frame where frames are asked for.
-ghost use Rattle.std.specs.Prelude.{◌≡◌, ◌++◌, true, ℕ, List, Option, OnOk, IsErrOf, MatchResult, map};
-ghost use Rattle.x25_io.specs.code.Written.{AppendsPrefix, Tells};
+ghost use Rattle.std.specs.Prelude.{◌≡◌, map};
+ghost use Rattle.x25_io.specs.code.MarksFaults.{MarksFaults};
+ghost use Rattle.x25_io.specs.code.Written.{TellsMore};
 ghost use Rattle.x25_world.specs.code.PlainTold.{plain_entered, plain_tapped};
 ghost use Rattle.x25_console.specs.Lines.{refusal_line as line_of_refusal};
 ghost use Rattle.x25_sim.specs.Sayings.{enters, taps, refusal_number as number_of_refusal, saying_line, sayings_text};
@@ -27,13 +28,8 @@ fn tell_entry<W: Sink>(
     output: &mut Output,
     writer: &mut W,
 ) -> Result<(), Fault>
-    ensures kept { OnOk result (W.is_marked writer.new ≡ W.is_marked writer.old) }
-    ensures tells { (old : Option (List ℕ)) (told : List ℕ) → Tells old (W.contents writer.old) output.old told
-        → MatchResult result (λ _. Tells old (W.contents writer.new) output.new (told ++ saying_line (enters (plain_entered entered.now))))
-        (λ _. AppendsPrefix old (W.contents writer.new) (told ++ saying_line (enters (plain_entered entered.now)))) }
-    ensures write { IsErrOf result Fault.Write → W.is_marked writer.new ≡ true }
-    ensures memory { IsErrOf result Fault.NoMemory → W.is_marked writer.new ≡ W.is_marked writer.old }
-    ensures read { IsErrOf result Fault.Read → ⊥ }
+    ensures tells { TellsMore result (W.contents writer.old) (W.contents writer.new) output.old output.new (saying_line (enters (plain_entered entered.now))) }
+    ensures faults { MarksFaults W.Sink writer.old writer.new result }
 {
     write_entry(entered.at, &entered.entry, line)?;
     tell(line.as_slice(), output, writer)
@@ -46,13 +42,8 @@ fn tell_frame<W: Sink>(
     output: &mut Output,
     writer: &mut W,
 ) -> Result<(), Fault>
-    ensures kept { OnOk result (W.is_marked writer.new ≡ W.is_marked writer.old) }
-    ensures tells { (old : Option (List ℕ)) (told : List ℕ) → Tells old (W.contents writer.old) output.old told
-        → MatchResult result (λ _. Tells old (W.contents writer.new) output.new (told ++ saying_line (taps (plain_tapped frame.now))))
-        (λ _. AppendsPrefix old (W.contents writer.new) (told ++ saying_line (taps (plain_tapped frame.now)))) }
-    ensures write { IsErrOf result Fault.Write → W.is_marked writer.new ≡ true }
-    ensures memory { IsErrOf result Fault.NoMemory → W.is_marked writer.new ≡ W.is_marked writer.old }
-    ensures read { IsErrOf result Fault.Read → ⊥ }
+    ensures tells { TellsMore result (W.contents writer.old) (W.contents writer.new) output.old output.new (saying_line (taps (plain_tapped frame.now))) }
+    ensures faults { MarksFaults W.Sink writer.old writer.new result }
 {
     write_frame(frame.from, frame.octets.as_slice(), line)?;
     tell(line.as_slice(), output, writer)
@@ -64,13 +55,8 @@ pub(crate) fn tell_entries<W: Sink>(
     output: &mut Output,
     writer: &mut W,
 ) -> Result<(), Fault>
-    ensures kept { OnOk result (W.is_marked writer.new ≡ W.is_marked writer.old) }
-    ensures tells { (old : Option (List ℕ)) (told : List ℕ) → Tells old (W.contents writer.old) output.old told
-        → MatchResult result (λ _. Tells old (W.contents writer.new) output.new (told ++ sayings_text (map enters (map plain_entered entries.now))))
-        (λ _. AppendsPrefix old (W.contents writer.new) (told ++ sayings_text (map enters (map plain_entered entries.now)))) }
-    ensures write { IsErrOf result Fault.Write → W.is_marked writer.new ≡ true }
-    ensures memory { IsErrOf result Fault.NoMemory → W.is_marked writer.new ≡ W.is_marked writer.old }
-    ensures read { IsErrOf result Fault.Read → ⊥ }
+    ensures tells { TellsMore result (W.contents writer.old) (W.contents writer.new) output.old output.new (sayings_text (map enters (map plain_entered entries.now))) }
+    ensures faults { MarksFaults W.Sink writer.old writer.new result }
 {
     for entered in entries {
         tell_entry(line, entered, output, writer)?;
@@ -84,13 +70,8 @@ pub(crate) fn tell_frames<W: Sink>(
     output: &mut Output,
     writer: &mut W,
 ) -> Result<(), Fault>
-    ensures kept { OnOk result (W.is_marked writer.new ≡ W.is_marked writer.old) }
-    ensures tells { (old : Option (List ℕ)) (told : List ℕ) → Tells old (W.contents writer.old) output.old told
-        → MatchResult result (λ _. Tells old (W.contents writer.new) output.new (told ++ sayings_text (map taps (map plain_tapped frames.now))))
-        (λ _. AppendsPrefix old (W.contents writer.new) (told ++ sayings_text (map taps (map plain_tapped frames.now)))) }
-    ensures write { IsErrOf result Fault.Write → W.is_marked writer.new ≡ true }
-    ensures memory { IsErrOf result Fault.NoMemory → W.is_marked writer.new ≡ W.is_marked writer.old }
-    ensures read { IsErrOf result Fault.Read → ⊥ }
+    ensures tells { TellsMore result (W.contents writer.old) (W.contents writer.new) output.old output.new (sayings_text (map taps (map plain_tapped frames.now))) }
+    ensures faults { MarksFaults W.Sink writer.old writer.new result }
 {
     for frame in frames {
         tell_frame(line, frame, output, writer)?;
@@ -105,13 +86,8 @@ pub(crate) fn tell_refusal<W: Sink>(
     output: &mut Output,
     writer: &mut W,
 ) -> Result<(), Fault>
-    ensures kept { OnOk result (W.is_marked writer.new ≡ W.is_marked writer.old) }
-    ensures tells { (old : Option (List ℕ)) (told : List ℕ) → Tells old (W.contents writer.old) output.old told
-        → MatchResult result (λ _. Tells old (W.contents writer.new) output.new (told ++ line_of_refusal (number_of_refusal error)))
-        (λ _. AppendsPrefix old (W.contents writer.new) (told ++ line_of_refusal (number_of_refusal error))) }
-    ensures write { IsErrOf result Fault.Write → W.is_marked writer.new ≡ true }
-    ensures memory { IsErrOf result Fault.NoMemory → W.is_marked writer.new ≡ W.is_marked writer.old }
-    ensures read { IsErrOf result Fault.Read → ⊥ }
+    ensures tells { TellsMore result (W.contents writer.old) (W.contents writer.new) output.old output.new (line_of_refusal (number_of_refusal error)) }
+    ensures faults { MarksFaults W.Sink writer.old writer.new result }
 {
     write_refusal(refusal_number(error), line)?;
     tell(line.as_slice(), output, writer)
