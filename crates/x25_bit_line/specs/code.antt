@@ -1,4 +1,3 @@
 -- What the code's values stand for: contracts and proofs need it, and a reader of the claims doesn't.
-pub mod Telling
 pub mod Reads
 pub mod Frames

@@ -33,6 +33,7 @@ impl FrameSender {
     ghost use Rattle.x25_bits.specs.SpanClass.{octets_of};
     ghost use Rattle.x25_bits.specs.Stuffing.{filled};
     ghost use Rattle.x25_io.specs.HeldLine.{most_line};
+    ghost use Rattle.x25_io.specs.code.MarksFaults.{MarksFaults};
     ghost use Rattle.x25_io.specs.code.Written.{AppendsPrefix, Tells};
     ghost use Rattle.x25_bit_line.specs.Framed.{is_wrong, line_bits};
     ghost use Rattle.x25_bit_line.specs.Sending.{Sends, SendsLine};
@@ -84,12 +85,9 @@ impl FrameSender {
 
     /// Sends the frame of a line of a trace, and nothing for another line.
     fn take<W: Sink>(&mut self, line: &[u8], writer: &mut W) -> Result<(), Fault>
-        ensures kept { OnOk result (W.is_marked writer.new ≡ W.is_marked writer.old) }
         ensures sends { SendsLine result (W.contents writer.old) (W.contents writer.new) self.old.bits.bits self.new.bits.bits self.old.output self.new.output (line_bits line.now) }
         ensures wrong { length line.now ≤ most_line → OnOk result (self.new.is_wrong ≡ (self.old.is_wrong || is_wrong line.now)) }
-        ensures write { IsErrOf result Fault.Write → W.is_marked writer.new ≡ true }
-        ensures memory { IsErrOf result Fault.NoMemory → W.is_marked writer.new ≡ W.is_marked writer.old }
-        ensures read { IsErrOf result Fault.Read → ⊥ }
+        ensures faults { MarksFaults W.Sink writer.old writer.new result }
     {
         match read_sent(line, self.octets.as_mut_slice()) {
             Some((_from, count)) => {
@@ -105,13 +103,10 @@ impl FrameSender {
 
     /// Sends the bits that are left, and writes what waits.
     fn finish<W: Sink>(&mut self, writer: &mut W) -> Result<(), Fault>
-        ensures kept { OnOk result (W.is_marked writer.new ≡ W.is_marked writer.old) }
         ensures text { (old : Option (List ℕ)) (before : List Bool) → Sends old (W.contents writer.old) self.old.bits.bits self.old.output before
             → MatchResult result (λ _. Appends old (W.contents writer.new) (octets_of (filled before))) (λ _. AppendsPrefix old (W.contents writer.new) (octets_of (filled before))) }
         ensures wrong { self.new.is_wrong ≡ self.old.is_wrong }
-        ensures write { IsErrOf result Fault.Write → W.is_marked writer.new ≡ true }
-        ensures memory { IsErrOf result Fault.NoMemory → W.is_marked writer.new ≡ W.is_marked writer.old }
-        ensures read { IsErrOf result Fault.Read → ⊥ }
+        ensures faults { MarksFaults W.Sink writer.old writer.new result }
     {
         self.bits.send_rest(&mut self.output, writer)?;
         self.flush(writer)

@@ -50,7 +50,8 @@ impl LineBits {
     ghost use Rattle.std.specs.Prelude.{◌≡◌, ◌++◌, [], true, OnOk, IsErrOf};
     ghost use Rattle.x25_bits.specs.SpanClass.{octets_of};
     ghost use Rattle.x25_bits.specs.Stuffing.{filled, framed};
-    ghost use Rattle.x25_bit_line.specs.code.Telling.{TellsMore};
+    ghost use Rattle.x25_io.specs.code.MarksFaults.{MarksFaults};
+    ghost use Rattle.x25_io.specs.code.Written.{TellsMore};
     ghost use Rattle.x25_bit_line.specs.Sending.{behind_octets};
 
     /// No bits.
@@ -82,12 +83,9 @@ impl LineBits {
 
     /// Tells the octets that the bits fill, and keeps the bits behind them.
     fn send<W: Sink>(&mut self, output: &mut Output, writer: &mut W) -> Result<(), Fault>
-        ensures kept { OnOk result (W.is_marked writer.new ≡ W.is_marked writer.old) }
         ensures tells { TellsMore result (W.contents writer.old) (W.contents writer.new) output.old output.new (octets_of self.old.bits) }
         ensures rest { OnOk result (self.new.bits ≡ behind_octets self.old.bits) }
-        ensures write { IsErrOf result Fault.Write → W.is_marked writer.new ≡ true }
-        ensures memory { IsErrOf result Fault.NoMemory → W.is_marked writer.new ≡ W.is_marked writer.old }
-        ensures read { IsErrOf result Fault.Read → ⊥ }
+        ensures faults { MarksFaults W.Sink writer.old writer.new result }
     {
         self.tell_octets(output, writer)?;
         let whole = self.bits.len() / 8;
@@ -102,12 +100,9 @@ impl LineBits {
         output: &mut Output,
         writer: &mut W,
     ) -> Result<(), Fault>
-        ensures kept { OnOk result (W.is_marked writer.new ≡ W.is_marked writer.old) }
         ensures tells { TellsMore result (W.contents writer.old) (W.contents writer.new) output.old output.new (octets_of (self.old.bits ++ framed octets.now)) }
         ensures rest { OnOk result (self.new.bits ≡ behind_octets (self.old.bits ++ framed octets.now)) }
-        ensures write { IsErrOf result Fault.Write → W.is_marked writer.new ≡ true }
-        ensures memory { IsErrOf result Fault.NoMemory → W.is_marked writer.new ≡ W.is_marked writer.old }
-        ensures read { IsErrOf result Fault.Read → ⊥ }
+        ensures faults { MarksFaults W.Sink writer.old writer.new result }
     {
         put(octets, &mut self.bits)?;
         self.send(output, writer)
@@ -130,11 +125,8 @@ impl LineBits {
         output: &mut Output,
         writer: &mut W,
     ) -> Result<(), Fault>
-        ensures kept { OnOk result (W.is_marked writer.new ≡ W.is_marked writer.old) }
         ensures tells { TellsMore result (W.contents writer.old) (W.contents writer.new) output.old output.new (octets_of (filled self.old.bits)) }
-        ensures write { IsErrOf result Fault.Write → W.is_marked writer.new ≡ true }
-        ensures memory { IsErrOf result Fault.NoMemory → W.is_marked writer.new ≡ W.is_marked writer.old }
-        ensures read { IsErrOf result Fault.Read → ⊥ }
+        ensures faults { MarksFaults W.Sink writer.old writer.new result }
     {
         self.fill()?;
         self.tell_octets(output, writer)

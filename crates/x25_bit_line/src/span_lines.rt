@@ -31,10 +31,9 @@ impl SpanLines {
     ghost use Rattle.std.specs.Prelude.{◌≡◌, ◌≤◌, ◌++◌, [], true, ℕ, List, Option, IfOk, OnOk, OnErr, MatchResult, length};
     ghost use Rattle.std.specs.List.{flat_map};
     ghost use Rattle.x25_bits.specs.code.Plain.{plain_span};
-    ghost use Rattle.x25_io.specs.code.Written.{AppendsPrefix, Tells};
+    ghost use Rattle.x25_io.specs.code.Written.{AppendsPrefix, Tells, TellsMore};
     ghost use Rattle.x25_text.specs.OctetText.{octet_text};
     ghost use Rattle.x25_bit_line.specs.Deframed.{class_line, trace_line};
-    ghost use Rattle.x25_bit_line.specs.code.Telling.{TellsMore};
 
     /// Nothing waits.
     pub(crate) fn new(alloc: Global, from: Role) -> Result<SpanLines, AllocError>

@@ -1,7 +1,8 @@
 //! Lines that tell of frames and of refusals.
-ghost use Rattle.std.specs.Prelude.{◌≡◌, ◌++◌, [], true, ℕ, List, Option, OnOk, OnErr, IsErrOf, MatchResult};
+ghost use Rattle.std.specs.Prelude.{◌≡◌, ◌++◌, [], OnOk, OnErr};
 ghost use Rattle.x25_console.specs.Lines.{frame_line, nothing_line, refusal_line};
-ghost use Rattle.x25_io.specs.code.Written.{AppendsPrefix, Tells};
+ghost use Rattle.x25_io.specs.code.MarksFaults.{MarksFaults};
+ghost use Rattle.x25_io.specs.code.Written.{TellsMore};
 
 use std::alloc::AllocError;
 use x25_io::{Fault, Output, Sink};
@@ -57,12 +58,8 @@ pub fn write_refusal(number: u8, line: &mut Line) -> Result<(), AllocError>
 
 /// Tells a line. 62 alone: a call of the writer failed, and the writer is marked.
 pub fn tell<W: Sink>(line: &[u8], output: &mut Output, writer: &mut W) -> Result<(), Fault>
-    ensures kept { OnOk result (W.is_marked writer.new ≡ W.is_marked writer.old) }
-    ensures tells { (old : Option (List ℕ)) (told : List ℕ) → Tells old (W.contents writer.old) output.old told
-        → MatchResult result (λ _. Tells old (W.contents writer.new) output.new (told ++ line.now)) (λ _. AppendsPrefix old (W.contents writer.new) (told ++ line.now)) }
-    ensures write { IsErrOf result Fault.Write → W.is_marked writer.new ≡ true }
-    ensures memory { IsErrOf result Fault.NoMemory → W.is_marked writer.new ≡ W.is_marked writer.old }
-    ensures read { IsErrOf result Fault.Read → ⊥ }
+    ensures tells { TellsMore result (W.contents writer.old) (W.contents writer.new) output.old output.new line.now }
+    ensures faults { MarksFaults W.Sink writer.old writer.new result }
 {
     match output.tell(line, writer) {
         Ok(()) => Ok(()),
@@ -72,12 +69,8 @@ pub fn tell<W: Sink>(line: &[u8], output: &mut Output, writer: &mut W) -> Result
 
 /// Tells that a line isn't in the grammar, by `? 60`. 62 alone: a call of the writer failed, and the writer is marked.
 pub fn tell_nothing<W: Sink>(output: &mut Output, writer: &mut W) -> Result<(), Fault>
-    ensures kept { OnOk result (W.is_marked writer.new ≡ W.is_marked writer.old) }
-    ensures tells { (old : Option (List ℕ)) (told : List ℕ) → Tells old (W.contents writer.old) output.old told
-        → MatchResult result (λ _. Tells old (W.contents writer.new) output.new (told ++ nothing_line)) (λ _. AppendsPrefix old (W.contents writer.new) (told ++ nothing_line)) }
-    ensures write { IsErrOf result Fault.Write → W.is_marked writer.new ≡ true }
-    ensures memory { IsErrOf result Fault.NoMemory → W.is_marked writer.new ≡ W.is_marked writer.old }
-    ensures read { IsErrOf result Fault.Read → ⊥ }
+    ensures tells { TellsMore result (W.contents writer.old) (W.contents writer.new) output.old output.new nothing_line }
+    ensures faults { MarksFaults W.Sink writer.old writer.new result }
 {
     tell(b"? 60\n", output, writer)
 }

@@ -1,7 +1,7 @@
 //! Text on its way to a writer.
-ghost use Rattle.std.specs.Prelude.{◌≡◌, ◌≤◌, ◌+◌, ◌++◌, [], true, ℕ, List, Option, IfOk, OnOk, OnErr, MatchResult, length};
+ghost use Rattle.std.specs.Prelude.{◌≡◌, ◌≤◌, ◌+◌, [], true, ℕ, List, Option, IfOk, OnOk, OnErr, MatchResult, length};
 ghost use Rattle.x25_text.specs.declared.text.TheConstants.{ROOM};
-ghost use Rattle.x25_io.specs.code.Written.{AppendsPrefix, Tells};
+ghost use Rattle.x25_io.specs.code.Written.{AppendsPrefix, Tells, TellsMore};
 
 use crate::device::{Failed, Sink, write_all};
 use std::alloc::{AllocError, Global};
@@ -64,8 +64,7 @@ impl Output {
     /// Writes what waits, and the line behind it.
     fn write_line<W: Sink>(&mut self, line: &[u8], writer: &mut W) -> Result<(), Failed>
         ensures kept { OnOk result (W.is_marked writer.new ≡ W.is_marked writer.old) }
-        ensures tells { (old : Option (List ℕ)) (told : List ℕ) → Tells old (W.contents writer.old) self.old told
-            → MatchResult result (λ _. Tells old (W.contents writer.new) self.new (told ++ line.now)) (λ _. AppendsPrefix old (W.contents writer.new) (told ++ line.now)) }
+        ensures tells { TellsMore result (W.contents writer.old) (W.contents writer.new) self.old self.new line.now }
         ensures marked { OnErr result (W.is_marked writer.new ≡ true) }
     {
         self.flush(writer)?;
@@ -76,8 +75,7 @@ impl Output {
     /// and the writer is marked.
     pub fn tell<W: Sink>(&mut self, line: &[u8], writer: &mut W) -> Result<(), Failed>
         ensures kept { OnOk result (W.is_marked writer.new ≡ W.is_marked writer.old) }
-        ensures tells { (old : Option (List ℕ)) (told : List ℕ) → Tells old (W.contents writer.old) self.old told
-            → MatchResult result (λ _. Tells old (W.contents writer.new) self.new (told ++ line.now)) (λ _. AppendsPrefix old (W.contents writer.new) (told ++ line.now)) }
+        ensures tells { TellsMore result (W.contents writer.old) (W.contents writer.new) self.old self.new line.now }
         ensures marked { OnErr result (W.is_marked writer.new ≡ true) }
     {
         if line.len() > ROOM {

@@ -75,10 +75,11 @@ fn unless_memory(step: Step, error: StationError) -> Result<Step, Fault>
 }
 
 impl Pipe {
-    ghost use Rattle.std.specs.Prelude.{[], ◌∷◌, ℕ, Bool, true, false, List, Option, Some, None, OnOk, OnErr, IsErrOf, MatchResult, length, take};
+    ghost use Rattle.std.specs.Prelude.{[], ◌∷◌, ℕ, Bool, true, false, List, Option, Some, None, OnOk, OnErr, MatchResult, length, take};
     ghost use Rattle.x25_console.specs.Commands.{command_asked};
     ghost use Rattle.x25_io.specs.HeldLine.{most_line};
-    ghost use Rattle.x25_io.specs.code.Written.{AppendsPrefix, Tells};
+    ghost use Rattle.x25_io.specs.code.MarksFaults.{MarksFaults};
+    ghost use Rattle.x25_io.specs.code.Written.{AppendsPrefix, Tells, TellsMore};
     ghost use Rattle.x25_script.specs.PlainLine.{plain, plain_command};
     ghost use Rattle.x25_script.specs.Reading.{line_in};
     ghost use Rattle.x25_station.specs.code.FitsStation.{FitsStation};
@@ -134,13 +135,10 @@ impl Pipe {
 
     /// Tells a mark, and writes what waits.
     fn mark<W: Sink>(&mut self, mark: Mark, writer: &mut W) -> Result<(), Fault>
-        ensures kept { OnOk result (W.is_marked writer.new ≡ W.is_marked writer.old) }
         ensures turns { (c : Settings) (old : Option (List ℕ)) (shown : TimerMark) → plain_mark mark ≡ shown
             → Turns c old (W.contents writer.old) (W.contents writer.new) self.old self.new result (mark_turn c shown) }
         ensures written { OnOk result (self.new.output ≡ []) }
-        ensures write { IsErrOf result Fault.Write → W.is_marked writer.new ≡ true }
-        ensures memory { IsErrOf result Fault.NoMemory → W.is_marked writer.new ≡ W.is_marked writer.old }
-        ensures read { IsErrOf result Fault.Read → ⊥ }
+        ensures faults { MarksFaults W.Sink writer.old writer.new result }
     {
         let is_idle = self.station.idle();
         tell_mark(mark, is_idle, &mut self.output, writer)?;
@@ -149,12 +147,9 @@ impl Pipe {
 
     /// The mark that comes before anything is read, or behind what changed nothing.
     pub(crate) fn mark_standing<W: Sink>(&mut self, writer: &mut W) -> Result<(), Fault>
-        ensures kept { OnOk result (W.is_marked writer.new ≡ W.is_marked writer.old) }
         ensures turns { (c : Settings) (old : Option (List ℕ)) → Turns c old (W.contents writer.old) (W.contents writer.new) self.old self.new result (standing_turn c) }
         ensures written { OnOk result (self.new.output ≡ []) }
-        ensures write { IsErrOf result Fault.Write → W.is_marked writer.new ≡ true }
-        ensures memory { IsErrOf result Fault.NoMemory → W.is_marked writer.new ≡ W.is_marked writer.old }
-        ensures read { IsErrOf result Fault.Read → ⊥ }
+        ensures faults { MarksFaults W.Sink writer.old writer.new result }
     {
         let mark = Watch::of(&self.station).standing();
         self.mark(mark, writer)
@@ -162,16 +157,11 @@ impl Pipe {
 
     /// Tells the entries of a step, and behind these its frames.
     fn tell_answer<W: Sink>(&mut self, step: &Step, writer: &mut W) -> Result<(), Fault>
-        ensures kept { OnOk result (W.is_marked writer.new ≡ W.is_marked writer.old) }
-        ensures tells { (old : Option (List ℕ)) (told : List ℕ) → Tells old (W.contents writer.old) self.old.output told
-            → MatchResult result (λ _. Tells old (W.contents writer.new) self.new.output (told ++ sayings_text self.old.end (answer_told step.now)))
-            (λ _. AppendsPrefix old (W.contents writer.new) (told ++ sayings_text self.old.end (answer_told step.now))) }
+        ensures tells { TellsMore result (W.contents writer.old) (W.contents writer.new) self.old.output self.new.output (sayings_text self.old.end (answer_told step.now)) }
         ensures station { self.new.station ≡ self.old.station }
         ensures role { self.new.end ≡ self.old.end }
         ensures is_refused { self.new.is_refused ≡ self.old.is_refused }
-        ensures write { IsErrOf result Fault.Write → W.is_marked writer.new ≡ true }
-        ensures memory { IsErrOf result Fault.NoMemory → W.is_marked writer.new ≡ W.is_marked writer.old }
-        ensures read { IsErrOf result Fault.Read → ⊥ }
+        ensures faults { MarksFaults W.Sink writer.old writer.new result }
     {
         let entries = step.entries.as_slice();
         tell_entries(&mut self.line, self.end, entries, &mut self.output, writer)?;
@@ -187,15 +177,12 @@ impl Pipe {
         step: &Step,
         writer: &mut W,
     ) -> Result<(), Fault>
-        ensures kept { OnOk result (W.is_marked writer.new ≡ W.is_marked writer.old) }
         ensures stood { (c : Settings) (old : Option (List ℕ)) (s : State) (event : Event) (o : Outcome) (told : List ℕ) (refused : Bool)
             → Watches before s → is_firing ≡ is_firing_of event → IsStep c self.old.station step.now o → self.old.end ≡ c.role
             → Tells old (W.contents writer.old) self.old.output told → self.old.is_refused ≡ refused
             → Stood c old (W.contents writer.new) self.new told refused result (turn_of c s event o) }
         ensures written { OnOk result (self.new.output ≡ []) }
-        ensures write { IsErrOf result Fault.Write → W.is_marked writer.new ≡ true }
-        ensures memory { IsErrOf result Fault.NoMemory → W.is_marked writer.new ≡ W.is_marked writer.old }
-        ensures read { IsErrOf result Fault.Read → ⊥ }
+        ensures faults { MarksFaults W.Sink writer.old writer.new result }
     {
         self.tell_answer(step, writer)?;
         let is_up = tells_up(step.entries.as_slice());
@@ -225,15 +212,12 @@ impl Pipe {
         step: Step,
         writer: &mut W,
     ) -> Result<(), Fault>
-        ensures kept { OnOk result (W.is_marked writer.new ≡ W.is_marked writer.old) }
         ensures stood { (c : Settings) (old : Option (List ℕ)) (s : State) (event : Event) (o : Outcome) (told : List ℕ) (refused : Bool)
             → Watches before s → is_firing ≡ is_firing_of event → IsStep c self.old.station step o → self.old.end ≡ c.role
             → Tells old (W.contents writer.old) self.old.output told → self.old.is_refused ≡ refused
             → Stood c old (W.contents writer.new) self.new told refused result (turn_of c s event (with_pulls c o)) }
         ensures written { OnOk result (self.new.output ≡ []) }
-        ensures write { IsErrOf result Fault.Write → W.is_marked writer.new ≡ true }
-        ensures memory { IsErrOf result Fault.NoMemory → W.is_marked writer.new ≡ W.is_marked writer.old }
-        ensures read { IsErrOf result Fault.Read → ⊥ }
+        ensures faults { MarksFaults W.Sink writer.old writer.new result }
     {
         let both = self.pull_behind(step)?;
         self.tell_step(before, is_firing, &both, writer)
@@ -241,14 +225,11 @@ impl Pipe {
 
     /// Tells that an event is refused; want of memory is a fault.
     fn refuse<W: Sink>(&mut self, error: StationError, writer: &mut W) -> Result<(), Fault>
-        ensures kept { OnOk result (W.is_marked writer.new ≡ W.is_marked writer.old) }
         ensures stood { (c : Settings) (old : Option (List ℕ)) (s : State) (event : Event) (o : Outcome) (told : List ℕ) (refused : Bool)
             → Stands c old (W.contents writer.old) self.old s told refused → IsError error o
             → Stood c old (W.contents writer.new) self.new told refused result (turn_of c s event (with_pulls c o)) }
         ensures written { OnOk result (self.new.output ≡ []) }
-        ensures write { IsErrOf result Fault.Write → W.is_marked writer.new ≡ true }
-        ensures memory { IsErrOf result Fault.NoMemory → W.is_marked writer.new ≡ W.is_marked writer.old }
-        ensures read { IsErrOf result Fault.Read → ⊥ }
+        ensures faults { MarksFaults W.Sink writer.old writer.new result }
     {
         if is_memory(error) {
             return Err(Fault::NoMemory);
@@ -260,12 +241,9 @@ impl Pipe {
 
     /// Tells that a line asks for nothing.
     pub(crate) fn read_nothing<W: Sink>(&mut self, writer: &mut W) -> Result<(), Fault>
-        ensures kept { OnOk result (W.is_marked writer.new ≡ W.is_marked writer.old) }
         ensures turns { (c : Settings) (old : Option (List ℕ)) → Turns c old (W.contents writer.old) (W.contents writer.new) self.old self.new result (λ s. asked_turn c s None) }
         ensures written { OnOk result (self.new.output ≡ []) }
-        ensures write { IsErrOf result Fault.Write → W.is_marked writer.new ≡ true }
-        ensures memory { IsErrOf result Fault.NoMemory → W.is_marked writer.new ≡ W.is_marked writer.old }
-        ensures read { IsErrOf result Fault.Read → ⊥ }
+        ensures faults { MarksFaults W.Sink writer.old writer.new result }
     {
         self.is_refused = true;
         tell_nothing(&mut self.output, writer)?;
@@ -275,12 +253,9 @@ impl Pipe {
     /// The first `count` octets of those read come.
     fn receive<W: Sink>(&mut self, count: usize, writer: &mut W) -> Result<(), Fault>
         requires { count ≤ length self.old.octets }
-        ensures kept { OnOk result (W.is_marked writer.new ≡ W.is_marked writer.old) }
         ensures turns { (c : Settings) (old : Option (List ℕ)) → Turns c old (W.contents writer.old) (W.contents writer.new) self.old self.new result (λ s. event_turn c s (Comes (take count self.old.octets))) }
         ensures written { OnOk result (self.new.output ≡ []) }
-        ensures write { IsErrOf result Fault.Write → W.is_marked writer.new ≡ true }
-        ensures memory { IsErrOf result Fault.NoMemory → W.is_marked writer.new ≡ W.is_marked writer.old }
-        ensures read { IsErrOf result Fault.Read → ⊥ }
+        ensures faults { MarksFaults W.Sink writer.old writer.new result }
     {
         let before = Watch::of(&self.station);
         match self.station.receive(&self.octets[..count]) {
@@ -292,13 +267,10 @@ impl Pipe {
     /// The first `count` octets of those read were sent by an end.
     fn hear<W: Sink>(&mut self, from: Role, count: usize, writer: &mut W) -> Result<(), Fault>
         requires { count ≤ length self.old.octets }
-        ensures kept { OnOk result (W.is_marked writer.new ≡ W.is_marked writer.old) }
         ensures turns { (c : Settings) (old : Option (List ℕ)) → Turns c old (W.contents writer.old) (W.contents writer.new) self.old self.new result
             (λ s. asked_turn c s (trace_event self.old.end (from, take count self.old.octets))) }
         ensures written { OnOk result (self.new.output ≡ []) }
-        ensures write { IsErrOf result Fault.Write → W.is_marked writer.new ≡ true }
-        ensures memory { IsErrOf result Fault.NoMemory → W.is_marked writer.new ≡ W.is_marked writer.old }
-        ensures read { IsErrOf result Fault.Read → ⊥ }
+        ensures faults { MarksFaults W.Sink writer.old writer.new result }
     {
         if is_same(self.end.other(), from) {
             return self.receive(count, writer);
@@ -308,13 +280,10 @@ impl Pipe {
 
     /// The user of this end asks for something.
     fn command<W: Sink>(&mut self, command: Command, writer: &mut W) -> Result<(), Fault>
-        ensures kept { OnOk result (W.is_marked writer.new ≡ W.is_marked writer.old) }
         ensures turns { (c : Settings) (old : Option (List ℕ)) → Turns c old (W.contents writer.old) (W.contents writer.new) self.old self.new result
             (λ s. event_turn c s (Asks (command_asked (plain_command command.entry)))) }
         ensures written { OnOk result (self.new.output ≡ []) }
-        ensures write { IsErrOf result Fault.Write → W.is_marked writer.new ≡ true }
-        ensures memory { IsErrOf result Fault.NoMemory → W.is_marked writer.new ≡ W.is_marked writer.old }
-        ensures read { IsErrOf result Fault.Read → ⊥ }
+        ensures faults { MarksFaults W.Sink writer.old writer.new result }
     {
         read_user(&command, &mut self.user)?;
         let before = Watch::of(&self.station);
@@ -329,12 +298,9 @@ impl Pipe {
 
     /// T1 runs out.
     fn fire<W: Sink>(&mut self, writer: &mut W) -> Result<(), Fault>
-        ensures kept { OnOk result (W.is_marked writer.new ≡ W.is_marked writer.old) }
         ensures turns { (c : Settings) (old : Option (List ℕ)) → Turns c old (W.contents writer.old) (W.contents writer.new) self.old self.new result (λ s. event_turn c s Fires) }
         ensures written { OnOk result (self.new.output ≡ []) }
-        ensures write { IsErrOf result Fault.Write → W.is_marked writer.new ≡ true }
-        ensures memory { IsErrOf result Fault.NoMemory → W.is_marked writer.new ≡ W.is_marked writer.old }
-        ensures read { IsErrOf result Fault.Read → ⊥ }
+        ensures faults { MarksFaults W.Sink writer.old writer.new result }
     {
         let before = Watch::of(&self.station);
         match self.station.t1() {
@@ -350,13 +316,10 @@ impl Pipe {
         command: Command,
         writer: &mut W,
     ) -> Result<(), Fault>
-        ensures kept { OnOk result (W.is_marked writer.new ≡ W.is_marked writer.old) }
         ensures turns { (c : Settings) (old : Option (List ℕ)) → Turns c old (W.contents writer.old) (W.contents writer.new) self.old self.new result
             (λ s. asked_turn c s (only_of self.old.end end (Asks (command_asked (plain_command command.entry))))) }
         ensures written { OnOk result (self.new.output ≡ []) }
-        ensures write { IsErrOf result Fault.Write → W.is_marked writer.new ≡ true }
-        ensures memory { IsErrOf result Fault.NoMemory → W.is_marked writer.new ≡ W.is_marked writer.old }
-        ensures read { IsErrOf result Fault.Read → ⊥ }
+        ensures faults { MarksFaults W.Sink writer.old writer.new result }
     {
         if is_same(self.end, end) {
             return self.command(command, writer);
@@ -366,13 +329,10 @@ impl Pipe {
 
     /// T1 of an end runs out.
     fn fire_at<W: Sink>(&mut self, end: Role, writer: &mut W) -> Result<(), Fault>
-        ensures kept { OnOk result (W.is_marked writer.new ≡ W.is_marked writer.old) }
         ensures turns { (c : Settings) (old : Option (List ℕ)) → Turns c old (W.contents writer.old) (W.contents writer.new) self.old self.new result
             (λ s. asked_turn c s (only_of self.old.end end Fires)) }
         ensures written { OnOk result (self.new.output ≡ []) }
-        ensures write { IsErrOf result Fault.Write → W.is_marked writer.new ≡ true }
-        ensures memory { IsErrOf result Fault.NoMemory → W.is_marked writer.new ≡ W.is_marked writer.old }
-        ensures read { IsErrOf result Fault.Read → ⊥ }
+        ensures faults { MarksFaults W.Sink writer.old writer.new result }
     {
         if is_same(self.end, end) {
             return self.fire(writer);
@@ -382,13 +342,10 @@ impl Pipe {
 
     /// What a line of a script asks of this end happens; a line of the other end, or of the line between, asks for nothing.
     fn follow<W: Sink>(&mut self, line: ScriptLine, writer: &mut W) -> Result<(), Fault>
-        ensures kept { OnOk result (W.is_marked writer.new ≡ W.is_marked writer.old) }
         ensures turns { (c : Settings) (old : Option (List ℕ)) → Turns c old (W.contents writer.old) (W.contents writer.new) self.old self.new result
             (λ s. asked_turn c s (script_event self.old.end (plain line.entry))) }
         ensures written { OnOk result (self.new.output ≡ []) }
-        ensures write { IsErrOf result Fault.Write → W.is_marked writer.new ≡ true }
-        ensures memory { IsErrOf result Fault.NoMemory → W.is_marked writer.new ≡ W.is_marked writer.old }
-        ensures read { IsErrOf result Fault.Read → ⊥ }
+        ensures faults { MarksFaults W.Sink writer.old writer.new result }
     {
         match line {
             ScriptLine::Command { end, command } => self.command_at(end, command, writer),
@@ -403,13 +360,10 @@ impl Pipe {
 
     /// What a line that is none of a trace asks for happens.
     fn obey_script<W: Sink>(&mut self, line: &[u8], writer: &mut W) -> Result<(), Fault>
-        ensures kept { OnOk result (W.is_marked writer.new ≡ W.is_marked writer.old) }
         ensures turns { (c : Settings) (old : Option (List ℕ)) → Turns c old (W.contents writer.old) (W.contents writer.new) self.old self.new result
             (λ s. asked_turn c s (read_event self.old.end line.now None)) }
         ensures written { OnOk result (self.new.output ≡ []) }
-        ensures write { IsErrOf result Fault.Write → W.is_marked writer.new ≡ true }
-        ensures memory { IsErrOf result Fault.NoMemory → W.is_marked writer.new ≡ W.is_marked writer.old }
-        ensures read { IsErrOf result Fault.Read → ⊥ }
+        ensures faults { MarksFaults W.Sink writer.old writer.new result }
     {
         match read_line(line) {
             Some(asked) => self.follow(asked, writer),
@@ -419,12 +373,9 @@ impl Pipe {
 
     /// What a line asks for happens.
     pub(crate) fn obey<W: Sink>(&mut self, line: &[u8], writer: &mut W) -> Result<(), Fault>
-        ensures kept { OnOk result (W.is_marked writer.new ≡ W.is_marked writer.old) }
         ensures turns { length line.now ≤ most_line → (c : Settings) (old : Option (List ℕ)) → Turns c old (W.contents writer.old) (W.contents writer.new) self.old self.new result (turn c line.now) }
         ensures written { OnOk result (self.new.output ≡ []) }
-        ensures write { IsErrOf result Fault.Write → W.is_marked writer.new ≡ true }
-        ensures memory { IsErrOf result Fault.NoMemory → W.is_marked writer.new ≡ W.is_marked writer.old }
-        ensures read { IsErrOf result Fault.Read → ⊥ }
+        ensures faults { MarksFaults W.Sink writer.old writer.new result }
     {
         match read_sent(line, self.octets.as_mut_slice()) {
             Some((from, count)) => self.hear(from, count, writer),

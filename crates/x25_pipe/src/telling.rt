@@ -1,6 +1,7 @@
 //! What is told of a step of the station: a line for each entry and behind these for each frame, and the mark.
-ghost use Rattle.std.specs.Prelude.{◌≡◌, ◌++◌, true, ℕ, List, Option, OnOk, IsErrOf, MatchResult, map};
-ghost use Rattle.x25_io.specs.code.Written.{AppendsPrefix, Tells};
+ghost use Rattle.std.specs.Prelude.{◌≡◌, map};
+ghost use Rattle.x25_io.specs.code.MarksFaults.{MarksFaults};
+ghost use Rattle.x25_io.specs.code.Written.{TellsMore};
 ghost use Rattle.x25_console.specs.Lines.{refusal_line as line_of_refusal};
 ghost use Rattle.x25_station.specs.code.PlainEntry.{plain_entry};
 ghost use Rattle.x25_station.specs.StationError.{number_of};
@@ -21,13 +22,8 @@ fn tell_entry<W: Sink>(
     output: &mut Output,
     writer: &mut W,
 ) -> Result<(), Fault>
-    ensures kept { OnOk result (W.is_marked writer.new ≡ W.is_marked writer.old) }
-    ensures tells { (old : Option (List ℕ)) (told : List ℕ) → Tells old (W.contents writer.old) output.old told
-        → MatchResult result (λ _. Tells old (W.contents writer.new) output.new (told ++ saying_line end (enters (plain_entry entry.now))))
-        (λ _. AppendsPrefix old (W.contents writer.new) (told ++ saying_line end (enters (plain_entry entry.now)))) }
-    ensures write { IsErrOf result Fault.Write → W.is_marked writer.new ≡ true }
-    ensures memory { IsErrOf result Fault.NoMemory → W.is_marked writer.new ≡ W.is_marked writer.old }
-    ensures read { IsErrOf result Fault.Read → ⊥ }
+    ensures tells { TellsMore result (W.contents writer.old) (W.contents writer.new) output.old output.new (saying_line end (enters (plain_entry entry.now))) }
+    ensures faults { MarksFaults W.Sink writer.old writer.new result }
 {
     write_entry(end, entry, line)?;
     tell(line.as_slice(), output, writer)
@@ -41,13 +37,8 @@ fn tell_frame<W: Sink>(
     output: &mut Output,
     writer: &mut W,
 ) -> Result<(), Fault>
-    ensures kept { OnOk result (W.is_marked writer.new ≡ W.is_marked writer.old) }
-    ensures tells { (old : Option (List ℕ)) (told : List ℕ) → Tells old (W.contents writer.old) output.old told
-        → MatchResult result (λ _. Tells old (W.contents writer.new) output.new (told ++ saying_line end (sends frame.now.items)))
-        (λ _. AppendsPrefix old (W.contents writer.new) (told ++ saying_line end (sends frame.now.items))) }
-    ensures write { IsErrOf result Fault.Write → W.is_marked writer.new ≡ true }
-    ensures memory { IsErrOf result Fault.NoMemory → W.is_marked writer.new ≡ W.is_marked writer.old }
-    ensures read { IsErrOf result Fault.Read → ⊥ }
+    ensures tells { TellsMore result (W.contents writer.old) (W.contents writer.new) output.old output.new (saying_line end (sends frame.now.items)) }
+    ensures faults { MarksFaults W.Sink writer.old writer.new result }
 {
     write_frame(end, frame.as_slice(), line)?;
     tell(line.as_slice(), output, writer)
@@ -60,13 +51,8 @@ pub(crate) fn tell_entries<W: Sink>(
     output: &mut Output,
     writer: &mut W,
 ) -> Result<(), Fault>
-    ensures kept { OnOk result (W.is_marked writer.new ≡ W.is_marked writer.old) }
-    ensures tells { (old : Option (List ℕ)) (told : List ℕ) → Tells old (W.contents writer.old) output.old told
-        → MatchResult result (λ _. Tells old (W.contents writer.new) output.new (told ++ sayings_text end (map enters (map plain_entry entries.now))))
-        (λ _. AppendsPrefix old (W.contents writer.new) (told ++ sayings_text end (map enters (map plain_entry entries.now)))) }
-    ensures write { IsErrOf result Fault.Write → W.is_marked writer.new ≡ true }
-    ensures memory { IsErrOf result Fault.NoMemory → W.is_marked writer.new ≡ W.is_marked writer.old }
-    ensures read { IsErrOf result Fault.Read → ⊥ }
+    ensures tells { TellsMore result (W.contents writer.old) (W.contents writer.new) output.old output.new (sayings_text end (map enters (map plain_entry entries.now))) }
+    ensures faults { MarksFaults W.Sink writer.old writer.new result }
 {
     for entry in entries {
         tell_entry(line, end, entry, output, writer)?;
@@ -81,13 +67,8 @@ pub(crate) fn tell_frames<W: Sink>(
     output: &mut Output,
     writer: &mut W,
 ) -> Result<(), Fault>
-    ensures kept { OnOk result (W.is_marked writer.new ≡ W.is_marked writer.old) }
-    ensures tells { (old : Option (List ℕ)) (told : List ℕ) → Tells old (W.contents writer.old) output.old told
-        → MatchResult result (λ _. Tells old (W.contents writer.new) output.new (told ++ sayings_text end (map sends (map (λ frame. frame.items) frames.now))))
-        (λ _. AppendsPrefix old (W.contents writer.new) (told ++ sayings_text end (map sends (map (λ frame. frame.items) frames.now)))) }
-    ensures write { IsErrOf result Fault.Write → W.is_marked writer.new ≡ true }
-    ensures memory { IsErrOf result Fault.NoMemory → W.is_marked writer.new ≡ W.is_marked writer.old }
-    ensures read { IsErrOf result Fault.Read → ⊥ }
+    ensures tells { TellsMore result (W.contents writer.old) (W.contents writer.new) output.old output.new (sayings_text end (map sends (map (λ frame. frame.items) frames.now))) }
+    ensures faults { MarksFaults W.Sink writer.old writer.new result }
 {
     for frame in frames {
         tell_frame(line, end, frame, output, writer)?;
@@ -102,13 +83,8 @@ pub(crate) fn tell_refusal<W: Sink>(
     output: &mut Output,
     writer: &mut W,
 ) -> Result<(), Fault>
-    ensures kept { OnOk result (W.is_marked writer.new ≡ W.is_marked writer.old) }
-    ensures tells { (old : Option (List ℕ)) (told : List ℕ) → Tells old (W.contents writer.old) output.old told
-        → MatchResult result (λ _. Tells old (W.contents writer.new) output.new (told ++ line_of_refusal (number_of error)))
-        (λ _. AppendsPrefix old (W.contents writer.new) (told ++ line_of_refusal (number_of error))) }
-    ensures write { IsErrOf result Fault.Write → W.is_marked writer.new ≡ true }
-    ensures memory { IsErrOf result Fault.NoMemory → W.is_marked writer.new ≡ W.is_marked writer.old }
-    ensures read { IsErrOf result Fault.Read → ⊥ }
+    ensures tells { TellsMore result (W.contents writer.old) (W.contents writer.new) output.old output.new (line_of_refusal (number_of error)) }
+    ensures faults { MarksFaults W.Sink writer.old writer.new result }
 {
     write_refusal(error.number(), line)?;
     tell(line.as_slice(), output, writer)
@@ -136,13 +112,8 @@ pub(crate) fn tell_mark<W: Sink>(
     output: &mut Output,
     writer: &mut W,
 ) -> Result<(), Fault>
-    ensures kept { OnOk result (W.is_marked writer.new ≡ W.is_marked writer.old) }
-    ensures tells { (end : Role) (old : Option (List ℕ)) (told : List ℕ) → Tells old (W.contents writer.old) output.old told
-        → MatchResult result (λ _. Tells old (W.contents writer.new) output.new (told ++ saying_line end (marks (plain_mark mark) is_idle)))
-        (λ _. AppendsPrefix old (W.contents writer.new) (told ++ saying_line end (marks (plain_mark mark) is_idle))) }
-    ensures write { IsErrOf result Fault.Write → W.is_marked writer.new ≡ true }
-    ensures memory { IsErrOf result Fault.NoMemory → W.is_marked writer.new ≡ W.is_marked writer.old }
-    ensures read { IsErrOf result Fault.Read → ⊥ }
+    ensures tells { (end : Role) → TellsMore result (W.contents writer.old) (W.contents writer.new) output.old output.new (saying_line end (marks (plain_mark mark) is_idle)) }
+    ensures faults { MarksFaults W.Sink writer.old writer.new result }
 {
     tell(mark_line(mark, is_idle), output, writer)
 }

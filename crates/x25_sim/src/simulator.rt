@@ -24,7 +24,8 @@ fn script_line(line: &[u8]) -> Option<ScriptLine<'_>>
 }
 
 impl Simulator {
-    ghost use Rattle.std.specs.Prelude.{◌≡◌, ℕ, List, true, Bool, Option, OnOk, IsErrOf};
+    ghost use Rattle.std.specs.Prelude.{◌≡◌, ℕ, List, Bool, Option};
+    ghost use Rattle.x25_io.specs.code.MarksFaults.{MarksFaults};
     ghost use Rattle.x25_station.specs.declared.config.Cfg.{Cfg as Settings};
     ghost use Rattle.x25_sim.specs.Simulated.{turn};
     ghost use Rattle.x25_sim.specs.code.Stands.{Turns};
@@ -38,12 +39,9 @@ impl Simulator {
     /// What a line asks for happens.
     #[tactic(auto, unfolding(crate::specs::Simulated::turn))]
     fn obey<W: Sink>(&mut self, line: &[u8], writer: &mut W) -> Result<(), Fault>
-        ensures kept { OnOk result (W.is_marked writer.new ≡ W.is_marked writer.old) }
         ensures turns { length line.now ≤ most_line → (cfg : Settings) (tap : Bool) (old : Option (List ℕ))
             → Turns cfg tap old (W.contents writer.old) (W.contents writer.new) self.old.stage self.new.stage result (turn cfg tap line.now) }
-        ensures write { IsErrOf result Fault.Write → W.is_marked writer.new ≡ true }
-        ensures memory { IsErrOf result Fault.NoMemory → W.is_marked writer.new ≡ W.is_marked writer.old }
-        ensures read { IsErrOf result Fault.Read → ⊥ }
+        ensures faults { MarksFaults W.Sink writer.old writer.new result }
     {
         match script_line(line) {
             Some(asked) => self.stage.obey(asked, &mut self.octets, writer),

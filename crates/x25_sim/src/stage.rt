@@ -70,9 +70,10 @@ fn away_from(end: Role) -> Direction
 }
 
 impl Stage {
-    ghost use Rattle.std.specs.Prelude.{◌≡◌, ◌⊎◌, ◌++◌, true, ℕ, List, Bool, Option, Some, None, [], false, OnOk, OnErr, IfErr, IsErrOf, MatchResult, is_none, option_map};
+    ghost use Rattle.std.specs.Prelude.{◌≡◌, ◌⊎◌, ◌++◌, true, ℕ, List, Bool, Option, Some, None, [], false, OnOk, OnErr, IfErr, MatchResult, is_none, option_map};
     ghost use Rattle.x25_script.specs.PlainLine.{plain, plain_command};
-    ghost use Rattle.x25_io.specs.code.Written.{AppendsPrefix, Tells};
+    ghost use Rattle.x25_io.specs.code.MarksFaults.{MarksFaults};
+    ghost use Rattle.x25_io.specs.code.Written.{AppendsPrefix, Tells, TellsMore};
     ghost use Rattle.x25_station.specs.declared.config.Cfg.{Cfg as Settings};
     ghost use Rattle.x25_world.specs.World.{World as State, start, entered, Commands, WorldOutcome, event_of, refusal_of};
     ghost use Rattle.x25_world.specs.code.FitsWorld.{Gone, all_of};
@@ -108,16 +109,11 @@ impl Stage {
 
     /// Tells the frames that the world holds, and lets go of them.
     fn end_frames<W: Sink>(&mut self, writer: &mut W) -> Result<(), Fault>
-        ensures kept { OnOk result (W.is_marked writer.new ≡ W.is_marked writer.old) }
-        ensures tells { (old : Option (List ℕ)) (told : List ℕ) → Tells old (W.contents writer.old) self.old.output told
-            → MatchResult result (λ _. Tells old (W.contents writer.new) self.new.output (told ++ sayings_text (map taps self.old.world.tap)))
-            (λ _. AppendsPrefix old (W.contents writer.new) (told ++ sayings_text (map taps self.old.world.tap))) }
+        ensures tells { TellsMore result (W.contents writer.old) (W.contents writer.new) self.old.output self.new.output (sayings_text (map taps self.old.world.tap)) }
         ensures world { (cfg : Settings) (w : State) (gone : Gone) → FitsWorld cfg self.old.world w gone → OnOk result (FitsWorld cfg self.new.world w (all_of w)) }
         ensures tap { self.new.tap ≡ self.old.tap }
         ensures is_refused { self.new.is_refused ≡ self.old.is_refused }
-        ensures write { IsErrOf result Fault.Write → W.is_marked writer.new ≡ true }
-        ensures memory { IsErrOf result Fault.NoMemory → W.is_marked writer.new ≡ W.is_marked writer.old }
-        ensures read { IsErrOf result Fault.Read → ⊥ }
+        ensures faults { MarksFaults W.Sink writer.old writer.new result }
     {
         tell_frames(&mut self.line, self.world.tap(), &mut self.output, writer)?;
         self.world.let_go();
@@ -126,7 +122,6 @@ impl Stage {
 
     /// Tells the step of an end: its entries, and behind these its frames where they are asked for, of which it lets go.
     fn end_step<W: Sink>(&mut self, at: Role, writer: &mut W) -> Result<(), Fault>
-        ensures kept { OnOk result (W.is_marked writer.new ≡ W.is_marked writer.old) }
         ensures tells { (cfg : Settings) (old : Option (List ℕ)) (told : List ℕ) (w next : State) → FitsWorld cfg self.old.world next (gone_after self.old.tap w next)
             → next.transcript ≡ w.transcript ++ entered at (map plain_entry self.old.told.items)
             → Tells old (W.contents writer.old) self.old.output told → let sayings = told_between self.old.tap w next in
@@ -134,9 +129,7 @@ impl Stage {
         ensures world { (cfg : Settings) (w next : State) → FitsWorld cfg self.old.world next (gone_after self.old.tap w next) → OnOk result (FitsWorld cfg self.new.world next (all_of next)) }
         ensures tap { self.new.tap ≡ self.old.tap }
         ensures is_refused { self.new.is_refused ≡ self.old.is_refused }
-        ensures write { IsErrOf result Fault.Write → W.is_marked writer.new ≡ true }
-        ensures memory { IsErrOf result Fault.NoMemory → W.is_marked writer.new ≡ W.is_marked writer.old }
-        ensures read { IsErrOf result Fault.Read → ⊥ }
+        ensures faults { MarksFaults W.Sink writer.old writer.new result }
     {
         tell_entries(
             &mut self.line,
@@ -153,13 +146,10 @@ impl Stage {
 
     /// Tells that an event is refused; want of memory is a fault.
     fn refuse<W: Sink>(&mut self, error: WorldError, writer: &mut W) -> Result<(), Fault>
-        ensures kept { OnOk result (W.is_marked writer.new ≡ W.is_marked writer.old) }
         ensures stood { (cfg : Settings) (tap : Bool) (old : Option (List ℕ)) (w : State) (outcome : WorldOutcome) (told : List ℕ) (refused : Bool)
             → Stands cfg tap old (W.contents writer.old) self.old w told refused → ((refusal_of outcome ≡ Some error) ⊎ (error ≡ WorldError.NoMemory))
             → Stood cfg tap old (W.contents writer.new) self.new told refused result (turn_of tap w outcome) }
-        ensures write { IsErrOf result Fault.Write → W.is_marked writer.new ≡ true }
-        ensures memory { IsErrOf result Fault.NoMemory → W.is_marked writer.new ≡ W.is_marked writer.old }
-        ensures read { IsErrOf result Fault.Read → ⊥ }
+        ensures faults { MarksFaults W.Sink writer.old writer.new result }
     {
         if is_memory(error) {
             return Err(Fault::NoMemory);
@@ -171,12 +161,9 @@ impl Stage {
     /// An event happens, and is told, or it is told that it is refused.
     #[inline(always)]
     pub(crate) fn happen<W: Sink>(&mut self, event: Event, writer: &mut W) -> Result<(), Fault>
-        ensures kept { OnOk result (W.is_marked writer.new ≡ W.is_marked writer.old) }
         ensures turns { (cfg : Settings) (tap : Bool) (old : Option (List ℕ))
             → Turns cfg tap old (W.contents writer.old) (W.contents writer.new) self.old self.new result (event_turn cfg tap (event_of event.entry)) }
-        ensures write { IsErrOf result Fault.Write → W.is_marked writer.new ≡ true }
-        ensures memory { IsErrOf result Fault.NoMemory → W.is_marked writer.new ≡ W.is_marked writer.old }
-        ensures read { IsErrOf result Fault.Read → ⊥ }
+        ensures faults { MarksFaults W.Sink writer.old writer.new result }
     {
         match self.world.step(event, self.tap, &mut self.told) {
             Ok(()) => self.end_step(event.at(), writer),
@@ -206,12 +193,9 @@ impl Stage {
 
     /// At most so many frames are delivered.
     fn drain<W: Sink>(&mut self, count: u32, writer: &mut W) -> Result<(), Fault>
-        ensures kept { OnOk result (W.is_marked writer.new ≡ W.is_marked writer.old) }
         ensures turns { (cfg : Settings) (tap : Bool) (old : Option (List ℕ))
             → Turns cfg tap old (W.contents writer.old) (W.contents writer.new) self.old self.new result (drained cfg tap count) }
-        ensures write { IsErrOf result Fault.Write → W.is_marked writer.new ≡ true }
-        ensures memory { IsErrOf result Fault.NoMemory → W.is_marked writer.new ≡ W.is_marked writer.old }
-        ensures read { IsErrOf result Fault.Read → ⊥ }
+        ensures faults { MarksFaults W.Sink writer.old writer.new result }
     {
         for _ in 0..count {
             let Some(direction) = self.next_direction() else {
@@ -224,12 +208,9 @@ impl Stage {
 
     /// An event happens, and is told; where it is refused nothing is told.
     fn attempt<W: Sink>(&mut self, event: Event, writer: &mut W) -> Result<(), Fault>
-        ensures kept { OnOk result (W.is_marked writer.new ≡ W.is_marked writer.old) }
         ensures turns { (cfg : Settings) (tap : Bool) (old : Option (List ℕ))
             → Turns cfg tap old (W.contents writer.old) (W.contents writer.new) self.old self.new result (tried cfg tap (event_of event.entry)) }
-        ensures write { IsErrOf result Fault.Write → W.is_marked writer.new ≡ true }
-        ensures memory { IsErrOf result Fault.NoMemory → W.is_marked writer.new ≡ W.is_marked writer.old }
-        ensures read { IsErrOf result Fault.Read → ⊥ }
+        ensures faults { MarksFaults W.Sink writer.old writer.new result }
     {
         if let Err(error) = self.world.step(event, self.tap, &mut self.told) {
             return unless_memory(error);
@@ -244,13 +225,10 @@ impl Stage {
         second: Event,
         writer: &mut W,
     ) -> Result<(), Fault>
-        ensures kept { OnOk result (W.is_marked writer.new ≡ W.is_marked writer.old) }
         ensures turns { (cfg : Settings) (tap : Bool) (old : Option (List ℕ))
             → Turns cfg tap old (W.contents writer.old) (W.contents writer.new) self.old self.new result
             (λ w. and_then (tried cfg tap (event_of second.entry)) (tried cfg tap (event_of first.entry) w)) }
-        ensures write { IsErrOf result Fault.Write → W.is_marked writer.new ≡ true }
-        ensures memory { IsErrOf result Fault.NoMemory → W.is_marked writer.new ≡ W.is_marked writer.old }
-        ensures read { IsErrOf result Fault.Read → ⊥ }
+        ensures faults { MarksFaults W.Sink writer.old writer.new result }
     {
         self.attempt(first, writer)?;
         self.attempt(second, writer)
@@ -263,13 +241,10 @@ impl Stage {
         second: Event,
         writer: &mut W,
     ) -> Result<(), Fault>
-        ensures kept { OnOk result (W.is_marked writer.new ≡ W.is_marked writer.old) }
         ensures turns { (cfg : Settings) (tap : Bool) (old : Option (List ℕ))
             → Turns cfg tap old (W.contents writer.old) (W.contents writer.new) self.old self.new result
             (λ w. and_then (λ v. and_then (tried cfg tap (event_of second.entry)) (tried cfg tap (event_of first.entry) v)) (drained cfg tap most_times w)) }
-        ensures write { IsErrOf result Fault.Write → W.is_marked writer.new ≡ true }
-        ensures memory { IsErrOf result Fault.NoMemory → W.is_marked writer.new ≡ W.is_marked writer.old }
-        ensures read { IsErrOf result Fault.Read → ⊥ }
+        ensures faults { MarksFaults W.Sink writer.old writer.new result }
     {
         self.drain(MOST_TIMES, writer)?;
         self.attempt_both(first, second, writer)
@@ -277,24 +252,18 @@ impl Stage {
 
     /// What is on the line arrives, and then timer T1 runs out at each end where it runs.
     fn fire<W: Sink>(&mut self, writer: &mut W) -> Result<(), Fault>
-        ensures kept { OnOk result (W.is_marked writer.new ≡ W.is_marked writer.old) }
         ensures turns { (cfg : Settings) (tap : Bool) (old : Option (List ℕ))
             → Turns cfg tap old (W.contents writer.old) (W.contents writer.new) self.old self.new result (fired cfg tap) }
-        ensures write { IsErrOf result Fault.Write → W.is_marked writer.new ≡ true }
-        ensures memory { IsErrOf result Fault.NoMemory → W.is_marked writer.new ≡ W.is_marked writer.old }
-        ensures read { IsErrOf result Fault.Read → ⊥ }
+        ensures faults { MarksFaults W.Sink writer.old writer.new result }
     {
         self.deliver_all_then(Event::T1(Role::Dte), Event::T1(Role::Dce), writer)
     }
 
     /// What is on the line arrives, and then each end pulls what waits in its circuits.
     fn pull<W: Sink>(&mut self, writer: &mut W) -> Result<(), Fault>
-        ensures kept { OnOk result (W.is_marked writer.new ≡ W.is_marked writer.old) }
         ensures turns { (cfg : Settings) (tap : Bool) (old : Option (List ℕ))
             → Turns cfg tap old (W.contents writer.old) (W.contents writer.new) self.old self.new result (pulled cfg tap) }
-        ensures write { IsErrOf result Fault.Write → W.is_marked writer.new ≡ true }
-        ensures memory { IsErrOf result Fault.NoMemory → W.is_marked writer.new ≡ W.is_marked writer.old }
-        ensures read { IsErrOf result Fault.Read → ⊥ }
+        ensures faults { MarksFaults W.Sink writer.old writer.new result }
     {
         self.deliver_all_then(
             Event::Command(Role::Dte, Cmd::Pull),
@@ -305,12 +274,9 @@ impl Stage {
 
     /// So it goes on as long as that puts frames on the line.
     fn empty<W: Sink>(&mut self, writer: &mut W) -> Result<(), Fault>
-        ensures kept { OnOk result (W.is_marked writer.new ≡ W.is_marked writer.old) }
         ensures turns { (cfg : Settings) (tap : Bool) (old : Option (List ℕ))
             → Turns cfg tap old (W.contents writer.old) (W.contents writer.new) self.old self.new result (emptied cfg tap most_times) }
-        ensures write { IsErrOf result Fault.Write → W.is_marked writer.new ≡ true }
-        ensures memory { IsErrOf result Fault.NoMemory → W.is_marked writer.new ≡ W.is_marked writer.old }
-        ensures read { IsErrOf result Fault.Read → ⊥ }
+        ensures faults { MarksFaults W.Sink writer.old writer.new result }
     {
         for _ in 0..MOST_TIMES {
             self.pull(writer)?;
@@ -324,12 +290,9 @@ impl Stage {
     /// The line is good for a moment: what is on it arrives, timer T1 runs out at each end where it runs, and what they send then and what waits in
     /// the circuits arrives.
     fn heal<W: Sink>(&mut self, writer: &mut W) -> Result<(), Fault>
-        ensures kept { OnOk result (W.is_marked writer.new ≡ W.is_marked writer.old) }
         ensures turns { (cfg : Settings) (tap : Bool) (old : Option (List ℕ))
             → Turns cfg tap old (W.contents writer.old) (W.contents writer.new) self.old self.new result (healed cfg tap) }
-        ensures write { IsErrOf result Fault.Write → W.is_marked writer.new ≡ true }
-        ensures memory { IsErrOf result Fault.NoMemory → W.is_marked writer.new ≡ W.is_marked writer.old }
-        ensures read { IsErrOf result Fault.Read → ⊥ }
+        ensures faults { MarksFaults W.Sink writer.old writer.new result }
     {
         self.fire(writer)?;
         self.empty(writer)
@@ -337,12 +300,9 @@ impl Stage {
 
     /// Tells that a line isn't in the grammar.
     pub(crate) fn read_nothing<W: Sink>(&mut self, writer: &mut W) -> Result<(), Fault>
-        ensures kept { OnOk result (W.is_marked writer.new ≡ W.is_marked writer.old) }
         ensures turns { (cfg : Settings) (tap : Bool) (old : Option (List ℕ))
             → Turns cfg tap old (W.contents writer.old) (W.contents writer.new) self.old self.new result (λ w. asked_turn cfg tap w None) }
-        ensures write { IsErrOf result Fault.Write → W.is_marked writer.new ≡ true }
-        ensures memory { IsErrOf result Fault.NoMemory → W.is_marked writer.new ≡ W.is_marked writer.old }
-        ensures read { IsErrOf result Fault.Read → ⊥ }
+        ensures faults { MarksFaults W.Sink writer.old writer.new result }
     {
         self.is_refused = true;
         tell_nothing(&mut self.output, writer)
@@ -356,13 +316,10 @@ impl Stage {
         octets: &mut Vec<u8>,
         writer: &mut W,
     ) -> Result<(), Fault>
-        ensures kept { OnOk result (W.is_marked writer.new ≡ W.is_marked writer.old) }
         ensures turns { (cfg : Settings) (tap : Bool) (old : Option (List ℕ))
             → Turns cfg tap old (W.contents writer.old) (W.contents writer.new) self.old self.new result
             (event_turn cfg tap (record { at = end; act = Commands (command_asked (plain_command command.entry)) })) }
-        ensures write { IsErrOf result Fault.Write → W.is_marked writer.new ≡ true }
-        ensures memory { IsErrOf result Fault.NoMemory → W.is_marked writer.new ≡ W.is_marked writer.old }
-        ensures read { IsErrOf result Fault.Read → ⊥ }
+        ensures faults { MarksFaults W.Sink writer.old writer.new result }
     {
         read_user(&command, octets)?;
         let command = station_command(&command, octets.as_slice());
@@ -377,12 +334,9 @@ impl Stage {
         octets: &mut Vec<u8>,
         writer: &mut W,
     ) -> Result<(), Fault>
-        ensures kept { OnOk result (W.is_marked writer.new ≡ W.is_marked writer.old) }
         ensures turns { (cfg : Settings) (tap : Bool) (old : Option (List ℕ))
             → Turns cfg tap old (W.contents writer.old) (W.contents writer.new) self.old self.new result (line_turn cfg tap (plain line.entry)) }
-        ensures write { IsErrOf result Fault.Write → W.is_marked writer.new ≡ true }
-        ensures memory { IsErrOf result Fault.NoMemory → W.is_marked writer.new ≡ W.is_marked writer.old }
-        ensures read { IsErrOf result Fault.Read → ⊥ }
+        ensures faults { MarksFaults W.Sink writer.old writer.new result }
     {
         match line {
             ScriptLine::Command { end, command } => self.command(end, command, octets, writer),
@@ -431,16 +385,13 @@ impl Stage {
 
     /// Tells the frames of the first world where they are asked for, and lets go of them.
     fn begin<W: Sink>(&mut self, writer: &mut W) -> Result<(), Fault>
-        ensures kept { OnOk result (W.is_marked writer.new ≡ W.is_marked writer.old) }
         ensures tells { (cfg : Settings) (down : Bool) (old : Option (List ℕ)) (told : List ℕ) → FitsWorld cfg self.old.world (opening cfg down) nothing_gone
             → Tells old (W.contents writer.old) self.old.output told → let sayings = told_between self.old.tap start (opening cfg down) in
             MatchResult result (λ _. Tells old (W.contents writer.new) self.new.output (told ++ sayings_text sayings)) (λ _. AppendsPrefix old (W.contents writer.new) (told ++ sayings_text sayings)) }
         ensures world { (cfg : Settings) (w : State) (gone : Gone) → FitsWorld cfg self.old.world w gone → OnOk result (FitsWorld cfg self.new.world w (all_of w)) }
         ensures tap { self.new.tap ≡ self.old.tap }
         ensures is_refused { self.new.is_refused ≡ self.old.is_refused }
-        ensures write { IsErrOf result Fault.Write → W.is_marked writer.new ≡ true }
-        ensures memory { IsErrOf result Fault.NoMemory → W.is_marked writer.new ≡ W.is_marked writer.old }
-        ensures read { IsErrOf result Fault.Read → ⊥ }
+        ensures faults { MarksFaults W.Sink writer.old writer.new result }
     {
         if self.tap {
             return self.end_frames(writer);
@@ -452,13 +403,10 @@ impl Stage {
     /// What the first world holds is told, and where the DTE has asked that the link be set up, its SABM and the UA are delivered, and that is
     /// told.
     pub(crate) fn open<W: Sink>(&mut self, writer: &mut W) -> Result<(), Fault>
-        ensures kept { OnOk result (W.is_marked writer.new ≡ W.is_marked writer.old) }
         ensures stood { (cfg : Settings) (down : Bool) (old : Option (List ℕ)) → IsOpening cfg down self.old
             → self.old.is_refused ≡ false → Tells old (W.contents writer.old) self.old.output []
             → Stood cfg self.old.tap old (W.contents writer.new) self.new [] false result (opened cfg down self.old.tap) }
-        ensures write { IsErrOf result Fault.Write → W.is_marked writer.new ≡ true }
-        ensures memory { IsErrOf result Fault.NoMemory → W.is_marked writer.new ≡ W.is_marked writer.old }
-        ensures read { IsErrOf result Fault.Read → ⊥ }
+        ensures faults { MarksFaults W.Sink writer.old writer.new result }
     {
         two_stations_keep_order();
         self.begin(writer)?;

@@ -1,6 +1,7 @@
 //! What is told of a step: a line for each entry, and for each frame where frames are asked for.
-ghost use Rattle.std.specs.Prelude.{◌≡◌, ◌++◌, true, ℕ, List, Option, OnOk, IsErrOf, MatchResult, map};
-ghost use Rattle.x25_io.specs.code.Written.{AppendsPrefix, Tells};
+ghost use Rattle.std.specs.Prelude.{◌≡◌, map};
+ghost use Rattle.x25_io.specs.code.MarksFaults.{MarksFaults};
+ghost use Rattle.x25_io.specs.code.Written.{TellsMore};
 ghost use Rattle.x25_station.specs.code.PlainEntry.{plain_entry};
 ghost use Rattle.x25_world.specs.code.PlainTold.{plain_tapped};
 ghost use Rattle.x25_console.specs.Lines.{refusal_line as line_of_refusal};
@@ -30,13 +31,8 @@ fn tell_entry<W: Sink>(
     output: &mut Output,
     writer: &mut W,
 ) -> Result<(), Fault>
-    ensures kept { OnOk result (W.is_marked writer.new ≡ W.is_marked writer.old) }
-    ensures tells { (old : Option (List ℕ)) (told : List ℕ) → Tells old (W.contents writer.old) output.old told
-        → MatchResult result (λ _. Tells old (W.contents writer.new) output.new (told ++ saying_line (enters_at at (plain_entry entry.now))))
-        (λ _. AppendsPrefix old (W.contents writer.new) (told ++ saying_line (enters_at at (plain_entry entry.now)))) }
-    ensures write { IsErrOf result Fault.Write → W.is_marked writer.new ≡ true }
-    ensures memory { IsErrOf result Fault.NoMemory → W.is_marked writer.new ≡ W.is_marked writer.old }
-    ensures read { IsErrOf result Fault.Read → ⊥ }
+    ensures tells { TellsMore result (W.contents writer.old) (W.contents writer.new) output.old output.new (saying_line (enters_at at (plain_entry entry.now))) }
+    ensures faults { MarksFaults W.Sink writer.old writer.new result }
 {
     write_entry(at, entry, line)?;
     tell(line.as_slice(), output, writer)
@@ -49,13 +45,8 @@ fn tell_frame<W: Sink>(
     output: &mut Output,
     writer: &mut W,
 ) -> Result<(), Fault>
-    ensures kept { OnOk result (W.is_marked writer.new ≡ W.is_marked writer.old) }
-    ensures tells { (old : Option (List ℕ)) (told : List ℕ) → Tells old (W.contents writer.old) output.old told
-        → MatchResult result (λ _. Tells old (W.contents writer.new) output.new (told ++ saying_line (taps (plain_tapped frame.now))))
-        (λ _. AppendsPrefix old (W.contents writer.new) (told ++ saying_line (taps (plain_tapped frame.now)))) }
-    ensures write { IsErrOf result Fault.Write → W.is_marked writer.new ≡ true }
-    ensures memory { IsErrOf result Fault.NoMemory → W.is_marked writer.new ≡ W.is_marked writer.old }
-    ensures read { IsErrOf result Fault.Read → ⊥ }
+    ensures tells { TellsMore result (W.contents writer.old) (W.contents writer.new) output.old output.new (saying_line (taps (plain_tapped frame.now))) }
+    ensures faults { MarksFaults W.Sink writer.old writer.new result }
 {
     write_frame(frame.from, frame.octets.as_slice(), line)?;
     tell(line.as_slice(), output, writer)
@@ -68,13 +59,8 @@ pub(crate) fn tell_entries<W: Sink>(
     output: &mut Output,
     writer: &mut W,
 ) -> Result<(), Fault>
-    ensures kept { OnOk result (W.is_marked writer.new ≡ W.is_marked writer.old) }
-    ensures tells { (old : Option (List ℕ)) (told : List ℕ) → Tells old (W.contents writer.old) output.old told
-        → MatchResult result (λ _. Tells old (W.contents writer.new) output.new (told ++ sayings_text (map (enters_at at) (map plain_entry entries.now))))
-        (λ _. AppendsPrefix old (W.contents writer.new) (told ++ sayings_text (map (enters_at at) (map plain_entry entries.now)))) }
-    ensures write { IsErrOf result Fault.Write → W.is_marked writer.new ≡ true }
-    ensures memory { IsErrOf result Fault.NoMemory → W.is_marked writer.new ≡ W.is_marked writer.old }
-    ensures read { IsErrOf result Fault.Read → ⊥ }
+    ensures tells { TellsMore result (W.contents writer.old) (W.contents writer.new) output.old output.new (sayings_text (map (enters_at at) (map plain_entry entries.now))) }
+    ensures faults { MarksFaults W.Sink writer.old writer.new result }
 {
     for entry in entries {
         tell_entry(line, at, entry, output, writer)?;
@@ -88,13 +74,8 @@ pub(crate) fn tell_frames<W: Sink>(
     output: &mut Output,
     writer: &mut W,
 ) -> Result<(), Fault>
-    ensures kept { OnOk result (W.is_marked writer.new ≡ W.is_marked writer.old) }
-    ensures tells { (old : Option (List ℕ)) (told : List ℕ) → Tells old (W.contents writer.old) output.old told
-        → MatchResult result (λ _. Tells old (W.contents writer.new) output.new (told ++ sayings_text (map taps (map plain_tapped frames.now))))
-        (λ _. AppendsPrefix old (W.contents writer.new) (told ++ sayings_text (map taps (map plain_tapped frames.now)))) }
-    ensures write { IsErrOf result Fault.Write → W.is_marked writer.new ≡ true }
-    ensures memory { IsErrOf result Fault.NoMemory → W.is_marked writer.new ≡ W.is_marked writer.old }
-    ensures read { IsErrOf result Fault.Read → ⊥ }
+    ensures tells { TellsMore result (W.contents writer.old) (W.contents writer.new) output.old output.new (sayings_text (map taps (map plain_tapped frames.now))) }
+    ensures faults { MarksFaults W.Sink writer.old writer.new result }
 {
     for frame in frames {
         tell_frame(line, frame, output, writer)?;
@@ -109,13 +90,8 @@ pub(crate) fn tell_refusal<W: Sink>(
     output: &mut Output,
     writer: &mut W,
 ) -> Result<(), Fault>
-    ensures kept { OnOk result (W.is_marked writer.new ≡ W.is_marked writer.old) }
-    ensures tells { (old : Option (List ℕ)) (told : List ℕ) → Tells old (W.contents writer.old) output.old told
-        → MatchResult result (λ _. Tells old (W.contents writer.new) output.new (told ++ line_of_refusal (number_of_refusal error)))
-        (λ _. AppendsPrefix old (W.contents writer.new) (told ++ line_of_refusal (number_of_refusal error))) }
-    ensures write { IsErrOf result Fault.Write → W.is_marked writer.new ≡ true }
-    ensures memory { IsErrOf result Fault.NoMemory → W.is_marked writer.new ≡ W.is_marked writer.old }
-    ensures read { IsErrOf result Fault.Read → ⊥ }
+    ensures tells { TellsMore result (W.contents writer.old) (W.contents writer.new) output.old output.new (line_of_refusal (number_of_refusal error)) }
+    ensures faults { MarksFaults W.Sink writer.old writer.new result }
 {
     write_refusal(refusal_number(error), line)?;
     tell(line.as_slice(), output, writer)

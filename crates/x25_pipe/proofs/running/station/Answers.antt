@@ -30,7 +30,7 @@ returns-in_err-mark_standing-clause-fault g c =
     (c.in_err-mark_standing.ensures.turns k written new_station [] false (stands_first k written c.in_ok-pipe.pipe first.fits first.role first.empty first.is_refused))))
 
 pub returns-clause-clean : goal.returns-clause-clean
-returns-clause-clean g c = on_ok_weaker c.take_text.result (λ clean. (clean.0, clean.1 ∙ c.in_ok-mark_standing.ensures.kept)) c.take_text.ensures.clean
+returns-clause-clean g c = on_ok_weaker c.take_text.result (λ clean. (clean.0, clean.1 ∙ c.in_ok-mark_standing.ensures.faults.kept)) c.take_text.ensures.clean
 
 pub returns-clause-text : goal.returns-clause-text
 returns-clause-text g c =

@@ -20,7 +20,7 @@ returns-in_err-open-clause-fault g c = λ cfg down tap ready.
     (c.in_err-open.ensures.stood cfg down written ready.opening ready.unrefused (none_told written s.stage.output ready.empty))))
 
 pub returns-clause-clean : goal.returns-clause-clean
-returns-clause-clean g c = on_ok_weaker c.take_text.result (λ clean. (clean.0, clean.1 ∙ c.in_ok-open.ensures.kept)) c.take_text.ensures.clean
+returns-clause-clean g c = on_ok_weaker c.take_text.result (λ clean. (clean.0, clean.1 ∙ c.in_ok-open.ensures.faults.kept)) c.take_text.ensures.clean
 
 -- the script is still to come
 begins : (g : given.Over) (c : goal.After-drop-self-2 g) (cfg : Cfg) (down tap : Bool) → IsReady cfg down tap c.args.self → (script : List ℕ)

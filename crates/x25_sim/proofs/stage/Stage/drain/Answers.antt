@@ -25,7 +25,7 @@ returns-in_err-happen-clause-turns g c = λ cfg tap old w told refused h.
 
 pub loop-preserved : goal.loop-preserved
 loop-preserved g c = (
-  c.in_ok-happen.ensures.kept ∙ c.loop.invariant.0,
+  c.in_ok-happen.ensures.faults.kept ∙ c.loop.invariant.0,
   λ cfg tap old w told refused h.
       let l = c.loop.invariant.1 cfg tap old w told refused h in
       let at = end_of c.in-Some.direction in

@@ -29,7 +29,7 @@ returns-then-is_line_empty-clause-turns g c = λ cfg tap old w told refused h.
 
 pub loop-preserved : goal.loop-preserved
 loop-preserved g c = (
-  c.in_ok-pull.ensures.kept ∙ c.loop.invariant.0,
+  c.in_ok-pull.ensures.faults.kept ∙ c.loop.invariant.0,
   λ cfg tap old w told refused h.
       let l = c.loop.invariant.1 cfg tap old w told refused h in
       let left = most_times - (c.loop.counter + 1) in
