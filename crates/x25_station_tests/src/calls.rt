@@ -3,9 +3,17 @@
 use std::alloc::Global;
 use x25_station::{Cfg, Cmd, Role, Station, StationError, Step};
 
+// A station in a place of its own: a body that holds the box lets go of it by one call, and not of each part of the station.
+fn boxed(alloc: Global, station: Station) -> Result<Box<Station>, StationError> {
+    match Box::new(alloc, station) {
+        Ok(boxed) => Ok(boxed),
+        Err(_) => Err(StationError::NoMemory),
+    }
+}
+
 /// A station just made.
-pub fn station(alloc: Global, role: Role, cfg: Cfg) -> Result<Station, StationError> {
-    Station::new(alloc, role, cfg)
+pub fn station(alloc: Global, role: Role, cfg: Cfg) -> Result<Box<Station>, StationError> {
+    boxed(alloc, Station::new(alloc, role, cfg)?)
 }
 
 pub fn connect(station: &mut Station) -> Result<Step, StationError> {

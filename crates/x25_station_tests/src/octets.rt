@@ -125,7 +125,7 @@ fn few_octets(alloc: Global, number: u64) -> Result<Vec<u8>, Fail> {
 #[derive(Drop)]
 struct Peer {
     alloc: Global,
-    station: Station,
+    station: Box<Station>,
     seen: Seen,
 }
 

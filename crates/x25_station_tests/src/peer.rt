@@ -58,7 +58,7 @@ pub fn settings(channels: u8, long_data: bool) -> Cfg {
 struct End {
     alloc: Global,
     role: Role,
-    station: Station,
+    station: Box<Station>,
 }
 
 impl End {
