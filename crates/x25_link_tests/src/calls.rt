@@ -13,7 +13,13 @@ fn boxed(alloc: Global, link: Link) -> Result<Box<Link>, LinkError> {
 }
 
 /// A link just made, for packets of at most so many octets.
-pub fn link_for(alloc: Global, role: Role, k: u8, longest: usize, n2: u8) -> Result<Box<Link>, LinkError> {
+pub fn link_for(
+    alloc: Global,
+    role: Role,
+    k: u8,
+    longest: usize,
+    n2: u8,
+) -> Result<Box<Link>, LinkError> {
     boxed(alloc, Link::new(alloc, role, k, longest, n2)?)
 }
 
