@@ -20,11 +20,18 @@ fn put_two(link: &mut PlainLink, alloc: Global) -> Result<(), LinkError> {
     put_one(link, alloc, 6)
 }
 
+// The packet of this octet comes out.
+fn comes_out(rt: &impl Abort, link: &mut PlainLink, octet: u8) -> Result<(), Fail> {
+    let packet = link.out().ok_or("a packet waits")?;
+    assert_eq!(rt; packet.as_slice(), [octet].as_slice());
+    Ok(())
+}
+
 fn puts_and_takes(rt: &impl Abort, alloc: Global, link: &mut PlainLink) -> Result<(), Fail> {
     put_two(link, alloc)?;
     assert_eq!(rt; link.waiting(), 2);
-    assert_eq!(rt; link.out().ok_or("5 waits")?.as_slice(), [5].as_slice());
-    assert_eq!(rt; link.out().ok_or("6 waits")?.as_slice(), [6].as_slice());
+    comes_out(rt, link, 5)?;
+    comes_out(rt, link, 6)?;
     assert_eq!(rt; link.waiting(), 0);
     Ok(())
 }
@@ -45,14 +52,18 @@ fn what_is_put_comes_out(rt: HostRuntime) -> Result<(), Fail> {
 fn fill(link: &mut PlainLink, alloc: Global) -> Result<(), LinkError> {
     link.room(2)?;
     for _ in 0..256u16 {
-        link.put(Vec::new(alloc))?;
+        put_empty(link, alloc)?;
     }
     Ok(())
 }
 
+fn put_empty(link: &mut PlainLink, alloc: Global) -> Result<(), LinkError> {
+    link.put(Vec::new(alloc))
+}
+
 fn takes_no_more(rt: &impl Abort, alloc: Global, link: &mut PlainLink) {
     assert_eq!(rt; link.spare(), 0);
-    assert_eq!(rt; link.put(Vec::new(alloc)), Err(LinkError::QueueFull));
+    assert_eq!(rt; put_empty(link, alloc), Err(LinkError::QueueFull));
     assert_eq!(rt; link.waiting(), 256);
     assert_eq!(rt; LinkError::QueueFull.number(), 10);
 }
