@@ -25,15 +25,23 @@ const SETTINGS: Cfg = Cfg {
 /// One end: its station, and what a program keeps beside it.
 #[derive(Drop)]
 struct End {
-    station: Station,
+    station: Box<Station>,
     out: Frames,
     timer: Flag,
     told: Told,
 }
 
+// A station is large: in a box it is let go of by one call, which is lighter for the prover.
+fn boxed(alloc: Global, station: Station) -> Result<Box<Station>, StationError> {
+    match Box::new(alloc, station) {
+        Ok(boxed) => Ok(boxed),
+        Err(_) => Err(StationError::NoMemory),
+    }
+}
+
 impl End {
     fn new(alloc: Global, role: Role) -> Result<End, StationError> {
-        let station = Station::new(alloc, role, SETTINGS)?;
+        let station = boxed(alloc, Station::new(alloc, role, SETTINGS)?)?;
         Ok(End {
             station,
             out: Frames::new(alloc),
@@ -126,13 +134,17 @@ fn play(dte: &mut End, dce: &mut End) -> Result<(), Trouble> {
     talk(dte, dce)
 }
 
+/// Writes what the users were told.
+fn tell<W: Write>(dte: &Told, dce: &Told, writer: &mut W) -> io::Result<()> {
+    writer.write_all(dte.text.as_slice())?;
+    writer.write_all(dce.text.as_slice())
+}
+
 fn main(rt: HostRuntime) -> Result<()> {
     let alloc = rt.alloc();
     let mut dte = End::new(alloc, Role::Dte)?;
     let mut dce = End::new(alloc, Role::Dce)?;
     play(&mut dte, &mut dce)?;
-    let mut writer = io::writer(&rt);
-    writer.write_all(dte.told.text.as_slice())?;
-    writer.write_all(dce.told.text.as_slice())?;
+    tell(&dte.told, &dce.told, &mut io::writer(&rt))?;
     Ok(())
 }

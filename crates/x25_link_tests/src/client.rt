@@ -1,7 +1,7 @@
 //! A client of any link that keeps order, as a packet layer is one.
 ghost use Rattle.std.specs.Prelude.{◌≡◌, ◌<◌, ◌≤◌, nat_lt, true, if◌then◌else◌, vec_len, IfErr, OnOk, OnErr};
 
-use crate::calls::link;
+use crate::calls::{link, plain_link};
 use std::alloc::Global;
 use std::process::Abort;
 use std::test::Fail;
@@ -44,13 +44,17 @@ fn waiting_after<L: OrderedLink>(link: &mut L, alloc: Global) -> Result<usize, L
     Ok(link.waiting())
 }
 
-#[test]
-fn pulls_while_few_wait(rt: HostRuntime) -> Result<(), Fail> {
-    let mut link = PlainLink::new(rt.alloc())?;
+fn fills(rt: &impl Abort, alloc: Global, link: &mut PlainLink) -> Result<(), Fail> {
     for waiting in [2, 4, 6, 8, 9, 10] {
-        assert_eq!(rt; waiting_after(&mut link, rt.alloc())?, waiting);
+        assert_eq!(rt; waiting_after(link, alloc)?, waiting);
     }
     Ok(())
+}
+
+#[test]
+fn pulls_while_few_wait(rt: HostRuntime) -> Result<(), Fail> {
+    let mut link = plain_link(rt.alloc())?;
+    fills(&rt, rt.alloc(), &mut link)
 }
 
 fn takes_nothing(rt: &impl Abort, alloc: Global, link: &mut Link) {

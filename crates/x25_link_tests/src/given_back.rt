@@ -5,7 +5,7 @@ use std::alloc::Global;
 use std::process::Abort;
 use std::test::Fail;
 use x25_bits::Role;
-use x25_link::{Link, Step};
+use x25_link::{Link, LinkError};
 
 /// SABM with P=1 of the DTE.
 static SABM: [u8; 4] = [0x01, 0x3f, 0xeb, 0xdf];
@@ -16,21 +16,31 @@ fn gives(alloc: Global, link: &mut Link, count: usize) -> Result<(), Fail> {
     Ok(())
 }
 
-// A step's first frame is SABM. Answers for how many octets it has memory.
-fn memory_of_sabm(rt: &impl Abort, step: &Step) -> Result<usize, Fail> {
-    let frame = step.frames.get(0).ok_or("SABM goes")?;
+// The frames that set the link up.
+fn set_up(link: &mut Link) -> Result<Vec<Vec<u8>>, LinkError> {
+    Ok(connect(link)?.frames)
+}
+
+// The first frame is SABM. Answers for how many octets it has memory.
+fn memory_of_sabm(rt: &impl Abort, frames: &[Vec<u8>]) -> Result<usize, Fail> {
+    let frame = frames.get(0).ok_or("SABM goes")?;
     assert_eq!(rt; frame.as_slice(), SABM.as_slice());
     Ok(frame.capacity())
 }
 
+// A link has so many pieces of memory that were given back.
+fn has(rt: &impl Abort, link: &Link, count: usize) {
+    assert_eq!(rt; link.returned(), count);
+}
+
 fn sends_in_forty(rt: &impl Abort, alloc: Global, link: &mut Link) -> Result<(), Fail> {
     gives(alloc, link, 40)?;
-    assert_eq!(rt; link.returned(), 1);
-    let step = connect(link)?;
-    assert_eq!(rt; link.returned(), 0);
-    assert_eq!(rt; memory_of_sabm(rt, &step)?, 40);
-    link.give_back_list(step.frames);
-    assert_eq!(rt; link.returned(), 1);
+    has(rt, link, 1);
+    let frames = set_up(link)?;
+    has(rt, link, 0);
+    assert_eq!(rt; memory_of_sabm(rt, frames.as_slice())?, 40);
+    link.give_back_list(frames);
+    has(rt, link, 1);
     Ok(())
 }
 
@@ -42,9 +52,9 @@ fn a_frame_is_sent_in_memory_that_was_given_back(rt: HostRuntime) -> Result<(), 
 
 fn lets_go_of_three(rt: &impl Abort, alloc: Global, link: &mut Link) -> Result<(), Fail> {
     gives(alloc, link, 3)?;
-    let step = connect(link)?;
-    assert_eq!(rt; link.returned(), 0);
-    memory_of_sabm(rt, &step)?;
+    let frames = set_up(link)?;
+    has(rt, link, 0);
+    memory_of_sabm(rt, frames.as_slice())?;
     Ok(())
 }
 
@@ -56,11 +66,11 @@ fn what_is_too_small_is_let_go_of(rt: HostRuntime) -> Result<(), Fail> {
 
 fn keeps_thirty_two(rt: &impl Abort, alloc: Global, link: &mut Link) -> Result<(), Fail> {
     gives(alloc, link, 4104)?;
-    assert_eq!(rt; link.returned(), 0);
+    has(rt, link, 0);
     for _ in 0..40u8 {
         gives(alloc, link, 7)?;
     }
-    assert_eq!(rt; link.returned(), 32);
+    has(rt, link, 32);
     Ok(())
 }
 

@@ -1,11 +1,12 @@
 //! Set-up, disconnection and refusals.
 
+use crate::calls::link_for;
 use crate::pair::{DCE, DTE, Row, play, play_up};
 use crate::station::Event::{
     Abandon, Ask, Connect, Deliver, Disconnect, HearDisc, HearSabm, Put, T1, Timer,
 };
 use std::test::Fail;
-use x25_link::{Link, LinkError};
+use x25_link::LinkError;
 
 static TWO_DISCS: [Row; 2] = [
     (DCE, HearDisc(true), "down (disc), UA rsp F=1"),
@@ -76,7 +77,7 @@ fn a_parameter_out_of_its_range_is_refused(rt: HostRuntime) -> Result<(), Fail> 
         (7, 4100, 10),
         (7, 4099, 0),
     ] {
-        let error = Link::new(rt.alloc(), DTE, k, n1, n2).err();
+        let error = link_for(rt.alloc(), DTE, k, n1, n2).err();
         assert_eq!(rt; error.map(LinkError::number), Some(14));
     }
     Ok(())

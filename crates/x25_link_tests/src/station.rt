@@ -59,7 +59,7 @@ pub type Shown = (String, Vec<Vec<u8>>);
 #[derive(Drop)]
 pub struct End {
     role: Role,
-    link: Link,
+    link: Box<Link>,
     pub line: Vec<Vec<u8>>,
 }
 

@@ -3,6 +3,7 @@
 ghost use Rattle.std.specs.Prelude.{◌≤◌, vec_len};
 ghost use Rattle.x25_link.specs.code.Link.{limit_of};
 
+use crate::boxes::boxed;
 use crate::counts::{Counts, Kind};
 use crate::ends::{Answers, Ends, Holds, Outcome, Seen, Trouble};
 use crate::lines::{Lines, end_name};
@@ -18,7 +19,7 @@ use x25_world::{Direction, Event};
 struct End {
     alloc: Global,
     role: Role,
-    link: Link,
+    link: Box<Link>,
     wire: Wire,
 }
 
@@ -31,8 +32,12 @@ pub(crate) struct Links {
 
 // The calls of a link without their claims: a body that makes one of the link's own carries all that it promises.
 
-fn made(alloc: Global, role: Role, cfg: Cfg) -> Result<Link, LinkError> {
-    Link::new(alloc, role, cfg.k, LONGEST_PACKET, cfg.n2)
+fn made(alloc: Global, role: Role, cfg: Cfg) -> Result<Box<Link>, LinkError> {
+    boxed(
+        alloc,
+        Link::new(alloc, role, cfg.k, LONGEST_PACKET, cfg.n2)?,
+    )
+    .ok_or(LinkError::NoMemory)
 }
 
 fn connect(link: &mut Link) -> Result<Step<'static>, LinkError> {
@@ -51,7 +56,7 @@ fn take<'a>(link: &mut Link, octets: &'a [u8]) -> Result<Step<'a>, LinkError> {
     link.take(octets)
 }
 
-fn link(alloc: Global, role: Role, cfg: Cfg, counts: &mut Counts) -> Result<Link, LinkError> {
+fn link(alloc: Global, role: Role, cfg: Cfg, counts: &mut Counts) -> Result<Box<Link>, LinkError> {
     counts.called(Kind::New);
     match made(alloc, role, cfg) {
         Err(LinkError::NoMemory) => {

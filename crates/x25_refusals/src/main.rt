@@ -6,6 +6,7 @@
 //! something, or the player can't go on.
 #![tactic(auto)]
 
+mod boxes;
 mod counts;
 mod ends;
 mod lines;

@@ -1,4 +1,5 @@
 //! Two stations, and the lines between them.
+use crate::boxes::boxed;
 use crate::counts::{Counts, Kind};
 use crate::ends::{Ends, Outcome, Seen, Trouble, answers_of};
 use crate::lines::Lines;
@@ -11,7 +12,7 @@ use x25_world::{Direction, Event};
 #[derive(Drop)]
 struct End {
     role: Role,
-    station: Station,
+    station: Box<Station>,
     wire: Wire,
 }
 
@@ -24,8 +25,8 @@ pub(crate) struct Stations {
 
 // The calls of a station without their claims: a body that makes one of the station's own carries all that it promises.
 
-fn made(alloc: Global, role: Role, cfg: Cfg) -> Result<Station, StationError> {
-    Station::new(alloc, role, cfg)
+fn made(alloc: Global, role: Role, cfg: Cfg) -> Result<Box<Station>, StationError> {
+    boxed(alloc, Station::new(alloc, role, cfg)?).ok_or(StationError::NoMemory)
 }
 
 fn connect(station: &mut Station) -> Result<Step, StationError> {
@@ -49,7 +50,7 @@ fn station(
     role: Role,
     cfg: Cfg,
     counts: &mut Counts,
-) -> Result<Station, StationError> {
+) -> Result<Box<Station>, StationError> {
     counts.called(Kind::New);
     match made(alloc, role, cfg) {
         Err(StationError::NoMemory) => {

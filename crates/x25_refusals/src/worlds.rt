@@ -1,4 +1,5 @@
 //! A world, and what it told and sent since it began.
+use crate::boxes::boxed;
 use crate::counts::{Counts, Kind};
 use crate::ends::{Ends, Outcome, Seen, Trouble, answers_of};
 use crate::lines::Lines;
@@ -10,7 +11,7 @@ use x25_world::{Direction, Entered, Event, Tapped, World, WorldError};
 #[derive(Drop)]
 pub(crate) struct Worlds {
     alloc: Global,
-    world: World,
+    world: Box<World>,
     told: usize,
     tapped: usize,
     transcript: Lines,
@@ -19,12 +20,12 @@ pub(crate) struct Worlds {
 
 // The calls of a world without their claims: a body that makes one of the world's own carries all that it promises.
 
-fn both_down(alloc: Global, cfg: Cfg) -> Result<World, WorldError> {
-    World::start(alloc, cfg)
+fn both_down(alloc: Global, cfg: Cfg) -> Result<Box<World>, WorldError> {
+    boxed(alloc, World::start(alloc, cfg)?).ok_or(WorldError::NoMemory)
 }
 
-fn set_up(alloc: Global, cfg: Cfg) -> Result<World, WorldError> {
-    World::establish(alloc, cfg)
+fn set_up(alloc: Global, cfg: Cfg) -> Result<Box<World>, WorldError> {
+    boxed(alloc, World::establish(alloc, cfg)?).ok_or(WorldError::NoMemory)
 }
 
 fn apply(world: &mut World, event: Event<'static>) -> Result<(), WorldError> {
@@ -35,7 +36,7 @@ fn heal(world: &mut World) -> Result<u64, WorldError> {
     world.heal()
 }
 
-fn started(alloc: Global, cfg: Cfg, counts: &mut Counts) -> Result<World, WorldError> {
+fn started(alloc: Global, cfg: Cfg, counts: &mut Counts) -> Result<Box<World>, WorldError> {
     counts.called(Kind::New);
     match both_down(alloc, cfg) {
         Err(WorldError::NoMemory) => {
@@ -46,7 +47,7 @@ fn started(alloc: Global, cfg: Cfg, counts: &mut Counts) -> Result<World, WorldE
     }
 }
 
-fn established(alloc: Global, cfg: Cfg, counts: &mut Counts) -> Result<World, WorldError> {
+fn established(alloc: Global, cfg: Cfg, counts: &mut Counts) -> Result<Box<World>, WorldError> {
     counts.called(Kind::Establish);
     match set_up(alloc, cfg) {
         Err(WorldError::NoMemory) => {
@@ -100,7 +101,7 @@ impl Worlds {
         }
     }
 
-    fn of(alloc: Global, world: World) -> Result<Worlds, AllocError> {
+    fn of(alloc: Global, world: Box<World>) -> Result<Worlds, AllocError> {
         let transcript = Lines::new(alloc)?;
         let tap = Lines::new(alloc)?;
         Ok(Worlds {

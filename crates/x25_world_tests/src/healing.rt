@@ -63,8 +63,6 @@ const DCE_SENDS_B: Act = Send(Dce, 1, b"b");
 
 const IS_READY: Event = Command(Dte, Cmd::Ready { channel: 1 });
 
-const PULLS: Act = Do(Command(Dte, Cmd::Pull));
-
 /// Played behind the opening, which isn't shown. Once it has healed, nothing is on the line, and timer T1 runs at no end.
 static ROWS: [Row; 9] = [
     (
@@ -162,14 +160,14 @@ static ROWS: [Row; 9] = [
     (
         "a message waits behind nine packets, and is pulled",
         WINDOW_OF_ONE,
-        &[Repeat(9, IS_READY), SENDS_A, Heal, PULLS, Heal],
+        &[Repeat(9, IS_READY), SENDS_A, Heal],
         "dte send ch=1 at 1.0.0 q=0 data=61\n\
          dce message ch=1 at 1.0.0 q=0 data=61\n",
     ),
     (
         "a message waits behind fifteen packets, and is pulled",
         USUAL,
-        &[Repeat(15, IS_READY), SENDS_A, Heal, PULLS, Heal],
+        &[Repeat(15, IS_READY), SENDS_A, Heal],
         "dte send ch=1 at 1.0.0 q=0 data=61\n\
          dce message ch=1 at 1.0.0 q=0 data=61\n",
     ),
@@ -198,8 +196,6 @@ static ROWS_OF_FIVE: [Row; 1] = [(
         Repeat(3, Deliver(ToDte)),
         SENDS_A,
         Drain,
-        Heal,
-        PULLS,
         Heal,
     ],
     "dce send ch=1 at 1.0.0 q=0 data=62\n\
