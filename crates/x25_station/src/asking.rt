@@ -139,7 +139,10 @@ impl Station {
             Cmd::Accept { channel } => self.refuses(*channel, &Request::Accept { answer: None }),
             Cmd::Clear { channel } => self.refuses(*channel, &Request::Clear),
             Cmd::Send { channel, .. } => self.refuses_messages(*channel),
-            Cmd::Interrupt { channel, user } => self.refuses(*channel, &Request::Interrupt { user }),
+            Cmd::Interrupt { channel, user } => self.refuses(
+                *channel,
+                &Request::Interrupt { user },
+            ),
             Cmd::Reset { channel } => self.refuses(*channel, &Request::Reset),
             Cmd::Ready { channel } => self.refuses(*channel, &Request::Ready),
             Cmd::NotReady { channel } => self.refuses(*channel, &Request::NotReady),
