@@ -6,9 +6,12 @@ use Rattle.x25_packet.specs.declared.packet.Packet.{Packet}
 use Rattle.x25_packet.specs.PlainPacket.{PlainPacket}
 use Rattle.x25_circuit.specs.declared.circuit.Circuit as circuit_code
 use Rattle.x25_circuit.specs.declared.error.CircuitError.{CircuitError}
-use Rattle.x25_circuit.specs.Circuit.{Circuit}
+use Rattle.x25_circuit.specs.declared.error.CircuitError.TheVariants.{WrongState}
+use Rattle.x25_circuit.specs.declared.state.State.{State}
+use Rattle.x25_circuit.specs.declared.state.State.TheVariants.{Free, Calling, Arriving, Collision, Open, Resetting, Clearing}
+use Rattle.x25_circuit.specs.Circuit.{Settings, Circuit, is_open, is_open_in}
 use Rattle.x25_circuit.specs.declared.params.Params.{Params}
-use Rattle.x25_circuit.specs.Calls.{Outcome, Done, Refused, Calls, outcome}
+use Rattle.x25_circuit.specs.Calls.{Outcome, Done, Refused, Request, Calls, Sends, send_in, outcome}
 use Rattle.x25_circuit.specs.code.Replies.{plain_sent}
 use Rattle.x25_circuit.specs.Requests.{refusal_of, AnswersRequest}
 use Rattle.x25_circuit.specs.code.FitsCircuit.{FitsCircuit}
@@ -16,7 +19,7 @@ use Rattle.x25_layer.specs.declared.layer.Layer as code
 use Rattle.x25_layer.specs.declared.error.LayerError.{LayerError}
 use Rattle.x25_layer.specs.declared.error.LayerError.TheVariants as error
 use Rattle.x25_layer.specs.Layer.{LayerSettings, Layer, is_channel, put_at, packet_on, is_ready}
-use Rattle.x25_layer.specs.Calls.{Dials, Accepted, free_channel, where_room, dialled, outcome_in, layer_outcome, outcome_on}
+use Rattle.x25_layer.specs.Calls.{Asks, Dials, LayerOutcome, Accepted, Declined, free_channel, puts_at_once, where_room, if_at_once, dialled, outcome_in, layer_outcome, outcome_on}
 use Rattle.x25_layer.specs.Rounds.{LinkView, Answered, Went, Refuses, went, calls}
 use Rattle.x25_layer.specs.code.FitsLayer.{FitsCircuits, FitsLayer}
 use Rattle.x25_layer.specs.OverLink.{LayerGives, LinkGives}
@@ -125,6 +128,45 @@ pub short_link : (T : Type 0) {X : Type 0} (fits : X → Type 0) (after : X → 
     → LinkGives {T = T} fits after x (Err e) (went view c (outcome_on l.restarts l.circuits h o))
 short_link t fits after x c view l h e (Done next p) is = tt
 short_link t fits after x c view l h e (Refused f) is = ap (λ (x : LayerError). Err x) is
+
+-- ---- a call with a channel
+
+-- where nothing of the link or layer refuses it, the circuit of the channel is asked
+pub asked_goes : (view : LinkView) (c : LayerSettings) (l : Layer) (h : ℕ) (request : Request) → view.is_up ≡ true → l.restarting ≡ false → is_channel c.channels h ≡ true → (puts_at_once request ≡ true → view.waits [] ≡ 256 → ⊥)
+    → calls view c l (Asks h request) ≡ went view c (outcome_on l.restarts l.circuits h (outcome c.circuit (l.circuits h) request))
+asked_goes view c l h request up ready is free =
+    ap (λ (b : Bool). if b then went view c (layer_outcome c full l (Asks h request)) else Refuses error.NotUp) up
+    ∙ ap (λ (b : Bool). went view c (outcome_in c full b l.restarts l.circuits (Asks h request))) ready
+    ∙ ap (λ (b : Bool). went view c (if b then if_at_once (puts_at_once request) full good else Declined error.NoSuchChannel)) is
+    ∙ at_once (puts_at_once request) refl
+  where
+    full : Bool
+    full = view.waits [] == 256
+
+    good : LayerOutcome
+    good = outcome_on l.restarts l.circuits h (outcome c.circuit (l.circuits h) request)
+
+    at_once : (b : Bool) → puts_at_once request ≡ b → went view c (if_at_once b full good) ≡ went view c good
+    at_once true puts = ap (λ (b : Bool). went view c (where_room b good)) (not_same (view.waits []) 256 (free puts))
+    at_once false puts = refl
+
+-- .. which refuses it
+pub declined_on : (o : Outcome) (restarts : ℕ) (circuits : ℕ → Circuit) (h : ℕ) (e : CircuitError) → Some e ≡ refusal_of o → outcome_on restarts circuits h o ≡ Declined (error.Circuit e)
+declined_on (Done next p) restarts circuits h e is = absurd (cc)
+declined_on (Refused f) restarts circuits h e is = cc
+
+-- a message, outside of p4 with d1
+pub closed_sends : (c : Settings) (x : Circuit) (q : Bool) (user : List ℕ) → is_open x ≡ false → outcome c x (Sends q user) ≡ Refused WrongState
+closed_sends c x q user closed = at x.state closed
+  where
+    at : (s : State) → is_open_in s ≡ false → send_in c x s q user ≡ Refused WrongState
+    at Free is = refl
+    at Calling is = refl
+    at Arriving is = refl
+    at Collision is = refl
+    at Open is = absurd (cc)
+    at Resetting is = refl
+    at Clearing is = refl
 
 -- ---- a new call
 

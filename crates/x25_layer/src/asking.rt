@@ -1,21 +1,21 @@
 //! What the user asks of the circuit of a channel: the steps that all calls with a channel share.
-ghost use Rattle.std.specs.Prelude.{◌≡◌, ◌≢◌, ℕ, ◌<◌, ◌≤◌, ◌&&◌, ◌==◌, length, true, false, IfErr, IfOk, OnErr};
-ghost use Rattle.x25_circuit.specs.Calls.{outcome};
+ghost use Rattle.std.specs.Prelude.{◌≡◌, ◌≢◌, ℕ, ◌<◌, ◌≤◌, ◌&&◌, ◌==◌, length, List, Bool, true, false, IfErr, IfOk, IfSome, OnErr};
+ghost use Rattle.x25_circuit.specs.Calls.{outcome, Sends};
 ghost use Rattle.x25_circuit.specs.code.Replies.{IsSendable, plain_sent};
 ghost use Rattle.x25_circuit.specs.Requests.{plain_request, MayPut};
 ghost use Rattle.x25_layer.specs.Layer.{LayerSettings, is_channel};
 ghost use Rattle.x25_layer.specs.Layer.{Layer as State};
 ghost use Rattle.x25_layer.specs.Calls.{Asks, puts_at_once, outcome_on};
-ghost use Rattle.x25_layer.specs.Rounds.{calls, went};
+ghost use Rattle.x25_layer.specs.Rounds.{Refuses, calls, went};
 ghost use Rattle.x25_layer.specs.code.FitsLayer.{FitsLayer};
-ghost use Rattle.x25_layer.specs.OverLink.{Answers, Does};
+ghost use Rattle.x25_layer.specs.OverLink.{Answers, Does, view_of};
 ghost use Rattle.x25_layer.specs.Asking.{AsksCircuit, error_without_memory};
 ghost use Rattle.x25_layer.specs.Room.{HaveRoom};
 
 use crate::error::LayerError;
 use crate::layer::Layer;
 use crate::putting::MOST_PUT;
-use x25_circuit::Request;
+use x25_circuit::{CircuitError, Request};
 use x25_link::OrderedLink;
 use x25_packet::Packet;
 
@@ -84,6 +84,54 @@ impl Layer {
         self.put_sent(link, channel, packet);
         self.pull_all(link);
         Ok(())
+    }
+
+    /// Why `ask` would refuse this now, if it would.
+    #[inline(always)]
+    pub fn refusal<L: OrderedLink>(
+        &self,
+        link: &L,
+        channel: u16,
+        request: &Request<'_>,
+    ) -> Option<LayerError>
+        ensures { (c : LayerSettings) (l : State) (x : L.State) → FitsLayer c self.now l → L.fits link.now x → IfSome result (λ e. calls (view_of L.up_in L.waits_in L.after_put x) c l (Asks channel (plain_request request.now)) ≡ Refuses e) }
+    {
+        if !link.is_up() {
+            return Some(LayerError::NotUp);
+        }
+        if self.restarting {
+            return Some(LayerError::Restarting);
+        }
+        let Some(circuit) = self.circuit(channel) else {
+            return Some(LayerError::NoSuchChannel);
+        };
+        if puts_at_once(request) && link.waiting() == 256 {
+            return Some(LayerError::QueueFull);
+        }
+        match circuit.refusal(request) {
+            Some(error) => Some(LayerError::Circuit(error)),
+            None => None,
+        }
+    }
+
+    /// Why `ask` would refuse any message on a channel now, if it would.
+    #[inline(always)]
+    pub fn refuses_messages<L: OrderedLink>(&self, link: &L, channel: u16) -> Option<LayerError>
+        ensures { (c : LayerSettings) (l : State) (x : L.State) (q : Bool) (user : List ℕ) → FitsLayer c self.now l → L.fits link.now x → IfSome result (λ e. calls (view_of L.up_in L.waits_in L.after_put x) c l (Asks channel (Sends q user)) ≡ Refuses e) }
+    {
+        if !link.is_up() {
+            return Some(LayerError::NotUp);
+        }
+        if self.restarting {
+            return Some(LayerError::Restarting);
+        }
+        let Some(circuit) = self.circuit(channel) else {
+            return Some(LayerError::NoSuchChannel);
+        };
+        if circuit.is_open() {
+            return None;
+        }
+        Some(LayerError::Circuit(CircuitError::WrongState))
     }
 
     /// Asks the circuit of a channel, puts its packet, where there is one, and pulls: all calls with a channel in one.

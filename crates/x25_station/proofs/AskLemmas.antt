@@ -1,5 +1,5 @@
 -- What a station answers to a command, by what its layer answers.
-use Rattle.std.proofs.Common.{◌≡◌, ℕ, List, [], map, Option, Some, None, Result, Ok, Err, Bool, true, false, ◌==◌, if◌then◌else◌, inl, refl, ap, sym, subst, ◌∙◌}
+use Rattle.std.proofs.Common.{◌≡◌, ℕ, List, [], map, Option, Some, None, Result, Ok, Err, Bool, true, false, ◌==◌, if◌then◌else◌, IfSome, inl, refl, ap, sym, subst, ◌∙◌}
 use Rattle.x25_packet.specs.PlainPacket.{PlainPacket}
 use Rattle.x25_link.specs.LinkStation.{Settings as LinkSettings, LinkStation, Side}
 use Rattle.x25_link.specs.Steps.{alone}
@@ -168,6 +168,17 @@ pub link_gives : {T : Type 0} (result : Result T LayerError) (c : Settings) (l m
 link_gives result c l m y s request fits clause =
     subst (λ (view : LinkView). LinkGives (FitsWhole m) after_put_to (kept_of (link_settings c) (alone s.link)) result (calls view (layer_settings c) s.layer request)) (same_view (link_settings c) s.link)
     (clause (layer_settings c) s.layer (kept_of (link_settings c) (alone s.link)) fits.layer (whole c l y s fits))
+
+-- what the layer says before it is asked
+pub refuses_before : (o : Option LayerError) (c : Settings) (l : ShownLink) (y : layer_code.Layer) (s : Station) (request : LayerRequest) → FitsParts c l y s
+    → ((d : LayerSettings) (k : Layer) (x : LinkState) → FitsLayer d y k → FitsWhole l x → IfSome o (λ e. calls (over.view_of up_at waits_of after_put_to x) d k request ≡ Refuses e))
+    → IfSome o (λ e. requests c s request ≡ Refused (error.Layer e))
+refuses_before None c l y s request fits clause = tt
+refuses_before (Some e) c l y s request fits clause =
+    let lc : LayerSettings = layer_settings c in
+    let entries : List StationEntry = entries_of_outcome lc s.layer request (layer_outcome lc (waiting_after (link_settings c) s.link [] == 256) s.layer request) in
+    ap (λ (a : Answered). did c (alone s.link) entries a)
+    (subst (λ (view : LinkView). calls view lc s.layer request ≡ Refuses e) (same_view (link_settings c) s.link) (clause lc s.layer (kept_of (link_settings c) (alone s.link)) fits.layer (whole c l y s fits)))
 
 pub record Answers (c : Settings) (n : ShownLink) (z : layer_code.Layer) (r : code_step.Step) (outcome : Outcome) : Type 0 where
   pub state : station.LeavesParts c n z (Ok r) outcome

@@ -1,5 +1,5 @@
 //! What the user asks of the packet layer: the layer's call, and its entry.
-ghost use Rattle.std.specs.Prelude.{◌≡◌, ◌<◌, ◌≤◌, ◌++◌, [], ◌∷◌, Some, map, vec_len, vec_capacity, true, string_bytes, IfOk, IfErr, OnErr};
+ghost use Rattle.std.specs.Prelude.{ℕ, List, Bool, ◌≡◌, ◌<◌, ◌≤◌, ◌++◌, [], ◌∷◌, Some, map, vec_len, vec_capacity, true, string_bytes, IfOk, IfErr, IfSome, OnErr};
 ghost use Rattle.x25_circuit.specs.Circuit.{Circuit};
 ghost use Rattle.x25_circuit.specs.Calls.{Calls, Accepts, Sends as CircuitSends};
 ghost use Rattle.x25_circuit.specs.Requests.{plain_request};
@@ -14,7 +14,7 @@ ghost use Rattle.x25_station.specs.code.FitsStation.{FitsStation, Does, RefusesE
 ghost use Rattle.x25_station.specs.code.PlainEntry.{plain_entry, plain_asked, plain_said};
 ghost use Rattle.x25_station.specs.Settings.{Settings};
 ghost use Rattle.x25_station.specs.Station.{Station as State};
-ghost use Rattle.x25_station.specs.Steps.{commands, requests};
+ghost use Rattle.x25_station.specs.Steps.{Refused, commands, requests};
 
 use crate::command::Cmd;
 use crate::entering::enter;
@@ -25,7 +25,7 @@ use crate::station::Station;
 use crate::step::Step;
 use std::alloc::Global;
 use x25_circuit::{Proposal, Request};
-use x25_layer::{Layer, Params};
+use x25_layer::{Layer, LayerError, Params};
 use x25_link::holds_few;
 
 // A copy of octets, for an entry or a message.
@@ -122,6 +122,53 @@ impl Station {
     /// channel is free; then, but for a message, with 10 where 256 packets wait; and then as the circuit refuses it, with 30 to 34.
     /// Else 70 alone, and 70 may come in place of each of these. The station is as before then.
     pub fn command(&mut self, command: Cmd<'_>) -> Result<Step, StationError>
+        ensures { Does self.old self.new result (λ c s. commands c s (command_of command.entry)) }
+    {
+        match self.refusal(&command) {
+            Some(error) => Err(StationError::Layer(error)),
+            None => self.carry_out(command),
+        }
+    }
+
+    // Why what is asked of a channel would be refused now, if it would; of other commands nothing is said. Nothing is made or copied for it.
+    #[inline(never)]
+    fn refusal(&self, command: &Cmd<'_>) -> Option<LayerError>
+        ensures { (c : Settings) (s : State) → FitsStation c self.now s → IfSome result (λ e. commands c s (command_of command.now) ≡ Refused (StationError.Layer e)) }
+    {
+        match command {
+            Cmd::Accept { channel } => self.refuses(*channel, &Request::Accept { answer: None }),
+            Cmd::Clear { channel } => self.refuses(*channel, &Request::Clear),
+            Cmd::Send { channel, .. } => self.refuses_messages(*channel),
+            Cmd::Interrupt { channel, user } => self.refuses(
+                *channel,
+                &Request::Interrupt { user },
+            ),
+            Cmd::Reset { channel } => self.refuses(*channel, &Request::Reset),
+            Cmd::Ready { channel } => self.refuses(*channel, &Request::Ready),
+            Cmd::NotReady { channel } => self.refuses(*channel, &Request::NotReady),
+            _ => None,
+        }
+    }
+
+    // Why this would be refused on a channel now, if it would.
+    #[inline(always)]
+    fn refuses(&self, channel: u16, request: &Request<'_>) -> Option<LayerError>
+        ensures { (c : Settings) (s : State) → FitsStation c self.now s → IfSome result (λ e. requests c s (Asks channel (plain_request request.now)) ≡ Refused (StationError.Layer e)) }
+    {
+        self.layer.refusal(&self.link, channel, request)
+    }
+
+    // .. any message
+    #[inline(always)]
+    fn refuses_messages(&self, channel: u16) -> Option<LayerError>
+        ensures { (c : Settings) (s : State) (q : Bool) (user : List ℕ) → FitsStation c self.now s → IfSome result (λ e. requests c s (Asks channel (CircuitSends q user)) ≡ Refused (StationError.Layer e)) }
+    {
+        self.layer.refuses_messages(&self.link, channel)
+    }
+
+    // Does what the user asks.
+    #[inline(never)]
+    fn carry_out(&mut self, command: Cmd<'_>) -> Result<Step, StationError>
         ensures { Does self.old self.new result (λ c s. commands c s (command_of command.entry)) }
     {
         match command {
