@@ -1,7 +1,7 @@
 """The map of docs/ARCHITECTURE.md, by which a newcomer finds a rule's code, definition, proof and wrong bodies, and docs/WALK.md.
 
-The map names nothing that isn't there, and leaves out no source, no definition and no file of proofs that stands by itself. Each hop
-of a walk is a function of the file that it names.
+The map names nothing that isn't there, and leaves out no source, no definition and no file of proofs that stands by itself. A definition
+that stands right in `specs/` bears the name of the source whose rule it says. Each hop of a walk is a function of the file that it names.
 """
 
 import fnmatch
@@ -16,6 +16,7 @@ CRATES = os.path.join(support.ROOT, "crates")
 HEAD = "| Rule | Code | Definition | Proof | Wrong bodies |"
 WRONG_BODIES = 4
 FOLDERS_OF_PROOFS = ("rows", "sessions", "sessions/acts", "sessions/claims")
+FOLDERS_OF_SPECS = {"laws", "rows", "code"}
 
 
 def rows():
@@ -65,6 +66,11 @@ def files(crate):
     return {path for path in found if os.path.basename(path) not in ("lib.rt", "main.rt", "Lib.antt")}
 
 
+def stem(path):
+    """What the names of a source and of its definition share: `set_up.rt` and `SetUp.antt` have `setup`."""
+    return os.path.splitext(os.path.basename(path))[0].replace("_", "").lower()
+
+
 class Map(unittest.TestCase):
     def test_each_row_is_whole(self):
         for row in rows():
@@ -86,6 +92,16 @@ class Map(unittest.TestCase):
             if not crate.endswith("_tests"):
                 with self.subTest(crate):
                     self.assertEqual(sorted(os.path.relpath(file, CRATES) for file in files(crate) - told), [])
+
+
+class Stems(unittest.TestCase):
+    def test_each_definition_bears_the_name_of_a_source(self):
+        """.. and so does each folder of specs/ with further definitions of that source; the others are those that any crate may have."""
+        for crate in sorted(os.listdir(CRATES)):
+            with self.subTest(crate):
+                sources = {stem(path) for path in glob(os.path.join(CRATES, crate, "src", "**", "*.rt"), recursive=True)}
+                told = {stem(path) for path in glob(os.path.join(CRATES, crate, "specs", "*"))}
+                self.assertEqual(sorted(told - sources - FOLDERS_OF_SPECS - {"lib"}), [])
 
 
 class Walk(unittest.TestCase):
